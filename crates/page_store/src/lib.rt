@@ -1,0 +1,10 @@
+//! The store of pages: what it contains and how it changes (`PageStore`), and the plain store
+//! (`FlatStore`), a sorted list of held pages.
+//!
+//! It stands on `vm_model`, whose contents the contracts speak of. The layers above use the trait,
+//! and make a store by `FlatStore::new`.
+#![tactic(auto)]
+
+mod page_store;
+
+pub use page_store::{Look, PageStore};

@@ -1,0 +1,96 @@
+//! The contract of a store of pages.
+
+ghost use Rattle.std.specs.Prelude.{◌≡◌, ℕ, ◌+◌, ◌-◌, ◌^◌, ◌<◌, ◌≤◌, ◌⊎◌, true, false, length, IsSome, Some, IfOk, OnOk, OnErr};
+ghost use Rattle.vm_model.specs.Search.{count_below};
+ghost use Rattle.vm_model.specs.Content.{Content, nothing, used, sole, pages_of, created, vmos_of};
+ghost use Rattle.vm_model.specs.Owning.{Owns};
+ghost use Rattle.page_store.specs.Pages.{look_at, IsShown, IsShownOnce, AreBytesOf, Overwrites};
+
+use vm_base::{HostMemory, Koid, PageNo, Tag};
+
+/// What a page of a VMO is.
+#[derive(Clone, Copy, Debug, PartialEq, Eq)]
+pub enum Look {
+    /// It is zero and uses no frame.
+    Zero,
+    /// It is held, with this frame. `sole` says that no other VMO shows the frame.
+    Held { tag: Tag, sole: bool },
+}
+
+/// A store of VMOs, their pages and the page frames. Clauses speak of what it contains, and of how
+/// many pages may still be owned without asking the host for memory (`spare`).
+///
+/// A call on a koid requires that the store has such a VMO. Pages are counted from the VMO's first.
+pub trait PageStore: Drop {
+    /// The frames and VMOs that it contains.
+    ghost content: { Self → Content };
+
+    /// How many pages may be owned before the next `reserve`.
+    ghost spare: { Self → ℕ };
+
+    /// Takes the memory of all page frames, from 1 to 65,536 of them. All are free. `HostMemory`
+    /// where the host has too little, and then nothing was changed.
+    fn fill(&mut self, frames: u32) -> Result<(), HostMemory>
+        requires empty { content self.old ≡ nothing }
+        requires frames { (1 ≤ frames) × (frames ≤ 65536) }
+        ensures ok { OnOk result (content self.new ≡ record (content self.old) { frames = frames }) }
+        ensures err { OnErr result (content self.new ≡ content self.old) };
+
+    /// Makes a VMO of `count` zero pages under the next koid, and answers the koid. `HostMemory`
+    /// where the host has too little memory, and then nothing was changed.
+    fn create(&mut self, count: PageNo) -> Result<Koid, HostMemory>
+        requires count { count ≤ 16777216 }
+        requires next { (content self.old).next < 2 ^ 63 }
+        ensures koid { IfOk result (λ v. v.0 ≡ (content self.old).next) }
+        ensures ok { OnOk result (content self.new ≡ created (content self.old) count) }
+        ensures err { OnErr result (content self.new ≡ content self.old) };
+
+    /// Makes room for owning `n` pages. `HostMemory` where the host has too little memory.
+    fn reserve(&mut self, n: u64) -> Result<(), HostMemory>
+        ensures room { OnOk result (n ≤ spare self.new) }
+        ensures same { content self.new ≡ content self.old };
+
+    /// What a page below the count is.
+    fn look(&self, v: Koid, page: PageNo) -> Look
+        requires page { page < pages_of (content self.now) v.0 }
+        ensures { result ≡ look_at (content self.now) v.0 ((content self.now).page v.0 page) };
+
+    /// Makes a page below the count sole, so that it may be written (copy on write), and answers its
+    /// frame. A page that is not sole needs a spare row and a free frame. It takes no memory.
+    fn own(&mut self, v: Koid, page: PageNo) -> Tag
+        requires page { page < pages_of (content self.old) v.0 }
+        requires room { (sole (content self.old) v.0 page ≡ true)
+            ⊎ ((1 ≤ spare self.old) × (used (content self.old) < (content self.old).frames)) }
+        ensures owns { Owns (content self.old) (content self.new) v.0 page result.0 }
+        ensures spare { spare self.old ≤ spare self.new + 1 };
+
+    /// How many pages a VMO has.
+    fn count(&self, v: Koid) -> PageNo
+        requires { IsSome ((content self.now).count v.0) }
+        ensures { (content self.now).count v.0 ≡ Some result };
+
+    /// Reads bytes of a frame that some page shows, from `at` bytes into the page on.
+    fn read(&self, tag: Tag, at: u64, out: &mut [u8])
+        requires shown { IsShown (content self.now) tag.0 }
+        requires range { at + length out.old ≤ 4096 }
+        ensures { AreBytesOf (content self.now) tag.0 at out.new };
+
+    /// Writes bytes to a frame that exactly one page shows, from `at` bytes into the page on.
+    fn write(&mut self, tag: Tag, at: u64, bytes: &[u8])
+        requires shown { IsShownOnce (content self.old) tag.0 }
+        requires range { at + length bytes.now ≤ 4096 }
+        ensures bytes { Overwrites (content self.old) (content self.new) tag.0 at bytes.now }
+        ensures spare { spare self.new ≡ spare self.old };
+
+    /// How many page frames the machine has.
+    fn frames(&self) -> u32
+        ensures { result ≡ (content self.now).frames };
+
+    /// How many page frames no page shows.
+    fn free(&self) -> u32
+        ensures { result + used (content self.now) ≡ (content self.now).frames };
+
+    /// How many VMOs there are.
+    fn vmos(&self) -> u64
+        ensures { result ≡ vmos_of (content self.now) };
+}

@@ -1,0 +1,111 @@
+//! The sets of permissions and of map options, with tables written by hand.
+
+ghost use Rattle.std.specs.Prelude.{⊤, [], ◌∷◌, codes};
+
+use bitflags::{Flag, Flags};
+
+/// What an access may do (`ZX_VM_PERM_*`). A bit without a name is a right that no region allows.
+#[derive(Clone, Copy, Debug, PartialEq, Eq, Hash)]
+pub struct Perm(pub u32);
+
+impl Perm {
+    /// Reading.
+    pub const READ: Perm = Perm(1);
+    /// Writing.
+    pub const WRITE: Perm = Perm(2);
+    /// Executing.
+    pub const EXECUTE: Perm = Perm(4);
+
+    const TABLE: &'static [Flag<Perm>] = &[
+        Flag {
+            name: "READ",
+            value: Perm::READ,
+        },
+        Flag {
+            name: "WRITE",
+            value: Perm::WRITE,
+        },
+        Flag {
+            name: "EXECUTE",
+            value: Perm::EXECUTE,
+        },
+    ];
+}
+
+impl Flags for Perm {
+    type Bits = u32;
+
+    ghost exact = { ⊤ };
+
+    ghost table = { (codes "READ", 1) ∷ (codes "WRITE", 2) ∷ (codes "EXECUTE", 4) ∷ [] };
+
+    ghost set_of = { λ p. p.0 };
+
+    fn flags<'a>() -> &'a [Flag<Perm>] {
+        Perm::TABLE
+    }
+
+    fn bits(&self) -> u32 {
+        self.0
+    }
+
+    fn from_bits_retain(bits: u32) -> Perm {
+        Perm(bits)
+    }
+}
+
+/// How a mapping is placed (`ZX_VM_*`). A bit without a name means nothing.
+#[derive(Clone, Copy, Debug, PartialEq, Eq, Hash)]
+pub struct MapFlags(pub u32);
+
+impl MapFlags {
+    /// At the offset given (`ZX_VM_SPECIFIC`).
+    pub const SPECIFIC: MapFlags = MapFlags(1);
+    /// At the offset given, in place of what is mapped there (`ZX_VM_SPECIFIC_OVERWRITE`).
+    pub const OVERWRITE: MapFlags = MapFlags(2);
+    /// Ending at or below the offset given (`ZX_VM_OFFSET_IS_UPPER_LIMIT`).
+    pub const UPPER_LIMIT: MapFlags = MapFlags(4);
+    /// Past the end of the VMO too (`ZX_VM_ALLOW_FAULTS`).
+    pub const ALLOW_FAULTS: MapFlags = MapFlags(8);
+
+    const TABLE: &'static [Flag<MapFlags>] = &[
+        Flag {
+            name: "SPECIFIC",
+            value: MapFlags::SPECIFIC,
+        },
+        Flag {
+            name: "OVERWRITE",
+            value: MapFlags::OVERWRITE,
+        },
+        Flag {
+            name: "UPPER_LIMIT",
+            value: MapFlags::UPPER_LIMIT,
+        },
+        Flag {
+            name: "ALLOW_FAULTS",
+            value: MapFlags::ALLOW_FAULTS,
+        },
+    ];
+}
+
+impl Flags for MapFlags {
+    type Bits = u32;
+
+    ghost exact = { ⊤ };
+
+    ghost table = { (codes "SPECIFIC", 1) ∷ (codes "OVERWRITE", 2) ∷ (codes "UPPER_LIMIT", 4) ∷ (codes "ALLOW_FAULTS", 8) ∷ [] };
+
+    ghost set_of = { λ f. f.0 };
+
+    fn flags<'a>() -> &'a [Flag<MapFlags>] {
+        MapFlags::TABLE
+    }
+
+    fn bits(&self) -> u32 {
+        self.0
+    }
+
+    fn from_bits_retain(bits: u32) -> MapFlags {
+        MapFlags(bits)
+    }
+}

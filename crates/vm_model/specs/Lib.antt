@@ -1,0 +1,10 @@
+pub mod Search
+pub mod Content
+pub mod Owning
+pub mod Writing
+pub mod State
+pub mod Refusals
+pub mod Step
+pub mod Reading
+pub mod Text
+pub mod Run

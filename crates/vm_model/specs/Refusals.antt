@@ -1,0 +1,38 @@
+-- When each command is refused: conditions in the order of the ranks, each with its refusal.
+use Rattle.std.specs.Prelude.{ℕ, ◌+◌, ◌*◌, Bool, true, false, not, nat_lt, List, [], ◌∷◌, length, if◌then◌else◌, Option, None, Some}
+use Rattle.vm_base.specs.Pages.{rounded}
+use Rattle.vm_base.specs.declared.pages.TheConstants.{PAGE, VMO_PAGES}
+use Rattle.vm_base.specs.declared.refusal.Refusal.{Refusal}
+use Rattle.vm_base.specs.declared.refusal.Refusal.TheVariants.{BadHandle, NameInUse, InvalidArgs, OutOfRange, NoMemory}
+use Rattle.vm_model.specs.declared.command.Command.{Command}
+use Rattle.vm_model.specs.declared.command.Command.TheVariants.{VmoCreate, VmoRead, VmoWrite}
+use Rattle.vm_model.specs.Content.{used}
+use Rattle.vm_model.specs.Owning.{need}
+use Rattle.vm_model.specs.Writing.{touched}
+use Rattle.vm_model.specs.State.{State, is_open, koid_of, size_of}
+
+-- owning these pages of the VMO of this name takes more frames than are free
+abbrev pub lacks_frames : State → ℕ → List ℕ → Bool
+lacks_frames s name ps = nat_lt s.content.frames (used s.content + need s.content (koid_of s name) ps)
+
+-- the refusals of a command. A row may rest on those before it: where a name is not open, the rows behind mean nothing
+abbrev pub refusals : State → Command → List (Bool × Refusal)
+refusals s (VmoCreate name size resizable) =
+    (is_open s name.0, NameInUse)
+    ∷ (nat_lt (VMO_PAGES * PAGE) (rounded size), OutOfRange)
+    ∷ []
+refusals s (VmoRead name offset len) =
+    (not (is_open s name.0), BadHandle)
+    ∷ (nat_lt PAGE len, InvalidArgs)
+    ∷ (nat_lt (size_of s name.0) (offset + len), OutOfRange)
+    ∷ []
+refusals s (VmoWrite name offset bytes) =
+    (not (is_open s name.0), BadHandle)
+    ∷ (nat_lt (size_of s name.0) (offset + length bytes), OutOfRange)
+    ∷ (lacks_frames s name.0 (touched offset (length bytes)), NoMemory)
+    ∷ []
+
+-- the first refusal whose condition holds
+abbrev pub first_of : List (Bool × Refusal) → Option Refusal
+first_of [] = None
+first_of (row ∷ rows) = if row.0 then Some row.1 else first_of rows

@@ -1,0 +1,41 @@
+-- Running a script: its lines, one after another.
+use Rattle.std.specs.Prelude.{◌≡◌, ℕ, ◌==◌, List, [], ◌∷◌, ◌++◌, if◌then◌else◌}
+use Rattle.vm_base.specs.declared.refusal.Refusal.TheVariants.{Syntax}
+use Rattle.vm_model.specs.declared.reply.Reply.{Reply}
+use Rattle.vm_model.specs.declared.reply.Reply.TheVariants.{Refused}
+use Rattle.vm_model.specs.State.{State, empty_state}
+use Rattle.vm_model.specs.Step.{Step}
+use Rattle.vm_model.specs.Reading.{Reading, Blank, Order, Outside, reading}
+use Rattle.vm_model.specs.Text.{texts}
+
+-- a byte before the first line, or a line of its own
+abbrev pub onto_first : ℕ → List (List ℕ) → List (List ℕ)
+onto_first b [] = (b ∷ []) ∷ []
+onto_first b (line ∷ lines) = (b ∷ line) ∷ lines
+
+-- the lines of a script: each ends with a line feed, and a last piece that is not empty is a line too
+unfoldable pub lines_of : List ℕ → List (List ℕ)
+lines_of [] = []
+lines_of (b ∷ bs) = if b == 10 then [] ∷ lines_of bs else onto_first b (lines_of bs)
+
+-- what a line that is read so may give: a blank line no reply, a line outside the grammar its refusal, an order one step
+abbrev pub GivesAs : Reading → State → List Reply → State → Type 0
+GivesAs Blank old replies new = (replies ≡ []) × (new ≡ old)
+GivesAs (Order command) old replies new = (reply : Reply) × (replies ≡ reply ∷ []) × Step old command reply new
+GivesAs Outside old replies new = (replies ≡ Refused Syntax ∷ []) × (new ≡ old)
+
+-- from old, the line may give these replies and lead to new
+pub record Gives (line : List ℕ) (old : State) (replies : List Reply) (new : State) : Type 0 where
+  pub answer : GivesAs (reading line) old replies new
+
+-- from old, the lines may give these replies and lead to new
+abbrev pub Run : State → List (List ℕ) → List Reply → State → Type 0
+Run old [] replies new = (replies ≡ []) × (new ≡ old)
+Run old (line ∷ lines) replies new =
+    (mid : State) × (now later : List Reply) × Gives line old now mid × Run mid lines later new × (replies ≡ now ++ later)
+
+-- On a machine with this many frames and nothing else, the lines may be answered by this text and lead to last.
+pub record Legal (frames : ℕ) (lines : List (List ℕ)) (out : List ℕ) (last : State) : Type 0 where
+  pub replies : List Reply
+  pub run : Run (empty_state frames) lines replies last
+  pub text : out ≡ texts replies

@@ -1,0 +1,50 @@
+//! Byte data of one command or reply.
+
+ghost use Rattle.std.specs.Prelude.{◌≡◌, ◌+◌, ◌≤◌, ◌<◌, ◌↔◌, [], ◌∷◌, ◌++◌, length, replicate, IsTrue};
+
+use arrayvec::ArrayVec;
+use std::marker::Model;
+
+/// The bytes of one read or write, at most 4,096. It takes no memory of the host. Clauses see a list.
+#[derive(Debug, Drop)]
+pub struct Bytes4k {
+    bytes: ArrayVec<u8, 4096>,
+}
+
+impl Model for Bytes4k {
+    ghost use Rattle.std.specs.Prelude.{List, ℕ, length, ◌≤◌};
+
+    ghost Value = { List ℕ };
+
+    ghost view = { λ b. b.bytes.items };
+
+    ghost invariant = { λ b. length b.bytes.items ≤ 4096 };
+}
+
+impl Bytes4k {
+    /// No bytes.
+    pub fn new() -> Bytes4k
+        ensures { result ≡ [] }
+    {
+        Bytes4k {
+            bytes: ArrayVec::new(),
+        }
+    }
+
+    /// The bytes.
+    pub fn as_slice(&self) -> &[u8]
+        ensures value { result.now ≡ self.now }
+        ensures few { length result.now ≤ 4096 }
+    {
+        self.bytes.as_slice()
+    }
+
+    /// Adds a byte at the end. `false`, changing nothing, exactly where 4,096 bytes are there.
+    pub fn push(&mut self, byte: u8) -> bool
+        ensures room { IsTrue result ↔ (length self.old < 4096) }
+        ensures added { length self.old < 4096 → self.new ≡ self.old ++ byte ∷ [] }
+        ensures full { length self.old ≡ 4096 → self.new ≡ self.old }
+    {
+        self.bytes.try_push(byte).is_ok()
+    }
+}

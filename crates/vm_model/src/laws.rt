@@ -1,0 +1,1 @@
+//! What holds of the definitions alone. Each law is the contract of a function that does nothing.
