@@ -1,0 +1,6 @@
+pub mod SearchLaws
+pub mod ContentLaws
+pub mod OwningLaws
+pub mod RangeLaws
+pub mod WritingLaws
+pub mod StepLaws

@@ -1,6 +1,6 @@
 //! Byte data of one command or reply.
 
-ghost use Rattle.std.specs.Prelude.{◌≡◌, ◌+◌, ◌≤◌, ◌<◌, ◌↔◌, [], ◌∷◌, ◌++◌, length, replicate, IsTrue};
+ghost use Rattle.std.specs.Prelude.{◌≡◌, ◌+◌, ◌≤◌, ◌<◌, ◌↔◌, [], ◌∷◌, ◌++◌, length, IsTrue};
 
 use arrayvec::ArrayVec;
 use std::marker::Model;
@@ -46,5 +46,13 @@ impl Bytes4k {
         ensures full { length self.old ≡ 4096 → self.new ≡ self.old }
     {
         self.bytes.try_push(byte).is_ok()
+    }
+
+    /// Adds bytes at the end, for which there is room.
+    pub fn extend_from_slice(&mut self, bytes: &[u8])
+        requires { length self.old + length bytes.now ≤ 4096 }
+        ensures { self.new ≡ self.old ++ bytes.now }
+    {
+        self.bytes.try_extend_from_slice(bytes).unwrap();
     }
 }

@@ -1,1 +1,23 @@
 //! What holds of the definitions alone. Each law is the contract of a function that does nothing.
+
+ghost use Rattle.std.specs.Prelude.{ℕ, ◌≡◌, ◌+◌, ◌≤◌};
+ghost use Rattle.vm_model.specs.declared.command.Command.{Command};
+ghost use Rattle.vm_model.specs.declared.reply.Reply.{Reply};
+ghost use Rattle.vm_model.specs.State.{State, empty_state, IsGoodState};
+ghost use Rattle.vm_model.specs.Step.{Step};
+
+/// A machine with page frames and nothing else is in a good state.
+pub fn the_empty_state_is_good()
+    ensures { (frames : ℕ) → IsGoodState (empty_state frames) }
+{}
+
+/// A step of the machine leads from a good state to a good state. It gives at most one koid, and the
+/// machine keeps its frames.
+pub fn a_step_keeps_the_state_good()
+    ensures good { (old new : State) (command : Command) (reply : Reply) →
+        IsGoodState old → Step old command reply new → IsGoodState new }
+    ensures koids { (old new : State) (command : Command) (reply : Reply) →
+        IsGoodState old → Step old command reply new → new.content.next ≤ old.content.next + 1 }
+    ensures frames { (old new : State) (command : Command) (reply : Reply) →
+        IsGoodState old → Step old command reply new → new.content.frames ≡ old.content.frames }
+{}

@@ -1,0 +1,119 @@
+-- Laws of searching and counting below a bound.
+use Rattle.std.proofs.Common.{◌≡◌, ◌≢◌, ℕ, zero, suc, ◌+◌, ◌<◌, ◌≤◌, Bool, true, false, cond, ◌||◌, ◌⊎◌, refl, sym, ap, ◌∙◌, inl, inr, arith}
+use Rattle.std.proofs.lemmas.Bool.{cases_order, cases_Bool, or_cases, or_parts, or_from, or_left, or_right}
+use Rattle.vm_model.specs.Search.{any_below, count_below}
+
+-- a number below n + 1 is n or below n
+pub below_next : (k n : ℕ) → k < suc n → (k ≡ n) ⊎ (k < n)
+below_next k n h = elim (cases_order k n) [
+  | inl same ↦ inl same
+  | inr other ↦ elim other [ inl less ↦ inr less | inr more ↦ absurd (omega arith) ]
+]
+
+-- what was found
+pub any_below_found : (n : ℕ) (p : ℕ → Bool) → any_below n p ≡ true → (k : ℕ) × (k < n) × (p k ≡ true)
+unfolding any_below
+any_below_found zero p e = absurd (cc)
+any_below_found (suc n) p e = elim (or_cases (p n) (any_below n p) e) [
+  | inl here ↦ (n, omega arith, here)
+  | inr rest ↦ let found = any_below_found n p rest in (found.0, omega (arith, found.1), found.2)
+]
+
+-- what passes is found
+pub any_below_at : (n k : ℕ) (p : ℕ → Bool) → k < n → p k ≡ true → any_below n p ≡ true
+unfolding any_below
+any_below_at zero k p h e = absurd (omega arith)
+any_below_at (suc n) k p h e = elim (below_next k n h) [
+  | inl same ↦ or_left (p n) (any_below n p) (ap p (sym same) ∙ e)
+  | inr less ↦ or_right (p n) (any_below n p) (any_below_at n k p less e)
+]
+
+-- where nothing was found, nothing passes
+pub any_below_none : (n k : ℕ) (p : ℕ → Bool) → any_below n p ≡ false → k < n → p k ≡ false
+unfolding any_below
+any_below_none zero k p e h = absurd (omega arith)
+any_below_none (suc n) k p e h = elim (below_next k n h) [
+  | inl same ↦ ap p same ∙ (or_parts (p n) (any_below n p) e).0
+  | inr less ↦ any_below_none n k p (or_parts (p n) (any_below n p) e).1 less
+]
+
+-- where nothing passes, nothing is found
+pub none_below : (n : ℕ) (p : ℕ → Bool) → ((k : ℕ) → k < n → p k ≡ false) → any_below n p ≡ false
+unfolding any_below
+none_below zero p each = refl
+none_below (suc n) p each = or_from (p n) (any_below n p) (each n (omega arith)) (none_below n p (λ k h. each k (omega arith)))
+
+-- tests that agree below the bound find alike
+pub any_below_same : (n : ℕ) (p q : ℕ → Bool) → ((k : ℕ) → k < n → p k ≡ q k) → any_below n p ≡ any_below n q
+unfolding any_below
+any_below_same zero p q each = refl
+any_below_same (suc n) p q each =
+    ap (λ b. b || any_below n p) (each n (omega arith)) ∙ ap (λ b. q n || b) (any_below_same n p q (λ k h. each k (omega arith)))
+
+-- two searches, of one outcome where each find of the one is matched in the other
+pub any_below_either : (m n : ℕ) (p q : ℕ → Bool) → ((k : ℕ) → k < m → p k ≡ true → any_below n q ≡ true) → ((k : ℕ) → k < n → q k ≡ true → any_below m p ≡ true) → any_below m p ≡ any_below n q
+any_below_either m n p q there back = elim (cases_Bool (any_below m p)) [
+  | inl hit ↦ let found = any_below_found m p hit in hit ∙ sym (there found.0 found.1 found.2)
+  | inr miss ↦ miss ∙ sym (none_below n q (λ k h. elim (cases_Bool (q k)) [
+    | inl passes ↦ absurd (let hit = back k h passes in cc)
+    | inr fails ↦ fails
+  ]))
+]
+
+-- tests that agree below the bound count alike
+pub count_below_same : (n : ℕ) (p q : ℕ → Bool) → ((k : ℕ) → k < n → p k ≡ q k) → count_below n p ≡ count_below n q
+unfolding count_below
+count_below_same zero p q each = refl
+count_below_same (suc n) p q each =
+    ap (λ b. cond b 1 0 + count_below n p) (each n (omega arith)) ∙ ap (λ m. cond (q n) 1 0 + m) (count_below_same n p q (λ k h. each k (omega arith)))
+
+-- at the next bound, one more number is counted where it passes
+pub count_below-suc : (n : ℕ) (p : ℕ → Bool) → count_below (n + 1) p ≡ cond (p n) 1 0 + count_below n p
+unfolding count_below
+count_below-suc n p = let e : n + 1 ≡ suc n = omega arith in ap (λ m. count_below m p) e
+
+-- a bit counts for one at most
+pub bit_le : (b : Bool) → cond b 1 0 ≤ 1
+bit_le true = omega arith
+bit_le false = omega arith
+
+-- no more pass than there are numbers
+pub count_below_le : (n : ℕ) (p : ℕ → Bool) → count_below n p ≤ n
+unfolding count_below
+count_below_le zero p = omega arith
+count_below_le (suc n) p = omega (arith, count_below_le n p, bit_le (p n))
+
+-- nothing passes, nothing counts
+pub count_below_none : (n : ℕ) (p : ℕ → Bool) → ((k : ℕ) → k < n → p k ≡ false) → count_below n p ≡ 0
+unfolding count_below
+count_below_none zero p each = refl
+count_below_none (suc n) p each =
+    ap (λ b. cond b 1 0 + count_below n p) (each n (omega arith)) ∙ omega (arith, count_below_none n p (λ k h. each k (omega arith)))
+
+-- one number more passes
+pub count_below_one_more : (n k : ℕ) (p q : ℕ → Bool) → k < n → p k ≡ false → q k ≡ true → ((j : ℕ) → j ≢ k → q j ≡ p j) → count_below n q ≡ count_below n p + 1
+unfolding count_below
+count_below_one_more zero k p q h miss hit others = absurd (omega arith)
+count_below_one_more (suc n) k p q h miss hit others = elim (below_next k n h) [
+  | inl same ↦
+      let before = count_below_same n q p (λ j l. others j (omega arith)) in
+      let was : ◌≡◌ {A = ℕ} (cond (p n) 1 0) 0 = ap (λ (b : Bool). cond {A = ℕ} b 1 0) (ap p (sym same) ∙ miss) in
+      let is : ◌≡◌ {A = ℕ} (cond (q n) 1 0) 1 = ap (λ (b : Bool). cond {A = ℕ} b 1 0) (ap q (sym same) ∙ hit) in
+      omega (arith, before, was, is)
+  | inr less ↦
+      let before = count_below_one_more n k p q less miss hit others in
+      let same : ◌≡◌ {A = ℕ} (cond (q n) 1 0) (cond (p n) 1 0) = ap (λ (b : Bool). cond {A = ℕ} b 1 0) (others n (omega arith)) in
+      omega (arith, before, same)
+]
+
+-- where not all pass, one does not
+pub count_below_room : (n : ℕ) (p : ℕ → Bool) → count_below n p < n → (k : ℕ) × (k < n) × (p k ≡ false)
+unfolding count_below
+count_below_room zero p h = absurd (omega arith)
+count_below_room (suc n) p h = elim (cases_Bool (p n)) [
+  | inl hit ↦
+      let counted : ◌≡◌ {A = ℕ} (cond (p n) 1 0) 1 = ap (λ (b : Bool). cond {A = ℕ} b 1 0) hit in
+      let found = count_below_room n p (omega (arith, counted, h)) in
+      (found.0, omega (arith, found.1), found.2)
+  | inr miss ↦ (n, omega arith, miss)
+]
