@@ -4,3 +4,5 @@ pub mod OwningLaws
 pub mod RangeLaws
 pub mod WritingLaws
 pub mod StepLaws
+pub mod RunLaws
+pub mod ExampleLaws

@@ -8,3 +8,4 @@ pub mod Step
 pub mod Reading
 pub mod Text
 pub mod Run
+pub mod Example

@@ -1,10 +1,15 @@
 //! What holds of the definitions alone. Each law is the contract of a function that does nothing.
 
-ghost use Rattle.std.specs.Prelude.{ℕ, ◌≡◌, ◌+◌, ◌≤◌};
+ghost use Rattle.std.specs.Prelude.{ℕ, List, ◌≡◌, ◌≢◌, ◌+◌, ◌≤◌};
+ghost use Rattle.std.specs.List.{AllByRecursion};
+ghost use Rattle.vm_base.specs.declared.refusal.Refusal.TheVariants.{HostMemory};
 ghost use Rattle.vm_model.specs.declared.command.Command.{Command};
 ghost use Rattle.vm_model.specs.declared.reply.Reply.{Reply};
 ghost use Rattle.vm_model.specs.State.{State, empty_state, IsGoodState};
 ghost use Rattle.vm_model.specs.Step.{Step};
+ghost use Rattle.vm_model.specs.Run.{lines_of, Run};
+ghost use Rattle.vm_model.specs.Text.{texts};
+ghost use Rattle.vm_model.specs.Example.{example_script, example_text};
 
 /// A machine with page frames and nothing else is in a good state.
 pub fn the_empty_state_is_good()
@@ -20,4 +25,16 @@ pub fn a_step_keeps_the_state_good()
         IsGoodState old → Step old command reply new → new.content.next ≤ old.content.next + 1 }
     ensures frames { (old new : State) (command : Command) (reply : Reply) →
         IsGoodState old → Step old command reply new → new.content.frames ≡ old.content.frames }
+{}
+
+/// The definitions are neither loose nor empty. On a machine with 1,024 frames each legal run over
+/// the example's three lines in which the host had memory writes exactly its three replies, and
+/// there is such a run.
+pub fn the_example_has_one_outcome()
+    ensures only { (replies : List Reply) (last : State) →
+        Run (empty_state 1024) (lines_of example_script) replies last →
+        AllByRecursion (λ r. r ≢ Reply.Refused HostMemory) replies → texts replies ≡ example_text }
+    ensures exists { (replies : List Reply) × (last : State) ×
+        Run (empty_state 1024) (lines_of example_script) replies last
+        × AllByRecursion (λ r. r ≢ Reply.Refused HostMemory) replies × (texts replies ≡ example_text) }
 {}

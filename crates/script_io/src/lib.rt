@@ -1,0 +1,29 @@
+//! Where the bytes of a script come from and where replies go, and how a run ends.
+//!
+//! A `Source` gives bytes, a `Sink` takes them, and each counts its faults, so that a layer above
+//! may promise that it reports a fault only where one came. `SureSource`, `MemSource` and `MemSink`
+//! stand in memory and tell their bytes; `ReadSource` and `WriteSink` reach the system. It stands on
+//! `vm_base` alone. The layers above may use all of it.
+#![tactic(auto)]
+
+mod mem_sink;
+mod mem_source;
+mod plan;
+mod read_source;
+mod sink;
+mod source;
+mod status;
+mod sure_source;
+mod write_sink;
+
+pub use mem_sink::MemSink;
+pub use mem_source::MemSource;
+pub use read_source::ReadSource;
+pub use sink::{Sink, push_all};
+pub use source::Source;
+pub use status::{Status, code};
+pub use sure_source::SureSource;
+pub use write_sink::WriteSink;
+
+#[cfg(test)]
+mod tests;

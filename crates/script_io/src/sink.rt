@@ -1,0 +1,38 @@
+//! Sinks for bytes.
+
+ghost use Rattle.std.specs.Prelude.{◌≡◌, ℕ, List, Option, ◌<◌, ◌≤◌, length, IfOk, OnOk, OnErr};
+ghost use Rattle.std.specs.Io.KnownBytes.{Appends, WriteAppends};
+ghost use Rattle.script_io.specs.Faults.{HasCause, IsCutOff};
+
+use vm_base::Failed;
+
+/// A sink for bytes.
+pub trait Sink {
+    /// The bytes that it took, where it tells them.
+    ghost contents: { Self → Option (List ℕ) };
+
+    /// How often writing has failed. It never falls, and stays at 2^64 - 1.
+    ghost faults: { Self → ℕ };
+
+    /// Takes bytes from the front of `bytes`, and answers how many: 1 at least. `Failed` where
+    /// writing failed, and then no byte was taken.
+    fn push(&mut self, bytes: &[u8]) -> Result<usize, Failed>
+        requires { 0 < length bytes.now }
+        ensures count { IfOk result (λ n. (1 ≤ n) × (n ≤ length bytes.now)) }
+        ensures bytes { WriteAppends (contents self.old) (contents self.new) result bytes.now }
+        ensures cause { HasCause (faults self.old) (faults self.new) result };
+}
+
+/// Pushes all of the bytes, in as many calls as the sink wants; no bytes in no call. `Failed` where
+/// a call failed, and then the sink took a front part of them.
+pub fn push_all<K: Sink>(sink: &mut K, bytes: &[u8]) -> Result<(), Failed>
+    ensures ok { OnOk result (Appends (K.contents sink.old) (K.contents sink.new) bytes.now) }
+    ensures err { OnErr result (IsCutOff (K.contents sink.old) (K.contents sink.new) bytes.now) }
+    ensures cause { HasCause (K.faults sink.old) (K.faults sink.new) result }
+{
+    let mut at = 0;
+    while at < bytes.len() {
+        at += sink.push(&bytes[at..])?;
+    }
+    Ok(())
+}

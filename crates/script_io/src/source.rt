@@ -1,0 +1,35 @@
+//! Sources of bytes.
+
+ghost use Rattle.std.specs.Prelude.{◌≡◌, ℕ, List, Option, ◌+◌, ◌<◌, ◌≤◌, length, take, min, IfOk};
+ghost use Rattle.std.specs.Io.KnownBytes.{ReadConsumes};
+ghost use Rattle.script_io.specs.Faults.{HasCause};
+
+use vm_base::Failed;
+
+/// A source of bytes.
+pub trait Source {
+    /// The bytes that it has left, where it tells them.
+    ghost remaining: { Self → Option (List ℕ) };
+
+    /// How often reading has failed. It never falls, and stays at 2^64 - 1.
+    ghost faults: { Self → ℕ };
+
+    /// Moves bytes to the front of `buf`, and answers how many: 0 only at the end. `Failed` where
+    /// reading failed, and then no byte was taken.
+    fn pull(&mut self, buf: &mut [u8]) -> Result<usize, Failed>
+        requires { 0 < length buf.old }
+        ensures count { IfOk result (λ n. n ≤ length buf.old) }
+        ensures bytes { ReadConsumes (remaining self.old) (remaining self.new) result buf.new }
+        ensures cause { HasCause (faults self.old) (faults self.new) result };
+}
+
+/// Copies bytes from the front of `from` to the front of `to`, at most `most` of them and as many
+/// as fit, and answers how many.
+pub(crate) fn copy_front(from: &[u8], most: usize, to: &mut [u8]) -> usize
+    ensures count { result ≡ min most (min (length from.now) (length to.old)) }
+    ensures bytes { take result to.new ≡ take result from.now }
+{
+    let n = most.min(from.len().min(to.len()));
+    to[..n].copy_from_slice(&from[..n]);
+    n
+}

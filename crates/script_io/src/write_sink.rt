@@ -1,0 +1,71 @@
+//! A sink over a writer.
+
+ghost use Rattle.std.specs.Prelude.{◌≡◌, ◌<◌, ◌≤◌, ℕ, None, length, take, is_ok, IfOk, if◌then◌else◌};
+ghost use Rattle.std.specs.Io.KnownBytes.{Appends, WriteAppends};
+ghost use Rattle.script_io.specs.Faults.{counted, HasCause};
+
+use crate::sink::Sink;
+use std::io::{self, Write};
+use std::marker::Model;
+use vm_base::Failed;
+
+/// A sink over a writer, as a file or the standard output. It flushes what it wrote, and tells no
+/// bytes. Clauses see the writer, and how often writing has failed.
+#[derive(Debug, Drop)]
+pub struct WriteSink<W> {
+    writer: W,
+    faults: u64,
+}
+
+impl<W> Model for WriteSink<W> {
+    ghost Value = { W × ℕ };
+
+    ghost view = { λ s. (s.writer, s.faults) };
+}
+
+impl<W> WriteSink<W> {
+    /// A sink over the writer.
+    pub fn new(writer: W) -> WriteSink<W>
+        ensures { result ≡ (writer, 0) }
+    {
+        WriteSink { writer, faults: 0 }
+    }
+}
+
+impl<W: Write> Sink for WriteSink<W> {
+    ghost contents = { λ _. None };
+
+    ghost faults = { λ s. s.1 };
+
+    /// A write of 0 bytes is a fault too.
+    fn push(&mut self, bytes: &[u8]) -> Result<usize, Failed>
+        requires { 0 < length bytes.now }
+        ensures count { IfOk result (λ n. (1 ≤ n) × (n ≤ length bytes.now)) }
+        ensures bytes { WriteAppends None None result bytes.now }
+        ensures cause { HasCause self.old.1 self.new.1 result }
+        ensures faults { self.new.1 ≡ (if is_ok result then self.old.1 else counted self.old.1) }
+
+        // What the writer took.
+        ensures written { IfOk result
+            (λ n. Appends (W.contents self.old.0) (W.contents self.new.0) (take n bytes.now)) }
+    {
+        match write_out(&mut self.writer, bytes) {
+            Ok(n) if n > 0 => Ok(n),
+            _ => {
+                self.faults = self.faults.saturating_add(1);
+                Err(Failed)
+            }
+        }
+    }
+}
+
+/// Writes bytes once and flushes them, and answers how many.
+fn write_out<W: Write>(writer: &mut W, bytes: &[u8]) -> io::Result<usize>
+    ensures count { IfOk result (λ n. n ≤ length bytes.now) }
+    ensures bytes { IfOk result
+        (λ n. Appends (W.contents writer.old) (W.contents writer.new) (take n bytes.now)) }
+{
+    let n = writer.write(bytes)?;
+    writer.flush()?;
+    Ok(n)
+}

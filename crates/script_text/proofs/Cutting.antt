@@ -1,0 +1,101 @@
+-- Cutting the first word off a line.
+use Rattle.std.proofs.Common.{◌≡◌, ℕ, suc, ◌<◌, ◌≤◌, Bool, true, false, not, List, [], ◌∷◌, length, take, drop, get_or, refl, sym, ◌∙◌, ap, arith, drop-cons, length-drop, position, unwrap_or, one-add}
+use Rattle.std.specs.Prelude.{Some, None}
+use Rattle.std.specs.List.{position_or_len}
+use Rattle.std.proofs.lemmas.Bool.Decides.{nat_tests}
+use Rattle.std.proofs.lemmas.List.Quantifiers.{position-Some}
+use Rattle.std.proofs.lemmas.List.{drop_all}
+use Rattle.std.proofs.lemmas.List.Sums.{prefix_len-le-length}
+use Rattle.vm_model.specs.Reading.{words, is_blank, begins_blank, before_first}
+
+-- a byte of a word
+abbrev pub is_solid : ℕ → Bool
+is_solid b = not (is_blank b)
+
+solid_blank : (b : ℕ) → is_solid b ≡ true → is_blank b ≡ false
+solid_blank b e = elim (is_blank b) as (λ v. not v ≡ true → v ≡ false) [ true ↦ λ h. cc | false ↦ λ h. refl ] e
+
+words-blank : (b : ℕ) (bs : List ℕ) → is_blank b ≡ true → words (b ∷ bs) ≡ words bs
+unfolding words
+words-blank b bs e = rw e
+
+words-alone : (b : ℕ) (bs : List ℕ) → is_blank b ≡ false → begins_blank bs ≡ true → words (b ∷ bs) ≡ (b ∷ []) ∷ words bs
+unfolding words
+words-alone b bs e f = rw (e, f)
+
+words-longer : (b : ℕ) (bs : List ℕ) → is_blank b ≡ false → begins_blank bs ≡ false → words (b ∷ bs) ≡ before_first b (words bs)
+unfolding words
+words-longer b bs e f = rw (e, f)
+
+len-solid : (b : ℕ) (bs : List ℕ) → is_blank b ≡ false → position_or_len is_blank (b ∷ bs) ≡ suc (position_or_len is_blank bs)
+len-solid b bs e = rw e (one-add _)
+
+len-blank : (b : ℕ) (bs : List ℕ) → is_blank b ≡ true → position_or_len is_blank (b ∷ bs) ≡ 0
+len-blank b bs e = rw e
+
+start-blank : (b : ℕ) (bs : List ℕ) → is_blank b ≡ true → position_or_len is_solid (b ∷ bs) ≡ suc (position_or_len is_solid bs)
+start-blank b bs e = rw e (one-add _)
+
+start-solid : (b : ℕ) (bs : List ℕ) → is_blank b ≡ false → position_or_len is_solid (b ∷ bs) ≡ 0
+start-solid b bs e = rw e
+
+-- blanks in front change nothing
+pub words-drop_blanks : (xs : List ℕ) → words (drop (position_or_len is_solid xs) xs) ≡ words xs
+words-drop_blanks [] = refl
+words-drop_blanks (b ∷ bs) =
+    let goal : Type 0 = words (drop (position_or_len is_solid (b ∷ bs)) (b ∷ bs)) ≡ words (b ∷ bs) in
+    elim (is_blank b) as (λ v. is_blank b ≡ v → goal) [
+      | true ↦ λ e. rw (start-blank b bs e) (words-drop_blanks bs ∙ sym (words-blank b bs e))
+      | false ↦ λ e. rw (start-solid b bs e) refl
+    ] refl
+
+-- the first word of a line that begins with no blank
+pub words-first : (b : ℕ) (bs : List ℕ) → is_blank b ≡ false → words (b ∷ bs) ≡ take (position_or_len is_blank (b ∷ bs)) (b ∷ bs) ∷ words (drop (position_or_len is_blank (b ∷ bs)) (b ∷ bs))
+words-first b [] e = rw (len-solid b [] e) (words-alone b [] e refl)
+words-first b (c ∷ cs) e =
+    let n = position_or_len is_blank (b ∷ c ∷ cs) in
+    let goal : Type 0 = words (b ∷ c ∷ cs) ≡ take n (b ∷ c ∷ cs) ∷ words (drop n (b ∷ c ∷ cs)) in
+    elim (is_blank c) as (λ v. is_blank c ≡ v → goal) [
+      | true ↦ λ f. rw (len-solid b (c ∷ cs) e, len-blank c cs f) (words-alone b (c ∷ cs) e f)
+      | false ↦ λ f. rw (len-solid b (c ∷ cs) e) (words-longer b (c ∷ cs) e f ∙ ap (before_first b) (words-first c cs f))
+    ] refl
+
+-- a line with no byte of a word
+pub words-none : (xs : List ℕ) → position is_solid xs ≡ None → words xs ≡ []
+unfolding words
+words-none xs e =
+    let all : length xs ≤ position_or_len is_solid xs = grind (arith, nat_tests) in
+    let gone = drop_all (position_or_len is_solid xs) xs all in
+    sym (words-drop_blanks xs) ∙ rw gone refl
+
+-- the byte at which the first word begins
+pub words-start : (xs : List ℕ) (i : ℕ) → position is_solid xs ≡ Some i → (words xs ≡ words (drop i xs)) × (i < length xs) × (is_blank (get_or xs i 0) ≡ false)
+words-start xs i e =
+    let at = position-Some is_solid xs i 0 e in
+    let same : i ≡ position_or_len is_solid xs = grind (arith, nat_tests) in
+    (rw same (sym (words-drop_blanks xs)), at.0, solid_blank (get_or xs i 0) at.1)
+
+-- where the first blank stands, or the length
+pub position-or_length : (p : ℕ → Bool) (xs : List ℕ) → unwrap_or (position p xs) (length xs) ≡ position_or_len p xs
+position-or_length p xs =
+    let most = prefix_len-le-length (λ x. not (p x)) xs in
+    grind (arith, nat_tests)
+
+-- a line is cut into its first word and the rest
+pub record IsCut (xs word behind : List ℕ) : Type 0 where
+  pub words : words xs ≡ word ∷ words behind
+  pub shorter : length behind < length xs
+
+pub IsCut-by_positions : (xs : List ℕ) (i : ℕ) (ys : List ℕ) (n : ℕ) → position is_solid xs ≡ Some i → ys ≡ drop i xs → n ≡ unwrap_or (position is_blank ys) (length ys) → IsCut xs (take n ys) (drop n ys)
+IsCut-by_positions xs i ys n e f g =
+    let start = words-start xs i e in
+    let b = get_or xs i 0 in
+    let bs = drop (suc i) xs in
+    let head : ys ≡ b ∷ bs = f ∙ drop-cons xs i 0 start.1 in
+    let len : n ≡ position_or_len is_blank (b ∷ bs) = g ∙ position-or_length is_blank ys ∙ ap (position_or_len is_blank) head in
+    let first = words-first b bs start.2 in
+    let some : 1 ≤ n = rw (len, len-solid b bs start.2) (omega arith) in
+    record {
+      words = start.0 ∙ ap words (sym f) ∙ rw (head, len) first;
+      shorter = rw (length-drop, f) (simp length-drop (omega (arith, start.1)));
+    }

@@ -1,0 +1,4 @@
+pub mod Bases
+pub mod Cutting
+pub mod Horner
+pub mod Many

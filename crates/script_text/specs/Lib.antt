@@ -1,0 +1,2 @@
+pub mod Radixes
+pub mod Lines

@@ -1,0 +1,117 @@
+//! How the fields of a command are spelled: numbers, names and byte data.
+
+ghost use Rattle.std.specs.Prelude.{◌≡◌, ◌^◌};
+ghost use Rattle.vm_model.specs.Reading.{below, digits, number, name_behind, vmo, byte_data};
+ghost use Rattle.script_text.specs.Radixes.{base_of, value_in};
+
+use vm_base::VmoName;
+use vm_model::Bytes4k;
+
+/// The most digits of byte data, two for each of 4,096 bytes.
+const MOST_DIGITS: usize = 8192;
+
+/// What the digits of a number stand for.
+#[derive(Clone, Copy)]
+enum Radix {
+    /// Ten digits, `0` to `9`.
+    Decimal,
+    /// Sixteen digits, with `a` to `f` of either case.
+    Hex,
+}
+
+impl Radix {
+    /// How many digits there are.
+    fn base(self) -> u64
+        ensures { result ≡ base_of self }
+    {
+        match self {
+            Radix::Decimal => 10,
+            Radix::Hex => 16,
+        }
+    }
+
+    /// What one digit stands for, or `None` where the byte is no digit.
+    fn value(self, byte: u8) -> Option<u64>
+        ensures { result ≡ value_in self byte }
+    {
+        match (self, byte) {
+            (_, b'0'..=b'9') => Some(u64::from(byte - b'0')),
+            (Radix::Hex, b'a'..=b'f') => Some(u64::from(byte - b'a' + 10)),
+            (Radix::Hex, b'A'..=b'F') => Some(u64::from(byte - b'A' + 10)),
+            _ => None,
+        }
+    }
+}
+
+/// The number that a word of digits spells. `None` where the word is empty, a byte is no digit, or
+/// the number does not fit.
+#[tactic(auto, unfolding(vm_model::specs::Reading::digits_from))]
+fn digits(radix: Radix, word: &[u8]) -> Option<u64>
+    ensures { result ≡ below (2 ^ 64) (digits (base_of radix) (value_in radix) word.now) }
+{
+    if word.is_empty() {
+        return None;
+    }
+    let mut number: u64 = 0;
+    for byte in word {
+        let digit = radix.value(*byte)?;
+        number = number.checked_mul(radix.base())?.checked_add(digit)?;
+    }
+    Some(number)
+}
+
+/// A number: decimal digits, or `0x` and hexadecimal digits of either case. `None` where it is
+/// spelled otherwise, or is not below 2^64.
+#[tactic(auto, unfolding(vm_model::specs::Reading::number))]
+pub fn number(word: &[u8]) -> Option<u64>
+    ensures { result ≡ number word.now }
+{
+    match word {
+        [b'0', b'x', behind @ ..] => digits(Radix::Hex, behind),
+        _ => digits(Radix::Decimal, word),
+    }
+}
+
+/// The number of a name: the letter, and a decimal number without leading zeros. `None` where it is
+/// spelled otherwise, or the number is not below 2^32.
+fn name_behind(letter: u8, word: &[u8]) -> Option<u32>
+    ensures { result ≡ name_behind letter word.now }
+{
+    let (first, behind) = word.split_first()?;
+    if *first != letter {
+        return None;
+    }
+    if let [b'0', _, ..] = behind {
+        return None;
+    }
+    u32::try_from(digits(Radix::Decimal, behind)?).ok()
+}
+
+/// The name of a VMO: `v` and a decimal number below 2^32 without leading zeros. `None` where it is
+/// spelled otherwise.
+#[tactic(auto, unfolding(vm_model::specs::Reading::vmo))]
+pub fn vmo(word: &[u8]) -> Option<VmoName>
+    ensures { result ≡ vmo word.now }
+{
+    Some(VmoName(name_behind(b'v', word)?))
+}
+
+/// Byte data: `-` for no bytes, or two hexadecimal digits of either case for each of 1 to 4,096
+/// bytes. `None` where it is spelled otherwise.
+#[tactic(auto, unfolding(vm_model::specs::Reading::byte_data))]
+pub fn byte_data(word: &[u8]) -> Option<Bytes4k>
+    ensures { result ≡ byte_data word.now }
+{
+    if word == b"-".as_slice() {
+        return Some(Bytes4k::new());
+    }
+    if word.is_empty() || word.len() > MOST_DIGITS {
+        return None;
+    }
+    let mut room = [0; MOST_DIGITS / 2];
+    let (decoded, _) = room.split_at_mut(word.len() / 2);
+    hex::decode_to_slice(word, decoded).ok()?;
+    let mut bytes = Bytes4k::new();
+    bytes.extend_from_slice(decoded);
+    Some(bytes)
+}

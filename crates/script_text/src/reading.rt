@@ -1,0 +1,121 @@
+//! What one line of a script says.
+
+ghost use Rattle.std.specs.Prelude.{◌≡◌, map};
+ghost use Rattle.vm_model.specs.Reading.{command, is_comment, reading, words, vmo_create, vmo_read, vmo_write};
+ghost use Rattle.script_text.specs.Lines.{reading_of};
+
+use crate::fields::{byte_data, number, vmo};
+use crate::words::{arguments, next_word};
+use vm_model::Command;
+
+/// The most bytes of a line, without its line feed.
+const LINE_LIMIT: usize = 16_384;
+
+/// The line is outside the grammar.
+#[derive(Clone, Copy, Debug, PartialEq, Eq)]
+pub struct SyntaxFault;
+
+/// What a line says.
+#[derive(Debug, Drop)]
+pub enum Line {
+    /// Nothing: it has no word, or it is a comment, whose first word begins with `#`.
+    Blank,
+    /// A command.
+    Order(Command),
+}
+
+/// Reads one line of a script, without its line feed. `SyntaxFault` where it has more than 16,384
+/// bytes, or where it is not blank, no comment and no command in its one spelling.
+#[tactic(auto, unfolding(vm_model::specs::Reading::reading))]
+pub fn read_line(line: &[u8]) -> Result<Line, SyntaxFault>
+    ensures { reading_of result ≡ reading line.now }
+{
+    if line.len() > LINE_LIMIT {
+        return Err(SyntaxFault);
+    }
+    let Some((word, rest)) = next_word(line) else {
+        return Ok(Line::Blank);
+    };
+    if is_comment(word) {
+        return Ok(Line::Blank);
+    }
+    match order(word, rest) {
+        Some(command) => Ok(Line::Order(command)),
+        None => Err(SyntaxFault),
+    }
+}
+
+/// Whether a line with this first word is a comment.
+fn is_comment(word: &[u8]) -> bool
+    ensures { result ≡ is_comment word.now }
+{
+    matches!(word, [b'#', ..])
+}
+
+/// The command of this word and the arguments in the rest of its line, or `None` where there is
+/// none.
+#[tactic(auto, using(crate::proofs::Many::command_of_many))]
+fn order(word: &[u8], rest: &[u8]) -> Option<Command>
+    ensures { result ≡ command word.now (words rest.now) }
+{
+    let arguments = arguments(rest)?;
+    command(word, arguments.as_slice())
+}
+
+/// The command of this word and these arguments, or `None` where there is none.
+#[tactic(auto, unfolding(vm_model::specs::Reading::command))]
+fn command(word: &[u8], arguments: &[&[u8]]) -> Option<Command>
+    ensures { result ≡ command word.now (map (λ a. a.now) arguments.now) }
+{
+    if word == b"vmo_create".as_slice() {
+        vmo_create(arguments)
+    } else if word == b"vmo_read".as_slice() {
+        vmo_read(arguments)
+    } else if word == b"vmo_write".as_slice() {
+        vmo_write(arguments)
+    } else {
+        None
+    }
+}
+
+/// `vmo_create VMO SIZE`
+fn vmo_create(arguments: &[&[u8]]) -> Option<Command>
+    ensures { result ≡ vmo_create (map (λ a. a.now) arguments.now) }
+{
+    let [name, size] = arguments else {
+        return None;
+    };
+    Some(Command::VmoCreate {
+        name: vmo(name)?,
+        size: number(size)?,
+        resizable: false,
+    })
+}
+
+/// `vmo_read VMO OFFSET LEN`
+fn vmo_read(arguments: &[&[u8]]) -> Option<Command>
+    ensures { result ≡ vmo_read (map (λ a. a.now) arguments.now) }
+{
+    let [name, offset, len] = arguments else {
+        return None;
+    };
+    Some(Command::VmoRead {
+        name: vmo(name)?,
+        offset: number(offset)?,
+        len: number(len)?,
+    })
+}
+
+/// `vmo_write VMO OFFSET DATA`
+fn vmo_write(arguments: &[&[u8]]) -> Option<Command>
+    ensures { result ≡ vmo_write (map (λ a. a.now) arguments.now) }
+{
+    let [name, offset, data] = arguments else {
+        return None;
+    };
+    Some(Command::VmoWrite {
+        name: vmo(name)?,
+        offset: number(offset)?,
+        bytes: byte_data(data)?,
+    })
+}

@@ -1,0 +1,303 @@
+-- The example script has one outcome where the host has memory, and it has that outcome.
+use Rattle.std.proofs.Common.{◌≡◌, ◌≢◌, ℕ, zero, suc, ◌+◌, ◌-◌, ◌*◌, ◌/◌, ◌<◌, ◌≤◌, Bool, true, false, not, cond, List, [], ◌∷◌, ◌++◌, length, take, drop, get_or, Option, None, Some, ◌⊎◌, refl, sym, ap, subst, ◌∙◌, inl, inr, arith}
+use Rattle.std.specs.Prelude.{codes}
+use Rattle.std.specs.Prelude.{nat_lt, unwrap_or, is_some, All, replicate}
+use Rattle.std.specs.List.{AllByRecursion}
+use Rattle.std.proofs.lemmas.Bool.{le-ltb, cases_Bool, false_from_ne_true}
+use Rattle.hex.specs.Hex.{decode_pairs, encode_with}
+use Rattle.vm_base.specs.Pages.{rounded}
+use Rattle.vm_base.specs.declared.pages.TheConstants.{PAGE, VMO_PAGES}
+use Rattle.vm_base.specs.declared.refusal.Refusal.{Refusal}
+use Rattle.vm_base.specs.declared.refusal.Refusal.TheVariants.{BadHandle, NameInUse, InvalidArgs, OutOfRange, NoMemory, HostMemory}
+use Rattle.vm_model.specs.Content.{Page, Content, nothing, zeros, bytes_of, shown, pages_of, in_use, used, sole, hold, created, IsGood}
+use Rattle.vm_model.specs.Owning.{Owns, need}
+use Rattle.vm_model.specs.Writing.{touched_end, touched, bytes_in, replaced, Piece, piece, pieces, WritesPiece, Writes}
+use Rattle.vm_model.specs.State.{State, empty_state, is_open, koid_of, size_of, with_name}
+use Rattle.vm_model.specs.Refusals.{lacks_frames, refusals, first_of}
+use Rattle.vm_model.specs.Step.{Effect, IsRefused, StepAfter, Step}
+use Rattle.vm_model.specs.Run.{GivesAs, Gives, Run, Legal}
+use Rattle.vm_model.proofs.ContentLaws.{page-nothing, page-created, page-hold_here, page-hold_other_page, bytes_of-none, bytes_of-some, in_use_found, sole-zero, used-nothing, used-created, IsGood-nothing, IsGood-created}
+use Rattle.vm_model.proofs.OwningLaws.{Owned-from_Owns, need-row, unowned, unowned_le}
+use Rattle.vm_model.proofs.WritingLaws.{Writes-keeps_all}
+use Rattle.vm_model.specs.declared.command.Command.{Command}
+use Rattle.vm_model.specs.declared.command.Command.TheVariants.{VmoCreate, VmoRead, VmoWrite}
+use Rattle.vm_model.specs.declared.reply.Reply.{Reply}
+use Rattle.vm_model.specs.declared.reply.Reply.TheVariants.{Done, Bytes, Refused}
+use Rattle.vm_model.specs.Reading.{Reading, Order, reading, words, digits_from, number, vmo, byte_data, command}
+use Rattle.vm_model.specs.Run.{lines_of}
+use Rattle.vm_model.specs.Text.{reply_lines, text, texts}
+use Rattle.vm_model.specs.Example.{example_script, example_text}
+
+abbrev create_line : List ℕ
+create_line = codes "vmo_create v1 8192"
+
+abbrev write_line : List ℕ
+write_line = codes "vmo_write v1 4094 aabb"
+
+abbrev read_line : List ℕ
+read_line = codes "vmo_read v1 4093 5"
+
+abbrev create : Command
+create = VmoCreate (record { 0 = 1 }) 8192 false
+
+abbrev write : Command
+write = VmoWrite (record { 0 = 1 }) 4094 (170 ∷ 187 ∷ [])
+
+abbrev read : Command
+read = VmoRead (record { 0 = 1 }) 4093 5
+
+pub example_lines : lines_of example_script ≡ create_line ∷ write_line ∷ read_line ∷ []
+unfolding lines_of
+example_lines = refl
+
+pub create-reading : reading create_line ≡ Order create
+unfolding reading words digits_from number vmo byte_data command
+create-reading = refl
+
+pub write-reading : reading write_line ≡ Order write
+unfolding reading words digits_from number vmo byte_data command decode_pairs
+write-reading = refl
+
+pub read-reading : reading read_line ≡ Order read
+unfolding reading words digits_from number vmo byte_data command
+read-reading = refl
+
+pub example-texts : texts (Done ∷ Done ∷ Bytes (0 ∷ 170 ∷ 187 ∷ 0 ∷ 0 ∷ []) ∷ []) ≡ example_text
+unfolding text reply_lines encode_with
+example-texts = refl
+
+-- ---- the states
+
+abbrev start : State
+start = empty_state 1024
+
+-- after the first line
+abbrev made : State
+made = record { content = created start.content (rounded 8192 / PAGE); names = with_name start.names 1 start.content.next }
+
+abbrev part : Piece
+part = record { page = 0; at = 4094; bytes = 170 ∷ 187 ∷ [] }
+
+create_free : first_of (refusals start create) ≡ None
+unfolding empty_state
+create_free = refl
+
+made-koid : koid_of made 1 ≡ 1
+unfolding koid_of with_name empty_state nothing
+made-koid = refl
+
+made-pages : pages_of made.content 1 ≡ 2
+unfolding pages_of created empty_state nothing
+made-pages = refl
+
+made-open : is_open made 1 ≡ true
+unfolding with_name empty_state nothing
+made-open = refl
+
+made-page : (v p : ℕ) → made.content.page v p ≡ None
+unfolding created empty_state nothing
+made-page v p = refl
+
+made-good : IsGood made.content
+unfolding empty_state
+made-good = IsGood-created start.content 2 (IsGood-nothing 1024) (omega arith)
+
+made-used : used made.content ≡ 0
+unfolding empty_state
+made-used = used-created start.content 2 (IsGood-nothing 1024) (omega arith) ∙ used-nothing 1024
+
+made-frames : made.content.frames ≡ 1024
+unfolding created empty_state
+made-frames = refl
+
+write-touched : touched 4094 2 ≡ 0 ∷ []
+unfolding touched touched_end
+write-touched = refl
+
+write-pieces : pieces 4094 (170 ∷ 187 ∷ []) ≡ part ∷ []
+unfolding pieces piece touched touched_end
+write-pieces = refl
+
+made-need : need made.content (koid_of made 1) (touched 4094 2) ≤ 1
+made-need =
+    let row : need made.content (koid_of made 1) (touched 4094 2) ≡ unowned made.content (koid_of made 1) 0 1 =
+    ap (need made.content (koid_of made 1)) write-touched ∙ need-row made.content (koid_of made 1) 0 1 in
+    omega (arith, row, unowned_le made.content (koid_of made 1) 0 1)
+
+-- rows none of which refuses
+none_of : (a b c : Bool) (x y z : Refusal) → a ≡ false → b ≡ false → c ≡ false → first_of ((a, x) ∷ (b, y) ∷ (c, z) ∷ []) ≡ None
+none_of a b c x y z e f g = ap (λ t. cond t (Some x) (first_of ((b, y) ∷ (c, z) ∷ []))) e ∙ (ap (λ t. cond t (Some y) (first_of ((c, z) ∷ []))) f ∙ ap (λ t. cond t (Some z) None) g)
+
+write_free : first_of (refusals made write) ≡ None
+write_free =
+    let inside : nat_lt (size_of made 1) (4094 + 2) ≡ false = le-ltb (size_of made 1) (4094 + 2) (omega (arith, ap (pages_of made.content) made-koid, made-pages)) in
+    let room : lacks_frames made 1 (touched 4094 2) ≡ false = le-ltb made.content.frames (used made.content + need made.content (koid_of made 1) (touched 4094 2)) (omega (arith, made-used, made-need, made-frames)) in
+    none_of (not (is_open made 1)) (nat_lt (size_of made 1) (4094 + 2)) (lacks_frames made 1 (touched 4094 2)) BadHandle OutOfRange NoMemory (ap not made-open) inside room
+
+-- the same names, the same koids
+koid-same : (s t : State) → s.names ≡ t.names → koid_of s 1 ≡ koid_of t 1
+unfolding koid_of
+koid-same s t e = ap (λ (f : ℕ → Option ℕ). unwrap_or (f 1) 0) e
+
+-- what the VMO shows after the second line
+pub record IsWritten (s : State) : Type 0 where
+  pub names : s.names ≡ made.names
+  pub pages : pages_of s.content 1 ≡ 2
+  pub first : shown s.content 1 0 ≡ replaced zeros 4094 (170 ∷ 187 ∷ [])
+  pub second : shown s.content 1 1 ≡ zeros
+
+IsWritten-from_effect : (reply : Reply) (s : State) → Effect made write reply s → IsWritten s
+IsWritten-from_effect reply s effect =
+    let w : Writes made.content 1 (part ∷ []) s.content =
+    subst (λ (ps : List Piece). Writes made.content 1 ps s.content) write-pieces (subst (λ (v : ℕ). Writes made.content v (pieces 4094 (170 ∷ 187 ∷ [])) s.content) made-koid effect.2) in
+    let piece_ : WritesPiece made.content 1 part w.0 = w.1 in
+    let below : 0 < pages_of made.content 1 = omega (arith, made-pages) in
+    let owned = Owned-from_Owns made.content piece_.owned 1 0 piece_.tag made-good below piece_.owns in
+    let was : shown piece_.owned 1 0 ≡ zeros =
+    bytes_of-some (piece_.owned.page 1 0) (record { tag = piece_.tag; bytes = shown made.content 1 0 }) owned.held ∙ bytes_of-none (made.content.page 1 0) (made-page 1 0) in
+    let page : Page = record { tag = piece_.tag; bytes = replaced (shown piece_.owned 1 0) 4094 (170 ∷ 187 ∷ []) } in
+    let is : s.content ≡ hold piece_.owned 1 0 page = w.2 ∙ piece_.bytes in
+    let other : ◌≢◌ {A = ℕ} 1 0 = omega arith in
+    let inside : 4094 + 2 ≤ pages_of made.content 1 * PAGE = omega (arith, made-pages) in
+    let kept = Writes-keeps_all 1 4094 (170 ∷ 187 ∷ []) made.content s.content made-good inside (subst (λ (v : ℕ). Writes made.content v (pieces 4094 (170 ∷ 187 ∷ [])) s.content) made-koid effect.2) in
+    record {
+      names = effect.1;
+      pages = kept.pages 1 ∙ made-pages;
+      first = ap (λ (c : Content). shown c 1 0) is ∙ (bytes_of-some ((hold piece_.owned 1 0 page).page 1 0) page (page-hold_here piece_.owned 1 0 page) ∙ ap (λ (xs : List ℕ). replaced xs 4094 (170 ∷ 187 ∷ [])) was);
+      second = ap (λ (c : Content). shown c 1 1) is ∙ bytes_of-none ((hold piece_.owned 1 0 page).page 1 1) (page-hold_other_page piece_.owned 1 0 page 1 1 other ∙ (owned.other_page 1 other ∙ made-page 1 1));
+    }
+
+-- the values at the end of the first page and at the front of the second
+replaced-values : (get_or (replaced zeros 4094 (170 ∷ 187 ∷ [])) 4093 0 ≡ 0) × (get_or (replaced zeros 4094 (170 ∷ 187 ∷ [])) 4094 0 ≡ 170) × (get_or (replaced zeros 4094 (170 ∷ 187 ∷ [])) 4095 0 ≡ 187) × (get_or zeros 0 0 ≡ 0) × (get_or zeros 1 0 ≡ 0)
+unfolding replaced zeros
+replaced-values = (refl, refl, refl, refl, refl)
+
+five : (a b c d e a' b' c' d' e' : ℕ) → a ≡ a' → b ≡ b' → c ≡ c' → d ≡ d' → e ≡ e' → a ∷ b ∷ c ∷ d ∷ e ∷ [] ≡ a' ∷ b' ∷ c' ∷ d' ∷ e' ∷ []
+five a b c d e a' b' c' d' e' p q r s t = λ i. p i ∷ q i ∷ r i ∷ s i ∷ t i ∷ []
+
+-- what is read then
+bytes_read : (c : Content) → shown c 1 0 ≡ replaced zeros 4094 (170 ∷ 187 ∷ []) → shown c 1 1 ≡ zeros → bytes_in c 1 4093 5 ≡ 0 ∷ 170 ∷ 187 ∷ 0 ∷ 0 ∷ []
+unfolding bytes_in
+bytes_read c first second = five _ _ _ _ _ 0 170 187 0 0
+    (ap (λ (xs : List ℕ). get_or xs 4093 0) first ∙ replaced-values.0)
+    (ap (λ (xs : List ℕ). get_or xs 4094 0) first ∙ replaced-values.1)
+    (ap (λ (xs : List ℕ). get_or xs 4095 0) first ∙ replaced-values.2)
+    (ap (λ (xs : List ℕ). get_or xs 0 0) second ∙ replaced-values.3)
+    (ap (λ (xs : List ℕ). get_or xs 1 0) second ∙ replaced-values.4)
+
+-- nothing refuses the third line
+read_free : (s : State) → IsWritten s → first_of (refusals s read) ≡ None
+read_free s w =
+    let named : is_open s 1 ≡ true = ap (λ (f : ℕ → Option ℕ). is_some (f 1)) w.names ∙ made-open in
+    let koid : koid_of s 1 ≡ 1 = koid-same s made w.names ∙ made-koid in
+    let inside : nat_lt (size_of s 1) (4093 + 5) ≡ false = le-ltb (size_of s 1) (4093 + 5) (omega (arith, ap (pages_of s.content) koid, w.pages)) in
+    none_of (not (is_open s 1)) (nat_lt PAGE 5) (nat_lt (size_of s 1) (4093 + 5)) BadHandle InvalidArgs OutOfRange (ap not named) refl inside
+
+-- ---- steps
+
+-- a step that nothing refuses, and for which the host had memory, has the command's effect
+effect_of_step : (old : State) (command : Command) (reply : Reply) (new : State) → first_of (refusals old command) ≡ None → Step old command reply new → reply ≢ Refused HostMemory → Effect old command reply new
+effect_of_step old command reply new none step granted = go (subst (λ (o : Option Refusal). StepAfter o old command reply new) none step.outcome) where
+  go : StepAfter None old command reply new → Effect old command reply new
+  go (inl effect) = effect
+  go (inr lacked) = absurd (granted lacked.0.answer)
+
+step_of_effect : (old : State) (command : Command) (reply : Reply) (new : State) → first_of (refusals old command) ≡ None → Effect old command reply new → Step old command reply new
+step_of_effect old command reply new none effect = record { outcome = subst (λ (o : Option Refusal). StepAfter o old command reply new) (sym none) (inl effect) }
+
+order_given : (line : List ℕ) (command : Command) (old : State) (now : List Reply) (new : State) → reading line ≡ Order command → Gives line old now new → (reply : Reply) × (now ≡ reply ∷ []) × Step old command reply new
+order_given line command old now new e gives = subst (λ (r : Reading). GivesAs r old now new) e gives.answer
+
+give_order : (line : List ℕ) (command : Command) (old : State) (reply : Reply) (new : State) → reading line ≡ Order command → Step old command reply new → Gives line old (reply ∷ []) new
+give_order line command old reply new e step = record { answer = subst (λ (r : Reading). GivesAs r old (reply ∷ []) new) (sym e) (reply, refl, step) }
+
+-- ---- the outcome
+
+pub example_only : (replies : List Reply) (last : State) → Run start (lines_of example_script) replies last → AllByRecursion (λ r. r ≢ Refused HostMemory) replies → texts replies ≡ example_text
+example_only replies last whole granted =
+    let run : Run start (create_line ∷ write_line ∷ read_line ∷ []) replies last = subst (λ (lines : List (List ℕ)). Run start lines replies last) example_lines whole in
+    let first = order_given create_line create start run.1 run.0 create-reading run.3 in
+    let second_run = run.4 in
+    let second = order_given write_line write run.0 second_run.1 second_run.0 write-reading second_run.3 in
+    let third_run = second_run.4 in
+    let third = order_given read_line read second_run.0 third_run.1 third_run.0 read-reading third_run.3 in
+    let rest : third_run.2 ≡ [] = third_run.4.0 in
+    let all : replies ≡ first.0 ∷ second.0 ∷ third.0 ∷ [] =
+    run.5 ∙ (ap (λ (xs : List Reply). xs ++ run.2) first.1
+    ∙ ap (λ (xs : List Reply). first.0 ∷ xs) (second_run.5 ∙ (ap (λ (xs : List Reply). xs ++ second_run.2) second.1
+    ∙ ap (λ (xs : List Reply). second.0 ∷ xs) (third_run.5 ∙ (ap (λ (xs : List Reply). xs ++ third_run.2) third.1
+    ∙ ap (λ (xs : List Reply). third.0 ∷ xs) rest))))) in
+    let each : AllByRecursion (λ r. r ≢ Refused HostMemory) (first.0 ∷ second.0 ∷ third.0 ∷ []) = subst (AllByRecursion (λ r. r ≢ Refused HostMemory)) all granted in
+    let one = effect_of_step start create first.0 run.0 create_free first.2 each.0 in
+    let at_made : Step made write second.0 second_run.0 = subst (λ (s : State). Step s write second.0 second_run.0) one.1 second.2 in
+    let two = effect_of_step made write second.0 second_run.0 write_free at_made each.1.0 in
+    let written = IsWritten-from_effect second.0 second_run.0 two in
+    let three = effect_of_step second_run.0 read third.0 third_run.0 (read_free second_run.0 written) third.2 each.1.1.0 in
+    let koid : koid_of second_run.0 1 ≡ 1 = koid-same second_run.0 made written.names ∙ made-koid in
+    let bytes : third.0 ≡ Bytes (0 ∷ 170 ∷ 187 ∷ 0 ∷ 0 ∷ []) =
+    three.0 ∙ ap (λ (xs : List ℕ). Bytes xs) (ap (λ (v : ℕ). bytes_in second_run.0.content v 4093 5) koid ∙ bytes_read second_run.0.content written.first written.second) in
+    ap texts (all ∙ (λ i. one.0 i ∷ two.0 i ∷ bytes i ∷ [])) ∙ example-texts
+
+-- ---- there is such a run
+
+free_tag : in_use made.content 0 ≡ false
+free_tag = false_from_ne_true (in_use made.content 0) (λ e.
+    let page = in_use_found made.content 0 e in
+    let none : ◌≡◌ {A = Option Page} None (Some page.2) = sym (made-page page.0 page.1) ∙ page.5 in absurd cc)
+
+abbrev owned : Content
+owned = hold made.content 1 0 (record { tag = 0; bytes = shown made.content 1 0 })
+
+abbrev written : State
+written = record { content = hold owned 1 0 (record { tag = 0; bytes = replaced (shown owned 1 0) 4094 (170 ∷ 187 ∷ []) }); names = made.names }
+
+write_effect : Effect made write Done written
+write_effect =
+    let owns : Owns made.content owned 1 0 0 = record {
+      stays = λ alone. let none : ◌≡◌ {A = Bool} true false = sym alone ∙ sole-zero made.content 1 0 (made-page 1 0) in absurd cc;
+      copies = λ shared. (omega (arith, made-frames), free_tag, refl);
+    } in
+    let w : Writes made.content 1 (part ∷ []) written.content = (written.content, record { tag = 0; owned = owned; owns = owns; bytes = refl }, refl) in
+    (refl, refl, subst (λ (v : ℕ). Writes made.content v (pieces 4094 (170 ∷ 187 ∷ [])) written.content) (sym made-koid) (subst (λ (ps : List Piece). Writes made.content 1 ps written.content) (sym write-pieces) w))
+
+abbrev outcome : List Reply
+outcome = Done ∷ Done ∷ Bytes (bytes_in written.content (koid_of written 1) 4093 5) ∷ []
+
+outcome_run : Run start (create_line ∷ write_line ∷ read_line ∷ []) outcome written
+outcome_run =
+    let is = IsWritten-from_effect Done written write_effect in
+    let read_reply : Reply = Bytes (bytes_in written.content (koid_of written 1) 4093 5) in (
+      made,
+      Done ∷ [],
+      Done ∷ read_reply ∷ [],
+      give_order create_line create start Done made create-reading (step_of_effect start create Done made create_free (refl, refl)),
+      (
+        written,
+        Done ∷ [],
+        read_reply ∷ [],
+        give_order write_line write made Done written write-reading (step_of_effect made write Done written write_free write_effect),
+        (
+          written,
+          read_reply ∷ [],
+          [],
+          give_order read_line read written read_reply written read-reading (step_of_effect written read read_reply written (read_free written is) (refl, refl)),
+          (refl, refl),
+          refl,
+        ),
+        refl,
+      ),
+      refl,
+    )
+
+pub example_exists : (replies : List Reply) × (last : State) × Run start (lines_of example_script) replies last × AllByRecursion (λ r. r ≢ Refused HostMemory) replies × (texts replies ≡ example_text)
+example_exists =
+    let is = IsWritten-from_effect Done written write_effect in
+    let koid : koid_of written 1 ≡ 1 = koid-same written made is.names ∙ made-koid in
+    let bytes : bytes_in written.content (koid_of written 1) 4093 5 ≡ 0 ∷ 170 ∷ 187 ∷ 0 ∷ 0 ∷ [] =
+    ap (λ (v : ℕ). bytes_in written.content v 4093 5) koid ∙ bytes_read written.content is.first is.second in (
+      outcome,
+      written,
+      subst (λ (lines : List (List ℕ)). Run start lines outcome written) (sym example_lines) outcome_run,
+      ((λ e. absurd cc), ((λ e. absurd cc), ((λ e. absurd cc), tt))),
+      ap (λ (xs : List ℕ). texts (Done ∷ Done ∷ Bytes xs ∷ [])) bytes ∙ example-texts,
+    )
