@@ -1,1 +1,4 @@
 pub mod Pages
+pub mod Rows
+pub mod Flat
+pub mod FlatFields

@@ -1,6 +1,5 @@
 -- What the calls of a page store ask and answer, over contents.
-use Rattle.std.specs.Prelude.{◌≡◌, ℕ, ◌+◌, ◌<◌, ◌≤◌, Bool, true, List, length, take, drop, Option, None, Some}
-use Rattle.vm_base.specs.declared.names.Tag.{Tag}
+use Rattle.std.specs.Prelude.{◌≡◌, ℕ, List, length, take, drop, Option, None, Some}
 use Rattle.vm_model.specs.Content.{Content, Page, is_sole_page, hold}
 use Rattle.vm_model.specs.Writing.{replaced}
 use Rattle.page_store.specs.declared.page_store.Look.{Look}

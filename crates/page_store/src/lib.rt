@@ -5,6 +5,12 @@
 //! and make a store by `FlatStore::new`.
 #![tactic(auto)]
 
+mod flat_store;
 mod page_store;
+mod rows;
 
+pub use flat_store::FlatStore;
 pub use page_store::{Look, PageStore};
+
+#[cfg(test)]
+mod tests;

@@ -1,7 +1,6 @@
 -- Laws of lines and runs.
-use Rattle.std.proofs.Common.{◌≡◌, ◌≢◌, ℕ, zero, suc, ◌+◌, ◌<◌, ◌≤◌, ◌==◌, Bool, true, false, cond, List, [], ◌∷◌, ◌++◌, length, take, drop, Option, None, Some, refl, sym, ap, subst, ◌∙◌, append_assoc, append-nil, take-append-drop, arith}
-use Rattle.std.specs.Prelude.{slice_get, All}
-use Rattle.std.specs.List.{flat_map, AllByRecursion}
+use Rattle.std.proofs.Common.{◌≡◌, ◌≢◌, ℕ, zero, suc, ◌+◌, ◌<◌, ◌≤◌, ◌==◌, Bool, true, false, cond, List, [], ◌∷◌, ◌++◌, length, take, drop, get_or, Option, None, Some, refl, sym, ap, subst, ◌∙◌, append_assoc, append-nil, take-append-drop, arith}
+use Rattle.std.specs.Prelude.{slice_get}
 use Rattle.std.proofs.lemmas.Grind.{flat_map-append}
 use Rattle.vm_model.specs.declared.reply.Reply.{Reply}
 use Rattle.vm_model.specs.State.{State, empty_state}
@@ -11,23 +10,23 @@ use Rattle.vm_model.proofs.ContentLaws.{eqb_same, eqb_apart}
 
 -- no byte is a line feed
 abbrev pub HasNoFeed : List ℕ → Type 0
-HasNoFeed line = AllByRecursion (λ b. b ≢ 10) line
+HasNoFeed line = (k : ℕ) → k < length line → get_or line k 0 ≢ 10
 
 -- a line that a line feed ends, and the lines behind it
 pub lines_of-line : (line rest : List ℕ) → HasNoFeed line → lines_of (line ++ 10 ∷ rest) ≡ line ∷ lines_of rest
 unfolding lines_of
 lines_of-line [] rest h = refl
 lines_of-line (b ∷ line) rest h =
-    ap (λ t. cond t ([] ∷ lines_of (line ++ 10 ∷ rest)) (onto_first b (lines_of (line ++ 10 ∷ rest)))) (eqb_apart b 10 h.0)
-    ∙ ap (onto_first b) (lines_of-line line rest h.1)
+    ap (λ t. cond t ([] ∷ lines_of (line ++ 10 ∷ rest)) (onto_first b (lines_of (line ++ 10 ∷ rest)))) (eqb_apart b 10 (h 0 (omega arith)))
+    ∙ ap (onto_first b) (lines_of-line line rest (λ k l. h (suc k) (omega arith)))
 
 -- a last piece
 pub lines_of-last : (b : ℕ) (line : List ℕ) → HasNoFeed (b ∷ line) → lines_of (b ∷ line) ≡ (b ∷ line) ∷ []
 unfolding lines_of
-lines_of-last b [] h = ap (λ t. cond t ([] ∷ []) (onto_first b [])) (eqb_apart b 10 h.0)
+lines_of-last b [] h = ap (λ t. cond t ([] ∷ []) (onto_first b [])) (eqb_apart b 10 (h 0 (omega arith)))
 lines_of-last b (c ∷ line) h =
-    ap (λ t. cond t ([] ∷ lines_of (c ∷ line)) (onto_first b (lines_of (c ∷ line)))) (eqb_apart b 10 h.0)
-    ∙ ap (onto_first b) (lines_of-last c line h.1)
+    ap (λ t. cond t ([] ∷ lines_of (c ∷ line)) (onto_first b (lines_of (c ∷ line)))) (eqb_apart b 10 (h 0 (omega arith)))
+    ∙ ap (onto_first b) (lines_of-last c line (λ k l. h (suc k) (omega arith)))
 
 pub lines_of-nil : lines_of [] ≡ []
 unfolding lines_of

@@ -135,3 +135,8 @@ IsGoodState-empty frames = record {
   names = λ n v e. absurd cc;
   live = λ v n e. let none : ◌≡◌ {A = Option ℕ} None (Some n) = sym (count-nothing v) ∙ e in absurd cc;
 }
+
+-- its first koid is 1
+pub next-empty : (frames : ℕ) → (empty_state frames).content.next ≡ 1
+unfolding empty_state nothing
+next-empty frames = refl

@@ -1,0 +1,5 @@
+pub mod NamesLaws
+pub mod LookLaws
+pub mod StepRows
+pub mod ReadLaws
+pub mod WriteLaws

@@ -1,0 +1,27 @@
+use Rattle.std.proofs.Common.{◌≡◌, sym, ap, subst, ◌∙◌, arith}
+use Rattle.vm_model.specs.Content.{Content, nothing}
+use Rattle.vm_model.specs.State.{IsGoodState}
+use Rattle.vm_model.proofs.StepLaws.{IsGoodState-empty}
+use Rattle.page_store.specs.Flat.{content_of}
+use Rattle.vm_core.proofs.NamesLaws.{state_of-empty}
+use Rattle.vm_core.proofs.tests.steps_over_a_flat_store.Goals as goal
+
+filled : (new old : Content) → new ≡ record old { frames = 2 } → old ≡ nothing → new ≡ record nothing { frames = 2 }
+filled new old e f = e ∙ ap (λ (c : Content). record c { frames = 2 }) f
+
+first_koid : (new old : Content) → new ≡ record old { frames = 2 } → old ≡ nothing → new.next ≡ 1
+unfolding nothing
+first_koid new old e f = ap (λ (c : Content). c.next) (filled new old e f)
+
+pub takes_commands-requires-clause-good : goal.takes_commands-requires-clause-good
+takes_commands-requires-clause-good g c =
+    let e = filled (content_of c.fill.new.self) (content_of c.new-store.result) c.in_ok-fill.ensures.ok c.new-store.ensures.content in
+    subst IsGoodState (sym (state_of-empty (content_of c.fill.new.self) c.new-vm.result 2 e c.new-vm.ensures)) (IsGoodState-empty 2)
+
+pub takes_commands-requires-clause-next : goal.takes_commands-requires-clause-next
+takes_commands-requires-clause-next g c =
+    omega (arith, first_koid (content_of c.fill.new.self) (content_of c.new-store.result) c.in_ok-fill.ensures.ok c.new-store.ensures.content)
+
+pub refuses_commands-requires-clause-next : goal.refuses_commands-requires-clause-next
+refuses_commands-requires-clause-next g c =
+    omega (arith, first_koid (content_of c.fill.new.self) (content_of c.new-store.result) c.in_ok-fill.ensures.ok c.new-store.ensures.content, c.takes_commands.ensures.next)

@@ -1,0 +1,18 @@
+//! The machine: its names, and what each command does to a store of pages.
+//!
+//! It stands on `page_store`, whose trait it is generic over, and on the words of `vm_model`, whose
+//! step relation is its contract. The layers above make a `Vm` by `Vm::new`, give it commands by
+//! `Vm::step`, and know of it the names that are open and the step.
+#![tactic(auto)]
+
+mod create;
+mod owning;
+mod range;
+mod read;
+mod vm;
+mod write;
+
+pub use vm::Vm;
+
+#[cfg(test)]
+mod tests;

@@ -1,0 +1,110 @@
+ghost use Rattle.std.specs.Prelude.{◌+◌, ◌<◌, ◌≤◌, ◌^◌, length};
+ghost use Rattle.vm_model.specs.State.{IsGoodState};
+ghost use Rattle.vm_core.specs.Vm.{state_of};
+
+use super::*;
+use page_store::{FlatStore, PageStore};
+use std::process::Abort;
+use std::test::Fail;
+use vm_base::{Refusal, VmoName};
+use vm_model::{Bytes4k, Command, Reply};
+
+fn bytes_of(bytes: &[u8]) -> Bytes4k
+    requires { length bytes.now ≤ 4096 }
+{
+    let mut kept = Bytes4k::new();
+    kept.extend_from_slice(bytes);
+    kept
+}
+
+fn create(name: u32, size: u64) -> Command {
+    Command::VmoCreate {
+        name: VmoName(name),
+        size,
+        resizable: false,
+    }
+}
+
+fn read(name: u32, offset: u64, len: u64) -> Command {
+    Command::VmoRead {
+        name: VmoName(name),
+        offset,
+        len,
+    }
+}
+
+fn write(name: u32, offset: u64, bytes: &[u8]) -> Command
+    requires { length bytes.now ≤ 4096 }
+{
+    Command::VmoWrite {
+        name: VmoName(name),
+        offset,
+        bytes: bytes_of(bytes),
+    }
+}
+
+fn is_done(reply: &Reply) -> bool {
+    matches!(reply, Reply::Done)
+}
+
+fn is_refused(reply: &Reply, want: Refusal) -> bool {
+    match reply {
+        Reply::Refused(refusal) => *refusal == want,
+        _ => false,
+    }
+}
+
+fn has_bytes(reply: &Reply, want: &[u8]) -> bool {
+    match reply {
+        Reply::Bytes(bytes) => bytes.as_slice() == want,
+        _ => false,
+    }
+}
+
+// On a machine with two frames and nothing else.
+fn takes_commands<P: PageStore>(rt: &impl Abort, vm: &mut Vm, store: &mut P)
+    requires good { IsGoodState (state_of (P.content store.old) vm.old) }
+    requires next { (P.content store.old).next < 1000 }
+    ensures good { IsGoodState (state_of (P.content store.new) vm.new) }
+    ensures next { (P.content store.new).next ≤ (P.content store.old).next + 6 }
+{
+    assert!(rt; is_done(&vm.step(store, &create(1, 8191))));
+    assert!(rt; is_done(&vm.step(store, &write(1, 4094, &[1, 2, 3]))));
+    assert!(rt; has_bytes(&vm.step(store, &read(1, 4093, 5)), &[0, 1, 2, 3, 0]));
+    assert!(rt; is_done(&vm.step(store, &create(2, 4096))));
+    assert!(rt; has_bytes(&vm.step(store, &read(2, 4095, 1)), &[0]));
+    assert!(rt; has_bytes(&vm.step(store, &read(2, 4096, 0)), &[]));
+}
+
+fn refuses_commands<P: PageStore>(rt: &impl Abort, vm: &mut Vm, store: &mut P)
+    requires good { IsGoodState (state_of (P.content store.old) vm.old) }
+    requires next { (P.content store.old).next < 1000 }
+{
+    let rows = [
+        (create(1, 1), Refusal::NameInUse),
+        (create(3, 68719476737), Refusal::OutOfRange),
+        (read(3, 0, 1), Refusal::BadHandle),
+        (read(1, 0, 4097), Refusal::InvalidArgs),
+        (read(1, 8190, 3), Refusal::OutOfRange),
+        (read(1, u64::MAX, 2), Refusal::OutOfRange),
+        (write(3, 0, &[1]), Refusal::BadHandle),
+        (write(1, 8191, &[1, 2]), Refusal::OutOfRange),
+        (write(2, 0, &[1]), Refusal::NoMemory),
+    ];
+    for (command, refusal) in &rows {
+        assert!(rt;
+            is_refused(&vm.step(store, command), *refusal),
+            "for {command:?}"
+        );
+    }
+}
+
+#[test]
+fn steps_over_a_flat_store(rt: HostRuntime) -> Result<(), Fail> {
+    let mut vm = Vm::new(rt.alloc());
+    let mut store = FlatStore::new(rt.alloc());
+    store.fill(2)?;
+    takes_commands(&rt, &mut vm, &mut store);
+    refuses_commands(&rt, &mut vm, &mut store);
+    Ok(())
+}

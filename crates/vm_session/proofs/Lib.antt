@@ -1,0 +1,5 @@
+mod FirstLine
+mod ReadWhole
+mod Answering
+mod Beginning
+mod Writing

@@ -1,0 +1,88 @@
+-- What a sink took of the text of replies.
+use Rattle.std.proofs.Common.{◌≡◌, ℕ, zero, suc, ◌+◌, ◌-◌, ◌<◌, ◌≤◌, List, [], ◌∷◌, ◌++◌, length, take, drop, Option, None, Some, Result, Ok, Err, refl, sym, ap, subst, ◌∙◌, append_assoc, append-nil, arith}
+use Rattle.std.specs.Prelude.{slice_get, OnOk, OnErr, MatchResult}
+use Rattle.std.specs.List.{concat, flat_map}
+use Rattle.std.specs.Io.KnownBytes.{Appends}
+use Rattle.std.proofs.KnownBytes.{Appends-trans}
+use Rattle.std.proofs.lemmas.List.{length-append, take_all}
+use Rattle.script_io.specs.Faults.{IsCutOff}
+use Rattle.vm_base.specs.declared.refusal.Refusal.TheVariants.{Syntax}
+use Rattle.vm_model.specs.declared.reply.Reply.{Reply}
+use Rattle.vm_model.specs.declared.reply.Reply.TheVariants.{Refused}
+use Rattle.vm_model.specs.declared.command.Command.{Command}
+use Rattle.vm_model.specs.State.{State}
+use Rattle.vm_model.specs.Step.{Step}
+use Rattle.vm_model.specs.Reading.{Reading, Blank, Order, Outside, reading}
+use Rattle.vm_model.specs.Text.{reply_lines, text, texts}
+use Rattle.vm_model.specs.Run.{GivesAs, Gives}
+use Rattle.vm_session.specs.Outcome.{Writes, AnswersLine}
+
+-- a fact holds at an error
+pub on_err : {T E P : Type 0} (result : Result T E) → P → OnErr result P
+on_err (Ok x) p = tt
+on_err (Err e) p = p
+
+-- the pieces up to one, the piece, and those behind it
+pub concat_parts : (xs : List (List ℕ)) (i : ℕ) (x : List ℕ) → slice_get xs i ≡ Some x → (concat (take (i + 1) xs) ≡ concat (take i xs) ++ x) × ((rest : List ℕ) × (concat xs ≡ concat (take i xs) ++ (x ++ rest)))
+concat_parts [] i x e = absurd cc
+concat_parts (y ∷ xs) zero x e =
+    let same : y ≡ x = cc in
+    (append-nil y ∙ same, (concat xs, ap (λ (z : List ℕ). z ++ concat xs) same))
+concat_parts (y ∷ xs) (suc i) x e =
+    let more : suc i + 1 ≡ suc (i + 1) = omega arith in
+    let found = concat_parts xs i x e in (
+      ap (λ (m : ℕ). concat (take m (y ∷ xs))) more ∙ (ap (λ (z : List ℕ). y ++ z) found.0 ∙ sym (append_assoc y (concat (take i xs)) x)),
+      (found.1.0, ap (λ (z : List ℕ). y ++ z) found.1.1 ∙ sym (append_assoc y (concat (take i xs)) (x ++ found.1.0))),
+    )
+
+-- one line more was written
+pub line_written : (reply : Reply) (i : ℕ) (line : List ℕ) (before mid after : Option (List ℕ)) → slice_get (reply_lines reply) i ≡ Some line → Appends before mid (concat (take i (reply_lines reply))) → Appends mid after line → Appends before after (concat (take (i + 1) (reply_lines reply)))
+line_written reply i line before mid after e first second =
+    subst (Appends before after) (sym (concat_parts (reply_lines reply) i line e).0) (Appends-trans before mid after (concat (take i (reply_lines reply))) line first second)
+
+-- all lines were written
+pub reply_written : (reply : Reply) (i : ℕ) (before after : Option (List ℕ)) → length (reply_lines reply) ≤ i → Appends before after (concat (take i (reply_lines reply))) → Appends before after (text reply)
+unfolding text
+reply_written reply i before after all written = subst (λ (ls : List (List ℕ)). Appends before after (concat ls)) (take_all i (reply_lines reply) all) written
+
+-- a line was cut off
+pub reply_cut : (reply : Reply) (i : ℕ) (line : List ℕ) (before mid after : Option (List ℕ)) → slice_get (reply_lines reply) i ≡ Some line → Appends before mid (concat (take i (reply_lines reply))) → IsCutOff mid after line → IsCutOff before after (text reply)
+unfolding text
+reply_cut reply i line before mid after e first cut =
+    let front = concat (take i (reply_lines reply)) in
+    let parts = (concat_parts (reply_lines reply) i line e).1 in
+    record {
+      part = front ++ cut.part;
+      rest = cut.rest ++ parts.0;
+      whole = parts.1 ∙ (ap (λ (xs : List ℕ). front ++ (xs ++ parts.0)) cut.whole ∙ (ap (λ (xs : List ℕ). front ++ xs) (append_assoc cut.part cut.rest parts.0) ∙ sym (append_assoc front cut.part (cut.rest ++ parts.0))));
+      left = omega (arith, cut.left, length-append cut.rest parts.0);
+      taken = Appends-trans before mid after front cut.part first cut.taken;
+    }
+
+-- ---- one line of a script
+
+one_text : (reply : Reply) → text reply ≡ texts (reply ∷ [])
+one_text reply = sym (append-nil (text reply))
+
+-- a reply that was pushed, whole or in part
+pub Writes-one : {T E : Type 0} (result : Result T E) (before after : Option (List ℕ)) (reply : Reply) → OnOk result (Appends before after (text reply)) → OnErr result (IsCutOff before after (text reply)) → Writes result before after (texts (reply ∷ []))
+Writes-one (Ok x) before after reply ok err = subst (Appends before after) (one_text reply) ok
+Writes-one (Err e) before after reply ok err = subst (IsCutOff before after) (one_text reply) err
+
+-- a line that is an order, one step, and its reply
+pub AnswersLine-order : {T E : Type 0} (line : List ℕ) (command : Command) (old new : State) (reply : Reply) (before after : Option (List ℕ)) (result : Result T E)
+    → Order command ≡ reading line → Step old command reply new → OnOk result (Appends before after (text reply)) → OnErr result (IsCutOff before after (text reply)) → AnswersLine line old new before after result
+AnswersLine-order line command old new reply before after result e step ok err = record {
+  replies = reply ∷ [];
+  gives = record { answer = subst (λ (r : Reading). GivesAs r old (reply ∷ []) new) e (reply, refl, step) };
+  written = Writes-one result before after reply ok err;
+}
+
+-- a line outside the grammar, and its refusal
+pub AnswersLine-outside : {T E : Type 0} (line : List ℕ) (old : State) (before after : Option (List ℕ)) (result : Result T E)
+    → Outside ≡ reading line → OnOk result (Appends before after (text (Refused Syntax))) → OnErr result (IsCutOff before after (text (Refused Syntax))) → AnswersLine line old old before after result
+AnswersLine-outside line old before after result e ok err = record {
+  replies = Refused Syntax ∷ [];
+  gives = record { answer = subst (λ (r : Reading). GivesAs r old (Refused Syntax ∷ []) old) e (refl, refl) };
+  written = Writes-one result before after (Refused Syntax) ok err;
+}

@@ -1,0 +1,18 @@
+//! A run of the machine over a script: from the bytes of a source to the bytes of a sink.
+//!
+//! It stands on `vm_core` for the step, on `script_text` and `reply_text` for lines and replies, and
+//! on `script_io` for sources and sinks. `run` is the call that the program makes, and its contract
+//! is the theorem of the whole project.
+#![tactic(auto)]
+
+mod answers;
+mod input;
+mod lines;
+mod replies;
+mod session;
+
+pub use script_io::{Status, code};
+pub use session::run;
+
+#[cfg(test)]
+mod tests;

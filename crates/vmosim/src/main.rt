@@ -1,0 +1,42 @@
+//! The program: the machine over standard input and output.
+//!
+//! It makes the store, hands standard input and output to `vm_session`'s `run` as a source and a
+//! sink, and ends with the status of the run. Nothing is written on standard error.
+#![tactic(auto)]
+
+use page_store::FlatStore;
+use script_io::{ReadSource, WriteSink};
+use std::process::ExitCode;
+use std::rt::Env;
+use std::{env, io};
+use vm_session::{Status, code, run};
+
+/// The words of the command line behind the program's name. Without memory for them the program ends
+/// for want of memory, and where one is no text the words are none of its own.
+fn words(rt: &(impl Env + AllocGlobal)) -> Result<Vec<String>, Status> {
+    let args = match env::args(rt) {
+        Ok(args) => args,
+        Err(error) if error.kind() == io::ErrorKind::OutOfMemory => return Err(Status::HostMemory),
+        Err(_) => return Err(Status::Usage),
+    };
+    let mut words = Vec::new(rt.alloc());
+    for word in args.skip(1) {
+        if words.push(word).is_err() {
+            return Err(Status::HostMemory);
+        }
+    }
+    Ok(words)
+}
+
+/// Runs the script on standard input, and answers how it ended.
+fn main(rt: HostRuntime) -> ExitCode {
+    let words = match words(&rt) {
+        Ok(words) => words,
+        Err(status) => return ExitCode::from(code(status)),
+    };
+    let mut store = FlatStore::new(rt.alloc());
+    let mut source = ReadSource::new(rt.stdin());
+    let mut sink = WriteSink::new(rt.stdout());
+    let status = run(rt.alloc(), &words, &mut store, &mut source, &mut sink);
+    ExitCode::from(code(status))
+}
