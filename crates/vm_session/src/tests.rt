@@ -99,25 +99,26 @@ fn frames_run_out(rt: HostRuntime) -> Result<(), Fail> {
     Ok(())
 }
 
+/// Whether these words are refused, and nothing is written.
+fn is_usage(alloc: Global, words: &[&str]) -> Result<bool, Fail> {
+    let mut source = MemSource::new(alloc, SCRIPT, 7, &[])
+        .ok()
+        .ok_or("room for a source")?;
+    let mut sink = MemSink::new(alloc, ROOM, ROOM, &[])
+        .ok()
+        .ok_or("room for a sink")?;
+    let status = run_words(alloc, words, &mut source, &mut sink)?;
+    Ok(status == Status::Usage && sink.bytes().is_empty())
+}
+
 #[test]
 fn other_words_are_usage(rt: HostRuntime) -> Result<(), Fail> {
-    for words in [
-        [].as_slice(),
-        ["go"].as_slice(),
-        ["run", "extra"].as_slice(),
-        ["--help"].as_slice(),
-        ["RUN"].as_slice(),
-    ] {
-        let mut source = MemSource::new(rt.alloc(), SCRIPT, 7, &[])
-            .ok()
-            .ok_or("room for a source")?;
-        let mut sink = MemSink::new(rt.alloc(), ROOM, ROOM, &[])
-            .ok()
-            .ok_or("room for a sink")?;
-        let status = run_words(rt.alloc(), words, &mut source, &mut sink)?;
-        assert_eq!(rt; status, Status::Usage, "at {words:?}");
-        assert!(rt; sink.bytes().is_empty());
-    }
+    assert!(rt; is_usage(rt.alloc(), &[])?);
+    assert!(rt; is_usage(rt.alloc(), &["go"])?);
+    assert!(rt; is_usage(rt.alloc(), &["run", "extra"])?);
+    assert!(rt; is_usage(rt.alloc(), &["--help"])?);
+    assert!(rt; is_usage(rt.alloc(), &["RUN"])?);
+    assert!(rt; !is_usage(rt.alloc(), &["run"])?);
     Ok(())
 }
 
@@ -199,30 +200,31 @@ fn a_full_sink_cuts_the_replies_off(rt: HostRuntime) -> Result<(), Fail> {
     Ok(())
 }
 
+/// How a script of 16 bytes and this many blank lines ends, and how many bytes are written.
+fn with_blank_lines(alloc: Global, blanks: usize) -> Result<(Status, usize), Fail> {
+    let mut script = Vec::from_slice(alloc, b"vmo_create v1 1\n")?;
+    let blank = vec![in alloc; b'\n'; blanks]?;
+    script.extend_from_slice(blank.as_slice())?;
+    let mut source = MemSource::new(alloc, script.as_slice(), ROOM, &[])
+        .ok()
+        .ok_or("room for a source")?;
+    let mut sink = MemSink::new(alloc, ROOM, ROOM, &[])
+        .ok()
+        .ok_or("room for a sink")?;
+    let status = run_words(alloc, &["run"], &mut source, &mut sink)?;
+    Ok((status, sink.bytes().len()))
+}
+
 #[test]
 fn a_script_has_at_most_65536_bytes(rt: HostRuntime) -> Result<(), Fail> {
-    for (len, want) in [
-        (65_536, Status::Done),
-        (65_537, Status::ScriptLimit),
-        (65_538, Status::ScriptLimit),
-    ] {
-        let mut script = Vec::with_capacity(rt.alloc(), len)?;
-        script.extend_from_slice(b"vmo_create v1 1\n")?;
-        while script.len() < len {
-            script.push(b'\n')?;
-        }
-        let mut source = MemSource::new(rt.alloc(), script.as_slice(), len, &[])
-            .ok()
-            .ok_or("room for a source")?;
-        let mut sink = MemSink::new(rt.alloc(), ROOM, ROOM, &[])
-            .ok()
-            .ok_or("room for a sink")?;
-        let status = run_words(rt.alloc(), &["run"], &mut source, &mut sink)?;
-        assert_eq!(rt; status, want, "at {len} bytes");
-        assert_eq!(rt;
-            sink.bytes().len(),
-            if want == Status::Done { 3 } else { 0 }
-        );
-    }
+    assert_eq!(rt; with_blank_lines(rt.alloc(), 65_520)?, (Status::Done, 3));
+    assert_eq!(rt;
+        with_blank_lines(rt.alloc(), 65_521)?,
+        (Status::ScriptLimit, 0)
+    );
+    assert_eq!(rt;
+        with_blank_lines(rt.alloc(), 65_522)?,
+        (Status::ScriptLimit, 0)
+    );
     Ok(())
 }
