@@ -1,1 +1,5 @@
 pub mod Moving
+pub mod Ranges
+pub mod Windows
+pub mod FetchingLaws
+pub mod Turns

@@ -1,3 +1,5 @@
 pub mod Faults
 pub mod Memory
 pub mod Ending
+pub mod Reader
+pub mod Fetching

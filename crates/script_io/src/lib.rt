@@ -2,10 +2,14 @@
 //!
 //! A `Source` gives bytes, a `Sink` takes them, and each counts its faults, so that a layer above
 //! may promise that it reports a fault only where one came. `SureSource`, `MemSource` and `MemSink`
-//! stand in memory and tell their bytes; `ReadSource` and `WriteSink` reach the system. It stands on
-//! `vm_base` alone. The layers above may use all of it.
+//! stand in memory and tell their bytes; `CountSink` only counts them; `ReadSource` and `WriteSink`
+//! reach the system. `Lines` reads a source line by line. It stands on `vm_base` alone. The layers
+//! above may use all of it.
 #![tactic(auto)]
 
+mod count_sink;
+mod line_buffer;
+mod line_reader;
 mod mem_sink;
 mod mem_source;
 mod plan;
@@ -16,6 +20,8 @@ mod status;
 mod sure_source;
 mod write_sink;
 
+pub use count_sink::CountSink;
+pub use line_reader::{Fetch, LINE_LIMIT, Lines};
 pub use mem_sink::MemSink;
 pub use mem_source::MemSource;
 pub use read_source::ReadSource;
@@ -25,5 +31,7 @@ pub use status::{Status, code};
 pub use sure_source::SureSource;
 pub use write_sink::WriteSink;
 
+#[cfg(test)]
+mod line_tests;
 #[cfg(test)]
 mod tests;

@@ -1,0 +1,209 @@
+//! Reading a source line by line.
+
+ghost use Rattle.std.specs.Prelude.{◌≡◌, ◌≢◌, ◌+◌, ◌<◌, ◌≤◌, ◌^◌, ℕ, List, Option, [], ◌∷◌, ◌++◌, length, true, false, IfOk, IfNone, OnErr, None, Some, ◌==◌, ◌⊎◌};
+ghost use Rattle.std.specs.Io.KnownBytes.{Keeps};
+ghost use Rattle.script_io.specs.Faults.{HasCause, HasFailed};
+ghost use Rattle.script_io.specs.Reader.{HasNoFeed, Grows};
+ghost use Rattle.script_io.specs.Fetching.{IsPending, Fetches, Looked, Measured};
+
+use crate::line_buffer::LineBuffer;
+use crate::source::Source;
+use std::alloc::Global;
+use std::marker::Model;
+use vm_base::{Failed, HostMemory};
+
+/// How many bytes a line may have, without its line feed.
+pub const LINE_LIMIT: usize = 16384;
+
+/// What a line reader fetched.
+#[derive(Clone, Copy, Debug, PartialEq, Eq)]
+pub enum Fetch {
+    /// The next line, which the reader lends.
+    Line,
+    /// The next line has more than `LINE_LIMIT` bytes. It was passed over.
+    TooLong,
+    /// The source is at its end, and every line was fetched.
+    End,
+    /// Reading failed. The bytes that were taken are kept, and the next call goes on with them.
+    Fault,
+    /// More bytes than the limit were taken, and every line that ends within the limit was fetched.
+    Limit,
+}
+
+/// Reads the lines of one source, one after another, through one buffer. A line ends with a line
+/// feed, and at the end of the source a last piece that is not empty is a line too.
+#[derive(Debug, Drop)]
+pub struct Lines {
+    buffer: LineBuffer,
+    limit: u64,
+    taken: u64,
+    lost: u64,
+    ended: bool,
+}
+
+impl Model for Lines {
+    ghost use Rattle.std.specs.Prelude.{◌++◌};
+    ghost use Rattle.script_io.specs.Reader.{Reader, IsReading};
+    ghost use Rattle.script_io.specs.declared.line_reader.TheConstants.{LINE_LIMIT};
+
+    ghost Value = { Reader };
+
+    ghost view = { λ s. record {
+      limit = s.limit;
+      taken = s.taken;
+      lost = s.lost;
+      held = s.buffer.seen ++ s.buffer.fresh;
+      line = s.buffer.line;
+      ended = s.ended;
+    } };
+
+    ghost invariant = { λ s. IsReading LINE_LIMIT s.limit s.taken s.lost s.buffer };
+}
+
+impl Lines {
+    /// A reader that takes at most one byte more than `limit` of its source. `HostMemory` where the
+    /// host has too little memory for the buffer.
+    pub fn new(alloc: Global, limit: u64) -> Result<Lines, HostMemory>
+        requires { limit < 2 ^ 63 }
+        ensures { IfOk result (λ r. r ≡ record {
+          limit = limit;
+          taken = 0;
+          lost = 0;
+          held = [];
+          line = [];
+          ended = false;
+        }) }
+    {
+        let buffer = LineBuffer::new(alloc)?;
+        Ok(Lines {
+            buffer,
+            limit,
+            taken: 0,
+            lost: 0,
+            ended: false,
+        })
+    }
+
+    /// The line that the last call of `next` fetched, without its line feed; no bytes where it
+    /// fetched none.
+    pub fn line(&self) -> &[u8]
+        ensures bytes { result.now ≡ self.now.line }
+        ensures len { length result.now ≤ LINE_LIMIT }
+    {
+        self.buffer.line()
+    }
+
+    /// Fetches the next line. Bytes are pulled only when all that were pulled before are used up,
+    /// and once the end was seen none are.
+    pub fn next<S: Source>(&mut self, source: &mut S) -> Fetch
+        ensures fetches { (pending : List ℕ)
+            → IsPending self.old (S.remaining source.old) pending
+            → Fetches self.old self.new (S.remaining source.old) (S.remaining source.new) pending result }
+        ensures limit { self.new.limit ≡ self.old.limit }
+        ensures ended { self.old.ended ≡ true
+            → (source.new ≡ source.old) × (self.new.taken ≡ self.old.taken) × (result ≢ Fetch.Fault) }
+        ensures later { S.faults source.old ≤ S.faults source.new }
+        ensures fault { result ≡ Fetch.Fault → HasFailed (S.faults source.old) (S.faults source.new) }
+    {
+        self.buffer.forget_line();
+        loop {
+            if let Some(fetch) = self.look() {
+                return fetch;
+            }
+            let Ok(_) = self.pull(source) else {
+                return Fetch::Fault;
+            };
+        }
+    }
+
+    /// Fetches from the bytes that are held. `None` where they are the front of a line, and what
+    /// they are the front of is kept.
+    fn look(&mut self) -> Option<Fetch>
+        requires { self.old.line ≡ [] }
+        ensures looked { (remaining : Option (List ℕ)) (pending : List ℕ)
+            → IsPending self.old remaining pending → Looked result self.new remaining pending }
+        ensures given { result ≢ Some Fetch.Fault }
+        ensures none { IfNone result ((self.new.ended ≡ false) × (self.new.taken ≤ self.new.limit)
+            × (self.new.line ≡ []) × HasNoFeed self.new.held × (length self.new.held ≤ LINE_LIMIT)) }
+        ensures limit { self.new.limit ≡ self.old.limit }
+        ensures taken { self.new.taken ≡ self.old.taken }
+        ensures ended { self.new.ended ≡ self.old.ended }
+    {
+        if self.taken > self.limit {
+            return Some(Fetch::Limit);
+        }
+        if self.buffer.find_line() {
+            return Some(measure(&mut self.buffer, &mut self.lost));
+        }
+        if self.ended {
+            if self.lost == 0 && self.buffer.seen_len() == 0 {
+                return Some(Fetch::End);
+            }
+            self.buffer.take_seen();
+            return Some(measure(&mut self.buffer, &mut self.lost));
+        }
+        shed(&mut self.buffer, &mut self.lost);
+        None
+    }
+
+    /// Pulls bytes, up to the limit, or one byte where the limit is reached.
+    fn pull<S: Source>(&mut self, source: &mut S) -> Result<usize, Failed>
+        requires ended { self.old.ended ≡ false }
+        requires within { self.old.taken ≤ self.old.limit }
+        requires no_feed { HasNoFeed self.old.held }
+        requires short { length self.old.held ≤ LINE_LIMIT }
+        ensures grows { IfOk result (λ n.
+            Grows self.old.held self.new.held (S.remaining source.old) (S.remaining source.new) n) }
+        ensures ok { IfOk result (λ n. self.new ≡ record self.old {
+          taken = self.old.taken + n;
+          held = self.new.held;
+          line = [];
+          ended = n == 0;
+        }) }
+        ensures most { self.new.taken ≤ self.new.limit + 1 }
+        ensures err { OnErr result ((self.new ≡ record self.old { line = [] })
+            × Keeps (S.remaining source.old) (S.remaining source.new)) }
+        ensures cause { HasCause (S.faults source.old) (S.faults source.new) result }
+    {
+        let most = (self.limit - self.taken).max(1);
+        let n = self.buffer.pull(source, most)?;
+        self.taken += n as u64;
+        self.ended = n == 0;
+        Ok(n)
+    }
+}
+
+/// Whether the line in the buffer is one, or is too long to be lent: `lost` bytes of its front were
+/// dropped.
+fn measure(buffer: &mut LineBuffer, lost: &mut u64) -> Fetch
+    requires fits { lost.old + length buffer.old.line < 2 ^ 64 }
+    requires long { 0 < lost.old → LINE_LIMIT < lost.old }
+    ensures measured { Measured result lost.old buffer.old.line buffer.new.line }
+    ensures lost { lost.new ≡ 0 }
+    ensures buffer { buffer.new ≡ record buffer.old { line = buffer.new.line } }
+{
+    let len = *lost + buffer.line_len() as u64;
+    *lost = 0;
+    if len <= LINE_LIMIT as u64 {
+        return Fetch::Line;
+    }
+    buffer.forget_line();
+    Fetch::TooLong
+}
+
+/// Drops the bytes that were searched where they are the front of a line that is too long.
+fn shed(buffer: &mut LineBuffer, lost: &mut u64)
+    requires fits { lost.old + length buffer.old.seen < 2 ^ 64 }
+    requires long { 0 < lost.old → LINE_LIMIT < lost.old }
+    ensures lost { lost.new + length buffer.new.seen ≡ lost.old + length buffer.old.seen }
+    ensures short { length buffer.new.seen ≤ LINE_LIMIT }
+    ensures long { 0 < lost.new → LINE_LIMIT < lost.new }
+    ensures buffer { (buffer.new ≡ buffer.old)
+        ⊎ (buffer.new ≡ record buffer.old { seen = [] }) }
+{
+    let len = buffer.seen_len();
+    if *lost > 0 || len > LINE_LIMIT {
+        *lost += len as u64;
+        buffer.drop_seen();
+    }
+}
