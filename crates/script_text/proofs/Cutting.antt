@@ -15,28 +15,28 @@ is_solid b = not (is_blank b)
 solid_blank : (b : ℕ) → is_solid b ≡ true → is_blank b ≡ false
 solid_blank b e = elim (is_blank b) as (λ v. not v ≡ true → v ≡ false) [ true ↦ λ h. cc | false ↦ λ h. refl ] e
 
-words-blank : (b : ℕ) (bs : List ℕ) → is_blank b ≡ true → words (b ∷ bs) ≡ words bs
+pub words-blank : (b : ℕ) (bs : List ℕ) → is_blank b ≡ true → words (b ∷ bs) ≡ words bs
 unfolding words
 words-blank b bs e = rw e
 
-words-alone : (b : ℕ) (bs : List ℕ) → is_blank b ≡ false → begins_blank bs ≡ true → words (b ∷ bs) ≡ (b ∷ []) ∷ words bs
+pub words-alone : (b : ℕ) (bs : List ℕ) → is_blank b ≡ false → begins_blank bs ≡ true → words (b ∷ bs) ≡ (b ∷ []) ∷ words bs
 unfolding words
 words-alone b bs e f = rw (e, f)
 
-words-longer : (b : ℕ) (bs : List ℕ) → is_blank b ≡ false → begins_blank bs ≡ false → words (b ∷ bs) ≡ before_first b (words bs)
+pub words-longer : (b : ℕ) (bs : List ℕ) → is_blank b ≡ false → begins_blank bs ≡ false → words (b ∷ bs) ≡ before_first b (words bs)
 unfolding words
 words-longer b bs e f = rw (e, f)
 
-len-solid : (b : ℕ) (bs : List ℕ) → is_blank b ≡ false → position_or_len is_blank (b ∷ bs) ≡ suc (position_or_len is_blank bs)
+pub len-solid : (b : ℕ) (bs : List ℕ) → is_blank b ≡ false → position_or_len is_blank (b ∷ bs) ≡ suc (position_or_len is_blank bs)
 len-solid b bs e = rw e (one-add _)
 
-len-blank : (b : ℕ) (bs : List ℕ) → is_blank b ≡ true → position_or_len is_blank (b ∷ bs) ≡ 0
+pub len-blank : (b : ℕ) (bs : List ℕ) → is_blank b ≡ true → position_or_len is_blank (b ∷ bs) ≡ 0
 len-blank b bs e = rw e
 
-start-blank : (b : ℕ) (bs : List ℕ) → is_blank b ≡ true → position_or_len is_solid (b ∷ bs) ≡ suc (position_or_len is_solid bs)
+pub start-blank : (b : ℕ) (bs : List ℕ) → is_blank b ≡ true → position_or_len is_solid (b ∷ bs) ≡ suc (position_or_len is_solid bs)
 start-blank b bs e = rw e (one-add _)
 
-start-solid : (b : ℕ) (bs : List ℕ) → is_blank b ≡ false → position_or_len is_solid (b ∷ bs) ≡ 0
+pub start-solid : (b : ℕ) (bs : List ℕ) → is_blank b ≡ false → position_or_len is_solid (b ∷ bs) ≡ 0
 start-solid b bs e = rw e
 
 -- blanks in front change nothing

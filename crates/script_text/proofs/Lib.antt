@@ -2,3 +2,6 @@ pub mod Bases
 pub mod Cutting
 pub mod Horner
 pub mod Many
+pub mod SpacedLaws
+pub mod ShapeLaws
+pub mod Places

@@ -1,2 +1,5 @@
 pub mod Radixes
 pub mod Lines
+pub mod Spaced
+pub mod Shapes
+pub mod Places

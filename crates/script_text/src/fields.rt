@@ -1,11 +1,11 @@
-//! How the fields of a command are spelled: numbers, names and byte data.
+//! How the fields of a command are spelled: numbers, names, byte data and permissions.
 
 ghost use Rattle.std.specs.Prelude.{◌≡◌, ◌^◌};
-ghost use Rattle.vm_model.specs.Reading.{below, digits, number, name_behind, vmo, byte_data};
+ghost use Rattle.vm_model.specs.Reading.{below, digits, number, byte, name_behind, vmo, region, pin, byte_data, perm, child_kind};
 ghost use Rattle.script_text.specs.Radixes.{base_of, value_in};
 
-use vm_base::VmoName;
-use vm_model::Bytes4k;
+use vm_base::{Perm, PinName, RegionName, VmoName};
+use vm_model::{Bytes4k, ChildKind};
 
 /// The most digits of byte data, two for each of 4,096 bytes.
 const MOST_DIGITS: usize = 8192;
@@ -72,6 +72,14 @@ pub fn number(word: &[u8]) -> Option<u64>
     }
 }
 
+/// The value of one byte: a number, in either spelling, of at most 255. `None` where it is spelled
+/// otherwise.
+pub fn byte(word: &[u8]) -> Option<u8>
+    ensures { result ≡ byte word.now }
+{
+    u8::try_from(number(word)?).ok()
+}
+
 /// The number of a name: the letter, and a decimal number without leading zeros. `None` where it is
 /// spelled otherwise, or the number is not below 2^32.
 fn name_behind(letter: u8, word: &[u8]) -> Option<u32>
@@ -96,6 +104,24 @@ pub fn vmo(word: &[u8]) -> Option<VmoName>
     Some(VmoName(name_behind(b'v', word)?))
 }
 
+/// The name of a region: `r` and a decimal number below 2^32 without leading zeros. `None` where it
+/// is spelled otherwise.
+#[tactic(auto, unfolding(vm_model::specs::Reading::region))]
+pub fn region(word: &[u8]) -> Option<RegionName>
+    ensures { result ≡ region word.now }
+{
+    Some(RegionName(name_behind(b'r', word)?))
+}
+
+/// The name of a pin: `p` and a decimal number below 2^32 without leading zeros. `None` where it is
+/// spelled otherwise.
+#[tactic(auto, unfolding(vm_model::specs::Reading::pin))]
+pub fn pin(word: &[u8]) -> Option<PinName>
+    ensures { result ≡ pin word.now }
+{
+    Some(PinName(name_behind(b'p', word)?))
+}
+
 /// Byte data: `-` for no bytes, or two hexadecimal digits of either case for each of 1 to 4,096
 /// bytes. `None` where it is spelled otherwise.
 #[tactic(auto, unfolding(vm_model::specs::Reading::byte_data))]
@@ -114,4 +140,48 @@ pub fn byte_data(word: &[u8]) -> Option<Bytes4k>
     let mut bytes = Bytes4k::new();
     bytes.extend_from_slice(decoded);
     Some(bytes)
+}
+
+/// What an access may do: the letters of reading, writing and executing that are allowed, in this
+/// order, or `none`. `None` where it is spelled otherwise.
+#[tactic(auto, unfolding(vm_model::specs::Reading::perm))]
+pub fn perm(word: &[u8]) -> Option<Perm>
+    ensures { result ≡ perm word.now }
+{
+    if word == b"none".as_slice() {
+        Some(Perm(0))
+    } else if word == b"r".as_slice() {
+        Some(Perm(1))
+    } else if word == b"w".as_slice() {
+        Some(Perm(2))
+    } else if word == b"rw".as_slice() {
+        Some(Perm(1 + 2))
+    } else if word == b"x".as_slice() {
+        Some(Perm(4))
+    } else if word == b"rx".as_slice() {
+        Some(Perm(1 + 4))
+    } else if word == b"wx".as_slice() {
+        Some(Perm(2 + 4))
+    } else if word == b"rwx".as_slice() {
+        Some(Perm(1 + 2 + 4))
+    } else {
+        None
+    }
+}
+
+/// What a child shows of its parent: `snapshot`, `slice` or `reference`. `None` where it is spelled
+/// otherwise.
+#[tactic(auto, unfolding(vm_model::specs::Reading::child_kind))]
+pub fn child_kind(word: &[u8]) -> Option<ChildKind>
+    ensures { result ≡ child_kind word.now }
+{
+    if word == b"snapshot".as_slice() {
+        Some(ChildKind::Snapshot)
+    } else if word == b"slice".as_slice() {
+        Some(ChildKind::Slice)
+    } else if word == b"reference".as_slice() {
+        Some(ChildKind::Reference)
+    } else {
+        None
+    }
 }

@@ -1,18 +1,30 @@
 //! The grammar of scripts: what one line says, as a command or as nothing, and how its fields are
-//! spelled.
+//! spelled; and the one canonical line of each command.
 //!
-//! It stands on `vm_base` for names, on `vm_model` for commands and for the definition of how a line
-//! is read, on `hex` for byte data, and on `arrayvec` for the words of a line. It takes no memory of
-//! the host. The layer above hands in one line without its line feed, by `read_line`; the readers of
-//! single fields are there for other front ends.
+//! It stands on `vm_base` for names and sets of flags, on `vm_model` for commands and for the
+//! definitions of how a line is read and a command is spelled, on `hex` for byte data, on `itoa` for
+//! numbers, on `bitflags` for going through a set of flags, and on `arrayvec` for the words of a line.
+//! It takes no memory of the host. The layer above hands in one line without its line feed, by
+//! `read_line`; the readers of single fields are there for other front ends, and `word_at` says where
+//! a word of a line stands. A program that makes scripts hands commands to `write_command`.
+//!
+//! `words` cuts a line, `fields` and `flags` read its words, and `vmo_commands` and `region_commands`
+//! have the commands one by one. `pieces` has the parts of a spelling, and `writing` puts them together.
 #![tactic(auto)]
 
 mod fields;
+mod flags;
+mod pieces;
 mod reading;
+mod region_commands;
+mod vmo_commands;
 mod words;
+mod writing;
 
-pub use fields::{byte_data, number, vmo};
+pub use fields::{byte_data, number, perm, pin, region, vmo};
 pub use reading::{Line, SyntaxFault, read_line};
+pub use words::word_at;
+pub use writing::write_command;
 
 #[cfg(test)]
 mod tests;

@@ -1,10 +1,10 @@
 //! What one line of a script says.
 
-ghost use Rattle.std.specs.Prelude.{◌≡◌, map};
-ghost use Rattle.vm_model.specs.Reading.{command, is_comment, reading, words, vmo_create, vmo_read, vmo_write};
+ghost use Rattle.std.specs.Prelude.{◌≡◌};
+ghost use Rattle.vm_model.specs.Reading.{command, is_comment, reading, words};
 ghost use Rattle.script_text.specs.Lines.{reading_of};
 
-use crate::fields::{byte_data, number, vmo};
+use crate::vmo_commands::command;
 use crate::words::{arguments, next_word};
 use vm_model::Command;
 
@@ -60,62 +60,4 @@ fn order(word: &[u8], rest: &[u8]) -> Option<Command>
 {
     let arguments = arguments(rest)?;
     command(word, arguments.as_slice())
-}
-
-/// The command of this word and these arguments, or `None` where there is none.
-#[tactic(auto, unfolding(vm_model::specs::Reading::command))]
-fn command(word: &[u8], arguments: &[&[u8]]) -> Option<Command>
-    ensures { result ≡ command word.now (map (λ a. a.now) arguments.now) }
-{
-    if word == b"vmo_create".as_slice() {
-        vmo_create(arguments)
-    } else if word == b"vmo_read".as_slice() {
-        vmo_read(arguments)
-    } else if word == b"vmo_write".as_slice() {
-        vmo_write(arguments)
-    } else {
-        None
-    }
-}
-
-/// `vmo_create VMO SIZE`
-fn vmo_create(arguments: &[&[u8]]) -> Option<Command>
-    ensures { result ≡ vmo_create (map (λ a. a.now) arguments.now) }
-{
-    let [name, size] = arguments else {
-        return None;
-    };
-    Some(Command::VmoCreate {
-        name: vmo(name)?,
-        size: number(size)?,
-        resizable: false,
-    })
-}
-
-/// `vmo_read VMO OFFSET LEN`
-fn vmo_read(arguments: &[&[u8]]) -> Option<Command>
-    ensures { result ≡ vmo_read (map (λ a. a.now) arguments.now) }
-{
-    let [name, offset, len] = arguments else {
-        return None;
-    };
-    Some(Command::VmoRead {
-        name: vmo(name)?,
-        offset: number(offset)?,
-        len: number(len)?,
-    })
-}
-
-/// `vmo_write VMO OFFSET DATA`
-fn vmo_write(arguments: &[&[u8]]) -> Option<Command>
-    ensures { result ≡ vmo_write (map (λ a. a.now) arguments.now) }
-{
-    let [name, offset, data] = arguments else {
-        return None;
-    };
-    Some(Command::VmoWrite {
-        name: vmo(name)?,
-        offset: number(offset)?,
-        bytes: byte_data(data)?,
-    })
 }

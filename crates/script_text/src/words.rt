@@ -1,13 +1,14 @@
 //! The words of a line: the longest runs of bytes that are not blank.
 
-ghost use Rattle.std.specs.Prelude.{◌≡◌, ◌<◌, [], ◌∷◌, length, map, not, position, MatchOption, IfSome};
+ghost use Rattle.std.specs.Prelude.{◌≡◌, ◌<◌, ◌≤◌, ◌↔◌, [], ◌∷◌, length, map, take, drop, not, position, slice_get, slice_range, MatchOption, IfSome, IsNone};
 ghost use Rattle.vm_model.specs.Reading.{words, is_blank};
+ghost use Rattle.script_text.specs.Places.{IsWordFrom};
 ghost use Rattle.script_text.specs.declared.words.TheConstants.{MOST_ARGUMENTS};
 
 use arrayvec::ArrayVec;
 
 /// The most arguments that a command has.
-pub const MOST_ARGUMENTS: usize = 3;
+pub const MOST_ARGUMENTS: usize = 10;
 
 /// A space, a tab or a carriage return.
 fn is_blank(byte: u8) -> bool
@@ -54,4 +55,41 @@ pub fn arguments(line: &[u8]) -> Option<ArrayVec<&[u8], MOST_ARGUMENTS>>
         rest = behind;
     }
     Some(found)
+}
+
+/// The first word at or behind a place of a line: where it begins, and the place behind its last
+/// byte. `None` where only blanks are left.
+fn word_from(line: &[u8], place: usize) -> Option<(usize, usize)>
+    requires { place ≤ length line.now }
+    ensures { MatchOption result (words (drop place line.now) ≡ []) (λ p. IsWordFrom line.now place p.0 p.1) }
+{
+    let (_, rest) = line.split_at(place);
+    let before = word_start(rest)?;
+    let (_, rest) = rest.split_at(before);
+    let len = first_blank(rest).unwrap_or(rest.len());
+    let start = place + before;
+    Some((start, start + len))
+}
+
+/// Where a word of a line stands, the words counted from 0: the place of its first byte and the place
+/// behind its last, both counted from the line's first byte. `None` where the line has no such word.
+pub fn word_at(line: &[u8], index: u64) -> Option<(usize, usize)>
+    ensures none { IsNone result ↔ (length (words line.now) ≤ index) }
+    ensures word { IfSome result (λ p. slice_get (words line.now) index ≡ Some (slice_range line.now p.0 p.1)) }
+    ensures some { IfSome result (λ p. p.0 < p.1) }
+    ensures within { IfSome result (λ p. p.1 ≤ length line.now) }
+    ensures front { IfSome result (λ p. words (take p.0 line.now) ≡ take index (words line.now)) }
+{
+    let mut passed = 0;
+    let mut left = index;
+    loop {
+        let Some((start, end)) = word_from(line, passed) else {
+            return None;
+        };
+        if left == 0 {
+            return Some((start, end));
+        }
+        left -= 1;
+        passed = end;
+    }
 }

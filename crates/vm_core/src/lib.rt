@@ -9,6 +9,8 @@ mod create;
 mod owning;
 mod range;
 mod read;
+mod size;
+mod stat;
 mod vm;
 mod write;
 

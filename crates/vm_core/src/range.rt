@@ -5,6 +5,7 @@ ghost use Rattle.std.specs.List.{range_with_len};
 ghost use Rattle.vm_model.specs.Content.{pages_of, IsGood};
 ghost use Rattle.vm_model.specs.Writing.{touched};
 
+use crate::size::size_in_bytes;
 use page_store::PageStore;
 use vm_base::{Koid, PAGE, PageNo, page_of};
 
@@ -14,7 +15,7 @@ pub(crate) fn is_in_range<P: PageStore>(store: &P, v: Koid, offset: u64, len: u6
     requires vmo { IsSome ((P.content store.now).count v.0) }
     ensures { IsTrue result ↔ (offset + len ≤ pages_of (P.content store.now) v.0 * 4096) }
 {
-    let size = store.count(v) * PAGE;
+    let size = size_in_bytes(store, v);
     len <= size && offset <= size - len
 }
 

@@ -7,7 +7,7 @@ use page_store::{FlatStore, PageStore};
 use std::process::Abort;
 use std::test::Fail;
 use vm_base::{Refusal, VmoName};
-use vm_model::{Bytes4k, Command, Reply};
+use vm_model::{Bytes4k, Command, Reply, Stat};
 
 fn bytes_of(bytes: &[u8]) -> Bytes4k
     requires { length bytes.now ≤ 4096 }
@@ -43,6 +43,18 @@ fn write(name: u32, offset: u64, bytes: &[u8]) -> Command
     }
 }
 
+fn size(name: u32) -> Command {
+    Command::VmoSize {
+        name: VmoName(name),
+    }
+}
+
+fn close(name: u32) -> Command {
+    Command::VmoClose {
+        name: VmoName(name),
+    }
+}
+
 fn is_done(reply: &Reply) -> bool {
     matches!(reply, Reply::Done)
 }
@@ -61,19 +73,65 @@ fn has_bytes(reply: &Reply, want: &[u8]) -> bool {
     }
 }
 
-// On a machine with two frames and nothing else.
+fn is_number(reply: &Reply, want: u64) -> bool {
+    match reply {
+        Reply::Number(number) => *number == want,
+        _ => false,
+    }
+}
+
+fn has_counts(reply: &Reply, want: Stat) -> bool {
+    match reply {
+        Reply::Stat(counts) => *counts == want,
+        _ => false,
+    }
+}
+
+fn is_unbuilt(reply: &Reply) -> bool {
+    matches!(reply, Reply::Unbuilt)
+}
+
+// On a machine with three frames and nothing else.
 fn takes_commands<P: PageStore>(rt: &impl Abort, vm: &mut Vm, store: &mut P)
     requires good { IsGoodState (state_of (P.content store.old) vm.old) }
     requires next { (P.content store.old).next < 1000 }
     ensures good { IsGoodState (state_of (P.content store.new) vm.new) }
-    ensures next { (P.content store.new).next ≤ (P.content store.old).next + 6 }
+    ensures next { (P.content store.new).next ≤ (P.content store.old).next + 7 }
 {
+    let empty = Stat {
+        frames: 3,
+        used: 0,
+        free: 3,
+        vmos: 0,
+    };
+    assert!(rt; has_counts(&vm.step(store, &Command::Stat), empty));
     assert!(rt; is_done(&vm.step(store, &create(1, 8191))));
     assert!(rt; is_done(&vm.step(store, &write(1, 4094, &[1, 2, 3]))));
     assert!(rt; has_bytes(&vm.step(store, &read(1, 4093, 5)), &[0, 1, 2, 3, 0]));
-    assert!(rt; is_done(&vm.step(store, &create(2, 4096))));
+    assert!(rt; is_done(&vm.step(store, &create(2, 8193))));
     assert!(rt; has_bytes(&vm.step(store, &read(2, 4095, 1)), &[0]));
-    assert!(rt; has_bytes(&vm.step(store, &read(2, 4096, 0)), &[]));
+    assert!(rt; has_bytes(&vm.step(store, &read(2, 12288, 0)), &[]));
+}
+
+fn tells_of_the_machine<P: PageStore>(rt: &impl Abort, vm: &mut Vm, store: &mut P)
+    requires good { IsGoodState (state_of (P.content store.old) vm.old) }
+    requires next { (P.content store.old).next < 1000 }
+    ensures good { IsGoodState (state_of (P.content store.new) vm.new) }
+    ensures next { (P.content store.new).next ≤ (P.content store.old).next + 7 }
+{
+    let counts = Stat {
+        frames: 3,
+        used: 2,
+        free: 1,
+        vmos: 2,
+    };
+    assert!(rt; is_number(&vm.step(store, &size(1)), 8192));
+    assert!(rt; is_number(&vm.step(store, &size(2)), 12288));
+    assert!(rt; has_counts(&vm.step(store, &Command::Stat), counts));
+    assert!(rt; is_unbuilt(&vm.step(store, &close(1))));
+    assert!(rt; is_unbuilt(&vm.step(store, &close(3))));
+    assert!(rt; is_number(&vm.step(store, &size(1)), 8192));
+    assert!(rt; has_counts(&vm.step(store, &Command::Stat), counts));
 }
 
 fn refuses_commands<P: PageStore>(rt: &impl Abort, vm: &mut Vm, store: &mut P)
@@ -83,13 +141,14 @@ fn refuses_commands<P: PageStore>(rt: &impl Abort, vm: &mut Vm, store: &mut P)
     let rows = [
         (create(1, 1), Refusal::NameInUse),
         (create(3, 68719476737), Refusal::OutOfRange),
+        (size(3), Refusal::BadHandle),
         (read(3, 0, 1), Refusal::BadHandle),
         (read(1, 0, 4097), Refusal::InvalidArgs),
         (read(1, 8190, 3), Refusal::OutOfRange),
         (read(1, u64::MAX, 2), Refusal::OutOfRange),
         (write(3, 0, &[1]), Refusal::BadHandle),
         (write(1, 8191, &[1, 2]), Refusal::OutOfRange),
-        (write(2, 0, &[1]), Refusal::NoMemory),
+        (write(2, 4095, &[1, 2]), Refusal::NoMemory),
     ];
     for (command, refusal) in &rows {
         assert!(rt;
@@ -103,8 +162,9 @@ fn refuses_commands<P: PageStore>(rt: &impl Abort, vm: &mut Vm, store: &mut P)
 fn steps_over_a_flat_store(rt: HostRuntime) -> Result<(), Fail> {
     let mut vm = Vm::new(rt.alloc());
     let mut store = FlatStore::new(rt.alloc());
-    store.fill(2)?;
+    store.fill(3)?;
     takes_commands(&rt, &mut vm, &mut store);
+    tells_of_the_machine(&rt, &mut vm, &mut store);
     refuses_commands(&rt, &mut vm, &mut store);
     Ok(())
 }

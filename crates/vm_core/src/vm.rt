@@ -5,6 +5,8 @@ ghost use Rattle.std.specs.Option.{option_map};
 
 use crate::create::vmo_create;
 use crate::read::vmo_read;
+use crate::size::vmo_size;
+use crate::stat::stat;
 use crate::write::vmo_write;
 use page_store::PageStore;
 use std::alloc::{AllocError, Global};
@@ -34,7 +36,8 @@ impl Vm {
 
     /// One event of the machine, done whole: a command is refused and nothing changes, or it has
     /// its effect, or the host lacks memory for it and nothing changes. The store is the one that
-    /// holds the VMOs of the names.
+    /// holds the VMOs of the names. A command that is not built yet is answered `Unbuilt` before
+    /// anything else is looked at, and changes nothing.
     pub fn step<P: PageStore>(&mut self, store: &mut P, command: &Command) -> Reply
         requires good { IsGoodState (state_of (P.content store.old) self.old) }
         requires next { (P.content store.old).next < 2 ^ 63 }
@@ -55,6 +58,9 @@ impl Vm {
                 offset,
                 bytes,
             } => vmo_write(self, store, *name, *offset, bytes.as_slice()),
+            Command::VmoSize { name } => vmo_size(self, store, *name),
+            Command::Stat => stat(self, store),
+            _ => Reply::Unbuilt,
         }
     }
 

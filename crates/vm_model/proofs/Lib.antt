@@ -6,3 +6,6 @@ pub mod WritingLaws
 pub mod StepLaws
 pub mod RunLaws
 pub mod ExampleLaws
+pub mod WordLaws
+pub mod FieldLaws
+pub mod SpellingLaws

@@ -5,7 +5,7 @@ use Rattle.std.proofs.lemmas.Grind.{flat_map-append}
 use Rattle.vm_model.specs.declared.reply.Reply.{Reply}
 use Rattle.vm_model.specs.State.{State, empty_state}
 use Rattle.vm_model.specs.Text.{text, texts}
-use Rattle.vm_model.specs.Run.{onto_first, lines_of, Gives, Run, Legal}
+use Rattle.vm_model.specs.Run.{onto_first, lines_of, before_whole, whole_lines, Gives, Run, Legal}
 use Rattle.vm_model.proofs.ContentLaws.{eqb_same, eqb_apart}
 
 -- no byte is a line feed
@@ -32,6 +32,26 @@ pub lines_of-nil : lines_of [] ≡ []
 unfolding lines_of
 lines_of-nil = refl
 
+-- the same of the lines that a line feed ends
+pub whole_lines-line : (line rest : List ℕ) → HasNoFeed line → whole_lines (line ++ 10 ∷ rest) ≡ line ∷ whole_lines rest
+unfolding whole_lines
+whole_lines-line [] rest h = refl
+whole_lines-line (b ∷ line) rest h =
+    ap (λ t. cond t ([] ∷ whole_lines (line ++ 10 ∷ rest)) (before_whole b (whole_lines (line ++ 10 ∷ rest)))) (eqb_apart b 10 (h 0 (omega arith)))
+    ∙ ap (before_whole b) (whole_lines-line line rest (λ k l. h (suc k) (omega arith)))
+
+pub whole_lines-none : (line : List ℕ) → HasNoFeed line → whole_lines line ≡ []
+unfolding whole_lines
+whole_lines-none [] h = refl
+whole_lines-none (b ∷ line) h =
+    ap (λ t. cond t ([] ∷ whole_lines line) (before_whole b (whole_lines line))) (eqb_apart b 10 (h 0 (omega arith)))
+    ∙ ap (before_whole b) (whole_lines-none line (λ k l. h (suc k) (omega arith)))
+
+-- a piece that is not empty and has no line feed is one line
+pub lines_of-piece : (piece : List ℕ) → 0 < length piece → HasNoFeed piece → lines_of piece ≡ piece ∷ []
+lines_of-piece [] some h = absurd (omega arith)
+lines_of-piece (b ∷ piece) some h = lines_of-last b piece h
+
 -- the text of replies, and of more
 pub texts-append : (xs ys : List Reply) → texts (xs ++ ys) ≡ texts xs ++ texts ys
 texts-append xs ys = flat_map-append text xs ys
@@ -46,19 +66,3 @@ Run-more old mid new (first ∷ lines) line before now run gives =
     let rest = Run-more run.0 mid new lines line run.2 now run.4 gives in
     let all : before ++ now ≡ run.1 ++ (run.2 ++ now) = ap (λ (rs : List Reply). rs ++ now) run.5 ∙ append_assoc run.1 run.2 now in
     (run.0, run.1, run.2 ++ now, run.3, rest, all)
-
--- where an element and others are left behind the first n, it is the next
-pub drop-cons_next : {A : Type 0} (xs : List A) (n : ℕ) (x : A) (rest : List A) → drop n xs ≡ x ∷ rest
-    → (slice_get xs n ≡ Some x) × (take (n + 1) xs ≡ take n xs ++ x ∷ []) × (drop (n + 1) xs ≡ rest)
-drop-cons_next {A} xs zero x rest e =
-    let P : List A → Type 0 = λ ys. (slice_get ys 0 ≡ Some x) × (take (0 + 1) ys ≡ x ∷ []) × (drop (0 + 1) ys ≡ rest) in
-    subst P (sym e) (refl, refl, refl)
-drop-cons_next [] (suc n) x rest e = absurd cc
-drop-cons_next {A} (y ∷ xs) (suc n) x rest e =
-    let next = drop-cons_next xs n x rest e in
-    let more : suc n + 1 ≡ suc (n + 1) = omega arith in
-    (next.0, ap (λ (m : ℕ). take m (y ∷ xs)) more ∙ ap (λ (ys : List A). y ∷ ys) next.1, ap (λ (m : ℕ). drop m (y ∷ xs)) more ∙ next.2)
-
--- where nothing is left behind the first n, they are all
-pub take_all_left : {A : Type 0} (xs : List A) (n : ℕ) → drop n xs ≡ [] → take n xs ≡ xs
-take_all_left {A} xs n e = sym (append-nil (take n xs)) ∙ (ap (λ (ys : List A). take n xs ++ ys) (sym e) ∙ take-append-drop n xs)

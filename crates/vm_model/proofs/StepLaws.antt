@@ -118,6 +118,7 @@ effect_keeps old (VmoWrite name offset bytes) reply new good none effect =
     let range_row = first_of-none past OutOfRange (first_of ((lacking, NoMemory) ∷ [])) open_row.1 in
     let inside : offset + length bytes ≤ size_of old name.0 = ltb-false (size_of old name.0) (offset + length bytes) range_row.0 in
     write_keeps old new (koid_of old name.0) offset bytes good inside effect.1 effect.2
+effect_keeps old _ reply new good none effect = Keeps-same old new good effect.1
 
 -- a step keeps a good state good
 pub Step-keeps : (old : State) (command : Command) (reply : Reply) (new : State) → IsGoodState old → Step old command reply new → Keeps old new

@@ -7,5 +7,6 @@ pub mod Refusals
 pub mod Step
 pub mod Reading
 pub mod Text
+pub mod Spelling
 pub mod Run
 pub mod Example

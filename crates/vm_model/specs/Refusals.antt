@@ -5,7 +5,7 @@ use Rattle.vm_base.specs.declared.pages.TheConstants.{PAGE, VMO_PAGES}
 use Rattle.vm_base.specs.declared.refusal.Refusal.{Refusal}
 use Rattle.vm_base.specs.declared.refusal.Refusal.TheVariants.{BadHandle, NameInUse, InvalidArgs, OutOfRange, NoMemory}
 use Rattle.vm_model.specs.declared.command.Command.{Command}
-use Rattle.vm_model.specs.declared.command.Command.TheVariants.{VmoCreate, VmoRead, VmoWrite}
+use Rattle.vm_model.specs.declared.command.Command.TheVariants.{VmoCreate, VmoSize, VmoRead, VmoWrite}
 use Rattle.vm_model.specs.Content.{used}
 use Rattle.vm_model.specs.Owning.{need}
 use Rattle.vm_model.specs.Writing.{touched}
@@ -31,6 +31,9 @@ refusals s (VmoWrite name offset bytes) =
     ∷ (nat_lt (size_of s name.0) (offset + length bytes), OutOfRange)
     ∷ (lacks_frames s name.0 (touched offset (length bytes)), NoMemory)
     ∷ []
+refusals s (VmoSize name) = (not (is_open s name.0), BadHandle) ∷ []
+-- the other commands refuse nothing: `Stat`, and those that are not built yet
+refusals s _ = []
 
 -- the first refusal whose condition holds
 abbrev pub first_of : List (Bool × Refusal) → Option Refusal

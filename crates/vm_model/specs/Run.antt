@@ -18,6 +18,16 @@ unfoldable pub lines_of : List ℕ → List (List ℕ)
 lines_of [] = []
 lines_of (b ∷ bs) = if b == 10 then [] ∷ lines_of bs else onto_first b (lines_of bs)
 
+-- a byte before the first line, where there is one
+abbrev pub before_whole : ℕ → List (List ℕ) → List (List ℕ)
+before_whole b [] = []
+before_whole b (line ∷ lines) = (b ∷ line) ∷ lines
+
+-- the lines of a script that a line feed ends: a last piece without one is no line
+unfoldable pub whole_lines : List ℕ → List (List ℕ)
+whole_lines [] = []
+whole_lines (b ∷ bs) = if b == 10 then [] ∷ whole_lines bs else before_whole b (whole_lines bs)
+
 -- what a line that is read so may give: a blank line no reply, a line outside the grammar its refusal, an order one step
 abbrev pub GivesAs : Reading → State → List Reply → State → Type 0
 GivesAs Blank old replies new = (replies ≡ []) × (new ≡ old)

@@ -1,10 +1,12 @@
 //! What holds of the definitions alone. Each law is the contract of a function that does nothing.
 
-ghost use Rattle.std.specs.Prelude.{ℕ, List, ◌≡◌, ◌≢◌, ◌+◌, ◌≤◌};
+ghost use Rattle.std.specs.Prelude.{true, ℕ, List, ◌≡◌, ◌≢◌, ◌+◌, ◌≤◌};
 ghost use Rattle.std.specs.List.{AllByRecursion};
 ghost use Rattle.vm_base.specs.declared.refusal.Refusal.TheVariants.{HostMemory};
 ghost use Rattle.vm_model.specs.declared.command.Command.{Command};
 ghost use Rattle.vm_model.specs.declared.reply.Reply.{Reply};
+ghost use Rattle.vm_model.specs.Reading.{reading, Order};
+ghost use Rattle.vm_model.specs.Spelling.{HasRanges, has_spelling, spelling};
 ghost use Rattle.vm_model.specs.State.{State, empty_state, IsGoodState};
 ghost use Rattle.vm_model.specs.Step.{Step};
 ghost use Rattle.vm_model.specs.Run.{lines_of, Run};
@@ -37,4 +39,10 @@ pub fn the_example_has_one_outcome()
     ensures exists { (replies : List Reply) × (last : State) ×
         Run (empty_state 1024) (lines_of example_script) replies last
         × AllByRecursion (λ r. r ≢ Reply.Refused HostMemory) replies × (texts replies ≡ example_text) }
+{}
+
+/// What is spelled canonically is read back as the same command.
+pub fn a_canonical_spelling_is_read_back()
+    ensures { (command : Command) → HasRanges command → has_spelling command ≡ true →
+        reading (spelling command) ≡ Order command }
 {}

@@ -12,11 +12,15 @@
 mod bytes;
 mod command;
 pub mod laws;
+mod numbers;
 mod reply;
+mod runs;
 
 pub use bytes::Bytes4k;
-pub use command::Command;
-pub use reply::Reply;
+pub use command::{ChildKind, Command};
+pub use numbers::PinNumbers;
+pub use reply::{Info, Reply, Stat};
+pub use runs::{Run, Runs};
 
 #[cfg(test)]
 mod tests;

@@ -1,27 +1,24 @@
--- What a store contains before its first VMO.
-use Rattle.std.proofs.Common.{◌≡◌, ℕ, Bool, true, false, Option, None, Some, Result, Ok, Err, refl, sym, ap, ◌∙◌}
-use Rattle.std.specs.Prelude.{OnOk, OnErr, is_err}
+-- What a store contains before its first VMO, and how the serving of a script begins.
+use Rattle.std.proofs.Common.{◌≡◌, ℕ, inl, false, List, [], Option, None, refl, sym, ap, subst, ◌∙◌, arith}
+use Rattle.std.proofs.KnownBytes.{Appends-nil, Consumes-nil}
 use Rattle.vm_model.specs.Content.{Content, nothing}
 use Rattle.vm_model.specs.State.{State, empty_state}
 use Rattle.vm_model.proofs.ContentLaws.{count-nothing}
 use Rattle.vm_core.specs.declared.vm.Vm.{Vm}
 use Rattle.vm_core.specs.Vm.{names_of, state_of}
-use Rattle.vm_session.specs.Outcome.{HasNoVmo}
-
-pub at_err : {T E P : Type 0} (result : Result T E) → is_err result ≡ true → OnErr result P → P
-at_err (Ok x) e p = absurd cc
-at_err (Err d) e p = p
-
-pub at_ok : {T E P : Type 0} (result : Result T E) → is_err result ≡ false → OnOk result P → P
-at_ok (Ok x) e p = p
-at_ok (Err d) e p = absurd cc
+use Rattle.script_io.specs.Reader.{Reader}
+use Rattle.script_io.specs.Fetching.{IsPending}
+use Rattle.vm_model.proofs.StepLaws.{next-empty}
+use Rattle.vm_session.specs.Outcome.{HasNoVmo, NothingDone}
+use Rattle.vm_session.specs.Serving.{IsServed, IsReady}
+use Rattle.vm_session.proofs.Served.{AreLines-none}
 
 pub HasNoVmo-nothing : (c : Content) → c ≡ nothing → HasNoVmo c
 HasNoVmo-nothing c e v = ap (λ (d : Content). d.count v) e ∙ count-nothing v
 
--- frames make no VMO
-pub HasNoVmo-filled : (c filled : Content) (frames : ℕ) → c ≡ nothing → filled ≡ record c { frames = frames } → HasNoVmo filled
-HasNoVmo-filled c filled frames e f v = ap (λ (d : Content). d.count v) f ∙ HasNoVmo-nothing c e v
+-- nothing was done to a store that contains nothing
+pub NothingDone-yet : (source sink : Option (List ℕ)) (c d : Content) → c ≡ d → d ≡ nothing → NothingDone source source sink sink c
+NothingDone-yet source sink c d same e = record { read = refl; written = refl; store = HasNoVmo-nothing c (same ∙ e) }
 
 -- a store with frames, and a machine with no names
 pub empty_state-filled : (c filled : Content) (frames : ℕ) (vm : Vm) → c ≡ nothing → filled ≡ record c { frames = frames } → ((name : ℕ) → names_of vm name ≡ None) → state_of filled vm ≡ empty_state frames
@@ -29,3 +26,34 @@ unfolding empty_state
 empty_state-filled c filled frames vm e f none =
     let content : filled ≡ record nothing { frames = frames } = f ∙ ap (λ (d : Content). record d { frames = frames }) e in
     λ i. record { content = content i; names = λ name. none name i }
+
+-- a line reader that took nothing yet
+abbrev pub fresh : ℕ → Reader
+fresh limit = record { limit = limit; taken = 0; lost = 0; held = []; line = []; ended = false }
+
+IsPending-fresh : (limit : ℕ) (source : Option (List ℕ)) → IsPending (fresh limit) source []
+IsPending-fresh limit source = record { dropped = []; no_feed = λ k d l. absurd (omega (arith, l)); size = refl; parts = refl; at_end = λ e. absurd cc }
+
+-- no line was answered yet
+pub IsServed-fresh : (frames limit : ℕ) (reader : Reader) (source sink : Option (List ℕ)) (now : State) → reader ≡ fresh limit → now ≡ empty_state frames → IsServed frames limit reader source source sink sink now
+IsServed-fresh frames limit reader source sink now e f = subst (λ (r : Reader). IsServed frames limit r source source sink sink now) (sym e) (record {
+  front = [];
+  pending = [];
+  lines = [];
+  given = Consumes-nil source;
+  still = IsPending-fresh limit source;
+  bounded = refl;
+  taken = refl;
+  within = omega arith;
+  split = inl AreLines-none;
+  replies = [];
+  run = (refl, f);
+  written = Appends-nil sink;
+})
+
+pub IsReady-fresh : (frames limit : ℕ) (reader : Reader) (source : Option (List ℕ)) (now : State) → reader ≡ fresh limit → now ≡ empty_state frames → IsReady reader source now.content.next
+IsReady-fresh frames limit reader source now e f = subst (λ (r : Reader). IsReady r source now.content.next) (sym e) (record {
+  pending = [];
+  still = IsPending-fresh limit source;
+  koids = omega (arith, next-empty frames, ap (λ (s : State). s.content.next) f);
+})

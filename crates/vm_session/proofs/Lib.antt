@@ -1,5 +1,4 @@
-mod FirstLine
-mod ReadWhole
-mod Answering
+mod Served
+mod Answered
 mod Beginning
 mod Writing

@@ -1,7 +1,7 @@
 -- What a sink took of the text of replies.
-use Rattle.std.proofs.Common.{◌≡◌, ℕ, zero, suc, ◌+◌, ◌-◌, ◌<◌, ◌≤◌, List, [], ◌∷◌, ◌++◌, length, take, drop, Option, None, Some, Result, Ok, Err, refl, sym, ap, subst, ◌∙◌, append_assoc, append-nil, arith}
-use Rattle.std.specs.Prelude.{slice_get, OnOk, OnErr, MatchResult}
-use Rattle.std.specs.List.{concat, flat_map}
+use Rattle.std.proofs.Common.{◌≡◌, ℕ, zero, suc, ◌+◌, ◌≤◌, List, [], ◌∷◌, ◌++◌, length, take, Option, Some, Result, Ok, Err, refl, sym, ap, subst, ◌∙◌, append_assoc, append-nil, arith}
+use Rattle.std.specs.Prelude.{slice_get, OnOk, OnErr}
+use Rattle.std.specs.List.{concat}
 use Rattle.std.specs.Io.KnownBytes.{Appends}
 use Rattle.std.proofs.KnownBytes.{Appends-trans}
 use Rattle.std.proofs.lemmas.List.{length-append, take_all}
@@ -12,9 +12,9 @@ use Rattle.vm_model.specs.declared.reply.Reply.TheVariants.{Refused}
 use Rattle.vm_model.specs.declared.command.Command.{Command}
 use Rattle.vm_model.specs.State.{State}
 use Rattle.vm_model.specs.Step.{Step}
-use Rattle.vm_model.specs.Reading.{Reading, Blank, Order, Outside, reading}
+use Rattle.vm_model.specs.Reading.{Reading, Order, Outside, reading}
 use Rattle.vm_model.specs.Text.{reply_lines, text, texts}
-use Rattle.vm_model.specs.Run.{GivesAs, Gives}
+use Rattle.vm_model.specs.Run.{GivesAs}
 use Rattle.vm_session.specs.Outcome.{Writes, AnswersLine}
 
 -- a fact holds at an error

@@ -1,40 +1,51 @@
 -- How a run ends, over the bytes that a source gave, the bytes that a sink took, and what a store contains. What a source
 -- has left and what a sink took are known where these tell them.
-use Rattle.std.specs.Prelude.{◌≡◌, ◌↔◌, ℕ, ◌+◌, ◌<◌, ◌≤◌, Bool, List, [], ◌∷◌, ◌++◌, length, take, map, codes, nat_eq, Option, None, Some, Result, slice_get, MatchResult}
+use Rattle.std.specs.Prelude.{◌≡◌, ℕ, ◌+◌, ◌<◌, ◌≤◌, ◌⊎◌, ◌&&◌, nat_le, Bool, List, [], ◌∷◌, ◌++◌, length, take, map, codes, nat_eq, if◌then◌else◌, Option, None, Some, Result, slice_get, MatchResult}
 use Rattle.std.specs.Cmp.Lexicographic.{pointwise}
 use Rattle.std.specs.Io.KnownBytes.{Appends, Consumes, IsAtEnd}
 use Rattle.std.specs.String.{string_bytes}
 use Rattle.std.specs.declared.string.String.{String}
 use Rattle.std.specs.declared.alloc.Global.{Global}
 use Rattle.script_io.specs.declared.status.Status.{Status}
-use Rattle.script_io.specs.declared.status.Status.TheVariants.{ScriptLimit}
+use Rattle.script_io.specs.declared.status.Status.TheVariants.{Done, Usage, HostMemory, ReadFault, WriteFault, ScriptLimit}
 use Rattle.script_io.specs.Faults.{IsCutOff}
 use Rattle.vm_model.specs.declared.reply.Reply.{Reply}
 use Rattle.vm_model.specs.Content.{Content}
 use Rattle.vm_model.specs.State.{State, empty_state}
 use Rattle.vm_model.specs.Text.{texts}
-use Rattle.vm_model.specs.Run.{lines_of, Gives, Run, Legal}
+use Rattle.vm_model.specs.Reading.{is_hex, number, ◌>>=◌}
+use Rattle.vm_model.specs.Run.{lines_of, whole_lines, Gives, Run, Legal}
 
--- the words are the one word `run`
-abbrev pub is_run : List (String Global) → Bool
-is_run words = pointwise (pointwise nat_eq) (map string_bytes words) (codes "run" ∷ [])
+-- ---- the words of the command line
+
+abbrev pub is_text : List ℕ → List ℕ → Bool
+is_text = pointwise nat_eq
+
+-- at most five digits, and a number from 1 to 65,536
+abbrev pub within_frames : List ℕ → Option ℕ → Option ℕ
+within_frames word o = do
+  n ← o
+  if nat_le (length word) 5 && (nat_le 1 n && nat_le n 65536) then Some n else None
+
+-- a number of frames, which isn't written in hexadecimal
+unfoldable pub frame_count : List ℕ → Option ℕ
+frame_count word = if is_hex word then None else within_frames word (number word)
+
+-- `run`, with 1,024 frames, or `run --frames N`
+abbrev pub frames_in : List (List ℕ) → Option ℕ
+frames_in (w ∷ []) = if is_text w (codes "run") then Some 1024 else None
+frames_in (w ∷ f ∷ n ∷ []) = if is_text w (codes "run") && is_text f (codes "--frames") then frame_count n else None
+frames_in _ = None
+
+-- how many frames the words ask for, None where they are outside the grammar
+abbrev pub frames_of : List (String Global) → Option ℕ
+frames_of words = frames_in (map string_bytes words)
+
+-- ---- what was answered
 
 -- the store has no VMO
 abbrev pub HasNoVmo : Content → Type 0
 HasNoVmo c = (v : ℕ) → c.count v ≡ None
-
--- the source gave fewer bytes than n
-pub record GavePart (source_old source_new : Option (List ℕ)) (n : ℕ) : Type 0 where
-  pub part : List ℕ
-  pub given : Consumes source_old source_new part
-  pub short : length part < n
-
--- The source gave at most one byte over the limit, and as many exactly where the status says so.
-pub record KeepsLimit (source_old source_new : Option (List ℕ)) (limit : ℕ) (status : Status) : Type 0 where
-  pub script : List ℕ
-  pub given : Consumes source_old source_new script
-  pub at_most : length script ≤ limit + 1
-  pub exact : (status ≡ ScriptLimit) ↔ (length script ≡ limit + 1)
 
 -- a call that may fail writing: the sink took all of these bytes, or a part of them
 abbrev pub Writes : {T E : Type 0} → Result T E → Option (List ℕ) → Option (List ℕ) → List ℕ → Type 0
@@ -46,24 +57,24 @@ pub record AnswersLine {T E : Type 0} (line : List ℕ) (old new : State) (sink_
   pub gives : Gives line old replies new
   pub written : Writes result sink_old sink_new (texts replies)
 
--- Every line of the script was answered as on a machine with this many frames, the replies were written, and the store has
--- what the machine has in the end.
-pub record AnswersAll (frames : ℕ) (script : List ℕ) (sink_old sink_new : Option (List ℕ)) (content : Content) : Type 0 where
+-- The lines were answered as on a machine with this many frames, their replies were written, and the store has what the
+-- machine has in the end.
+pub record AnswersAll (frames : ℕ) (lines : List (List ℕ)) (sink_old sink_new : Option (List ℕ)) (content : Content) : Type 0 where
   pub out : List ℕ
   pub last : State
-  pub legal : Legal frames (lines_of script) out last
+  pub legal : Legal frames lines out last
   pub written : Appends sink_old sink_new out
   pub store : content ≡ last.content
 
--- Some lines of the script were answered and their replies written. One line more was done, and only a part of its replies
--- was written. The store has what the machine has then.
-pub record AnswersPart (frames : ℕ) (script : List ℕ) (sink_old sink_new : Option (List ℕ)) (content : Content) : Type 0 where
-  pub lines : ℕ
+-- Some of the lines were answered and their replies written. One line more was done, and only a part of its replies was
+-- written. The store has what the machine has then.
+pub record AnswersPart (frames : ℕ) (lines : List (List ℕ)) (sink_old sink_new : Option (List ℕ)) (content : Content) : Type 0 where
+  pub answered : ℕ
   pub line : List ℕ
-  pub next : slice_get (lines_of script) lines ≡ Some line
+  pub next : slice_get lines answered ≡ Some line
   pub before : List Reply
   pub mid : State
-  pub run : Run (empty_state frames) (take lines (lines_of script)) before mid
+  pub run : Run (empty_state frames) (take answered lines) before mid
   pub replies : List Reply
   pub last : State
   pub gives : Gives line mid replies last
@@ -74,22 +85,50 @@ pub record AnswersPart (frames : ℕ) (script : List ℕ) (sink_old sink_new : O
   pub written : Appends sink_old sink_new (texts before ++ part)
   pub store : content ≡ last.content
 
-abbrev pub Answers : {T E : Type 0} → ℕ → List ℕ → Option (List ℕ) → Option (List ℕ) → Content → Result T E → Type 0
-Answers frames script sink_old sink_new content result =
-    MatchResult result (λ _. AnswersAll frames script sink_old sink_new content) (λ _. AnswersPart frames script sink_old sink_new content)
+-- ---- how a run ends. Each form speaks of the script that the source gave in the call.
 
--- the source gave a script to its end, within the limit of 65,536 bytes, and every line was answered
-pub record Completes (frames : ℕ) (source_old source_new sink_old sink_new : Option (List ℕ)) (content : Content) : Type 0 where
+-- the script was given to its end, within the limit, and every line was answered
+pub record Completes (frames limit : ℕ) (source_old source_new sink_old sink_new : Option (List ℕ)) (content : Content) : Type 0 where
   pub script : List ℕ
   pub given : Consumes source_old source_new script
   pub ended : IsAtEnd source_new
-  pub short : length script ≤ 65536
-  pub answers : AnswersAll frames script sink_old sink_new content
+  pub short : length script ≤ limit
+  pub answers : AnswersAll frames (lines_of script) sink_old sink_new content
 
--- the source gave a script to its end, within the limit of 65,536 bytes, and writing broke off
-pub record BreaksOff (frames : ℕ) (source_old source_new sink_old sink_new : Option (List ℕ)) (content : Content) : Type 0 where
+-- reading failed within the limit, and every whole line that was given was answered
+pub record StopsReading (frames limit : ℕ) (source_old source_new sink_old sink_new : Option (List ℕ)) (content : Content) : Type 0 where
   pub script : List ℕ
   pub given : Consumes source_old source_new script
-  pub ended : IsAtEnd source_new
-  pub short : length script ≤ 65536
-  pub answers : AnswersPart frames script sink_old sink_new content
+  pub short : length script ≤ limit
+  pub answers : AnswersAll frames (whole_lines script) sink_old sink_new content
+
+-- one byte over the limit was given, and the lines whose line feed lies within the limit were answered
+pub record ReachesLimit (frames limit : ℕ) (source_old source_new sink_old sink_new : Option (List ℕ)) (content : Content) : Type 0 where
+  pub script : List ℕ
+  pub given : Consumes source_old source_new script
+  pub long : length script ≡ limit + 1
+  pub answers : AnswersAll frames (whole_lines (take limit script)) sink_old sink_new content
+
+-- Writing failed, and the lines up to one were done. Its line feed lies within the limit, or it is the last piece of a
+-- script within the limit.
+pub record BreaksOff (frames limit : ℕ) (source_old source_new sink_old sink_new : Option (List ℕ)) (content : Content) : Type 0 where
+  pub script : List ℕ
+  pub given : Consumes source_old source_new script
+  pub at_most : length script ≤ limit + 1
+  pub answers : AnswersPart frames (whole_lines (take limit script)) sink_old sink_new content
+      ⊎ (AnswersPart frames (lines_of script) sink_old sink_new content × IsAtEnd source_new × (length script ≤ limit))
+
+-- nothing was read and nothing was written, and the store has no VMO
+pub record NothingDone (source_old source_new sink_old sink_new : Option (List ℕ)) (content : Content) : Type 0 where
+  pub read : source_new ≡ source_old
+  pub written : sink_new ≡ sink_old
+  pub store : HasNoVmo content
+
+-- what each status says
+abbrev pub EndsAs : Status → ℕ → ℕ → Option (List ℕ) → Option (List ℕ) → Option (List ℕ) → Option (List ℕ) → Content → Type 0
+EndsAs Done frames limit source_old source_new sink_old sink_new content = Completes frames limit source_old source_new sink_old sink_new content
+EndsAs ReadFault frames limit source_old source_new sink_old sink_new content = StopsReading frames limit source_old source_new sink_old sink_new content
+EndsAs ScriptLimit frames limit source_old source_new sink_old sink_new content = ReachesLimit frames limit source_old source_new sink_old sink_new content
+EndsAs WriteFault frames limit source_old source_new sink_old sink_new content = BreaksOff frames limit source_old source_new sink_old sink_new content
+EndsAs HostMemory frames limit source_old source_new sink_old sink_new content = NothingDone source_old source_new sink_old sink_new content
+EndsAs Usage frames limit source_old source_new sink_old sink_new content = ⊥

@@ -1,22 +1,22 @@
-//! Answering the lines of a script.
+//! Answering the lines of a script, one after another.
 
-ghost use Rattle.std.specs.Prelude.{◌≡◌, ◌+◌, ◌^◌, ◌<◌, ◌≤◌, length};
-ghost use Rattle.script_io.specs.Faults.{HasCause};
-ghost use Rattle.vm_model.specs.State.{empty_state, IsGoodState};
+ghost use Rattle.std.specs.Prelude.{◌≡◌, ◌+◌, ◌^◌, ◌<◌, ◌≤◌, ℕ, Option, List, length, IfNone, Some, MatchOption, ◌≢◌};
+ghost use Rattle.script_io.specs.Faults.{HasCause, HasFailed};
+ghost use Rattle.vm_model.specs.State.{IsGoodState};
 ghost use Rattle.vm_core.specs.Vm.{state_of};
-ghost use Rattle.vm_session.specs.Outcome.{Answers, AnswersLine};
+ghost use Rattle.vm_session.specs.Outcome.{AnswersLine, EndsAs};
+ghost use Rattle.vm_session.specs.Serving.{IsServed, IsReady, bytes_left};
 
-use crate::lines::first_line;
 use crate::replies::push_reply;
 use page_store::PageStore;
-use script_io::Sink;
+use script_io::{Fetch, Lines, Sink, Source, Status};
 use script_text::{Line, read_line};
 use vm_base::{Failed, Refusal};
 use vm_core::Vm;
 use vm_model::Reply;
 
 /// Answers one line. `Failed` where the sink failed; the line was done all the same.
-pub(crate) fn answer_line<P: PageStore, K: Sink>(
+fn answer_line<P: PageStore, K: Sink>(
     vm: &mut Vm,
     store: &mut P,
     sink: &mut K,
@@ -42,25 +42,44 @@ pub(crate) fn answer_line<P: PageStore, K: Sink>(
     }
 }
 
-/// Answers the lines of a script, one after another, on a machine that has nothing but its frames.
-/// `Failed` where the sink failed.
-pub(crate) fn answer_lines<P: PageStore, K: Sink>(
+/// Fetches the next line and answers it. A status where the run ends with it.
+pub fn answer_next<P: PageStore, S: Source, K: Sink>(
     vm: &mut Vm,
     store: &mut P,
+    lines: &mut Lines,
+    source: &mut S,
     sink: &mut K,
-    script: &[u8],
     buffer: &mut [u8],
-) -> Result<(), Failed>
-    requires empty { state_of (P.content store.old) vm.old ≡ empty_state 1024 }
-    requires small { length script.now ≤ 65536 }
+) -> Option<Status>
+    requires good { IsGoodState (state_of (P.content store.old) vm.old) }
+    requires ready { IsReady lines.old (S.remaining source.old) (P.content store.old).next }
+    requires limit { lines.old.limit + 1 < 2 ^ 63 }
     requires room { 16384 ≤ length buffer.old }
-    ensures answer { Answers 1024 script.now (K.contents sink.old) (K.contents sink.new) (P.content store.new) result }
-    ensures cause { HasCause (K.faults sink.old) (K.faults sink.new) result }
+    ensures served { (frames limit : ℕ) (source_old sink_old : Option (List ℕ))
+        → IsServed frames limit lines.old source_old (S.remaining source.old) sink_old (K.contents sink.old) (state_of (P.content store.old) vm.old)
+        → MatchOption result
+        (IsServed frames limit lines.new source_old (S.remaining source.new) sink_old (K.contents sink.new) (state_of (P.content store.new) vm.new))
+        (λ status. EndsAs status frames limit source_old (S.remaining source.new) sink_old (K.contents sink.new) (P.content store.new)) }
+    ensures good { IsGoodState (state_of (P.content store.new) vm.new) }
+    ensures ready { IfNone result (IsReady lines.new (S.remaining source.new) (P.content store.new).next) }
+    ensures limit { lines.new.limit ≡ lines.old.limit }
+    ensures falls { IfNone result (bytes_left lines.new < bytes_left lines.old) }
+    ensures room { length buffer.new ≡ length buffer.old }
+    ensures read_later { S.faults source.old ≤ S.faults source.new }
+    ensures write_later { K.faults sink.old ≤ K.faults sink.new }
+    ensures read_cause { result ≡ Some Status.ReadFault → HasFailed (S.faults source.old) (S.faults source.new) }
+    ensures write_cause { result ≡ Some Status.WriteFault → HasFailed (K.faults sink.old) (K.faults sink.new) }
+    ensures host_memory { result ≢ Some Status.HostMemory }
 {
-    let mut rest = script;
-    while let Some((line, after)) = first_line(rest) {
-        answer_line(vm, store, sink, line, buffer)?;
-        rest = after;
+    let answered = match lines.next(source) {
+        Fetch::Line => answer_line(vm, store, sink, lines.line(), buffer),
+        Fetch::TooLong => push_reply(sink, &Reply::Refused(Refusal::Syntax), buffer),
+        Fetch::End => return Some(Status::Done),
+        Fetch::Fault => return Some(Status::ReadFault),
+        Fetch::Limit => return Some(Status::ScriptLimit),
+    };
+    match answered {
+        Ok(()) => None,
+        Err(_) => Some(Status::WriteFault),
     }
-    Ok(())
 }

@@ -6,10 +6,10 @@
 #![tactic(auto)]
 
 mod answers;
-mod input;
-mod lines;
 mod replies;
+mod serving;
 mod session;
+mod words;
 
 pub use script_io::{Status, code};
 pub use session::run;

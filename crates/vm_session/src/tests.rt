@@ -1,6 +1,7 @@
 //! Runs over sources and sinks in memory.
 
 use super::*;
+use crate::serving::serve;
 use page_store::FlatStore;
 use script_io::{MemSink, MemSource, Status, SureSource};
 use std::alloc::Global;
@@ -70,7 +71,12 @@ fn scripts_have_their_replies(rt: HostRuntime) -> Result<(), Fail> {
             b"OK\nOUT_OF_RANGE\nOUT_OF_RANGE\n",
         ),
         // Blank lines and comments have no reply, and a last line needs no line feed.
-        (b"\n \t\r\n# note\nstat\nvmo_create v1 1", b"SYNTAX\nOK\n"),
+        (b"\n \t\r\n# note\nstatus\nvmo_create v1 1", b"SYNTAX\nOK\n"),
+        // A command that is not built is read, and changes nothing.
+        (
+            b"vmo_close v1\nvmo_create v1 1 resizable\nvmo_close v1\nvmo_size v1\nstat\nvmo_close\n",
+            b"UNBUILT\nOK\nUNBUILT\nOK 4096\nOK frames=1024 used=0 free=1024 vmos=1\nSYNTAX\n",
+        ),
         // What one VMO is written, another does not show.
         (
             b"vmo_create v1 4096\nvmo_create v2 4096\nvmo_write v1 0 11\nvmo_write v2 1 22\nvmo_read v1 0 2\nvmo_read v2 0 2\n",
@@ -118,6 +124,15 @@ fn other_words_are_usage(rt: HostRuntime) -> Result<(), Fail> {
     assert!(rt; is_usage(rt.alloc(), &["run", "extra"])?);
     assert!(rt; is_usage(rt.alloc(), &["--help"])?);
     assert!(rt; is_usage(rt.alloc(), &["RUN"])?);
+    assert!(rt; is_usage(rt.alloc(), &["run", "--frames"])?);
+    assert!(rt; is_usage(rt.alloc(), &["run", "--frames", "0"])?);
+    assert!(rt; is_usage(rt.alloc(), &["run", "--frames", "65537"])?);
+    assert!(rt; is_usage(rt.alloc(), &["run", "--frames", "000001"])?);
+    assert!(rt; is_usage(rt.alloc(), &["run", "--frames", "0x10"])?);
+    assert!(rt; is_usage(rt.alloc(), &["run", "--frames", ""])?);
+    assert!(rt; is_usage(rt.alloc(), &["run", "--frame", "1"])?);
+    assert!(rt; is_usage(rt.alloc(), &["--frames", "1", "run"])?);
+    assert!(rt; is_usage(rt.alloc(), &["run", "--frames", "1", "2"])?);
     assert!(rt; !is_usage(rt.alloc(), &["run"])?);
     Ok(())
 }
@@ -138,9 +153,10 @@ fn pieces_make_no_difference(rt: HostRuntime) -> Result<(), Fail> {
     Ok(())
 }
 
-/// The script has 61 bytes, so pieces of 7 take 9 pulls, and one more finds the end.
+/// The lines have 19, 23 and 19 bytes, so that pieces of 7 end them in the pulls 3, 6 and 9, and pull
+/// 10 finds the end.
 #[test]
-fn a_failing_pull_ends_the_run(rt: HostRuntime) -> Result<(), Fail> {
+fn a_failing_pull_leaves_a_piece_of_a_line(rt: HostRuntime) -> Result<(), Fail> {
     for call in 1..=20u64 {
         let mut source = MemSource::new(rt.alloc(), SCRIPT, 7, &[call])
             .ok()
@@ -149,13 +165,14 @@ fn a_failing_pull_ends_the_run(rt: HostRuntime) -> Result<(), Fail> {
             .ok()
             .ok_or("room for a sink")?;
         let status = run_words(rt.alloc(), &["run"], &mut source, &mut sink)?;
-        if call <= 10 {
-            assert_eq!(rt; status, Status::ReadFault, "at pull {call}");
-            assert!(rt; sink.bytes().is_empty());
-        } else {
-            assert_eq!(rt; status, Status::Done, "at pull {call}");
-            assert_eq!(rt; sink.bytes(), REPLIES);
-        }
+        let want: &[u8] = match call {
+            1..=3 => b"",
+            4..=6 => b"OK\n",
+            7..=9 => b"OK\nOK\n",
+            _ => REPLIES,
+        };
+        assert_eq!(rt; sink.bytes(), want, "at pull {call}");
+        assert_eq!(rt; status == Status::ReadFault, call <= 10, "at pull {call}");
     }
     Ok(())
 }
@@ -200,31 +217,108 @@ fn a_full_sink_cuts_the_replies_off(rt: HostRuntime) -> Result<(), Fail> {
     Ok(())
 }
 
-/// How a script of 16 bytes and this many blank lines ends, and how many bytes are written.
-fn with_blank_lines(alloc: Global, blanks: usize) -> Result<(Status, usize), Fail> {
-    let mut script = Vec::from_slice(alloc, b"vmo_create v1 1\n")?;
-    let blank = vec![in alloc; b'\n'; blanks]?;
-    script.extend_from_slice(blank.as_slice())?;
-    let mut source = MemSource::new(alloc, script.as_slice(), ROOM, &[])
+/// How a script ends that is served with a limit of ten bytes, and the replies.
+fn served(alloc: Global, script: &[u8]) -> Result<(Status, Vec<u8>), Fail> {
+    let mut store = FlatStore::new(alloc);
+    let mut source = SureSource::new(script);
+    let mut sink = MemSink::new(alloc, ROOM, ROOM, &[])
+        .ok()
+        .ok_or("room for a sink")?;
+    let status = serve(alloc, 4, 10, &mut store, &mut source, &mut sink);
+    Ok((status, Vec::from_slice(alloc, sink.bytes())?))
+}
+
+/// A line that ends within the limit is answered, and a last piece only where the script ends too.
+#[test]
+fn a_limit_of_ten_bytes(rt: HostRuntime) -> Result<(), Fail> {
+    for (script, want, replies) in [
+        (
+            b"stat\nwrong".as_slice(),
+            Status::Done,
+            b"OK frames=4 used=0 free=4 vmos=0\nSYNTAX\n".as_slice(),
+        ),
+        (
+            b"stat\nwrong\n".as_slice(),
+            Status::ScriptLimit,
+            b"OK frames=4 used=0 free=4 vmos=0\n".as_slice(),
+        ),
+        (
+            b"stat\nstat\n".as_slice(),
+            Status::Done,
+            b"OK frames=4 used=0 free=4 vmos=0\nOK frames=4 used=0 free=4 vmos=0\n".as_slice(),
+        ),
+        (
+            b"stat\nstat\n\n".as_slice(),
+            Status::ScriptLimit,
+            b"OK frames=4 used=0 free=4 vmos=0\nOK frames=4 used=0 free=4 vmos=0\n".as_slice(),
+        ),
+        (
+            b"stat\nstat\nstat\nstat\n".as_slice(),
+            Status::ScriptLimit,
+            b"OK frames=4 used=0 free=4 vmos=0\nOK frames=4 used=0 free=4 vmos=0\n".as_slice(),
+        ),
+    ] {
+        let (status, out) = served(rt.alloc(), script)?;
+        assert_eq!(rt; status, want, "of {script:?}");
+        assert_eq!(rt; out.as_slice(), replies, "of {script:?}");
+    }
+    Ok(())
+}
+
+/// The replies to a comment of this many bytes and to a command behind it.
+fn behind_comment(alloc: Global, len: usize) -> Result<Vec<u8>, Fail> {
+    let mut script = vec![in alloc; b'#'; len]?;
+    script.extend_from_slice(b"\nvmo_create v1 1\n")?;
+    replies(alloc, script.as_slice())
+}
+
+#[test]
+fn a_line_has_at_most_16384_bytes(rt: HostRuntime) -> Result<(), Fail> {
+    assert_eq!(rt;
+        behind_comment(rt.alloc(), 16_384)?.as_slice(),
+        b"OK\n".as_slice()
+    );
+    assert_eq!(rt;
+        behind_comment(rt.alloc(), 16_385)?.as_slice(),
+        b"SYNTAX\nOK\n".as_slice()
+    );
+    assert_eq!(rt;
+        behind_comment(rt.alloc(), 100_000)?.as_slice(),
+        b"SYNTAX\nOK\n".as_slice()
+    );
+    Ok(())
+}
+
+/// How many page frames `stat` tells where the words are these, as the first word of its reply
+/// behind `OK`.
+fn stat_of(alloc: Global, words: &[&str]) -> Result<Vec<u8>, Fail> {
+    let mut source = MemSource::new(alloc, b"stat", ROOM, &[])
         .ok()
         .ok_or("room for a source")?;
     let mut sink = MemSink::new(alloc, ROOM, ROOM, &[])
         .ok()
         .ok_or("room for a sink")?;
-    let status = run_words(alloc, &["run"], &mut source, &mut sink)?;
-    Ok((status, sink.bytes().len()))
+    run_words(alloc, words, &mut source, &mut sink)?;
+    Ok(Vec::from_slice(alloc, sink.bytes())?)
 }
 
 #[test]
-fn a_script_has_at_most_65536_bytes(rt: HostRuntime) -> Result<(), Fail> {
-    assert_eq!(rt; with_blank_lines(rt.alloc(), 65_520)?, (Status::Done, 3));
+fn the_words_say_how_many_frames(rt: HostRuntime) -> Result<(), Fail> {
     assert_eq!(rt;
-        with_blank_lines(rt.alloc(), 65_521)?,
-        (Status::ScriptLimit, 0)
+        stat_of(rt.alloc(), &["run"])?.as_slice(),
+        b"OK frames=1024 used=0 free=1024 vmos=0\n".as_slice()
     );
     assert_eq!(rt;
-        with_blank_lines(rt.alloc(), 65_522)?,
-        (Status::ScriptLimit, 0)
+        stat_of(rt.alloc(), &["run", "--frames", "1"])?.as_slice(),
+        b"OK frames=1 used=0 free=1 vmos=0\n".as_slice()
+    );
+    assert_eq!(rt;
+        stat_of(rt.alloc(), &["run", "--frames", "00007"])?.as_slice(),
+        b"OK frames=7 used=0 free=7 vmos=0\n".as_slice()
+    );
+    assert_eq!(rt;
+        stat_of(rt.alloc(), &["run", "--frames", "65536"])?.as_slice(),
+        b"OK frames=65536 used=0 free=65536 vmos=0\n".as_slice()
     );
     Ok(())
 }

@@ -6,22 +6,26 @@ use Rattle.page_store.specs.Flat.{content_of}
 use Rattle.vm_core.proofs.NamesLaws.{state_of-empty}
 use Rattle.vm_core.proofs.tests.steps_over_a_flat_store.Goals as goal
 
-filled : (new old : Content) → new ≡ record old { frames = 2 } → old ≡ nothing → new ≡ record nothing { frames = 2 }
-filled new old e f = e ∙ ap (λ (c : Content). record c { frames = 2 }) f
+filled : (new old : Content) → new ≡ record old { frames = 3 } → old ≡ nothing → new ≡ record nothing { frames = 3 }
+filled new old e f = e ∙ ap (λ (c : Content). record c { frames = 3 }) f
 
-first_koid : (new old : Content) → new ≡ record old { frames = 2 } → old ≡ nothing → new.next ≡ 1
+first_koid : (new old : Content) → new ≡ record old { frames = 3 } → old ≡ nothing → new.next ≡ 1
 unfolding nothing
 first_koid new old e f = ap (λ (c : Content). c.next) (filled new old e f)
 
 pub takes_commands-requires-clause-good : goal.takes_commands-requires-clause-good
 takes_commands-requires-clause-good g c =
     let e = filled (content_of c.fill.new.self) (content_of c.new-store.result) c.in_ok-fill.ensures.ok c.new-store.ensures.content in
-    subst IsGoodState (sym (state_of-empty (content_of c.fill.new.self) c.new-vm.result 2 e c.new-vm.ensures)) (IsGoodState-empty 2)
+    subst IsGoodState (sym (state_of-empty (content_of c.fill.new.self) c.new-vm.result 3 e c.new-vm.ensures)) (IsGoodState-empty 3)
 
 pub takes_commands-requires-clause-next : goal.takes_commands-requires-clause-next
 takes_commands-requires-clause-next g c =
     omega (arith, first_koid (content_of c.fill.new.self) (content_of c.new-store.result) c.in_ok-fill.ensures.ok c.new-store.ensures.content)
 
+pub tells_of_the_machine-requires-clause-next : goal.tells_of_the_machine-requires-clause-next
+tells_of_the_machine-requires-clause-next g c =
+    omega (arith, first_koid (content_of c.fill.new.self) (content_of c.new-store.result) c.in_ok-fill.ensures.ok c.new-store.ensures.content, c.takes_commands.ensures.next)
+
 pub refuses_commands-requires-clause-next : goal.refuses_commands-requires-clause-next
 refuses_commands-requires-clause-next g c =
-    omega (arith, first_koid (content_of c.fill.new.self) (content_of c.new-store.result) c.in_ok-fill.ensures.ok c.new-store.ensures.content, c.takes_commands.ensures.next)
+    omega (arith, first_koid (content_of c.fill.new.self) (content_of c.new-store.result) c.in_ok-fill.ensures.ok c.new-store.ensures.content, c.takes_commands.ensures.next, c.tells_of_the_machine.ensures.next)

@@ -1,0 +1,72 @@
+-- The arguments of commands of one shape, and the part of the table of commands that speaks of regions.
+use Rattle.std.specs.Prelude.{ℕ, ◌+◌, List, [], ◌∷◌, codes, Option, Some, None}
+use Rattle.vm_base.specs.declared.names.VmoName.{VmoName}
+use Rattle.vm_base.specs.declared.names.RegionName.{RegionName}
+use Rattle.vm_base.specs.declared.flags.MapFlags.{MapFlags}
+use Rattle.vm_base.specs.declared.flags.Perm.{Perm}
+use Rattle.vm_model.specs.declared.command.Command.{Command}
+use Rattle.vm_model.specs.declared.command.Command.TheVariants.{RootCreate, VmarUnmap, VmarDestroy, Maps, MemRead}
+use Rattle.vm_model.specs.Reading.{◌>>=◌, vmo, region, number, bit, stands, of_region, of_region_range, vmar_allocate, vmar_map, vmar_protect, mem_write, stat}
+
+-- the argument of a command of one VMO
+abbrev pub one_vmo : List (List ℕ) → Option VmoName
+one_vmo (a ∷ []) = vmo a
+one_vmo _ = None
+
+-- the arguments of a command of a range of a VMO
+abbrev pub vmo_range : List (List ℕ) → Option (VmoName × ℕ × ℕ)
+vmo_range (a ∷ b ∷ c ∷ []) = do
+  name ← vmo a
+  offset ← number b
+  len ← number c
+  Some (name, offset, len)
+vmo_range _ = None
+
+-- the argument of a command of one region
+abbrev pub one_region : List (List ℕ) → Option RegionName
+one_region (a ∷ []) = region a
+one_region _ = None
+
+-- the arguments of a command of a range of a region
+abbrev pub region_range : List (List ℕ) → Option (RegionName × ℕ × ℕ)
+region_range (a ∷ b ∷ c ∷ []) = do
+  name ← region a
+  addr ← number b
+  len ← number c
+  Some (name, addr, len)
+region_range _ = None
+
+-- the flags of a region
+abbrev pub region_flag_words : List (List ℕ)
+region_flag_words = codes "specific" ∷ codes "upper_limit" ∷ codes "can_read" ∷ codes "can_write" ∷ codes "can_execute" ∷ []
+
+-- the flags of a mapping
+abbrev pub map_flag_words : List (List ℕ)
+map_flag_words = codes "specific" ∷ codes "specific_overwrite" ∷ codes "upper_limit" ∷ codes "allow_faults" ∷ []
+
+-- how a region is placed, by its flags
+abbrev pub region_flags : List (List ℕ) → MapFlags
+region_flags ws = record { 0 = bit (stands (codes "specific") ws) 1 + bit (stands (codes "upper_limit") ws) 4 }
+
+-- what a region allows, by its flags
+abbrev pub region_caps : List (List ℕ) → Perm
+region_caps ws = record { 0 = bit (stands (codes "can_read") ws) 1 + bit (stands (codes "can_write") ws) 2 + bit (stands (codes "can_execute") ws) 4 }
+
+-- how a mapping is placed, by its flags
+abbrev pub map_flags : List (List ℕ) → MapFlags
+map_flags ws = record { 0 = bit (stands (codes "specific") ws) 1 + bit (stands (codes "specific_overwrite") ws) 2 + bit (stands (codes "upper_limit") ws) 4 + bit (stands (codes "allow_faults") ws) 8 }
+
+-- the rows of the table of commands that stand behind those of VMOs
+abbrev pub region_rows : List (List ℕ × (List (List ℕ) → Option Command))
+region_rows =
+    (codes "root_create", of_region RootCreate)
+    ∷ (codes "vmar_allocate", vmar_allocate)
+    ∷ (codes "vmar_map", vmar_map)
+    ∷ (codes "vmar_unmap", of_region_range VmarUnmap)
+    ∷ (codes "vmar_protect", vmar_protect)
+    ∷ (codes "vmar_destroy", of_region VmarDestroy)
+    ∷ (codes "maps", of_region Maps)
+    ∷ (codes "mem_read", of_region_range MemRead)
+    ∷ (codes "mem_write", mem_write)
+    ∷ (codes "stat", stat)
+    ∷ []

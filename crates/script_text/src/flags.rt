@@ -1,0 +1,40 @@
+//! The flags at the end of a command: words of a list of its own, each at most once, in any order.
+
+ghost use Rattle.std.specs.Prelude.{◌≡◌, ◌≤◌, map};
+ghost use Rattle.vm_model.specs.Reading.{are_flags, bit, stands};
+
+/// Whether a word stands among others.
+pub fn stands(word: &[u8], words: &[&[u8]]) -> bool
+    ensures { result ≡ stands word.now (map (λ w. w.now) words.now) }
+{
+    let mut rest = words;
+    while let [other, behind @ ..] = rest {
+        if word == *other {
+            return true;
+        }
+        rest = behind;
+    }
+    false
+}
+
+/// Whether the words are flags that are known, none of them twice.
+pub fn are_flags(known: &[&[u8]], words: &[&[u8]]) -> bool
+    ensures { result ≡ are_flags (map (λ w. w.now) known.now) (map (λ w. w.now) words.now) }
+{
+    let mut rest = words;
+    while let [word, behind @ ..] = rest {
+        if !stands(word, known) || stands(word, behind) {
+            return false;
+        }
+        rest = behind;
+    }
+    true
+}
+
+/// The bit of a flag, where the flag stands.
+pub fn bit(set: bool, value: u32) -> u32
+    ensures bit { result ≡ bit set value }
+    ensures at_most { result ≤ value }
+{
+    if set { value } else { 0 }
+}

@@ -1,0 +1,253 @@
+//! The commands of address regions and of the whole machine, from their arguments.
+
+ghost use Rattle.std.specs.Prelude.{◌≡◌, map};
+ghost use Rattle.vm_model.specs.Reading.{are_flags, by_word, of_region, of_region_range, vmar_allocate, vmar_map, vmar_protect, mem_write, stat};
+ghost use Rattle.vm_model.specs.declared.command.Command.TheVariants.{RootCreate, VmarUnmap, VmarDestroy, Maps, MemRead};
+ghost use Rattle.script_text.specs.Shapes.{map_flag_words, map_flags, one_region, region_caps, region_flag_words, region_flags, region_range, region_rows};
+
+use crate::fields::{byte_data, number, perm, region, vmo};
+use crate::flags::{are_flags, bit, stands};
+use vm_base::{MapFlags, Perm, RegionName};
+use vm_model::Command;
+
+/// The command of this word and these arguments, or `None` where there is none of a region or of the
+/// whole machine.
+pub fn region_command(word: &[u8], arguments: &[&[u8]]) -> Option<Command>
+    ensures { result ≡ by_word region_rows word.now (map (λ a. a.now) arguments.now) }
+{
+    if word == b"root_create".as_slice() {
+        root_create(arguments)
+    } else if word == b"vmar_allocate".as_slice() {
+        vmar_allocate(arguments)
+    } else if word == b"vmar_map".as_slice() {
+        vmar_map(arguments)
+    } else if word == b"vmar_unmap".as_slice() {
+        vmar_unmap(arguments)
+    } else if word == b"vmar_protect".as_slice() {
+        vmar_protect(arguments)
+    } else if word == b"vmar_destroy".as_slice() {
+        vmar_destroy(arguments)
+    } else if word == b"maps".as_slice() {
+        maps(arguments)
+    } else if word == b"mem_read".as_slice() {
+        mem_read(arguments)
+    } else if word == b"mem_write".as_slice() {
+        mem_write(arguments)
+    } else if word == b"stat".as_slice() {
+        stat(arguments)
+    } else {
+        None
+    }
+}
+
+/// The one argument of a command of a region.
+fn one_region(arguments: &[&[u8]]) -> Option<RegionName>
+    ensures { result ≡ one_region (map (λ a. a.now) arguments.now) }
+{
+    let [name] = arguments else {
+        return None;
+    };
+    region(name)
+}
+
+/// The arguments of a command of a range of a region: its name, the address and the length.
+fn region_range(arguments: &[&[u8]]) -> Option<(RegionName, u64, u64)>
+    ensures { result ≡ region_range (map (λ a. a.now) arguments.now) }
+{
+    let [name, addr, len] = arguments else {
+        return None;
+    };
+    Some((region(name)?, number(addr)?, number(len)?))
+}
+
+/// `root_create REGION`
+#[tactic(auto, using(crate::proofs::ShapeLaws::of_region_by_one))]
+fn root_create(arguments: &[&[u8]]) -> Option<Command>
+    ensures { result ≡ of_region RootCreate (map (λ a. a.now) arguments.now) }
+{
+    let region = one_region(arguments)?;
+    Some(Command::RootCreate { region })
+}
+
+/// `vmar_allocate REGION PARENT OFFSET LEN [specific] [upper_limit] [can_read] [can_write] [can_execute]`
+fn vmar_allocate(arguments: &[&[u8]]) -> Option<Command>
+    ensures { result ≡ vmar_allocate (map (λ a. a.now) arguments.now) }
+{
+    let [name, parent, offset, len, flags @ ..] = arguments else {
+        return None;
+    };
+    let name = region(name)?;
+    let parent = region(parent)?;
+    let offset = number(offset)?;
+    let len = number(len)?;
+    if !are_region_flags(flags) {
+        return None;
+    }
+    Some(Command::VmarAllocate {
+        region: name,
+        parent,
+        offset,
+        len,
+        flags: region_flags(flags),
+        caps: region_caps(flags),
+    })
+}
+
+/// Whether the words are flags of a region, none of them twice.
+fn are_region_flags(flags: &[&[u8]]) -> bool
+    ensures { result ≡ are_flags region_flag_words (map (λ a. a.now) flags.now) }
+{
+    let known = [
+        b"specific".as_slice(),
+        b"upper_limit",
+        b"can_read",
+        b"can_write",
+        b"can_execute",
+    ];
+    are_flags(&known, flags)
+}
+
+/// How a region is placed.
+fn region_flags(flags: &[&[u8]]) -> MapFlags
+    ensures { result ≡ region_flags (map (λ a. a.now) flags.now) }
+{
+    MapFlags(bit(stands(b"specific", flags), 1) + bit(stands(b"upper_limit", flags), 4))
+}
+
+/// What a region allows.
+fn region_caps(flags: &[&[u8]]) -> Perm
+    ensures { result ≡ region_caps (map (λ a. a.now) flags.now) }
+{
+    Perm(
+        bit(stands(b"can_read", flags), 1)
+            + bit(stands(b"can_write", flags), 2)
+            + bit(stands(b"can_execute", flags), 4),
+    )
+}
+
+/// `vmar_map REGION OFFSET VMO VMO_OFFSET LEN PERM [specific] [specific_overwrite] [upper_limit] [allow_faults]`
+fn vmar_map(arguments: &[&[u8]]) -> Option<Command>
+    ensures { result ≡ vmar_map (map (λ a. a.now) arguments.now) }
+{
+    let [name, offset, source, vmo_offset, len, allowed, flags @ ..] = arguments else {
+        return None;
+    };
+    let name = region(name)?;
+    let offset = number(offset)?;
+    let source = vmo(source)?;
+    let vmo_offset = number(vmo_offset)?;
+    let len = number(len)?;
+    let allowed = perm(allowed)?;
+    if !are_map_flags(flags) {
+        return None;
+    }
+    Some(Command::VmarMap {
+        region: name,
+        offset,
+        name: source,
+        vmo_offset,
+        len,
+        perm: allowed,
+        flags: map_flags(flags),
+    })
+}
+
+/// Whether the words are flags of a mapping, none of them twice.
+fn are_map_flags(flags: &[&[u8]]) -> bool
+    ensures { result ≡ are_flags map_flag_words (map (λ a. a.now) flags.now) }
+{
+    let known = [
+        b"specific".as_slice(),
+        b"specific_overwrite",
+        b"upper_limit",
+        b"allow_faults",
+    ];
+    are_flags(&known, flags)
+}
+
+/// How a mapping is placed.
+fn map_flags(flags: &[&[u8]]) -> MapFlags
+    ensures { result ≡ map_flags (map (λ a. a.now) flags.now) }
+{
+    MapFlags(
+        bit(stands(b"specific", flags), 1)
+            + bit(stands(b"specific_overwrite", flags), 2)
+            + bit(stands(b"upper_limit", flags), 4)
+            + bit(stands(b"allow_faults", flags), 8),
+    )
+}
+
+/// `vmar_unmap REGION ADDR LEN`
+#[tactic(auto, using(crate::proofs::ShapeLaws::of_region_range_by_range))]
+fn vmar_unmap(arguments: &[&[u8]]) -> Option<Command>
+    ensures { result ≡ of_region_range VmarUnmap (map (λ a. a.now) arguments.now) }
+{
+    let (region, addr, len) = region_range(arguments)?;
+    Some(Command::VmarUnmap { region, addr, len })
+}
+
+/// `vmar_protect REGION ADDR LEN PERM`
+fn vmar_protect(arguments: &[&[u8]]) -> Option<Command>
+    ensures { result ≡ vmar_protect (map (λ a. a.now) arguments.now) }
+{
+    let [name, addr, len, allowed] = arguments else {
+        return None;
+    };
+    Some(Command::VmarProtect {
+        region: region(name)?,
+        addr: number(addr)?,
+        len: number(len)?,
+        perm: perm(allowed)?,
+    })
+}
+
+/// `vmar_destroy REGION`
+#[tactic(auto, using(crate::proofs::ShapeLaws::of_region_by_one))]
+fn vmar_destroy(arguments: &[&[u8]]) -> Option<Command>
+    ensures { result ≡ of_region VmarDestroy (map (λ a. a.now) arguments.now) }
+{
+    let region = one_region(arguments)?;
+    Some(Command::VmarDestroy { region })
+}
+
+/// `maps REGION`
+#[tactic(auto, using(crate::proofs::ShapeLaws::of_region_by_one))]
+fn maps(arguments: &[&[u8]]) -> Option<Command>
+    ensures { result ≡ of_region Maps (map (λ a. a.now) arguments.now) }
+{
+    let region = one_region(arguments)?;
+    Some(Command::Maps { region })
+}
+
+/// `mem_read REGION ADDR LEN`
+#[tactic(auto, using(crate::proofs::ShapeLaws::of_region_range_by_range))]
+fn mem_read(arguments: &[&[u8]]) -> Option<Command>
+    ensures { result ≡ of_region_range MemRead (map (λ a. a.now) arguments.now) }
+{
+    let (region, addr, len) = region_range(arguments)?;
+    Some(Command::MemRead { region, addr, len })
+}
+
+/// `mem_write REGION ADDR DATA`
+fn mem_write(arguments: &[&[u8]]) -> Option<Command>
+    ensures { result ≡ mem_write (map (λ a. a.now) arguments.now) }
+{
+    let [name, addr, data] = arguments else {
+        return None;
+    };
+    Some(Command::MemWrite {
+        region: region(name)?,
+        addr: number(addr)?,
+        bytes: byte_data(data)?,
+    })
+}
+
+/// `stat`
+fn stat(arguments: &[&[u8]]) -> Option<Command>
+    ensures { result ≡ stat (map (λ a. a.now) arguments.now) }
+{
+    if !arguments.is_empty() {
+        return None;
+    }
+    Some(Command::Stat)
+}

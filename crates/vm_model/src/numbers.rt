@@ -1,0 +1,51 @@
+//! The frames of pinned pages.
+
+ghost use Rattle.std.specs.Prelude.{◌≡◌, ◌≤◌, ◌<◌, ◌↔◌, [], ◌∷◌, ◌++◌, length, IsTrue};
+
+use arrayvec::ArrayVec;
+use std::marker::Model;
+
+/// The numbers of the frames of pinned pages, at most 256. It takes no memory of the host. Clauses see
+/// a list.
+#[derive(Debug, Drop)]
+pub struct PinNumbers {
+    numbers: ArrayVec<u64, 256>,
+}
+
+impl Model for PinNumbers {
+    ghost use Rattle.std.specs.Prelude.{List, ℕ, length, ◌≤◌};
+
+    ghost Value = { List ℕ };
+
+    ghost view = { λ p. p.numbers.items };
+
+    ghost invariant = { λ p. length p.numbers.items ≤ 256 };
+}
+
+impl PinNumbers {
+    /// No numbers.
+    pub fn new() -> PinNumbers
+        ensures { result ≡ [] }
+    {
+        PinNumbers {
+            numbers: ArrayVec::new(),
+        }
+    }
+
+    /// The numbers.
+    pub fn as_slice(&self) -> &[u64]
+        ensures value { result.now ≡ self.now }
+        ensures few { length result.now ≤ 256 }
+    {
+        self.numbers.as_slice()
+    }
+
+    /// Adds a number at the end. `false`, changing nothing, exactly where 256 numbers are there.
+    pub fn push(&mut self, number: u64) -> bool
+        ensures room { IsTrue result ↔ (length self.old < 256) }
+        ensures added { length self.old < 256 → self.new ≡ self.old ++ number ∷ [] }
+        ensures full { length self.old ≡ 256 → self.new ≡ self.old }
+    {
+        self.numbers.try_push(number).is_ok()
+    }
+}

@@ -1,0 +1,127 @@
+-- A line that was fetched, and its replies.
+use Rattle.std.proofs.Common.{◌≡◌, ℕ, ◌+◌, ◌<◌, ◌≤◌, ◌⊎◌, inl, inr, true, cond, List, [], ◌∷◌, ◌++◌, length, Option, Result, Ok, Err, sym, ap, subst, arith}
+use Rattle.std.specs.Prelude.{OnOk, OnErr}
+use Rattle.std.specs.Io.KnownBytes.{Appends, Consumes}
+use Rattle.std.proofs.lemmas.List.{length-append}
+use Rattle.std.proofs.lemmas.Bool.Decides.{Decides-ltb}
+use Rattle.script_io.specs.Faults.{IsCutOff}
+use Rattle.script_io.specs.Reader.{Reader}
+use Rattle.script_io.specs.Fetching.{IsPending, IsFirstLine, Fetches}
+use Rattle.script_io.specs.declared.line_reader.Fetch.TheVariants.{Line, TooLong}
+use Rattle.vm_base.specs.declared.refusal.Refusal.TheVariants.{Syntax}
+use Rattle.vm_model.specs.declared.reply.Reply.{Reply}
+use Rattle.vm_model.specs.declared.reply.Reply.TheVariants.{Refused}
+use Rattle.vm_model.specs.State.{State}
+use Rattle.vm_model.specs.Text.{text, texts}
+use Rattle.vm_model.specs.Run.{Gives}
+use Rattle.vm_model.specs.Reading.{Outside, reading, reading_of_words, words}
+use Rattle.vm_session.specs.Outcome.{Writes, AnswersLine, BreaksOff}
+use Rattle.vm_session.specs.Serving.{IsServed, IsReady, bytes_left}
+use Rattle.vm_session.proofs.Writing.{AnswersLine-outside}
+use Rattle.vm_session.proofs.Served.{IsServed-more, BreaksOff-more}
+
+-- From these pending bytes a line was fetched, and it was answered.
+pub record IsAnswered {T E : Type 0} (old new : Reader) (source_old source_new sink_old sink_new : Option (List ℕ)) (before after : State) (pending : List ℕ) (result : Result T E) : Type 0 where
+  pub part : List ℕ
+  pub left : List ℕ
+  pub line : List ℕ
+  pub replies : List Reply
+  pub consumes : Consumes source_old source_new part
+  pub taken : new.taken ≡ old.taken + length part
+  pub still : IsPending new source_new left
+  pub first : IsFirstLine new.ended (pending ++ part) line left
+  pub within : new.taken ≤ new.limit
+  pub gives : Gives line before replies after
+  pub written : Writes result sink_old sink_new (texts replies)
+  pub koids : after.content.next ≤ before.content.next + 1
+
+pub IsAnswered-line : {T E : Type 0} (old new : Reader) (source_old source_new sink_old sink_new : Option (List ℕ)) (before after : State) (pending line : List ℕ) (result : Result T E)
+    → Fetches old new source_old source_new pending Line → line ≡ new.line → AnswersLine line before after sink_old sink_new result → after.content.next ≤ before.content.next + 1
+    → IsAnswered old new source_old source_new sink_old sink_new before after pending result
+IsAnswered-line old new source_old source_new sink_old sink_new before after pending line result f e answer koids = record {
+  part = f.part;
+  left = f.left;
+  line = line;
+  replies = answer.replies;
+  consumes = f.consumes;
+  taken = f.taken;
+  still = f.still;
+  first = subst (λ (l : List ℕ). IsFirstLine new.ended (pending ++ f.part) l f.left) (sym e) f.fetched.0;
+  within = f.fetched.2;
+  gives = answer.gives;
+  written = answer.written;
+  koids = koids;
+}
+
+-- a line over the limit is outside the grammar
+long_is_outside : (line : List ℕ) → 16384 < length line → Outside ≡ reading line
+unfolding reading
+long_is_outside line long = sym (ap (λ t. cond t Outside (reading_of_words (words line))) ((Decides-ltb 16384 (length line)).1 long))
+
+pub IsAnswered-long : {T E : Type 0} (old new : Reader) (source_old source_new sink_old sink_new : Option (List ℕ)) (now : State) (pending : List ℕ) (result : Result T E)
+    → Fetches old new source_old source_new pending TooLong → OnOk result (Appends sink_old sink_new (text (Refused Syntax))) → OnErr result (IsCutOff sink_old sink_new (text (Refused Syntax)))
+    → IsAnswered old new source_old source_new sink_old sink_new now now pending result
+IsAnswered-long old new source_old source_new sink_old sink_new now pending result f ok err =
+    let line = f.fetched.0 in
+    let answer = AnswersLine-outside line now sink_old sink_new result (long_is_outside line f.fetched.2) ok err in
+    record {
+      part = f.part;
+      left = f.left;
+      line = line;
+      replies = answer.replies;
+      consumes = f.consumes;
+      taken = f.taken;
+      still = f.still;
+      first = f.fetched.1;
+      within = f.fetched.4;
+      gives = answer.gives;
+      written = answer.written;
+      koids = omega arith;
+    }
+
+-- it was answered whole
+pub IsServed-answered : (frames limit : ℕ) (old new : Reader) (source_old source_mid source_new sink_old sink_mid sink_new : Option (List ℕ)) (before after : State) {T E : Type 0} (result : Result T E) (x : T) → result ≡ Ok x
+    → (s : IsServed frames limit old source_old source_mid sink_old sink_mid before) → IsAnswered old new source_mid source_new sink_mid sink_new before after s.pending result
+    → new.limit ≡ old.limit → (old.ended ≡ true → new.taken ≡ old.taken) → IsServed frames limit new source_old source_new sink_old sink_new after
+IsServed-answered frames limit old new source_old source_mid source_new sink_old sink_mid sink_new before after {T} {E} result x e s a same none =
+    IsServed-more frames limit old new source_old source_mid source_new sink_old sink_mid sink_new before after a.replies a.line a.left s a.part a.consumes a.taken a.still a.first a.within same none a.gives (subst (λ (r : Result T E). Writes r sink_mid sink_new (texts a.replies)) e a.written)
+
+-- its replies were cut off
+pub BreaksOff-answered : (frames limit : ℕ) (old new : Reader) (source_old source_mid source_new sink_old sink_mid sink_new : Option (List ℕ)) (before after : State) {T E : Type 0} (result : Result T E) (x : E) → result ≡ Err x
+    → (s : IsServed frames limit old source_old source_mid sink_old sink_mid before) → IsAnswered old new source_mid source_new sink_mid sink_new before after s.pending result
+    → new.limit ≡ old.limit → (old.ended ≡ true → new.taken ≡ old.taken) → BreaksOff frames limit source_old source_new sink_old sink_new after.content
+BreaksOff-answered frames limit old new source_old source_mid source_new sink_old sink_mid sink_new before after {T} {E} result x e s a same none =
+    BreaksOff-more frames limit old new source_old source_mid source_new sink_old sink_mid sink_new before after a.replies a.line a.left s a.part a.consumes a.taken a.still a.first a.within same none a.gives (subst (λ (r : Result T E). Writes r sink_mid sink_new (texts a.replies)) e a.written)
+
+-- a first line is a byte at least
+used_up : (ended : _) (bytes line left : List ℕ) → IsFirstLine ended bytes line left → length left + 1 ≤ length bytes
+used_up ended bytes line left first = go first.parts where
+  go : ((bytes ≡ line ++ 10 ∷ left) ⊎ ((bytes ≡ line) × (left ≡ []) × (0 < length line) × (ended ≡ true))) → length left + 1 ≤ length bytes
+  go (inl e) = omega (arith, ap (λ (xs : List ℕ). length xs) e, length-append line (10 ∷ left))
+  go (inr h) = omega (arith, ap (λ (xs : List ℕ). length xs) h.0, ap (λ (xs : List ℕ). length xs) h.1, h.2)
+
+-- a reader's pending bytes are those that it dropped and those that it holds
+pending_size : (reader : Reader) (remaining : Option (List ℕ)) (pending : List ℕ) → IsPending reader remaining pending → length pending ≡ reader.lost + length reader.held
+pending_size reader remaining pending p = omega (arith, ap (λ (xs : List ℕ). length xs) p.parts, length-append p.dropped reader.held, p.size)
+
+pub IsReady-answered : {T E : Type 0} (old new : Reader) (source_old source_new sink_old sink_new : Option (List ℕ)) (before after : State) (result : Result T E)
+    (r : IsReady old source_old before.content.next) → IsAnswered old new source_old source_new sink_old sink_new before after r.pending result → IsReady new source_new after.content.next
+IsReady-answered old new source_old source_new sink_old sink_new before after result r a = record {
+  pending = a.left;
+  still = a.still;
+  koids = omega (arith, a.koids, r.koids, a.taken, used_up new.ended (r.pending ++ a.part) a.line a.left a.first, length-append r.pending a.part);
+}
+
+pub bytes_left-answered : {T E : Type 0} (old new : Reader) (source_old source_new sink_old sink_new : Option (List ℕ)) (before after : State) (result : Result T E)
+    (r : IsReady old source_old before.content.next) → IsAnswered old new source_old source_new sink_old sink_new before after r.pending result → new.limit ≡ old.limit → bytes_left new < bytes_left old
+bytes_left-answered old new source_old source_new sink_old sink_new before after result r a same =
+    omega (
+      arith,
+      a.taken,
+      a.within,
+      same,
+      used_up new.ended (r.pending ++ a.part) a.line a.left a.first,
+      length-append r.pending a.part,
+      pending_size old source_old r.pending r.still,
+      pending_size new source_new a.left a.still,
+    )

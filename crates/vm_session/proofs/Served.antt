@@ -1,0 +1,276 @@
+-- One more line of a script was served, or the script ends there.
+use Rattle.std.proofs.Common.{◌≡◌, ℕ, zero, suc, ◌+◌, ◌-◌, ◌<◌, ◌≤◌, ◌⊎◌, inl, inr, Bool, true, List, [], ◌∷◌, ◌++◌, length, take, Option, Some, refl, sym, ap, subst, ◌∙◌, append_assoc, append-nil, take_all, arith}
+use Rattle.std.specs.Prelude.{slice_get}
+use Rattle.std.specs.Io.KnownBytes.{Appends, Consumes, IsAtEnd}
+use Rattle.std.proofs.KnownBytes.{Appends-trans, Consumes-trans}
+use Rattle.std.proofs.lemmas.List.{length-append}
+use Rattle.script_io.specs.Faults.{IsCutOff}
+use Rattle.script_io.specs.Reader.{Reader, HasNoFeed}
+use Rattle.script_io.specs.Fetching.{IsPending, IsFirstLine}
+use Rattle.vm_model.specs.declared.reply.Reply.{Reply}
+use Rattle.vm_model.specs.State.{State, empty_state}
+use Rattle.vm_model.specs.Text.{texts}
+use Rattle.vm_model.specs.Run.{lines_of, whole_lines, Gives, Run}
+use Rattle.vm_model.proofs.RunLaws.{lines_of-line, lines_of-piece, lines_of-nil, whole_lines-line, whole_lines-none, texts-append, Run-more}
+use Rattle.vm_session.specs.Outcome.{AnswersAll, AnswersPart, Completes, StopsReading, ReachesLimit, BreaksOff}
+use Rattle.vm_session.specs.Serving.{AreLines, AreAll, IsServed}
+
+-- ---- lists
+
+-- the element behind a list, and those before it
+pub get_behind : {A : Type 0} (xs : List A) (x : A) (ys : List A) → slice_get (xs ++ x ∷ ys) (length xs) ≡ Some x
+get_behind [] x ys = refl
+get_behind (y ∷ xs) x ys = get_behind xs x ys
+
+pub take_front : {A : Type 0} (xs ys : List A) → take (length xs) (xs ++ ys) ≡ xs
+take_front [] ys = refl
+take_front {A} (x ∷ xs) ys = ap (λ (zs : List A). x ∷ zs) (take_front xs ys)
+
+-- the first bytes of two parts, where the first part is no longer
+pub take_behind : (k n : ℕ) (xs ys : List ℕ) → k ≡ length xs + n → take k (xs ++ ys) ≡ xs ++ take n ys
+take_behind k n [] ys e = let same : k ≡ n = omega (arith, e) in ap (λ (m : ℕ). take m ys) same
+take_behind zero n (x ∷ xs) ys e = absurd (omega (arith, e))
+take_behind (suc k) n (x ∷ xs) ys e = let same : k ≡ length xs + n = omega (arith, e) in ap (λ (zs : List ℕ). x ∷ zs) (take_behind k n xs ys same)
+
+-- ---- lines, each with its line feed
+
+pub AreLines-none : AreLines [] []
+AreLines-none = record { each = λ rest. refl; whole = λ rest. refl }
+
+line_behind : (front line rest : List ℕ) → (front ++ (line ++ 10 ∷ [])) ++ rest ≡ front ++ (line ++ 10 ∷ rest)
+line_behind front line rest = append_assoc front (line ++ 10 ∷ []) rest ∙ ap (λ (xs : List ℕ). front ++ xs) (append_assoc line (10 ∷ []) rest)
+
+one_more : (lines : List (List ℕ)) (line : List ℕ) (rest : List (List ℕ)) → lines ++ line ∷ rest ≡ (lines ++ line ∷ []) ++ rest
+one_more lines line rest = sym (append_assoc lines (line ∷ []) rest)
+
+-- one line more
+pub AreLines-more : (front line : List ℕ) (lines : List (List ℕ)) → AreLines front lines → HasNoFeed line → AreLines (front ++ (line ++ 10 ∷ [])) (lines ++ line ∷ [])
+AreLines-more front line lines so_far none = record {
+  each = λ rest. ap lines_of (line_behind front line rest) ∙ (so_far.each (line ++ 10 ∷ rest)
+      ∙ (ap (λ (ls : List (List ℕ)). lines ++ ls) (lines_of-line line rest (λ k l. none k 0 l)) ∙ one_more lines line (lines_of rest)));
+  whole = λ rest. ap whole_lines (line_behind front line rest) ∙ (so_far.whole (line ++ 10 ∷ rest)
+      ∙ (ap (λ (ls : List (List ℕ)). lines ++ ls) (whole_lines-line line rest (λ k l. none k 0 l)) ∙ one_more lines line (whole_lines rest)));
+}
+
+-- a last piece more
+pub lines_of-more : (front line : List ℕ) (lines : List (List ℕ)) → AreLines front lines → HasNoFeed line → 0 < length line → lines_of (front ++ line) ≡ lines ++ line ∷ []
+lines_of-more front line lines so_far none some = so_far.each line ∙ ap (λ (ls : List (List ℕ)). lines ++ ls) (lines_of-piece line some (λ k l. none k 0 l))
+
+-- nothing more
+pub lines_of-all : (front : List ℕ) (lines : List (List ℕ)) → AreLines front lines → lines_of front ≡ lines
+lines_of-all front lines so_far = ap lines_of (sym (append-nil front)) ∙ (so_far.each [] ∙ (ap (λ (ls : List (List ℕ)). lines ++ ls) lines_of-nil ∙ append-nil lines))
+
+-- bytes that begin a line
+pub whole_lines-rest : (front rest : List ℕ) (lines : List (List ℕ)) → AreLines front lines → HasNoFeed rest → whole_lines (front ++ rest) ≡ lines
+whole_lines-rest front rest lines so_far none = so_far.whole rest ∙ (ap (λ (ls : List (List ℕ)). lines ++ ls) (whole_lines-none rest (λ k l. none k 0 l)) ∙ append-nil lines)
+
+-- ---- the next line
+
+-- Where the next bytes begin with a line, the lines that were answered leave more: they are no whole script.
+still_lines : (old : Reader) (front pending part line left : List ℕ) (lines : List (List ℕ)) (ended : Bool) → (old.ended ≡ true → length part ≡ 0)
+    → AreLines front lines ⊎ AreAll old front pending lines → IsFirstLine ended (pending ++ part) line left → AreLines front lines
+still_lines old front pending part line left lines ended none (inl so_far) first = so_far
+still_lines old front pending part line left lines ended none (inr all) first =
+    let empty : length (pending ++ part) ≡ 0 = omega (arith, length-append pending part, ap (λ (xs : List ℕ). length xs) all.behind, none all.ended) in
+    absurd (go first.parts empty) where
+      go : ((pending ++ part ≡ line ++ 10 ∷ left) ⊎ ((pending ++ part ≡ line) × (left ≡ []) × (0 < length line) × (ended ≡ true))) → length (pending ++ part) ≡ 0 → ⊥
+      go (inl e) z = omega (arith, z, ap (λ (xs : List ℕ). length xs) e, length-append line (10 ∷ left))
+      go (inr h) z = omega (arith, z, ap (λ (xs : List ℕ). length xs) h.0, h.2)
+
+-- one line more was answered, and its replies were written
+pub IsServed-more : (frames limit : ℕ) (old new : Reader) (source_old source_mid source_new sink_old sink_mid sink_new : Option (List ℕ)) (before after : State)
+    (replies : List Reply) (line left : List ℕ) (s : IsServed frames limit old source_old source_mid sink_old sink_mid before) (part : List ℕ)
+    → Consumes source_mid source_new part → new.taken ≡ old.taken + length part → IsPending new source_new left → IsFirstLine new.ended (s.pending ++ part) line left
+    → new.taken ≤ new.limit → new.limit ≡ old.limit → (old.ended ≡ true → new.taken ≡ old.taken)
+    → Gives line before replies after → Appends sink_mid sink_new (texts replies)
+    → IsServed frames limit new source_old source_new sink_old sink_new after
+IsServed-more frames limit old new source_old source_mid source_new sink_old sink_mid sink_new before after replies line left s part
+    consumes taken still first within same none gives written =
+    go first.parts where
+      so_far : AreLines s.front s.lines
+      so_far = still_lines old s.front s.pending part line left s.lines new.ended (λ e. omega (arith, taken, none e)) s.split first
+
+      script : List ℕ
+      script = (s.front ++ s.pending) ++ part
+
+      given : Consumes source_old source_new script
+      given = Consumes-trans source_old source_mid source_new (s.front ++ s.pending) part s.given consumes
+
+      size : new.taken ≡ length script
+      size = omega (arith, taken, s.taken, length-append (s.front ++ s.pending) part)
+
+      run : Run (empty_state frames) (s.lines ++ line ∷ []) (s.replies ++ replies) after
+      run = Run-more (empty_state frames) before after s.lines line s.replies replies s.run gives
+
+      all_written : Appends sink_old sink_new (texts (s.replies ++ replies))
+      all_written = subst (Appends sink_old sink_new) (sym (texts-append s.replies replies)) (Appends-trans sink_old sink_mid sink_new (texts s.replies) (texts replies) s.written written)
+
+      served : (front : List ℕ) → script ≡ front ++ left → (AreLines front (s.lines ++ line ∷ []) ⊎ AreAll new front left (s.lines ++ line ∷ [])) → IsServed frames limit new source_old source_new sink_old sink_new after
+      served front parts split = record {
+        front = front;
+        pending = left;
+        lines = s.lines ++ line ∷ [];
+        given = subst (Consumes source_old source_new) parts given;
+        still = still;
+        bounded = same ∙ s.bounded;
+        taken = size ∙ ap (λ (xs : List ℕ). length xs) parts;
+        within = omega (arith, within, size, ap (λ (xs : List ℕ). length xs) parts, length-append front left, same, s.bounded);
+        split = split;
+        replies = s.replies ++ replies;
+        run = run;
+        written = all_written;
+      }
+
+      go : ((s.pending ++ part ≡ line ++ 10 ∷ left) ⊎ ((s.pending ++ part ≡ line) × (left ≡ []) × (0 < length line) × (new.ended ≡ true))) → IsServed frames limit new source_old source_new sink_old sink_new after
+      go (inl e) = served (s.front ++ (line ++ 10 ∷ []))
+          (append_assoc s.front s.pending part ∙ (ap (λ (xs : List ℕ). s.front ++ xs) e ∙ sym (line_behind s.front line left)))
+          (inl (AreLines-more s.front line s.lines so_far first.no_feed))
+      go (inr h) = served (s.front ++ line)
+          (append_assoc s.front s.pending part ∙ (ap (λ (xs : List ℕ). s.front ++ xs) h.0 ∙ (sym (append-nil (s.front ++ line)) ∙ ap (λ (xs : List ℕ). (s.front ++ line) ++ xs) (sym h.1))))
+          (inr (record { each = lines_of-more s.front line s.lines so_far first.no_feed h.2; behind = h.1; ended = h.3 }))
+
+-- ---- how a run ends
+
+-- the replies of one more line were cut off
+pub BreaksOff-more : (frames limit : ℕ) (old new : Reader) (source_old source_mid source_new sink_old sink_mid sink_new : Option (List ℕ)) (before after : State)
+    (replies : List Reply) (line left : List ℕ) (s : IsServed frames limit old source_old source_mid sink_old sink_mid before) (part : List ℕ)
+    → Consumes source_mid source_new part → new.taken ≡ old.taken + length part → IsPending new source_new left → IsFirstLine new.ended (s.pending ++ part) line left
+    → new.taken ≤ new.limit → new.limit ≡ old.limit → (old.ended ≡ true → new.taken ≡ old.taken)
+    → Gives line before replies after → IsCutOff sink_mid sink_new (texts replies)
+    → BreaksOff frames limit source_old source_new sink_old sink_new after.content
+BreaksOff-more frames limit old new source_old source_mid source_new sink_old sink_mid sink_new before after replies line left s part
+    consumes taken still first within same none gives cut =
+    go first.parts where
+      so_far : AreLines s.front s.lines
+      so_far = still_lines old s.front s.pending part line left s.lines new.ended (λ e. omega (arith, taken, none e)) s.split first
+
+      script : List ℕ
+      script = (s.front ++ s.pending) ++ part
+
+      short : length script ≤ limit
+      short = omega (arith, within, taken, s.taken, length-append (s.front ++ s.pending) part, same, s.bounded)
+
+      -- the lines up to the one that was cut off
+      answers : (lines : List (List ℕ)) (rest : List (List ℕ)) → lines ≡ s.lines ++ line ∷ rest → AnswersPart frames lines sink_old sink_new after.content
+      answers lines rest e = record {
+        answered = length s.lines;
+        line = line;
+        next = ap (λ (ls : List (List ℕ)). slice_get ls (length s.lines)) e ∙ get_behind s.lines line rest;
+        before = s.replies;
+        mid = before;
+        run = subst (λ (ls : List (List ℕ)). Run (empty_state frames) ls s.replies before) (sym (ap (take (length s.lines)) e ∙ take_front s.lines (line ∷ rest))) s.run;
+        replies = replies;
+        last = after;
+        gives = gives;
+        part = cut.part;
+        rest = cut.rest;
+        cut = cut.whole;
+        left = cut.left;
+        written = Appends-trans sink_old sink_mid sink_new (texts s.replies) cut.part s.written cut.taken;
+        store = refl;
+      }
+
+      breaks : (AnswersPart frames (whole_lines (take limit script)) sink_old sink_new after.content
+          ⊎ (AnswersPart frames (lines_of script) sink_old sink_new after.content × IsAtEnd source_new × (length script ≤ limit))) → BreaksOff frames limit source_old source_new sink_old sink_new after.content
+      breaks parts = record {
+        script = script;
+        given = Consumes-trans source_old source_mid source_new (s.front ++ s.pending) part s.given consumes;
+        at_most = omega (arith, short);
+        answers = parts;
+      }
+
+      go : ((s.pending ++ part ≡ line ++ 10 ∷ left) ⊎ ((s.pending ++ part ≡ line) × (left ≡ []) × (0 < length line) × (new.ended ≡ true))) → BreaksOff frames limit source_old source_new sink_old sink_new after.content
+      go (inl e) =
+          let parts : script ≡ s.front ++ (line ++ 10 ∷ left) = append_assoc s.front s.pending part ∙ ap (λ (xs : List ℕ). s.front ++ xs) e in
+          breaks (inl (answers (whole_lines (take limit script)) (whole_lines left)
+          (ap whole_lines (take_all limit script short ∙ parts) ∙ (so_far.whole (line ++ 10 ∷ left) ∙ ap (λ (ls : List (List ℕ)). s.lines ++ ls) (whole_lines-line line left (λ k l. first.no_feed k 0 l))))))
+      go (inr h) =
+          let parts : script ≡ s.front ++ line = append_assoc s.front s.pending part ∙ ap (λ (xs : List ℕ). s.front ++ xs) h.0 in
+          breaks (inr (answers (lines_of script) [] (ap lines_of parts ∙ lines_of-more s.front line s.lines so_far first.no_feed h.2), still.at_end h.3, short))
+
+-- every line was answered
+answers_all : (frames limit : ℕ) (reader : Reader) (source_old source_now sink_old sink_now : Option (List ℕ)) (now : State) (lines : List (List ℕ))
+    (s : IsServed frames limit reader source_old source_now sink_old sink_now now) → lines ≡ s.lines → AnswersAll frames lines sink_old sink_now now.content
+answers_all frames limit reader source_old source_now sink_old sink_now now lines s e = record {
+  out = texts s.replies;
+  last = now;
+  legal = record { replies = s.replies; run = subst (λ (ls : List (List ℕ)). Run (empty_state frames) ls s.replies now) (sym e) s.run; text = refl };
+  written = s.written;
+  store = refl;
+}
+
+no_bytes : (xs : List ℕ) → length xs ≡ 0 → xs ≡ []
+no_bytes [] e = refl
+no_bytes (x ∷ xs) e = absurd (omega (arith, e))
+
+-- nothing is pending, and nothing comes
+pub Completes-end : (frames limit : ℕ) (old new : Reader) (source_old source_mid source_new sink_old sink_now : Option (List ℕ)) (now : State)
+    (s : IsServed frames limit old source_old source_mid sink_old sink_now now) (part : List ℕ)
+    → Consumes source_mid source_new part → new.taken ≡ old.taken + length part → IsAtEnd source_new → s.pending ++ part ≡ []
+    → new.taken ≤ new.limit → new.limit ≡ old.limit
+    → Completes frames limit source_old source_new sink_old sink_now now.content
+Completes-end frames limit old new source_old source_mid source_new sink_old sink_now now s part consumes taken at_end none within same =
+    let empty : length s.pending + length part ≡ 0 = omega (arith, length-append s.pending part, ap (λ (xs : List ℕ). length xs) none) in
+    let no_part : part ≡ [] = no_bytes part (omega (arith, empty)) in
+    let no_pending : s.pending ≡ [] = no_bytes s.pending (omega (arith, empty)) in
+    let all : s.front ++ s.pending ≡ s.front = ap (λ (xs : List ℕ). s.front ++ xs) no_pending ∙ append-nil s.front in
+    record {
+      script = s.front;
+      given = subst (Consumes source_old source_new) (ap (λ (xs : List ℕ). (s.front ++ s.pending) ++ xs) no_part ∙ (append-nil (s.front ++ s.pending) ∙ all))
+          (Consumes-trans source_old source_mid source_new (s.front ++ s.pending) part s.given consumes);
+      ended = at_end;
+      short = s.within;
+      answers = answers_all frames limit old source_old source_mid sink_old sink_now now (lines_of s.front) s (go s.split);
+    } where
+      go : (AreLines s.front s.lines ⊎ AreAll old s.front s.pending s.lines) → lines_of s.front ≡ s.lines
+      go (inl so_far) = lines_of-all s.front s.lines so_far
+      go (inr whole) = whole.each
+
+-- the bytes that are left hold no line feed, and the script doesn't end there
+pub StopsReading-there : (frames limit : ℕ) (old new : Reader) (source_old source_mid source_new sink_old sink_now : Option (List ℕ)) (now : State)
+    (s : IsServed frames limit old source_old source_mid sink_old sink_now now) (part : List ℕ)
+    → Consumes source_mid source_new part → new.taken ≡ old.taken + length part → HasNoFeed (s.pending ++ part) → (old.ended ≡ true → ⊥)
+    → new.taken ≤ new.limit → new.limit ≡ old.limit
+    → StopsReading frames limit source_old source_new sink_old sink_now now.content
+StopsReading-there frames limit old new source_old source_mid source_new sink_old sink_now now s part consumes taken none going within same =
+    let parts : (s.front ++ s.pending) ++ part ≡ s.front ++ (s.pending ++ part) = append_assoc s.front s.pending part in
+    record {
+      script = (s.front ++ s.pending) ++ part;
+      given = Consumes-trans source_old source_mid source_new (s.front ++ s.pending) part s.given consumes;
+      short = omega (arith, within, taken, s.taken, length-append (s.front ++ s.pending) part, same, s.bounded);
+      answers = answers_all frames limit old source_old source_mid sink_old sink_now now (whole_lines ((s.front ++ s.pending) ++ part)) s
+          (ap whole_lines parts ∙ whole_lines-rest s.front (s.pending ++ part) s.lines (go s.split) none);
+    } where
+      go : (AreLines s.front s.lines ⊎ AreAll old s.front s.pending s.lines) → AreLines s.front s.lines
+      go (inl so_far) = so_far
+      go (inr whole) = absurd (going whole.ended)
+
+-- one byte over the limit was taken, and no line feed is left before it
+pub ReachesLimit-there : (frames limit : ℕ) (old new : Reader) (source_old source_mid source_new sink_old sink_now : Option (List ℕ)) (now : State)
+    (s : IsServed frames limit old source_old source_mid sink_old sink_now now) (part : List ℕ)
+    → Consumes source_mid source_new part → new.taken ≡ old.taken + length part → HasNoFeed (take (length (s.pending ++ part) - 1) (s.pending ++ part))
+    → (old.ended ≡ true → new.taken ≡ old.taken) → new.taken ≡ new.limit + 1 → new.limit ≡ old.limit
+    → ReachesLimit frames limit source_old source_new sink_old sink_now now.content
+ReachesLimit-there frames limit old new source_old source_mid source_new sink_old sink_now now s part consumes taken none going over same =
+    record {
+      script = script;
+      given = Consumes-trans source_old source_mid source_new (s.front ++ s.pending) part s.given consumes;
+      long = long;
+      answers = answers_all frames limit old source_old source_mid sink_old sink_now now (whole_lines (take limit script)) s
+          (ap whole_lines (ap (take limit) (append_assoc s.front s.pending part) ∙ take_behind limit (length bytes - 1) s.front bytes size) ∙ whole_lines-rest s.front (take (length bytes - 1) bytes) s.lines (go s.split) none);
+    } where
+      script : List ℕ
+      script = (s.front ++ s.pending) ++ part
+
+      bytes : List ℕ
+      bytes = s.pending ++ part
+
+      long : length script ≡ limit + 1
+      long = omega (arith, taken, s.taken, length-append (s.front ++ s.pending) part, same, s.bounded, over)
+
+      size : limit ≡ length s.front + (length bytes - 1)
+      size = omega (arith, long, s.within, length-append s.front bytes, ap (λ (xs : List ℕ). length xs) (append_assoc s.front s.pending part))
+
+      go : (AreLines s.front s.lines ⊎ AreAll old s.front s.pending s.lines) → AreLines s.front s.lines
+      go (inl so_far) = so_far
+      go (inr whole) = absurd (omega (arith, going whole.ended, over, same, s.bounded, s.taken, s.within, length-append s.front s.pending, ap (λ (xs : List ℕ). length xs) whole.behind))

@@ -1,0 +1,39 @@
+use Rattle.std.proofs.Common.{◌∙◌, refl, sym, ap, subst, arith}
+use Rattle.std.proofs.lemmas.Grind.{common_steps}
+use Rattle.vm_model.specs.State.{IsGoodState}
+use Rattle.vm_model.proofs.StepLaws.{IsGoodState-empty}
+use Rattle.vm_session.proofs.Beginning.{NothingDone-yet, empty_state-filled, IsServed-fresh, IsReady-fresh}
+use Rattle.vm_session.proofs.serving.serve.Goals as goal
+
+pub returns-in_default-clause-ends : goal.returns-in_default-clause-ends
+returns-in_default-clause-ends g c = NothingDone-yet _ _ _ _ refl c.requires.empty
+
+pub returns-in_default-zeroed-clause-ends : goal.returns-in_default-zeroed-clause-ends
+returns-in_default-zeroed-clause-ends g c = NothingDone-yet _ _ _ _ refl c.requires.empty
+
+pub returns-in_default-fill-clause-ends : goal.returns-in_default-fill-clause-ends
+returns-in_default-fill-clause-ends g c = NothingDone-yet _ _ _ _ c.in_default-fill.ensures.err c.requires.empty
+
+pub loop-status-init : goal.loop-status-init
+loop-status-init g c =
+    let empty = empty_state-filled _ _ c.args.frames c.new-vm.result c.requires.empty c.in-Ok-fill.ensures.ok c.new-vm.ensures in
+    record {
+      served = IsServed-fresh c.args.frames c.args.limit _ _ _ _ c.in-Ok.ensures empty;
+      good = subst IsGoodState (sym empty) (IsGoodState-empty c.args.frames);
+      ready = IsReady-fresh c.args.frames c.args.limit _ _ _ c.in-Ok.ensures empty;
+      limit = ap (λ r. r.limit) c.in-Ok.ensures;
+      room = c.in-Ok-zeroed.ensures;
+      read_later = omega arith;
+      write_later = omega arith;
+    }
+
+pub loop-status-preserved : goal.loop-status-preserved
+loop-status-preserved g c = record {
+  served = c.in_default-next.ensures.served c.args.frames c.args.limit _ _ c.loop-status.invariant.served;
+  good = c.in_default-next.ensures.good;
+  ready = c.in_default-next.ensures.ready;
+  limit = c.in_default-next.ensures.limit ∙ c.loop-status.invariant.limit;
+  room = grind (arith, common_steps, c.loop-status.invariant.room, c.in_default-next.ensures.room, c.as_mut_slice.ensures.len, c.as_mut_slice.ensures.value, c.loop-status.buffer.ok);
+  read_later = omega (arith, c.loop-status.invariant.read_later, c.in_default-next.ensures.read_later);
+  write_later = omega (arith, c.loop-status.invariant.write_later, c.in_default-next.ensures.write_later);
+}

@@ -1,0 +1,46 @@
+-- How far a script was served: which lines were answered, and which bytes are pending in the line reader.
+use Rattle.std.specs.Prelude.{◌≡◌, ℕ, ◌+◌, ◌-◌, ◌≤◌, ◌⊎◌, true, List, [], ◌++◌, length, Option}
+use Rattle.std.specs.Io.KnownBytes.{Appends, Consumes}
+use Rattle.script_io.specs.Reader.{Reader}
+use Rattle.script_io.specs.Fetching.{IsPending}
+use Rattle.vm_model.specs.declared.reply.Reply.{Reply}
+use Rattle.vm_model.specs.State.{State, empty_state}
+use Rattle.vm_model.specs.Text.{texts}
+use Rattle.vm_model.specs.Run.{lines_of, whole_lines, Run}
+
+-- These bytes are these lines, each with its line feed: whatever comes behind them begins a line.
+pub record AreLines (bytes : List ℕ) (lines : List (List ℕ)) : Type 0 where
+  pub each : (rest : List ℕ) → lines_of (bytes ++ rest) ≡ lines ++ lines_of rest
+  pub whole : (rest : List ℕ) → whole_lines (bytes ++ rest) ≡ lines ++ whole_lines rest
+
+-- These bytes are a whole script of these lines: the reader saw the end of its source, and nothing is pending.
+pub record AreAll (reader : Reader) (bytes pending : List ℕ) (lines : List (List ℕ)) : Type 0 where
+  pub each : lines_of bytes ≡ lines
+  pub behind : pending ≡ []
+  pub ended : reader.ended ≡ true
+
+-- The source gave a script: bytes whose lines were answered, and bytes that are pending in the reader. The replies were
+-- written.
+pub record IsServed (frames limit : ℕ) (reader : Reader) (source_old source_now sink_old sink_now : Option (List ℕ)) (now : State) : Type 0 where
+  pub front : List ℕ
+  pub pending : List ℕ
+  pub lines : List (List ℕ)
+  pub given : Consumes source_old source_now (front ++ pending)
+  pub still : IsPending reader source_now pending
+  pub bounded : reader.limit ≡ limit
+  pub taken : reader.taken ≡ length (front ++ pending)
+  pub within : length front ≤ limit
+  pub split : AreLines front lines ⊎ AreAll reader front pending lines
+  pub replies : List Reply
+  pub run : Run (empty_state frames) lines replies now
+  pub written : Appends sink_old sink_now (texts replies)
+
+-- Bytes are pending, and every KOID was given for a byte that was used up.
+pub record IsReady (reader : Reader) (remaining : Option (List ℕ)) (next : ℕ) : Type 0 where
+  pub pending : List ℕ
+  pub still : IsPending reader remaining pending
+  pub koids : next + length pending ≤ reader.taken + 1
+
+-- how many bytes are left to use up, at most
+abbrev pub bytes_left : Reader → ℕ
+bytes_left reader = (reader.limit + 1 - reader.taken) + (reader.lost + length reader.held)

@@ -1,0 +1,69 @@
+//! Serving a script line by line.
+
+ghost use Rattle.std.specs.Prelude.{◌≡◌, ◌+◌, ◌^◌, ◌<◌, ◌≤◌, length, IfOk};
+ghost use Rattle.script_io.specs.Faults.{HasFailed};
+ghost use Rattle.vm_model.specs.Content.{nothing};
+ghost use Rattle.vm_session.specs.Outcome.{EndsAs};
+
+use crate::answers::answer_next;
+use page_store::PageStore;
+use script_io::{Lines, Sink, Source, Status};
+use std::alloc::Global;
+use vm_base::HostMemory;
+use vm_core::Vm;
+
+/// The bytes of the buffer through which replies go.
+const REPLY_ROOM: usize = 16_384;
+
+/// Answers the lines of the script that a source gives, one after another, on a machine with this
+/// many page frames. The replies to a line are pushed whole before the next line is looked at.
+/// `ScriptLimit` where the source gives more than `limit` bytes; then the lines that end within the
+/// limit were answered.
+pub(crate) fn serve<P: PageStore, S: Source, K: Sink>(
+    alloc: Global,
+    frames: u32,
+    limit: u64,
+    store: &mut P,
+    source: &mut S,
+    sink: &mut K,
+) -> Status
+    requires empty { P.content store.old ≡ nothing }
+    requires frames { 1 ≤ frames × frames ≤ 65536 }
+    requires limit { limit + 1 < 2 ^ 63 }
+    ensures ends { EndsAs result frames limit (S.remaining source.old) (S.remaining source.new)
+        (K.contents sink.old) (K.contents sink.new) (P.content store.new) }
+    ensures read_cause { result ≡ Status.ReadFault → HasFailed (S.faults source.old) (S.faults source.new) }
+    ensures write_cause { result ≡ Status.WriteFault → HasFailed (K.faults sink.old) (K.faults sink.new) }
+    ensures host_memory { result ≡ Status.HostMemory → (source.new ≡ source.old) × (sink.new ≡ sink.old) }
+{
+    let Ok(mut lines) = Lines::new(alloc, limit) else {
+        return Status::HostMemory;
+    };
+    let Ok(mut buffer) = zeroed(alloc, REPLY_ROOM) else {
+        return Status::HostMemory;
+    };
+    let Ok(()) = store.fill(frames) else {
+        return Status::HostMemory;
+    };
+    let mut vm = Vm::new(alloc);
+    loop {
+        let next = answer_next(
+            &mut vm,
+            store,
+            &mut lines,
+            source,
+            sink,
+            buffer.as_mut_slice(),
+        );
+        if let Some(status) = next {
+            return status;
+        }
+    }
+}
+
+/// A buffer of this many zeros.
+fn zeroed(alloc: Global, len: usize) -> Result<Vec<u8>, HostMemory>
+    ensures { IfOk result (λ buffer. length buffer.items ≡ len) }
+{
+    vec![in alloc; 0; len].map_err(|_| HostMemory)
+}
