@@ -1,5 +1,5 @@
 -- A line that was fetched, and its replies.
-use Rattle.std.proofs.Common.{◌≡◌, ℕ, ◌+◌, ◌<◌, ◌≤◌, ◌⊎◌, inl, inr, true, cond, List, [], ◌∷◌, ◌++◌, length, Option, Result, Ok, Err, sym, ap, subst, arith}
+use Rattle.std.proofs.Common.{◌≡◌, ℕ, ◌+◌, ◌<◌, ◌≤◌, ◌⊎◌, inl, inr, Bool, true, cond, List, [], ◌∷◌, ◌++◌, length, Option, Result, Ok, Err, sym, ap, subst, arith}
 use Rattle.std.specs.Prelude.{OnOk, OnErr}
 use Rattle.std.specs.Io.KnownBytes.{Appends, Consumes}
 use Rattle.std.proofs.lemmas.List.{length-append}
@@ -94,7 +94,7 @@ BreaksOff-answered frames limit old new source_old source_mid source_new sink_ol
     BreaksOff-more frames limit old new source_old source_mid source_new sink_old sink_mid sink_new before after a.replies a.line a.left s a.part a.consumes a.taken a.still a.first a.within same none a.gives (subst (λ (r : Result T E). Writes r sink_mid sink_new (texts a.replies)) e a.written)
 
 -- a first line is a byte at least
-used_up : (ended : _) (bytes line left : List ℕ) → IsFirstLine ended bytes line left → length left + 1 ≤ length bytes
+pub used_up : (ended : Bool) (bytes line left : List ℕ) → IsFirstLine ended bytes line left → length left + 1 ≤ length bytes
 used_up ended bytes line left first = go first.parts where
   go : ((bytes ≡ line ++ 10 ∷ left) ⊎ ((bytes ≡ line) × (left ≡ []) × (0 < length line) × (ended ≡ true))) → length left + 1 ≤ length bytes
   go (inl e) = omega (arith, ap (λ (xs : List ℕ). length xs) e, length-append line (10 ∷ left))

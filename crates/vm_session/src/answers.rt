@@ -53,7 +53,7 @@ pub fn answer_next<P: PageStore, S: Source, K: Sink>(
 ) -> Option<Status>
     requires good { IsGoodState (state_of (P.content store.old) vm.old) }
     requires ready { IsReady lines.old (S.remaining source.old) (P.content store.old).next }
-    requires limit { lines.old.limit + 1 < 2 ^ 63 }
+    requires limit { lines.old.limit < 2 ^ 63 }
     requires room { 16384 ≤ length buffer.old }
     ensures served { (frames limit : ℕ) (source_old sink_old : Option (List ℕ))
         → IsServed frames limit lines.old source_old (S.remaining source.old) sink_old (K.contents sink.old) (state_of (P.content store.old) vm.old)

@@ -12,6 +12,7 @@ mod session;
 mod words;
 
 pub use script_io::{Status, code};
+pub use serving::serve;
 pub use session::run;
 
 #[cfg(test)]

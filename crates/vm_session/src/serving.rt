@@ -15,11 +15,15 @@ use vm_core::Vm;
 /// The bytes of the buffer through which replies go.
 const REPLY_ROOM: usize = 16_384;
 
-/// Answers the lines of the script that a source gives, one after another, on a machine with this
-/// many page frames. The replies to a line are pushed whole before the next line is looked at.
-/// `ScriptLimit` where the source gives more than `limit` bytes; then the lines that end within the
-/// limit were answered.
-pub(crate) fn serve<P: PageStore, S: Source, K: Sink>(
+/// Answers the lines of the script that a source gives, one after another, on a machine with
+/// `frames` page frames, from 1 to 65,536. The replies to a line are pushed whole before the next
+/// line is looked at, and all bytes that were pulled are used up before more are.
+///
+/// `HostMemory` where the host has too little memory for the buffers and the frames, and then nothing
+/// was read. `ReadFault` and `WriteFault` where the source and the sink fail. `ScriptLimit` where the
+/// source gives more than `limit` bytes, and then the lines that end within them were answered. At
+/// most `limit + 1` bytes are taken of the source.
+pub fn serve<P: PageStore, S: Source, K: Sink>(
     alloc: Global,
     frames: u32,
     limit: u64,
@@ -29,7 +33,7 @@ pub(crate) fn serve<P: PageStore, S: Source, K: Sink>(
 ) -> Status
     requires empty { P.content store.old ≡ nothing }
     requires frames { 1 ≤ frames × frames ≤ 65536 }
-    requires limit { limit + 1 < 2 ^ 63 }
+    requires limit { limit < 2 ^ 63 }
     ensures ends { EndsAs result frames limit (S.remaining source.old) (S.remaining source.new)
         (K.contents sink.old) (K.contents sink.new) (P.content store.new) }
     ensures read_cause { result ≡ Status.ReadFault → HasFailed (S.faults source.old) (S.faults source.new) }

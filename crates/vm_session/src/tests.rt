@@ -1,7 +1,6 @@
 //! Runs over sources and sinks in memory.
 
 use super::*;
-use crate::serving::serve;
 use page_store::FlatStore;
 use script_io::{MemSink, MemSource, Status, SureSource};
 use std::alloc::Global;

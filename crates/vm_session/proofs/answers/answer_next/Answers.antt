@@ -1,7 +1,8 @@
 use Rattle.std.proofs.Common.{◌∙◌, refl, sym, arith}
 use Rattle.vm_core.specs.Vm.{state_of}
+use Rattle.std.proofs.lemmas.List.{length-append}
 use Rattle.vm_session.proofs.Served.{Completes-end, StopsReading-there, ReachesLimit-there}
-use Rattle.vm_session.proofs.Answered.{IsAnswered-line, IsAnswered-long, IsServed-answered, BreaksOff-answered, IsReady-answered, bytes_left-answered}
+use Rattle.vm_session.proofs.Answered.{used_up, IsAnswered-line, IsAnswered-long, IsServed-answered, BreaksOff-answered, IsReady-answered, bytes_left-answered}
 use Rattle.vm_session.proofs.answers.answer_next.Goals.{in-Line, in-TooLong}
 use Rattle.vm_session.proofs.answers.answer_next.Goals as goal
 
@@ -25,7 +26,7 @@ pub answer_line-answered-requires-clause-next : goal.answer_line-answered-requir
 answer_line-answered-requires-clause-next g c =
     let ready = c.requires.ready in
     let f = c.in-Line.ensures.fetches ready.pending ready.still in
-    omega (arith, ready.koids, f.taken, f.fetched.2, c.in-Line.ensures.limit, c.requires.limit)
+    omega (arith, ready.koids, f.taken, f.fetched.2, c.in-Line.ensures.limit, c.requires.limit, used_up _ _ _ _ f.fetched.0, length-append ready.pending f.part)
 
 pub returns-in-Ok-clause-served : goal.returns-in-Ok-clause-served
 returns-in-Ok-clause-served g c = elim c.match-next.branch [
