@@ -10,7 +10,7 @@ pub enum Status {
     Done,
     /// The words of the command line are not those of a run.
     Usage,
-    /// The host had too little memory to begin or to go on.
+    /// The host had too little memory to begin. Nothing was read.
     HostMemory,
     /// Reading the script failed.
     ReadFault,

@@ -25,7 +25,7 @@ pub enum Line {
 }
 
 /// Reads one line of a script, without its line feed. `SyntaxFault` where it has more than 16,384
-/// bytes, or where it is not blank, no comment and no command in its one spelling.
+/// bytes, or where it is not blank, no comment and no command.
 #[tactic(auto, unfolding(vm_model::specs::Reading::reading))]
 pub fn read_line(line: &[u8]) -> Result<Line, SyntaxFault>
     ensures { reading_of result ≡ reading line.now }

@@ -76,6 +76,11 @@ fn scripts_have_their_replies(rt: HostRuntime) -> Result<(), Fail> {
             b"vmo_close v1\nvmo_create v1 1 resizable\nvmo_close v1\nvmo_size v1\nstat\nvmo_close\n",
             b"UNBUILT\nOK\nUNBUILT\nOK 4096\nOK frames=1024 used=0 free=1024 vmos=1\nSYNTAX\n",
         ),
+        // Spellings: what is in the grammar of a line, what is blank, and what is refused.
+        (
+            b"vmo_create v01 1\nvmo_create v1\nvmo_create v1 16 resizable resizable\nVMO_CREATE v1 1\nvmo_create v4294967296 1\nvmo_create v1 18446744073709551616\n  vmo_create\tv1  0x1000 \n# note\n\nvmo_write v1 0 abc\nvmo_write v1 0 AB\nvmo_fill v1 0 1 256\nvmo_read v1 0 1\nvmar_allocate r1 r2 0 4096 specific_overwrite\nvmar_allocate r1 r2 0 4096\n",
+            b"SYNTAX\nSYNTAX\nSYNTAX\nSYNTAX\nSYNTAX\nSYNTAX\nOK\nSYNTAX\nOK\nSYNTAX\nOK ab\nSYNTAX\nUNBUILT\n",
+        ),
         // What one VMO is written, another does not show.
         (
             b"vmo_create v1 4096\nvmo_create v2 4096\nvmo_write v1 0 11\nvmo_write v2 1 22\nvmo_read v1 0 2\nvmo_read v2 0 2\n",
@@ -122,6 +127,7 @@ fn other_words_are_usage(rt: HostRuntime) -> Result<(), Fail> {
     assert!(rt; is_usage(rt.alloc(), &["go"])?);
     assert!(rt; is_usage(rt.alloc(), &["run", "extra"])?);
     assert!(rt; is_usage(rt.alloc(), &["--help"])?);
+    assert!(rt; is_usage(rt.alloc(), &["work", "1"])?);
     assert!(rt; is_usage(rt.alloc(), &["RUN"])?);
     assert!(rt; is_usage(rt.alloc(), &["run", "--frames"])?);
     assert!(rt; is_usage(rt.alloc(), &["run", "--frames", "0"])?);
@@ -223,7 +229,7 @@ fn served(alloc: Global, script: &[u8]) -> Result<(Status, Vec<u8>), Fail> {
     let mut sink = MemSink::new(alloc, ROOM, ROOM, &[])
         .ok()
         .ok_or("room for a sink")?;
-    let status = serve(alloc, 4, 10, &mut store, &mut source, &mut sink);
+    let status = serve(alloc, 1, 10, &mut store, &mut source, &mut sink);
     Ok((status, Vec::from_slice(alloc, sink.bytes())?))
 }
 
@@ -234,32 +240,70 @@ fn a_limit_of_ten_bytes(rt: HostRuntime) -> Result<(), Fail> {
         (
             b"stat\nwrong".as_slice(),
             Status::Done,
-            b"OK frames=4 used=0 free=4 vmos=0\nSYNTAX\n".as_slice(),
+            b"OK frames=1 used=0 free=1 vmos=0\nSYNTAX\n".as_slice(),
         ),
         (
             b"stat\nwrong\n".as_slice(),
             Status::ScriptLimit,
-            b"OK frames=4 used=0 free=4 vmos=0\n".as_slice(),
+            b"OK frames=1 used=0 free=1 vmos=0\n".as_slice(),
         ),
         (
             b"stat\nstat\n".as_slice(),
             Status::Done,
-            b"OK frames=4 used=0 free=4 vmos=0\nOK frames=4 used=0 free=4 vmos=0\n".as_slice(),
+            b"OK frames=1 used=0 free=1 vmos=0\nOK frames=1 used=0 free=1 vmos=0\n".as_slice(),
         ),
         (
-            b"stat\nstat\n\n".as_slice(),
+            b"stat\nstat\nx".as_slice(),
             Status::ScriptLimit,
-            b"OK frames=4 used=0 free=4 vmos=0\nOK frames=4 used=0 free=4 vmos=0\n".as_slice(),
+            b"OK frames=1 used=0 free=1 vmos=0\nOK frames=1 used=0 free=1 vmos=0\n".as_slice(),
         ),
         (
             b"stat\nstat\nstat\nstat\n".as_slice(),
             Status::ScriptLimit,
-            b"OK frames=4 used=0 free=4 vmos=0\nOK frames=4 used=0 free=4 vmos=0\n".as_slice(),
+            b"OK frames=1 used=0 free=1 vmos=0\nOK frames=1 used=0 free=1 vmos=0\n".as_slice(),
         ),
     ] {
         let (status, out) = served(rt.alloc(), script)?;
         assert_eq!(rt; status, want, "of {script:?}");
         assert_eq!(rt; out.as_slice(), replies, "of {script:?}");
+    }
+    Ok(())
+}
+
+/// A line that is too long has one reply, and a line of exactly 16,384 bytes is read.
+#[test]
+fn a_long_line_has_one_reply(rt: HostRuntime) -> Result<(), Fail> {
+    let mut script = vec![in rt.alloc(); b'x'; 16_385]?;
+    script.extend_from_slice(b"\nstat")?;
+    let spaces = vec![in rt.alloc(); b' '; 16_380]?;
+    script.extend_from_slice(spaces.as_slice())?;
+    script.extend_from_slice(b"\nvmo_create v1 1\n")?;
+    let out = replies(rt.alloc(), script.as_slice())?;
+    assert_eq!(rt;
+        out.as_slice(),
+        b"SYNTAX\nOK frames=1024 used=0 free=1024 vmos=0\nOK\n".as_slice()
+    );
+    Ok(())
+}
+
+/// A last piece is a line where the script ends behind it, and none where the next pull fails. A sink
+/// that fails has a front of the replies.
+#[test]
+fn a_last_piece_is_a_line_at_the_end_alone(rt: HostRuntime) -> Result<(), Fail> {
+    for (pull, push, want, taken) in [
+        (9u64, 9u64, Status::Done, b"OK\nOK 4096\n".as_slice()),
+        (2, 9, Status::ReadFault, b"OK\n".as_slice()),
+        (9, 3, Status::WriteFault, b"OK\nOK 4".as_slice()),
+    ] {
+        let mut source = MemSource::new(rt.alloc(), b"vmo_create v1 1\nvmo_size v1", ROOM, &[pull])
+            .ok()
+            .ok_or("room for a source")?;
+        let mut sink = MemSink::new(rt.alloc(), ROOM, 4, &[push])
+            .ok()
+            .ok_or("room for a sink")?;
+        let status = run_words(rt.alloc(), &["run"], &mut source, &mut sink)?;
+        assert_eq!(rt; status, want);
+        assert_eq!(rt; sink.bytes(), taken);
     }
     Ok(())
 }
