@@ -1,0 +1,7 @@
+use Rattle.std.proofs.Common.{rules}
+use Rattle.vm_model.specs.Content.{zeros}
+use Rattle.frame_pool.proofs.frame_pool.blank_frame.Goals as goal
+
+pub returns : goal.returns
+unfolding zeros
+returns c = search rules

@@ -1,0 +1,18 @@
+-- How the fields of the pool are seen, and what holds of them.
+use Rattle.std.specs.Prelude.{◌≤◌}
+use Rattle.std.specs.Vec.{vec_capacity}
+use Rattle.frame_pool.specs.declared.frame_pool.FramePool.TheInside.{Inside}
+use Rattle.frame_pool.specs.Pool.{Pool, IsPool}
+
+abbrev pub pool_of : Inside → Pool
+pool_of a = record {
+  limit = a.limit;
+  buffer = a.buffer.items;
+  idle = a.idle.items;
+}
+
+-- the lists are a pool, and all frames have room in the buffer and in the list of idle ones
+pub record ArePool (a : Inside) : Type 0 where
+  pub pool : IsPool (pool_of a)
+  pub buffer_room : a.limit ≤ vec_capacity a.buffer
+  pub idle_room : a.limit ≤ vec_capacity a.idle
