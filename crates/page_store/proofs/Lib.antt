@@ -1,3 +1,11 @@
 pub mod RowLaws
-pub mod FlatLaws
+pub mod BoundLaws
+pub mod VmoLaws
 pub mod HeldLaws
+pub mod FlatLaws
+pub mod FlatOwning
+pub mod FlatWriting
+pub mod ShareLaws
+pub mod ViewLaws
+pub mod DropLaws
+pub mod SnapshotLaws

@@ -1,11 +1,11 @@
 -- What is found in sorted rows, and what a new row changes.
-use Rattle.std.proofs.Common.{◌≡◌, ◌⊎◌, ℕ, zero, suc, ◌<◌, ◌≤◌, true, false, cond, ◌&&◌, ◌==◌, List, [], ◌∷◌, length, get_or, None, Some, Result, Ok, Err, IfOk, IfErr, refl, sym, ap, ◌∙◌, inl, inr, arith}
+use Rattle.std.proofs.Common.{◌≡◌, ◌⊎◌, ℕ, zero, suc, ◌<◌, ◌≤◌, Bool, true, false, cond, ◌&&◌, ◌==◌, List, [], ◌∷◌, length, get_or, set, None, Some, Result, Ok, Err, IfOk, IfErr, refl, sym, ap, subst, ◌∙◌, inl, inr, arith}
 use Rattle.std.specs.List.{insert, AllWithin}
 use Rattle.std.specs.List.Sorted.{IsNonDecreasingBy, IsSearchInRange, IsBinarySearchResult}
 use Rattle.std.specs.declared.cmp.Ordering.{Ordering}
 use Rattle.std.specs.declared.cmp.Ordering.TheVariants.{Less, Equal, Greater}
 use Rattle.std.specs.Ordering.{nat_cmp, ordering_then, ordering_index}
-use Rattle.std.proofs.lemmas.Bool.{cases_Bool, cases_order, and_from}
+use Rattle.std.proofs.lemmas.Bool.{cases_order, and_from}
 use Rattle.std.proofs.lemmas.Bool.Decides.{nat_tests, Decides-eqb}
 use Rattle.page_store.specs.declared.rows.Row.{Row}
 use Rattle.page_store.specs.Rows.{row_cmp, find_row, AllBehind, IsSorted, IsRowFor, IsGapFor}
@@ -17,6 +17,9 @@ page_cmp v p w q = ordering_then (nat_cmp w v) (nat_cmp q p)
 
 pub cmp_same : (v p w q : ℕ) → page_cmp v p w q ≡ Equal → (w ≡ v) × (q ≡ p)
 cmp_same v p w q e = grind (arith, nat_tests)
+
+pub cmp_itself : (v p : ℕ) → page_cmp v p v p ≡ Equal
+cmp_itself v p = grind (arith, nat_tests)
 
 pub cmp_apart_less : (v p w q : ℕ) → page_cmp v p w q ≡ Less → ((w == v) && (q == p)) ≡ false
 cmp_apart_less v p w q e = grind (arith, nat_tests)
@@ -79,15 +82,17 @@ sorted_at (row ∷ rows) s zero (suc j) d l h = behind_at row.koid.0 row.page ro
 sorted_at (row ∷ rows) s (suc i) zero d l h = absurd (omega arith)
 sorted_at (row ∷ rows) s (suc i) (suc j) d l h = sorted_at rows (sorted_parts row rows s).1 i j d (omega arith) (omega arith)
 
+-- numbers that do not fall from an element to a later one
+pub rises_from : {X : Type 0} (f : X → ℕ) (xs : List X) → ((i j : ℕ) (d : X) → i < j → j < length xs → f (get_or xs i d) ≤ f (get_or xs j d)) → IsNonDecreasingBy f xs
+rises_from f xs later i j d le h = elim (cases_order i j) [
+  | inl same ↦ let e : f (get_or xs i d) ≡ f (get_or xs j d) = ap (λ (k : ℕ). f (get_or xs k d)) same in omega arith
+  | inr other ↦ elim other [ inl less ↦ later i j d less h | inr more ↦ absurd (omega arith) ]
+]
+
 -- so a binary search may be made
 pub comparisons_rise : (rows : List Row) → IsSorted rows → (v p : ℕ) → IsNonDecreasingBy (λ row. ordering_index (row_cmp v p row)) rows
-comparisons_rise rows s v p i j d le h = elim (cases_order i j) [
-  | inl same ↦ let e : ordering_index (row_cmp v p (get_or rows i d)) ≡ ordering_index (row_cmp v p (get_or rows j d)) = ap (λ (k : ℕ). ordering_index (row_cmp v p (get_or rows k d))) same in omega arith
-  | inr other ↦ elim other [
-    | inl less ↦ cmp_rises v p (get_or rows i d).koid.0 (get_or rows i d).page (get_or rows j d).koid.0 (get_or rows j d).page (sorted_at rows s i j d less h)
-    | inr more ↦ absurd (omega arith)
-  ]
-]
+comparisons_rise rows s v p = rises_from (λ row. ordering_index (row_cmp v p row)) rows (λ i j d less h.
+    cmp_rises v p (get_or rows i d).koid.0 (get_or rows i d).page (get_or rows j d).koid.0 (get_or rows j d).page (sorted_at rows s i j d less h))
 
 -- the row that stands at the page's place is found
 pub find_row-at : (rows : List Row) → IsSorted rows → (v p i : ℕ) → IsRowFor rows v p i → (d : Row) → find_row v p rows ≡ Some (get_or rows i d)
@@ -124,27 +129,36 @@ find_row-gap rows v p i gap = find_row-none rows v p (λ k h d. elim (cases_orde
 swapped : (a b : ℕ) → (a == b) ≡ (b == a)
 swapped a b = grind (arith, nat_tests)
 
+swapped_row : (w q : ℕ) (row : Row) → ((row.koid.0 == w) && (row.page == q)) ≡ ((w == row.koid.0) && (q == row.page))
+swapped_row w q row = ap (λ b. b && (row.page == q)) (swapped row.koid.0 w) ∙ ap (λ b. (w == row.koid.0) && b) (swapped row.page q)
+
+-- the order of two tests that do not both pass
+pub swap_cond : {X : Type 0} (a b : Bool) (x y z : X) → (a ≡ true → b ≡ true → ⊥) → cond a x (cond b y z) ≡ cond b y (cond a x z)
+swap_cond true true x y z apart = absurd (apart refl refl)
+swap_cond true false x y z apart = refl
+swap_cond false b x y z apart = refl
+
+-- a test that was made already
+once : {X : Type 0} (b : Bool) (x y z : X) → cond b x z ≡ cond b x (cond b y z)
+once true x y z = refl
+once false x y z = refl
+
 pub find_row-insert : (rows : List Row) (i : ℕ) (row : Row) → AllWithin (λ other. row_cmp row.koid.0 row.page other ≡ Less) rows 0 i → (w q : ℕ) →
     find_row w q (insert rows i row) ≡ cond ((w == row.koid.0) && (q == row.page)) (Some row) (find_row w q rows)
 find_row-insert rows zero row before w q =
     find_row-cons w q row rows
-    ∙ ap (λ b. cond b (Some row) (find_row w q rows)) (ap (λ b. b && (row.page == q)) (swapped row.koid.0 w) ∙ ap (λ b. (w == row.koid.0) && b) (swapped row.page q))
+    ∙ ap (λ b. cond b (Some row) (find_row w q rows)) (swapped_row w q row)
 find_row-insert [] (suc i) row before w q =
     find_row-cons w q row []
-    ∙ ap (λ b. cond b (Some row) (find_row w q [])) (ap (λ b. b && (row.page == q)) (swapped row.koid.0 w) ∙ ap (λ b. (w == row.koid.0) && b) (swapped row.page q))
+    ∙ ap (λ b. cond b (Some row) (find_row w q [])) (swapped_row w q row)
 find_row-insert (first ∷ rows) (suc i) row before w q =
     let rest = find_row-insert rows i row (λ k d l h. before (suc k) d (omega arith) (omega arith)) w q in
     let less : page_cmp row.koid.0 row.page first.koid.0 first.page ≡ Less = before 0 first (omega arith) (omega arith) in
-    find_row-cons w q first (insert rows i row) ∙ (ap (λ o. cond ((first.koid.0 == w) && (first.page == q)) (Some first) o) rest ∙ elim (cases_Bool ((first.koid.0 == w) && (first.page == q))) [
-      | inl here ↦
-          let apart : ((w == row.koid.0) && (q == row.page)) ≡ false = grind (arith, nat_tests) in
-          ap (λ b. cond b (Some first) (cond ((w == row.koid.0) && (q == row.page)) (Some row) (find_row w q rows))) here
-          ∙ (sym (find_row-here w q first rows here)
-          ∙ ap (λ b. cond b (Some row) (find_row w q (first ∷ rows))) (sym apart))
-      | inr there ↦
-          ap (λ b. cond b (Some first) (cond ((w == row.koid.0) && (q == row.page)) (Some row) (find_row w q rows))) there
-          ∙ ap (λ o. cond ((w == row.koid.0) && (q == row.page)) (Some row) o) (sym (find_row-skip w q first rows there))
-    ])
+    find_row-cons w q first (insert rows i row)
+    ∙ (ap (λ o. cond ((first.koid.0 == w) && (first.page == q)) (Some first) o) rest
+    ∙ (swap_cond ((first.koid.0 == w) && (first.page == q)) ((w == row.koid.0) && (q == row.page)) (Some first) (Some row) (find_row w q rows)
+    (λ here there. grind (arith, nat_tests))
+    ∙ ap (λ o. cond ((w == row.koid.0) && (q == row.page)) (Some row) o) (sym (find_row-cons w q first rows))))
 
 -- and the rows stay sorted
 behind_insert : (v p : ℕ) (rows : List Row) (i : ℕ) (row : Row) → AllBehind v p rows → row_cmp v p row ≡ Greater → AllBehind v p (insert rows i row)
@@ -164,6 +178,55 @@ sorted_insert (first ∷ rows) (suc i) row s gap =
       before = λ k d l m. gap.before (suc k) d (omega arith) (omega arith);
       behind = λ k d l m. gap.behind (suc k) d (omega arith) (omega arith);
     }))
+
+-- ---- a row with another frame
+
+-- the row at i is for the page of this row
+pub record IsRowAgain (rows : List Row) (i : ℕ) (row : Row) : Type 0 where
+  pub in_range : i < length rows
+  pub koid : (d : Row) → (get_or rows i d).koid.0 ≡ row.koid.0
+  pub page : (d : Row) → (get_or rows i d).page ≡ row.page
+
+behind_set : (v p : ℕ) (rows : List Row) (i : ℕ) (row : Row) → AllBehind v p rows → IsRowAgain rows i row → AllBehind v p (set rows i row)
+behind_set v p [] i row all again = tt
+behind_set v p (first ∷ rows) zero row all again =
+    (ap (λ (w : ℕ). page_cmp v p w row.page) (sym (again.koid first)) ∙ (ap (λ (q : ℕ). page_cmp v p first.koid.0 q) (sym (again.page first)) ∙ all.0), all.1)
+behind_set v p (first ∷ rows) (suc i) row all again =
+    (all.0, behind_set v p rows i row all.1 (record { in_range = let h = again.in_range in omega arith; koid = again.koid; page = again.page }))
+
+pub sorted_set : (rows : List Row) (i : ℕ) (row : Row) → IsSorted rows → IsRowAgain rows i row → IsSorted (set rows i row)
+sorted_set [] i row s again = sorted_nil
+sorted_set (first ∷ rows) zero row s again =
+    let parts = sorted_parts first rows s in
+    sorted_from row rows (subst (λ (w : ℕ). AllBehind w row.page rows) (again.koid first) (subst (λ (q : ℕ). AllBehind first.koid.0 q rows) (again.page first) parts.0)) parts.1
+sorted_set (first ∷ rows) (suc i) row s again =
+    let parts = sorted_parts first rows s in
+    let rest : IsRowAgain rows i row = record { in_range = let h = again.in_range in omega arith; koid = again.koid; page = again.page } in
+    sorted_from first (set rows i row) (behind_set first.koid.0 first.page rows i row parts.0 rest) (sorted_set rows i row parts.1 rest)
+
+-- it is found at its page, and at every other page what was found
+pub find_row-set : (rows : List Row) (i : ℕ) (row : Row) → IsSorted rows → IsRowAgain rows i row → (w q : ℕ) →
+    find_row w q (set rows i row) ≡ cond ((w == row.koid.0) && (q == row.page)) (Some row) (find_row w q rows)
+find_row-set [] i row s again w q = absurd (let h = again.in_range in omega arith)
+find_row-set (first ∷ rows) zero row s again w q =
+    let same = swapped_row w q row in
+    let was : ((first.koid.0 == w) && (first.page == q)) ≡ ((w == row.koid.0) && (q == row.page)) =
+    ap (λ (u : ℕ). (u == w) && (first.page == q)) (again.koid first) ∙ (ap (λ (r : ℕ). (row.koid.0 == w) && (r == q)) (again.page first) ∙ same) in
+    find_row-cons w q row rows
+    ∙ (ap (λ b. cond b (Some row) (find_row w q rows)) same
+    ∙ (once ((w == row.koid.0) && (q == row.page)) (Some row) (Some first) (find_row w q rows)
+    ∙ ap (λ o. cond ((w == row.koid.0) && (q == row.page)) (Some row) o) (sym (find_row-cons w q first rows ∙ ap (λ b. cond b (Some first) (find_row w q rows)) was))))
+find_row-set (first ∷ rows) (suc i) row s again w q =
+    let rest : IsRowAgain rows i row = record { in_range = let h = again.in_range in omega arith; koid = again.koid; page = again.page } in
+    let behind : page_cmp first.koid.0 first.page (get_or rows i first).koid.0 (get_or rows i first).page ≡ Greater =
+    behind_at first.koid.0 first.page rows (sorted_parts first rows s).0 i first rest.in_range in
+    let koid = again.koid first in
+    let page = again.page first in
+    find_row-cons w q first (set rows i row)
+    ∙ (ap (λ o. cond ((first.koid.0 == w) && (first.page == q)) (Some first) o) (find_row-set rows i row (sorted_parts first rows s).1 rest w q)
+    ∙ (swap_cond ((first.koid.0 == w) && (first.page == q)) ((w == row.koid.0) && (q == row.page)) (Some first) (Some row) (find_row w q rows)
+    (λ here there. grind (arith, nat_tests))
+    ∙ ap (λ o. cond ((w == row.koid.0) && (q == row.page)) (Some row) o) (sym (find_row-cons w q first rows))))
 
 -- ---- what a binary search answers
 

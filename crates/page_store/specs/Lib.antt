@@ -1,4 +1,6 @@
 pub mod Pages
 pub mod Rows
+pub mod Vmos
+pub mod Shares
 pub mod Flat
 pub mod FlatFields

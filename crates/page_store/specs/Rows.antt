@@ -1,5 +1,5 @@
 -- Rows of held pages in the order of koids and page numbers.
-use Rattle.std.specs.Prelude.{◌≡◌, ℕ, ◌<◌, ◌≤◌, ◌==◌, ◌&&◌, List, [], ◌∷◌, length, if◌then◌else◌, Option, None, Some}
+use Rattle.std.specs.Prelude.{◌≡◌, ◌≢◌, ℕ, ◌<◌, ◌≤◌, ◌==◌, ◌&&◌, List, [], ◌∷◌, length, if◌then◌else◌, Option, None, Some}
 use Rattle.std.specs.List.{AllWithin, HoldsAt}
 use Rattle.std.specs.declared.cmp.Ordering.{Ordering}
 use Rattle.std.specs.declared.cmp.Ordering.TheVariants.{Less, Equal, Greater}
@@ -35,3 +35,21 @@ pub record IsGapFor (rows : List Row) (v p i : ℕ) : Type 0 where
   pub in_range : i ≤ length rows
   pub before : AllWithin (λ row. row_cmp v p row ≡ Less) rows 0 i
   pub behind : AllWithin (λ row. row_cmp v p row ≡ Greater) rows i (length rows)
+
+-- the rows before i are before page p of v, and those from i on are not
+pub record IsBoundFor (rows : List Row) (v p i : ℕ) : Type 0 where
+  pub in_range : i ≤ length rows
+  pub before : AllWithin (λ row. row_cmp v p row ≡ Less) rows 0 i
+  pub behind : AllWithin (λ row. row_cmp v p row ≢ Less) rows i (length rows)
+
+-- the row is that of a page of v from page p to below q
+abbrev pub IsWithin : ℕ → ℕ → ℕ → Row → Type 0
+IsWithin v p q row = (row.koid.0 ≡ v) × (p ≤ row.page) × (row.page < q)
+
+-- the rows from one place to another are those of the pages of v from page p to below q
+pub record AreRowsWithin (rows : List Row) (v p q from end : ℕ) : Type 0 where
+  pub order : from ≤ end
+  pub range : end ≤ length rows
+  pub before : AllWithin (λ row. IsWithin v p q row → ⊥) rows 0 from
+  pub within : AllWithin (IsWithin v p q) rows from end
+  pub behind : AllWithin (λ row. IsWithin v p q row → ⊥) rows end (length rows)

@@ -1,29 +1,37 @@
-//! The plain store: one sorted list of the pages that are held.
+//! The plain store: one sorted list of the pages that are held, and a share count for each frame.
 
-ghost use Rattle.std.specs.Prelude.{◌≡◌, ◌+◌, ◌≤◌, length};
-ghost use Rattle.vm_model.specs.Content.{nothing, zeros};
-ghost use Rattle.vm_model.specs.Writing.{replaced};
+ghost use Rattle.std.specs.Prelude.{◌≡◌, ℕ, ◌+◌, ◌<◌, ◌≤◌, ◌⊎◌, true, length};
+ghost use Rattle.vm_model.specs.Content.{nothing, pages_of, used, sole};
+ghost use Rattle.vm_model.specs.Owning.{Owns};
+ghost use Rattle.frame_pool.specs.Pool.{frame_count, taken_count, Takes};
+ghost use Rattle.page_store.specs.Rows.{IsRowFor, IsGapFor};
 ghost use Rattle.page_store.specs.Flat.{content_of};
 
 use crate::page_store::{Look, PageStore};
-use crate::rows::{Row, find};
+use crate::rows::{Row, find, rows_within};
+use crate::sharing::{first_with, release_rows, share_rows};
+use crate::vmos::{Vmo, find_vmo};
+use frame_pool::FramePool;
 use std::alloc::Global;
 use std::marker::Model;
 use vm_base::{HostMemory, Koid, PageNo, Tag};
 
-/// A page store whose held pages are one sorted list. Each page that is held has a frame of its own,
-/// and nothing is given back, so the frames in use are those with the lowest tags. Looking a page up
-/// takes a binary search, and owning one moves the rows behind it.
+/// A page store whose held pages are one sorted list. VMOs share page frames: a snapshot adds rows
+/// for the pages that it sees and copies no byte, and a share count for each frame says whether a
+/// page is sole. Looking a page up takes a binary search, owning a page that is zero moves the rows
+/// behind it, and a VMO that is dropped costs its rows and the move of those behind them.
 #[derive(Drop)]
 pub struct FlatStore {
-    /// How many page frames the machine has.
-    limit: u32,
-    /// The page count of each VMO. The first VMO has koid 1.
-    counts: Vec<PageNo>,
+    /// The page frames. A frame is taken while some VMO shows it.
+    pool: FramePool,
+    /// The koid of the next VMO. The first has koid 1, and none is given twice.
+    next: u64,
+    /// The VMOs, by koid.
+    vmos: Vec<Vmo>,
     /// The pages that are held, by koid and then by page number.
     rows: Vec<Row>,
-    /// The bytes of the frames in use, by tag.
-    frames: Vec<[u8; 4096]>,
+    /// How many VMOs show each frame, by tag.
+    shares: Vec<u64>,
 }
 
 impl Model for FlatStore {
@@ -44,11 +52,48 @@ impl FlatStore {
         ensures content { ⟦<FlatStore as PageStore>⟧.content result ≡ nothing }
     {
         FlatStore {
-            limit: 0,
-            counts: Vec::new(alloc),
+            pool: FramePool::new(alloc),
+            next: 1,
+            vmos: Vec::new(alloc),
             rows: Vec::new(alloc),
-            frames: Vec::new(alloc),
+            shares: Vec::new(alloc),
         }
+    }
+
+    // Gives a page that is zero a frame. Its row would stand at `at`.
+    fn own_zero(&mut self, v: Koid, page: PageNo, at: usize) -> Tag
+        requires gap { IsGapFor self.old.rows v.0 page at }
+        requires page { page < pages_of (content_of self.old) v.0 }
+        requires row { 1 ≤ self.old.spare }
+        requires frame { used (content_of self.old) < (content_of self.old).frames }
+        ensures owns { Owns (content_of self.old) (content_of self.new) v.0 page result.0 }
+        ensures spare { self.old.spare ≤ self.new.spare + 1 }
+    {
+        let tag = take_free(&mut self.pool);
+        // There is room for the row: `reserve` took it.
+        let _ = self.rows.insert(at, Row { koid: v, page, tag });
+        self.shares[tag.0 as usize] = 1;
+        tag
+    }
+
+    // Gives the page of the row at `at` a frame of its own, where other VMOs show its frame too.
+    fn own_held(&mut self, at: usize) -> Tag
+        requires row { at < length self.old.rows }
+        requires room { (v p : ℕ) → IsRowFor self.old.rows v p at → (sole (content_of self.old) v p ≡ true)
+            ⊎ (used (content_of self.old) < (content_of self.old).frames) }
+        ensures owns { (v p : ℕ) → IsRowFor self.old.rows v p at → Owns (content_of self.old) (content_of self.new) v p result.0 }
+        ensures spare { self.new.spare ≡ self.old.spare }
+    {
+        let shown = self.rows[at].tag;
+        if self.shares[shown.0 as usize] == 1 {
+            return shown;
+        }
+        let tag = take_free(&mut self.pool);
+        self.pool.copy(shown, tag);
+        self.shares[shown.0 as usize] -= 1;
+        self.shares[tag.0 as usize] = 1;
+        self.rows[at].tag = tag;
+        tag
     }
 }
 
@@ -58,22 +103,45 @@ impl PageStore for FlatStore {
     ghost spare = { λ f. f.spare };
 
     fn fill(&mut self, frames: u32) -> Result<(), HostMemory> {
-        // The memory is taken here, and touched when a frame is first used.
-        match self.frames.reserve_exact(frames as usize) {
-            Ok(()) => {
-                self.limit = frames;
-                Ok(())
-            }
-            Err(_) => Err(HostMemory),
-        }
+        let Ok(()) = self.shares.reserve_exact(frames as usize) else {
+            return Err(HostMemory);
+        };
+        let Ok(()) = self.pool.fill(frames) else {
+            return Err(HostMemory);
+        };
+        // The room for the counts is there.
+        let _ = self.shares.resize(frames as usize, 0);
+        Ok(())
     }
 
     fn create(&mut self, count: PageNo) -> Result<Koid, HostMemory> {
-        let koid = Koid(self.counts.len() as u64 + 1);
-        match self.counts.push(count) {
-            Ok(()) => Ok(koid),
-            Err(_) => Err(HostMemory),
-        }
+        let koid = Koid(self.next);
+        let Ok(()) = self.vmos.push(Vmo { koid, count }) else {
+            return Err(HostMemory);
+        };
+        self.next += 1;
+        Ok(koid)
+    }
+
+    fn snapshot(
+        &mut self,
+        of: Koid,
+        first: PageNo,
+        seen: PageNo,
+        count: PageNo,
+    ) -> Result<Koid, HostMemory> {
+        let (from, end) = rows_within(&self.rows, of, first, first + seen);
+        // All memory is taken before anything is changed.
+        let Ok(()) = self.rows.reserve(end - from) else {
+            return Err(HostMemory);
+        };
+        let koid = Koid(self.next);
+        let Ok(()) = self.vmos.push(Vmo { koid, count }) else {
+            return Err(HostMemory);
+        };
+        self.next += 1;
+        share_rows(&mut self.rows, &mut self.shares, from, end, koid, first);
+        Ok(koid)
     }
 
     fn reserve(&mut self, n: u64) -> Result<(), HostMemory> {
@@ -85,65 +153,73 @@ impl PageStore for FlatStore {
 
     fn look(&self, v: Koid, page: PageNo) -> Look {
         match find(&self.rows, v, page) {
-            Ok(at) => Look::Held {
-                tag: self.rows[at].tag,
-                sole: true,
-            },
+            Ok(at) => {
+                let tag = self.rows[at].tag;
+                Look::Held {
+                    tag,
+                    sole: self.shares[tag.0 as usize] == 1,
+                }
+            }
             Err(_) => Look::Zero,
         }
     }
 
     fn own(&mut self, v: Koid, page: PageNo) -> Tag {
         match find(&self.rows, v, page) {
-            Ok(at) => self.rows[at].tag,
-            Err(at) => {
-                let tag = Tag(self.frames.len() as u32);
-                // There is room for both: `reserve` took the row's, and `fill` the frame's.
-                let _ = self.rows.insert(at, Row { koid: v, page, tag });
-                let _ = self.frames.push(zero_frame());
-                tag
-            }
+            Ok(at) => self.own_held(at),
+            Err(at) => self.own_zero(v, page, at),
         }
     }
 
     fn count(&self, v: Koid) -> PageNo {
-        self.counts[v.0 as usize - 1]
+        self.vmos[find_vmo(&self.vmos, v)].count
+    }
+
+    fn drop_vmo(&mut self, v: Koid) {
+        let at = find_vmo(&self.vmos, v);
+        let (from, end) = rows_within(&self.rows, v, 0, self.vmos[at].count);
+        release_rows(&self.rows[from..end], &mut self.shares, &mut self.pool);
+        self.rows.drain(from..end);
+        self.vmos.remove(at);
     }
 
     fn read(&self, tag: Tag, at: u64, out: &mut [u8]) {
-        let from = at as usize;
-        let end = from + out.len();
-        out.copy_from_slice(&self.frames[tag.0 as usize][from..end]);
+        self.pool.read(tag, at, out);
     }
 
     fn write(&mut self, tag: Tag, at: u64, bytes: &[u8]) {
-        overwrite(&mut self.frames[tag.0 as usize], at as usize, bytes);
+        self.pool.write(tag, at, bytes);
+    }
+
+    fn least_viewer(&self, tag: Tag) -> Koid {
+        self.rows[first_with(&self.rows, tag)].koid
+    }
+
+    fn viewers(&self, v: Koid, page: PageNo) -> u64 {
+        match find(&self.rows, v, page) {
+            Ok(at) => self.shares[self.rows[at].tag.0 as usize],
+            Err(_) => 0,
+        }
     }
 
     fn frames(&self) -> u32 {
-        self.limit
+        self.pool.frames()
     }
 
     fn free(&self) -> u32 {
-        self.limit - self.frames.len() as u32
+        self.pool.free()
     }
 
     fn vmos(&self) -> u64 {
-        self.counts.len() as u64
+        self.vmos.len() as u64
     }
 }
 
-/// The bytes of a frame that was not written yet.
-fn zero_frame() -> [u8; 4096]
-    ensures { result ≡ zeros }
+/// Takes a free frame, of which there is one.
+fn take_free(pool: &mut FramePool) -> Tag
+    requires { taken_count pool.old < frame_count pool.old }
+    ensures frames { frame_count pool.new ≡ frame_count pool.old }
+    ensures takes { Takes pool.old pool.new result.0 }
 {
-    [0; 4096]
-}
-
-/// Puts bytes into a frame, from `at` bytes into it on.
-fn overwrite(frame: &mut [u8; 4096], at: usize, bytes: &[u8])
-    requires { at + length bytes.now ≤ 4096 }
-    ensures { frame.new ≡ replaced frame.old at bytes.now }
-{
-    frame[at..at + bytes.len()].copy_from_slice(bytes);
+    pool.take().unwrap()
 }

@@ -8,6 +8,8 @@
 mod flat_store;
 mod page_store;
 mod rows;
+mod sharing;
+mod vmos;
 
 pub use flat_store::FlatStore;
 pub use page_store::{Look, PageStore};

@@ -1,9 +1,10 @@
 //! The contract of a store of pages.
 
-ghost use Rattle.std.specs.Prelude.{◌≡◌, ℕ, ◌+◌, ◌-◌, ◌^◌, ◌<◌, ◌≤◌, ◌⊎◌, true, false, length, IsSome, Some, IfOk, OnOk, OnErr};
+ghost use Rattle.std.specs.Prelude.{◌≡◌, ℕ, ◌+◌, ◌-◌, ◌^◌, ◌<◌, ◌≤◌, ◌⊎◌, true, false, length, IsSome, Some, IfSome, IfOk, OnOk, OnErr};
 ghost use Rattle.vm_model.specs.Search.{count_below};
 ghost use Rattle.vm_model.specs.Content.{Content, nothing, used, sole, pages_of, created, vmos_of};
 ghost use Rattle.vm_model.specs.Owning.{Owns};
+ghost use Rattle.vm_model.specs.Sharing.{viewers, IsLeastViewer, snapshotted, without};
 ghost use Rattle.page_store.specs.Pages.{look_at, IsShown, IsShownOnce, AreBytesOf, Overwrites};
 
 use vm_base::{HostMemory, Koid, PageNo, Tag};
@@ -45,6 +46,26 @@ pub trait PageStore: Drop {
         ensures ok { OnOk result (content self.new ≡ created (content self.old) count) }
         ensures err { OnErr result (content self.new ≡ content self.old) };
 
+    /// Makes a snapshot of a VMO under the next koid, and answers the koid. It has `count` pages. Of
+    /// these the first `seen` are the pages of `of` from `first` on: they show the same frames, and no
+    /// byte is copied. The others are zero. `HostMemory` where the host has too little memory, and
+    /// then nothing was changed.
+    fn snapshot(
+        &mut self,
+        of: Koid,
+        first: PageNo,
+        seen: PageNo,
+        count: PageNo,
+    ) -> Result<Koid, HostMemory>
+        requires vmo { IsSome ((content self.old).count of.0) }
+        requires count { count ≤ 16777216 }
+        requires seen { seen ≤ count }
+        requires range { first + seen ≤ pages_of (content self.old) of.0 }
+        requires next { (content self.old).next < 2 ^ 63 }
+        ensures koid { IfOk result (λ v. v.0 ≡ (content self.old).next) }
+        ensures ok { OnOk result (content self.new ≡ snapshotted (content self.old) of.0 first seen count) }
+        ensures err { OnErr result (content self.new ≡ content self.old) };
+
     /// Makes room for owning `n` pages. `HostMemory` where the host has too little memory.
     fn reserve(&mut self, n: u64) -> Result<(), HostMemory>
         ensures room { OnOk result (n ≤ spare self.new) }
@@ -69,6 +90,11 @@ pub trait PageStore: Drop {
         requires { IsSome ((content self.now).count v.0) }
         ensures { (content self.now).count v.0 ≡ Some result };
 
+    /// Takes a VMO out of the store with its pages. The frames that no other VMO shows are free then.
+    fn drop_vmo(&mut self, v: Koid)
+        requires { IsSome ((content self.old).count v.0) }
+        ensures { content self.new ≡ without (content self.old) v.0 };
+
     /// Reads bytes of a frame that some page shows, from `at` bytes into the page on.
     fn read(&self, tag: Tag, at: u64, out: &mut [u8])
         requires shown { IsShown (content self.now) tag.0 }
@@ -81,6 +107,17 @@ pub trait PageStore: Drop {
         requires range { at + length bytes.now ≤ 4096 }
         ensures bytes { Overwrites (content self.old) (content self.new) tag.0 at bytes.now }
         ensures spare { spare self.new ≡ spare self.old };
+
+    /// The least koid that shows a frame, which some page shows. That VMO is charged for it.
+    fn least_viewer(&self, tag: Tag) -> Koid
+        requires { IsShown (content self.now) tag.0 }
+        ensures { IsLeastViewer (content self.now) tag.0 result.0 };
+
+    /// How many VMOs show the frame of a page that is held.
+    fn viewers(&self, v: Koid, page: PageNo) -> u64
+        requires page { page < pages_of (content self.now) v.0 }
+        requires held { IsSome ((content self.now).page v.0 page) }
+        ensures { IfSome ((content self.now).page v.0 page) (λ held. result ≡ viewers (content self.now) held.tag) };
 
     /// How many page frames the machine has.
     fn frames(&self) -> u32

@@ -1,6 +1,7 @@
 pub mod SearchLaws
 pub mod ContentLaws
 pub mod OwningLaws
+pub mod SharingLaws
 pub mod RangeLaws
 pub mod WritingLaws
 pub mod StepLaws

@@ -1,6 +1,7 @@
 -- Laws of searching and counting below a bound.
 use Rattle.std.proofs.Common.{◌≡◌, ◌≢◌, ℕ, zero, suc, ◌+◌, ◌<◌, ◌≤◌, Bool, true, false, cond, ◌||◌, ◌⊎◌, refl, sym, ap, ◌∙◌, inl, inr, arith}
-use Rattle.std.proofs.lemmas.Bool.{cases_order, cases_Bool, or_cases, or_parts, or_from, or_left, or_right}
+use Rattle.std.specs.Prelude.{nat_lt}
+use Rattle.std.proofs.lemmas.Bool.{cases_order, cases_Bool, or_cases, or_parts, or_from, or_left, or_right, lt-ltb}
 use Rattle.vm_model.specs.Search.{any_below, count_below}
 
 -- a number below n + 1 is n or below n
@@ -117,3 +118,42 @@ count_below_room (suc n) p h = elim (cases_Bool (p n)) [
       (found.0, omega (arith, found.1), found.2)
   | inr miss ↦ (n, omega arith, miss)
 ]
+
+-- a number is found where more than none count
+pub any_below-count : (n : ℕ) (p : ℕ → Bool) → any_below n p ≡ nat_lt 0 (count_below n p)
+unfolding any_below count_below
+any_below-count zero p = refl
+any_below-count (suc n) p = go (p n) (any_below n p) (count_below n p) (any_below-count n p) where
+  go : (b x : Bool) (m : ℕ) → x ≡ nat_lt 0 m → (b || x) ≡ nat_lt 0 (cond b 1 0 + m)
+  go true x m e = sym (lt-ltb 0 (1 + m) (omega arith))
+  go false x m e = e ∙ ap (nat_lt 0) (omega arith)
+
+-- equal tests, equal bits
+pub bit_same : (a b : Bool) → a ≡ b → ◌≡◌ {A = ℕ} (cond a 1 0) (cond b 1 0)
+bit_same a b e = ap (λ (c : Bool). cond {A = ℕ} c 1 0) e
+
+pub bit-true : (b : Bool) → b ≡ true → ◌≡◌ {A = ℕ} (cond b 1 0) 1
+bit-true b e = bit_same b true e
+
+pub bit-false : (b : Bool) → b ≡ false → ◌≡◌ {A = ℕ} (cond b 1 0) 0
+bit-false b e = bit_same b false e
+
+-- where the tests differ at one number at most, the counts differ by its bits
+pub count_below_change : (n k : ℕ) (p q : ℕ → Bool) → k < n → ((j : ℕ) → j < n → j ≢ k → q j ≡ p j) → count_below n q + cond (p k) 1 0 ≡ count_below n p + cond (q k) 1 0
+unfolding count_below
+count_below_change zero k p q h others = absurd (omega arith)
+count_below_change (suc n) k p q h others = elim (below_next k n h) [
+  | inl same ↦
+      let rest = count_below_same n q p (λ j l. others j (omega arith) (omega arith)) in
+      let was = bit_same (p k) (p n) (ap p same) in
+      let is = bit_same (q k) (q n) (ap q same) in
+      omega (arith, rest, was, is)
+  | inr less ↦
+      let rest = count_below_change n k p q less (λ j l. others j (omega arith)) in
+      let top = bit_same (q n) (p n) (others n (omega arith) (omega arith)) in
+      omega (arith, rest, top)
+]
+
+-- equal bounds, equal counts
+pub count_below-bound : (m n : ℕ) (p : ℕ → Bool) → m ≡ n → count_below m p ≡ count_below n p
+count_below-bound m n p e = ap (λ (k : ℕ). count_below k p) e

@@ -1,6 +1,7 @@
 pub mod Search
 pub mod Content
 pub mod Owning
+pub mod Sharing
 pub mod Writing
 pub mod State
 pub mod Refusals

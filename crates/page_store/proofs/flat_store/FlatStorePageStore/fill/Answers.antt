@@ -1,13 +1,23 @@
-use Rattle.std.proofs.Common.{arith}
-use Rattle.page_store.proofs.FlatLaws.{IsFlat-filled, content_of-limit}
+use Rattle.std.proofs.Common.{ℕ, ◌∙◌, ap, arith}
+use Rattle.std.proofs.lemmas.Bool.{cond-true}
+use Rattle.page_store.specs.Flat.{content_of}
+use Rattle.page_store.specs.FlatFields.{flat_of}
+use Rattle.page_store.proofs.FlatLaws.{no_frames, no_shares, IsFlat-filled, content_of-filled}
 use Rattle.page_store.proofs.flat_store.FlatStorePageStore.fill.Goals as goal
 
--- the store was empty, and all frames have room now
-pub invariant_of-self : goal.invariant_of-self
-invariant_of-self c = record {
-  flat = rw c.reserve_exact.ensures.items (IsFlat-filled _ c.args.frames c.self.invariant.flat (rw (← c.self.view_is) at c.requires.empty));
-  room = omega (arith, c.in-Ok.ensures.ok);
-}
+pub fill-requires-clause-empty : goal.fill-requires-clause-empty
+fill-requires-clause-empty c = no_frames _ (rw (← c.self.view_is) at c.requires.empty)
 
-pub returns-in-Ok-clause-ok : goal.returns-in-Ok-clause-ok
-returns-in-Ok-clause-ok c = rw (c.reserve_exact.ensures.items, ← c.self.view_is) (content_of-limit _ _)
+-- the store was empty, and the counts had room
+pub invariant_of-self-2 : goal.invariant_of-self-2
+invariant_of-self-2 c =
+    let empty = rw (← c.self.view_is) at c.requires.empty in
+    let none = no_shares _ c.self.invariant.flat empty in
+    let made = c.in-Ok-fill.ensures in
+    let items = c.resize.ensures.items ∙ cond-true _ _ _ (c.resize.ensures.succeeds (omega (arith, c.in-Ok.ensures.ok))) in
+    record { flat = rw (items, c.reserve_exact.ensures.items) (IsFlat-filled _ _ _ _ empty c.self.invariant.flat made.frames made.bytes (omega (arith, none, c.reserve_exact.ensures.len, c.self.inside.shares.ok.0))) }
+
+pub returns-clause-ok : goal.returns-clause-ok
+returns-clause-ok c =
+    rw (← c.self.view_is) (content_of-filled _ _ _ (rw (← c.self.view_is) at c.requires.empty)
+    ∙ ap (λ (n : ℕ). record (content_of (flat_of c.self.inside)) { frames = n }) c.in-Ok-fill.ensures.frames)

@@ -1,0 +1,259 @@
+-- Where the rows of a VMO and of a range of its pages stand, and what is found in a part of the rows.
+use Rattle.std.proofs.Common.{◌≡◌, ◌≢◌, ℕ, zero, suc, ◌+◌, ◌<◌, ◌≤◌, false, cond, ◌&&◌, ◌==◌, List, [], ◌∷◌, ◌++◌, length, get_or, take, drop, Option, None, Some, refl, sym, ap, subst, ◌∙◌, inl, inr, arith}
+use Rattle.std.specs.List.{All, AllWithin, slice_range}
+use Rattle.std.specs.declared.cmp.Ordering.{Ordering}
+use Rattle.std.specs.declared.cmp.Ordering.TheVariants.{Less, Equal, Greater}
+use Rattle.std.proofs.lemmas.Bool.{cases_Bool, cases_order, cases_lt, and_parts, and_left, and_right, eqb-true, ne_eqb, false_from_ne_true}
+use Rattle.std.proofs.lemmas.Bool.Decides.{nat_tests}
+use Rattle.std.proofs.lemmas.List.{length-take-le, get_or-take, get_or-drop, length-drop, get_or_default}
+use Rattle.std.proofs.lemmas.List.Edits.{length-between, get_or-between, split_between}
+use Rattle.page_store.specs.declared.rows.Row.{Row}
+use Rattle.page_store.specs.Rows.{row_cmp, find_row, AllBehind, IsSorted, IsRowFor, IsBoundFor, IsWithin, AreRowsWithin}
+use Rattle.page_store.proofs.RowLaws.{page_cmp, cmp_itself, sorted_at, sorted_nil, find_row-at}
+
+-- ---- bounds
+
+cmp_before_same : (v p w q x y : ℕ) → page_cmp v p x y ≡ Equal → page_cmp w q x y ≡ Greater → page_cmp v p w q ≡ Less
+cmp_before_same v p w q x y e f = grind (arith, nat_tests)
+
+cmp_behind_same : (v p w q x y : ℕ) → page_cmp v p x y ≡ Equal → page_cmp x y w q ≡ Greater → page_cmp v p w q ≢ Less
+cmp_behind_same v p w q x y e f less = grind (arith, nat_tests)
+
+cmp_equal : (o : Ordering) → o ≡ Equal → o ≢ Less
+cmp_equal o e f = cc
+
+cmp_greater : (o : Ordering) → o ≡ Greater → o ≢ Less
+cmp_greater o e f = cc
+
+-- a row that is there is its page's bound
+pub bound_at_row : (rows : List Row) → IsSorted rows → (v p i : ℕ) → IsRowFor rows v p i → IsBoundFor rows v p i
+bound_at_row rows s v p i at = let h = at.in_range in record {
+  in_range = omega arith;
+  before = λ k d l m.
+      cmp_before_same v p (get_or rows k d).koid.0 (get_or rows k d).page (get_or rows i d).koid.0 (get_or rows i d).page (at.is d) (sorted_at rows s k i d m h);
+  behind = λ k d l m. elim (cases_order i k) [
+    | inl same ↦ cmp_equal (row_cmp v p (get_or rows k d)) (ap (λ (j : ℕ). row_cmp v p (get_or rows j d)) (sym same) ∙ at.is d)
+    | inr other ↦ elim other [
+      | inl less ↦ cmp_behind_same v p (get_or rows k d).koid.0 (get_or rows k d).page (get_or rows i d).koid.0 (get_or rows i d).page (at.is d) (sorted_at rows s i k d less m)
+      | inr more ↦ absurd (omega arith)
+    ]
+  ];
+}
+
+-- ---- the place of two bounds
+
+no_row : Row
+no_row = record { koid = record { 0 = 0 }; page = 0; tag = record { 0 = 0 } }
+
+cmp_between : (v p w q x y : ℕ) → page_cmp v p x y ≡ Less → page_cmp w q x y ≢ Less → page_cmp v p w q ≢ Less → ⊥
+cmp_between v p w q x y e f g = grind (arith, nat_tests)
+
+-- the bound of a page is not behind that of a later page
+pub bounds_order : (rows : List Row) (v p w q i j : ℕ) → IsBoundFor rows v p i → IsBoundFor rows w q j → page_cmp v p w q ≢ Less → i ≤ j
+bounds_order rows v p w q i j first last order = elim (cases_lt j i) [
+  | inr le ↦ le
+  | inl less ↦
+      let row = get_or rows j no_row in
+      let h = first.in_range in
+      absurd (cmp_between v p w q row.koid.0 row.page (first.before j no_row (omega arith) less) (last.behind j no_row (omega arith) (omega arith)) order)
+]
+
+later_page : (v p q : ℕ) → p ≤ q → page_cmp v p v q ≢ Less
+later_page v p q h e = grind (arith, nat_tests)
+
+cmp_within : (v p q w r : ℕ) → page_cmp v p w r ≢ Less → page_cmp v q w r ≡ Less → (w ≡ v) × (p ≤ r) × (r < q)
+cmp_within v p q w r e f = grind (arith, nat_tests)
+
+cmp_before : (v p q w r : ℕ) → page_cmp v p w r ≡ Less → (w ≡ v) × (p ≤ r) × (r < q) → ⊥
+cmp_before v p q w r e f = let a = f.0 in let b = f.1 in grind (arith, nat_tests)
+
+cmp_behind : (v p q w r : ℕ) → page_cmp v q w r ≢ Less → (w ≡ v) × (p ≤ r) × (r < q) → ⊥
+cmp_behind v p q w r e f = let a = f.0 in let b = f.2 in grind (arith, nat_tests)
+
+-- the rows between two bounds of one VMO are those of the pages between
+pub rows_from_bounds : (rows : List Row) (v p q i j : ℕ) → IsBoundFor rows v p i → IsBoundFor rows v q j → p ≤ q → AreRowsWithin rows v p q i j
+rows_from_bounds rows v p q i j first last le =
+    let order = bounds_order rows v p v q i j first last (later_page v p q le) in
+    record {
+      order = order;
+      range = last.in_range;
+      before = λ k d l h. cmp_before v p q (get_or rows k d).koid.0 (get_or rows k d).page (first.before k d l h);
+      within = λ k d l h. cmp_within v p q (get_or rows k d).koid.0 (get_or rows k d).page (first.behind k d l (let range = last.in_range in omega arith)) (last.before k d (omega arith) h);
+      behind = λ k d l h. cmp_behind v p q (get_or rows k d).koid.0 (get_or rows k d).page (last.behind k d l h);
+    }
+
+-- ---- what is found in two parts
+
+row_or : Option Row → Option Row → Option Row
+row_or None other = other
+row_or (Some row) other = Some row
+
+find_row-append : (v p : ℕ) (xs ys : List Row) → find_row v p (xs ++ ys) ≡ row_or (find_row v p xs) (find_row v p ys)
+unfolding find_row row_or
+find_row-append v p [] ys = refl
+find_row-append v p (row ∷ rows) ys = elim (cases_Bool ((row.koid.0 == v) && (row.page == p))) [
+  | inl here ↦
+      ap (λ b. cond b (Some row) (find_row v p (rows ++ ys))) here ∙ sym (ap (λ b. row_or (cond b (Some row) (find_row v p rows)) (find_row v p ys)) here)
+  | inr there ↦
+      ap (λ b. cond b (Some row) (find_row v p (rows ++ ys))) there
+      ∙ (find_row-append v p rows ys ∙ sym (ap (λ b. row_or (cond b (Some row) (find_row v p rows)) (find_row v p ys)) there))
+]
+
+pub find_row-right : (v p : ℕ) (xs ys : List Row) → find_row v p xs ≡ None → find_row v p (xs ++ ys) ≡ find_row v p ys
+unfolding row_or
+find_row-right v p xs ys none = find_row-append v p xs ys ∙ ap (λ o. row_or o (find_row v p ys)) none
+
+pub find_row-left : (v p : ℕ) (xs ys : List Row) → find_row v p ys ≡ None → find_row v p (xs ++ ys) ≡ find_row v p xs
+unfolding row_or
+find_row-left v p xs ys none = find_row-append v p xs ys ∙ (ap (λ o. row_or (find_row v p xs) o) none ∙ go (find_row v p xs)) where
+  go : (o : Option Row) → row_or o None ≡ o
+  go None = refl
+  go (Some row) = refl
+
+-- a part in the middle that does not have the page may go
+pub find_row-middle : (v p : ℕ) (xs ys zs : List Row) → find_row v p ys ≡ None → find_row v p (xs ++ zs) ≡ find_row v p (xs ++ (ys ++ zs))
+find_row-middle v p xs ys zs none =
+    find_row-append v p xs zs ∙ (ap (λ o. row_or (find_row v p xs) o) (sym (find_row-right v p ys zs none)) ∙ sym (find_row-append v p xs (ys ++ zs)))
+
+-- where no row is the page's, none is found
+pub find_row-absent : (v p : ℕ) (rows : List Row) → All (λ row. ((row.koid.0 == v) && (row.page == p)) ≡ false) rows → find_row v p rows ≡ None
+unfolding find_row
+find_row-absent v p [] each = refl
+find_row-absent v p (row ∷ rows) each =
+    ap (λ b. cond b (Some row) (find_row v p rows)) (each 0 row (omega arith)) ∙ find_row-absent v p rows (λ k d h. each (suc k) d (omega arith))
+
+-- where all rows are of other VMOs, none is found
+pub find_row-other : (v p : ℕ) (rows : List Row) → All (λ row. row.koid.0 ≢ v) rows → find_row v p rows ≡ None
+find_row-other v p rows each = find_row-absent v p rows (λ k d h. and_left _ _ (ne_eqb (get_or rows k d).koid.0 v (each k d h)))
+
+-- what is found is there
+pub find_row-found : (v p : ℕ) (rows : List Row) (row : Row) → find_row v p rows ≡ Some row → (i : ℕ) × (i < length rows) × ((d : Row) → get_or rows i d ≡ row) × (row.koid.0 ≡ v) × (row.page ≡ p)
+unfolding find_row
+find_row-found v p [] row e = absurd cc
+find_row-found v p (first ∷ rows) row e = elim (cases_Bool ((first.koid.0 == v) && (first.page == p))) [
+  | inl here ↦
+      let now : ◌≡◌ {A = Option Row} (Some first) (Some row) = ap (λ b. cond b (Some first) (find_row v p rows)) (sym here) ∙ e in
+      let is : first ≡ row = cc in
+      let both = and_parts (first.koid.0 == v) (first.page == p) here in
+      (0, omega arith, (λ d. is), ap (λ (r : Row). r.koid.0) (sym is) ∙ eqb-true first.koid.0 v both.0, ap (λ (r : Row). r.page) (sym is) ∙ eqb-true first.page p both.1)
+  | inr there ↦
+      let found = find_row-found v p rows row (ap (λ b. cond b (Some first) (find_row v p rows)) (sym there) ∙ e) in
+      (suc found.0, omega (arith, found.1), found.2, found.3, found.4)
+]
+
+-- and each row is found at its page
+pub find_row-each : (rows : List Row) → IsSorted rows → (i : ℕ) (d : Row) → i < length rows → find_row (get_or rows i d).koid.0 (get_or rows i d).page rows ≡ Some (get_or rows i d)
+find_row-each rows s i d h =
+    let row = get_or rows i d in
+    find_row-at rows s row.koid.0 row.page i (record {
+      in_range = h;
+      is = λ e. ap (λ (r : Row). row_cmp row.koid.0 row.page r) (get_or_default rows i e d h) ∙ cmp_itself row.koid.0 row.page;
+    }) d
+
+-- ---- the order of parts
+
+pub sorted_split : (row : Row) (rows : List Row) → IsSorted (row ∷ rows) → AllBehind row.koid.0 row.page rows × IsSorted rows
+unfolding IsSorted
+sorted_split row rows s = s
+
+pub sorted_join : (row : Row) (rows : List Row) → AllBehind row.koid.0 row.page rows → IsSorted rows → IsSorted (row ∷ rows)
+unfolding IsSorted
+sorted_join row rows behind s = (behind, s)
+
+behind_append : (v p : ℕ) (xs ys : List Row) → AllBehind v p xs → AllBehind v p ys → AllBehind v p (xs ++ ys)
+behind_append v p [] ys left right = right
+behind_append v p (row ∷ rows) ys left right = (left.0, behind_append v p rows ys left.1 right)
+
+behind_parts : (v p : ℕ) (xs ys : List Row) → AllBehind v p (xs ++ ys) → AllBehind v p xs × AllBehind v p ys
+behind_parts v p [] ys all = (tt, all)
+behind_parts v p (row ∷ rows) ys all = let rest = behind_parts v p rows ys all.1 in ((all.0, rest.0), rest.1)
+
+-- two parts of sorted rows
+pub record AreSorted (xs ys : List Row) : Type 0 where
+  pub left : IsSorted xs
+  pub right : IsSorted ys
+  pub across : All (λ row. AllBehind row.koid.0 row.page ys) xs
+
+pub sorted_append : (xs ys : List Row) → AreSorted xs ys → IsSorted (xs ++ ys)
+sorted_append [] ys parts = parts.right
+sorted_append (row ∷ rows) ys parts =
+    let first = sorted_split row rows parts.left in
+    sorted_join row (rows ++ ys) (behind_append row.koid.0 row.page rows ys first.0 (parts.across 0 row (omega arith)))
+    (sorted_append rows ys (record { left = first.1; right = parts.right; across = λ k d h. parts.across (suc k) d (omega arith) }))
+
+pub sorted_apart : (xs ys : List Row) → IsSorted (xs ++ ys) → AreSorted xs ys
+sorted_apart [] ys s = record { left = sorted_nil; right = s; across = λ k d h. absurd (omega arith) }
+sorted_apart (row ∷ rows) ys s =
+    let first = sorted_split row (rows ++ ys) s in
+    let behind = behind_parts row.koid.0 row.page rows ys first.0 in
+    let rest = sorted_apart rows ys first.1 in
+    record {
+      left = sorted_join row rows behind.0 rest.left;
+      right = rest.right;
+      across = go behind.1 rest.across;
+    } where
+      go : AllBehind row.koid.0 row.page ys → All (λ r. AllBehind r.koid.0 r.page ys) rows → All (λ r. AllBehind r.koid.0 r.page ys) (row ∷ rows)
+      go here there zero d h = here
+      go here there (suc k) d h = there k d (omega arith)
+
+-- a part in the middle may go
+pub sorted_middle : (xs ys zs : List Row) → IsSorted (xs ++ (ys ++ zs)) → IsSorted (xs ++ zs)
+sorted_middle xs ys zs s =
+    let outer = sorted_apart xs (ys ++ zs) s in
+    sorted_append xs zs (record {
+      left = outer.left;
+      right = (sorted_apart ys zs outer.right).right;
+      across = λ k d h. (behind_parts (get_or xs k d).koid.0 (get_or xs k d).page ys zs (outer.across k d h)).1;
+    })
+
+-- ---- the three parts that two bounds make
+
+pub part_before : (P : Row → Type 0) (rows : List Row) (i : ℕ) → AllWithin P rows 0 i → i ≤ length rows → All P (take i rows)
+part_before P rows i each le k d h =
+    let low : k < i = omega (arith, length-take-le i rows le) in
+    subst P (sym (get_or-take i rows k d low)) (each k d (omega arith) low)
+
+pub part_behind : (P : Row → Type 0) (rows : List Row) (i : ℕ) → AllWithin P rows i (length rows) → All P (drop i rows)
+part_behind P rows i each k d h = subst P (sym (get_or-drop i rows k d)) (each (i + k) d (omega arith) (omega (arith, length-drop i rows)))
+
+pub part_within : (P : Row → Type 0) (rows : List Row) (i j : ℕ) → AllWithin P rows i j → j ≤ length rows → All P (slice_range rows i j)
+part_within P rows i j each le k d h =
+    let low : i + k < j = omega (arith, length-between rows i j le) in
+    subst P (sym (get_or-between rows i j k d low)) (each (i + k) d (omega arith) low)
+
+pub sorted_range : (rows : List Row) (i j : ℕ) → IsSorted rows → i ≤ j → IsSorted (slice_range rows i j)
+sorted_range rows i j s le =
+    let outer = sorted_apart (take i rows) (slice_range rows i j ++ drop j rows) (subst IsSorted (split_between rows i j le) s) in
+    (sorted_apart (slice_range rows i j) (drop j rows) outer.right).left
+
+-- ---- what is found among the rows of a range
+
+not_within : (v p q x : ℕ) (row : Row) → (IsWithin v p q row → ⊥) → p ≤ x → x < q → ((row.koid.0 == v) && (row.page == x)) ≡ false
+not_within v p q x row apart low high = false_from_ne_true ((row.koid.0 == v) && (row.page == x)) (λ e.
+    let both = and_parts (row.koid.0 == v) (row.page == x) e in
+    let page = eqb-true row.page x both.1 in
+    apart (eqb-true row.koid.0 v both.0, omega arith, omega arith))
+
+module _ (rows : List Row) (v p q from end : ℕ) (are : AreRowsWithin rows v p q from end) where
+  start_below : from ≤ length rows
+  start_below = let order = are.order in let range = are.range in omega arith
+
+  -- a page of the range is found among its rows
+  pub find_row-range : (x : ℕ) → p ≤ x → x < q → find_row v x (slice_range rows from end) ≡ find_row v x rows
+  find_row-range x low high =
+      let before = find_row-absent v x (take from rows) (part_before (λ row. ((row.koid.0 == v) && (row.page == x)) ≡ false) rows from
+      (λ k d l h. not_within v p q x (get_or rows k d) (are.before k d l h) low high) start_below) in
+      let behind = find_row-absent v x (drop end rows) (part_behind (λ row. ((row.koid.0 == v) && (row.page == x)) ≡ false) rows end
+      (λ k d l h. not_within v p q x (get_or rows k d) (are.behind k d l h) low high)) in
+      sym (find_row-left v x (slice_range rows from end) (drop end rows) behind)
+      ∙ (sym (find_row-right v x (take from rows) (slice_range rows from end ++ drop end rows) before) ∙ ap (find_row v x) (sym (split_between rows from end are.order)))
+
+  pub range_within : All (IsWithin v p q) (slice_range rows from end)
+  range_within = part_within (IsWithin v p q) rows from end are.within are.range
+
+  -- and no other is
+  pub find_row-past : (x : ℕ) → q ≤ x → find_row v x (slice_range rows from end) ≡ None
+  find_row-past x past = find_row-absent v x (slice_range rows from end) (λ k d h.
+      let row = get_or (slice_range rows from end) k d in
+      let low = (range_within k d h).2 in
+      and_right (row.koid.0 == v) (row.page == x) (ne_eqb row.page x (λ e. omega arith)))

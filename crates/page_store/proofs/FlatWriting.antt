@@ -1,0 +1,84 @@
+-- Bytes written to a frame that one page of the plain store shows.
+use Rattle.std.proofs.Common.{◌≡◌, ℕ, ◌+◌, ◌≤◌, Bool, true, false, cond, ◌&&◌, ◌==◌, List, length, Option, Some, refl, sym, ap, ◌∙◌, inl, inr, arith}
+use Rattle.std.specs.Prelude.{is_some, nat_lt}
+use Rattle.std.proofs.lemmas.Bool.{cases_Bool, and_parts, and_from, eqb-true, eq-eqb}
+use Rattle.vm_base.specs.declared.pages.TheConstants.{PAGE}
+use Rattle.frame_pool.specs.Pool.{Pool, frame_count, bytes_at, bytes_of, with_bytes}
+use Rattle.vm_model.specs.Content.{Page, Content, hold}
+use Rattle.vm_model.specs.Writing.{replaced}
+use Rattle.vm_model.proofs.ContentLaws.{sole_from, IsGood-hold_bytes}
+use Rattle.vm_model.proofs.RangeLaws.{length-replaced}
+use Rattle.vm_model.proofs.SharingLaws.{viewers-hold_bytes}
+use Rattle.page_store.specs.Rows.{find_row}
+use Rattle.page_store.specs.Pages.{ShowsTag, IsShown, IsShownOnce, Overwrites}
+use Rattle.page_store.specs.Flat.{Flat, page_of_row, content_of, IsFlat}
+use Rattle.page_store.proofs.FlatLaws.{same_content, page-content, page_from, page_of_row-some, page_of_row_found, flat_from, taken_viewers, shown_taken, shown_bytes}
+use Rattle.page_store.proofs.FlatOwning.{page_of_row-other, page_of_row-here, vmos_of-hold}
+
+pub is_shown : (c : Content) (t : ℕ) → IsShownOnce c t → IsShown c t
+is_shown c t once = record { v = once.v; p = once.p; held = once.held; shows = once.shows.shows }
+
+-- whichever page shows the frame, no other does
+alone : (c : Content) (t v p : ℕ) (held : Page) → IsShownOnce c t → ShowsTag c t v p held → (w q : ℕ) (other : Page) → ShowsTag c t w q other → (w ≡ v) × (q ≡ p)
+alone c t v p held once shows w q other others =
+    let here = once.shows.alone v p held shows in
+    let there = once.shows.alone w q other others in
+    (there.0 ∙ sym here.0, there.1 ∙ sym here.1)
+
+abbrev with_replaced : Page → ℕ → List ℕ → Page
+with_replaced held at bytes = record held { bytes = replaced held.bytes at bytes }
+
+module _ (f : Flat) (pool : Pool) (t at : ℕ) (bytes : List ℕ) (flat : IsFlat f) (once : IsShownOnce (content_of f) t) (frames : frame_count pool ≡ frame_count f.pool)
+    (frame : bytes_at pool ≡ with_bytes (bytes_at f.pool) t (replaced (bytes_of f.pool t) at bytes)) where
+  page_written : (v p : ℕ) (held : Page) → ShowsTag (content_of f) t v p held → (w q : ℕ) →
+      page_of_row pool (find_row w q f.rows) ≡ cond ((w == v) && (q == p)) (Some (with_replaced held at bytes)) (page_of_row f.pool (find_row w q f.rows))
+  page_written v p held shows w q = elim (cases_Bool ((w == v) && (q == p))) [
+    | inl here ↦
+        let both = and_parts (w == v) (q == p) here in
+        let is : (content_of f).page w q ≡ Some held =
+        ap (λ (u : ℕ). (content_of f).page u q) (eqb-true w v both.0) ∙ (ap (λ (r : ℕ). (content_of f).page v r) (eqb-true q p both.1) ∙ shows.page) in
+        let found = page_of_row_found f.pool (find_row w q f.rows) held (sym (page-content f w q) ∙ is) in
+        let tag : (found.0).tag.0 ≡ t = ap (λ (page : Page). page.tag) found.2 ∙ shows.tag in
+        let frame_here : bytes_at pool ≡ with_bytes (bytes_at f.pool) (found.0).tag.0 (replaced (bytes_of f.pool t) at bytes) =
+        frame ∙ ap (λ (u : ℕ). with_bytes (bytes_at f.pool) u (replaced (bytes_of f.pool t) at bytes)) (sym tag) in
+        let pages : ◌≡◌ {A = Page} (record { tag = (found.0).tag.0; bytes = replaced (bytes_of f.pool t) at bytes }) (with_replaced held at bytes) =
+        λ i. record { tag = (ap (λ (page : Page). page.tag) found.2) i; bytes = replaced (shown_bytes f t v p held flat shows i) at bytes } in
+        ap (page_of_row pool) found.1
+        ∙ (page_of_row-here f.pool pool found.0 (replaced (bytes_of f.pool t) at bytes) frame_here
+        ∙ (ap (λ (page : Page). Some page) pages
+        ∙ ap (λ b. cond b (Some (with_replaced held at bytes)) (page_of_row f.pool (find_row w q f.rows))) (sym here)))
+    | inr there ↦
+        page_of_row-other f.pool pool t (replaced (bytes_of f.pool t) at bytes) frame (find_row w q f.rows) (λ row found same.
+        let is : (content_of f).page w q ≡ Some (page_from f.pool row) = page-content f w q ∙ (ap (page_of_row f.pool) found ∙ page_of_row-some f.pool row) in
+        let one = alone (content_of f) t v p held once shows w q (page_from f.pool row) (record { page = is; tag = same }) in
+        let test = and_from (w == v) (q == p) (eq-eqb w v one.0) (eq-eqb q p one.1) in
+        let clash : ◌≡◌ {A = Bool} true false = sym test ∙ there in absurd cc)
+        ∙ ap (λ b. cond b (Some (with_replaced held at bytes)) (page_of_row f.pool (find_row w q f.rows))) (sym there)
+  ]
+
+  pub overwrites : Overwrites (content_of f) (content_of (record f { pool = pool })) t at bytes
+  unfolding content_of hold
+  overwrites v p held shows = same_content _ _ frames refl (λ w. refl) (page_written v p held shows)
+
+  pub IsFlat-overwritten : at + length bytes ≤ PAGE → IsFlat (record f { pool = pool })
+  IsFlat-overwritten range =
+      let shows = once.shows.shows in
+      let held : Page = once.held in
+      let other : Page = with_replaced once.held at bytes in
+      let old_length : length held.bytes ≡ PAGE = flat.good.whole once.v once.p once.held shows.page in
+      let whole : length other.bytes ≡ PAGE = length-replaced held.bytes at bytes (omega arith) ∙ old_length in
+      let sole_before = sole_from (content_of f) once.v once.p once.held shows.page (λ w q third apart g same. apart (once.shows.alone w q third (record { page = g; tag = same ∙ shows.tag })).0) in
+      let kept = viewers-hold_bytes (content_of f) once.v once.p once.held (with_replaced once.held at bytes) flat.good shows.page refl in
+      flat_from (record f { pool = pool }) (hold (content_of f) once.v once.p (with_replaced once.held at bytes)) (overwrites once.v once.p once.held shows) flat.sorted flat.ascending
+      (IsGood-hold_bytes (content_of f) once.v once.p once.held (with_replaced once.held at bytes) flat.good sole_before shows.page refl whole)
+      (vmos_of-hold (content_of f) once.v once.p (with_replaced once.held at bytes) ∙ flat.vmos) (flat.counts ∙ sym frames)
+      (λ u h. flat.shares u (omega (arith, frames)) ∙ sym (kept u))
+      (λ u. ap (λ (m : ℕ → Option (List ℕ)). is_some (m u)) frame ∙ (still u ∙ (taken_viewers f flat u ∙ ap (λ (n : ℕ). nat_lt 0 n) (sym (kept u)))))
+    where
+      still : (u : ℕ) → is_some (with_bytes (bytes_at f.pool) t (replaced (bytes_of f.pool t) at bytes) u) ≡ is_some (bytes_at f.pool u)
+      still u = elim (cases_Bool (u == t)) [
+        | inl same ↦
+            ap (λ b. is_some (cond b (Some (replaced (bytes_of f.pool t) at bytes)) (bytes_at f.pool u))) same
+            ∙ sym (ap (λ (k : ℕ). is_some (bytes_at f.pool k)) (eqb-true u t same) ∙ shown_taken f t flat (is_shown (content_of f) t once))
+        | inr other ↦ ap (λ b. is_some (cond b (Some (replaced (bytes_of f.pool t) at bytes)) (bytes_at f.pool u))) other
+      ]

@@ -1,0 +1,218 @@
+-- The plain store with a snapshot: which content its lists stand for, and that they stay a plain store.
+use Rattle.std.proofs.Common.{◌≡◌, ◌≢◌, ℕ, suc, ◌+◌, ◌-◌, ◌^◌, ◌<◌, ◌≤◌, cond, ◌&&◌, ◌==◌, List, [], ◌∷◌, ◌++◌, length, map, get_or, Option, None, Some, is_some, unwrap_or, refl, sym, ap, subst, ◌∙◌, inl, inr, arith}
+use Rattle.std.specs.Prelude.{nat_lt}
+use Rattle.std.specs.List.{All, AllWithin, slice_range}
+use Rattle.std.specs.Option.{option_map}
+use Rattle.std.specs.declared.cmp.Ordering.TheVariants.{Greater}
+use Rattle.std.proofs.lemmas.Bool.{cases_Bool, cases_eq, cases_lt}
+use Rattle.std.proofs.lemmas.Bool.Decides.{nat_tests}
+use Rattle.std.proofs.lemmas.List.{length_push, length-map, get_or-map}
+use Rattle.frame_pool.specs.Pool.{Pool, frame_count, bytes_at}
+use Rattle.vm_base.specs.declared.pages.TheConstants.{VMO_PAGES}
+use Rattle.vm_model.specs.Content.{Content, pages_of, vmos_of, IsGood}
+use Rattle.vm_model.specs.Sharing.{page_seen, snapshotted}
+use Rattle.vm_model.proofs.SharingLaws.{viewers_le, frames-snapshotted, next-snapshotted, count-snapshotted, page-snapshotted_new, page-snapshotted_other, page_seen-in, page_seen-out, IsGood-snapshotted, vmos_of-snapshotted}
+use Rattle.page_store.specs.declared.rows.Row.{Row}
+use Rattle.page_store.specs.declared.vmos.Vmo.{Vmo}
+use Rattle.page_store.specs.Rows.{find_row, AllBehind, IsSorted, AreRowsWithin}
+use Rattle.page_store.specs.Vmos.{count_in, IsAscending}
+use Rattle.page_store.specs.Shares.{rows_with, row_in, Shares, AreCounted}
+use Rattle.page_store.specs.Flat.{Flat, page_of_row, content_of, IsFlat}
+use Rattle.page_store.proofs.RowLaws.{page_cmp}
+use Rattle.page_store.proofs.BoundLaws.{sorted_append, sorted_split, sorted_join, sorted_range, find_row-other, find_row-left, find_row-right, find_row-range, find_row-past, range_within}
+use Rattle.page_store.proofs.ShareLaws.{rows_with-append, rows_with-map, rows_with-range}
+use Rattle.page_store.proofs.VmoLaws.{ascending_push, count_in-push}
+use Rattle.page_store.proofs.FlatLaws.{same_content, frames-content, next-content, count-content, page-content, page_of_row-none, koids_below}
+use Rattle.page_store.proofs.ViewLaws.{row_koids, row_tags, viewers-rows, shares-rows, counted-flat, flat_from_rows}
+
+-- ---- the rows of a snapshot
+
+-- all rows are of v, from the page first on
+abbrev AreFrom : ℕ → ℕ → List Row → Type 0
+AreFrom v first rows = All (λ row. (row.koid.0 ≡ v) × (first ≤ row.page)) rows
+
+shift_test : (koid v first p w q : ℕ) → w ≡ v → first ≤ q → ((koid == koid) && ((q - first) == p)) ≡ ((w == v) && (q == (first + p)))
+shift_test koid v first p w q e h = grind (arith, nat_tests)
+
+-- a page is found among the new rows where the page that it shows is found
+find_row-moved : (koid v first p : ℕ) (rows : List Row) → AreFrom v first rows → find_row koid p (map (row_in koid first) rows) ≡ option_map (row_in koid first) (find_row v (first + p) rows)
+unfolding find_row
+find_row-moved koid v first p [] from = refl
+find_row-moved koid v first p (row ∷ rows) from =
+    let here = from 0 row (omega arith) in
+    let rest = find_row-moved koid v first p rows (λ k d h. from (suc k) d (omega arith)) in
+    let test = shift_test koid v first p row.koid.0 row.page here.0 here.1 in
+    ap (λ b. cond b (Some (row_in koid first row)) (find_row koid p (map (row_in koid first) rows))) test ∙ elim (cases_Bool ((row.koid.0 == v) && (row.page == (first + p)))) [
+      | inl found ↦
+          ap (λ b. cond b (Some (row_in koid first row)) (find_row koid p (map (row_in koid first) rows))) found
+          ∙ sym (ap (λ b. option_map (row_in koid first) (cond b (Some row) (find_row v (first + p) rows))) found)
+      | inr missed ↦
+          ap (λ b. cond b (Some (row_in koid first row)) (find_row koid p (map (row_in koid first) rows))) missed
+          ∙ (rest ∙ sym (ap (λ b. option_map (row_in koid first) (cond b (Some row) (find_row v (first + p) rows))) missed))
+    ]
+
+-- it has the frame of that page
+page_moved : (pool : Pool) (koid first : ℕ) (o : Option Row) → page_of_row pool (option_map (row_in koid first) o) ≡ page_of_row pool o
+unfolding page_of_row
+page_moved pool koid first None = refl
+page_moved pool koid first (Some row) = refl
+
+-- no other VMO has a page there
+find_row-elsewhere : (koid first w p : ℕ) (rows : List Row) → w ≢ koid → find_row w p (map (row_in koid first) rows) ≡ None
+find_row-elsewhere koid first w p rows apart = find_row-other w p (map (row_in koid first) rows) (λ k d h same.
+    let is : (get_or (map (row_in koid first) rows) k d).koid.0 ≡ koid = ap (λ (r : Row). r.koid.0) (get_or-map (row_in koid first) rows k d d (omega (arith, length-map rows (row_in koid first)))) in
+    apart (sym same ∙ is))
+
+cmp_moved : (koid v first w q x y : ℕ) → w ≡ v → first ≤ q → x ≡ v → first ≤ y → page_cmp w q x y ≡ Greater → page_cmp koid (q - first) koid (y - first) ≡ Greater
+cmp_moved koid v first w q x y e h f l behind = grind (arith, nat_tests)
+
+behind_moved : (koid v first : ℕ) (row : Row) (rows : List Row) → row.koid.0 ≡ v → first ≤ row.page → AreFrom v first rows → AllBehind row.koid.0 row.page rows → AllBehind koid (row.page - first) (map (row_in koid first) rows)
+behind_moved koid v first row [] e h from all = tt
+behind_moved koid v first row (other ∷ rows) e h from all =
+    let here = from 0 other (omega arith) in
+    (cmp_moved koid v first row.koid.0 row.page other.koid.0 other.page e h here.0 here.1 all.0, behind_moved koid v first row rows e h (λ k d l. from (suc k) d (omega arith)) all.1)
+
+-- the new rows are sorted
+sorted_moved : (koid v first : ℕ) (rows : List Row) → AreFrom v first rows → IsSorted rows → IsSorted (map (row_in koid first) rows)
+sorted_moved koid v first [] from s = s
+sorted_moved koid v first (row ∷ rows) from s =
+    let here = from 0 row (omega arith) in
+    let rest : AreFrom v first rows = λ k d h. from (suc k) d (omega arith) in
+    let parts = sorted_split row rows s in
+    sorted_join (row_in koid first row) (map (row_in koid first) rows) (behind_moved koid v first row rows here.0 here.1 rest parts.0) (sorted_moved koid v first rows rest parts.1)
+
+cmp_new : (v p koid q : ℕ) → v < koid → page_cmp v p koid q ≡ Greater
+cmp_new v p koid q h = grind (arith, nat_tests)
+
+-- and behind those of earlier VMOs
+behind_new : (v p koid first : ℕ) (rows : List Row) → v < koid → AllBehind v p (map (row_in koid first) rows)
+behind_new v p koid first [] h = tt
+behind_new v p koid first (row ∷ rows) h = (cmp_new v p koid (row.page - first) h, behind_new v p koid first rows h)
+
+-- ---- the store with a snapshot
+
+-- the VMO of the snapshot
+abbrev pub new_vmo : Flat → ℕ → Vmo
+new_vmo f pages = record { koid = record { 0 = f.next }; count = pages }
+
+-- g is f with a snapshot that sees the pages of these rows of v
+pub record IsSnapshot (f g : Flat) (v first seen pages from end : ℕ) : Type 0 where
+  pub are : AreRowsWithin f.rows v first (first + seen) from end
+  pub pool : g.pool ≡ f.pool
+  pub next : g.next ≡ f.next + 1
+  pub vmos : g.vmos ≡ f.vmos ++ new_vmo f pages ∷ []
+  pub rows : g.rows ≡ f.rows ++ map (row_in f.next first) (slice_range f.rows from end)
+  pub shares : Shares (slice_range f.rows from end) f.shares g.shares
+
+positive_sum : (a b : ℕ) → b ≤ a → nat_lt 0 a ≡ nat_lt 0 (a + b)
+positive_sum a b h = grind (arith, nat_tests)
+
+module _ (f g : Flat) (v first seen pages from end : ℕ) (flat : IsFlat f) (new : IsSnapshot f g v first seen pages from end) where
+  seen_from : AreFrom v first (slice_range f.rows from end)
+  seen_from k d h = let within = range_within f.rows v first (first + seen) from end new.are k d h in (within.0, within.1)
+
+  -- a page of the snapshot
+  found_new : (p : ℕ) → find_row f.next p g.rows ≡ option_map (row_in f.next first) (find_row v (first + p) (slice_range f.rows from end))
+  found_new p =
+      let none = find_row-other f.next p f.rows (λ k d h same. let low = row_koids f flat.sorted flat.good k d h in absurd (omega arith)) in
+      ap (find_row f.next p) new.rows
+      ∙ (find_row-right f.next p f.rows (map (row_in f.next first) (slice_range f.rows from end)) none ∙ find_row-moved f.next v first p (slice_range f.rows from end) seen_from)
+
+  page_new : (p : ℕ) → page_of_row g.pool (find_row f.next p g.rows) ≡ page_seen (content_of f) v first seen p
+  page_new p =
+      ap (page_of_row g.pool) (found_new p)
+      ∙ (page_moved g.pool f.next first (find_row v (first + p) (slice_range f.rows from end))
+      ∙ (ap (λ (pool : Pool). page_of_row pool (find_row v (first + p) (slice_range f.rows from end))) new.pool ∙ elim (cases_lt p seen) [
+        | inl low ↦
+            ap (page_of_row f.pool) (find_row-range f.rows v first (first + seen) from end new.are (first + p) (omega arith) (omega arith))
+            ∙ (sym (page-content f v (first + p)) ∙ sym (page_seen-in (content_of f) v first seen p low))
+        | inr past ↦
+            ap (page_of_row f.pool) (find_row-past f.rows v first (first + seen) from end new.are (first + p) (omega arith))
+            ∙ (page_of_row-none f.pool ∙ sym (page_seen-out (content_of f) v first seen p past))
+      ]))
+
+  -- a page of another VMO
+  page_old : (w p : ℕ) → w ≢ f.next → page_of_row g.pool (find_row w p g.rows) ≡ (content_of f).page w p
+  page_old w p apart =
+      ap (page_of_row g.pool) (ap (find_row w p) new.rows ∙ find_row-left w p f.rows (map (row_in f.next first) (slice_range f.rows from end)) (find_row-elsewhere f.next first w p (slice_range f.rows from end) apart))
+      ∙ (ap (λ (pool : Pool). page_of_row pool (find_row w p f.rows)) new.pool ∙ sym (page-content f w p))
+
+  pub content-snapshot : content_of g ≡ snapshotted (content_of f) v first seen pages
+  content-snapshot =
+      let c = content_of f in
+      let next = next-content f in
+      same_content (content_of g) (snapshotted c v first seen pages)
+      (frames-content g ∙ (ap frame_count new.pool ∙ (sym (frames-content f) ∙ sym (frames-snapshotted c v first seen pages))))
+      (omega (arith, next-content g, new.next, next-snapshotted c v first seen pages))
+      (λ w. count-content g w ∙ (ap (count_in w) new.vmos ∙ (count_in-push f.vmos (new_vmo f pages) (koids_below f (new_vmo f pages) flat refl) w
+      ∙ sym (count-snapshotted c v first seen pages w ∙ (ap (λ (n : ℕ). cond (w == n) (Some pages) (c.count w)) next ∙ ap (λ o. cond (w == f.next) (Some pages) o) (count-content f w))))))
+      (λ w p. page-content g w p ∙ elim (cases_eq w f.next) [
+        | inl same ↦
+            ap (λ (u : ℕ). page_of_row g.pool (find_row u p g.rows)) same
+            ∙ (page_new p ∙ sym (ap (λ (u : ℕ). (snapshotted c v first seen pages).page u p) (same ∙ sym next) ∙ page-snapshotted_new c v first seen pages p))
+        | inr apart ↦ page_old w p apart ∙ sym (page-snapshotted_other c v first seen pages w p (λ e. apart (e ∙ next)))
+      ])
+
+  snapshot_sorted : IsSorted g.rows
+  snapshot_sorted = subst IsSorted (sym new.rows) (sorted_append f.rows (map (row_in f.next first) (slice_range f.rows from end)) (record {
+    left = flat.sorted;
+    right = sorted_moved f.next v first (slice_range f.rows from end) seen_from (sorted_range f.rows from end flat.sorted (new.are).order);
+    across = λ k d h. behind_new (get_or f.rows k d).koid.0 (get_or f.rows k d).page f.next first (slice_range f.rows from end) (row_koids f flat.sorted flat.good k d h);
+  }))
+
+  snapshot_counts : (t : ℕ) → get_or g.shares t 0 ≡ rows_with t g.rows
+  snapshot_counts t =
+      let rows : rows_with t g.rows ≡ rows_with t (f.rows ++ map (row_in f.next first) (slice_range f.rows from end)) = ap (rows_with t) new.rows in
+      omega (
+        arith,
+        rows,
+        rows_with-append t f.rows (map (row_in f.next first) (slice_range f.rows from end)),
+        rows_with-map t f.next first (slice_range f.rows from end),
+        (new.shares).counts t,
+        shares-rows f flat t,
+      )
+
+  -- no frame is taken or given back
+  snapshot_counted : AreCounted g.shares g.pool
+  snapshot_counted = record {
+    taken = λ t.
+        let fewer = rows_with-range t f.rows from end (new.are).order in
+        let count = (new.shares).counts t in
+        ap (λ (pool : Pool). is_some (bytes_at pool t)) new.pool
+        ∙ ((counted-flat f flat).taken t ∙ (positive_sum (get_or f.shares t 0) (rows_with t (slice_range f.rows from end)) (omega (arith, shares-rows f flat t)) ∙ ap (nat_lt 0) (sym count)));
+  }
+
+  pub IsFlat-snapshot : seen ≤ pages → pages ≤ VMO_PAGES → IsFlat g
+  IsFlat-snapshot few many =
+      let c = content_of f in
+      let same : vmos_of (content_of g) ≡ vmos_of (snapshotted c v first seen pages) = ap vmos_of content-snapshot in
+      let longer : length g.vmos ≡ length f.vmos + 1 = ap (λ (vmos : List Vmo). length vmos) new.vmos ∙ length_push f.vmos (new_vmo f pages) in
+      flat_from_rows g snapshot_sorted
+      (subst IsAscending (sym new.vmos) (ascending_push f.vmos (new_vmo f pages) flat.ascending (koids_below f (new_vmo f pages) flat refl)))
+      (subst IsGood (sym content-snapshot) (IsGood-snapshotted c v first seen pages flat.good few many))
+      (omega (arith, same, longer, vmos_of-snapshotted c v first seen pages flat.good, flat.vmos))
+      ((new.shares).size ∙ (flat.counts ∙ sym (ap frame_count new.pool)))
+      snapshot_counts
+      snapshot_counted
+
+-- ---- what the numbers leave room for
+
+-- no VMO has too many pages
+pages_le : (c : Content) (v : ℕ) → IsGood c → pages_of c v ≤ VMO_PAGES
+unfolding pages_of
+pages_le c v good = go (c.count v) refl where
+  go : (o : Option ℕ) → c.count v ≡ o → unwrap_or o 0 ≤ VMO_PAGES
+  go None e = omega arith
+  go (Some n) e = good.counts v n e
+
+-- so the end of a range of pages is a number of the machine
+pub end_fits : (f : Flat) (v first seen : ℕ) → IsFlat f → first + seen ≤ pages_of (content_of f) v → first + seen < 2 ^ 64
+end_fits f v first seen flat h = omega (arith, pages_le (content_of f) v flat.good)
+
+-- the frames of rows have share counts
+pub tags_counted : (f : Flat) (from end : ℕ) → IsFlat f → end ≤ length f.rows → AllWithin (λ row. row.tag.0 < length f.shares) f.rows from end
+tags_counted f from end flat range k d l h = omega (arith, flat.counts, row_tags f flat.sorted flat.good k d (omega arith))
+
+-- which may rise
+pub counts_fit : (f : Flat) (from end : ℕ) → IsFlat f → from ≤ end → (content_of f).next < 2 ^ 63 → (t : ℕ) → get_or f.shares t 0 + rows_with t (slice_range f.rows from end) < 2 ^ 64
+counts_fit f from end flat order low t = omega (arith, shares-rows f flat t, viewers-rows f flat.sorted flat.good t, viewers_le (content_of f) t, rows_with-range t f.rows from end order)

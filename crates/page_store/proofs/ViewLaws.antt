@@ -1,0 +1,231 @@
+-- How many VMOs show a frame of the plain store: as many as there are rows with it. So the store's invariant follows from its lists.
+use Rattle.std.proofs.Common.{◌≡◌, ◌≢◌, ℕ, zero, suc, ◌<◌, ◌≤◌, Bool, true, false, cond, ◌&&◌, ◌||◌, ◌==◌, List, [], ◌∷◌, length, get_or, Some, refl, sym, ap, ◌∙◌, inl, inr, arith}
+use Rattle.std.specs.Prelude.{nat_lt}
+use Rattle.std.specs.List.{All}
+use Rattle.std.specs.declared.cmp.Ordering.TheVariants.{Greater}
+use Rattle.std.proofs.lemmas.Bool.{cases_Bool, cases_lt, cases_order, eqb-true, eq-eqb, ne_eqb, and_parts, and_from, and_left, and_right, or_cases, or_left, or_right, false_from_ne_true}
+use Rattle.std.proofs.lemmas.Bool.Decides.{nat_tests}
+use Rattle.std.proofs.lemmas.List.{get_or_past}
+use Rattle.frame_pool.specs.Pool.{frame_count}
+use Rattle.vm_model.specs.Search.{count_below}
+use Rattle.vm_model.specs.Content.{Page, views, vmos_of, IsGood}
+use Rattle.vm_model.specs.Sharing.{viewers, IsLeastViewer}
+use Rattle.vm_model.proofs.SearchLaws.{count_below_same, count_below_none, count_below_one_more}
+use Rattle.vm_model.proofs.ContentLaws.{views_found}
+use Rattle.vm_model.proofs.SharingLaws.{views_held, koid_held, in_use-viewers}
+use Rattle.page_store.specs.declared.rows.Row.{Row}
+use Rattle.page_store.specs.Rows.{find_row, IsSorted}
+use Rattle.page_store.specs.Vmos.{IsAscending}
+use Rattle.page_store.specs.Shares.{rows_with, AreCounted, IsFirstWith}
+use Rattle.page_store.specs.Pages.{IsShown}
+use Rattle.page_store.specs.Flat.{Flat, page_of_row, content_of, IsFlat}
+use Rattle.page_store.proofs.RowLaws.{page_cmp, sorted_at}
+use Rattle.page_store.proofs.FlatLaws.{frames-content, next-content, page-content, page_from, page_of_row-some, page_of_row_found}
+use Rattle.page_store.proofs.BoundLaws.{find_row-found, find_row-each}
+use Rattle.page_store.proofs.ShareLaws.{rows_with-nil, rows_with-cons, rows_with-found, rows_with-at, some_row}
+
+-- ---- rows and pages
+
+-- the row i is page p of v, and has the frame t
+pub record IsRowOf (rows : List Row) (v p t i : ℕ) : Type 0 where
+  pub in_range : i < length rows
+  pub koid : (d : Row) → (get_or rows i d).koid.0 ≡ v
+  pub page : (d : Row) → (get_or rows i d).page ≡ p
+  pub tag : (d : Row) → (get_or rows i d).tag.0 ≡ t
+
+-- each page that is held has a row, and each row is such a page
+pub row_of_page : (f : Flat) (v p : ℕ) (held : Page) → (content_of f).page v p ≡ Some held → (i : ℕ) × IsRowOf f.rows v p held.tag i
+row_of_page f v p held e =
+    let row = page_of_row_found f.pool (find_row v p f.rows) held (sym (page-content f v p) ∙ e) in
+    let at = find_row-found v p f.rows row.0 row.1 in (
+      at.0,
+      record {
+        in_range = at.1;
+        koid = λ d. ap (λ (r : Row). r.koid.0) (at.2 d) ∙ at.3;
+        page = λ d. ap (λ (r : Row). r.page) (at.2 d) ∙ at.4;
+        tag = λ d. ap (λ (r : Row). r.tag.0) (at.2 d) ∙ ap (λ (page : Page). page.tag) row.2;
+      },
+    )
+
+pub page_of_each : (f : Flat) → IsSorted f.rows → (i : ℕ) (d : Row) → i < length f.rows → (content_of f).page (get_or f.rows i d).koid.0 (get_or f.rows i d).page ≡ Some (page_from f.pool (get_or f.rows i d))
+page_of_each f sorted i d h =
+    page-content f (get_or f.rows i d).koid.0 (get_or f.rows i d).page
+    ∙ (ap (page_of_row f.pool) (find_row-each f.rows sorted i d h) ∙ page_of_row-some f.pool (get_or f.rows i d))
+
+-- ---- which VMOs have a row with a frame
+
+-- a row of v has the frame t
+pub shows_in : ℕ → List Row → ℕ → Bool
+shows_in t [] v = false
+shows_in t (row ∷ rows) v = ((row.koid.0 == v) && (row.tag.0 == t)) || shows_in t rows v
+
+pub shows_in-found : (t v : ℕ) (rows : List Row) → shows_in t rows v ≡ true → (i : ℕ) × (i < length rows) × ((d : Row) → (get_or rows i d).koid.0 ≡ v) × ((d : Row) → (get_or rows i d).tag.0 ≡ t)
+unfolding shows_in
+shows_in-found t v [] e = absurd cc
+shows_in-found t v (row ∷ rows) e = elim (or_cases ((row.koid.0 == v) && (row.tag.0 == t)) (shows_in t rows v) e) [
+  | inl here ↦ let both = and_parts (row.koid.0 == v) (row.tag.0 == t) here in (0, omega arith, (λ d. eqb-true row.koid.0 v both.0), (λ d. eqb-true row.tag.0 t both.1))
+  | inr there ↦ let found = shows_in-found t v rows there in (suc found.0, omega (arith, found.1), found.2, found.3)
+]
+
+pub shows_in-at : (t v : ℕ) (rows : List Row) (i : ℕ) (d : Row) → i < length rows → (get_or rows i d).koid.0 ≡ v → (get_or rows i d).tag.0 ≡ t → shows_in t rows v ≡ true
+unfolding shows_in
+shows_in-at t v [] i d h koid tag = absurd (omega arith)
+shows_in-at t v (row ∷ rows) zero d h koid tag = or_left _ _ (and_from (row.koid.0 == v) (row.tag.0 == t) (eq-eqb row.koid.0 v koid) (eq-eqb row.tag.0 t tag))
+shows_in-at t v (row ∷ rows) (suc i) d h koid tag = or_right _ _ (shows_in-at t v rows i d (omega arith) koid tag)
+
+shows_in-skip : (t v : ℕ) (row : Row) (rows : List Row) → ((row.koid.0 == v) && (row.tag.0 == t)) ≡ false → shows_in t (row ∷ rows) v ≡ shows_in t rows v
+unfolding shows_in
+shows_in-skip t v row rows e = ap (λ b. b || shows_in t rows v) e
+
+shows_in-nil : (t v : ℕ) → shows_in t [] v ≡ false
+unfolding shows_in
+shows_in-nil t v = refl
+
+-- no two rows of one VMO have one frame
+pub record AreApart (rows : List Row) : Type 0 where
+  pub apart : (i j : ℕ) (d : Row) → i < j → j < length rows → (get_or rows i d).koid.0 ≡ (get_or rows j d).koid.0 → (get_or rows i d).tag.0 ≢ (get_or rows j d).tag.0
+
+-- then as many VMOs have a row with the frame as rows have it
+count_shows : (n t : ℕ) (rows : List Row) → All (λ row. row.koid.0 < n) rows → AreApart rows → count_below n (shows_in t rows) ≡ rows_with t rows
+count_shows n t [] low apart = count_below_none n (shows_in t []) (λ v h. shows_in-nil t v) ∙ sym (rows_with-nil t)
+count_shows n t (row ∷ rows) low apart =
+    let rest = count_shows n t rows (λ k d h. low (suc k) d (omega arith)) (record { apart = λ i j d l h. apart.apart (suc i) (suc j) d (omega arith) (omega arith) }) in
+    elim (cases_Bool (row.tag.0 == t)) [
+      | inr other ↦
+          let same = count_below_same n (shows_in t (row ∷ rows)) (shows_in t rows) (λ v h. shows_in-skip t v row rows (and_right (row.koid.0 == v) (row.tag.0 == t) other)) in
+          let bit : ◌≡◌ {A = ℕ} (cond (row.tag.0 == t) 1 0) 0 = ap (λ (b : Bool). cond {A = ℕ} b 1 0) other in
+          omega (arith, same, rest, rows_with-cons t row rows, bit)
+      | inl here ↦
+          let tag = eqb-true row.tag.0 t here in
+          let miss : shows_in t rows row.koid.0 ≡ false = false_from_ne_true (shows_in t rows row.koid.0) (λ e.
+          let found = shows_in-found t row.koid.0 rows e in
+          apart.apart 0 (suc found.0) row (omega arith) (omega (arith, found.1)) (sym (found.2 row)) (tag ∙ sym (found.3 row))) in
+          let hit = shows_in-at t row.koid.0 (row ∷ rows) 0 row (omega arith) refl tag in
+          let more = count_below_one_more n row.koid.0 (shows_in t rows) (shows_in t (row ∷ rows)) (low 0 row (omega arith)) miss hit (λ v other.
+          shows_in-skip t v row rows (and_left (row.koid.0 == v) (row.tag.0 == t) (ne_eqb row.koid.0 v (λ e. other (sym e))))) in
+          let bit : ◌≡◌ {A = ℕ} (cond (row.tag.0 == t) 1 0) 1 = ap (λ (b : Bool). cond {A = ℕ} b 1 0) here in
+          omega (arith, more, rest, rows_with-cons t row rows, bit)
+    ]
+
+-- ---- the viewers of a frame
+
+tests_same : (a b : Bool) → (a ≡ true → b ≡ true) → (b ≡ true → a ≡ true) → a ≡ b
+tests_same true b there back = sym (there refl)
+tests_same false b there back = sym (false_from_ne_true b (λ e. let none : ◌≡◌ {A = Bool} false true = back e in absurd cc))
+
+same_page_cmp : (v p w q : ℕ) → v ≡ w → p ≡ q → page_cmp v p w q ≡ Greater → ⊥
+same_page_cmp v p w q e f h = grind (arith, nat_tests)
+
+module _ (f : Flat) (sorted : IsSorted f.rows) (good : IsGood (content_of f)) where
+  -- the koids of the rows are below the next, and their tags below the number of frames
+  pub row_koids : All (λ row. row.koid.0 < f.next) f.rows
+  row_koids i d h =
+      let row = get_or f.rows i d in
+      let low = koid_held (content_of f) row.koid.0 row.page (page_from f.pool row) good (page_of_each f sorted i d h) in
+      omega (arith, low, next-content f)
+
+  pub row_tags : All (λ row. row.tag.0 < frame_count f.pool) f.rows
+  row_tags i d h =
+      let row = get_or f.rows i d in
+      let low = good.tags row.koid.0 row.page (page_from f.pool row) (page_of_each f sorted i d h) in
+      omega (arith, low, frames-content f)
+
+  rows_apart : AreApart f.rows
+  rows_apart = record {
+    apart = λ i j d l h koid tag.
+        let first = get_or f.rows i d in
+        let last = get_or f.rows j d in
+        let there : (content_of f).page first.koid.0 last.page ≡ Some (page_from f.pool last) = ap (λ (v : ℕ). (content_of f).page v last.page) koid ∙ page_of_each f sorted j d h in
+        let page : first.page ≡ last.page =
+        good.apart first.koid.0 first.page last.page (page_from f.pool first) (page_from f.pool last) (page_of_each f sorted i d (omega arith)) there tag in
+        same_page_cmp first.koid.0 first.page last.koid.0 last.page koid page (sorted_at f.rows sorted i j d l h);
+  }
+
+  -- a VMO shows the frames of its rows
+  pub views-rows : (t v : ℕ) → views (content_of f) t v ≡ shows_in t f.rows v
+  views-rows t v = tests_same (views (content_of f) t v) (shows_in t f.rows v)
+      (λ shows.
+      let page = views_found (content_of f) t v shows in
+      let row = row_of_page f v page.0 page.1 page.3 in
+      let d = some_row f.rows row.0 (row.1).in_range in
+      shows_in-at t v f.rows row.0 d (row.1).in_range ((row.1).koid d) ((row.1).tag d ∙ page.4))
+      (λ shows.
+      let found = shows_in-found t v f.rows shows in
+      let d = some_row f.rows found.0 found.1 in
+      let row = get_or f.rows found.0 d in
+      let at : (content_of f).page v row.page ≡ Some (page_from f.pool row) = ap (λ (w : ℕ). (content_of f).page w row.page) (sym (found.2 d)) ∙ page_of_each f sorted found.0 d found.1 in
+      views_held (content_of f) t v row.page (page_from f.pool row) good at (found.3 d))
+
+  pub viewers-rows : (t : ℕ) → viewers (content_of f) t ≡ rows_with t f.rows
+  unfolding viewers
+  viewers-rows t =
+      ap (λ (n : ℕ). count_below n (views (content_of f) t)) (next-content f)
+      ∙ (count_below_same f.next (views (content_of f) t) (shows_in t f.rows) (λ v h. views-rows t v) ∙ count_shows f.next t f.rows row_koids rows_apart)
+
+  -- no row has the tag of no frame
+  pub rows_with-past : (t : ℕ) → frame_count f.pool ≤ t → rows_with t f.rows ≡ 0
+  rows_with-past t past = elim (cases_lt 0 (rows_with t f.rows)) [
+    | inr none ↦ omega arith
+    | inl some ↦
+        let found = rows_with-found t f.rows some in
+        let d = some_row f.rows found.0 found.1 in
+        absurd (let low = row_tags found.0 d found.1 in omega (arith, low, found.2 d))
+  ]
+
+-- ---- a plain store, from its lists
+
+-- the share counts are those of the rows
+pub shares-rows : (f : Flat) → IsFlat f → (t : ℕ) → get_or f.shares t 0 ≡ rows_with t f.rows
+shares-rows f flat t = elim (cases_lt t (frame_count f.pool)) [
+  | inl low ↦ flat.shares t low ∙ viewers-rows f flat.sorted flat.good t
+  | inr past ↦ get_or_past f.shares t 0 (omega (arith, flat.counts)) ∙ sym (rows_with-past f flat.sorted flat.good t past)
+]
+
+pub counted-flat : (f : Flat) → IsFlat f → AreCounted f.shares f.pool
+counted-flat f flat = record {
+  taken = λ t. flat.taken t ∙ (in_use-viewers (content_of f) t ∙ ap (nat_lt 0) (viewers-rows f flat.sorted flat.good t ∙ sym (shares-rows f flat t)));
+}
+
+pub flat_from_rows : (f : Flat) → IsSorted f.rows → IsAscending f.vmos → IsGood (content_of f) → vmos_of (content_of f) ≡ length f.vmos → length f.shares ≡ frame_count f.pool → ((t : ℕ) → get_or f.shares t 0 ≡ rows_with t f.rows) → AreCounted f.shares f.pool → IsFlat f
+flat_from_rows f sorted ascending good vmos size counts counted = record {
+  sorted = sorted;
+  ascending = ascending;
+  good = good;
+  vmos = vmos;
+  counts = size;
+  shares = λ t h. counts t ∙ sym (viewers-rows f sorted good t);
+  taken = λ t. counted.taken t ∙ (ap (nat_lt 0) (counts t ∙ sym (viewers-rows f sorted good t)) ∙ sym (in_use-viewers (content_of f) t));
+}
+
+-- ---- the least viewer
+
+-- a frame that is shown has a row
+pub rows_with-shown : (f : Flat) (t : ℕ) → IsShown (content_of f) t → 0 < rows_with t f.rows
+rows_with-shown f t shown =
+    let at = row_of_page f shown.v shown.p shown.held (shown.shows).page in
+    let d = some_row f.rows at.0 (at.1).in_range in
+    rows_with-at t f.rows at.0 d (at.1).in_range ((at.1).tag d ∙ (shown.shows).tag)
+
+cmp_koids : (v p w q : ℕ) → page_cmp v p w q ≡ Greater → v ≤ w
+cmp_koids v p w q e = grind (arith, nat_tests)
+
+-- the first row with it is the least viewer's
+pub least_row : (f : Flat) (t i : ℕ) (row : Row) → IsFlat f → IsFirstWith f.rows t i → row ≡ get_or f.rows i row → IsLeastViewer (content_of f) t row.koid.0
+least_row f t i row flat first read = record {
+  shows =
+      views-rows f flat.sorted flat.good t row.koid.0
+      ∙ shows_in-at t row.koid.0 f.rows i row first.in_range (ap (λ (r : Row). r.koid.0) (sym read)) (first.is row);
+  least = λ w h. views-rows f flat.sorted flat.good t w ∙ false_from_ne_true (shows_in t f.rows w) (λ shows.
+      let found = shows_in-found t w f.rows shows in
+      let koid = found.2 row in
+      let mine : row.koid.0 ≡ (get_or f.rows i row).koid.0 = ap (λ (r : Row). r.koid.0) read in
+      elim (cases_order found.0 i) [
+        | inl same ↦ let is : (get_or f.rows found.0 row).koid.0 ≡ (get_or f.rows i row).koid.0 = ap (λ (k : ℕ). (get_or f.rows k row).koid.0) same in absurd (omega arith)
+        | inr other ↦ elim other [
+          | inl less ↦ first.before found.0 row (omega arith) less (found.3 row)
+          | inr more ↦
+              let le = cmp_koids (get_or f.rows i row).koid.0 (get_or f.rows i row).page (get_or f.rows found.0 row).koid.0 (get_or f.rows found.0 row).page (sorted_at f.rows flat.sorted i found.0 row more found.1) in
+              absurd (omega arith)
+        ]
+      ]);
+}

@@ -1,0 +1,191 @@
+-- What is found in the list of VMOs, and what a VMO changes that is added at its end, or leaves.
+use Rattle.std.proofs.Common.{◌≡◌, ◌≢◌, ℕ, zero, suc, ◌+◌, ◌<◌, ◌≤◌, false, not, cond, ◌==◌, List, [], ◌∷◌, ◌++◌, length, get_or, None, Some, Result, Ok, Err, IfOk, IfErr, refl, sym, ap, ◌∙◌, inl, inr, arith}
+use Rattle.std.specs.Prelude.{IsSome, is_some}
+use Rattle.std.specs.List.{remove}
+use Rattle.std.specs.List.Sorted.{IsSearchInRange, IsBinarySearchResult}
+use Rattle.std.specs.declared.cmp.Ordering.TheVariants.{Less, Equal, Greater}
+use Rattle.std.specs.Ordering.{nat_cmp, ordering_index}
+use Rattle.std.proofs.lemmas.Bool.{cases_order, cases_eq, eqb-true, ne_eqb, eq-eqb, not_from_true, not_from_false, cond-true, cond-false}
+use Rattle.std.proofs.lemmas.Bool.Decides.{nat_tests}
+use Rattle.std.proofs.lemmas.List.{get_or_default}
+use Rattle.page_store.specs.declared.vmos.Vmo.{Vmo}
+use Rattle.page_store.specs.Vmos.{count_in, AllAbove, IsAscending, IsVmoFor}
+use Rattle.page_store.proofs.RowLaws.{rises_from, swap_cond}
+
+-- ---- numbers in order
+
+cmp_equal : (a b : ℕ) → nat_cmp a b ≡ Equal → a ≡ b
+cmp_equal a b e = grind (arith, nat_tests)
+
+cmp_less : (a b : ℕ) → nat_cmp a b ≡ Less → a ≢ b
+cmp_less a b e same = grind (arith, nat_tests)
+
+cmp_greater : (a b : ℕ) → nat_cmp a b ≡ Greater → a ≢ b
+cmp_greater a b e same = grind (arith, nat_tests)
+
+cmp_rises : (v a b : ℕ) → a < b → ordering_index (nat_cmp a v) ≤ ordering_index (nat_cmp b v)
+cmp_rises v a b h = grind (arith, nat_tests)
+
+-- ---- VMOs in a list
+
+pub count_in-nil : (v : ℕ) → count_in v [] ≡ None
+unfolding count_in
+count_in-nil v = refl
+
+pub count_in-cons : (v : ℕ) (vmo : Vmo) (vmos : List Vmo) → count_in v (vmo ∷ vmos) ≡ cond (vmo.koid.0 == v) (Some vmo.count) (count_in v vmos)
+unfolding count_in
+count_in-cons v vmo vmos = refl
+
+above_at : (v : ℕ) (vmos : List Vmo) → AllAbove v vmos → (i : ℕ) (d : Vmo) → i < length vmos → v < (get_or vmos i d).koid.0
+above_at v [] all i d h = absurd (omega arith)
+above_at v (vmo ∷ vmos) all zero d h = all.0
+above_at v (vmo ∷ vmos) all (suc i) d h = above_at v vmos all.1 i d (omega arith)
+
+above_push : (v : ℕ) (vmos : List Vmo) (vmo : Vmo) → AllAbove v vmos → v < vmo.koid.0 → AllAbove v (vmos ++ vmo ∷ [])
+above_push v [] vmo all h = (h, tt)
+above_push v (first ∷ vmos) vmo all h = (all.0, above_push v vmos vmo all.1 h)
+
+pub ascending_parts : (vmo : Vmo) (vmos : List Vmo) → IsAscending (vmo ∷ vmos) → AllAbove vmo.koid.0 vmos × IsAscending vmos
+unfolding IsAscending
+ascending_parts vmo vmos s = s
+
+pub ascending_from : (vmo : Vmo) (vmos : List Vmo) → AllAbove vmo.koid.0 vmos → IsAscending vmos → IsAscending (vmo ∷ vmos)
+unfolding IsAscending
+ascending_from vmo vmos above s = (above, s)
+
+pub ascending_nil : IsAscending []
+unfolding IsAscending
+ascending_nil = tt
+
+-- a VMO has a lower koid than a later one
+pub ascending_at : (vmos : List Vmo) → IsAscending vmos → (i j : ℕ) (d : Vmo) → i < j → j < length vmos → (get_or vmos i d).koid.0 < (get_or vmos j d).koid.0
+ascending_at [] s i j d l h = absurd (omega arith)
+ascending_at (vmo ∷ vmos) s zero zero d l h = absurd (omega arith)
+ascending_at (vmo ∷ vmos) s zero (suc j) d l h = above_at vmo.koid.0 vmos (ascending_parts vmo vmos s).0 j d (omega arith)
+ascending_at (vmo ∷ vmos) s (suc i) zero d l h = absurd (omega arith)
+ascending_at (vmo ∷ vmos) s (suc i) (suc j) d l h = ascending_at vmos (ascending_parts vmo vmos s).1 i j d (omega arith) (omega arith)
+
+-- the VMO that stands at the koid's place is found
+pub count_in-at : (vmos : List Vmo) → IsAscending vmos → (v i : ℕ) → IsVmoFor vmos v i → (d : Vmo) → count_in v vmos ≡ Some (get_or vmos i d).count
+count_in-at [] s v i at d = absurd (let h = at.in_range in omega arith)
+count_in-at (vmo ∷ vmos) s v zero at d = count_in-cons v vmo vmos ∙ ap (λ b. cond b (Some vmo.count) (count_in v vmos)) (eq-eqb vmo.koid.0 v (at.is d))
+count_in-at (vmo ∷ vmos) s v (suc i) at d =
+    let h = at.in_range in
+    let same : (get_or vmos i d).koid.0 ≡ v = at.is d in
+    let above = above_at vmo.koid.0 vmos (ascending_parts vmo vmos s).0 i d (omega arith) in
+    count_in-cons v vmo vmos
+    ∙ (ap (λ b. cond b (Some vmo.count) (count_in v vmos)) (ne_eqb vmo.koid.0 v (λ e. omega arith))
+    ∙ count_in-at vmos (ascending_parts vmo vmos s).1 v i (record { in_range = omega arith; is = at.is }) d)
+
+-- where no VMO has the koid, none is found
+count_in-none : (vmos : List Vmo) (v : ℕ) → ((k : ℕ) (d : Vmo) → k < length vmos → (get_or vmos k d).koid.0 ≢ v) → count_in v vmos ≡ None
+count_in-none [] v each = count_in-nil v
+count_in-none (vmo ∷ vmos) v each =
+    count_in-cons v vmo vmos
+    ∙ (ap (λ b. cond b (Some vmo.count) (count_in v vmos)) (ne_eqb vmo.koid.0 v (each 0 vmo (omega arith)))
+    ∙ count_in-none vmos v (λ k d h. each (suc k) d (omega arith)))
+
+-- ---- what a binary search answers
+
+pub record IsFoundVmo (vmos : List Vmo) (v : ℕ) (r : Result ℕ ℕ) : Type 0 where
+  pub found : IfOk r (IsVmoFor vmos v)
+  pub absent : IfErr r (λ i. ⊥)
+
+-- a koid that is in the list is found
+pub searched_vmo : (vmos : List Vmo) → IsAscending vmos → (v : ℕ) → IsSome (count_in v vmos) → (r : Result ℕ ℕ) → IsSearchInRange r (length vmos) → IsBinarySearchResult (λ (vmo : Vmo). nat_cmp vmo.koid.0 v) vmos r →
+    IsFoundVmo vmos v r
+searched_vmo vmos s v some (Ok i) h at = record { found = record { in_range = h; is = λ d. cmp_equal (get_or vmos i d).koid.0 v (at d) }; absent = tt }
+searched_vmo vmos s v some (Err i) h parted =
+    let parts = parted (rises_from (λ (vmo : Vmo). ordering_index (nat_cmp vmo.koid.0 v)) vmos (λ a b d l m. cmp_rises v (get_or vmos a d).koid.0 (get_or vmos b d).koid.0 (ascending_at vmos s a b d l m))) in
+    let none : count_in v vmos ≡ None = count_in-none vmos v (λ k d l. elim (cases_order k i) [
+      | inl same ↦ cmp_greater (get_or vmos k d).koid.0 v (parts.1 k d (omega arith) l)
+      | inr other ↦ elim other [
+        | inl less ↦ cmp_less (get_or vmos k d).koid.0 v (parts.0 k d (omega arith) less)
+        | inr more ↦ cmp_greater (get_or vmos k d).koid.0 v (parts.1 k d (omega arith) l)
+      ]
+    ]) in
+    absurd (let clash : is_some (count_in v vmos) ≡ false = ap is_some none in cc)
+
+-- ---- a VMO more
+
+-- each koid of the list is below v
+abbrev pub AllBelow : List Vmo → ℕ → Type 0
+AllBelow vmos v = (i : ℕ) (d : Vmo) → i < length vmos → (get_or vmos i d).koid.0 < v
+
+-- what is said of each koid with a count is said of each in the list
+pub below_from_counts : (vmos : List Vmo) (v : ℕ) → IsAscending vmos → ((w n : ℕ) → count_in w vmos ≡ Some n → w < v) → AllBelow vmos v
+below_from_counts vmos v s each i d h =
+    each (get_or vmos i d).koid.0 (get_or vmos i d).count (count_in-at vmos s (get_or vmos i d).koid.0 i (record { in_range = h; is = λ e. ap (λ (vmo : Vmo). vmo.koid.0) (get_or_default vmos i e d h) }) d)
+
+pub ascending_push : (vmos : List Vmo) (vmo : Vmo) → IsAscending vmos → AllBelow vmos vmo.koid.0 → IsAscending (vmos ++ vmo ∷ [])
+ascending_push [] vmo s below = ascending_from vmo [] tt ascending_nil
+ascending_push (first ∷ vmos) vmo s below =
+    ascending_from first (vmos ++ vmo ∷ []) (above_push first.koid.0 vmos vmo (ascending_parts first vmos s).0 (below 0 first (omega arith)))
+    (ascending_push vmos vmo (ascending_parts first vmos s).1 (λ i d h. below (suc i) d (omega arith)))
+
+same_test : (a b : ℕ) → (a == b) ≡ (b == a)
+same_test a b = grind (arith, nat_tests)
+
+pub count_in-push : (vmos : List Vmo) (vmo : Vmo) → AllBelow vmos vmo.koid.0 → (v : ℕ) → count_in v (vmos ++ vmo ∷ []) ≡ cond (v == vmo.koid.0) (Some vmo.count) (count_in v vmos)
+count_in-push [] vmo below v =
+    count_in-cons v vmo [] ∙ ap (λ b. cond b (Some vmo.count) (count_in v [])) (same_test vmo.koid.0 v)
+count_in-push (first ∷ vmos) vmo below v =
+    count_in-cons v first (vmos ++ vmo ∷ [])
+    ∙ (ap (λ o. cond (first.koid.0 == v) (Some first.count) o) (count_in-push vmos vmo (λ i d h. below (suc i) d (omega arith)) v)
+    ∙ (swap_cond (first.koid.0 == v) (v == vmo.koid.0) (Some first.count) (Some vmo.count) (count_in v vmos)
+    (λ here there. let low = below 0 first (omega arith) in let a = eqb-true first.koid.0 v here in let b = eqb-true v vmo.koid.0 there in omega arith)
+    ∙ ap (λ o. cond (v == vmo.koid.0) (Some vmo.count) o) (sym (count_in-cons v first vmos))))
+
+-- ---- a VMO leaves
+
+count_in-skip : (v : ℕ) (vmo : Vmo) (vmos : List Vmo) → vmo.koid.0 ≢ v → count_in v (vmo ∷ vmos) ≡ count_in v vmos
+count_in-skip v vmo vmos apart = count_in-cons v vmo vmos ∙ cond-false (vmo.koid.0 == v) (Some vmo.count) (count_in v vmos) (ne_eqb vmo.koid.0 v apart)
+
+count_in-here : (v : ℕ) (vmo : Vmo) (vmos : List Vmo) → vmo.koid.0 ≡ v → count_in v (vmo ∷ vmos) ≡ Some vmo.count
+count_in-here v vmo vmos same = count_in-cons v vmo vmos ∙ cond-true (vmo.koid.0 == v) (Some vmo.count) (count_in v vmos) (eq-eqb vmo.koid.0 v same)
+
+count_in-above : (v : ℕ) (vmos : List Vmo) → AllAbove v vmos → count_in v vmos ≡ None
+count_in-above v vmos above = count_in-none vmos v (λ k d h same. let up = above_at v vmos above k d h in absurd (omega arith))
+
+above_remove : (v : ℕ) (vmos : List Vmo) (i : ℕ) → AllAbove v vmos → AllAbove v (remove vmos i)
+above_remove v [] zero above = tt
+above_remove v [] (suc i) above = tt
+above_remove v (vmo ∷ vmos) zero above = above.1
+above_remove v (vmo ∷ vmos) (suc i) above = (above.0, above_remove v vmos i above.1)
+
+pub ascending_remove : (vmos : List Vmo) (i : ℕ) → IsAscending vmos → IsAscending (remove vmos i)
+ascending_remove [] zero rises = ascending_nil
+ascending_remove [] (suc i) rises = ascending_nil
+ascending_remove (vmo ∷ vmos) zero rises = (ascending_parts vmo vmos rises).1
+ascending_remove (vmo ∷ vmos) (suc i) rises =
+    let parts = ascending_parts vmo vmos rises in ascending_from vmo (remove vmos i) (above_remove vmo.koid.0 vmos i parts.0) (ascending_remove vmos i parts.1)
+
+pub length-remove : (vmos : List Vmo) (i : ℕ) → i < length vmos → length (remove vmos i) + 1 ≡ length vmos
+length-remove [] i h = absurd (omega arith)
+length-remove (vmo ∷ vmos) zero h = omega arith
+length-remove (vmo ∷ vmos) (suc i) h = omega (arith, length-remove vmos i (omega arith))
+
+-- the others keep their page counts
+pub count_in-remove : (vmos : List Vmo) (i v : ℕ) → IsAscending vmos → i < length vmos → ((d : Vmo) → (get_or vmos i d).koid.0 ≡ v) → (w : ℕ) → count_in w (remove vmos i) ≡ cond (not (w == v)) (count_in w vmos) None
+count_in-remove [] i v rises h at w = absurd (omega arith)
+count_in-remove (vmo ∷ vmos) zero v rises h at w = elim (cases_eq w v) [
+  | inl same ↦
+      let none : count_in w vmos ≡ None = ap (λ (k : ℕ). count_in k vmos) (same ∙ sym (at vmo)) ∙ count_in-above vmo.koid.0 vmos (ascending_parts vmo vmos rises).0 in
+      none ∙ sym (cond-false (not (w == v)) (count_in w (vmo ∷ vmos)) None (not_from_true (w == v) (eq-eqb w v same)))
+  | inr apart ↦
+      let koid = at vmo in
+      sym (count_in-skip w vmo vmos (λ e. apart (sym e ∙ koid))) ∙ sym (cond-true (not (w == v)) (count_in w (vmo ∷ vmos)) None (not_from_false (w == v) (ne_eqb w v apart)))
+]
+count_in-remove (vmo ∷ vmos) (suc i) v rises h at w =
+    let parts = ascending_parts vmo vmos rises in
+    let up = above_at vmo.koid.0 vmos parts.0 i vmo (omega arith) in
+    let is = at vmo in
+    let rest = count_in-remove vmos i v parts.1 (omega arith) at w in
+    elim (cases_eq vmo.koid.0 w) [
+      | inl here ↦
+          count_in-here w vmo (remove vmos i) here
+          ∙ (sym (count_in-here w vmo vmos here) ∙ sym (cond-true (not (w == v)) (count_in w (vmo ∷ vmos)) None (not_from_false (w == v) (ne_eqb w v (omega arith)))))
+      | inr there ↦
+          count_in-skip w vmo (remove vmos i) there
+          ∙ (rest ∙ ap (λ o. cond (not (w == v)) o None) (sym (count_in-skip w vmo vmos there)))
+    ]

@@ -1,0 +1,61 @@
+use Rattle.std.proofs.Common.{◌+◌, refl, sym, arith}
+use Rattle.std.specs.Vec.{with_items}
+use Rattle.std.proofs.lemmas.List.{with_items_is}
+use Rattle.page_store.specs.Flat.{Flat}
+use Rattle.page_store.specs.FlatFields.{flat_of}
+use Rattle.page_store.proofs.FlatLaws.{next-content, content_of-spare, IsFlat-spare}
+use Rattle.page_store.proofs.SnapshotLaws.{IsSnapshot, content-snapshot, IsFlat-snapshot, end_fits, tags_counted, counts_fit}
+use Rattle.page_store.proofs.flat_store.FlatStorePageStore.snapshot.Goals as goal
+
+pub overflow_add-first : goal.overflow_add-first
+overflow_add-first c = omega (arith, end_fits (flat_of c.self.inside) c.args.of.0 c.args.first c.args.seen c.self.invariant.flat (rw (← c.self.view_is) at c.requires.range))
+
+-- no room for the VMO
+pub invariant_of-self-in_default-push : goal.invariant_of-self-in_default-push
+invariant_of-self-in_default-push c = record { flat = rw (c.in_default-push.ensures.items, c.reserve.ensures.items) (IsFlat-spare (flat_of c.self.inside) _ c.self.invariant.flat) }
+
+pub returns-in_default-push-clause-err : goal.returns-in_default-push-clause-err
+returns-in_default-push-clause-err c = rw (c.in_default-push.ensures.items, c.reserve.ensures.items, ← c.self.view_is) (content_of-spare (flat_of c.self.inside) _)
+
+pub overflow_add-self : goal.overflow_add-self
+overflow_add-self c = omega (arith, rw (← c.self.view_is, next-content) at c.requires.next)
+
+pub share_rows-requires-clause-tags : goal.share_rows-requires-clause-tags
+share_rows-requires-clause-tags c =
+    rw (c.deref_mut.ensures.value, c.reserve.ensures.items) (tags_counted (flat_of c.self.inside) c.rows_within-from.result.0 c.rows_within-from.result.1 c.self.invariant.flat
+    (rw c.deref.ensures.value at c.rows_within-from.ensures.range))
+
+pub share_rows-requires-clause-fits : goal.share_rows-requires-clause-fits
+share_rows-requires-clause-fits c =
+    rw (c.deref_mut.ensures.value, c.reserve.ensures.items) (counts_fit (flat_of c.self.inside) c.rows_within-from.result.0 c.rows_within-from.result.1 c.self.invariant.flat
+    c.rows_within-from.ensures.order (rw (← c.self.view_is) at c.requires.next))
+
+-- the lists with the snapshot
+abbrev after : goal.After-self-2-1 → Flat
+after c = flat_of (record {
+  pool = c.self.inside.pool;
+  next = c.self.inside.next + 1;
+  vmos = c.push.new.self;
+  rows = c.share_rows.new.rows;
+  shares = with_items c.self.inside.shares c.share_rows.new.shares;
+})
+
+new : (c : goal.After-self-2-1) → IsSnapshot (flat_of c.self.inside) (after c) c.args.of.0 c.args.first c.args.seen c.args.count c.rows_within-from.result.0 c.rows_within-from.result.1
+new c = record {
+  are = rw c.deref.ensures.value at c.rows_within-from.ensures;
+  pool = refl;
+  next = refl;
+  vmos = c.in-Ok-push.ensures.items;
+  rows = rw c.reserve.ensures.items at c.share_rows.ensures.rows;
+  shares = rw (with_items_is c.self.inside.shares c.share_rows.new.shares (omega (arith, c.share_rows.ensures.shares.size, c.deref_mut.ensures.len)))
+      (rw (c.deref_mut.ensures.value, c.reserve.ensures.items) at c.share_rows.ensures.shares);
+}
+
+pub invariant_of-self-2 : goal.invariant_of-self-2
+invariant_of-self-2 c = record { flat = IsFlat-snapshot (flat_of c.self.inside) (after c) _ _ _ _ _ _ c.self.invariant.flat (new c) c.requires.seen c.requires.count }
+
+pub returns-clause-koid : goal.returns-clause-koid
+returns-clause-koid c = rw (← c.self.view_is) (sym (next-content (flat_of c.self.inside)))
+
+pub returns-clause-ok : goal.returns-clause-ok
+returns-clause-ok c = rw (← c.self.view_is) (content-snapshot (flat_of c.self.inside) (after c) _ _ _ _ _ _ c.self.invariant.flat (new c))
