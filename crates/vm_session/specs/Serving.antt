@@ -2,7 +2,8 @@
 use Rattle.std.specs.Prelude.{◌≡◌, ℕ, ◌+◌, ◌-◌, ◌≤◌, ◌⊎◌, true, List, [], ◌++◌, length, Option}
 use Rattle.std.specs.Io.KnownBytes.{Appends, Consumes}
 use Rattle.script_io.specs.Reader.{Reader}
-use Rattle.script_io.specs.Fetching.{IsPending}
+use Rattle.script_io.specs.Fetching.{IsPending, Fetches}
+use Rattle.script_io.specs.declared.line_reader.Fetch.{Fetch}
 use Rattle.vm_model.specs.declared.reply.Reply.{Reply}
 use Rattle.vm_model.specs.State.{State, empty_state}
 use Rattle.vm_model.specs.Text.{texts}
@@ -44,3 +45,9 @@ pub record IsReady (reader : Reader) (remaining : Option (List ℕ)) (next : ℕ
 -- how many bytes are left to use up, at most
 abbrev pub bytes_left : Reader → ℕ
 bytes_left reader = (reader.limit + 1 - reader.taken) + (reader.lost + length reader.held)
+
+-- From old, whatever was pending, one fetch led to new. A call that says this uses up one line at most, and so its replies
+-- are written before the next line is looked at.
+abbrev pub FetchesOnce : Reader → Reader → Option (List ℕ) → Option (List ℕ) → Type 0
+FetchesOnce old new source_old source_new = (pending : List ℕ) → IsPending old source_old pending
+    → (answer : Fetch) × Fetches old new source_old source_new pending answer

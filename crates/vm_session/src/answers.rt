@@ -5,7 +5,7 @@ ghost use Rattle.script_io.specs.Faults.{HasCause, HasFailed};
 ghost use Rattle.vm_model.specs.State.{IsGoodState};
 ghost use Rattle.vm_core.specs.Vm.{state_of};
 ghost use Rattle.vm_session.specs.Outcome.{AnswersLine, EndsAs};
-ghost use Rattle.vm_session.specs.Serving.{IsServed, IsReady, bytes_left};
+ghost use Rattle.vm_session.specs.Serving.{IsServed, IsReady, FetchesOnce, bytes_left};
 
 use crate::replies::push_reply;
 use page_store::PageStore;
@@ -42,7 +42,8 @@ fn answer_line<P: PageStore, K: Sink>(
     }
 }
 
-/// Fetches the next line and answers it. A status where the run ends with it.
+/// Fetches the next line and answers it. A status where the run ends with it. No call uses up more
+/// than one line, so the replies to a line are pushed before the next line is looked at.
 pub fn answer_next<P: PageStore, S: Source, K: Sink>(
     vm: &mut Vm,
     store: &mut P,
@@ -60,6 +61,7 @@ pub fn answer_next<P: PageStore, S: Source, K: Sink>(
         → MatchOption result
         (IsServed frames limit lines.new source_old (S.remaining source.new) sink_old (K.contents sink.new) (state_of (P.content store.new) vm.new))
         (λ status. EndsAs status frames limit source_old (S.remaining source.new) sink_old (K.contents sink.new) (P.content store.new)) }
+    ensures once { FetchesOnce lines.old lines.new (S.remaining source.old) (S.remaining source.new) }
     ensures good { IsGoodState (state_of (P.content store.new) vm.new) }
     ensures ready { IfNone result (IsReady lines.new (S.remaining source.new) (P.content store.new).next) }
     ensures limit { lines.new.limit ≡ lines.old.limit }
