@@ -59,7 +59,7 @@ fn reads_names_of_regions_and_pins(rt: HostRuntime) {
         (b"r4294967295", Some(u32::MAX)),
         (b"r4294967296", None),
         (b"r01", None),
-        (b"R1", None),
+        (b"R0", None),
         (b"v1", None),
         (b"p1", None),
         (b"", None),

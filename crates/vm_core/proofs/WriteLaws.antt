@@ -6,21 +6,24 @@ use Rattle.std.proofs.lemmas.Bool.{cases_Bool}
 use Rattle.vm_base.specs.declared.names.VmoName.{VmoName}
 use Rattle.vm_base.specs.declared.pages.TheConstants.{PAGE}
 use Rattle.vm_base.specs.declared.refusal.Refusal.{Refusal}
-use Rattle.vm_base.specs.declared.refusal.Refusal.TheVariants.{BadHandle, OutOfRange, NoMemory, HostMemory}
+use Rattle.vm_base.specs.declared.refusal.Refusal.TheVariants.{BadHandle, AccessDenied, OutOfRange, NoMemory, HostMemory}
 use Rattle.vm_model.specs.declared.command.Command.TheVariants.{VmoWrite}
 use Rattle.vm_model.specs.declared.reply.Reply.TheVariants.{Done, Refused}
 use Rattle.vm_model.specs.Content.{Page, Content, shown, pages_of, used, sole, hold, IsGood}
 use Rattle.vm_model.specs.Owning.{Owns, need}
 use Rattle.vm_model.specs.Writing.{touched, replaced, piece, pieces, WritesPiece, Writes}
-use Rattle.vm_model.specs.State.{State, is_open, size_of}
+use Rattle.vm_model.specs.Names.{Name}
+use Rattle.vm_model.specs.State.{State, is_open, target_of, name_pages, size_of, place_of}
 use Rattle.vm_model.specs.Refusals.{lacks_frames, refusals, first_of}
 use Rattle.vm_model.specs.Step.{Step}
 use Rattle.vm_model.proofs.ContentLaws.{sole_alone, bytes_of-some}
+use Rattle.vm_model.proofs.NamesLaws.{target_of-at}
 use Rattle.vm_model.proofs.OwningLaws.{Owned, unowned, unowned-same, unowned-next, need-row, unowned-any}
 use Rattle.vm_model.proofs.RangeLaws.{piece-page, piece_fits, slice_range-min}
 use Rattle.vm_model.proofs.WritingLaws.{Written, Written-from_WritesPiece}
 use Rattle.page_store.specs.Pages.{IsShownOnce, Overwrites}
-use Rattle.vm_core.proofs.StepRows.{first_of-skip, first_of-hit, Step-refused, Step-done, Step-lacks, koid_of-at, open_at, past_at, within_at, test_less, test_not_less}
+use Rattle.vm_core.specs.Vm.{IsPlaced}
+use Rattle.vm_core.proofs.StepRows.{first_of-skip, first_of-hit, Step-refused, Step-done, Step-lacks, open_at, past_at, within_at, spot, test_less, test_not_less}
 
 -- ---- one page
 
@@ -130,47 +133,72 @@ need-touched c v offset len first end row = ap (need c v) row ∙ need-row c v f
 
 -- ---- the steps of a write
 
-module _ (s : State) (name : VmoName) (offset : ℕ) (bytes : List ℕ) (v : ℕ) (named : s.names name.0 ≡ Some v) where
+module _ (s : State) (name : VmoName) (offset : ℕ) (bytes : List ℕ) (target : Name) (named : s.names name.0 ≡ Some target) where
+  memory_rows : List (Bool × Refusal)
+  memory_rows = (lacks_frames s name.0 (touched (place_of s name.0 offset) (length bytes)), NoMemory) ∷ []
+
   range_rows : List (Bool × Refusal)
-  range_rows = (nat_lt (size_of s name.0) (offset + length bytes), OutOfRange) ∷ (lacks_frames s name.0 (touched offset (length bytes)), NoMemory) ∷ []
+  range_rows = (nat_lt (size_of s name.0) (offset + length bytes), OutOfRange) ∷ memory_rows
 
-  -- a range that passes the end
-  pub write_past : pages_of s.content v * PAGE < offset + length bytes → Step s (VmoWrite name offset bytes) (Refused OutOfRange) s
-  unfolding range_rows
-  write_past h = Step-refused s (VmoWrite name offset bytes) OutOfRange
-      (first_of-skip (not (is_open s name.0)) BadHandle range_rows (open_at s name.0 v named)
-      ∙ first_of-hit (nat_lt (size_of s name.0) (offset + length bytes)) OutOfRange ((lacks_frames s name.0 (touched offset (length bytes)), NoMemory) ∷ []) (past_at s name.0 v (offset + length bytes) named h))
+  locked_at : (b : Bool) → target.may_write ≡ b → not (target_of s name.0).may_write ≡ not b
+  locked_at b may = ap (λ (t : Name). not t.may_write) (target_of-at s name.0 target named) ∙ ap not may
 
-  -- a range inside the VMO, the pages that it touches, and what owning them takes
-  module _ (inside : offset + length bytes ≤ pages_of s.content v * PAGE) (first end n : ℕ) (row : touched offset (length bytes) ≡ range_with_len first (end - first)) (counted : n ≡ need s.content v (range_with_len first (end - first))) where
-    memory_row : first_of (refusals s (VmoWrite name offset bytes)) ≡ first_of ((lacks_frames s name.0 (touched offset (length bytes)), NoMemory) ∷ [])
+  open_row : first_of (refusals s (VmoWrite name offset bytes)) ≡ first_of ((not (target_of s name.0).may_write, AccessDenied) ∷ range_rows)
+  unfolding memory_rows range_rows
+  open_row = first_of-skip (not (is_open s name.0)) BadHandle ((not (target_of s name.0).may_write, AccessDenied) ∷ range_rows) (open_at s name.0 target named)
+
+  -- a name that may not write
+  pub write_denied : target.may_write ≡ false → Step s (VmoWrite name offset bytes) (Refused AccessDenied) s
+  write_denied may = Step-refused s (VmoWrite name offset bytes) AccessDenied
+      (open_row ∙ first_of-hit (not (target_of s name.0).may_write) AccessDenied range_rows (locked_at false may))
+
+  module _ (may : target.may_write ≡ true) where
+    write_row : first_of (refusals s (VmoWrite name offset bytes)) ≡ first_of range_rows
+    write_row = open_row ∙ first_of-skip (not (target_of s name.0).may_write) AccessDenied range_rows (locked_at true may)
+
+    -- a range that passes the end
+    pub write_past : name_pages s.content target * PAGE < offset + length bytes → Step s (VmoWrite name offset bytes) (Refused OutOfRange) s
     unfolding range_rows
-    memory_row =
-        first_of-skip (not (is_open s name.0)) BadHandle range_rows (open_at s name.0 v named)
-        ∙ first_of-skip (nat_lt (size_of s name.0) (offset + length bytes)) OutOfRange ((lacks_frames s name.0 (touched offset (length bytes)), NoMemory) ∷ []) (within_at s name.0 v (offset + length bytes) named inside)
+    write_past h = Step-refused s (VmoWrite name offset bytes) OutOfRange
+        (write_row ∙ first_of-hit (nat_lt (size_of s name.0) (offset + length bytes)) OutOfRange memory_rows (past_at s name.0 target named (offset + length bytes) h))
 
-    lacks_at : lacks_frames s name.0 (touched offset (length bytes)) ≡ nat_lt s.content.frames (used s.content + n)
-    lacks_at =
-        ap (λ (u : ℕ). nat_lt s.content.frames (used s.content + need s.content u (touched offset (length bytes)))) (koid_of-at s name.0 v named)
-        ∙ ap (λ (m : ℕ). nat_lt s.content.frames (used s.content + m)) (ap (need s.content v) row ∙ sym counted)
+    -- a range inside the name, its place in the VMO, the pages that it touches there, and what owning them takes
+    module _ (at first end n : ℕ) (placed : IsPlaced s.content target offset (length bytes) at) (row : touched at (length bytes) ≡ range_with_len first (end - first)) (counted : n ≡ need s.content target.koid (range_with_len first (end - first))) where
+      memory_row : first_of (refusals s (VmoWrite name offset bytes)) ≡ first_of memory_rows
+      unfolding range_rows
+      memory_row = write_row
+          ∙ first_of-skip (nat_lt (size_of s name.0) (offset + length bytes)) OutOfRange memory_rows (within_at s name.0 target named (offset + length bytes) placed.range)
 
-    -- the machine has too few free frames
-    pub write_no_memory : s.content.frames < used s.content + n → Step s (VmoWrite name offset bytes) (Refused NoMemory) s
-    write_no_memory h = Step-refused s (VmoWrite name offset bytes) NoMemory
-        (memory_row ∙ first_of-hit (lacks_frames s name.0 (touched offset (length bytes))) NoMemory [] (lacks_at ∙ test_less s.content.frames (used s.content + n) h))
+      lacks_at : lacks_frames s name.0 (touched (place_of s name.0 offset) (length bytes)) ≡ nat_lt s.content.frames (used s.content + n)
+      lacks_at =
+          spot s name.0 target named offset at placed.place (λ v a. nat_lt s.content.frames (used s.content + need s.content v (touched a (length bytes))))
+          ∙ ap (λ (m : ℕ). nat_lt s.content.frames (used s.content + m)) (ap (need s.content target.koid) row ∙ sym counted)
 
-    module _ (free : used s.content + n ≤ s.content.frames) where
-      no_row : first_of (refusals s (VmoWrite name offset bytes)) ≡ None
-      no_row = memory_row ∙ first_of-skip (lacks_frames s name.0 (touched offset (length bytes))) NoMemory [] (lacks_at ∙ test_not_less s.content.frames (used s.content + n) free)
+      -- the machine has too few free frames
+      pub write_no_memory : s.content.frames < used s.content + n → Step s (VmoWrite name offset bytes) (Refused NoMemory) s
+      unfolding memory_rows
+      write_no_memory h = Step-refused s (VmoWrite name offset bytes) NoMemory
+          (memory_row ∙ first_of-hit (lacks_frames s name.0 (touched (place_of s name.0 offset) (length bytes))) NoMemory [] (lacks_at ∙ test_less s.content.frames (used s.content + n) h))
 
-      -- the host has too little memory for the pages that are not sole
-      pub write_lacks : 0 < n → Step s (VmoWrite name offset bytes) (Refused HostMemory) s
-      write_lacks h = Step-lacks s (VmoWrite name offset bytes) no_row
-          (ap (λ (u : ℕ). list_any (λ p. not (sole s.content u p)) (touched offset (length bytes))) (koid_of-at s name.0 v named)
-          ∙ ap (list_any (λ p. not (sole s.content v p))) row
-          ∙ unowned-any s.content v first (end - first) (omega (arith, h, counted, need-row s.content v first (end - first))))
+      module _ (free : used s.content + n ≤ s.content.frames) where
+        no_row : first_of (refusals s (VmoWrite name offset bytes)) ≡ None
+        unfolding memory_rows
+        no_row = memory_row ∙ first_of-skip (lacks_frames s name.0 (touched (place_of s name.0 offset) (length bytes))) NoMemory [] (lacks_at ∙ test_not_less s.content.frames (used s.content + n) free)
 
-      -- the bytes are written
-      pub write_done : (new : Content) → Writes s.content v (pieces offset bytes) new → Step s (VmoWrite name offset bytes) Done (record { content = new; names = s.names })
-      write_done new writes = Step-done s (VmoWrite name offset bytes) Done (record { content = new; names = s.names }) no_row
-          (refl, refl, subst (λ (u : ℕ). Writes s.content u (pieces offset bytes) new) (sym (koid_of-at s name.0 v named)) writes)
+        -- the host has too little memory for the pages that are not sole
+        pub write_lacks : (t : State) → t ≡ s → 0 < n → Step s (VmoWrite name offset bytes) (Refused HostMemory) t
+        write_lacks t same h = Step-lacks s t (VmoWrite name offset bytes) no_row
+            (spot s name.0 target named offset at placed.place (λ v a. list_any (λ p. not (sole s.content v p)) (touched a (length bytes)))
+            ∙ ap (list_any (λ p. not (sole s.content target.koid p))) row
+            ∙ unowned-any s.content target.koid first (end - first) (omega (arith, h, counted, need-row s.content target.koid first (end - first))))
+            same
+
+        -- the bytes are written
+        pub write_done : (new : Content) → Writes s.content target.koid (pieces at bytes) new → Step s (VmoWrite name offset bytes) Done (record s { content = new })
+        write_done new writes = Step-done s (VmoWrite name offset bytes) Done (record s { content = new }) no_row (
+          refl,
+          refl,
+          refl,
+          subst (λ (t : Name). Writes s.content t.koid (pieces (t.first * PAGE + offset) bytes) new) (sym (target_of-at s name.0 target named))
+              (subst (λ (a : ℕ). Writes s.content target.koid (pieces a bytes) new) placed.place writes),
+        )

@@ -1,21 +1,23 @@
--- What a `Vm` shows: the names that are open, each with its koid.
-use Rattle.std.specs.Prelude.{ℕ, ◌==◌, Option}
-use Rattle.std.specs.Option.{option_map}
-use Rattle.std.specs.HashMap.{get, spare}
-use Rattle.vm_base.specs.declared.names.VmoName.{VmoName}
-use Rattle.vm_base.specs.declared.names.Koid.{Koid}
-use Rattle.vm_model.specs.Content.{Content}
-use Rattle.vm_model.specs.State.{State}
+-- The state of the machine that a `Vm` and its store stand for.
+use Rattle.std.specs.Prelude.{◌≡◌, ℕ, ◌+◌, ◌*◌, ◌≤◌, IsSome}
+use Rattle.vm_base.specs.declared.pages.TheConstants.{PAGE}
+use Rattle.vm_model.specs.Content.{Content, pages_of}
+use Rattle.vm_model.specs.Names.{Name}
+use Rattle.vm_model.specs.State.{State, name_pages}
+use Rattle.vmo_table.specs.Table.{names_of, lineage_in}
 use Rattle.vm_core.specs.declared.vm.Vm.{Vm}
 
--- the koid of each name that is open
-unfoldable pub names_of : Vm → ℕ → Option ℕ
-names_of vm name = option_map (λ (koid : Koid). koid.0) (get (λ (m n : VmoName). m.0 == n.0) vm.names (record { 0 = name }))
-
--- how many more names fit before the host is asked for memory
-unfoldable pub room_of : Vm → ℕ
-room_of vm = spare vm.names
-
--- the state of the machine: the content of its store, and its names
+-- the content of the store, and the names and the lineage of the table
 abbrev pub state_of : Content → Vm → State
-state_of c vm = record { content = c; names = names_of vm }
+state_of c vm = record { content = c; names = names_of vm.vmos; lineage = lineage_in vm.vmos }
+
+-- what the name stands for lies inside its VMO
+pub record IsInside (c : Content) (target : Name) : Type 0 where
+  pub vmo : IsSome (c.count target.koid)
+  pub pages : target.first + name_pages c target ≤ pages_of c target.koid
+
+-- a range of a name lies inside it, at this place in the VMO
+pub record IsPlaced (c : Content) (target : Name) (offset len at : ℕ) : Type 0 where
+  pub range : offset + len ≤ name_pages c target * PAGE
+  pub place : at ≡ target.first * PAGE + offset
+  pub inside : at + len ≤ pages_of c target.koid * PAGE

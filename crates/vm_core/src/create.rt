@@ -9,10 +9,10 @@ ghost use Rattle.vm_core.specs.Vm.{state_of};
 use crate::vm::Vm;
 use page_store::PageStore;
 use vm_base::{PAGE, Refusal, VMO_PAGES, VmoName, page_of, round_up};
-use vm_model::Reply;
+use vm_model::{Origin, Reply};
 
-/// Makes a VMO of zero pages, `size` bytes rounded up to whole pages, and lets the name stand for
-/// it. Whether it may be resized has no effect.
+/// Makes a VMO of zero pages, `size` bytes rounded up to whole pages, and lets the name stand for it.
+/// The name may write to it, and may resize it exactly where it is resizable.
 pub(crate) fn vmo_create<P: PageStore>(
     vm: &mut Vm,
     store: &mut P,
@@ -22,22 +22,24 @@ pub(crate) fn vmo_create<P: PageStore>(
 ) -> Reply
     requires good { IsGoodState (state_of (P.content store.old) vm.old) }
     requires next { (P.content store.old).next < 2 ^ 63 }
-    ensures { Step (state_of (P.content store.old) vm.old)
+    ensures step { Step (state_of (P.content store.old) vm.old)
         (Command.VmoCreate name size resizable) result (state_of (P.content store.new) vm.new) }
+    ensures name { name.0 < 2 ^ 32 }
 {
-    if vm.koid_of(name).is_some() {
+    if vm.vmos.resolve(name).is_some() {
         return Reply::Refused(Refusal::NameInUse);
     }
     let Some(whole) = round_up(size, VMO_PAGES * PAGE) else {
         return Reply::Refused(Refusal::OutOfRange);
     };
     // Room for the name comes first, so that nothing is left to undo.
-    if vm.reserve_name().is_err() {
+    let Ok(()) = vm.vmos.reserve() else {
         return Reply::Refused(Refusal::HostMemory);
-    }
+    };
     let Ok(koid) = store.create(page_of(whole)) else {
         return Reply::Refused(Refusal::HostMemory);
     };
-    vm.enter_name(name, koid);
+    vm.vmos
+        .enter(name, koid, resizable, Origin::Created, None, true);
     Reply::Done
 }

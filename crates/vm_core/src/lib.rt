@@ -1,10 +1,12 @@
 //! The machine: its names, and what each command does to a store of pages.
 //!
-//! It stands on `page_store`, whose trait it is generic over, and on the words of `vm_model`, whose
-//! step relation is its contract. The layers above make a `Vm` by `Vm::new`, give it commands by
-//! `Vm::step`, and know of it the names that are open and the step.
+//! It stands on `page_store`, whose trait it is generic over, on `vmo_table` for names and lineage, and
+//! on the words of `vm_model`, whose step relation is its contract. The layers above make a `Vm` by
+//! `Vm::new`, give it commands by `Vm::step`, and know of it the state that it stands for over a store.
 #![tactic(auto)]
 
+mod child;
+mod close;
 mod create;
 mod owning;
 mod range;

@@ -1,21 +1,44 @@
-//! Ranges of a VMO, in bytes from its first byte.
+//! Ranges of a name, in bytes from its first byte, and ranges of a VMO.
 
-ghost use Rattle.std.specs.Prelude.{◌≡◌, ◌+◌, ◌-◌, ◌*◌, ◌/◌, ◌<◌, ◌≤◌, ◌↔◌, IsSome, IsTrue};
+ghost use Rattle.std.specs.Prelude.{◌≡◌, ◌+◌, ◌-◌, ◌*◌, ◌/◌, ◌<◌, ◌≤◌, ◌↔◌, IsTrue, IfNone, IfSome};
 ghost use Rattle.std.specs.List.{range_with_len};
-ghost use Rattle.vm_model.specs.Content.{pages_of, IsGood};
+ghost use Rattle.vm_model.specs.Content.{IsGood};
+ghost use Rattle.vm_model.specs.State.{name_pages};
 ghost use Rattle.vm_model.specs.Writing.{touched};
+ghost use Rattle.vmo_table.specs.Table.{name_of};
+ghost use Rattle.vm_core.specs.Vm.{IsInside, IsPlaced};
 
 use crate::size::size_in_bytes;
 use page_store::PageStore;
-use vm_base::{Koid, PAGE, PageNo, page_of};
+use vm_base::{PAGE, PageNo, page_of};
+use vmo_table::Target;
 
-/// Whether the range lies inside the VMO. An offset and a length whose sum passes 2^64 do not.
-pub(crate) fn is_in_range<P: PageStore>(store: &P, v: Koid, offset: u64, len: u64) -> bool
+/// The place in its VMO, in bytes, of a range of a name. `None` exactly where the range does not lie
+/// inside the name.
+pub(crate) fn place_in_vmo<P: PageStore>(
+    store: &P,
+    target: &Target,
+    offset: u64,
+    len: u64,
+) -> Option<u64>
     requires good { IsGood (P.content store.now) }
-    requires vmo { IsSome ((P.content store.now).count v.0) }
-    ensures { IsTrue result ↔ (offset + len ≤ pages_of (P.content store.now) v.0 * 4096) }
+    requires inside { IsInside (P.content store.now) (name_of target.now) }
+    ensures some { IfSome result (λ at. IsPlaced (P.content store.now) (name_of target.now) offset len at) }
+    ensures none { IfNone result (name_pages (P.content store.now) (name_of target.now) * 4096 < offset + len) }
 {
-    let size = size_in_bytes(store, v);
+    if !is_in_range(store, target, offset, len) {
+        return None;
+    }
+    Some(target.first * PAGE + offset)
+}
+
+// Whether the range lies inside the name. An offset and a length whose sum passes 2^64 do not.
+fn is_in_range<P: PageStore>(store: &P, target: &Target, offset: u64, len: u64) -> bool
+    requires good { IsGood (P.content store.now) }
+    requires inside { IsInside (P.content store.now) (name_of target.now) }
+    ensures { IsTrue result ↔ (offset + len ≤ name_pages (P.content store.now) (name_of target.now) * 4096) }
+{
+    let size = size_in_bytes(store, target);
     len <= size && offset <= size - len
 }
 

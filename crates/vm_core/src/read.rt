@@ -8,13 +8,13 @@ ghost use Rattle.vm_model.specs.State.{IsGoodState};
 ghost use Rattle.vm_model.specs.Step.{Step};
 ghost use Rattle.vm_core.specs.Vm.{state_of};
 
-use crate::range::is_in_range;
+use crate::range::place_in_vmo;
 use crate::vm::Vm;
 use page_store::{Look, PageStore};
 use vm_base::{Koid, PAGE, PageNo, Refusal, VmoName, in_page, page_of};
 use vm_model::{Bytes4k, Reply};
 
-/// Reads `len` bytes, at most a page's, from `offset` bytes into the VMO on. It never wants memory.
+/// Reads `len` bytes, at most a page's, from `offset` bytes into the name on. It never wants memory.
 pub(crate) fn vmo_read<P: PageStore>(
     vm: &Vm,
     store: &P,
@@ -26,16 +26,16 @@ pub(crate) fn vmo_read<P: PageStore>(
     ensures { Step (state_of (P.content store.now) vm.now)
         (Command.VmoRead name offset len) result (state_of (P.content store.now) vm.now) }
 {
-    let Some(v) = vm.koid_of(name) else {
+    let Some(target) = vm.vmos.resolve(name) else {
         return Reply::Refused(Refusal::BadHandle);
     };
     if len > PAGE {
         return Reply::Refused(Refusal::InvalidArgs);
     }
-    if !is_in_range(store, v, offset, len) {
+    let Some(at) = place_in_vmo(store, &target, offset, len) else {
         return Reply::Refused(Refusal::OutOfRange);
-    }
-    Reply::Bytes(bytes_of_range(store, v, offset, len))
+    };
+    Reply::Bytes(bytes_of_range(store, target.koid, at, len))
 }
 
 // The bytes of a range inside the VMO, page by page.

@@ -6,8 +6,8 @@ use super::*;
 use page_store::{FlatStore, PageStore};
 use std::process::Abort;
 use std::test::Fail;
-use vm_base::{Refusal, VmoName};
-use vm_model::{Bytes4k, Command, Reply, Stat};
+use vm_base::{Koid, PinName, Refusal, VmoName};
+use vm_model::{Bytes4k, ChildKind, Command, Reply, Stat};
 
 fn bytes_of(bytes: &[u8]) -> Bytes4k
     requires { length bytes.now ≤ 4096 }
@@ -53,6 +53,22 @@ fn close(name: u32) -> Command {
     Command::VmoClose {
         name: VmoName(name),
     }
+}
+
+fn snapshot(name: u32, parent: u32, offset: u64, size: u64, no_write: bool) -> Command {
+    Command::VmoChild {
+        name: VmoName(name),
+        parent: VmoName(parent),
+        kind: ChildKind::Snapshot,
+        offset,
+        size,
+        resizable: false,
+        no_write,
+    }
+}
+
+fn unpin(pin: u32) -> Command {
+    Command::VmoUnpin { pin: PinName(pin) }
 }
 
 fn is_done(reply: &Reply) -> bool {
@@ -128,8 +144,8 @@ fn tells_of_the_machine<P: PageStore>(rt: &impl Abort, vm: &mut Vm, store: &mut 
     assert!(rt; is_number(&vm.step(store, &size(1)), 8192));
     assert!(rt; is_number(&vm.step(store, &size(2)), 12288));
     assert!(rt; has_counts(&vm.step(store, &Command::Stat), counts));
-    assert!(rt; is_unbuilt(&vm.step(store, &close(1))));
-    assert!(rt; is_unbuilt(&vm.step(store, &close(3))));
+    assert!(rt; is_unbuilt(&vm.step(store, &unpin(1))));
+    assert!(rt; is_unbuilt(&vm.step(store, &unpin(3))));
     assert!(rt; is_number(&vm.step(store, &size(1)), 8192));
     assert!(rt; has_counts(&vm.step(store, &Command::Stat), counts));
 }
@@ -137,6 +153,8 @@ fn tells_of_the_machine<P: PageStore>(rt: &impl Abort, vm: &mut Vm, store: &mut 
 fn refuses_commands<P: PageStore>(rt: &impl Abort, vm: &mut Vm, store: &mut P)
     requires good { IsGoodState (state_of (P.content store.old) vm.old) }
     requires next { (P.content store.old).next < 1000 }
+    ensures good { IsGoodState (state_of (P.content store.new) vm.new) }
+    ensures next { (P.content store.new).next ≤ (P.content store.old).next + 10 }
 {
     let rows = [
         (create(1, 1), Refusal::NameInUse),
@@ -158,6 +176,48 @@ fn refuses_commands<P: PageStore>(rt: &impl Abort, vm: &mut Vm, store: &mut P)
     }
 }
 
+// On a machine with three frames, two of them in use, and the VMOs 1 and 2.
+fn forks_and_closes<P: PageStore>(rt: &impl Abort, vm: &mut Vm, store: &mut P)
+    requires good { IsGoodState (state_of (P.content store.old) vm.old) }
+    requires next { (P.content store.old).next < 2000 }
+    ensures good { IsGoodState (state_of (P.content store.new) vm.new) }
+    ensures next { (P.content store.new).next ≤ (P.content store.old).next + 8 }
+{
+    assert!(rt; is_done(&vm.step(store, &snapshot(3, 1, 4096, 8192, true))));
+    assert!(rt; is_number(&vm.step(store, &size(3)), 8192));
+    assert!(rt; is_done(&vm.step(store, &write(1, 4096, &[9]))));
+    assert!(rt; has_bytes(&vm.step(store, &read(3, 0, 2)), &[3, 0]));
+    assert!(rt; has_bytes(&vm.step(store, &read(3, 4096, 1)), &[0]));
+    assert!(rt; is_refused(&vm.step(store, &write(3, 0, &[1])), Refusal::AccessDenied));
+    assert!(rt; is_done(&vm.step(store, &close(1))));
+    assert!(rt; has_bytes(&vm.step(store, &read(3, 0, 2)), &[3, 0]));
+}
+
+// A refused snapshot uses no koid: the next VMO of the store has the number of this one.
+fn keeps_koids<P: PageStore>(rt: &impl Abort, vm: &mut Vm, store: &mut P) -> Result<(), Fail>
+    requires good { IsGoodState (state_of (P.content store.old) vm.old) }
+    requires next { (P.content store.old).next < 3000 }
+{
+    let rows = [
+        (snapshot(4, 1, 0, 1, false), Refusal::BadHandle),
+        (snapshot(3, 2, 0, 1, false), Refusal::NameInUse),
+        (snapshot(4, 2, 1, 1, false), Refusal::InvalidArgs),
+        (
+            snapshot(4, 2, 4096, 68719476736, false),
+            Refusal::OutOfRange,
+        ),
+        (close(1), Refusal::BadHandle),
+    ];
+    for (command, refusal) in &rows {
+        assert!(rt;
+            is_refused(&vm.step(store, command), *refusal),
+            "for {command:?}"
+        );
+    }
+    assert_eq!(rt; store.create(1)?, Koid(4));
+    Ok(())
+}
+
 #[test]
 fn steps_over_a_flat_store(rt: HostRuntime) -> Result<(), Fail> {
     let mut vm = Vm::new(rt.alloc());
@@ -166,5 +226,6 @@ fn steps_over_a_flat_store(rt: HostRuntime) -> Result<(), Fail> {
     takes_commands(&rt, &mut vm, &mut store);
     tells_of_the_machine(&rt, &mut vm, &mut store);
     refuses_commands(&rt, &mut vm, &mut store);
-    Ok(())
+    forks_and_closes(&rt, &mut vm, &mut store);
+    keeps_koids(&rt, &mut vm, &mut store)
 }

@@ -1,36 +1,37 @@
-//! The names of the machine, and its step.
+//! The machine, and its step.
 
-ghost use Rattle.std.specs.Prelude.{◌≡◌, ℕ, ◌+◌, ◌<◌, ◌≤◌, ◌^◌, None, IsSome, IsTrue, OnOk, OnErr};
-ghost use Rattle.std.specs.Option.{option_map};
+ghost use Rattle.std.specs.Prelude.{◌≡◌, ℕ, ◌+◌, ◌<◌, ◌≤◌, ◌^◌, None};
 
+use crate::child::vmo_snapshot;
+use crate::close::vmo_close;
 use crate::create::vmo_create;
 use crate::read::vmo_read;
 use crate::size::vmo_size;
 use crate::stat::stat;
 use crate::write::vmo_write;
 use page_store::PageStore;
-use std::alloc::{AllocError, Global};
-use std::collections::HashMap;
-use vm_base::{Koid, VmoName};
-use vm_model::{Command, Reply};
+use std::alloc::Global;
+use vm_model::{ChildKind, Command, Reply};
+use vmo_table::VmoTable;
 
-/// The machine's names, over a store of pages. One `step` is one event.
+/// The names and VMOs of the machine, over a store of pages. One `step` is one event.
 #[derive(Drop)]
 pub struct Vm {
-    names: HashMap<VmoName, Koid>,
+    pub(crate) vmos: VmoTable,
 }
 
 impl Vm {
-    ghost use Rattle.vm_model.specs.State.{with_name, IsGoodState};
+    ghost use Rattle.vm_model.specs.State.{IsGoodState, empty_state};
+    ghost use Rattle.vm_model.specs.Content.{Content, nothing};
     ghost use Rattle.vm_model.specs.Step.{Step};
-    ghost use Rattle.vm_core.specs.Vm.{names_of, room_of, state_of};
+    ghost use Rattle.vm_core.specs.Vm.{state_of};
 
-    /// A machine with no names.
+    /// A machine with no names. Over a store with page frames and no VMO it is the empty machine.
     pub fn new(alloc: Global) -> Vm
-        ensures { (name : ℕ) → names_of result name ≡ None }
+        ensures { (frames : ℕ) → state_of (record nothing { frames = frames }) result ≡ empty_state frames }
     {
         Vm {
-            names: HashMap::new(alloc),
+            vmos: VmoTable::new(alloc),
         }
     }
 
@@ -52,6 +53,18 @@ impl Vm {
                 size,
                 resizable,
             } => vmo_create(self, store, *name, *size, *resizable),
+            Command::VmoChild {
+                name,
+                parent,
+                kind: ChildKind::Snapshot,
+                offset,
+                size,
+                resizable,
+                no_write,
+            } => vmo_snapshot(
+                self, store, *name, *parent, *offset, *size, *resizable, *no_write,
+            ),
+            Command::VmoClose { name } => vmo_close(self, store, *name),
             Command::VmoRead { name, offset, len } => vmo_read(self, store, *name, *offset, *len),
             Command::VmoWrite {
                 name,
@@ -62,29 +75,5 @@ impl Vm {
             Command::Stat => stat(self, store),
             _ => Reply::Unbuilt,
         }
-    }
-
-    /// The koid of the VMO that the name stands for, where it is open.
-    pub(crate) fn koid_of(&self, name: VmoName) -> Option<Koid>
-        ensures { option_map (λ v. v.0) result ≡ names_of self.now name.0 }
-    {
-        self.names.get(&name).copied()
-    }
-
-    /// Makes room for one more name. An error where the host has too little memory.
-    pub(crate) fn reserve_name(&mut self) -> Result<(), AllocError>
-        ensures names { names_of self.new ≡ names_of self.old }
-        ensures room { OnOk result (1 ≤ room_of self.new) }
-    {
-        self.names.reserve(1)
-    }
-
-    /// Enters a name for which there is room.
-    pub(crate) fn enter_name(&mut self, name: VmoName, koid: Koid)
-        requires { 1 ≤ room_of self.old }
-        ensures { names_of self.new ≡ with_name (names_of self.old) name.0 koid.0 }
-    {
-        // It succeeds, since there is room.
-        let _entered = self.names.insert(name, koid);
     }
 }

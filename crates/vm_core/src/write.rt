@@ -10,13 +10,13 @@ ghost use Rattle.vm_model.specs.Step.{Step};
 ghost use Rattle.vm_core.specs.Vm.{state_of};
 
 use crate::owning::{need_of, own_for_write, reserve_need};
-use crate::range::{is_in_range, touched_pages};
+use crate::range::{place_in_vmo, touched_pages};
 use crate::vm::Vm;
 use page_store::PageStore;
 use vm_base::{Koid, PAGE, PageNo, Refusal, VmoName};
 use vm_model::Reply;
 
-/// Writes bytes from `offset` bytes into the VMO on. A page that the range touches
+/// Writes bytes from `offset` bytes into the name on, where the name may write. A page that the range touches
 /// and that is not sole takes a frame. It wants memory of the host only for such pages.
 pub(crate) fn vmo_write<P: PageStore>(
     vm: &Vm,
@@ -29,22 +29,26 @@ pub(crate) fn vmo_write<P: PageStore>(
     ensures { Step (state_of (P.content store.old) vm.now)
         (Command.VmoWrite name offset bytes.now) result (state_of (P.content store.new) vm.now) }
 {
-    let Some(v) = vm.koid_of(name) else {
+    let Some(target) = vm.vmos.resolve(name) else {
         return Reply::Refused(Refusal::BadHandle);
     };
-    let len = bytes.len() as u64;
-    if !is_in_range(store, v, offset, len) {
-        return Reply::Refused(Refusal::OutOfRange);
+    if !target.may_write {
+        return Reply::Refused(Refusal::AccessDenied);
     }
-    let (first, end) = touched_pages(offset, len);
+    let len = bytes.len() as u64;
+    let Some(at) = place_in_vmo(store, &target, offset, len) else {
+        return Reply::Refused(Refusal::OutOfRange);
+    };
+    let v = target.koid;
+    let (first, end) = touched_pages(at, len);
     let need = need_of(store, v, first, end);
     if need > u64::from(store.free()) {
         return Reply::Refused(Refusal::NoMemory);
     }
-    if reserve_need(store, need).is_err() {
+    let Ok(()) = reserve_need(store, need) else {
         return Reply::Refused(Refusal::HostMemory);
-    }
-    write_pages(store, v, offset, bytes);
+    };
+    write_pages(store, v, at, bytes);
     Reply::Done
 }
 

@@ -1,13 +1,13 @@
 -- Laws of contents: what holding a page or making a VMO changes, who shows a frame, and how many frames are used.
-use Rattle.std.proofs.Common.{◌≡◌, ◌≢◌, ℕ, suc, ◌+◌, ◌<◌, ◌≤◌, Bool, true, false, not, cond, eqb, ◌&&◌, ◌==◌, List, length, replicate, Option, None, Some, ◌⊎◌, refl, sym, ap, subst, ◌∙◌, inl, inr, arith}
-use Rattle.std.specs.Prelude.{unwrap_or, IsSome, is_some}
-use Rattle.std.proofs.lemmas.Bool.{cases_Bool, cases_eq, and_parts, and_from, and_left, and_right, not_from_true, not_from_false, true_from_ne_false, false_from_ne_true}
-use Rattle.std.proofs.lemmas.Bool.Decides.{nat_tests, Decides-eqb}
+use Rattle.std.proofs.Common.{◌≡◌, ◌≢◌, ℕ, ◌+◌, ◌<◌, ◌≤◌, Bool, true, false, not, cond, ◌&&◌, ◌==◌, length, Option, None, Some, ◌⊎◌, refl, sym, ap, subst, ◌∙◌, inl, inr, arith}
+use Rattle.std.specs.Prelude.{unwrap_or, is_some}
+use Rattle.std.proofs.lemmas.Bool.{cases_Bool, cases_eq, and_parts, and_from, and_left, and_right, not_from_true, not_from_false, false_from_ne_true}
+use Rattle.std.proofs.lemmas.Bool.Decides.{Decides-eqb}
 use Rattle.std.proofs.lemmas.List.{length-replicate}
 use Rattle.vm_base.specs.declared.pages.TheConstants.{PAGE, VMO_PAGES}
-use Rattle.vm_model.specs.Search.{any_below, count_below}
-use Rattle.vm_model.specs.Content.{Page, Content, nothing, zeros, bytes_of, shown, pages_of, has_tag, views, in_use, used, vmos_of, seen_elsewhere, is_sole_page, sole, hold, created, IsGood}
-use Rattle.vm_model.proofs.SearchLaws.{any_below_found, any_below_at, any_below_none, none_below, any_below_same, any_below_either, count_below_same, count_below_le, count_below_one_more, count_below-suc, count_below_none}
+use Rattle.vm_model.specs.Search.{count_below}
+use Rattle.vm_model.specs.Content.{Page, Content, nothing, zeros, bytes_of, pages_of, has_tag, views, in_use, used, vmos_of, seen_elsewhere, is_sole_page, sole, hold, created, IsGood}
+use Rattle.vm_model.proofs.SearchLaws.{any_below_found, any_below_at, any_below_same, count_below_same, count_below_le, count_below_one_more, count_below-suc, count_below_none}
 
 -- ---- equal numbers as tests
 

@@ -1,24 +1,28 @@
 -- The example script has one outcome where the host has memory, and it has that outcome.
-use Rattle.std.proofs.Common.{◌≡◌, ◌≢◌, ℕ, zero, suc, ◌+◌, ◌-◌, ◌*◌, ◌/◌, ◌<◌, ◌≤◌, Bool, true, false, not, cond, List, [], ◌∷◌, ◌++◌, length, take, drop, get_or, Option, None, Some, ◌⊎◌, refl, sym, ap, subst, ◌∙◌, inl, inr, arith}
+use Rattle.std.proofs.Common.{◌≡◌, ◌≢◌, ℕ, ◌+◌, ◌*◌, ◌/◌, ◌<◌, ◌≤◌, Bool, true, false, not, cond, List, [], ◌∷◌, ◌++◌, get_or, Option, None, Some, refl, sym, ap, subst, ◌∙◌, inl, inr, arith}
 use Rattle.std.specs.Prelude.{codes}
-use Rattle.std.specs.Prelude.{nat_lt, unwrap_or, is_some, All, replicate}
+use Rattle.std.specs.Prelude.{nat_lt, is_some}
 use Rattle.std.specs.List.{AllByRecursion}
-use Rattle.std.proofs.lemmas.Bool.{le-ltb, cases_Bool, false_from_ne_true}
+use Rattle.std.proofs.lemmas.Bool.{le-ltb, false_from_ne_true}
 use Rattle.hex.specs.Hex.{decode_pairs, encode_with}
 use Rattle.vm_base.specs.Pages.{rounded}
-use Rattle.vm_base.specs.declared.pages.TheConstants.{PAGE, VMO_PAGES}
+use Rattle.vm_base.specs.declared.pages.TheConstants.{PAGE}
 use Rattle.vm_base.specs.declared.refusal.Refusal.{Refusal}
-use Rattle.vm_base.specs.declared.refusal.Refusal.TheVariants.{BadHandle, NameInUse, InvalidArgs, OutOfRange, NoMemory, HostMemory}
-use Rattle.vm_model.specs.Content.{Page, Content, nothing, zeros, bytes_of, shown, pages_of, in_use, used, sole, hold, created, IsGood}
+use Rattle.vm_base.specs.declared.refusal.Refusal.TheVariants.{BadHandle, AccessDenied, InvalidArgs, OutOfRange, NoMemory, HostMemory}
+use Rattle.vm_model.specs.Content.{Page, Content, nothing, zeros, shown, pages_of, in_use, used, hold, created, IsGood}
 use Rattle.vm_model.specs.Owning.{Owns, need}
 use Rattle.vm_model.specs.Writing.{touched_end, touched, bytes_in, replaced, Piece, piece, pieces, WritesPiece, Writes}
-use Rattle.vm_model.specs.State.{State, empty_state, is_open, koid_of, size_of, with_name}
+use Rattle.vm_model.specs.Maps.{with_key}
+use Rattle.vm_model.specs.Names.{Name, owner}
+use Rattle.vm_model.specs.State.{State, empty_state, is_open, target_of, koid_of, name_pages, size_of, place_of}
 use Rattle.vm_model.specs.Refusals.{lacks_frames, refusals, first_of}
-use Rattle.vm_model.specs.Step.{Effect, IsRefused, StepAfter, Step}
-use Rattle.vm_model.specs.Run.{GivesAs, Gives, Run, Legal}
-use Rattle.vm_model.proofs.ContentLaws.{page-nothing, page-created, page-hold_here, page-hold_other_page, bytes_of-none, bytes_of-some, in_use_found, sole-zero, used-nothing, used-created, IsGood-nothing, IsGood-created}
+use Rattle.vm_model.specs.Step.{with_vmo, Effect, StepAfter, Step}
+use Rattle.vm_model.specs.Run.{GivesAs, Gives, Run}
+use Rattle.vm_model.proofs.ContentLaws.{page-hold_here, page-hold_other_page, bytes_of-none, bytes_of-some, in_use_found, sole-zero, used-nothing, used-created, IsGood-nothing, IsGood-created}
 use Rattle.vm_model.proofs.OwningLaws.{Owned-from_Owns, need-row, unowned, unowned_le}
 use Rattle.vm_model.proofs.WritingLaws.{Writes-keeps_all}
+use Rattle.vm_model.proofs.NamesLaws.{target_of-same}
+use Rattle.vm_model.specs.declared.names.Origin.TheVariants.{Created}
 use Rattle.vm_model.specs.declared.command.Command.{Command}
 use Rattle.vm_model.specs.declared.command.Command.TheVariants.{VmoCreate, VmoRead, VmoWrite}
 use Rattle.vm_model.specs.declared.reply.Reply.{Reply}
@@ -37,11 +41,15 @@ write_line = codes "vmo_write v1 4094 aabb"
 abbrev read_line : List ℕ
 read_line = codes "vmo_read v1 4093 5"
 
+-- the two bytes that are written
+abbrev marks : List ℕ
+marks = 170 ∷ 187 ∷ []
+
 abbrev create : Command
 create = VmoCreate (record { 0 = 1 }) 8192 false
 
 abbrev write : Command
-write = VmoWrite (record { 0 = 1 }) 4094 (170 ∷ 187 ∷ [])
+write = VmoWrite (record { 0 = 1 }) 4094 marks
 
 abbrev read : Command
 read = VmoRead (record { 0 = 1 }) 4093 5
@@ -73,25 +81,37 @@ start = empty_state 1024
 
 -- after the first line
 abbrev made : State
-made = record { content = created start.content (rounded 8192 / PAGE); names = with_name start.names 1 start.content.next }
+made = record {
+  content = created start.content (rounded 8192 / PAGE);
+  names = with_key start.names 1 (owner start.content.next true false);
+  lineage = with_key start.lineage start.content.next (record { resizable = false; origin = Created; parent = None });
+}
+
+made-is : with_vmo start 1 (rounded 8192 / PAGE) false ≡ made
+unfolding with_vmo
+made-is = refl
+
+-- what its name stands for
+abbrev target : Name
+target = owner 1 true false
 
 abbrev part : Piece
-part = record { page = 0; at = 4094; bytes = 170 ∷ 187 ∷ [] }
+part = record { page = 0; at = 4094; bytes = marks }
 
 create_free : first_of (refusals start create) ≡ None
 unfolding empty_state
 create_free = refl
 
-made-koid : koid_of made 1 ≡ 1
-unfolding koid_of with_name empty_state nothing
-made-koid = refl
+made-target : target_of made 1 ≡ target
+unfolding target_of with_key empty_state nothing
+made-target = refl
 
 made-pages : pages_of made.content 1 ≡ 2
 unfolding pages_of created empty_state nothing
 made-pages = refl
 
 made-open : is_open made 1 ≡ true
-unfolding with_name empty_state nothing
+unfolding with_key empty_state nothing
 made-open = refl
 
 made-page : (v p : ℕ) → made.content.page v p ≡ None
@@ -114,61 +134,69 @@ write-touched : touched 4094 2 ≡ 0 ∷ []
 unfolding touched touched_end
 write-touched = refl
 
-write-pieces : pieces 4094 (170 ∷ 187 ∷ []) ≡ part ∷ []
+write-pieces : pieces 4094 marks ≡ part ∷ []
 unfolding pieces piece touched touched_end
 write-pieces = refl
 
-made-need : need made.content (koid_of made 1) (touched 4094 2) ≤ 1
+made-need : need made.content 1 (touched 4094 2) ≤ 1
 made-need =
-    let row : need made.content (koid_of made 1) (touched 4094 2) ≡ unowned made.content (koid_of made 1) 0 1 =
-    ap (need made.content (koid_of made 1)) write-touched ∙ need-row made.content (koid_of made 1) 0 1 in
-    omega (arith, row, unowned_le made.content (koid_of made 1) 0 1)
+    let row : need made.content 1 (touched 4094 2) ≡ unowned made.content 1 0 1 = ap (need made.content 1) write-touched ∙ need-row made.content 1 0 1 in
+    omega (arith, row, unowned_le made.content 1 0 1)
 
 -- rows none of which refuses
 none_of : (a b c : Bool) (x y z : Refusal) → a ≡ false → b ≡ false → c ≡ false → first_of ((a, x) ∷ (b, y) ∷ (c, z) ∷ []) ≡ None
 none_of a b c x y z e f g = ap (λ t. cond t (Some x) (first_of ((b, y) ∷ (c, z) ∷ []))) e ∙ (ap (λ t. cond t (Some y) (first_of ((c, z) ∷ []))) f ∙ ap (λ t. cond t (Some z) None) g)
 
+-- the size of a name that stands for the target
+size-target : (s : State) → target_of s 1 ≡ target → pages_of s.content 1 ≡ 2 → size_of s 1 ≡ 8192
+size-target s e pages = let size : size_of s 1 ≡ pages_of s.content 1 * PAGE = ap (λ (t : Name). name_pages s.content t * PAGE) e in omega (arith, size, pages)
+
 write_free : first_of (refusals made write) ≡ None
 write_free =
-    let inside : nat_lt (size_of made 1) (4094 + 2) ≡ false = le-ltb (size_of made 1) (4094 + 2) (omega (arith, ap (pages_of made.content) made-koid, made-pages)) in
-    let room : lacks_frames made 1 (touched 4094 2) ≡ false = le-ltb made.content.frames (used made.content + need made.content (koid_of made 1) (touched 4094 2)) (omega (arith, made-used, made-need, made-frames)) in
-    none_of (not (is_open made 1)) (nat_lt (size_of made 1) (4094 + 2)) (lacks_frames made 1 (touched 4094 2)) BadHandle OutOfRange NoMemory (ap not made-open) inside room
+    let size = size-target made made-target made-pages in
+    let inside : nat_lt (size_of made 1) (4094 + 2) ≡ false = le-ltb (size_of made 1) (4094 + 2) (omega (arith, size)) in
+    let needed : need made.content (koid_of made 1) (touched (place_of made 1 4094) 2) ≡ need made.content 1 (touched 4094 2) =
+    ap (λ (t : Name). need made.content t.koid (touched (t.first * PAGE + 4094) 2)) made-target in
+    let room : lacks_frames made 1 (touched (place_of made 1 4094) 2) ≡ false =
+    le-ltb made.content.frames (used made.content + need made.content (koid_of made 1) (touched (place_of made 1 4094) 2)) (omega (arith, made-used, needed, made-need, made-frames)) in
+    let may : not (target_of made 1).may_write ≡ false = ap (λ (t : Name). not t.may_write) made-target in
+    ap (λ b. cond b (Some BadHandle) (first_of ((not (target_of made 1).may_write, AccessDenied) ∷ (nat_lt (size_of made 1) (4094 + 2), OutOfRange) ∷ (lacks_frames made 1 (touched (place_of made 1 4094) 2), NoMemory) ∷ []))) (ap not made-open)
+    ∙ none_of (not (target_of made 1).may_write) (nat_lt (size_of made 1) (4094 + 2)) (lacks_frames made 1 (touched (place_of made 1 4094) 2)) AccessDenied OutOfRange NoMemory may inside room
 
--- the same names, the same koids
-koid-same : (s t : State) → s.names ≡ t.names → koid_of s 1 ≡ koid_of t 1
-unfolding koid_of
-koid-same s t e = ap (λ (f : ℕ → Option ℕ). unwrap_or (f 1) 0) e
+-- the same names, the same targets
+target-is : (s : State) → s.names ≡ made.names → target_of s 1 ≡ target
+target-is s e = target_of-same s made 1 (ap (λ (f : ℕ → Option Name). f 1) e) ∙ made-target
 
 -- what the VMO shows after the second line
 pub record IsWritten (s : State) : Type 0 where
   pub names : s.names ≡ made.names
   pub pages : pages_of s.content 1 ≡ 2
-  pub first : shown s.content 1 0 ≡ replaced zeros 4094 (170 ∷ 187 ∷ [])
+  pub first : shown s.content 1 0 ≡ replaced zeros 4094 marks
   pub second : shown s.content 1 1 ≡ zeros
 
 IsWritten-from_effect : (reply : Reply) (s : State) → Effect made write reply s → IsWritten s
 IsWritten-from_effect reply s effect =
-    let w : Writes made.content 1 (part ∷ []) s.content =
-    subst (λ (ps : List Piece). Writes made.content 1 ps s.content) write-pieces (subst (λ (v : ℕ). Writes made.content v (pieces 4094 (170 ∷ 187 ∷ [])) s.content) made-koid effect.2) in
+    let whole : Writes made.content 1 (pieces 4094 marks) s.content = subst (λ (t : Name). Writes made.content t.koid (pieces (t.first * PAGE + 4094) marks) s.content) made-target effect.3 in
+    let w : Writes made.content 1 (part ∷ []) s.content = subst (λ (ps : List Piece). Writes made.content 1 ps s.content) write-pieces whole in
     let piece_ : WritesPiece made.content 1 part w.0 = w.1 in
     let below : 0 < pages_of made.content 1 = omega (arith, made-pages) in
     let owned = Owned-from_Owns made.content piece_.owned 1 0 piece_.tag made-good below piece_.owns in
     let was : shown piece_.owned 1 0 ≡ zeros =
     bytes_of-some (piece_.owned.page 1 0) (record { tag = piece_.tag; bytes = shown made.content 1 0 }) owned.held ∙ bytes_of-none (made.content.page 1 0) (made-page 1 0) in
-    let page : Page = record { tag = piece_.tag; bytes = replaced (shown piece_.owned 1 0) 4094 (170 ∷ 187 ∷ []) } in
+    let page : Page = record { tag = piece_.tag; bytes = replaced (shown piece_.owned 1 0) 4094 marks } in
     let is : s.content ≡ hold piece_.owned 1 0 page = w.2 ∙ piece_.bytes in
     let other : ◌≢◌ {A = ℕ} 1 0 = omega arith in
     let inside : 4094 + 2 ≤ pages_of made.content 1 * PAGE = omega (arith, made-pages) in
-    let kept = Writes-keeps_all 1 4094 (170 ∷ 187 ∷ []) made.content s.content made-good inside (subst (λ (v : ℕ). Writes made.content v (pieces 4094 (170 ∷ 187 ∷ [])) s.content) made-koid effect.2) in
+    let kept = Writes-keeps_all 1 4094 marks made.content s.content made-good inside whole in
     record {
       names = effect.1;
       pages = kept.pages 1 ∙ made-pages;
-      first = ap (λ (c : Content). shown c 1 0) is ∙ (bytes_of-some ((hold piece_.owned 1 0 page).page 1 0) page (page-hold_here piece_.owned 1 0 page) ∙ ap (λ (xs : List ℕ). replaced xs 4094 (170 ∷ 187 ∷ [])) was);
+      first = ap (λ (c : Content). shown c 1 0) is ∙ (bytes_of-some ((hold piece_.owned 1 0 page).page 1 0) page (page-hold_here piece_.owned 1 0 page) ∙ ap (λ (xs : List ℕ). replaced xs 4094 marks) was);
       second = ap (λ (c : Content). shown c 1 1) is ∙ bytes_of-none ((hold piece_.owned 1 0 page).page 1 1) (page-hold_other_page piece_.owned 1 0 page 1 1 other ∙ (owned.other_page 1 other ∙ made-page 1 1));
     }
 
 -- the values at the end of the first page and at the front of the second
-replaced-values : (get_or (replaced zeros 4094 (170 ∷ 187 ∷ [])) 4093 0 ≡ 0) × (get_or (replaced zeros 4094 (170 ∷ 187 ∷ [])) 4094 0 ≡ 170) × (get_or (replaced zeros 4094 (170 ∷ 187 ∷ [])) 4095 0 ≡ 187) × (get_or zeros 0 0 ≡ 0) × (get_or zeros 1 0 ≡ 0)
+replaced-values : (get_or (replaced zeros 4094 marks) 4093 0 ≡ 0) × (get_or (replaced zeros 4094 marks) 4094 0 ≡ 170) × (get_or (replaced zeros 4094 marks) 4095 0 ≡ 187) × (get_or zeros 0 0 ≡ 0) × (get_or zeros 1 0 ≡ 0)
 unfolding replaced zeros
 replaced-values = (refl, refl, refl, refl, refl)
 
@@ -176,7 +204,7 @@ five : (a b c d e a' b' c' d' e' : ℕ) → a ≡ a' → b ≡ b' → c ≡ c' �
 five a b c d e a' b' c' d' e' p q r s t = λ i. p i ∷ q i ∷ r i ∷ s i ∷ t i ∷ []
 
 -- what is read then
-bytes_read : (c : Content) → shown c 1 0 ≡ replaced zeros 4094 (170 ∷ 187 ∷ []) → shown c 1 1 ≡ zeros → bytes_in c 1 4093 5 ≡ 0 ∷ 170 ∷ 187 ∷ 0 ∷ 0 ∷ []
+bytes_read : (c : Content) → shown c 1 0 ≡ replaced zeros 4094 marks → shown c 1 1 ≡ zeros → bytes_in c 1 4093 5 ≡ 0 ∷ 170 ∷ 187 ∷ 0 ∷ 0 ∷ []
 unfolding bytes_in
 bytes_read c first second = five _ _ _ _ _ 0 170 187 0 0
     (ap (λ (xs : List ℕ). get_or xs 4093 0) first ∙ replaced-values.0)
@@ -185,12 +213,16 @@ bytes_read c first second = five _ _ _ _ _ 0 170 187 0 0
     (ap (λ (xs : List ℕ). get_or xs 0 0) second ∙ replaced-values.3)
     (ap (λ (xs : List ℕ). get_or xs 1 0) second ∙ replaced-values.4)
 
+-- what the name shows then
+read_at : (s : State) → IsWritten s → bytes_in s.content (koid_of s 1) (place_of s 1 4093) 5 ≡ 0 ∷ 170 ∷ 187 ∷ 0 ∷ 0 ∷ []
+read_at s w = ap (λ (t : Name). bytes_in s.content t.koid (t.first * PAGE + 4093) 5) (target-is s w.names) ∙ bytes_read s.content w.first w.second
+
 -- nothing refuses the third line
 read_free : (s : State) → IsWritten s → first_of (refusals s read) ≡ None
 read_free s w =
-    let named : is_open s 1 ≡ true = ap (λ (f : ℕ → Option ℕ). is_some (f 1)) w.names ∙ made-open in
-    let koid : koid_of s 1 ≡ 1 = koid-same s made w.names ∙ made-koid in
-    let inside : nat_lt (size_of s 1) (4093 + 5) ≡ false = le-ltb (size_of s 1) (4093 + 5) (omega (arith, ap (pages_of s.content) koid, w.pages)) in
+    let named : is_open s 1 ≡ true = ap (λ (f : ℕ → Option Name). is_some (f 1)) w.names ∙ made-open in
+    let size = size-target s (target-is s w.names) w.pages in
+    let inside : nat_lt (size_of s 1) (4093 + 5) ≡ false = le-ltb (size_of s 1) (4093 + 5) (omega (arith, size)) in
     none_of (not (is_open s 1)) (nat_lt PAGE 5) (nat_lt (size_of s 1) (4093 + 5)) BadHandle InvalidArgs OutOfRange (ap not named) refl inside
 
 -- ---- steps
@@ -229,13 +261,12 @@ example_only replies last whole granted =
     ∙ ap (λ (xs : List Reply). third.0 ∷ xs) rest))))) in
     let each : AllByRecursion (λ r. r ≢ Refused HostMemory) (first.0 ∷ second.0 ∷ third.0 ∷ []) = subst (AllByRecursion (λ r. r ≢ Refused HostMemory)) all granted in
     let one = effect_of_step start create first.0 run.0 create_free first.2 each.0 in
-    let at_made : Step made write second.0 second_run.0 = subst (λ (s : State). Step s write second.0 second_run.0) one.1 second.2 in
+    let at_made : Step made write second.0 second_run.0 = subst (λ (s : State). Step s write second.0 second_run.0) (one.1 ∙ made-is) second.2 in
     let two = effect_of_step made write second.0 second_run.0 write_free at_made each.1.0 in
     let written = IsWritten-from_effect second.0 second_run.0 two in
     let three = effect_of_step second_run.0 read third.0 third_run.0 (read_free second_run.0 written) third.2 each.1.1.0 in
-    let koid : koid_of second_run.0 1 ≡ 1 = koid-same second_run.0 made written.names ∙ made-koid in
     let bytes : third.0 ≡ Bytes (0 ∷ 170 ∷ 187 ∷ 0 ∷ 0 ∷ []) =
-    three.0 ∙ ap (λ (xs : List ℕ). Bytes xs) (ap (λ (v : ℕ). bytes_in second_run.0.content v 4093 5) koid ∙ bytes_read second_run.0.content written.first written.second) in
+    three.0 ∙ ap (λ (xs : List ℕ). Bytes xs) (read_at second_run.0 written) in
     ap texts (all ∙ (λ i. one.0 i ∷ two.0 i ∷ bytes i ∷ [])) ∙ example-texts
 
 -- ---- there is such a run
@@ -249,7 +280,7 @@ abbrev owned : Content
 owned = hold made.content 1 0 (record { tag = 0; bytes = shown made.content 1 0 })
 
 abbrev written : State
-written = record { content = hold owned 1 0 (record { tag = 0; bytes = replaced (shown owned 1 0) 4094 (170 ∷ 187 ∷ []) }); names = made.names }
+written = record { content = hold owned 1 0 (record { tag = 0; bytes = replaced (shown owned 1 0) 4094 marks }); names = made.names; lineage = made.lineage }
 
 write_effect : Effect made write Done written
 write_effect =
@@ -258,19 +289,20 @@ write_effect =
       copies = λ shared. (omega (arith, made-frames), free_tag, refl);
     } in
     let w : Writes made.content 1 (part ∷ []) written.content = (written.content, record { tag = 0; owned = owned; owns = owns; bytes = refl }, refl) in
-    (refl, refl, subst (λ (v : ℕ). Writes made.content v (pieces 4094 (170 ∷ 187 ∷ [])) written.content) (sym made-koid) (subst (λ (ps : List Piece). Writes made.content 1 ps written.content) (sym write-pieces) w))
+    let whole : Writes made.content 1 (pieces 4094 marks) written.content = subst (λ (ps : List Piece). Writes made.content 1 ps written.content) (sym write-pieces) w in
+    (refl, refl, refl, subst (λ (t : Name). Writes made.content t.koid (pieces (t.first * PAGE + 4094) marks) written.content) (sym made-target) whole)
 
 abbrev outcome : List Reply
-outcome = Done ∷ Done ∷ Bytes (bytes_in written.content (koid_of written 1) 4093 5) ∷ []
+outcome = Done ∷ Done ∷ Bytes (bytes_in written.content (koid_of written 1) (place_of written 1 4093) 5) ∷ []
 
 outcome_run : Run start (create_line ∷ write_line ∷ read_line ∷ []) outcome written
 outcome_run =
     let is = IsWritten-from_effect Done written write_effect in
-    let read_reply : Reply = Bytes (bytes_in written.content (koid_of written 1) 4093 5) in (
+    let read_reply : Reply = Bytes (bytes_in written.content (koid_of written 1) (place_of written 1 4093) 5) in (
       made,
       Done ∷ [],
       Done ∷ read_reply ∷ [],
-      give_order create_line create start Done made create-reading (step_of_effect start create Done made create_free (refl, refl)),
+      give_order create_line create start Done made create-reading (step_of_effect start create Done made create_free (refl, sym made-is)),
       (
         written,
         Done ∷ [],
@@ -292,9 +324,7 @@ outcome_run =
 pub example_exists : (replies : List Reply) × (last : State) × Run start (lines_of example_script) replies last × AllByRecursion (λ r. r ≢ Refused HostMemory) replies × (texts replies ≡ example_text)
 example_exists =
     let is = IsWritten-from_effect Done written write_effect in
-    let koid : koid_of written 1 ≡ 1 = koid-same written made is.names ∙ made-koid in
-    let bytes : bytes_in written.content (koid_of written 1) 4093 5 ≡ 0 ∷ 170 ∷ 187 ∷ 0 ∷ 0 ∷ [] =
-    ap (λ (v : ℕ). bytes_in written.content v 4093 5) koid ∙ bytes_read written.content is.first is.second in (
+    let bytes = read_at written is in (
       outcome,
       written,
       subst (λ (lines : List (List ℕ)). Run start lines outcome written) (sym example_lines) outcome_run,

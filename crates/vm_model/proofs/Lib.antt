@@ -4,6 +4,9 @@ pub mod OwningLaws
 pub mod SharingLaws
 pub mod RangeLaws
 pub mod WritingLaws
+pub mod MapLaws
+pub mod NamesLaws
+pub mod LeavingLaws
 pub mod StepLaws
 pub mod RunLaws
 pub mod ExampleLaws

@@ -1,9 +1,9 @@
 -- Laws of owning pages: what stays, how many frames it takes, and that contents stay good.
-use Rattle.std.proofs.Common.{◌≡◌, ◌≢◌, ℕ, zero, suc, ◌+◌, ◌-◌, ◌<◌, ◌≤◌, Bool, true, false, not, cond, ◌||◌, List, [], ◌∷◌, length, Option, None, Some, ◌⊎◌, refl, sym, ap, subst, ◌∙◌, inl, inr, arith}
+use Rattle.std.proofs.Common.{◌≡◌, ◌≢◌, ℕ, zero, suc, ◌+◌, ◌-◌, ◌<◌, ◌≤◌, Bool, true, false, not, cond, ◌||◌, length, Option, None, Some, refl, sym, ap, subst, ◌∙◌, inl, inr, arith}
 use Rattle.std.specs.List.{range_with_len, list_any}
-use Rattle.std.proofs.lemmas.Bool.{cases_Bool, cases_eq}
-use Rattle.vm_base.specs.declared.pages.TheConstants.{PAGE, VMO_PAGES}
-use Rattle.vm_model.specs.Content.{Page, Content, bytes_of, shown, pages_of, in_use, used, sole, hold, IsGood}
+use Rattle.std.proofs.lemmas.Bool.{cases_Bool}
+use Rattle.vm_base.specs.declared.pages.TheConstants.{PAGE}
+use Rattle.vm_model.specs.Content.{Page, Content, shown, pages_of, used, sole, hold, IsGood}
 use Rattle.vm_model.specs.Owning.{Owns, need_from, need}
 use Rattle.vm_model.proofs.ContentLaws.{frames-hold, next-hold, count-hold, pages_of-hold, page-hold_here, page-hold_other_page, page-hold_other_vmo, sole_held, sole-hold_new, sole-hold_elsewhere, IsGood-hold_new, used-hold_new, bytes_of-some, bytes_of-none, length-zeros}
 

@@ -1,14 +1,14 @@
 -- Laws of ranges of bytes: the pages that they touch, what falls into each, and the bytes read.
-use Rattle.std.proofs.Common.{◌≡◌, ◌≢◌, ℕ, zero, suc, ◌+◌, ◌-◌, ◌*◌, ◌/◌, ◌%◌, ◌==◌, ◌<◌, ◌≤◌, min, Bool, true, false, not, cond, List, [], ◌∷◌, ◌++◌, length, take, drop, map, get_or, Option, None, Some, ◌⊎◌, refl, sym, ap, subst, ◌∙◌, inl, inr, arith}
-use Rattle.std.specs.Prelude.{slice_range, slice_index}
+use Rattle.std.proofs.Common.{◌≡◌, ◌≢◌, ℕ, zero, suc, ◌+◌, ◌-◌, ◌*◌, ◌/◌, ◌%◌, ◌<◌, ◌≤◌, min, true, not, cond, List, [], ◌∷◌, ◌++◌, length, take, drop, map, get_or, refl, sym, ap, subst, ◌∙◌, inl, inr, arith}
+use Rattle.std.specs.Prelude.{slice_range}
 use Rattle.std.specs.List.{range_with_len, list_any}
 use Rattle.std.proofs.lemmas.Bool.{cases_lt}
 use Rattle.std.proofs.lemmas.List.{length-take, length-drop, length-append, map-append, take_all, get_or-take, get_or-drop}
 use Rattle.std.proofs.lemmas.List.FromFn.{length-map-range_with_len, get_or-map-range_with_len}
 use Rattle.std.proofs.lemmas.Grind.{same_number_lists}
-use Rattle.vm_base.specs.declared.pages.TheConstants.{PAGE, VMO_PAGES}
-use Rattle.vm_model.specs.Content.{Page, Content, shown, pages_of, sole, hold, IsGood}
-use Rattle.vm_model.specs.Writing.{touched_end, touched, byte_at, bytes_in, replaced, Piece, piece, pieces, WritesPiece, Writes}
+use Rattle.vm_base.specs.declared.pages.TheConstants.{PAGE}
+use Rattle.vm_model.specs.Content.{Content, shown, sole, IsGood}
+use Rattle.vm_model.specs.Writing.{touched_end, touched, byte_at, bytes_in, replaced, piece}
 use Rattle.vm_model.specs.Owning.{need_from, need}
 use Rattle.vm_model.proofs.ContentLaws.{eqb_apart}
 use Rattle.vm_model.proofs.OwningLaws.{length-shown, unowned, need-row, unowned-any}

@@ -1,12 +1,11 @@
 -- Laws of lines and runs.
-use Rattle.std.proofs.Common.{◌≡◌, ◌≢◌, ℕ, zero, suc, ◌+◌, ◌<◌, ◌≤◌, ◌==◌, Bool, true, false, cond, List, [], ◌∷◌, ◌++◌, length, take, drop, get_or, Option, None, Some, refl, sym, ap, subst, ◌∙◌, append_assoc, append-nil, take-append-drop, arith}
-use Rattle.std.specs.Prelude.{slice_get}
+use Rattle.std.proofs.Common.{◌≡◌, ◌≢◌, ℕ, suc, ◌<◌, cond, List, [], ◌∷◌, ◌++◌, length, get_or, refl, sym, ap, subst, ◌∙◌, append_assoc, append-nil, arith}
 use Rattle.std.proofs.lemmas.Grind.{flat_map-append}
 use Rattle.vm_model.specs.declared.reply.Reply.{Reply}
-use Rattle.vm_model.specs.State.{State, empty_state}
+use Rattle.vm_model.specs.State.{State}
 use Rattle.vm_model.specs.Text.{text, texts}
-use Rattle.vm_model.specs.Run.{onto_first, lines_of, before_whole, whole_lines, Gives, Run, Legal}
-use Rattle.vm_model.proofs.ContentLaws.{eqb_same, eqb_apart}
+use Rattle.vm_model.specs.Run.{onto_first, lines_of, before_whole, whole_lines, Gives, Run}
+use Rattle.vm_model.proofs.ContentLaws.{eqb_apart}
 
 -- no byte is a line feed
 abbrev pub HasNoFeed : List ℕ → Type 0

@@ -157,3 +157,29 @@ count_below_change (suc n) k p q h others = elim (below_next k n h) [
 -- equal bounds, equal counts
 pub count_below-bound : (m n : ℕ) (p : ℕ → Bool) → m ≡ n → count_below m p ≡ count_below n p
 count_below-bound m n p e = ap (λ (k : ℕ). count_below k p) e
+
+-- what passes counts
+pub count_below_hit : (n k : ℕ) (p : ℕ → Bool) → k < n → p k ≡ true → 0 < count_below n p
+unfolding count_below
+count_below_hit zero k p h e = absurd (omega arith)
+count_below_hit (suc n) k p h e = elim (below_next k n h) [
+  | inl same ↦ let bit : ◌≡◌ {A = ℕ} (cond (p n) 1 0) 1 = ap (λ (b : Bool). cond {A = ℕ} b 1 0) (ap p (sym same) ∙ e) in omega arith
+  | inr less ↦ omega (arith, count_below_hit n k p less e)
+]
+
+-- where something fails, not all count
+pub count_below_miss : (n k : ℕ) (p : ℕ → Bool) → k < n → p k ≡ false → count_below n p < n
+unfolding count_below
+count_below_miss zero k p h e = absurd (omega arith)
+count_below_miss (suc n) k p h e = elim (below_next k n h) [
+  | inl same ↦
+      let bit : ◌≡◌ {A = ℕ} (cond (p n) 1 0) 0 = ap (λ (b : Bool). cond {A = ℕ} b 1 0) (ap p (sym same) ∙ e) in
+      omega (arith, count_below_le n p)
+  | inr less ↦ omega (arith, bit_le (p n), count_below_miss n k p less e)
+]
+
+-- tests that share out what a third passes count together as it does
+pub count_below_split : (n : ℕ) (p q r : ℕ → Bool) → ((k : ℕ) → cond (r k) 1 0 ≡ cond (p k) 1 0 + cond (q k) 1 0) → count_below n r ≡ count_below n p + count_below n q
+unfolding count_below
+count_below_split zero p q r each = refl
+count_below_split (suc n) p q r each = omega (arith, each n, count_below_split n p q r each)

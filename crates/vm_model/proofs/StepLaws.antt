@@ -1,37 +1,75 @@
 -- Laws of the step: a good state stays good.
-use Rattle.std.proofs.Common.{◌≡◌, ◌≢◌, ℕ, zero, suc, ◌+◌, ◌-◌, ◌*◌, ◌/◌, ◌<◌, ◌≤◌, ◌==◌, Bool, true, false, not, cond, List, [], ◌∷◌, length, map, Option, None, Some, ◌⊎◌, refl, sym, ap, subst, ◌∙◌, inl, inr, arith}
+use Rattle.std.proofs.Common.{◌≡◌, ◌≢◌, ℕ, ◌+◌, ◌-◌, ◌*◌, ◌/◌, ◌%◌, ◌<◌, ◌≤◌, ◌==◌, Bool, true, false, not, cond, ◌&&◌, ◌||◌, List, [], ◌∷◌, length, Option, None, Some, refl, sym, ap, subst, ◌∙◌, inl, inr, arith}
 use Rattle.std.specs.Prelude.{nat_lt, unwrap_or, IsSome, is_some}
-use Rattle.std.proofs.lemmas.Bool.{cases_Bool, cases_eq, ltb-false}
-use Rattle.std.proofs.lemmas.Bool.Decides.{nat_tests, Decides-eqb}
+use Rattle.std.proofs.lemmas.Bool.{cases_eq, ltb-false, not-false}
+use Rattle.std.proofs.Math.Nat.{min-le_left, min-le_right}
 use Rattle.vm_base.specs.Pages.{rounded}
 use Rattle.vm_base.specs.declared.pages.TheConstants.{PAGE, VMO_PAGES}
 use Rattle.vm_base.specs.declared.refusal.Refusal.{Refusal}
-use Rattle.vm_base.specs.declared.refusal.Refusal.TheVariants.{BadHandle, NameInUse, OutOfRange, NoMemory}
+use Rattle.vm_base.specs.declared.refusal.Refusal.TheVariants.{BadHandle, NameInUse, AccessDenied, InvalidArgs, OutOfRange, NoMemory}
 use Rattle.vm_model.specs.declared.command.Command.{Command}
-use Rattle.vm_model.specs.declared.command.Command.TheVariants.{VmoCreate, VmoRead, VmoWrite}
+use Rattle.vm_model.specs.declared.command.Command.TheVariants.{VmoCreate, VmoChild, VmoClose, VmoRead, VmoWrite}
+use Rattle.vm_model.specs.declared.command.ChildKind.TheVariants.{Snapshot as SnapshotChild}
+use Rattle.vm_model.specs.declared.names.Origin.TheVariants.{Created, Snapshot}
 use Rattle.vm_model.specs.declared.reply.Reply.{Reply}
 use Rattle.vm_model.specs.Content.{Content, nothing, created, pages_of, IsGood}
+use Rattle.vm_model.specs.Sharing.{snapshotted}
 use Rattle.vm_model.specs.Writing.{touched, pieces, Writes}
-use Rattle.vm_model.specs.State.{State, empty_state, is_open, koid_of, size_of, with_name, IsGoodState}
+use Rattle.vm_model.specs.Maps.{with_key}
+use Rattle.vm_model.specs.Names.{Name, Lineage, NAMES, owner, is_named}
+use Rattle.vm_model.specs.State.{State, empty_state, is_open, is_live, target_of, koid_of, name_pages, size_of, place_of, IsGoodName, IsGoodState}
+use Rattle.vm_model.specs.Leaving.{pruned}
 use Rattle.vm_model.specs.Refusals.{lacks_frames, refusals, first_of}
-use Rattle.vm_model.specs.Step.{Effect, IsRefused, StepAfter, Step}
-use Rattle.vm_model.proofs.ContentLaws.{eqb_same, eqb_apart, eqb_is, count-created, count-created_new, count-created_other, next-created, frames-created, count_from_page, IsGood-created, IsGood-nothing, count-nothing}
+use Rattle.vm_model.specs.Spelling.{HasRanges}
+use Rattle.vm_model.specs.Step.{with_vmo, seen_pages, with_snapshot, Effect, StepAfter, Step}
+use Rattle.vm_model.proofs.ContentLaws.{count-created_new, count-created_other, next-created, frames-created, IsGood-created, IsGood-nothing}
+use Rattle.vm_model.proofs.SharingLaws.{count-snapshotted_new, count-snapshotted_other, next-snapshotted, frames-snapshotted, IsGood-snapshotted, koid_some}
 use Rattle.vm_model.proofs.WritingLaws.{IsKept, Writes-keeps_all}
+use Rattle.vm_model.proofs.MapLaws.{with_key-same, with_key-other, with_key-cases}
+use Rattle.vm_model.proofs.NamesLaws.{is_named-with_key_new, is_named-with_key_kept, names-open, lineage_of-at, lineage_of-same}
+use Rattle.vm_model.proofs.LeavingLaws.{lineage_at, count_at, name_vmo, IsGoodName-same, unnamed, IsGoodState-pruned, next-pruned, frames-pruned}
 
 -- a row that does not refuse: its condition fails, and the rows behind it do not refuse either
 pub first_of-none : (condition : Bool) (refusal : Refusal) (rest : Option Refusal) → cond condition (Some refusal) rest ≡ None → (condition ≡ false) × (rest ≡ None)
 first_of-none true refusal rest e = absurd cc
 first_of-none false refusal rest e = (refl, e)
 
--- ---- names
+-- the name that a command gives, if any, is one that there is
+abbrev pub GivesName : Command → Type 0
+GivesName (VmoCreate name size resizable) = name.0 < NAMES
+GivesName (VmoChild name parent kind offset size resizable no_write) = name.0 < NAMES
+GivesName _ = Unit {0}
 
-pub with_name-new : (names : ℕ → Option ℕ) (name koid : ℕ) → with_name names name koid name ≡ Some koid
-unfolding with_name
-with_name-new names name koid = ap (λ b. cond b (Some koid) (names name)) (eqb_same name)
+-- so it is where the fields of the command are within their types
+pub GivesName-from : (command : Command) → HasRanges command → GivesName command
+GivesName-from (VmoCreate name size resizable) h = h.0
+GivesName-from (VmoChild name parent kind offset size resizable no_write) h = h.0
+GivesName-from _ h = tt
 
-pub with_name-other : (names : ℕ → Option ℕ) (name koid n : ℕ) → n ≢ name → with_name names name koid n ≡ names n
-unfolding with_name
-with_name-other names name koid n apart = ap (λ b. cond b (Some koid) (names n)) (eqb_apart n name apart)
+-- ---- places
+
+-- what lies inside a good name lies inside its VMO
+pub part_inside : (s : State) (target : Name) (offset len : ℕ) → IsGoodName s target → offset + len ≤ name_pages s.content target * PAGE → target.first * PAGE + offset + len ≤ pages_of s.content target.koid * PAGE
+part_inside s target offset len good h = go target.limit refl h where
+  go : (o : Option ℕ) → target.limit ≡ o → offset + len ≤ unwrap_or o (pages_of s.content target.koid) * PAGE → target.first * PAGE + offset + len ≤ pages_of s.content target.koid * PAGE
+  go None e l = omega (arith, good.whole e)
+  go (Some n) e l = omega (arith, (good.part n e).2)
+
+-- a range inside a name that is open, at its place inside the VMO
+pub place_inside : (s : State) (n : ℕ) (target : Name) (offset len : ℕ) → IsGoodState s → s.names n ≡ Some target → offset + len ≤ size_of s n → place_of s n offset + len ≤ pages_of s.content (koid_of s n) * PAGE
+place_inside s n target offset len good e h =
+    part_inside s (target_of s n) offset len (good.names n (target_of s n) (names-open s n (ap is_some e))).1 h
+
+-- the pages of a good name that a snapshot sees lie inside its VMO
+pub seen_inside : (s : State) (target : Name) (start pages p : ℕ) → IsGoodName s target → p < seen_pages s.content target start pages → target.first + start + p < pages_of s.content target.koid
+seen_inside s target start pages p good h = go target.limit refl (omega (arith, h, min-le_right pages (name_pages s.content target - start))) where
+  go : (o : Option ℕ) → target.limit ≡ o → start + p < unwrap_or o (pages_of s.content target.koid) → target.first + start + p < pages_of s.content target.koid
+  go None e l = omega (arith, good.whole e)
+  go (Some n) e l = omega (arith, (good.part n e).2)
+
+-- a snapshot sees no more pages than it has
+pub seen_le : (c : Content) (target : Name) (start pages : ℕ) → seen_pages c target start pages ≤ pages
+seen_le c target start pages = min-le_left pages (name_pages c target - start)
 
 -- ---- what a step keeps
 
@@ -43,98 +81,171 @@ pub record Keeps (old new : State) : Type 0 where
 pub Keeps-same : (old new : State) → IsGoodState old → new ≡ old → Keeps old new
 Keeps-same old new good e = subst (Keeps old) (sym e) (record { good = good; next = omega arith; frames = refl })
 
--- a name that is not open, given to a new VMO
-pub create_keeps : (old : State) (name pages : ℕ) → IsGoodState old → is_open old name ≡ false → pages ≤ VMO_PAGES
-    → Keeps old (record { content = created old.content pages; names = with_name old.names name old.content.next })
-create_keeps old name pages good closed few =
-    let c = old.content in
-    let old_count : (v n : ℕ) → c.count v ≡ Some n → (created c pages).count v ≡ Some n =
-    λ v n e. let l : v < c.next = (good.content.koids v n e).1 in let apart : v ≢ c.next = omega arith in count-created_other c pages v apart ∙ e in
+-- a VMO with a lineage is older than the next
+pub lineage_below : (s : State) (v : ℕ) → IsGoodState s → IsSome (s.lineage v) → v < s.content.next
+lineage_below s v good h = koid_some s.content v good.content (count_at s v good h)
+
+-- A name that is not open, given to a VMO that is new. The parent of the VMO, where it has one, is a VMO
+pub enter_keeps : (old : State) (c : Content) (name pages : ℕ) (may_write : Bool) (l : Lineage) → IsGoodState old → name < NAMES → is_open old name ≡ false
+    → IsGood c → c.count old.content.next ≡ Some pages → ((v : ℕ) → v ≢ old.content.next → c.count v ≡ old.content.count v)
+    → c.next ≡ old.content.next + 1 → c.frames ≡ old.content.frames → ((p : ℕ) → l.parent ≡ Some p → IsSome (old.lineage p))
+    → Keeps old (record { content = c; names = with_key old.names name (owner old.content.next may_write l.resizable); lineage = with_key old.lineage old.content.next l })
+enter_keeps old c name pages may_write l good h closed fine new_count other_count next frames parent =
+    let koid = old.content.next in
+    let fresh : Name = owner koid may_write l.resizable in
+    let state : State = record { content = c; names = with_key old.names name fresh; lineage = with_key old.lineage koid l } in
+    let older : (v : ℕ) → IsSome (old.lineage v) → v ≢ koid = λ v there. let below = lineage_below old v good there in omega (arith, below) in
+    let kept : (v : ℕ) → IsSome (old.lineage v) → IsSome (with_key old.lineage koid l v) = λ v there. ap is_some (with_key-other old.lineage koid l v (older v there)) ∙ there in
+    let fresh_good : IsGoodName state fresh = record {
+      vmo = ap is_some new_count;
+      whole = λ e. refl;
+      part = λ n e. absurd cc;
+      resize = λ e. ap (λ (k : Lineage). k.resizable) (lineage_of-at state koid l (with_key-same old.lineage koid l)) ∙ e;
+    } in
     record {
       good = record {
-        content = IsGood-created c pages good.content few;
-        names = λ n v e. elim (cases_eq n name) [
+        content = fine;
+        names = λ n target e. elim (with_key-cases old.names name fresh n target e) [
+          | inl new ↦ (subst (λ (m : ℕ). m < NAMES) (sym new.0) h, subst (IsGoodName state) new.1 fresh_good)
+          | inr was ↦
+              let before = good.names n target was.1 in
+              let apart : target.koid ≢ koid = older target.koid (lineage_at old target.koid good before.1.vmo) in (
+                before.0,
+                IsGoodName-same old state target (other_count target.koid apart)
+                    (ap (λ (k : Lineage). k.resizable) (lineage_of-same state old target.koid (with_key-other old.lineage koid l target.koid apart))) before.1,
+              )
+        ];
+        known = λ v. elim (cases_eq v koid) [
           | inl same ↦
-              let now : ◌≡◌ {A = Option ℕ} (Some c.next) (Some v) = sym (ap (with_name old.names name c.next) same ∙ with_name-new old.names name c.next) ∙ e in
-              let is : c.next ≡ v = cc in
-              ap is_some (ap (created c pages).count (sym is) ∙ count-created_new c pages)
-          | inr apart ↦
-              let before = good.names n v (sym (with_name-other old.names name c.next n apart) ∙ e) in
-              still c pages v (good.content.koids v) before
+              ap (λ (u : ℕ). is_some (with_key old.lineage koid l u)) same
+              ∙ (ap is_some (with_key-same old.lineage koid l) ∙ sym (ap (λ (u : ℕ). is_some (c.count u)) same ∙ ap is_some new_count))
+          | inr apart ↦ ap is_some (with_key-other old.lineage koid l v apart) ∙ (good.known v ∙ ap is_some (sym (other_count v apart)))
         ];
-        live = λ v n e. elim (cases_eq v c.next) [
-          | inl same ↦ (name, with_name-new old.names name c.next ∙ ap (λ (u : ℕ). Some u) (sym same))
-          | inr apart ↦
-              let held = good.live v n (sym (count-created_other c pages v apart) ∙ e) in
-              let other : held.0 ≢ name = λ same.
-              let named : is_open old name ≡ true = ap (λ (m : ℕ). is_some (old.names m)) (sym same) ∙ ap is_some held.1 in
-              let clash : ◌≡◌ {A = Bool} true false = sym named ∙ closed in absurd cc in
-              (held.0, with_name-other old.names name c.next held.0 other ∙ held.1)
+        live = λ v e. elim (cases_eq v koid) [
+          | inl same ↦ ap (is_live state) same ∙ is_named-with_key_new old.names name fresh h
+          | inr apart ↦ is_named-with_key_kept old.names name fresh v closed (good.live v (ap is_some (sym (with_key-other old.lineage koid l v apart)) ∙ e))
+        ];
+        parents = λ v p k e f. elim (with_key-cases old.lineage koid l v k e) [
+          | inl new ↦
+              let there = parent p (ap (λ (j : Lineage). j.parent) new.1 ∙ f) in
+              let below = lineage_below old p good there in
+              (omega (arith, below, new.0), kept p there)
+          | inr was ↦ let before = good.parents v p k was.1 f in (before.0, kept p before.1)
         ];
       };
-      next = omega (arith, next-created c pages);
-      frames = frames-created c pages;
-    } where
-      some_is : (o : Option ℕ) → IsSome o → (n : ℕ) × (o ≡ Some n)
-      some_is None h = absurd cc
-      some_is (Some n) h = (n, refl)
-
-      still : (c : Content) (pages v : ℕ) → ((n : ℕ) → c.count v ≡ Some n → (1 ≤ v) × (v < c.next)) → IsSome (c.count v) → IsSome ((created c pages).count v)
-      still c pages v koids h =
-          let n = some_is (c.count v) h in
-          let l : v < c.next = (koids n.0 n.1).1 in
-          let apart : v ≢ c.next = omega arith in
-          ap is_some (count-created_other c pages v apart) ∙ h
-
--- pages written inside a VMO
-pub write_keeps : (old new : State) (v offset : ℕ) (bytes : List ℕ) → IsGoodState old → offset + length bytes ≤ pages_of old.content v * PAGE → new.names ≡ old.names → Writes old.content v (pieces offset bytes) new.content → Keeps old new
-write_keeps old new v offset bytes good h names w =
-    let kept = Writes-keeps_all v offset bytes old.content new.content good.content h w in
-    record {
-      good = record {
-        content = kept.good;
-        names = λ n u e. ap (λ (f : ℕ → Option ℕ). is_some (f u)) kept.count ∙ good.names n u (ap (λ (f : ℕ → Option ℕ). f n) (sym names) ∙ e);
-        live = λ u n e.
-            let held = good.live u n (ap (λ (f : ℕ → Option ℕ). f u) (sym kept.count) ∙ e) in
-            (held.0, ap (λ (f : ℕ → Option ℕ). f held.0) names ∙ held.1);
-      };
-      next = omega (arith, kept.next);
-      frames = kept.frames;
+      next = omega (arith, next);
+      frames = frames;
     }
 
+-- a new VMO, under a name that is not open
+pub create_keeps : (old : State) (name pages : ℕ) (resizable : Bool) → IsGoodState old → name < NAMES → is_open old name ≡ false → pages ≤ VMO_PAGES → Keeps old (with_vmo old name pages resizable)
+unfolding with_vmo
+create_keeps old name pages resizable good h closed few =
+    let c = old.content in
+    enter_keeps old (created c pages) name pages true (record { resizable = resizable; origin = Created; parent = None }) good h closed
+    (IsGood-created c pages good.content few) (count-created_new c pages) (λ v apart. count-created_other c pages v apart) (next-created c pages) (frames-created c pages)
+    (λ p e. absurd cc)
+
+-- a snapshot of what a name stands for, under a name that is not open
+pub snapshot_keeps : (old : State) (name : ℕ) (target : Name) (start pages : ℕ) (resizable no_write : Bool) → IsGoodState old → name < NAMES → is_open old name ≡ false → IsSome (old.content.count target.koid) → pages ≤ VMO_PAGES → Keeps old (with_snapshot old name target start pages resizable no_write)
+unfolding with_snapshot
+snapshot_keeps old name target start pages resizable no_write good h closed vmo few =
+    let c = old.content in
+    let first = target.first + start in
+    let seen = seen_pages c target start pages in
+    let l : Lineage = record { resizable = resizable; origin = Snapshot; parent = Some target.koid } in
+    enter_keeps old (snapshotted c target.koid first seen pages) name pages (not no_write) l good h closed
+    (IsGood-snapshotted c target.koid first seen pages good.content (seen_le c target start pages) few)
+    (count-snapshotted_new c target.koid first seen pages) (λ v apart. count-snapshotted_other c target.koid first seen pages v apart)
+    (next-snapshotted c target.koid first seen pages) (frames-snapshotted c target.koid first seen pages)
+    (λ p e. let is : target.koid ≡ p = cc in subst (λ (v : ℕ). IsSome (old.lineage v)) is (lineage_at old target.koid good vmo))
+
+-- a name that is closed
+pub close_keeps : (old : State) (name : ℕ) → IsGoodState old → is_open old name ≡ true → Keeps old (pruned (unnamed old name))
+close_keeps old name good open_name = record {
+  good = IsGoodState-pruned old name (target_of old name) good (names-open old name open_name);
+  next = omega (arith, next-pruned (unnamed old name));
+  frames = frames-pruned (unnamed old name);
+}
+
+-- a content with the same VMOs, under the same names
+pub kept_keeps : (old new : State) → IsGoodState old → new.names ≡ old.names → new.lineage ≡ old.lineage → IsKept old.content new.content → Keeps old new
+kept_keeps old new good names lineage kept = record {
+  good = record {
+    content = kept.good;
+    names = λ n target e.
+        let was = good.names n target (ap (λ (f : ℕ → Option Name). f n) (sym names) ∙ e) in (
+          was.0,
+          IsGoodName-same old new target (ap (λ (f : ℕ → Option ℕ). f target.koid) kept.count)
+              (ap (λ (l : Lineage). l.resizable) (lineage_of-same new old target.koid (ap (λ (f : ℕ → Option Lineage). f target.koid) lineage))) was.1,
+        );
+    known = λ v. ap (λ (f : ℕ → Option Lineage). is_some (f v)) lineage ∙ (good.known v ∙ ap (λ (f : ℕ → Option ℕ). is_some (f v)) (sym kept.count));
+    live = λ v h. ap (λ (f : ℕ → Option Name). is_named f v) names ∙ good.live v (ap (λ (f : ℕ → Option Lineage). is_some (f v)) (sym lineage) ∙ h);
+    parents = λ v p l e f.
+        let was = good.parents v p l (ap (λ (g : ℕ → Option Lineage). g v) (sym lineage) ∙ e) f in
+        (was.0, ap (λ (g : ℕ → Option Lineage). is_some (g p)) lineage ∙ was.1);
+  };
+  next = omega (arith, kept.next);
+  frames = kept.frames;
+}
+
+-- pages written inside a VMO
+pub write_keeps : (old new : State) (v offset : ℕ) (bytes : List ℕ) → IsGoodState old → offset + length bytes ≤ pages_of old.content v * PAGE → new.names ≡ old.names → new.lineage ≡ old.lineage → Writes old.content v (pieces offset bytes) new.content → Keeps old new
+write_keeps old new v offset bytes good h names lineage w =
+    kept_keeps old new good names lineage (Writes-keeps_all v offset bytes old.content new.content good.content h w)
+
 -- the effect of a command that nothing refuses
-pub effect_keeps : (old : State) (command : Command) (reply : Reply) (new : State) → IsGoodState old → first_of (refusals old command) ≡ None → Effect old command reply new → Keeps old new
-effect_keeps old (VmoCreate name size resizable) reply new good none effect =
+pub effect_keeps : (old : State) (command : Command) (reply : Reply) (new : State) → IsGoodState old → GivesName command → first_of (refusals old command) ≡ None → Effect old command reply new → Keeps old new
+effect_keeps old (VmoCreate name size resizable) reply new good h none effect =
     let large = nat_lt (VMO_PAGES * PAGE) (rounded size) in
     let open_row = first_of-none (is_open old name.0) NameInUse (first_of ((large, OutOfRange) ∷ [])) none in
     let size_row = first_of-none large OutOfRange None open_row.1 in
     let few : rounded size ≤ VMO_PAGES * PAGE = ltb-false (VMO_PAGES * PAGE) (rounded size) size_row.0 in
-    subst (Keeps old) (sym effect.1) (create_keeps old name.0 (rounded size / PAGE) good open_row.0 (omega arith))
-effect_keeps old (VmoRead name offset len) reply new good none effect = Keeps-same old new good effect.1
-effect_keeps old (VmoWrite name offset bytes) reply new good none effect =
+    subst (Keeps old) (sym effect.1) (create_keeps old name.0 (rounded size / PAGE) resizable good h open_row.0 (omega arith))
+effect_keeps old (VmoChild name parent SnapshotChild offset size resizable no_write) reply new good h none effect =
+    let large = nat_lt (VMO_PAGES * PAGE) (offset + rounded size) in
+    let wrong = not (offset % PAGE == 0) || (resizable && no_write) in
+    let parent_row = first_of-none (not (is_open old parent.0)) BadHandle (first_of ((is_open old name.0, NameInUse) ∷ (wrong, InvalidArgs) ∷ (large, OutOfRange) ∷ [])) none in
+    let open_row = first_of-none (is_open old name.0) NameInUse (first_of ((wrong, InvalidArgs) ∷ (large, OutOfRange) ∷ [])) parent_row.1 in
+    let args_row = first_of-none wrong InvalidArgs (first_of ((large, OutOfRange) ∷ [])) open_row.1 in
+    let size_row = first_of-none large OutOfRange None args_row.1 in
+    let few : offset + rounded size ≤ VMO_PAGES * PAGE = ltb-false (VMO_PAGES * PAGE) (offset + rounded size) size_row.0 in
+    let vmo = name_vmo old parent.0 (target_of old parent.0) good (names-open old parent.0 (not-false (is_open old parent.0) parent_row.0)) in
+    subst (Keeps old) (sym effect.1)
+    (snapshot_keeps old name.0 (target_of old parent.0) (offset / PAGE) (rounded size / PAGE) resizable no_write good h open_row.0 vmo (omega arith))
+effect_keeps old (VmoClose name) reply new good h none effect =
+    let open_row = first_of-none (not (is_open old name.0)) BadHandle None none in
+    subst (Keeps old) (sym effect.1) (close_keeps old name.0 good (not-false (is_open old name.0) open_row.0))
+effect_keeps old (VmoRead name offset len) reply new good h none effect = Keeps-same old new good effect.1
+effect_keeps old (VmoWrite name offset bytes) reply new good h none effect =
+    let locked = not (target_of old name.0).may_write in
     let past = nat_lt (size_of old name.0) (offset + length bytes) in
-    let lacking = lacks_frames old name.0 (touched offset (length bytes)) in
-    let open_row = first_of-none (not (is_open old name.0)) BadHandle (first_of ((past, OutOfRange) ∷ (lacking, NoMemory) ∷ [])) none in
-    let range_row = first_of-none past OutOfRange (first_of ((lacking, NoMemory) ∷ [])) open_row.1 in
+    let lacking = lacks_frames old name.0 (touched (place_of old name.0 offset) (length bytes)) in
+    let open_row = first_of-none (not (is_open old name.0)) BadHandle (first_of ((locked, AccessDenied) ∷ (past, OutOfRange) ∷ (lacking, NoMemory) ∷ [])) none in
+    let write_row = first_of-none locked AccessDenied (first_of ((past, OutOfRange) ∷ (lacking, NoMemory) ∷ [])) open_row.1 in
+    let range_row = first_of-none past OutOfRange (first_of ((lacking, NoMemory) ∷ [])) write_row.1 in
     let inside : offset + length bytes ≤ size_of old name.0 = ltb-false (size_of old name.0) (offset + length bytes) range_row.0 in
-    write_keeps old new (koid_of old name.0) offset bytes good inside effect.1 effect.2
-effect_keeps old _ reply new good none effect = Keeps-same old new good effect.1
+    let is = names-open old name.0 (not-false (is_open old name.0) open_row.0) in
+    write_keeps old new (koid_of old name.0) (place_of old name.0 offset) bytes good (place_inside old name.0 (target_of old name.0) offset (length bytes) good is inside) effect.1 effect.2 effect.3
+effect_keeps old _ reply new good h none effect = Keeps-same old new good effect.1
 
 -- a step keeps a good state good
-pub Step-keeps : (old : State) (command : Command) (reply : Reply) (new : State) → IsGoodState old → Step old command reply new → Keeps old new
-Step-keeps old command reply new good step = go (first_of (refusals old command)) refl step.outcome where
+pub Step-keeps : (old : State) (command : Command) (reply : Reply) (new : State) → IsGoodState old → GivesName command → Step old command reply new → Keeps old new
+Step-keeps old command reply new good h step = go (first_of (refusals old command)) refl step.outcome where
   go : (o : Option Refusal) → first_of (refusals old command) ≡ o → StepAfter o old command reply new → Keeps old new
   go (Some refusal) e refused = Keeps-same old new good refused.same
-  go None e (inl effect) = effect_keeps old command reply new good e effect
+  go None e (inl effect) = effect_keeps old command reply new good h e effect
   go None e (inr lacked) = Keeps-same old new good lacked.0.same
 
 -- a machine with frames and nothing else is good
 pub IsGoodState-empty : (frames : ℕ) → IsGoodState (empty_state frames)
-unfolding empty_state
+unfolding empty_state nothing
 IsGoodState-empty frames = record {
   content = IsGood-nothing frames;
-  names = λ n v e. absurd cc;
-  live = λ v n e. let none : ◌≡◌ {A = Option ℕ} None (Some n) = sym (count-nothing v) ∙ e in absurd cc;
+  names = λ n target e. absurd cc;
+  known = λ v. refl;
+  live = λ v h. absurd cc;
+  parents = λ v p l e f. absurd cc;
 }
 
 -- its first koid is 1

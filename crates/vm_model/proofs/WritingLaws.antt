@@ -1,11 +1,11 @@
 -- Laws of writes: they keep contents good, and change nothing but pages.
-use Rattle.std.proofs.Common.{◌≡◌, ◌≢◌, ℕ, zero, suc, ◌+◌, ◌-◌, ◌*◌, ◌/◌, ◌<◌, ◌≤◌, Bool, true, cond, List, [], ◌∷◌, length, map, Option, None, Some, refl, sym, ap, subst, ◌∙◌, arith}
+use Rattle.std.proofs.Common.{◌≡◌, ◌≢◌, ℕ, zero, suc, ◌+◌, ◌-◌, ◌*◌, ◌/◌, ◌<◌, ◌≤◌, true, cond, List, [], length, map, refl, sym, ap, subst, ◌∙◌, arith}
 use Rattle.std.specs.List.{range_with_len}
 use Rattle.vm_base.specs.declared.pages.TheConstants.{PAGE}
 use Rattle.vm_model.specs.Content.{Page, Content, shown, pages_of, used, sole, hold, IsGood}
 use Rattle.vm_model.specs.Writing.{replaced, Piece, piece, pieces, touched, touched_end, WritesPiece, Writes}
 use Rattle.vm_model.proofs.ContentLaws.{frames-hold, next-hold, count-hold, pages_of-hold, IsGood-hold_bytes, sole-hold_kept, sole-hold_elsewhere, used-hold_kept}
-use Rattle.vm_model.proofs.OwningLaws.{Owned, Owned-from_Owns, length-shown}
+use Rattle.vm_model.proofs.OwningLaws.{Owned-from_Owns, length-shown}
 use Rattle.vm_model.proofs.RangeLaws.{length-replaced, piece_fits, piece-page, touched-row, touched-nil, touched_end_le, touched_below}
 
 -- new has the frames and VMOs of old, and is good

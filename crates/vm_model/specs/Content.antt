@@ -1,5 +1,5 @@
 -- What a page store contains: page frames, and VMOs that show them. From the kernel's VMO pages: sparse, zero until written.
-use Rattle.std.specs.Prelude.{◌≡◌, ℕ, ◌+◌, ◌<◌, ◌≤◌, Bool, true, false, not, ◌&&◌, ◌==◌, List, length, replicate, if◌then◌else◌, Option, None, Some, IsSome, is_some, unwrap_or}
+use Rattle.std.specs.Prelude.{◌≡◌, ℕ, ◌+◌, ◌<◌, ◌≤◌, Bool, false, not, ◌&&◌, ◌==◌, List, length, replicate, if◌then◌else◌, Option, None, Some, is_some, unwrap_or}
 use Rattle.vm_base.specs.declared.pages.TheConstants.{PAGE, VMO_PAGES}
 use Rattle.vm_model.specs.Search.{any_below, count_below}
 

@@ -1,9 +1,12 @@
 pub mod Search
+pub mod Maps
 pub mod Content
 pub mod Owning
 pub mod Sharing
 pub mod Writing
+pub mod Names
 pub mod State
+pub mod Leaving
 pub mod Refusals
 pub mod Step
 pub mod Reading

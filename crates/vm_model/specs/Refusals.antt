@@ -1,15 +1,16 @@
 -- When each command is refused: conditions in the order of the ranks, each with its refusal.
-use Rattle.std.specs.Prelude.{ℕ, ◌+◌, ◌*◌, Bool, true, false, not, nat_lt, List, [], ◌∷◌, length, if◌then◌else◌, Option, None, Some}
+use Rattle.std.specs.Prelude.{ℕ, ◌+◌, ◌*◌, ◌%◌, Bool, not, ◌&&◌, ◌||◌, ◌==◌, nat_lt, List, [], ◌∷◌, length, if◌then◌else◌, Option, None, Some}
 use Rattle.vm_base.specs.Pages.{rounded}
 use Rattle.vm_base.specs.declared.pages.TheConstants.{PAGE, VMO_PAGES}
 use Rattle.vm_base.specs.declared.refusal.Refusal.{Refusal}
-use Rattle.vm_base.specs.declared.refusal.Refusal.TheVariants.{BadHandle, NameInUse, InvalidArgs, OutOfRange, NoMemory}
+use Rattle.vm_base.specs.declared.refusal.Refusal.TheVariants.{BadHandle, NameInUse, AccessDenied, InvalidArgs, OutOfRange, NoMemory}
 use Rattle.vm_model.specs.declared.command.Command.{Command}
-use Rattle.vm_model.specs.declared.command.Command.TheVariants.{VmoCreate, VmoSize, VmoRead, VmoWrite}
+use Rattle.vm_model.specs.declared.command.Command.TheVariants.{VmoCreate, VmoChild, VmoClose, VmoSize, VmoRead, VmoWrite}
+use Rattle.vm_model.specs.declared.command.ChildKind.TheVariants.{Snapshot}
 use Rattle.vm_model.specs.Content.{used}
 use Rattle.vm_model.specs.Owning.{need}
 use Rattle.vm_model.specs.Writing.{touched}
-use Rattle.vm_model.specs.State.{State, is_open, koid_of, size_of}
+use Rattle.vm_model.specs.State.{State, is_open, target_of, koid_of, size_of, place_of}
 
 -- owning these pages of the VMO of this name takes more frames than are free
 abbrev pub lacks_frames : State → ℕ → List ℕ → Bool
@@ -21,6 +22,13 @@ refusals s (VmoCreate name size resizable) =
     (is_open s name.0, NameInUse)
     ∷ (nat_lt (VMO_PAGES * PAGE) (rounded size), OutOfRange)
     ∷ []
+refusals s (VmoChild name parent Snapshot offset size resizable no_write) =
+    (not (is_open s parent.0), BadHandle)
+    ∷ (is_open s name.0, NameInUse)
+    ∷ (not (offset % PAGE == 0) || (resizable && no_write), InvalidArgs)
+    ∷ (nat_lt (VMO_PAGES * PAGE) (offset + rounded size), OutOfRange)
+    ∷ []
+refusals s (VmoClose name) = (not (is_open s name.0), BadHandle) ∷ []
 refusals s (VmoRead name offset len) =
     (not (is_open s name.0), BadHandle)
     ∷ (nat_lt PAGE len, InvalidArgs)
@@ -28,8 +36,9 @@ refusals s (VmoRead name offset len) =
     ∷ []
 refusals s (VmoWrite name offset bytes) =
     (not (is_open s name.0), BadHandle)
+    ∷ (not (target_of s name.0).may_write, AccessDenied)
     ∷ (nat_lt (size_of s name.0) (offset + length bytes), OutOfRange)
-    ∷ (lacks_frames s name.0 (touched offset (length bytes)), NoMemory)
+    ∷ (lacks_frames s name.0 (touched (place_of s name.0 offset) (length bytes)), NoMemory)
     ∷ []
 refusals s (VmoSize name) = (not (is_open s name.0), BadHandle) ∷ []
 -- the other commands refuse nothing: `Stat`, and those that are not built yet

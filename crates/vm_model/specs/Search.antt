@@ -1,6 +1,6 @@
 -- Searching and counting among the numbers below a bound. Both are opaque, since the bound may be large: laws stand in
 -- proofs/SearchLaws.
-use Rattle.std.specs.Prelude.{ℕ, zero, suc, ◌+◌, Bool, true, false, ◌||◌, cond}
+use Rattle.std.specs.Prelude.{ℕ, zero, suc, ◌+◌, Bool, false, ◌||◌, cond}
 
 -- some number below n passes
 unfoldable pub any_below : ℕ → (ℕ → Bool) → Bool

@@ -1,35 +1,65 @@
--- The state of the machine: what the page store contains, and the names of VMOs.
-use Rattle.std.specs.Prelude.{◌≡◌, ℕ, ◌*◌, Bool, ◌==◌, if◌then◌else◌, Option, None, Some, IsSome, is_some, unwrap_or}
+-- The state of the machine: what the page store contains, the names of VMOs, and the lineage of each VMO.
+use Rattle.std.specs.Prelude.{◌≡◌, ℕ, ◌+◌, ◌*◌, ◌<◌, ◌≤◌, Bool, true, false, Option, None, Some, IsSome, is_some, unwrap_or}
 use Rattle.vm_base.specs.declared.pages.TheConstants.{PAGE}
+use Rattle.vm_model.specs.declared.names.NameKind.TheVariants.{Slice}
+use Rattle.vm_model.specs.declared.names.Origin.TheVariants.{Created}
 use Rattle.vm_model.specs.Content.{Content, nothing, pages_of, IsGood}
+use Rattle.vm_model.specs.Names.{Name, Lineage, NAMES, owner, is_named}
 
--- a name that is open stands for a koid
 pub record State : Type 0 where
   pub content : Content
-  pub names : ℕ → Option ℕ
+  pub names : ℕ → Option Name
+  pub lineage : ℕ → Option Lineage
 
 -- a machine with this many frames and nothing else
 unfoldable pub empty_state : ℕ → State
-empty_state frames = record { content = record nothing { frames = frames }; names = λ n. None }
+empty_state frames = record { content = record nothing { frames = frames }; names = λ n. None; lineage = λ v. None }
 
 abbrev pub is_open : State → ℕ → Bool
 is_open s name = is_some (s.names name)
 
--- the koid that the name stands for, 0 where it is not open
-unfoldable pub koid_of : State → ℕ → ℕ
-koid_of s name = unwrap_or (s.names name) 0
+-- what the name stands for. Where it is not open, this means nothing
+unfoldable pub target_of : State → ℕ → Name
+target_of s name = unwrap_or (s.names name) (owner 0 false false)
 
--- the bytes of the VMO that the name stands for
+-- the koid of the VMO that the name stands for
+abbrev pub koid_of : State → ℕ → ℕ
+koid_of s name = (target_of s name).koid
+
+-- how many pages the name has
+abbrev pub name_pages : Content → Name → ℕ
+name_pages c target = unwrap_or target.limit (pages_of c target.koid)
+
+-- the bytes of the name
 abbrev pub size_of : State → ℕ → ℕ
-size_of s name = pages_of s.content (koid_of s name) * PAGE
+size_of s name = name_pages s.content (target_of s name) * PAGE
 
--- the names with one more
-unfoldable pub with_name : (ℕ → Option ℕ) → ℕ → ℕ → ℕ → Option ℕ
-with_name names name koid = λ n. if n == name then Some koid else names n
+-- the place in the VMO, in bytes, of an offset in the name
+abbrev pub place_of : State → ℕ → ℕ → ℕ
+place_of s name offset = (target_of s name).first * PAGE + offset
+
+-- what is kept of the VMO v. Where there is none, this means nothing
+unfoldable pub lineage_of : State → ℕ → Lineage
+lineage_of s v = unwrap_or (s.lineage v) (record { resizable = false; origin = Created; parent = None })
+
+-- a VMO is live while a name stands for it
+abbrev pub is_live : State → ℕ → Bool
+is_live s v = is_named s.names v
+
+-- What holds of every name: it stands for a VMO. A name of a part is a slice, of a VMO that keeps its size, and the part lies
+-- inside the VMO.
+pub record IsGoodName (s : State) (target : Name) : Type 0 where
+  pub vmo : IsSome (s.content.count target.koid)
+  pub whole : target.limit ≡ None → target.first ≡ 0
+  pub part : (n : ℕ) → target.limit ≡ Some n → (target.kind ≡ Slice) × ((lineage_of s target.koid).resizable ≡ false) × (target.first + n ≤ pages_of s.content target.koid)
+  pub resize : target.may_resize ≡ true → (lineage_of s target.koid).resizable ≡ true
 
 -- What holds of every state that the machine comes to.
 pub record IsGoodState (s : State) : Type 0 where
   pub content : IsGood s.content
-  -- a name stands for a VMO, and each VMO is live: a name stands for it
-  pub names : (name v : ℕ) → s.names name ≡ Some v → IsSome (s.content.count v)
-  pub live : (v n : ℕ) → s.content.count v ≡ Some n → (name : ℕ) × (s.names name ≡ Some v)
+  pub names : (n : ℕ) (target : Name) → s.names n ≡ Some target → (n < NAMES) × IsGoodName s target
+  -- the VMOs of the content have a lineage, and no other koid has. Each of them is live
+  pub known : (v : ℕ) → is_some (s.lineage v) ≡ is_some (s.content.count v)
+  pub live : (v : ℕ) → IsSome (s.lineage v) → is_live s v ≡ true
+  -- a parent is a VMO, and older than its child
+  pub parents : (v p : ℕ) (l : Lineage) → s.lineage v ≡ Some l → l.parent ≡ Some p → (p < v) × IsSome (s.lineage p)

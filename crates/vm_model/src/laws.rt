@@ -18,15 +18,17 @@ pub fn the_empty_state_is_good()
     ensures { (frames : ℕ) → IsGoodState (empty_state frames) }
 {}
 
-/// A step of the machine leads from a good state to a good state. It gives at most one koid, and the
-/// machine keeps its frames.
+/// A step of the machine, by a command whose fields are within their types, leads from a good state to a
+/// good state. It gives at most one koid, and the machine keeps its frames.
 pub fn a_step_keeps_the_state_good()
     ensures good { (old new : State) (command : Command) (reply : Reply) →
-        IsGoodState old → Step old command reply new → IsGoodState new }
+        IsGoodState old → HasRanges command → Step old command reply new → IsGoodState new }
     ensures koids { (old new : State) (command : Command) (reply : Reply) →
-        IsGoodState old → Step old command reply new → new.content.next ≤ old.content.next + 1 }
+        IsGoodState old → HasRanges command → Step old command reply new →
+        new.content.next ≤ old.content.next + 1 }
     ensures frames { (old new : State) (command : Command) (reply : Reply) →
-        IsGoodState old → Step old command reply new → new.content.frames ≡ old.content.frames }
+        IsGoodState old → HasRanges command → Step old command reply new →
+        new.content.frames ≡ old.content.frames }
 {}
 
 /// The definitions are neither loose nor empty. On a machine with 1,024 frames each legal run over

@@ -12,12 +12,14 @@
 mod bytes;
 mod command;
 pub mod laws;
+mod names;
 mod numbers;
 mod reply;
 mod runs;
 
 pub use bytes::Bytes4k;
 pub use command::{ChildKind, Command};
+pub use names::{NameKind, Origin};
 pub use numbers::PinNumbers;
 pub use reply::{Info, Reply, Stat};
 pub use runs::{Run, Runs};

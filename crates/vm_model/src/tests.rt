@@ -43,3 +43,11 @@ fn runs_are_kept_in_order(rt: HostRuntime) {
     assert_eq!(rt; runs.push(run), Ok(()));
     assert_eq!(rt; runs.as_slice(), [run].as_slice());
 }
+
+#[test]
+fn bytes_are_added_at_the_end(rt: HostRuntime) {
+    let mut bytes = Bytes4k::new();
+    bytes.extend_from_slice(b"ab");
+    bytes.extend_from_slice(b"c");
+    assert_eq!(rt; bytes.as_slice(), b"abc".as_slice());
+}

@@ -5,7 +5,7 @@ use Rattle.vm_model.specs.Content.{Content, nothing}
 use Rattle.vm_model.specs.State.{State, empty_state}
 use Rattle.vm_model.proofs.ContentLaws.{count-nothing}
 use Rattle.vm_core.specs.declared.vm.Vm.{Vm}
-use Rattle.vm_core.specs.Vm.{names_of, state_of}
+use Rattle.vm_core.specs.Vm.{state_of}
 use Rattle.script_io.specs.Reader.{Reader}
 use Rattle.script_io.specs.Fetching.{IsPending}
 use Rattle.vm_model.proofs.StepLaws.{next-empty}
@@ -21,11 +21,9 @@ pub NothingDone-yet : (source sink : Option (List ℕ)) (c d : Content) → c �
 NothingDone-yet source sink c d same e = record { read = refl; written = refl; store = HasNoVmo-nothing c (same ∙ e) }
 
 -- a store with frames, and a machine with no names
-pub empty_state-filled : (c filled : Content) (frames : ℕ) (vm : Vm) → c ≡ nothing → filled ≡ record c { frames = frames } → ((name : ℕ) → names_of vm name ≡ None) → state_of filled vm ≡ empty_state frames
-unfolding empty_state
+pub empty_state-filled : (c filled : Content) (frames : ℕ) (vm : Vm) → c ≡ nothing → filled ≡ record c { frames = frames } → ((n : ℕ) → state_of (record nothing { frames = n }) vm ≡ empty_state n) → state_of filled vm ≡ empty_state frames
 empty_state-filled c filled frames vm e f none =
-    let content : filled ≡ record nothing { frames = frames } = f ∙ ap (λ (d : Content). record d { frames = frames }) e in
-    λ i. record { content = content i; names = λ name. none name i }
+    ap (λ (d : Content). state_of d vm) (f ∙ ap (λ (d : Content). record d { frames = frames }) e) ∙ none frames
 
 -- a line reader that took nothing yet
 abbrev pub fresh : ℕ → Reader

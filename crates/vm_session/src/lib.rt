@@ -16,4 +16,6 @@ pub use serving::serve;
 pub use session::run;
 
 #[cfg(test)]
+mod family_tests;
+#[cfg(test)]
 mod tests;

@@ -12,10 +12,10 @@ const SCRIPT: &[u8] = b"vmo_create v1 8192\nvmo_write v1 4094 aabb\nvmo_read v1 
 const REPLIES: &[u8] = b"OK\nOK\nOK 00aabb0000\n";
 
 /// The room of a sink that is never full here.
-const ROOM: usize = 4096;
+pub(crate) const ROOM: usize = 4096;
 
 /// How a run over a source in memory ended, and what its sink took.
-fn run_words(
+pub(crate) fn run_words(
     alloc: Global,
     words: &[&str],
     source: &mut MemSource,
@@ -73,7 +73,7 @@ fn scripts_have_their_replies(rt: HostRuntime) -> Result<(), Fail> {
         (b"\n \t\r\n# note\nstatus\nvmo_create v1 1", b"SYNTAX\nOK\n"),
         // A command that is not built is read, and changes nothing.
         (
-            b"vmo_close v1\nvmo_create v1 1 resizable\nvmo_close v1\nvmo_size v1\nstat\nvmo_close\n",
+            b"vmo_fill v1 0 1 0\nvmo_create v1 1 resizable\nvmo_fill v1 0 1 9\nvmo_size v1\nstat\nvmo_fill\n",
             b"UNBUILT\nOK\nUNBUILT\nOK 4096\nOK frames=1024 used=0 free=1024 vmos=1\nSYNTAX\n",
         ),
         // Spellings: what is in the grammar of a line, what is blank, and what is refused.

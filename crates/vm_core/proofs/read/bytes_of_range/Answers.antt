@@ -1,7 +1,7 @@
 use Rattle.std.proofs.Common.{arith, ap, sym, ◌∙◌, ◌+◌, length}
-use Rattle.vm_model.proofs.RangeLaws.{length-bytes_in}
+use Rattle.vm_model.proofs.RangeLaws.{length-bytes_in, bytes_in-nil}
 use Rattle.vm_core.proofs.StepRows.{pages_of_le}
-use Rattle.vm_core.proofs.ReadLaws.{bytes_in-nil, bytes_in-more}
+use Rattle.vm_core.proofs.ReadLaws.{bytes_in-more}
 use Rattle.vm_core.proofs.read.bytes_of_range.Goals as goal
 
 pub loop-done-init : goal.loop-done-init

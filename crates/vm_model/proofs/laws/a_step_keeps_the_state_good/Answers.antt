@@ -1,11 +1,11 @@
-use Rattle.vm_model.proofs.StepLaws.{Step-keeps}
+use Rattle.vm_model.proofs.StepLaws.{GivesName-from, Step-keeps}
 use Rattle.vm_model.proofs.laws.a_step_keeps_the_state_good.Goals as goal
 
 pub returns-clause-good : goal.returns-clause-good
-returns-clause-good c = λ old new command reply good step. (Step-keeps old command reply new good step).good
+returns-clause-good c = λ old new command reply good ranges step. (Step-keeps old command reply new good (GivesName-from command ranges) step).good
 
 pub returns-clause-koids : goal.returns-clause-koids
-returns-clause-koids c = λ old new command reply good step. (Step-keeps old command reply new good step).next
+returns-clause-koids c = λ old new command reply good ranges step. (Step-keeps old command reply new good (GivesName-from command ranges) step).next
 
 pub returns-clause-frames : goal.returns-clause-frames
-returns-clause-frames c = λ old new command reply good step. (Step-keeps old command reply new good step).frames
+returns-clause-frames c = λ old new command reply good ranges step. (Step-keeps old command reply new good (GivesName-from command ranges) step).frames

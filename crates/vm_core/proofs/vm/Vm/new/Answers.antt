@@ -1,8 +1,7 @@
-use Rattle.std.proofs.Common.{arith}
-use Rattle.std.proofs.lemmas.Grind.{common_steps}
-use Rattle.vm_core.specs.Vm.{names_of}
+use Rattle.std.proofs.Common.{refl}
+use Rattle.vm_model.specs.Content.{nothing}
+use Rattle.vm_core.proofs.NamesLaws.{state_of-empty}
 use Rattle.vm_core.proofs.vm.Vm.new.Goals as goal
 
 pub returns : goal.returns
-unfolding names_of
-returns c = λ name. grind (arith, common_steps)
+returns c = λ frames. state_of-empty (record nothing { frames = frames }) (record { vmos = c.new.result }) frames refl c.new.ensures.names c.new.ensures.lineage

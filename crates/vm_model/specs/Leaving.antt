@@ -1,0 +1,24 @@
+-- VMOs that leave the machine, since nothing keeps them any more.
+use Rattle.std.specs.Prelude.{ℕ, zero, suc, if◌then◌else◌, Option, None, Some}
+use Rattle.std.specs.Option.{option_map}
+use Rattle.vm_model.specs.Sharing.{only}
+use Rattle.vm_model.specs.Names.{Lineage}
+use Rattle.vm_model.specs.State.{State, is_live, lineage_of}
+
+-- The first that is live of a parent, its parent, and so on. Parents are older than their children, so at most `steps` of
+-- them are looked at for a child with the koid `steps`.
+unfoldable pub first_live : ℕ → State → Option ℕ → Option ℕ
+first_live zero s parent = None
+first_live (suc steps) s None = None
+first_live (suc steps) s (Some p) = if is_live s p then Some p else first_live steps s (lineage_of s p).parent
+
+-- what is kept of the VMO v once those that are not live have left: the parent is the first that is live
+unfoldable pub lineage_left : State → ℕ → Lineage → Lineage
+lineage_left s v l = record l { parent = first_live v s l.parent }
+
+-- the state without the VMOs that are not live
+unfoldable pub pruned : State → State
+pruned s = record s {
+  content = only s.content (is_live s);
+  lineage = λ v. if is_live s v then option_map (lineage_left s v) (s.lineage v) else None;
+}

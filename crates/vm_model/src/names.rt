@@ -1,0 +1,21 @@
+//! What the names of VMOs and the VMOs themselves are to the machine.
+
+/// How a name came to stand for its VMO.
+#[derive(Clone, Copy, Debug, PartialEq, Eq, Hash)]
+pub enum NameKind {
+    /// It was given to the VMO when that was made.
+    Owner,
+    /// It stands for a part of the VMO (`ZX_VMO_CHILD_SLICE`).
+    Slice,
+    /// It stands for all of the VMO, beside other names (`ZX_VMO_CHILD_REFERENCE`).
+    Reference,
+}
+
+/// How a VMO came to be.
+#[derive(Clone, Copy, Debug, PartialEq, Eq, Hash)]
+pub enum Origin {
+    /// It was made with zero pages (`zx_vmo_create`).
+    Created,
+    /// It was made with the pages of another VMO (`ZX_VMO_CHILD_SNAPSHOT`).
+    Snapshot,
+}

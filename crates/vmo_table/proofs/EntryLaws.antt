@@ -1,0 +1,202 @@
+-- What the entries of the two maps are as maps from numbers, after a call of the library.
+use Rattle.std.proofs.Common.{◌≡◌, ℕ, ◌==◌, Bool, true, false, not, cond, List, [], ◌∷◌, Option, None, Some, IsSome, is_some, Result, Ok, Err, refl, sym, ap, subst, ◌∙◌, inl, inr}
+use Rattle.std.specs.Option.{option_map}
+use Rattle.std.specs.Prelude.{IsOk, OnOk}
+use Rattle.std.specs.Map.{lookup}
+use Rattle.std.specs.Map.Calls.{RetainsPairs}
+use Rattle.std.proofs.lemmas.Bool.{cases_eq, eq-eqb, ne_eqb, cond-true, cond-false}
+use Rattle.vm_base.specs.declared.names.Koid.{Koid}
+use Rattle.vm_base.specs.declared.names.VmoName.{VmoName}
+use Rattle.vm_model.specs.Maps.{with_key, without_key}
+use Rattle.vmo_table.specs.declared.target.Target.{Target}
+use Rattle.vmo_table.specs.declared.vmos.Vmo.{Vmo}
+use Rattle.vmo_table.specs.Vmos.{koid_number, vmos_in, lineage_of_vmo, lineages, is_parent, has_parent, with_children, adopted, koid_after, vmos_without}
+use Rattle.vmo_table.specs.Table.{name_of, names_in}
+use Rattle.vmo_table.proofs.RelatedLaws.{has_parent_is}
+use Rattle.vmo_table.proofs.VmosLaws.{lineages-is, without-here, without-other, vmo_after}
+
+-- an entry of the map of VMOs
+abbrev pub vmo_at : List (Koid × Vmo) → ℕ → Option Vmo
+vmo_at entries v = lookup (λ (koid : Koid). v == koid.0) entries
+
+-- an entry of the map of names
+abbrev pub target_at : List (VmoName × Target) → ℕ → Option Target
+target_at entries n = lookup (λ (name : VmoName). n == name.0) entries
+
+pub vmos_in-is : (entries : List (Koid × Vmo)) (v : ℕ) → vmos_in entries v ≡ vmo_at entries v
+unfolding vmos_in
+vmos_in-is entries v = refl
+
+pub names_in-is : (entries : List (VmoName × Target)) (n : ℕ) → names_in entries n ≡ option_map name_of (target_at entries n)
+unfolding names_in
+names_in-is entries n = refl
+
+-- a name and its koid
+pub names_in_found : (entries : List (VmoName × Target)) (n : ℕ) (t : Target) → target_at entries n ≡ Some t → names_in entries n ≡ Some (name_of t)
+names_in_found entries n t e = names_in-is entries n ∙ ap (option_map name_of) e
+
+flipped : {A : Type 0} (a b : ℕ) (x y : A) → cond (a == b) x y ≡ cond (b == a) x y
+flipped a b x y = elim (cases_eq a b) [
+  | inl same ↦ cond-true (a == b) x y (eq-eqb a b same) ∙ sym (cond-true (b == a) x y (eq-eqb b a (sym same)))
+  | inr apart ↦ cond-false (a == b) x y (ne_eqb a b apart) ∙ sym (cond-false (b == a) x y (ne_eqb b a (λ e. apart (sym e))))
+]
+
+-- ---- the map of VMOs
+
+pub vmos_in-same : (old new : List (Koid × Vmo)) → ((q : Koid) → vmo_at new q.0 ≡ vmo_at old q.0) → vmos_in new ≡ vmos_in old
+unfolding vmos_in
+vmos_in-same old new each = λ i v. each (record { 0 = v }) i
+
+pub vmos_in-put : (old new : List (Koid × Vmo)) (k : ℕ) (vmo : Vmo) → ((q : Koid) → vmo_at new q.0 ≡ cond (k == q.0) (Some vmo) (vmo_at old q.0)) → vmos_in new ≡ with_key (vmos_in old) k vmo
+unfolding vmos_in with_key
+vmos_in-put old new k vmo each = λ i v. (each (record { 0 = v }) ∙ flipped k v (Some vmo) (vmo_at old v)) i
+
+-- the counts of the parent were changed
+pub vmos_in-adopted : (old new : List (Koid × Vmo)) (k : ℕ) (vmo : Vmo) (gone come : ℕ) → vmo_at old k ≡ Some vmo →
+    ((q : Koid) → vmo_at new q.0 ≡ cond (k == q.0) (Some (with_children gone come vmo)) (vmo_at old q.0)) → vmos_in new ≡ adopted (vmos_in old) (Some k) gone come
+unfolding vmos_in adopted is_parent
+vmos_in-adopted old new k vmo gone come found each = λ i v. (each (record { 0 = v }) ∙ at v) i
+  where
+    at : (v : ℕ) → cond (k == v) (Some (with_children gone come vmo)) (vmo_at old v) ≡ cond (k == v) (option_map (with_children gone come) (vmo_at old v)) (vmo_at old v)
+    at v = elim (cases_eq k v) [
+      | inl same ↦ ap (λ (o : Option Vmo). cond (k == v) o (vmo_at old v)) (ap (option_map (with_children gone come)) (sym found ∙ ap (vmo_at old) same))
+      | inr apart ↦ cond-false (k == v) (Some (with_children gone come vmo)) (vmo_at old v) (ne_eqb k v apart) ∙ sym (cond-false (k == v) (option_map (with_children gone come) (vmo_at old v)) (vmo_at old v) (ne_eqb k v apart))
+    ]
+
+-- no VMO, no change
+pub adopted-nobody : (vmos : ℕ → Option Vmo) (gone come : ℕ) → vmos ≡ adopted vmos None gone come
+unfolding adopted is_parent
+adopted-nobody vmos gone come = refl
+
+pub adopted-absent : (entries : List (Koid × Vmo)) (k gone come : ℕ) → vmo_at entries k ≡ None → vmos_in entries ≡ adopted (vmos_in entries) (Some k) gone come
+unfolding vmos_in adopted is_parent
+adopted-absent entries k gone come none = λ i v. at v i
+  where
+    at : (v : ℕ) → vmo_at entries v ≡ cond (k == v) (option_map (with_children gone come) (vmo_at entries v)) (vmo_at entries v)
+    at v = elim (cases_eq k v) [
+      | inl same ↦
+          let gone_too : vmo_at entries v ≡ None = ap (vmo_at entries) (sym same) ∙ none in
+          gone_too ∙ (sym (ap (option_map (with_children gone come)) gone_too) ∙ sym (cond-true (k == v) (option_map (with_children gone come) (vmo_at entries v)) (vmo_at entries v) (eq-eqb k v same)))
+      | inr apart ↦ sym (cond-false (k == v) (option_map (with_children gone come) (vmo_at entries v)) (vmo_at entries v) (ne_eqb k v apart))
+    ]
+
+-- a VMO that is not the parent of any
+not_child : (v : ℕ) (parent o : Option Koid) → is_parent v (option_map koid_number o) ≡ false → koid_after v parent o ≡ o
+unfolding koid_after is_parent
+not_child v parent None h = refl
+not_child v parent (Some p) h = cond-false (p.0 == v) parent (Some p) h
+
+stays_as_is : (v : ℕ) (parent : Option Koid) (o : Option Vmo) → has_parent v (option_map lineage_of_vmo o) ≡ false → o ≡ option_map (vmo_after v parent) o
+stays_as_is v parent None h = refl
+stays_as_is v parent (Some vmo) h =
+    ap (λ (p : Option Koid). Some (record vmo { parent = p })) (sym (not_child v parent vmo.parent (sym (has_parent_is v (lineage_of_vmo vmo)) ∙ h)))
+
+-- a VMO without children was removed
+pub vmos_in-removed : (old new : List (Koid × Vmo)) (k : ℕ) (parent : Option Koid) → ((w : ℕ) → has_parent k (lineages (vmos_in old) w) ≡ false) →
+    ((q : Koid) → vmo_at new q.0 ≡ cond (k == q.0) None (vmo_at old q.0)) → vmos_in new ≡ vmos_without (vmos_in old) k parent
+vmos_in-removed old new k parent childless each = λ i v. (vmos_in-is new v ∙ (each (record { 0 = v }) ∙ at v)) i
+  where
+    at : (v : ℕ) → cond (k == v) None (vmo_at old v) ≡ vmos_without (vmos_in old) k parent v
+    at v = elim (cases_eq k v) [
+      | inl same ↦ cond-true (k == v) None (vmo_at old v) (eq-eqb k v same) ∙ sym (without-here (vmos_in old) k parent v (sym same))
+      | inr apart ↦ cond-false (k == v) None (vmo_at old v) (ne_eqb k v apart) ∙ (sym (vmos_in-is old v)
+          ∙ (stays_as_is k parent (vmos_in old v) (ap (has_parent k) (sym (lineages-is (vmos_in old) v)) ∙ childless v)
+          ∙ sym (without-other (vmos_in old) k parent v (λ e. apart (sym e)))))
+    ]
+
+-- one entry of a pass over the table
+one_retained : (k : ℕ) (parent : Option Koid) (q : ℕ) (vmo : Vmo) (u : ℕ) (key : Koid) (rest es : List (Koid × Vmo)) → key.0 ≡ q → vmo_at rest u ≡ cond (u == k) None (option_map (vmo_after k parent) (vmo_at es u)) →
+    vmo_at (cond (not (q == k)) ((key, vmo_after k parent vmo) ∷ rest) rest) u ≡ cond (u == k) None (option_map (vmo_after k parent) (cond (u == q) (Some vmo) (vmo_at es u)))
+one_retained k parent q vmo u key rest es is before = elim (cases_eq q k) [
+  | inl same ↦ ap (λ b. vmo_at (cond (not b) ((key, vmo_after k parent vmo) ∷ rest) rest) u) (eq-eqb q k same) ∙ (before ∙ elim (cases_eq u k) [
+    | inl gone ↦ cond-true (u == k) None (option_map (vmo_after k parent) (vmo_at es u)) (eq-eqb u k gone) ∙ sym (cond-true (u == k) None (option_map (vmo_after k parent) (cond (u == q) (Some vmo) (vmo_at es u))) (eq-eqb u k gone))
+    | inr other ↦ ap (λ (o : Option Vmo). cond (u == k) None (option_map (vmo_after k parent) o)) (sym (cond-false (u == q) (Some vmo) (vmo_at es u) (ne_eqb u q (λ e. other (e ∙ same)))))
+  ])
+  | inr apart ↦ ap (λ b. vmo_at (cond (not b) ((key, vmo_after k parent vmo) ∷ rest) rest) u) (ne_eqb q k apart) ∙ (ap (λ (x : ℕ). cond (u == x) (Some (vmo_after k parent vmo)) (vmo_at rest u)) is ∙ elim (cases_eq u q) [
+    | inl here ↦ cond-true (u == q) (Some (vmo_after k parent vmo)) (vmo_at rest u) (eq-eqb u q here)
+        ∙ (ap (λ (o : Option Vmo). option_map (vmo_after k parent) o) (sym (cond-true (u == q) (Some vmo) (vmo_at es u) (eq-eqb u q here)))
+        ∙ sym (cond-false (u == k) None (option_map (vmo_after k parent) (cond (u == q) (Some vmo) (vmo_at es u))) (ne_eqb u k (λ e. apart (sym here ∙ e)))))
+    | inr other ↦ cond-false (u == q) (Some (vmo_after k parent vmo)) (vmo_at rest u) (ne_eqb u q other)
+        ∙ (before ∙ ap (λ (o : Option Vmo). cond (u == k) None (option_map (vmo_after k parent) o)) (sym (cond-false (u == q) (Some vmo) (vmo_at es u) (ne_eqb u q other))))
+  ])
+]
+
+-- a VMO with children was taken out in a pass over the table
+retained : {F : Type 0} (T : F → Koid → Vmo → Bool → Vmo → F → Type 0) (k : ℕ) (parent : Option Koid) (f : F) →
+    ((q : Koid) (v : Vmo) (b : Bool) (w : Vmo) (g : F) → T f q v b w g → (b ≡ not (q.0 == k)) × (w ≡ vmo_after k parent v) × (g ≡ f)) →
+    (es kept : List (Koid × Vmo)) → RetainsPairs T f es kept → (u : ℕ) → vmo_at kept u ≡ cond (u == k) None (option_map (vmo_after k parent) (vmo_at es u))
+retained T k parent f each [] kept h u = ap (λ (es : List (Koid × Vmo)). vmo_at es u) h ∙ none (u == k)
+  where
+    none : (b : Bool) → None ≡ cond {A = Option Vmo} b None None
+    none true = refl
+    none false = refl
+retained T k parent f each (e ∷ es) kept h u =
+    let call = each e.0 e.1 h.0 h.1 h.2 h.4 in
+    let rest = retained T k parent f each es h.3 (subst (λ g. RetainsPairs T g es h.3) call.2 h.5) u in
+    let kept_is = h.6 ∙ (ap (λ (b : Bool). cond b ((e.0, h.1) ∷ h.3) h.3) call.0 ∙ ap (λ (w : Vmo). cond (not (e.0.0 == k)) ((e.0, w) ∷ h.3) h.3) call.1) in
+    ap (λ (es2 : List (Koid × Vmo)). vmo_at es2 u) kept_is ∙ one_retained k parent e.0.0 e.1 u e.0 h.3 es refl rest
+
+pub vmos_in-retained : {F : Type 0} (T : F → Koid → Vmo → Bool → Vmo → F → Type 0) (k : ℕ) (parent : Option Koid) (f : F) →
+    ((q : Koid) (v : Vmo) (b : Bool) (w : Vmo) (g : F) → T f q v b w g → (b ≡ not (q.0 == k)) × (w ≡ vmo_after k parent v) × (g ≡ f)) →
+    (es kept : List (Koid × Vmo)) → RetainsPairs T f es kept → vmos_in kept ≡ vmos_without (vmos_in es) k parent
+unfolding vmos_in vmos_without
+vmos_in-retained T k parent f each es kept h = λ i u. retained T k parent f each es kept h u i
+
+-- ---- the map of names
+
+pub names_in-same : (old new : List (VmoName × Target)) → ((q : VmoName) → target_at new q.0 ≡ target_at old q.0) → names_in new ≡ names_in old
+unfolding names_in
+names_in-same old new each = λ i n. option_map name_of (each (record { 0 = n }) i)
+
+pub names_in-put : (old new : List (VmoName × Target)) (k : ℕ) (t : Target) → ((q : VmoName) → target_at new q.0 ≡ cond (k == q.0) (Some t) (target_at old q.0)) → names_in new ≡ with_key (names_in old) k (name_of t)
+unfolding names_in with_key
+names_in-put old new k t each = λ i n. (ap (option_map name_of) (each (record { 0 = n }) ∙ flipped k n (Some t) (target_at old n)) ∙ of (n == k) (target_at old n)) i
+  where
+    of : (b : Bool) (o : Option Target) → option_map name_of (cond b (Some t) o) ≡ cond b (Some (name_of t)) (option_map name_of o)
+    of true o = refl
+    of false o = refl
+
+pub names_in-taken : (old new : List (VmoName × Target)) (k : ℕ) → ((q : VmoName) → target_at new q.0 ≡ cond (k == q.0) None (target_at old q.0)) → names_in new ≡ without_key (names_in old) k
+unfolding names_in without_key
+names_in-taken old new k each = λ i n. (ap (option_map name_of) (each (record { 0 = n }) ∙ flipped k n None (target_at old n)) ∙ of (n == k) (target_at old n)) i
+  where
+    of : (b : Bool) (o : Option Target) → option_map name_of (cond b None o) ≡ cond b None (option_map name_of o)
+    of true o = refl
+    of false o = refl
+
+-- ---- nothing is in a map
+
+pub names_in-empty : (entries : List (VmoName × Target)) → entries ≡ [] → (n : ℕ) → names_in entries n ≡ None
+unfolding names_in
+names_in-empty entries e n = ap (λ (es : List (VmoName × Target)). option_map name_of (target_at es n)) e
+
+pub vmos_in-empty : (entries : List (Koid × Vmo)) → entries ≡ [] → (v : ℕ) → vmos_in entries v ≡ None
+unfolding vmos_in
+vmos_in-empty entries e v = ap (λ (es : List (Koid × Vmo)). vmo_at es v) e
+
+pub lineages-empty : (entries : List (Koid × Vmo)) → entries ≡ [] → (v : ℕ) → lineages (vmos_in entries) v ≡ None
+lineages-empty entries e v = lineages-is (vmos_in entries) v ∙ ap (option_map lineage_of_vmo) (vmos_in-empty entries e v)
+
+-- ---- what is in a map
+
+pub target_there : (entries : List (VmoName × Target)) (n : ℕ) → IsSome (names_in entries n) → IsSome (target_at entries n)
+target_there entries n h = of (target_at entries n) (sym (ap is_some (names_in-is entries n)) ∙ h)
+  where
+    of : (o : Option Target) → IsSome (option_map name_of o) → IsSome o
+    of None e = absurd (cc)
+    of (Some t) e = refl
+
+pub vmo_there : (entries : List (Koid × Vmo)) (v : ℕ) → IsSome (lineages (vmos_in entries) v) → IsSome (vmo_at entries v)
+vmo_there entries v h = of (vmo_at entries v) (sym (ap is_some (lineages-is (vmos_in entries) v ∙ ap (option_map lineage_of_vmo) (vmos_in-is entries v))) ∙ h)
+  where
+    of : (o : Option Vmo) → IsSome (option_map lineage_of_vmo o) → IsSome o
+    of None e = absurd (cc)
+    of (Some vmo) e = refl
+
+pub lineage_at : (entries : List (Koid × Vmo)) (v : ℕ) (vmo : Vmo) → vmo_at entries v ≡ Some vmo → lineages (vmos_in entries) v ≡ Some (lineage_of_vmo vmo)
+lineage_at entries v vmo e = lineages-is (vmos_in entries) v ∙ ap (option_map lineage_of_vmo) (vmos_in-is entries v ∙ e)
+
+-- what holds on success holds
+pub from_ok : {T E P : Type 0} (r : Result T E) → IsOk r → OnOk r P → P
+from_ok (Ok x) e h = h
+from_ok (Err d) e h = absurd cc

@@ -1,0 +1,5 @@
+pub mod RelatedLaws
+pub mod VmosLaws
+pub mod KeptLaws
+pub mod EntryLaws
+pub mod TableLaws

@@ -1,0 +1,118 @@
+-- Laws of the VMOs of the table as a map from koids.
+use Rattle.std.proofs.Common.{◌≡◌, ◌≢◌, ℕ, ◌+◌, ◌-◌, ◌==◌, Bool, true, false, cond, Option, None, Some, refl, sym, ap, ◌∙◌, inl, inr}
+use Rattle.std.specs.Option.{option_map}
+use Rattle.std.proofs.lemmas.Bool.{cases_eq, eq-eqb, ne_eqb}
+use Rattle.std.proofs.lemmas.Option.{same_Some}
+use Rattle.vm_base.specs.declared.names.Koid.{Koid}
+use Rattle.vm_model.specs.Maps.{with_key}
+use Rattle.vm_model.specs.Names.{Lineage, parent_without, lineage_without}
+use Rattle.vmo_table.specs.declared.vmos.Vmo.{Vmo}
+use Rattle.vmo_table.specs.Vmos.{koid_number, lineage_of_vmo, lineages, is_parent, with_children, adopted, koid_after, vmos_without}
+use Rattle.vm_model.proofs.MapLaws.{with_key-here, with_key-other}
+use Rattle.vmo_table.proofs.RelatedLaws.{left-here, left-other, lineage_after}
+
+pub lineages-is : (vmos : ℕ → Option Vmo) (v : ℕ) → lineages vmos v ≡ option_map lineage_of_vmo (vmos v)
+unfolding lineages
+lineages-is vmos v = refl
+
+-- what stands behind a lineage
+pub lineages_found : (vmos : ℕ → Option Vmo) (v : ℕ) (vmo : Vmo) → vmos v ≡ Some vmo → lineages vmos v ≡ Some (lineage_of_vmo vmo)
+lineages_found vmos v vmo e = lineages-is vmos v ∙ ap (option_map lineage_of_vmo) e
+
+pub lineages-none : (vmos : ℕ → Option Vmo) (v : ℕ) → lineages vmos v ≡ None → vmos v ≡ None
+lineages-none vmos v e = of (vmos v) (sym (lineages-is vmos v) ∙ e)
+  where
+    of : (o : Option Vmo) → option_map lineage_of_vmo o ≡ None → o ≡ None
+    of None h = refl
+    of (Some vmo) h = absurd (cc)
+
+pub lineages-with_key : (vmos : ℕ → Option Vmo) (k : ℕ) (vmo : Vmo) → lineages (with_key vmos k vmo) ≡ with_key (lineages vmos) k (lineage_of_vmo vmo)
+lineages-with_key vmos k vmo = λ i w. at w i
+  where
+    at : (w : ℕ) → lineages (with_key vmos k vmo) w ≡ with_key (lineages vmos) k (lineage_of_vmo vmo) w
+    at w = elim (cases_eq w k) [
+      | inl same ↦ lineages_found (with_key vmos k vmo) w vmo (with_key-here vmos k vmo w same) ∙ sym (with_key-here (lineages vmos) k (lineage_of_vmo vmo) w same)
+      | inr apart ↦ lineages-is (with_key vmos k vmo) w ∙ (ap (option_map lineage_of_vmo) (with_key-other vmos k vmo w apart)
+          ∙ (sym (lineages-is vmos w) ∙ sym (with_key-other (lineages vmos) k (lineage_of_vmo vmo) w apart)))
+    ]
+
+-- another count of names changes no lineage
+pub lineages-written : (vmos : ℕ → Option Vmo) (k : ℕ) (old new : Vmo) → vmos k ≡ Some old → lineage_of_vmo new ≡ lineage_of_vmo old → lineages (with_key vmos k new) ≡ lineages vmos
+lineages-written vmos k old new was same_lineage = λ i w. at w i
+  where
+    at : (w : ℕ) → lineages (with_key vmos k new) w ≡ lineages vmos w
+    at w = elim (cases_eq w k) [
+      | inl same ↦ lineages_found (with_key vmos k new) w new (with_key-here vmos k new w same) ∙ (ap (λ (l : Lineage). Some l) same_lineage ∙ sym (lineages_found vmos w old (ap vmos same ∙ was)))
+      | inr apart ↦ lineages-is (with_key vmos k new) w ∙ (ap (option_map lineage_of_vmo) (with_key-other vmos k new w apart) ∙ sym (lineages-is vmos w))
+    ]
+
+-- nor do other counts of children
+pub lineages-adopted : (vmos : ℕ → Option Vmo) (parent : Option ℕ) (gone come : ℕ) → lineages (adopted vmos parent gone come) ≡ lineages vmos
+unfolding lineages adopted
+lineages-adopted vmos parent gone come = λ i w. of (is_parent w parent) (vmos w) i
+  where
+    of : (b : Bool) (o : Option Vmo) → option_map lineage_of_vmo (cond b (option_map (with_children gone come) o) o) ≡ option_map lineage_of_vmo o
+    of true None = refl
+    of true (Some vmo) = refl
+    of false o = refl
+
+-- a VMO after counts of children were changed
+pub adopted_cases : (vmos : ℕ → Option Vmo) (parent : Option ℕ) (gone come v : ℕ) (new : Vmo) → adopted vmos parent gone come v ≡ Some new →
+    (old : Vmo) × (vmos v ≡ Some old) × (new.names ≡ old.names) × (new.children ≡ cond (is_parent v parent) (old.children - gone + come) old.children)
+unfolding adopted
+adopted_cases vmos parent gone come v new e = of (is_parent v parent) (vmos v) e
+  where
+    of : (b : Bool) (o : Option Vmo) → cond b (option_map (with_children gone come) o) o ≡ Some new →
+        (old : Vmo) × (o ≡ Some old) × (new.names ≡ old.names) × (new.children ≡ cond b (old.children - gone + come) old.children)
+    of true None h = absurd (cc)
+    of true (Some old) h = let same = same_Some (with_children gone come old) new h in (old, refl, ap (λ (x : Vmo). x.names) (sym same), ap (λ (x : Vmo). x.children) (sym same))
+    of false None h = absurd (cc)
+    of false (Some old) h = let same = same_Some old new h in (old, refl, ap (λ (x : Vmo). x.names) (sym same), ap (λ (x : Vmo). x.children) (sym same))
+
+abbrev pub vmo_after : ℕ → Option Koid → Vmo → Vmo
+vmo_after v parent vmo = record vmo { parent = koid_after v parent vmo.parent }
+
+number_after : (v : ℕ) (parent o : Option Koid) → option_map koid_number (koid_after v parent o) ≡ parent_without v (option_map koid_number parent) (option_map koid_number o)
+unfolding koid_after parent_without
+number_after v parent None = refl
+number_after v parent (Some p) = of (p.0 == v)
+  where
+    of : (b : Bool) → option_map koid_number (cond b parent (Some p)) ≡ cond b (option_map koid_number parent) (Some p.0)
+    of true = refl
+    of false = refl
+
+lineage-after : (v : ℕ) (parent : Option Koid) (o : Option Vmo) → option_map lineage_of_vmo (option_map (vmo_after v parent) o) ≡ option_map (lineage_after v (option_map koid_number parent)) (option_map lineage_of_vmo o)
+lineage-after v parent None = refl
+lineage-after v parent (Some vmo) = ap (λ (p : Option ℕ). Some (record { resizable = vmo.resizable; origin = vmo.origin; parent = p })) (number_after v parent vmo.parent)
+
+-- a VMO leaves
+pub without-here : (vmos : ℕ → Option Vmo) (v : ℕ) (parent : Option Koid) (w : ℕ) → w ≡ v → vmos_without vmos v parent w ≡ None
+unfolding vmos_without
+without-here vmos v parent w same = ap (λ b. cond b None (option_map (vmo_after v parent) (vmos w))) (eq-eqb w v same)
+
+pub without-other : (vmos : ℕ → Option Vmo) (v : ℕ) (parent : Option Koid) (w : ℕ) → w ≢ v → vmos_without vmos v parent w ≡ option_map (vmo_after v parent) (vmos w)
+unfolding vmos_without
+without-other vmos v parent w apart = ap (λ b. cond b None (option_map (vmo_after v parent) (vmos w))) (ne_eqb w v apart)
+
+pub lineages-without : (vmos : ℕ → Option Vmo) (v : ℕ) (parent : Option Koid) → lineages (vmos_without vmos v parent) ≡ lineage_without (lineages vmos) v (option_map koid_number parent)
+lineages-without vmos v parent = λ i w. at w i
+  where
+    at : (w : ℕ) → lineages (vmos_without vmos v parent) w ≡ lineage_without (lineages vmos) v (option_map koid_number parent) w
+    at w = elim (cases_eq w v) [
+      | inl same ↦ lineages-is (vmos_without vmos v parent) w ∙ (ap (option_map lineage_of_vmo) (without-here vmos v parent w same) ∙ sym (left-here (lineages vmos) v (option_map koid_number parent) w same))
+      | inr apart ↦ lineages-is (vmos_without vmos v parent) w ∙ (ap (option_map lineage_of_vmo) (without-other vmos v parent w apart)
+          ∙ (lineage-after v parent (vmos w) ∙ (ap (option_map (lineage_after v (option_map koid_number parent))) (sym (lineages-is vmos w))
+          ∙ sym (left-other (lineages vmos) v (option_map koid_number parent) w apart))))
+    ]
+
+-- a VMO that is left keeps its counts
+pub without_cases : (vmos : ℕ → Option Vmo) (v : ℕ) (parent : Option Koid) (w : ℕ) (new : Vmo) → vmos_without vmos v parent w ≡ Some new →
+    (w ≢ v) × (old : Vmo) × (vmos w ≡ Some old) × (new.names ≡ old.names) × (new.children ≡ old.children)
+without_cases vmos v parent w new e = elim (cases_eq w v) [
+  | inl same ↦ absurd (let gone = without-here vmos v parent w same in cc)
+  | inr apart ↦ let found = of (vmos w) (sym (without-other vmos v parent w apart) ∙ e) in (apart, found.0, found.1, found.2, found.3)
+]
+  where
+    of : (o : Option Vmo) → option_map (vmo_after v parent) o ≡ Some new → (old : Vmo) × (o ≡ Some old) × (new.names ≡ old.names) × (new.children ≡ old.children)
+    of None h = absurd (cc)
+    of (Some old) h = let same = same_Some (vmo_after v parent old) new h in (old, refl, ap (λ (x : Vmo). x.names) (sym same), ap (λ (x : Vmo). x.children) (sym same))

@@ -1,0 +1,59 @@
+use Rattle.std.proofs.Common.{ℕ, Bool, Option, None, refl, sym, ap, ◌∙◌}
+use Rattle.std.specs.Option.{option_map}
+use Rattle.vm_base.specs.declared.names.Koid.{Koid}
+use Rattle.vm_model.specs.Maps.{with_key}
+use Rattle.vm_model.specs.declared.names.NameKind.TheVariants.{Owner}
+use Rattle.vm_model.specs.declared.names.Origin.{Origin}
+use Rattle.vmo_table.specs.declared.target.Target.{Target}
+use Rattle.vmo_table.specs.declared.vmos.Vmo.{Vmo}
+use Rattle.vmo_table.specs.Vmos.{koid_number, lineage_of_vmo, lineages, adopted}
+use Rattle.vmo_table.specs.Table.{Table, name_of, names_of, lineage_in}
+use Rattle.vmo_table.proofs.EntryLaws.{names_in-put, vmos_in-put, from_ok}
+use Rattle.vmo_table.proofs.KeptLaws.{AreKept-entered, AreKept-same, entered_fits}
+use Rattle.vmo_table.proofs.VmosLaws.{lineages-adopted, lineages-with_key}
+use Rattle.vmo_table.proofs.TableLaws.{rooms, enters}
+use Rattle.vmo_table.proofs.vmo_table.VmoTable.enter.Goals as goal
+
+abbrev target : Koid → Bool → Bool → Target
+target koid may_write resizable = record { koid = koid; first = 0; limit = None; kind = Owner; may_write = may_write; may_resize = resizable }
+
+abbrev vmo : Bool → Origin → Option Koid → Vmo
+vmo resizable origin parent = record { resizable = resizable; origin = origin; parent = parent; names = 1; children = 0 }
+
+pub count_children-requires : goal.count_children-requires
+count_children-requires c = λ v old hit e.
+    let new = vmo c.args.resizable c.args.origin c.args.parent in
+    let room = rooms c.self.inside c.args.self.now c.self.view_is c.requires.room in
+    let kept = vmos_in-put c.self.inside.vmos.entries c.insert-kept.new.self.entries c.args.koid.0 new (from_ok c.insert-kept.result (c.insert-kept.ensures.succeeds room.1) c.insert-kept.ensures.updates).0 in
+    let entering = enters c.self.inside c.args.self.now c.args.name.0 (target c.args.koid c.args.may_write c.args.resizable) new c.self.view_is c.self.invariant
+    c.requires.name c.requires.koid c.requires.parent c.if-prove.false c.if-prove-2.false refl refl in
+    entered_fits _ _ _ _ _ entering v old hit (ap (λ (m : ℕ → Option Vmo). m v) (sym kept) ∙ e)
+
+pub invariant_of-self : goal.invariant_of-self
+invariant_of-self c =
+    let new = vmo c.args.resizable c.args.origin c.args.parent in
+    let to = target c.args.koid c.args.may_write c.args.resizable in
+    let room = rooms c.self.inside c.args.self.now c.self.view_is c.requires.room in
+    let named = names_in-put c.self.inside.names.entries c.insert-named.new.self.entries c.args.name.0 to (from_ok c.insert-named.result (c.insert-named.ensures.succeeds room.0) c.insert-named.ensures.updates).0 in
+    let kept = vmos_in-put c.self.inside.vmos.entries c.insert-kept.new.self.entries c.args.koid.0 new (from_ok c.insert-kept.result (c.insert-kept.ensures.succeeds room.1) c.insert-kept.ensures.updates).0 in
+    let entering = enters c.self.inside c.args.self.now c.args.name.0 to new c.self.view_is c.self.invariant
+    c.requires.name c.requires.koid c.requires.parent c.if-prove.false c.if-prove-2.false refl refl in
+    let counted = ap (λ (m : ℕ → Option Vmo). adopted m (option_map koid_number c.args.parent) 0 1) kept in
+    record { kept = AreKept-same _ _ _ _ named (c.count_children.ensures ∙ counted) (AreKept-entered _ _ _ _ _ entering) }
+
+pub returns-clause-names : goal.returns-clause-names
+returns-clause-names c =
+    let to = target c.args.koid c.args.may_write c.args.resizable in
+    let room = rooms c.self.inside c.args.self.now c.self.view_is c.requires.room in
+    let named = from_ok c.insert-named.result (c.insert-named.ensures.succeeds room.0) c.insert-named.ensures.updates in
+    names_in-put c.self.inside.names.entries c.insert-named.new.self.entries c.args.name.0 to named.0
+    ∙ ap (λ (m : Table). with_key (names_of m) c.args.name.0 (name_of to)) c.self.view_is
+
+pub returns-clause-lineage : goal.returns-clause-lineage
+returns-clause-lineage c =
+    let new = vmo c.args.resizable c.args.origin c.args.parent in
+    let to = target c.args.koid c.args.may_write c.args.resizable in
+    let room = rooms c.self.inside c.args.self.now c.self.view_is c.requires.room in
+    let kept = vmos_in-put c.self.inside.vmos.entries c.insert-kept.new.self.entries c.args.koid.0 new (from_ok c.insert-kept.result (c.insert-kept.ensures.succeeds room.1) c.insert-kept.ensures.updates).0 in
+    ap lineages c.count_children.ensures ∙ (lineages-adopted _ _ 0 1 ∙ (ap lineages kept ∙ (lineages-with_key _ _ new
+    ∙ ap (λ (m : Table). with_key (lineage_in m) c.args.koid.0 (lineage_of_vmo new)) c.self.view_is)))

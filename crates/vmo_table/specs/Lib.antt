@@ -1,0 +1,3 @@
+pub mod Vmos
+pub mod Table
+pub mod TableFields

@@ -1,0 +1,61 @@
+-- The VMOs of the table as a map from koids, and what becomes of it.
+use Rattle.std.specs.Prelude.{ℕ, ◌+◌, ◌-◌, Bool, false, ◌==◌, List, if◌then◌else◌, Option, None, Some}
+use Rattle.std.specs.Option.{option_map}
+use Rattle.std.specs.Map.{lookup}
+use Rattle.vm_base.specs.declared.names.Koid.{Koid}
+use Rattle.vm_model.specs.Names.{Lineage}
+use Rattle.vm_model.specs.Search.{count_below}
+use Rattle.vmo_table.specs.declared.vmos.Vmo.{Vmo}
+
+-- how many numbers of koids there are
+abbrev pub KOIDS : ℕ
+KOIDS = 18446744073709551616
+
+-- the number of a koid
+abbrev pub koid_number : Koid → ℕ
+koid_number koid = koid.0
+
+-- entries of VMOs, as a map from the numbers of koids
+unfoldable pub vmos_in : List (Koid × Vmo) → ℕ → Option Vmo
+vmos_in entries v = lookup (λ (koid : Koid). v == koid.0) entries
+
+-- what is kept of a VMO, but for the counts
+abbrev pub lineage_of_vmo : Vmo → Lineage
+lineage_of_vmo vmo = record { resizable = vmo.resizable; origin = vmo.origin; parent = option_map koid_number vmo.parent }
+
+unfoldable pub lineages : (ℕ → Option Vmo) → ℕ → Option Lineage
+lineages vmos v = option_map lineage_of_vmo (vmos v)
+
+-- the parent is v
+unfoldable pub is_parent : ℕ → Option ℕ → Bool
+is_parent v None = false
+is_parent v (Some p) = p == v
+
+-- the VMO with this lineage has the parent v
+unfoldable pub has_parent : ℕ → Option Lineage → Bool
+has_parent v None = false
+has_parent v (Some l) = is_parent v l.parent
+
+-- how many VMOs have the parent v
+unfoldable pub child_count : (ℕ → Option Lineage) → ℕ → ℕ
+child_count lineage v = count_below KOIDS (λ w. has_parent v (lineage w))
+
+-- a VMO with other counts
+abbrev pub with_children : ℕ → ℕ → Vmo → Vmo
+with_children gone come vmo = record vmo { children = vmo.children - gone + come }
+
+-- the VMOs, after so many children of this parent left it, and so many came
+unfoldable pub adopted : (ℕ → Option Vmo) → Option ℕ → ℕ → ℕ → ℕ → Option Vmo
+adopted vmos parent gone come v =
+    if is_parent v parent then option_map (with_children gone come) (vmos v) else vmos v
+
+-- a parent, after the VMO v left: its children get its own parent
+unfoldable pub koid_after : ℕ → Option Koid → Option Koid → Option Koid
+koid_after v parent None = None
+koid_after v parent (Some p) = if p.0 == v then parent else Some p
+
+-- the VMOs, after the VMO v with this parent left
+unfoldable pub vmos_without : (ℕ → Option Vmo) → ℕ → Option Koid → ℕ → Option Vmo
+vmos_without vmos v parent w =
+    if w == v then None
+    else option_map (λ (vmo : Vmo). record vmo { parent = koid_after v parent vmo.parent }) (vmos w)

@@ -1,0 +1,144 @@
+//! The table of names and VMOs.
+
+ghost use Rattle.std.specs.Prelude.{◌≡◌, ℕ, ◌<◌, ◌≤◌, None, IsSome, IfSome, OnOk};
+ghost use Rattle.std.specs.Option.{option_map};
+ghost use Rattle.vm_model.specs.Maps.{with_key, without_key};
+ghost use Rattle.vm_model.specs.Names.{owner};
+ghost use Rattle.vmo_table.specs.Vmos.{koid_number};
+ghost use Rattle.vmo_table.specs.Table.{name_of, names_of, lineage_in, room_of, Closes};
+
+use crate::target::Target;
+use crate::vmos::{Vmo, count_children, take_out, write_back};
+use std::alloc::Global;
+use std::collections::HashMap;
+use std::marker::Model;
+use vm_base::{HostMemory, Koid, VmoName};
+use vm_model::{NameKind, Origin};
+
+/// The names of VMOs, and what is kept of each VMO. No call but `reserve` asks the host for memory.
+#[derive(Drop)]
+pub struct VmoTable {
+    names: HashMap<VmoName, Target>,
+    vmos: HashMap<Koid, Vmo>,
+}
+
+impl Model for VmoTable {
+    ghost use Rattle.vmo_table.specs.Table.{Table};
+
+    ghost Value = { Table };
+
+    ghost use Rattle.vmo_table.specs.TableFields.{table_of, IsTable};
+
+    ghost view = { table_of };
+
+    ghost invariant = { IsTable };
+}
+
+impl VmoTable {
+    /// A table with no name and no VMO.
+    pub fn new(alloc: Global) -> VmoTable
+        ensures names { (name : ℕ) → names_of result name ≡ None }
+        ensures lineage { (v : ℕ) → lineage_in result v ≡ None }
+    {
+        VmoTable {
+            names: HashMap::new(alloc),
+            vmos: HashMap::new(alloc),
+        }
+    }
+
+    /// Makes room for one name and one VMO more. `HostMemory` where the host has too little memory.
+    pub fn reserve(&mut self) -> Result<(), HostMemory>
+        ensures room { OnOk result (1 ≤ room_of self.new) }
+        ensures names { names_of self.new ≡ names_of self.old }
+        ensures lineage { lineage_in self.new ≡ lineage_in self.old }
+    {
+        let Ok(()) = self.names.reserve(1) else {
+            return Err(HostMemory);
+        };
+        let Ok(()) = self.vmos.reserve(1) else {
+            return Err(HostMemory);
+        };
+        Ok(())
+    }
+
+    /// Enters a VMO under a koid that is new, and a name that is not open and stands for all of it. The
+    /// name may resize the VMO exactly where the VMO is resizable. A parent is in the table, and older.
+    pub fn enter(
+        &mut self,
+        name: VmoName,
+        koid: Koid,
+        resizable: bool,
+        origin: Origin,
+        parent: Option<Koid>,
+        may_write: bool,
+    )
+        requires name { names_of self.old name.0 ≡ None }
+        requires koid { lineage_in self.old koid.0 ≡ None }
+        requires parent { IfSome parent (λ p. (p.0 < koid.0) × IsSome (lineage_in self.old p.0)) }
+        requires room { 1 ≤ room_of self.old }
+        ensures names { names_of self.new ≡ with_key (names_of self.old) name.0 (owner koid.0 may_write resizable) }
+        ensures lineage { lineage_in self.new ≡ with_key (lineage_in self.old) koid.0
+            (record { resizable = resizable; origin = origin; parent = option_map koid_number parent }) }
+    {
+        // How far the table counts rests on the ranges of the numbers.
+        prove!(name.0 <= u32::MAX);
+        prove!(koid.0 <= u64::MAX);
+        let vmo = Vmo {
+            resizable,
+            origin,
+            parent,
+            names: 1,
+            children: 0,
+        };
+        let target = Target {
+            koid,
+            first: 0,
+            limit: None,
+            kind: NameKind::Owner,
+            may_write,
+            may_resize: resizable,
+        };
+        // Both succeed, since there is room.
+        let _named = self.names.insert(name, target);
+        let _kept = self.vmos.insert(koid, vmo);
+        count_children(&mut self.vmos, parent, 0, 1);
+    }
+
+    /// What a name stands for. `None` exactly where it is not open.
+    pub fn resolve(&self, name: VmoName) -> Option<Target>
+        ensures { option_map name_of result ≡ names_of self.now name.0 }
+    {
+        self.names.get(&name).copied()
+    }
+
+    /// Closes a name that is open. Where nothing keeps its VMO any more, the VMO leaves the table, its
+    /// children get its parent, and its koid is the answer. Else the answer is `None`.
+    pub fn close(&mut self, name: VmoName) -> Option<Koid>
+        requires { IsSome (names_of self.old name.0) }
+        ensures names { names_of self.new ≡ without_key (names_of self.old) name.0 }
+        ensures vmo { Closes (names_of self.old) (names_of self.new) (lineage_in self.old) (lineage_in self.new) name.0 result }
+    {
+        let koid = self.names[&name].koid;
+        let vmo = self.vmos[&koid];
+        let _closed = self.names.remove(&name);
+        if vmo.names > 1 {
+            let fewer = Vmo {
+                names: vmo.names - 1,
+                ..vmo
+            };
+            write_back(&mut self.vmos, koid, fewer);
+            return None;
+        }
+        take_out(&mut self.vmos, koid, vmo.parent, vmo.children);
+        count_children(&mut self.vmos, vmo.parent, 1, vmo.children);
+        Some(koid)
+    }
+
+    /// Whether a VMO of the table may change its size.
+    pub fn resizable(&self, koid: Koid) -> bool
+        requires { IsSome (lineage_in self.now koid.0) }
+        ensures { IfSome (lineage_in self.now koid.0) (λ l. result ≡ l.resizable) }
+    {
+        self.vmos[&koid].resizable
+    }
+}

@@ -1,0 +1,80 @@
+//! The VMOs of the table, each with how many names and children it has.
+
+ghost use Rattle.std.specs.Prelude.{◌≡◌, ℕ, ◌+◌, ◌-◌, ◌<◌, ◌≤◌, ◌^◌, false, true, Some};
+ghost use Rattle.std.specs.Option.{option_map};
+ghost use Rattle.vm_model.specs.Maps.{with_key};
+ghost use Rattle.vmo_table.specs.Vmos.{koid_number, vmos_in, is_parent, has_parent, lineages, adopted, koid_after, vmos_without};
+ghost use Rattle.vmo_table.specs.declared.vmos.Vmo.{Vmo};
+
+use std::collections::HashMap;
+use vm_base::Koid;
+use vm_model::Origin;
+
+/// What is kept of a VMO beside its pages, and how many names and children it has.
+#[derive(Clone, Copy, Debug)]
+pub(crate) struct Vmo {
+    pub resizable: bool,
+    pub origin: Origin,
+    pub parent: Option<Koid>,
+    /// How many names stand for it.
+    pub names: u64,
+    /// How many VMOs have it as parent.
+    pub children: u64,
+}
+
+/// Writes another value to a VMO of the table.
+pub(crate) fn write_back(vmos: &mut HashMap<Koid, Vmo>, koid: Koid, vmo: Vmo)
+    requires { (old : Vmo) × (vmos_in vmos.old.entries koid.0 ≡ Some old) }
+    ensures { vmos_in vmos.new.entries ≡ with_key (vmos_in vmos.old.entries) koid.0 vmo }
+{
+    if let Some(kept) = vmos.get_mut(&koid) {
+        *kept = vmo;
+    }
+}
+
+/// Counts children of a VMO that leave it, and children that come to it. No VMO, no change.
+pub(crate) fn count_children(
+    vmos: &mut HashMap<Koid, Vmo>,
+    parent: Option<Koid>,
+    gone: u64,
+    come: u64,
+)
+    requires { (v : ℕ) (vmo : Vmo) → is_parent v (option_map koid_number parent) ≡ true →
+        vmos_in vmos.old.entries v ≡ Some vmo → (gone ≤ vmo.children) × (vmo.children - gone + come < 2 ^ 64) }
+    ensures { vmos_in vmos.new.entries ≡ adopted (vmos_in vmos.old.entries) (option_map koid_number parent) gone come }
+{
+    let Some(koid) = parent else {
+        return;
+    };
+    if let Some(vmo) = vmos.get_mut(&koid) {
+        vmo.children = vmo.children - gone + come;
+    }
+}
+
+/// The parent of a VMO after the VMO `gone` left, whose own parent is `parent`.
+fn parent_after(gone: Koid, parent: Option<Koid>, old: Option<Koid>) -> Option<Koid>
+    ensures { result ≡ koid_after gone.0 parent old }
+{
+    if old == Some(gone) { parent } else { old }
+}
+
+/// Takes a VMO out, whose children get its parent. Only a VMO that has children costs a pass over
+/// the table.
+pub(crate) fn take_out(
+    vmos: &mut HashMap<Koid, Vmo>,
+    koid: Koid,
+    parent: Option<Koid>,
+    children: u64,
+)
+    requires { children ≡ 0 → (w : ℕ) → has_parent koid.0 (lineages (vmos_in vmos.old.entries) w) ≡ false }
+    ensures { vmos_in vmos.new.entries ≡ vmos_without (vmos_in vmos.old.entries) koid.0 parent }
+{
+    if children == 0 {
+        let _removed = vmos.remove(&koid);
+        return;
+    }
+    vmos.retain(|other, vmo| {
+        vmo.parent = parent_after(koid, parent, vmo.parent);
+        *other != koid
+    });
+}
