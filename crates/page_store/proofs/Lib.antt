@@ -9,3 +9,4 @@ pub mod ShareLaws
 pub mod ViewLaws
 pub mod DropLaws
 pub mod SnapshotLaws
+pub mod NextLaws

@@ -8,7 +8,7 @@ ghost use Rattle.page_store.specs.Rows.{IsRowFor, IsGapFor};
 ghost use Rattle.page_store.specs.Flat.{content_of};
 
 use crate::page_store::{Look, PageStore};
-use crate::rows::{Row, find, rows_within};
+use crate::rows::{Row, find, lower_bound, rows_within};
 use crate::sharing::{first_with, release_rows, share_rows};
 use crate::vmos::{Vmo, find_vmo};
 use frame_pool::FramePool;
@@ -189,6 +189,15 @@ impl PageStore for FlatStore {
 
     fn write(&mut self, tag: Tag, at: u64, bytes: &[u8]) {
         self.pool.write(tag, at, bytes);
+    }
+
+    fn next_held(&self, v: Koid, from: PageNo) -> Option<PageNo> {
+        let at = lower_bound(&self.rows, v, from);
+        if at < self.rows.len() && self.rows[at].koid == v {
+            Some(self.rows[at].page)
+        } else {
+            None
+        }
     }
 
     fn least_viewer(&self, tag: Tag) -> Koid {

@@ -1,6 +1,6 @@
 //! The contract of a store of pages.
 
-ghost use Rattle.std.specs.Prelude.{◌≡◌, ℕ, ◌+◌, ◌-◌, ◌^◌, ◌<◌, ◌≤◌, ◌⊎◌, true, false, length, IsSome, Some, IfSome, IfOk, OnOk, OnErr};
+ghost use Rattle.std.specs.Prelude.{◌≡◌, ℕ, ◌+◌, ◌-◌, ◌^◌, ◌<◌, ◌≤◌, ◌⊎◌, true, false, length, IsSome, None, Some, IfSome, IfNone, IfOk, OnOk, OnErr};
 ghost use Rattle.vm_model.specs.Search.{count_below};
 ghost use Rattle.vm_model.specs.Content.{Content, nothing, used, sole, pages_of, created, vmos_of};
 ghost use Rattle.vm_model.specs.Owning.{Owns};
@@ -107,6 +107,13 @@ pub trait PageStore: Drop {
         requires range { at + length bytes.now ≤ 4096 }
         ensures bytes { Overwrites (content self.old) (content self.new) tag.0 at bytes.now }
         ensures spare { spare self.new ≡ spare self.old };
+
+    /// The first page that is held, from page `from` of a VMO on. `None` exactly where none is.
+    fn next_held(&self, v: Koid, from: PageNo) -> Option<PageNo>
+        requires { IsSome ((content self.now).count v.0) }
+        ensures some { IfSome result (λ page. (from ≤ page) × IsSome ((content self.now).page v.0 page)
+            × ((p : ℕ) → from ≤ p → p < page → (content self.now).page v.0 p ≡ None)) }
+        ensures none { IfNone result ((p : ℕ) → from ≤ p → (content self.now).page v.0 p ≡ None) };
 
     /// The least koid that shows a frame, which some page shows. That VMO is charged for it.
     fn least_viewer(&self, tag: Tag) -> Koid

@@ -161,6 +161,19 @@ fn assert_shown<P: PageStore>(
     Ok(())
 }
 
+/// Asserts which page of a VMO is the first that is held, from a page on.
+fn assert_next<P: PageStore>(
+    rt: &impl Abort,
+    store: &P,
+    v: Koid,
+    from: PageNo,
+    page: Option<PageNo>,
+)
+    requires { 0 < pages_of (P.content store.now) v.0 }
+{
+    assert_eq!(rt; store.next_held(v, from), page);
+}
+
 /// Takes a VMO out of the store.
 fn drop_vmo<P: PageStore>(store: &mut P, v: Koid)
     requires good { IsGood (P.content store.old) }
@@ -421,4 +434,31 @@ fn drops_in_each_order<P: PageStore>(rt: &impl Abort, store: &mut P) -> Result<(
 #[test]
 fn three_vmos_of_one_frame_leave_in_each_order(rt: HostRuntime) -> Result<(), Fail> {
     drops_in_each_order(&rt, &mut FlatStore::new(rt.alloc()))
+}
+
+/// Looks for held pages with gaps between them, where the rows of another VMO stand behind.
+fn finds_held<P: PageStore>(rt: &impl Abort, store: &mut P) -> Result<(), Fail>
+    requires { P.content store.old ≡ nothing }
+{
+    fill(store, 3)?;
+    let first = create(store, 300)?;
+    let second = create(store, 300)?;
+    assert_next(rt, store, first, 0, None);
+    own(rt, store, second, 20)?;
+    assert_next(rt, store, first, 0, None);
+    own(rt, store, first, 299)?;
+    own(rt, store, first, 5)?;
+    assert_next(rt, store, first, 0, Some(5));
+    assert_next(rt, store, first, 5, Some(5));
+    assert_next(rt, store, first, 6, Some(299));
+    assert_next(rt, store, first, 299, Some(299));
+    assert_next(rt, store, first, 300, None);
+    assert_next(rt, store, second, 0, Some(20));
+    assert_next(rt, store, second, 21, None);
+    Ok(())
+}
+
+#[test]
+fn held_pages_are_found_past_gaps(rt: HostRuntime) -> Result<(), Fail> {
+    finds_held(&rt, &mut FlatStore::new(rt.alloc()))
 }

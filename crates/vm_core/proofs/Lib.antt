@@ -6,3 +6,5 @@ pub mod ReadLaws
 pub mod WriteLaws
 pub mod CreateLaws
 pub mod CloseLaws
+pub mod AliasLaws
+pub mod InfoLaws

@@ -86,6 +86,6 @@ IsInside-good s n target good e = let fine = (good.names n target e).1 in record
   go fine None f = omega (arith, fine.whole f)
   go fine (Some m) f = (fine.part m f).2
 
--- a name of a good content has no more pages than a VMO may have, and ends where a VMO may
+-- what a name stands for ends at or below the greatest size of a VMO
 pub name_few : (c : Content) (target : Name) → IsGood c → IsInside c target → target.first + name_pages c target ≤ VMO_PAGES
 name_few c target good inside = omega (arith, inside.pages, pages_of_le c target.koid good)

@@ -4,12 +4,12 @@ use Rattle.vm_base.specs.declared.pages.TheConstants.{PAGE}
 use Rattle.vm_model.specs.Content.{Content, pages_of}
 use Rattle.vm_model.specs.Names.{Name}
 use Rattle.vm_model.specs.State.{State, name_pages}
-use Rattle.vmo_table.specs.Table.{names_of, lineage_in}
+use Rattle.attribution.specs.Parts.{state_with}
 use Rattle.vm_core.specs.declared.vm.Vm.{Vm}
 
 -- the content of the store, and the names and the lineage of the table
 abbrev pub state_of : Content → Vm → State
-state_of c vm = record { content = c; names = names_of vm.vmos; lineage = lineage_in vm.vmos }
+state_of c vm = state_with c vm.vmos
 
 -- what the name stands for lies inside its VMO
 pub record IsInside (c : Content) (target : Name) : Type 0 where

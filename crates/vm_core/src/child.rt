@@ -19,7 +19,7 @@ use vmo_table::Target;
 
 /// Makes a VMO that shows the pages of `parent` from `offset` bytes into the name on as they are now,
 /// `size` bytes rounded up to whole pages. Pages past the end of the name are zero. No byte is copied:
-/// the pages are copied when one of the two VMOs is written to.
+/// the pages are copied when one of the two VMOs is written to. The clause `name` is as in `vmo_create`.
 pub(crate) fn vmo_snapshot<P: PageStore>(
     vm: &mut Vm,
     store: &mut P,

@@ -12,7 +12,8 @@ use vm_base::{PAGE, Refusal, VMO_PAGES, VmoName, page_of, round_up};
 use vm_model::{Origin, Reply};
 
 /// Makes a VMO of zero pages, `size` bytes rounded up to whole pages, and lets the name stand for it.
-/// The name may write to it, and may resize it exactly where it is resizable.
+/// The name may write to it, and may resize it exactly where it is resizable. The clause `name` hands up
+/// the range of the name's number, which the caller has behind a reference.
 pub(crate) fn vmo_create<P: PageStore>(
     vm: &mut Vm,
     store: &mut P,

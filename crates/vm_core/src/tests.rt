@@ -7,7 +7,7 @@ use page_store::{FlatStore, PageStore};
 use std::process::Abort;
 use std::test::Fail;
 use vm_base::{Koid, PinName, Refusal, VmoName};
-use vm_model::{Bytes4k, ChildKind, Command, Reply, Stat};
+use vm_model::{Bytes4k, ChildKind, Command, Info, Reply, Stat};
 
 fn bytes_of(bytes: &[u8]) -> Bytes4k
     requires { length bytes.now ≤ 4096 }
@@ -55,16 +55,41 @@ fn close(name: u32) -> Command {
     }
 }
 
-fn snapshot(name: u32, parent: u32, offset: u64, size: u64, no_write: bool) -> Command {
+fn info(name: u32) -> Command {
+    Command::VmoInfo {
+        name: VmoName(name),
+    }
+}
+
+fn child(
+    name: u32,
+    parent: u32,
+    kind: ChildKind,
+    offset: u64,
+    size: u64,
+    no_write: bool,
+) -> Command {
     Command::VmoChild {
         name: VmoName(name),
         parent: VmoName(parent),
-        kind: ChildKind::Snapshot,
+        kind,
         offset,
         size,
         resizable: false,
         no_write,
     }
+}
+
+fn snapshot(name: u32, parent: u32, offset: u64, size: u64, no_write: bool) -> Command {
+    child(name, parent, ChildKind::Snapshot, offset, size, no_write)
+}
+
+fn slice(name: u32, parent: u32, offset: u64, size: u64) -> Command {
+    child(name, parent, ChildKind::Slice, offset, size, false)
+}
+
+fn reference(name: u32, parent: u32) -> Command {
+    child(name, parent, ChildKind::Reference, 0, 0, false)
 }
 
 fn unpin(pin: u32) -> Command {
@@ -99,6 +124,13 @@ fn is_number(reply: &Reply, want: u64) -> bool {
 fn has_counts(reply: &Reply, want: Stat) -> bool {
     match reply {
         Reply::Stat(counts) => *counts == want,
+        _ => false,
+    }
+}
+
+fn has_info(reply: &Reply, want: Info) -> bool {
+    match reply {
+        Reply::Info(told) => *told == want,
         _ => false,
     }
 }
@@ -193,6 +225,41 @@ fn forks_and_closes<P: PageStore>(rt: &impl Abort, vm: &mut Vm, store: &mut P)
     assert!(rt; has_bytes(&vm.step(store, &read(3, 0, 2)), &[3, 0]));
 }
 
+// On the same machine, where the VMO 2 has three zero pages, and two frames are free.
+fn names_parts<P: PageStore>(rt: &impl Abort, vm: &mut Vm, store: &mut P)
+    requires good { IsGoodState (state_of (P.content store.old) vm.old) }
+    requires next { (P.content store.old).next < 2500 }
+    ensures good { IsGoodState (state_of (P.content store.new) vm.new) }
+    ensures next { (P.content store.new).next ≤ (P.content store.old).next + 12 }
+{
+    let told = Info {
+        koid: Koid(2),
+        size: 8192,
+        held: 1,
+        private_pages: 1,
+        shared_pages: 0,
+        charged: 1,
+        children: 2,
+    };
+    assert!(rt; is_done(&vm.step(store, &slice(6, 2, 4096, 4097))));
+    assert!(rt; is_done(&vm.step(store, &reference(7, 2))));
+    assert!(rt; is_done(&vm.step(store, &write(6, 0, &[7]))));
+    assert!(rt; has_bytes(&vm.step(store, &read(2, 4095, 3)), &[0, 7, 0]));
+    assert!(rt; is_done(&vm.step(store, &write(2, 4097, &[8]))));
+    assert!(rt; has_bytes(&vm.step(store, &read(6, 0, 3)), &[7, 8, 0]));
+    assert!(rt; is_done(&vm.step(store, &close(2))));
+    assert!(rt; has_info(&vm.step(store, &info(6)), told));
+    assert!(rt;
+        is_refused(
+            &vm.step(store, &slice(8, 6, 4096, 4097)),
+            Refusal::InvalidArgs
+        )
+    );
+    assert!(rt; is_refused(&vm.step(store, &reference(8, 6)), Refusal::NotSupported));
+    assert!(rt; is_refused(&vm.step(store, &info(8)), Refusal::BadHandle));
+    assert!(rt; is_done(&vm.step(store, &reference(2, 7))));
+}
+
 // A refused snapshot uses no koid: the next VMO of the store has the number of this one.
 fn keeps_koids<P: PageStore>(rt: &impl Abort, vm: &mut Vm, store: &mut P) -> Result<(), Fail>
     requires good { IsGoodState (state_of (P.content store.old) vm.old) }
@@ -227,5 +294,6 @@ fn steps_over_a_flat_store(rt: HostRuntime) -> Result<(), Fail> {
     tells_of_the_machine(&rt, &mut vm, &mut store);
     refuses_commands(&rt, &mut vm, &mut store);
     forks_and_closes(&rt, &mut vm, &mut store);
+    names_parts(&rt, &mut vm, &mut store);
     keeps_koids(&rt, &mut vm, &mut store)
 }

@@ -2,13 +2,15 @@
 
 ghost use Rattle.std.specs.Prelude.{◌≡◌, ℕ, ◌+◌, ◌<◌, ◌≤◌, ◌^◌, None};
 
+use crate::alias::{vmo_reference, vmo_slice};
 use crate::child::vmo_snapshot;
 use crate::close::vmo_close;
 use crate::create::vmo_create;
+use crate::info::vmo_info;
 use crate::read::vmo_read;
 use crate::size::vmo_size;
-use crate::stat::stat;
 use crate::write::vmo_write;
+use attribution::stat;
 use page_store::PageStore;
 use std::alloc::Global;
 use vm_model::{ChildKind, Command, Reply};
@@ -64,6 +66,28 @@ impl Vm {
             } => vmo_snapshot(
                 self, store, *name, *parent, *offset, *size, *resizable, *no_write,
             ),
+            Command::VmoChild {
+                name,
+                parent,
+                kind: ChildKind::Slice,
+                offset,
+                size,
+                resizable,
+                no_write,
+            } => vmo_slice(
+                self, store, *name, *parent, *offset, *size, *resizable, *no_write,
+            ),
+            Command::VmoChild {
+                name,
+                parent,
+                kind: ChildKind::Reference,
+                offset,
+                size,
+                resizable,
+                no_write,
+            } => vmo_reference(
+                self, store, *name, *parent, *offset, *size, *resizable, *no_write,
+            ),
             Command::VmoClose { name } => vmo_close(self, store, *name),
             Command::VmoRead { name, offset, len } => vmo_read(self, store, *name, *offset, *len),
             Command::VmoWrite {
@@ -72,7 +96,8 @@ impl Vm {
                 bytes,
             } => vmo_write(self, store, *name, *offset, bytes.as_slice()),
             Command::VmoSize { name } => vmo_size(self, store, *name),
-            Command::Stat => stat(self, store),
+            Command::VmoInfo { name } => vmo_info(self, store, *name),
+            Command::Stat => Reply::Stat(stat(store)),
             _ => Reply::Unbuilt,
         }
     }

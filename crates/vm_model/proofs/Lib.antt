@@ -6,6 +6,8 @@ pub mod RangeLaws
 pub mod WritingLaws
 pub mod MapLaws
 pub mod NamesLaws
+pub mod AliasLaws
+pub mod AttributionLaws
 pub mod LeavingLaws
 pub mod StepLaws
 pub mod RunLaws

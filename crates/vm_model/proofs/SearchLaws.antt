@@ -1,7 +1,7 @@
 -- Laws of searching and counting below a bound.
 use Rattle.std.proofs.Common.{◌≡◌, ◌≢◌, ℕ, zero, suc, ◌+◌, ◌<◌, ◌≤◌, Bool, true, false, cond, ◌||◌, ◌⊎◌, refl, sym, ap, ◌∙◌, inl, inr, arith}
 use Rattle.std.specs.Prelude.{nat_lt}
-use Rattle.std.proofs.lemmas.Bool.{cases_order, cases_Bool, or_cases, or_parts, or_from, or_left, or_right, lt-ltb}
+use Rattle.std.proofs.lemmas.Bool.{cases_order, cases_eq, cases_Bool, or_cases, or_parts, or_from, or_left, or_right, lt-ltb}
 use Rattle.vm_model.specs.Search.{any_below, count_below}
 
 -- a number below n + 1 is n or below n
@@ -183,3 +183,40 @@ pub count_below_split : (n : ℕ) (p q r : ℕ → Bool) → ((k : ℕ) → cond
 unfolding count_below
 count_below_split zero p q r each = refl
 count_below_split (suc n) p q r each = omega (arith, each n, count_below_split n p q r each)
+
+-- the same for three tests
+pub count_below_split_three : (n : ℕ) (p q s r : ℕ → Bool) → ((k : ℕ) → cond (r k) 1 0 ≡ cond (p k) 1 0 + cond (q k) 1 0 + cond (s k) 1 0) → count_below n r ≡ count_below n p + count_below n q + count_below n s
+unfolding count_below
+count_below_split_three zero p q s r each = refl
+count_below_split_three (suc n) p q s r each = omega (arith, each n, count_below_split_three n p q s r each)
+
+-- where nothing passes from m on, the numbers below m are all that count
+pub count_below_gap : (m n : ℕ) (p : ℕ → Bool) → m ≤ n → ((k : ℕ) → m ≤ k → k < n → p k ≡ false) → count_below n p ≡ count_below m p
+unfolding count_below
+count_below_gap m zero p h none = count_below-bound zero m p (omega arith)
+count_below_gap m (suc n) p h none = elim (cases_eq m (suc n)) [
+  | inl same ↦ count_below-bound (suc n) m p (sym same)
+  | inr apart ↦
+      let rest = count_below_gap m n p (omega arith) (λ k l less. none k l (omega arith)) in
+      omega (arith, rest, bit-false (p n) (none n (omega arith) (omega arith)))
+]
+
+-- where nothing passes from m to below k, k counts next
+pub count_below_next : (m k : ℕ) (p : ℕ → Bool) → m ≤ k → ((j : ℕ) → m ≤ j → j < k → p j ≡ false) → count_below (k + 1) p ≡ count_below m p + cond (p k) 1 0
+count_below_next m k p h none = omega (arith, count_below-suc k p, count_below_gap m k p h none)
+
+-- nothing counts below 0
+pub count_below-zero : (p : ℕ → Bool) → count_below 0 p ≡ 0
+unfolding count_below
+count_below-zero p = refl
+
+-- where one test passes only if another does, no more pass it
+pub count_below_less : (n : ℕ) (p q : ℕ → Bool) → ((k : ℕ) → k < n → p k ≡ true → q k ≡ true) → count_below n p ≤ count_below n q
+unfolding count_below
+count_below_less zero p q each = omega arith
+count_below_less (suc n) p q each =
+    let rest = count_below_less n p q (λ k h. each k (omega arith)) in
+    elim (cases_Bool (p n)) [
+      | inl hit ↦ omega (arith, rest, bit-true (q n) (each n (omega arith) hit), bit_le (p n))
+      | inr miss ↦ omega (arith, rest, bit-false (p n) miss)
+    ]

@@ -1,27 +1,28 @@
 -- Laws of the step: a good state stays good.
 use Rattle.std.proofs.Common.{◌≡◌, ◌≢◌, ℕ, ◌+◌, ◌-◌, ◌*◌, ◌/◌, ◌%◌, ◌<◌, ◌≤◌, ◌==◌, Bool, true, false, not, cond, ◌&&◌, ◌||◌, List, [], ◌∷◌, length, Option, None, Some, refl, sym, ap, subst, ◌∙◌, inl, inr, arith}
 use Rattle.std.specs.Prelude.{nat_lt, unwrap_or, IsSome, is_some}
-use Rattle.std.proofs.lemmas.Bool.{cases_eq, ltb-false, not-false}
+use Rattle.std.proofs.lemmas.Bool.{cases_eq, ltb-false, not-false, and_cases, or_parts, both_ways}
 use Rattle.std.proofs.Math.Nat.{min-le_left, min-le_right}
 use Rattle.vm_base.specs.Pages.{rounded}
 use Rattle.vm_base.specs.declared.pages.TheConstants.{PAGE, VMO_PAGES}
 use Rattle.vm_base.specs.declared.refusal.Refusal.{Refusal}
-use Rattle.vm_base.specs.declared.refusal.Refusal.TheVariants.{BadHandle, NameInUse, AccessDenied, InvalidArgs, OutOfRange, NoMemory}
+use Rattle.vm_base.specs.declared.refusal.Refusal.TheVariants.{BadHandle, NameInUse, AccessDenied, InvalidArgs, NotSupported, OutOfRange, NoMemory}
 use Rattle.vm_model.specs.declared.command.Command.{Command}
 use Rattle.vm_model.specs.declared.command.Command.TheVariants.{VmoCreate, VmoChild, VmoClose, VmoRead, VmoWrite}
-use Rattle.vm_model.specs.declared.command.ChildKind.TheVariants.{Snapshot as SnapshotChild}
+use Rattle.vm_model.specs.declared.command.ChildKind.TheVariants.{Snapshot as SnapshotChild, Slice as SliceChild, Reference as ReferenceChild}
+use Rattle.vm_model.specs.declared.names.NameKind.TheVariants.{Slice}
 use Rattle.vm_model.specs.declared.names.Origin.TheVariants.{Created, Snapshot}
 use Rattle.vm_model.specs.declared.reply.Reply.{Reply}
 use Rattle.vm_model.specs.Content.{Content, nothing, created, pages_of, IsGood}
 use Rattle.vm_model.specs.Sharing.{snapshotted}
 use Rattle.vm_model.specs.Writing.{touched, pieces, Writes}
 use Rattle.vm_model.specs.Maps.{with_key}
-use Rattle.vm_model.specs.Names.{Name, Lineage, NAMES, owner, is_named}
-use Rattle.vm_model.specs.State.{State, empty_state, is_open, is_live, target_of, koid_of, name_pages, size_of, place_of, IsGoodName, IsGoodState}
+use Rattle.vm_model.specs.Names.{Name, Lineage, NAMES, owner, is_named, is_kind}
+use Rattle.vm_model.specs.State.{State, empty_state, is_open, is_live, target_of, koid_of, name_pages, size_of, place_of, lineage_of, IsGoodName, IsGoodState}
 use Rattle.vm_model.specs.Leaving.{pruned}
 use Rattle.vm_model.specs.Refusals.{lacks_frames, refusals, first_of}
 use Rattle.vm_model.specs.Spelling.{HasRanges}
-use Rattle.vm_model.specs.Step.{with_vmo, seen_pages, with_snapshot, Effect, StepAfter, Step}
+use Rattle.vm_model.specs.Step.{with_vmo, seen_pages, with_snapshot, slice_of, reference_of, with_alias, Effect, StepAfter, Step}
 use Rattle.vm_model.proofs.ContentLaws.{count-created_new, count-created_other, next-created, frames-created, IsGood-created, IsGood-nothing}
 use Rattle.vm_model.proofs.SharingLaws.{count-snapshotted_new, count-snapshotted_other, next-snapshotted, frames-snapshotted, IsGood-snapshotted, koid_some}
 use Rattle.vm_model.proofs.WritingLaws.{IsKept, Writes-keeps_all}
@@ -160,6 +161,53 @@ snapshot_keeps old name target start pages resizable no_write good h closed vmo 
     (next-snapshotted c target.koid first seen pages) (frames-snapshotted c target.koid first seen pages)
     (λ p e. let is : target.koid ≡ p = cc in subst (λ (v : ℕ). IsSome (old.lineage v)) is (lineage_at old target.koid good vmo))
 
+-- a name as good as it was, in a state with the same VMOs
+IsGoodName-kept : (old new : State) (target : Name) → new.content ≡ old.content → new.lineage ≡ old.lineage → IsGoodName old target → IsGoodName new target
+IsGoodName-kept old new target content lineage good =
+    IsGoodName-same old new target (ap (λ (c : Content). c.count target.koid) content)
+    (ap (λ (l : Lineage). l.resizable) (lineage_of-same new old target.koid (ap (λ (f : ℕ → Option Lineage). f target.koid) lineage))) good
+
+-- one name more of a VMO that is there, under a number that is not open
+pub alias_keeps : (old : State) (name : ℕ) (target : Name) → IsGoodState old → name < NAMES → is_open old name ≡ false → IsGoodName old target → Keeps old (with_alias old name target)
+unfolding with_alias
+alias_keeps old name target good h closed fine =
+    let state : State = record old { names = with_key old.names name target } in
+    record {
+      good = record {
+        content = good.content;
+        names = λ n other e. elim (with_key-cases old.names name target n other e) [
+          | inl new ↦ (subst (λ (m : ℕ). m < NAMES) (sym new.0) h, IsGoodName-kept old state other refl refl (subst (IsGoodName old) new.1 fine))
+          | inr was ↦ let before = good.names n other was.1 in (before.0, IsGoodName-kept old state other refl refl before.1)
+        ];
+        known = good.known;
+        live = λ v e. is_named-with_key_kept old.names name target v closed (good.live v e);
+        parents = good.parents;
+      };
+      next = omega arith;
+      frames = refl;
+    }
+
+-- A part of what a good name stands for is a good name, where the VMO keeps its size and the part lies inside the name
+pub slice_good : (s : State) (target : Name) (start pages : ℕ) (no_write : Bool) → IsGoodName s target → (lineage_of s target.koid).resizable ≡ false → start + pages ≤ name_pages s.content target → IsGoodName s (slice_of target start pages no_write)
+slice_good s target start pages no_write good fixed inside = record {
+  vmo = good.vmo;
+  whole = λ e. absurd cc;
+  part = λ n e. let is : pages ≡ n = cc in (refl, fixed, subst (λ (m : ℕ). target.first + start + m ≤ pages_of s.content target.koid) is (go target.limit refl inside));
+  resize = λ e. absurd cc;
+} where
+  go : (o : Option ℕ) → target.limit ≡ o → start + pages ≤ unwrap_or o (pages_of s.content target.koid) → target.first + start + pages ≤ pages_of s.content target.koid
+  go None e l = omega (arith, good.whole e)
+  go (Some n) e l = omega (arith, (good.part n e).2)
+
+-- Another name of all of a good name's VMO is good, where it may change the size only if that name may
+pub reference_good : (s : State) (target : Name) (resizable no_write : Bool) → IsGoodName s target → (resizable ≡ true → target.may_resize ≡ true) → IsGoodName s (reference_of target resizable no_write)
+reference_good s target resizable no_write good may = record {
+  vmo = good.vmo;
+  whole = λ e. refl;
+  part = λ n e. absurd cc;
+  resize = λ e. good.resize (may e);
+}
+
 -- a name that is closed
 pub close_keeps : (old : State) (name : ℕ) → IsGoodState old → is_open old name ≡ true → Keeps old (pruned (unnamed old name))
 close_keeps old name good open_name = record {
@@ -194,6 +242,13 @@ pub write_keeps : (old new : State) (v offset : ℕ) (bytes : List ℕ) → IsGo
 write_keeps old new v offset bytes good h names lineage w =
     kept_keeps old new good names lineage (Writes-keeps_all v offset bytes old.content new.content good.content h w)
 
+-- where a change of size is asked for and not refused, the parent's name may change it
+may_resize_too : (resizable no_write may : Bool) → (resizable && (no_write || not may)) ≡ false → resizable ≡ true → may ≡ true
+may_resize_too resizable no_write may off e = elim (and_cases resizable (no_write || not may) off) [
+  | inl none ↦ absurd (both_ways resizable none e)
+  | inr rest ↦ not-false may (or_parts no_write (not may) rest).1
+]
+
 -- the effect of a command that nothing refuses
 pub effect_keeps : (old : State) (command : Command) (reply : Reply) (new : State) → IsGoodState old → GivesName command → first_of (refusals old command) ≡ None → Effect old command reply new → Keeps old new
 effect_keeps old (VmoCreate name size resizable) reply new good h none effect =
@@ -213,6 +268,35 @@ effect_keeps old (VmoChild name parent SnapshotChild offset size resizable no_wr
     let vmo = name_vmo old parent.0 (target_of old parent.0) good (names-open old parent.0 (not-false (is_open old parent.0) parent_row.0)) in
     subst (Keeps old) (sym effect.1)
     (snapshot_keeps old name.0 (target_of old parent.0) (offset / PAGE) (rounded size / PAGE) resizable no_write good h open_row.0 vmo (omega arith))
+effect_keeps old (VmoChild name parent SliceChild offset size resizable no_write) reply new good h none effect =
+    let target = target_of old parent.0 in
+    let aligned = offset % PAGE == 0 in
+    let past = nat_lt (size_of old parent.0) (offset + rounded size) in
+    let wrong = not aligned || (resizable || past) in
+    let changes = (lineage_of old (koid_of old parent.0)).resizable in
+    let parent_row = first_of-none (not (is_open old parent.0)) BadHandle (first_of ((is_open old name.0, NameInUse) ∷ (wrong, InvalidArgs) ∷ (changes, NotSupported) ∷ [])) none in
+    let open_row = first_of-none (is_open old name.0) NameInUse (first_of ((wrong, InvalidArgs) ∷ (changes, NotSupported) ∷ [])) parent_row.1 in
+    let args_row = first_of-none wrong InvalidArgs (first_of ((changes, NotSupported) ∷ [])) open_row.1 in
+    let size_row = first_of-none changes NotSupported None args_row.1 in
+    let inside : offset + rounded size ≤ size_of old parent.0 =
+    ltb-false (size_of old parent.0) (offset + rounded size) (or_parts resizable past (or_parts (not aligned) (resizable || past) args_row.0).1).1 in
+    let fine = (good.names parent.0 target (names-open old parent.0 (not-false (is_open old parent.0) parent_row.0))).1 in
+    subst (Keeps old) (sym effect.1)
+    (alias_keeps old name.0 (slice_of target (offset / PAGE) (rounded size / PAGE) no_write) good h open_row.0
+    (slice_good old target (offset / PAGE) (rounded size / PAGE) no_write fine size_row.0 (omega (arith, inside))))
+effect_keeps old (VmoChild name parent ReferenceChild offset size resizable no_write) reply new good h none effect =
+    let target = target_of old parent.0 in
+    let empty = offset == 0 && size == 0 in
+    let wrong = not empty || (resizable && (no_write || not target.may_resize)) in
+    let part = is_kind Slice target.kind in
+    let parent_row = first_of-none (not (is_open old parent.0)) BadHandle (first_of ((is_open old name.0, NameInUse) ∷ (wrong, InvalidArgs) ∷ (part, NotSupported) ∷ [])) none in
+    let open_row = first_of-none (is_open old name.0) NameInUse (first_of ((wrong, InvalidArgs) ∷ (part, NotSupported) ∷ [])) parent_row.1 in
+    let args_row = first_of-none wrong InvalidArgs (first_of ((part, NotSupported) ∷ [])) open_row.1 in
+    let off = (or_parts (not empty) (resizable && (no_write || not target.may_resize)) args_row.0).1 in
+    let fine = (good.names parent.0 target (names-open old parent.0 (not-false (is_open old parent.0) parent_row.0))).1 in
+    subst (Keeps old) (sym effect.1)
+    (alias_keeps old name.0 (reference_of target resizable no_write) good h open_row.0
+    (reference_good old target resizable no_write fine (λ e. may_resize_too resizable no_write target.may_resize off e)))
 effect_keeps old (VmoClose name) reply new good h none effect =
     let open_row = first_of-none (not (is_open old name.0)) BadHandle None none in
     subst (Keeps old) (sym effect.1) (close_keeps old name.0 good (not-false (is_open old name.0) open_row.0))

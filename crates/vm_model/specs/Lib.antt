@@ -7,6 +7,7 @@ pub mod Writing
 pub mod Names
 pub mod State
 pub mod Leaving
+pub mod Attribution
 pub mod Refusals
 pub mod Step
 pub mod Reading

@@ -1,10 +1,11 @@
 -- The names of VMOs, and what the machine keeps of a VMO beside its pages. From the kernel's handles and VMO children.
-use Rattle.std.specs.Prelude.{ℕ, Bool, false, ◌==◌, if◌then◌else◌, Option, None, Some}
+use Rattle.std.specs.Prelude.{ℕ, Bool, false, ◌&&◌, ◌==◌, if◌then◌else◌, Option, None, Some, ◌+◌, true}
 use Rattle.std.specs.Option.{option_map}
 use Rattle.vm_model.specs.declared.names.NameKind.{NameKind}
-use Rattle.vm_model.specs.declared.names.NameKind.TheVariants.{Owner}
+use Rattle.vm_model.specs.declared.names.NameKind.TheVariants.{Owner, Slice, Reference}
 use Rattle.vm_model.specs.declared.names.Origin.{Origin}
-use Rattle.vm_model.specs.Search.{any_below}
+use Rattle.vm_model.specs.declared.names.Origin.TheVariants.{Created, Snapshot}
+use Rattle.vm_model.specs.Search.{any_below, count_below}
 
 -- A name that is open stands for a VMO, from one of its pages on: for so many pages, or for the whole VMO. It may write to
 -- it and change its size, or not.
@@ -26,6 +27,10 @@ pub record Lineage : Type 0 where
 abbrev pub NAMES : ℕ
 NAMES = 4294967296
 
+-- koids are below 2^63, since no more are ever given
+abbrev pub KOIDS : ℕ
+KOIDS = 9223372036854775808
+
 -- the name of a VMO that was just made
 abbrev pub owner : ℕ → Bool → Bool → Name
 owner koid may_write may_resize = record { koid = koid; first = 0; limit = None; kind = Owner; may_write = may_write; may_resize = may_resize }
@@ -38,6 +43,50 @@ carries v (Some target) = target.koid == v
 -- some name stands for the VMO v
 unfoldable pub is_named : (ℕ → Option Name) → ℕ → Bool
 is_named names v = any_below NAMES (λ n. carries v (names n))
+
+-- two kinds are the same
+abbrev pub is_kind : NameKind → NameKind → Bool
+is_kind Owner Owner = true
+is_kind Slice Slice = true
+is_kind Reference Reference = true
+is_kind _ _ = false
+
+-- a VMO was created with zero pages
+abbrev pub is_created : Origin → Bool
+is_created Created = true
+is_created Snapshot = false
+
+-- a parent is v
+unfoldable pub is_parent : ℕ → Option ℕ → Bool
+is_parent v None = false
+is_parent v (Some p) = p == v
+
+-- a name of this kind stands for the VMO v
+unfoldable pub carries_as : NameKind → ℕ → Option Name → Bool
+carries_as kind v None = false
+carries_as kind v (Some target) = (target.koid == v) && is_kind kind target.kind
+
+-- how many names of this kind stand for the VMO v
+unfoldable pub names_as : NameKind → (ℕ → Option Name) → ℕ → ℕ
+names_as kind names v = count_below NAMES (λ n. carries_as kind v (names n))
+
+-- the VMO with this lineage has the parent v
+unfoldable pub has_parent : ℕ → Option Lineage → Bool
+has_parent v None = false
+has_parent v (Some l) = is_parent v l.parent
+
+-- how many VMOs have the parent v
+unfoldable pub child_count : (ℕ → Option Lineage) → ℕ → ℕ
+child_count lineage v = count_below KOIDS (λ w. has_parent v (lineage w))
+
+-- The children of the VMO v: the VMOs whose parent it is, and the slices and references that stand for it.
+abbrev pub children : (ℕ → Option Name) → (ℕ → Option Lineage) → ℕ → ℕ
+children names lineage v = child_count lineage v + names_as Slice names v + names_as Reference names v
+
+-- The pages of the VMO v with this lineage may be taken back: it is no snapshot, no VMO is its child, and no reference stands
+-- for it.
+abbrev pub may_decommit : (ℕ → Option Name) → (ℕ → Option Lineage) → ℕ → Lineage → Bool
+may_decommit names lineage v l = is_created l.origin && ((child_count lineage v == 0) && (names_as Reference names v == 0))
 
 -- a parent, after the VMO v left: its children get its own parent
 unfoldable pub parent_without : ℕ → Option ℕ → Option ℕ → Option ℕ

@@ -3,14 +3,16 @@ use Rattle.std.specs.Prelude.{ℕ, ◌+◌, ◌*◌, ◌%◌, Bool, not, ◌&&�
 use Rattle.vm_base.specs.Pages.{rounded}
 use Rattle.vm_base.specs.declared.pages.TheConstants.{PAGE, VMO_PAGES}
 use Rattle.vm_base.specs.declared.refusal.Refusal.{Refusal}
-use Rattle.vm_base.specs.declared.refusal.Refusal.TheVariants.{BadHandle, NameInUse, AccessDenied, InvalidArgs, OutOfRange, NoMemory}
+use Rattle.vm_base.specs.declared.refusal.Refusal.TheVariants.{BadHandle, NameInUse, AccessDenied, InvalidArgs, NotSupported, OutOfRange, NoMemory}
 use Rattle.vm_model.specs.declared.command.Command.{Command}
-use Rattle.vm_model.specs.declared.command.Command.TheVariants.{VmoCreate, VmoChild, VmoClose, VmoSize, VmoRead, VmoWrite}
-use Rattle.vm_model.specs.declared.command.ChildKind.TheVariants.{Snapshot}
+use Rattle.vm_model.specs.declared.command.Command.TheVariants.{VmoCreate, VmoChild, VmoClose, VmoSize, VmoRead, VmoWrite, VmoInfo}
+use Rattle.vm_model.specs.declared.command.ChildKind.TheVariants.{Snapshot, Slice, Reference}
+use Rattle.vm_model.specs.declared.names.NameKind.TheVariants.{Slice as SliceName}
 use Rattle.vm_model.specs.Content.{used}
 use Rattle.vm_model.specs.Owning.{need}
 use Rattle.vm_model.specs.Writing.{touched}
-use Rattle.vm_model.specs.State.{State, is_open, target_of, koid_of, size_of, place_of}
+use Rattle.vm_model.specs.Names.{is_kind}
+use Rattle.vm_model.specs.State.{State, is_open, target_of, koid_of, size_of, place_of, lineage_of}
 
 -- owning these pages of the VMO of this name takes more frames than are free
 abbrev pub lacks_frames : State → ℕ → List ℕ → Bool
@@ -28,6 +30,18 @@ refusals s (VmoChild name parent Snapshot offset size resizable no_write) =
     ∷ (not (offset % PAGE == 0) || (resizable && no_write), InvalidArgs)
     ∷ (nat_lt (VMO_PAGES * PAGE) (offset + rounded size), OutOfRange)
     ∷ []
+refusals s (VmoChild name parent Slice offset size resizable no_write) =
+    (not (is_open s parent.0), BadHandle)
+    ∷ (is_open s name.0, NameInUse)
+    ∷ (not (offset % PAGE == 0) || (resizable || nat_lt (size_of s parent.0) (offset + rounded size)), InvalidArgs)
+    ∷ ((lineage_of s (koid_of s parent.0)).resizable, NotSupported)
+    ∷ []
+refusals s (VmoChild name parent Reference offset size resizable no_write) =
+    (not (is_open s parent.0), BadHandle)
+    ∷ (is_open s name.0, NameInUse)
+    ∷ (not (offset == 0 && size == 0) || (resizable && (no_write || not (target_of s parent.0).may_resize)), InvalidArgs)
+    ∷ (is_kind SliceName (target_of s parent.0).kind, NotSupported)
+    ∷ []
 refusals s (VmoClose name) = (not (is_open s name.0), BadHandle) ∷ []
 refusals s (VmoRead name offset len) =
     (not (is_open s name.0), BadHandle)
@@ -41,6 +55,7 @@ refusals s (VmoWrite name offset bytes) =
     ∷ (lacks_frames s name.0 (touched (place_of s name.0 offset) (length bytes)), NoMemory)
     ∷ []
 refusals s (VmoSize name) = (not (is_open s name.0), BadHandle) ∷ []
+refusals s (VmoInfo name) = (not (is_open s name.0), BadHandle) ∷ []
 -- the other commands refuse nothing: `Stat`, and those that are not built yet
 refusals s _ = []
 

@@ -1,29 +1,26 @@
 -- One step of the machine: a command is refused, or it has its effect, or the host lacks memory for it.
-use Rattle.std.specs.Prelude.{◌≡◌, ℕ, ◌+◌, ◌-◌, ◌/◌, min, Bool, true, false, not, length, Option, None, Some, ◌⊎◌}
+use Rattle.std.specs.Prelude.{◌≡◌, ℕ, ◌+◌, ◌-◌, ◌/◌, min, Bool, true, false, not, length, Option, None, Some, ◌⊎◌, ◌&&◌}
 use Rattle.std.specs.List.{list_any}
 use Rattle.vm_base.specs.Pages.{rounded}
 use Rattle.vm_base.specs.declared.pages.TheConstants.{PAGE}
 use Rattle.vm_base.specs.declared.refusal.Refusal.{Refusal}
 use Rattle.vm_base.specs.declared.refusal.Refusal.TheVariants.{HostMemory}
 use Rattle.vm_model.specs.declared.command.Command.{Command}
-use Rattle.vm_model.specs.declared.command.Command.TheVariants.{VmoCreate, VmoChild, VmoClose, VmoSize, VmoRead, VmoWrite, Stat}
-use Rattle.vm_model.specs.declared.command.ChildKind.TheVariants.{Snapshot as SnapshotChild}
+use Rattle.vm_model.specs.declared.command.Command.TheVariants.{VmoCreate, VmoChild, VmoClose, VmoSize, VmoRead, VmoWrite, VmoInfo, Stat}
+use Rattle.vm_model.specs.declared.command.ChildKind.TheVariants.{Snapshot as SnapshotChild, Slice as SliceChild, Reference as ReferenceChild}
+use Rattle.vm_model.specs.declared.names.NameKind.TheVariants.{Slice, Reference}
 use Rattle.vm_model.specs.declared.names.Origin.TheVariants.{Created, Snapshot}
 use Rattle.vm_model.specs.declared.reply.Reply.{Reply}
-use Rattle.vm_model.specs.declared.reply.Reply.TheVariants.{Done, Number, Bytes, Stat as StatReply, Refused, Unbuilt}
-use Rattle.vm_model.specs.declared.reply.Stat.{Stat as Counts}
-use Rattle.vm_model.specs.Content.{Content, created, used, vmos_of, sole}
+use Rattle.vm_model.specs.declared.reply.Reply.TheVariants.{Done, Number, Bytes, Info as InfoReply, Stat as StatReply, Refused, Unbuilt}
+use Rattle.vm_model.specs.Content.{Content, created, sole}
 use Rattle.vm_model.specs.Sharing.{snapshotted}
 use Rattle.vm_model.specs.Writing.{touched, bytes_in, pieces, Writes}
 use Rattle.vm_model.specs.Maps.{with_key, without_key}
 use Rattle.vm_model.specs.Names.{Name, owner}
 use Rattle.vm_model.specs.State.{State, target_of, koid_of, name_pages, size_of, place_of}
 use Rattle.vm_model.specs.Leaving.{pruned}
+use Rattle.vm_model.specs.Attribution.{info_at, stat_of}
 use Rattle.vm_model.specs.Refusals.{refusals, first_of}
-
--- how many frames the machine has, how many some VMO shows and how many none does, and how many VMOs there are
-abbrev pub stat_of : Content → Counts
-stat_of c = record { frames = c.frames; used = used c; free = c.frames - used c; vmos = vmos_of c }
 
 -- a new VMO of zero pages, and its name
 unfoldable pub with_vmo : State → ℕ → ℕ → Bool → State
@@ -46,12 +43,42 @@ with_snapshot s name target start pages resizable no_write = record {
   lineage = with_key s.lineage s.content.next (record { resizable = resizable; origin = Snapshot; parent = Some target.koid });
 }
 
+-- a part of what a name stands for, from its page `start` on. It keeps its size
+abbrev pub slice_of : Name → ℕ → ℕ → Bool → Name
+slice_of target start pages no_write = record {
+  koid = target.koid;
+  first = target.first + start;
+  limit = Some pages;
+  kind = Slice;
+  may_write = target.may_write && not no_write;
+  may_resize = false;
+}
+
+-- all of the VMO that a name stands for, under another name
+abbrev pub reference_of : Name → Bool → Bool → Name
+reference_of target resizable no_write = record {
+  koid = target.koid;
+  first = 0;
+  limit = None;
+  kind = Reference;
+  may_write = target.may_write && not no_write;
+  may_resize = resizable;
+}
+
+-- one name more, of a VMO that is there
+unfoldable pub with_alias : State → ℕ → Name → State
+with_alias s name target = record s { names = with_key s.names name target }
+
 -- what a command does where nothing refuses it
 abbrev pub Effect : State → Command → Reply → State → Type 0
 Effect old (VmoCreate name size resizable) reply new =
     (reply ≡ Done) × (new ≡ with_vmo old name.0 (rounded size / PAGE) resizable)
 Effect old (VmoChild name parent SnapshotChild offset size resizable no_write) reply new =
     (reply ≡ Done) × (new ≡ with_snapshot old name.0 (target_of old parent.0) (offset / PAGE) (rounded size / PAGE) resizable no_write)
+Effect old (VmoChild name parent SliceChild offset size resizable no_write) reply new =
+    (reply ≡ Done) × (new ≡ with_alias old name.0 (slice_of (target_of old parent.0) (offset / PAGE) (rounded size / PAGE) no_write))
+Effect old (VmoChild name parent ReferenceChild offset size resizable no_write) reply new =
+    (reply ≡ Done) × (new ≡ with_alias old name.0 (reference_of (target_of old parent.0) resizable no_write))
 Effect old (VmoClose name) reply new =
     (reply ≡ Done) × (new ≡ pruned (record old { names = without_key old.names name.0 }))
 Effect old (VmoRead name offset len) reply new =
@@ -60,6 +87,7 @@ Effect old (VmoWrite name offset bytes) reply new =
     (reply ≡ Done) × (new.names ≡ old.names) × (new.lineage ≡ old.lineage)
     × Writes old.content (koid_of old name.0) (pieces (place_of old name.0 offset) bytes) new.content
 Effect old (VmoSize name) reply new = (reply ≡ Number (size_of old name.0)) × (new ≡ old)
+Effect old (VmoInfo name) reply new = (reply ≡ InfoReply (info_at old (target_of old name.0))) × (new ≡ old)
 Effect old Stat reply new = (reply ≡ StatReply (stat_of old.content)) × (new ≡ old)
 -- a command that is not built yet says so
 Effect old _ reply new = (reply ≡ Unbuilt) × (new ≡ old)
@@ -67,7 +95,7 @@ Effect old _ reply new = (reply ≡ Unbuilt) × (new ≡ old)
 -- the command may want memory of the host in this state. A write wants it only where a touched page is not sole
 abbrev pub may_lack_memory : State → Command → Bool
 may_lack_memory s (VmoCreate name size resizable) = true
-may_lack_memory s (VmoChild name parent SnapshotChild offset size resizable no_write) = true
+may_lack_memory s (VmoChild name parent kind offset size resizable no_write) = true
 may_lack_memory s (VmoWrite name offset bytes) = list_any (λ p. not (sole s.content (koid_of s name.0) p)) (touched (place_of s name.0 offset) (length bytes))
 may_lack_memory s _ = false
 

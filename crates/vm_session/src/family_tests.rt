@@ -62,11 +62,57 @@ fn families_have_their_replies(rt: HostRuntime) -> Result<(), Fail> {
             b"vmo_create v1 1\nvmo_write v1 0 11\nvmo_create_child v2 v1 snapshot 0 1 no_write\nvmo_create_child v3 v2 snapshot 0 1\nvmo_close v2\nvmo_write v3 0 33\nvmo_read v1 0 1\nvmo_read v3 0 1\nvmo_close v1\nvmo_close v3\nstat\n",
             b"OK\nOK\nOK\nOK\nOK\nOK\nOK 11\nOK 33\nOK\nOK\nOK frames=2 used=0 free=2 vmos=0\n",
         ),
-        // The other kinds of children are not built.
+    ] {
+        let out = replies_on(rt.alloc(), frames, script)?;
+        assert_eq!(rt; out.as_slice(), want, "to {script:?}");
+    }
+    Ok(())
+}
+
+#[test]
+fn names_of_one_vmo_have_their_replies(rt: HostRuntime) -> Result<(), Fail> {
+    for (frames, script, want) in [
+        // A slice of a slice shows the same pages, and keeps the VMO when the owner is closed.
         (
-            "1",
-            b"vmo_create_child v2 v1 slice 0 1\nvmo_create v1 1\nvmo_create_child v1 v1 reference 0 0\n",
-            b"UNBUILT\nOK\nUNBUILT\n",
+            "1024",
+            b"vmo_create v1 16384\nvmo_create_child v2 v1 slice 4096 8192\nvmo_create_child v3 v2 slice 4096 4096\nvmo_create_child v4 v2 slice 4096 8192\nvmo_write v3 0 ab\nvmo_read v1 8192 1\nvmo_close v1\nvmo_read v2 4096 1\nvmo_write v2 4097 cd\nvmo_read v3 0 2\nvmo_read v3 4095 2\nvmo_info v3\nvmo_close v2\nvmo_info v3\nvmo_close v3\nstat\n".as_slice(),
+            b"OK\nOK\nOK\nINVALID_ARGS\nOK\nOK ab\nOK\nOK ab\nOK\nOK abcd\nOUT_OF_RANGE\nOK koid=1 size=4096 held=1 private=1 shared=0 charged=1 children=2\nOK\nOK koid=1 size=4096 held=1 private=1 shared=0 charged=1 children=1\nOK\nOK frames=1024 used=0 free=1024 vmos=0\n".as_slice(),
+        ),
+        // A reference outlives the owner, and one that may not write is refused.
+        (
+            "2",
+            b"vmo_create v1 4096 resizable\nvmo_create_child v2 v1 reference 0 0\nvmo_write v2 0 11\nvmo_read v1 0 1\nvmo_close v1\nvmo_read v2 0 1\nvmo_info v2\nvmo_create_child v3 v2 reference 0 0 no_write\nvmo_write v3 0 22\nvmo_close v2\nvmo_read v3 0 1\nvmo_close v3\nstat\n",
+            b"OK\nOK\nOK\nOK 11\nOK\nOK 11\nOK koid=1 size=4096 held=1 private=1 shared=0 charged=1 children=1\nOK\nACCESS_DENIED\nOK\nOK 11\nOK\nOK frames=2 used=0 free=2 vmos=0\n",
+        ),
+        // A snapshot through a slice is of the slice's pages, and zero behind its end.
+        (
+            "3",
+            b"vmo_create v1 8192\nvmo_write v1 4096 77\nvmo_write v1 0 66\nvmo_create_child v2 v1 slice 4096 4096\nvmo_create_child v3 v2 snapshot 0 8192\nvmo_read v3 0 1\nvmo_read v3 4096 1\nvmo_write v2 0 88\nvmo_read v3 0 1\nvmo_read v1 4096 1\nvmo_info v3\nvmo_info v1\n",
+            b"OK\nOK\nOK\nOK\nOK\nOK 77\nOK 00\nOK\nOK 77\nOK 88\nOK koid=2 size=8192 held=1 private=1 shared=0 charged=1 children=0\nOK koid=1 size=8192 held=2 private=2 shared=0 charged=2 children=2\n",
+        ),
+        // Each frame is charged to the least koid that shows it, and to the next where that VMO leaves.
+        (
+            "8",
+            b"vmo_create v1 8192\nvmo_write v1 4095 0102\nvmo_create_child v2 v1 snapshot 0 8192\nvmo_create_child v3 v2 snapshot 0 8192\nvmo_info v1\nvmo_info v2\nvmo_close v1\nvmo_info v2\nvmo_info v3\nvmo_write v2 0 09\nvmo_info v2\nvmo_info v3\nstat\n",
+            b"OK\nOK\nOK\nOK\nOK koid=1 size=8192 held=2 private=0 shared=2 charged=2 children=1\nOK koid=2 size=8192 held=2 private=0 shared=2 charged=0 children=1\nOK\nOK koid=2 size=8192 held=2 private=0 shared=2 charged=2 children=1\nOK koid=3 size=8192 held=2 private=0 shared=2 charged=0 children=0\nOK\nOK koid=2 size=8192 held=2 private=1 shared=1 charged=2 children=1\nOK koid=3 size=8192 held=2 private=1 shared=1 charged=1 children=0\nOK frames=8 used=3 free=5 vmos=2\n",
+        ),
+        // A child whose parent leaves is counted as a child of the parent's parent.
+        (
+            "8",
+            b"vmo_create v1 4096\nvmo_create_child v2 v1 snapshot 0 4096\nvmo_create_child v3 v2 snapshot 0 4096\nvmo_create_child v4 v2 snapshot 0 4096\nvmo_info v1\nvmo_info v2\nvmo_close v2\nvmo_info v1\nvmo_close v1\nvmo_close v3\nvmo_info v4\n",
+            b"OK\nOK\nOK\nOK\nOK koid=1 size=4096 held=0 private=0 shared=0 charged=0 children=1\nOK koid=2 size=4096 held=0 private=0 shared=0 charged=0 children=2\nOK\nOK koid=1 size=4096 held=0 private=0 shared=0 charged=0 children=2\nOK\nOK\nOK koid=4 size=4096 held=0 private=0 shared=0 charged=0 children=0\n",
+        ),
+        // A name without the right to write hands none on, but a snapshot through it may write.
+        (
+            "2",
+            b"vmo_create v1 4096\nvmo_create_child v2 v1 slice 0 4096 no_write\nvmo_write v2 0 11\nvmo_create_child v3 v2 slice 0 4096\nvmo_write v3 0 11\nvmo_create_child v4 v2 snapshot 0 4096\nvmo_write v4 0 11\nvmo_read v1 0 1\n",
+            b"OK\nOK\nACCESS_DENIED\nOK\nACCESS_DENIED\nOK\nOK\nOK 00\n",
+        ),
+        // Every refusal of the three commands, in its order.
+        (
+            "1024",
+            b"vmo_create_child v1 v2 slice 0 1\nvmo_create_child v1 v1 reference 0 0\nvmo_info v1\nvmo_create v1 8192\nvmo_create_child v1 v1 slice 1 1\nvmo_create_child v1 v1 reference 1 1\nvmo_create_child v2 v1 slice 1 1\nvmo_create_child v2 v1 slice 0 1 resizable\nvmo_create_child v2 v1 slice 4096 4097\nvmo_create_child v2 v1 slice 12288 0\nvmo_create_child v2 v1 slice 8192 0\nvmo_size v2\nvmo_create_child v3 v1 slice 18446744073709547520 4096\nvmo_create_child v3 v1 reference 0 1\nvmo_create_child v3 v1 reference 4096 0\nvmo_create_child v3 v1 reference 0 0 resizable\nvmo_create_child v3 v2 reference 0 1\nvmo_create_child v3 v2 reference 0 0\nvmo_create v4 4096 resizable\nvmo_create_child v5 v4 slice 0 8192\nvmo_create_child v5 v4 slice 0 4096\nvmo_create_child v5 v4 reference 0 0 resizable no_write\nvmo_create_child v5 v4 reference 0 0 resizable\nvmo_create_child v6 v5 reference 0 0 no_write\nvmo_create_child v7 v6 reference 0 0 resizable\nvmo_info v4\nstat\n",
+            b"BAD_HANDLE\nBAD_HANDLE\nBAD_HANDLE\nOK\nNAME_IN_USE\nNAME_IN_USE\nINVALID_ARGS\nINVALID_ARGS\nINVALID_ARGS\nINVALID_ARGS\nOK\nOK 0\nINVALID_ARGS\nINVALID_ARGS\nINVALID_ARGS\nINVALID_ARGS\nINVALID_ARGS\nNOT_SUPPORTED\nOK\nINVALID_ARGS\nNOT_SUPPORTED\nINVALID_ARGS\nOK\nOK\nINVALID_ARGS\nOK koid=2 size=4096 held=0 private=0 shared=0 charged=0 children=2\nOK frames=1024 used=0 free=1024 vmos=2\n",
         ),
     ] {
         let out = replies_on(rt.alloc(), frames, script)?;

@@ -8,9 +8,10 @@ use Rattle.std.proofs.lemmas.Bool.{cases_eq, eq-eqb, ne_eqb, cond-true, cond-fal
 use Rattle.vm_base.specs.declared.names.Koid.{Koid}
 use Rattle.vm_base.specs.declared.names.VmoName.{VmoName}
 use Rattle.vm_model.specs.Maps.{with_key, without_key}
+use Rattle.vm_model.specs.Names.{is_parent, has_parent}
 use Rattle.vmo_table.specs.declared.target.Target.{Target}
 use Rattle.vmo_table.specs.declared.vmos.Vmo.{Vmo}
-use Rattle.vmo_table.specs.Vmos.{koid_number, vmos_in, lineage_of_vmo, lineages, is_parent, has_parent, with_children, adopted, koid_after, vmos_without}
+use Rattle.vmo_table.specs.Vmos.{koid_number, vmos_in, lineage_of_vmo, lineages, with_children, adopted, koid_after, vmos_without}
 use Rattle.vmo_table.specs.Table.{name_of, names_in}
 use Rattle.vmo_table.proofs.RelatedLaws.{has_parent_is}
 use Rattle.vmo_table.proofs.VmosLaws.{lineages-is, without-here, without-other, vmo_after}

@@ -1,4 +1,5 @@
 pub mod RelatedLaws
+pub mod NamedLaws
 pub mod VmosLaws
 pub mod KeptLaws
 pub mod EntryLaws

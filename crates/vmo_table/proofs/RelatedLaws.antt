@@ -4,9 +4,8 @@ use Rattle.std.specs.Option.{option_map}
 use Rattle.std.proofs.lemmas.Bool.{cases_Bool, cases_eq, eq-eqb, ne_eqb, eqb-true}
 use Rattle.std.proofs.lemmas.Option.{same_Some}
 use Rattle.vm_model.specs.Maps.{with_key, without_key}
-use Rattle.vm_model.specs.Names.{Name, Lineage, NAMES, carries, is_named, parent_without, lineage_without}
+use Rattle.vm_model.specs.Names.{Name, Lineage, NAMES, KOIDS, carries, is_named, is_parent, has_parent, child_count, parent_without, lineage_without}
 use Rattle.vm_model.proofs.SearchLaws.{count_below_same, count_below_none, count_below_one_more, count_below_hit, count_below_miss, count_below_split, any_below_none, any_below-count}
-use Rattle.vmo_table.specs.Vmos.{KOIDS, is_parent, has_parent, child_count}
 use Rattle.vmo_table.specs.TableFields.{name_count, AreRelated}
 use Rattle.vm_model.proofs.MapLaws.{with_key-here, with_key-other, without_key-here, without_key-other, with_key-cases, without_key-some, with_key-stays}
 use Rattle.vm_model.proofs.NamesLaws.{some_is}
@@ -303,6 +302,21 @@ AreRelated-entered names lineage n t l related low small parent = record {
         let ok = related.parents v p k old.1 f in
         (ok.0, with_key-stays lineage t.koid l p ok.1)
   ];
+}
+
+-- a VMO gets one name more
+pub AreRelated-aliased : (names : ℕ → Option Name) (lineage : ℕ → Option Lineage) (n : ℕ) (t : Name) → AreRelated names lineage → n < NAMES → IsSome (lineage t.koid) → AreRelated (with_key names n t) lineage
+AreRelated-aliased names lineage n t related low there = record {
+  names_below = λ m h. elim (cases_eq m n) [
+    | inl same ↦ omega arith
+    | inr apart ↦ related.names_below m (sym (ap is_some (with_key-other names n t m apart)) ∙ h)
+  ];
+  koids_below = related.koids_below;
+  held = λ m s e. elim (with_key-cases names n t m s e) [
+    | inl new ↦ ap (λ (x : Name). is_some (lineage x.koid)) (sym new.1) ∙ there
+    | inr old ↦ related.held m s old.1
+  ];
+  parents = related.parents;
 }
 
 pub AreRelated-closed : (names : ℕ → Option Name) (lineage : ℕ → Option Lineage) (n : ℕ) → AreRelated names lineage → AreRelated (without_key names n) lineage

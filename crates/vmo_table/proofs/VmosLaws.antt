@@ -1,15 +1,16 @@
 -- Laws of the VMOs of the table as a map from koids.
-use Rattle.std.proofs.Common.{◌≡◌, ◌≢◌, ℕ, ◌+◌, ◌-◌, ◌==◌, Bool, true, false, cond, Option, None, Some, refl, sym, ap, ◌∙◌, inl, inr}
+use Rattle.std.proofs.Common.{◌≡◌, ◌≢◌, ℕ, ◌+◌, ◌-◌, ◌==◌, Bool, true, false, cond, Option, None, Some, refl, sym, ap, subst, ◌∙◌, inl, inr}
 use Rattle.std.specs.Option.{option_map}
 use Rattle.std.proofs.lemmas.Bool.{cases_eq, eq-eqb, ne_eqb}
 use Rattle.std.proofs.lemmas.Option.{same_Some}
 use Rattle.vm_base.specs.declared.names.Koid.{Koid}
 use Rattle.vm_model.specs.Maps.{with_key}
-use Rattle.vm_model.specs.Names.{Lineage, parent_without, lineage_without}
+use Rattle.vm_model.specs.Names.{Lineage, is_parent, parent_without, lineage_without}
 use Rattle.vmo_table.specs.declared.vmos.Vmo.{Vmo}
-use Rattle.vmo_table.specs.Vmos.{koid_number, lineage_of_vmo, lineages, is_parent, with_children, adopted, koid_after, vmos_without}
+use Rattle.vmo_table.specs.Vmos.{koid_number, lineage_of_vmo, lineages, with_children, adopted, koid_after, vmos_without}
 use Rattle.vm_model.proofs.MapLaws.{with_key-here, with_key-other}
 use Rattle.vmo_table.proofs.RelatedLaws.{left-here, left-other, lineage_after}
+use Rattle.vmo_table.proofs.NamedLaws.{KeepsNames}
 
 pub lineages-is : (vmos : ℕ → Option Vmo) (v : ℕ) → lineages vmos v ≡ option_map lineage_of_vmo (vmos v)
 unfolding lineages
@@ -56,18 +57,22 @@ lineages-adopted vmos parent gone come = λ i w. of (is_parent w parent) (vmos w
     of true (Some vmo) = refl
     of false o = refl
 
+-- a VMO that got no other names
+keeps : (old by new : Vmo) → by ≡ new → by.names ≡ old.names → by.slices ≡ old.slices → by.references ≡ old.references → KeepsNames old new
+keeps old by new same names slices references = subst (λ (x : Vmo). KeepsNames old x) same (record { names = names; slices = slices; references = references })
+
 -- a VMO after counts of children were changed
 pub adopted_cases : (vmos : ℕ → Option Vmo) (parent : Option ℕ) (gone come v : ℕ) (new : Vmo) → adopted vmos parent gone come v ≡ Some new →
-    (old : Vmo) × (vmos v ≡ Some old) × (new.names ≡ old.names) × (new.children ≡ cond (is_parent v parent) (old.children - gone + come) old.children)
+    (old : Vmo) × (vmos v ≡ Some old) × KeepsNames old new × (new.children ≡ cond (is_parent v parent) (old.children - gone + come) old.children)
 unfolding adopted
 adopted_cases vmos parent gone come v new e = of (is_parent v parent) (vmos v) e
   where
     of : (b : Bool) (o : Option Vmo) → cond b (option_map (with_children gone come) o) o ≡ Some new →
-        (old : Vmo) × (o ≡ Some old) × (new.names ≡ old.names) × (new.children ≡ cond b (old.children - gone + come) old.children)
+        (old : Vmo) × (o ≡ Some old) × KeepsNames old new × (new.children ≡ cond b (old.children - gone + come) old.children)
     of true None h = absurd (cc)
-    of true (Some old) h = let same = same_Some (with_children gone come old) new h in (old, refl, ap (λ (x : Vmo). x.names) (sym same), ap (λ (x : Vmo). x.children) (sym same))
+    of true (Some old) h = let same = same_Some (with_children gone come old) new h in (old, refl, keeps old (with_children gone come old) new same refl refl refl, ap (λ (x : Vmo). x.children) (sym same))
     of false None h = absurd (cc)
-    of false (Some old) h = let same = same_Some old new h in (old, refl, ap (λ (x : Vmo). x.names) (sym same), ap (λ (x : Vmo). x.children) (sym same))
+    of false (Some old) h = let same = same_Some old new h in (old, refl, keeps old old new same refl refl refl, ap (λ (x : Vmo). x.children) (sym same))
 
 abbrev pub vmo_after : ℕ → Option Koid → Vmo → Vmo
 vmo_after v parent vmo = record vmo { parent = koid_after v parent vmo.parent }
@@ -107,12 +112,12 @@ lineages-without vmos v parent = λ i w. at w i
 
 -- a VMO that is left keeps its counts
 pub without_cases : (vmos : ℕ → Option Vmo) (v : ℕ) (parent : Option Koid) (w : ℕ) (new : Vmo) → vmos_without vmos v parent w ≡ Some new →
-    (w ≢ v) × (old : Vmo) × (vmos w ≡ Some old) × (new.names ≡ old.names) × (new.children ≡ old.children)
+    (w ≢ v) × (old : Vmo) × (vmos w ≡ Some old) × KeepsNames old new × (new.children ≡ old.children)
 without_cases vmos v parent w new e = elim (cases_eq w v) [
   | inl same ↦ absurd (let gone = without-here vmos v parent w same in cc)
   | inr apart ↦ let found = of (vmos w) (sym (without-other vmos v parent w apart) ∙ e) in (apart, found.0, found.1, found.2, found.3)
 ]
   where
-    of : (o : Option Vmo) → option_map (vmo_after v parent) o ≡ Some new → (old : Vmo) × (o ≡ Some old) × (new.names ≡ old.names) × (new.children ≡ old.children)
+    of : (o : Option Vmo) → option_map (vmo_after v parent) o ≡ Some new → (old : Vmo) × (o ≡ Some old) × KeepsNames old new × (new.children ≡ old.children)
     of None h = absurd (cc)
-    of (Some old) h = let same = same_Some (vmo_after v parent old) new h in (old, refl, ap (λ (x : Vmo). x.names) (sym same), ap (λ (x : Vmo). x.children) (sym same))
+    of (Some old) h = let same = same_Some (vmo_after v parent old) new h in (old, refl, keeps old (vmo_after v parent old) new same refl refl refl, ap (λ (x : Vmo). x.children) (sym same))

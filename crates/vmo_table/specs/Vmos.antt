@@ -1,15 +1,12 @@
 -- The VMOs of the table as a map from koids, and what becomes of it.
-use Rattle.std.specs.Prelude.{ℕ, ◌+◌, ◌-◌, Bool, false, ◌==◌, List, if◌then◌else◌, Option, None, Some}
+use Rattle.std.specs.Prelude.{ℕ, ◌+◌, ◌-◌, ◌==◌, List, if◌then◌else◌, Option, None, Some}
 use Rattle.std.specs.Option.{option_map}
 use Rattle.std.specs.Map.{lookup}
 use Rattle.vm_base.specs.declared.names.Koid.{Koid}
-use Rattle.vm_model.specs.Names.{Lineage}
-use Rattle.vm_model.specs.Search.{count_below}
+use Rattle.vm_model.specs.declared.names.NameKind.{NameKind}
+use Rattle.vm_model.specs.declared.names.NameKind.TheVariants.{Slice, Reference}
+use Rattle.vm_model.specs.Names.{Lineage, is_kind, is_parent}
 use Rattle.vmo_table.specs.declared.vmos.Vmo.{Vmo}
-
--- how many numbers of koids there are
-abbrev pub KOIDS : ℕ
-KOIDS = 18446744073709551616
 
 -- the number of a koid
 abbrev pub koid_number : Koid → ℕ
@@ -26,21 +23,27 @@ lineage_of_vmo vmo = record { resizable = vmo.resizable; origin = vmo.origin; pa
 unfoldable pub lineages : (ℕ → Option Vmo) → ℕ → Option Lineage
 lineages vmos v = option_map lineage_of_vmo (vmos v)
 
--- the parent is v
-unfoldable pub is_parent : ℕ → Option ℕ → Bool
-is_parent v None = false
-is_parent v (Some p) = p == v
+-- 1 where two kinds are the same, else 0
+abbrev pub kind_bit : NameKind → NameKind → ℕ
+kind_bit kind other = if is_kind kind other then 1 else 0
 
--- the VMO with this lineage has the parent v
-unfoldable pub has_parent : ℕ → Option Lineage → Bool
-has_parent v None = false
-has_parent v (Some l) = is_parent v l.parent
+-- a VMO with one name more of this kind
+abbrev pub more_names : NameKind → Vmo → Vmo
+more_names kind vmo = record vmo {
+  names = vmo.names + 1;
+  slices = vmo.slices + kind_bit Slice kind;
+  references = vmo.references + kind_bit Reference kind;
+}
 
--- how many VMOs have the parent v
-unfoldable pub child_count : (ℕ → Option Lineage) → ℕ → ℕ
-child_count lineage v = count_below KOIDS (λ w. has_parent v (lineage w))
+-- a VMO with one name less of this kind
+abbrev pub fewer_names : NameKind → Vmo → Vmo
+fewer_names kind vmo = record vmo {
+  names = vmo.names - 1;
+  slices = vmo.slices - kind_bit Slice kind;
+  references = vmo.references - kind_bit Reference kind;
+}
 
--- a VMO with other counts
+-- a VMO with another count of children
 abbrev pub with_children : ℕ → ℕ → Vmo → Vmo
 with_children gone come vmo = record vmo { children = vmo.children - gone + come }
 

@@ -1,5 +1,4 @@
-ghost use Rattle.std.specs.Prelude.{◌≡◌, ◌≢◌, ℕ, ◌<◌, true, false, None, Some, IsSome, IfSome, OnOk};
-ghost use Rattle.vm_model.specs.Names.{Name, owner};
+ghost use Rattle.std.specs.Prelude.{◌≡◌, ◌≢◌, ℕ, ◌^◌, ◌<◌, None, IsSome, IfSome, OnOk};
 ghost use Rattle.vmo_table.specs.Table.{names_of, lineage_in};
 
 use super::*;
@@ -11,8 +10,9 @@ use vm_base::{Koid, VmoName};
 fn enter(table: &mut VmoTable, name: VmoName, koid: Koid, parent: Option<Koid>) -> Result<(), Fail>
     requires name { names_of table.old name.0 ≡ None }
     requires koid { lineage_in table.old koid.0 ≡ None }
+    requires small { koid.0 < 2 ^ 63 }
     requires parent { IfSome parent (λ p. (p.0 < koid.0) × IsSome (lineage_in table.old p.0)) }
-    ensures name { OnOk result (names_of table.new name.0 ≡ Some (owner koid.0 true false)) }
+    ensures name { OnOk result (IsSome (names_of table.new name.0)) }
     ensures names { OnOk result ((n : ℕ) → n ≢ name.0 → names_of table.new n ≡ names_of table.old n) }
     ensures koid { OnOk result (IsSome (lineage_in table.new koid.0)) }
     ensures koids { OnOk result ((v : ℕ) → v ≢ koid.0 → lineage_in table.new v ≡ lineage_in table.old v) }
@@ -22,9 +22,64 @@ fn enter(table: &mut VmoTable, name: VmoName, koid: Koid, parent: Option<Koid>) 
     Ok(())
 }
 
-// Closes a name that `enter` entered, and asserts that its VMO leaves.
+// A slice of a VMO.
+fn slice_of(koid: Koid) -> Target
+    ensures koid { result.koid ≡ koid }
+    ensures kind { result.kind ≢ NameKind.Owner }
+{
+    Target {
+        koid,
+        first: 1,
+        limit: Some(2),
+        kind: NameKind::Slice,
+        may_write: true,
+        may_resize: false,
+    }
+}
+
+// A reference to a VMO.
+fn reference_to(koid: Koid) -> Target
+    ensures koid { result.koid ≡ koid }
+    ensures kind { result.kind ≢ NameKind.Owner }
+{
+    Target {
+        koid,
+        first: 0,
+        limit: None,
+        kind: NameKind::Reference,
+        may_write: true,
+        may_resize: false,
+    }
+}
+
+// Lets a name stand for a VMO beside its other names, or fails where the host has no memory.
+fn alias(table: &mut VmoTable, name: VmoName, target: Target) -> Result<(), Fail>
+    requires name { names_of table.old name.0 ≡ None }
+    requires koid { IsSome (lineage_in table.old target.koid.0) }
+    requires kind { target.kind ≢ NameKind.Owner }
+    ensures name { OnOk result (IsSome (names_of table.new name.0)) }
+    ensures names { OnOk result ((n : ℕ) → n ≢ name.0 → names_of table.new n ≡ names_of table.old n) }
+    ensures koids { OnOk result ((v : ℕ) → lineage_in table.new v ≡ lineage_in table.old v) }
+{
+    table.reserve()?;
+    table.alias(name, target);
+    Ok(())
+}
+
+// Closes a name of a VMO that has others, and asserts that the VMO stays.
+fn keep(rt: &impl Abort, table: &mut VmoTable, name: VmoName)
+    requires { IsSome (names_of table.old name.0) }
+    ensures name { names_of table.new name.0 ≡ None }
+    ensures names { (n : ℕ) → n ≢ name.0 → names_of table.new n ≡ names_of table.old n }
+    ensures koids { (v : ℕ) → lineage_in table.new v ≡ lineage_in table.old v }
+{
+    assert_eq!(rt; table.close(name), None);
+    assert_eq!(rt; table.resolve(name), None);
+}
+
+// Closes the last name of a VMO, and asserts that the VMO leaves.
 fn leave(rt: &impl Abort, table: &mut VmoTable, name: VmoName, koid: Koid)
-    requires { names_of table.old name.0 ≡ Some (owner koid.0 true false) }
+    requires { IsSome (names_of table.old name.0) }
     ensures name { names_of table.new name.0 ≡ None }
     ensures names { (n : ℕ) → n ≢ name.0 → names_of table.new n ≡ names_of table.old n }
     ensures unknown { (v : ℕ) → lineage_in table.old v ≡ None → lineage_in table.new v ≡ None }
@@ -91,5 +146,65 @@ fn a_child_outlives_its_parent(rt: HostRuntime) -> Result<(), Fail> {
     leave(&rt, &mut table, VmoName(3), Koid(3));
     leave(&rt, &mut table, VmoName(1), Koid(1));
     leave(&rt, &mut table, VmoName(2), Koid(4));
+    Ok(())
+}
+
+#[test]
+fn the_last_name_takes_its_vmo(rt: HostRuntime) -> Result<(), Fail> {
+    let mut table = VmoTable::new(rt.alloc());
+    enter(&mut table, VmoName(1), Koid(1), None)?;
+    alias(&mut table, VmoName(2), slice_of(Koid(1)))?;
+    alias(&mut table, VmoName(3), reference_to(Koid(1)))?;
+    keep(&rt, &mut table, VmoName(1));
+    assert_eq!(rt; table.resolve(VmoName(2)), Some(slice_of(Koid(1))));
+    keep(&rt, &mut table, VmoName(3));
+    assert!(rt; !table.resizable(Koid(1)));
+    leave(&rt, &mut table, VmoName(2), Koid(1));
+    Ok(())
+}
+
+#[test]
+fn children_come_and_go(rt: HostRuntime) -> Result<(), Fail> {
+    let mut table = VmoTable::new(rt.alloc());
+    enter(&mut table, VmoName(1), Koid(1), None)?;
+    assert_eq!(rt; table.children(Koid(1)), 0);
+    enter(&mut table, VmoName(2), Koid(2), Some(Koid(1)))?;
+    alias(&mut table, VmoName(3), slice_of(Koid(1)))?;
+    alias(&mut table, VmoName(4), reference_to(Koid(1)))?;
+    assert_eq!(rt; table.children(Koid(1)), 3);
+    assert_eq!(rt; table.children(Koid(2)), 0);
+    keep(&rt, &mut table, VmoName(3));
+    assert_eq!(rt; table.children(Koid(1)), 2);
+    leave(&rt, &mut table, VmoName(2), Koid(2));
+    assert_eq!(rt; table.children(Koid(1)), 1);
+    keep(&rt, &mut table, VmoName(4));
+    assert_eq!(rt; table.children(Koid(1)), 0);
+    leave(&rt, &mut table, VmoName(1), Koid(1));
+    Ok(())
+}
+
+#[test]
+fn a_child_or_a_reference_keeps_the_pages(rt: HostRuntime) -> Result<(), Fail> {
+    let mut table = VmoTable::new(rt.alloc());
+    enter(&mut table, VmoName(1), Koid(1), None)?;
+    alias(&mut table, VmoName(2), slice_of(Koid(1)))?;
+    assert!(rt; table.may_decommit(Koid(1)));
+    alias(&mut table, VmoName(3), reference_to(Koid(1)))?;
+    assert!(rt; !table.may_decommit(Koid(1)));
+    keep(&rt, &mut table, VmoName(3));
+    assert!(rt; table.may_decommit(Koid(1)));
+    enter(&mut table, VmoName(4), Koid(2), Some(Koid(1)))?;
+    assert!(rt; !table.may_decommit(Koid(1)));
+    leave(&rt, &mut table, VmoName(4), Koid(2));
+    assert!(rt; table.may_decommit(Koid(1)));
+    Ok(())
+}
+
+#[test]
+fn a_snapshot_keeps_its_pages(rt: HostRuntime) -> Result<(), Fail> {
+    let mut table = VmoTable::new(rt.alloc());
+    table.reserve()?;
+    table.enter(VmoName(1), Koid(1), false, Origin::Snapshot, None, true);
+    assert!(rt; !table.may_decommit(Koid(1)));
     Ok(())
 }

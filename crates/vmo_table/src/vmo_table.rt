@@ -1,14 +1,14 @@
 //! The table of names and VMOs.
 
-ghost use Rattle.std.specs.Prelude.{◌≡◌, ℕ, ◌<◌, ◌≤◌, None, IsSome, IfSome, OnOk};
+ghost use Rattle.std.specs.Prelude.{◌≡◌, ◌≢◌, ℕ, ◌^◌, ◌<◌, ◌≤◌, None, IsSome, IfSome, OnOk};
 ghost use Rattle.std.specs.Option.{option_map};
 ghost use Rattle.vm_model.specs.Maps.{with_key, without_key};
-ghost use Rattle.vm_model.specs.Names.{owner};
+ghost use Rattle.vm_model.specs.Names.{owner, children, may_decommit};
 ghost use Rattle.vmo_table.specs.Vmos.{koid_number};
 ghost use Rattle.vmo_table.specs.Table.{name_of, names_of, lineage_in, room_of, Closes};
 
 use crate::target::Target;
-use crate::vmos::{Vmo, count_children, take_out, write_back};
+use crate::vmos::{Vmo, add_name, count_children, take_name, take_out, write_back};
 use std::alloc::Global;
 use std::collections::HashMap;
 use std::marker::Model;
@@ -61,8 +61,9 @@ impl VmoTable {
         Ok(())
     }
 
-    /// Enters a VMO under a koid that is new, and a name that is not open and stands for all of it. The
-    /// name may resize the VMO exactly where the VMO is resizable. A parent is in the table, and older.
+    /// Enters a VMO under a koid that is new and below 2^63, and a name that is not open and stands for
+    /// all of it. The name may resize the VMO exactly where the VMO is resizable. A parent is in the
+    /// table, and older.
     pub fn enter(
         &mut self,
         name: VmoName,
@@ -74,20 +75,22 @@ impl VmoTable {
     )
         requires name { names_of self.old name.0 ≡ None }
         requires koid { lineage_in self.old koid.0 ≡ None }
+        requires small { koid.0 < 2 ^ 63 }
         requires parent { IfSome parent (λ p. (p.0 < koid.0) × IsSome (lineage_in self.old p.0)) }
         requires room { 1 ≤ room_of self.old }
         ensures names { names_of self.new ≡ with_key (names_of self.old) name.0 (owner koid.0 may_write resizable) }
         ensures lineage { lineage_in self.new ≡ with_key (lineage_in self.old) koid.0
             (record { resizable = resizable; origin = origin; parent = option_map koid_number parent }) }
     {
-        // How far the table counts rests on the ranges of the numbers.
+        // How far the table counts rests on the range of the names.
         prove!(name.0 <= u32::MAX);
-        prove!(koid.0 <= u64::MAX);
         let vmo = Vmo {
             resizable,
             origin,
             parent,
             names: 1,
+            slices: 0,
+            references: 0,
             children: 0,
         };
         let target = Target {
@@ -104,6 +107,23 @@ impl VmoTable {
         count_children(&mut self.vmos, parent, 0, 1);
     }
 
+    /// Lets a name that is not open stand for a VMO of the table beside its other names: for a part of
+    /// it (a slice), or for all of it (a reference).
+    pub fn alias(&mut self, name: VmoName, target: Target)
+        requires name { names_of self.old name.0 ≡ None }
+        requires koid { IsSome (lineage_in self.old target.koid.0) }
+        requires kind { target.kind ≢ NameKind.Owner }
+        requires room { 1 ≤ room_of self.old }
+        ensures names { names_of self.new ≡ with_key (names_of self.old) name.0 (name_of target) }
+        ensures lineage { lineage_in self.new ≡ lineage_in self.old }
+    {
+        prove!(name.0 <= u32::MAX);
+        let vmo = self.vmos[&target.koid];
+        write_back(&mut self.vmos, target.koid, add_name(vmo, target.kind));
+        // It succeeds, since there is room.
+        let _named = self.names.insert(name, target);
+    }
+
     /// What a name stands for. `None` exactly where it is not open.
     pub fn resolve(&self, name: VmoName) -> Option<Target>
         ensures { option_map name_of result ≡ names_of self.now name.0 }
@@ -118,15 +138,12 @@ impl VmoTable {
         ensures names { names_of self.new ≡ without_key (names_of self.old) name.0 }
         ensures vmo { Closes (names_of self.old) (names_of self.new) (lineage_in self.old) (lineage_in self.new) name.0 result }
     {
-        let koid = self.names[&name].koid;
+        let target = self.names[&name];
+        let koid = target.koid;
         let vmo = self.vmos[&koid];
         let _closed = self.names.remove(&name);
         if vmo.names > 1 {
-            let fewer = Vmo {
-                names: vmo.names - 1,
-                ..vmo
-            };
-            write_back(&mut self.vmos, koid, fewer);
+            write_back(&mut self.vmos, koid, take_name(vmo, target.kind));
             return None;
         }
         take_out(&mut self.vmos, koid, vmo.parent, vmo.children);
@@ -140,5 +157,29 @@ impl VmoTable {
         ensures { IfSome (lineage_in self.now koid.0) (λ l. result ≡ l.resizable) }
     {
         self.vmos[&koid].resizable
+    }
+
+    /// How many children a VMO of the table has: the VMOs whose parent it is, and the slices and
+    /// references that stand for it.
+    pub fn children(&self, koid: Koid) -> u64
+        requires { IsSome (lineage_in self.now koid.0) }
+        ensures { result ≡ children (names_of self.now) (lineage_in self.now) koid.0 }
+    {
+        let vmo = self.vmos[&koid];
+        vmo.children + vmo.slices + vmo.references
+    }
+
+    /// Whether the frames of a VMO of the table may be taken back: it is no snapshot, no VMO is its
+    /// child, and no reference stands for it.
+    pub fn may_decommit(&self, koid: Koid) -> bool
+        requires { IsSome (lineage_in self.now koid.0) }
+        ensures { IfSome (lineage_in self.now koid.0) (λ l.
+            result ≡ may_decommit (names_of self.now) (lineage_in self.now) koid.0 l) }
+    {
+        let vmo = self.vmos[&koid];
+        match vmo.origin {
+            Origin::Created => vmo.children == 0 && vmo.references == 0,
+            Origin::Snapshot => false,
+        }
     }
 }

@@ -3,12 +3,13 @@
 ghost use Rattle.std.specs.Prelude.{◌≡◌, ℕ, ◌+◌, ◌-◌, ◌<◌, ◌≤◌, ◌^◌, false, true, Some};
 ghost use Rattle.std.specs.Option.{option_map};
 ghost use Rattle.vm_model.specs.Maps.{with_key};
-ghost use Rattle.vmo_table.specs.Vmos.{koid_number, vmos_in, is_parent, has_parent, lineages, adopted, koid_after, vmos_without};
+ghost use Rattle.vm_model.specs.Names.{NAMES, is_parent, has_parent};
+ghost use Rattle.vmo_table.specs.Vmos.{koid_number, vmos_in, lineages, kind_bit, more_names, fewer_names, adopted, koid_after, vmos_without};
 ghost use Rattle.vmo_table.specs.declared.vmos.Vmo.{Vmo};
 
 use std::collections::HashMap;
 use vm_base::Koid;
-use vm_model::Origin;
+use vm_model::{NameKind, Origin};
 
 /// What is kept of a VMO beside its pages, and how many names and children it has.
 #[derive(Clone, Copy, Debug)]
@@ -18,8 +19,49 @@ pub(crate) struct Vmo {
     pub parent: Option<Koid>,
     /// How many names stand for it.
     pub names: u64,
+    /// How many of the names are slices.
+    pub slices: u64,
+    /// How many of the names are references.
+    pub references: u64,
     /// How many VMOs have it as parent.
     pub children: u64,
+}
+
+/// 1 where two kinds are the same, else 0.
+fn bit_of(kind: NameKind, other: NameKind) -> u64
+    ensures { result ≡ kind_bit kind other }
+{
+    if kind == other { 1 } else { 0 }
+}
+
+/// The VMO with one name more of this kind.
+pub(crate) fn add_name(vmo: Vmo, kind: NameKind) -> Vmo
+    requires names { vmo.names ≤ NAMES }
+    requires slices { vmo.slices ≤ NAMES }
+    requires references { vmo.references ≤ NAMES }
+    ensures { result ≡ more_names kind vmo }
+{
+    Vmo {
+        names: vmo.names + 1,
+        slices: vmo.slices + bit_of(NameKind::Slice, kind),
+        references: vmo.references + bit_of(NameKind::Reference, kind),
+        ..vmo
+    }
+}
+
+/// The VMO with one name less of this kind.
+pub(crate) fn take_name(vmo: Vmo, kind: NameKind) -> Vmo
+    requires names { 1 ≤ vmo.names }
+    requires slices { kind_bit NameKind.Slice kind ≤ vmo.slices }
+    requires references { kind_bit NameKind.Reference kind ≤ vmo.references }
+    ensures { result ≡ fewer_names kind vmo }
+{
+    Vmo {
+        names: vmo.names - 1,
+        slices: vmo.slices - bit_of(NameKind::Slice, kind),
+        references: vmo.references - bit_of(NameKind::Reference, kind),
+        ..vmo
+    }
 }
 
 /// Writes another value to a VMO of the table.

@@ -34,6 +34,10 @@ pub forks_and_closes-requires-clause-next : goal.forks_and_closes-requires-claus
 forks_and_closes-requires-clause-next g c =
     omega (arith, first_koid (content_of c.fill.new.self) (content_of c.new-store.result) c.in_ok-fill.ensures.ok c.new-store.ensures.content, c.takes_commands.ensures.next, c.tells_of_the_machine.ensures.next, c.refuses_commands.ensures.next)
 
+pub names_parts-requires-clause-next : goal.names_parts-requires-clause-next
+names_parts-requires-clause-next g c =
+    omega (arith, first_koid (content_of c.fill.new.self) (content_of c.new-store.result) c.in_ok-fill.ensures.ok c.new-store.ensures.content, c.takes_commands.ensures.next, c.tells_of_the_machine.ensures.next, c.refuses_commands.ensures.next, c.forks_and_closes.ensures.next)
+
 pub keeps_koids-requires-clause-next : goal.keeps_koids-requires-clause-next
 keeps_koids-requires-clause-next g c =
-    omega (arith, first_koid (content_of c.fill.new.self) (content_of c.new-store.result) c.in_ok-fill.ensures.ok c.new-store.ensures.content, c.takes_commands.ensures.next, c.tells_of_the_machine.ensures.next, c.refuses_commands.ensures.next, c.forks_and_closes.ensures.next)
+    omega (arith, first_koid (content_of c.fill.new.self) (content_of c.new-store.result) c.in_ok-fill.ensures.ok c.new-store.ensures.content, c.takes_commands.ensures.next, c.tells_of_the_machine.ensures.next, c.refuses_commands.ensures.next, c.forks_and_closes.ensures.next, c.names_parts.ensures.next)

@@ -4,7 +4,7 @@ use Rattle.vm_model.proofs.MapLaws.{with_key-here, with_key-other}
 use Rattle.vmo_table.proofs.tests.enter.Goals as goal
 
 pub returns-clause-name : goal.returns-clause-name
-returns-clause-name c = ap (λ (m : ℕ → Option Name). m c.args.name.0) c.enter.ensures.names ∙ with_key-here _ c.args.name.0 _ c.args.name.0 refl
+returns-clause-name c = ap (λ (m : ℕ → Option Name). is_some (m c.args.name.0)) c.enter.ensures.names ∙ ap is_some (with_key-here _ c.args.name.0 _ c.args.name.0 refl)
 
 pub returns-clause-names : goal.returns-clause-names
 returns-clause-names c = λ n apart.

@@ -1,4 +1,4 @@
-use Rattle.std.proofs.Common.{ℕ, Option, is_some, ap, ◌∙◌}
+use Rattle.std.proofs.Common.{ℕ, Option, rules, ap, ◌∙◌}
 use Rattle.vm_model.specs.Names.{Name}
 use Rattle.vm_model.proofs.MapLaws.{without_key-other}
 use Rattle.vmo_table.proofs.TableLaws.{closes-unknown, closes-others}
@@ -8,7 +8,7 @@ pub returns-clause-names : goal.returns-clause-names
 returns-clause-names g c = λ n apart. ap (λ (m : ℕ → Option Name). m n) c.close.ensures.names ∙ without_key-other _ c.args.name.0 n apart
 
 pub returns-clause-unknown : goal.returns-clause-unknown
-returns-clause-unknown g c = closes-unknown _ _ _ _ c.args.name.0 c.close.result c.close.ensures.vmo (ap is_some c.requires)
+returns-clause-unknown g c = closes-unknown _ _ _ _ c.args.name.0 c.close.result c.close.ensures.vmo c.requires
 
 pub returns-clause-others : goal.returns-clause-others
-returns-clause-others g c = closes-others _ _ _ _ c.args.name.0 c.close.result c.close.ensures.vmo _ c.requires
+returns-clause-others g c = closes-others _ _ _ _ c.args.name.0 c.close.result c.args.koid c.close.ensures.vmo c.requires (search rules)

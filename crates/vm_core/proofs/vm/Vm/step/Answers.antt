@@ -20,6 +20,12 @@ returns-in-VmoChild-default-default-Snapshot-default-default-default-default-cla
 pub returns-in-VmoChild-default-default-Snapshot-default-default-default-default-clause-next : goal.returns-in-VmoChild-default-default-Snapshot-default-default-default-default-clause-next
 returns-in-VmoChild-default-default-Snapshot-default-default-default-default-clause-next g c = (kept c.requires.good c.vmo_snapshot.ensures.step c.vmo_snapshot.ensures.name).next
 
+pub returns-in-VmoChild-default-default-Slice-default-default-default-default-clause-good : goal.returns-in-VmoChild-default-default-Slice-default-default-default-default-clause-good
+returns-in-VmoChild-default-default-Slice-default-default-default-default-clause-good g c = (kept c.requires.good c.vmo_slice.ensures.step c.vmo_slice.ensures.name).good
+
+pub returns-in-VmoChild-default-default-Reference-default-default-default-default-clause-good : goal.returns-in-VmoChild-default-default-Reference-default-default-default-default-clause-good
+returns-in-VmoChild-default-default-Reference-default-default-default-default-clause-good g c = (kept c.requires.good c.vmo_reference.ensures.step c.vmo_reference.ensures.name).good
+
 pub returns-in-VmoClose-clause-good : goal.returns-in-VmoClose-clause-good
 returns-in-VmoClose-clause-good g c = (kept c.requires.good c.vmo_close.ensures tt).good
 

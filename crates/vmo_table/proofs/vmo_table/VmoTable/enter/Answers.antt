@@ -18,7 +18,7 @@ abbrev target : Koid → Bool → Bool → Target
 target koid may_write resizable = record { koid = koid; first = 0; limit = None; kind = Owner; may_write = may_write; may_resize = resizable }
 
 abbrev vmo : Bool → Origin → Option Koid → Vmo
-vmo resizable origin parent = record { resizable = resizable; origin = origin; parent = parent; names = 1; children = 0 }
+vmo resizable origin parent = record { resizable = resizable; origin = origin; parent = parent; names = 1; slices = 0; references = 0; children = 0 }
 
 pub count_children-requires : goal.count_children-requires
 count_children-requires c = λ v old hit e.
@@ -26,7 +26,7 @@ count_children-requires c = λ v old hit e.
     let room = rooms c.self.inside c.args.self.now c.self.view_is c.requires.room in
     let kept = vmos_in-put c.self.inside.vmos.entries c.insert-kept.new.self.entries c.args.koid.0 new (from_ok c.insert-kept.result (c.insert-kept.ensures.succeeds room.1) c.insert-kept.ensures.updates).0 in
     let entering = enters c.self.inside c.args.self.now c.args.name.0 (target c.args.koid c.args.may_write c.args.resizable) new c.self.view_is c.self.invariant
-    c.requires.name c.requires.koid c.requires.parent c.if-prove.false c.if-prove-2.false refl refl in
+    c.requires.name c.requires.koid c.requires.parent c.if-prove.false c.requires.small refl refl refl refl refl in
     entered_fits _ _ _ _ _ entering v old hit (ap (λ (m : ℕ → Option Vmo). m v) (sym kept) ∙ e)
 
 pub invariant_of-self : goal.invariant_of-self
@@ -37,7 +37,7 @@ invariant_of-self c =
     let named = names_in-put c.self.inside.names.entries c.insert-named.new.self.entries c.args.name.0 to (from_ok c.insert-named.result (c.insert-named.ensures.succeeds room.0) c.insert-named.ensures.updates).0 in
     let kept = vmos_in-put c.self.inside.vmos.entries c.insert-kept.new.self.entries c.args.koid.0 new (from_ok c.insert-kept.result (c.insert-kept.ensures.succeeds room.1) c.insert-kept.ensures.updates).0 in
     let entering = enters c.self.inside c.args.self.now c.args.name.0 to new c.self.view_is c.self.invariant
-    c.requires.name c.requires.koid c.requires.parent c.if-prove.false c.if-prove-2.false refl refl in
+    c.requires.name c.requires.koid c.requires.parent c.if-prove.false c.requires.small refl refl refl refl refl in
     let counted = ap (λ (m : ℕ → Option Vmo). adopted m (option_map koid_number c.args.parent) 0 1) kept in
     record { kept = AreKept-same _ _ _ _ named (c.count_children.ensures ∙ counted) (AreKept-entered _ _ _ _ _ entering) }
 

@@ -1,0 +1,13 @@
+-- What the counts of a VMO's held pages say.
+use Rattle.std.specs.Prelude.{◌≡◌, ℕ}
+use Rattle.vm_model.specs.Search.{count_below}
+use Rattle.vm_model.specs.Content.{Content, sole}
+use Rattle.vm_model.specs.Attribution.{is_held, is_shared, is_charged}
+use Rattle.attribution.specs.declared.counts.Counts.{Counts}
+
+-- the pages of v below page n are counted
+pub record AreCounts (c : Content) (v n : ℕ) (counts : Counts) : Type 0 where
+  pub held : counts.held ≡ count_below n (is_held c v)
+  pub alone : counts.sole ≡ count_below n (sole c v)
+  pub shared : counts.shared ≡ count_below n (is_shared c v)
+  pub charged : counts.charged ≡ count_below n (is_charged c v)

@@ -1,0 +1,124 @@
+-- Laws of what a VMO holds: what each test says of a page, that the held pages are those that are sole and those that are
+-- shared, that the least koid that shows a frame is charged for it, and how the pages are counted from one held page to the
+-- next.
+use Rattle.std.proofs.Common.{◌≡◌, ◌≢◌, ℕ, ◌+◌, ◌<◌, ◌≤◌, Bool, true, false, not, cond, ◌&&◌, ◌==◌, Option, None, Some, refl, sym, ap, ◌∙◌, inl, inr, arith}
+use Rattle.std.specs.Prelude.{is_some}
+use Rattle.std.proofs.lemmas.Bool.{cases_order, both_ways, not_from_true, not_from_false}
+use Rattle.vm_model.specs.Search.{any_below, count_below}
+use Rattle.vm_model.specs.Content.{Page, Content, pages_of, views, sole, IsGood}
+use Rattle.vm_model.specs.Sharing.{IsLeastViewer}
+use Rattle.vm_model.specs.Attribution.{count_pages, is_held, is_shared, is_charged_page, is_charged}
+use Rattle.vm_model.proofs.SearchLaws.{any_below_at, none_below, count_below_le, count_below_less, count_below_gap, count_below_next, count_below_split, bit_same, bit-true, bit-false}
+use Rattle.vm_model.proofs.ContentLaws.{eqb_same, eqb_apart, sole-zero}
+use Rattle.vm_model.proofs.SharingLaws.{views_held}
+
+-- ---- what each test says of a page
+
+pub is_held-zero : (c : Content) (v p : ℕ) → c.page v p ≡ None → is_held c v p ≡ false
+is_held-zero c v p zero = ap is_some zero
+
+pub is_held-some : (c : Content) (v p : ℕ) (held : Page) → c.page v p ≡ Some held → is_held c v p ≡ true
+is_held-some c v p held e = ap is_some e
+
+pub is_shared-zero : (c : Content) (v p : ℕ) → c.page v p ≡ None → is_shared c v p ≡ false
+is_shared-zero c v p zero = ap (λ (b : Bool). b && not (sole c v p)) (is_held-zero c v p zero)
+
+-- a held page is shared where it is not sole
+pub is_shared-some : (c : Content) (v p : ℕ) (held : Page) → c.page v p ≡ Some held → is_shared c v p ≡ not (sole c v p)
+is_shared-some c v p held e = ap (λ (b : Bool). b && not (sole c v p)) (is_held-some c v p held e)
+
+pub is_charged_page-zero : (c : Content) (v : ℕ) → is_charged_page c v None ≡ false
+unfolding is_charged_page
+is_charged_page-zero c v = refl
+
+pub is_charged_page-some : (c : Content) (v : ℕ) (held : Page) → is_charged_page c v (Some held) ≡ not (any_below v (views c held.tag))
+unfolding is_charged_page
+is_charged_page-some c v held = refl
+
+pub is_charged-zero : (c : Content) (v p : ℕ) → c.page v p ≡ None → is_charged c v p ≡ false
+is_charged-zero c v p zero = ap (is_charged_page c v) zero ∙ is_charged_page-zero c v
+
+pub is_charged-at : (c : Content) (v p : ℕ) (held : Page) → c.page v p ≡ Some held → is_charged c v p ≡ is_charged_page c v (Some held)
+is_charged-at c v p held e = ap (is_charged_page c v) e
+
+-- what is charged is held
+pub is_charged_held : (c : Content) (v p : ℕ) → is_charged c v p ≡ true → is_held c v p ≡ true
+is_charged_held c v p e = go (c.page v p) refl where
+  go : (o : Option Page) → c.page v p ≡ o → is_held c v p ≡ true
+  go None zero = absurd (both_ways (is_charged c v p) (is_charged-zero c v p zero) e)
+  go (Some held) here = is_held-some c v p held here
+
+-- ---- who is charged
+
+-- a VMO that shows a frame is charged for it exactly where its koid is the least that does
+pub is_charged_page-least : (c : Content) (v p w : ℕ) (held : Page) → IsGood c → c.page v p ≡ Some held → IsLeastViewer c held.tag w → is_charged_page c v (Some held) ≡ (w == v)
+is_charged_page-least c v p w held good e least =
+    let shows : ℕ → Bool = views c held.tag in
+    is_charged_page-some c v held
+    ∙ elim (cases_order w v) [
+      | inl same ↦
+          let none : any_below v shows ≡ false = none_below v shows (λ k h. least.least k (omega arith)) in
+          not_from_false (any_below v shows) none ∙ sym (ap (λ (u : ℕ). u == v) same ∙ eqb_same v)
+      | inr other ↦ elim other [
+        | inl less ↦
+            let found : any_below v shows ≡ true = any_below_at v w shows less least.shows in
+            let apart : w ≢ v = λ same. absurd (omega arith) in
+            not_from_true (any_below v shows) found ∙ sym (eqb_apart w v apart)
+        | inr more ↦ absurd (both_ways (shows v) (least.least v more) (views_held c held.tag v p held good e refl))
+      ]
+    ]
+
+-- the same of a page
+pub is_charged-least : (c : Content) (v p w : ℕ) (held : Page) → IsGood c → c.page v p ≡ Some held → IsLeastViewer c held.tag w → is_charged c v p ≡ (w == v)
+is_charged-least c v p w held good e least = is_charged-at c v p held e ∙ is_charged_page-least c v p w held good e least
+
+-- ---- counts
+
+-- held pages are sole or shared, and none is both
+pub held-parts : (c : Content) (v p : ℕ) → ◌≡◌ {A = ℕ} (cond (is_held c v p) 1 0) (cond (sole c v p) 1 0 + cond (is_shared c v p) 1 0)
+held-parts c v p = go (c.page v p) refl where
+  bits : (b : Bool) → ◌≡◌ {A = ℕ} 1 (cond b 1 0 + cond (not b) 1 0)
+  bits true = refl
+  bits false = refl
+
+  go : (o : Option Page) → c.page v p ≡ o → ◌≡◌ {A = ℕ} (cond (is_held c v p) 1 0) (cond (sole c v p) 1 0 + cond (is_shared c v p) 1 0)
+  go None zero = omega (arith, bit-false (is_held c v p) (is_held-zero c v p zero), bit-false (sole c v p) (sole-zero c v p zero), bit-false (is_shared c v p) (is_shared-zero c v p zero))
+  go (Some held) e = omega (arith, bit-true (is_held c v p) (is_held-some c v p held e), bits (sole c v p), bit_same (is_shared c v p) (not (sole c v p)) (is_shared-some c v p held e))
+
+pub count_held-parts : (c : Content) (v : ℕ) → count_pages c v (is_held c v) ≡ count_pages c v (sole c v) + count_pages c v (is_shared c v)
+count_held-parts c v = count_below_split (pages_of c v) (sole c v) (is_shared c v) (is_held c v) (λ p. held-parts c v p)
+
+-- no more pages pass than the VMO has
+pub count_pages_le : (c : Content) (v : ℕ) (test : ℕ → Bool) → count_pages c v test ≤ pages_of c v
+count_pages_le c v test = count_below_le (pages_of c v) test
+
+-- no more pages are charged than are held
+pub count_charged_le : (c : Content) (v : ℕ) → count_pages c v (is_charged c v) ≤ count_pages c v (is_held c v)
+count_charged_le c v = count_below_less (pages_of c v) (is_charged c v) (is_held c v) (λ p h e. is_charged_held c v p e)
+
+-- ---- from one held page to the next
+
+-- a test that no zero page of v passes
+pub record IsOfHeld (c : Content) (v : ℕ) (test : ℕ → Bool) : Type 0 where
+  pub zero_fails : (p : ℕ) → c.page v p ≡ None → test p ≡ false
+
+module _ (c : Content) (v : ℕ) where
+  pub IsOfHeld-held : IsOfHeld c v (is_held c v)
+  IsOfHeld-held = record { zero_fails = λ p zero. is_held-zero c v p zero }
+
+  pub IsOfHeld-sole : IsOfHeld c v (sole c v)
+  IsOfHeld-sole = record { zero_fails = λ p zero. sole-zero c v p zero }
+
+  pub IsOfHeld-shared : IsOfHeld c v (is_shared c v)
+  IsOfHeld-shared = record { zero_fails = λ p zero. is_shared-zero c v p zero }
+
+  pub IsOfHeld-charged : IsOfHeld c v (is_charged c v)
+  IsOfHeld-charged = record { zero_fails = λ p zero. is_charged-zero c v p zero }
+
+  -- where the pages from m to below p are zero, p counts next
+  pub count_held_next : (test : ℕ → Bool) (m p : ℕ) → IsOfHeld c v test → m ≤ p → ((q : ℕ) → m ≤ q → q < p → c.page v q ≡ None) → count_below (p + 1) test ≡ count_below m test + cond (test p) 1 0
+  count_held_next test m p is h zero = count_below_next m p test h (λ q l less. is.zero_fails q (zero q l less))
+
+  -- where the pages from m on are zero, all is counted
+  pub count_held_end : (test : ℕ → Bool) (m : ℕ) → IsOfHeld c v test → m ≤ pages_of c v → ((q : ℕ) → m ≤ q → c.page v q ≡ None) → count_pages c v test ≡ count_below m test
+  count_held_end test m is h zero = count_below_gap m (pages_of c v) test h (λ q l less. is.zero_fails q (zero q l))

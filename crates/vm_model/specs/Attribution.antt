@@ -1,0 +1,46 @@
+-- What a VMO holds: its held pages, those that it shares, and those that it is charged for. From the kernel's attribution of
+-- memory, where each frame is charged to one VMO.
+use Rattle.std.specs.Prelude.{ℕ, ◌-◌, ◌*◌, Bool, false, not, ◌&&◌, Option, None, Some, is_some}
+use Rattle.vm_base.specs.declared.pages.TheConstants.{PAGE}
+use Rattle.vm_model.specs.declared.reply.Info.{Info}
+use Rattle.vm_model.specs.declared.reply.Stat.{Stat}
+use Rattle.vm_model.specs.Search.{any_below, count_below}
+use Rattle.vm_model.specs.Content.{Content, Page, pages_of, views, sole, used, vmos_of}
+use Rattle.vm_model.specs.Names.{Name, children}
+use Rattle.vm_model.specs.State.{State, name_pages}
+
+-- how many pages of v pass
+abbrev pub count_pages : Content → ℕ → (ℕ → Bool) → ℕ
+count_pages c v test = count_below (pages_of c v) test
+
+-- page p of v is held
+abbrev pub is_held : Content → ℕ → ℕ → Bool
+is_held c v p = is_some (c.page v p)
+
+-- page p of v is held, and another VMO shows its frame too
+abbrev pub is_shared : Content → ℕ → ℕ → Bool
+is_shared c v p = is_held c v p && not (sole c v p)
+
+-- a page of v is charged to v: it is held, and no VMO with a lesser koid shows its frame
+unfoldable pub is_charged_page : Content → ℕ → Option Page → Bool
+is_charged_page c v None = false
+is_charged_page c v (Some held) = not (any_below v (views c held.tag))
+
+abbrev pub is_charged : Content → ℕ → ℕ → Bool
+is_charged c v p = is_charged_page c v (c.page v p)
+
+-- What is told of a VMO by a name that stands for it. The size is the name's, and all else is of the whole VMO
+abbrev pub info_at : State → Name → Info
+info_at s target = record {
+  koid = record { 0 = target.koid };
+  size = name_pages s.content target * PAGE;
+  held = count_pages s.content target.koid (is_held s.content target.koid);
+  private_pages = count_pages s.content target.koid (sole s.content target.koid);
+  shared_pages = count_pages s.content target.koid (is_shared s.content target.koid);
+  charged = count_pages s.content target.koid (is_charged s.content target.koid);
+  children = children s.names s.lineage target.koid;
+}
+
+-- how many frames the machine has, how many some VMO shows and how many none does, and how many VMOs there are
+abbrev pub stat_of : Content → Stat
+stat_of c = record { frames = c.frames; used = used c; free = c.frames - used c; vmos = vmos_of c }

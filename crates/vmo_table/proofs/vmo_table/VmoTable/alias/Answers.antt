@@ -1,0 +1,45 @@
+use Rattle.std.proofs.Common.{ap, ◌∙◌}
+use Rattle.vm_model.specs.Maps.{with_key}
+use Rattle.vmo_table.specs.declared.vmos.Vmo.{Vmo}
+use Rattle.vmo_table.specs.Vmos.{vmos_in, lineages}
+use Rattle.vmo_table.specs.Table.{Table, name_of, names_of, lineage_in}
+use Rattle.vmo_table.proofs.EntryLaws.{names_in-put, from_ok}
+use Rattle.vmo_table.proofs.KeptLaws.{AreKept-same, AreKept-aliased, lineages-aliased, may_name}
+use Rattle.vmo_table.proofs.TableLaws.{rooms, known_there, aliases}
+use Rattle.vmo_table.proofs.vmo_table.VmoTable.alias.Goals as goal
+
+pub index-vmo-requires : goal.index-vmo-requires
+index-vmo-requires c = known_there c.self.inside c.args.self.now c.args.target.koid.0 c.self.view_is c.requires.koid
+
+pub add_name-requires : goal.add_name-requires
+add_name-requires c =
+    let aliased = aliases c.self.inside c.args.self.now c.args.name.0 c.args.target c.index-vmo.result.now c.self.view_is c.self.invariant c.requires.name c.if-prove.false c.index-vmo.ensures in
+    let fit = may_name _ _ _ _ _ aliased in
+    record { names = fit.0; slices = fit.1; references = fit.2 }
+
+pub write_back-requires : goal.write_back-requires
+write_back-requires c =
+    let aliased = aliases c.self.inside c.args.self.now c.args.name.0 c.args.target c.index-vmo.result.now c.self.view_is c.self.invariant c.requires.name c.if-prove.false c.index-vmo.ensures in
+    (c.index-vmo.result.now, aliased.found)
+
+pub invariant_of-self : goal.invariant_of-self
+invariant_of-self c =
+    let aliased = aliases c.self.inside c.args.self.now c.args.name.0 c.args.target c.index-vmo.result.now c.self.view_is c.self.invariant c.requires.name c.if-prove.false c.index-vmo.ensures in
+    let room = rooms c.self.inside c.args.self.now c.self.view_is c.requires.room in
+    let named = names_in-put c.self.inside.names.entries c.insert-named.new.self.entries c.args.name.0 c.args.target
+    (from_ok c.insert-named.result (c.insert-named.ensures.succeeds room.0) c.insert-named.ensures.updates).0 in
+    let vmos = c.write_back.ensures ∙ ap (λ (x : Vmo). with_key (vmos_in c.self.inside.vmos.entries) c.args.target.koid.0 x) c.add_name.ensures in
+    record { kept = AreKept-same _ _ _ _ named vmos (AreKept-aliased _ _ _ _ _ aliased) }
+
+pub returns-clause-names : goal.returns-clause-names
+returns-clause-names c =
+    let room = rooms c.self.inside c.args.self.now c.self.view_is c.requires.room in
+    names_in-put c.self.inside.names.entries c.insert-named.new.self.entries c.args.name.0 c.args.target
+    (from_ok c.insert-named.result (c.insert-named.ensures.succeeds room.0) c.insert-named.ensures.updates).0
+    ∙ ap (λ (m : Table). with_key (names_of m) c.args.name.0 (name_of c.args.target)) c.self.view_is
+
+pub returns-clause-lineage : goal.returns-clause-lineage
+returns-clause-lineage c =
+    let aliased = aliases c.self.inside c.args.self.now c.args.name.0 c.args.target c.index-vmo.result.now c.self.view_is c.self.invariant c.requires.name c.if-prove.false c.index-vmo.ensures in
+    let vmos = c.write_back.ensures ∙ ap (λ (x : Vmo). with_key (vmos_in c.self.inside.vmos.entries) c.args.target.koid.0 x) c.add_name.ensures in
+    ap lineages vmos ∙ (lineages-aliased _ _ _ _ _ aliased ∙ ap lineage_in c.self.view_is)
