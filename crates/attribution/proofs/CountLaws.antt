@@ -1,27 +1,24 @@
 -- How the held pages of a VMO are counted from one to the next.
 use mir.Val.{bool_byte}
-use Rattle.std.proofs.Common.{◌≡◌, ℕ, ◌+◌, ◌<◌, ◌≤◌, Bool, true, false, not, cond, ◌==◌, Option, None, Some, refl, sym, ap, subst, ◌∙◌, arith}
+use Rattle.std.proofs.Common.{◌≡◌, ℕ, ◌+◌, ◌<◌, ◌≤◌, Bool, true, false, not, ◌==◌, Option, None, Some, refl, sym, ap, subst, ◌∙◌, arith}
 use Rattle.std.specs.Prelude.{IsSome}
 use Rattle.std.proofs.lemmas.Bool.{not_from_false, false_from_ne_true}
 use Rattle.vm_base.specs.declared.names.Tag.{Tag}
 use Rattle.vm_base.specs.declared.pages.TheConstants.{VMO_PAGES}
 use Rattle.vm_model.specs.Search.{count_below}
-use Rattle.vm_model.specs.Content.{Page, Content, pages_of, views, is_sole_page, sole, IsGood}
+use Rattle.vm_model.specs.Content.{Page, Content, is_held, pages_of, views, is_sole_page, sole, IsGood}
 use Rattle.vm_model.specs.Sharing.{IsLeastViewer}
-use Rattle.vm_model.specs.Attribution.{is_held, is_shared, is_charged}
+use Rattle.vm_model.specs.Attribution.{is_shared, is_charged}
 use Rattle.vm_model.proofs.SearchLaws.{none_below, count_below_le, count_below-suc, count_below-zero, count_below_gap, bit_same}
 use Rattle.vm_model.proofs.ContentLaws.{count_from_page, views_found, sole_alone}
 use Rattle.vm_model.proofs.AttributionLaws.{is_held-some, is_shared-some, is_charged-at, is_charged_page-some, is_charged-least, IsOfHeld, IsOfHeld-held, IsOfHeld-sole, IsOfHeld-shared, IsOfHeld-charged}
 use Rattle.page_store.specs.declared.page_store.Look.TheVariants as look
 use Rattle.page_store.specs.Pages.{look_at, IsShown}
+use Rattle.vmo_ops.proofs.ZeroLaws.{byte_bit}
 use Rattle.attribution.specs.declared.counts.Counts.{Counts}
 use Rattle.attribution.specs.Counts.{AreCounts}
 
 -- ---- a test as a number
-
-byte_bit : (b : Bool) → ◌≡◌ {A = ℕ} (bool_byte b) (cond b 1 0)
-byte_bit true = refl
-byte_bit false = refl
 
 pub byte_le : (b : Bool) → bool_byte b ≤ 1
 byte_le true = omega arith

@@ -4,8 +4,7 @@ ghost use Rattle.std.specs.Prelude.{◌≡◌, ◌≢◌, ℕ, ◌+◌, ◌^◌,
 ghost use Rattle.vm_model.specs.Content.{nothing, pages_of, IsGood};
 ghost use Rattle.vm_model.specs.Names.{owner};
 ghost use Rattle.vm_model.specs.State.{IsGoodState};
-ghost use Rattle.vmo_table.specs.Table.{names_of, lineage_in};
-ghost use Rattle.attribution.specs.Parts.{state_with};
+ghost use Rattle.vmo_table.specs.Table.{names_of, lineage_in, state_with};
 
 use super::*;
 use crate::counts::count_held;

@@ -1,9 +1,9 @@
 -- Where the rows of a VMO and of a range of its pages stand, and what is found in a part of the rows.
-use Rattle.std.proofs.Common.{◌≡◌, ◌≢◌, ℕ, zero, suc, ◌+◌, ◌<◌, ◌≤◌, false, cond, ◌&&◌, ◌==◌, List, [], ◌∷◌, ◌++◌, length, get_or, take, drop, Option, None, Some, refl, sym, ap, subst, ◌∙◌, inl, inr, arith}
+use Rattle.std.proofs.Common.{◌≡◌, ◌≢◌, ◌⊎◌, ℕ, zero, suc, ◌+◌, ◌<◌, ◌≤◌, false, cond, ◌&&◌, ◌==◌, List, [], ◌∷◌, ◌++◌, length, get_or, take, drop, Option, None, Some, refl, sym, ap, subst, ◌∙◌, inl, inr, arith}
 use Rattle.std.specs.List.{All, AllWithin, slice_range}
 use Rattle.std.specs.declared.cmp.Ordering.{Ordering}
 use Rattle.std.specs.declared.cmp.Ordering.TheVariants.{Less, Equal, Greater}
-use Rattle.std.proofs.lemmas.Bool.{cases_Bool, cases_order, cases_lt, and_parts, and_left, and_right, eqb-true, ne_eqb, false_from_ne_true}
+use Rattle.std.proofs.lemmas.Bool.{cases_Bool, cases_order, cases_lt, and_parts, and_left, eqb-true, ne_eqb, false_from_ne_true}
 use Rattle.std.proofs.lemmas.Bool.Decides.{nat_tests}
 use Rattle.std.proofs.lemmas.List.{length-take-le, get_or-take, get_or-drop, length-drop, get_or_default}
 use Rattle.std.proofs.lemmas.List.Edits.{length-between, get_or-between, split_between}
@@ -208,15 +208,15 @@ sorted_middle xs ys zs s =
 
 -- ---- the three parts that two bounds make
 
-pub part_before : (P : Row → Type 0) (rows : List Row) (i : ℕ) → AllWithin P rows 0 i → i ≤ length rows → All P (take i rows)
+part_before : (P : Row → Type 0) (rows : List Row) (i : ℕ) → AllWithin P rows 0 i → i ≤ length rows → All P (take i rows)
 part_before P rows i each le k d h =
     let low : k < i = omega (arith, length-take-le i rows le) in
     subst P (sym (get_or-take i rows k d low)) (each k d (omega arith) low)
 
-pub part_behind : (P : Row → Type 0) (rows : List Row) (i : ℕ) → AllWithin P rows i (length rows) → All P (drop i rows)
+part_behind : (P : Row → Type 0) (rows : List Row) (i : ℕ) → AllWithin P rows i (length rows) → All P (drop i rows)
 part_behind P rows i each k d h = subst P (sym (get_or-drop i rows k d)) (each (i + k) d (omega arith) (omega (arith, length-drop i rows)))
 
-pub part_within : (P : Row → Type 0) (rows : List Row) (i j : ℕ) → AllWithin P rows i j → j ≤ length rows → All P (slice_range rows i j)
+part_within : (P : Row → Type 0) (rows : List Row) (i j : ℕ) → AllWithin P rows i j → j ≤ length rows → All P (slice_range rows i j)
 part_within P rows i j each le k d h =
     let low : i + k < j = omega (arith, length-between rows i j le) in
     subst P (sym (get_or-between rows i j k d low)) (each (i + k) d (omega arith) low)
@@ -238,22 +238,30 @@ module _ (rows : List Row) (v p q from end : ℕ) (are : AreRowsWithin rows v p 
   start_below : from ≤ length rows
   start_below = let order = are.order in let range = are.range in omega arith
 
-  -- a page of the range is found among its rows
+  -- a page of the range is found neither before its rows nor behind them
+  pub find_row-before : (x : ℕ) → p ≤ x → x < q → find_row v x (take from rows) ≡ None
+  find_row-before x low high = find_row-absent v x (take from rows) (part_before (λ row. ((row.koid.0 == v) && (row.page == x)) ≡ false) rows from
+      (λ k d l h. not_within v p q x (get_or rows k d) (are.before k d l h) low high) start_below)
+
+  pub find_row-behind : (x : ℕ) → p ≤ x → x < q → find_row v x (drop end rows) ≡ None
+  find_row-behind x low high = find_row-absent v x (drop end rows) (part_behind (λ row. ((row.koid.0 == v) && (row.page == x)) ≡ false) rows end
+      (λ k d l h. not_within v p q x (get_or rows k d) (are.behind k d l h) low high))
+
+  -- it is found among them
   pub find_row-range : (x : ℕ) → p ≤ x → x < q → find_row v x (slice_range rows from end) ≡ find_row v x rows
   find_row-range x low high =
-      let before = find_row-absent v x (take from rows) (part_before (λ row. ((row.koid.0 == v) && (row.page == x)) ≡ false) rows from
-      (λ k d l h. not_within v p q x (get_or rows k d) (are.before k d l h) low high) start_below) in
-      let behind = find_row-absent v x (drop end rows) (part_behind (λ row. ((row.koid.0 == v) && (row.page == x)) ≡ false) rows end
-      (λ k d l h. not_within v p q x (get_or rows k d) (are.behind k d l h) low high)) in
-      sym (find_row-left v x (slice_range rows from end) (drop end rows) behind)
-      ∙ (sym (find_row-right v x (take from rows) (slice_range rows from end ++ drop end rows) before) ∙ ap (find_row v x) (sym (split_between rows from end are.order)))
+      sym (find_row-left v x (slice_range rows from end) (drop end rows) (find_row-behind x low high))
+      ∙ (sym (find_row-right v x (take from rows) (slice_range rows from end ++ drop end rows) (find_row-before x low high)) ∙ ap (find_row v x) (sym (split_between rows from end are.order)))
 
   pub range_within : All (IsWithin v p q) (slice_range rows from end)
   range_within = part_within (IsWithin v p q) rows from end are.within are.range
 
-  -- and no other is
-  pub find_row-past : (x : ℕ) → q ≤ x → find_row v x (slice_range rows from end) ≡ None
-  find_row-past x past = find_row-absent v x (slice_range rows from end) (λ k d h.
+  -- and no other page is
+  pub find_row-outside : (w x : ℕ) → (w ≡ v → (x < p) ⊎ (q ≤ x)) → find_row w x (slice_range rows from end) ≡ None
+  find_row-outside w x out = find_row-absent w x (slice_range rows from end) (λ k d h.
       let row = get_or (slice_range rows from end) k d in
-      let low = (range_within k d h).2 in
-      and_right (row.koid.0 == v) (row.page == x) (ne_eqb row.page x (λ e. omega arith)))
+      let within = range_within k d h in
+      false_from_ne_true ((row.koid.0 == w) && (row.page == x)) (λ e.
+      let both = and_parts (row.koid.0 == w) (row.page == x) e in
+      let page = eqb-true row.page x both.1 in
+      elim (out (sym (eqb-true row.koid.0 w both.0) ∙ within.0)) [ inl before ↦ absurd (omega (arith, within.1)) | inr behind ↦ absurd (omega (arith, within.2)) ]))

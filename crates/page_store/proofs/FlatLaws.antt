@@ -1,5 +1,5 @@
 -- Which content the lists of a plain store stand for, when they are a plain store, and what its pages, frames and counts are.
-use Rattle.std.proofs.Common.{◌≡◌, ℕ, ◌+◌, ◌<◌, ◌≤◌, true, false, cond, ◌==◌, List, [], ◌∷◌, ◌++◌, length, get_or, take, drop, replicate, Option, None, Some, refl, sym, ap, subst, ◌∙◌, arith}
+use Rattle.std.proofs.Common.{◌≡◌, ℕ, ◌+◌, ◌^◌, ◌<◌, ◌≤◌, true, false, cond, ◌==◌, List, [], ◌∷◌, ◌++◌, length, get_or, take, drop, replicate, Option, None, Some, unwrap_or, refl, sym, ap, subst, ◌∙◌, arith}
 use Rattle.std.specs.Prelude.{IsSome, IfSome, is_some, nat_lt}
 use Rattle.std.proofs.lemmas.Bool.Decides.{nat_tests}
 use Rattle.std.proofs.lemmas.List.{get_or_read, get_or-replicate, length-replicate, length_push}
@@ -7,10 +7,10 @@ use Rattle.std.proofs.Math.Seq.{take-nil}
 use Rattle.vm_base.specs.declared.pages.TheConstants.{VMO_PAGES}
 use Rattle.frame_pool.specs.Pool.{Pool, frame_count, bytes_at, bytes_of, taken_count, no_bytes}
 use Rattle.vm_model.specs.Search.{count_below}
-use Rattle.vm_model.specs.Content.{Page, Content, nothing, in_use, used, vmos_of, is_sole_page, created, IsGood}
+use Rattle.vm_model.specs.Content.{Page, Content, nothing, pages_of, in_use, used, vmos_of, is_sole_page, created, IsGood}
 use Rattle.vm_model.specs.Sharing.{viewers}
 use Rattle.vm_model.proofs.SearchLaws.{count_below_none, count_below_same}
-use Rattle.vm_model.proofs.ContentLaws.{page-nothing, in_use_at, IsGood-created, IsGood-nothing, vmos_of-created}
+use Rattle.vm_model.proofs.ContentLaws.{pages_of-at, page-nothing, in_use_at, IsGood-created, IsGood-nothing, vmos_of-created}
 use Rattle.page_store.specs.declared.rows.Row.{Row}
 use Rattle.page_store.specs.declared.vmos.Vmo.{Vmo}
 use Rattle.page_store.specs.Rows.{find_row, IsSorted, IsRowFor, IsGapFor}
@@ -204,12 +204,29 @@ module _ (f : Flat) (vmo : Vmo) (flat : IsFlat f) (koid : vmo.koid.0 ≡ f.next)
       (λ t h. flat.shares t h ∙ sym (viewers-created (content_of f) vmo.count t flat.good))
       (λ t. taken_viewers f flat t ∙ ap (λ (n : ℕ). nat_lt 0 n) (sym (viewers-created (content_of f) vmo.count t flat.good)))
 
+-- ---- how many pages a VMO has
+
 -- the page count of a VMO that is in the list
 pub count_there : (f : Flat) (v : ℕ) → IsSome ((content_of f).count v) → IsSome (count_in v f.vmos)
 count_there f v some = subst IsSome (count-content f v) some
 
 pub count_read : (f : Flat) (v i : ℕ) (vmo : Vmo) → IsFlat f → IsVmoFor f.vmos v i → vmo ≡ get_or f.vmos i vmo → (content_of f).count v ≡ Some vmo.count
 count_read f v i vmo flat at read = count-content f v ∙ (count_in-at f.vmos flat.ascending v i at vmo ∙ ap (λ (d : Vmo). Some d.count) (sym read))
+
+pub pages_read : (f : Flat) (v i : ℕ) (vmo : Vmo) → IsFlat f → IsVmoFor f.vmos v i → vmo ≡ get_or f.vmos i vmo → pages_of (content_of f) v ≡ vmo.count
+pages_read f v i vmo flat at read = pages_of-at (content_of f) v vmo.count (count_read f v i vmo flat at read)
+
+-- no VMO has too many pages
+pages_le : (c : Content) (v : ℕ) → IsGood c → pages_of c v ≤ VMO_PAGES
+unfolding pages_of
+pages_le c v good = go (c.count v) refl where
+  go : (o : Option ℕ) → c.count v ≡ o → unwrap_or o 0 ≤ VMO_PAGES
+  go None e = omega arith
+  go (Some n) e = good.counts v n e
+
+-- so the end of a range of pages is a number of the machine
+pub end_fits : (f : Flat) (v first seen : ℕ) → IsFlat f → first + seen ≤ pages_of (content_of f) v → first + seen < 2 ^ 64
+end_fits f v first seen flat h = omega (arith, pages_le (content_of f) v flat.good)
 
 -- ---- held pages
 

@@ -7,9 +7,11 @@ use Rattle.vm_model.specs.Content.{Page, Content, pages_of, is_sole_page, sole, 
 use Rattle.vm_model.specs.Owning.{Owns}
 use Rattle.vm_model.specs.Writing.{replaced}
 use Rattle.vm_model.specs.Sharing.{snapshotted}
+use Rattle.vm_model.specs.Zeroing.{zeroed, resized}
 use Rattle.vm_model.proofs.ContentLaws.{pages_of-at, count_from_page, sole_alone, next-hold, pages_of-hold, IsGood-hold_bytes, IsGood-created, next-created, count-created_new, count-created_other}
 use Rattle.vm_model.proofs.OwningLaws.{Owned-from_Owns}
 use Rattle.vm_model.proofs.RangeLaws.{length-replaced}
+use Rattle.vm_model.proofs.ZeroingLaws.{next-zeroed, pages_of-zeroed, IsGood-zeroed, next-resized, count-resized_here, pages_of-resized_here, pages_of-resized_other, IsGood-resized}
 use Rattle.vm_model.proofs.SharingLaws.{IsGood-snapshotted, next-snapshotted, pages_of-snapshotted_new, pages_of-snapshotted_other}
 use Rattle.page_store.specs.declared.page_store.Look.TheVariants as look
 use Rattle.page_store.specs.Pages.{look_at, IsShownOnce, Overwrites}
@@ -52,6 +54,30 @@ pub owned_keeps : (old mid new : Content) (v p t : ℕ) → IsGood old → p < p
 owned_keeps old mid new v p t good h same owns =
     let owned = Owned-from_Owns old new v p t good h (subst (λ (c : Content). Owns c new v p t) same owns) in
     record { good = owned.good; next = owned.next; pages = owned.pages }
+
+pub zeroed_keeps : (old mid new : Content) (v first end : ℕ) → IsGood old → mid ≡ old → new ≡ zeroed mid v first end → Keeps old new
+zeroed_keeps old mid new v first end good same made = subst (λ (c : Content). Keeps old c) (sym (made ∙ ap (λ (c : Content). zeroed c v first end) same)) (record {
+  good = IsGood-zeroed old v first end good;
+  next = next-zeroed old v first end;
+  pages = pages_of-zeroed old v first end;
+})
+
+-- new is good, and has n pages in v
+pub record Recounts (old new : Content) (v n : ℕ) : Type 0 where
+  pub good : IsGood new
+  pub next : new.next ≡ old.next
+  pub there : IsSome (new.count v)
+  pub pages : pages_of new v ≡ n
+  pub kept : (w : ℕ) → w ≢ v → pages_of new w ≡ pages_of old w
+
+pub resized_recounts : (old new : Content) (v n : ℕ) → IsGood old → 0 < pages_of old v → n ≤ VMO_PAGES → new ≡ resized old v n → Recounts old new v n
+resized_recounts old new v n good some few made = subst (λ (c : Content). Recounts old c v n) (sym made) (record {
+  good = IsGood-resized old v n good (is_there old v 0 some) few;
+  next = next-resized old v n;
+  there = ap is_some (count-resized_here old v n);
+  pages = pages_of-resized_here old v n;
+  kept = pages_of-resized_other old v n;
+})
 
 -- page p of v is sole, with the frame t
 pub record IsAlone (c : Content) (v p t : ℕ) : Type 0 where

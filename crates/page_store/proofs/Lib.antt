@@ -7,6 +7,8 @@ pub mod FlatOwning
 pub mod FlatWriting
 pub mod ShareLaws
 pub mod ViewLaws
+pub mod ReleaseLaws
 pub mod DropLaws
+pub mod ResizeLaws
 pub mod SnapshotLaws
 pub mod NextLaws

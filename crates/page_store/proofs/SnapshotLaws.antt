@@ -1,5 +1,5 @@
 -- The plain store with a snapshot: which content its lists stand for, and that they stay a plain store.
-use Rattle.std.proofs.Common.{◌≡◌, ◌≢◌, ℕ, suc, ◌+◌, ◌-◌, ◌^◌, ◌<◌, ◌≤◌, cond, ◌&&◌, ◌==◌, List, [], ◌∷◌, ◌++◌, length, map, get_or, Option, None, Some, is_some, unwrap_or, refl, sym, ap, subst, ◌∙◌, inl, inr, arith}
+use Rattle.std.proofs.Common.{◌≡◌, ◌≢◌, ℕ, suc, ◌+◌, ◌-◌, ◌^◌, ◌<◌, ◌≤◌, cond, ◌&&◌, ◌==◌, List, [], ◌∷◌, ◌++◌, length, map, get_or, Option, None, Some, is_some, refl, sym, ap, subst, ◌∙◌, inl, inr, arith}
 use Rattle.std.specs.Prelude.{nat_lt}
 use Rattle.std.specs.List.{All, AllWithin, slice_range}
 use Rattle.std.specs.Option.{option_map}
@@ -9,7 +9,7 @@ use Rattle.std.proofs.lemmas.Bool.Decides.{nat_tests}
 use Rattle.std.proofs.lemmas.List.{length_push, length-map, get_or-map}
 use Rattle.frame_pool.specs.Pool.{Pool, frame_count, bytes_at}
 use Rattle.vm_base.specs.declared.pages.TheConstants.{VMO_PAGES}
-use Rattle.vm_model.specs.Content.{Content, pages_of, vmos_of, IsGood}
+use Rattle.vm_model.specs.Content.{vmos_of, IsGood}
 use Rattle.vm_model.specs.Sharing.{page_seen, snapshotted}
 use Rattle.vm_model.proofs.SharingLaws.{viewers_le, frames-snapshotted, next-snapshotted, count-snapshotted, page-snapshotted_new, page-snapshotted_other, page_seen-in, page_seen-out, IsGood-snapshotted, vmos_of-snapshotted}
 use Rattle.page_store.specs.declared.rows.Row.{Row}
@@ -19,7 +19,7 @@ use Rattle.page_store.specs.Vmos.{count_in, IsAscending}
 use Rattle.page_store.specs.Shares.{rows_with, row_in, Shares, AreCounted}
 use Rattle.page_store.specs.Flat.{Flat, page_of_row, content_of, IsFlat}
 use Rattle.page_store.proofs.RowLaws.{page_cmp}
-use Rattle.page_store.proofs.BoundLaws.{sorted_append, sorted_split, sorted_join, sorted_range, find_row-other, find_row-left, find_row-right, find_row-range, find_row-past, range_within}
+use Rattle.page_store.proofs.BoundLaws.{sorted_append, sorted_split, sorted_join, sorted_range, find_row-other, find_row-left, find_row-right, find_row-range, find_row-outside, range_within}
 use Rattle.page_store.proofs.ShareLaws.{rows_with-append, rows_with-map, rows_with-range}
 use Rattle.page_store.proofs.VmoLaws.{ascending_push, count_in-push}
 use Rattle.page_store.proofs.FlatLaws.{same_content, frames-content, next-content, count-content, page-content, page_of_row-none, koids_below}
@@ -127,7 +127,7 @@ module _ (f g : Flat) (v first seen pages from end : ℕ) (flat : IsFlat f) (new
             ap (page_of_row f.pool) (find_row-range f.rows v first (first + seen) from end new.are (first + p) (omega arith) (omega arith))
             ∙ (sym (page-content f v (first + p)) ∙ sym (page_seen-in (content_of f) v first seen p low))
         | inr past ↦
-            ap (page_of_row f.pool) (find_row-past f.rows v first (first + seen) from end new.are (first + p) (omega arith))
+            ap (page_of_row f.pool) (find_row-outside f.rows v first (first + seen) from end new.are v (first + p) (λ _. inr (omega arith)))
             ∙ (page_of_row-none f.pool ∙ sym (page_seen-out (content_of f) v first seen p past))
       ]))
 
@@ -196,18 +196,6 @@ module _ (f g : Flat) (v first seen pages from end : ℕ) (flat : IsFlat f) (new
       snapshot_counted
 
 -- ---- what the numbers leave room for
-
--- no VMO has too many pages
-pages_le : (c : Content) (v : ℕ) → IsGood c → pages_of c v ≤ VMO_PAGES
-unfolding pages_of
-pages_le c v good = go (c.count v) refl where
-  go : (o : Option ℕ) → c.count v ≡ o → unwrap_or o 0 ≤ VMO_PAGES
-  go None e = omega arith
-  go (Some n) e = good.counts v n e
-
--- so the end of a range of pages is a number of the machine
-pub end_fits : (f : Flat) (v first seen : ℕ) → IsFlat f → first + seen ≤ pages_of (content_of f) v → first + seen < 2 ^ 64
-end_fits f v first seen flat h = omega (arith, pages_le (content_of f) v flat.good)
 
 -- the frames of rows have share counts
 pub tags_counted : (f : Flat) (from end : ℕ) → IsFlat f → end ≤ length f.rows → AllWithin (λ row. row.tag.0 < length f.shares) f.rows from end

@@ -1,5 +1,5 @@
 -- What is found in the list of VMOs, and what a VMO changes that is added at its end, or leaves.
-use Rattle.std.proofs.Common.{◌≡◌, ◌≢◌, ℕ, zero, suc, ◌+◌, ◌<◌, ◌≤◌, false, not, cond, ◌==◌, List, [], ◌∷◌, ◌++◌, length, get_or, None, Some, Result, Ok, Err, IfOk, IfErr, refl, sym, ap, ◌∙◌, inl, inr, arith}
+use Rattle.std.proofs.Common.{◌≡◌, ◌≢◌, ℕ, zero, suc, ◌+◌, ◌<◌, ◌≤◌, false, not, cond, ◌==◌, List, [], ◌∷◌, ◌++◌, length, get_or, set, None, Some, Result, Ok, Err, IfOk, IfErr, refl, sym, ap, subst, ◌∙◌, inl, inr, arith}
 use Rattle.std.specs.Prelude.{IsSome, is_some}
 use Rattle.std.specs.List.{remove}
 use Rattle.std.specs.List.Sorted.{IsSearchInRange, IsBinarySearchResult}
@@ -188,4 +188,52 @@ count_in-remove (vmo ∷ vmos) (suc i) v rises h at w =
       | inr there ↦
           count_in-skip w vmo (remove vmos i) there
           ∙ (rest ∙ ap (λ o. cond (not (w == v)) o None) (sym (count_in-skip w vmo vmos there)))
+    ]
+
+-- ---- a VMO with another page count
+
+-- the VMO at a place is put in again
+pub record IsVmoAgain (vmos : List Vmo) (i : ℕ) (vmo : Vmo) : Type 0 where
+  pub in_range : i < length vmos
+  pub koid : (d : Vmo) → (get_or vmos i d).koid.0 ≡ vmo.koid.0
+
+again_behind : (first : Vmo) (vmos : List Vmo) (i : ℕ) (vmo : Vmo) → IsVmoAgain (first ∷ vmos) (suc i) vmo → IsVmoAgain vmos i vmo
+again_behind first vmos i vmo again = record { in_range = let h = again.in_range in omega arith; koid = again.koid }
+
+above_set : (v : ℕ) (vmos : List Vmo) (i : ℕ) (vmo : Vmo) → AllAbove v vmos → IsVmoAgain vmos i vmo → AllAbove v (set vmos i vmo)
+above_set v [] i vmo above again = tt
+above_set v (first ∷ vmos) zero vmo above again = (omega (arith, again.koid first, above.0), above.1)
+above_set v (first ∷ vmos) (suc i) vmo above again = (above.0, above_set v vmos i vmo above.1 (again_behind first vmos i vmo again))
+
+pub ascending_set : (vmos : List Vmo) (i : ℕ) (vmo : Vmo) → IsAscending vmos → IsVmoAgain vmos i vmo → IsAscending (set vmos i vmo)
+ascending_set [] i vmo rises again = ascending_nil
+ascending_set (first ∷ vmos) zero vmo rises again =
+    let parts = ascending_parts first vmos rises in ascending_from vmo vmos (subst (λ (k : ℕ). AllAbove k vmos) (again.koid first) parts.0) parts.1
+ascending_set (first ∷ vmos) (suc i) vmo rises again =
+    let parts = ascending_parts first vmos rises in
+    let rest = again_behind first vmos i vmo again in
+    ascending_from first (set vmos i vmo) (above_set first.koid.0 vmos i vmo parts.0 rest) (ascending_set vmos i vmo parts.1 rest)
+
+-- it has its new count, and the others keep theirs
+pub count_in-set : (vmos : List Vmo) (i : ℕ) (vmo : Vmo) → IsAscending vmos → IsVmoAgain vmos i vmo → (w : ℕ) → count_in w (set vmos i vmo) ≡ cond (w == vmo.koid.0) (Some vmo.count) (count_in w vmos)
+count_in-set [] i vmo rises again w = absurd (let h = again.in_range in omega arith)
+count_in-set (first ∷ vmos) zero vmo rises again w = elim (cases_eq w vmo.koid.0) [
+  | inl same ↦ count_in-here w vmo vmos (sym same) ∙ sym (cond-true (w == vmo.koid.0) (Some vmo.count) (count_in w (first ∷ vmos)) (eq-eqb w vmo.koid.0 same))
+  | inr apart ↦
+      count_in-skip w vmo vmos (λ e. apart (sym e))
+      ∙ (sym (count_in-skip w first vmos (λ e. apart (sym e ∙ again.koid first))) ∙ sym (cond-false (w == vmo.koid.0) (Some vmo.count) (count_in w (first ∷ vmos)) (ne_eqb w vmo.koid.0 apart)))
+]
+count_in-set (first ∷ vmos) (suc i) vmo rises again w =
+    let parts = ascending_parts first vmos rises in
+    let rest = again_behind first vmos i vmo again in
+    elim (cases_eq first.koid.0 w) [
+      | inl here ↦
+          let up = above_at first.koid.0 vmos parts.0 i vmo rest.in_range in
+          let koid = again.koid vmo in
+          let apart : w ≢ vmo.koid.0 = omega arith in
+          count_in-here w first (set vmos i vmo) here
+          ∙ (sym (count_in-here w first vmos here) ∙ sym (cond-false (w == vmo.koid.0) (Some vmo.count) (count_in w (first ∷ vmos)) (ne_eqb w vmo.koid.0 apart)))
+      | inr there ↦
+          count_in-skip w first (set vmos i vmo) there
+          ∙ (count_in-set vmos i vmo parts.1 rest w ∙ ap (λ o. cond (w == vmo.koid.0) (Some vmo.count) o) (sym (count_in-skip w first vmos there)))
     ]

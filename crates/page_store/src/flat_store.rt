@@ -3,6 +3,7 @@
 ghost use Rattle.std.specs.Prelude.{◌≡◌, ℕ, ◌+◌, ◌<◌, ◌≤◌, ◌⊎◌, true, length};
 ghost use Rattle.vm_model.specs.Content.{nothing, pages_of, used, sole};
 ghost use Rattle.vm_model.specs.Owning.{Owns};
+ghost use Rattle.vm_model.specs.Zeroing.{zeroed};
 ghost use Rattle.frame_pool.specs.Pool.{frame_count, taken_count, Takes};
 ghost use Rattle.page_store.specs.Rows.{IsRowFor, IsGapFor};
 ghost use Rattle.page_store.specs.Flat.{content_of};
@@ -19,7 +20,7 @@ use vm_base::{HostMemory, Koid, PageNo, Tag};
 /// A page store whose held pages are one sorted list. VMOs share page frames: a snapshot adds rows
 /// for the pages that it sees and copies no byte, and a share count for each frame says whether a
 /// page is sole. Looking a page up takes a binary search, owning a page that is zero moves the rows
-/// behind it, and a VMO that is dropped costs its rows and the move of those behind them.
+/// behind it, and pages that become zero or leave cost their rows and the move of those behind them.
 #[derive(Drop)]
 pub struct FlatStore {
     /// The page frames. A frame is taken while some VMO shows it.
@@ -94,6 +95,19 @@ impl FlatStore {
         self.shares[tag.0 as usize] = 1;
         self.rows[at].tag = tag;
         tag
+    }
+
+    // Makes `count` pages of a VMO zero, from page `first` on. Their frames are free then, unless another
+    // VMO shows them.
+    fn release_pages(&mut self, v: Koid, first: PageNo, count: PageNo)
+        requires { first + count ≤ pages_of (content_of self.old) v.0 }
+        ensures content { content_of self.new ≡ zeroed (content_of self.old) v.0 first (first + count) }
+        ensures vmos { self.new.vmos ≡ self.old.vmos }
+        ensures spare { self.old.spare ≤ self.new.spare }
+    {
+        let (from, end) = rows_within(&self.rows, v, first, first + count);
+        release_rows(&self.rows[from..end], &mut self.shares, &mut self.pool);
+        self.rows.drain(from..end);
     }
 }
 
@@ -171,15 +185,27 @@ impl PageStore for FlatStore {
         }
     }
 
+    fn zero(&mut self, v: Koid, page: PageNo) {
+        self.release_pages(v, page, 1);
+    }
+
     fn count(&self, v: Koid) -> PageNo {
         self.vmos[find_vmo(&self.vmos, v)].count
     }
 
+    fn set_count(&mut self, v: Koid, count: PageNo) {
+        let at = find_vmo(&self.vmos, v);
+        let old = self.vmos[at].count;
+        if count < old {
+            self.release_pages(v, count, old - count);
+        }
+        self.vmos[at].count = count;
+    }
+
     fn drop_vmo(&mut self, v: Koid) {
         let at = find_vmo(&self.vmos, v);
-        let (from, end) = rows_within(&self.rows, v, 0, self.vmos[at].count);
-        release_rows(&self.rows[from..end], &mut self.shares, &mut self.pool);
-        self.rows.drain(from..end);
+        let pages = self.vmos[at].count;
+        self.release_pages(v, 0, pages);
         self.vmos.remove(at);
     }
 

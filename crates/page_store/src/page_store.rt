@@ -5,6 +5,7 @@ ghost use Rattle.vm_model.specs.Search.{count_below};
 ghost use Rattle.vm_model.specs.Content.{Content, nothing, used, sole, pages_of, created, vmos_of};
 ghost use Rattle.vm_model.specs.Owning.{Owns};
 ghost use Rattle.vm_model.specs.Sharing.{viewers, IsLeastViewer, snapshotted, without};
+ghost use Rattle.vm_model.specs.Zeroing.{zeroed, resized};
 ghost use Rattle.page_store.specs.Pages.{look_at, IsShown, IsShownOnce, AreBytesOf, Overwrites};
 
 use vm_base::{HostMemory, Koid, PageNo, Tag};
@@ -85,10 +86,26 @@ pub trait PageStore: Drop {
         ensures owns { Owns (content self.old) (content self.new) v.0 page result.0 }
         ensures spare { spare self.old ≤ spare self.new + 1 };
 
+    /// Makes a page below the count zero, as it is in a new VMO. Its frame is free then, unless another
+    /// VMO shows it. It needs a spare row, since a store may have to keep a row that says so. It takes no
+    /// memory.
+    fn zero(&mut self, v: Koid, page: PageNo)
+        requires page { page < pages_of (content self.old) v.0 }
+        requires room { 1 ≤ spare self.old }
+        ensures zero { content self.new ≡ zeroed (content self.old) v.0 page (page + 1) }
+        ensures spare { spare self.old ≤ spare self.new + 1 };
+
     /// How many pages a VMO has.
     fn count(&self, v: Koid) -> PageNo
         requires { IsSome ((content self.now).count v.0) }
         ensures { (content self.now).count v.0 ≡ Some result };
+
+    /// Lets a VMO have `count` pages. Those past the new end leave it, and their frames are free then,
+    /// unless another VMO shows them. Those that come in are zero. It takes no memory.
+    fn set_count(&mut self, v: Koid, count: PageNo)
+        requires vmo { IsSome ((content self.old).count v.0) }
+        requires count { count ≤ 16777216 }
+        ensures { content self.new ≡ resized (content self.old) v.0 count };
 
     /// Takes a VMO out of the store with its pages. The frames that no other VMO shows are free then.
     fn drop_vmo(&mut self, v: Koid)

@@ -1,4 +1,4 @@
-//! Rows that share frames: those of a snapshot, and those of a VMO that is dropped.
+//! Rows that share frames: those of a snapshot, and those of pages that become zero or leave.
 
 ghost use Rattle.std.specs.Prelude.{◌≡◌, ℕ, ◌+◌, ◌-◌, ◌^◌, ◌<◌, ◌≤◌, ◌++◌, length, map, slice_range, slice_index_or};
 ghost use Rattle.std.specs.List.{AllWithin};

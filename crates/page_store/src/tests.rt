@@ -174,6 +174,34 @@ fn assert_next<P: PageStore>(
     assert_eq!(rt; store.next_held(v, from), page);
 }
 
+/// Makes a page zero.
+fn zero<P: PageStore>(rt: &impl Abort, store: &mut P, v: Koid, page: PageNo) -> Result<(), Fail>
+    requires good { IsGood (P.content store.old) }
+    requires page { page < pages_of (P.content store.old) v.0 }
+    ensures good { OnOk result (IsGood (P.content store.new)) }
+    ensures next { OnOk result ((P.content store.new).next ≡ (P.content store.old).next) }
+    ensures pages { OnOk result ((w : ℕ) → pages_of (P.content store.new) w ≡ pages_of (P.content store.old) w) }
+{
+    store.reserve(1)?;
+    store.zero(v, page);
+    assert_eq!(rt; store.look(v, page), Look::Zero);
+    Ok(())
+}
+
+/// Lets a VMO have another number of pages.
+fn set_count<P: PageStore>(rt: &impl Abort, store: &mut P, v: Koid, count: PageNo)
+    requires good { IsGood (P.content store.old) }
+    requires vmo { 0 < pages_of (P.content store.old) v.0 }
+    requires count { count ≤ 16777216 }
+    ensures good { IsGood (P.content store.new) }
+    ensures next { (P.content store.new).next ≡ (P.content store.old).next }
+    ensures pages { pages_of (P.content store.new) v.0 ≡ count }
+    ensures kept { (w : ℕ) → w ≢ v.0 → pages_of (P.content store.new) w ≡ pages_of (P.content store.old) w }
+{
+    store.set_count(v, count);
+    assert_eq!(rt; store.count(v), count);
+}
+
 /// Takes a VMO out of the store.
 fn drop_vmo<P: PageStore>(store: &mut P, v: Koid)
     requires good { IsGood (P.content store.old) }
@@ -309,6 +337,74 @@ fn copies_on_write<P: PageStore>(rt: &impl Abort, store: &mut P) -> Result<(), F
 #[test]
 fn a_write_copies_a_shared_page(rt: HostRuntime) -> Result<(), Fail> {
     copies_on_write(&rt, &mut FlatStore::new(rt.alloc()))
+}
+
+/// Makes the page zero that has the one frame: the frame is free, and shows zeros where it is taken again.
+fn zeroes<P: PageStore>(rt: &impl Abort, store: &mut P) -> Result<(), Fail>
+    requires { P.content store.old ≡ nothing }
+{
+    fill(store, 1)?;
+    let v = create(store, 2)?;
+    let tag = writes_one(rt, store, v, 1)?;
+    zero(rt, store, v, 1)?;
+    assert_eq!(rt; store.free(), 1);
+    assert_eq!(rt; writes_one(rt, store, v, 1)?, tag);
+    zero(rt, store, v, 0)?;
+    assert_eq!(rt; store.free(), 0);
+    Ok(())
+}
+
+#[test]
+fn a_page_that_is_zeroed_gives_its_frame_back(rt: HostRuntime) -> Result<(), Fail> {
+    zeroes(&rt, &mut FlatStore::new(rt.alloc()))
+}
+
+/// Makes a page zero that a snapshot shows too: the snapshot keeps the page and its frame.
+fn zeroes_a_shared_page<P: PageStore>(rt: &impl Abort, store: &mut P) -> Result<(), Fail>
+    requires { P.content store.old ≡ nothing }
+{
+    fill(store, 1)?;
+    let parent = create(store, 1)?;
+    let tag = writes_one(rt, store, parent, 0)?;
+    let child = snapshot(rt, store, parent, 0, 1, 1)?;
+    zero(rt, store, parent, 0)?;
+    assert_shown(rt, store, child, tag, 1, child)?;
+    assert_bytes(rt, store, child, 0, [0, 1, 2, 0])?;
+    assert_eq!(rt; store.free(), 0);
+    Ok(())
+}
+
+#[test]
+fn a_shared_page_is_zeroed_for_one_vmo(rt: HostRuntime) -> Result<(), Fail> {
+    zeroes_a_shared_page(&rt, &mut FlatStore::new(rt.alloc()))
+}
+
+/// Shrinks a VMO and lets it grow again: its pages past the end are zero then. A snapshot of it keeps
+/// the page that it shows, and the frame of the other is free.
+fn shrinks_and_grows<P: PageStore>(rt: &impl Abort, store: &mut P) -> Result<(), Fail>
+    requires { P.content store.old ≡ nothing }
+{
+    fill(store, 3)?;
+    let parent = create(store, 3)?;
+    writes_one(rt, store, parent, 0)?;
+    let shared = writes_one(rt, store, parent, 2)?;
+    let child = snapshot(rt, store, parent, 2, 1, 1)?;
+    writes_one(rt, store, parent, 1)?;
+    set_count(rt, store, parent, 1);
+    assert_eq!(rt; store.free(), 1);
+    set_count(rt, store, parent, 3);
+    assert_eq!(rt; store.free(), 1);
+    assert_bytes(rt, store, parent, 0, [0, 1, 2, 0])?;
+    assert_eq!(rt; store.look(parent, 1), Look::Zero);
+    assert_eq!(rt; store.look(parent, 2), Look::Zero);
+    assert_shown(rt, store, child, shared, 1, child)?;
+    assert_bytes(rt, store, child, 0, [0, 1, 2, 0])?;
+    Ok(())
+}
+
+#[test]
+fn a_vmo_that_shrank_and_grew_shows_zeros(rt: HostRuntime) -> Result<(), Fail> {
+    shrinks_and_grows(&rt, &mut FlatStore::new(rt.alloc()))
 }
 
 /// Makes snapshots that are longer than what they see.

@@ -10,7 +10,7 @@ use Rattle.vm_model.specs.State.{State, is_open}
 use Rattle.vm_model.specs.Attribution.{info_at}
 use Rattle.vm_model.specs.Step.{Step}
 use Rattle.vm_model.proofs.NamesLaws.{target_of-at}
-use Rattle.vm_core.proofs.StepRows.{first_of-skip, Step-done, open_at}
+use Rattle.vmo_ops.proofs.StepRows.{first_of-skip, Step-done, open_at}
 
 -- what is told by the name's target is answered
 pub info_done : (s : State) (name : VmoName) (target : Name) (info : Info) → s.names name.0 ≡ Some target → info ≡ info_at s target → Step s (VmoInfo name) (InfoReply info) s

@@ -1,10 +1,5 @@
-pub mod NamesLaws
-pub mod LookLaws
-pub mod StepRows
-pub mod SizeLaws
-pub mod ReadLaws
-pub mod WriteLaws
-pub mod CreateLaws
-pub mod CloseLaws
-pub mod AliasLaws
-pub mod InfoLaws
+mod NamesLaws
+mod InfoLaws
+mod SizeLaws
+mod ReplyLaws
+mod StartLaws

@@ -3,7 +3,6 @@ use Rattle.std.proofs.Common.{◌≡◌, ℕ, Bool, Option, None, Some, sym, ap,
 use Rattle.std.specs.Prelude.{is_some}
 use Rattle.std.specs.Option.{option_map}
 use Rattle.vm_model.specs.Content.{Content, nothing}
-use Rattle.vm_model.specs.Maps.{with_key}
 use Rattle.vm_model.specs.Names.{Name}
 use Rattle.vm_model.specs.State.{empty_state}
 use Rattle.vmo_table.specs.declared.target.Target.{Target}
@@ -15,10 +14,6 @@ use Rattle.vm_core.specs.Vm.{state_of}
 pub open_from : (o : Option Target) (found : Option Name) (b : Bool) → option_map name_of o ≡ found → is_some o ≡ b → is_some found ≡ b
 open_from None found b e h = ap is_some (sym e) ∙ h
 open_from (Some target) found b e h = ap is_some (sym e) ∙ h
-
--- a key was given a value, in a map that was as before
-pub entered : {A : Type 0} (old mid new : ℕ → Option A) (k : ℕ) (a : A) → mid ≡ old → new ≡ with_key mid k a → new ≡ with_key old k a
-entered {A} old mid new k a same e = e ∙ ap (λ (map : ℕ → Option A). with_key map k a) same
 
 -- a machine with page frames and no names
 pub state_of-empty : (c : Content) (vm : Vm) (frames : ℕ) → c ≡ record nothing { frames = frames } → ((name : ℕ) → names_of vm.vmos name ≡ None) → ((v : ℕ) → lineage_in vm.vmos v ≡ None) → state_of c vm ≡ empty_state frames

@@ -8,7 +8,7 @@ use Rattle.vm_model.specs.declared.reply.Reply.TheVariants.{Number}
 use Rattle.vm_model.specs.Names.{Name}
 use Rattle.vm_model.specs.State.{State, is_open, name_pages}
 use Rattle.vm_model.specs.Step.{Step}
-use Rattle.vm_core.proofs.StepRows.{first_of-skip, Step-done, open_at, size_of-at}
+use Rattle.vmo_ops.proofs.StepRows.{first_of-skip, Step-done, open_at, size_of-at}
 
 -- the size of what the name stands for is answered
 pub size_done : (s : State) (name : VmoName) (target : Name) (size : ℕ) → s.names name.0 ≡ Some target → size ≡ name_pages s.content target * PAGE → Step s (VmoSize name) (Number size) s

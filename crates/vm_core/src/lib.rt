@@ -1,22 +1,15 @@
-//! The machine: its names, and what each command does to a store of pages.
+//! The machine: its names, and one step for each command.
 //!
-//! It stands on `page_store`, whose trait it is generic over, on `vmo_table` for names and lineage,
-//! on `attribution` for what a VMO holds, and on the words of `vm_model`, whose step relation is its
-//! contract. The layers above make a `Vm` by `Vm::new`, give it commands by `Vm::step`, and know of it
-//! the state that it stands for over a store.
+//! It stands on `vmo_ops` for what commands do to VMOs, on `vmo_table` for names and lineage, on
+//! `attribution` for what a VMO holds, and on `page_store`, whose trait it is generic over. Its contract
+//! is the step relation of `vm_model`. The layers above make a `Vm` by `Vm::new`, give it commands by
+//! `Vm::step`, and know of it the state that it stands for over a store.
 #![tactic(auto)]
 
-mod alias;
-mod child;
-mod close;
-mod create;
-mod info;
-mod owning;
-mod range;
-mod read;
-mod size;
+mod asking;
+mod changing;
+mod naming;
 mod vm;
-mod write;
 
 pub use vm::Vm;
 

@@ -285,6 +285,66 @@ fn keeps_koids<P: PageStore>(rt: &impl Abort, vm: &mut Vm, store: &mut P) -> Res
     Ok(())
 }
 
+// On a machine with two frames and nothing else.
+fn changes_ranges<P: PageStore>(rt: &impl Abort, vm: &mut Vm, store: &mut P)
+    requires good { IsGoodState (state_of (P.content store.old) vm.old) }
+    requires next { (P.content store.old).next < 1000 }
+{
+    let counts = Stat {
+        frames: 2,
+        used: 1,
+        free: 1,
+        vmos: 1,
+    };
+    let name = VmoName(1);
+    let made = Command::VmoCreate {
+        name,
+        size: 8192,
+        resizable: true,
+    };
+    let filled = Command::VmoFill {
+        name,
+        offset: 4095,
+        len: 2,
+        byte: 7,
+    };
+    let zeroed = Command::VmoZero {
+        name,
+        offset: 1,
+        len: 4095,
+    };
+    let committed = Command::VmoCommit {
+        name,
+        offset: 0,
+        len: 8192,
+    };
+    let given_back = Command::VmoDecommit {
+        name,
+        offset: 0,
+        len: 4096,
+    };
+    let grown = Command::VmoSetSize { name, size: 8193 };
+    assert!(rt; is_done(&vm.step(store, &made)));
+    assert!(rt; is_done(&vm.step(store, &filled)));
+    assert!(rt; has_bytes(&vm.step(store, &read(1, 4094, 4)), &[0, 7, 7, 0]));
+    assert!(rt; is_done(&vm.step(store, &zeroed)));
+    assert!(rt; has_bytes(&vm.step(store, &read(1, 4094, 4)), &[0, 0, 7, 0]));
+    assert!(rt; is_done(&vm.step(store, &committed)));
+    assert!(rt; is_done(&vm.step(store, &given_back)));
+    assert!(rt; has_counts(&vm.step(store, &Command::Stat), counts));
+    assert!(rt; is_done(&vm.step(store, &grown)));
+    assert!(rt; is_number(&vm.step(store, &size(1)), 12288));
+}
+
+#[test]
+fn ranges_change_over_a_flat_store(rt: HostRuntime) -> Result<(), Fail> {
+    let mut vm = Vm::new(rt.alloc());
+    let mut store = FlatStore::new(rt.alloc());
+    store.fill(2)?;
+    changes_ranges(&rt, &mut vm, &mut store);
+    Ok(())
+}
+
 #[test]
 fn steps_over_a_flat_store(rt: HostRuntime) -> Result<(), Fail> {
     let mut vm = Vm::new(rt.alloc());

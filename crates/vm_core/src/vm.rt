@@ -2,18 +2,13 @@
 
 ghost use Rattle.std.specs.Prelude.{◌≡◌, ℕ, ◌+◌, ◌<◌, ◌≤◌, ◌^◌, None};
 
-use crate::alias::{vmo_reference, vmo_slice};
-use crate::child::vmo_snapshot;
-use crate::close::vmo_close;
-use crate::create::vmo_create;
-use crate::info::vmo_info;
-use crate::read::vmo_read;
-use crate::size::vmo_size;
-use crate::write::vmo_write;
+use crate::asking::{vmo_info, vmo_read, vmo_size};
+use crate::changing::{vmo_commit, vmo_decommit, vmo_fill, vmo_set_size, vmo_write, vmo_zero};
+use crate::naming::{vmo_close, vmo_create, vmo_create_child};
 use attribution::stat;
 use page_store::PageStore;
 use std::alloc::Global;
-use vm_model::{ChildKind, Command, Reply};
+use vm_model::{Command, Reply};
 use vmo_table::VmoTable;
 
 /// The names and VMOs of the machine, over a store of pages. One `step` is one event.
@@ -58,35 +53,13 @@ impl Vm {
             Command::VmoChild {
                 name,
                 parent,
-                kind: ChildKind::Snapshot,
+                kind,
                 offset,
                 size,
                 resizable,
                 no_write,
-            } => vmo_snapshot(
-                self, store, *name, *parent, *offset, *size, *resizable, *no_write,
-            ),
-            Command::VmoChild {
-                name,
-                parent,
-                kind: ChildKind::Slice,
-                offset,
-                size,
-                resizable,
-                no_write,
-            } => vmo_slice(
-                self, store, *name, *parent, *offset, *size, *resizable, *no_write,
-            ),
-            Command::VmoChild {
-                name,
-                parent,
-                kind: ChildKind::Reference,
-                offset,
-                size,
-                resizable,
-                no_write,
-            } => vmo_reference(
-                self, store, *name, *parent, *offset, *size, *resizable, *no_write,
+            } => vmo_create_child(
+                self, store, *name, *parent, *kind, *offset, *size, *resizable, *no_write,
             ),
             Command::VmoClose { name } => vmo_close(self, store, *name),
             Command::VmoRead { name, offset, len } => vmo_read(self, store, *name, *offset, *len),
@@ -95,6 +68,20 @@ impl Vm {
                 offset,
                 bytes,
             } => vmo_write(self, store, *name, *offset, bytes.as_slice()),
+            Command::VmoFill {
+                name,
+                offset,
+                len,
+                byte,
+            } => vmo_fill(self, store, *name, *offset, *len, *byte),
+            Command::VmoCommit { name, offset, len } => {
+                vmo_commit(self, store, *name, *offset, *len)
+            }
+            Command::VmoZero { name, offset, len } => vmo_zero(self, store, *name, *offset, *len),
+            Command::VmoDecommit { name, offset, len } => {
+                vmo_decommit(self, store, *name, *offset, *len)
+            }
+            Command::VmoSetSize { name, size } => vmo_set_size(self, store, *name, *size),
             Command::VmoSize { name } => vmo_size(self, store, *name),
             Command::VmoInfo { name } => vmo_info(self, store, *name),
             Command::Stat => Reply::Stat(stat(store)),

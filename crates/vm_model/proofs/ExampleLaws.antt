@@ -176,7 +176,7 @@ pub record IsWritten (s : State) : Type 0 where
 
 IsWritten-from_effect : (reply : Reply) (s : State) → Effect made write reply s → IsWritten s
 IsWritten-from_effect reply s effect =
-    let whole : Writes made.content 1 (pieces 4094 marks) s.content = subst (λ (t : Name). Writes made.content t.koid (pieces (t.first * PAGE + 4094) marks) s.content) made-target effect.3 in
+    let whole : Writes made.content 1 (pieces 4094 marks) s.content = subst (λ (t : Name). Writes made.content t.koid (pieces (t.first * PAGE + 4094) marks) s.content) made-target effect.2 in
     let w : Writes made.content 1 (part ∷ []) s.content = subst (λ (ps : List Piece). Writes made.content 1 ps s.content) write-pieces whole in
     let piece_ : WritesPiece made.content 1 part w.0 = w.1 in
     let below : 0 < pages_of made.content 1 = omega (arith, made-pages) in
@@ -189,7 +189,7 @@ IsWritten-from_effect reply s effect =
     let inside : 4094 + 2 ≤ pages_of made.content 1 * PAGE = omega (arith, made-pages) in
     let kept = Writes-keeps_all 1 4094 marks made.content s.content made-good inside whole in
     record {
-      names = effect.1;
+      names = ap (λ (t : State). t.names) effect.1;
       pages = kept.pages 1 ∙ made-pages;
       first = ap (λ (c : Content). shown c 1 0) is ∙ (bytes_of-some ((hold piece_.owned 1 0 page).page 1 0) page (page-hold_here piece_.owned 1 0 page) ∙ ap (λ (xs : List ℕ). replaced xs 4094 marks) was);
       second = ap (λ (c : Content). shown c 1 1) is ∙ bytes_of-none ((hold piece_.owned 1 0 page).page 1 1) (page-hold_other_page piece_.owned 1 0 page 1 1 other ∙ (owned.other_page 1 other ∙ made-page 1 1));
@@ -290,7 +290,7 @@ write_effect =
     } in
     let w : Writes made.content 1 (part ∷ []) written.content = (written.content, record { tag = 0; owned = owned; owns = owns; bytes = refl }, refl) in
     let whole : Writes made.content 1 (pieces 4094 marks) written.content = subst (λ (ps : List Piece). Writes made.content 1 ps written.content) (sym write-pieces) w in
-    (refl, refl, refl, subst (λ (t : Name). Writes made.content t.koid (pieces (t.first * PAGE + 4094) marks) written.content) (sym made-target) whole)
+    (refl, refl, subst (λ (t : Name). Writes made.content t.koid (pieces (t.first * PAGE + 4094) marks) written.content) (sym made-target) whole)
 
 abbrev outcome : List Reply
 outcome = Done ∷ Done ∷ Bytes (bytes_in written.content (koid_of written 1) (place_of written 1 4093) 5) ∷ []

@@ -2,12 +2,16 @@ pub mod SearchLaws
 pub mod ContentLaws
 pub mod OwningLaws
 pub mod SharingLaws
+pub mod ZeroingLaws
 pub mod RangeLaws
 pub mod WritingLaws
+pub mod CommitLaws
+pub mod ZeroesLaws
 pub mod MapLaws
 pub mod NamesLaws
 pub mod AliasLaws
 pub mod AttributionLaws
+pub mod PinLaws
 pub mod LeavingLaws
 pub mod StepLaws
 pub mod RunLaws

@@ -1,10 +1,11 @@
 -- Laws of owning pages: what stays, how many frames it takes, and that contents stay good.
-use Rattle.std.proofs.Common.{◌≡◌, ◌≢◌, ℕ, zero, suc, ◌+◌, ◌-◌, ◌<◌, ◌≤◌, Bool, true, false, not, cond, ◌||◌, length, Option, None, Some, refl, sym, ap, subst, ◌∙◌, inl, inr, arith}
-use Rattle.std.specs.List.{range_with_len, list_any}
-use Rattle.std.proofs.lemmas.Bool.{cases_Bool}
+use Rattle.std.proofs.Common.{◌≡◌, ◌≢◌, ℕ, zero, suc, ◌+◌, ◌-◌, ◌<◌, ◌≤◌, Bool, true, false, not, cond, ◌&&◌, List, ◌∷◌, length, Option, None, Some, refl, sym, ap, subst, ◌∙◌, inl, inr, arith}
+use Rattle.std.specs.List.{range_with_len, list_any, filter}
+use Rattle.std.proofs.lemmas.Bool.{cases_Bool, or_left, or_right}
 use Rattle.vm_base.specs.declared.pages.TheConstants.{PAGE}
 use Rattle.vm_model.specs.Content.{Page, Content, shown, pages_of, used, sole, hold, IsGood}
 use Rattle.vm_model.specs.Owning.{Owns, need_from, need}
+use Rattle.vm_model.proofs.SearchLaws.{bit_le, bit_same, bit-false}
 use Rattle.vm_model.proofs.ContentLaws.{frames-hold, next-hold, count-hold, pages_of-hold, page-hold_here, page-hold_other_page, page-hold_other_vmo, sole_held, sole-hold_new, sole-hold_elsewhere, IsGood-hold_new, used-hold_new, bytes_of-some, bytes_of-none, length-zeros}
 
 -- the bytes that a page of a good content shows are a page
@@ -69,60 +70,152 @@ Owned-from_Owns old new v p tag good h owns = elim (cases_Bool (sole old v p)) [
       })
 ]
 
+-- ---- counting pages in a row
+
+-- how many of n pages from one on pass
+unfoldable pub count_from : (ℕ → Bool) → ℕ → ℕ → ℕ
+count_from test first zero = 0
+count_from test first (suc n) = cond (test first) 1 0 + count_from test (first + 1) n
+
+-- tests that agree on those pages count alike
+pub count_from-same : (f g : ℕ → Bool) (first n : ℕ) → ((p : ℕ) → first ≤ p → p < first + n → f p ≡ g p) → count_from f first n ≡ count_from g first n
+unfolding count_from
+count_from-same f g first zero each = refl
+count_from-same f g first (suc n) each =
+    omega (arith, bit_same (f first) (g first) (each first (omega arith) (omega arith)), count_from-same f g (first + 1) n (λ p h less. each p (omega arith) (omega arith)))
+
+-- no more pass than there are pages
+pub count_from_le : (test : ℕ → Bool) (first n : ℕ) → count_from test first n ≤ n
+unfolding count_from
+count_from_le test first zero = omega arith
+count_from_le test first (suc n) = omega (arith, bit_le (test first), count_from_le test (first + 1) n)
+
+-- the first page counted, and the rest
+pub count_from-next : (test : ℕ → Bool) (p end : ℕ) → p < end → count_from test p (end - p) ≡ cond (test p) 1 0 + count_from test (p + 1) (end - (p + 1))
+unfolding count_from
+count_from-next test p end h = let e : end - p ≡ suc (end - (p + 1)) = omega arith in ap (count_from test p) e
+
+-- at the end none is left
+pub count_from-end : (test : ℕ → Bool) (p : ℕ) → count_from test p (p - p) ≡ 0
+unfolding count_from
+count_from-end test p = let e : p - p ≡ 0 = omega arith in ap (count_from test p) e
+
+-- where no page passes, none counts
+pub count_from-none : (test : ℕ → Bool) (first n : ℕ) → ((p : ℕ) → first ≤ p → p < first + n → test p ≡ false) → count_from test first n ≡ 0
+unfolding count_from
+count_from-none test first zero none = refl
+count_from-none test first (suc n) none =
+    omega (arith, bit-false (test first) (none first (omega arith) (omega arith)), count_from-none test (first + 1) n (λ p h less. none p (omega arith) (omega arith)))
+
+-- two rows, one behind the other
+pub count_from-append : (test : ℕ → Bool) (first n m : ℕ) → count_from test first (n + m) ≡ count_from test first n + count_from test (first + n) m
+unfolding count_from
+count_from-append test first zero m =
+    let e : zero + m ≡ m = omega arith in
+    let f : count_from test first m ≡ count_from test (first + zero) m = let same : first ≡ first + zero = omega arith in ap (λ (q : ℕ). count_from test q m) same in
+    ap (count_from test first) e ∙ omega (arith, f)
+count_from-append test first (suc n) m =
+    let e : suc n + m ≡ suc (n + m) = omega arith in
+    let f : (first + 1) + n ≡ first + suc n = omega arith in
+    let rest = count_from-append test (first + 1) n m in
+    let place : count_from test ((first + 1) + n) m ≡ count_from test (first + suc n) m = ap (λ (q : ℕ). count_from test q m) f in
+    ap (count_from test first) e ∙ omega (arith, rest, place)
+
+-- a row cut in two
+pub count_from-split : (test : ℕ → Bool) (first mid end : ℕ) → first ≤ mid → mid ≤ end → count_from test first (end - first) ≡ count_from test first (mid - first) + count_from test mid (end - mid)
+count_from-split test first mid end h less =
+    let e : end - first ≡ (mid - first) + (end - mid) = omega arith in
+    let f : first + (mid - first) ≡ mid = omega arith in
+    ap (count_from test first) e
+    ∙ (count_from-append test first (mid - first) (end - mid) ∙ ap (λ (q : ℕ). count_from test first (mid - first) + count_from test q (end - mid)) f)
+
+-- where one counts, some page passes
+pub count_from-any : (test : ℕ → Bool) (first n : ℕ) → 0 < count_from test first n → list_any test (range_with_len first n) ≡ true
+unfolding count_from
+count_from-any test first zero h = absurd (omega arith)
+count_from-any test first (suc n) h = elim (cases_Bool (test first)) [
+  | inl hit ↦ or_left (test first) (list_any test (range_with_len (first + 1) n)) hit
+  | inr miss ↦
+      or_right (test first) (list_any test (range_with_len (first + 1) n)) (count_from-any test (first + 1) n (omega (arith, h, bit-false (test first) miss)))
+]
+
+-- the pages that pass and those that do not
+pub count_from-not : (test : ℕ → Bool) (first n : ℕ) → count_from (λ p. not (test p)) first n + count_from test first n ≡ n
+unfolding count_from
+count_from-not test first zero = refl
+count_from-not test first (suc n) = omega (arith, bits (test first), count_from-not test (first + 1) n) where
+  bits : (b : Bool) → ◌≡◌ {A = ℕ} (cond (not b) 1 0 + cond b 1 0) 1
+  bits true = refl
+  bits false = refl
+
 -- ---- need
 
 -- how many of n pages from one on are not sole
 unfoldable pub unowned : Content → ℕ → ℕ → ℕ → ℕ
-unowned c v first zero = 0
-unowned c v first (suc n) = cond (sole c v first) 0 1 + unowned c v (first + 1) n
+unowned c v first n = count_from (λ p. not (sole c v p)) first n
+
+pub unowned-count : (c : Content) (v first n : ℕ) → unowned c v first n ≡ count_from (λ p. not (sole c v p)) first n
+unfolding unowned
+unowned-count c v first n = refl
 
 -- it looks at those pages alone
 pub unowned-same : (c d : Content) (v first n : ℕ) → ((p : ℕ) → first ≤ p → sole c v p ≡ sole d v p) → unowned c v first n ≡ unowned d v first n
 unfolding unowned
-unowned-same c d v first zero each = refl
-unowned-same c d v first (suc n) each =
-    let here : ◌≡◌ {A = ℕ} (cond (sole c v first) 0 1) (cond (sole d v first) 0 1) = ap (λ (b : Bool). cond {A = ℕ} b 0 1) (each first (omega arith)) in
-    let rest = unowned-same c d v (first + 1) n (λ p h. each p (omega arith)) in
-    omega (arith, here, rest)
+unowned-same c d v first n each = count_from-same (λ p. not (sole c v p)) (λ p. not (sole d v p)) first n (λ p h less. ap not (each p h))
 
 pub unowned_le : (c : Content) (v first n : ℕ) → unowned c v first n ≤ n
 unfolding unowned
-unowned_le c v first zero = omega arith
-unowned_le c v first (suc n) = go (sole c v first) (unowned_le c v (first + 1) n) where
-  go : (b : Bool) → unowned c v (first + 1) n ≤ n → cond b 0 1 + unowned c v (first + 1) n ≤ suc n
-  go true h = omega arith
-  go false h = omega arith
+unowned_le c v first n = count_from_le (λ p. not (sole c v p)) first n
 
 -- the first page counted, and the rest
 pub unowned-next : (c : Content) (v p end : ℕ) → p < end → unowned c v p (end - p) ≡ cond (sole c v p) 0 1 + unowned c v (p + 1) (end - (p + 1))
 unfolding unowned
-unowned-next c v p end h = let e : end - p ≡ suc (end - (p + 1)) = omega arith in ap (unowned c v p) e
+unowned-next c v p end h = omega (arith, bits (sole c v p), count_from-next (λ q. not (sole c v q)) p end h) where
+  bits : (b : Bool) → ◌≡◌ {A = ℕ} (cond (not b) 1 0) (cond b 0 1)
+  bits true = refl
+  bits false = refl
 
 pub unowned-end : (c : Content) (v p : ℕ) → unowned c v p (p - p) ≡ 0
 unfolding unowned
-unowned-end c v p = let e : p - p ≡ 0 = omega arith in ap (unowned c v p) e
+unowned-end c v p = count_from-end (λ q. not (sole c v q)) p
+
+-- a page is sole or counted
+pub unowned-sole : (c : Content) (v first n : ℕ) → unowned c v first n + count_from (sole c v) first n ≡ n
+unfolding unowned
+unowned-sole c v first n = count_from-not (sole c v) first n
+
+-- the need of those pages in a row that pass is the number of them that are not sole
+pub need_from-filter : (fresh : ℕ) (c : Content) (v first n : ℕ) (test : ℕ → Bool) → need_from fresh c v (filter test (range_with_len first n)) ≡ count_from (λ p. test p && not (sole c v p)) first n
+unfolding need_from count_from
+need_from-filter fresh c v first zero test = refl
+need_from-filter fresh c v first (suc n) test =
+    let page : Page = record { tag = fresh; bytes = shown c v first } in
+    let kept : count_from (λ p. test p && not (sole (hold c v first page) v p)) (first + 1) n ≡ count_from (λ p. test p && not (sole c v p)) (first + 1) n =
+    count_from-same (λ p. test p && not (sole (hold c v first page) v p)) (λ p. test p && not (sole c v p)) (first + 1) n
+    (λ p h less. let apart : p ≢ first = omega arith in ap (λ (b : Bool). test p && not b) (sole-hold_elsewhere c v first p page apart)) in
+    one (test first) (filter test (range_with_len (first + 1) n)) _ (need_from-filter fresh c v (first + 1) n test)
+    (need_from-filter (fresh + 1) (hold c v first page) v (first + 1) n test ∙ kept) where
+      bits : (alone : Bool) (x y z : ℕ) → x ≡ z → y ≡ z → cond alone x (suc y) ≡ cond (not alone) 1 0 + z
+      bits true x y z e f = omega (arith, e)
+      bits false x y z e f = omega (arith, f)
+
+      one : (pass : Bool) (ps : List ℕ) (z : ℕ) → need_from fresh c v ps ≡ z → need_from (fresh + 1) (hold c v first (record { tag = fresh; bytes = shown c v first })) v ps ≡ z
+          → need_from fresh c v (cond pass (first ∷ ps) ps) ≡ cond (pass && not (sole c v first)) 1 0 + z
+      one true ps z stays comes = bits (sole c v first) _ _ z stays comes
+      one false ps z stays comes = omega (arith, stays)
+
+pub need-filter : (c : Content) (v first n : ℕ) (test : ℕ → Bool) → need c v (filter test (range_with_len first n)) ≡ count_from (λ p. test p && not (sole c v p)) first n
+need-filter c v first n test = need_from-filter c.frames c v first n test
 
 -- the need of pages in a row is the number of them that are not sole
-pub need_from-row : (fresh : ℕ) (c : Content) (v first n : ℕ) → need_from fresh c v (range_with_len first n) ≡ unowned c v first n
-unfolding need_from unowned
-need_from-row fresh c v first zero = refl
-need_from-row fresh c v first (suc n) =
-    let page : Page = record { tag = fresh; bytes = shown c v first } in
-    let kept : unowned (hold c v first page) v (first + 1) n ≡ unowned c v (first + 1) n =
-    unowned-same (hold c v first page) c v (first + 1) n (λ p h. let apart : p ≢ first = omega arith in sole-hold_elsewhere c v first p page apart) in
-    go (sole c v first) _ _ _ (need_from-row fresh c v (first + 1) n) (need_from-row (fresh + 1) (hold c v first page) v (first + 1) n ∙ kept) where
-      go : (b : Bool) (x y z : ℕ) → x ≡ z → y ≡ z → cond b x (suc y) ≡ cond b 0 1 + z
-      go true x y z e f = omega (arith, e)
-      go false x y z e f = omega (arith, f)
-
 pub need-row : (c : Content) (v first n : ℕ) → need c v (range_with_len first n) ≡ unowned c v first n
-need-row c v first n = need_from-row c.frames c v first n
+unfolding unowned
+need-row c v first n = sym (ap (need c v) (filter_all first n)) ∙ need-filter c v first n (λ p. true) where
+  filter_all : (a m : ℕ) → filter (λ p. true) (range_with_len a m) ≡ range_with_len a m
+  filter_all a zero = refl
+  filter_all a (suc m) = ap (λ (ps : List ℕ). a ∷ ps) (filter_all (a + 1) m)
 
 -- some page in a row is not sole where one is counted
 pub unowned-any : (c : Content) (v first n : ℕ) → 0 < unowned c v first n → list_any (λ p. not (sole c v p)) (range_with_len first n) ≡ true
 unfolding unowned
-unowned-any c v first zero h = absurd (omega arith)
-unowned-any c v first (suc n) h = go (sole c v first) (unowned-any c v (first + 1) n) h where
-  go : (b : Bool) → (0 < unowned c v (first + 1) n → list_any (λ p. not (sole c v p)) (range_with_len (first + 1) n) ≡ true) → 0 < cond b 0 1 + unowned c v (first + 1) n → (not b || list_any (λ p. not (sole c v p)) (range_with_len (first + 1) n)) ≡ true
-  go true rest l = rest (omega (arith, l))
-  go false rest l = refl
+unowned-any c v first n h = count_from-any (λ p. not (sole c v p)) first n h

@@ -1,31 +1,37 @@
 -- Laws of the step: a good state stays good.
-use Rattle.std.proofs.Common.{◌≡◌, ◌≢◌, ℕ, ◌+◌, ◌-◌, ◌*◌, ◌/◌, ◌%◌, ◌<◌, ◌≤◌, ◌==◌, Bool, true, false, not, cond, ◌&&◌, ◌||◌, List, [], ◌∷◌, length, Option, None, Some, refl, sym, ap, subst, ◌∙◌, inl, inr, arith}
+use Rattle.std.proofs.Common.{◌≡◌, ◌≢◌, ℕ, ◌+◌, ◌-◌, ◌*◌, ◌/◌, ◌%◌, ◌<◌, ◌≤◌, ◌==◌, Bool, true, false, not, cond, ◌&&◌, ◌||◌, List, [], ◌∷◌, length, replicate, Option, None, Some, refl, sym, ap, subst, ◌∙◌, inl, inr, arith}
 use Rattle.std.specs.Prelude.{nat_lt, unwrap_or, IsSome, is_some}
 use Rattle.std.proofs.lemmas.Bool.{cases_eq, ltb-false, not-false, and_cases, or_parts, both_ways}
+use Rattle.std.proofs.lemmas.List.{length-replicate}
 use Rattle.std.proofs.Math.Nat.{min-le_left, min-le_right}
 use Rattle.vm_base.specs.Pages.{rounded}
 use Rattle.vm_base.specs.declared.pages.TheConstants.{PAGE, VMO_PAGES}
 use Rattle.vm_base.specs.declared.refusal.Refusal.{Refusal}
-use Rattle.vm_base.specs.declared.refusal.Refusal.TheVariants.{BadHandle, NameInUse, AccessDenied, InvalidArgs, NotSupported, OutOfRange, NoMemory}
+use Rattle.vm_base.specs.declared.refusal.Refusal.TheVariants.{BadHandle, NameInUse, AccessDenied, InvalidArgs, NotSupported, Unavailable, OutOfRange, NoMemory}
 use Rattle.vm_model.specs.declared.command.Command.{Command}
-use Rattle.vm_model.specs.declared.command.Command.TheVariants.{VmoCreate, VmoChild, VmoClose, VmoRead, VmoWrite}
+use Rattle.vm_model.specs.declared.command.Command.TheVariants.{VmoCreate, VmoChild, VmoClose, VmoSetSize, VmoRead, VmoWrite, VmoFill, VmoCommit, VmoDecommit, VmoZero}
 use Rattle.vm_model.specs.declared.command.ChildKind.TheVariants.{Snapshot as SnapshotChild, Slice as SliceChild, Reference as ReferenceChild}
 use Rattle.vm_model.specs.declared.names.NameKind.TheVariants.{Slice}
 use Rattle.vm_model.specs.declared.names.Origin.TheVariants.{Created, Snapshot}
 use Rattle.vm_model.specs.declared.reply.Reply.{Reply}
 use Rattle.vm_model.specs.Content.{Content, nothing, created, pages_of, IsGood}
+use Rattle.vm_model.specs.Owning.{OwnsAll}
 use Rattle.vm_model.specs.Sharing.{snapshotted}
 use Rattle.vm_model.specs.Writing.{touched, pieces, Writes}
+use Rattle.vm_model.specs.Zeroing.{zeroed, resized, Zeroes, owned_by_zero}
 use Rattle.vm_model.specs.Maps.{with_key}
 use Rattle.vm_model.specs.Names.{Name, Lineage, NAMES, owner, is_named, is_kind}
 use Rattle.vm_model.specs.State.{State, empty_state, is_open, is_live, target_of, koid_of, name_pages, size_of, place_of, lineage_of, IsGoodName, IsGoodState}
 use Rattle.vm_model.specs.Leaving.{pruned}
-use Rattle.vm_model.specs.Refusals.{lacks_frames, refusals, first_of}
+use Rattle.vm_model.specs.Refusals.{lacks_frames, change_refusals, refusals, first_of}
 use Rattle.vm_model.specs.Spelling.{HasRanges}
-use Rattle.vm_model.specs.Step.{with_vmo, seen_pages, with_snapshot, slice_of, reference_of, with_alias, Effect, StepAfter, Step}
+use Rattle.vm_model.specs.Step.{with_vmo, seen_pages, with_snapshot, slice_of, reference_of, with_alias, ChangesContent, Effect, StepAfter, Step}
 use Rattle.vm_model.proofs.ContentLaws.{count-created_new, count-created_other, next-created, frames-created, IsGood-created, IsGood-nothing}
 use Rattle.vm_model.proofs.SharingLaws.{count-snapshotted_new, count-snapshotted_other, next-snapshotted, frames-snapshotted, IsGood-snapshotted, koid_some}
+use Rattle.vm_model.proofs.ZeroingLaws.{frames-resized, next-resized, count-resized_here, count-resized_other, IsGood-resized}
 use Rattle.vm_model.proofs.WritingLaws.{IsKept, Writes-keeps_all}
+use Rattle.vm_model.proofs.CommitLaws.{OwnsAll-keeps_all}
+use Rattle.vm_model.proofs.ZeroesLaws.{zeroed-keeps, Zeroes-keeps_all}
 use Rattle.vm_model.proofs.MapLaws.{with_key-same, with_key-other, with_key-cases}
 use Rattle.vm_model.proofs.NamesLaws.{is_named-with_key_new, is_named-with_key_kept, names-open, lineage_of-at, lineage_of-same}
 use Rattle.vm_model.proofs.LeavingLaws.{lineage_at, count_at, name_vmo, IsGoodName-same, unnamed, IsGoodState-pruned, next-pruned, frames-pruned}
@@ -237,10 +243,92 @@ kept_keeps old new good names lineage kept = record {
   frames = kept.frames;
 }
 
+-- the same, where nothing but the content changes
+pub change_keeps : (old new : State) → IsGoodState old → ChangesContent old new → IsKept old.content new.content → Keeps old new
+change_keeps old new good change kept = kept_keeps old new good (ap (λ (s : State). s.names) change) (ap (λ (s : State). s.lineage) change) kept
+
+-- pages that become zero
+pub zero_keeps : (old : State) (v first end : ℕ) → IsGoodState old → Keeps old (record old { content = zeroed old.content v first end })
+zero_keeps old v first end good = change_keeps old (record old { content = zeroed old.content v first end }) good refl (zeroed-keeps old.content v first end good.content)
+
+-- ---- a change of size
+
+-- no name of a VMO that may change its size is a name of a part
+pub no_part : (s : State) (target : Name) (n : ℕ) → IsGoodName s target → (lineage_of s target.koid).resizable ≡ true → target.limit ≢ Some n
+no_part s target n good changes e = both_ways (lineage_of s target.koid).resizable (good.part n e).1 changes
+
+-- So a VMO of which a name may change its size takes any size that a VMO can have
+pub resize_keeps : (old : State) (name : ℕ) (target : Name) (pages : ℕ) → IsGoodState old → old.names name ≡ Some target → target.may_resize ≡ true → pages ≤ VMO_PAGES → Keeps old (record old { content = resized old.content target.koid pages })
+resize_keeps old name target pages good open_name may few =
+    let c = old.content in
+    let v = target.koid in
+    let state : State = record old { content = resized c v pages } in
+    let fine = (good.names name target open_name).1 in
+    let counted : IsSome (state.content.count v) = ap is_some (count-resized_here c v pages) in
+    let lineage : (w : ℕ) → (lineage_of state w).resizable ≡ (lineage_of old w).resizable = λ w. ap (λ (l : Lineage). l.resizable) (lineage_of-same state old w refl) in
+    record {
+      good = record {
+        content = IsGood-resized c v pages good.content fine.vmo few;
+        names = λ n other e.
+            let was = good.names n other e in (
+              was.0,
+              elim (cases_eq other.koid v) [
+                | inl same ↦
+                    let changes : (lineage_of old other.koid).resizable ≡ true = ap (λ (w : ℕ). (lineage_of old w).resizable) same ∙ fine.resize may in
+                    record {
+                      vmo = subst (λ (w : ℕ). IsSome (state.content.count w)) (sym same) counted;
+                      whole = was.1.whole;
+                      part = λ m f. absurd (no_part old other m was.1 changes f);
+                      resize = λ f. lineage other.koid ∙ was.1.resize f;
+                    }
+                | inr apart ↦ IsGoodName-same old state other (count-resized_other c v pages other.koid apart) (lineage other.koid) was.1
+              ],
+            );
+        known = λ w. elim (cases_eq w v) [
+          | inl same ↦
+              let before : IsSome (old.lineage w) = ap (λ (u : ℕ). is_some (old.lineage u)) same ∙ lineage_at old v good fine.vmo in
+              before ∙ sym (ap (λ (u : ℕ). is_some (state.content.count u)) same ∙ counted)
+          | inr apart ↦ good.known w ∙ ap is_some (sym (count-resized_other c v pages w apart))
+        ];
+        live = good.live;
+        parents = good.parents;
+      };
+      next = omega (arith, next-resized c v pages);
+      frames = frames-resized c v pages;
+    }
+
+-- ---- a change of a range
+
+-- what holds where nothing refuses a change to a range of a name
+pub change_parts : (s : State) (name offset len : ℕ) (owned : List ℕ) → first_of (change_refusals s name offset len owned) ≡ None
+    → IsSome (s.names name) × ((target_of s name).may_write ≡ true) × (offset + len ≤ size_of s name) × (lacks_frames s name owned ≡ false)
+change_parts s name offset len owned none =
+    let locked = not (target_of s name).may_write in
+    let past = nat_lt (size_of s name) (offset + len) in
+    let lacking = lacks_frames s name owned in
+    let open_row = first_of-none (not (is_open s name)) BadHandle (first_of ((locked, AccessDenied) ∷ (past, OutOfRange) ∷ (lacking, NoMemory) ∷ [])) none in
+    let write_row = first_of-none locked AccessDenied (first_of ((past, OutOfRange) ∷ (lacking, NoMemory) ∷ [])) open_row.1 in
+    let range_row = first_of-none past OutOfRange (first_of ((lacking, NoMemory) ∷ [])) write_row.1 in
+    let frames_row = first_of-none lacking NoMemory None range_row.1 in
+    (not-false (is_open s name) open_row.0, not-false (target_of s name).may_write write_row.0, ltb-false (size_of s name) (offset + len) range_row.0, frames_row.0)
+
+-- the range lies inside the VMO then
+pub change_inside : (s : State) (name offset len : ℕ) (owned : List ℕ) → IsGoodState s → first_of (change_refusals s name offset len owned) ≡ None → place_of s name offset + len ≤ pages_of s.content (koid_of s name) * PAGE
+change_inside s name offset len owned good none =
+    let parts = change_parts s name offset len owned none in
+    place_inside s name (target_of s name) offset len good (names-open s name parts.0) parts.2
+
 -- pages written inside a VMO
-pub write_keeps : (old new : State) (v offset : ℕ) (bytes : List ℕ) → IsGoodState old → offset + length bytes ≤ pages_of old.content v * PAGE → new.names ≡ old.names → new.lineage ≡ old.lineage → Writes old.content v (pieces offset bytes) new.content → Keeps old new
-write_keeps old new v offset bytes good h names lineage w =
-    kept_keeps old new good names lineage (Writes-keeps_all v offset bytes old.content new.content good.content h w)
+pub write_keeps : (old new : State) (v offset : ℕ) (bytes : List ℕ) → IsGoodState old → offset + length bytes ≤ pages_of old.content v * PAGE → ChangesContent old new → Writes old.content v (pieces offset bytes) new.content → Keeps old new
+write_keeps old new v offset bytes good h change w = change_keeps old new good change (Writes-keeps_all v offset bytes old.content new.content good.content h w)
+
+-- pages owned inside a VMO
+pub commit_keeps : (old new : State) (v offset len : ℕ) → IsGoodState old → offset + len ≤ pages_of old.content v * PAGE → ChangesContent old new → OwnsAll old.content v (touched offset len) new.content → Keeps old new
+commit_keeps old new v offset len good h change o = change_keeps old new good change (OwnsAll-keeps_all v offset len old.content new.content good.content h o)
+
+-- a range zeroed inside a VMO
+pub zero_range_keeps : (old new : State) (v offset len : ℕ) → IsGoodState old → offset + len ≤ pages_of old.content v * PAGE → ChangesContent old new → Zeroes old.content v offset len (touched offset len) new.content → Keeps old new
+zero_range_keeps old new v offset len good h change z = change_keeps old new good change (Zeroes-keeps_all v offset len old.content new.content good.content h z)
 
 -- where a change of size is asked for and not refused, the parent's name may change it
 may_resize_too : (resizable no_write may : Bool) → (resizable && (no_write || not may)) ≡ false → resizable ≡ true → may ≡ true
@@ -302,15 +390,29 @@ effect_keeps old (VmoClose name) reply new good h none effect =
     subst (Keeps old) (sym effect.1) (close_keeps old name.0 good (not-false (is_open old name.0) open_row.0))
 effect_keeps old (VmoRead name offset len) reply new good h none effect = Keeps-same old new good effect.1
 effect_keeps old (VmoWrite name offset bytes) reply new good h none effect =
-    let locked = not (target_of old name.0).may_write in
-    let past = nat_lt (size_of old name.0) (offset + length bytes) in
-    let lacking = lacks_frames old name.0 (touched (place_of old name.0 offset) (length bytes)) in
-    let open_row = first_of-none (not (is_open old name.0)) BadHandle (first_of ((locked, AccessDenied) ∷ (past, OutOfRange) ∷ (lacking, NoMemory) ∷ [])) none in
-    let write_row = first_of-none locked AccessDenied (first_of ((past, OutOfRange) ∷ (lacking, NoMemory) ∷ [])) open_row.1 in
-    let range_row = first_of-none past OutOfRange (first_of ((lacking, NoMemory) ∷ [])) write_row.1 in
-    let inside : offset + length bytes ≤ size_of old name.0 = ltb-false (size_of old name.0) (offset + length bytes) range_row.0 in
+    let owned = touched (place_of old name.0 offset) (length bytes) in
+    write_keeps old new (koid_of old name.0) (place_of old name.0 offset) bytes good (change_inside old name.0 offset (length bytes) owned good none) effect.1 effect.2
+effect_keeps old (VmoFill name offset len byte) reply new good h none effect =
+    let inside = change_inside old name.0 offset len (touched (place_of old name.0 offset) len) good none in
+    write_keeps old new (koid_of old name.0) (place_of old name.0 offset) (replicate len byte) good (omega (arith, inside, length-replicate len byte)) effect.1 effect.2
+effect_keeps old (VmoCommit name offset len) reply new good h none effect =
+    let owned = touched (place_of old name.0 offset) len in
+    commit_keeps old new (koid_of old name.0) (place_of old name.0 offset) len good (change_inside old name.0 offset len owned good none) effect.1 effect.2
+effect_keeps old (VmoZero name offset len) reply new good h none effect =
+    let owned = owned_by_zero old.content (koid_of old name.0) (place_of old name.0 offset) len in
+    zero_range_keeps old new (koid_of old name.0) (place_of old name.0 offset) len good (change_inside old name.0 offset len owned good none) effect.1 effect.2
+effect_keeps old (VmoDecommit name offset len) reply new good h none effect =
+    subst (Keeps old) (sym effect.1) (zero_keeps old (koid_of old name.0) (place_of old name.0 offset / PAGE) (place_of old name.0 (offset + len) / PAGE) good)
+effect_keeps old (VmoSetSize name size) reply new good h none effect =
+    let target = target_of old name.0 in
+    let large = nat_lt (VMO_PAGES * PAGE) (rounded size) in
+    let open_row = first_of-none (not (is_open old name.0)) BadHandle (first_of ((not target.may_write, AccessDenied) ∷ (not target.may_resize, Unavailable) ∷ (large, OutOfRange) ∷ [])) none in
+    let write_row = first_of-none (not target.may_write) AccessDenied (first_of ((not target.may_resize, Unavailable) ∷ (large, OutOfRange) ∷ [])) open_row.1 in
+    let resize_row = first_of-none (not target.may_resize) Unavailable (first_of ((large, OutOfRange) ∷ [])) write_row.1 in
+    let size_row = first_of-none large OutOfRange None resize_row.1 in
+    let few : rounded size ≤ VMO_PAGES * PAGE = ltb-false (VMO_PAGES * PAGE) (rounded size) size_row.0 in
     let is = names-open old name.0 (not-false (is_open old name.0) open_row.0) in
-    write_keeps old new (koid_of old name.0) (place_of old name.0 offset) bytes good (place_inside old name.0 (target_of old name.0) offset (length bytes) good is inside) effect.1 effect.2 effect.3
+    subst (Keeps old) (sym effect.1) (resize_keeps old name.0 target (rounded size / PAGE) good is (not-false target.may_resize resize_row.0) (omega arith))
 effect_keeps old _ reply new good h none effect = Keeps-same old new good effect.1
 
 -- a step keeps a good state good

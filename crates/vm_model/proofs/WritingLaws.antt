@@ -4,7 +4,7 @@ use Rattle.std.specs.List.{range_with_len}
 use Rattle.vm_base.specs.declared.pages.TheConstants.{PAGE}
 use Rattle.vm_model.specs.Content.{Page, Content, shown, pages_of, used, sole, hold, IsGood}
 use Rattle.vm_model.specs.Writing.{replaced, Piece, piece, pieces, touched, touched_end, WritesPiece, Writes}
-use Rattle.vm_model.proofs.ContentLaws.{frames-hold, next-hold, count-hold, pages_of-hold, IsGood-hold_bytes, sole-hold_kept, sole-hold_elsewhere, used-hold_kept}
+use Rattle.vm_model.proofs.ContentLaws.{frames-hold, next-hold, count-hold, pages_of-hold, page-hold_other_page, IsGood-hold_bytes, sole-hold_kept, sole-hold_elsewhere, used-hold_kept}
 use Rattle.vm_model.proofs.OwningLaws.{Owned-from_Owns, length-shown}
 use Rattle.vm_model.proofs.RangeLaws.{length-replaced, piece_fits, piece-page, touched-row, touched-nil, touched_end_le, touched_below}
 
@@ -15,6 +15,10 @@ pub record IsKept (old new : Content) : Type 0 where
   pub next : new.next ≡ old.next
   pub count : new.count ≡ old.count
   pub pages : (w : ℕ) → pages_of new w ≡ pages_of old w
+
+-- where nothing changes
+pub IsKept-same : (old new : Content) → IsGood old → new ≡ old → IsKept old new
+IsKept-same old new good e = subst (IsKept old) (sym e) (record { good = good; frames = refl; next = refl; count = refl; pages = λ w. refl })
 
 pub IsKept-trans : (a b c : Content) → IsKept a b → IsKept b c → IsKept a c
 IsKept-trans a b c p q = record {
@@ -43,10 +47,11 @@ WritesPiece-keeps old v part new good h fits w =
     } in
     subst (IsKept old) (sym w.bytes) kept
 
--- the same, and which pages are sole afterwards and how many frames are used
+-- the same, and which pages are sole afterwards, how many frames are used, and that the other pages stay
 pub record Written (old : Content) (v p : ℕ) (new : Content) : Type 0 where
   pub kept : IsKept old new
   pub alone : sole new v p ≡ true
+  pub other_page : (q : ℕ) → q ≢ p → new.page v q ≡ old.page v q
   pub other_sole : (q : ℕ) → q ≢ p → sole new v q ≡ sole old v q
   pub used : used new ≡ cond (sole old v p) (used old) (used old + 1)
 
@@ -62,13 +67,14 @@ Written-from_WritesPiece old v part new good h fits w =
     record {
       kept = kept;
       alone = subst (λ (c : Content). sole c v part.page ≡ true) (sym w.bytes) (sole-hold_kept w.owned v part.page held page owned.good owned.alone owned.held refl);
+      other_page = λ q apart. ap (λ (c : Content). c.page v q) w.bytes ∙ (page-hold_other_page w.owned v part.page page v q apart ∙ owned.other_page q apart);
       other_sole = λ q apart. subst (λ (c : Content). sole c v q ≡ sole old v q) (sym w.bytes) (sole-hold_elsewhere w.owned v part.page q page apart ∙ owned.other_sole q apart);
       used = ap used w.bytes ∙ (used-hold_kept w.owned v part.page held page owned.good owned.alone owned.held refl whole ∙ owned.used);
     }
 
 -- pieces in a row of pages below the count
 pub Writes-keeps : (v offset : ℕ) (bytes : List ℕ) (first n : ℕ) (old new : Content) → IsGood old → offset / PAGE ≤ first → first + n ≤ pages_of old v → Writes old v (map (piece offset bytes) (range_with_len first n)) new → IsKept old new
-Writes-keeps v offset bytes first zero old new good from h w = subst (IsKept old) (sym w) (record { good = good; frames = refl; next = refl; count = refl; pages = λ u. refl })
+Writes-keeps v offset bytes first zero old new good from h w = IsKept-same old new good w
 Writes-keeps v offset bytes first (suc n) old new good from h w =
     let page = piece-page offset bytes first in
     let step = WritesPiece-keeps old v (piece offset bytes first) w.0 good (omega (arith, page, h)) (piece_fits offset bytes first from) w.1 in

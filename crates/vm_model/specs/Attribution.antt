@@ -1,21 +1,17 @@
 -- What a VMO holds: its held pages, those that it shares, and those that it is charged for. From the kernel's attribution of
 -- memory, where each frame is charged to one VMO.
-use Rattle.std.specs.Prelude.{ℕ, ◌-◌, ◌*◌, Bool, false, not, ◌&&◌, Option, None, Some, is_some}
+use Rattle.std.specs.Prelude.{ℕ, ◌-◌, ◌*◌, Bool, false, not, ◌&&◌, Option, None, Some}
 use Rattle.vm_base.specs.declared.pages.TheConstants.{PAGE}
 use Rattle.vm_model.specs.declared.reply.Info.{Info}
 use Rattle.vm_model.specs.declared.reply.Stat.{Stat}
 use Rattle.vm_model.specs.Search.{any_below, count_below}
-use Rattle.vm_model.specs.Content.{Content, Page, pages_of, views, sole, used, vmos_of}
+use Rattle.vm_model.specs.Content.{Content, Page, is_held, pages_of, views, sole, used, vmos_of}
 use Rattle.vm_model.specs.Names.{Name, children}
 use Rattle.vm_model.specs.State.{State, name_pages}
 
 -- how many pages of v pass
 abbrev pub count_pages : Content → ℕ → (ℕ → Bool) → ℕ
 count_pages c v test = count_below (pages_of c v) test
-
--- page p of v is held
-abbrev pub is_held : Content → ℕ → ℕ → Bool
-is_held c v p = is_some (c.page v p)
 
 -- page p of v is held, and another VMO shows its frame too
 abbrev pub is_shared : Content → ℕ → ℕ → Bool

@@ -33,6 +33,10 @@ bytes_of (Some held) = held.bytes
 abbrev pub shown : Content → ℕ → ℕ → List ℕ
 shown c v p = bytes_of (c.page v p)
 
+-- page p of the VMO v is held
+abbrev pub is_held : Content → ℕ → ℕ → Bool
+is_held c v p = is_some (c.page v p)
+
 -- how many pages the VMO has
 unfoldable pub pages_of : Content → ℕ → ℕ
 pages_of c v = unwrap_or (c.count v) 0

@@ -4,7 +4,9 @@ pub mod Content
 pub mod Owning
 pub mod Sharing
 pub mod Writing
+pub mod Zeroing
 pub mod Names
+pub mod Pins
 pub mod State
 pub mod Leaving
 pub mod Attribution

@@ -8,6 +8,11 @@ pub record Owns (old new : Content) (v p tag : ℕ) : Type 0 where
   pub stays : sole old v p ≡ true → (new ≡ old) × ((held : Page) → old.page v p ≡ Some held → tag ≡ held.tag)
   pub copies : sole old v p ≡ false → (tag < old.frames) × (in_use old tag ≡ false) × (new ≡ hold old v p (record { tag = tag; bytes = shown old v p }))
 
+-- the pages are owned one after another
+abbrev pub OwnsAll : Content → ℕ → List ℕ → Content → Type 0
+OwnsAll old v [] new = new ≡ old
+OwnsAll old v (p ∷ ps) new = (mid : Content) × (tag : ℕ) × Owns old mid v p tag × OwnsAll mid v ps new
+
 -- The number of these pages of v that are not sole when their turn comes, if they are owned one after another. New frames
 -- are counted on from `fresh`, so that the number does not depend on which frames are free.
 unfoldable pub need_from : ℕ → Content → ℕ → List ℕ → ℕ

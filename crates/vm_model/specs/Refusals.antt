@@ -3,20 +3,30 @@ use Rattle.std.specs.Prelude.{ℕ, ◌+◌, ◌*◌, ◌%◌, Bool, not, ◌&&�
 use Rattle.vm_base.specs.Pages.{rounded}
 use Rattle.vm_base.specs.declared.pages.TheConstants.{PAGE, VMO_PAGES}
 use Rattle.vm_base.specs.declared.refusal.Refusal.{Refusal}
-use Rattle.vm_base.specs.declared.refusal.Refusal.TheVariants.{BadHandle, NameInUse, AccessDenied, InvalidArgs, NotSupported, OutOfRange, NoMemory}
+use Rattle.vm_base.specs.declared.refusal.Refusal.TheVariants.{BadHandle, NameInUse, AccessDenied, InvalidArgs, NotSupported, Unavailable, OutOfRange, NoMemory}
 use Rattle.vm_model.specs.declared.command.Command.{Command}
-use Rattle.vm_model.specs.declared.command.Command.TheVariants.{VmoCreate, VmoChild, VmoClose, VmoSize, VmoRead, VmoWrite, VmoInfo}
+use Rattle.vm_model.specs.declared.command.Command.TheVariants.{VmoCreate, VmoChild, VmoClose, VmoSize, VmoSetSize, VmoRead, VmoWrite, VmoFill, VmoCommit, VmoDecommit, VmoZero, VmoInfo}
 use Rattle.vm_model.specs.declared.command.ChildKind.TheVariants.{Snapshot, Slice, Reference}
 use Rattle.vm_model.specs.declared.names.NameKind.TheVariants.{Slice as SliceName}
 use Rattle.vm_model.specs.Content.{used}
 use Rattle.vm_model.specs.Owning.{need}
 use Rattle.vm_model.specs.Writing.{touched}
-use Rattle.vm_model.specs.Names.{is_kind}
+use Rattle.vm_model.specs.Zeroing.{owned_by_zero}
+use Rattle.vm_model.specs.Names.{is_kind, may_decommit}
 use Rattle.vm_model.specs.State.{State, is_open, target_of, koid_of, size_of, place_of, lineage_of}
 
 -- owning these pages of the VMO of this name takes more frames than are free
 abbrev pub lacks_frames : State → ℕ → List ℕ → Bool
 lacks_frames s name ps = nat_lt s.content.frames (used s.content + need s.content (koid_of s name) ps)
+
+-- the refusals of a change to a range of a name, for which these pages of its VMO are owned
+abbrev pub change_refusals : State → ℕ → ℕ → ℕ → List ℕ → List (Bool × Refusal)
+change_refusals s name offset len owned =
+    (not (is_open s name), BadHandle)
+    ∷ (not (target_of s name).may_write, AccessDenied)
+    ∷ (nat_lt (size_of s name) (offset + len), OutOfRange)
+    ∷ (lacks_frames s name owned, NoMemory)
+    ∷ []
 
 -- the refusals of a command. A row may rest on those before it: where a name is not open, the rows behind mean nothing
 abbrev pub refusals : State → Command → List (Bool × Refusal)
@@ -48,11 +58,22 @@ refusals s (VmoRead name offset len) =
     ∷ (nat_lt PAGE len, InvalidArgs)
     ∷ (nat_lt (size_of s name.0) (offset + len), OutOfRange)
     ∷ []
-refusals s (VmoWrite name offset bytes) =
+refusals s (VmoWrite name offset bytes) = change_refusals s name.0 offset (length bytes) (touched (place_of s name.0 offset) (length bytes))
+refusals s (VmoFill name offset len byte) = change_refusals s name.0 offset len (touched (place_of s name.0 offset) len)
+refusals s (VmoCommit name offset len) = change_refusals s name.0 offset len (touched (place_of s name.0 offset) len)
+refusals s (VmoZero name offset len) = change_refusals s name.0 offset len (owned_by_zero s.content (koid_of s name.0) (place_of s name.0 offset) len)
+refusals s (VmoDecommit name offset len) =
     (not (is_open s name.0), BadHandle)
     ∷ (not (target_of s name.0).may_write, AccessDenied)
-    ∷ (nat_lt (size_of s name.0) (offset + length bytes), OutOfRange)
-    ∷ (lacks_frames s name.0 (touched (place_of s name.0 offset) (length bytes)), NoMemory)
+    ∷ (not (offset % PAGE == 0 && len % PAGE == 0), InvalidArgs)
+    ∷ (not (may_decommit s.names s.lineage (koid_of s name.0) (lineage_of s (koid_of s name.0))), NotSupported)
+    ∷ (nat_lt (size_of s name.0) (offset + len), OutOfRange)
+    ∷ []
+refusals s (VmoSetSize name size) =
+    (not (is_open s name.0), BadHandle)
+    ∷ (not (target_of s name.0).may_write, AccessDenied)
+    ∷ (not (target_of s name.0).may_resize, Unavailable)
+    ∷ (nat_lt (VMO_PAGES * PAGE) (rounded size), OutOfRange)
     ∷ []
 refusals s (VmoSize name) = (not (is_open s name.0), BadHandle) ∷ []
 refusals s (VmoInfo name) = (not (is_open s name.0), BadHandle) ∷ []

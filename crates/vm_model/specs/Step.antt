@@ -1,20 +1,22 @@
 -- One step of the machine: a command is refused, or it has its effect, or the host lacks memory for it.
-use Rattle.std.specs.Prelude.{◌≡◌, ℕ, ◌+◌, ◌-◌, ◌/◌, min, Bool, true, false, not, length, Option, None, Some, ◌⊎◌, ◌&&◌}
+use Rattle.std.specs.Prelude.{◌≡◌, ℕ, ◌+◌, ◌-◌, ◌/◌, min, Bool, true, false, not, length, replicate, Option, None, Some, ◌⊎◌, ◌&&◌}
 use Rattle.std.specs.List.{list_any}
 use Rattle.vm_base.specs.Pages.{rounded}
 use Rattle.vm_base.specs.declared.pages.TheConstants.{PAGE}
 use Rattle.vm_base.specs.declared.refusal.Refusal.{Refusal}
 use Rattle.vm_base.specs.declared.refusal.Refusal.TheVariants.{HostMemory}
 use Rattle.vm_model.specs.declared.command.Command.{Command}
-use Rattle.vm_model.specs.declared.command.Command.TheVariants.{VmoCreate, VmoChild, VmoClose, VmoSize, VmoRead, VmoWrite, VmoInfo, Stat}
+use Rattle.vm_model.specs.declared.command.Command.TheVariants.{VmoCreate, VmoChild, VmoClose, VmoSize, VmoSetSize, VmoRead, VmoWrite, VmoFill, VmoCommit, VmoDecommit, VmoZero, VmoInfo, Stat}
 use Rattle.vm_model.specs.declared.command.ChildKind.TheVariants.{Snapshot as SnapshotChild, Slice as SliceChild, Reference as ReferenceChild}
 use Rattle.vm_model.specs.declared.names.NameKind.TheVariants.{Slice, Reference}
 use Rattle.vm_model.specs.declared.names.Origin.TheVariants.{Created, Snapshot}
 use Rattle.vm_model.specs.declared.reply.Reply.{Reply}
 use Rattle.vm_model.specs.declared.reply.Reply.TheVariants.{Done, Number, Bytes, Info as InfoReply, Stat as StatReply, Refused, Unbuilt}
-use Rattle.vm_model.specs.Content.{Content, created, sole}
+use Rattle.vm_model.specs.Content.{Content, created, is_held, sole}
+use Rattle.vm_model.specs.Owning.{OwnsAll}
 use Rattle.vm_model.specs.Sharing.{snapshotted}
 use Rattle.vm_model.specs.Writing.{touched, bytes_in, pieces, Writes}
+use Rattle.vm_model.specs.Zeroing.{zeroed, resized, Zeroes}
 use Rattle.vm_model.specs.Maps.{with_key, without_key}
 use Rattle.vm_model.specs.Names.{Name, owner}
 use Rattle.vm_model.specs.State.{State, target_of, koid_of, name_pages, size_of, place_of}
@@ -69,6 +71,10 @@ reference_of target resizable no_write = record {
 unfoldable pub with_alias : State → ℕ → Name → State
 with_alias s name target = record s { names = with_key s.names name target }
 
+-- nothing but the content changes
+abbrev pub ChangesContent : State → State → Type 0
+ChangesContent old new = new ≡ record old { content = new.content }
+
 -- what a command does where nothing refuses it
 abbrev pub Effect : State → Command → Reply → State → Type 0
 Effect old (VmoCreate name size resizable) reply new =
@@ -84,19 +90,38 @@ Effect old (VmoClose name) reply new =
 Effect old (VmoRead name offset len) reply new =
     (reply ≡ Bytes (bytes_in old.content (koid_of old name.0) (place_of old name.0 offset) len)) × (new ≡ old)
 Effect old (VmoWrite name offset bytes) reply new =
-    (reply ≡ Done) × (new.names ≡ old.names) × (new.lineage ≡ old.lineage)
-    × Writes old.content (koid_of old name.0) (pieces (place_of old name.0 offset) bytes) new.content
+    (reply ≡ Done) × ChangesContent old new × Writes old.content (koid_of old name.0) (pieces (place_of old name.0 offset) bytes) new.content
+Effect old (VmoFill name offset len byte) reply new =
+    (reply ≡ Done) × ChangesContent old new × Writes old.content (koid_of old name.0) (pieces (place_of old name.0 offset) (replicate len byte)) new.content
+Effect old (VmoCommit name offset len) reply new =
+    (reply ≡ Done) × ChangesContent old new × OwnsAll old.content (koid_of old name.0) (touched (place_of old name.0 offset) len) new.content
+Effect old (VmoDecommit name offset len) reply new =
+    (reply ≡ Done) × (new ≡ record old { content = zeroed old.content (koid_of old name.0) (place_of old name.0 offset / PAGE) (place_of old name.0 (offset + len) / PAGE) })
+Effect old (VmoZero name offset len) reply new =
+    (reply ≡ Done) × ChangesContent old new
+    × Zeroes old.content (koid_of old name.0) (place_of old name.0 offset) len (touched (place_of old name.0 offset) len) new.content
+Effect old (VmoSetSize name size) reply new =
+    (reply ≡ Done) × (new ≡ record old { content = resized old.content (koid_of old name.0) (rounded size / PAGE) })
 Effect old (VmoSize name) reply new = (reply ≡ Number (size_of old name.0)) × (new ≡ old)
 Effect old (VmoInfo name) reply new = (reply ≡ InfoReply (info_at old (target_of old name.0))) × (new ≡ old)
 Effect old Stat reply new = (reply ≡ StatReply (stat_of old.content)) × (new ≡ old)
 -- a command that is not built yet says so
 Effect old _ reply new = (reply ≡ Unbuilt) × (new ≡ old)
 
--- the command may want memory of the host in this state. A write wants it only where a touched page is not sole
+-- some page passes, of those that the range of a name touches in its VMO
+abbrev pub touches_any : State → ℕ → ℕ → ℕ → (ℕ → Bool) → Bool
+touches_any s name offset len test = list_any test (touched (place_of s name offset) len)
+
+-- The command may want memory of the host in this state. To own pages it is wanted only where a touched page is not sole, and to
+-- make pages zero only where a touched page is held
 abbrev pub may_lack_memory : State → Command → Bool
 may_lack_memory s (VmoCreate name size resizable) = true
 may_lack_memory s (VmoChild name parent kind offset size resizable no_write) = true
-may_lack_memory s (VmoWrite name offset bytes) = list_any (λ p. not (sole s.content (koid_of s name.0) p)) (touched (place_of s name.0 offset) (length bytes))
+may_lack_memory s (VmoWrite name offset bytes) = touches_any s name.0 offset (length bytes) (λ p. not (sole s.content (koid_of s name.0) p))
+may_lack_memory s (VmoFill name offset len byte) = touches_any s name.0 offset len (λ p. not (sole s.content (koid_of s name.0) p))
+may_lack_memory s (VmoCommit name offset len) = touches_any s name.0 offset len (λ p. not (sole s.content (koid_of s name.0) p))
+may_lack_memory s (VmoZero name offset len) = touches_any s name.0 offset len (is_held s.content (koid_of s name.0))
+may_lack_memory s (VmoDecommit name offset len) = touches_any s name.0 offset len (is_held s.content (koid_of s name.0))
 may_lack_memory s _ = false
 
 -- nothing changes, and the reply is this refusal

@@ -7,7 +7,7 @@ use std::alloc::Global;
 use std::test::Fail;
 
 /// The replies to a script on a machine with this many frames.
-fn replies_on(alloc: Global, frames: &str, script: &[u8]) -> Result<Vec<u8>, Fail> {
+pub(crate) fn replies_on(alloc: Global, frames: &str, script: &[u8]) -> Result<Vec<u8>, Fail> {
     let mut source = MemSource::new(alloc, script, ROOM, &[])
         .ok()
         .ok_or("room for a source")?;

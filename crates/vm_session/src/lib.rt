@@ -18,4 +18,6 @@ pub use session::run;
 #[cfg(test)]
 mod family_tests;
 #[cfg(test)]
+mod range_tests;
+#[cfg(test)]
 mod tests;

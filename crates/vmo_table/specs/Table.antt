@@ -4,7 +4,9 @@ use Rattle.std.specs.Option.{option_map}
 use Rattle.std.specs.Map.{lookup}
 use Rattle.vm_base.specs.declared.names.Koid.{Koid}
 use Rattle.vm_base.specs.declared.names.VmoName.{VmoName}
+use Rattle.vm_model.specs.Content.{Content}
 use Rattle.vm_model.specs.Names.{Name, Lineage, is_named, lineage_without}
+use Rattle.vm_model.specs.State.{State}
 use Rattle.vmo_table.specs.declared.target.Target.{Target}
 use Rattle.vmo_table.specs.declared.vmos.Vmo.{Vmo}
 use Rattle.vmo_table.specs.Vmos.{vmos_in, lineages}
@@ -34,6 +36,10 @@ lineage_in t = lineages (vmos_in t.vmos)
 -- how many names and VMOs may be entered without asking the host for memory
 abbrev pub room_of : Table → ℕ
 room_of t = t.room
+
+-- the state of the machine that the content of a store and a table stand for together
+abbrev pub state_with : Content → Table → State
+state_with c t = record { content = c; names = names_of t; lineage = lineage_in t }
 
 -- the parent of a VMO, where it has one
 abbrev pub parent_of : Option Lineage → Option ℕ

@@ -9,7 +9,7 @@ use Rattle.vm_model.specs.Step.{with_vmo}
 use Rattle.vm_model.proofs.MapLaws.{with_key-same}
 use Rattle.vm_model.proofs.StepLaws.{create_keeps}
 use Rattle.page_store.proofs.HeldLaws.{created_grows}
-use Rattle.attribution.specs.Parts.{state_with}
+use Rattle.vmo_table.specs.Table.{state_with}
 use Rattle.attribution.proofs.tests.enter.Goals as goal
 
 with_vmo-is : (s new : State) (name koid pages : ℕ) → koid ≡ s.content.next → new.content ≡ created s.content pages → new.names ≡ with_key s.names name (owner koid true false)

@@ -1,6 +1,6 @@
 use Rattle.std.proofs.Common.{refl}
 use Rattle.vm_model.proofs.StepLaws.{kept_keeps}
-use Rattle.attribution.specs.Parts.{state_with}
+use Rattle.vmo_table.specs.Table.{state_with}
 use Rattle.attribution.proofs.tests.tells_by_a_name.Goals as goal
 
 pub info-requires-clause-good : goal.info-requires-clause-good

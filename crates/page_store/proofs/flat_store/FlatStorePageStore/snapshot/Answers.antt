@@ -3,8 +3,8 @@ use Rattle.std.specs.Vec.{with_items}
 use Rattle.std.proofs.lemmas.List.{with_items_is}
 use Rattle.page_store.specs.Flat.{Flat}
 use Rattle.page_store.specs.FlatFields.{flat_of}
-use Rattle.page_store.proofs.FlatLaws.{next-content, content_of-spare, IsFlat-spare}
-use Rattle.page_store.proofs.SnapshotLaws.{IsSnapshot, content-snapshot, IsFlat-snapshot, end_fits, tags_counted, counts_fit}
+use Rattle.page_store.proofs.FlatLaws.{next-content, end_fits, content_of-spare, IsFlat-spare}
+use Rattle.page_store.proofs.SnapshotLaws.{IsSnapshot, content-snapshot, IsFlat-snapshot, tags_counted, counts_fit}
 use Rattle.page_store.proofs.flat_store.FlatStorePageStore.snapshot.Goals as goal
 
 pub overflow_add-first : goal.overflow_add-first

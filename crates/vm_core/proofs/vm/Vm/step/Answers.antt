@@ -14,17 +14,11 @@ returns-in-VmoCreate-clause-good g c = (kept c.requires.good c.vmo_create.ensure
 pub returns-in-VmoCreate-clause-next : goal.returns-in-VmoCreate-clause-next
 returns-in-VmoCreate-clause-next g c = (kept c.requires.good c.vmo_create.ensures.step c.vmo_create.ensures.name).next
 
-pub returns-in-VmoChild-default-default-Snapshot-default-default-default-default-clause-good : goal.returns-in-VmoChild-default-default-Snapshot-default-default-default-default-clause-good
-returns-in-VmoChild-default-default-Snapshot-default-default-default-default-clause-good g c = (kept c.requires.good c.vmo_snapshot.ensures.step c.vmo_snapshot.ensures.name).good
+pub returns-in-VmoChild-clause-good : goal.returns-in-VmoChild-clause-good
+returns-in-VmoChild-clause-good g c = (kept c.requires.good c.vmo_create_child.ensures.step c.vmo_create_child.ensures.name).good
 
-pub returns-in-VmoChild-default-default-Snapshot-default-default-default-default-clause-next : goal.returns-in-VmoChild-default-default-Snapshot-default-default-default-default-clause-next
-returns-in-VmoChild-default-default-Snapshot-default-default-default-default-clause-next g c = (kept c.requires.good c.vmo_snapshot.ensures.step c.vmo_snapshot.ensures.name).next
-
-pub returns-in-VmoChild-default-default-Slice-default-default-default-default-clause-good : goal.returns-in-VmoChild-default-default-Slice-default-default-default-default-clause-good
-returns-in-VmoChild-default-default-Slice-default-default-default-default-clause-good g c = (kept c.requires.good c.vmo_slice.ensures.step c.vmo_slice.ensures.name).good
-
-pub returns-in-VmoChild-default-default-Reference-default-default-default-default-clause-good : goal.returns-in-VmoChild-default-default-Reference-default-default-default-default-clause-good
-returns-in-VmoChild-default-default-Reference-default-default-default-default-clause-good g c = (kept c.requires.good c.vmo_reference.ensures.step c.vmo_reference.ensures.name).good
+pub returns-in-VmoChild-clause-next : goal.returns-in-VmoChild-clause-next
+returns-in-VmoChild-clause-next g c = (kept c.requires.good c.vmo_create_child.ensures.step c.vmo_create_child.ensures.name).next
 
 pub returns-in-VmoClose-clause-good : goal.returns-in-VmoClose-clause-good
 returns-in-VmoClose-clause-good g c = (kept c.requires.good c.vmo_close.ensures tt).good
@@ -37,3 +31,33 @@ returns-in-VmoWrite-clause-good g c = (kept c.requires.good c.vmo_write.ensures 
 
 pub returns-in-VmoWrite-clause-next : goal.returns-in-VmoWrite-clause-next
 returns-in-VmoWrite-clause-next g c = (kept c.requires.good c.vmo_write.ensures tt).next
+
+pub returns-in-VmoFill-clause-good : goal.returns-in-VmoFill-clause-good
+returns-in-VmoFill-clause-good g c = (kept c.requires.good c.vmo_fill.ensures tt).good
+
+pub returns-in-VmoFill-clause-next : goal.returns-in-VmoFill-clause-next
+returns-in-VmoFill-clause-next g c = (kept c.requires.good c.vmo_fill.ensures tt).next
+
+pub returns-in-VmoCommit-clause-good : goal.returns-in-VmoCommit-clause-good
+returns-in-VmoCommit-clause-good g c = (kept c.requires.good c.vmo_commit.ensures tt).good
+
+pub returns-in-VmoCommit-clause-next : goal.returns-in-VmoCommit-clause-next
+returns-in-VmoCommit-clause-next g c = (kept c.requires.good c.vmo_commit.ensures tt).next
+
+pub returns-in-VmoZero-clause-good : goal.returns-in-VmoZero-clause-good
+returns-in-VmoZero-clause-good g c = (kept c.requires.good c.vmo_zero.ensures tt).good
+
+pub returns-in-VmoZero-clause-next : goal.returns-in-VmoZero-clause-next
+returns-in-VmoZero-clause-next g c = (kept c.requires.good c.vmo_zero.ensures tt).next
+
+pub returns-in-VmoDecommit-clause-good : goal.returns-in-VmoDecommit-clause-good
+returns-in-VmoDecommit-clause-good g c = (kept c.requires.good c.vmo_decommit.ensures tt).good
+
+pub returns-in-VmoDecommit-clause-next : goal.returns-in-VmoDecommit-clause-next
+returns-in-VmoDecommit-clause-next g c = (kept c.requires.good c.vmo_decommit.ensures tt).next
+
+pub returns-in-VmoSetSize-clause-good : goal.returns-in-VmoSetSize-clause-good
+returns-in-VmoSetSize-clause-good g c = (kept c.requires.good c.vmo_set_size.ensures tt).good
+
+pub returns-in-VmoSetSize-clause-next : goal.returns-in-VmoSetSize-clause-next
+returns-in-VmoSetSize-clause-next g c = (kept c.requires.good c.vmo_set_size.ensures tt).next

@@ -1,0 +1,4 @@
+pub mod OrderLaws
+pub mod PinnedLaws
+pub mod CountedLaws
+pub mod EntryLaws

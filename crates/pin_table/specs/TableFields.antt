@@ -1,0 +1,30 @@
+-- How the fields of the table are seen, and what holds of them.
+use Rattle.std.specs.Prelude.{◌≡◌, ℕ, ◌+◌, ◌-◌, ◌/◌, ◌<◌, ◌≤◌, min, List, Option, Some, IsSome}
+use Rattle.std.specs.HashMap.{spare}
+use Rattle.std.specs.Vec.{vec_len, vec_capacity}
+use Rattle.vm_base.specs.declared.pages.TheConstants.{VMO_PAGES}
+use Rattle.vm_model.specs.Search.{count_below}
+use Rattle.vm_model.specs.Names.{NAMES}
+use Rattle.vm_model.specs.Pins.{Pin, covers}
+use Rattle.pin_table.specs.declared.pages.PinnedPage.{PinnedPage}
+use Rattle.pin_table.specs.declared.pin_table.PinTable.TheInside.{Inside}
+use Rattle.pin_table.specs.Pages.{pins_at, AreKept}
+use Rattle.pin_table.specs.Table.{Table, pins_in}
+
+-- a pin takes room for itself and for 256 pages
+abbrev pub table_of : Inside → Table
+table_of a = record {
+  pins = a.pins.entries;
+  room = min (spare a.pins) ((vec_capacity a.pages - vec_len a.pages) / 256);
+}
+
+-- Names are as small as NAMES says, a pin ends with its VMO's last page at most, and the entries are those of the pages that
+-- pins cover, each with the number of pins that cover it.
+pub record AreCounted (pins : ℕ → Option Pin) (entries : List PinnedPage) : Type 0 where
+  pub names_below : (n : ℕ) → IsSome (pins n) → n < NAMES
+  pub ends : (n : ℕ) (pin : Pin) → pins n ≡ Some pin → pin.first + pin.count ≤ VMO_PAGES
+  pub kept : AreKept entries
+  pub counted : (v p : ℕ) → pins_at v p entries ≡ count_below NAMES (λ n. covers v p (pins n))
+
+pub record IsTable (a : Inside) : Type 0 where
+  pub pages : AreCounted (pins_in a.pins.entries) a.pages.items

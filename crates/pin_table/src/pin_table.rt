@@ -1,0 +1,120 @@
+//! The table of pins.
+
+ghost use Rattle.std.specs.Prelude.{◌≡◌, ℕ, ◌+◌, ◌≤◌, None, Some, IsSome, OnOk};
+ghost use Rattle.std.specs.Option.{option_map};
+ghost use Rattle.vm_model.specs.Maps.{with_key, without_key};
+ghost use Rattle.vm_model.specs.Pins.{any_pinned};
+ghost use Rattle.pin_table.specs.Table.{pin_of, pins_of, room_of};
+
+use crate::pages::{PinnedPage, lower_bound, pin_pages, unpin_pages};
+use std::alloc::Global;
+use std::collections::HashMap;
+use std::marker::Model;
+use vm_base::{HostMemory, Koid, PageNo, PinName};
+
+/// How many pages a pin has at most.
+const PIN_PAGES: usize = 256;
+
+/// A pin: so many pages of a VMO, from one on.
+#[derive(Clone, Copy, Debug)]
+struct Pin {
+    koid: Koid,
+    first: PageNo,
+    count: u64,
+}
+
+/// The pins, each a name for up to 256 pages of a VMO. Pins may overlap: a page is pinned while some pin
+/// covers it. No call but `reserve` asks the host for memory.
+#[derive(Drop)]
+pub struct PinTable {
+    pins: HashMap<PinName, Pin>,
+    /// The pages that are pinned, each with the number of pins that cover it, by koid and then by page
+    /// number.
+    pages: Vec<PinnedPage>,
+}
+
+impl Model for PinTable {
+    ghost use Rattle.pin_table.specs.Table.{Table};
+
+    ghost Value = { Table };
+
+    ghost use Rattle.pin_table.specs.TableFields.{table_of, IsTable};
+
+    ghost view = { table_of };
+
+    ghost invariant = { IsTable };
+}
+
+impl PinTable {
+    /// A table with no pin.
+    pub fn new(alloc: Global) -> PinTable
+        ensures { (n : ℕ) → pins_of result n ≡ None }
+    {
+        PinTable {
+            pins: HashMap::new(alloc),
+            pages: Vec::new(alloc),
+        }
+    }
+
+    /// Makes room for one pin more. `HostMemory` where the host has too little memory.
+    pub fn reserve(&mut self) -> Result<(), HostMemory>
+        ensures room { OnOk result (1 ≤ room_of self.new) }
+        ensures pins { pins_of self.new ≡ pins_of self.old }
+    {
+        let Ok(()) = self.pins.reserve(1) else {
+            return Err(HostMemory);
+        };
+        let Ok(()) = self.pages.reserve(PIN_PAGES) else {
+            return Err(HostMemory);
+        };
+        Ok(())
+    }
+
+    /// Adds a pin that is not there: `count` pages of a VMO, from 1 to 256, from its page `first` on.
+    pub fn add(&mut self, pin: PinName, koid: Koid, first: PageNo, count: u64)
+        requires pin { pins_of self.old pin.0 ≡ None }
+        requires few { (1 ≤ count) × (count ≤ 256) }
+        requires pages { first + count ≤ 16777216 }
+        requires room { 1 ≤ room_of self.old }
+        ensures { pins_of self.new ≡ with_key (pins_of self.old) pin.0 (record { koid = koid.0; first = first; count = count }) }
+    {
+        // How far the table counts rests on the range of the names.
+        prove!(pin.0 <= u32::MAX);
+        // It succeeds, since there is room.
+        let _added = self.pins.insert(pin, Pin { koid, first, count });
+        pin_pages(&mut self.pages, koid, first, count);
+    }
+
+    /// The VMO of a pin, its first page and how many pages there are. `None` exactly where there is no such pin.
+    pub fn get(&self, pin: PinName) -> Option<(Koid, PageNo, u64)>
+        ensures { option_map pin_of result ≡ pins_of self.now pin.0 }
+    {
+        match self.pins.get(&pin) {
+            Some(held) => Some((held.koid, held.first, held.count)),
+            None => None,
+        }
+    }
+
+    /// Takes out a pin that is there, and answers what `get` did.
+    pub fn remove(&mut self, pin: PinName) -> (Koid, PageNo, u64)
+        requires { IsSome (pins_of self.old pin.0) }
+        ensures pins { pins_of self.new ≡ without_key (pins_of self.old) pin.0 }
+        ensures pin { Some (pin_of result) ≡ pins_of self.old pin.0 }
+    {
+        let held = self.pins[&pin];
+        let _removed = self.pins.remove(&pin);
+        unpin_pages(&mut self.pages, held.koid, held.first, held.count);
+        (held.koid, held.first, held.count)
+    }
+
+    /// Whether some page of a VMO is pinned, of `count` pages from `first` on. It takes one binary search.
+    pub fn pinned(&self, koid: Koid, first: PageNo, count: u64) -> bool
+        ensures { result ≡ any_pinned (pins_of self.now) koid.0 first (first + count) }
+    {
+        let at = lower_bound(&self.pages, koid, first);
+        match self.pages.get(at) {
+            Some(next) => next.is_among(koid, first, count),
+            None => false,
+        }
+    }
+}

@@ -1,9 +1,0 @@
-use Rattle.std.proofs.Common.{arith}
-use Rattle.vmo_table.specs.Table.{name_of}
-use Rattle.vm_core.proofs.StepRows.{name_few}
-use Rattle.vm_core.proofs.size.size_in_bytes.Goals as goal
-
-pub overflow_mul-result : goal.overflow_mul-result
-overflow_mul-result g c =
-    let few = name_few (g.P.PageStore.content c.args.store.now) (name_of c.args.target.now) c.requires.good c.requires.inside in
-    omega arith

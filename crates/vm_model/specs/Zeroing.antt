@@ -1,0 +1,40 @@
+-- Pages that become zero: of a range, and past a new end of the VMO. From the kernel's zero and decommit operations on a range, and
+-- from setting the size.
+use Rattle.std.specs.Prelude.{◌≡◌, ℕ, ◌+◌, ◌*◌, Bool, true, false, not, ◌&&◌, ◌==◌, nat_lt, nat_le, List, [], ◌∷◌, replicate, if◌then◌else◌, None}
+use Rattle.std.specs.List.{filter}
+use Rattle.vm_base.specs.declared.pages.TheConstants.{PAGE}
+use Rattle.vm_model.specs.Content.{Content, is_held, pages_of}
+use Rattle.vm_model.specs.Maps.{with_key}
+use Rattle.vm_model.specs.Writing.{touched, piece, WritesPiece}
+
+-- a page is one of those from `first` to below `end`
+abbrev pub is_within : ℕ → ℕ → ℕ → Bool
+is_within first end p = nat_le first p && nat_lt p end
+
+-- c where the pages of v from `first` to below `end` are zero
+unfoldable pub zeroed : Content → ℕ → ℕ → ℕ → Content
+zeroed c v first end = record c { page = λ w p. if (w == v) && is_within first end p then None else c.page w p }
+
+-- c where v has this many pages: those past the new end leave, and those that come in are zero
+unfoldable pub resized : Content → ℕ → ℕ → Content
+resized c v pages = record (zeroed c v pages (pages_of c v)) { count = with_key c.count v pages }
+
+-- page p lies wholly in a range of bytes
+abbrev pub is_whole : ℕ → ℕ → ℕ → Bool
+is_whole offset len p = nat_le offset (PAGE * p) && nat_le (PAGE * (p + 1)) (offset + len)
+
+-- From old, zeroing what of a range falls into page p of v may lead to new. A page that lies wholly in the range becomes zero.
+-- Another page that is held is written with zeros there, as by a write. A page that is zero stays so.
+pub record ZeroesPage (old : Content) (v offset len p : ℕ) (new : Content) : Type 0 where
+  pub whole : is_whole offset len p ≡ true → new ≡ zeroed old v p (p + 1)
+  pub held : is_whole offset len p ≡ false → is_held old v p ≡ true → WritesPiece old v (piece offset (replicate len 0) p) new
+  pub zero : is_whole offset len p ≡ false → is_held old v p ≡ false → new ≡ old
+
+-- what of a range falls into these pages is zeroed, one page after another
+abbrev pub Zeroes : Content → ℕ → ℕ → ℕ → List ℕ → Content → Type 0
+Zeroes old v offset len [] new = new ≡ old
+Zeroes old v offset len (p ∷ ps) new = (mid : Content) × ZeroesPage old v offset len p mid × Zeroes mid v offset len ps new
+
+-- the pages that zeroing a range owns: those that it touches without holding them whole, where they are held
+abbrev pub owned_by_zero : Content → ℕ → ℕ → ℕ → List ℕ
+owned_by_zero c v offset len = filter (λ p. is_held c v p && not (is_whole offset len p)) (touched offset len)

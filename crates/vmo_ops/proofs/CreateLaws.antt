@@ -1,0 +1,105 @@
+-- The steps of making a VMO, and a snapshot.
+use Rattle.std.proofs.Common.{◌≡◌, ℕ, ◌+◌, ◌*◌, ◌/◌, ◌%◌, ◌≤◌, ◌==◌, Bool, true, false, not, cond, ◌&&◌, ◌||◌, [], ◌∷◌, None, Some, ◌⊎◌, inl, inr, refl, sym, ap, ◌∙◌, arith}
+use Rattle.std.specs.Prelude.{nat_lt}
+use Rattle.std.proofs.lemmas.Bool.Decides.{Decides-eqb}
+use Rattle.vm_base.specs.Pages.{rounded}
+use Rattle.vm_base.specs.declared.names.VmoName.{VmoName}
+use Rattle.vm_base.specs.declared.pages.TheConstants.{PAGE, VMO_PAGES}
+use Rattle.vm_base.specs.declared.refusal.Refusal.TheVariants.{BadHandle, NameInUse, InvalidArgs, OutOfRange}
+use Rattle.vm_model.specs.declared.command.Command.TheVariants.{VmoCreate, VmoChild}
+use Rattle.vm_model.specs.declared.command.ChildKind.TheVariants.{Snapshot as SnapshotChild}
+use Rattle.vm_model.specs.declared.names.Origin.TheVariants.{Created, Snapshot}
+use Rattle.vm_model.specs.declared.reply.Reply.TheVariants.{Done}
+use Rattle.vm_model.specs.Content.{Content, created}
+use Rattle.vm_model.specs.Sharing.{snapshotted, page_seen}
+use Rattle.vm_model.specs.Maps.{with_key}
+use Rattle.vm_model.specs.Names.{Name, owner}
+use Rattle.vm_model.specs.State.{State, is_open}
+use Rattle.vm_model.specs.Step.{with_vmo, seen_pages, with_snapshot, Step}
+use Rattle.vm_model.proofs.NamesLaws.{target_of-at}
+use Rattle.vm_model.proofs.SharingLaws.{page_seen-out}
+use Rattle.vmo_ops.proofs.StepRows.{first_of-skip, Step-done, open_at, test_not_less}
+
+-- ---- a VMO
+
+with_vmo-is : (s new : State) (name koid pages : ℕ) (resizable : Bool) → koid ≡ s.content.next → new.content ≡ created s.content pages
+    → new.names ≡ with_key s.names name (owner koid true resizable) → new.lineage ≡ with_key s.lineage koid (record { resizable = resizable; origin = Created; parent = None })
+    → new ≡ with_vmo s name pages resizable
+unfolding with_vmo
+with_vmo-is s new name koid pages resizable e content names lineage =
+    (λ i. record { content = content i; names = names i; lineage = lineage i })
+    ∙ λ i. record {
+      content = created s.content pages;
+      names = with_key s.names name (owner (e i) true resizable);
+      lineage = with_key s.lineage (e i) (record { resizable = resizable; origin = Created; parent = None });
+    }
+
+-- the VMO is made, and the name entered
+pub create_done : (s new : State) (name : VmoName) (size : ℕ) (resizable : Bool) (koid pages : ℕ) → is_open s name.0 ≡ false → rounded size ≤ VMO_PAGES * PAGE
+    → koid ≡ s.content.next → pages ≡ rounded size / PAGE → new.content ≡ created s.content pages
+    → new.names ≡ with_key s.names name.0 (owner koid true resizable) → new.lineage ≡ with_key s.lineage koid (record { resizable = resizable; origin = Created; parent = None })
+    → Step s (VmoCreate name size resizable) Done new
+create_done s new name size resizable koid pages free few e f content names lineage =
+    let large = nat_lt (VMO_PAGES * PAGE) (rounded size) in
+    Step-done s (VmoCreate name size resizable) Done new
+    (first_of-skip (is_open s name.0) NameInUse ((large, OutOfRange) ∷ []) free ∙ first_of-skip large OutOfRange [] (test_not_less (VMO_PAGES * PAGE) (rounded size) few))
+    (refl, with_vmo-is s new name.0 koid pages resizable e content names lineage ∙ ap (λ (n : ℕ). with_vmo s name.0 n resizable) f)
+
+-- ---- a snapshot
+
+-- where a snapshot sees no page, it makes no difference from where on
+pub snapshotted-first : (c : Content) (v first start seen pages : ℕ) → (first ≡ start) ⊎ (seen ≡ 0) → snapshotted c v first seen pages ≡ snapshotted c v start seen pages
+unfolding snapshotted
+snapshotted-first c v first start seen pages (inl e) = ap (λ (n : ℕ). snapshotted c v n seen pages) e
+snapshotted-first c v first start seen pages (inr none) =
+    let zero : (n p : ℕ) → page_seen c v n seen p ≡ None = λ n p. page_seen-out c v n seen p (omega arith) in
+    let same : (p : ℕ) → page_seen c v first seen p ≡ page_seen c v start seen p = λ p. zero first p ∙ sym (zero start p) in
+    λ i. record {
+      frames = c.frames;
+      next = c.next + 1;
+      count = λ w. cond (w == c.next) (Some pages) (c.count w);
+      page = λ w p. cond (w == c.next) (same p i) (c.page w p);
+    }
+
+with_snapshot-is : (s new : State) (name koid : ℕ) (target : Name) (start first seen pages : ℕ) (resizable no_write : Bool) → koid ≡ s.content.next
+    → seen ≡ seen_pages s.content target start pages → (first ≡ target.first + start) ⊎ (seen ≡ 0) → new.content ≡ snapshotted s.content target.koid first seen pages
+    → new.names ≡ with_key s.names name (owner koid (not no_write) resizable) → new.lineage ≡ with_key s.lineage koid (record { resizable = resizable; origin = Snapshot; parent = Some target.koid })
+    → new ≡ with_snapshot s name target start pages resizable no_write
+unfolding with_snapshot
+with_snapshot-is s new name koid target start first seen pages resizable no_write e saw from content names lineage =
+    let place = snapshotted-first s.content target.koid first (target.first + start) seen pages from in
+    (λ i. record { content = (content ∙ place) i; names = names i; lineage = lineage i })
+    ∙ λ i. record {
+      content = snapshotted s.content target.koid (target.first + start) (saw i) pages;
+      names = with_key s.names name (owner (e i) (not no_write) resizable);
+      lineage = with_key s.lineage (e i) (record { resizable = resizable; origin = Snapshot; parent = Some target.koid });
+    }
+
+-- arguments that do not contradict each other
+pub args_fine : (offset at : ℕ) (resizable no_write : Bool) → at ≡ offset % PAGE → at ≡ 0 → ((resizable ≡ true) × (no_write ≡ false)) ⊎ (resizable ≡ false) → (not (offset % PAGE == 0) || (resizable && no_write)) ≡ false
+args_fine offset at resizable no_write e f either =
+    ap (λ (b : Bool). not b || (resizable && no_write)) ((Decides-eqb (offset % PAGE) 0).1 (sym e ∙ f)) ∙ go either where
+      go : ((resizable ≡ true) × (no_write ≡ false)) ⊎ (resizable ≡ false) → (resizable && no_write) ≡ false
+      go (inl (h, k)) = λ i. h i && k i
+      go (inr h) = ap (λ (b : Bool). b && no_write) h
+
+-- the snapshot is made, and the name entered
+pub snapshot_done : (s new : State) (name parent : VmoName) (offset size : ℕ) (resizable no_write : Bool) (target : Name) (koid start first seen pages : ℕ)
+    → s.names parent.0 ≡ Some target → is_open s name.0 ≡ false → (not (offset % PAGE == 0) || (resizable && no_write)) ≡ false → offset + rounded size ≤ VMO_PAGES * PAGE
+    → koid ≡ s.content.next → start ≡ offset / PAGE → pages ≡ rounded size / PAGE → seen ≡ seen_pages s.content target start pages → (first ≡ target.first + start) ⊎ (seen ≡ 0)
+    → new.content ≡ snapshotted s.content target.koid first seen pages → new.names ≡ with_key s.names name.0 (owner koid (not no_write) resizable)
+    → new.lineage ≡ with_key s.lineage koid (record { resizable = resizable; origin = Snapshot; parent = Some target.koid })
+    → Step s (VmoChild name parent SnapshotChild offset size resizable no_write) Done new
+snapshot_done s new name parent offset size resizable no_write target koid start first seen pages named free fine few e f h saw from content names lineage =
+    let wrong = not (offset % PAGE == 0) || (resizable && no_write) in
+    let large = nat_lt (VMO_PAGES * PAGE) (offset + rounded size) in
+    Step-done s (VmoChild name parent SnapshotChild offset size resizable no_write) Done new
+    (first_of-skip (not (is_open s parent.0)) BadHandle ((is_open s name.0, NameInUse) ∷ (wrong, InvalidArgs) ∷ (large, OutOfRange) ∷ []) (open_at s parent.0 target named)
+    ∙ first_of-skip (is_open s name.0) NameInUse ((wrong, InvalidArgs) ∷ (large, OutOfRange) ∷ []) free
+    ∙ first_of-skip wrong InvalidArgs ((large, OutOfRange) ∷ []) fine
+    ∙ first_of-skip large OutOfRange [] (test_not_less (VMO_PAGES * PAGE) (offset + rounded size) few)) (
+      refl,
+      with_snapshot-is s new name.0 koid target start first seen pages resizable no_write e saw from content names lineage
+          ∙ (λ i. with_snapshot s name.0 target (f i) (h i) resizable no_write)
+          ∙ ap (λ (t : Name). with_snapshot s name.0 t (offset / PAGE) (rounded size / PAGE) resizable no_write) (sym (target_of-at s parent.0 target named)),
+    )

@@ -1,0 +1,17 @@
+pub mod StepRows
+pub mod NameLaws
+pub mod LookLaws
+pub mod EntryLaws
+pub mod CreateLaws
+pub mod CloseLaws
+pub mod AliasLaws
+pub mod ReadLaws
+pub mod ChangeLaws
+pub mod NeedLaws
+pub mod ResizeLaws
+pub mod RowLaws
+pub mod OwnSteps
+pub mod WriteLaws
+pub mod FillLaws
+pub mod ZeroLaws
+pub mod DecommitLaws

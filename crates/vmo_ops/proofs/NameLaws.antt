@@ -1,0 +1,22 @@
+-- What a name of a good state stands for.
+use Rattle.std.proofs.Common.{◌∙◌}
+use Rattle.std.specs.Prelude.{IsSome}
+use Rattle.vm_model.specs.Names.{Name}
+use Rattle.vm_model.specs.State.{State, IsGoodState, IsGoodName}
+use Rattle.vmo_ops.specs.Targets.{IsInside, IsNamed}
+use Rattle.vmo_ops.proofs.StepRows.{IsInside-good}
+
+pub good_name : (s : State) (target : Name) → IsGoodState s → IsNamed s.names target → IsGoodName s target
+good_name s target good named = (good.names named.0 target named.1).1
+
+-- its VMO is in the store
+pub named_vmo : (s : State) (target : Name) → IsGoodState s → IsNamed s.names target → IsSome (s.content.count target.koid)
+named_vmo s target good named = (good_name s target good named).vmo
+
+-- and in the table
+pub named_lineage : (s : State) (target : Name) → IsGoodState s → IsNamed s.names target → IsSome (s.lineage target.koid)
+named_lineage s target good named = good.known target.koid ∙ named_vmo s target good named
+
+-- and lies inside its VMO
+pub named_inside : (s : State) (target : Name) → IsGoodState s → IsNamed s.names target → IsInside s.content target
+named_inside s target good named = IsInside-good s named.0 target good named.1

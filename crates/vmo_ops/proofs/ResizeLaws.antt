@@ -1,0 +1,94 @@
+-- The steps of changing a size.
+use Rattle.std.proofs.Common.{◌≡◌, ℕ, ◌*◌, ◌/◌, ◌≤◌, Bool, true, false, not, List, [], ◌∷◌, None, Some, refl, sym, ap, ◌∙◌, arith}
+use Rattle.std.specs.Prelude.{nat_lt}
+use Rattle.std.proofs.lemmas.Bool.Decides.{nat_tests}
+use Rattle.vm_base.specs.Pages.{rounded}
+use Rattle.vm_base.specs.declared.pages.TheConstants.{PAGE, VMO_PAGES}
+use Rattle.vm_base.specs.declared.refusal.Refusal.{Refusal}
+use Rattle.vm_base.specs.declared.refusal.Refusal.TheVariants.{BadHandle, AccessDenied, Unavailable, OutOfRange}
+use Rattle.vm_base.specs.declared.names.VmoName.{VmoName}
+use Rattle.vm_model.specs.declared.command.Command.TheVariants.{VmoSetSize}
+use Rattle.vm_model.specs.declared.reply.Reply.TheVariants.{Done, Refused}
+use Rattle.vm_model.specs.Content.{Content}
+use Rattle.vm_model.specs.Zeroing.{resized}
+use Rattle.vm_model.specs.Names.{Name}
+use Rattle.vm_model.specs.State.{State, is_open, target_of}
+use Rattle.vm_model.specs.Refusals.{refusals, first_of}
+use Rattle.vm_model.proofs.NamesLaws.{target_of-at}
+use Rattle.vmo_ops.specs.Targets.{Does}
+use Rattle.vmo_ops.proofs.StepRows.{first_of-skip, first_of-hit, Step-refused, Step-done, open_at, test_not_less}
+use Rattle.vmo_ops.proofs.ChangeLaws.{koid_of-at}
+
+-- a number that is not within a limit is over it
+test_over : (limit n : ℕ) → (n ≤ limit → ◌≡◌ {A = Bool} false true) → nat_lt limit n ≡ true
+test_over limit n over = grind (arith, nat_tests)
+
+-- ---- the rows
+
+module _ (s : State) (name : VmoName) (size : ℕ) (target : Name) (named : s.names name.0 ≡ Some target) where
+  size_rows : List (Bool × Refusal)
+  size_rows = (nat_lt (VMO_PAGES * PAGE) (rounded size), OutOfRange) ∷ []
+
+  resize_rows : List (Bool × Refusal)
+  resize_rows = (not (target_of s name.0).may_resize, Unavailable) ∷ size_rows
+
+  at_target : (right : Name → Bool) (b : Bool) → right target ≡ b → not (right (target_of s name.0)) ≡ not b
+  at_target right b e = ap (λ (t : Name). not (right t)) (target_of-at s name.0 target named) ∙ ap not e
+
+  open_row : first_of (refusals s (VmoSetSize name size)) ≡ first_of ((not (target_of s name.0).may_write, AccessDenied) ∷ resize_rows)
+  unfolding size_rows resize_rows
+  open_row = first_of-skip (not (is_open s name.0)) BadHandle ((not (target_of s name.0).may_write, AccessDenied) ∷ resize_rows) (open_at s name.0 target named)
+
+  pub size_refusals-denied : target.may_write ≡ false → first_of (refusals s (VmoSetSize name size)) ≡ Some AccessDenied
+  size_refusals-denied may = open_row ∙ first_of-hit (not (target_of s name.0).may_write) AccessDenied resize_rows (at_target (λ t. t.may_write) false may)
+
+  module _ (may : target.may_write ≡ true) where
+    write_row : first_of (refusals s (VmoSetSize name size)) ≡ first_of resize_rows
+    write_row = open_row ∙ first_of-skip (not (target_of s name.0).may_write) AccessDenied resize_rows (at_target (λ t. t.may_write) true may)
+
+    pub size_refusals-kept : target.may_resize ≡ false → first_of (refusals s (VmoSetSize name size)) ≡ Some Unavailable
+    unfolding resize_rows
+    size_refusals-kept keeps = write_row ∙ first_of-hit (not (target_of s name.0).may_resize) Unavailable size_rows (at_target (λ t. t.may_resize) false keeps)
+
+    module _ (resizes : target.may_resize ≡ true) where
+      resize_row : first_of (refusals s (VmoSetSize name size)) ≡ first_of size_rows
+      unfolding resize_rows
+      resize_row = write_row ∙ first_of-skip (not (target_of s name.0).may_resize) Unavailable size_rows (at_target (λ t. t.may_resize) true resizes)
+
+      pub size_refusals-large : (rounded size ≤ VMO_PAGES * PAGE → ◌≡◌ {A = Bool} false true) → first_of (refusals s (VmoSetSize name size)) ≡ Some OutOfRange
+      unfolding size_rows
+      size_refusals-large over = resize_row ∙ first_of-hit (nat_lt (VMO_PAGES * PAGE) (rounded size)) OutOfRange [] (test_over (VMO_PAGES * PAGE) (rounded size) over)
+
+      pub size_refusals-none : rounded size ≤ VMO_PAGES * PAGE → first_of (refusals s (VmoSetSize name size)) ≡ None
+      unfolding size_rows
+      size_refusals-none few = resize_row ∙ first_of-skip (nat_lt (VMO_PAGES * PAGE) (rounded size)) OutOfRange [] (test_not_less (VMO_PAGES * PAGE) (rounded size) few)
+
+-- ---- the steps
+
+module _ (c : Content) (target : Name) (size : ℕ) where
+  -- the name may not write
+  pub resize_denied : target.may_write ≡ false → Does (λ name. VmoSetSize name size) target c (Refused AccessDenied) c
+  resize_denied may = λ s name named.
+      Step-refused (record s { content = c }) (VmoSetSize name size) AccessDenied (size_refusals-denied (record s { content = c }) name size target named may)
+
+  -- or it may not resize
+  pub resize_kept : target.may_write ≡ true → target.may_resize ≡ false → Does (λ name. VmoSetSize name size) target c (Refused Unavailable) c
+  resize_kept may keeps = λ s name named.
+      Step-refused (record s { content = c }) (VmoSetSize name size) Unavailable (size_refusals-kept (record s { content = c }) name size target named may keeps)
+
+  -- or the size is over that of the largest VMO
+  pub resize_large : target.may_write ≡ true → target.may_resize ≡ true → (rounded size ≤ VMO_PAGES * PAGE → ◌≡◌ {A = Bool} false true) → Does (λ name. VmoSetSize name size) target c (Refused OutOfRange) c
+  resize_large may resizes over = λ s name named.
+      Step-refused (record s { content = c }) (VmoSetSize name size) OutOfRange (size_refusals-large (record s { content = c }) name size target named may resizes over)
+
+  -- the VMO has its new size
+  pub resize_done : (new : Content) (whole pages : ℕ) → target.may_write ≡ true → target.may_resize ≡ true → rounded size ≤ VMO_PAGES * PAGE → whole ≡ rounded size → pages ≡ whole / PAGE
+      → new ≡ resized c target.koid pages → Does (λ name. VmoSetSize name size) target c Done new
+  resize_done new whole pages may resizes few e f is = λ s name named.
+      let t : State = record s { content = c } in
+      let count : pages ≡ rounded size / PAGE = f ∙ ap (λ (n : ℕ). n / PAGE) e in
+      Step-done t (VmoSetSize name size) Done (record s { content = new }) (size_refusals-none t name size target named may resizes few) (
+        refl,
+        ap (λ (d : Content). record s { content = d }) is
+            ∙ (λ i. record s { content = resized c (sym (koid_of-at t name.0 target named) i) (count i) }),
+      )

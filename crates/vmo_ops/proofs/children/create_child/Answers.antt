@@ -1,0 +1,7 @@
+use Rattle.vmo_table.specs.Table.{name_of, state_with}
+use Rattle.vmo_ops.proofs.NameLaws.{named_lineage}
+use Rattle.vmo_ops.proofs.children.create_child.Goals as goal
+
+pub reference-requires-clause-vmo : goal.reference-requires-clause-vmo
+reference-requires-clause-vmo g c =
+    named_lineage (state_with (g.P.PageStore.content c.args.store.now) c.args.vmos.now) (name_of c.args.t.now) c.requires.good c.requires.named

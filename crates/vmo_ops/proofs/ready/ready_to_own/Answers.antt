@@ -1,0 +1,40 @@
+use Rattle.std.proofs.Common.{◌*◌, ◌+◌, arith}
+use Rattle.vmo_table.specs.Table.{name_of}
+use Rattle.vmo_ops.proofs.StepRows.{pages_of_le}
+use Rattle.vmo_ops.proofs.ChangeLaws.{IsRefusedBy-place, IsRefusedBy-no_memory, IsRefusedBy-lacks, IsAllowed-free}
+use Rattle.vmo_ops.proofs.NeedLaws.{need-any, need-at}
+use Rattle.vmo_ops.proofs.ready.ready_to_own.Goals as goal
+
+pub returns-in-Err-clause-err : goal.returns-in-Err-clause-err
+returns-in-Err-clause-err g c = IsRefusedBy-place _ _ _ _ _ _ c.in-Err.refusal c.in-Err.ensures.err
+
+pub touched_pages-first-requires : goal.touched_pages-first-requires
+touched_pages-first-requires g c =
+    let few = pages_of_le (g.P.PageStore.content c.args.store.now) c.args.t.now.koid.0 c.requires.good in
+    omega (arith, c.in-Ok.ensures.ok.1.inside)
+
+pub returns-then-need-from-clause-err : goal.returns-then-need-from-clause-err
+returns-then-need-from-clause-err g c =
+    let d = g.P.PageStore.content c.args.store.now in
+    let ok = c.in-Ok.ensures.ok in
+    let place = c.args.t.now.first * 4096 + c.args.offset in
+    let counted = need-at d c.args.t.now.koid.0 c.in-Ok.at place c.args.len _ _ _ ok.1.place c.touched_pages-first.ensures.pages c.need_of-need.ensures in
+    IsRefusedBy-no_memory _ _ _ _ _ _ ok.0 ok.1.range (omega (arith, counted, c.free.ensures, c.from.ensures))
+
+pub returns-in_default-clause-err : goal.returns-in_default-clause-err
+returns-in_default-clause-err g c =
+    let d = g.P.PageStore.content c.args.store.now in
+    let ok = c.in-Ok.ensures.ok in
+    let place = c.args.t.now.first * 4096 + c.args.offset in
+    let row = c.touched_pages-first.ensures.pages in
+    let counted = need-at d c.args.t.now.koid.0 c.in-Ok.at place c.args.len _ _ _ ok.1.place row c.need_of-need.ensures in
+    IsRefusedBy-lacks _ _ _ _ _ _ ok.0 ok.1.range (omega (arith, counted, c.free.ensures, c.from.ensures))
+    (need-any d c.args.t.now.koid.0 c.in-Ok.at place c.args.len _ _ _ ok.1.place row c.need_of-need.ensures c.in_default.ensures.err)
+
+pub returns-clause-allowed : goal.returns-clause-allowed
+returns-clause-allowed g c =
+    let d = g.P.PageStore.content c.args.store.now in
+    let ok = c.in-Ok.ensures.ok in
+    let place = c.args.t.now.first * 4096 + c.args.offset in
+    let counted = need-at d c.args.t.now.koid.0 c.in-Ok.at place c.args.len _ _ _ ok.1.place c.touched_pages-first.ensures.pages c.need_of-need.ensures in
+    IsAllowed-free d (name_of c.args.t.now) c.args.offset c.args.len _ ok.0 ok.1.range (omega (arith, counted, c.free.ensures, c.from.ensures))

@@ -1,0 +1,48 @@
+-- What a name stands for, and what a command does by it.
+use Rattle.std.specs.Prelude.{◌≡◌, ℕ, ◌+◌, ◌*◌, ◌≤◌, Option, None, Some, Result, IsSome}
+use Rattle.std.specs.declared.result.Result.TheVariants.{Ok, Err}
+use Rattle.vm_base.specs.declared.names.Koid.{Koid}
+use Rattle.vm_base.specs.declared.names.VmoName.{VmoName}
+use Rattle.vm_base.specs.declared.pages.TheConstants.{PAGE}
+use Rattle.vm_base.specs.declared.refusal.Refusal.{Refusal}
+use Rattle.vm_model.specs.declared.command.ChildKind.{ChildKind}
+use Rattle.vm_model.specs.declared.command.ChildKind.TheVariants.{Snapshot, Slice, Reference}
+use Rattle.vm_model.specs.declared.command.Command.{Command}
+use Rattle.vm_model.specs.declared.reply.Reply.{Reply}
+use Rattle.vm_model.specs.declared.reply.Reply.TheVariants.{Refused}
+use Rattle.vm_model.specs.Content.{Content, pages_of}
+use Rattle.vm_model.specs.Names.{Name}
+use Rattle.vm_model.specs.State.{State, name_pages}
+use Rattle.vm_model.specs.Step.{Step}
+
+-- what the name stands for lies inside its VMO
+pub record IsInside (c : Content) (target : Name) : Type 0 where
+  pub vmo : IsSome (c.count target.koid)
+  pub pages : target.first + name_pages c target ≤ pages_of c target.koid
+
+-- a range of a name lies inside it, at this place in the VMO
+pub record IsPlaced (c : Content) (target : Name) (offset len at : ℕ) : Type 0 where
+  pub range : offset + len ≤ name_pages c target * PAGE
+  pub place : at ≡ target.first * PAGE + offset
+  pub inside : at + len ≤ pages_of c target.koid * PAGE
+
+-- some name stands for this
+abbrev pub IsNamed : (ℕ → Option Name) → Name → Type 0
+IsNamed names target = (n : ℕ) × (names n ≡ Some target)
+
+-- what a call answers, as a reply of the machine
+abbrev pub reply_of : {A : Type 0} → (A → Reply) → Result A Refusal → Reply
+reply_of done (Ok a) = done a
+reply_of done (Err refusal) = Refused refusal
+
+-- A name that stands for the target gives the command: from the old content to the new it is a step of the machine with this reply,
+-- whichever name it is and whatever else the state has.
+abbrev pub Does : (VmoName → Command) → Name → Content → Reply → Content → Type 0
+Does command target old reply new =
+    (s : State) (name : VmoName) → s.names name.0 ≡ Some target → Step (record s { content = old }) (command name) reply (record s { content = new })
+
+-- the koid that a child of this kind is given, where the next koid is this: a snapshot is a VMO of its own
+abbrev pub koid_given : ChildKind → ℕ → Option Koid
+koid_given Snapshot next = Some (record { 0 = next })
+koid_given Slice next = None
+koid_given Reference next = None

@@ -1,0 +1,153 @@
+//! Further names of a VMO (`ZX_VMO_CHILD_SLICE`, `ZX_VMO_CHILD_REFERENCE`).
+
+ghost use Rattle.std.specs.Prelude.{◌≡◌, ◌≢◌, ◌+◌, ◌*◌, ◌/◌, ◌%◌, ◌<◌, ◌≤◌, ◌^◌, ◌⊎◌, ◌==◌, ◌&&◌, ◌||◌, not, None, Some, IsSome, IfNone, IfSome};
+ghost use Rattle.vm_base.specs.Pages.{rounded};
+ghost use Rattle.vm_base.specs.declared.names.VmoName.{VmoName};
+ghost use Rattle.vm_model.specs.declared.command.Command.{Command};
+ghost use Rattle.vm_model.specs.declared.command.ChildKind.TheVariants.{Slice, Reference};
+ghost use Rattle.vm_model.specs.declared.reply.Reply.{Reply};
+ghost use Rattle.vm_model.specs.Content.{Content, IsGood};
+ghost use Rattle.vm_model.specs.Names.{is_kind};
+ghost use Rattle.vm_model.specs.State.{IsGoodState, name_pages};
+ghost use Rattle.vm_model.specs.Step.{Step, slice_of, reference_of};
+ghost use Rattle.vmo_table.specs.Table.{name_of, names_of, lineage_in, state_with};
+ghost use Rattle.vmo_ops.specs.Targets.{IsInside, IsNamed, reply_of};
+
+use crate::sizes::size;
+use page_store::PageStore;
+use vm_base::{PageNo, Refusal, VmoName, in_page, page_of, round_up};
+use vmo_table::{NameKind, Target, VmoTable};
+
+/// Lets a name stand for a part of what `t` stands for: `bytes` bytes rounded up to whole pages, from
+/// `offset` bytes into it on. It is another name of the same pages, and may not be resized.
+pub(crate) fn slice<P: PageStore>(
+    store: &P,
+    vmos: &mut VmoTable,
+    name: VmoName,
+    t: &Target,
+    offset: u64,
+    bytes: u64,
+    resizable: bool,
+    no_write: bool,
+) -> Result<(), Refusal>
+    requires good { IsGoodState (state_with (P.content store.now) vmos.old) }
+    requires named { IsNamed (names_of vmos.old) (name_of t.now) }
+    requires closed { names_of vmos.old name.0 ≡ None }
+    ensures { (parent : VmoName) → names_of vmos.old parent.0 ≡ Some (name_of t.now) →
+        Step (state_with (P.content store.now) vmos.old)
+        (Command.VmoChild name parent Slice offset bytes resizable no_write)
+        (reply_of (λ _. Reply.Done) result) (state_with (P.content store.now) vmos.new) }
+{
+    if resizable {
+        return Err(Refusal::InvalidArgs);
+    }
+    let Some(pages) = pages_inside(store, t, offset, bytes) else {
+        return Err(Refusal::InvalidArgs);
+    };
+    if vmos.resizable(t.koid) {
+        return Err(Refusal::NotSupported);
+    }
+    let Ok(()) = vmos.reserve() else {
+        return Err(Refusal::HostMemory);
+    };
+    vmos.alias(name, slice_target(t, page_of(offset), pages, no_write));
+    Ok(())
+}
+
+// The pages of `bytes` bytes, where `offset` is a whole number of pages and they end inside the name.
+fn pages_inside<P: PageStore>(store: &P, target: &Target, offset: u64, bytes: u64) -> Option<PageNo>
+    requires good { IsGood (P.content store.now) }
+    requires inside { IsInside (P.content store.now) (name_of target.now) }
+    ensures some { IfSome result (λ pages. (offset % 4096 ≡ 0) × (pages ≡ rounded bytes / 4096)
+        × (offset + rounded bytes ≤ name_pages (P.content store.now) (name_of target.now) * 4096)) }
+    ensures none { IfNone result ((offset % 4096 ≢ 0)
+        ⊎ (name_pages (P.content store.now) (name_of target.now) * 4096 < offset + rounded bytes)) }
+{
+    if in_page(offset) != 0 {
+        return None;
+    }
+    let limit = size(store, target).checked_sub(offset)?;
+    let whole = round_up(bytes, limit)?;
+    Some(page_of(whole))
+}
+
+// What a slice of so many pages stands for, from the name's page `start` on.
+fn slice_target(target: &Target, start: PageNo, pages: PageNo, no_write: bool) -> Target
+    requires { target.now.first + start < 2 ^ 64 }
+    ensures { name_of result ≡ slice_of (name_of target.now) start pages no_write }
+{
+    Target {
+        koid: target.koid,
+        first: target.first + start,
+        limit: Some(pages),
+        kind: NameKind::Slice,
+        may_write: target.may_write && !no_write,
+        may_resize: false,
+    }
+}
+
+/// Lets a name stand for all of the VMO that `t` stands for. Offset and size are 0. It may be resized
+/// where `resizable` is given, which `t` must allow.
+pub(crate) fn reference(
+    vmos: &mut VmoTable,
+    name: VmoName,
+    t: &Target,
+    offset: u64,
+    bytes: u64,
+    resizable: bool,
+    no_write: bool,
+) -> Result<(), Refusal>
+    requires named { IsNamed (names_of vmos.old) (name_of t.now) }
+    requires vmo { IsSome (lineage_in vmos.old t.now.koid.0) }
+    requires closed { names_of vmos.old name.0 ≡ None }
+    ensures { (c : Content) (parent : VmoName) → names_of vmos.old parent.0 ≡ Some (name_of t.now) →
+        Step (state_with c vmos.old) (Command.VmoChild name parent Reference offset bytes resizable no_write)
+        (reply_of (λ _. Reply.Done) result) (state_with c vmos.new) }
+{
+    if is_contradictory(offset, bytes, resizable, no_write, t.may_resize) {
+        return Err(Refusal::InvalidArgs);
+    }
+    if is_slice(t.kind) {
+        return Err(Refusal::NotSupported);
+    }
+    let Ok(()) = vmos.reserve() else {
+        return Err(Refusal::HostMemory);
+    };
+    vmos.alias(name, reference_target(t, resizable, no_write));
+    Ok(())
+}
+
+// Whether a reference may not have these arguments, where the name that it is made of may be resized
+// or not.
+fn is_contradictory(
+    offset: u64,
+    bytes: u64,
+    resizable: bool,
+    no_write: bool,
+    may_resize: bool,
+) -> bool
+    ensures { result ≡ (not (offset == 0 && bytes == 0) || (resizable && (no_write || not may_resize))) }
+{
+    offset != 0 || bytes != 0 || (resizable && (no_write || !may_resize))
+}
+
+// Whether it is the kind of a name that stands for a part of its VMO.
+fn is_slice(kind: NameKind) -> bool
+    ensures { result ≡ is_kind NameKind.Slice kind }
+{
+    matches!(kind, NameKind::Slice)
+}
+
+// What a reference stands for: all of the VMO of the name.
+fn reference_target(target: &Target, resizable: bool, no_write: bool) -> Target
+    ensures { name_of result ≡ reference_of (name_of target.now) resizable no_write }
+{
+    Target {
+        koid: target.koid,
+        first: 0,
+        limit: None,
+        kind: NameKind::Reference,
+        may_write: target.may_write && !no_write,
+        may_resize: resizable,
+    }
+}

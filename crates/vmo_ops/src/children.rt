@@ -1,0 +1,71 @@
+//! Making a child of a VMO (`zx_vmo_create_child`).
+
+ghost use Rattle.std.specs.Prelude.{◌≡◌, ◌<◌, ◌^◌, None, Some, IfOk};
+ghost use Rattle.vm_base.specs.declared.names.VmoName.{VmoName};
+ghost use Rattle.vm_model.specs.declared.command.Command.{Command};
+ghost use Rattle.vm_model.specs.declared.reply.Reply.{Reply};
+ghost use Rattle.vm_model.specs.State.{IsGoodState};
+ghost use Rattle.vm_model.specs.Step.{Step};
+ghost use Rattle.vmo_table.specs.Table.{name_of, names_of, state_with};
+ghost use Rattle.vmo_ops.specs.Targets.{IsNamed, koid_given, reply_of};
+
+use crate::aliases::{reference, slice};
+use crate::snapshots::snapshot;
+use page_store::PageStore;
+use vm_base::{Koid, Refusal, VmoName};
+use vm_model::ChildKind;
+use vmo_table::{Target, VmoTable};
+
+/// Lets a name that is not open stand for a child of what `t` stands for: a snapshot, which is a VMO of
+/// its own and whose koid is the answer, or a slice or a reference, which are names of the same VMO and
+/// have no koid. The child is `size` bytes, rounded up to whole pages, from `offset` bytes into the name
+/// on, and all of the VMO for a reference. Refusals, in their order:
+///
+/// - `InvalidArgs` where `offset` is not a multiple of the page size, where `resizable` and `no_write` are
+///   both given, where a slice leaves the name or is to be resizable, where a reference has an offset or a
+///   size, or is to be resizable and `t` may not resize;
+/// - `NotSupported` for a slice of a VMO that is resizable, and for a reference of a slice;
+/// - `OutOfRange` where `offset` and the rounded size of a snapshot are over 2^36 bytes together;
+/// - `HostMemory`.
+pub fn create_child<P: PageStore>(
+    store: &mut P,
+    vmos: &mut VmoTable,
+    name: VmoName,
+    t: &Target,
+    kind: ChildKind,
+    offset: u64,
+    size: u64,
+    resizable: bool,
+    no_write: bool,
+) -> Result<Option<Koid>, Refusal>
+    requires good { IsGoodState (state_with (P.content store.old) vmos.old) }
+    requires named { IsNamed (names_of vmos.old) (name_of t.now) }
+    requires closed { names_of vmos.old name.0 ≡ None }
+    requires next { (P.content store.old).next < 2 ^ 63 }
+    ensures step { (parent : VmoName) → names_of vmos.old parent.0 ≡ Some (name_of t.now) →
+        Step (state_with (P.content store.old) vmos.old)
+        (Command.VmoChild name parent kind offset size resizable no_write)
+        (reply_of (λ _. Reply.Done) result) (state_with (P.content store.new) vmos.new) }
+    ensures koid { IfOk result (λ koid. koid ≡ koid_given kind (P.content store.old).next) }
+{
+    match kind {
+        ChildKind::Snapshot => {
+            match snapshot(store, vmos, name, t, offset, size, resizable, no_write) {
+                Ok(koid) => Ok(Some(koid)),
+                Err(refusal) => Err(refusal),
+            }
+        }
+        ChildKind::Slice => {
+            match slice(store, vmos, name, t, offset, size, resizable, no_write) {
+                Ok(()) => Ok(None),
+                Err(refusal) => Err(refusal),
+            }
+        }
+        ChildKind::Reference => {
+            match reference(vmos, name, t, offset, size, resizable, no_write) {
+                Ok(()) => Ok(None),
+                Err(refusal) => Err(refusal),
+            }
+        }
+    }
+}

@@ -1,0 +1,50 @@
+//! Committing pages (`ZX_VMO_OP_COMMIT`).
+
+ghost use Rattle.std.specs.Prelude.{◌≡◌, ◌+◌, ◌*◌, ◌≤◌};
+ghost use Rattle.vm_model.specs.declared.command.Command.{Command};
+ghost use Rattle.vm_model.specs.declared.reply.Reply.{Reply};
+ghost use Rattle.vm_model.specs.Content.{pages_of, used, IsGood};
+ghost use Rattle.vm_model.specs.Owning.{need, OwnsAll};
+ghost use Rattle.vm_model.specs.Writing.{touched};
+ghost use Rattle.vmo_table.specs.Table.{name_of};
+ghost use Rattle.vmo_ops.specs.Targets.{IsInside, Does, reply_of};
+
+use crate::owning::own_for_write;
+use crate::ranges::touched_pages;
+use crate::ready::ready_to_own;
+use page_store::PageStore;
+use vm_base::{Koid, Refusal};
+use vmo_table::Target;
+
+/// Gives each page that a range touches a frame of its own, with the bytes that it shows. The range is
+/// `len` bytes from `offset` bytes into the name on. Refusals, in their order: `AccessDenied` where the
+/// name may not write, `OutOfRange` where the range passes its end, `NoMemory` where the pages that are
+/// not sole are more than the free frames, `HostMemory` only where there is such a page.
+pub fn commit<P: PageStore>(store: &mut P, t: &Target, offset: u64, len: u64) -> Result<(), Refusal>
+    requires good { IsGood (P.content store.old) }
+    requires inside { IsInside (P.content store.old) (name_of t.now) }
+    ensures { Does (λ name. Command.VmoCommit name offset len) (name_of t.now) (P.content store.old)
+        (reply_of (λ _. Reply.Done) result) (P.content store.new) }
+{
+    let at = match ready_to_own(store, t, offset, len) {
+        Ok(at) => at,
+        Err(refusal) => return Err(refusal),
+    };
+    own_pages(store, t.koid, at, len);
+    Ok(())
+}
+
+// Owns the pages that a range inside the VMO touches, where the room for it is there.
+fn own_pages<P: PageStore>(store: &mut P, v: Koid, offset: u64, len: u64)
+    requires good { IsGood (P.content store.old) }
+    requires inside { offset + len ≤ pages_of (P.content store.old) v.0 * 4096 }
+    requires room { need (P.content store.old) v.0 (touched offset len) ≤ P.spare store.old }
+    requires free { used (P.content store.old) + need (P.content store.old) v.0 (touched offset len)
+        ≤ (P.content store.old).frames }
+    ensures { OwnsAll (P.content store.old) v.0 (touched offset len) (P.content store.new) }
+{
+    let (first, end) = touched_pages(offset, len);
+    for page in first..end {
+        own_for_write(store, v, page);
+    }
+}

@@ -1,0 +1,84 @@
+//! Filling a range with one byte.
+
+ghost use Rattle.std.specs.Prelude.{◌≡◌, ℕ, ◌+◌, ◌*◌, ◌/◌, ◌<◌, ◌≤◌, ◌⊎◌, true, length, replicate, if◌then◌else◌};
+ghost use Rattle.vm_model.specs.declared.command.Command.{Command};
+ghost use Rattle.vm_model.specs.declared.reply.Reply.{Reply};
+ghost use Rattle.vm_model.specs.Content.{pages_of, sole, used, IsGood};
+ghost use Rattle.vm_model.specs.Owning.{need};
+ghost use Rattle.vm_model.specs.Writing.{touched, piece, pieces, WritesPiece, Writes};
+ghost use Rattle.vmo_table.specs.Table.{name_of};
+ghost use Rattle.vmo_ops.specs.Targets.{IsInside, Does, reply_of};
+
+use crate::ranges::touched_pages;
+use crate::ready::ready_to_own;
+use crate::writing::write_part;
+use page_store::PageStore;
+use vm_base::{Koid, PAGE, PageNo, Refusal};
+use vmo_table::Target;
+
+/// Writes one byte at every place of a range: `len` bytes from `offset` bytes into the name on. The
+/// refusals are those of a write of these bytes, in the same order.
+pub fn fill<P: PageStore>(
+    store: &mut P,
+    t: &Target,
+    offset: u64,
+    len: u64,
+    byte: u8,
+) -> Result<(), Refusal>
+    requires good { IsGood (P.content store.old) }
+    requires inside { IsInside (P.content store.old) (name_of t.now) }
+    ensures { Does (λ name. Command.VmoFill name offset len byte) (name_of t.now) (P.content store.old)
+        (reply_of (λ _. Reply.Done) result) (P.content store.new) }
+{
+    let at = match ready_to_own(store, t, offset, len) {
+        Ok(at) => at,
+        Err(refusal) => return Err(refusal),
+    };
+    fill_pages(store, t.koid, at, len, byte);
+    Ok(())
+}
+
+// Fills a range inside the VMO, page by page, where the room for it is there.
+fn fill_pages<P: PageStore>(store: &mut P, v: Koid, offset: u64, len: u64, byte: u8)
+    requires good { IsGood (P.content store.old) }
+    requires inside { offset + len ≤ pages_of (P.content store.old) v.0 * 4096 }
+    requires room { need (P.content store.old) v.0 (touched offset len) ≤ P.spare store.old }
+    requires free { used (P.content store.old) + need (P.content store.old) v.0 (touched offset len)
+        ≤ (P.content store.old).frames }
+    ensures { Writes (P.content store.old) v.0 (pieces offset (replicate len byte)) (P.content store.new) }
+{
+    let bytes = [byte; 4096];
+    let (first, end) = touched_pages(offset, len);
+    for page in first..end {
+        fill_part(store, v, offset, len, page, &bytes);
+    }
+}
+
+/// Fills what of a range falls into one page that it touches, with bytes of a page that are all the same.
+/// The page is owned first.
+pub(crate) fn fill_part<P: PageStore>(
+    store: &mut P,
+    v: Koid,
+    offset: u64,
+    len: u64,
+    page: PageNo,
+    bytes: &[u8],
+)
+    requires good { IsGood (P.content store.old) }
+    requires page { page < pages_of (P.content store.old) v.0 }
+    requires range { offset + len ≤ pages_of (P.content store.old) v.0 * 4096 }
+    requires first { offset / 4096 ≤ page }
+    requires last { page * 4096 < offset + len }
+    requires whole { length bytes.now ≡ 4096 }
+    requires room { (sole (P.content store.old) v.0 page ≡ true)
+        ⊎ ((1 ≤ P.spare store.old) × (used (P.content store.old) < (P.content store.old).frames)) }
+    ensures writes { (byte : ℕ) → bytes.now ≡ replicate 4096 byte →
+        WritesPiece (P.content store.old) v.0 (piece offset (replicate len byte) page) (P.content store.new) }
+    ensures spare { P.spare store.old
+        ≤ P.spare store.new + (if sole (P.content store.old) v.0 page then 0 else 1) }
+{
+    let start = page * PAGE;
+    let at = offset.saturating_sub(start);
+    let until = (offset + len - start).min(PAGE);
+    write_part(store, v, page, at, &bytes[at as usize..until as usize]);
+}

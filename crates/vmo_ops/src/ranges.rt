@@ -1,0 +1,61 @@
+//! Ranges of a name, in bytes from its first byte, and ranges of a VMO.
+
+ghost use Rattle.std.specs.Prelude.{◌≡◌, ◌+◌, ◌-◌, ◌*◌, ◌/◌, ◌<◌, ◌≤◌, ◌↔◌, IsTrue, IfNone, IfSome};
+ghost use Rattle.std.specs.List.{range_with_len};
+ghost use Rattle.vm_model.specs.Content.{IsGood};
+ghost use Rattle.vm_model.specs.State.{name_pages};
+ghost use Rattle.vm_model.specs.Writing.{touched};
+ghost use Rattle.vmo_table.specs.Table.{name_of};
+ghost use Rattle.vmo_ops.specs.Targets.{IsInside, IsPlaced};
+
+use crate::sizes::size;
+use page_store::PageStore;
+use vm_base::{PAGE, PageNo, page_of};
+use vmo_table::Target;
+
+/// The place in its VMO, in bytes, of a range of a name. `None` exactly where the range does not lie
+/// inside the name.
+pub(crate) fn place_in_vmo<P: PageStore>(
+    store: &P,
+    target: &Target,
+    offset: u64,
+    len: u64,
+) -> Option<u64>
+    requires good { IsGood (P.content store.now) }
+    requires inside { IsInside (P.content store.now) (name_of target.now) }
+    ensures some { IfSome result (λ at. IsPlaced (P.content store.now) (name_of target.now) offset len at) }
+    ensures none { IfNone result (name_pages (P.content store.now) (name_of target.now) * 4096 < offset + len) }
+{
+    if !is_in_range(store, target, offset, len) {
+        return None;
+    }
+    Some(target.first * PAGE + offset)
+}
+
+// Whether the range lies inside the name. An offset and a length whose sum passes 2^64 do not.
+fn is_in_range<P: PageStore>(store: &P, target: &Target, offset: u64, len: u64) -> bool
+    requires good { IsGood (P.content store.now) }
+    requires inside { IsInside (P.content store.now) (name_of target.now) }
+    ensures { IsTrue result ↔ (offset + len ≤ name_pages (P.content store.now) (name_of target.now) * 4096) }
+{
+    let bytes = size(store, target);
+    len <= bytes && offset <= bytes - len
+}
+
+/// The first page that holds a byte of the range, and the page behind the last. The two are one
+/// where the range has no byte.
+pub(crate) fn touched_pages(offset: u64, len: u64) -> (PageNo, PageNo)
+    requires { offset + len ≤ 68719476736 }
+    ensures first { result.0 ≡ offset / 4096 }
+    ensures order { result.0 ≤ result.1 }
+    ensures end { result.1 * 4096 < offset + len + 4096 }
+    ensures pages { touched offset len ≡ range_with_len result.0 (result.1 - result.0) }
+{
+    let first = page_of(offset);
+    let end = if len == 0 {
+        first
+    } else {
+        page_of(offset + len + (PAGE - 1))
+    };
+    (first, end)
+}

@@ -1,0 +1,56 @@
+//! The size of a VMO, and changing it (`zx_vmo_get_size`, `zx_vmo_set_size`).
+
+ghost use Rattle.std.specs.Prelude.{◌≡◌, ◌*◌};
+ghost use Rattle.vm_model.specs.declared.command.Command.{Command};
+ghost use Rattle.vm_model.specs.declared.reply.Reply.{Reply};
+ghost use Rattle.vm_model.specs.Content.{IsGood};
+ghost use Rattle.vm_model.specs.State.{name_pages};
+ghost use Rattle.vmo_table.specs.Table.{name_of};
+ghost use Rattle.vmo_ops.specs.Targets.{IsInside, Does, reply_of};
+
+use page_store::PageStore;
+use vm_base::{PAGE, PageNo, Refusal, VMO_PAGES, page_of, round_up};
+use vmo_table::Target;
+
+/// The size in bytes of what a name stands for: its pages', at most 2^36.
+pub fn size<P: PageStore>(store: &P, t: &Target) -> u64
+    requires good { IsGood (P.content store.now) }
+    requires inside { IsInside (P.content store.now) (name_of t.now) }
+    ensures { result ≡ name_pages (P.content store.now) (name_of t.now) * 4096 }
+{
+    pages_of_name(store, t) * PAGE
+}
+
+/// How many pages a name has: as many as its limit says, or all of its VMO.
+pub(crate) fn pages_of_name<P: PageStore>(store: &P, t: &Target) -> PageNo
+    requires { IsInside (P.content store.now) (name_of t.now) }
+    ensures { result ≡ name_pages (P.content store.now) (name_of t.now) }
+{
+    match t.limit {
+        Some(pages) => pages,
+        None => store.count(t.koid),
+    }
+}
+
+/// Changes the size of a VMO to `size` bytes, rounded up to whole pages. Pages past the new end leave
+/// it, and pages that come in are zero. Refusals, in their order: `AccessDenied` where the name may not
+/// write, `Unavailable` where it may not resize, `OutOfRange` where the size is over 2^36 bytes. It
+/// never wants memory.
+pub fn resize<P: PageStore>(store: &mut P, t: &Target, size: u64) -> Result<(), Refusal>
+    requires good { IsGood (P.content store.old) }
+    requires inside { IsInside (P.content store.old) (name_of t.now) }
+    ensures { Does (λ name. Command.VmoSetSize name size) (name_of t.now) (P.content store.old)
+        (reply_of (λ _. Reply.Done) result) (P.content store.new) }
+{
+    if !t.may_write {
+        return Err(Refusal::AccessDenied);
+    }
+    if !t.may_resize {
+        return Err(Refusal::Unavailable);
+    }
+    let Some(whole) = round_up(size, VMO_PAGES * PAGE) else {
+        return Err(Refusal::OutOfRange);
+    };
+    store.set_count(t.koid, page_of(whole));
+    Ok(())
+}

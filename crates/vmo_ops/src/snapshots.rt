@@ -1,0 +1,98 @@
+//! Making a snapshot of a VMO (`ZX_VMO_CHILD_SNAPSHOT`).
+
+ghost use Rattle.std.specs.Prelude.{◌≡◌, ◌+◌, ◌*◌, ◌/◌, ◌<◌, ◌≤◌, ◌^◌, ◌⊎◌, None, Some, IfNone, IfSome, IfOk};
+ghost use Rattle.vm_base.specs.Pages.{rounded};
+ghost use Rattle.vm_base.specs.declared.names.VmoName.{VmoName};
+ghost use Rattle.vm_model.specs.declared.command.Command.{Command};
+ghost use Rattle.vm_model.specs.declared.command.ChildKind.TheVariants.{Snapshot};
+ghost use Rattle.vm_model.specs.declared.reply.Reply.{Reply};
+ghost use Rattle.vm_model.specs.Content.{pages_of, IsGood};
+ghost use Rattle.vm_model.specs.State.{IsGoodState};
+ghost use Rattle.vm_model.specs.Step.{Step, seen_pages};
+ghost use Rattle.vmo_table.specs.Table.{name_of, names_of, state_with};
+ghost use Rattle.vmo_ops.specs.Targets.{IsInside, IsNamed, reply_of};
+
+use crate::sizes::pages_of_name;
+use page_store::PageStore;
+use vm_base::{Koid, PAGE, PageNo, Refusal, VMO_PAGES, VmoName, in_page, page_of, round_up};
+use vmo_table::{Origin, Target, VmoTable};
+
+/// Makes a VMO that shows the pages of what `t` stands for, from `offset` bytes into it on, as they are
+/// now. No byte is copied: a page is copied when one of the two VMOs is written to. Pages past the end of
+/// the name are zero.
+pub(crate) fn snapshot<P: PageStore>(
+    store: &mut P,
+    vmos: &mut VmoTable,
+    name: VmoName,
+    t: &Target,
+    offset: u64,
+    size: u64,
+    resizable: bool,
+    no_write: bool,
+) -> Result<Koid, Refusal>
+    requires good { IsGoodState (state_with (P.content store.old) vmos.old) }
+    requires named { IsNamed (names_of vmos.old) (name_of t.now) }
+    requires closed { names_of vmos.old name.0 ≡ None }
+    requires next { (P.content store.old).next < 2 ^ 63 }
+    ensures step { (parent : VmoName) → names_of vmos.old parent.0 ≡ Some (name_of t.now) →
+        Step (state_with (P.content store.old) vmos.old)
+        (Command.VmoChild name parent Snapshot offset size resizable no_write)
+        (reply_of (λ _. Reply.Done) result) (state_with (P.content store.new) vmos.new) }
+    ensures koid { IfOk result (λ koid. koid.0 ≡ (P.content store.old).next) }
+{
+    if in_page(offset) != 0 || (resizable && no_write) {
+        return Err(Refusal::InvalidArgs);
+    }
+    let Some(pages) = pages_within(offset, size) else {
+        return Err(Refusal::OutOfRange);
+    };
+    let Ok(()) = vmos.reserve() else {
+        return Err(Refusal::HostMemory);
+    };
+    let (first, seen) = seen_part(store, t, page_of(offset), pages);
+    let Ok(koid) = store.snapshot(t.koid, first, seen, pages) else {
+        return Err(Refusal::HostMemory);
+    };
+    vmos.enter(
+        name,
+        koid,
+        resizable,
+        Origin::Snapshot,
+        Some(t.koid),
+        !no_write,
+    );
+    Ok(koid)
+}
+
+// The pages of `size` bytes, where they end at or below the greatest size of a VMO, counted from
+// `offset` on.
+fn pages_within(offset: u64, size: u64) -> Option<PageNo>
+    ensures some { IfSome result (λ pages. (pages ≡ rounded size / 4096) × (offset + rounded size ≤ 68719476736) × (pages ≤ 16777216)) }
+    ensures none { IfNone result (68719476736 < offset + rounded size) }
+{
+    let limit = (VMO_PAGES * PAGE).checked_sub(offset)?;
+    let whole = round_up(size, limit)?;
+    Some(page_of(whole))
+}
+
+// The first page in its VMO, and how many there are, of the pages that a snapshot sees of a name: at
+// most `pages` from the name's page `start` on. Where it sees none, the first is 0.
+fn seen_part<P: PageStore>(
+    store: &P,
+    target: &Target,
+    start: PageNo,
+    pages: PageNo,
+) -> (PageNo, PageNo)
+    requires good { IsGood (P.content store.now) }
+    requires inside { IsInside (P.content store.now) (name_of target.now) }
+    ensures seen { result.1 ≡ seen_pages (P.content store.now) (name_of target.now) start pages }
+    ensures first { (result.0 ≡ target.now.first + start) ⊎ (result.1 ≡ 0) }
+    ensures inside { result.0 + result.1 ≤ pages_of (P.content store.now) target.now.koid.0 }
+    ensures few { result.1 ≤ pages }
+{
+    let have = pages_of_name(store, target);
+    if have <= start {
+        return (0, 0);
+    }
+    (target.first + start, pages.min(have - start))
+}

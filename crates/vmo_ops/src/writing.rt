@@ -1,0 +1,82 @@
+//! Writing bytes to a VMO (`zx_vmo_write`).
+
+ghost use Rattle.std.specs.Prelude.{◌≡◌, ◌+◌, ◌-◌, ◌*◌, ◌/◌, ◌<◌, ◌≤◌, ◌⊎◌, true, length, if◌then◌else◌, slice_range};
+ghost use Rattle.vm_model.specs.declared.command.Command.{Command};
+ghost use Rattle.vm_model.specs.declared.reply.Reply.{Reply};
+ghost use Rattle.vm_model.specs.Content.{pages_of, sole, used, IsGood};
+ghost use Rattle.vm_model.specs.Owning.{need};
+ghost use Rattle.vm_model.specs.Writing.{touched, piece, pieces, WritesPiece, Writes};
+ghost use Rattle.vmo_table.specs.Table.{name_of};
+ghost use Rattle.vmo_ops.specs.Targets.{IsInside, Does, reply_of};
+
+use crate::owning::own_for_write;
+use crate::ranges::touched_pages;
+use crate::ready::ready_to_own;
+use page_store::PageStore;
+use vm_base::{Koid, PAGE, PageNo, Refusal};
+use vmo_table::Target;
+
+/// Writes bytes from `offset` bytes into the name on. A page that the range touches
+/// and that is not sole takes a frame. Refusals, in their order: `AccessDenied` where the name may not
+/// write, `OutOfRange` where the range passes its end, `NoMemory` where the pages that are not sole are
+/// more than the free frames, `HostMemory` only where there is such a page.
+pub fn write<P: PageStore>(
+    store: &mut P,
+    t: &Target,
+    offset: u64,
+    bytes: &[u8],
+) -> Result<(), Refusal>
+    requires good { IsGood (P.content store.old) }
+    requires inside { IsInside (P.content store.old) (name_of t.now) }
+    ensures { Does (λ name. Command.VmoWrite name offset bytes.now) (name_of t.now) (P.content store.old)
+        (reply_of (λ _. Reply.Done) result) (P.content store.new) }
+{
+    let at = match ready_to_own(store, t, offset, bytes.len() as u64) {
+        Ok(at) => at,
+        Err(refusal) => return Err(refusal),
+    };
+    write_pages(store, t.koid, at, bytes);
+    Ok(())
+}
+
+// Writes bytes inside the VMO, page by page, where the room for it is there.
+fn write_pages<P: PageStore>(store: &mut P, v: Koid, offset: u64, bytes: &[u8])
+    requires good { IsGood (P.content store.old) }
+    requires inside { offset + length bytes.now ≤ pages_of (P.content store.old) v.0 * 4096 }
+    requires room { need (P.content store.old) v.0 (touched offset (length bytes.now))
+        ≤ P.spare store.old }
+    requires free { used (P.content store.old)
+        + need (P.content store.old) v.0 (touched offset (length bytes.now))
+        ≤ (P.content store.old).frames }
+    ensures { Writes (P.content store.old) v.0 (pieces offset bytes.now) (P.content store.new) }
+{
+    let (first, end) = touched_pages(offset, bytes.len() as u64);
+    for page in first..end {
+        let start = page * PAGE;
+        let from = start.saturating_sub(offset) as usize;
+        let until = ((start + PAGE - offset) as usize).min(bytes.len());
+        write_part(
+            store,
+            v,
+            page,
+            offset.saturating_sub(start),
+            &bytes[from..until],
+        );
+    }
+}
+
+/// Writes bytes to one page, from `at` bytes into the page on. The page is owned first.
+pub(crate) fn write_part<P: PageStore>(store: &mut P, v: Koid, page: PageNo, at: u64, bytes: &[u8])
+    requires good { IsGood (P.content store.old) }
+    requires page { page < pages_of (P.content store.old) v.0 }
+    requires within { at + length bytes.now ≤ 4096 }
+    requires room { (sole (P.content store.old) v.0 page ≡ true)
+        ⊎ ((1 ≤ P.spare store.old) × (used (P.content store.old) < (P.content store.old).frames)) }
+    ensures writes { WritesPiece (P.content store.old) v.0
+        (record { page = page; at = at; bytes = bytes.now }) (P.content store.new) }
+    ensures spare { P.spare store.old
+        ≤ P.spare store.new + (if sole (P.content store.old) v.0 page then 0 else 1) }
+{
+    let tag = own_for_write(store, v, page);
+    store.write(tag, at, bytes);
+}
