@@ -87,11 +87,11 @@ fn drop_vmo<P: PageStore>(store: &mut P, v: Koid)
 
 /// Makes a VMO that keeps its size, and name 7 for it.
 fn enter<P: PageStore>(store: &mut P, vmos: &mut VmoTable, count: PageNo) -> Result<Koid, Fail>
-    requires good { IsGoodState (state_with (P.content store.old) vmos.old) }
+    requires good { IsGoodState (state_with (P.content store.old) vmos.old (λ n. None)) }
     requires name { names_of vmos.old 7 ≡ None }
     requires count { count ≤ 16777216 }
     requires next { (P.content store.old).next < 2 ^ 63 }
-    ensures good { OnOk result (IsGoodState (state_with (P.content store.new) vmos.new)) }
+    ensures good { OnOk result (IsGoodState (state_with (P.content store.new) vmos.new (λ n. None))) }
     ensures named { IfOk result (λ v. names_of vmos.new 7 ≡ Some (owner v.0 true false)) }
     ensures pages { IfOk result (λ v. pages_of (P.content store.new) v.0 ≡ count) }
 {

@@ -1,10 +1,10 @@
 //! What a VMO holds (`ZX_INFO_VMO`).
 
-ghost use Rattle.std.specs.Prelude.{◌≡◌};
+ghost use Rattle.std.specs.Prelude.{◌≡◌, ℕ, Option};
 ghost use Rattle.vm_model.specs.Attribution.{info_at};
-ghost use Rattle.vm_model.specs.State.{IsGoodState};
+ghost use Rattle.vm_model.specs.Pins.{Pin};
 ghost use Rattle.vmo_table.specs.Table.{names_of, name_of, state_with};
-ghost use Rattle.vmo_ops.specs.Targets.{IsNamed};
+ghost use Rattle.vmo_ops.specs.Targets.{AreParts, IsNamed};
 
 use crate::counts::count_held;
 use page_store::PageStore;
@@ -17,9 +17,9 @@ use vmo_table::{Target, VmoTable};
 /// that no VMO with a lesser koid shows), and its children. It costs the held pages of the VMO, and
 /// what the store takes to find the least koid that shows a frame.
 pub fn info<P: PageStore>(store: &P, vmos: &VmoTable, target: &Target) -> Info
-    requires good { IsGoodState (state_with (P.content store.now) vmos.now) }
+    requires parts { AreParts (P.content store.now) vmos.now }
     requires named { IsNamed (names_of vmos.now) (name_of target.now) }
-    ensures { result ≡ info_at (state_with (P.content store.now) vmos.now) (name_of target.now) }
+    ensures { (pins : ℕ → Option Pin) → result ≡ info_at (state_with (P.content store.now) vmos.now pins) (name_of target.now) }
 {
     let counts = count_held(store, target.koid);
     Info {

@@ -1,1 +1,2 @@
 pub mod Vm
+pub mod VmFields

@@ -2,32 +2,35 @@
 //! `vmo_zero`, `vmo_decommit`, `vmo_set_size`. Each is the operation of that name, where the VMO's name is
 //! open.
 
-ghost use Rattle.std.specs.Prelude.{◌≡◌};
+ghost use Rattle.std.specs.Prelude.{◌≡◌, ℕ, Option};
 ghost use Rattle.vm_model.specs.declared.command.Command.{Command};
 ghost use Rattle.vm_model.specs.declared.reply.Reply.{Reply};
+ghost use Rattle.vm_model.specs.Pins.{Pin};
 ghost use Rattle.vm_model.specs.State.{IsGoodState};
 ghost use Rattle.vm_model.specs.Step.{Step};
-ghost use Rattle.vmo_ops.specs.Targets.{reply_of};
-ghost use Rattle.vm_core.specs.Vm.{state_of};
+ghost use Rattle.vmo_table.specs.Table.{state_with};
+ghost use Rattle.pin_table.specs.Table.{pins_of};
+ghost use Rattle.vmo_ops.specs.Targets.{AreParts, reply_of};
 
-use crate::vm::Vm;
 use page_store::PageStore;
+use pin_table::PinTable;
 use vm_base::{Refusal, VmoName};
 use vm_model::Reply;
+use vmo_table::VmoTable;
 
 /// Writes bytes from `offset` bytes into the name on.
 pub(crate) fn vmo_write<P: PageStore>(
-    vm: &Vm,
+    vmos: &VmoTable,
     store: &mut P,
     name: VmoName,
     offset: u64,
     bytes: &[u8],
 ) -> Reply
-    requires { IsGoodState (state_of (P.content store.old) vm.now) }
-    ensures { Step (state_of (P.content store.old) vm.now)
-        (Command.VmoWrite name offset bytes.now) result (state_of (P.content store.new) vm.now) }
+    requires { AreParts (P.content store.old) vmos.now }
+    ensures { (pins : ℕ → Option Pin) → Step (state_with (P.content store.old) vmos.now pins)
+        (Command.VmoWrite name offset bytes.now) result (state_with (P.content store.new) vmos.now pins) }
 {
-    match vm.vmos.resolve(name) {
+    match vmos.resolve(name) {
         Some(target) => done(vmo_ops::write(store, &target, offset, bytes)),
         None => Reply::Refused(Refusal::BadHandle),
     }
@@ -35,18 +38,18 @@ pub(crate) fn vmo_write<P: PageStore>(
 
 /// Writes one byte at every place of a range.
 pub(crate) fn vmo_fill<P: PageStore>(
-    vm: &Vm,
+    vmos: &VmoTable,
     store: &mut P,
     name: VmoName,
     offset: u64,
     len: u64,
     byte: u8,
 ) -> Reply
-    requires { IsGoodState (state_of (P.content store.old) vm.now) }
-    ensures { Step (state_of (P.content store.old) vm.now)
-        (Command.VmoFill name offset len byte) result (state_of (P.content store.new) vm.now) }
+    requires { AreParts (P.content store.old) vmos.now }
+    ensures { (pins : ℕ → Option Pin) → Step (state_with (P.content store.old) vmos.now pins)
+        (Command.VmoFill name offset len byte) result (state_with (P.content store.new) vmos.now pins) }
 {
-    match vm.vmos.resolve(name) {
+    match vmos.resolve(name) {
         Some(target) => done(vmo_ops::fill(store, &target, offset, len, byte)),
         None => Reply::Refused(Refusal::BadHandle),
     }
@@ -54,17 +57,17 @@ pub(crate) fn vmo_fill<P: PageStore>(
 
 /// Gives each page that a range touches a frame of its own.
 pub(crate) fn vmo_commit<P: PageStore>(
-    vm: &Vm,
+    vmos: &VmoTable,
     store: &mut P,
     name: VmoName,
     offset: u64,
     len: u64,
 ) -> Reply
-    requires { IsGoodState (state_of (P.content store.old) vm.now) }
-    ensures { Step (state_of (P.content store.old) vm.now)
-        (Command.VmoCommit name offset len) result (state_of (P.content store.new) vm.now) }
+    requires { AreParts (P.content store.old) vmos.now }
+    ensures { (pins : ℕ → Option Pin) → Step (state_with (P.content store.old) vmos.now pins)
+        (Command.VmoCommit name offset len) result (state_with (P.content store.new) vmos.now pins) }
 {
-    match vm.vmos.resolve(name) {
+    match vmos.resolve(name) {
         Some(target) => done(vmo_ops::commit(store, &target, offset, len)),
         None => Reply::Refused(Refusal::BadHandle),
     }
@@ -72,48 +75,56 @@ pub(crate) fn vmo_commit<P: PageStore>(
 
 /// Makes the bytes of a range zero.
 pub(crate) fn vmo_zero<P: PageStore>(
-    vm: &Vm,
+    vmos: &VmoTable,
+    pins: &PinTable,
     store: &mut P,
     name: VmoName,
     offset: u64,
     len: u64,
 ) -> Reply
-    requires { IsGoodState (state_of (P.content store.old) vm.now) }
-    ensures { Step (state_of (P.content store.old) vm.now)
-        (Command.VmoZero name offset len) result (state_of (P.content store.new) vm.now) }
+    requires { IsGoodState (state_with (P.content store.old) vmos.now (pins_of pins.now)) }
+    ensures { Step (state_with (P.content store.old) vmos.now (pins_of pins.now))
+        (Command.VmoZero name offset len) result (state_with (P.content store.new) vmos.now (pins_of pins.now)) }
 {
-    match vm.vmos.resolve(name) {
-        Some(target) => done(vmo_ops::zero(store, &target, offset, len)),
+    match vmos.resolve(name) {
+        Some(target) => done(vmo_ops::zero(store, pins, &target, offset, len)),
         None => Reply::Refused(Refusal::BadHandle),
     }
 }
 
 /// Makes the pages of a range zero and gives their frames back.
 pub(crate) fn vmo_decommit<P: PageStore>(
-    vm: &Vm,
+    vmos: &VmoTable,
+    pins: &PinTable,
     store: &mut P,
     name: VmoName,
     offset: u64,
     len: u64,
 ) -> Reply
-    requires { IsGoodState (state_of (P.content store.old) vm.now) }
-    ensures { Step (state_of (P.content store.old) vm.now)
-        (Command.VmoDecommit name offset len) result (state_of (P.content store.new) vm.now) }
+    requires { IsGoodState (state_with (P.content store.old) vmos.now (pins_of pins.now)) }
+    ensures { Step (state_with (P.content store.old) vmos.now (pins_of pins.now))
+        (Command.VmoDecommit name offset len) result (state_with (P.content store.new) vmos.now (pins_of pins.now)) }
 {
-    match vm.vmos.resolve(name) {
-        Some(target) => done(vmo_ops::decommit(store, &vm.vmos, &target, offset, len)),
+    match vmos.resolve(name) {
+        Some(target) => done(vmo_ops::decommit(store, vmos, pins, &target, offset, len)),
         None => Reply::Refused(Refusal::BadHandle),
     }
 }
 
 /// Changes the size of the VMO.
-pub(crate) fn vmo_set_size<P: PageStore>(vm: &Vm, store: &mut P, name: VmoName, size: u64) -> Reply
-    requires { IsGoodState (state_of (P.content store.old) vm.now) }
-    ensures { Step (state_of (P.content store.old) vm.now)
-        (Command.VmoSetSize name size) result (state_of (P.content store.new) vm.now) }
+pub(crate) fn vmo_set_size<P: PageStore>(
+    vmos: &VmoTable,
+    pins: &PinTable,
+    store: &mut P,
+    name: VmoName,
+    size: u64,
+) -> Reply
+    requires { IsGoodState (state_with (P.content store.old) vmos.now (pins_of pins.now)) }
+    ensures { Step (state_with (P.content store.old) vmos.now (pins_of pins.now))
+        (Command.VmoSetSize name size) result (state_with (P.content store.new) vmos.now (pins_of pins.now)) }
 {
-    match vm.vmos.resolve(name) {
-        Some(target) => done(vmo_ops::resize(store, &target, size)),
+    match vmos.resolve(name) {
+        Some(target) => done(vmo_ops::resize(store, pins, &target, size)),
         None => Reply::Refused(Refusal::BadHandle),
     }
 }

@@ -1,35 +1,40 @@
 //! The commands that give a name or close one: `vmo_create`, `vmo_create_child`, `vmo_close`. Each clause
 //! `name` hands up the range of the name's number, which the caller has behind a reference.
 
-ghost use Rattle.std.specs.Prelude.{◌<◌, ◌^◌};
+ghost use Rattle.std.specs.Prelude.{◌≡◌, ℕ, Option, ◌<◌, ◌^◌};
 ghost use Rattle.vm_model.specs.declared.command.Command.{Command};
+ghost use Rattle.vm_model.specs.Pins.{Pin};
 ghost use Rattle.vm_model.specs.State.{IsGoodState};
 ghost use Rattle.vm_model.specs.Step.{Step};
-ghost use Rattle.vm_core.specs.Vm.{state_of};
+ghost use Rattle.vmo_table.specs.Table.{keepers_of, state_with, CountsPins};
+ghost use Rattle.pin_table.specs.Table.{pins_of};
+ghost use Rattle.vmo_ops.specs.Targets.{AreParts};
 
-use crate::vm::Vm;
 use page_store::PageStore;
+use pin_table::PinTable;
 use vm_base::{Refusal, VmoName};
 use vm_model::{ChildKind, Reply};
+use vmo_table::VmoTable;
 
 /// Makes a VMO, where the name is not open.
 pub(crate) fn vmo_create<P: PageStore>(
-    vm: &mut Vm,
+    vmos: &mut VmoTable,
     store: &mut P,
     name: VmoName,
     size: u64,
     resizable: bool,
 ) -> Reply
-    requires good { IsGoodState (state_of (P.content store.old) vm.old) }
+    requires parts { AreParts (P.content store.old) vmos.old }
     requires next { (P.content store.old).next < 2 ^ 63 }
-    ensures step { Step (state_of (P.content store.old) vm.old)
-        (Command.VmoCreate name size resizable) result (state_of (P.content store.new) vm.new) }
+    ensures step { (pins : ℕ → Option Pin) → Step (state_with (P.content store.old) vmos.old pins)
+        (Command.VmoCreate name size resizable) result (state_with (P.content store.new) vmos.new pins) }
+    ensures keepers { keepers_of vmos.new ≡ keepers_of vmos.old }
     ensures name { name.0 < 2 ^ 32 }
 {
-    if vm.vmos.resolve(name).is_some() {
+    if vmos.resolve(name).is_some() {
         return Reply::Refused(Refusal::NameInUse);
     }
-    match vmo_ops::create(store, &mut vm.vmos, name, size, resizable) {
+    match vmo_ops::create(store, vmos, name, size, resizable) {
         Ok(_) => Reply::Done,
         Err(refusal) => Reply::Refused(refusal),
     }
@@ -37,7 +42,8 @@ pub(crate) fn vmo_create<P: PageStore>(
 
 /// Makes a child of what `parent` stands for, where `parent` is open and the name is not.
 pub(crate) fn vmo_create_child<P: PageStore>(
-    vm: &mut Vm,
+    vmos: &mut VmoTable,
+    pins: &PinTable,
     store: &mut P,
     name: VmoName,
     parent: VmoName,
@@ -47,29 +53,22 @@ pub(crate) fn vmo_create_child<P: PageStore>(
     resizable: bool,
     no_write: bool,
 ) -> Reply
-    requires good { IsGoodState (state_of (P.content store.old) vm.old) }
+    requires good { IsGoodState (state_with (P.content store.old) vmos.old (pins_of pins.now)) }
     requires next { (P.content store.old).next < 2 ^ 63 }
-    ensures step { Step (state_of (P.content store.old) vm.old)
+    ensures step { Step (state_with (P.content store.old) vmos.old (pins_of pins.now))
         (Command.VmoChild name parent kind offset size resizable no_write) result
-        (state_of (P.content store.new) vm.new) }
+        (state_with (P.content store.new) vmos.new (pins_of pins.now)) }
+    ensures keepers { keepers_of vmos.new ≡ keepers_of vmos.old }
     ensures name { name.0 < 2 ^ 32 }
 {
-    let Some(target) = vm.vmos.resolve(parent) else {
+    let Some(target) = vmos.resolve(parent) else {
         return Reply::Refused(Refusal::BadHandle);
     };
-    if vm.vmos.resolve(name).is_some() {
+    if vmos.resolve(name).is_some() {
         return Reply::Refused(Refusal::NameInUse);
     }
     match vmo_ops::create_child(
-        store,
-        &mut vm.vmos,
-        name,
-        &target,
-        kind,
-        offset,
-        size,
-        resizable,
-        no_write,
+        store, vmos, pins, name, &target, kind, offset, size, resizable, no_write,
     ) {
         Ok(_) => Reply::Done,
         Err(refusal) => Reply::Refused(refusal),
@@ -77,14 +76,16 @@ pub(crate) fn vmo_create_child<P: PageStore>(
 }
 
 /// Closes a name, where it is open.
-pub(crate) fn vmo_close<P: PageStore>(vm: &mut Vm, store: &mut P, name: VmoName) -> Reply
-    requires { IsGoodState (state_of (P.content store.old) vm.old) }
-    ensures { Step (state_of (P.content store.old) vm.old)
-        (Command.VmoClose name) result (state_of (P.content store.new) vm.new) }
+pub(crate) fn vmo_close<P: PageStore>(vmos: &mut VmoTable, store: &mut P, name: VmoName) -> Reply
+    requires parts { AreParts (P.content store.old) vmos.old }
+    ensures step { (pins : ℕ → Option Pin) → IsGoodState (state_with (P.content store.old) vmos.old pins) →
+        CountsPins vmos.old pins → Step (state_with (P.content store.old) vmos.old pins)
+        (Command.VmoClose name) result (state_with (P.content store.new) vmos.new pins) }
+    ensures keepers { keepers_of vmos.new ≡ keepers_of vmos.old }
 {
-    if vm.vmos.resolve(name).is_none() {
+    if vmos.resolve(name).is_none() {
         return Reply::Refused(Refusal::BadHandle);
     }
-    vmo_ops::close(store, &mut vm.vmos, name);
+    vmo_ops::close(store, vmos, name);
     Reply::Done
 }

@@ -6,7 +6,7 @@ use super::*;
 use page_store::{FlatStore, PageStore};
 use std::process::Abort;
 use std::test::Fail;
-use vm_base::{Koid, PinName, Refusal, VmoName};
+use vm_base::{Koid, PinName, Refusal, RegionName, VmoName};
 use vm_model::{Bytes4k, ChildKind, Command, Info, Reply, Stat};
 
 fn bytes_of(bytes: &[u8]) -> Bytes4k
@@ -92,8 +92,10 @@ fn reference(name: u32, parent: u32) -> Command {
     child(name, parent, ChildKind::Reference, 0, 0, false)
 }
 
-fn unpin(pin: u32) -> Command {
-    Command::VmoUnpin { pin: PinName(pin) }
+fn destroy(region: u32) -> Command {
+    Command::VmarDestroy {
+        region: RegionName(region),
+    }
 }
 
 fn is_done(reply: &Reply) -> bool {
@@ -131,6 +133,13 @@ fn has_counts(reply: &Reply, want: Stat) -> bool {
 fn has_info(reply: &Reply, want: Info) -> bool {
     match reply {
         Reply::Info(told) => *told == want,
+        _ => false,
+    }
+}
+
+fn has_pins(reply: &Reply, want: usize) -> bool {
+    match reply {
+        Reply::Pins(numbers) => numbers.as_slice().len() == want,
         _ => false,
     }
 }
@@ -176,8 +185,8 @@ fn tells_of_the_machine<P: PageStore>(rt: &impl Abort, vm: &mut Vm, store: &mut 
     assert!(rt; is_number(&vm.step(store, &size(1)), 8192));
     assert!(rt; is_number(&vm.step(store, &size(2)), 12288));
     assert!(rt; has_counts(&vm.step(store, &Command::Stat), counts));
-    assert!(rt; is_unbuilt(&vm.step(store, &unpin(1))));
-    assert!(rt; is_unbuilt(&vm.step(store, &unpin(3))));
+    assert!(rt; is_unbuilt(&vm.step(store, &destroy(1))));
+    assert!(rt; is_unbuilt(&vm.step(store, &destroy(3))));
     assert!(rt; is_number(&vm.step(store, &size(1)), 8192));
     assert!(rt; has_counts(&vm.step(store, &Command::Stat), counts));
 }
@@ -324,6 +333,13 @@ fn changes_ranges<P: PageStore>(rt: &impl Abort, vm: &mut Vm, store: &mut P)
         len: 4096,
     };
     let grown = Command::VmoSetSize { name, size: 8193 };
+    let pinned = Command::VmoPin {
+        pin: PinName(5),
+        name,
+        offset: 8192,
+        len: 4096,
+    };
+    let unpinned = Command::VmoUnpin { pin: PinName(5) };
     assert!(rt; is_done(&vm.step(store, &made)));
     assert!(rt; is_done(&vm.step(store, &filled)));
     assert!(rt; has_bytes(&vm.step(store, &read(1, 4094, 4)), &[0, 7, 7, 0]));
@@ -334,6 +350,14 @@ fn changes_ranges<P: PageStore>(rt: &impl Abort, vm: &mut Vm, store: &mut P)
     assert!(rt; has_counts(&vm.step(store, &Command::Stat), counts));
     assert!(rt; is_done(&vm.step(store, &grown)));
     assert!(rt; is_number(&vm.step(store, &size(1)), 12288));
+    assert!(rt; has_pins(&vm.step(store, &pinned), 1));
+    assert!(rt;
+        is_refused(
+            &vm.step(store, &snapshot(2, 1, 0, 1, false)),
+            Refusal::BadState
+        )
+    );
+    assert!(rt; is_done(&vm.step(store, &unpinned)));
 }
 
 #[test]

@@ -5,16 +5,33 @@ ghost use Rattle.std.specs.Prelude.{◌≡◌, ℕ, ◌+◌, ◌<◌, ◌≤◌,
 use crate::asking::{vmo_info, vmo_read, vmo_size};
 use crate::changing::{vmo_commit, vmo_decommit, vmo_fill, vmo_set_size, vmo_write, vmo_zero};
 use crate::naming::{vmo_close, vmo_create, vmo_create_child};
+use crate::pinning::{vmo_pin, vmo_unpin};
 use attribution::stat;
 use page_store::PageStore;
+use pin_table::PinTable;
 use std::alloc::Global;
+use std::marker::Model;
 use vm_model::{Command, Reply};
 use vmo_table::VmoTable;
 
-/// The names and VMOs of the machine, over a store of pages. One `step` is one event.
+/// The names, VMOs and pins of the machine, over a store of pages. One `step` is one event.
 #[derive(Drop)]
 pub struct Vm {
-    pub(crate) vmos: VmoTable,
+    vmos: VmoTable,
+    /// The pins. Each is counted in `vmos` as a keeper of its VMO.
+    pins: PinTable,
+}
+
+impl Model for Vm {
+    ghost use Rattle.vm_core.specs.Vm.{Parts};
+
+    ghost Value = { Parts };
+
+    ghost use Rattle.vm_core.specs.VmFields.{parts_of, IsCounted};
+
+    ghost view = { parts_of };
+
+    ghost invariant = { IsCounted };
 }
 
 impl Vm {
@@ -23,12 +40,14 @@ impl Vm {
     ghost use Rattle.vm_model.specs.Step.{Step};
     ghost use Rattle.vm_core.specs.Vm.{state_of};
 
-    /// A machine with no names. Over a store with page frames and no VMO it is the empty machine.
+    /// A machine with no names and no pins. Over a store with page frames and no VMO it is the empty
+    /// machine.
     pub fn new(alloc: Global) -> Vm
         ensures { (frames : ℕ) → state_of (record nothing { frames = frames }) result ≡ empty_state frames }
     {
         Vm {
             vmos: VmoTable::new(alloc),
+            pins: PinTable::new(alloc),
         }
     }
 
@@ -49,7 +68,7 @@ impl Vm {
                 name,
                 size,
                 resizable,
-            } => vmo_create(self, store, *name, *size, *resizable),
+            } => vmo_create(&mut self.vmos, store, *name, *size, *resizable),
             Command::VmoChild {
                 name,
                 parent,
@@ -59,31 +78,61 @@ impl Vm {
                 resizable,
                 no_write,
             } => vmo_create_child(
-                self, store, *name, *parent, *kind, *offset, *size, *resizable, *no_write,
+                &mut self.vmos,
+                &self.pins,
+                store,
+                *name,
+                *parent,
+                *kind,
+                *offset,
+                *size,
+                *resizable,
+                *no_write,
             ),
-            Command::VmoClose { name } => vmo_close(self, store, *name),
-            Command::VmoRead { name, offset, len } => vmo_read(self, store, *name, *offset, *len),
+            Command::VmoClose { name } => vmo_close(&mut self.vmos, store, *name),
+            Command::VmoRead { name, offset, len } => vmo_read(
+                &self.vmos, store, *name, *offset, *len,
+            ),
             Command::VmoWrite {
                 name,
                 offset,
                 bytes,
-            } => vmo_write(self, store, *name, *offset, bytes.as_slice()),
+            } => vmo_write(&self.vmos, store, *name, *offset, bytes.as_slice()),
             Command::VmoFill {
                 name,
                 offset,
                 len,
                 byte,
-            } => vmo_fill(self, store, *name, *offset, *len, *byte),
+            } => vmo_fill(&self.vmos, store, *name, *offset, *len, *byte),
             Command::VmoCommit { name, offset, len } => {
-                vmo_commit(self, store, *name, *offset, *len)
+                vmo_commit(&self.vmos, store, *name, *offset, *len)
             }
-            Command::VmoZero { name, offset, len } => vmo_zero(self, store, *name, *offset, *len),
+            Command::VmoZero { name, offset, len } => vmo_zero(
+                &self.vmos, &self.pins, store, *name, *offset, *len,
+            ),
             Command::VmoDecommit { name, offset, len } => {
-                vmo_decommit(self, store, *name, *offset, *len)
+                vmo_decommit(&self.vmos, &self.pins, store, *name, *offset, *len)
             }
-            Command::VmoSetSize { name, size } => vmo_set_size(self, store, *name, *size),
-            Command::VmoSize { name } => vmo_size(self, store, *name),
-            Command::VmoInfo { name } => vmo_info(self, store, *name),
+            Command::VmoSetSize { name, size } => vmo_set_size(
+                &self.vmos, &self.pins, store, *name, *size,
+            ),
+            Command::VmoPin {
+                pin,
+                name,
+                offset,
+                len,
+            } => vmo_pin(
+                &mut self.vmos,
+                &mut self.pins,
+                store,
+                *pin,
+                *name,
+                *offset,
+                *len,
+            ),
+            Command::VmoUnpin { pin } => { vmo_unpin(&mut self.vmos, &mut self.pins, store, *pin) }
+            Command::VmoSize { name } => vmo_size(&self.vmos, store, *name),
+            Command::VmoInfo { name } => vmo_info(&self.vmos, store, *name),
             Command::Stat => Reply::Stat(stat(store)),
             _ => Reply::Unbuilt,
         }

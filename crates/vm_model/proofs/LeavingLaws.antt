@@ -1,20 +1,23 @@
--- Laws of names that are closed and of VMOs that leave then: a good state is complete as it is, at most the VMO of the closed
--- name leaves, and the state stays good.
-use Rattle.std.proofs.Common.{◌≡◌, ◌≢◌, ℕ, zero, suc, ◌<◌, Bool, true, false, not, cond, ◌==◌, Option, None, Some, ◌⊎◌, refl, sym, ap, subst, ◌∙◌, inl, inr, arith}
+-- Laws of VMOs that leave: nothing leaves a good state. Where a name or a pin of a VMO goes, at most that VMO leaves, and the
+-- state stays good.
+use Rattle.std.proofs.Common.{◌≡◌, ◌≢◌, ℕ, zero, suc, ◌<◌, Bool, true, false, not, cond, ◌||◌, ◌==◌, Option, None, Some, ◌⊎◌, refl, sym, ap, subst, ◌∙◌, inl, inr, arith}
 use Rattle.std.specs.Prelude.{unwrap_or, IsSome, is_some}
 use Rattle.std.specs.Option.{option_map}
-use Rattle.std.proofs.lemmas.Bool.{cases_Bool, cases_eq, not_from_true, not_from_false}
+use Rattle.std.proofs.lemmas.Bool.{cases_Bool, cases_eq, or_parts, not_from_true, not_from_false}
 use Rattle.std.proofs.lemmas.Bool.Decides.{Decides-eqb}
-use Rattle.vm_model.specs.Content.{Page, Content, pages_of, IsGood}
+use Rattle.vm_model.specs.Content.{Page, Content, pages_of, sole, IsGood}
 use Rattle.vm_model.specs.Sharing.{only, without}
 use Rattle.vm_model.specs.Maps.{without_key}
-use Rattle.vm_model.specs.Names.{Name, Lineage, is_named, parent_without, lineage_without}
-use Rattle.vm_model.specs.State.{State, is_live, lineage_of, IsGoodName, IsGoodState}
+use Rattle.vm_model.specs.Names.{Name, Lineage, NAMES, is_named, parent_without, lineage_without}
+use Rattle.vm_model.specs.Pins.{Pin, has_pin}
+use Rattle.vm_model.specs.State.{State, is_live, lineage_of, IsGoodName, IsGoodPin, IsGoodState}
 use Rattle.vm_model.specs.Leaving.{first_live, lineage_left, pruned}
 use Rattle.vm_model.proofs.ContentLaws.{eqb_apart}
 use Rattle.vm_model.proofs.MapLaws.{without_key-some}
 use Rattle.vm_model.proofs.NamesLaws.{some_is, none_is, is_named_none, is_named-without_key_other, lineage_of-at, lineage-known, lineage_of-same, parent_without-none, parent_without-same, parent_without-other, left_by, lineage_without-same, lineage_without-other, lineage_without-at, lineage_without-some, is_some-lineage_without}
+use Rattle.vm_model.proofs.PinLaws.{has_pin_none, has_pin-without_key_other}
 use Rattle.vm_model.proofs.SharingLaws.{IsGood-only, frames-only, next-only, count-without_here, count-without_other}
+use Rattle.vm_model.proofs.SoleLaws.{sole-only_kept}
 
 -- ---- what good states say
 
@@ -32,6 +35,13 @@ name_vmo s n t good e = (good.names n t e).1.vmo
 
 pub name_lineage : (s : State) (n : ℕ) (t : Name) → IsGoodState s → s.names n ≡ Some t → IsSome (s.lineage t.koid)
 name_lineage s n t good e = lineage_at s t.koid good (name_vmo s n t good e)
+
+-- the VMO of a pin
+pub pin_vmo : (s : State) (n : ℕ) (pin : Pin) → IsGoodState s → s.pins n ≡ Some pin → IsSome (s.content.count pin.koid)
+pin_vmo s n pin good e = (good.pins n pin e).1.vmo
+
+pub pin_lineage : (s : State) (n : ℕ) (pin : Pin) → IsGoodState s → s.pins n ≡ Some pin → IsSome (s.lineage pin.koid)
+pin_lineage s n pin good e = lineage_at s pin.koid good (pin_vmo s n pin good e)
 
 -- a koid that is not live is no VMO
 pub count_none : (s : State) (v : ℕ) → IsGoodState s → is_live s v ≡ false → s.content.count v ≡ None
@@ -63,6 +73,16 @@ IsGoodName-same s t target count resizable good = record {
       let pages : pages_of t.content target.koid ≡ pages_of s.content target.koid = ap (λ (o : Option ℕ). unwrap_or o 0) count in
       (was.0, resizable ∙ was.1, omega (arith, was.2, pages));
   resize = λ e. resizable ∙ good.resize e;
+}
+
+-- a pin is as good in a state with the same VMO, where its pages are still sole
+pub IsGoodPin-same : (s t : State) (pin : Pin) → t.content.count pin.koid ≡ s.content.count pin.koid → ((p : ℕ) → sole s.content pin.koid p ≡ true → sole t.content pin.koid p ≡ true) → IsGoodPin s pin → IsGoodPin t pin
+unfolding pages_of
+IsGoodPin-same s t pin count kept good = record {
+  vmo = ap is_some count ∙ good.vmo;
+  few = good.few;
+  inside = let pages : pages_of t.content pin.koid ≡ pages_of s.content pin.koid = ap (λ (o : Option ℕ). unwrap_or o 0) count in omega (arith, good.inside, pages);
+  alone = λ p low high. kept p (good.alone p low high);
 }
 
 -- ---- the first that is live
@@ -127,7 +147,7 @@ lineage_left-is s v l parent e = ap (λ (o : Option ℕ). record l { parent = o 
 -- nothing leaves a good state
 pub pruned-good : (s : State) → IsGoodState s → pruned s ≡ s
 unfolding pruned
-pruned-good s good = λ i. record { content = same i; names = s.names; lineage = λ v. each v (s.lineage v) refl i } where
+pruned-good s good = λ i. record { content = same i; names = s.names; lineage = λ v. each v (s.lineage v) refl i; pins = s.pins } where
   same : only s.content (is_live s) ≡ s.content
   same = only-alike s.content (is_live s) (λ v. true) good.content (λ v. elim (cases_Bool (is_live s v)) [
     | inl live ↦ inl live
@@ -144,160 +164,252 @@ pruned-good s good = λ i. record { content = same i; names = s.names; lineage =
       ap (λ (b : Bool). cond {A = Option Lineage} b (Some (lineage_left s v l)) None) (good.live v (ap is_some e))
       ∙ ap (λ (k : Lineage). Some k) (lineage_left-is s v l l.parent (parent v l e l.parent refl))
 
--- ---- a name that is closed
+-- ---- a state that is good but for one VMO
+
+-- the state is good, but that the VMO v may not be live
+pub record IsLoose (t : State) (v : ℕ) : Type 0 where
+  pub content : IsGood t.content
+  pub names : (n : ℕ) (target : Name) → t.names n ≡ Some target → (n < NAMES) × IsGoodName t target
+  pub known : (w : ℕ) → is_some (t.lineage w) ≡ is_some (t.content.count w)
+  pub live : (w : ℕ) → w ≢ v → IsSome (t.lineage w) → is_live t w ≡ true
+  pub parents : (w p : ℕ) (l : Lineage) → t.lineage w ≡ Some l → l.parent ≡ Some p → (p < w) × IsSome (t.lineage p)
+  pub pins : (n : ℕ) (pin : Pin) → t.pins n ≡ Some pin → (n < NAMES) × IsGoodPin t pin
+  pub vmo : IsSome (t.lineage v)
+
+-- the state without the VMO v, whose children get its parent
+abbrev pub left_vmo : State → ℕ → State
+left_vmo t v = record t { content = without t.content v; lineage = lineage_without t.lineage v (lineage_of t v).parent }
+
+module _ (t : State) (v : ℕ) (good : IsLoose t v) where
+  -- the state is good where the VMO is live
+  pub IsGoodState-live : is_live t v ≡ true → IsGoodState t
+  IsGoodState-live here = record {
+    content = good.content;
+    names = good.names;
+    known = good.known;
+    live = λ w h. elim (cases_eq w v) [ inl same ↦ ap (is_live t) same ∙ here | inr apart ↦ good.live w apart h ];
+    parents = good.parents;
+    pins = good.pins;
+  }
+
+  -- a koid other than the VMO's that is not live is no VMO
+  count_gone : (w : ℕ) → w ≢ v → is_live t w ≡ false → t.content.count w ≡ None
+  count_gone w apart off = none_is (t.content.count w) (elim (cases_Bool (is_some (t.content.count w))) [
+    | inl there ↦
+        let live = good.live w apart (good.known w ∙ there) in
+        let clash : ◌≡◌ {A = Bool} true false = sym live ∙ off in absurd cc
+    | inr none ↦ none
+  ])
+
+  -- the parent of the VMO is an older VMO, and another
+  parent_older : (p : ℕ) → (lineage_of t v).parent ≡ Some p → (p < v) × IsSome (t.lineage p)
+  parent_older p e = good.parents v p (lineage_of t v) (lineage-known t v good.vmo) e
+
+  -- a VMO that is not live leaves, and it alone. Its children get its parent
+  pub pruned-left : is_live t v ≡ false → pruned t ≡ left_vmo t v
+  unfolding pruned
+  pruned-left gone = λ i. record { content = same i; names = t.names; lineage = λ w. each w i; pins = t.pins } where
+    same : only t.content (is_live t) ≡ without t.content v
+    same = only-alike t.content (is_live t) (λ w. not (w == v)) good.content (λ w. elim (cases_eq w v) [
+      | inl vmo ↦ inl (ap (is_live t) vmo ∙ (gone ∙ sym (not_from_true (w == v) ((Decides-eqb w v).1 vmo))))
+      | inr apart ↦ elim (cases_Bool (is_live t w)) [
+        | inl live ↦ inl (live ∙ sym (not_from_false (w == v) (eqb_apart w v apart)))
+        | inr off ↦ inr (count_gone w apart off)
+      ]
+    ])
+
+    -- the parent of a VMO that stays
+    parent : (w : ℕ) (l : Lineage) → t.lineage w ≡ Some l → (o : Option ℕ) → l.parent ≡ o → first_live w t o ≡ parent_without v (lineage_of t v).parent o
+    parent w l e None f = first_live-none w t ∙ sym (parent_without-none v (lineage_of t v).parent)
+    parent w l e (Some p) f =
+        let older = good.parents w p l e f in
+        elim (cases_eq p v) [
+          | inl vmo ↦
+              let next : (q : ℕ) → (lineage_of t p).parent ≡ Some q → (q < p) × (is_live t q ≡ true) = λ q g.
+              let above = parent_older q (ap (λ (u : ℕ). (lineage_of t u).parent) (sym vmo) ∙ g) in
+              let apart : q ≢ v = omega (arith, above.0) in
+              (omega (arith, above.0, vmo), good.live q apart above.1) in
+              first_live-next w t p older.0 (ap (is_live t) vmo ∙ gone) next
+              ∙ (ap (λ (u : ℕ). (lineage_of t u).parent) vmo
+              ∙ sym (ap (λ (q : ℕ). parent_without v (lineage_of t v).parent (Some q)) vmo ∙ parent_without-same v (lineage_of t v).parent))
+          | inr apart ↦
+              first_live-here w t p (omega (arith, older.0)) (good.live p apart older.1)
+              ∙ sym (parent_without-other v (lineage_of t v).parent p apart)
+        ]
+
+    kept : (w : ℕ) → w ≢ v → (o : Option Lineage) → t.lineage w ≡ o → cond (is_live t w) (option_map (lineage_left t w) o) None ≡ option_map (left_by v (lineage_of t v).parent) o
+    kept w apart None e = lineage_rest (is_live t w) None refl
+    kept w apart (Some l) e =
+        ap (λ (b : Bool). cond {A = Option Lineage} b (Some (lineage_left t w l)) None) (good.live w apart (ap is_some e))
+        ∙ ap (λ (k : Lineage). Some k) (lineage_left-is t w l (parent_without v (lineage_of t v).parent l.parent) (parent w l e l.parent refl))
+
+    each : (w : ℕ) → cond (is_live t w) (option_map (lineage_left t w) (t.lineage w)) None ≡ lineage_without t.lineage v (lineage_of t v).parent w
+    each w = elim (cases_eq w v) [
+      | inl vmo ↦
+          ap (λ (b : Bool). cond {A = Option Lineage} b (option_map (lineage_left t w) (t.lineage w)) None) (ap (is_live t) vmo ∙ gone)
+          ∙ sym (ap (lineage_without t.lineage v (lineage_of t v).parent) vmo ∙ lineage_without-same t.lineage v (lineage_of t v).parent)
+      | inr apart ↦ kept w apart (t.lineage w) refl ∙ sym (lineage_without-other t.lineage v (lineage_of t v).parent w apart)
+    ]
+
+  -- another VMO keeps its leave to change its size
+  pub resizable-left : (w : ℕ) → w ≢ v → IsSome (t.lineage w) → (lineage_of (left_vmo t v) w).resizable ≡ (lineage_of t w).resizable
+  resizable-left w apart h =
+      ap (λ (l : Lineage). l.resizable) (lineage_of-at (left_vmo t v) w (left_by v (lineage_of t v).parent (lineage_of t w)) (lineage_without-at t.lineage v (lineage_of t v).parent w (lineage_of t w) apart (lineage-known t w h)))
+
+  -- a name of another VMO is as good as before
+  name_left : (target : Name) → target.koid ≢ v → IsGoodName t target → IsGoodName (left_vmo t v) target
+  name_left target apart fine =
+      IsGoodName-same t (left_vmo t v) target (count-without_other t.content v target.koid apart) (resizable-left target.koid apart (good.known target.koid ∙ fine.vmo)) fine
+
+  -- and so is a pin of another VMO: each frame is shown by no more VMOs than before
+  pin_left : (pin : Pin) → pin.koid ≢ v → IsGoodPin t pin → IsGoodPin (left_vmo t v) pin
+  pin_left pin apart fine =
+      IsGoodPin-same t (left_vmo t v) pin (count-without_other t.content v pin.koid apart)
+      (λ p alone. sole-only_kept t.content (λ w. not (w == v)) pin.koid p good.content (not_from_false (pin.koid == v) (eqb_apart pin.koid v apart)) alone) fine
+
+  -- the state is good without a VMO that is not live
+  pub IsGoodState-left : is_live t v ≡ false → IsGoodState (left_vmo t v)
+  IsGoodState-left gone = record {
+    content = IsGood-only t.content (λ w. not (w == v)) good.content;
+    names = λ m target e.
+        let fine = good.names m target e in
+        (fine.0, name_left target (is_named_none t.names v m target off.0 fine.0 e) fine.1);
+    known = λ w. elim (cases_eq w v) [
+      | inl vmo ↦
+          ap (λ (u : ℕ). is_some (lineage_without t.lineage v (lineage_of t v).parent u)) vmo
+          ∙ (ap is_some (lineage_without-same t.lineage v (lineage_of t v).parent)
+          ∙ sym (ap (λ (u : ℕ). is_some ((without t.content v).count u)) vmo ∙ ap is_some (count-without_here t.content v)))
+      | inr apart ↦
+          is_some-lineage_without t.lineage v (lineage_of t v).parent w apart ∙ (good.known w ∙ ap is_some (sym (count-without_other t.content v w apart)))
+    ];
+    live = λ w h.
+        let found = some_is (lineage_without t.lineage v (lineage_of t v).parent w) h in
+        let old = lineage_without-some t.lineage v (lineage_of t v).parent w found.0 found.1 in
+        good.live w old.1 (ap is_some old.2);
+    parents = λ w p l e f.
+        let old = lineage_without-some t.lineage v (lineage_of t v).parent w l e in
+        parent w p old.0 old.2 old.0.parent refl (sym (ap (λ (k : Lineage). k.parent) old.3) ∙ f);
+    pins = λ m pin e.
+        let fine = good.pins m pin e in
+        (fine.0, pin_left pin (has_pin_none t.pins v m pin off.1 fine.0 e) fine.1);
+  } where
+    -- neither a name nor a pin is of the VMO
+    off : (is_named t.names v ≡ false) × (has_pin t.pins v ≡ false)
+    off = or_parts (is_named t.names v) (has_pin t.pins v) gone
+
+    stays : (w p : ℕ) → p < w → IsSome (t.lineage p) → p ≢ v → (p < w) × IsSome (lineage_without t.lineage v (lineage_of t v).parent p)
+    stays w p h there apart = (h, is_some-lineage_without t.lineage v (lineage_of t v).parent p apart ∙ there)
+
+    parent : (w p : ℕ) (l : Lineage) → t.lineage w ≡ Some l → (o : Option ℕ) → l.parent ≡ o → parent_without v (lineage_of t v).parent o ≡ Some p → (p < w) × IsSome (lineage_without t.lineage v (lineage_of t v).parent p)
+    parent w p l e None f g =
+        let none : ◌≡◌ {A = Option ℕ} None (Some p) = sym (parent_without-none v (lineage_of t v).parent) ∙ g in absurd cc
+    parent w p l e (Some q) f g =
+        let older = good.parents w q l e f in
+        elim (cases_eq q v) [
+          | inl vmo ↦
+              let above = parent_older p (sym (ap (λ (u : ℕ). parent_without v (lineage_of t v).parent (Some u)) vmo ∙ parent_without-same v (lineage_of t v).parent) ∙ g) in
+              stays w p (omega (arith, older.0, above.0, vmo)) above.1 (omega (arith, above.0))
+          | inr apart ↦
+              let now : ◌≡◌ {A = Option ℕ} (Some q) (Some p) = sym (parent_without-other v (lineage_of t v).parent q apart) ∙ g in
+              let is : q ≡ p = cc in
+              stays w p (omega (arith, older.0, is)) (subst (λ (u : ℕ). IsSome (t.lineage u)) is older.1) (λ same. apart (is ∙ same))
+        ]
+
+-- ---- less that keeps a VMO
+
+-- The state t is s with less that keeps the VMO v: no VMO changes, and the others are as live as before.
+pub record Loosens (s t : State) (v : ℕ) : Type 0 where
+  pub content : t.content ≡ s.content
+  pub lineage : t.lineage ≡ s.lineage
+  pub names : (n : ℕ) (target : Name) → t.names n ≡ Some target → s.names n ≡ Some target
+  pub pins : (n : ℕ) (pin : Pin) → t.pins n ≡ Some pin → s.pins n ≡ Some pin
+  pub live : (w : ℕ) → w ≢ v → is_live t w ≡ is_live s w
+  pub vmo : IsSome (s.lineage v)
+
+module _ (s t : State) (v : ℕ) (good : IsGoodState s) (less : Loosens s t v) where
+  -- the state is good then, but that v may not be live
+  pub IsLoose-from : IsLoose t v
+  IsLoose-from = record {
+    content = subst IsGood (sym less.content) good.content;
+    names = λ n target e. let was = good.names n target (less.names n target e) in (was.0, name_same target was.1);
+    known = λ w. there w ∙ (good.known w ∙ ap (λ (c : Content). is_some (c.count w)) (sym less.content));
+    live = λ w apart h. less.live w apart ∙ good.live w (sym (there w) ∙ h);
+    parents = λ w p l e f. let was = good.parents w p l (ap (λ (g : ℕ → Option Lineage). g w) (sym less.lineage) ∙ e) f in (was.0, there p ∙ was.1);
+    pins = λ n pin e. let was = good.pins n pin (less.pins n pin e) in (was.0, pin_same pin was.1);
+    vmo = there v ∙ less.vmo;
+  } where
+    there : (w : ℕ) → is_some (t.lineage w) ≡ is_some (s.lineage w)
+    there w = ap (λ (g : ℕ → Option Lineage). is_some (g w)) less.lineage
+
+    name_same : (target : Name) → IsGoodName s target → IsGoodName t target
+    name_same target fine =
+        IsGoodName-same s t target (ap (λ (c : Content). c.count target.koid) less.content)
+        (ap (λ (l : Lineage). l.resizable) (lineage_of-same t s target.koid (ap (λ (g : ℕ → Option Lineage). g target.koid) less.lineage))) fine
+
+    pin_same : (pin : Pin) → IsGoodPin s pin → IsGoodPin t pin
+    pin_same pin fine =
+        IsGoodPin-same s t pin (ap (λ (c : Content). c.count pin.koid) less.content) (λ p alone. ap (λ (c : Content). sole c pin.koid p) less.content ∙ alone) fine
+
+  -- the state is good where something else keeps the VMO
+  pub IsGoodState-loose : is_live t v ≡ true → IsGoodState t
+  IsGoodState-loose live = IsGoodState-live t v IsLoose-from live
+
+  -- nothing leaves then
+  pub pruned-stays : is_live t v ≡ true → pruned t ≡ t
+  pruned-stays live = pruned-good t (IsGoodState-loose live)
+
+  -- where nothing else keeps the VMO, it leaves, and it alone. Its children get its parent
+  pub pruned-leaves : is_live t v ≡ false → pruned t ≡ left_vmo t v
+  pruned-leaves gone = pruned-left t v IsLoose-from gone
+
+  -- whether the VMO stays or leaves, the state is good
+  pub IsGoodState-pruned : IsGoodState (pruned t)
+  IsGoodState-pruned = elim (cases_Bool (is_live t v)) [
+    | inl live ↦ subst IsGoodState (sym (pruned-stays live)) (IsGoodState-loose live)
+    | inr gone ↦ subst IsGoodState (sym (pruned-leaves gone)) (IsGoodState-left t v IsLoose-from gone)
+  ]
+
+-- ---- a name or a pin that goes
 
 -- the state without the name n, where no VMO left yet
 abbrev pub unnamed : State → ℕ → State
 unnamed s n = record s { names = without_key s.names n }
 
--- the state without the name n, and without its VMO
-abbrev pub without_vmo : State → ℕ → Name → State
-without_vmo s n t = record s {
-  content = without s.content t.koid;
-  names = without_key s.names n;
-  lineage = lineage_without s.lineage t.koid (lineage_of s t.koid).parent;
+-- the state without the pin n, where no VMO left yet
+abbrev pub unpinned : State → ℕ → State
+unpinned s n = record s { pins = without_key s.pins n }
+
+-- without a name, less keeps its VMO
+pub Loosens-unnamed : (s : State) (n : ℕ) (t : Name) → IsGoodState s → s.names n ≡ Some t → Loosens s (unnamed s n) t.koid
+Loosens-unnamed s n t good e = record {
+  content = refl;
+  lineage = refl;
+  names = λ m target f. (without_key-some s.names n m target f).1;
+  pins = λ m pin f. f;
+  live = λ w apart. ap (λ (b : Bool). b || has_pin s.pins w) (is_named-without_key_other s.names n t w e apart);
+  vmo = name_lineage s n t good e;
 }
 
-module _ (s : State) (n : ℕ) (t : Name) (good : IsGoodState s) (open_name : s.names n ≡ Some t) where
-  -- VMOs other than that of the name are as live as before
-  pub live-unnamed : (v : ℕ) → v ≢ t.koid → is_live (unnamed s n) v ≡ is_live s v
-  live-unnamed v apart = is_named-without_key_other s.names n t v open_name apart
-
-  -- the state is good where the VMO of the name has another
-  pub IsGoodState-unnamed : is_named (without_key s.names n) t.koid ≡ true → IsGoodState (unnamed s n)
-  IsGoodState-unnamed named = record {
-    content = good.content;
-    names = λ m target e.
-        let was = good.names m target (without_key-some s.names n m target e).1 in
-        (was.0, IsGoodName-same s (unnamed s n) target refl (ap (λ (l : Lineage). l.resizable) (lineage_of-same (unnamed s n) s target.koid refl)) was.1);
-    known = good.known;
-    live = λ v h. elim (cases_eq v t.koid) [
-      | inl same ↦ ap (is_live (unnamed s n)) same ∙ named
-      | inr apart ↦ live-unnamed v apart ∙ good.live v h
-    ];
-    parents = good.parents;
-  }
-
-  -- nothing leaves then
-  pub pruned-stays : is_named (without_key s.names n) t.koid ≡ true → pruned (unnamed s n) ≡ unnamed s n
-  pruned-stays named = pruned-good (unnamed s n) (IsGoodState-unnamed named)
-
-  -- the parent of the VMO is an older VMO, and another
-  pub parent_older : (p : ℕ) → (lineage_of s t.koid).parent ≡ Some p → (p < t.koid) × IsSome (s.lineage p)
-  parent_older p e = good.parents t.koid p (lineage_of s t.koid) (lineage-known s t.koid (name_lineage s n t good open_name)) e
-
-  -- Where no other name stands for the VMO, it leaves, and it alone. Its children get its parent
-  pub pruned-leaves : is_named (without_key s.names n) t.koid ≡ false → pruned (unnamed s n) ≡ without_vmo s n t
-  unfolding pruned
-  pruned-leaves gone = λ i. record { content = same i; names = without_key s.names n; lineage = λ w. each w i } where
-    same : only s.content (is_live (unnamed s n)) ≡ without s.content t.koid
-    same = only-alike s.content (is_live (unnamed s n)) (λ w. not (w == t.koid)) good.content (λ w. elim (cases_eq w t.koid) [
-      | inl vmo ↦ inl (ap (is_live (unnamed s n)) vmo ∙ (gone ∙ sym (not_from_true (w == t.koid) ((Decides-eqb w t.koid).1 vmo))))
-      | inr apart ↦ elim (cases_Bool (is_live s w)) [
-        | inl live ↦ inl (live-unnamed w apart ∙ (live ∙ sym (not_from_false (w == t.koid) (eqb_apart w t.koid apart))))
-        | inr off ↦ inr (count_none s w good off)
-      ]
-    ])
-
-    live : (w : ℕ) → w ≢ t.koid → IsSome (s.lineage w) → is_live (unnamed s n) w ≡ true
-    live w apart h = live-unnamed w apart ∙ good.live w h
-
-    -- the parent of a VMO that stays
-    parent : (w : ℕ) (l : Lineage) → s.lineage w ≡ Some l → (o : Option ℕ) → l.parent ≡ o → first_live w (unnamed s n) o ≡ parent_without t.koid (lineage_of s t.koid).parent o
-    parent w l e None f = first_live-none w (unnamed s n) ∙ sym (parent_without-none t.koid (lineage_of s t.koid).parent)
-    parent w l e (Some p) f =
-        let older = good.parents w p l e f in
-        elim (cases_eq p t.koid) [
-          | inl vmo ↦
-              let is : lineage_of (unnamed s n) p ≡ lineage_of s t.koid = lineage_of-same (unnamed s n) s p refl ∙ ap (lineage_of s) vmo in
-              let next : (q : ℕ) → (lineage_of (unnamed s n) p).parent ≡ Some q → (q < p) × (is_live (unnamed s n) q ≡ true) = λ q g.
-              let above = parent_older q (ap (λ (k : Lineage). k.parent) (sym is) ∙ g) in
-              let apart : q ≢ t.koid = omega (arith, above.0) in
-              (omega (arith, above.0, vmo), live q apart above.1) in
-              first_live-next w (unnamed s n) p older.0 (ap (is_live (unnamed s n)) vmo ∙ gone) next
-              ∙ (ap (λ (k : Lineage). k.parent) is
-              ∙ sym (ap (λ (q : ℕ). parent_without t.koid (lineage_of s t.koid).parent (Some q)) vmo ∙ parent_without-same t.koid (lineage_of s t.koid).parent))
-          | inr apart ↦
-              first_live-here w (unnamed s n) p (omega (arith, older.0)) (live p apart older.1)
-              ∙ sym (parent_without-other t.koid (lineage_of s t.koid).parent p apart)
-        ]
-
-    kept : (w : ℕ) → w ≢ t.koid → (o : Option Lineage) → s.lineage w ≡ o → cond (is_live (unnamed s n) w) (option_map (lineage_left (unnamed s n) w) o) None ≡ option_map (left_by t.koid (lineage_of s t.koid).parent) o
-    kept w apart None e = lineage_rest (is_live (unnamed s n) w) None refl
-    kept w apart (Some l) e =
-        ap (λ (b : Bool). cond {A = Option Lineage} b (Some (lineage_left (unnamed s n) w l)) None) (live w apart (ap is_some e))
-        ∙ ap (λ (k : Lineage). Some k) (lineage_left-is (unnamed s n) w l (parent_without t.koid (lineage_of s t.koid).parent l.parent) (parent w l e l.parent refl))
-
-    each : (w : ℕ) → cond (is_live (unnamed s n) w) (option_map (lineage_left (unnamed s n) w) (s.lineage w)) None ≡ lineage_without s.lineage t.koid (lineage_of s t.koid).parent w
-    each w = elim (cases_eq w t.koid) [
-      | inl vmo ↦
-          ap (λ (b : Bool). cond {A = Option Lineage} b (option_map (lineage_left (unnamed s n) w) (s.lineage w)) None) (ap (is_live (unnamed s n)) vmo ∙ gone)
-          ∙ sym (ap (lineage_without s.lineage t.koid (lineage_of s t.koid).parent) vmo ∙ lineage_without-same s.lineage t.koid (lineage_of s t.koid).parent)
-      | inr apart ↦ kept w apart (s.lineage w) refl ∙ sym (lineage_without-other s.lineage t.koid (lineage_of s t.koid).parent w apart)
-    ]
-
-  -- another VMO keeps its leave to change its size
-  pub resizable-without_vmo : (w : ℕ) → w ≢ t.koid → IsSome (s.lineage w) → (lineage_of (without_vmo s n t) w).resizable ≡ (lineage_of s w).resizable
-  resizable-without_vmo w apart h =
-      ap (λ (l : Lineage). l.resizable) (lineage_of-at (without_vmo s n t) w (left_by t.koid (lineage_of s t.koid).parent (lineage_of s w)) (lineage_without-at s.lineage t.koid (lineage_of s t.koid).parent w (lineage_of s w) apart (lineage-known s w h)))
-
-  -- the state is good then
-  pub IsGoodState-without_vmo : is_named (without_key s.names n) t.koid ≡ false → IsGoodState (without_vmo s n t)
-  IsGoodState-without_vmo gone = record {
-    content = IsGood-only s.content (λ w. not (w == t.koid)) good.content;
-    names = λ m target e.
-        let was = without_key-some s.names n m target e in
-        let fine = good.names m target was.1 in
-        let apart : target.koid ≢ t.koid = is_named_none (without_key s.names n) t.koid m target gone fine.0 e in (
-          fine.0,
-          IsGoodName-same s (without_vmo s n t) target (count-without_other s.content t.koid target.koid apart) (resizable-without_vmo target.koid apart (lineage_at s target.koid good fine.1.vmo)) fine.1,
-        );
-    known = λ w. elim (cases_eq w t.koid) [
-      | inl vmo ↦
-          ap (λ (u : ℕ). is_some (lineage_without s.lineage t.koid (lineage_of s t.koid).parent u)) vmo
-          ∙ (ap is_some (lineage_without-same s.lineage t.koid (lineage_of s t.koid).parent)
-          ∙ sym (ap (λ (u : ℕ). is_some ((without s.content t.koid).count u)) vmo ∙ ap is_some (count-without_here s.content t.koid)))
-      | inr apart ↦
-          is_some-lineage_without s.lineage t.koid (lineage_of s t.koid).parent w apart ∙ (good.known w ∙ ap is_some (sym (count-without_other s.content t.koid w apart)))
-    ];
-    live = λ w h.
-        let found = some_is (lineage_without s.lineage t.koid (lineage_of s t.koid).parent w) h in
-        let old = lineage_without-some s.lineage t.koid (lineage_of s t.koid).parent w found.0 found.1 in
-        live-unnamed w old.1 ∙ good.live w (ap is_some old.2);
-    parents = λ w p l e f.
-        let old = lineage_without-some s.lineage t.koid (lineage_of s t.koid).parent w l e in
-        parent w p old.0 old.2 old.0.parent refl (sym (ap (λ (k : Lineage). k.parent) old.3) ∙ f);
-  } where
-    stays : (w p : ℕ) → p < w → IsSome (s.lineage p) → p ≢ t.koid → (p < w) × IsSome (lineage_without s.lineage t.koid (lineage_of s t.koid).parent p)
-    stays w p h there apart = (h, is_some-lineage_without s.lineage t.koid (lineage_of s t.koid).parent p apart ∙ there)
-
-    parent : (w p : ℕ) (l : Lineage) → s.lineage w ≡ Some l → (o : Option ℕ) → l.parent ≡ o → parent_without t.koid (lineage_of s t.koid).parent o ≡ Some p → (p < w) × IsSome (lineage_without s.lineage t.koid (lineage_of s t.koid).parent p)
-    parent w p l e None f g =
-        let none : ◌≡◌ {A = Option ℕ} None (Some p) = sym (parent_without-none t.koid (lineage_of s t.koid).parent) ∙ g in absurd cc
-    parent w p l e (Some q) f g =
-        let older = good.parents w q l e f in
-        elim (cases_eq q t.koid) [
-          | inl vmo ↦
-              let above = parent_older p (sym (ap (λ (u : ℕ). parent_without t.koid (lineage_of s t.koid).parent (Some u)) vmo ∙ parent_without-same t.koid (lineage_of s t.koid).parent) ∙ g) in
-              stays w p (omega (arith, older.0, above.0, vmo)) above.1 (omega (arith, above.0))
-          | inr apart ↦
-              let now : ◌≡◌ {A = Option ℕ} (Some q) (Some p) = sym (parent_without-other t.koid (lineage_of s t.koid).parent q apart) ∙ g in
-              let is : q ≡ p = cc in
-              stays w p (omega (arith, older.0, is)) (subst (λ (u : ℕ). IsSome (s.lineage u)) is older.1) (λ same. apart (is ∙ same))
-        ]
-
-  -- closing a name keeps a good state good, whether its VMO stays or leaves
-  pub IsGoodState-pruned : IsGoodState (pruned (unnamed s n))
-  IsGoodState-pruned = elim (cases_Bool (is_named (without_key s.names n) t.koid)) [
-    | inl named ↦ subst IsGoodState (sym (pruned-stays named)) (IsGoodState-unnamed named)
-    | inr gone ↦ subst IsGoodState (sym (pruned-leaves gone)) (IsGoodState-without_vmo gone)
-  ]
+-- without a pin, less keeps its VMO
+pub Loosens-unpinned : (s : State) (n : ℕ) (pin : Pin) → IsGoodState s → s.pins n ≡ Some pin → Loosens s (unpinned s n) pin.koid
+Loosens-unpinned s n pin good e = record {
+  content = refl;
+  lineage = refl;
+  names = λ m target f. f;
+  pins = λ m other f. (without_key-some s.pins n m other f).1;
+  live = λ w apart. ap (λ (b : Bool). is_named s.names w || b) (has_pin-without_key_other s.pins n pin w e apart);
+  vmo = pin_lineage s n pin good e;
+}
 
 -- ---- what a state without the VMOs that left has as before
 
 pub names-pruned : (s : State) → (pruned s).names ≡ s.names
 unfolding pruned
 names-pruned s = refl
+
+pub pins-pruned : (s : State) → (pruned s).pins ≡ s.pins
+unfolding pruned
+pins-pruned s = refl
 
 pub next-pruned : (s : State) → (pruned s).content.next ≡ s.content.next
 unfolding pruned

@@ -7,12 +7,14 @@ pub mod RangeLaws
 pub mod WritingLaws
 pub mod CommitLaws
 pub mod ZeroesLaws
+pub mod SoleLaws
 pub mod MapLaws
 pub mod NamesLaws
 pub mod AliasLaws
 pub mod AttributionLaws
 pub mod PinLaws
 pub mod LeavingLaws
+pub mod KeepLaws
 pub mod StepLaws
 pub mod RunLaws
 pub mod ExampleLaws

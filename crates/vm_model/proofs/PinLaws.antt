@@ -1,15 +1,16 @@
--- Laws of pins: the pages that a pin covers, how many pins cover a page, and which pages are pinned as pins come and go.
+-- Laws of pins: which VMOs a pin is of, the pages that it covers, how many pins cover a page, and which pages are pinned as pins
+-- come and go.
 use Rattle.std.proofs.Common.{◌≡◌, ◌≢◌, ℕ, ◌+◌, ◌<◌, ◌≤◌, Bool, true, false, cond, ◌&&◌, ◌||◌, ◌==◌, Option, None, Some, refl, sym, ap, ◌∙◌, inl, inr, arith}
 use Rattle.std.specs.Prelude.{nat_le, nat_lt}
-use Rattle.std.proofs.lemmas.Bool.{cases_Bool, cases_eq, and_parts, and_from, and_left, and_right, or_left, or_right, or_from, leb-true, le-leb}
+use Rattle.std.proofs.lemmas.Bool.{cases_Bool, cases_eq, and_parts, and_from, and_left, and_right, or_left, or_right, or_from, false_from_ne_true, leb-true, le-leb}
 use Rattle.vm_model.specs.Search.{count_below}
 use Rattle.vm_model.specs.Maps.{with_key, without_key}
 use Rattle.vm_model.specs.Names.{NAMES}
 use Rattle.vm_model.specs.Zeroing.{is_within}
-use Rattle.vm_model.specs.Pins.{Pin, covers, is_pinned, any_pinned}
+use Rattle.vm_model.specs.Pins.{Pin, pins_vmo, has_pin, pin_count, covers, is_pinned, any_pinned}
 use Rattle.vm_model.proofs.SearchLaws.{any_below_found, any_below_at, any_below_none, none_below, any_below_same, any_below-count, count_below_le, count_below_change, bit_same, bit-false}
 use Rattle.vm_model.proofs.ContentLaws.{eqb_same, eqb_apart, eqb_is}
-use Rattle.vm_model.proofs.MapLaws.{with_key-same, with_key-other, without_key-same, without_key-other}
+use Rattle.vm_model.proofs.MapLaws.{with_key-same, with_key-other, with_key-cases, without_key-same, without_key-other, without_key-some}
 use Rattle.vm_model.proofs.ZeroingLaws.{is_within-true, is_within-parts}
 
 -- ---- one pin
@@ -40,6 +41,102 @@ covers_found v p (Some pin) e =
     let both = and_parts (pin.koid == v) (is_within pin.first (pin.first + pin.count) p) (sym (covers-some v p pin) ∙ e) in
     let within = is_within-parts pin.first (pin.first + pin.count) p both.1 in
     (pin, refl, eqb_is pin.koid v both.0, within.0, within.1)
+
+-- ---- which VMOs a pin is of
+
+pub pins_vmo-none : (v : ℕ) → pins_vmo v None ≡ false
+unfolding pins_vmo
+pins_vmo-none v = refl
+
+pub pins_vmo-some : (v : ℕ) (pin : Pin) → pins_vmo v (Some pin) ≡ (pin.koid == v)
+unfolding pins_vmo
+pins_vmo-some v pin = refl
+
+-- a pin of v, told by an equation
+pub pins_vmo_at : (v : ℕ) (o : Option Pin) (pin : Pin) → o ≡ Some pin → pin.koid ≡ v → pins_vmo v o ≡ true
+pins_vmo_at v o pin e same = ap (pins_vmo v) e ∙ (pins_vmo-some v pin ∙ (ap (λ (w : ℕ). pin.koid == w) (sym same) ∙ eqb_same pin.koid))
+
+pub pins_vmo_found : (v : ℕ) (o : Option Pin) → pins_vmo v o ≡ true → (pin : Pin) × (o ≡ Some pin) × (pin.koid ≡ v)
+pins_vmo_found v None e = absurd (let none = pins_vmo-none v in cc)
+pins_vmo_found v (Some pin) e = (pin, refl, eqb_is pin.koid v (sym (pins_vmo-some v pin) ∙ e))
+
+-- a pin among those that there are makes its VMO one with a pin
+pub has_pin_at : (pins : ℕ → Option Pin) (v n : ℕ) (pin : Pin) → n < NAMES → pins n ≡ Some pin → pin.koid ≡ v → has_pin pins v ≡ true
+unfolding has_pin
+has_pin_at pins v n pin h e same = any_below_at NAMES n (λ m. pins_vmo v (pins m)) h (pins_vmo_at v (pins n) pin e same)
+
+-- a VMO with a pin has one under some name
+pub has_pin_found : (pins : ℕ → Option Pin) (v : ℕ) → has_pin pins v ≡ true → (n : ℕ) × (pin : Pin) × (n < NAMES) × (pins n ≡ Some pin) × (pin.koid ≡ v)
+unfolding has_pin
+has_pin_found pins v e =
+    let found = any_below_found NAMES (λ m. pins_vmo v (pins m)) e in
+    let held = pins_vmo_found v (pins found.0) found.2 in
+    (found.0, held.0, found.1, held.1, held.2)
+
+-- no pin is of a VMO that has none
+pub has_pin_none : (pins : ℕ → Option Pin) (v n : ℕ) (pin : Pin) → has_pin pins v ≡ false → n < NAMES → pins n ≡ Some pin → pin.koid ≢ v
+has_pin_none pins v n pin none h e same = let hit = has_pin_at pins v n pin h e same in absurd cc
+
+-- a VMO that no pin is of has none
+pub has_pin_not : (pins : ℕ → Option Pin) (v : ℕ) → ((n : ℕ) (pin : Pin) → n < NAMES → pins n ≡ Some pin → pin.koid ≢ v) → has_pin pins v ≡ false
+has_pin_not pins v each = false_from_ne_true (has_pin pins v) (λ e.
+    let found = has_pin_found pins v e in each found.0 found.1 found.2 found.3 found.4)
+
+-- no pins, no VMO has one
+pub has_pin-nothing : (pins : ℕ → Option Pin) (v : ℕ) → ((n : ℕ) → pins n ≡ None) → has_pin pins v ≡ false
+has_pin-nothing pins v none = has_pin_not pins v (λ n pin h e same. absurd (let free = none n in cc))
+
+-- a VMO has a pin where its pins count
+pub has_pin-count : (pins : ℕ → Option Pin) (v : ℕ) → has_pin pins v ≡ nat_lt 0 (pin_count pins v)
+unfolding has_pin pin_count
+has_pin-count pins v = any_below-count NAMES (λ n. pins_vmo v (pins n))
+
+-- two tables of pins in each of which the pins of v of the other are found
+has_pin_either : (pins others : ℕ → Option Pin) (v : ℕ) → (has_pin pins v ≡ true → has_pin others v ≡ true) → (has_pin others v ≡ true → has_pin pins v ≡ true) → has_pin pins v ≡ has_pin others v
+has_pin_either pins others v there back = elim (cases_Bool (has_pin pins v)) [
+  | inl hit ↦ hit ∙ sym (there hit)
+  | inr miss ↦ miss ∙ sym (false_from_ne_true (has_pin others v) (λ e. let hit = back e in absurd cc))
+]
+
+-- the VMO of a new pin has one
+pub has_pin-with_key_new : (pins : ℕ → Option Pin) (n : ℕ) (pin : Pin) → n < NAMES → has_pin (with_key pins n pin) pin.koid ≡ true
+has_pin-with_key_new pins n pin h = has_pin_at (with_key pins n pin) pin.koid n pin h (with_key-same pins n pin) refl
+
+-- a VMO keeps its pins where one is added under a name that was free
+pub has_pin-with_key_kept : (pins : ℕ → Option Pin) (n : ℕ) (pin : Pin) (v : ℕ) → pins n ≡ None → has_pin pins v ≡ true → has_pin (with_key pins n pin) v ≡ true
+has_pin-with_key_kept pins n pin v free e =
+    let found = has_pin_found pins v e in
+    let apart : found.0 ≢ n = λ same. absurd (let here = found.3 in let miss = ap pins same ∙ free in cc) in
+    has_pin_at (with_key pins n pin) v found.0 found.1 found.2 (with_key-other pins n pin found.0 apart ∙ found.3) found.4
+
+-- another VMO has pins as before
+pub has_pin-with_key_other : (pins : ℕ → Option Pin) (n : ℕ) (pin : Pin) (v : ℕ) → pins n ≡ None → v ≢ pin.koid → has_pin (with_key pins n pin) v ≡ has_pin pins v
+has_pin-with_key_other pins n pin v free other = has_pin_either (with_key pins n pin) pins v
+    (λ e.
+    let found = has_pin_found (with_key pins n pin) v e in
+    elim (with_key-cases pins n pin found.0 found.1 found.3) [
+      | inl new ↦ absurd (other (sym found.4 ∙ ap (λ (p : Pin). p.koid) (sym new.1)))
+      | inr old ↦ has_pin_at pins v found.0 found.1 found.2 old.1 found.4
+    ])
+    (λ e. has_pin-with_key_kept pins n pin v free e)
+
+-- a VMO with a pin without one name had it before
+pub has_pin-without_key_was : (pins : ℕ → Option Pin) (n v : ℕ) → has_pin (without_key pins n) v ≡ true → has_pin pins v ≡ true
+has_pin-without_key_was pins n v e =
+    let found = has_pin_found (without_key pins n) v e in
+    has_pin_at pins v found.0 found.1 found.2 (without_key-some pins n found.0 found.1 found.3).1 found.4
+
+-- a VMO other than that of the pin has pins as before
+pub has_pin-without_key_other : (pins : ℕ → Option Pin) (n : ℕ) (pin : Pin) (v : ℕ) → pins n ≡ Some pin → v ≢ pin.koid → has_pin (without_key pins n) v ≡ has_pin pins v
+has_pin-without_key_other pins n pin v e other = has_pin_either (without_key pins n) pins v
+    (λ h. has_pin-without_key_was pins n v h)
+    (λ h.
+    let found = has_pin_found pins v h in
+    let apart : found.0 ≢ n = λ same.
+    let is : ◌≡◌ {A = Option Pin} (Some pin) (Some found.1) = sym e ∙ (ap pins (sym same) ∙ found.3) in
+    let one : pin ≡ found.1 = cc in
+    other (sym found.4 ∙ ap (λ (p : Pin). p.koid) (sym one)) in
+    has_pin_at (without_key pins n) v found.0 found.1 found.2 (without_key-other pins n found.0 apart ∙ found.3) found.4)
 
 -- ---- how many pins cover a page
 

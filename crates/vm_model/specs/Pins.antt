@@ -1,6 +1,6 @@
 -- Pins, which keep pages of a VMO in their frames. From the kernel's pinned memory.
 use Rattle.std.specs.Prelude.{ℕ, ◌+◌, Bool, false, ◌&&◌, ◌==◌, nat_le, Option, None, Some}
-use Rattle.vm_model.specs.Search.{any_below}
+use Rattle.vm_model.specs.Search.{any_below, count_below}
 use Rattle.vm_model.specs.Names.{NAMES}
 use Rattle.vm_model.specs.Zeroing.{is_within}
 
@@ -9,6 +9,19 @@ pub record Pin : Type 0 where
   pub koid : ℕ
   pub first : ℕ
   pub count : ℕ
+
+-- a pin is of the VMO v
+unfoldable pub pins_vmo : ℕ → Option Pin → Bool
+pins_vmo v None = false
+pins_vmo v (Some pin) = pin.koid == v
+
+-- some pin is of the VMO v
+unfoldable pub has_pin : (ℕ → Option Pin) → ℕ → Bool
+has_pin pins v = any_below NAMES (λ n. pins_vmo v (pins n))
+
+-- how many pins are of the VMO v
+unfoldable pub pin_count : (ℕ → Option Pin) → ℕ → ℕ
+pin_count pins v = count_below NAMES (λ n. pins_vmo v (pins n))
 
 -- a pin covers page p of the VMO v
 unfoldable pub covers : ℕ → ℕ → Option Pin → Bool

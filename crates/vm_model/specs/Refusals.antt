@@ -1,18 +1,19 @@
 -- When each command is refused: conditions in the order of the ranks, each with its refusal.
-use Rattle.std.specs.Prelude.{ℕ, ◌+◌, ◌*◌, ◌%◌, Bool, not, ◌&&◌, ◌||◌, ◌==◌, nat_lt, List, [], ◌∷◌, length, if◌then◌else◌, Option, None, Some}
+use Rattle.std.specs.Prelude.{ℕ, ◌+◌, ◌*◌, ◌/◌, ◌%◌, Bool, not, ◌&&◌, ◌||◌, ◌==◌, nat_lt, List, [], ◌∷◌, length, if◌then◌else◌, Option, None, Some, is_some}
 use Rattle.vm_base.specs.Pages.{rounded}
 use Rattle.vm_base.specs.declared.pages.TheConstants.{PAGE, VMO_PAGES}
 use Rattle.vm_base.specs.declared.refusal.Refusal.{Refusal}
-use Rattle.vm_base.specs.declared.refusal.Refusal.TheVariants.{BadHandle, NameInUse, AccessDenied, InvalidArgs, NotSupported, Unavailable, OutOfRange, NoMemory}
+use Rattle.vm_base.specs.declared.refusal.Refusal.TheVariants.{BadHandle, NameInUse, BadState, AccessDenied, InvalidArgs, NotSupported, Unavailable, OutOfRange, NoMemory}
 use Rattle.vm_model.specs.declared.command.Command.{Command}
-use Rattle.vm_model.specs.declared.command.Command.TheVariants.{VmoCreate, VmoChild, VmoClose, VmoSize, VmoSetSize, VmoRead, VmoWrite, VmoFill, VmoCommit, VmoDecommit, VmoZero, VmoInfo}
+use Rattle.vm_model.specs.declared.command.Command.TheVariants.{VmoCreate, VmoChild, VmoClose, VmoSize, VmoSetSize, VmoRead, VmoWrite, VmoFill, VmoCommit, VmoDecommit, VmoZero, VmoPin, VmoUnpin, VmoInfo}
 use Rattle.vm_model.specs.declared.command.ChildKind.TheVariants.{Snapshot, Slice, Reference}
 use Rattle.vm_model.specs.declared.names.NameKind.TheVariants.{Slice as SliceName}
-use Rattle.vm_model.specs.Content.{used}
+use Rattle.vm_model.specs.Content.{used, pages_of}
 use Rattle.vm_model.specs.Owning.{need}
 use Rattle.vm_model.specs.Writing.{touched}
 use Rattle.vm_model.specs.Zeroing.{owned_by_zero}
 use Rattle.vm_model.specs.Names.{is_kind, may_decommit}
+use Rattle.vm_model.specs.Pins.{is_pinned, any_pinned, has_pin}
 use Rattle.vm_model.specs.State.{State, is_open, target_of, koid_of, size_of, place_of, lineage_of}
 
 -- owning these pages of the VMO of this name takes more frames than are free
@@ -39,6 +40,7 @@ refusals s (VmoChild name parent Snapshot offset size resizable no_write) =
     ∷ (is_open s name.0, NameInUse)
     ∷ (not (offset % PAGE == 0) || (resizable && no_write), InvalidArgs)
     ∷ (nat_lt (VMO_PAGES * PAGE) (offset + rounded size), OutOfRange)
+    ∷ (has_pin s.pins (koid_of s parent.0), BadState)
     ∷ []
 refusals s (VmoChild name parent Slice offset size resizable no_write) =
     (not (is_open s parent.0), BadHandle)
@@ -61,20 +63,30 @@ refusals s (VmoRead name offset len) =
 refusals s (VmoWrite name offset bytes) = change_refusals s name.0 offset (length bytes) (touched (place_of s name.0 offset) (length bytes))
 refusals s (VmoFill name offset len byte) = change_refusals s name.0 offset len (touched (place_of s name.0 offset) len)
 refusals s (VmoCommit name offset len) = change_refusals s name.0 offset len (touched (place_of s name.0 offset) len)
-refusals s (VmoZero name offset len) = change_refusals s name.0 offset len (owned_by_zero s.content (koid_of s name.0) (place_of s name.0 offset) len)
+refusals s (VmoZero name offset len) = change_refusals s name.0 offset len (owned_by_zero s.content (koid_of s name.0) (is_pinned s.pins (koid_of s name.0)) (place_of s name.0 offset) len)
 refusals s (VmoDecommit name offset len) =
     (not (is_open s name.0), BadHandle)
     ∷ (not (target_of s name.0).may_write, AccessDenied)
     ∷ (not (offset % PAGE == 0 && len % PAGE == 0), InvalidArgs)
     ∷ (not (may_decommit s.names s.lineage (koid_of s name.0) (lineage_of s (koid_of s name.0))), NotSupported)
     ∷ (nat_lt (size_of s name.0) (offset + len), OutOfRange)
+    ∷ (any_pinned s.pins (koid_of s name.0) (place_of s name.0 offset / PAGE) (place_of s name.0 (offset + len) / PAGE), BadState)
     ∷ []
 refusals s (VmoSetSize name size) =
     (not (is_open s name.0), BadHandle)
     ∷ (not (target_of s name.0).may_write, AccessDenied)
     ∷ (not (target_of s name.0).may_resize, Unavailable)
     ∷ (nat_lt (VMO_PAGES * PAGE) (rounded size), OutOfRange)
+    ∷ (any_pinned s.pins (koid_of s name.0) (rounded size / PAGE) (pages_of s.content (koid_of s name.0)), BadState)
     ∷ []
+refusals s (VmoPin pin name offset len) =
+    (not (is_open s name.0), BadHandle)
+    ∷ (is_some (s.pins pin.0), NameInUse)
+    ∷ (not (offset % PAGE == 0 && len % PAGE == 0) || (len == 0 || nat_lt (256 * PAGE) len), InvalidArgs)
+    ∷ (nat_lt (size_of s name.0) (offset + len), OutOfRange)
+    ∷ (lacks_frames s name.0 (touched (place_of s name.0 offset) len), NoMemory)
+    ∷ []
+refusals s (VmoUnpin pin) = (not (is_some (s.pins pin.0)), BadHandle) ∷ []
 refusals s (VmoSize name) = (not (is_open s name.0), BadHandle) ∷ []
 refusals s (VmoInfo name) = (not (is_open s name.0), BadHandle) ∷ []
 -- the other commands refuse nothing: `Stat`, and those that are not built yet

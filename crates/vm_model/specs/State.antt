@@ -1,19 +1,21 @@
--- The state of the machine: what the page store contains, the names of VMOs, and the lineage of each VMO.
-use Rattle.std.specs.Prelude.{◌≡◌, ℕ, ◌+◌, ◌*◌, ◌<◌, ◌≤◌, Bool, true, false, Option, None, Some, IsSome, is_some, unwrap_or}
+-- The state of the machine: what the page store contains, the names of VMOs, the lineage of each VMO, and the pins.
+use Rattle.std.specs.Prelude.{◌≡◌, ℕ, ◌+◌, ◌*◌, ◌<◌, ◌≤◌, Bool, true, false, ◌||◌, Option, None, Some, IsSome, is_some, unwrap_or}
 use Rattle.vm_base.specs.declared.pages.TheConstants.{PAGE}
 use Rattle.vm_model.specs.declared.names.NameKind.TheVariants.{Slice}
 use Rattle.vm_model.specs.declared.names.Origin.TheVariants.{Created}
-use Rattle.vm_model.specs.Content.{Content, nothing, pages_of, IsGood}
+use Rattle.vm_model.specs.Content.{Content, nothing, pages_of, sole, IsGood}
 use Rattle.vm_model.specs.Names.{Name, Lineage, NAMES, owner, is_named}
+use Rattle.vm_model.specs.Pins.{Pin, has_pin}
 
 pub record State : Type 0 where
   pub content : Content
   pub names : ℕ → Option Name
   pub lineage : ℕ → Option Lineage
+  pub pins : ℕ → Option Pin
 
 -- a machine with this many frames and nothing else
 unfoldable pub empty_state : ℕ → State
-empty_state frames = record { content = record nothing { frames = frames }; names = λ n. None; lineage = λ v. None }
+empty_state frames = record { content = record nothing { frames = frames }; names = λ n. None; lineage = λ v. None; pins = λ n. None }
 
 abbrev pub is_open : State → ℕ → Bool
 is_open s name = is_some (s.names name)
@@ -42,9 +44,13 @@ place_of s name offset = (target_of s name).first * PAGE + offset
 unfoldable pub lineage_of : State → ℕ → Lineage
 lineage_of s v = unwrap_or (s.lineage v) (record { resizable = false; origin = Created; parent = None })
 
--- a VMO is live while a name stands for it
+-- the pages that a pin keeps. Where there is none, this means nothing
+unfoldable pub pin_of : State → ℕ → Pin
+pin_of s n = unwrap_or (s.pins n) (record { koid = 0; first = 0; count = 0 })
+
+-- a VMO is live while a name stands for it or a pin is of it
 abbrev pub is_live : State → ℕ → Bool
-is_live s v = is_named s.names v
+is_live s v = is_named s.names v || has_pin s.pins v
 
 -- What holds of every name: it stands for a VMO. A name of a part is a slice, of a VMO that keeps its size, and the part lies
 -- inside the VMO.
@@ -53,6 +59,13 @@ pub record IsGoodName (s : State) (target : Name) : Type 0 where
   pub whole : target.limit ≡ None → target.first ≡ 0
   pub part : (n : ℕ) → target.limit ≡ Some n → (target.kind ≡ Slice) × ((lineage_of s target.koid).resizable ≡ false) × (target.first + n ≤ pages_of s.content target.koid)
   pub resize : target.may_resize ≡ true → (lineage_of s target.koid).resizable ≡ true
+
+-- What holds of every pin: it is of a VMO, and its pages, from 1 to 256, lie inside the VMO and are sole.
+pub record IsGoodPin (s : State) (pin : Pin) : Type 0 where
+  pub vmo : IsSome (s.content.count pin.koid)
+  pub few : (1 ≤ pin.count) × (pin.count ≤ 256)
+  pub inside : pin.first + pin.count ≤ pages_of s.content pin.koid
+  pub alone : (p : ℕ) → pin.first ≤ p → p < pin.first + pin.count → sole s.content pin.koid p ≡ true
 
 -- What holds of every state that the machine comes to.
 pub record IsGoodState (s : State) : Type 0 where
@@ -63,3 +76,4 @@ pub record IsGoodState (s : State) : Type 0 where
   pub live : (v : ℕ) → IsSome (s.lineage v) → is_live s v ≡ true
   -- a parent is a VMO, and older than its child
   pub parents : (v p : ℕ) (l : Lineage) → s.lineage v ≡ Some l → l.parent ≡ Some p → (p < v) × IsSome (s.lineage p)
+  pub pins : (n : ℕ) (pin : Pin) → s.pins n ≡ Some pin → (n < NAMES) × IsGoodPin s pin

@@ -1,24 +1,25 @@
 -- One step of the machine: a command is refused, or it has its effect, or the host lacks memory for it.
-use Rattle.std.specs.Prelude.{◌≡◌, ℕ, ◌+◌, ◌-◌, ◌/◌, min, Bool, true, false, not, length, replicate, Option, None, Some, ◌⊎◌, ◌&&◌}
-use Rattle.std.specs.List.{list_any}
+use Rattle.std.specs.Prelude.{◌≡◌, ℕ, ◌+◌, ◌-◌, ◌/◌, min, Bool, true, false, not, List, length, map, replicate, Option, None, Some, ◌⊎◌, ◌&&◌}
+use Rattle.std.specs.List.{list_any, range_with_len}
 use Rattle.vm_base.specs.Pages.{rounded}
 use Rattle.vm_base.specs.declared.pages.TheConstants.{PAGE}
 use Rattle.vm_base.specs.declared.refusal.Refusal.{Refusal}
 use Rattle.vm_base.specs.declared.refusal.Refusal.TheVariants.{HostMemory}
 use Rattle.vm_model.specs.declared.command.Command.{Command}
-use Rattle.vm_model.specs.declared.command.Command.TheVariants.{VmoCreate, VmoChild, VmoClose, VmoSize, VmoSetSize, VmoRead, VmoWrite, VmoFill, VmoCommit, VmoDecommit, VmoZero, VmoInfo, Stat}
+use Rattle.vm_model.specs.declared.command.Command.TheVariants.{VmoCreate, VmoChild, VmoClose, VmoSize, VmoSetSize, VmoRead, VmoWrite, VmoFill, VmoCommit, VmoDecommit, VmoZero, VmoPin, VmoUnpin, VmoInfo, Stat}
 use Rattle.vm_model.specs.declared.command.ChildKind.TheVariants.{Snapshot as SnapshotChild, Slice as SliceChild, Reference as ReferenceChild}
 use Rattle.vm_model.specs.declared.names.NameKind.TheVariants.{Slice, Reference}
 use Rattle.vm_model.specs.declared.names.Origin.TheVariants.{Created, Snapshot}
 use Rattle.vm_model.specs.declared.reply.Reply.{Reply}
-use Rattle.vm_model.specs.declared.reply.Reply.TheVariants.{Done, Number, Bytes, Info as InfoReply, Stat as StatReply, Refused, Unbuilt}
-use Rattle.vm_model.specs.Content.{Content, created, is_held, sole}
+use Rattle.vm_model.specs.declared.reply.Reply.TheVariants.{Done, Number, Bytes, Pins, Info as InfoReply, Stat as StatReply, Refused, Unbuilt}
+use Rattle.vm_model.specs.Content.{Content, Page, created, is_held, sole}
 use Rattle.vm_model.specs.Owning.{OwnsAll}
 use Rattle.vm_model.specs.Sharing.{snapshotted}
 use Rattle.vm_model.specs.Writing.{touched, bytes_in, pieces, Writes}
 use Rattle.vm_model.specs.Zeroing.{zeroed, resized, Zeroes}
 use Rattle.vm_model.specs.Maps.{with_key, without_key}
 use Rattle.vm_model.specs.Names.{Name, owner}
+use Rattle.vm_model.specs.Pins.{Pin, is_pinned}
 use Rattle.vm_model.specs.State.{State, target_of, koid_of, name_pages, size_of, place_of}
 use Rattle.vm_model.specs.Leaving.{pruned}
 use Rattle.vm_model.specs.Attribution.{info_at, stat_of}
@@ -26,7 +27,7 @@ use Rattle.vm_model.specs.Refusals.{refusals, first_of}
 
 -- a new VMO of zero pages, and its name
 unfoldable pub with_vmo : State → ℕ → ℕ → Bool → State
-with_vmo s name pages resizable = record {
+with_vmo s name pages resizable = record s {
   content = created s.content pages;
   names = with_key s.names name (owner s.content.next true resizable);
   lineage = with_key s.lineage s.content.next (record { resizable = resizable; origin = Created; parent = None });
@@ -39,7 +40,7 @@ seen_pages c target start pages = min pages (name_pages c target - start)
 -- A snapshot of what a name stands for, from its page `start` on, and the snapshot's name. Pages past the end of the name
 -- are zero, also if the name's VMO grows later.
 unfoldable pub with_snapshot : State → ℕ → Name → ℕ → ℕ → Bool → Bool → State
-with_snapshot s name target start pages resizable no_write = record {
+with_snapshot s name target start pages resizable no_write = record s {
   content = snapshotted s.content target.koid (target.first + start) (seen_pages s.content target start pages) pages;
   names = with_key s.names name (owner s.content.next (not no_write) resizable);
   lineage = with_key s.lineage s.content.next (record { resizable = resizable; origin = Snapshot; parent = Some target.koid });
@@ -71,6 +72,19 @@ reference_of target resizable no_write = record {
 unfoldable pub with_alias : State → ℕ → Name → State
 with_alias s name target = record s { names = with_key s.names name target }
 
+-- the pages of a range of a name, as those of a pin
+abbrev pub pin_at : State → ℕ → ℕ → ℕ → Pin
+pin_at s name offset len = record { koid = koid_of s name; first = place_of s name offset / PAGE; count = len / PAGE }
+
+-- the frame of a page. Where it has none, this means nothing
+unfoldable pub frame_of : Option Page → ℕ
+frame_of None = 0
+frame_of (Some held) = held.tag
+
+-- the frames of the pages of a pin, in ascending order of the pages
+abbrev pub frames_of : Content → Pin → List ℕ
+frames_of c pin = map (λ p. frame_of (c.page pin.koid p)) (range_with_len pin.first pin.count)
+
 -- nothing but the content changes
 abbrev pub ChangesContent : State → State → Type 0
 ChangesContent old new = new ≡ record old { content = new.content }
@@ -99,9 +113,15 @@ Effect old (VmoDecommit name offset len) reply new =
     (reply ≡ Done) × (new ≡ record old { content = zeroed old.content (koid_of old name.0) (place_of old name.0 offset / PAGE) (place_of old name.0 (offset + len) / PAGE) })
 Effect old (VmoZero name offset len) reply new =
     (reply ≡ Done) × ChangesContent old new
-    × Zeroes old.content (koid_of old name.0) (place_of old name.0 offset) len (touched (place_of old name.0 offset) len) new.content
+    × Zeroes old.content (koid_of old name.0) (is_pinned old.pins (koid_of old name.0)) (place_of old name.0 offset) len (touched (place_of old name.0 offset) len) new.content
 Effect old (VmoSetSize name size) reply new =
     (reply ≡ Done) × (new ≡ record old { content = resized old.content (koid_of old name.0) (rounded size / PAGE) })
+Effect old (VmoPin pin name offset len) reply new =
+    (reply ≡ Pins (frames_of new.content (pin_at old name.0 offset len)))
+    × (new ≡ record old { content = new.content; pins = with_key old.pins pin.0 (pin_at old name.0 offset len) })
+    × OwnsAll old.content (koid_of old name.0) (touched (place_of old name.0 offset) len) new.content
+Effect old (VmoUnpin pin) reply new =
+    (reply ≡ Done) × (new ≡ pruned (record old { pins = without_key old.pins pin.0 }))
 Effect old (VmoSize name) reply new = (reply ≡ Number (size_of old name.0)) × (new ≡ old)
 Effect old (VmoInfo name) reply new = (reply ≡ InfoReply (info_at old (target_of old name.0))) × (new ≡ old)
 Effect old Stat reply new = (reply ≡ StatReply (stat_of old.content)) × (new ≡ old)
@@ -117,6 +137,7 @@ touches_any s name offset len test = list_any test (touched (place_of s name off
 abbrev pub may_lack_memory : State → Command → Bool
 may_lack_memory s (VmoCreate name size resizable) = true
 may_lack_memory s (VmoChild name parent kind offset size resizable no_write) = true
+may_lack_memory s (VmoPin pin name offset len) = true
 may_lack_memory s (VmoWrite name offset bytes) = touches_any s name.0 offset (length bytes) (λ p. not (sole s.content (koid_of s name.0) p))
 may_lack_memory s (VmoFill name offset len byte) = touches_any s name.0 offset len (λ p. not (sole s.content (koid_of s name.0) p))
 may_lack_memory s (VmoCommit name offset len) = touches_any s name.0 offset len (λ p. not (sole s.content (koid_of s name.0) p))

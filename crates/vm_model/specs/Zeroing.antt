@@ -23,18 +23,22 @@ resized c v pages = record (zeroed c v pages (pages_of c v)) { count = with_key 
 abbrev pub is_whole : ℕ → ℕ → ℕ → Bool
 is_whole offset len p = nat_le offset (PAGE * p) && nat_le (PAGE * (p + 1)) (offset + len)
 
--- From old, zeroing what of a range falls into page p of v may lead to new. A page that lies wholly in the range becomes zero.
--- Another page that is held is written with zeros there, as by a write. A page that is zero stays so.
-pub record ZeroesPage (old : Content) (v offset len p : ℕ) (new : Content) : Type 0 where
-  pub whole : is_whole offset len p ≡ true → new ≡ zeroed old v p (p + 1)
-  pub held : is_whole offset len p ≡ false → is_held old v p ≡ true → WritesPiece old v (piece offset (replicate len 0) p) new
-  pub zero : is_whole offset len p ≡ false → is_held old v p ≡ false → new ≡ old
+-- Page p becomes zero as a whole: it lies wholly in a range of bytes, and is not one that is pinned
+abbrev pub is_cleared : (ℕ → Bool) → ℕ → ℕ → ℕ → Bool
+is_cleared pinned offset len p = is_whole offset len p && not (pinned p)
+
+-- From old, zeroing what of a range falls into page p of v may lead to new. A page that lies wholly in the range and is not
+-- pinned becomes zero. Another page that is held is written with zeros there, as by a write. A page that is zero stays so.
+pub record ZeroesPage (old : Content) (v : ℕ) (pinned : ℕ → Bool) (offset len p : ℕ) (new : Content) : Type 0 where
+  pub cleared : is_cleared pinned offset len p ≡ true → new ≡ zeroed old v p (p + 1)
+  pub held : is_cleared pinned offset len p ≡ false → is_held old v p ≡ true → WritesPiece old v (piece offset (replicate len 0) p) new
+  pub zero : is_cleared pinned offset len p ≡ false → is_held old v p ≡ false → new ≡ old
 
 -- what of a range falls into these pages is zeroed, one page after another
-abbrev pub Zeroes : Content → ℕ → ℕ → ℕ → List ℕ → Content → Type 0
-Zeroes old v offset len [] new = new ≡ old
-Zeroes old v offset len (p ∷ ps) new = (mid : Content) × ZeroesPage old v offset len p mid × Zeroes mid v offset len ps new
+abbrev pub Zeroes : Content → ℕ → (ℕ → Bool) → ℕ → ℕ → List ℕ → Content → Type 0
+Zeroes old v pinned offset len [] new = new ≡ old
+Zeroes old v pinned offset len (p ∷ ps) new = (mid : Content) × ZeroesPage old v pinned offset len p mid × Zeroes mid v pinned offset len ps new
 
--- the pages that zeroing a range owns: those that it touches without holding them whole, where they are held
-abbrev pub owned_by_zero : Content → ℕ → ℕ → ℕ → List ℕ
-owned_by_zero c v offset len = filter (λ p. is_held c v p && not (is_whole offset len p)) (touched offset len)
+-- the pages that zeroing a range owns: those that it touches, that are held and do not become zero as a whole
+abbrev pub owned_by_zero : Content → ℕ → (ℕ → Bool) → ℕ → ℕ → List ℕ
+owned_by_zero c v pinned offset len = filter (λ p. is_held c v p && not (is_cleared pinned offset len p)) (touched offset len)

@@ -1,5 +1,5 @@
 -- What a store contains before its first VMO, and how the serving of a script begins.
-use Rattle.std.proofs.Common.{◌≡◌, ℕ, inl, false, List, [], Option, None, refl, sym, ap, subst, ◌∙◌, arith}
+use Rattle.std.proofs.Common.{◌≡◌, ℕ, inl, false, List, [], Option, refl, sym, ap, subst, ◌∙◌, arith}
 use Rattle.std.proofs.KnownBytes.{Appends-nil, Consumes-nil}
 use Rattle.vm_model.specs.Content.{Content, nothing}
 use Rattle.vm_model.specs.State.{State, empty_state}

@@ -18,6 +18,8 @@ pub use session::run;
 #[cfg(test)]
 mod family_tests;
 #[cfg(test)]
+mod pin_tests;
+#[cfg(test)]
 mod range_tests;
 #[cfg(test)]
 mod tests;

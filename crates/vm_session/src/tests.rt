@@ -73,7 +73,7 @@ fn scripts_have_their_replies(rt: HostRuntime) -> Result<(), Fail> {
         (b"\n \t\r\n# note\nstatus\nvmo_create v1 1", b"SYNTAX\nOK\n"),
         // A command that is not built is read, and changes nothing.
         (
-            b"vmo_pin p1 v1 0 4096\nvmo_create v1 1 resizable\nvmo_pin p1 v1 0 4096\nvmo_size v1\nstat\nvmo_pin\n",
+            b"vmar_destroy r1\nvmo_create v1 1 resizable\nroot_create r1\nvmo_size v1\nstat\nroot_create\n",
             b"UNBUILT\nOK\nUNBUILT\nOK 4096\nOK frames=1024 used=0 free=1024 vmos=1\nSYNTAX\n",
         ),
         // Spellings: what is in the grammar of a line, what is blank, and what is refused.

@@ -14,28 +14,27 @@ use Rattle.vm_model.specs.declared.names.NameKind.TheVariants.{Slice}
 use Rattle.vm_model.specs.declared.reply.Reply.TheVariants.{Done, Refused}
 use Rattle.vm_model.specs.Maps.{with_key}
 use Rattle.vm_model.specs.Names.{Name, Lineage, is_kind}
-use Rattle.vm_model.specs.State.{State, is_open, target_of, koid_of, name_pages, size_of, lineage_of, IsGoodState}
+use Rattle.vm_model.specs.State.{State, is_open, target_of, koid_of, name_pages, size_of, lineage_of}
 use Rattle.vm_model.specs.Refusals.{refusals, first_of}
 use Rattle.vm_model.specs.Step.{slice_of, reference_of, with_alias, Step}
 use Rattle.vm_model.proofs.NamesLaws.{target_of-at, lineage-known}
-use Rattle.vm_model.proofs.LeavingLaws.{name_lineage}
 use Rattle.vmo_ops.proofs.StepRows.{first_of-skip, first_of-hit, Step-refused, Step-done, Step-lacks, open_at, past_at, within_at}
 
 -- ---- a name more
 
-pub with_alias-is : (s new : State) (name : ℕ) (given target : Name) → new.content ≡ s.content → new.names ≡ with_key s.names name given → given ≡ target → new.lineage ≡ s.lineage → new ≡ with_alias s name target
+pub with_alias-is : (s new : State) (name : ℕ) (given target : Name) → new.content ≡ s.content → new.names ≡ with_key s.names name given → given ≡ target → new.lineage ≡ s.lineage → new.pins ≡ s.pins → new ≡ with_alias s name target
 unfolding with_alias
-with_alias-is s new name given target content names same lineage =
-    (λ i. record { content = content i; names = names i; lineage = lineage i }) ∙ λ i. record s { names = with_key s.names name (same i) }
+with_alias-is s new name given target content names same lineage pins =
+    (λ i. record { content = content i; names = names i; lineage = lineage i; pins = pins i }) ∙ λ i. record s { names = with_key s.names name (same i) }
 
 -- the VMO of a name is in the table, also after a step that keeps the table, and for a name that is the same
 pub known_still : (old new : ℕ → Option Lineage) (given target : Name) → IsSome (old target.koid) → new ≡ old → given ≡ target → IsSome (new given.koid)
 known_still old new given target there kept same = subst (λ (t : Name). IsSome (new t.koid)) (sym same) (subst (λ (f : ℕ → Option Lineage). IsSome (f target.koid)) (sym kept) there)
 
 -- whether the VMO of a name may change its size, as the table says of the VMO
-pub resizable_at : (s : State) (n : ℕ) (target : Name) (b : Bool) → IsGoodState s → s.names n ≡ Some target → IfSome (s.lineage target.koid) (λ l. b ≡ l.resizable) → (lineage_of s (koid_of s n)).resizable ≡ b
-resizable_at s n target b good named told =
-    let known = lineage-known s target.koid (name_lineage s n target good named) in
+pub resizable_at : (s : State) (n : ℕ) (target : Name) (b : Bool) → IsSome (s.lineage target.koid) → s.names n ≡ Some target → IfSome (s.lineage target.koid) (λ l. b ≡ l.resizable) → (lineage_of s (koid_of s n)).resizable ≡ b
+resizable_at s n target b there named told =
+    let known = lineage-known s target.koid there in
     ap (λ (t : Name). (lineage_of s t.koid).resizable) (target_of-at s n target named)
     ∙ sym (subst (λ (o : Option Lineage). IfSome o (λ l. b ≡ l.resizable)) known told)
 
@@ -77,17 +76,17 @@ module _ (s : State) (name parent : VmoName) (offset size : ℕ) (resizable no_w
     fixed_row = slice_rows ∙ first_of-skip slice_wrong InvalidArgs fixed_rows slice_right
 
     -- what the table says of the VMO
-    module _ (good : IsGoodState s) (answer : Bool) (told : IfSome (s.lineage target.koid) (λ l. answer ≡ l.resizable)) where
+    module _ (there : IsSome (s.lineage target.koid)) (answer : Bool) (told : IfSome (s.lineage target.koid) (λ l. answer ≡ l.resizable)) where
       -- a part of a VMO that may change its size
       pub slice_of_resizable : answer ≡ true → Step s (VmoChild name parent SliceChild offset size resizable no_write) (Refused NotSupported) s
       unfolding fixed_rows
       slice_of_resizable may = Step-refused s (VmoChild name parent SliceChild offset size resizable no_write) NotSupported
-          (fixed_row ∙ first_of-hit (lineage_of s (koid_of s parent.0)).resizable NotSupported [] (resizable_at s parent.0 target answer good named told ∙ may))
+          (fixed_row ∙ first_of-hit (lineage_of s (koid_of s parent.0)).resizable NotSupported [] (resizable_at s parent.0 target answer there named told ∙ may))
 
       module _ (fixed : answer ≡ false) where
         slice_none : first_of (refusals s (VmoChild name parent SliceChild offset size resizable no_write)) ≡ None
         unfolding fixed_rows
-        slice_none = fixed_row ∙ first_of-skip (lineage_of s (koid_of s parent.0)).resizable NotSupported [] (resizable_at s parent.0 target answer good named told ∙ fixed)
+        slice_none = fixed_row ∙ first_of-skip (lineage_of s (koid_of s parent.0)).resizable NotSupported [] (resizable_at s parent.0 target answer there named told ∙ fixed)
 
         -- the host has too little memory for the name
         pub slice_lacks : (t : State) → t ≡ s → Step s (VmoChild name parent SliceChild offset size resizable no_write) (Refused HostMemory) t

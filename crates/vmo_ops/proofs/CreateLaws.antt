@@ -1,34 +1,38 @@
 -- The steps of making a VMO, and a snapshot.
-use Rattle.std.proofs.Common.{◌≡◌, ℕ, ◌+◌, ◌*◌, ◌/◌, ◌%◌, ◌≤◌, ◌==◌, Bool, true, false, not, cond, ◌&&◌, ◌||◌, [], ◌∷◌, None, Some, ◌⊎◌, inl, inr, refl, sym, ap, ◌∙◌, arith}
+use Rattle.std.proofs.Common.{◌≡◌, ℕ, ◌+◌, ◌*◌, ◌/◌, ◌%◌, ◌≤◌, ◌==◌, Bool, true, false, not, cond, ◌&&◌, ◌||◌, List, [], ◌∷◌, None, Some, ◌⊎◌, inl, inr, refl, sym, ap, ◌∙◌, arith}
 use Rattle.std.specs.Prelude.{nat_lt}
 use Rattle.std.proofs.lemmas.Bool.Decides.{Decides-eqb}
 use Rattle.vm_base.specs.Pages.{rounded}
 use Rattle.vm_base.specs.declared.names.VmoName.{VmoName}
 use Rattle.vm_base.specs.declared.pages.TheConstants.{PAGE, VMO_PAGES}
-use Rattle.vm_base.specs.declared.refusal.Refusal.TheVariants.{BadHandle, NameInUse, InvalidArgs, OutOfRange}
+use Rattle.vm_base.specs.declared.refusal.Refusal.{Refusal}
+use Rattle.vm_base.specs.declared.refusal.Refusal.TheVariants.{BadHandle, NameInUse, BadState, InvalidArgs, OutOfRange, HostMemory}
 use Rattle.vm_model.specs.declared.command.Command.TheVariants.{VmoCreate, VmoChild}
 use Rattle.vm_model.specs.declared.command.ChildKind.TheVariants.{Snapshot as SnapshotChild}
 use Rattle.vm_model.specs.declared.names.Origin.TheVariants.{Created, Snapshot}
-use Rattle.vm_model.specs.declared.reply.Reply.TheVariants.{Done}
+use Rattle.vm_model.specs.declared.reply.Reply.TheVariants.{Done, Refused}
 use Rattle.vm_model.specs.Content.{Content, created}
 use Rattle.vm_model.specs.Sharing.{snapshotted, page_seen}
 use Rattle.vm_model.specs.Maps.{with_key}
 use Rattle.vm_model.specs.Names.{Name, owner}
-use Rattle.vm_model.specs.State.{State, is_open}
+use Rattle.vm_model.specs.Pins.{has_pin}
+use Rattle.vm_model.specs.State.{State, is_open, koid_of}
+use Rattle.vm_model.specs.Refusals.{refusals, first_of}
 use Rattle.vm_model.specs.Step.{with_vmo, seen_pages, with_snapshot, Step}
 use Rattle.vm_model.proofs.NamesLaws.{target_of-at}
 use Rattle.vm_model.proofs.SharingLaws.{page_seen-out}
-use Rattle.vmo_ops.proofs.StepRows.{first_of-skip, Step-done, open_at, test_not_less}
+use Rattle.vmo_ops.proofs.StepRows.{first_of-skip, first_of-hit, Step-refused, Step-done, Step-lacks, open_at, test_not_less}
+use Rattle.vmo_ops.proofs.ChangeLaws.{koid_of-at}
 
 -- ---- a VMO
 
 with_vmo-is : (s new : State) (name koid pages : ℕ) (resizable : Bool) → koid ≡ s.content.next → new.content ≡ created s.content pages
     → new.names ≡ with_key s.names name (owner koid true resizable) → new.lineage ≡ with_key s.lineage koid (record { resizable = resizable; origin = Created; parent = None })
-    → new ≡ with_vmo s name pages resizable
+    → new.pins ≡ s.pins → new ≡ with_vmo s name pages resizable
 unfolding with_vmo
-with_vmo-is s new name koid pages resizable e content names lineage =
-    (λ i. record { content = content i; names = names i; lineage = lineage i })
-    ∙ λ i. record {
+with_vmo-is s new name koid pages resizable e content names lineage pins =
+    (λ i. record { content = content i; names = names i; lineage = lineage i; pins = pins i })
+    ∙ λ i. record s {
       content = created s.content pages;
       names = with_key s.names name (owner (e i) true resizable);
       lineage = with_key s.lineage (e i) (record { resizable = resizable; origin = Created; parent = None });
@@ -38,12 +42,12 @@ with_vmo-is s new name koid pages resizable e content names lineage =
 pub create_done : (s new : State) (name : VmoName) (size : ℕ) (resizable : Bool) (koid pages : ℕ) → is_open s name.0 ≡ false → rounded size ≤ VMO_PAGES * PAGE
     → koid ≡ s.content.next → pages ≡ rounded size / PAGE → new.content ≡ created s.content pages
     → new.names ≡ with_key s.names name.0 (owner koid true resizable) → new.lineage ≡ with_key s.lineage koid (record { resizable = resizable; origin = Created; parent = None })
-    → Step s (VmoCreate name size resizable) Done new
-create_done s new name size resizable koid pages free few e f content names lineage =
+    → new.pins ≡ s.pins → Step s (VmoCreate name size resizable) Done new
+create_done s new name size resizable koid pages free few e f content names lineage pins =
     let large = nat_lt (VMO_PAGES * PAGE) (rounded size) in
     Step-done s (VmoCreate name size resizable) Done new
     (first_of-skip (is_open s name.0) NameInUse ((large, OutOfRange) ∷ []) free ∙ first_of-skip large OutOfRange [] (test_not_less (VMO_PAGES * PAGE) (rounded size) few))
-    (refl, with_vmo-is s new name.0 koid pages resizable e content names lineage ∙ ap (λ (n : ℕ). with_vmo s name.0 n resizable) f)
+    (refl, with_vmo-is s new name.0 koid pages resizable e content names lineage pins ∙ ap (λ (n : ℕ). with_vmo s name.0 n resizable) f)
 
 -- ---- a snapshot
 
@@ -64,12 +68,12 @@ snapshotted-first c v first start seen pages (inr none) =
 with_snapshot-is : (s new : State) (name koid : ℕ) (target : Name) (start first seen pages : ℕ) (resizable no_write : Bool) → koid ≡ s.content.next
     → seen ≡ seen_pages s.content target start pages → (first ≡ target.first + start) ⊎ (seen ≡ 0) → new.content ≡ snapshotted s.content target.koid first seen pages
     → new.names ≡ with_key s.names name (owner koid (not no_write) resizable) → new.lineage ≡ with_key s.lineage koid (record { resizable = resizable; origin = Snapshot; parent = Some target.koid })
-    → new ≡ with_snapshot s name target start pages resizable no_write
+    → new.pins ≡ s.pins → new ≡ with_snapshot s name target start pages resizable no_write
 unfolding with_snapshot
-with_snapshot-is s new name koid target start first seen pages resizable no_write e saw from content names lineage =
+with_snapshot-is s new name koid target start first seen pages resizable no_write e saw from content names lineage pins =
     let place = snapshotted-first s.content target.koid first (target.first + start) seen pages from in
-    (λ i. record { content = (content ∙ place) i; names = names i; lineage = lineage i })
-    ∙ λ i. record {
+    (λ i. record { content = (content ∙ place) i; names = names i; lineage = lineage i; pins = pins i })
+    ∙ λ i. record s {
       content = snapshotted s.content target.koid (target.first + start) (saw i) pages;
       names = with_key s.names name (owner (e i) (not no_write) resizable);
       lineage = with_key s.lineage (e i) (record { resizable = resizable; origin = Snapshot; parent = Some target.koid });
@@ -83,23 +87,50 @@ args_fine offset at resizable no_write e f either =
       go (inl (h, k)) = λ i. h i && k i
       go (inr h) = ap (λ (b : Bool). b && no_write) h
 
--- the snapshot is made, and the name entered
-pub snapshot_done : (s new : State) (name parent : VmoName) (offset size : ℕ) (resizable no_write : Bool) (target : Name) (koid start first seen pages : ℕ)
-    → s.names parent.0 ≡ Some target → is_open s name.0 ≡ false → (not (offset % PAGE == 0) || (resizable && no_write)) ≡ false → offset + rounded size ≤ VMO_PAGES * PAGE
-    → koid ≡ s.content.next → start ≡ offset / PAGE → pages ≡ rounded size / PAGE → seen ≡ seen_pages s.content target start pages → (first ≡ target.first + start) ⊎ (seen ≡ 0)
-    → new.content ≡ snapshotted s.content target.koid first seen pages → new.names ≡ with_key s.names name.0 (owner koid (not no_write) resizable)
-    → new.lineage ≡ with_key s.lineage koid (record { resizable = resizable; origin = Snapshot; parent = Some target.koid })
-    → Step s (VmoChild name parent SnapshotChild offset size resizable no_write) Done new
-snapshot_done s new name parent offset size resizable no_write target koid start first seen pages named free fine few e f h saw from content names lineage =
-    let wrong = not (offset % PAGE == 0) || (resizable && no_write) in
-    let large = nat_lt (VMO_PAGES * PAGE) (offset + rounded size) in
-    Step-done s (VmoChild name parent SnapshotChild offset size resizable no_write) Done new
-    (first_of-skip (not (is_open s parent.0)) BadHandle ((is_open s name.0, NameInUse) ∷ (wrong, InvalidArgs) ∷ (large, OutOfRange) ∷ []) (open_at s parent.0 target named)
-    ∙ first_of-skip (is_open s name.0) NameInUse ((wrong, InvalidArgs) ∷ (large, OutOfRange) ∷ []) free
-    ∙ first_of-skip wrong InvalidArgs ((large, OutOfRange) ∷ []) fine
-    ∙ first_of-skip large OutOfRange [] (test_not_less (VMO_PAGES * PAGE) (offset + rounded size) few)) (
-      refl,
-      with_snapshot-is s new name.0 koid target start first seen pages resizable no_write e saw from content names lineage
-          ∙ (λ i. with_snapshot s name.0 target (f i) (h i) resizable no_write)
-          ∙ ap (λ (t : Name). with_snapshot s name.0 t (offset / PAGE) (rounded size / PAGE) resizable no_write) (sym (target_of-at s parent.0 target named)),
-    )
+-- a snapshot whose arguments and size are fine
+module _ (s : State) (name parent : VmoName) (offset size : ℕ) (resizable no_write : Bool) (target : Name) (named : s.names parent.0 ≡ Some target) (free : is_open s name.0 ≡ false)
+    (fine : (not (offset % PAGE == 0) || (resizable && no_write)) ≡ false) (few : offset + rounded size ≤ VMO_PAGES * PAGE) (answer : Bool) (told : answer ≡ has_pin s.pins target.koid) where
+  pin_rows : List (Bool × Refusal)
+  pin_rows = (has_pin s.pins (koid_of s parent.0), BadState) ∷ []
+
+  snapshot_rows : first_of (refusals s (VmoChild name parent SnapshotChild offset size resizable no_write)) ≡ first_of pin_rows
+  unfolding pin_rows
+  snapshot_rows =
+      let wrong = not (offset % PAGE == 0) || (resizable && no_write) in
+      let large = nat_lt (VMO_PAGES * PAGE) (offset + rounded size) in
+      first_of-skip (not (is_open s parent.0)) BadHandle ((is_open s name.0, NameInUse) ∷ (wrong, InvalidArgs) ∷ (large, OutOfRange) ∷ pin_rows) (open_at s parent.0 target named)
+      ∙ first_of-skip (is_open s name.0) NameInUse ((wrong, InvalidArgs) ∷ (large, OutOfRange) ∷ pin_rows) free
+      ∙ first_of-skip wrong InvalidArgs ((large, OutOfRange) ∷ pin_rows) fine
+      ∙ first_of-skip large OutOfRange pin_rows (test_not_less (VMO_PAGES * PAGE) (offset + rounded size) few)
+
+  told_at : (b : Bool) → answer ≡ b → has_pin s.pins (koid_of s parent.0) ≡ b
+  told_at b e = ap (has_pin s.pins) (koid_of-at s parent.0 target named) ∙ (sym told ∙ e)
+
+  -- a pin is of the VMO
+  pub snapshot_pinned : answer ≡ true → Step s (VmoChild name parent SnapshotChild offset size resizable no_write) (Refused BadState) s
+  unfolding pin_rows
+  snapshot_pinned e = Step-refused s (VmoChild name parent SnapshotChild offset size resizable no_write) BadState
+      (snapshot_rows ∙ first_of-hit (has_pin s.pins (koid_of s parent.0)) BadState [] (told_at true e))
+
+  module _ (unpinned : answer ≡ false) where
+    snapshot_none : first_of (refusals s (VmoChild name parent SnapshotChild offset size resizable no_write)) ≡ None
+    unfolding pin_rows
+    snapshot_none = snapshot_rows ∙ first_of-skip (has_pin s.pins (koid_of s parent.0)) BadState [] (told_at false unpinned)
+
+    -- the host has too little memory
+    pub snapshot_lacks : (t : State) → t ≡ s → Step s (VmoChild name parent SnapshotChild offset size resizable no_write) (Refused HostMemory) t
+    snapshot_lacks t same = Step-lacks s t (VmoChild name parent SnapshotChild offset size resizable no_write) snapshot_none refl same
+
+    -- the snapshot is made, and the name entered
+    pub snapshot_done : (new : State) (koid start first seen pages : ℕ) → koid ≡ s.content.next → start ≡ offset / PAGE → pages ≡ rounded size / PAGE
+        → seen ≡ seen_pages s.content target start pages → (first ≡ target.first + start) ⊎ (seen ≡ 0)
+        → new.content ≡ snapshotted s.content target.koid first seen pages → new.names ≡ with_key s.names name.0 (owner koid (not no_write) resizable)
+        → new.lineage ≡ with_key s.lineage koid (record { resizable = resizable; origin = Snapshot; parent = Some target.koid }) → new.pins ≡ s.pins
+        → Step s (VmoChild name parent SnapshotChild offset size resizable no_write) Done new
+    snapshot_done new koid start first seen pages e f h saw from content names lineage pins =
+        Step-done s (VmoChild name parent SnapshotChild offset size resizable no_write) Done new snapshot_none (
+          refl,
+          with_snapshot-is s new name.0 koid target start first seen pages resizable no_write e saw from content names lineage pins
+              ∙ (λ i. with_snapshot s name.0 target (f i) (h i) resizable no_write)
+              ∙ ap (λ (t : Name). with_snapshot s name.0 t (offset / PAGE) (rounded size / PAGE) resizable no_write) (sym (target_of-at s parent.0 target named)),
+        )

@@ -1,21 +1,22 @@
--- Laws of giving back whole pages: zeroing them owns none, and leaves them zero. And the steps of a decommit.
+-- Laws of giving back whole pages, none of which is pinned: zeroing them owns none, and leaves them zero. And the steps of a decommit.
 use Rattle.std.proofs.Common.{◌≡◌, ◌≢◌, ℕ, zero, suc, ◌+◌, ◌-◌, ◌*◌, ◌/◌, ◌%◌, ◌<◌, ◌≤◌, ◌==◌, Bool, true, false, not, ◌&&◌, List, [], ◌∷◌, Option, None, Some, ◌⊎◌, inl, inr, refl, sym, ap, subst, ◌∙◌, arith}
 use Rattle.std.specs.Prelude.{nat_lt, nat_le, IfSome}
 use Rattle.std.specs.List.{range_with_len, list_any}
-use Rattle.std.proofs.lemmas.Bool.{and_from, and_left, and_right, not_from_true, le-leb, ne_eqb}
+use Rattle.std.proofs.lemmas.Bool.{and_from, and_left, and_right, not_from_true, not_from_false, le-leb, ne_eqb}
 use Rattle.std.proofs.lemmas.Bool.Decides.{Decides-eqb}
 use Rattle.vm_base.specs.declared.names.VmoName.{VmoName}
 use Rattle.vm_base.specs.declared.pages.TheConstants.{PAGE}
 use Rattle.vm_base.specs.declared.refusal.Refusal.{Refusal}
-use Rattle.vm_base.specs.declared.refusal.Refusal.TheVariants.{BadHandle, AccessDenied, InvalidArgs, NotSupported, OutOfRange, HostMemory}
+use Rattle.vm_base.specs.declared.refusal.Refusal.TheVariants.{BadHandle, BadState, AccessDenied, InvalidArgs, NotSupported, OutOfRange, HostMemory}
 use Rattle.vm_model.specs.declared.command.Command.TheVariants.{VmoDecommit}
 use Rattle.vm_model.specs.declared.reply.Reply.TheVariants.{Done, Refused}
 use Rattle.vm_model.specs.Content.{Content, is_held, sole}
 use Rattle.vm_model.specs.Owning.{need}
 use Rattle.vm_model.specs.Writing.{touched, touched_end}
-use Rattle.vm_model.specs.Zeroing.{zeroed, is_whole, Zeroes, owned_by_zero}
+use Rattle.vm_model.specs.Zeroing.{zeroed, is_whole, is_cleared, Zeroes, owned_by_zero}
 use Rattle.vm_model.specs.Names.{Name, Lineage, may_decommit}
-use Rattle.vm_model.specs.State.{State, is_open, target_of, koid_of, name_pages, size_of, lineage_of, IsGoodState}
+use Rattle.vm_model.specs.Pins.{Pin, is_pinned, any_pinned}
+use Rattle.vm_model.specs.State.{State, is_open, target_of, koid_of, name_pages, size_of, place_of, lineage_of, IsGoodState}
 use Rattle.vm_model.specs.Refusals.{refusals, first_of}
 use Rattle.vm_model.specs.Step.{Step}
 use Rattle.vm_model.proofs.NamesLaws.{target_of-at, lineage-known}
@@ -23,6 +24,7 @@ use Rattle.vm_model.proofs.LeavingLaws.{name_lineage}
 use Rattle.vm_model.proofs.OwningLaws.{count_from-none}
 use Rattle.vm_model.proofs.RangeLaws.{touched-row, touched-nil, touched_end-is}
 use Rattle.vm_model.proofs.ZeroingLaws.{zeroed-empty, zeroed-more}
+use Rattle.vm_model.proofs.PinLaws.{any_pinned_none}
 use Rattle.vm_model.proofs.ZeroesLaws.{need-zero}
 use Rattle.vmo_ops.specs.Targets.{IsPlaced}
 use Rattle.vmo_ops.specs.Costs.{held_touched}
@@ -31,13 +33,11 @@ use Rattle.vmo_ops.proofs.ZeroLaws.{takes_frame, held_touched-any}
 
 -- ---- a range of whole pages
 
-module _ (offset len : ℕ) (start : offset % PAGE ≡ 0) (whole : len % PAGE ≡ 0) where
-  -- each page of it lies wholly in it
-  pub is_whole-pages : (p : ℕ) → offset / PAGE ≤ p → p < (offset + len) / PAGE → is_whole offset len p ≡ true
-  is_whole-pages p low less =
-      and_from (nat_le offset (PAGE * p)) (nat_le (PAGE * (p + 1)) (offset + len))
-      (le-leb offset (PAGE * p) (omega arith)) (le-leb (PAGE * (p + 1)) (offset + len) (omega arith))
+-- no page from `first` to below `end` passes
+abbrev pub NoneWithin : (ℕ → Bool) → ℕ → ℕ → Type 0
+NoneWithin test first end = (p : ℕ) → first ≤ p → p < end → test p ≡ false
 
+module _ (offset len : ℕ) (start : offset % PAGE ≡ 0) (whole : len % PAGE ≡ 0) where
   -- it touches no other page
   pub touched-pages : touched offset len ≡ range_with_len (offset / PAGE) ((offset + len) / PAGE - offset / PAGE)
   touched-pages = go len refl where
@@ -49,40 +49,63 @@ module _ (offset len : ℕ) (start : offset % PAGE ≡ 0) (whole : len % PAGE �
         let end : touched_end offset (suc n) ≡ (offset + suc n) / PAGE = omega (arith, touched_end-is offset (suc n), e, start, whole) in
         touched-row offset (suc n) (omega arith) ∙ ap (λ (m : ℕ). range_with_len (offset / PAGE) (m - offset / PAGE)) end
 
-  -- zeroing it owns no page
-  pub need-pages : (c : Content) (v : ℕ) → need c v (owned_by_zero c v offset len) ≡ 0
-  need-pages c v =
-      need-zero c v offset len (offset / PAGE) ((offset + len) / PAGE) touched-pages
-      ∙ count_from-none (takes_frame c v offset len) (offset / PAGE) ((offset + len) / PAGE - offset / PAGE)
-      (λ p low less. and_left (is_held c v p && not (is_whole offset len p)) (not (sole c v p))
-      (and_right (is_held c v p) (not (is_whole offset len p)) (not_from_true (is_whole offset len p) (is_whole-pages p low (omega arith)))))
+  -- none of its pages is pinned
+  module _ (pinned : ℕ → Bool) (free : NoneWithin pinned (offset / PAGE) ((offset + len) / PAGE)) where
+    -- each page of it lies wholly in it, and so is cleared
+    is_cleared-pages : (p : ℕ) → offset / PAGE ≤ p → p < (offset + len) / PAGE → is_cleared pinned offset len p ≡ true
+    is_cleared-pages p low less =
+        and_from (is_whole offset len p) (not (pinned p))
+        (and_from (nat_le offset (PAGE * p)) (nat_le (PAGE * (p + 1)) (offset + len))
+        (le-leb offset (PAGE * p) (omega arith)) (le-leb (PAGE * (p + 1)) (offset + len) (omega arith)))
+        (not_from_false (pinned p) (free p low less))
 
-  -- pages of it in a row become zero
-  Zeroes-pages : (v first n : ℕ) (old new : Content) → offset / PAGE ≤ first → first + n ≤ (offset + len) / PAGE → Zeroes old v offset len (range_with_len first n) new → new ≡ zeroed old v first (first + n)
-  Zeroes-pages v first zero old new low less zeroes =
-      let e : first ≡ first + zero = omega arith in
-      zeroes ∙ sym (zeroed-empty old v first) ∙ ap (zeroed old v first) e
-  Zeroes-pages v first (suc n) old new low less zeroes =
-      let e : (first + 1) + n ≡ first + suc n = omega arith in
-      let here : zeroes.0 ≡ zeroed old v first (first + 1) = zeroes.1.whole (is_whole-pages first low (omega arith)) in
-      Zeroes-pages v (first + 1) n zeroes.0 new (omega arith) (omega arith) zeroes.2
-      ∙ ap (λ (c : Content). zeroed c v (first + 1) ((first + 1) + n)) here
-      ∙ zeroed-more old v first (first + 1) ((first + 1) + n) (omega arith) (omega arith)
-      ∙ ap (zeroed old v first) e
+    -- zeroing it owns no page
+    pub need-pages : (c : Content) (v : ℕ) → need c v (owned_by_zero c v pinned offset len) ≡ 0
+    need-pages c v =
+        need-zero c v pinned offset len (offset / PAGE) ((offset + len) / PAGE) touched-pages
+        ∙ count_from-none (takes_frame c v pinned offset len) (offset / PAGE) ((offset + len) / PAGE - offset / PAGE)
+        (λ p low less. and_left (is_held c v p && not (is_cleared pinned offset len p)) (not (sole c v p))
+        (and_right (is_held c v p) (not (is_cleared pinned offset len p)) (not_from_true (is_cleared pinned offset len p) (is_cleared-pages p low (omega arith)))))
 
-  -- all of it becomes zero
-  pub Zeroes-whole : (v : ℕ) (old new : Content) → Zeroes old v offset len (touched offset len) new → new ≡ zeroed old v (offset / PAGE) ((offset + len) / PAGE)
-  Zeroes-whole v old new zeroes =
-      let e : offset / PAGE + ((offset + len) / PAGE - offset / PAGE) ≡ (offset + len) / PAGE = omega arith in
-      Zeroes-pages v (offset / PAGE) ((offset + len) / PAGE - offset / PAGE) old new (omega arith) (omega (arith, e))
-      (subst (λ (ps : List ℕ). Zeroes old v offset len ps new) touched-pages zeroes)
-      ∙ ap (zeroed old v (offset / PAGE)) e
+    -- pages of it in a row become zero
+    Zeroes-pages : (v first n : ℕ) (old new : Content) → offset / PAGE ≤ first → first + n ≤ (offset + len) / PAGE → Zeroes old v pinned offset len (range_with_len first n) new → new ≡ zeroed old v first (first + n)
+    Zeroes-pages v first zero old new low less zeroes =
+        let e : first ≡ first + zero = omega arith in
+        zeroes ∙ sym (zeroed-empty old v first) ∙ ap (zeroed old v first) e
+    Zeroes-pages v first (suc n) old new low less zeroes =
+        let e : (first + 1) + n ≡ first + suc n = omega arith in
+        let here : zeroes.0 ≡ zeroed old v first (first + 1) = zeroes.1.cleared (is_cleared-pages first low (omega arith)) in
+        Zeroes-pages v (first + 1) n zeroes.0 new (omega arith) (omega arith) zeroes.2
+        ∙ ap (λ (c : Content). zeroed c v (first + 1) ((first + 1) + n)) here
+        ∙ zeroed-more old v first (first + 1) ((first + 1) + n) (omega arith) (omega arith)
+        ∙ ap (zeroed old v first) e
+
+    -- all of it becomes zero
+    pub Zeroes-whole : (v : ℕ) (old new : Content) → Zeroes old v pinned offset len (touched offset len) new → new ≡ zeroed old v (offset / PAGE) ((offset + len) / PAGE)
+    Zeroes-whole v old new zeroes =
+        let e : offset / PAGE + ((offset + len) / PAGE - offset / PAGE) ≡ (offset + len) / PAGE = omega arith in
+        Zeroes-pages v (offset / PAGE) ((offset + len) / PAGE - offset / PAGE) old new (omega arith) (omega (arith, e))
+        (subst (λ (ps : List ℕ). Zeroes old v pinned offset len ps new) touched-pages zeroes)
+        ∙ ap (zeroed old v (offset / PAGE)) e
+
+  -- where no page of it is found pinned, none is
+  pub none_within : (pins : ℕ → Option Pin) (v first count : ℕ) (found : Bool) → first ≡ offset / PAGE → count ≡ len / PAGE → found ≡ any_pinned pins v first (first + count) → found ≡ false
+      → NoneWithin (is_pinned pins v) (offset / PAGE) ((offset + len) / PAGE)
+  none_within pins v first count found from pages is none = λ p low less.
+      any_pinned_none pins v first (first + count) p (sym is ∙ none) (omega arith) (omega arith)
 
 -- ---- the steps of a decommit
 
 module _ (s : State) (name : VmoName) (offset len : ℕ) (target : Name) (named : s.names name.0 ≡ Some target) where
+  -- a page of the range is pinned
+  has_pins : Bool
+  has_pins = any_pinned s.pins (koid_of s name.0) (place_of s name.0 offset / PAGE) (place_of s name.0 (offset + len) / PAGE)
+
+  pinned_rows : List (Bool × Refusal)
+  pinned_rows = (has_pins, BadState) ∷ []
+
   past_rows : List (Bool × Refusal)
-  past_rows = (nat_lt (size_of s name.0) (offset + len), OutOfRange) ∷ []
+  past_rows = (nat_lt (size_of s name.0) (offset + len), OutOfRange) ∷ pinned_rows
 
   -- the VMO of the name keeps its frames
   keeps_frames : Bool
@@ -98,7 +121,7 @@ module _ (s : State) (name : VmoName) (offset len : ℕ) (target : Name) (named 
   locked_at b may = ap (λ (t : Name). not t.may_write) (target_of-at s name.0 target named) ∙ ap not may
 
   open_row : first_of (refusals s (VmoDecommit name offset len)) ≡ first_of ((not (target_of s name.0).may_write, AccessDenied) ∷ odd_rows)
-  unfolding odd_rows kept_rows keeps_frames past_rows
+  unfolding odd_rows kept_rows keeps_frames past_rows pinned_rows has_pins
   open_row = first_of-skip (not (is_open s name.0)) BadHandle ((not (target_of s name.0).may_write, AccessDenied) ∷ odd_rows) (open_at s name.0 target named)
 
   -- a name that may not write
@@ -147,30 +170,51 @@ module _ (s : State) (name : VmoName) (offset len : ℕ) (target : Name) (named 
         pub decommit_past : name_pages s.content target * PAGE < offset + len → Step s (VmoDecommit name offset len) (Refused OutOfRange) s
         unfolding past_rows
         decommit_past h = Step-refused s (VmoDecommit name offset len) OutOfRange
-            (past_row ∙ first_of-hit (nat_lt (size_of s name.0) (offset + len)) OutOfRange [] (past_at s name.0 target named (offset + len) h))
+            (past_row ∙ first_of-hit (nat_lt (size_of s name.0) (offset + len)) OutOfRange pinned_rows (past_at s name.0 target named (offset + len) h))
 
-        -- a range inside the name, and its place in the VMO
-        module _ (at : ℕ) (placed : IsPlaced s.content target offset len at) where
-          no_row : first_of (refusals s (VmoDecommit name offset len)) ≡ None
+        -- a range inside the name, its place in the VMO, and whether a page of it is found pinned
+        module _ (at : ℕ) (placed : IsPlaced s.content target offset len at) (first count : ℕ) (from : first ≡ at / PAGE) (pages : count ≡ len / PAGE)
+            (found : Bool) (is : found ≡ any_pinned s.pins target.koid first (first + count)) where
+          pinned_row : first_of (refusals s (VmoDecommit name offset len)) ≡ first_of pinned_rows
           unfolding past_rows
-          no_row = past_row ∙ first_of-skip (nat_lt (size_of s name.0) (offset + len)) OutOfRange [] (within_at s name.0 target named (offset + len) placed.range)
+          pinned_row = past_row ∙ first_of-skip (nat_lt (size_of s name.0) (offset + len)) OutOfRange pinned_rows (within_at s name.0 target named (offset + len) placed.range)
 
-          -- the host has too little memory, and the range touches a held page
-          pub decommit_lacks : (t : State) → t ≡ s → 0 < held_touched s.content target.koid at len → Step s (VmoDecommit name offset len) (Refused HostMemory) t
-          decommit_lacks t same h = Step-lacks s t (VmoDecommit name offset len) no_row
-              (spot s name.0 target named offset at placed.place (λ v a. list_any (is_held s.content v) (touched a len)) ∙ held_touched-any s.content target.koid at len h)
-              same
+          pins_at : has_pins ≡ found
+          unfolding has_pins
+          pins_at =
+              let low : (target.first * PAGE + offset) / PAGE ≡ first = omega (arith, placed.place, from) in
+              let high : (target.first * PAGE + (offset + len)) / PAGE ≡ first + count = omega (arith, from, pages, start, whole) in
+              ap (λ (t : Name). any_pinned s.pins t.koid ((t.first * PAGE + offset) / PAGE) ((t.first * PAGE + (offset + len)) / PAGE)) (target_of-at s name.0 target named)
+              ∙ (λ i. any_pinned s.pins target.koid (low i) (high i)) ∙ sym is
 
-          -- the pages become zero
-          pub decommit_done : (mid new : Content) → mid ≡ s.content → Zeroes mid target.koid at len (touched at len) new → Step s (VmoDecommit name offset len) Done (record s { content = new })
-          decommit_done mid new same zeroes =
-              let first : at ≡ target.first * PAGE + offset = placed.place in
-              let end : at + len ≡ target.first * PAGE + (offset + len) = omega arith in
-              let pages : new ≡ zeroed mid target.koid (at / PAGE) ((at + len) / PAGE) =
-              Zeroes-whole at len (omega arith) whole target.koid mid new zeroes in
-              Step-done s (VmoDecommit name offset len) Done (record s { content = new }) no_row (
-                refl,
-                ap (λ (c : Content). record s { content = c }) pages
-                    ∙ (λ i. record s { content = zeroed (same i) target.koid (first i / PAGE) (end i / PAGE) })
-                    ∙ ap (λ (t : Name). record s { content = zeroed s.content t.koid ((t.first * PAGE + offset) / PAGE) ((t.first * PAGE + (offset + len)) / PAGE) }) (sym (target_of-at s name.0 target named)),
-              )
+          -- a page of it is pinned
+          pub decommit_pinned : found ≡ true → Step s (VmoDecommit name offset len) (Refused BadState) s
+          unfolding pinned_rows
+          decommit_pinned yes_found = Step-refused s (VmoDecommit name offset len) BadState (pinned_row ∙ first_of-hit has_pins BadState [] (pins_at ∙ yes_found))
+
+          -- none is
+          module _ (none : found ≡ false) where
+            no_row : first_of (refusals s (VmoDecommit name offset len)) ≡ None
+            unfolding pinned_rows
+            no_row = pinned_row ∙ first_of-skip has_pins BadState [] (pins_at ∙ none)
+
+            -- the host has too little memory, and the range touches a held page
+            pub decommit_lacks : (t : State) → t ≡ s → 0 < held_touched s.content target.koid at len → Step s (VmoDecommit name offset len) (Refused HostMemory) t
+            decommit_lacks t same h = Step-lacks s t (VmoDecommit name offset len) no_row
+                (spot s name.0 target named offset at placed.place (λ v a. list_any (is_held s.content v) (touched a len)) ∙ held_touched-any s.content target.koid at len h)
+                same
+
+            -- the pages become zero
+            pub decommit_done : (mid new : Content) → mid ≡ s.content → Zeroes mid target.koid (is_pinned s.pins target.koid) at len (touched at len) new → Step s (VmoDecommit name offset len) Done (record s { content = new })
+            decommit_done mid new same zeroes =
+                let first_at : at ≡ target.first * PAGE + offset = placed.place in
+                let end_at : at + len ≡ target.first * PAGE + (offset + len) = omega arith in
+                let on_page : at % PAGE ≡ 0 = omega arith in
+                let all : new ≡ zeroed mid target.koid (at / PAGE) ((at + len) / PAGE) =
+                Zeroes-whole at len on_page whole (is_pinned s.pins target.koid) (none_within at len on_page whole s.pins target.koid first count found from pages is none) target.koid mid new zeroes in
+                Step-done s (VmoDecommit name offset len) Done (record s { content = new }) no_row (
+                  refl,
+                  ap (λ (c : Content). record s { content = c }) all
+                      ∙ (λ i. record s { content = zeroed (same i) target.koid (first_at i / PAGE) (end_at i / PAGE) })
+                      ∙ ap (λ (t : Name). record s { content = zeroed s.content t.koid ((t.first * PAGE + offset) / PAGE) ((t.first * PAGE + (offset + len)) / PAGE) }) (sym (target_of-at s name.0 target named)),
+                )

@@ -2,7 +2,9 @@ pub mod StepRows
 pub mod NameLaws
 pub mod LookLaws
 pub mod EntryLaws
+pub mod PinnedLaws
 pub mod CreateLaws
+pub mod SettleLaws
 pub mod CloseLaws
 pub mod AliasLaws
 pub mod ReadLaws
@@ -15,3 +17,7 @@ pub mod WriteLaws
 pub mod FillLaws
 pub mod ZeroLaws
 pub mod DecommitLaws
+pub mod FrameLaws
+pub mod KeeperLaws
+pub mod PinSteps
+pub mod UnpinSteps

@@ -1,9 +1,11 @@
 -- What a name of a good state stands for.
 use Rattle.std.proofs.Common.{◌∙◌}
 use Rattle.std.specs.Prelude.{IsSome}
+use Rattle.vm_model.specs.Content.{Content}
 use Rattle.vm_model.specs.Names.{Name}
 use Rattle.vm_model.specs.State.{State, IsGoodState, IsGoodName}
-use Rattle.vmo_ops.specs.Targets.{IsInside, IsNamed}
+use Rattle.vmo_table.specs.Table.{Table, names_of, lineage_in, state_with}
+use Rattle.vmo_ops.specs.Targets.{IsInside, IsNamed, AreParts}
 use Rattle.vmo_ops.proofs.StepRows.{IsInside-good}
 
 pub good_name : (s : State) (target : Name) → IsGoodState s → IsNamed s.names target → IsGoodName s target
@@ -20,3 +22,11 @@ named_lineage s target good named = good.known target.koid ∙ named_vmo s targe
 -- and lies inside its VMO
 pub named_inside : (s : State) (target : Name) → IsGoodState s → IsNamed s.names target → IsInside s.content target
 named_inside s target good named = IsInside-good s named.0 target good named.1
+
+-- ---- a content and a table that are parts of a good state
+
+pub parts_lineage : (c : Content) (t : Table) (target : Name) → AreParts c t → IsNamed (names_of t) target → IsSome (lineage_in t target.koid)
+parts_lineage c t target parts named = named_lineage (state_with c t parts.0) target parts.1 named
+
+pub parts_inside : (c : Content) (t : Table) (target : Name) → AreParts c t → IsNamed (names_of t) target → IsInside c target
+parts_inside c t target parts named = named_inside (state_with c t parts.0) target parts.1 named

@@ -12,8 +12,10 @@ use Rattle.vm_model.specs.declared.reply.Reply.{Reply}
 use Rattle.vm_model.specs.declared.reply.Reply.TheVariants.{Refused}
 use Rattle.vm_model.specs.Content.{Content, pages_of}
 use Rattle.vm_model.specs.Names.{Name}
-use Rattle.vm_model.specs.State.{State, name_pages}
+use Rattle.vm_model.specs.Pins.{Pin}
+use Rattle.vm_model.specs.State.{State, name_pages, IsGoodState}
 use Rattle.vm_model.specs.Step.{Step}
+use Rattle.vmo_table.specs.Table.{Table, state_with}
 
 -- what the name stands for lies inside its VMO
 pub record IsInside (c : Content) (target : Name) : Type 0 where
@@ -40,6 +42,16 @@ reply_of done (Err refusal) = Refused refusal
 abbrev pub Does : (VmoName → Command) → Name → Content → Reply → Content → Type 0
 Does command target old reply new =
     (s : State) (name : VmoName) → s.names name.0 ≡ Some target → Step (record s { content = old }) (command name) reply (record s { content = new })
+
+-- the same beside these pins
+abbrev pub DoesWith : (ℕ → Option Pin) → (VmoName → Command) → Name → Content → Reply → Content → Type 0
+DoesWith pins command target old reply new =
+    (s : State) (name : VmoName) → s.names name.0 ≡ Some target
+    → Step (record s { content = old; pins = pins }) (command name) reply (record s { content = new; pins = pins })
+
+-- the content of a store and a table are parts of one good state, with some pins
+abbrev pub AreParts : Content → Table → Type 0
+AreParts c t = (pins : ℕ → Option Pin) × IsGoodState (state_with c t pins)
 
 -- the koid that a child of this kind is given, where the next koid is this: a snapshot is a VMO of its own
 abbrev pub koid_given : ChildKind → ℕ → Option Koid

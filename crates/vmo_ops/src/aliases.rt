@@ -1,6 +1,6 @@
 //! Further names of a VMO (`ZX_VMO_CHILD_SLICE`, `ZX_VMO_CHILD_REFERENCE`).
 
-ghost use Rattle.std.specs.Prelude.{◌≡◌, ◌≢◌, ◌+◌, ◌*◌, ◌/◌, ◌%◌, ◌<◌, ◌≤◌, ◌^◌, ◌⊎◌, ◌==◌, ◌&&◌, ◌||◌, not, None, Some, IsSome, IfNone, IfSome};
+ghost use Rattle.std.specs.Prelude.{◌≡◌, ◌≢◌, ℕ, Option, ◌+◌, ◌*◌, ◌/◌, ◌%◌, ◌<◌, ◌≤◌, ◌^◌, ◌⊎◌, ◌==◌, ◌&&◌, ◌||◌, not, None, Some, IsSome, IfNone, IfSome};
 ghost use Rattle.vm_base.specs.Pages.{rounded};
 ghost use Rattle.vm_base.specs.declared.names.VmoName.{VmoName};
 ghost use Rattle.vm_model.specs.declared.command.Command.{Command};
@@ -8,10 +8,11 @@ ghost use Rattle.vm_model.specs.declared.command.ChildKind.TheVariants.{Slice, R
 ghost use Rattle.vm_model.specs.declared.reply.Reply.{Reply};
 ghost use Rattle.vm_model.specs.Content.{Content, IsGood};
 ghost use Rattle.vm_model.specs.Names.{is_kind};
-ghost use Rattle.vm_model.specs.State.{IsGoodState, name_pages};
+ghost use Rattle.vm_model.specs.Pins.{Pin};
+ghost use Rattle.vm_model.specs.State.{name_pages};
 ghost use Rattle.vm_model.specs.Step.{Step, slice_of, reference_of};
-ghost use Rattle.vmo_table.specs.Table.{name_of, names_of, lineage_in, state_with};
-ghost use Rattle.vmo_ops.specs.Targets.{IsInside, IsNamed, reply_of};
+ghost use Rattle.vmo_table.specs.Table.{name_of, names_of, lineage_in, keepers_of, state_with};
+ghost use Rattle.vmo_ops.specs.Targets.{IsInside, AreParts, IsNamed, reply_of};
 
 use crate::sizes::size;
 use page_store::PageStore;
@@ -30,13 +31,14 @@ pub(crate) fn slice<P: PageStore>(
     resizable: bool,
     no_write: bool,
 ) -> Result<(), Refusal>
-    requires good { IsGoodState (state_with (P.content store.now) vmos.old) }
+    requires parts { AreParts (P.content store.now) vmos.old }
     requires named { IsNamed (names_of vmos.old) (name_of t.now) }
     requires closed { names_of vmos.old name.0 ≡ None }
-    ensures { (parent : VmoName) → names_of vmos.old parent.0 ≡ Some (name_of t.now) →
-        Step (state_with (P.content store.now) vmos.old)
+    ensures step { (pins : ℕ → Option Pin) (parent : VmoName) → names_of vmos.old parent.0 ≡ Some (name_of t.now) →
+        Step (state_with (P.content store.now) vmos.old pins)
         (Command.VmoChild name parent Slice offset bytes resizable no_write)
-        (reply_of (λ _. Reply.Done) result) (state_with (P.content store.now) vmos.new) }
+        (reply_of (λ _. Reply.Done) result) (state_with (P.content store.now) vmos.new pins) }
+    ensures keepers { keepers_of vmos.new ≡ keepers_of vmos.old }
 {
     if resizable {
         return Err(Refusal::InvalidArgs);
@@ -100,9 +102,10 @@ pub(crate) fn reference(
     requires named { IsNamed (names_of vmos.old) (name_of t.now) }
     requires vmo { IsSome (lineage_in vmos.old t.now.koid.0) }
     requires closed { names_of vmos.old name.0 ≡ None }
-    ensures { (c : Content) (parent : VmoName) → names_of vmos.old parent.0 ≡ Some (name_of t.now) →
-        Step (state_with c vmos.old) (Command.VmoChild name parent Reference offset bytes resizable no_write)
-        (reply_of (λ _. Reply.Done) result) (state_with c vmos.new) }
+    ensures step { (c : Content) (pins : ℕ → Option Pin) (parent : VmoName) → names_of vmos.old parent.0 ≡ Some (name_of t.now) →
+        Step (state_with c vmos.old pins) (Command.VmoChild name parent Reference offset bytes resizable no_write)
+        (reply_of (λ _. Reply.Done) result) (state_with c vmos.new pins) }
+    ensures keepers { keepers_of vmos.new ≡ keepers_of vmos.old }
 {
     if is_contradictory(offset, bytes, resizable, no_write, t.may_resize) {
         return Err(Refusal::InvalidArgs);

@@ -6,12 +6,14 @@ ghost use Rattle.vm_model.specs.declared.command.Command.{Command};
 ghost use Rattle.vm_model.specs.declared.reply.Reply.{Reply};
 ghost use Rattle.vm_model.specs.State.{IsGoodState};
 ghost use Rattle.vm_model.specs.Step.{Step};
-ghost use Rattle.vmo_table.specs.Table.{name_of, names_of, state_with};
+ghost use Rattle.vmo_table.specs.Table.{name_of, names_of, keepers_of, state_with};
+ghost use Rattle.pin_table.specs.Table.{pins_of};
 ghost use Rattle.vmo_ops.specs.Targets.{IsNamed, koid_given, reply_of};
 
 use crate::aliases::{reference, slice};
 use crate::snapshots::snapshot;
 use page_store::PageStore;
+use pin_table::PinTable;
 use vm_base::{Koid, Refusal, VmoName};
 use vm_model::ChildKind;
 use vmo_table::{Target, VmoTable};
@@ -26,10 +28,12 @@ use vmo_table::{Target, VmoTable};
 ///   size, or is to be resizable and `t` may not resize;
 /// - `NotSupported` for a slice of a VMO that is resizable, and for a reference of a slice;
 /// - `OutOfRange` where `offset` and the rounded size of a snapshot are over 2^36 bytes together;
+/// - `BadState` for a snapshot of a VMO that has a pin;
 /// - `HostMemory`.
 pub fn create_child<P: PageStore>(
     store: &mut P,
     vmos: &mut VmoTable,
+    pins: &PinTable,
     name: VmoName,
     t: &Target,
     kind: ChildKind,
@@ -38,19 +42,22 @@ pub fn create_child<P: PageStore>(
     resizable: bool,
     no_write: bool,
 ) -> Result<Option<Koid>, Refusal>
-    requires good { IsGoodState (state_with (P.content store.old) vmos.old) }
+    requires good { IsGoodState (state_with (P.content store.old) vmos.old (pins_of pins.now)) }
     requires named { IsNamed (names_of vmos.old) (name_of t.now) }
     requires closed { names_of vmos.old name.0 ≡ None }
     requires next { (P.content store.old).next < 2 ^ 63 }
     ensures step { (parent : VmoName) → names_of vmos.old parent.0 ≡ Some (name_of t.now) →
-        Step (state_with (P.content store.old) vmos.old)
+        Step (state_with (P.content store.old) vmos.old (pins_of pins.now))
         (Command.VmoChild name parent kind offset size resizable no_write)
-        (reply_of (λ _. Reply.Done) result) (state_with (P.content store.new) vmos.new) }
+        (reply_of (λ _. Reply.Done) result) (state_with (P.content store.new) vmos.new (pins_of pins.now)) }
+    ensures keepers { keepers_of vmos.new ≡ keepers_of vmos.old }
     ensures koid { IfOk result (λ koid. koid ≡ koid_given kind (P.content store.old).next) }
 {
     match kind {
         ChildKind::Snapshot => {
-            match snapshot(store, vmos, name, t, offset, size, resizable, no_write) {
+            match snapshot(
+                store, vmos, pins, name, t, offset, size, resizable, no_write,
+            ) {
                 Ok(koid) => Ok(Some(koid)),
                 Err(refusal) => Err(refusal),
             }

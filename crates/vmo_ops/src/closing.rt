@@ -1,12 +1,14 @@
 //! Closing a name of a VMO (`zx_handle_close`).
 
-ghost use Rattle.std.specs.Prelude.{◌≡◌, IsSome, IfSome, MatchOption};
+ghost use Rattle.std.specs.Prelude.{◌≡◌, ℕ, Option, IsSome, IfSome, MatchOption};
 ghost use Rattle.vm_model.specs.declared.command.Command.{Command};
 ghost use Rattle.vm_model.specs.declared.reply.Reply.{Reply};
+ghost use Rattle.vm_model.specs.Pins.{Pin};
 ghost use Rattle.vm_model.specs.Sharing.{without};
 ghost use Rattle.vm_model.specs.State.{IsGoodState};
 ghost use Rattle.vm_model.specs.Step.{Step};
-ghost use Rattle.vmo_table.specs.Table.{names_of, state_with};
+ghost use Rattle.vmo_table.specs.Table.{names_of, keepers_of, state_with, CountsPins};
+ghost use Rattle.vmo_ops.specs.Targets.{AreParts};
 
 use page_store::PageStore;
 use vm_base::{Koid, VmoName};
@@ -15,16 +17,18 @@ use vmo_table::VmoTable;
 /// Closes a name that is open. A VMO that nothing keeps any more leaves with its pages, and its children
 /// get its parent. It never wants memory.
 pub fn close<P: PageStore>(store: &mut P, vmos: &mut VmoTable, name: VmoName)
-    requires good { IsGoodState (state_with (P.content store.old) vmos.old) }
+    requires parts { AreParts (P.content store.old) vmos.old }
     requires named { IsSome (names_of vmos.old name.0) }
-    ensures { Step (state_with (P.content store.old) vmos.old) (Command.VmoClose name) Reply.Done
-        (state_with (P.content store.new) vmos.new) }
+    ensures step { (pins : ℕ → Option Pin) → IsGoodState (state_with (P.content store.old) vmos.old pins) →
+        CountsPins vmos.old pins → Step (state_with (P.content store.old) vmos.old pins) (Command.VmoClose name)
+        Reply.Done (state_with (P.content store.new) vmos.new pins) }
+    ensures keepers { keepers_of vmos.new ≡ keepers_of vmos.old }
 {
     drop_gone(store, vmos.close(name));
 }
 
-// Takes a VMO out of the store that left the table, where one did.
-fn drop_gone<P: PageStore>(store: &mut P, gone: Option<Koid>)
+/// Takes a VMO out of the store that left the table, where one did.
+pub(crate) fn drop_gone<P: PageStore>(store: &mut P, gone: Option<Koid>)
     requires { IfSome gone (λ koid. IsSome ((P.content store.old).count koid.0)) }
     ensures { MatchOption gone (P.content store.new ≡ P.content store.old)
         (λ koid. P.content store.new ≡ without (P.content store.old) koid.0) }

@@ -8,32 +8,36 @@ ghost use Rattle.vm_model.specs.State.{IsGoodState};
 ghost use Rattle.vm_model.specs.Step.{Step};
 ghost use Rattle.std.specs.Prelude.{Some};
 ghost use Rattle.vmo_table.specs.Table.{name_of, names_of, state_with};
+ghost use Rattle.pin_table.specs.Table.{pins_of};
 ghost use Rattle.vmo_ops.specs.Targets.{IsNamed, reply_of};
 
 use crate::owning::reserve_rows;
 use crate::ranges::place_in_vmo;
 use crate::zeroing::{cost_to_zero, zero_pages};
 use page_store::PageStore;
-use vm_base::{Refusal, in_page};
+use pin_table::PinTable;
+use vm_base::{Refusal, in_page, page_of};
 use vmo_table::{Target, VmoTable};
 
 /// Makes the pages of a range zero and gives their frames back: `len` bytes from `offset` bytes into the
 /// name on, both whole pages. Refusals, in their order: `AccessDenied` where the name may not write,
 /// `InvalidArgs` where `offset` or `len` is not a multiple of the page size, `NotSupported` where the
 /// VMO is a snapshot, has a VMO as child, or has a reference, `OutOfRange` where the range passes the
-/// name's end, `HostMemory` only where a page of the range is held.
+/// name's end, `BadState` where a page of the range is pinned, `HostMemory` only where a page of the
+/// range is held.
 pub fn decommit<P: PageStore>(
     store: &mut P,
     vmos: &VmoTable,
+    pins: &PinTable,
     t: &Target,
     offset: u64,
     len: u64,
 ) -> Result<(), Refusal>
-    requires good { IsGoodState (state_with (P.content store.old) vmos.now) }
+    requires good { IsGoodState (state_with (P.content store.old) vmos.now (pins_of pins.now)) }
     requires named { IsNamed (names_of vmos.now) (name_of t.now) }
     ensures { (name : VmoName) → names_of vmos.now name.0 ≡ Some (name_of t.now) →
-        Step (state_with (P.content store.old) vmos.now) (Command.VmoDecommit name offset len)
-        (reply_of (λ _. Reply.Done) result) (state_with (P.content store.new) vmos.now) }
+        Step (state_with (P.content store.old) vmos.now (pins_of pins.now)) (Command.VmoDecommit name offset len)
+        (reply_of (λ _. Reply.Done) result) (state_with (P.content store.new) vmos.now (pins_of pins.now)) }
 {
     if !t.may_write {
         return Err(Refusal::AccessDenied);
@@ -47,10 +51,13 @@ pub fn decommit<P: PageStore>(
     let Some(at) = place_in_vmo(store, t, offset, len) else {
         return Err(Refusal::OutOfRange);
     };
-    let cost = cost_to_zero(store, t.koid, at, len);
+    if pins.pinned(t.koid, page_of(at), page_of(len)) {
+        return Err(Refusal::BadState);
+    }
+    let cost = cost_to_zero(store, pins, t.koid, at, len);
     let Ok(()) = reserve_rows(store, cost.held) else {
         return Err(Refusal::HostMemory);
     };
-    zero_pages(store, t.koid, at, len);
+    zero_pages(store, pins, t.koid, at, len);
     Ok(())
 }

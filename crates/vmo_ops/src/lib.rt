@@ -1,8 +1,8 @@
 //! The operations on VMOs: making them, their snapshots, slices and references; closing names; reading
-//! and writing; owning, zeroing and giving back pages; changing the size. Each is one command of the
+//! and writing; owning, zeroing, pinning and giving back pages; changing the size. Each is one command of the
 //! machine, by a name that is already looked up.
 //!
-//! It stands on `page_store`, whose trait it is generic over, and on `vmo_table`. Its contracts say that
+//! It stands on `page_store`, whose trait it is generic over, on `vmo_table` and on `pin_table`. Its contracts say that
 //! a call is the step of its command, as `vm_model` defines it. The layer above looks names up, calls
 //! an operation, and makes a reply of its answer.
 #![tactic(auto)]
@@ -16,6 +16,7 @@ mod filling;
 mod held_pages;
 mod making;
 mod owning;
+mod pinning;
 mod ranges;
 mod reading;
 mod ready;
@@ -30,6 +31,7 @@ pub use committing::commit;
 pub use decommitting::decommit;
 pub use filling::fill;
 pub use making::create;
+pub use pinning::{pin, unpin};
 pub use reading::read;
 pub use sizes::{resize, size};
 pub use writing::write;

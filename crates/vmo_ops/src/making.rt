@@ -1,12 +1,12 @@
 //! Making a VMO (`zx_vmo_create`).
 
-ghost use Rattle.std.specs.Prelude.{◌≡◌, ◌<◌, ◌^◌, None, IfOk};
+ghost use Rattle.std.specs.Prelude.{◌≡◌, ℕ, ◌<◌, ◌^◌, Option, None, IfOk};
 ghost use Rattle.vm_model.specs.declared.command.Command.{Command};
 ghost use Rattle.vm_model.specs.declared.reply.Reply.{Reply};
-ghost use Rattle.vm_model.specs.State.{IsGoodState};
+ghost use Rattle.vm_model.specs.Pins.{Pin};
 ghost use Rattle.vm_model.specs.Step.{Step};
-ghost use Rattle.vmo_table.specs.Table.{names_of, state_with};
-ghost use Rattle.vmo_ops.specs.Targets.{reply_of};
+ghost use Rattle.vmo_table.specs.Table.{names_of, keepers_of, state_with};
+ghost use Rattle.vmo_ops.specs.Targets.{AreParts, reply_of};
 
 use page_store::PageStore;
 use vm_base::{Koid, PAGE, Refusal, VMO_PAGES, VmoName, page_of, round_up};
@@ -22,11 +22,13 @@ pub fn create<P: PageStore>(
     size: u64,
     resizable: bool,
 ) -> Result<Koid, Refusal>
-    requires good { IsGoodState (state_with (P.content store.old) vmos.old) }
+    requires parts { AreParts (P.content store.old) vmos.old }
     requires closed { names_of vmos.old name.0 ≡ None }
     requires next { (P.content store.old).next < 2 ^ 63 }
-    ensures step { Step (state_with (P.content store.old) vmos.old) (Command.VmoCreate name size resizable)
-        (reply_of (λ _. Reply.Done) result) (state_with (P.content store.new) vmos.new) }
+    ensures step { (pins : ℕ → Option Pin) → Step (state_with (P.content store.old) vmos.old pins)
+        (Command.VmoCreate name size resizable) (reply_of (λ _. Reply.Done) result)
+        (state_with (P.content store.new) vmos.new pins) }
+    ensures keepers { keepers_of vmos.new ≡ keepers_of vmos.old }
     ensures koid { IfOk result (λ koid. koid.0 ≡ (P.content store.old).next) }
 {
     let Some(whole) = round_up(size, VMO_PAGES * PAGE) else {

@@ -6,9 +6,11 @@ ghost use Rattle.vm_model.specs.declared.reply.Reply.{Reply};
 ghost use Rattle.vm_model.specs.Content.{IsGood};
 ghost use Rattle.vm_model.specs.State.{name_pages};
 ghost use Rattle.vmo_table.specs.Table.{name_of};
-ghost use Rattle.vmo_ops.specs.Targets.{IsInside, Does, reply_of};
+ghost use Rattle.pin_table.specs.Table.{pins_of};
+ghost use Rattle.vmo_ops.specs.Targets.{IsInside, DoesWith, reply_of};
 
 use page_store::PageStore;
+use pin_table::PinTable;
 use vm_base::{PAGE, PageNo, Refusal, VMO_PAGES, page_of, round_up};
 use vmo_table::Target;
 
@@ -34,12 +36,17 @@ pub(crate) fn pages_of_name<P: PageStore>(store: &P, t: &Target) -> PageNo
 
 /// Changes the size of a VMO to `size` bytes, rounded up to whole pages. Pages past the new end leave
 /// it, and pages that come in are zero. Refusals, in their order: `AccessDenied` where the name may not
-/// write, `Unavailable` where it may not resize, `OutOfRange` where the size is over 2^36 bytes. It
-/// never wants memory.
-pub fn resize<P: PageStore>(store: &mut P, t: &Target, size: u64) -> Result<(), Refusal>
+/// write, `Unavailable` where it may not resize, `OutOfRange` where the size is over 2^36 bytes,
+/// `BadState` where a page past the new end is pinned. It never wants memory.
+pub fn resize<P: PageStore>(
+    store: &mut P,
+    pins: &PinTable,
+    t: &Target,
+    size: u64,
+) -> Result<(), Refusal>
     requires good { IsGood (P.content store.old) }
     requires inside { IsInside (P.content store.old) (name_of t.now) }
-    ensures { Does (λ name. Command.VmoSetSize name size) (name_of t.now) (P.content store.old)
+    ensures { DoesWith (pins_of pins.now) (λ name. Command.VmoSetSize name size) (name_of t.now) (P.content store.old)
         (reply_of (λ _. Reply.Done) result) (P.content store.new) }
 {
     if !t.may_write {
@@ -51,6 +58,10 @@ pub fn resize<P: PageStore>(store: &mut P, t: &Target, size: u64) -> Result<(), 
     let Some(whole) = round_up(size, VMO_PAGES * PAGE) else {
         return Err(Refusal::OutOfRange);
     };
-    store.set_count(t.koid, page_of(whole));
+    let pages = page_of(whole);
+    if pins.pinned(t.koid, pages, store.count(t.koid).saturating_sub(pages)) {
+        return Err(Refusal::BadState);
+    }
+    store.set_count(t.koid, pages);
     Ok(())
 }

@@ -9,11 +9,13 @@ ghost use Rattle.vm_model.specs.declared.reply.Reply.{Reply};
 ghost use Rattle.vm_model.specs.Content.{pages_of, IsGood};
 ghost use Rattle.vm_model.specs.State.{IsGoodState};
 ghost use Rattle.vm_model.specs.Step.{Step, seen_pages};
-ghost use Rattle.vmo_table.specs.Table.{name_of, names_of, state_with};
+ghost use Rattle.vmo_table.specs.Table.{name_of, names_of, keepers_of, state_with};
+ghost use Rattle.pin_table.specs.Table.{pins_of};
 ghost use Rattle.vmo_ops.specs.Targets.{IsInside, IsNamed, reply_of};
 
 use crate::sizes::pages_of_name;
 use page_store::PageStore;
+use pin_table::PinTable;
 use vm_base::{Koid, PAGE, PageNo, Refusal, VMO_PAGES, VmoName, in_page, page_of, round_up};
 use vmo_table::{Origin, Target, VmoTable};
 
@@ -23,6 +25,7 @@ use vmo_table::{Origin, Target, VmoTable};
 pub(crate) fn snapshot<P: PageStore>(
     store: &mut P,
     vmos: &mut VmoTable,
+    pins: &PinTable,
     name: VmoName,
     t: &Target,
     offset: u64,
@@ -30,14 +33,15 @@ pub(crate) fn snapshot<P: PageStore>(
     resizable: bool,
     no_write: bool,
 ) -> Result<Koid, Refusal>
-    requires good { IsGoodState (state_with (P.content store.old) vmos.old) }
+    requires good { IsGoodState (state_with (P.content store.old) vmos.old (pins_of pins.now)) }
     requires named { IsNamed (names_of vmos.old) (name_of t.now) }
     requires closed { names_of vmos.old name.0 ≡ None }
     requires next { (P.content store.old).next < 2 ^ 63 }
     ensures step { (parent : VmoName) → names_of vmos.old parent.0 ≡ Some (name_of t.now) →
-        Step (state_with (P.content store.old) vmos.old)
+        Step (state_with (P.content store.old) vmos.old (pins_of pins.now))
         (Command.VmoChild name parent Snapshot offset size resizable no_write)
-        (reply_of (λ _. Reply.Done) result) (state_with (P.content store.new) vmos.new) }
+        (reply_of (λ _. Reply.Done) result) (state_with (P.content store.new) vmos.new (pins_of pins.now)) }
+    ensures keepers { keepers_of vmos.new ≡ keepers_of vmos.old }
     ensures koid { IfOk result (λ koid. koid.0 ≡ (P.content store.old).next) }
 {
     if in_page(offset) != 0 || (resizable && no_write) {
@@ -46,6 +50,9 @@ pub(crate) fn snapshot<P: PageStore>(
     let Some(pages) = pages_within(offset, size) else {
         return Err(Refusal::OutOfRange);
     };
+    if pins.pinned(t.koid, 0, store.count(t.koid)) {
+        return Err(Refusal::BadState);
+    }
     let Ok(()) = vmos.reserve() else {
         return Err(Refusal::HostMemory);
     };

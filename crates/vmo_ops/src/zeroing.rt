@@ -1,14 +1,16 @@
 //! Zeroing a range (`ZX_VMO_OP_ZERO`).
 
-ghost use Rattle.std.specs.Prelude.{◌≡◌, ◌+◌, ◌-◌, ◌*◌, ◌/◌, ◌<◌, ◌≤◌, not, true, replicate, IsSome, ◌⊎◌};
+ghost use Rattle.std.specs.Prelude.{◌≡◌, ◌+◌, ◌-◌, ◌*◌, ◌/◌, ◌<◌, ◌≤◌, true, replicate, IsSome, ◌⊎◌};
 ghost use Rattle.vm_model.specs.declared.command.Command.{Command};
 ghost use Rattle.vm_model.specs.declared.reply.Reply.{Reply};
-ghost use Rattle.vm_model.specs.Content.{is_held, pages_of, sole, used, IsGood};
+ghost use Rattle.vm_model.specs.Content.{pages_of, sole, used, IsGood};
 ghost use Rattle.vm_model.specs.Owning.{need};
 ghost use Rattle.vm_model.specs.Writing.{touched};
-ghost use Rattle.vm_model.specs.Zeroing.{is_whole, owned_by_zero, ZeroesPage, Zeroes};
+ghost use Rattle.vm_model.specs.Pins.{is_pinned};
+ghost use Rattle.vm_model.specs.Zeroing.{is_whole, is_cleared, owned_by_zero, ZeroesPage, Zeroes};
 ghost use Rattle.vmo_table.specs.Table.{name_of};
-ghost use Rattle.vmo_ops.specs.Targets.{IsInside, Does, reply_of};
+ghost use Rattle.pin_table.specs.Table.{pins_of};
+ghost use Rattle.vmo_ops.specs.Targets.{IsInside, DoesWith, reply_of};
 ghost use Rattle.vmo_ops.specs.Costs.{held_touched};
 
 use crate::filling::fill_part;
@@ -17,32 +19,40 @@ use crate::owning::{is_sole, reserve_rows};
 use crate::ranges::touched_pages;
 use crate::ready::place_to_change;
 use page_store::PageStore;
+use pin_table::PinTable;
 use vm_base::{Koid, PAGE, PageNo, Refusal};
 use vmo_table::Target;
 
 /// Makes the bytes of a range zero: `len` bytes from `offset` bytes into the name on. A page that lies
-/// wholly in the range becomes zero and gives its frame back, unless another VMO shows it. Another page
-/// that is held is owned and written with zeros. Refusals, in their order: `AccessDenied` where the name
-/// may not write, `OutOfRange` where the range passes its end, `NoMemory` where owning takes more frames
-/// than are free, `HostMemory` only where a page that the range touches is held.
-pub fn zero<P: PageStore>(store: &mut P, t: &Target, offset: u64, len: u64) -> Result<(), Refusal>
+/// wholly in the range and is not pinned becomes zero and gives its frame back, unless another VMO shows
+/// it. Another page that is held is owned and written with zeros: a page that is pinned keeps its frame.
+/// Refusals, in their order: `AccessDenied` where the name may not write, `OutOfRange` where the range
+/// passes its end, `NoMemory` where owning takes more frames than are free, `HostMemory` only where a
+/// page that the range touches is held.
+pub fn zero<P: PageStore>(
+    store: &mut P,
+    pins: &PinTable,
+    t: &Target,
+    offset: u64,
+    len: u64,
+) -> Result<(), Refusal>
     requires good { IsGood (P.content store.old) }
     requires inside { IsInside (P.content store.old) (name_of t.now) }
-    ensures { Does (λ name. Command.VmoZero name offset len) (name_of t.now) (P.content store.old)
+    ensures { DoesWith (pins_of pins.now) (λ name. Command.VmoZero name offset len) (name_of t.now) (P.content store.old)
         (reply_of (λ _. Reply.Done) result) (P.content store.new) }
 {
     let at = match place_to_change(store, t, offset, len) {
         Ok(at) => at,
         Err(refusal) => return Err(refusal),
     };
-    let cost = cost_to_zero(store, t.koid, at, len);
+    let cost = cost_to_zero(store, pins, t.koid, at, len);
     if cost.owned > u64::from(store.free()) {
         return Err(Refusal::NoMemory);
     }
     let Ok(()) = reserve_rows(store, cost.held) else {
         return Err(Refusal::HostMemory);
     };
-    zero_pages(store, t.koid, at, len);
+    zero_pages(store, pins, t.koid, at, len);
     Ok(())
 }
 
@@ -55,19 +65,27 @@ pub(crate) struct ZeroCost {
 }
 
 /// What zeroing a range inside the VMO takes. It looks at the held pages alone.
-pub(crate) fn cost_to_zero<P: PageStore>(store: &P, v: Koid, offset: u64, len: u64) -> ZeroCost
+pub(crate) fn cost_to_zero<P: PageStore>(
+    store: &P,
+    pins: &PinTable,
+    v: Koid,
+    offset: u64,
+    len: u64,
+) -> ZeroCost
     requires good { IsGood (P.content store.now) }
     requires vmo { IsSome ((P.content store.now).count v.0) }
     requires inside { offset + len ≤ pages_of (P.content store.now) v.0 * 4096 }
     ensures held { result.held ≡ held_touched (P.content store.now) v.0 offset len }
-    ensures owned { result.owned ≡ need (P.content store.now) v.0 (owned_by_zero (P.content store.now) v.0 offset len) }
+    ensures owned { result.owned ≡ need (P.content store.now) v.0 (owned_by_zero (P.content store.now) v.0 (is_pinned (pins_of pins.now) v.0) offset len) }
 {
     let mut cost = ZeroCost { held: 0, owned: 0 };
     let (first, end) = touched_pages(offset, len);
     let mut from = first;
     while let Some(page) = next_held_below(store, v, from, end) {
         cost.held += 1;
-        cost.owned += u64::from(!is_whole_page(offset, len, page) && !is_sole(store, v, page));
+        cost.owned += u64::from(
+            !is_cleared_page(pins, v, offset, len, page) && !is_sole(store, v, page),
+        );
         from = page + 1;
     }
     cost
@@ -83,22 +101,37 @@ fn is_whole_page(offset: u64, len: u64, page: PageNo) -> bool
     offset <= start && start + PAGE <= offset + len
 }
 
+// Whether a page becomes zero as a whole: it lies wholly in a range, and is not pinned.
+fn is_cleared_page(pins: &PinTable, v: Koid, offset: u64, len: u64, page: PageNo) -> bool
+    requires range { offset + len ≤ 68719476736 }
+    requires page { page < 16777216 }
+    ensures { result ≡ is_cleared (is_pinned (pins_of pins.now) v.0) offset len page }
+{
+    is_whole_page(offset, len, page) && !pins.pinned(v, page, 1)
+}
+
 /// Zeroes a range inside the VMO, one held page after another, where the room for it is there.
-pub(crate) fn zero_pages<P: PageStore>(store: &mut P, v: Koid, offset: u64, len: u64)
+pub(crate) fn zero_pages<P: PageStore>(
+    store: &mut P,
+    pins: &PinTable,
+    v: Koid,
+    offset: u64,
+    len: u64,
+)
     requires good { IsGood (P.content store.old) }
     requires vmo { IsSome ((P.content store.old).count v.0) }
     requires inside { offset + len ≤ pages_of (P.content store.old) v.0 * 4096 }
     requires room { held_touched (P.content store.old) v.0 offset len ≤ P.spare store.old }
     requires free { used (P.content store.old)
-        + need (P.content store.old) v.0 (owned_by_zero (P.content store.old) v.0 offset len)
+        + need (P.content store.old) v.0 (owned_by_zero (P.content store.old) v.0 (is_pinned (pins_of pins.now) v.0) offset len)
         ≤ (P.content store.old).frames }
-    ensures { Zeroes (P.content store.old) v.0 offset len (touched offset len) (P.content store.new) }
+    ensures { Zeroes (P.content store.old) v.0 (is_pinned (pins_of pins.now) v.0) offset len (touched offset len) (P.content store.new) }
 {
     let zeros = [0; 4096];
     let (first, end) = touched_pages(offset, len);
     let mut from = first;
     while let Some(page) = next_held_below(store, v, from, end) {
-        zero_part(store, v, offset, len, page, &zeros);
+        zero_part(store, pins, v, offset, len, page, &zeros);
         from = page + 1;
     }
 }
@@ -107,6 +140,7 @@ pub(crate) fn zero_pages<P: PageStore>(store: &mut P, v: Koid, offset: u64, len:
 // page.
 fn zero_part<P: PageStore>(
     store: &mut P,
+    pins: &PinTable,
     v: Koid,
     offset: u64,
     len: u64,
@@ -120,12 +154,12 @@ fn zero_part<P: PageStore>(
     requires last { page * 4096 < offset + len }
     requires zeros { zeros.now ≡ replicate 4096 0 }
     requires room { 1 ≤ P.spare store.old }
-    requires free { (is_whole offset len page ≡ true) ⊎ ((sole (P.content store.old) v.0 page ≡ true)
+    requires free { (is_cleared (is_pinned (pins_of pins.now) v.0) offset len page ≡ true) ⊎ ((sole (P.content store.old) v.0 page ≡ true)
         ⊎ (used (P.content store.old) < (P.content store.old).frames)) }
-    ensures zeroes { ZeroesPage (P.content store.old) v.0 offset len page (P.content store.new) }
+    ensures zeroes { ZeroesPage (P.content store.old) v.0 (is_pinned (pins_of pins.now) v.0) offset len page (P.content store.new) }
     ensures spare { P.spare store.old ≤ P.spare store.new + 1 }
 {
-    if is_whole_page(offset, len, page) {
+    if is_cleared_page(pins, v, offset, len, page) {
         store.zero(v, page);
     } else {
         fill_part(store, v, offset, len, page, zeros);

@@ -1,6 +1,9 @@
 pub mod RelatedLaws
 pub mod NamedLaws
 pub mod VmosLaws
+pub mod KeepersLaws
 pub mod KeptLaws
+pub mod WrittenLaws
+pub mod SettledLaws
 pub mod EntryLaws
 pub mod TableLaws

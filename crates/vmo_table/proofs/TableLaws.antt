@@ -1,24 +1,28 @@
 -- From what a caller says of the table to its fields.
-use Rattle.std.proofs.Common.{◌≡◌, ◌≢◌, ℕ, ◌+◌, ◌<◌, ◌≤◌, ◌==◌, ◌&&◌, Bool, true, false, Option, None, Some, IsSome, is_some, min, refl, sym, ap, subst, ◌∙◌, arith}
+use Rattle.std.proofs.Common.{◌≡◌, ◌≢◌, ℕ, ◌+◌, ◌<◌, ◌≤◌, ◌==◌, ◌&&◌, Bool, Option, None, Some, IsSome, is_some, min, sym, ap, subst, ◌∙◌, inl, inr, arith}
 use Rattle.std.specs.Prelude.{IfSome}
 use Rattle.std.specs.Option.{option_map}
 use Rattle.std.specs.HashMap.{spare}
+use Rattle.std.proofs.lemmas.Bool.{cases_Bool, cases_lt}
 use Rattle.std.proofs.lemmas.Option.{same_Some}
 use Rattle.vm_base.specs.declared.names.Koid.{Koid}
-use Rattle.vm_model.specs.Maps.{without_key}
+use Rattle.vm_model.specs.Maps.{with_key, without_key}
 use Rattle.vm_model.specs.declared.names.NameKind.TheVariants.{Owner}
-use Rattle.vm_model.specs.Names.{Name, Lineage, NAMES, KOIDS, is_named, child_count, is_created, children, may_decommit}
+use Rattle.vm_model.specs.Names.{Name, Lineage, NAMES, KOIDS, is_named, child_count, lineage_without, is_created, children, may_decommit}
 use Rattle.vmo_table.specs.declared.target.Target.{Target}
 use Rattle.vmo_table.specs.declared.vmos.Vmo.{Vmo}
 use Rattle.vmo_table.specs.declared.vmo_table.VmoTable.TheInside.{Inside}
-use Rattle.vmo_table.specs.Vmos.{koid_number, vmos_in, lineage_of_vmo, lineages}
-use Rattle.vmo_table.specs.Table.{Table, name_of, names_in, names_of, lineage_in, room_of, parent_of, Closes}
+use Rattle.vmo_table.specs.Vmos.{koid_number, vmos_in, lineage_of_vmo, lineages, keepers_in, more_names, fewer_names}
+use Rattle.vmo_table.specs.Table.{Table, name_of, names_in, names_of, lineage_in, keepers_of, room_of, parent_of, Settles, Closes}
 use Rattle.vmo_table.specs.TableFields.{table_of, HasNames, IsTable}
+use Rattle.vmo_table.proofs.VmosLaws.{lineages-none}
 use Rattle.vmo_table.proofs.EntryLaws.{vmo_at, target_at, vmos_in-is, names_in_found, vmo_there, lineage_at, target_there}
 use Rattle.vm_model.proofs.NamesLaws.{some_is}
 use Rattle.vmo_table.proofs.NamedLaws.{names_fit}
 use Rattle.vmo_table.proofs.RelatedLaws.{child_count_lt, left-stays, left_unknown}
-use Rattle.vmo_table.proofs.KeptLaws.{Enters, IsAliased, IsOpenIn}
+use Rattle.vmo_table.proofs.KeepersLaws.{keepers_found, keepers_none}
+use Rattle.vmo_table.proofs.KeptLaws.{Enters}
+use Rattle.vmo_table.proofs.WrittenLaws.{IsWritten, IsAliased, IsWritten-aliased, IsOpenIn, IsWritten-closed, with_keepers, IsWritten-kept}
 
 -- both maps have room
 pub rooms : (a : Inside) (now : Table) → table_of a ≡ now → 1 ≤ room_of now → (0 < spare a.names) × (0 < spare a.vmos)
@@ -112,43 +116,104 @@ open_in a name t vmo table found there = record {
   found = vmos_in-is a.vmos.entries t.koid.0 ∙ there;
 }
 
--- what closing says of the maps, said of the table
-pub closes_same : (a : Inside) (now : Table) (names : ℕ → Option Name) (lineage : ℕ → Option Lineage) (n : ℕ) (answer : Option Koid) → table_of a ≡ now → names ≡ without_key (names_in a.names.entries) n →
-    Closes (names_in a.names.entries) (without_key (names_in a.names.entries) n) (lineages (vmos_in a.vmos.entries)) lineage n answer → Closes (names_of now) names (lineage_in now) lineage n answer
-closes_same a now names lineage n answer view is closes =
-    subst (λ (x : Table). Closes (names_of x) names (lineage_in x) lineage n answer) view
-    (subst (λ (m : ℕ → Option Name). Closes (names_in a.names.entries) m (lineages (vmos_in a.vmos.entries)) lineage n answer) (sym is) closes)
+-- ---- a VMO is written
+
+-- by a name that is added
+pub aliasing : (a : Inside) (now : Table) (name : ℕ) (t : Target) (vmo more : Vmo) → table_of a ≡ now → IsTable a → names_of now name ≡ None → name ≤ 4294967295 → vmo_at a.vmos.entries t.koid.0 ≡ Some vmo →
+    more ≡ more_names t.kind vmo → IsWritten (with_key (names_in a.names.entries) name (name_of t)) (vmos_in a.vmos.entries) t.koid.0 vmo more
+aliasing a now name t vmo more view table no_name low found is =
+    subst (λ (x : Vmo). IsWritten (with_key (names_in a.names.entries) name (name_of t)) (vmos_in a.vmos.entries) t.koid.0 vmo x) (sym is)
+    (IsWritten-aliased (names_in a.names.entries) (vmos_in a.vmos.entries) name (name_of t) vmo (aliases a now name t vmo view table no_name low found))
+
+-- by a name that is closed
+pub closing : (a : Inside) (name : ℕ) (t : Target) (vmo fewer : Vmo) → IsTable a → target_at a.names.entries name ≡ Some t → vmo_at a.vmos.entries t.koid.0 ≡ Some vmo →
+    fewer ≡ fewer_names t.kind vmo → IsWritten (without_key (names_in a.names.entries) name) (vmos_in a.vmos.entries) t.koid.0 vmo fewer
+closing a name t vmo fewer table found there is =
+    subst (λ (x : Vmo). IsWritten (without_key (names_in a.names.entries) name) (vmos_in a.vmos.entries) t.koid.0 vmo x) (sym is)
+    (IsWritten-closed (names_in a.names.entries) (vmos_in a.vmos.entries) name (name_of t) vmo (open_in a name t vmo table found there))
+
+-- by keepers that come or go
+pub keeping : (a : Inside) (v : ℕ) (vmo : Vmo) (keepers : ℕ) → IsTable a → vmo_at a.vmos.entries v ≡ Some vmo → IsWritten (names_in a.names.entries) (vmos_in a.vmos.entries) v vmo (with_keepers keepers vmo)
+keeping a v vmo keepers table found = IsWritten-kept (names_in a.names.entries) (vmos_in a.vmos.entries) v vmo keepers table.kept (vmos_in-is a.vmos.entries v ∙ found)
+
+-- its keepers are those that the table has of it
+pub keepers_kept : (a : Inside) (v : ℕ) (vmo : Vmo) → vmo_at a.vmos.entries v ≡ Some vmo → keepers_in (vmos_in a.vmos.entries) v ≡ vmo.keepers
+keepers_kept a v vmo found = keepers_found (vmos_in a.vmos.entries) v vmo (vmos_in-is a.vmos.entries v ∙ found)
+
+pub keepers_known : (a : Inside) (now : Table) (v : ℕ) (vmo : Vmo) → table_of a ≡ now → vmo_at a.vmos.entries v ≡ Some vmo → keepers_of now v ≡ vmo.keepers
+keepers_known a now v vmo view found = ap (λ (x : Table). keepers_of x v) (sym view) ∙ keepers_kept a v vmo found
+
+-- a koid that no VMO has, has no keepers
+pub keepers_unknown : (a : Inside) (now : Table) (v : ℕ) → table_of a ≡ now → lineage_in now v ≡ None → keepers_in (vmos_in a.vmos.entries) v ≡ 0
+keepers_unknown a now v view none =
+    keepers_none (vmos_in a.vmos.entries) v (lineages-none (vmos_in a.vmos.entries) v (ap (λ (x : Table). lineage_in x v) view ∙ none))
+
+-- ---- what settling a VMO of the table says
+
+-- said of other names, keepers and lineages, which are the same
+pub settles_same : (a : Inside) (now : Table) (names names2 : ℕ → Option Name) (keepers keepers2 v : ℕ) (new new2 : ℕ → Option Lineage) (answer : Option Koid) → table_of a ≡ now → names2 ≡ names → keepers2 ≡ keepers → new2 ≡ new →
+    Settles names keepers v (lineages (vmos_in a.vmos.entries)) new answer → Settles names2 keepers2 v (lineage_in now) new2 answer
+settles_same a now names names2 keepers keepers2 v new new2 answer view same_names same_keepers same_new settles =
+    subst (λ (x : Table). Settles names2 keepers2 v (lineage_in x) new2 answer) view
+    (subst (λ (m : ℕ → Option Name). Settles m keepers2 v (lineages (vmos_in a.vmos.entries)) new2 answer) (sym same_names)
+    (subst (λ (k : ℕ). Settles names k v (lineages (vmos_in a.vmos.entries)) new2 answer) (sym same_keepers)
+    (subst (λ (l : ℕ → Option Lineage). Settles names keepers v (lineages (vmos_in a.vmos.entries)) l answer) (sym same_new) settles)))
+
+-- closing a name settles its VMO
+pub closes_now : (a : Inside) (now : Table) (name : ℕ) (t : Target) (after : ℕ → Option Name) (new : ℕ → Option Lineage) (answer : Option Koid) → table_of a ≡ now → target_at a.names.entries name ≡ Some t →
+    Settles after (keepers_of now t.koid.0) t.koid.0 (lineage_in now) new answer → Closes (names_of now) after (keepers_of now) (lineage_in now) new name answer
+closes_now a now name t after new answer view found settles = λ s e.
+    let same = same_Some (name_of t) s (sym (ap (λ (x : Table). names_of x name) (sym view) ∙ names_in_found a.names.entries name t found) ∙ e) in
+    subst (λ (x : Name). Settles after (keepers_of now x.koid) x.koid (lineage_in now) new answer) same settles
 
 -- ---- for callers
 
-closes_either : {P : Type 0} (b : Bool) → (b ≡ true → P) → (b ≡ false → P) → P
-closes_either true yes_ no_ = yes_ refl
-closes_either false yes_ no_ = no_ refl
+-- a VMO that is settled stays or leaves
+settles_either : {P : Type 0} (names : ℕ → Option Name) (keepers v : ℕ) (old new : ℕ → Option Lineage) (answer : Option Koid) → Settles names keepers v old new answer → ((answer ≡ None) × (new ≡ old) → P) →
+    ((answer ≡ Some (record { 0 = v })) × (new ≡ lineage_without old v (parent_of (old v))) → P) → P
+settles_either names keepers v old new answer settles stays leaves = elim (cases_Bool (is_named names v)) [
+  | inl named ↦ stays (settles.stays (inl named))
+  | inr unnamed ↦ elim (cases_lt 0 keepers) [
+    | inl kept ↦ stays (settles.stays (inr kept))
+    | inr free ↦ leaves (settles.leaves unnamed (omega arith))
+  ]
+]
 
--- closing a name makes no VMO
-pub closes-unknown : (names after : ℕ → Option Name) (old new : ℕ → Option Lineage) (n : ℕ) (answer : Option Koid) → Closes names after old new n answer → IsSome (names n) → (v : ℕ) → old v ≡ None → new v ≡ None
-closes-unknown names after old new n answer closes there v none =
-    let open_ = some_is (names n) there in
-    closes_either (is_named after open_.0.koid)
-    (λ hit. ap (λ (m : ℕ → Option Lineage). m v) (closes.stays open_.0 open_.1 hit).1 ∙ none)
-    (λ miss. ap (λ (m : ℕ → Option Lineage). m v) (closes.leaves open_.0 open_.1 miss).1 ∙ left_unknown old open_.0.koid (parent_of (old open_.0.koid)) v none)
+-- settling makes no VMO
+pub settles-unknown : (names : ℕ → Option Name) (keepers v : ℕ) (old new : ℕ → Option Lineage) (answer : Option Koid) → Settles names keepers v old new answer → (w : ℕ) → old w ≡ None → new w ≡ None
+settles-unknown names keepers v old new answer settles w none = settles_either names keepers v old new answer settles
+    (λ stays. ap (λ (m : ℕ → Option Lineage). m w) stays.1 ∙ none)
+    (λ left. ap (λ (m : ℕ → Option Lineage). m w) left.1 ∙ left_unknown old v (parent_of (old v)) w none)
 
 -- and all but the one that is answered stay
-pub closes-others : (names after : ℕ → Option Name) (old new : ℕ → Option Lineage) (n : ℕ) (answer : Option Koid) (koid : Koid) → Closes names after old new n answer → IsSome (names n) → answer ≡ Some koid → (v : ℕ) → v ≢ koid.0 → IsSome (old v) → IsSome (new v)
-closes-others names after old new n answer koid closes open_there is v apart there =
-    let open_ = some_is (names n) open_there in
-    let t = open_.0 in
-    closes_either (is_named after t.koid)
-    (λ hit. ap (λ (m : ℕ → Option Lineage). is_some (m v)) (closes.stays t open_.1 hit).1 ∙ there)
-    (λ miss.
-    let left = closes.leaves t open_.1 miss in
-    let its : t.koid ≡ koid.0 = ap (λ (x : Koid). x.0) (same_Some (record { 0 = t.koid }) koid (sym left.0 ∙ is)) in
-    ap (λ (m : ℕ → Option Lineage). is_some (m v)) left.1 ∙ left-stays old t.koid (parent_of (old t.koid)) v (λ e. apart (e ∙ its)) there)
+pub settles-others : (names : ℕ → Option Name) (keepers v : ℕ) (old new : ℕ → Option Lineage) (answer : Option Koid) (koid : Koid) → Settles names keepers v old new answer → answer ≡ Some koid → (w : ℕ) → w ≢ koid.0 → IsSome (old w) → IsSome (new w)
+settles-others names keepers v old new answer koid settles is w apart there = settles_either names keepers v old new answer settles
+    (λ stays. ap (λ (m : ℕ → Option Lineage). is_some (m w)) stays.1 ∙ there)
+    (λ left.
+    let its : v ≡ koid.0 = ap (λ (x : Koid). x.0) (same_Some (record { 0 = v }) koid (sym left.0 ∙ is)) in
+    ap (λ (m : ℕ → Option Lineage). is_some (m w)) left.1 ∙ left-stays old v (parent_of (old v)) w (λ e. apart (e ∙ its)) there)
 
 -- and where no VMO is answered, nothing changes
-pub closes-none : (names after : ℕ → Option Name) (old new : ℕ → Option Lineage) (n : ℕ) (answer : Option Koid) → Closes names after old new n answer → IsSome (names n) → answer ≡ None → (v : ℕ) → new v ≡ old v
-closes-none names after old new n answer closes open_there is v =
-    let open_ = some_is (names n) open_there in
-    closes_either (is_named after open_.0.koid)
-    (λ hit. ap (λ (m : ℕ → Option Lineage). m v) (closes.stays open_.0 open_.1 hit).1)
-    (λ miss. absurd (let left = closes.leaves open_.0 open_.1 miss in cc))
+pub settles-none : (names : ℕ → Option Name) (keepers v : ℕ) (old new : ℕ → Option Lineage) (answer : Option Koid) → Settles names keepers v old new answer → answer ≡ None → (w : ℕ) → new w ≡ old w
+settles-none names keepers v old new answer settles is w = settles_either names keepers v old new answer settles
+    (λ stays. ap (λ (m : ℕ → Option Lineage). m w) stays.1)
+    (λ left. absurd (let it = left.0 in cc))
+
+-- the same, where a name is closed
+module _ (old new : Table) (n : ℕ) (answer : Option Koid) (closes : Closes (names_of old) (names_of new) (keepers_of old) (lineage_in old) (lineage_in new) n answer) (there : IsSome (names_of old n)) where
+  -- the name was open
+  name : (t : Name) × (names_of old n ≡ Some t)
+  name = some_is (names_of old n) there
+
+  -- its VMO is settled
+  closes-settles : Settles (names_of new) (keepers_of old name.0.koid) name.0.koid (lineage_in old) (lineage_in new) answer
+  closes-settles = closes name.0 name.1
+
+  pub closes-unknown : (v : ℕ) → lineage_in old v ≡ None → lineage_in new v ≡ None
+  closes-unknown = settles-unknown (names_of new) (keepers_of old name.0.koid) name.0.koid (lineage_in old) (lineage_in new) answer closes-settles
+
+  pub closes-others : (koid : Koid) → answer ≡ Some koid → (v : ℕ) → v ≢ koid.0 → IsSome (lineage_in old v) → IsSome (lineage_in new v)
+  closes-others koid = settles-others (names_of new) (keepers_of old name.0.koid) name.0.koid (lineage_in old) (lineage_in new) answer koid closes-settles
+
+  pub closes-none : answer ≡ None → (v : ℕ) → lineage_in new v ≡ lineage_in old v
+  closes-none = settles-none (names_of new) (keepers_of old name.0.koid) name.0.koid (lineage_in old) (lineage_in new) answer closes-settles

@@ -1,15 +1,16 @@
 -- The table of names and VMOs as plain lists, and what it is to its callers: a map from names, a map from koids, and room.
-use Rattle.std.specs.Prelude.{◌≡◌, ℕ, true, false, ◌==◌, List, Option, None, Some}
+use Rattle.std.specs.Prelude.{◌≡◌, ℕ, ◌<◌, true, false, ◌==◌, ◌⊎◌, List, Option, None, Some}
 use Rattle.std.specs.Option.{option_map}
 use Rattle.std.specs.Map.{lookup}
 use Rattle.vm_base.specs.declared.names.Koid.{Koid}
 use Rattle.vm_base.specs.declared.names.VmoName.{VmoName}
 use Rattle.vm_model.specs.Content.{Content}
 use Rattle.vm_model.specs.Names.{Name, Lineage, is_named, lineage_without}
+use Rattle.vm_model.specs.Pins.{Pin, pin_count}
 use Rattle.vm_model.specs.State.{State}
 use Rattle.vmo_table.specs.declared.target.Target.{Target}
 use Rattle.vmo_table.specs.declared.vmos.Vmo.{Vmo}
-use Rattle.vmo_table.specs.Vmos.{vmos_in, lineages}
+use Rattle.vmo_table.specs.Vmos.{vmos_in, lineages, keepers_in}
 
 -- the entries of the two maps, and how many names and VMOs may be entered without asking the host for memory
 pub record Table : Type 0 where
@@ -33,22 +34,33 @@ names_of t = names_in t.names
 abbrev pub lineage_in : Table → ℕ → Option Lineage
 lineage_in t = lineages (vmos_in t.vmos)
 
+-- how many pins and mapped pages keep a VMO
+abbrev pub keepers_of : Table → ℕ → ℕ
+keepers_of t = keepers_in (vmos_in t.vmos)
+
 -- how many names and VMOs may be entered without asking the host for memory
 abbrev pub room_of : Table → ℕ
 room_of t = t.room
 
--- the state of the machine that the content of a store and a table stand for together
-abbrev pub state_with : Content → Table → State
-state_with c t = record { content = c; names = names_of t; lineage = lineage_in t }
+-- the state of the machine that the content of a store, a table and pins stand for together
+abbrev pub state_with : Content → Table → (ℕ → Option Pin) → State
+state_with c t pins = record { content = c; names = names_of t; lineage = lineage_in t; pins = pins }
+
+-- the keepers of each VMO are the pins that are of it
+abbrev pub CountsPins : Table → (ℕ → Option Pin) → Type 0
+CountsPins t pins = (v : ℕ) → keepers_of t v ≡ pin_count pins v
 
 -- the parent of a VMO, where it has one
 abbrev pub parent_of : Option Lineage → Option ℕ
 parent_of None = None
 parent_of (Some l) = l.parent
 
--- Closing the name n, of a VMO with the koid v: where another name stands for the VMO, nothing becomes of it. Else it leaves
--- with its koid as the answer, and its children get its parent.
-pub record Closes (names after : ℕ → Option Name) (old new : ℕ → Option Lineage) (n : ℕ) (answer : Option Koid) : Type 0 where
-  pub stays : (t : Name) → names n ≡ Some t → is_named after t.koid ≡ true → (answer ≡ None) × (new ≡ old)
-  pub leaves : (t : Name) → names n ≡ Some t → is_named after t.koid ≡ false →
-      (answer ≡ Some (record { 0 = t.koid })) × (new ≡ lineage_without old t.koid (parent_of (old t.koid)))
+-- What becomes of the VMO v once something that kept it is gone, where it has these names and so many keepers left: nothing, where
+-- something keeps it still. Else it leaves with its koid as the answer, and its children get its parent.
+pub record Settles (names : ℕ → Option Name) (keepers v : ℕ) (old new : ℕ → Option Lineage) (answer : Option Koid) : Type 0 where
+  pub stays : (is_named names v ≡ true) ⊎ (0 < keepers) → (answer ≡ None) × (new ≡ old)
+  pub leaves : is_named names v ≡ false → keepers ≡ 0 → (answer ≡ Some (record { 0 = v })) × (new ≡ lineage_without old v (parent_of (old v)))
+
+-- Closing the name n settles what becomes of its VMO
+abbrev pub Closes : (ℕ → Option Name) → (ℕ → Option Name) → (ℕ → ℕ) → (ℕ → Option Lineage) → (ℕ → Option Lineage) → ℕ → Option Koid → Type 0
+Closes names after keepers old new n answer = (t : Name) → names n ≡ Some t → Settles after (keepers t.koid) t.koid old new answer

@@ -34,7 +34,7 @@ pub record HasNames (names : ℕ → Option Name) (v : ℕ) (vmo : Vmo) : Type 0
   pub sliced : vmo.slices ≡ names_as Slice names v
   pub referred : vmo.references ≡ names_as Reference names v
 
--- Each VMO has as many names and children as are counted.
+-- Each VMO has as many names and children as are counted. One that only keepers keep has no name.
 pub record AreCounted (names : ℕ → Option Name) (vmos : ℕ → Option Vmo) : Type 0 where
   pub named : (v : ℕ) (vmo : Vmo) → vmos v ≡ Some vmo → HasNames names v vmo
   pub children : (v : ℕ) (vmo : Vmo) → vmos v ≡ Some vmo → vmo.children ≡ child_count (lineages vmos) v

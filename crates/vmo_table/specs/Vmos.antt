@@ -1,10 +1,11 @@
 -- The VMOs of the table as a map from koids, and what becomes of it.
-use Rattle.std.specs.Prelude.{ℕ, ◌+◌, ◌-◌, ◌==◌, List, if◌then◌else◌, Option, None, Some}
+use Rattle.std.specs.Prelude.{ℕ, ◌+◌, ◌-◌, ◌==◌, ◌||◌, nat_lt, Bool, List, if◌then◌else◌, Option, None, Some, unwrap_or}
 use Rattle.std.specs.Option.{option_map}
 use Rattle.std.specs.Map.{lookup}
 use Rattle.vm_base.specs.declared.names.Koid.{Koid}
 use Rattle.vm_model.specs.declared.names.NameKind.{NameKind}
 use Rattle.vm_model.specs.declared.names.NameKind.TheVariants.{Slice, Reference}
+use Rattle.vm_model.specs.Maps.{with_key}
 use Rattle.vm_model.specs.Names.{Lineage, is_kind, is_parent}
 use Rattle.vmo_table.specs.declared.vmos.Vmo.{Vmo}
 
@@ -22,6 +23,10 @@ lineage_of_vmo vmo = record { resizable = vmo.resizable; origin = vmo.origin; pa
 
 unfoldable pub lineages : (ℕ → Option Vmo) → ℕ → Option Lineage
 lineages vmos v = option_map lineage_of_vmo (vmos v)
+
+-- how many pins and mapped pages keep a VMO, and none where there is no VMO
+unfoldable pub keepers_in : (ℕ → Option Vmo) → ℕ → ℕ
+keepers_in vmos v = unwrap_or (option_map (λ (vmo : Vmo). vmo.keepers) (vmos v)) 0
 
 -- 1 where two kinds are the same, else 0
 abbrev pub kind_bit : NameKind → NameKind → ℕ
@@ -62,3 +67,13 @@ unfoldable pub vmos_without : (ℕ → Option Vmo) → ℕ → Option Koid → �
 vmos_without vmos v parent w =
     if w == v then None
     else option_map (λ (vmo : Vmo). record vmo { parent = koid_after v parent vmo.parent }) (vmos w)
+
+-- a name or a keeper keeps a VMO
+abbrev pub is_held : Vmo → Bool
+is_held vmo = nat_lt 0 vmo.names || nat_lt 0 vmo.keepers
+
+-- the VMOs, after the VMO v got this value: where nothing keeps it, it leaves, and its parent gets its children
+unfoldable pub settled : (ℕ → Option Vmo) → ℕ → Vmo → ℕ → Option Vmo
+settled vmos v vmo =
+    if is_held vmo then with_key vmos v vmo
+    else adopted (vmos_without vmos v vmo.parent) (option_map koid_number vmo.parent) 1 vmo.children

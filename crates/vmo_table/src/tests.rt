@@ -1,5 +1,5 @@
-ghost use Rattle.std.specs.Prelude.{◌≡◌, ◌≢◌, ℕ, ◌^◌, ◌<◌, None, IsSome, IfSome, OnOk};
-ghost use Rattle.vmo_table.specs.Table.{names_of, lineage_in};
+ghost use Rattle.std.specs.Prelude.{◌≡◌, ◌≢◌, ℕ, ◌+◌, ◌^◌, ◌<◌, ◌≤◌, None, IsSome, IfSome, OnOk};
+ghost use Rattle.vmo_table.specs.Table.{names_of, lineage_in, keepers_of};
 
 use super::*;
 use std::process::Abort;
@@ -16,6 +16,7 @@ fn enter(table: &mut VmoTable, name: VmoName, koid: Koid, parent: Option<Koid>) 
     ensures names { OnOk result ((n : ℕ) → n ≢ name.0 → names_of table.new n ≡ names_of table.old n) }
     ensures koid { OnOk result (IsSome (lineage_in table.new koid.0)) }
     ensures koids { OnOk result ((v : ℕ) → v ≢ koid.0 → lineage_in table.new v ≡ lineage_in table.old v) }
+    ensures keepers { OnOk result (keepers_of table.new ≡ keepers_of table.old) }
 {
     table.reserve()?;
     table.enter(name, koid, false, Origin::Created, parent, true);
@@ -60,24 +61,26 @@ fn alias(table: &mut VmoTable, name: VmoName, target: Target) -> Result<(), Fail
     ensures name { OnOk result (IsSome (names_of table.new name.0)) }
     ensures names { OnOk result ((n : ℕ) → n ≢ name.0 → names_of table.new n ≡ names_of table.old n) }
     ensures koids { OnOk result ((v : ℕ) → lineage_in table.new v ≡ lineage_in table.old v) }
+    ensures keepers { OnOk result (keepers_of table.new ≡ keepers_of table.old) }
 {
     table.reserve()?;
     table.alias(name, target);
     Ok(())
 }
 
-// Closes a name of a VMO that has others, and asserts that the VMO stays.
-fn keep(rt: &impl Abort, table: &mut VmoTable, name: VmoName)
+// Closes a name of a VMO that something else keeps, and asserts that the VMO stays.
+fn stay(rt: &impl Abort, table: &mut VmoTable, name: VmoName)
     requires { IsSome (names_of table.old name.0) }
     ensures name { names_of table.new name.0 ≡ None }
     ensures names { (n : ℕ) → n ≢ name.0 → names_of table.new n ≡ names_of table.old n }
     ensures koids { (v : ℕ) → lineage_in table.new v ≡ lineage_in table.old v }
+    ensures keepers { keepers_of table.new ≡ keepers_of table.old }
 {
     assert_eq!(rt; table.close(name), None);
     assert_eq!(rt; table.resolve(name), None);
 }
 
-// Closes the last name of a VMO, and asserts that the VMO leaves.
+// Closes a name of a VMO that nothing else keeps, and asserts that the VMO leaves.
 fn leave(rt: &impl Abort, table: &mut VmoTable, name: VmoName, koid: Koid)
     requires { IsSome (names_of table.old name.0) }
     ensures name { names_of table.new name.0 ≡ None }
@@ -87,6 +90,28 @@ fn leave(rt: &impl Abort, table: &mut VmoTable, name: VmoName, koid: Koid)
 {
     assert_eq!(rt; table.close(name), Some(koid));
     assert_eq!(rt; table.resolve(name), None);
+}
+
+// Lets keepers of a VMO go that something else keeps, and asserts that the VMO stays.
+fn release_some(rt: &impl Abort, table: &mut VmoTable, koid: Koid, n: u64)
+    requires koid { IsSome (lineage_in table.old koid.0) }
+    requires keepers { n ≤ keepers_of table.old koid.0 }
+    ensures names { names_of table.new ≡ names_of table.old }
+    ensures koids { (v : ℕ) → lineage_in table.new v ≡ lineage_in table.old v }
+    ensures keepers { keepers_of table.new koid.0 + n ≡ keepers_of table.old koid.0 }
+{
+    assert_eq!(rt; table.release(koid, n), None);
+}
+
+// Lets keepers of a VMO go that nothing else keeps, and asserts that the VMO leaves.
+fn release_all(rt: &impl Abort, table: &mut VmoTable, koid: Koid, n: u64)
+    requires koid { IsSome (lineage_in table.old koid.0) }
+    requires keepers { n ≤ keepers_of table.old koid.0 }
+    ensures names { names_of table.new ≡ names_of table.old }
+    ensures unknown { (v : ℕ) → lineage_in table.old v ≡ None → lineage_in table.new v ≡ None }
+    ensures others { (v : ℕ) → v ≢ koid.0 → IsSome (lineage_in table.old v) → IsSome (lineage_in table.new v) }
+{
+    assert_eq!(rt; table.release(koid, n), Some(koid));
 }
 
 #[test]
@@ -155,9 +180,9 @@ fn the_last_name_takes_its_vmo(rt: HostRuntime) -> Result<(), Fail> {
     enter(&mut table, VmoName(1), Koid(1), None)?;
     alias(&mut table, VmoName(2), slice_of(Koid(1)))?;
     alias(&mut table, VmoName(3), reference_to(Koid(1)))?;
-    keep(&rt, &mut table, VmoName(1));
+    stay(&rt, &mut table, VmoName(1));
     assert_eq!(rt; table.resolve(VmoName(2)), Some(slice_of(Koid(1))));
-    keep(&rt, &mut table, VmoName(3));
+    stay(&rt, &mut table, VmoName(3));
     assert!(rt; !table.resizable(Koid(1)));
     leave(&rt, &mut table, VmoName(2), Koid(1));
     Ok(())
@@ -173,11 +198,11 @@ fn children_come_and_go(rt: HostRuntime) -> Result<(), Fail> {
     alias(&mut table, VmoName(4), reference_to(Koid(1)))?;
     assert_eq!(rt; table.children(Koid(1)), 3);
     assert_eq!(rt; table.children(Koid(2)), 0);
-    keep(&rt, &mut table, VmoName(3));
+    stay(&rt, &mut table, VmoName(3));
     assert_eq!(rt; table.children(Koid(1)), 2);
     leave(&rt, &mut table, VmoName(2), Koid(2));
     assert_eq!(rt; table.children(Koid(1)), 1);
-    keep(&rt, &mut table, VmoName(4));
+    stay(&rt, &mut table, VmoName(4));
     assert_eq!(rt; table.children(Koid(1)), 0);
     leave(&rt, &mut table, VmoName(1), Koid(1));
     Ok(())
@@ -191,7 +216,7 @@ fn a_child_or_a_reference_keeps_the_pages(rt: HostRuntime) -> Result<(), Fail> {
     assert!(rt; table.may_decommit(Koid(1)));
     alias(&mut table, VmoName(3), reference_to(Koid(1)))?;
     assert!(rt; !table.may_decommit(Koid(1)));
-    keep(&rt, &mut table, VmoName(3));
+    stay(&rt, &mut table, VmoName(3));
     assert!(rt; table.may_decommit(Koid(1)));
     enter(&mut table, VmoName(4), Koid(2), Some(Koid(1)))?;
     assert!(rt; !table.may_decommit(Koid(1)));
@@ -206,5 +231,40 @@ fn a_snapshot_keeps_its_pages(rt: HostRuntime) -> Result<(), Fail> {
     table.reserve()?;
     table.enter(VmoName(1), Koid(1), false, Origin::Snapshot, None, true);
     assert!(rt; !table.may_decommit(Koid(1)));
+    Ok(())
+}
+
+#[test]
+fn a_keeper_outlives_the_names(rt: HostRuntime) -> Result<(), Fail> {
+    let mut table = VmoTable::new(rt.alloc());
+    enter(&mut table, VmoName(1), Koid(1), None)?;
+    enter(&mut table, VmoName(2), Koid(2), Some(Koid(1)))?;
+    enter(&mut table, VmoName(3), Koid(3), Some(Koid(2)))?;
+    enter(&mut table, VmoName(4), Koid(4), Some(Koid(2)))?;
+    table.keep(Koid(2), 1);
+    stay(&rt, &mut table, VmoName(2));
+    assert_eq!(rt; table.children(Koid(1)), 1);
+    assert_eq!(rt; table.children(Koid(2)), 2);
+    release_all(&rt, &mut table, Koid(2), 1);
+    assert_eq!(rt; table.children(Koid(1)), 2);
+    leave(&rt, &mut table, VmoName(3), Koid(3));
+    assert_eq!(rt; table.children(Koid(1)), 1);
+    leave(&rt, &mut table, VmoName(4), Koid(4));
+    leave(&rt, &mut table, VmoName(1), Koid(1));
+    Ok(())
+}
+
+#[test]
+fn keepers_come_and_go(rt: HostRuntime) -> Result<(), Fail> {
+    let mut table = VmoTable::new(rt.alloc());
+    enter(&mut table, VmoName(1), Koid(1), None)?;
+    table.keep(Koid(1), 3);
+    release_some(&rt, &mut table, Koid(1), 3);
+    table.keep(Koid(1), 3);
+    table.keep(Koid(1), 2);
+    stay(&rt, &mut table, VmoName(1));
+    release_some(&rt, &mut table, Koid(1), 4);
+    assert!(rt; !table.resizable(Koid(1)));
+    release_all(&rt, &mut table, Koid(1), 1);
     Ok(())
 }

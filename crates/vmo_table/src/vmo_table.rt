@@ -1,14 +1,14 @@
 //! The table of names and VMOs.
 
-ghost use Rattle.std.specs.Prelude.{◌≡◌, ◌≢◌, ℕ, ◌^◌, ◌<◌, ◌≤◌, None, IsSome, IfSome, OnOk};
+ghost use Rattle.std.specs.Prelude.{◌≡◌, ◌≢◌, ℕ, ◌+◌, ◌^◌, ◌<◌, ◌≤◌, ◌==◌, if◌then◌else◌, None, IsSome, IfSome, OnOk};
 ghost use Rattle.std.specs.Option.{option_map};
 ghost use Rattle.vm_model.specs.Maps.{with_key, without_key};
 ghost use Rattle.vm_model.specs.Names.{owner, children, may_decommit};
 ghost use Rattle.vmo_table.specs.Vmos.{koid_number};
-ghost use Rattle.vmo_table.specs.Table.{name_of, names_of, lineage_in, room_of, Closes};
+ghost use Rattle.vmo_table.specs.Table.{name_of, names_of, lineage_in, keepers_of, room_of, Settles, Closes};
 
 use crate::target::Target;
-use crate::vmos::{Vmo, add_name, count_children, take_name, take_out, write_back};
+use crate::vmos::{Vmo, add_name, count_children, settle, take_name, write_back};
 use std::alloc::Global;
 use std::collections::HashMap;
 use std::marker::Model;
@@ -39,6 +39,7 @@ impl VmoTable {
     pub fn new(alloc: Global) -> VmoTable
         ensures names { (name : ℕ) → names_of result name ≡ None }
         ensures lineage { (v : ℕ) → lineage_in result v ≡ None }
+        ensures keepers { (v : ℕ) → keepers_of result v ≡ 0 }
     {
         VmoTable {
             names: HashMap::new(alloc),
@@ -51,6 +52,7 @@ impl VmoTable {
         ensures room { OnOk result (1 ≤ room_of self.new) }
         ensures names { names_of self.new ≡ names_of self.old }
         ensures lineage { lineage_in self.new ≡ lineage_in self.old }
+        ensures keepers { keepers_of self.new ≡ keepers_of self.old }
     {
         let Ok(()) = self.names.reserve(1) else {
             return Err(HostMemory);
@@ -81,6 +83,7 @@ impl VmoTable {
         ensures names { names_of self.new ≡ with_key (names_of self.old) name.0 (owner koid.0 may_write resizable) }
         ensures lineage { lineage_in self.new ≡ with_key (lineage_in self.old) koid.0
             (record { resizable = resizable; origin = origin; parent = option_map koid_number parent }) }
+        ensures keepers { keepers_of self.new ≡ keepers_of self.old }
     {
         // How far the table counts rests on the range of the names.
         prove!(name.0 <= u32::MAX);
@@ -92,6 +95,7 @@ impl VmoTable {
             slices: 0,
             references: 0,
             children: 0,
+            keepers: 0,
         };
         let target = Target {
             koid,
@@ -116,6 +120,7 @@ impl VmoTable {
         requires room { 1 ≤ room_of self.old }
         ensures names { names_of self.new ≡ with_key (names_of self.old) name.0 (name_of target) }
         ensures lineage { lineage_in self.new ≡ lineage_in self.old }
+        ensures keepers { keepers_of self.new ≡ keepers_of self.old }
     {
         prove!(name.0 <= u32::MAX);
         let vmo = self.vmos[&target.koid];
@@ -136,19 +141,46 @@ impl VmoTable {
     pub fn close(&mut self, name: VmoName) -> Option<Koid>
         requires { IsSome (names_of self.old name.0) }
         ensures names { names_of self.new ≡ without_key (names_of self.old) name.0 }
-        ensures vmo { Closes (names_of self.old) (names_of self.new) (lineage_in self.old) (lineage_in self.new) name.0 result }
+        ensures keepers { keepers_of self.new ≡ keepers_of self.old }
+        ensures vmo { Closes (names_of self.old) (names_of self.new) (keepers_of self.old) (lineage_in self.old) (lineage_in self.new) name.0 result }
     {
         let target = self.names[&name];
-        let koid = target.koid;
-        let vmo = self.vmos[&koid];
+        let vmo = self.vmos[&target.koid];
         let _closed = self.names.remove(&name);
-        if vmo.names > 1 {
-            write_back(&mut self.vmos, koid, take_name(vmo, target.kind));
-            return None;
-        }
-        take_out(&mut self.vmos, koid, vmo.parent, vmo.children);
-        count_children(&mut self.vmos, vmo.parent, 1, vmo.children);
-        Some(koid)
+        settle(&mut self.vmos, target.koid, take_name(vmo, target.kind))
+    }
+
+    /// Lets `n` further keepers keep a VMO of the table: pins, or pages that are mapped.
+    pub fn keep(&mut self, koid: Koid, n: u64)
+        requires koid { IsSome (lineage_in self.old koid.0) }
+        requires few { keepers_of self.old koid.0 + n < 2 ^ 128 }
+        ensures names { names_of self.new ≡ names_of self.old }
+        ensures lineage { lineage_in self.new ≡ lineage_in self.old }
+        ensures keepers { (v : ℕ) → keepers_of self.new v ≡ keepers_of self.old v + (if v == koid.0 then n else 0) }
+    {
+        let vmo = self.vmos[&koid];
+        let kept = Vmo {
+            keepers: vmo.keepers + u128::from(n),
+            ..vmo
+        };
+        write_back(&mut self.vmos, koid, kept);
+    }
+
+    /// Lets `n` keepers of a VMO of the table go. Where nothing keeps the VMO any more, it leaves the table,
+    /// its children get its parent, and its koid is the answer. Else the answer is `None`.
+    pub fn release(&mut self, koid: Koid, n: u64) -> Option<Koid>
+        requires koid { IsSome (lineage_in self.old koid.0) }
+        requires keepers { n ≤ keepers_of self.old koid.0 }
+        ensures names { names_of self.new ≡ names_of self.old }
+        ensures keepers { (v : ℕ) → keepers_of self.new v + (if v == koid.0 then n else 0) ≡ keepers_of self.old v }
+        ensures vmo { Settles (names_of self.old) (keepers_of self.new koid.0) koid.0 (lineage_in self.old) (lineage_in self.new) result }
+    {
+        let vmo = self.vmos[&koid];
+        let left = Vmo {
+            keepers: vmo.keepers - u128::from(n),
+            ..vmo
+        };
+        settle(&mut self.vmos, koid, left)
     }
 
     /// Whether a VMO of the table may change its size.

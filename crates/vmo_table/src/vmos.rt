@@ -1,10 +1,10 @@
 //! The VMOs of the table, each with how many names and children it has.
 
-ghost use Rattle.std.specs.Prelude.{◌≡◌, ℕ, ◌+◌, ◌-◌, ◌<◌, ◌≤◌, ◌^◌, false, true, Some};
+ghost use Rattle.std.specs.Prelude.{◌≡◌, ℕ, ◌+◌, ◌-◌, ◌<◌, ◌≤◌, ◌^◌, if◌then◌else◌, false, true, None, Some};
 ghost use Rattle.std.specs.Option.{option_map};
 ghost use Rattle.vm_model.specs.Maps.{with_key};
 ghost use Rattle.vm_model.specs.Names.{NAMES, is_parent, has_parent};
-ghost use Rattle.vmo_table.specs.Vmos.{koid_number, vmos_in, lineages, kind_bit, more_names, fewer_names, adopted, koid_after, vmos_without};
+ghost use Rattle.vmo_table.specs.Vmos.{koid_number, vmos_in, lineages, kind_bit, more_names, fewer_names, adopted, koid_after, vmos_without, is_held, settled};
 ghost use Rattle.vmo_table.specs.declared.vmos.Vmo.{Vmo};
 
 use std::collections::HashMap;
@@ -25,6 +25,8 @@ pub(crate) struct Vmo {
     pub references: u64,
     /// How many VMOs have it as parent.
     pub children: u64,
+    /// How many pins and mapped pages keep it.
+    pub keepers: u128,
 }
 
 /// 1 where two kinds are the same, else 0.
@@ -102,12 +104,7 @@ fn parent_after(gone: Koid, parent: Option<Koid>, old: Option<Koid>) -> Option<K
 
 /// Takes a VMO out, whose children get its parent. Only a VMO that has children costs a pass over
 /// the table.
-pub(crate) fn take_out(
-    vmos: &mut HashMap<Koid, Vmo>,
-    koid: Koid,
-    parent: Option<Koid>,
-    children: u64,
-)
+fn take_out(vmos: &mut HashMap<Koid, Vmo>, koid: Koid, parent: Option<Koid>, children: u64)
     requires { children ≡ 0 → (w : ℕ) → has_parent koid.0 (lineages (vmos_in vmos.old.entries) w) ≡ false }
     ensures { vmos_in vmos.new.entries ≡ vmos_without (vmos_in vmos.old.entries) koid.0 parent }
 {
@@ -119,4 +116,23 @@ pub(crate) fn take_out(
         vmo.parent = parent_after(koid, parent, vmo.parent);
         *other != koid
     });
+}
+
+/// Writes another value to a VMO of the table, where a name or a keeper keeps it still. Else the VMO
+/// leaves, its children get its parent, and its koid is the answer.
+pub(crate) fn settle(vmos: &mut HashMap<Koid, Vmo>, koid: Koid, vmo: Vmo) -> Option<Koid>
+    requires found { (old : Vmo) × (vmos_in vmos.old.entries koid.0 ≡ Some old) }
+    requires childless { vmo.children ≡ 0 → (w : ℕ) → has_parent koid.0 (lineages (vmos_in vmos.old.entries) w) ≡ false }
+    requires fits { is_held vmo ≡ false → (v : ℕ) (above : Vmo) → is_parent v (option_map koid_number vmo.parent) ≡ true →
+        vmos_without (vmos_in vmos.old.entries) koid.0 vmo.parent v ≡ Some above → (1 ≤ above.children) × (above.children - 1 + vmo.children < 2 ^ 64) }
+    ensures vmos { vmos_in vmos.new.entries ≡ settled (vmos_in vmos.old.entries) koid.0 vmo }
+    ensures answer { result ≡ (if is_held vmo then None else Some koid) }
+{
+    if vmo.names > 0 || vmo.keepers > 0 {
+        write_back(vmos, koid, vmo);
+        return None;
+    }
+    take_out(vmos, koid, vmo.parent, vmo.children);
+    count_children(vmos, vmo.parent, 1, vmo.children);
+    Some(koid)
 }

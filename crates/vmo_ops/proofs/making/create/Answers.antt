@@ -6,10 +6,10 @@ use Rattle.vmo_ops.proofs.CreateLaws.{create_done}
 use Rattle.vmo_ops.proofs.making.create.Goals as goal
 
 pub returns-clause-step : goal.returns-clause-step
-returns-clause-step g c =
-    let s = state_with (g.P.PageStore.content c.args.store.now) c.args.vmos.now in
-    let new = state_with (g.P.PageStore.content c.create.new.self) c.enter.new.self in
+returns-clause-step g c = λ pins.
+    let s = state_with (g.P.PageStore.content c.args.store.now) c.args.vmos.now pins in
+    let new = state_with (g.P.PageStore.content c.create.new.self) c.enter.new.self pins in
     create_done s new c.args.name c.args.size c.args.resizable c.in-Ok-create.koid.0 c.page_of.result
     (ap is_some c.requires.closed) (c.in-Some.ensures.fits.0 refl) c.in-Ok-create.ensures.koid
     (c.page_of.ensures ∙ ap (λ (n : ℕ). n / 4096) c.in-Some.ensures.value) c.in-Ok-create.ensures.ok
-    (entered _ _ _ _ _ c.reserve.ensures.names c.enter.ensures.names) (entered _ _ _ _ _ c.reserve.ensures.lineage c.enter.ensures.lineage)
+    (entered _ _ _ _ _ c.reserve.ensures.names c.enter.ensures.names) (entered _ _ _ _ _ c.reserve.ensures.lineage c.enter.ensures.lineage) refl

@@ -3,13 +3,13 @@ use Rattle.vmo_ops.proofs.StepRows.{pages_of_le}
 use Rattle.vmo_ops.proofs.ZeroLaws.{held_below}
 use Rattle.vmo_ops.proofs.zeroing.zero_part.Goals as goal
 
-pub is_whole_page-requires-clause-range : goal.is_whole_page-requires-clause-range
-is_whole_page-requires-clause-range g c =
+pub is_cleared_page-requires-clause-range : goal.is_cleared_page-requires-clause-range
+is_cleared_page-requires-clause-range g c =
     let few = pages_of_le (g.P.PageStore.content c.args.store.now) c.args.v.0 c.requires.good in
     omega (arith, c.requires.range)
 
-pub is_whole_page-requires-clause-page : goal.is_whole_page-requires-clause-page
-is_whole_page-requires-clause-page g c =
+pub is_cleared_page-requires-clause-page : goal.is_cleared_page-requires-clause-page
+is_cleared_page-requires-clause-page g c =
     let few = pages_of_le (g.P.PageStore.content c.args.store.now) c.args.v.0 c.requires.good in
     let below = held_below (g.P.PageStore.content c.args.store.now) c.args.v.0 c.args.page c.requires.good c.requires.held in
     omega arith

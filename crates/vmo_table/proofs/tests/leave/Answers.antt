@@ -8,7 +8,7 @@ pub returns-clause-names : goal.returns-clause-names
 returns-clause-names g c = λ n apart. ap (λ (m : ℕ → Option Name). m n) c.close.ensures.names ∙ without_key-other _ c.args.name.0 n apart
 
 pub returns-clause-unknown : goal.returns-clause-unknown
-returns-clause-unknown g c = closes-unknown _ _ _ _ c.args.name.0 c.close.result c.close.ensures.vmo c.requires
+returns-clause-unknown g c = closes-unknown c.args.table.now c.close.new.self c.args.name.0 c.close.result c.close.ensures.vmo c.requires
 
 pub returns-clause-others : goal.returns-clause-others
-returns-clause-others g c = closes-others _ _ _ _ c.args.name.0 c.close.result c.args.koid c.close.ensures.vmo c.requires (search rules)
+returns-clause-others g c = closes-others c.args.table.now c.close.new.self c.args.name.0 c.close.result c.close.ensures.vmo c.requires c.args.koid (search rules)

@@ -1,11 +1,13 @@
-use Rattle.std.proofs.Common.{ap, ◌∙◌}
+use Rattle.std.proofs.Common.{sym, ap, ◌∙◌}
 use Rattle.vm_model.specs.Maps.{with_key}
 use Rattle.vmo_table.specs.declared.vmos.Vmo.{Vmo}
-use Rattle.vmo_table.specs.Vmos.{vmos_in, lineages}
-use Rattle.vmo_table.specs.Table.{Table, name_of, names_of, lineage_in}
+use Rattle.vmo_table.specs.Vmos.{lineages, keepers_in}
+use Rattle.vmo_table.specs.Table.{Table, name_of, names_of, lineage_in, keepers_of}
 use Rattle.vmo_table.proofs.EntryLaws.{names_in-put, from_ok}
-use Rattle.vmo_table.proofs.KeptLaws.{AreKept-same, AreKept-aliased, lineages-aliased, may_name}
-use Rattle.vmo_table.proofs.TableLaws.{rooms, known_there, aliases}
+use Rattle.vmo_table.proofs.KeepersLaws.{keepers-same}
+use Rattle.vmo_table.proofs.KeptLaws.{AreKept-same}
+use Rattle.vmo_table.proofs.WrittenLaws.{may_name, lineages-is_written, AreKept-written}
+use Rattle.vmo_table.proofs.TableLaws.{rooms, known_there, aliases, aliasing, keepers_kept}
 use Rattle.vmo_table.proofs.vmo_table.VmoTable.alias.Goals as goal
 
 pub index-vmo-requires : goal.index-vmo-requires
@@ -24,12 +26,11 @@ write_back-requires c =
 
 pub invariant_of-self : goal.invariant_of-self
 invariant_of-self c =
-    let aliased = aliases c.self.inside c.args.self.now c.args.name.0 c.args.target c.index-vmo.result.now c.self.view_is c.self.invariant c.requires.name c.if-prove.false c.index-vmo.ensures in
+    let written = aliasing c.self.inside c.args.self.now c.args.name.0 c.args.target c.index-vmo.result.now c.add_name.result c.self.view_is c.self.invariant c.requires.name c.if-prove.false c.index-vmo.ensures c.add_name.ensures in
     let room = rooms c.self.inside c.args.self.now c.self.view_is c.requires.room in
     let named = names_in-put c.self.inside.names.entries c.insert-named.new.self.entries c.args.name.0 c.args.target
     (from_ok c.insert-named.result (c.insert-named.ensures.succeeds room.0) c.insert-named.ensures.updates).0 in
-    let vmos = c.write_back.ensures ∙ ap (λ (x : Vmo). with_key (vmos_in c.self.inside.vmos.entries) c.args.target.koid.0 x) c.add_name.ensures in
-    record { kept = AreKept-same _ _ _ _ named vmos (AreKept-aliased _ _ _ _ _ aliased) }
+    record { kept = AreKept-same _ _ _ _ named c.write_back.ensures (AreKept-written _ _ _ _ _ written) }
 
 pub returns-clause-names : goal.returns-clause-names
 returns-clause-names c =
@@ -40,6 +41,11 @@ returns-clause-names c =
 
 pub returns-clause-lineage : goal.returns-clause-lineage
 returns-clause-lineage c =
-    let aliased = aliases c.self.inside c.args.self.now c.args.name.0 c.args.target c.index-vmo.result.now c.self.view_is c.self.invariant c.requires.name c.if-prove.false c.index-vmo.ensures in
-    let vmos = c.write_back.ensures ∙ ap (λ (x : Vmo). with_key (vmos_in c.self.inside.vmos.entries) c.args.target.koid.0 x) c.add_name.ensures in
-    ap lineages vmos ∙ (lineages-aliased _ _ _ _ _ aliased ∙ ap lineage_in c.self.view_is)
+    let written = aliasing c.self.inside c.args.self.now c.args.name.0 c.args.target c.index-vmo.result.now c.add_name.result c.self.view_is c.self.invariant c.requires.name c.if-prove.false c.index-vmo.ensures c.add_name.ensures in
+    ap lineages c.write_back.ensures ∙ (lineages-is_written _ _ _ _ _ written ∙ ap lineage_in c.self.view_is)
+
+pub returns-clause-keepers : goal.returns-clause-keepers
+returns-clause-keepers c =
+    let koid = c.args.target.koid.0 in
+    let same = keepers_kept c.self.inside koid c.index-vmo.result.now c.index-vmo.ensures ∙ sym (ap (λ (x : Vmo). x.keepers) c.add_name.ensures) in
+    ap keepers_in c.write_back.ensures ∙ (keepers-same _ koid c.add_name.result same ∙ ap keepers_of c.self.view_is)

@@ -6,19 +6,20 @@ use Rattle.vm_model.specs.declared.names.NameKind.TheVariants.{Owner}
 use Rattle.vm_model.specs.declared.names.Origin.{Origin}
 use Rattle.vmo_table.specs.declared.target.Target.{Target}
 use Rattle.vmo_table.specs.declared.vmos.Vmo.{Vmo}
-use Rattle.vmo_table.specs.Vmos.{koid_number, lineage_of_vmo, lineages, adopted}
-use Rattle.vmo_table.specs.Table.{Table, name_of, names_of, lineage_in}
+use Rattle.vmo_table.specs.Vmos.{koid_number, lineage_of_vmo, lineages, keepers_in, adopted}
+use Rattle.vmo_table.specs.Table.{Table, name_of, names_of, lineage_in, keepers_of}
 use Rattle.vmo_table.proofs.EntryLaws.{names_in-put, vmos_in-put, from_ok}
+use Rattle.vmo_table.proofs.KeepersLaws.{keepers-same, keepers-adopted}
 use Rattle.vmo_table.proofs.KeptLaws.{AreKept-entered, AreKept-same, entered_fits}
 use Rattle.vmo_table.proofs.VmosLaws.{lineages-adopted, lineages-with_key}
-use Rattle.vmo_table.proofs.TableLaws.{rooms, enters}
+use Rattle.vmo_table.proofs.TableLaws.{rooms, enters, keepers_unknown}
 use Rattle.vmo_table.proofs.vmo_table.VmoTable.enter.Goals as goal
 
 abbrev target : Koid → Bool → Bool → Target
 target koid may_write resizable = record { koid = koid; first = 0; limit = None; kind = Owner; may_write = may_write; may_resize = resizable }
 
 abbrev vmo : Bool → Origin → Option Koid → Vmo
-vmo resizable origin parent = record { resizable = resizable; origin = origin; parent = parent; names = 1; slices = 0; references = 0; children = 0 }
+vmo resizable origin parent = record { resizable = resizable; origin = origin; parent = parent; names = 1; slices = 0; references = 0; children = 0; keepers = 0 }
 
 pub count_children-requires : goal.count_children-requires
 count_children-requires c = λ v old hit e.
@@ -57,3 +58,11 @@ returns-clause-lineage c =
     let kept = vmos_in-put c.self.inside.vmos.entries c.insert-kept.new.self.entries c.args.koid.0 new (from_ok c.insert-kept.result (c.insert-kept.ensures.succeeds room.1) c.insert-kept.ensures.updates).0 in
     ap lineages c.count_children.ensures ∙ (lineages-adopted _ _ 0 1 ∙ (ap lineages kept ∙ (lineages-with_key _ _ new
     ∙ ap (λ (m : Table). with_key (lineage_in m) c.args.koid.0 (lineage_of_vmo new)) c.self.view_is)))
+
+pub returns-clause-keepers : goal.returns-clause-keepers
+returns-clause-keepers c =
+    let new = vmo c.args.resizable c.args.origin c.args.parent in
+    let room = rooms c.self.inside c.args.self.now c.self.view_is c.requires.room in
+    let kept = vmos_in-put c.self.inside.vmos.entries c.insert-kept.new.self.entries c.args.koid.0 new (from_ok c.insert-kept.result (c.insert-kept.ensures.succeeds room.1) c.insert-kept.ensures.updates).0 in
+    let free = keepers_unknown c.self.inside c.args.self.now c.args.koid.0 c.self.view_is c.requires.koid in
+    ap keepers_in c.count_children.ensures ∙ (keepers-adopted _ _ 0 1 ∙ (ap keepers_in kept ∙ (keepers-same _ c.args.koid.0 new free ∙ ap keepers_of c.self.view_is)))

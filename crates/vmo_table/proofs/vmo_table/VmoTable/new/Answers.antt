@@ -1,4 +1,5 @@
 use Rattle.vmo_table.proofs.EntryLaws.{names_in-empty, vmos_in-empty, lineages-empty}
+use Rattle.vmo_table.proofs.KeepersLaws.{keepers_none}
 use Rattle.vmo_table.proofs.KeptLaws.{AreKept-empty}
 use Rattle.vmo_table.specs.Vmos.{vmos_in}
 use Rattle.vmo_table.specs.Table.{names_in}
@@ -15,3 +16,6 @@ returns-clause-names c = names_in-empty c.new.result.entries c.new.ensures.empty
 
 pub returns-clause-lineage : goal.returns-clause-lineage
 returns-clause-lineage c = lineages-empty c.new-2.result.entries c.new-2.ensures.empty
+
+pub returns-clause-keepers : goal.returns-clause-keepers
+returns-clause-keepers c = λ v. keepers_none (vmos_in c.new-2.result.entries) v (vmos_in-empty c.new-2.result.entries c.new-2.ensures.empty v)

@@ -1,7 +1,7 @@
 use Rattle.std.proofs.Common.{ℕ, Option, ap, ◌∙◌}
 use Rattle.vmo_table.specs.declared.vmos.Vmo.{Vmo}
-use Rattle.vmo_table.specs.Vmos.{lineages}
-use Rattle.vmo_table.specs.Table.{names_of, lineage_in}
+use Rattle.vmo_table.specs.Vmos.{lineages, keepers_in}
+use Rattle.vmo_table.specs.Table.{names_of, lineage_in, keepers_of}
 use Rattle.vmo_table.proofs.EntryLaws.{names_in-same, vmos_in-same}
 use Rattle.vmo_table.proofs.KeptLaws.{AreKept-same}
 use Rattle.vmo_table.proofs.vmo_table.VmoTable.reserve.Goals as goal
@@ -29,3 +29,7 @@ returns-clause-names c =
 pub returns-clause-lineage : goal.returns-clause-lineage
 returns-clause-lineage c =
     ap (λ (m : ℕ → Option Vmo). lineages m) (vmos_in-same c.self.inside.vmos.entries c.reserve-2.new.self.entries c.reserve-2.ensures.entries.2) ∙ ap lineage_in c.self.view_is
+
+pub returns-clause-keepers : goal.returns-clause-keepers
+returns-clause-keepers c =
+    ap (λ (m : ℕ → Option Vmo). keepers_in m) (vmos_in-same c.self.inside.vmos.entries c.reserve-2.new.self.entries c.reserve-2.ensures.entries.2) ∙ ap keepers_of c.self.view_is

@@ -1,0 +1,428 @@
+-- Laws of what each kind of change keeps: a good state stays good.
+use Rattle.std.proofs.Common.{◌≡◌, ◌≢◌, ℕ, ◌+◌, ◌-◌, ◌*◌, ◌/◌, ◌%◌, ◌<◌, ◌≤◌, Bool, true, false, not, List, length, Option, None, Some, refl, sym, ap, subst, ◌∙◌, inl, inr, arith}
+use Rattle.std.specs.Prelude.{unwrap_or, IsSome, is_some}
+use Rattle.std.proofs.lemmas.Bool.{cases_eq, cases_lt, or_cases, or_left, or_right, both_ways}
+use Rattle.std.proofs.Math.Nat.{min-le_left}
+use Rattle.vm_base.specs.declared.pages.TheConstants.{PAGE, VMO_PAGES}
+use Rattle.vm_model.specs.declared.names.Origin.TheVariants.{Created, Snapshot}
+use Rattle.vm_model.specs.Content.{Content, created, pages_of, sole, IsGood}
+use Rattle.vm_model.specs.Owning.{OwnsAll}
+use Rattle.vm_model.specs.Sharing.{snapshotted}
+use Rattle.vm_model.specs.Writing.{touched, pieces, Writes}
+use Rattle.vm_model.specs.Zeroing.{zeroed, resized, Zeroes}
+use Rattle.vm_model.specs.Maps.{with_key}
+use Rattle.vm_model.specs.Names.{Name, Lineage, NAMES, owner, is_named}
+use Rattle.vm_model.specs.Pins.{Pin, has_pin, covers, is_pinned, any_pinned}
+use Rattle.vm_model.specs.State.{State, is_open, is_live, target_of, lineage_of, name_pages, IsGoodName, IsGoodPin, IsGoodState}
+use Rattle.vm_model.specs.Leaving.{pruned}
+use Rattle.vm_model.specs.Step.{with_vmo, seen_pages, with_snapshot, slice_of, reference_of, with_alias, ChangesContent}
+use Rattle.vm_model.proofs.ContentLaws.{count-created_new, count-created_other, next-created, frames-created, IsGood-created, sole_held}
+use Rattle.vm_model.proofs.SharingLaws.{count-snapshotted_new, count-snapshotted_other, next-snapshotted, frames-snapshotted, IsGood-snapshotted, koid_some}
+use Rattle.vm_model.proofs.ZeroingLaws.{cases_within, frames-resized, next-resized, count-resized_here, count-resized_other, pages_of-resized_here, IsGood-resized}
+use Rattle.vm_model.proofs.WritingLaws.{IsKept, Writes-keeps_all}
+use Rattle.vm_model.proofs.CommitLaws.{OwnsAll-keeps_all}
+use Rattle.vm_model.proofs.ZeroesLaws.{zeroed-keeps, Zeroes-keeps_all}
+use Rattle.vm_model.proofs.SoleLaws.{KeepsSole, KeepsSole-Writes_all, KeepsSole-OwnsAll_all, KeepsSole-Zeroes, OwnsAll-alone_pages, sole-created_kept, sole-snapshotted_kept, sole-zeroed_kept, sole-resized_kept}
+use Rattle.vm_model.proofs.MapLaws.{with_key-same, with_key-other, with_key-cases}
+use Rattle.vm_model.proofs.NamesLaws.{is_named-with_key_new, is_named-with_key_kept, names-open, lineage_of-at, lineage_of-same}
+use Rattle.vm_model.proofs.PinLaws.{covers_at, covers_found, has_pin_at, has_pin-with_key_kept, is_pinned_found, is_pinned_at, any_pinned_at}
+use Rattle.vm_model.proofs.LeavingLaws.{lineage_at, count_at, IsGoodName-same, Loosens, unnamed, unpinned, Loosens-unnamed, Loosens-unpinned, IsGoodState-pruned, next-pruned, frames-pruned}
+
+-- ---- what a step keeps
+
+-- new is good, has at most one koid more than old, and has its frames
+pub record Keeps (old new : State) : Type 0 where
+  pub good : IsGoodState new
+  pub next : new.content.next ≤ old.content.next + 1
+  pub frames : new.content.frames ≡ old.content.frames
+
+-- where nothing changes
+pub Keeps-same : (old new : State) → IsGoodState old → new ≡ old → Keeps old new
+Keeps-same old new good e = subst (Keeps old) (sym e) (record { good = good; next = omega arith; frames = refl })
+
+-- a VMO with a lineage is older than the next
+pub lineage_below : (s : State) (v : ℕ) → IsGoodState s → IsSome (s.lineage v) → v < s.content.next
+lineage_below s v good h = koid_some s.content v good.content (count_at s v good h)
+
+-- a VMO stays live where names and pins of it stay
+live_kept : (old new : State) (v : ℕ) → (is_named old.names v ≡ true → is_named new.names v ≡ true) → (has_pin old.pins v ≡ true → has_pin new.pins v ≡ true) → is_live old v ≡ true → is_live new v ≡ true
+live_kept old new v names pins e = elim (or_cases (is_named old.names v) (has_pin old.pins v) e) [
+  | inl named ↦ or_left (is_named new.names v) (has_pin new.pins v) (names named)
+  | inr pinned ↦ or_right (is_named new.names v) (has_pin new.pins v) (pins pinned)
+]
+
+-- a name is as good in a state with the same counts and lineage
+IsGoodName-kept : (old new : State) (target : Name) → new.content.count ≡ old.content.count → new.lineage ≡ old.lineage → IsGoodName old target → IsGoodName new target
+IsGoodName-kept old new target count lineage good =
+    IsGoodName-same old new target (ap (λ (f : ℕ → Option ℕ). f target.koid) count)
+    (ap (λ (l : Lineage). l.resizable) (lineage_of-same new old target.koid (ap (λ (f : ℕ → Option Lineage). f target.koid) lineage))) good
+
+-- ---- what keeps pins good
+
+-- each page that is pinned and sole is sole afterwards
+pub record KeepsPinned (pins : ℕ → Option Pin) (old new : Content) : Type 0 where
+  pub keeps : (w q : ℕ) → is_pinned pins w q ≡ true → sole old w q ≡ true → sole new w q ≡ true
+
+-- it is, where each sole page stays so
+pub KeepsPinned-from : (pins : ℕ → Option Pin) (old new : Content) → KeepsSole old new → KeepsPinned pins old new
+KeepsPinned-from pins old new all = record { keeps = λ w q pinned alone. all.keeps w q alone }
+
+-- a page of a pin is pinned
+pin_pages : (pins : ℕ → Option Pin) (n p : ℕ) (pin : Pin) → n < NAMES → pins n ≡ Some pin → pin.first ≤ p → p < pin.first + pin.count → is_pinned pins pin.koid p ≡ true
+pin_pages pins n p pin h e low high = is_pinned_at pins pin.koid p n h (ap (covers pin.koid p) e ∙ covers_at pin.koid p pin refl low high)
+
+-- the VMO of a pinned page has a pin
+pub is_pinned-has_pin : (pins : ℕ → Option Pin) (v p : ℕ) → is_pinned pins v p ≡ true → has_pin pins v ≡ true
+is_pinned-has_pin pins v p e =
+    let found = is_pinned_found pins v p e in
+    let pin = covers_found v p (pins found.0) found.2 in
+    has_pin_at pins v found.0 pin.0 found.1 pin.1 pin.2
+
+module _ (old new : State) (good : IsGoodState old) (kept : KeepsPinned old.pins old.content new.content) where
+  -- a pin stays good where its pages are still pages of its VMO
+  pub IsGoodPin-inside : (n : ℕ) (pin : Pin) → old.pins n ≡ Some pin → IsSome (new.content.count pin.koid) → pin.first + pin.count ≤ pages_of new.content pin.koid → (n < NAMES) × IsGoodPin new pin
+  IsGoodPin-inside n pin e vmo inside =
+      let was = good.pins n pin e in (
+        was.0,
+        record {
+          vmo = vmo;
+          few = was.1.few;
+          inside = inside;
+          alone = λ p low high. kept.keeps pin.koid p (pin_pages old.pins n p pin was.0 e low high) (was.1.alone p low high);
+        },
+      )
+
+  -- so it does where its VMO has as many pages
+  pub IsGoodPin-kept : (n : ℕ) (pin : Pin) → old.pins n ≡ Some pin → new.content.count pin.koid ≡ old.content.count pin.koid → (n < NAMES) × IsGoodPin new pin
+  unfolding pages_of
+  IsGoodPin-kept n pin e count =
+      let was = (good.pins n pin e).1 in
+      let pages : pages_of new.content pin.koid ≡ pages_of old.content pin.koid = ap (λ (o : Option ℕ). unwrap_or o 0) count in
+      IsGoodPin-inside n pin e (ap is_some count ∙ was.vmo) (omega (arith, was.inside, pages))
+
+-- ---- a VMO more
+
+-- A name that is not open, given to a VMO that is new. The parent of the VMO, where it has one, is a VMO
+pub enter_keeps : (old : State) (c : Content) (name pages : ℕ) (may_write : Bool) (l : Lineage) → IsGoodState old → name < NAMES → is_open old name ≡ false
+    → IsGood c → c.count old.content.next ≡ Some pages → ((v : ℕ) → v ≢ old.content.next → c.count v ≡ old.content.count v)
+    → c.next ≡ old.content.next + 1 → c.frames ≡ old.content.frames → KeepsPinned old.pins old.content c → ((p : ℕ) → l.parent ≡ Some p → IsSome (old.lineage p))
+    → Keeps old (record old { content = c; names = with_key old.names name (owner old.content.next may_write l.resizable); lineage = with_key old.lineage old.content.next l })
+enter_keeps old c name pages may_write l good h closed fine new_count other_count next frames pinned parent =
+    let koid = old.content.next in
+    let fresh : Name = owner koid may_write l.resizable in
+    let state : State = record old { content = c; names = with_key old.names name fresh; lineage = with_key old.lineage koid l } in
+    let older : (v : ℕ) → IsSome (old.lineage v) → v ≢ koid = λ v there. let below = lineage_below old v good there in omega (arith, below) in
+    let kept : (v : ℕ) → IsSome (old.lineage v) → IsSome (with_key old.lineage koid l v) = λ v there. ap is_some (with_key-other old.lineage koid l v (older v there)) ∙ there in
+    let fresh_good : IsGoodName state fresh = record {
+      vmo = ap is_some new_count;
+      whole = λ e. refl;
+      part = λ n e. absurd cc;
+      resize = λ e. ap (λ (k : Lineage). k.resizable) (lineage_of-at state koid l (with_key-same old.lineage koid l)) ∙ e;
+    } in
+    record {
+      good = record {
+        content = fine;
+        names = λ n target e. elim (with_key-cases old.names name fresh n target e) [
+          | inl new ↦ (subst (λ (m : ℕ). m < NAMES) (sym new.0) h, subst (IsGoodName state) new.1 fresh_good)
+          | inr was ↦
+              let before = good.names n target was.1 in
+              let apart : target.koid ≢ koid = older target.koid (lineage_at old target.koid good before.1.vmo) in (
+                before.0,
+                IsGoodName-same old state target (other_count target.koid apart)
+                    (ap (λ (k : Lineage). k.resizable) (lineage_of-same state old target.koid (with_key-other old.lineage koid l target.koid apart))) before.1,
+              )
+        ];
+        known = λ v. elim (cases_eq v koid) [
+          | inl same ↦
+              ap (λ (u : ℕ). is_some (with_key old.lineage koid l u)) same
+              ∙ (ap is_some (with_key-same old.lineage koid l) ∙ sym (ap (λ (u : ℕ). is_some (c.count u)) same ∙ ap is_some new_count))
+          | inr apart ↦ ap is_some (with_key-other old.lineage koid l v apart) ∙ (good.known v ∙ ap is_some (sym (other_count v apart)))
+        ];
+        live = λ v e. elim (cases_eq v koid) [
+          | inl same ↦ ap (is_live state) same ∙ or_left (is_named state.names koid) (has_pin state.pins koid) (is_named-with_key_new old.names name fresh h)
+          | inr apart ↦
+              live_kept old state v (λ named. is_named-with_key_kept old.names name fresh v closed named) (λ has. has)
+              (good.live v (ap is_some (sym (with_key-other old.lineage koid l v apart)) ∙ e))
+        ];
+        parents = λ v p k e f. elim (with_key-cases old.lineage koid l v k e) [
+          | inl new ↦
+              let there = parent p (ap (λ (j : Lineage). j.parent) new.1 ∙ f) in
+              let below = lineage_below old p good there in
+              (omega (arith, below, new.0), kept p there)
+          | inr was ↦ let before = good.parents v p k was.1 f in (before.0, kept p before.1)
+        ];
+        pins = λ n pin e.
+            let apart : pin.koid ≢ koid = older pin.koid (lineage_at old pin.koid good (good.pins n pin e).1.vmo) in
+            IsGoodPin-kept old state good pinned n pin e (other_count pin.koid apart);
+      };
+      next = omega (arith, next);
+      frames = frames;
+    }
+
+-- a new VMO, under a name that is not open
+pub create_keeps : (old : State) (name pages : ℕ) (resizable : Bool) → IsGoodState old → name < NAMES → is_open old name ≡ false → pages ≤ VMO_PAGES → Keeps old (with_vmo old name pages resizable)
+unfolding with_vmo
+create_keeps old name pages resizable good h closed few =
+    let c = old.content in
+    enter_keeps old (created c pages) name pages true (record { resizable = resizable; origin = Created; parent = None }) good h closed
+    (IsGood-created c pages good.content few) (count-created_new c pages) (λ v apart. count-created_other c pages v apart) (next-created c pages) (frames-created c pages)
+    (record { keeps = λ w q pinned alone. sole-created_kept c pages w q good.content alone }) (λ p e. absurd cc)
+
+-- a snapshot sees no more pages than it has
+pub seen_le : (c : Content) (target : Name) (start pages : ℕ) → seen_pages c target start pages ≤ pages
+seen_le c target start pages = min-le_left pages (name_pages c target - start)
+
+-- a snapshot of what a name stands for, under a name that is not open. No pin is of the VMO of which it is one
+pub snapshot_keeps : (old : State) (name : ℕ) (target : Name) (start pages : ℕ) (resizable no_write : Bool) → IsGoodState old → name < NAMES → is_open old name ≡ false → IsSome (old.content.count target.koid) → has_pin old.pins target.koid ≡ false → pages ≤ VMO_PAGES → Keeps old (with_snapshot old name target start pages resizable no_write)
+unfolding with_snapshot
+snapshot_keeps old name target start pages resizable no_write good h closed vmo free few =
+    let c = old.content in
+    let first = target.first + start in
+    let seen = seen_pages c target start pages in
+    let l : Lineage = record { resizable = resizable; origin = Snapshot; parent = Some target.koid } in
+    let elsewhere : (w q : ℕ) → is_pinned old.pins w q ≡ true → w ≢ target.koid = λ w q pinned same.
+    both_ways (has_pin old.pins target.koid) free (ap (has_pin old.pins) (sym same) ∙ is_pinned-has_pin old.pins w q pinned) in
+    enter_keeps old (snapshotted c target.koid first seen pages) name pages (not no_write) l good h closed
+    (IsGood-snapshotted c target.koid first seen pages good.content (seen_le c target start pages) few)
+    (count-snapshotted_new c target.koid first seen pages) (λ v apart. count-snapshotted_other c target.koid first seen pages v apart)
+    (next-snapshotted c target.koid first seen pages) (frames-snapshotted c target.koid first seen pages)
+    (record { keeps = λ w q pinned alone. sole-snapshotted_kept c target.koid first seen pages w q good.content (elsewhere w q pinned) alone })
+    (λ p e. let is : target.koid ≡ p = cc in subst (λ (v : ℕ). IsSome (old.lineage v)) is (lineage_at old target.koid good vmo))
+
+-- ---- a name more
+
+-- one name more of a VMO that is there, under a number that is not open
+pub alias_keeps : (old : State) (name : ℕ) (target : Name) → IsGoodState old → name < NAMES → is_open old name ≡ false → IsGoodName old target → Keeps old (with_alias old name target)
+unfolding with_alias
+alias_keeps old name target good h closed fine =
+    let state : State = record old { names = with_key old.names name target } in
+    record {
+      good = record {
+        content = good.content;
+        names = λ n other e. elim (with_key-cases old.names name target n other e) [
+          | inl new ↦ (subst (λ (m : ℕ). m < NAMES) (sym new.0) h, IsGoodName-kept old state other refl refl (subst (IsGoodName old) new.1 fine))
+          | inr was ↦ let before = good.names n other was.1 in (before.0, IsGoodName-kept old state other refl refl before.1)
+        ];
+        known = good.known;
+        live = λ v e. live_kept old state v (λ named. is_named-with_key_kept old.names name target v closed named) (λ has. has) (good.live v e);
+        parents = good.parents;
+        pins = λ n pin e. IsGoodPin-kept old state good (record { keeps = λ w q pinned alone. alone }) n pin e refl;
+      };
+      next = omega arith;
+      frames = refl;
+    }
+
+-- A part of what a good name stands for is a good name, where the VMO keeps its size and the part lies inside the name
+pub slice_good : (s : State) (target : Name) (start pages : ℕ) (no_write : Bool) → IsGoodName s target → (lineage_of s target.koid).resizable ≡ false → start + pages ≤ name_pages s.content target → IsGoodName s (slice_of target start pages no_write)
+slice_good s target start pages no_write good fixed inside = record {
+  vmo = good.vmo;
+  whole = λ e. absurd cc;
+  part = λ n e. let is : pages ≡ n = cc in (refl, fixed, subst (λ (m : ℕ). target.first + start + m ≤ pages_of s.content target.koid) is (go target.limit refl inside));
+  resize = λ e. absurd cc;
+} where
+  go : (o : Option ℕ) → target.limit ≡ o → start + pages ≤ unwrap_or o (pages_of s.content target.koid) → target.first + start + pages ≤ pages_of s.content target.koid
+  go None e l = omega (arith, good.whole e)
+  go (Some n) e l = omega (arith, (good.part n e).2)
+
+-- Another name of all of a good name's VMO is good, where it may change the size only if that name may
+pub reference_good : (s : State) (target : Name) (resizable no_write : Bool) → IsGoodName s target → (resizable ≡ true → target.may_resize ≡ true) → IsGoodName s (reference_of target resizable no_write)
+reference_good s target resizable no_write good may = record {
+  vmo = good.vmo;
+  whole = λ e. refl;
+  part = λ n e. absurd cc;
+  resize = λ e. good.resize (may e);
+}
+
+-- ---- a name or a pin less
+
+-- less that keeps a VMO, which may leave
+pub loose_keeps : (old less : State) (v : ℕ) → IsGoodState old → Loosens old less v → Keeps old (pruned less)
+loose_keeps old less v good loose = record {
+  good = IsGoodState-pruned old less v good loose;
+  next = let same : less.content.next ≡ old.content.next = ap (λ (c : Content). c.next) loose.content in omega (arith, next-pruned less, same);
+  frames = frames-pruned less ∙ ap (λ (c : Content). c.frames) loose.content;
+}
+
+-- a name that is closed
+pub close_keeps : (old : State) (name : ℕ) → IsGoodState old → is_open old name ≡ true → Keeps old (pruned (unnamed old name))
+close_keeps old name good open_name =
+    let target = target_of old name in
+    loose_keeps old (unnamed old name) target.koid good (Loosens-unnamed old name target good (names-open old name open_name))
+
+-- a pin that is taken off
+pub unpin_keeps : (old : State) (name : ℕ) (pin : Pin) → IsGoodState old → old.pins name ≡ Some pin → Keeps old (pruned (unpinned old name))
+unpin_keeps old name pin good there = loose_keeps old (unpinned old name) pin.koid good (Loosens-unpinned old name pin good there)
+
+-- ---- other pages of the same VMOs
+
+-- a content with the same VMOs, under the same names
+pub kept_keeps : (old new : State) → IsGoodState old → new.names ≡ old.names → new.lineage ≡ old.lineage → new.pins ≡ old.pins → IsKept old.content new.content → KeepsPinned old.pins old.content new.content → Keeps old new
+kept_keeps old new good names lineage pins kept pinned = record {
+  good = record {
+    content = kept.good;
+    names = λ n target e. let was = good.names n target (ap (λ (f : ℕ → Option Name). f n) (sym names) ∙ e) in (was.0, IsGoodName-kept old new target kept.count lineage was.1);
+    known = λ v. ap (λ (f : ℕ → Option Lineage). is_some (f v)) lineage ∙ (good.known v ∙ ap (λ (f : ℕ → Option ℕ). is_some (f v)) (sym kept.count));
+    live = λ v h.
+        live_kept old new v (λ named. ap (λ (f : ℕ → Option Name). is_named f v) names ∙ named) (λ has. ap (λ (f : ℕ → Option Pin). has_pin f v) pins ∙ has)
+        (good.live v (ap (λ (f : ℕ → Option Lineage). is_some (f v)) (sym lineage) ∙ h));
+    parents = λ v p l e f.
+        let was = good.parents v p l (ap (λ (g : ℕ → Option Lineage). g v) (sym lineage) ∙ e) f in
+        (was.0, ap (λ (g : ℕ → Option Lineage). is_some (g p)) lineage ∙ was.1);
+    pins = λ n pin e. IsGoodPin-kept old new good pinned n pin (ap (λ (f : ℕ → Option Pin). f n) (sym pins) ∙ e) (ap (λ (f : ℕ → Option ℕ). f pin.koid) kept.count);
+  };
+  next = omega (arith, kept.next);
+  frames = kept.frames;
+}
+
+-- the same, where nothing but the content changes
+pub change_keeps : (old new : State) → IsGoodState old → ChangesContent old new → IsKept old.content new.content → KeepsPinned old.pins old.content new.content → Keeps old new
+change_keeps old new good change kept pinned =
+    kept_keeps old new good (ap (λ (s : State). s.names) change) (ap (λ (s : State). s.lineage) change) (ap (λ (s : State). s.pins) change) kept pinned
+
+-- pages written inside a VMO
+pub write_keeps : (old new : State) (v offset : ℕ) (bytes : List ℕ) → IsGoodState old → offset + length bytes ≤ pages_of old.content v * PAGE → ChangesContent old new → Writes old.content v (pieces offset bytes) new.content → Keeps old new
+write_keeps old new v offset bytes good h change writes =
+    change_keeps old new good change (Writes-keeps_all v offset bytes old.content new.content good.content h writes)
+    (KeepsPinned-from old.pins old.content new.content (KeepsSole-Writes_all v offset bytes old.content new.content good.content h writes))
+
+-- pages owned inside a VMO
+pub commit_keeps : (old new : State) (v offset len : ℕ) → IsGoodState old → offset + len ≤ pages_of old.content v * PAGE → ChangesContent old new → OwnsAll old.content v (touched offset len) new.content → Keeps old new
+commit_keeps old new v offset len good h change owns =
+    change_keeps old new good change (OwnsAll-keeps_all v offset len old.content new.content good.content h owns)
+    (KeepsPinned-from old.pins old.content new.content (KeepsSole-OwnsAll_all v offset len old.content new.content good.content h owns))
+
+-- a range zeroed inside a VMO, of which no pinned page becomes zero as a whole
+pub zero_range_keeps : (old new : State) (v offset len : ℕ) → IsGoodState old → offset + len ≤ pages_of old.content v * PAGE → ChangesContent old new → Zeroes old.content v (is_pinned old.pins v) offset len (touched offset len) new.content → Keeps old new
+zero_range_keeps old new v offset len good h change zeroes =
+    change_keeps old new good change (Zeroes-keeps_all v (is_pinned old.pins v) offset len old.content new.content good.content h zeroes) (record {
+      keeps = λ w q pinned alone.
+          KeepsSole-Zeroes v (is_pinned old.pins v) offset len old.content new.content good.content h zeroes w q alone
+          (λ same. ap (λ (u : ℕ). is_pinned old.pins u q) (sym same) ∙ pinned);
+    })
+
+-- pages that become zero, none of them pinned
+pub zero_keeps : (old : State) (v first end : ℕ) → IsGoodState old → any_pinned old.pins v first end ≡ false → Keeps old (record old { content = zeroed old.content v first end })
+zero_keeps old v first end good free =
+    change_keeps old (record old { content = zeroed old.content v first end }) good refl (zeroed-keeps old.content v first end good.content) (record {
+      keeps = λ w q pinned alone. sole-zeroed_kept old.content v first end w q good.content alone (elim (cases_eq w v) [
+        | inr apart ↦ inl apart
+        | inl same ↦ elim (cases_within first end q) [
+          | inr outside ↦ inr outside
+          | inl inside ↦
+              absurd (both_ways (any_pinned old.pins v first end) free (any_pinned_at old.pins v first end q inside.0 inside.1 (ap (λ (u : ℕ). is_pinned old.pins u q) (sym same) ∙ pinned)))
+        ]
+      ]);
+    })
+
+-- ---- a pin more
+
+-- one pin more of a good state, under a number that is free
+pub IsGoodState-pinned : (s : State) (n : ℕ) (pin : Pin) → IsGoodState s → n < NAMES → s.pins n ≡ None → IsGoodPin s pin → IsGoodState (record s { pins = with_key s.pins n pin })
+IsGoodState-pinned s n pin good h free fine =
+    let state : State = record s { pins = with_key s.pins n pin } in
+    let same : (other : Pin) → IsGoodPin s other → IsGoodPin state other = λ other was. record { vmo = was.vmo; few = was.few; inside = was.inside; alone = was.alone } in
+    record {
+      content = good.content;
+      names = λ m target e. let was = good.names m target e in (was.0, IsGoodName-kept s state target refl refl was.1);
+      known = good.known;
+      live = λ v e. live_kept s state v (λ named. named) (λ has. has_pin-with_key_kept s.pins n pin v free has) (good.live v e);
+      parents = good.parents;
+      pins = λ m other e. elim (with_key-cases s.pins n pin m other e) [
+        | inl new ↦ (subst (λ (k : ℕ). k < NAMES) (sym new.0) h, same other (subst (IsGoodPin s) new.1 fine))
+        | inr was ↦ let before = good.pins m other was.1 in (before.0, same other before.1)
+      ];
+    }
+
+-- whole pages owned inside a VMO, and pinned under a number that is free
+pub pin_keeps : (old new : State) (n v offset len : ℕ) → IsGoodState old → n < NAMES → old.pins n ≡ None → IsSome (old.content.count v)
+    → offset % PAGE ≡ 0 → len % PAGE ≡ 0 → 0 < len → len ≤ 256 * PAGE → offset + len ≤ pages_of old.content v * PAGE
+    → new ≡ record old { content = new.content; pins = with_key old.pins n (record { koid = v; first = offset / PAGE; count = len / PAGE }) }
+    → OwnsAll old.content v (touched offset len) new.content → Keeps old new
+pin_keeps old new n v offset len good h free vmo begins whole some few inside is owns =
+    let pin : Pin = record { koid = v; first = offset / PAGE; count = len / PAGE } in
+    let owned : State = record old { content = new.content } in
+    let kept = OwnsAll-keeps_all v offset len old.content new.content good.content inside owns in
+    let then_good = (commit_keeps old owned v offset len good inside refl owns).good in
+    let fine : IsGoodPin owned pin = record {
+      vmo = ap (λ (f : ℕ → Option ℕ). is_some (f v)) kept.count ∙ vmo;
+      few = (omega arith, omega arith);
+      inside = omega (arith, kept.pages v);
+      alone = λ p low high. OwnsAll-alone_pages v offset len old.content new.content good.content inside owns p begins whole low high;
+    } in
+    record {
+      good = subst IsGoodState (sym is) (IsGoodState-pinned owned n pin then_good h free fine);
+      next = omega (arith, kept.next);
+      frames = kept.frames;
+    }
+
+-- ---- a change of size
+
+-- no name of a VMO that may change its size is a name of a part
+pub no_part : (s : State) (target : Name) (n : ℕ) → IsGoodName s target → (lineage_of s target.koid).resizable ≡ true → target.limit ≢ Some n
+no_part s target n good changes e = both_ways (lineage_of s target.koid).resizable (good.part n e).1 changes
+
+-- where no page past a new end is pinned, a pinned page lies below it
+pinned_below : (s : State) (v pages p : ℕ) → IsGoodState s → any_pinned s.pins v pages (pages_of s.content v) ≡ false → p < pages_of s.content v → is_pinned s.pins v p ≡ true → p < pages
+pinned_below s v pages p good free inside pinned = elim (cases_lt p pages) [
+  | inl below ↦ below
+  | inr past ↦ absurd (both_ways (any_pinned s.pins v pages (pages_of s.content v)) free (any_pinned_at s.pins v pages (pages_of s.content v) p past inside pinned))
+]
+
+-- So a VMO of which a name may change its size takes any size that a VMO can have, where no page past the new end is pinned
+pub resize_keeps : (old : State) (name : ℕ) (target : Name) (pages : ℕ) → IsGoodState old → old.names name ≡ Some target → target.may_resize ≡ true → pages ≤ VMO_PAGES → any_pinned old.pins target.koid pages (pages_of old.content target.koid) ≡ false → Keeps old (record old { content = resized old.content target.koid pages })
+resize_keeps old name target pages good open_name may few free =
+    let c = old.content in
+    let v = target.koid in
+    let state : State = record old { content = resized c v pages } in
+    let fine = (good.names name target open_name).1 in
+    let counted : IsSome (state.content.count v) = ap is_some (count-resized_here c v pages) in
+    let lineage : (w : ℕ) → (lineage_of state w).resizable ≡ (lineage_of old w).resizable = λ w. ap (λ (l : Lineage). l.resizable) (lineage_of-same state old w refl) in
+    let below : (q : ℕ) → q < pages_of c v → is_pinned old.pins v q ≡ true → q < pages = λ q inside pinned. pinned_below old v pages q good free inside pinned in
+    let kept : KeepsPinned old.pins c state.content = record {
+      keeps = λ w q pinned alone.
+          let held = sole_held c w q alone in
+          sole-resized_kept c v pages w q good.content
+          (λ same. below q (subst (λ (u : ℕ). q < pages_of c u) same (good.content.below w q held.0 held.1)) (ap (λ (u : ℕ). is_pinned old.pins u q) (sym same) ∙ pinned)) alone;
+    } in
+    record {
+      good = record {
+        content = IsGood-resized c v pages good.content fine.vmo few;
+        names = λ n other e.
+            let was = good.names n other e in (
+              was.0,
+              elim (cases_eq other.koid v) [
+                | inl same ↦
+                    let changes : (lineage_of old other.koid).resizable ≡ true = ap (λ (w : ℕ). (lineage_of old w).resizable) same ∙ fine.resize may in
+                    record {
+                      vmo = subst (λ (w : ℕ). IsSome (state.content.count w)) (sym same) counted;
+                      whole = was.1.whole;
+                      part = λ m f. absurd (no_part old other m was.1 changes f);
+                      resize = λ f. lineage other.koid ∙ was.1.resize f;
+                    }
+                | inr apart ↦ IsGoodName-same old state other (count-resized_other c v pages other.koid apart) (lineage other.koid) was.1
+              ],
+            );
+        known = λ w. elim (cases_eq w v) [
+          | inl same ↦
+              let before : IsSome (old.lineage w) = ap (λ (u : ℕ). is_some (old.lineage u)) same ∙ lineage_at old v good fine.vmo in
+              before ∙ sym (ap (λ (u : ℕ). is_some (state.content.count u)) same ∙ counted)
+          | inr apart ↦ good.known w ∙ ap is_some (sym (count-resized_other c v pages w apart))
+        ];
+        live = good.live;
+        parents = good.parents;
+        pins = λ n pin e. elim (cases_eq pin.koid v) [
+          | inr apart ↦ IsGoodPin-kept old state good kept n pin e (count-resized_other c v pages pin.koid apart)
+          | inl same ↦
+              let was = good.pins n pin e in
+              let last = pin.first + pin.count - 1 in
+              let inside : last < pages_of c v = omega (arith, was.1.few.0, was.1.inside, ap (pages_of c) same) in
+              let pinned : is_pinned old.pins v last ≡ true =
+              subst (λ (u : ℕ). is_pinned old.pins u last ≡ true) same (pin_pages old.pins n last pin was.0 e (omega (arith, was.1.few.0)) (omega (arith, was.1.few.0))) in
+              let room = below last inside pinned in
+              IsGoodPin-inside old state good kept n pin e (subst (λ (w : ℕ). IsSome (state.content.count w)) (sym same) counted)
+              (omega (arith, was.1.few.0, room, ap (pages_of state.content) same, pages_of-resized_here c v pages))
+        ];
+      };
+      next = omega (arith, next-resized c v pages);
+      frames = frames-resized c v pages;
+    }

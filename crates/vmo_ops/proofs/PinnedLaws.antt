@@ -1,0 +1,54 @@
+-- Whether pages of a VMO are pinned, as the table of pins answers.
+use Rattle.std.proofs.Common.{◌≡◌, ℕ, ◌+◌, ◌-◌, Option, Some, Bool, true, sym, ap, ◌∙◌, inl, inr, arith}
+use Rattle.std.proofs.lemmas.Bool.{cases_Bool, cases_lt, false_from_ne_true}
+use Rattle.vm_model.specs.Content.{Content, pages_of}
+use Rattle.vm_model.specs.Pins.{Pin, has_pin, covers, any_pinned}
+use Rattle.vm_model.specs.State.{State, IsGoodState}
+use Rattle.vm_model.proofs.ContentLaws.{pages_of-at}
+use Rattle.vm_model.proofs.PinLaws.{covers_at, has_pin_found, is_pinned_at, any_pinned_found, any_pinned_at, any_pinned-empty}
+use Rattle.vm_model.proofs.KeepLaws.{is_pinned-has_pin}
+
+-- ---- all pages of a VMO
+
+-- a VMO of a good state with a pin has a page that is pinned: the first of the pin
+pinned_page : (s : State) (v : ℕ) → IsGoodState s → has_pin s.pins v ≡ true → any_pinned s.pins v 0 (pages_of s.content v) ≡ true
+pinned_page s v good e =
+    let found = has_pin_found s.pins v e in
+    let pin = found.1 in
+    let fine = (good.pins found.0 pin found.3).1 in
+    any_pinned_at s.pins v 0 (pages_of s.content v) pin.first (omega arith) (omega (arith, fine.few.0, fine.inside, ap (pages_of s.content) found.4))
+    (is_pinned_at s.pins v pin.first found.0 found.2 (ap (covers v pin.first) found.3 ∙ covers_at v pin.first pin found.4 (omega arith) (omega (arith, fine.few.0))))
+
+-- so a page of the VMO is pinned exactly where the VMO has a pin
+pinned_all : (s : State) (v : ℕ) → IsGoodState s → any_pinned s.pins v 0 (pages_of s.content v) ≡ has_pin s.pins v
+pinned_all s v good = elim (cases_Bool (has_pin s.pins v)) [
+  | inl has ↦ pinned_page s v good has ∙ sym has
+  | inr none ↦
+      false_from_ne_true (any_pinned s.pins v 0 (pages_of s.content v)) (λ e.
+      let found = any_pinned_found s.pins v 0 (pages_of s.content v) e in
+      let has = is_pinned-has_pin s.pins v found.0 found.3 in absurd cc)
+      ∙ sym none
+]
+
+-- whether a VMO has a pin, as the table answers for all pages of the VMO
+pub pinned_whole : (s : State) (v count : ℕ) (answer : Bool) → IsGoodState s → s.content.count v ≡ Some count → answer ≡ any_pinned s.pins v 0 (0 + count) → answer ≡ has_pin s.pins v
+pinned_whole s v count answer good counted is =
+    let pages : 0 + count ≡ pages_of s.content v = omega (arith, pages_of-at s.content v count counted) in
+    is ∙ (ap (any_pinned s.pins v 0) pages ∙ pinned_all s v good)
+
+-- ---- the pages from one on
+
+-- the pages that there are from one on end with the last. Differences stop at 0
+any_pinned-rest : (pins : ℕ → Option Pin) (v first end : ℕ) → any_pinned pins v first (first + (end - first)) ≡ any_pinned pins v first end
+any_pinned-rest pins v first end = elim (cases_lt first end) [
+  | inl below ↦ ap (any_pinned pins v first) (omega arith)
+  | inr past ↦ any_pinned-empty pins v first (first + (end - first)) (omega arith) ∙ sym (any_pinned-empty pins v first end (omega arith))
+]
+
+-- whether a page past a new end of a VMO is pinned, as the table answers for as many pages as are past it
+pub pinned_past : (pins : ℕ → Option Pin) (c : Content) (v pages count rest : ℕ) (answer : Bool) → c.count v ≡ Some count → rest ≡ count - pages
+    → answer ≡ any_pinned pins v pages (pages + rest) → answer ≡ any_pinned pins v pages (pages_of c v)
+pinned_past pins c v pages count rest answer counted left is =
+    is
+    ∙ (ap (λ (n : ℕ). any_pinned pins v pages (pages + n)) left
+    ∙ (any_pinned-rest pins v pages count ∙ ap (any_pinned pins v pages) (sym (pages_of-at c v count counted))))

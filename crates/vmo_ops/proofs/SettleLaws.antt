@@ -1,0 +1,84 @@
+-- Something that kept a VMO went, a name or a pin: what the table says of the VMO is what the machine does.
+use Rattle.std.proofs.Common.{◌≡◌, ℕ, true, false, Option, None, Some, inl, inr, sym, ap, subst, ◌∙◌, arith}
+use Rattle.std.specs.Prelude.{nat_lt, is_some, IsSome, IfSome, MatchOption}
+use Rattle.std.proofs.lemmas.Bool.{cases_Bool, or_cases, or_parts, ltb-true, ltb-false}
+use Rattle.vm_base.specs.declared.names.Koid.{Koid}
+use Rattle.vm_model.specs.Content.{Content}
+use Rattle.vm_model.specs.Sharing.{without}
+use Rattle.vm_model.specs.Names.{Name, Lineage, is_named, lineage_without}
+use Rattle.vm_model.specs.Pins.{pin_count, has_pin}
+use Rattle.vm_model.specs.State.{State, is_live, IsGoodState}
+use Rattle.vm_model.specs.Leaving.{pruned}
+use Rattle.vm_model.proofs.NamesLaws.{lineage-known}
+use Rattle.vm_model.proofs.PinLaws.{has_pin-count}
+use Rattle.vm_model.proofs.LeavingLaws.{Loosens, pruned-stays, pruned-leaves}
+use Rattle.vmo_table.specs.Table.{parent_of, Settles}
+
+module _ (names : ℕ → Option Name) (keepers v : ℕ) (old new : ℕ → Option Lineage) where
+  -- only the VMO itself leaves
+  pub settled_koid : (koid : Koid) → Settles names keepers v old new (Some koid) → koid.0 ≡ v
+  settled_koid koid settles = elim (cases_Bool (is_named names v)) [
+    | inl named ↦ let clash = (settles.stays (inl named)).0 in absurd cc
+    | inr unnamed ↦ elim (cases_Bool (nat_lt 0 keepers)) [
+      | inl kept ↦ let clash = (settles.stays (inr (ltb-true 0 keepers kept))).0 in absurd cc
+      | inr free ↦
+          let none = ltb-false 0 keepers free in
+          let answer = (settles.leaves unnamed (omega arith)).0 in
+          let same : koid ≡ record { 0 = v } = cc in ap (λ (k : Koid). k.0) same
+    ]
+  ]
+
+  -- so what leaves is a VMO of the content, where the VMO is
+  pub leaving_vmo : (c : Content) (answer : Option Koid) → IsSome (c.count v) → Settles names keepers v old new answer → IfSome answer (λ koid. IsSome (c.count koid.0))
+  leaving_vmo c None there settles = tt
+  leaving_vmo c (Some koid) there settles = subst (λ (w : ℕ). IsSome (c.count w)) (sym (settled_koid koid settles)) there
+
+-- The state t is the good state s with less that keeps the VMO v, whose keepers are its pins that are left.
+module _ (s t new : State) (v : ℕ) (good : IsGoodState s) (less : Loosens s t v)
+    (names : ℕ → Option Name) (named : names ≡ t.names) (keepers : ℕ) (counted : keepers ≡ pin_count t.pins v)
+    (answer : Option Koid) (settles : Settles names keepers v s.lineage new.lineage answer) where
+  named_now : is_named names v ≡ is_named t.names v
+  named_now = ap (λ (f : ℕ → Option Name). is_named f v) named
+
+  -- keepers are there where a pin is
+  kept_now : has_pin t.pins v ≡ nat_lt 0 keepers
+  kept_now = has_pin-count t.pins v ∙ ap (nat_lt 0) (sym counted)
+
+  -- a VMO that is live stays, and nothing else changes
+  settled_stays : is_live t v ≡ true → (answer ≡ None) × (new.lineage ≡ s.lineage)
+  settled_stays live = elim (or_cases (is_named t.names v) (has_pin t.pins v) live) [
+    | inl by_name ↦ settles.stays (inl (named_now ∙ by_name))
+    | inr by_pin ↦ settles.stays (inr (ltb-true 0 keepers (sym kept_now ∙ by_pin)))
+  ]
+
+  -- one that is not leaves
+  settled_leaves : is_live t v ≡ false → (answer ≡ Some (record { 0 = v })) × (new.lineage ≡ lineage_without s.lineage v (parent_of (s.lineage v)))
+  settled_leaves gone =
+      let off = or_parts (is_named t.names v) (has_pin t.pins v) gone in
+      let none = ltb-false 0 keepers (sym kept_now ∙ off.1) in
+      settles.leaves (named_now ∙ off.0) (omega arith)
+
+  module _ (new_names : new.names ≡ t.names) (new_pins : new.pins ≡ t.pins) where
+    all_stays : new.content ≡ s.content → is_live t v ≡ true → new ≡ pruned t
+    all_stays content live =
+        let c = content ∙ sym less.content in
+        let l = (settled_stays live).1 ∙ sym less.lineage in
+        (λ i. record { content = c i; names = new_names i; lineage = l i; pins = new_pins i }) ∙ sym (pruned-stays s t v good less live)
+
+    one_leaves : new.content ≡ without s.content v → is_live t v ≡ false → new ≡ pruned t
+    one_leaves content gone =
+        let there : IsSome (t.lineage v) = ap (λ (f : ℕ → Option Lineage). is_some (f v)) less.lineage ∙ less.vmo in
+        let c = content ∙ ap (λ (d : Content). without d v) (sym less.content) in
+        let l = (settled_leaves gone).1
+        ∙ (ap (λ (f : ℕ → Option Lineage). lineage_without f v (parent_of (f v))) (sym less.lineage)
+        ∙ ap (lineage_without t.lineage v) (ap parent_of (lineage-known t v there))) in
+        (λ i. record { content = c i; names = new_names i; lineage = l i; pins = new_pins i }) ∙ sym (pruned-leaves s t v good less gone)
+
+    -- where the content lost the VMO that leaves, the new state is what is left of the loosened state
+    pub settled_pruned : MatchOption answer (new.content ≡ s.content) (λ koid. new.content ≡ without s.content koid.0) → new ≡ pruned t
+    settled_pruned content = elim (cases_Bool (is_live t v)) [
+      | inl live ↦ all_stays (told (settled_stays live).0) live
+      | inr gone ↦ one_leaves (told (settled_leaves gone).0) gone
+    ] where
+      told : {o : Option Koid} → answer ≡ o → MatchOption o (new.content ≡ s.content) (λ koid. new.content ≡ without s.content koid.0)
+      told {o} e = subst (λ (a : Option Koid). MatchOption a (new.content ≡ s.content) (λ koid. new.content ≡ without s.content koid.0)) e content

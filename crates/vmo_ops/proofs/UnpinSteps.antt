@@ -1,0 +1,30 @@
+-- The steps of taking a pin away.
+use Rattle.std.proofs.Common.{◌≡◌, ℕ, not, [], Option, Some, refl, ap}
+use Rattle.std.specs.Prelude.{IsSome, is_some, IfSome, MatchOption}
+use Rattle.vm_base.specs.declared.names.Koid.{Koid}
+use Rattle.vm_base.specs.declared.names.PinName.{PinName}
+use Rattle.vm_base.specs.declared.refusal.Refusal.TheVariants.{BadHandle}
+use Rattle.vm_model.specs.declared.command.Command.TheVariants.{VmoUnpin}
+use Rattle.vm_model.specs.declared.reply.Reply.TheVariants.{Done}
+use Rattle.vm_model.specs.Sharing.{without}
+use Rattle.vm_model.specs.Maps.{without_key}
+use Rattle.vm_model.specs.Pins.{Pin, pin_count}
+use Rattle.vm_model.specs.State.{State, IsGoodState}
+use Rattle.vm_model.specs.Step.{Step}
+use Rattle.vm_model.proofs.LeavingLaws.{unpinned, Loosens-unpinned, pin_vmo}
+use Rattle.vmo_table.specs.Table.{Settles}
+use Rattle.vmo_ops.proofs.StepRows.{first_of-skip, Step-done}
+use Rattle.vmo_ops.proofs.SettleLaws.{leaving_vmo, settled_pruned}
+
+module _ (s new : State) (n : PinName) (pin : Pin) (good : IsGoodState s) (held : s.pins n.0 ≡ Some pin) (keepers : ℕ) (answer : Option Koid) (settles : Settles s.names keepers pin.koid s.lineage new.lineage answer) where
+  -- a VMO that leaves is one of the content
+  pub unpinning_vmo : IfSome answer (λ koid. IsSome (s.content.count koid.0))
+  unpinning_vmo = leaving_vmo s.names keepers pin.koid s.lineage new.lineage s.content answer (pin_vmo s n.0 pin good held) settles
+
+  -- the pin is gone, and a VMO that leaves is taken out
+  pub unpin_done : keepers ≡ pin_count (without_key s.pins n.0) pin.koid → new.names ≡ s.names → new.pins ≡ without_key s.pins n.0
+      → MatchOption answer (new.content ≡ s.content) (λ koid. new.content ≡ without s.content koid.0) → Step s (VmoUnpin n) Done new
+  unpin_done counted same taken content = Step-done s (VmoUnpin n) Done new (first_of-skip (not (is_some (s.pins n.0))) BadHandle [] (ap (λ (o : Option Pin). not (is_some o)) held)) (
+    refl,
+    settled_pruned s (unpinned s n.0) new pin.koid good (Loosens-unpinned s n.0 pin good held) s.names refl keepers counted answer settles same taken content,
+  )

@@ -1,0 +1,119 @@
+//! Pinning pages, so that they keep their frames (`zx_bti_pin`, `zx_pmt_unpin`).
+
+ghost use Rattle.std.specs.Prelude.{◌≡◌, ◌+◌, ◌%◌, ◌≤◌, ◌↔◌, None, Some, IsTrue, IsSome, map};
+ghost use Rattle.std.specs.List.{range_with_len};
+ghost use Rattle.vm_base.specs.declared.names.VmoName.{VmoName};
+ghost use Rattle.vm_model.specs.declared.command.Command.{Command};
+ghost use Rattle.vm_model.specs.declared.reply.Reply.{Reply};
+ghost use Rattle.vm_model.specs.Content.{pages_of, used, IsGood};
+ghost use Rattle.vm_model.specs.Owning.{need, OwnsAll};
+ghost use Rattle.vm_model.specs.State.{IsGoodState};
+ghost use Rattle.vm_model.specs.Step.{Step, frame_of};
+ghost use Rattle.vmo_table.specs.Table.{name_of, names_of, state_with, CountsPins};
+ghost use Rattle.pin_table.specs.Table.{pins_of};
+ghost use Rattle.vmo_ops.specs.Targets.{IsNamed, reply_of};
+
+use crate::closing::drop_gone;
+use crate::owning::{need_of, own_for_write, reserve_rows};
+use crate::ranges::place_in_vmo;
+use page_store::PageStore;
+use pin_table::PinTable;
+use vm_base::{Koid, PAGE, PageNo, PinName, Refusal, in_page, page_of};
+use vm_model::PinNumbers;
+use vmo_table::{Target, VmoTable};
+
+/// The bytes of the longest pin: 256 pages.
+const PIN_BYTES: u64 = 256 * PAGE;
+
+/// Pins the pages of a range under a pin's name that is not there: `len` bytes from `offset` bytes into
+/// the name on, both whole pages, from 1 to 256 of them. Each page is owned, and keeps its frame while the
+/// pin is there. Answers the frames in ascending order of the pages. Refusals, in their order:
+/// `InvalidArgs` where `offset` or `len` is not a multiple of the page size, or `len` is 0 or over
+/// 1,048,576, `OutOfRange` where the range passes the name's end, `NoMemory` where the pages that are not
+/// sole are more than the free frames, `HostMemory`.
+pub fn pin<P: PageStore>(
+    store: &mut P,
+    vmos: &mut VmoTable,
+    pins: &mut PinTable,
+    pin: PinName,
+    t: &Target,
+    offset: u64,
+    len: u64,
+) -> Result<PinNumbers, Refusal>
+    requires good { IsGoodState (state_with (P.content store.old) vmos.old (pins_of pins.old)) }
+    requires counted { CountsPins vmos.old (pins_of pins.old) }
+    requires named { IsNamed (names_of vmos.old) (name_of t.now) }
+    requires free { pins_of pins.old pin.0 ≡ None }
+    ensures step { (name : VmoName) → names_of vmos.old name.0 ≡ Some (name_of t.now) →
+        Step (state_with (P.content store.old) vmos.old (pins_of pins.old)) (Command.VmoPin pin name offset len)
+        (reply_of (λ numbers. Reply.Pins numbers) result)
+        (state_with (P.content store.new) vmos.new (pins_of pins.new)) }
+    ensures counted { CountsPins vmos.new (pins_of pins.new) }
+{
+    if !is_pin_range(offset, len) {
+        return Err(Refusal::InvalidArgs);
+    }
+    let Some(at) = place_in_vmo(store, t, offset, len) else {
+        return Err(Refusal::OutOfRange);
+    };
+    let first = page_of(at);
+    let count = page_of(len);
+    let need = need_of(store, t.koid, first, first + count);
+    if need > u64::from(store.free()) {
+        return Err(Refusal::NoMemory);
+    }
+    let Ok(()) = pins.reserve() else {
+        return Err(Refusal::HostMemory);
+    };
+    let Ok(()) = reserve_rows(store, need) else {
+        return Err(Refusal::HostMemory);
+    };
+    // That a VMO has no more pins than there are names rests on the range of the names.
+    prove!(pin.0 <= u32::MAX);
+    let numbers = own_frames(store, t.koid, first, count);
+    pins.add(pin, t.koid, first, count);
+    vmos.keep(t.koid, 1);
+    Ok(numbers)
+}
+
+// Whether a range is one of whole pages, from 1 to 256 of them.
+fn is_pin_range(offset: u64, len: u64) -> bool
+    ensures { IsTrue result ↔ ((offset % 4096 ≡ 0) × (len % 4096 ≡ 0) × (1 ≤ len) × (len ≤ 1048576)) }
+{
+    in_page(offset) == 0 && in_page(len) == 0 && len > 0 && len <= PIN_BYTES
+}
+
+// Owns `count` pages of a VMO, at most 256, from `first` on, where the room for it is there, and answers
+// their frames.
+fn own_frames<P: PageStore>(store: &mut P, v: Koid, first: PageNo, count: u64) -> PinNumbers
+    requires good { IsGood (P.content store.old) }
+    requires few { count ≤ 256 }
+    requires inside { first + count ≤ pages_of (P.content store.old) v.0 }
+    requires room { need (P.content store.old) v.0 (range_with_len first count) ≤ P.spare store.old }
+    requires free { used (P.content store.old) + need (P.content store.old) v.0 (range_with_len first count)
+        ≤ (P.content store.old).frames }
+    ensures owns { OwnsAll (P.content store.old) v.0 (range_with_len first count) (P.content store.new) }
+    ensures frames { result ≡ map (λ p. frame_of ((P.content store.new).page v.0 p)) (range_with_len first count) }
+{
+    let mut numbers = PinNumbers::new();
+    for page in first..first + count {
+        let tag = own_for_write(store, v, page);
+        // There is room: a pin has at most 256 pages.
+        let _ = numbers.push(u64::from(tag.0));
+    }
+    numbers
+}
+
+/// Takes a pin away that is there. A VMO that nothing keeps any more leaves with its pages, and its
+/// children get its parent. It never wants memory.
+pub fn unpin<P: PageStore>(store: &mut P, vmos: &mut VmoTable, pins: &mut PinTable, pin: PinName)
+    requires good { IsGoodState (state_with (P.content store.old) vmos.old (pins_of pins.old)) }
+    requires counted { CountsPins vmos.old (pins_of pins.old) }
+    requires there { IsSome (pins_of pins.old pin.0) }
+    ensures step { Step (state_with (P.content store.old) vmos.old (pins_of pins.old)) (Command.VmoUnpin pin) Reply.Done
+        (state_with (P.content store.new) vmos.new (pins_of pins.new)) }
+    ensures counted { CountsPins vmos.new (pins_of pins.new) }
+{
+    let (koid, _, _) = pins.remove(pin);
+    drop_gone(store, vmos.release(koid, 1));
+}
