@@ -4,12 +4,12 @@ use Rattle.std.proofs.Common.{◌≡◌, ℕ, ◌+◌, ◌<◌, ◌≤◌, Bool,
 use Rattle.std.specs.Prelude.{IsSome}
 use Rattle.std.proofs.lemmas.Bool.{not_from_false, false_from_ne_true}
 use Rattle.vm_base.specs.declared.names.Tag.{Tag}
-use Rattle.vm_base.specs.declared.pages.TheConstants.{VMO_PAGES}
-use Rattle.vm_model.specs.Search.{count_below}
-use Rattle.vm_model.specs.Content.{Page, Content, is_held, pages_of, views, is_sole_page, sole, IsGood}
-use Rattle.vm_model.specs.Sharing.{IsLeastViewer}
-use Rattle.vm_model.specs.Attribution.{is_shared, is_charged}
-use Rattle.vm_model.proofs.SearchLaws.{none_below, count_below_le, count_below-suc, count_below-zero, count_below_gap, bit_same}
+use Rattle.vm_base.specs.declared.limits.TheConstants.{VMO_PAGES}
+use Rattle.vm_base.specs.Search.{count_below}
+use Rattle.vm_model.specs.Contents.Content.{Page, Content, is_held, pages_of, views, is_sole_page, sole, IsGood}
+use Rattle.vm_model.specs.Contents.Sharing.{IsLeastViewer}
+use Rattle.vm_model.specs.Machine.Attribution.{is_shared, is_charged}
+use Rattle.vm_base.proofs.SearchLaws.{none_below, count_below_le, count_below-suc, count_below-zero, count_below_gap, bit_same}
 use Rattle.vm_model.proofs.ContentLaws.{count_from_page, views_found, sole_alone}
 use Rattle.vm_model.proofs.AttributionLaws.{is_held-some, is_shared-some, is_charged-at, is_charged_page-some, is_charged-least, IsOfHeld, IsOfHeld-held, IsOfHeld-sole, IsOfHeld-shared, IsOfHeld-charged}
 use Rattle.page_store.specs.declared.page_store.Look.TheVariants as look

@@ -1,8 +1,8 @@
 -- What the counts of a VMO's held pages say.
 use Rattle.std.specs.Prelude.{◌≡◌, ℕ}
-use Rattle.vm_model.specs.Search.{count_below}
-use Rattle.vm_model.specs.Content.{Content, is_held, sole}
-use Rattle.vm_model.specs.Attribution.{is_shared, is_charged}
+use Rattle.vm_base.specs.Search.{count_below}
+use Rattle.vm_model.specs.Contents.Content.{Content, is_held, sole}
+use Rattle.vm_model.specs.Machine.Attribution.{is_shared, is_charged}
 use Rattle.attribution.specs.declared.counts.Counts.{Counts}
 
 -- the pages of v below page n are counted

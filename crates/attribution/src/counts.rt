@@ -1,8 +1,8 @@
 //! The held pages of a VMO, counted.
 
 ghost use Rattle.std.specs.Prelude.{◌≡◌, ℕ, ◌+◌, IsSome};
-ghost use Rattle.vm_model.specs.Content.{pages_of, IsGood};
-ghost use Rattle.vm_model.specs.Attribution.{is_charged};
+ghost use Rattle.vm_model.specs.Contents.Content.{pages_of, IsGood};
+ghost use Rattle.vm_model.specs.Machine.Attribution.{is_charged};
 ghost use Rattle.page_store.specs.declared.page_store.Look.{Look};
 ghost use Rattle.page_store.specs.Pages.{look_at};
 ghost use Rattle.attribution.specs.Counts.{AreCounts};

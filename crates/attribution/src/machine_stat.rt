@@ -1,7 +1,7 @@
 //! The frames and VMOs of the machine.
 
 ghost use Rattle.std.specs.Prelude.{◌≡◌};
-ghost use Rattle.vm_model.specs.Attribution.{stat_of};
+ghost use Rattle.vm_model.specs.Machine.Attribution.{stat_of};
 
 use page_store::PageStore;
 use vm_model::Stat;

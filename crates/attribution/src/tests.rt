@@ -1,9 +1,9 @@
 //! What VMOs of a plain store hold.
 
 ghost use Rattle.std.specs.Prelude.{◌≡◌, ◌≢◌, ℕ, ◌+◌, ◌^◌, ◌<◌, ◌≤◌, true, false, None, Some, IfOk, OnOk};
-ghost use Rattle.vm_model.specs.Content.{nothing, pages_of, IsGood};
-ghost use Rattle.vm_model.specs.Names.{owner};
-ghost use Rattle.vm_model.specs.State.{IsGoodState};
+ghost use Rattle.vm_model.specs.Contents.Content.{nothing, pages_of, IsGood};
+ghost use Rattle.vm_model.specs.Naming.Names.{owner};
+ghost use Rattle.vm_model.specs.Machine.State.{IsGoodState};
 ghost use Rattle.vmo_table.specs.Table.{names_of, lineage_in, state_with};
 
 use super::*;

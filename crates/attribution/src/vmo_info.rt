@@ -1,8 +1,8 @@
 //! What a VMO holds (`ZX_INFO_VMO`).
 
 ghost use Rattle.std.specs.Prelude.{◌≡◌, ℕ, Option};
-ghost use Rattle.vm_model.specs.Attribution.{info_at};
-ghost use Rattle.vm_model.specs.Pins.{Pin};
+ghost use Rattle.vm_model.specs.Machine.Attribution.{info_at};
+ghost use Rattle.vm_model.specs.Naming.Pins.{Pin};
 ghost use Rattle.vmo_table.specs.Table.{names_of, name_of, state_with};
 ghost use Rattle.vmo_ops.specs.Targets.{AreParts, IsNamed};
 

@@ -5,8 +5,8 @@ use Rattle.std.proofs.lemmas.Bool.Decides.{nat_tests}
 use Rattle.std.proofs.lemmas.List.{length_push}
 use Rattle.std.proofs.lemmas.Option.{slice_get-get_or, slice_get_past}
 use Rattle.vm_base.specs.declared.names.Tag.{Tag}
-use Rattle.vm_model.proofs.SearchLaws.{count_below_le, count_below_same, count_below_none, count_below_one_more}
-use Rattle.vm_model.specs.Content.{zeros}
+use Rattle.vm_base.proofs.SearchLaws.{count_below_le, count_below_same, count_below_none, count_below_one_more}
+use Rattle.vm_base.specs.Pages.{zeros}
 use Rattle.frame_pool.specs.Pool.{Pool, is_idle, bytes_in, frame_count, bytes_at, bytes_of, count_taken, taken_count, no_bytes, with_bytes, without_bytes, Takes, AreApart, IsPool}
 
 -- ---- a map and the number of its taken tags

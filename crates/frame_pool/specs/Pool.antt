@@ -2,8 +2,8 @@
 -- are taken to the bytes of their frames.
 use Rattle.std.specs.Prelude.{◌≡◌, ℕ, ◌+◌, ◌<◌, ◌≤◌, Bool, false, ◌||◌, ◌==◌, List, [], ◌∷◌, length, slice_get, if◌then◌else◌, Option, None, Some, is_some, unwrap_or}
 use Rattle.vm_base.specs.declared.names.Tag.{Tag}
-use Rattle.vm_model.specs.Search.{count_below}
-use Rattle.vm_model.specs.Content.{zeros}
+use Rattle.vm_base.specs.Search.{count_below}
+use Rattle.vm_base.specs.Pages.{zeros}
 
 -- the number of frames, the bytes of those that were taken at some time, by tag, and those of them that were given back
 pub record Pool : Type 0 where

@@ -1,8 +1,7 @@
 //! The pool of page frames.
 
 ghost use Rattle.std.specs.Prelude.{◌≡◌, ℕ, ◌+◌, ◌<◌, ◌≤◌, ◌≢◌, length, take, drop, IsSome, IfSome, IfNone, OnOk, OnErr};
-ghost use Rattle.vm_model.specs.Content.{zeros};
-ghost use Rattle.vm_model.specs.Writing.{replaced};
+ghost use Rattle.vm_base.specs.Pages.{zeros, replaced};
 ghost use Rattle.frame_pool.specs.Pool.{Pool, frame_count, bytes_at, bytes_of, taken_count, no_bytes, with_bytes, without_bytes, Takes};
 
 use std::alloc::Global;

@@ -2,9 +2,9 @@
 use Rattle.std.proofs.Common.{◌≡◌, ℕ, ◌+◌, ◌≤◌, not, cond, ◌==◌, List, length, get_or, Option, None, IsSome, is_some, refl, sym, ap, subst, ◌∙◌, inl, inr, arith}
 use Rattle.std.specs.List.{remove}
 use Rattle.std.proofs.lemmas.Bool.{cases_eq, cases_lt}
-use Rattle.vm_model.specs.Content.{Content, pages_of, vmos_of, IsGood}
-use Rattle.vm_model.specs.Sharing.{without}
-use Rattle.vm_model.specs.Zeroing.{zeroed}
+use Rattle.vm_model.specs.Contents.Content.{Content, pages_of, vmos_of, IsGood}
+use Rattle.vm_model.specs.Contents.Sharing.{without}
+use Rattle.vm_model.specs.Contents.Zeroing.{zeroed}
 use Rattle.vm_model.proofs.SharingLaws.{frames-only, next-only, count-only, page-without_here, page-without_other, IsGood-only, vmos_of-without}
 use Rattle.vm_model.proofs.ZeroingLaws.{frames-zeroed, next-zeroed, count-zeroed, page-zeroed_in, page-zeroed_out, page-zeroed_other, page_past}
 use Rattle.page_store.specs.declared.vmos.Vmo.{Vmo}

@@ -4,12 +4,12 @@ use Rattle.std.specs.Prelude.{IsSome, IfSome, is_some, nat_lt}
 use Rattle.std.proofs.lemmas.Bool.Decides.{nat_tests}
 use Rattle.std.proofs.lemmas.List.{get_or_read, get_or-replicate, length-replicate, length_push}
 use Rattle.std.proofs.Math.Seq.{take-nil}
-use Rattle.vm_base.specs.declared.pages.TheConstants.{VMO_PAGES}
+use Rattle.vm_base.specs.declared.limits.TheConstants.{VMO_PAGES}
 use Rattle.frame_pool.specs.Pool.{Pool, frame_count, bytes_at, bytes_of, taken_count, no_bytes}
-use Rattle.vm_model.specs.Search.{count_below}
-use Rattle.vm_model.specs.Content.{Page, Content, nothing, pages_of, in_use, used, vmos_of, is_sole_page, created, IsGood}
-use Rattle.vm_model.specs.Sharing.{viewers}
-use Rattle.vm_model.proofs.SearchLaws.{count_below_none, count_below_same}
+use Rattle.vm_base.specs.Search.{count_below}
+use Rattle.vm_model.specs.Contents.Content.{Page, Content, nothing, pages_of, in_use, used, vmos_of, is_sole_page, created, IsGood}
+use Rattle.vm_model.specs.Contents.Sharing.{viewers}
+use Rattle.vm_base.proofs.SearchLaws.{count_below_none, count_below_same}
 use Rattle.vm_model.proofs.ContentLaws.{pages_of-at, page-nothing, in_use_at, IsGood-created, IsGood-nothing, vmos_of-created}
 use Rattle.page_store.specs.declared.rows.Row.{Row}
 use Rattle.page_store.specs.declared.vmos.Vmo.{Vmo}

@@ -6,14 +6,16 @@ use Rattle.std.specs.declared.cmp.Ordering.TheVariants.{Equal}
 use Rattle.std.proofs.lemmas.Bool.{cases_eq, ne_eqb, eq-eqb, eqb-true}
 use Rattle.std.proofs.lemmas.Bool.Decides.{nat_tests}
 use Rattle.std.proofs.lemmas.List.{get_or_read, get_or-set_same, get_or-set_other}
-use Rattle.vm_base.specs.declared.pages.TheConstants.{PAGE}
+use Rattle.vm_base.specs.declared.limits.TheConstants.{PAGE}
 use Rattle.frame_pool.specs.Pool.{Pool, frame_count, bytes_at, bytes_of, taken_count, with_bytes, Takes}
 use Rattle.frame_pool.proofs.PoolLaws.{takes_apart, takes_keeps}
-use Rattle.vm_model.specs.Content.{Page, Content, zeros, shown, pages_of, views, in_use, used, vmos_of, is_sole_page, sole, hold, IsGood}
-use Rattle.vm_model.specs.Sharing.{viewers}
-use Rattle.vm_model.specs.Owning.{Owns}
-use Rattle.vm_model.proofs.SearchLaws.{any_below_none}
-use Rattle.vm_model.proofs.ContentLaws.{koid_below, sole-zero, IsGood-hold_new, length-zeros, bytes_of-none, bytes_of-some}
+use Rattle.vm_model.specs.Contents.Content.{Page, Content, shown, pages_of, views, in_use, used, vmos_of, is_sole_page, sole, hold, IsGood}
+use Rattle.vm_base.specs.Pages.{zeros}
+use Rattle.vm_model.specs.Contents.Sharing.{viewers}
+use Rattle.vm_model.specs.Contents.Owning.{Owns}
+use Rattle.vm_base.proofs.SearchLaws.{any_below_none}
+use Rattle.vm_model.proofs.ContentLaws.{koid_below, sole-zero, IsGood-hold_new, bytes_of-none, bytes_of-some}
+use Rattle.vm_base.proofs.PageLaws.{length-zeros}
 use Rattle.page_store.specs.declared.rows.Row.{Row}
 use Rattle.page_store.specs.Rows.{find_row, IsSorted, IsRowFor, IsGapFor}
 use Rattle.page_store.specs.Vmos.{count_in, IsAscending}

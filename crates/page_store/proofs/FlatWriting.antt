@@ -2,12 +2,12 @@
 use Rattle.std.proofs.Common.{◌≡◌, ℕ, ◌+◌, ◌≤◌, Bool, true, false, cond, ◌&&◌, ◌==◌, List, length, Option, Some, refl, sym, ap, ◌∙◌, inl, inr, arith}
 use Rattle.std.specs.Prelude.{is_some, nat_lt}
 use Rattle.std.proofs.lemmas.Bool.{cases_Bool, and_parts, and_from, eqb-true, eq-eqb}
-use Rattle.vm_base.specs.declared.pages.TheConstants.{PAGE}
+use Rattle.vm_base.specs.declared.limits.TheConstants.{PAGE}
 use Rattle.frame_pool.specs.Pool.{Pool, frame_count, bytes_at, bytes_of, with_bytes}
-use Rattle.vm_model.specs.Content.{Page, Content, hold}
-use Rattle.vm_model.specs.Writing.{replaced}
+use Rattle.vm_model.specs.Contents.Content.{Page, Content, hold}
+use Rattle.vm_base.specs.Pages.{replaced}
 use Rattle.vm_model.proofs.ContentLaws.{sole_from, IsGood-hold_bytes}
-use Rattle.vm_model.proofs.RangeLaws.{length-replaced}
+use Rattle.vm_base.proofs.PageLaws.{length-replaced}
 use Rattle.vm_model.proofs.SharingLaws.{viewers-hold_bytes}
 use Rattle.page_store.specs.Rows.{find_row}
 use Rattle.page_store.specs.Pages.{ShowsTag, IsShown, IsShownOnce, Overwrites}

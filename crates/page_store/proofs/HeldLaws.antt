@@ -2,15 +2,15 @@
 use Rattle.std.proofs.Common.{◌≡◌, ◌≢◌, ℕ, ◌+◌, ◌<◌, ◌≤◌, Bool, true, List, length, Option, None, Some, refl, sym, ap, subst, ◌∙◌, arith}
 use Rattle.std.specs.Prelude.{unwrap_or, IsSome, is_some}
 use Rattle.vm_base.specs.declared.names.Tag.{Tag}
-use Rattle.vm_base.specs.declared.pages.TheConstants.{PAGE, VMO_PAGES}
-use Rattle.vm_model.specs.Content.{Page, Content, pages_of, is_sole_page, sole, created, IsGood}
-use Rattle.vm_model.specs.Owning.{Owns}
-use Rattle.vm_model.specs.Writing.{replaced}
-use Rattle.vm_model.specs.Sharing.{snapshotted}
-use Rattle.vm_model.specs.Zeroing.{zeroed, resized}
+use Rattle.vm_base.specs.declared.limits.TheConstants.{PAGE, VMO_PAGES}
+use Rattle.vm_model.specs.Contents.Content.{Page, Content, pages_of, is_sole_page, sole, created, IsGood}
+use Rattle.vm_model.specs.Contents.Owning.{Owns}
+use Rattle.vm_base.specs.Pages.{replaced}
+use Rattle.vm_model.specs.Contents.Sharing.{snapshotted}
+use Rattle.vm_model.specs.Contents.Zeroing.{zeroed, resized}
 use Rattle.vm_model.proofs.ContentLaws.{pages_of-at, count_from_page, sole_alone, next-hold, pages_of-hold, IsGood-hold_bytes, IsGood-created, next-created, count-created_new, count-created_other}
 use Rattle.vm_model.proofs.OwningLaws.{Owned-from_Owns}
-use Rattle.vm_model.proofs.RangeLaws.{length-replaced}
+use Rattle.vm_base.proofs.PageLaws.{length-replaced}
 use Rattle.vm_model.proofs.ZeroingLaws.{next-zeroed, pages_of-zeroed, IsGood-zeroed, next-resized, count-resized_here, pages_of-resized_here, pages_of-resized_other, IsGood-resized}
 use Rattle.vm_model.proofs.SharingLaws.{IsGood-snapshotted, next-snapshotted, pages_of-snapshotted_new, pages_of-snapshotted_other}
 use Rattle.page_store.specs.declared.page_store.Look.TheVariants as look

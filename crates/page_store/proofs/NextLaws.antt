@@ -5,7 +5,7 @@ use Rattle.std.specs.declared.cmp.Ordering.TheVariants.{Less, Greater}
 use Rattle.std.proofs.lemmas.Bool.{cases_lt}
 use Rattle.std.proofs.lemmas.Bool.Decides.{nat_tests}
 use Rattle.std.proofs.lemmas.List.{get_or_default}
-use Rattle.vm_model.specs.Content.{Page, Content}
+use Rattle.vm_model.specs.Contents.Content.{Page, Content}
 use Rattle.page_store.specs.declared.rows.Row.{Row}
 use Rattle.page_store.specs.Rows.{IsBoundFor}
 use Rattle.page_store.specs.Flat.{Flat, content_of, IsFlat}

@@ -5,8 +5,8 @@ use Rattle.std.specs.List.{remove_range, slice_range}
 use Rattle.std.proofs.lemmas.Bool.{cases_eq}
 use Rattle.std.proofs.lemmas.List.Edits.{split_between}
 use Rattle.frame_pool.specs.Pool.{Pool, bytes_at}
-use Rattle.vm_model.specs.Content.{Page, Content, vmos_of, IsGood}
-use Rattle.vm_model.specs.Zeroing.{zeroed}
+use Rattle.vm_model.specs.Contents.Content.{Page, Content, vmos_of, IsGood}
+use Rattle.vm_model.specs.Contents.Zeroing.{zeroed}
 use Rattle.vm_model.proofs.ZeroingLaws.{cases_within, frames-zeroed, next-zeroed, count-zeroed, page-zeroed_in, page-zeroed_out, page-zeroed_other, IsGood-zeroed}
 use Rattle.page_store.specs.declared.rows.Row.{Row}
 use Rattle.page_store.specs.declared.vmos.Vmo.{Vmo}

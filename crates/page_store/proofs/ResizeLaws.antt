@@ -1,10 +1,10 @@
 -- The plain store with another page count for a VMO, whose pages past it were released: which content its lists stand for, and
 -- that they stay a plain store.
 use Rattle.std.proofs.Common.{◌≡◌, ℕ, ◌+◌, ◌-◌, ◌<◌, ◌≤◌, cond, ◌==◌, List, length, set, Some, IsSome, refl, sym, ap, subst, ◌∙◌, arith, length-set}
-use Rattle.vm_base.specs.declared.pages.TheConstants.{VMO_PAGES}
-use Rattle.vm_model.specs.Content.{Content, pages_of, vmos_of, IsGood}
-use Rattle.vm_model.specs.Maps.{with_key}
-use Rattle.vm_model.specs.Zeroing.{zeroed, resized}
+use Rattle.vm_base.specs.declared.limits.TheConstants.{VMO_PAGES}
+use Rattle.vm_model.specs.Contents.Content.{Content, pages_of, vmos_of, IsGood}
+use Rattle.vm_base.specs.Entries.{with_key}
+use Rattle.vm_model.specs.Contents.Zeroing.{zeroed, resized}
 use Rattle.vm_model.proofs.ZeroingLaws.{zeroed-none, IsGood-resized, vmos_of-resized}
 use Rattle.page_store.specs.declared.vmos.Vmo.{Vmo}
 use Rattle.page_store.specs.Vmos.{count_in, IsVmoFor}

@@ -8,9 +8,9 @@ use Rattle.std.proofs.lemmas.Bool.{cases_Bool, cases_eq, cases_lt}
 use Rattle.std.proofs.lemmas.Bool.Decides.{nat_tests}
 use Rattle.std.proofs.lemmas.List.{length_push, length-map, get_or-map}
 use Rattle.frame_pool.specs.Pool.{Pool, frame_count, bytes_at}
-use Rattle.vm_base.specs.declared.pages.TheConstants.{VMO_PAGES}
-use Rattle.vm_model.specs.Content.{vmos_of, IsGood}
-use Rattle.vm_model.specs.Sharing.{page_seen, snapshotted}
+use Rattle.vm_base.specs.declared.limits.TheConstants.{VMO_PAGES}
+use Rattle.vm_model.specs.Contents.Content.{vmos_of, IsGood}
+use Rattle.vm_model.specs.Contents.Sharing.{page_seen, snapshotted}
 use Rattle.vm_model.proofs.SharingLaws.{viewers_le, frames-snapshotted, next-snapshotted, count-snapshotted, page-snapshotted_new, page-snapshotted_other, page_seen-in, page_seen-out, IsGood-snapshotted, vmos_of-snapshotted}
 use Rattle.page_store.specs.declared.rows.Row.{Row}
 use Rattle.page_store.specs.declared.vmos.Vmo.{Vmo}

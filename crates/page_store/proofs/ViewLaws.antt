@@ -7,10 +7,10 @@ use Rattle.std.proofs.lemmas.Bool.{cases_Bool, cases_lt, cases_order, eqb-true, 
 use Rattle.std.proofs.lemmas.Bool.Decides.{nat_tests}
 use Rattle.std.proofs.lemmas.List.{get_or_past}
 use Rattle.frame_pool.specs.Pool.{frame_count}
-use Rattle.vm_model.specs.Search.{count_below}
-use Rattle.vm_model.specs.Content.{Page, views, vmos_of, IsGood}
-use Rattle.vm_model.specs.Sharing.{viewers, IsLeastViewer}
-use Rattle.vm_model.proofs.SearchLaws.{count_below_same, count_below_none, count_below_one_more}
+use Rattle.vm_base.specs.Search.{count_below}
+use Rattle.vm_model.specs.Contents.Content.{Page, views, vmos_of, IsGood}
+use Rattle.vm_model.specs.Contents.Sharing.{viewers, IsLeastViewer}
+use Rattle.vm_base.proofs.SearchLaws.{count_below_same, count_below_none, count_below_one_more}
 use Rattle.vm_model.proofs.ContentLaws.{views_found}
 use Rattle.vm_model.proofs.SharingLaws.{views_held, koid_held, in_use-viewers}
 use Rattle.page_store.specs.declared.rows.Row.{Row}

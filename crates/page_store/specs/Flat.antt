@@ -1,8 +1,8 @@
 -- The plain store as plain lists, and the content that they stand for.
 use Rattle.std.specs.Prelude.{◌≡◌, ℕ, ◌<◌, List, length, slice_index_or, Option, None, Some, is_some}
 use Rattle.frame_pool.specs.Pool.{Pool, frame_count, bytes_at, bytes_of}
-use Rattle.vm_model.specs.Content.{Content, Page, in_use, vmos_of, IsGood}
-use Rattle.vm_model.specs.Sharing.{viewers}
+use Rattle.vm_model.specs.Contents.Content.{Content, Page, in_use, vmos_of, IsGood}
+use Rattle.vm_model.specs.Contents.Sharing.{viewers}
 use Rattle.page_store.specs.declared.rows.Row.{Row}
 use Rattle.page_store.specs.declared.vmos.Vmo.{Vmo}
 use Rattle.page_store.specs.Rows.{find_row, IsSorted}

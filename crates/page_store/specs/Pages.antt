@@ -1,7 +1,7 @@
 -- What the calls of a page store ask and answer, over contents.
 use Rattle.std.specs.Prelude.{◌≡◌, ℕ, List, length, take, drop, Option, None, Some}
-use Rattle.vm_model.specs.Content.{Content, Page, is_sole_page, hold}
-use Rattle.vm_model.specs.Writing.{replaced}
+use Rattle.vm_model.specs.Contents.Content.{Content, Page, is_sole_page, hold}
+use Rattle.vm_base.specs.Pages.{replaced}
 use Rattle.page_store.specs.declared.page_store.Look.{Look}
 use Rattle.page_store.specs.declared.page_store.Look.TheVariants as look
 

@@ -1,9 +1,9 @@
 //! The plain store: one sorted list of the pages that are held, and a share count for each frame.
 
 ghost use Rattle.std.specs.Prelude.{◌≡◌, ℕ, ◌+◌, ◌<◌, ◌≤◌, ◌⊎◌, true, length};
-ghost use Rattle.vm_model.specs.Content.{nothing, pages_of, used, sole};
-ghost use Rattle.vm_model.specs.Owning.{Owns};
-ghost use Rattle.vm_model.specs.Zeroing.{zeroed};
+ghost use Rattle.vm_model.specs.Contents.Content.{nothing, pages_of, used, sole};
+ghost use Rattle.vm_model.specs.Contents.Owning.{Owns};
+ghost use Rattle.vm_model.specs.Contents.Zeroing.{zeroed};
 ghost use Rattle.frame_pool.specs.Pool.{frame_count, taken_count, Takes};
 ghost use Rattle.page_store.specs.Rows.{IsRowFor, IsGapFor};
 ghost use Rattle.page_store.specs.Flat.{content_of};

@@ -1,11 +1,11 @@
 //! The contract of a store of pages.
 
 ghost use Rattle.std.specs.Prelude.{◌≡◌, ℕ, ◌+◌, ◌-◌, ◌^◌, ◌<◌, ◌≤◌, ◌⊎◌, true, false, length, IsSome, None, Some, IfSome, IfNone, IfOk, OnOk, OnErr};
-ghost use Rattle.vm_model.specs.Search.{count_below};
-ghost use Rattle.vm_model.specs.Content.{Content, nothing, used, sole, pages_of, created, vmos_of};
-ghost use Rattle.vm_model.specs.Owning.{Owns};
-ghost use Rattle.vm_model.specs.Sharing.{viewers, IsLeastViewer, snapshotted, without};
-ghost use Rattle.vm_model.specs.Zeroing.{zeroed, resized};
+ghost use Rattle.vm_base.specs.Search.{count_below};
+ghost use Rattle.vm_model.specs.Contents.Content.{Content, nothing, used, sole, pages_of, created, vmos_of};
+ghost use Rattle.vm_model.specs.Contents.Owning.{Owns};
+ghost use Rattle.vm_model.specs.Contents.Sharing.{viewers, IsLeastViewer, snapshotted, without};
+ghost use Rattle.vm_model.specs.Contents.Zeroing.{zeroed, resized};
 ghost use Rattle.page_store.specs.Pages.{look_at, IsShown, IsShownOnce, AreBytesOf, Overwrites};
 
 use vm_base::{HostMemory, Koid, PageNo, Tag};

@@ -1,7 +1,7 @@
 //! The plain store, called through the trait.
 
 ghost use Rattle.std.specs.Prelude.{◌≡◌, ◌≢◌, ℕ, ◌+◌, ◌^◌, ◌<◌, ◌≤◌, length, IfOk, OnOk};
-ghost use Rattle.vm_model.specs.Content.{nothing, pages_of, IsGood};
+ghost use Rattle.vm_model.specs.Contents.Content.{nothing, pages_of, IsGood};
 
 use super::*;
 use std::process::Abort;

@@ -4,13 +4,12 @@ use Rattle.std.specs.declared.cmp.Ordering.TheVariants.{Less, Greater}
 use Rattle.std.proofs.lemmas.Bool.{cases_Bool, cases_eq, cases_order, and_parts, lt-ltb, le-ltb, eqb-true}
 use Rattle.std.proofs.lemmas.Bool.Decides.{nat_tests}
 use Rattle.std.proofs.lemmas.List.{get_or_read}
-use Rattle.vm_base.specs.declared.pages.TheConstants.{VMO_PAGES}
-use Rattle.vm_model.specs.Maps.{with_key, without_key}
-use Rattle.vm_model.specs.Names.{NAMES}
-use Rattle.vm_model.specs.Zeroing.{is_within}
-use Rattle.vm_model.specs.Pins.{Pin, covers, is_pinned, any_pinned}
-use Rattle.vm_model.proofs.SearchLaws.{count_below_hit, count_below_none, bit_same}
-use Rattle.vm_model.proofs.MapLaws.{with_key-other, with_key-cases, without_key-other, without_key-some}
+use Rattle.vm_base.specs.declared.limits.TheConstants.{VMO_PAGES, NAMES}
+use Rattle.vm_base.specs.Entries.{with_key, without_key}
+use Rattle.vm_model.specs.Contents.Zeroing.{is_within}
+use Rattle.vm_model.specs.Naming.Pins.{Pin, covers, is_pinned, any_pinned}
+use Rattle.vm_base.proofs.SearchLaws.{count_below_hit, count_below_none, bit_same}
+use Rattle.vm_base.proofs.EntryLaws.{with_key-other, with_key-cases, without_key-other, without_key-some}
 use Rattle.vm_model.proofs.ZeroingLaws.{is_within-parts}
 use Rattle.vm_model.proofs.PinLaws.{covers-none, covers-some, covers_at, pins_over, pins_over_le, pins_over-with_key, pins_over-without_key, is_pinned-count, any_pinned_at, none_pinned}
 use Rattle.pin_table.specs.declared.pages.PinnedPage.{PinnedPage}

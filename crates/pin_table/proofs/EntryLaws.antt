@@ -5,7 +5,7 @@ use Rattle.std.specs.Prelude.{IsOk, OnOk}
 use Rattle.std.specs.Map.{lookup}
 use Rattle.std.proofs.lemmas.Bool.Decides.{nat_tests}
 use Rattle.vm_base.specs.declared.names.PinName.{PinName}
-use Rattle.vm_model.specs.Maps.{with_key, without_key}
+use Rattle.vm_base.specs.Entries.{with_key, without_key}
 use Rattle.pin_table.specs.declared.pin_table.Pin.{Pin}
 use Rattle.pin_table.specs.Table.{pin_of_held, pins_in}
 

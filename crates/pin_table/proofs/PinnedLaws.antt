@@ -7,7 +7,7 @@ use Rattle.std.proofs.lemmas.Bool.Decides.{nat_tests}
 use Rattle.std.proofs.lemmas.List.Elements.{All-append, All-cons, All-take, All-drop}
 use Rattle.std.proofs.lemmas.List.Sums.{sum_by-insert, sum_by-remove, sum_by-set, sum_by-le, get_or-le-sum_by}
 use Rattle.vm_base.specs.declared.names.Koid.{Koid}
-use Rattle.vm_model.specs.Zeroing.{is_within}
+use Rattle.vm_model.specs.Contents.Zeroing.{is_within}
 use Rattle.pin_table.specs.declared.pages.PinnedPage.{PinnedPage}
 use Rattle.pin_table.specs.Pages.{is_entry, pins_at, AreKept, IsEntryFor, IsGapFor, AddsPin}
 use Rattle.pin_table.proofs.OrderLaws.{page_cmp, cmp_same, sorted_insert}

@@ -4,7 +4,7 @@ use Rattle.std.specs.List.{All, AllPairs, AllWithin, HoldsAt, sum_by}
 use Rattle.std.specs.declared.cmp.Ordering.{Ordering}
 use Rattle.std.specs.declared.cmp.Ordering.TheVariants.{Less, Equal, Greater}
 use Rattle.std.specs.Ordering.{nat_cmp, ordering_then}
-use Rattle.vm_model.specs.Zeroing.{is_within}
+use Rattle.vm_model.specs.Contents.Zeroing.{is_within}
 use Rattle.pin_table.specs.declared.pages.PinnedPage.{PinnedPage}
 
 -- how an entry stands to page p of v

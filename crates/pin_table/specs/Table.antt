@@ -4,7 +4,7 @@ use Rattle.std.specs.Option.{option_map}
 use Rattle.std.specs.Map.{lookup}
 use Rattle.vm_base.specs.declared.names.Koid.{Koid}
 use Rattle.vm_base.specs.declared.names.PinName.{PinName}
-use Rattle.vm_model.specs.Pins.{Pin}
+use Rattle.vm_model.specs.Naming.Pins.{Pin}
 use Rattle.pin_table.specs.declared.pin_table.Pin.{Pin as HeldPin}
 
 -- the entries of the map, and how many pins may be added without asking the host for memory

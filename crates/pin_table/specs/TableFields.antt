@@ -2,10 +2,9 @@
 use Rattle.std.specs.Prelude.{◌≡◌, ℕ, ◌+◌, ◌-◌, ◌/◌, ◌<◌, ◌≤◌, min, List, Option, Some, IsSome}
 use Rattle.std.specs.HashMap.{spare}
 use Rattle.std.specs.Vec.{vec_len, vec_capacity}
-use Rattle.vm_base.specs.declared.pages.TheConstants.{VMO_PAGES}
-use Rattle.vm_model.specs.Search.{count_below}
-use Rattle.vm_model.specs.Names.{NAMES}
-use Rattle.vm_model.specs.Pins.{Pin, covers}
+use Rattle.vm_base.specs.declared.limits.TheConstants.{VMO_PAGES, NAMES}
+use Rattle.vm_base.specs.Search.{count_below}
+use Rattle.vm_model.specs.Naming.Pins.{Pin, covers}
 use Rattle.pin_table.specs.declared.pages.PinnedPage.{PinnedPage}
 use Rattle.pin_table.specs.declared.pin_table.PinTable.TheInside.{Inside}
 use Rattle.pin_table.specs.Pages.{pins_at, AreKept}

@@ -2,8 +2,8 @@
 
 ghost use Rattle.std.specs.Prelude.{◌≡◌, ℕ, ◌+◌, ◌<◌, ◌≤◌, ◌&&◌, ◌==◌, IfOk, IfErr};
 ghost use Rattle.std.specs.Vec.{vec_len, vec_capacity};
-ghost use Rattle.vm_model.specs.Names.{NAMES};
-ghost use Rattle.vm_model.specs.Zeroing.{is_within};
+ghost use Rattle.vm_base.specs.declared.limits.TheConstants.{NAMES};
+ghost use Rattle.vm_model.specs.Contents.Zeroing.{is_within};
 ghost use Rattle.pin_table.specs.Pages.{entry_cmp, pins_at, IsSorted, AreKept, IsEntryFor, IsGapFor, IsBoundFor, AddsPin};
 
 use std::cmp::Ordering;

@@ -2,8 +2,8 @@
 
 ghost use Rattle.std.specs.Prelude.{◌≡◌, ℕ, ◌+◌, ◌≤◌, None, Some, IsSome, OnOk};
 ghost use Rattle.std.specs.Option.{option_map};
-ghost use Rattle.vm_model.specs.Maps.{with_key, without_key};
-ghost use Rattle.vm_model.specs.Pins.{any_pinned};
+ghost use Rattle.vm_base.specs.Entries.{with_key, without_key};
+ghost use Rattle.vm_model.specs.Naming.Pins.{any_pinned};
 ghost use Rattle.pin_table.specs.Table.{pin_of, pins_of, room_of};
 
 use crate::pages::{PinnedPage, lower_bound, pin_pages, unpin_pages};

@@ -1,7 +1,7 @@
 //! Which lines a reply has.
 
 ghost use Rattle.std.specs.Prelude.{◌≡◌, ◌+◌, ◌*◌, ◌<◌, ◌≤◌, [], ◌∷◌, ◌++◌, length, take, drop, map, codes, slice_get};
-ghost use Rattle.vm_model.specs.Text.{reply_lines, run_line, refusal_name};
+ghost use Rattle.vm_model.specs.Language.Text.{reply_lines, run_line, refusal_name};
 
 use crate::put::{
     put, put_access, put_address, put_data, put_field, put_info, put_number, put_numbers, put_run,
@@ -35,7 +35,7 @@ pub fn write_line(reply: &Reply, index: u64, out: &mut [u8]) -> usize
 }
 
 /// The runs of a reply, each of which has a line behind the first. Only `Runs` has any.
-#[tactic(auto, unfolding(vm_model::specs::Text::reply_lines))]
+#[tactic(auto, unfolding(vm_model::specs::Language::Text::reply_lines))]
 fn runs_of(reply: &Reply) -> &[Run]
     ensures count { length (reply_lines reply.now) ≡ length result.now + 1 }
     ensures lines { drop 1 (reply_lines reply.now) ≡ map run_line result.now }
@@ -57,7 +57,7 @@ fn runs_of(reply: &Reply) -> &[Run]
 }
 
 /// Writes the first line of a reply, without its line feed, and answers where it ends.
-#[tactic(auto, unfolding(vm_model::specs::Text::reply_lines))]
+#[tactic(auto, unfolding(vm_model::specs::Language::Text::reply_lines))]
 fn put_first_line(reply: &Reply, out: &mut [u8]) -> usize
     requires { 16384 ≤ length out.old }
     ensures line { slice_get (reply_lines reply.now) 0 ≡ Some (take result out.new ++ codes "\n") }

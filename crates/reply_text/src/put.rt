@@ -4,7 +4,7 @@
 ghost use Rattle.std.specs.Prelude.{◌≡◌, ◌+◌, ◌*◌, ◌<◌, ◌≤◌, ◌++◌, false, length, take, codes, decimal};
 ghost use Rattle.std.specs.Fmt.{digits, digit_glyph};
 ghost use Rattle.std.specs.List.{flat_map};
-ghost use Rattle.vm_model.specs.Text.{data_text, address_text, perm_text, field, run_line, info_text, stat_text};
+ghost use Rattle.vm_model.specs.Language.Text.{data_text, address_text, perm_text, field, run_line, info_text, stat_text};
 
 use vm_base::Perm;
 use vm_model::{Info, Run, Stat};

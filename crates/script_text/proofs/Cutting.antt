@@ -6,7 +6,7 @@ use Rattle.std.proofs.lemmas.Bool.Decides.{nat_tests}
 use Rattle.std.proofs.lemmas.List.Quantifiers.{position-Some}
 use Rattle.std.proofs.lemmas.List.{drop_all}
 use Rattle.std.proofs.lemmas.List.Sums.{prefix_len-le-length}
-use Rattle.vm_model.specs.Reading.{words, is_blank, begins_blank, before_first}
+use Rattle.vm_model.specs.Language.Reading.{words, is_blank, begins_blank, before_first}
 
 -- a byte of a word
 abbrev pub is_solid : ℕ → Bool

@@ -4,7 +4,7 @@ use Rattle.std.specs.Prelude.{Option, Some, None, option_and_then}
 use Rattle.std.proofs.Math.Nat.{le-mul_of_pos_right}
 use Rattle.std.proofs.lemmas.Bool.Decides.{nat_tests}
 use Rattle.std.proofs.lemmas.List.{at_drop_more}
-use Rattle.vm_model.specs.Reading.{digits_from, below}
+use Rattle.vm_model.specs.Language.Reading.{digits_from, below}
 
 -- a number that has reached the bound stays there
 pub below-digits_from : (bound base before : ℕ) (value : ℕ → Option ℕ) (bs : List ℕ) → 1 ≤ base → bound ≤ before → below bound (digits_from base value before bs) ≡ None

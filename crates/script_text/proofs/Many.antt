@@ -7,7 +7,7 @@ use Rattle.std.proofs.lemmas.Cmp.{nat_list_eq_equiv}
 use Rattle.std.proofs.lemmas.Map.Made.{length-le_from_is_member}
 use Rattle.std.proofs.lemmas.Slice.Eq.{bytes_eq-Decides}
 use Rattle.vm_model.specs.declared.command.Command.{Command}
-use Rattle.vm_model.specs.Reading.{command, flagged, are_flags, stands, is_word, vmo, region, number, child_kind, perm, vmo_create, vmo_create_child, vmar_allocate, vmar_map}
+use Rattle.vm_model.specs.Language.Reading.{command, flagged, are_flags, stands, is_word, vmo, region, number, child_kind, perm, vmo_create, vmo_create_child, vmar_allocate, vmar_map}
 
 -- three tests that hold
 three : (a b c : Bool) → (a && not b && c) ≡ true → (a ≡ true) × (b ≡ false) × (c ≡ true)

@@ -2,7 +2,7 @@
 use Rattle.std.proofs.Common.{◌≡◌, ℕ, Bool, true, false, List, [], ◌∷◌, ◌++◌, drop, Some, refl, sym, ap, ◌∙◌, append-nil, append_assoc}
 use Rattle.std.specs.Prelude.{slice_get}
 use Rattle.std.specs.List.{join_with_byte}
-use Rattle.vm_model.specs.Spelling.{set_flags}
+use Rattle.vm_model.specs.Language.Spelling.{set_flags}
 use Rattle.script_text.specs.Spaced.{spaced}
 
 -- joined words are the first one, and the others behind spaces

@@ -1,6 +1,6 @@
 -- Where words stand in a line.
 use Rattle.std.specs.Prelude.{◌≡◌, ℕ, ◌<◌, ◌≤◌, List, ◌∷◌, ◌++◌, length, take, drop, slice_range}
-use Rattle.vm_model.specs.Reading.{words}
+use Rattle.vm_model.specs.Language.Reading.{words}
 
 -- the first word at or behind a place of a line, from its first byte to the place behind its last
 pub record IsWordFrom (line : List ℕ) (place start end : ℕ) : Type 0 where

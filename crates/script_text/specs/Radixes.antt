@@ -1,7 +1,7 @@
 -- The two ways to spell a number.
 use Rattle.std.specs.Prelude.{ℕ, Option}
 use Rattle.hex.specs.Hex.{hex_digit_value}
-use Rattle.vm_model.specs.Reading.{digit}
+use Rattle.vm_model.specs.Language.Reading.{digit}
 use Rattle.script_text.specs.declared.fields.Radix.{Radix}
 use Rattle.script_text.specs.declared.fields.Radix.TheVariants.{Decimal, Hex}
 

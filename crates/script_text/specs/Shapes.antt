@@ -6,7 +6,7 @@ use Rattle.vm_base.specs.declared.flags.MapFlags.{MapFlags}
 use Rattle.vm_base.specs.declared.flags.Perm.{Perm}
 use Rattle.vm_model.specs.declared.command.Command.{Command}
 use Rattle.vm_model.specs.declared.command.Command.TheVariants.{RootCreate, VmarUnmap, VmarDestroy, Maps, MemRead}
-use Rattle.vm_model.specs.Reading.{◌>>=◌, vmo, region, number, bit, stands, of_region, of_region_range, vmar_allocate, vmar_map, vmar_protect, mem_write, stat}
+use Rattle.vm_model.specs.Language.Reading.{◌>>=◌, vmo, region, number, bit, stands, of_region, of_region_range, vmar_allocate, vmar_map, vmar_protect, mem_write, stat}
 
 -- the argument of a command of one VMO
 abbrev pub one_vmo : List (List ℕ) → Option VmoName

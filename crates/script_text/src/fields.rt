@@ -1,7 +1,7 @@
 //! How the fields of a command are spelled: numbers, names, byte data and permissions.
 
 ghost use Rattle.std.specs.Prelude.{◌≡◌, ◌^◌};
-ghost use Rattle.vm_model.specs.Reading.{below, digits, number, byte, name_behind, vmo, region, pin, byte_data, perm, child_kind};
+ghost use Rattle.vm_model.specs.Language.Reading.{below, digits, number, byte, name_behind, vmo, region, pin, byte_data, perm, child_kind};
 ghost use Rattle.script_text.specs.Radixes.{base_of, value_in};
 
 use vm_base::{Perm, PinName, RegionName, VmoName};
@@ -45,7 +45,7 @@ impl Radix {
 
 /// The number that a word of digits spells. `None` where the word is empty, a byte is no digit, or
 /// the number does not fit.
-#[tactic(auto, unfolding(vm_model::specs::Reading::digits_from))]
+#[tactic(auto, unfolding(vm_model::specs::Language::Reading::digits_from))]
 fn digits(radix: Radix, word: &[u8]) -> Option<u64>
     ensures { result ≡ below (2 ^ 64) (digits (base_of radix) (value_in radix) word.now) }
 {
@@ -62,7 +62,7 @@ fn digits(radix: Radix, word: &[u8]) -> Option<u64>
 
 /// A number: decimal digits, or `0x` and hexadecimal digits of either case. `None` where it is
 /// spelled otherwise, or is not below 2^64.
-#[tactic(auto, unfolding(vm_model::specs::Reading::number))]
+#[tactic(auto, unfolding(vm_model::specs::Language::Reading::number))]
 pub fn number(word: &[u8]) -> Option<u64>
     ensures { result ≡ number word.now }
 {
@@ -97,7 +97,7 @@ fn name_behind(letter: u8, word: &[u8]) -> Option<u32>
 
 /// The name of a VMO: `v` and a decimal number below 2^32 without leading zeros. `None` where it is
 /// spelled otherwise.
-#[tactic(auto, unfolding(vm_model::specs::Reading::vmo))]
+#[tactic(auto, unfolding(vm_model::specs::Language::Reading::vmo))]
 pub fn vmo(word: &[u8]) -> Option<VmoName>
     ensures { result ≡ vmo word.now }
 {
@@ -106,7 +106,7 @@ pub fn vmo(word: &[u8]) -> Option<VmoName>
 
 /// The name of a region: `r` and a decimal number below 2^32 without leading zeros. `None` where it
 /// is spelled otherwise.
-#[tactic(auto, unfolding(vm_model::specs::Reading::region))]
+#[tactic(auto, unfolding(vm_model::specs::Language::Reading::region))]
 pub fn region(word: &[u8]) -> Option<RegionName>
     ensures { result ≡ region word.now }
 {
@@ -115,7 +115,7 @@ pub fn region(word: &[u8]) -> Option<RegionName>
 
 /// The name of a pin: `p` and a decimal number below 2^32 without leading zeros. `None` where it is
 /// spelled otherwise.
-#[tactic(auto, unfolding(vm_model::specs::Reading::pin))]
+#[tactic(auto, unfolding(vm_model::specs::Language::Reading::pin))]
 pub fn pin(word: &[u8]) -> Option<PinName>
     ensures { result ≡ pin word.now }
 {
@@ -124,7 +124,7 @@ pub fn pin(word: &[u8]) -> Option<PinName>
 
 /// Byte data: `-` for no bytes, or two hexadecimal digits of either case for each of 1 to 4,096
 /// bytes. `None` where it is spelled otherwise.
-#[tactic(auto, unfolding(vm_model::specs::Reading::byte_data))]
+#[tactic(auto, unfolding(vm_model::specs::Language::Reading::byte_data))]
 pub fn byte_data(word: &[u8]) -> Option<Bytes4k>
     ensures { result ≡ byte_data word.now }
 {
@@ -144,7 +144,7 @@ pub fn byte_data(word: &[u8]) -> Option<Bytes4k>
 
 /// What an access may do: the letters of reading, writing and executing that are allowed, in this
 /// order, or `none`. `None` where it is spelled otherwise.
-#[tactic(auto, unfolding(vm_model::specs::Reading::perm))]
+#[tactic(auto, unfolding(vm_model::specs::Language::Reading::perm))]
 pub fn perm(word: &[u8]) -> Option<Perm>
     ensures { result ≡ perm word.now }
 {
@@ -171,7 +171,7 @@ pub fn perm(word: &[u8]) -> Option<Perm>
 
 /// What a child shows of its parent: `snapshot`, `slice` or `reference`. `None` where it is spelled
 /// otherwise.
-#[tactic(auto, unfolding(vm_model::specs::Reading::child_kind))]
+#[tactic(auto, unfolding(vm_model::specs::Language::Reading::child_kind))]
 pub fn child_kind(word: &[u8]) -> Option<ChildKind>
     ensures { result ≡ child_kind word.now }
 {

@@ -1,7 +1,7 @@
 //! The flags at the end of a command: words of a list of its own, each at most once, in any order.
 
 ghost use Rattle.std.specs.Prelude.{◌≡◌, ◌≤◌, map};
-ghost use Rattle.vm_model.specs.Reading.{are_flags, bit, stands};
+ghost use Rattle.vm_model.specs.Language.Reading.{are_flags, bit, stands};
 
 /// Whether a word stands among others.
 pub fn stands(word: &[u8], words: &[&[u8]]) -> bool

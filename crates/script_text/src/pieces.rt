@@ -5,8 +5,8 @@
 //! field says of it.
 
 ghost use Rattle.std.specs.Prelude.{◌≡◌, ◌+◌, ◌*◌, ◌<◌, ◌≤◌, All, [], ◌∷◌, ◌++◌, length, take, decimal};
-ghost use Rattle.vm_model.specs.Spelling.{Has32, Has64, kind_word, pin_word, region_word, set_flags, vmo_word};
-ghost use Rattle.vm_model.specs.Text.{data_text, perm_text};
+ghost use Rattle.vm_model.specs.Language.Spelling.{Has32, Has64, kind_word, pin_word, region_word, set_flags, vmo_word};
+ghost use Rattle.vm_model.specs.Language.Text.{data_text, perm_text};
 ghost use Rattle.script_text.specs.Spaced.{spaced};
 
 use bitflags::Flags;

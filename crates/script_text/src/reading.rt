@@ -1,7 +1,7 @@
 //! What one line of a script says.
 
 ghost use Rattle.std.specs.Prelude.{◌≡◌};
-ghost use Rattle.vm_model.specs.Reading.{command, is_comment, reading, words};
+ghost use Rattle.vm_model.specs.Language.Reading.{command, is_comment, reading, words};
 ghost use Rattle.script_text.specs.Lines.{reading_of};
 
 use crate::vmo_commands::command;
@@ -26,7 +26,7 @@ pub enum Line {
 
 /// Reads one line of a script, without its line feed. `SyntaxFault` where it has more than 16,384
 /// bytes, or where it is not blank, no comment and no command.
-#[tactic(auto, unfolding(vm_model::specs::Reading::reading))]
+#[tactic(auto, unfolding(vm_model::specs::Language::Reading::reading))]
 pub fn read_line(line: &[u8]) -> Result<Line, SyntaxFault>
     ensures { reading_of result ≡ reading line.now }
 {

@@ -1,7 +1,7 @@
 //! The commands of address regions and of the whole machine, from their arguments.
 
 ghost use Rattle.std.specs.Prelude.{◌≡◌, map};
-ghost use Rattle.vm_model.specs.Reading.{are_flags, by_word, of_region, of_region_range, vmar_allocate, vmar_map, vmar_protect, mem_write, stat};
+ghost use Rattle.vm_model.specs.Language.Reading.{are_flags, by_word, of_region, of_region_range, vmar_allocate, vmar_map, vmar_protect, mem_write, stat};
 ghost use Rattle.vm_model.specs.declared.command.Command.TheVariants.{RootCreate, VmarUnmap, VmarDestroy, Maps, MemRead};
 ghost use Rattle.script_text.specs.Shapes.{map_flag_words, map_flags, one_region, region_caps, region_flag_words, region_flags, region_range, region_rows};
 

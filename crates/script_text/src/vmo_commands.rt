@@ -1,7 +1,7 @@
 //! The commands of VMOs, from their arguments.
 
 ghost use Rattle.std.specs.Prelude.{◌≡◌, map};
-ghost use Rattle.vm_model.specs.Reading.{command, of_vmo, of_vmo_range, vmo_create, vmo_create_child, vmo_set_size, vmo_write, vmo_fill, vmo_pin, vmo_unpin};
+ghost use Rattle.vm_model.specs.Language.Reading.{command, of_vmo, of_vmo_range, vmo_create, vmo_create_child, vmo_set_size, vmo_write, vmo_fill, vmo_pin, vmo_unpin};
 ghost use Rattle.vm_model.specs.declared.command.Command.TheVariants.{VmoClose, VmoSize, VmoRead, VmoCommit, VmoDecommit, VmoZero, VmoInfo};
 ghost use Rattle.script_text.specs.Shapes.{one_vmo, vmo_range};
 
@@ -12,7 +12,7 @@ use vm_base::VmoName;
 use vm_model::Command;
 
 /// The command of this word and these arguments, or `None` where there is none.
-#[tactic(auto, unfolding(vm_model::specs::Reading::command))]
+#[tactic(auto, unfolding(vm_model::specs::Language::Reading::command))]
 pub fn command(word: &[u8], arguments: &[&[u8]]) -> Option<Command>
     ensures { result ≡ command word.now (map (λ a. a.now) arguments.now) }
 {

@@ -1,7 +1,7 @@
 //! The words of a line: the longest runs of bytes that are not blank.
 
 ghost use Rattle.std.specs.Prelude.{◌≡◌, ◌<◌, ◌≤◌, ◌↔◌, [], ◌∷◌, length, map, take, drop, not, position, slice_get, slice_range, MatchOption, IfSome, IsNone};
-ghost use Rattle.vm_model.specs.Reading.{words, is_blank};
+ghost use Rattle.vm_model.specs.Language.Reading.{words, is_blank};
 ghost use Rattle.script_text.specs.Places.{IsWordFrom};
 ghost use Rattle.script_text.specs.declared.words.TheConstants.{MOST_ARGUMENTS};
 

@@ -1,9 +1,9 @@
 //! How a command is spelled: its one canonical line.
 
 ghost use Rattle.std.specs.Prelude.{◌≡◌, ◌+◌, ◌≤◌, true, [], ◌∷◌, ◌++◌, length, take, drop, slice_get, codes, decimal};
-ghost use Rattle.vm_model.specs.Reading.{reading, Order};
-ghost use Rattle.vm_model.specs.Spelling.{Has32, Has64, HasRanges, command_words, has, has_spelling, spelling, kind_word, pin_word, region_word, set_flags, vmo_word};
-ghost use Rattle.vm_model.specs.Text.{data_text, perm_text};
+ghost use Rattle.vm_model.specs.Language.Reading.{reading, Order};
+ghost use Rattle.vm_model.specs.Language.Spelling.{Has32, Has64, HasRanges, command_words, has, has_spelling, spelling, kind_word, pin_word, region_word, set_flags, vmo_word};
+ghost use Rattle.vm_model.specs.Language.Text.{data_text, perm_text};
 ghost use Rattle.script_text.specs.Spaced.{spaced};
 ghost use Rattle.script_text.specs.declared.writing.TheConstants.{ARGUMENTS};
 
@@ -32,7 +32,7 @@ pub fn write_command(command: &Command, out: &mut [u8]) -> usize
 }
 
 /// The word of a command.
-#[tactic(auto, unfolding(vm_model::specs::Spelling::command_words))]
+#[tactic(auto, unfolding(vm_model::specs::Language::Spelling::command_words))]
 fn command_word(command: &Command) -> &'static [u8]
     ensures word { slice_get (command_words command.now) 0 ≡ Some result.now }
     ensures short { length result.now ≤ 20 }
@@ -66,7 +66,7 @@ fn command_word(command: &Command) -> &'static [u8]
 }
 
 /// Writes the arguments of a command.
-#[tactic(auto, unfolding(vm_model::specs::Spelling::command_words))]
+#[tactic(auto, unfolding(vm_model::specs::Language::Spelling::command_words))]
 fn put_arguments(out: &mut [u8], at: usize, command: &Command) -> usize
     requires { at + ARGUMENTS ≤ length out.old }
     ensures written { take result out.new ≡ take at out.old ++ spaced (drop 1 (command_words command.now)) }

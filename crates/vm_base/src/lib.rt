@@ -1,17 +1,23 @@
-//! The words that every layer of the machine speaks: names of objects, frame tags, refusals,
-//! page arithmetic, and the sets of permissions and map options.
+//! The words that every layer of the machine speaks: names of objects, frame tags, refusals, limits,
+//! page arithmetic, and the sets of permissions and map options. Its definitions say what a map from
+//! numbers, a search and a count are, with their laws (`specs/`, `proofs/`).
 //!
 //! It stands on `bitflags` alone. The layers above may use all of it.
 #![tactic(auto)]
 
 mod flags;
+mod limits;
 mod names;
 mod pages;
 mod refusal;
 
 pub use flags::{MapFlags, Perm};
+pub use limits::{
+    DATA_BYTES, FRAMES, KOIDS, LINE_BYTES, NAMES, PAGE, PAGE_BYTES, PIN_PAGES, ROOT_END,
+    ROOT_FIRST, SCRIPT_BYTES, TEXT_BYTES, TEXT_ROOM, VMO_PAGES,
+};
 pub use names::{Koid, PinName, RegionName, Tag, VmoName};
-pub use pages::{PAGE, PageNo, ROOT_END, ROOT_FIRST, VMO_PAGES, in_page, page_of, round_up};
+pub use pages::{PageNo, in_page, page_of, round_up};
 pub use refusal::{Failed, HostMemory, Refusal};
 
 #[cfg(test)]

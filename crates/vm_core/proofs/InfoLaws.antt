@@ -5,10 +5,10 @@ use Rattle.vm_base.specs.declared.refusal.Refusal.TheVariants.{BadHandle}
 use Rattle.vm_model.specs.declared.command.Command.TheVariants.{VmoInfo}
 use Rattle.vm_model.specs.declared.reply.Info.{Info}
 use Rattle.vm_model.specs.declared.reply.Reply.TheVariants.{Info as InfoReply}
-use Rattle.vm_model.specs.Names.{Name}
-use Rattle.vm_model.specs.State.{State, is_open}
-use Rattle.vm_model.specs.Attribution.{info_at}
-use Rattle.vm_model.specs.Step.{Step}
+use Rattle.vm_model.specs.Naming.Names.{Name}
+use Rattle.vm_model.specs.Machine.State.{State, is_open}
+use Rattle.vm_model.specs.Machine.Attribution.{info_at}
+use Rattle.vm_model.specs.Machine.Step.{Step}
 use Rattle.vm_model.proofs.NamesLaws.{target_of-at}
 use Rattle.vmo_ops.proofs.StepRows.{first_of-skip, Step-done, open_at}
 

@@ -2,11 +2,12 @@
 use Rattle.std.proofs.Common.{◌≡◌, ℕ, Bool, Option, None, Some, sym, ap, ◌∙◌}
 use Rattle.std.specs.Prelude.{is_some}
 use Rattle.std.specs.Option.{option_map}
-use Rattle.vm_model.specs.Content.{Content, nothing}
-use Rattle.vm_model.specs.Names.{Name, NAMES}
-use Rattle.vm_model.specs.Pins.{Pin, pins_vmo, pin_count}
-use Rattle.vm_model.specs.State.{empty_state}
-use Rattle.vm_model.proofs.SearchLaws.{count_below_none}
+use Rattle.vm_model.specs.Contents.Content.{Content, nothing}
+use Rattle.vm_model.specs.Naming.Names.{Name}
+use Rattle.vm_base.specs.declared.limits.TheConstants.{NAMES}
+use Rattle.vm_model.specs.Naming.Pins.{Pin, pins_vmo, pin_count}
+use Rattle.vm_model.specs.Machine.State.{empty_state}
+use Rattle.vm_base.proofs.SearchLaws.{count_below_none}
 use Rattle.vmo_table.specs.declared.target.Target.{Target}
 use Rattle.vmo_table.specs.Table.{Table as Vmos, name_of, names_of, lineage_in, keepers_of, CountsPins}
 use Rattle.pin_table.specs.Table.{pins_of}

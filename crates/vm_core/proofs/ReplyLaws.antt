@@ -4,8 +4,8 @@ use Rattle.std.specs.Prelude.{Result}
 use Rattle.vm_base.specs.declared.refusal.Refusal.{Refusal}
 use Rattle.vm_model.specs.declared.command.Command.{Command}
 use Rattle.vm_model.specs.declared.reply.Reply.{Reply}
-use Rattle.vm_model.specs.State.{State}
-use Rattle.vm_model.specs.Step.{Step}
+use Rattle.vm_model.specs.Machine.State.{State}
+use Rattle.vm_model.specs.Machine.Step.{Step}
 use Rattle.vmo_ops.specs.Targets.{reply_of}
 
 -- an answer that is known, in a step

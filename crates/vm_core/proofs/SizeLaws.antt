@@ -1,13 +1,13 @@
 -- The step of asking for a size.
 use Rattle.std.proofs.Common.{◌≡◌, ℕ, ◌*◌, not, [], Some, refl, sym, ap, ◌∙◌}
 use Rattle.vm_base.specs.declared.names.VmoName.{VmoName}
-use Rattle.vm_base.specs.declared.pages.TheConstants.{PAGE}
+use Rattle.vm_base.specs.declared.limits.TheConstants.{PAGE}
 use Rattle.vm_base.specs.declared.refusal.Refusal.TheVariants.{BadHandle}
 use Rattle.vm_model.specs.declared.command.Command.TheVariants.{VmoSize}
 use Rattle.vm_model.specs.declared.reply.Reply.TheVariants.{Number}
-use Rattle.vm_model.specs.Names.{Name}
-use Rattle.vm_model.specs.State.{State, is_open, name_pages}
-use Rattle.vm_model.specs.Step.{Step}
+use Rattle.vm_model.specs.Naming.Names.{Name}
+use Rattle.vm_model.specs.Machine.State.{State, is_open, name_pages}
+use Rattle.vm_model.specs.Machine.Step.{Step}
 use Rattle.vmo_ops.proofs.StepRows.{first_of-skip, Step-done, open_at, size_of-at}
 
 -- the size of what the name stands for is answered

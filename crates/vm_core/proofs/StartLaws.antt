@@ -1,6 +1,6 @@
 -- A store that was just filled with page frames.
 use Rattle.std.proofs.Common.{◌≡◌, ℕ, ap, ◌∙◌}
-use Rattle.vm_model.specs.Content.{Content, nothing}
+use Rattle.vm_model.specs.Contents.Content.{Content, nothing}
 
 -- it has these frames and nothing else
 pub filled : (frames : ℕ) (new old : Content) → new ≡ record old { frames = frames } → old ≡ nothing → new ≡ record nothing { frames = frames }

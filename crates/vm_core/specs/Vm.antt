@@ -1,6 +1,6 @@
 -- What a `Vm` is to its callers, and the state of the machine that it and its store stand for.
-use Rattle.vm_model.specs.Content.{Content}
-use Rattle.vm_model.specs.State.{State}
+use Rattle.vm_model.specs.Contents.Content.{Content}
+use Rattle.vm_model.specs.Machine.State.{State}
 use Rattle.vmo_table.specs.Table.{Table as Vmos, state_with}
 use Rattle.pin_table.specs.Table.{Table as Pins, pins_of}
 

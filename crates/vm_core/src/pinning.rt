@@ -3,8 +3,8 @@
 
 ghost use Rattle.std.specs.Prelude.{◌<◌, ◌^◌};
 ghost use Rattle.vm_model.specs.declared.command.Command.{Command};
-ghost use Rattle.vm_model.specs.State.{IsGoodState};
-ghost use Rattle.vm_model.specs.Step.{Step};
+ghost use Rattle.vm_model.specs.Machine.State.{IsGoodState};
+ghost use Rattle.vm_model.specs.Machine.Step.{Step};
 ghost use Rattle.vmo_table.specs.Table.{state_with, CountsPins};
 ghost use Rattle.pin_table.specs.Table.{pins_of};
 

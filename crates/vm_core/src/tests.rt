@@ -1,5 +1,5 @@
 ghost use Rattle.std.specs.Prelude.{◌+◌, ◌<◌, ◌≤◌, ◌^◌, length};
-ghost use Rattle.vm_model.specs.State.{IsGoodState};
+ghost use Rattle.vm_model.specs.Machine.State.{IsGoodState};
 ghost use Rattle.vm_core.specs.Vm.{state_of};
 
 use super::*;

@@ -35,9 +35,9 @@ impl Model for Vm {
 }
 
 impl Vm {
-    ghost use Rattle.vm_model.specs.State.{IsGoodState, empty_state};
-    ghost use Rattle.vm_model.specs.Content.{Content, nothing};
-    ghost use Rattle.vm_model.specs.Step.{Step};
+    ghost use Rattle.vm_model.specs.Machine.State.{IsGoodState, empty_state};
+    ghost use Rattle.vm_model.specs.Contents.Content.{Content, nothing};
+    ghost use Rattle.vm_model.specs.Machine.Step.{Step};
     ghost use Rattle.vm_core.specs.Vm.{state_of};
 
     /// A machine with no names and no pins. Over a store with page frames and no VMO it is the empty

@@ -3,12 +3,12 @@ use Rattle.std.proofs.Common.{◌≡◌, ◌≢◌, ℕ, ◌+◌, ◌<◌, ◌�
 use Rattle.std.proofs.lemmas.Bool.{and_left, and_parts, both_ways, false_from_ne_true}
 use Rattle.vm_model.specs.declared.names.NameKind.{NameKind}
 use Rattle.vm_model.specs.declared.names.NameKind.TheVariants.{Owner, Slice, Reference}
-use Rattle.vm_model.specs.Search.{count_below}
-use Rattle.vm_model.specs.Maps.{with_key, without_key}
-use Rattle.vm_model.specs.Names.{Name, NAMES, carries, is_named, is_kind, carries_as, names_as}
-use Rattle.vm_model.proofs.SearchLaws.{any_below_none, count_below_same, count_below_le, count_below_none, count_below_hit, count_below_change, count_below_split_three, bit_same, bit-false}
-use Rattle.vm_model.proofs.ContentLaws.{eqb_apart}
-use Rattle.vm_model.proofs.MapLaws.{with_key-same, with_key-other, without_key-same, without_key-other}
+use Rattle.vm_base.specs.Search.{count_below}
+use Rattle.vm_base.specs.Entries.{with_key, without_key}
+use Rattle.vm_model.specs.Naming.Names.{Name, carries, is_named, is_kind, carries_as, names_as}
+use Rattle.vm_base.specs.declared.limits.TheConstants.{NAMES}
+use Rattle.vm_base.proofs.SearchLaws.{any_below_none, count_below_same, count_below_le, count_below_none, count_below_hit, count_below_change, count_below_split_three, bit_same, bit-false, eqb_apart}
+use Rattle.vm_base.proofs.EntryLaws.{with_key-same, with_key-other, without_key-same, without_key-other}
 
 -- ---- one name
 

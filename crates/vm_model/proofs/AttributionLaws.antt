@@ -4,12 +4,12 @@
 use Rattle.std.proofs.Common.{◌≡◌, ◌≢◌, ℕ, ◌+◌, ◌<◌, ◌≤◌, Bool, true, false, not, cond, ◌&&◌, ◌==◌, Option, None, Some, refl, sym, ap, ◌∙◌, inl, inr, arith}
 use Rattle.std.specs.Prelude.{is_some}
 use Rattle.std.proofs.lemmas.Bool.{cases_order, both_ways, not_from_true, not_from_false}
-use Rattle.vm_model.specs.Search.{any_below, count_below}
-use Rattle.vm_model.specs.Content.{Page, Content, is_held, pages_of, views, sole, IsGood}
-use Rattle.vm_model.specs.Sharing.{IsLeastViewer}
-use Rattle.vm_model.specs.Attribution.{count_pages, is_shared, is_charged_page, is_charged}
-use Rattle.vm_model.proofs.SearchLaws.{any_below_at, none_below, count_below_le, count_below_less, count_below_gap, count_below_next, count_below_split, bit_same, bit-true, bit-false}
-use Rattle.vm_model.proofs.ContentLaws.{eqb_same, eqb_apart, sole-zero}
+use Rattle.vm_base.specs.Search.{any_below, count_below}
+use Rattle.vm_model.specs.Contents.Content.{Page, Content, is_held, pages_of, views, sole, IsGood}
+use Rattle.vm_model.specs.Contents.Sharing.{IsLeastViewer}
+use Rattle.vm_model.specs.Machine.Attribution.{count_pages, is_shared, is_charged_page, is_charged}
+use Rattle.vm_base.proofs.SearchLaws.{any_below_at, none_below, count_below_le, count_below_less, count_below_gap, count_below_next, count_below_split, bit_same, bit-true, bit-false, eqb_same, eqb_apart}
+use Rattle.vm_model.proofs.ContentLaws.{sole-zero}
 use Rattle.vm_model.proofs.SharingLaws.{views_held}
 
 -- ---- what each test says of a page

@@ -2,10 +2,10 @@
 use Rattle.std.proofs.Common.{ℕ, zero, suc, ◌+◌, ◌-◌, ◌*◌, ◌/◌, ◌<◌, ◌≤◌, List, [], ◌∷◌, sym, subst, arith}
 use Rattle.std.specs.List.{All, range_with_len}
 use Rattle.std.proofs.lemmas.List.Elements.{All-nil, All-cons, All-head, All-tail, All-weaker}
-use Rattle.vm_base.specs.declared.pages.TheConstants.{PAGE}
-use Rattle.vm_model.specs.Content.{Content, pages_of, IsGood}
-use Rattle.vm_model.specs.Owning.{Owns, OwnsAll}
-use Rattle.vm_model.specs.Writing.{touched, touched_end}
+use Rattle.vm_base.specs.declared.limits.TheConstants.{PAGE}
+use Rattle.vm_model.specs.Contents.Content.{Content, pages_of, IsGood}
+use Rattle.vm_model.specs.Contents.Owning.{Owns, OwnsAll}
+use Rattle.vm_model.specs.Contents.Writing.{touched, touched_end}
 use Rattle.vm_model.proofs.OwningLaws.{Owned-from_Owns}
 use Rattle.vm_model.proofs.RangeLaws.{touched-row, touched-nil, touched_end_le, touched_below}
 use Rattle.vm_model.proofs.WritingLaws.{IsKept, IsKept-same, IsKept-trans}

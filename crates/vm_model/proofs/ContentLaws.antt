@@ -4,21 +4,11 @@ use Rattle.std.specs.Prelude.{unwrap_or, is_some}
 use Rattle.std.proofs.lemmas.Bool.{cases_Bool, cases_eq, and_parts, and_from, and_left, and_right, not_from_true, not_from_false, false_from_ne_true}
 use Rattle.std.proofs.lemmas.Bool.Decides.{Decides-eqb}
 use Rattle.std.proofs.lemmas.List.{length-replicate}
-use Rattle.vm_base.specs.declared.pages.TheConstants.{PAGE, VMO_PAGES}
-use Rattle.vm_model.specs.Search.{count_below}
-use Rattle.vm_model.specs.Content.{Page, Content, nothing, zeros, bytes_of, pages_of, has_tag, views, in_use, used, vmos_of, seen_elsewhere, is_sole_page, sole, hold, created, IsGood}
-use Rattle.vm_model.proofs.SearchLaws.{any_below_found, any_below_at, any_below_same, count_below_same, count_below_le, count_below_one_more, count_below-suc, count_below_none}
-
--- ---- equal numbers as tests
-
-pub eqb_same : (n : ℕ) → (n == n) ≡ true
-eqb_same n = (Decides-eqb n n).1 refl
-
-pub eqb_apart : (m n : ℕ) → m ≢ n → (m == n) ≡ false
-eqb_apart m n apart = false_from_ne_true (m == n) (λ e. apart ((Decides-eqb m n).0 e))
-
-pub eqb_is : (m n : ℕ) → (m == n) ≡ true → m ≡ n
-eqb_is m n e = (Decides-eqb m n).0 e
+use Rattle.vm_base.specs.declared.limits.TheConstants.{PAGE, VMO_PAGES}
+use Rattle.vm_base.specs.Search.{count_below}
+use Rattle.vm_model.specs.Contents.Content.{Page, Content, nothing, bytes_of, pages_of, has_tag, views, in_use, used, vmos_of, seen_elsewhere, is_sole_page, sole, hold, created, IsGood}
+use Rattle.vm_base.specs.Pages.{zeros}
+use Rattle.vm_base.proofs.SearchLaws.{any_below_found, any_below_at, any_below_same, count_below_same, count_below_le, count_below_one_more, count_below-suc, count_below_none, eqb_same, eqb_apart, eqb_is}
 
 -- ---- what the words say of options
 
@@ -46,10 +36,6 @@ has_tag_held t (Some held) e = (held, refl, eqb_is held.tag t e)
 pub has_tag-same : (t : ℕ) (held other : Page) → held.tag ≡ other.tag → has_tag t (Some held) ≡ has_tag t (Some other)
 unfolding has_tag
 has_tag-same t held other e = ap (λ n. n == t) e
-
-pub length-zeros : length zeros ≡ PAGE
-unfolding zeros
-length-zeros = length-replicate {A = ℕ} PAGE 0
 
 pub bytes_of-none : (o : Option Page) → o ≡ None → bytes_of o ≡ zeros
 unfolding bytes_of

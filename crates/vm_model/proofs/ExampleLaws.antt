@@ -1,23 +1,22 @@
 -- The example script has one outcome where the host has memory, and it has that outcome.
 use Rattle.std.proofs.Common.{◌≡◌, ◌≢◌, ℕ, ◌+◌, ◌*◌, ◌/◌, ◌<◌, ◌≤◌, Bool, true, false, not, cond, List, [], ◌∷◌, ◌++◌, get_or, Option, None, Some, refl, sym, ap, subst, ◌∙◌, inl, inr, arith}
-use Rattle.std.specs.Prelude.{codes}
-use Rattle.std.specs.Prelude.{nat_lt, is_some}
+use Rattle.std.specs.Prelude.{codes, nat_lt, is_some}
 use Rattle.std.specs.List.{AllByRecursion}
 use Rattle.std.proofs.lemmas.Bool.{le-ltb, false_from_ne_true}
 use Rattle.hex.specs.Hex.{decode_pairs, encode_with}
-use Rattle.vm_base.specs.Pages.{rounded}
-use Rattle.vm_base.specs.declared.pages.TheConstants.{PAGE}
+use Rattle.vm_base.specs.Pages.{rounded, zeros, replaced}
+use Rattle.vm_base.specs.declared.limits.TheConstants.{PAGE}
 use Rattle.vm_base.specs.declared.refusal.Refusal.{Refusal}
 use Rattle.vm_base.specs.declared.refusal.Refusal.TheVariants.{BadHandle, AccessDenied, InvalidArgs, OutOfRange, NoMemory, HostMemory}
-use Rattle.vm_model.specs.Content.{Page, Content, nothing, zeros, shown, pages_of, in_use, used, hold, created, IsGood}
-use Rattle.vm_model.specs.Owning.{Owns, need}
-use Rattle.vm_model.specs.Writing.{touched_end, touched, bytes_in, replaced, Piece, piece, pieces, WritesPiece, Writes}
-use Rattle.vm_model.specs.Maps.{with_key}
-use Rattle.vm_model.specs.Names.{Name, owner}
-use Rattle.vm_model.specs.State.{State, empty_state, is_open, target_of, koid_of, name_pages, size_of, place_of}
-use Rattle.vm_model.specs.Refusals.{lacks_frames, refusals, first_of}
-use Rattle.vm_model.specs.Step.{with_vmo, Effect, StepAfter, Step}
-use Rattle.vm_model.specs.Run.{GivesAs, Gives, Run}
+use Rattle.vm_model.specs.Contents.Content.{Page, Content, nothing, shown, pages_of, in_use, used, hold, created, IsGood}
+use Rattle.vm_model.specs.Contents.Owning.{Owns, need}
+use Rattle.vm_model.specs.Contents.Writing.{touched_end, touched, bytes_in, Piece, piece, pieces, WritesPiece, Writes}
+use Rattle.vm_base.specs.Entries.{with_key}
+use Rattle.vm_model.specs.Naming.Names.{Name, owner}
+use Rattle.vm_model.specs.Machine.State.{State, empty_state, is_open, target_of, koid_of, name_pages, size_of, place_of}
+use Rattle.vm_model.specs.Machine.Refusals.{lacks_frames, refusals, first_of}
+use Rattle.vm_model.specs.Machine.Step.{with_vmo, Effect, StepAfter, Step}
+use Rattle.vm_model.specs.Scripts.Run.{GivesAs, Gives, Run, lines_of}
 use Rattle.vm_model.proofs.ContentLaws.{page-hold_here, page-hold_other_page, bytes_of-none, bytes_of-some, in_use_found, sole-zero, used-nothing, used-created, IsGood-nothing, IsGood-created}
 use Rattle.vm_model.proofs.OwningLaws.{Owned-from_Owns, need-row, unowned, unowned_le}
 use Rattle.vm_model.proofs.WritingLaws.{Writes-keeps_all}
@@ -27,10 +26,9 @@ use Rattle.vm_model.specs.declared.command.Command.{Command}
 use Rattle.vm_model.specs.declared.command.Command.TheVariants.{VmoCreate, VmoRead, VmoWrite}
 use Rattle.vm_model.specs.declared.reply.Reply.{Reply}
 use Rattle.vm_model.specs.declared.reply.Reply.TheVariants.{Done, Bytes, Refused}
-use Rattle.vm_model.specs.Reading.{Reading, Order, reading, words, digits_from, number, vmo, byte_data, command}
-use Rattle.vm_model.specs.Run.{lines_of}
-use Rattle.vm_model.specs.Text.{reply_lines, text, texts}
-use Rattle.vm_model.specs.Example.{example_script, example_text}
+use Rattle.vm_model.specs.Language.Reading.{Reading, Order, reading, words, digits_from, number, vmo, byte_data, command}
+use Rattle.vm_model.specs.Language.Text.{reply_lines, text, texts}
+use Rattle.vm_model.specs.Scripts.Example.{example_script, example_text}
 
 abbrev create_line : List ℕ
 create_line = codes "vmo_create v1 8192"

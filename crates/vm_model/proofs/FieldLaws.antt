@@ -16,9 +16,9 @@ use Rattle.vm_base.specs.declared.names.PinName.{PinName}
 use Rattle.vm_base.specs.declared.flags.Perm.{Perm}
 use Rattle.vm_model.specs.declared.command.ChildKind.{ChildKind}
 use Rattle.vm_model.specs.declared.command.ChildKind.TheVariants.{Snapshot, Slice, Reference}
-use Rattle.vm_model.specs.Reading.{is_blank, digit, digits_from, digits, below, is_hex, number, has_leading_zero, name_behind, vmo, region, pin, byte_data, byte, perm, child_kind, is_word}
-use Rattle.vm_model.specs.Text.{data_text, perm_text}
-use Rattle.vm_model.specs.Spelling.{vmo_word, region_word, pin_word, kind_word}
+use Rattle.vm_model.specs.Language.Reading.{is_blank, digit, digits_from, digits, below, is_hex, number, has_leading_zero, name_behind, vmo, region, pin, byte_data, byte, perm, child_kind, is_word}
+use Rattle.vm_model.specs.Language.Text.{data_text, perm_text}
+use Rattle.vm_model.specs.Language.Spelling.{vmo_word, region_word, pin_word, kind_word}
 use Rattle.vm_model.proofs.WordLaws.{is_solid, is_one_word}
 
 -- ---- decimal digits

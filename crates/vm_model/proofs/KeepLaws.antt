@@ -3,19 +3,19 @@ use Rattle.std.proofs.Common.{◌≡◌, ◌≢◌, ℕ, ◌+◌, ◌-◌, ◌*�
 use Rattle.std.specs.Prelude.{unwrap_or, IsSome, is_some}
 use Rattle.std.proofs.lemmas.Bool.{cases_eq, cases_lt, or_cases, or_left, or_right, both_ways}
 use Rattle.std.proofs.Math.Nat.{min-le_left}
-use Rattle.vm_base.specs.declared.pages.TheConstants.{PAGE, VMO_PAGES}
+use Rattle.vm_base.specs.declared.limits.TheConstants.{PAGE, VMO_PAGES, NAMES, PIN_PAGES}
 use Rattle.vm_model.specs.declared.names.Origin.TheVariants.{Created, Snapshot}
-use Rattle.vm_model.specs.Content.{Content, created, pages_of, sole, IsGood}
-use Rattle.vm_model.specs.Owning.{OwnsAll}
-use Rattle.vm_model.specs.Sharing.{snapshotted}
-use Rattle.vm_model.specs.Writing.{touched, pieces, Writes}
-use Rattle.vm_model.specs.Zeroing.{zeroed, resized, Zeroes}
-use Rattle.vm_model.specs.Maps.{with_key}
-use Rattle.vm_model.specs.Names.{Name, Lineage, NAMES, owner, is_named}
-use Rattle.vm_model.specs.Pins.{Pin, has_pin, covers, is_pinned, any_pinned}
-use Rattle.vm_model.specs.State.{State, is_open, is_live, target_of, lineage_of, name_pages, IsGoodName, IsGoodPin, IsGoodState}
-use Rattle.vm_model.specs.Leaving.{pruned}
-use Rattle.vm_model.specs.Step.{with_vmo, seen_pages, with_snapshot, slice_of, reference_of, with_alias, ChangesContent}
+use Rattle.vm_model.specs.Contents.Content.{Content, created, pages_of, sole, IsGood}
+use Rattle.vm_model.specs.Contents.Owning.{OwnsAll}
+use Rattle.vm_model.specs.Contents.Sharing.{snapshotted}
+use Rattle.vm_model.specs.Contents.Writing.{touched, pieces, Writes}
+use Rattle.vm_model.specs.Contents.Zeroing.{zeroed, resized, Zeroes}
+use Rattle.vm_base.specs.Entries.{with_key}
+use Rattle.vm_model.specs.Naming.Names.{Name, Lineage, owner, is_named}
+use Rattle.vm_model.specs.Naming.Pins.{Pin, has_pin, covers, is_pinned, any_pinned}
+use Rattle.vm_model.specs.Machine.State.{State, is_open, is_live, target_of, lineage_of, name_pages, IsGoodName, IsGoodPin, IsGoodState}
+use Rattle.vm_model.specs.Machine.Leaving.{pruned}
+use Rattle.vm_model.specs.Machine.Step.{with_vmo, seen_pages, with_snapshot, slice_of, reference_of, with_alias, ChangesContent}
 use Rattle.vm_model.proofs.ContentLaws.{count-created_new, count-created_other, next-created, frames-created, IsGood-created, sole_held}
 use Rattle.vm_model.proofs.SharingLaws.{count-snapshotted_new, count-snapshotted_other, next-snapshotted, frames-snapshotted, IsGood-snapshotted, koid_some}
 use Rattle.vm_model.proofs.ZeroingLaws.{cases_within, frames-resized, next-resized, count-resized_here, count-resized_other, pages_of-resized_here, IsGood-resized}
@@ -23,7 +23,7 @@ use Rattle.vm_model.proofs.WritingLaws.{IsKept, Writes-keeps_all}
 use Rattle.vm_model.proofs.CommitLaws.{OwnsAll-keeps_all}
 use Rattle.vm_model.proofs.ZeroesLaws.{zeroed-keeps, Zeroes-keeps_all}
 use Rattle.vm_model.proofs.SoleLaws.{KeepsSole, KeepsSole-Writes_all, KeepsSole-OwnsAll_all, KeepsSole-Zeroes, OwnsAll-alone_pages, sole-created_kept, sole-snapshotted_kept, sole-zeroed_kept, sole-resized_kept}
-use Rattle.vm_model.proofs.MapLaws.{with_key-same, with_key-other, with_key-cases}
+use Rattle.vm_base.proofs.EntryLaws.{with_key-same, with_key-other, with_key-cases}
 use Rattle.vm_model.proofs.NamesLaws.{is_named-with_key_new, is_named-with_key_kept, names-open, lineage_of-at, lineage_of-same}
 use Rattle.vm_model.proofs.PinLaws.{covers_at, covers_found, has_pin_at, has_pin-with_key_kept, is_pinned_found, is_pinned_at, any_pinned_at}
 use Rattle.vm_model.proofs.LeavingLaws.{lineage_at, count_at, IsGoodName-same, Loosens, unnamed, unpinned, Loosens-unnamed, Loosens-unpinned, IsGoodState-pruned, next-pruned, frames-pruned}
@@ -335,7 +335,7 @@ IsGoodState-pinned s n pin good h free fine =
 
 -- whole pages owned inside a VMO, and pinned under a number that is free
 pub pin_keeps : (old new : State) (n v offset len : ℕ) → IsGoodState old → n < NAMES → old.pins n ≡ None → IsSome (old.content.count v)
-    → offset % PAGE ≡ 0 → len % PAGE ≡ 0 → 0 < len → len ≤ 256 * PAGE → offset + len ≤ pages_of old.content v * PAGE
+    → offset % PAGE ≡ 0 → len % PAGE ≡ 0 → 0 < len → len ≤ PIN_PAGES * PAGE → offset + len ≤ pages_of old.content v * PAGE
     → new ≡ record old { content = new.content; pins = with_key old.pins n (record { koid = v; first = offset / PAGE; count = len / PAGE }) }
     → OwnsAll old.content v (touched offset len) new.content → Keeps old new
 pin_keeps old new n v offset len good h free vmo begins whole some few inside is owns =

@@ -5,16 +5,17 @@ use Rattle.std.specs.Prelude.{unwrap_or, IsSome, is_some}
 use Rattle.std.specs.Option.{option_map}
 use Rattle.std.proofs.lemmas.Bool.{cases_Bool, cases_eq, or_parts, not_from_true, not_from_false}
 use Rattle.std.proofs.lemmas.Bool.Decides.{Decides-eqb}
-use Rattle.vm_model.specs.Content.{Page, Content, pages_of, sole, IsGood}
-use Rattle.vm_model.specs.Sharing.{only, without}
-use Rattle.vm_model.specs.Maps.{without_key}
-use Rattle.vm_model.specs.Names.{Name, Lineage, NAMES, is_named, parent_without, lineage_without}
-use Rattle.vm_model.specs.Pins.{Pin, has_pin}
-use Rattle.vm_model.specs.State.{State, is_live, lineage_of, IsGoodName, IsGoodPin, IsGoodState}
-use Rattle.vm_model.specs.Leaving.{first_live, lineage_left, pruned}
-use Rattle.vm_model.proofs.ContentLaws.{eqb_apart}
-use Rattle.vm_model.proofs.MapLaws.{without_key-some}
-use Rattle.vm_model.proofs.NamesLaws.{some_is, none_is, is_named_none, is_named-without_key_other, lineage_of-at, lineage-known, lineage_of-same, parent_without-none, parent_without-same, parent_without-other, left_by, lineage_without-same, lineage_without-other, lineage_without-at, lineage_without-some, is_some-lineage_without}
+use Rattle.vm_model.specs.Contents.Content.{Page, Content, pages_of, sole, IsGood}
+use Rattle.vm_model.specs.Contents.Sharing.{only, without}
+use Rattle.vm_base.specs.Entries.{without_key}
+use Rattle.vm_model.specs.Naming.Names.{Name, Lineage, is_named, parent_without, lineage_without}
+use Rattle.vm_base.specs.declared.limits.TheConstants.{NAMES}
+use Rattle.vm_model.specs.Naming.Pins.{Pin, has_pin}
+use Rattle.vm_model.specs.Machine.State.{State, is_live, lineage_of, IsGoodName, IsGoodPin, IsGoodState}
+use Rattle.vm_model.specs.Machine.Leaving.{first_live, lineage_left, pruned}
+use Rattle.vm_base.proofs.SearchLaws.{eqb_apart}
+use Rattle.vm_base.proofs.EntryLaws.{without_key-some, some_is, none_is}
+use Rattle.vm_model.proofs.NamesLaws.{is_named_none, is_named-without_key_other, lineage_of-at, lineage-known, lineage_of-same, parent_without-none, parent_without-same, parent_without-other, left_by, lineage_without-same, lineage_without-other, lineage_without-at, lineage_without-some, is_some-lineage_without}
 use Rattle.vm_model.proofs.PinLaws.{has_pin_none, has_pin-without_key_other}
 use Rattle.vm_model.proofs.SharingLaws.{IsGood-only, frames-only, next-only, count-without_here, count-without_other}
 use Rattle.vm_model.proofs.SoleLaws.{sole-only_kept}

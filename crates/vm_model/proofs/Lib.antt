@@ -1,4 +1,3 @@
-pub mod SearchLaws
 pub mod ContentLaws
 pub mod OwningLaws
 pub mod SharingLaws
@@ -8,7 +7,6 @@ pub mod WritingLaws
 pub mod CommitLaws
 pub mod ZeroesLaws
 pub mod SoleLaws
-pub mod MapLaws
 pub mod NamesLaws
 pub mod AliasLaws
 pub mod AttributionLaws

@@ -5,24 +5,12 @@ use Rattle.std.specs.Option.{option_map}
 use Rattle.std.proofs.lemmas.Bool.{cases_Bool, cases_eq, false_from_ne_true}
 use Rattle.std.proofs.lemmas.Bool.Decides.{Decides-eqb}
 use Rattle.vm_model.specs.declared.names.Origin.TheVariants.{Created}
-use Rattle.vm_model.specs.Maps.{with_key, without_key}
-use Rattle.vm_model.specs.Names.{Name, Lineage, NAMES, owner, carries, is_named, parent_without, lineage_without}
-use Rattle.vm_model.specs.State.{State, target_of, lineage_of}
-use Rattle.vm_model.proofs.SearchLaws.{any_below_found, any_below_at}
-use Rattle.vm_model.proofs.ContentLaws.{eqb_same, eqb_apart, eqb_is}
-use Rattle.vm_model.proofs.MapLaws.{with_key-same, with_key-other, with_key-cases, without_key-other, without_key-some}
-
--- ---- options
-
--- what is there has a value
-pub some_is : {A : Type 0} (o : Option A) → IsSome o → (a : A) × (o ≡ Some a)
-some_is None h = absurd cc
-some_is (Some a) h = (a, refl)
-
--- what is not there is None
-pub none_is : {A : Type 0} (o : Option A) → is_some o ≡ false → o ≡ None
-none_is None h = refl
-none_is (Some a) h = absurd cc
+use Rattle.vm_base.specs.Entries.{with_key, without_key}
+use Rattle.vm_model.specs.Naming.Names.{Name, Lineage, owner, carries, is_named, parent_without, lineage_without}
+use Rattle.vm_base.specs.declared.limits.TheConstants.{NAMES}
+use Rattle.vm_model.specs.Machine.State.{State, target_of, lineage_of}
+use Rattle.vm_base.proofs.SearchLaws.{any_below_found, any_below_at, eqb_same, eqb_apart, eqb_is}
+use Rattle.vm_base.proofs.EntryLaws.{with_key-same, with_key-other, with_key-cases, without_key-other, without_key-some, some_is, none_is}
 
 -- ---- which VMOs a name stands for
 

@@ -3,14 +3,13 @@
 use Rattle.std.proofs.Common.{◌≡◌, ◌≢◌, ℕ, ◌+◌, ◌<◌, ◌≤◌, Bool, true, false, cond, ◌&&◌, ◌||◌, ◌==◌, Option, None, Some, refl, sym, ap, ◌∙◌, inl, inr, arith}
 use Rattle.std.specs.Prelude.{nat_le, nat_lt}
 use Rattle.std.proofs.lemmas.Bool.{cases_Bool, cases_eq, and_parts, and_from, and_left, and_right, or_left, or_right, or_from, false_from_ne_true, leb-true, le-leb}
-use Rattle.vm_model.specs.Search.{count_below}
-use Rattle.vm_model.specs.Maps.{with_key, without_key}
-use Rattle.vm_model.specs.Names.{NAMES}
-use Rattle.vm_model.specs.Zeroing.{is_within}
-use Rattle.vm_model.specs.Pins.{Pin, pins_vmo, has_pin, pin_count, covers, is_pinned, any_pinned}
-use Rattle.vm_model.proofs.SearchLaws.{any_below_found, any_below_at, any_below_none, none_below, any_below_same, any_below-count, count_below_le, count_below_change, bit_same, bit-false}
-use Rattle.vm_model.proofs.ContentLaws.{eqb_same, eqb_apart, eqb_is}
-use Rattle.vm_model.proofs.MapLaws.{with_key-same, with_key-other, with_key-cases, without_key-same, without_key-other, without_key-some}
+use Rattle.vm_base.specs.Search.{count_below}
+use Rattle.vm_base.specs.Entries.{with_key, without_key}
+use Rattle.vm_base.specs.declared.limits.TheConstants.{NAMES}
+use Rattle.vm_model.specs.Contents.Zeroing.{is_within}
+use Rattle.vm_model.specs.Naming.Pins.{Pin, pins_vmo, has_pin, pin_count, covers, is_pinned, any_pinned}
+use Rattle.vm_base.proofs.SearchLaws.{any_below_found, any_below_at, any_below_none, none_below, any_below_same, any_below-count, count_below_le, count_below_change, bit_same, bit-false, eqb_same, eqb_apart, eqb_is}
+use Rattle.vm_base.proofs.EntryLaws.{with_key-same, with_key-other, with_key-cases, without_key-same, without_key-other, without_key-some}
 use Rattle.vm_model.proofs.ZeroingLaws.{is_within-true, is_within-parts}
 
 -- ---- one pin

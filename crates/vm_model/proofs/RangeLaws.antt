@@ -6,11 +6,12 @@ use Rattle.std.proofs.lemmas.Bool.{cases_lt}
 use Rattle.std.proofs.lemmas.List.{length-take, length-drop, length-append, map-append, take_all, get_or-take, get_or-drop}
 use Rattle.std.proofs.lemmas.List.FromFn.{length-map-range_with_len, get_or-map-range_with_len}
 use Rattle.std.proofs.lemmas.Grind.{same_number_lists}
-use Rattle.vm_base.specs.declared.pages.TheConstants.{PAGE}
-use Rattle.vm_model.specs.Content.{Content, shown, sole, IsGood}
-use Rattle.vm_model.specs.Writing.{touched_end, touched, byte_at, bytes_in, replaced, piece}
-use Rattle.vm_model.specs.Owning.{need_from, need}
-use Rattle.vm_model.proofs.ContentLaws.{eqb_apart}
+use Rattle.vm_base.specs.declared.limits.TheConstants.{PAGE}
+use Rattle.vm_model.specs.Contents.Content.{Content, shown, sole, IsGood}
+use Rattle.vm_model.specs.Contents.Writing.{touched_end, touched, byte_at, bytes_in, piece}
+use Rattle.vm_base.specs.Pages.{replaced}
+use Rattle.vm_model.specs.Contents.Owning.{need_from, need}
+use Rattle.vm_base.proofs.SearchLaws.{eqb_apart}
 use Rattle.vm_model.proofs.OwningLaws.{length-shown, unowned, need-row, unowned-any}
 
 -- a range with a byte touches the pages in a row from its first byte's
@@ -99,11 +100,6 @@ bytes_in-page c v offset n whole h = same_number_lists (map (byte_at c v) (range
 pub length-bytes_in : (c : Content) (v offset n : ℕ) → length (bytes_in c v offset n) ≡ n
 unfolding bytes_in
 length-bytes_in c v offset n = length-map-range_with_len (byte_at c v) offset n
-
--- bytes replaced inside a list leave its length
-pub length-replaced : (old : List ℕ) (at : ℕ) (bytes : List ℕ) → at + length bytes ≤ length old → length (replaced old at bytes) ≡ length old
-unfolding replaced
-length-replaced old at bytes h = simp (length-append, length-take, length-drop) (omega arith)
 
 -- ---- how many touched pages are not sole
 

@@ -2,10 +2,10 @@
 use Rattle.std.proofs.Common.{◌≡◌, ◌≢◌, ℕ, suc, ◌<◌, cond, List, [], ◌∷◌, ◌++◌, length, get_or, refl, sym, ap, subst, ◌∙◌, append_assoc, append-nil, arith}
 use Rattle.std.proofs.lemmas.Grind.{flat_map-append}
 use Rattle.vm_model.specs.declared.reply.Reply.{Reply}
-use Rattle.vm_model.specs.State.{State}
-use Rattle.vm_model.specs.Text.{text, texts}
-use Rattle.vm_model.specs.Run.{onto_first, lines_of, before_whole, whole_lines, Gives, Run}
-use Rattle.vm_model.proofs.ContentLaws.{eqb_apart}
+use Rattle.vm_model.specs.Machine.State.{State}
+use Rattle.vm_model.specs.Language.Text.{text, texts}
+use Rattle.vm_model.specs.Scripts.Run.{onto_first, lines_of, before_whole, whole_lines, Gives, Run}
+use Rattle.vm_base.proofs.SearchLaws.{eqb_apart}
 
 -- no byte is a line feed
 abbrev pub HasNoFeed : List ℕ → Type 0

@@ -3,12 +3,12 @@ use Rattle.std.proofs.Common.{◌≡◌, ◌≢◌, ℕ, ◌+◌, ◌<◌, ◌�
 use Rattle.std.specs.Prelude.{nat_lt, unwrap_or, IsSome, is_some}
 use Rattle.std.proofs.lemmas.Bool.{cases_Bool, cases_eq, cases_lt, and_left, not_from_true, not_from_false, false_from_ne_true, both_ways, lt-ltb, le-ltb, ltb-true}
 use Rattle.std.proofs.lemmas.Bool.Decides.{nat_tests}
-use Rattle.vm_base.specs.declared.pages.TheConstants.{VMO_PAGES}
-use Rattle.vm_model.specs.Search.{any_below, count_below}
-use Rattle.vm_model.specs.Content.{Page, Content, nothing, pages_of, has_tag, views, in_use, used, vmos_of, seen_elsewhere, is_sole_page, hold, created, IsGood}
-use Rattle.vm_model.specs.Sharing.{viewers, page_seen, snapshotted, only, without}
-use Rattle.vm_model.proofs.SearchLaws.{any_below_at, any_below_same, any_below_either, any_below-count, count_below_same, count_below_le, count_below_none, count_below-suc, count_below_change, count_below-bound, bit_same, bit-true, bit-false}
-use Rattle.vm_model.proofs.ContentLaws.{eqb_same, eqb_apart, pages_of-at, has_tag_from, has_tag_held, next-hold, count-hold, pages_of-hold, page-hold_here, page-hold_other_page, page-hold_other_vmo, page-hold_cases, page-hold_parts, page-nothing, next-created, page-created, count-created_other, views_found, views_at, koid_below, in_use_at, not_in_use, is_sole_page-some, in_use_found}
+use Rattle.vm_base.specs.declared.limits.TheConstants.{VMO_PAGES}
+use Rattle.vm_base.specs.Search.{any_below, count_below}
+use Rattle.vm_model.specs.Contents.Content.{Page, Content, nothing, pages_of, has_tag, views, in_use, used, vmos_of, seen_elsewhere, is_sole_page, hold, created, IsGood}
+use Rattle.vm_model.specs.Contents.Sharing.{viewers, page_seen, snapshotted, only, without}
+use Rattle.vm_base.proofs.SearchLaws.{any_below_at, any_below_same, any_below_either, any_below-count, count_below_same, count_below_le, count_below_none, count_below-suc, count_below_change, count_below-bound, bit_same, bit-true, bit-false, eqb_same, eqb_apart}
+use Rattle.vm_model.proofs.ContentLaws.{pages_of-at, has_tag_from, has_tag_held, next-hold, count-hold, pages_of-hold, page-hold_here, page-hold_other_page, page-hold_other_vmo, page-hold_cases, page-hold_parts, page-nothing, next-created, page-created, count-created_other, views_found, views_at, koid_below, in_use_at, not_in_use, is_sole_page-some, in_use_found}
 
 -- two tests of one outcome, where each passes if the other does
 tests_same : (a b : Bool) → (a ≡ true → b ≡ true) → (b ≡ true → a ≡ true) → a ≡ b

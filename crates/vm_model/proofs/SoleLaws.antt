@@ -5,12 +5,12 @@ use Rattle.std.specs.List.{All, range_with_len}
 use Rattle.std.proofs.lemmas.Bool.{cases_Bool, cases_eq, and_parts, both_ways, not_from_true}
 use Rattle.std.proofs.lemmas.List.Elements.{All-nil, All-cons, All-head, All-tail, All-weaker, All-get_or}
 use Rattle.std.proofs.lemmas.List.FromFn.{length-range_with_len, get_or-range_with_len}
-use Rattle.vm_base.specs.declared.pages.TheConstants.{PAGE}
-use Rattle.vm_model.specs.Content.{Page, Content, is_held, pages_of, in_use, sole, hold, created, IsGood}
-use Rattle.vm_model.specs.Sharing.{snapshotted, only}
-use Rattle.vm_model.specs.Owning.{Owns, OwnsAll}
-use Rattle.vm_model.specs.Writing.{Piece, piece, pieces, touched, touched_end, WritesPiece, Writes}
-use Rattle.vm_model.specs.Zeroing.{zeroed, resized, is_whole, is_cleared, ZeroesPage, Zeroes}
+use Rattle.vm_base.specs.declared.limits.TheConstants.{PAGE}
+use Rattle.vm_model.specs.Contents.Content.{Page, Content, is_held, pages_of, in_use, sole, hold, created, IsGood}
+use Rattle.vm_model.specs.Contents.Sharing.{snapshotted, only}
+use Rattle.vm_model.specs.Contents.Owning.{Owns, OwnsAll}
+use Rattle.vm_model.specs.Contents.Writing.{Piece, piece, pieces, touched, touched_end, WritesPiece, Writes}
+use Rattle.vm_model.specs.Contents.Zeroing.{zeroed, resized, is_whole, is_cleared, ZeroesPage, Zeroes}
 use Rattle.vm_model.proofs.ContentLaws.{page-hold_other_page, page-hold_other_vmo, page-hold_cases, page-created, not_in_use, sole_held, sole_alone, sole_from, sole-hold_new, sole-hold_kept}
 use Rattle.vm_model.proofs.SharingLaws.{page-snapshotted_old, page-snapshotted_cases, page-only_stays, page-only_held}
 use Rattle.vm_model.proofs.OwningLaws.{Owned-from_Owns}

@@ -12,11 +12,12 @@ use Rattle.vm_base.specs.declared.flags.MapFlags.{MapFlags}
 use Rattle.vm_model.specs.declared.command.ChildKind.{ChildKind}
 use Rattle.vm_model.specs.declared.command.Command.{Command}
 use Rattle.vm_model.specs.declared.command.Command.TheVariants.{VmoCreate, VmoChild, VmoClose, VmoSize, VmoSetSize, VmoRead, VmoWrite, VmoFill, VmoCommit, VmoDecommit, VmoZero, VmoPin, VmoUnpin, VmoInfo, RootCreate, VmarAllocate, VmarMap, VmarUnmap, VmarProtect, VmarDestroy, Maps, MemRead, MemWrite, Stat}
-use Rattle.vm_model.specs.Reading.{Order, reading, is_comment, command, are_flags, stands, bit, flagged, of_vmo, of_vmo_range, of_region, of_region_range, vmar_allocate, vmar_map}
-use Rattle.vm_model.specs.Text.{data_text, perm_text}
-use Rattle.vm_model.specs.Spelling.{has, set_flags, vmo_word, region_word, pin_word, kind_word, command_words, spelling, has_spelling, IsData, HasRanges}
+use Rattle.vm_model.specs.Language.Reading.{Order, reading, is_comment, command, are_flags, stands, bit, flagged, of_vmo, of_vmo_range, of_region, of_region_range, vmar_allocate, vmar_map}
+use Rattle.vm_model.specs.Language.Text.{data_text, perm_text}
+use Rattle.vm_model.specs.Language.Spelling.{has, set_flags, vmo_word, region_word, pin_word, kind_word, command_words, spelling, has_spelling, IsData, HasRanges}
 use Rattle.vm_model.proofs.WordLaws.{is_one_word, are_words, words-join, spaced_length, length-join}
 use Rattle.vm_model.proofs.FieldLaws.{number-decimal, byte-decimal, decimal_word, length-decimal, name_word, vmo-vmo_word, region-region_word, pin-pin_word, byte_data-data_text, data_word, length-data_text, child_kind-kind_word, kind_is_word, length-kind_word, perm-perm_text, perm_word, length-perm_text, IsBytes-from_All}
+use Rattle.vm_base.specs.declared.limits.TheConstants.{LINE_BYTES}
 
 -- ---- arguments, of which each is one word, and few bytes with their spaces
 
@@ -72,7 +73,7 @@ reading-spelling c word {arguments = arguments} w fields small spelled read =
     let short : length word ≤ 20 = leb-true (length word) 20 parts.1 in
     let more = fields.few in
     let len = length-join (word ∷ arguments) in
-    let fits : nat_lt 16384 (length (spelling c)) ≡ false = rw spelled (le-ltb 16384 (length (join_with_byte 32 (word ∷ arguments))) (omega (arith, len, more))) in
+    let fits : nat_lt LINE_BYTES (length (spelling c)) ≡ false = rw spelled (le-ltb LINE_BYTES (length (join_with_byte 32 (word ∷ arguments))) (omega (arith, len, more))) in
     let solid : are_words (word ∷ arguments) ≡ true = rw front.1 fields.solid in
     let comment = not-true (is_comment word) front.0 in
     rw fits (rw (spelled, words-join (word ∷ arguments) solid, comment, read) refl)

@@ -6,23 +6,24 @@ use Rattle.std.proofs.lemmas.Bool.{ltb-false, eqb-true, eqb-false, not-false, an
 use Rattle.std.proofs.lemmas.List.{length-replicate}
 use Rattle.std.proofs.Math.Nat.{min-le_right}
 use Rattle.vm_base.specs.Pages.{rounded}
-use Rattle.vm_base.specs.declared.pages.TheConstants.{PAGE, VMO_PAGES}
+use Rattle.vm_base.specs.declared.limits.TheConstants.{PAGE, VMO_PAGES, NAMES, PIN_PAGES}
 use Rattle.vm_base.specs.declared.refusal.Refusal.{Refusal}
 use Rattle.vm_model.specs.declared.command.Command.{Command}
 use Rattle.vm_model.specs.declared.command.Command.TheVariants.{VmoCreate, VmoChild, VmoClose, VmoSetSize, VmoRead, VmoWrite, VmoFill, VmoCommit, VmoDecommit, VmoZero, VmoPin, VmoUnpin}
 use Rattle.vm_model.specs.declared.command.ChildKind.TheVariants.{Snapshot as SnapshotChild, Slice as SliceChild, Reference as ReferenceChild}
 use Rattle.vm_model.specs.declared.reply.Reply.{Reply}
-use Rattle.vm_model.specs.Content.{nothing, pages_of}
-use Rattle.vm_model.specs.Writing.{touched}
-use Rattle.vm_model.specs.Zeroing.{owned_by_zero}
-use Rattle.vm_model.specs.Names.{Name, NAMES}
-use Rattle.vm_model.specs.Pins.{is_pinned}
-use Rattle.vm_model.specs.State.{State, empty_state, is_open, target_of, koid_of, name_pages, size_of, place_of, IsGoodName, IsGoodState}
-use Rattle.vm_model.specs.Refusals.{lacks_frames, change_refusals, refusals, first_of}
-use Rattle.vm_model.specs.Spelling.{HasRanges}
-use Rattle.vm_model.specs.Step.{seen_pages, slice_of, reference_of, Effect, StepAfter, Step}
+use Rattle.vm_model.specs.Contents.Content.{nothing, pages_of}
+use Rattle.vm_model.specs.Contents.Writing.{touched}
+use Rattle.vm_model.specs.Contents.Zeroing.{owned_by_zero}
+use Rattle.vm_model.specs.Naming.Names.{Name}
+use Rattle.vm_model.specs.Naming.Pins.{is_pinned}
+use Rattle.vm_model.specs.Machine.State.{State, empty_state, is_open, target_of, koid_of, name_pages, size_of, place_of, IsGoodName, IsGoodState}
+use Rattle.vm_model.specs.Machine.Refusals.{lacks_frames, change_refusals, refusals, first_of}
+use Rattle.vm_model.specs.Language.Spelling.{HasRanges}
+use Rattle.vm_model.specs.Machine.Step.{seen_pages, slice_of, reference_of, Effect, StepAfter, Step}
 use Rattle.vm_model.proofs.ContentLaws.{IsGood-nothing}
-use Rattle.vm_model.proofs.NamesLaws.{some_is, none_is, names-open}
+use Rattle.vm_base.proofs.EntryLaws.{some_is, none_is}
+use Rattle.vm_model.proofs.NamesLaws.{names-open}
 use Rattle.vm_model.proofs.LeavingLaws.{name_vmo}
 use Rattle.vm_model.proofs.KeepLaws.{Keeps-same, slice_good, reference_good, snapshot_keeps, alias_keeps, close_keeps, unpin_keeps, write_keeps, commit_keeps, zero_range_keeps, zero_keeps, pin_keeps, resize_keeps}
 pub use Rattle.vm_model.proofs.KeepLaws.{Keeps, lineage_below, create_keeps, kept_keeps}
@@ -101,18 +102,18 @@ may_resize_too resizable no_write may off e = elim (and_cases resizable (no_writ
 ]
 
 -- what holds of a range that may be pinned: it is some whole pages, and not too many
-pin_range : (offset len : ℕ) → (not (offset % PAGE == 0 && len % PAGE == 0) || (len == 0 || nat_lt (256 * PAGE) len)) ≡ false
-    → (offset % PAGE ≡ 0) × (len % PAGE ≡ 0) × (0 < len) × (len ≤ 256 * PAGE)
+pin_range : (offset len : ℕ) → (not (offset % PAGE == 0 && len % PAGE == 0) || (len == 0 || nat_lt (PIN_PAGES * PAGE) len)) ≡ false
+    → (offset % PAGE ≡ 0) × (len % PAGE ≡ 0) × (0 < len) × (len ≤ PIN_PAGES * PAGE)
 pin_range offset len off =
     let begins = offset % PAGE == 0 in
     let whole = len % PAGE == 0 in
     let empty = len == 0 in
-    let large = nat_lt (256 * PAGE) len in
+    let large = nat_lt (PIN_PAGES * PAGE) len in
     let parts = or_parts (not (begins && whole)) (empty || large) off in
     let aligned = and_parts begins whole (not-false (begins && whole) parts.0) in
     let sizes = or_parts empty large parts.1 in
     let apart = eqb-false len 0 sizes.0 in
-    (eqb-true (offset % PAGE) 0 aligned.0, eqb-true (len % PAGE) 0 aligned.1, omega arith, ltb-false (256 * PAGE) len sizes.1)
+    (eqb-true (offset % PAGE) 0 aligned.0, eqb-true (len % PAGE) 0 aligned.1, omega arith, ltb-false (PIN_PAGES * PAGE) len sizes.1)
 
 -- ---- effects
 

@@ -2,7 +2,7 @@
 use Rattle.std.proofs.Common.{◌≡◌, ℕ, ◌+◌, ◌≤◌, Bool, true, false, not, List, [], ◌∷◌, ◌++◌, length, refl, sym, ap, ◌∙◌, arith, append-nil, length-append}
 use Rattle.std.specs.List.{join_with_byte, list_all}
 use Rattle.std.proofs.lemmas.Bool.{and_parts, not-true}
-use Rattle.vm_model.specs.Reading.{words, is_blank, begins_blank, before_first}
+use Rattle.vm_model.specs.Language.Reading.{words, is_blank, begins_blank, before_first}
 
 -- the bytes hold no blank
 abbrev pub is_solid : List ℕ → Bool

@@ -1,12 +1,14 @@
 -- Laws of writes: they keep contents good, and change nothing but pages.
 use Rattle.std.proofs.Common.{◌≡◌, ◌≢◌, ℕ, zero, suc, ◌+◌, ◌-◌, ◌*◌, ◌/◌, ◌<◌, ◌≤◌, true, cond, List, [], length, map, refl, sym, ap, subst, ◌∙◌, arith}
 use Rattle.std.specs.List.{range_with_len}
-use Rattle.vm_base.specs.declared.pages.TheConstants.{PAGE}
-use Rattle.vm_model.specs.Content.{Page, Content, shown, pages_of, used, sole, hold, IsGood}
-use Rattle.vm_model.specs.Writing.{replaced, Piece, piece, pieces, touched, touched_end, WritesPiece, Writes}
+use Rattle.vm_base.specs.declared.limits.TheConstants.{PAGE}
+use Rattle.vm_model.specs.Contents.Content.{Page, Content, shown, pages_of, used, sole, hold, IsGood}
+use Rattle.vm_base.specs.Pages.{replaced}
+use Rattle.vm_model.specs.Contents.Writing.{Piece, piece, pieces, touched, touched_end, WritesPiece, Writes}
 use Rattle.vm_model.proofs.ContentLaws.{frames-hold, next-hold, count-hold, pages_of-hold, page-hold_other_page, IsGood-hold_bytes, sole-hold_kept, sole-hold_elsewhere, used-hold_kept}
 use Rattle.vm_model.proofs.OwningLaws.{Owned-from_Owns, length-shown}
-use Rattle.vm_model.proofs.RangeLaws.{length-replaced, piece_fits, piece-page, touched-row, touched-nil, touched_end_le, touched_below}
+use Rattle.vm_base.proofs.PageLaws.{length-replaced}
+use Rattle.vm_model.proofs.RangeLaws.{piece_fits, piece-page, touched-row, touched-nil, touched_end_le, touched_below}
 
 -- new has the frames and VMOs of old, and is good
 pub record IsKept (old new : Content) : Type 0 where

@@ -3,11 +3,11 @@ use Rattle.std.proofs.Common.{◌≡◌, ◌≢◌, ℕ, zero, suc, ◌+◌, ◌
 use Rattle.std.specs.Prelude.{is_some}
 use Rattle.std.specs.List.{range_with_len, filter}
 use Rattle.std.proofs.lemmas.Bool.{cases_Bool, cases_lt, both_ways}
-use Rattle.vm_base.specs.declared.pages.TheConstants.{PAGE}
-use Rattle.vm_model.specs.Content.{Content, is_held, pages_of, used, sole, IsGood}
-use Rattle.vm_model.specs.Owning.{need}
-use Rattle.vm_model.specs.Writing.{touched, touched_end, piece, WritesPiece}
-use Rattle.vm_model.specs.Zeroing.{zeroed, is_cleared, ZeroesPage, Zeroes, owned_by_zero}
+use Rattle.vm_base.specs.declared.limits.TheConstants.{PAGE}
+use Rattle.vm_model.specs.Contents.Content.{Content, is_held, pages_of, used, sole, IsGood}
+use Rattle.vm_model.specs.Contents.Owning.{need}
+use Rattle.vm_model.specs.Contents.Writing.{touched, touched_end, piece, WritesPiece}
+use Rattle.vm_model.specs.Contents.Zeroing.{zeroed, is_cleared, ZeroesPage, Zeroes, owned_by_zero}
 use Rattle.vm_model.proofs.OwningLaws.{count_from, need-filter}
 use Rattle.vm_model.proofs.ZeroingLaws.{frames-zeroed, next-zeroed, count-zeroed, pages_of-zeroed, page-zeroed_out, sole-zeroed_out, IsGood-zeroed, used-zeroed_le, zeroed-none}
 use Rattle.vm_model.proofs.RangeLaws.{piece-page, piece_fits, touched-row, touched-nil, touched_end_le, touched_below}

@@ -3,16 +3,15 @@
 use Rattle.std.proofs.Common.{◌≡◌, ◌≢◌, ℕ, ◌+◌, ◌<◌, ◌≤◌, true, false, not, cond, ◌&&◌, ◌==◌, Option, None, Some, ◌⊎◌, refl, sym, ap, ◌∙◌, inl, inr, arith}
 use Rattle.std.specs.Prelude.{nat_lt, nat_le, IsSome, is_some, unwrap_or}
 use Rattle.std.proofs.lemmas.Bool.{cases_eq, cases_lt, and_parts, and_from, and_left, and_right, not_from_true, le-leb, lt-leb, leb-true, lt-ltb, le-ltb, ltb-true}
-use Rattle.vm_base.specs.declared.pages.TheConstants.{VMO_PAGES}
-use Rattle.vm_model.specs.Search.{any_below}
-use Rattle.vm_model.specs.Content.{Page, Content, pages_of, has_tag, views, in_use, used, vmos_of, seen_elsewhere, is_sole_page, sole, IsGood}
-use Rattle.vm_model.specs.Maps.{with_key}
-use Rattle.vm_model.specs.Sharing.{viewers}
-use Rattle.vm_model.specs.Zeroing.{is_within, zeroed, resized}
-use Rattle.vm_model.proofs.SearchLaws.{any_below_found, any_below_at, any_below_same, any_below_either, count_below_same, count_below_less, count_below-bound}
-use Rattle.vm_model.proofs.ContentLaws.{eqb_same, eqb_apart, pages_of-at, has_tag_held, views_found, views_at}
-use Rattle.vm_model.proofs.MapLaws.{with_key-same, with_key-other, with_key-cases}
-use Rattle.vm_model.proofs.NamesLaws.{some_is}
+use Rattle.vm_base.specs.declared.limits.TheConstants.{VMO_PAGES}
+use Rattle.vm_base.specs.Search.{any_below}
+use Rattle.vm_model.specs.Contents.Content.{Page, Content, pages_of, has_tag, views, in_use, used, vmos_of, seen_elsewhere, is_sole_page, sole, IsGood}
+use Rattle.vm_base.specs.Entries.{with_key}
+use Rattle.vm_model.specs.Contents.Sharing.{viewers}
+use Rattle.vm_model.specs.Contents.Zeroing.{is_within, zeroed, resized}
+use Rattle.vm_base.proofs.SearchLaws.{any_below_found, any_below_at, any_below_same, any_below_either, count_below_same, count_below_less, count_below-bound, eqb_same, eqb_apart}
+use Rattle.vm_model.proofs.ContentLaws.{pages_of-at, has_tag_held, views_found, views_at}
+use Rattle.vm_base.proofs.EntryLaws.{with_key-same, with_key-other, with_key-cases, some_is}
 use Rattle.vm_model.proofs.SharingLaws.{views-same, viewers-change, koid_some}
 
 -- ---- ranges of pages

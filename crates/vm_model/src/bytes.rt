@@ -4,21 +4,23 @@ ghost use Rattle.std.specs.Prelude.{◌≡◌, ◌+◌, ◌≤◌, ◌<◌, ◌�
 
 use arrayvec::ArrayVec;
 use std::marker::Model;
+use vm_base::DATA_BYTES;
 
 /// The bytes of one read or write, at most 4,096. It takes no memory of the host. Clauses see a list.
 #[derive(Debug, Drop)]
 pub struct Bytes4k {
-    bytes: ArrayVec<u8, 4096>,
+    bytes: ArrayVec<u8, DATA_BYTES>,
 }
 
 impl Model for Bytes4k {
     ghost use Rattle.std.specs.Prelude.{List, ℕ, length, ◌≤◌};
+    ghost use Rattle.vm_base.specs.declared.limits.TheConstants.{DATA_BYTES};
 
     ghost Value = { List ℕ };
 
     ghost view = { λ b. b.bytes.items };
 
-    ghost invariant = { λ b. length b.bytes.items ≤ 4096 };
+    ghost invariant = { λ b. length b.bytes.items ≤ DATA_BYTES };
 }
 
 impl Bytes4k {
@@ -34,23 +36,23 @@ impl Bytes4k {
     /// The bytes.
     pub fn as_slice(&self) -> &[u8]
         ensures value { result.now ≡ self.now }
-        ensures few { length result.now ≤ 4096 }
+        ensures few { length result.now ≤ DATA_BYTES }
     {
         self.bytes.as_slice()
     }
 
     /// Adds a byte at the end. `false`, changing nothing, exactly where 4,096 bytes are there.
     pub fn push(&mut self, byte: u8) -> bool
-        ensures room { IsTrue result ↔ (length self.old < 4096) }
-        ensures added { length self.old < 4096 → self.new ≡ self.old ++ byte ∷ [] }
-        ensures full { length self.old ≡ 4096 → self.new ≡ self.old }
+        ensures room { IsTrue result ↔ (length self.old < DATA_BYTES) }
+        ensures added { length self.old < DATA_BYTES → self.new ≡ self.old ++ byte ∷ [] }
+        ensures full { length self.old ≡ DATA_BYTES → self.new ≡ self.old }
     {
         self.bytes.try_push(byte).is_ok()
     }
 
     /// Adds bytes at the end, for which there is room.
     pub fn extend_from_slice(&mut self, bytes: &[u8])
-        requires { length self.old + length bytes.now ≤ 4096 }
+        requires { length self.old + length bytes.now ≤ DATA_BYTES }
         ensures { self.new ≡ self.old ++ bytes.now }
     {
         self.bytes.try_extend_from_slice(bytes).unwrap();

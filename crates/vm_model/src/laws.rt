@@ -5,13 +5,13 @@ ghost use Rattle.std.specs.List.{AllByRecursion};
 ghost use Rattle.vm_base.specs.declared.refusal.Refusal.TheVariants.{HostMemory};
 ghost use Rattle.vm_model.specs.declared.command.Command.{Command};
 ghost use Rattle.vm_model.specs.declared.reply.Reply.{Reply};
-ghost use Rattle.vm_model.specs.Reading.{reading, Order};
-ghost use Rattle.vm_model.specs.Spelling.{HasRanges, has_spelling, spelling};
-ghost use Rattle.vm_model.specs.State.{State, empty_state, IsGoodState};
-ghost use Rattle.vm_model.specs.Step.{Step};
-ghost use Rattle.vm_model.specs.Run.{lines_of, Run};
-ghost use Rattle.vm_model.specs.Text.{texts};
-ghost use Rattle.vm_model.specs.Example.{example_script, example_text};
+ghost use Rattle.vm_model.specs.Language.Reading.{reading, Order};
+ghost use Rattle.vm_model.specs.Language.Spelling.{HasRanges, has_spelling, spelling};
+ghost use Rattle.vm_model.specs.Machine.State.{State, empty_state, IsGoodState};
+ghost use Rattle.vm_model.specs.Machine.Step.{Step};
+ghost use Rattle.vm_model.specs.Scripts.Run.{lines_of, Run};
+ghost use Rattle.vm_model.specs.Language.Text.{texts};
+ghost use Rattle.vm_model.specs.Scripts.Example.{example_script, example_text};
 
 /// A machine with page frames and nothing else is in a good state.
 pub fn the_empty_state_is_good()

@@ -4,22 +4,24 @@ ghost use Rattle.std.specs.Prelude.{◌≡◌, ◌≤◌, ◌<◌, ◌↔◌, []
 
 use arrayvec::ArrayVec;
 use std::marker::Model;
+use vm_base::PIN_PAGES;
 
 /// The numbers of the frames of pinned pages, at most 256. It takes no memory of the host. Clauses see
 /// a list.
 #[derive(Debug, Drop)]
 pub struct PinNumbers {
-    numbers: ArrayVec<u64, 256>,
+    numbers: ArrayVec<u64, PIN_PAGES>,
 }
 
 impl Model for PinNumbers {
     ghost use Rattle.std.specs.Prelude.{List, ℕ, length, ◌≤◌};
+    ghost use Rattle.vm_base.specs.declared.limits.TheConstants.{PIN_PAGES};
 
     ghost Value = { List ℕ };
 
     ghost view = { λ p. p.numbers.items };
 
-    ghost invariant = { λ p. length p.numbers.items ≤ 256 };
+    ghost invariant = { λ p. length p.numbers.items ≤ PIN_PAGES };
 }
 
 impl PinNumbers {
@@ -35,16 +37,16 @@ impl PinNumbers {
     /// The numbers.
     pub fn as_slice(&self) -> &[u64]
         ensures value { result.now ≡ self.now }
-        ensures few { length result.now ≤ 256 }
+        ensures few { length result.now ≤ PIN_PAGES }
     {
         self.numbers.as_slice()
     }
 
     /// Adds a number at the end. `false`, changing nothing, exactly where 256 numbers are there.
     pub fn push(&mut self, number: u64) -> bool
-        ensures room { IsTrue result ↔ (length self.old < 256) }
-        ensures added { length self.old < 256 → self.new ≡ self.old ++ number ∷ [] }
-        ensures full { length self.old ≡ 256 → self.new ≡ self.old }
+        ensures room { IsTrue result ↔ (length self.old < PIN_PAGES) }
+        ensures added { length self.old < PIN_PAGES → self.new ≡ self.old ++ number ∷ [] }
+        ensures full { length self.old ≡ PIN_PAGES → self.new ≡ self.old }
     {
         self.numbers.try_push(number).is_ok()
     }

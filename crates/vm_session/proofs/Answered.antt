@@ -11,10 +11,10 @@ use Rattle.script_io.specs.declared.line_reader.Fetch.TheVariants.{Line, TooLong
 use Rattle.vm_base.specs.declared.refusal.Refusal.TheVariants.{Syntax}
 use Rattle.vm_model.specs.declared.reply.Reply.{Reply}
 use Rattle.vm_model.specs.declared.reply.Reply.TheVariants.{Refused}
-use Rattle.vm_model.specs.State.{State}
-use Rattle.vm_model.specs.Text.{text, texts}
-use Rattle.vm_model.specs.Run.{Gives}
-use Rattle.vm_model.specs.Reading.{Outside, reading, reading_of_words, words}
+use Rattle.vm_model.specs.Machine.State.{State}
+use Rattle.vm_model.specs.Language.Text.{text, texts}
+use Rattle.vm_model.specs.Scripts.Run.{Gives}
+use Rattle.vm_model.specs.Language.Reading.{Outside, reading, reading_of_words, words}
 use Rattle.vm_session.specs.Outcome.{Writes, AnswersLine, BreaksOff}
 use Rattle.vm_session.specs.Serving.{IsServed, IsReady, bytes_left}
 use Rattle.vm_session.proofs.Writing.{AnswersLine-outside}

@@ -1,8 +1,8 @@
 -- What a store contains before its first VMO, and how the serving of a script begins.
 use Rattle.std.proofs.Common.{◌≡◌, ℕ, inl, false, List, [], Option, refl, sym, ap, subst, ◌∙◌, arith}
 use Rattle.std.proofs.KnownBytes.{Appends-nil, Consumes-nil}
-use Rattle.vm_model.specs.Content.{Content, nothing}
-use Rattle.vm_model.specs.State.{State, empty_state}
+use Rattle.vm_model.specs.Contents.Content.{Content, nothing}
+use Rattle.vm_model.specs.Machine.State.{State, empty_state}
 use Rattle.vm_model.proofs.ContentLaws.{count-nothing}
 use Rattle.vm_core.specs.declared.vm.Vm.{Vm}
 use Rattle.vm_core.specs.Vm.{state_of}

@@ -10,11 +10,11 @@ use Rattle.vm_base.specs.declared.refusal.Refusal.TheVariants.{Syntax}
 use Rattle.vm_model.specs.declared.reply.Reply.{Reply}
 use Rattle.vm_model.specs.declared.reply.Reply.TheVariants.{Refused}
 use Rattle.vm_model.specs.declared.command.Command.{Command}
-use Rattle.vm_model.specs.State.{State}
-use Rattle.vm_model.specs.Step.{Step}
-use Rattle.vm_model.specs.Reading.{Reading, Order, Outside, reading}
-use Rattle.vm_model.specs.Text.{reply_lines, text, texts}
-use Rattle.vm_model.specs.Run.{GivesAs}
+use Rattle.vm_model.specs.Machine.State.{State}
+use Rattle.vm_model.specs.Machine.Step.{Step}
+use Rattle.vm_model.specs.Language.Reading.{Reading, Order, Outside, reading}
+use Rattle.vm_model.specs.Language.Text.{reply_lines, text, texts}
+use Rattle.vm_model.specs.Scripts.Run.{GivesAs}
 use Rattle.vm_session.specs.Outcome.{Writes, AnswersLine}
 
 -- a fact holds at an error

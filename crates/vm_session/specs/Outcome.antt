@@ -10,11 +10,11 @@ use Rattle.script_io.specs.declared.status.Status.{Status}
 use Rattle.script_io.specs.declared.status.Status.TheVariants.{Done, Usage, HostMemory, ReadFault, WriteFault, ScriptLimit}
 use Rattle.script_io.specs.Faults.{IsCutOff}
 use Rattle.vm_model.specs.declared.reply.Reply.{Reply}
-use Rattle.vm_model.specs.Content.{Content}
-use Rattle.vm_model.specs.State.{State, empty_state}
-use Rattle.vm_model.specs.Text.{texts}
-use Rattle.vm_model.specs.Reading.{is_hex, number, ◌>>=◌}
-use Rattle.vm_model.specs.Run.{lines_of, whole_lines, Gives, Run, Legal}
+use Rattle.vm_model.specs.Contents.Content.{Content}
+use Rattle.vm_model.specs.Machine.State.{State, empty_state}
+use Rattle.vm_model.specs.Language.Text.{texts}
+use Rattle.vm_model.specs.Language.Reading.{is_hex, number, ◌>>=◌}
+use Rattle.vm_model.specs.Scripts.Run.{lines_of, whole_lines, Gives, Run, Legal}
 
 -- ---- the words of the command line
 

@@ -5,9 +5,9 @@ use Rattle.script_io.specs.Reader.{Reader}
 use Rattle.script_io.specs.Fetching.{IsPending, Fetches}
 use Rattle.script_io.specs.declared.line_reader.Fetch.{Fetch}
 use Rattle.vm_model.specs.declared.reply.Reply.{Reply}
-use Rattle.vm_model.specs.State.{State, empty_state}
-use Rattle.vm_model.specs.Text.{texts}
-use Rattle.vm_model.specs.Run.{lines_of, whole_lines, Run}
+use Rattle.vm_model.specs.Machine.State.{State, empty_state}
+use Rattle.vm_model.specs.Language.Text.{texts}
+use Rattle.vm_model.specs.Scripts.Run.{lines_of, whole_lines, Run}
 
 -- These bytes are these lines, each with its line feed: whatever comes behind them begins a line.
 pub record AreLines (bytes : List ℕ) (lines : List (List ℕ)) : Type 0 where

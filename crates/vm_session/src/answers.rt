@@ -2,7 +2,7 @@
 
 ghost use Rattle.std.specs.Prelude.{◌≡◌, ◌+◌, ◌^◌, ◌<◌, ◌≤◌, ℕ, Option, List, length, IfNone, Some, MatchOption, ◌≢◌};
 ghost use Rattle.script_io.specs.Faults.{HasCause, HasFailed};
-ghost use Rattle.vm_model.specs.State.{IsGoodState};
+ghost use Rattle.vm_model.specs.Machine.State.{IsGoodState};
 ghost use Rattle.vm_core.specs.Vm.{state_of};
 ghost use Rattle.vm_session.specs.Outcome.{AnswersLine, EndsAs};
 ghost use Rattle.vm_session.specs.Serving.{IsServed, IsReady, FetchesOnce, bytes_left};

@@ -3,7 +3,7 @@
 ghost use Rattle.std.specs.Prelude.{◌≡◌, ◌≤◌, length, OnOk, OnErr};
 ghost use Rattle.std.specs.Io.KnownBytes.{Appends};
 ghost use Rattle.script_io.specs.Faults.{HasCause, IsCutOff};
-ghost use Rattle.vm_model.specs.Text.{text};
+ghost use Rattle.vm_model.specs.Language.Text.{text};
 
 use reply_text::{line_count, write_line};
 use script_io::{Sink, push_all};

@@ -2,7 +2,7 @@
 
 ghost use Rattle.std.specs.Prelude.{◌≡◌, ◌+◌, ◌^◌, ◌<◌, ◌≤◌, length, IfOk};
 ghost use Rattle.script_io.specs.Faults.{HasFailed};
-ghost use Rattle.vm_model.specs.Content.{nothing};
+ghost use Rattle.vm_model.specs.Contents.Content.{nothing};
 ghost use Rattle.vm_session.specs.Outcome.{EndsAs};
 
 use crate::answers::answer_next;

@@ -1,7 +1,7 @@
 //! The words of the command line.
 
 ghost use Rattle.std.specs.Prelude.{◌≡◌, ◌≤◌, length, IfSome};
-ghost use Rattle.vm_model.specs.Reading.{number};
+ghost use Rattle.vm_model.specs.Language.Reading.{number};
 ghost use Rattle.vm_session.specs.Outcome.{frame_count, within_frames, frames_of};
 
 use script_text::number;

@@ -5,18 +5,18 @@ use Rattle.std.proofs.lemmas.Bool.{ne_eqb}
 use Rattle.std.proofs.lemmas.Bool.Decides.{Decides-eqb}
 use Rattle.vm_base.specs.Pages.{rounded}
 use Rattle.vm_base.specs.declared.names.VmoName.{VmoName}
-use Rattle.vm_base.specs.declared.pages.TheConstants.{PAGE}
+use Rattle.vm_base.specs.declared.limits.TheConstants.{PAGE}
 use Rattle.vm_base.specs.declared.refusal.Refusal.{Refusal}
 use Rattle.vm_base.specs.declared.refusal.Refusal.TheVariants.{BadHandle, NameInUse, InvalidArgs, NotSupported, HostMemory}
 use Rattle.vm_model.specs.declared.command.Command.TheVariants.{VmoChild}
 use Rattle.vm_model.specs.declared.command.ChildKind.TheVariants.{Slice as SliceChild, Reference as ReferenceChild}
 use Rattle.vm_model.specs.declared.names.NameKind.TheVariants.{Slice}
 use Rattle.vm_model.specs.declared.reply.Reply.TheVariants.{Done, Refused}
-use Rattle.vm_model.specs.Maps.{with_key}
-use Rattle.vm_model.specs.Names.{Name, Lineage, is_kind}
-use Rattle.vm_model.specs.State.{State, is_open, target_of, koid_of, name_pages, size_of, lineage_of}
-use Rattle.vm_model.specs.Refusals.{refusals, first_of}
-use Rattle.vm_model.specs.Step.{slice_of, reference_of, with_alias, Step}
+use Rattle.vm_base.specs.Entries.{with_key}
+use Rattle.vm_model.specs.Naming.Names.{Name, Lineage, is_kind}
+use Rattle.vm_model.specs.Machine.State.{State, is_open, target_of, koid_of, name_pages, size_of, lineage_of}
+use Rattle.vm_model.specs.Machine.Refusals.{refusals, first_of}
+use Rattle.vm_model.specs.Machine.Step.{slice_of, reference_of, with_alias, Step}
 use Rattle.vm_model.proofs.NamesLaws.{target_of-at, lineage-known}
 use Rattle.vmo_ops.proofs.StepRows.{first_of-skip, first_of-hit, Step-refused, Step-done, Step-lacks, open_at, past_at, within_at}
 

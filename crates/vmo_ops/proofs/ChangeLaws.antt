@@ -3,18 +3,18 @@ use Rattle.std.proofs.Common.{◌≡◌, ℕ, ◌+◌, ◌*◌, ◌<◌, ◌≤�
 use Rattle.std.specs.Prelude.{nat_lt}
 use Rattle.std.specs.List.{list_any}
 use Rattle.vm_base.specs.declared.names.VmoName.{VmoName}
-use Rattle.vm_base.specs.declared.pages.TheConstants.{PAGE}
+use Rattle.vm_base.specs.declared.limits.TheConstants.{PAGE}
 use Rattle.vm_base.specs.declared.refusal.Refusal.{Refusal}
 use Rattle.vm_base.specs.declared.refusal.Refusal.TheVariants.{BadHandle, AccessDenied, OutOfRange, NoMemory, HostMemory}
 use Rattle.vm_model.specs.declared.command.Command.{Command}
 use Rattle.vm_model.specs.declared.reply.Reply.TheVariants.{Done, Refused}
-use Rattle.vm_model.specs.Content.{Content, used}
-use Rattle.vm_model.specs.Owning.{need}
-use Rattle.vm_model.specs.Names.{Name}
-use Rattle.vm_model.specs.State.{State, is_open, target_of, koid_of, name_pages, size_of, place_of}
-use Rattle.vm_model.specs.Writing.{touched}
-use Rattle.vm_model.specs.Refusals.{lacks_frames, change_refusals, refusals, first_of}
-use Rattle.vm_model.specs.Step.{Effect, touches_any, may_lack_memory, Step}
+use Rattle.vm_model.specs.Contents.Content.{Content, used}
+use Rattle.vm_model.specs.Contents.Owning.{need}
+use Rattle.vm_model.specs.Naming.Names.{Name}
+use Rattle.vm_model.specs.Machine.State.{State, is_open, target_of, koid_of, name_pages, size_of, place_of}
+use Rattle.vm_model.specs.Contents.Writing.{touched}
+use Rattle.vm_model.specs.Machine.Refusals.{lacks_frames, change_refusals, refusals, first_of}
+use Rattle.vm_model.specs.Machine.Step.{Effect, touches_any, may_lack_memory, Step}
 use Rattle.vm_model.proofs.NamesLaws.{target_of-at}
 use Rattle.vmo_ops.specs.Targets.{Does}
 use Rattle.vmo_ops.specs.Changes.{RefusesChange, IsRefusedBy, IsAllowed}

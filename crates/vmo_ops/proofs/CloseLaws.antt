@@ -6,11 +6,11 @@ use Rattle.vm_base.specs.declared.names.VmoName.{VmoName}
 use Rattle.vm_base.specs.declared.refusal.Refusal.TheVariants.{BadHandle}
 use Rattle.vm_model.specs.declared.command.Command.TheVariants.{VmoClose}
 use Rattle.vm_model.specs.declared.reply.Reply.TheVariants.{Done}
-use Rattle.vm_model.specs.Sharing.{without}
-use Rattle.vm_model.specs.Maps.{without_key}
-use Rattle.vm_model.specs.Pins.{pin_count}
-use Rattle.vm_model.specs.State.{State, is_open, target_of, koid_of, IsGoodState}
-use Rattle.vm_model.specs.Step.{Step}
+use Rattle.vm_model.specs.Contents.Sharing.{without}
+use Rattle.vm_base.specs.Entries.{without_key}
+use Rattle.vm_model.specs.Naming.Pins.{pin_count}
+use Rattle.vm_model.specs.Machine.State.{State, is_open, target_of, koid_of, IsGoodState}
+use Rattle.vm_model.specs.Machine.Step.{Step}
 use Rattle.vm_model.proofs.NamesLaws.{names-open}
 use Rattle.vm_model.proofs.LeavingLaws.{unnamed, Loosens-unnamed, name_vmo}
 use Rattle.vmo_table.specs.Table.{Closes}

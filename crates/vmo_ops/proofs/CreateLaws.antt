@@ -4,21 +4,21 @@ use Rattle.std.specs.Prelude.{nat_lt}
 use Rattle.std.proofs.lemmas.Bool.Decides.{Decides-eqb}
 use Rattle.vm_base.specs.Pages.{rounded}
 use Rattle.vm_base.specs.declared.names.VmoName.{VmoName}
-use Rattle.vm_base.specs.declared.pages.TheConstants.{PAGE, VMO_PAGES}
+use Rattle.vm_base.specs.declared.limits.TheConstants.{PAGE, VMO_PAGES}
 use Rattle.vm_base.specs.declared.refusal.Refusal.{Refusal}
 use Rattle.vm_base.specs.declared.refusal.Refusal.TheVariants.{BadHandle, NameInUse, BadState, InvalidArgs, OutOfRange, HostMemory}
 use Rattle.vm_model.specs.declared.command.Command.TheVariants.{VmoCreate, VmoChild}
 use Rattle.vm_model.specs.declared.command.ChildKind.TheVariants.{Snapshot as SnapshotChild}
 use Rattle.vm_model.specs.declared.names.Origin.TheVariants.{Created, Snapshot}
 use Rattle.vm_model.specs.declared.reply.Reply.TheVariants.{Done, Refused}
-use Rattle.vm_model.specs.Content.{Content, created}
-use Rattle.vm_model.specs.Sharing.{snapshotted, page_seen}
-use Rattle.vm_model.specs.Maps.{with_key}
-use Rattle.vm_model.specs.Names.{Name, owner}
-use Rattle.vm_model.specs.Pins.{has_pin}
-use Rattle.vm_model.specs.State.{State, is_open, koid_of}
-use Rattle.vm_model.specs.Refusals.{refusals, first_of}
-use Rattle.vm_model.specs.Step.{with_vmo, seen_pages, with_snapshot, Step}
+use Rattle.vm_model.specs.Contents.Content.{Content, created}
+use Rattle.vm_model.specs.Contents.Sharing.{snapshotted, page_seen}
+use Rattle.vm_base.specs.Entries.{with_key}
+use Rattle.vm_model.specs.Naming.Names.{Name, owner}
+use Rattle.vm_model.specs.Naming.Pins.{has_pin}
+use Rattle.vm_model.specs.Machine.State.{State, is_open, koid_of}
+use Rattle.vm_model.specs.Machine.Refusals.{refusals, first_of}
+use Rattle.vm_model.specs.Machine.Step.{with_vmo, seen_pages, with_snapshot, Step}
 use Rattle.vm_model.proofs.NamesLaws.{target_of-at}
 use Rattle.vm_model.proofs.SharingLaws.{page_seen-out}
 use Rattle.vmo_ops.proofs.StepRows.{first_of-skip, first_of-hit, Step-refused, Step-done, Step-lacks, open_at, test_not_less}

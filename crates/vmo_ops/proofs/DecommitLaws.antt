@@ -5,20 +5,20 @@ use Rattle.std.specs.List.{range_with_len, list_any}
 use Rattle.std.proofs.lemmas.Bool.{and_from, and_left, and_right, not_from_true, not_from_false, le-leb, ne_eqb}
 use Rattle.std.proofs.lemmas.Bool.Decides.{Decides-eqb}
 use Rattle.vm_base.specs.declared.names.VmoName.{VmoName}
-use Rattle.vm_base.specs.declared.pages.TheConstants.{PAGE}
+use Rattle.vm_base.specs.declared.limits.TheConstants.{PAGE}
 use Rattle.vm_base.specs.declared.refusal.Refusal.{Refusal}
 use Rattle.vm_base.specs.declared.refusal.Refusal.TheVariants.{BadHandle, BadState, AccessDenied, InvalidArgs, NotSupported, OutOfRange, HostMemory}
 use Rattle.vm_model.specs.declared.command.Command.TheVariants.{VmoDecommit}
 use Rattle.vm_model.specs.declared.reply.Reply.TheVariants.{Done, Refused}
-use Rattle.vm_model.specs.Content.{Content, is_held, sole}
-use Rattle.vm_model.specs.Owning.{need}
-use Rattle.vm_model.specs.Writing.{touched, touched_end}
-use Rattle.vm_model.specs.Zeroing.{zeroed, is_whole, is_cleared, Zeroes, owned_by_zero}
-use Rattle.vm_model.specs.Names.{Name, Lineage, may_decommit}
-use Rattle.vm_model.specs.Pins.{Pin, is_pinned, any_pinned}
-use Rattle.vm_model.specs.State.{State, is_open, target_of, koid_of, name_pages, size_of, place_of, lineage_of, IsGoodState}
-use Rattle.vm_model.specs.Refusals.{refusals, first_of}
-use Rattle.vm_model.specs.Step.{Step}
+use Rattle.vm_model.specs.Contents.Content.{Content, is_held, sole}
+use Rattle.vm_model.specs.Contents.Owning.{need}
+use Rattle.vm_model.specs.Contents.Writing.{touched, touched_end}
+use Rattle.vm_model.specs.Contents.Zeroing.{zeroed, is_whole, is_cleared, Zeroes, owned_by_zero}
+use Rattle.vm_model.specs.Naming.Names.{Name, Lineage, may_decommit}
+use Rattle.vm_model.specs.Naming.Pins.{Pin, is_pinned, any_pinned}
+use Rattle.vm_model.specs.Machine.State.{State, is_open, target_of, koid_of, name_pages, size_of, place_of, lineage_of, IsGoodState}
+use Rattle.vm_model.specs.Machine.Refusals.{refusals, first_of}
+use Rattle.vm_model.specs.Machine.Step.{Step}
 use Rattle.vm_model.proofs.NamesLaws.{target_of-at, lineage-known}
 use Rattle.vm_model.proofs.LeavingLaws.{name_lineage}
 use Rattle.vm_model.proofs.OwningLaws.{count_from-none}

@@ -2,9 +2,9 @@
 use Rattle.std.proofs.Common.{◌≡◌, ◌≢◌, ℕ, zero, suc, ◌+◌, ◌-◌, ◌<◌, ◌≤◌, List, [], ◌∷◌, ◌++◌, length, map, refl, sym, ap, ◌∙◌, arith}
 use Rattle.std.specs.List.{range_with_len}
 use Rattle.std.proofs.lemmas.List.FromFn.{length-map-range_with_len, map-range_with_len_more}
-use Rattle.vm_model.specs.Content.{Content, pages_of, used, IsGood}
-use Rattle.vm_model.specs.Owning.{need}
-use Rattle.vm_model.specs.Step.{frame_of}
+use Rattle.vm_model.specs.Contents.Content.{Content, pages_of, used, IsGood}
+use Rattle.vm_model.specs.Contents.Owning.{need}
+use Rattle.vm_model.specs.Machine.Step.{frame_of}
 use Rattle.vm_model.proofs.OwningLaws.{Owned, need-row, unowned}
 use Rattle.vmo_ops.proofs.RowLaws.{IsReady}
 

@@ -1,12 +1,11 @@
 -- The keepers of VMOs are the pins that are of them, also as pins come and go.
 use Rattle.std.proofs.Common.{◌≡◌, ◌≢◌, ℕ, ◌+◌, ◌<◌, ◌≤◌, cond, ◌==◌, Option, None, Some, inl, inr, sym, ap, ◌∙◌, arith}
 use Rattle.std.proofs.lemmas.Bool.{cases_eq}
-use Rattle.vm_model.specs.Maps.{with_key, without_key}
-use Rattle.vm_model.specs.Names.{NAMES}
-use Rattle.vm_model.specs.Pins.{Pin, pins_vmo, pin_count}
-use Rattle.vm_model.proofs.SearchLaws.{count_below_le, count_below_change, bit_same, bit-true, bit-false}
-use Rattle.vm_model.proofs.ContentLaws.{eqb_same, eqb_apart}
-use Rattle.vm_model.proofs.MapLaws.{with_key-same, with_key-other, without_key-same, without_key-other}
+use Rattle.vm_base.specs.Entries.{with_key, without_key}
+use Rattle.vm_base.specs.declared.limits.TheConstants.{NAMES}
+use Rattle.vm_model.specs.Naming.Pins.{Pin, pins_vmo, pin_count}
+use Rattle.vm_base.proofs.SearchLaws.{count_below_le, count_below_change, bit_same, bit-true, bit-false, eqb_same, eqb_apart}
+use Rattle.vm_base.proofs.EntryLaws.{with_key-same, with_key-other, without_key-same, without_key-other}
 use Rattle.vm_model.proofs.PinLaws.{pins_vmo-none, pins_vmo-some}
 use Rattle.vmo_table.specs.Table.{Table, keepers_of, CountsPins}
 

@@ -1,9 +1,10 @@
 -- What looking at a page says of it.
 use Rattle.std.proofs.Common.{◌≡◌, ℕ, Bool, Option, None, Some, refl, sym, ap, ◌∙◌, ◌≤◌, ◌+◌, ◌-◌, replicate, take, drop, arith}
 use Rattle.std.proofs.lemmas.List.{take-replicate, drop-replicate}
-use Rattle.vm_base.specs.declared.pages.TheConstants.{PAGE}
+use Rattle.vm_base.specs.declared.limits.TheConstants.{PAGE}
 use Rattle.vm_base.specs.declared.names.Tag.{Tag}
-use Rattle.vm_model.specs.Content.{Page, Content, zeros, is_sole_page}
+use Rattle.vm_model.specs.Contents.Content.{Page, Content, is_sole_page}
+use Rattle.vm_base.specs.Pages.{zeros}
 use Rattle.page_store.specs.declared.page_store.Look.TheVariants as look
 use Rattle.page_store.specs.Pages.{look_at}
 

@@ -1,9 +1,9 @@
 -- What a name of a good state stands for.
 use Rattle.std.proofs.Common.{◌∙◌}
 use Rattle.std.specs.Prelude.{IsSome}
-use Rattle.vm_model.specs.Content.{Content}
-use Rattle.vm_model.specs.Names.{Name}
-use Rattle.vm_model.specs.State.{State, IsGoodState, IsGoodName}
+use Rattle.vm_model.specs.Contents.Content.{Content}
+use Rattle.vm_model.specs.Naming.Names.{Name}
+use Rattle.vm_model.specs.Machine.State.{State, IsGoodState, IsGoodName}
 use Rattle.vmo_table.specs.Table.{Table, names_of, lineage_in, state_with}
 use Rattle.vmo_ops.specs.Targets.{IsInside, IsNamed, AreParts}
 use Rattle.vmo_ops.proofs.StepRows.{IsInside-good}

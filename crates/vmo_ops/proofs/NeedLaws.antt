@@ -1,10 +1,10 @@
 -- Counting the pages that are to be owned, from one held page to the next.
 use Rattle.std.proofs.Common.{◌≡◌, ℕ, ◌+◌, ◌-◌, ◌<◌, ◌≤◌, Bool, true, false, not, cond, None, sym, ap, ◌∙◌, arith}
 use Rattle.std.specs.List.{range_with_len, list_any}
-use Rattle.vm_model.specs.Content.{Content, sole}
-use Rattle.vm_model.specs.Owning.{need}
-use Rattle.vm_model.specs.Writing.{touched}
-use Rattle.vm_model.proofs.SearchLaws.{bit-true, bit-false}
+use Rattle.vm_model.specs.Contents.Content.{Content, sole}
+use Rattle.vm_model.specs.Contents.Owning.{need}
+use Rattle.vm_model.specs.Contents.Writing.{touched}
+use Rattle.vm_base.proofs.SearchLaws.{bit-true, bit-false}
 use Rattle.vm_model.proofs.ContentLaws.{sole-zero}
 use Rattle.vm_model.proofs.OwningLaws.{count_from, count_from-split, count_from-none, count_from-next, unowned, unowned-sole, unowned-any, need-row}
 

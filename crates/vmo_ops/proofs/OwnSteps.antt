@@ -1,18 +1,18 @@
 -- The steps of the commands that own all pages that a range touches: a write, a fill and a commit.
 use Rattle.std.proofs.Common.{◌≡◌, ℕ, ◌+◌, ◌*◌, not, List, length, replicate, refl, sym, subst}
 use Rattle.vm_base.specs.declared.names.VmoName.{VmoName}
-use Rattle.vm_base.specs.declared.pages.TheConstants.{PAGE}
+use Rattle.vm_base.specs.declared.limits.TheConstants.{PAGE}
 use Rattle.vm_base.specs.declared.refusal.Refusal.{Refusal}
 use Rattle.vm_model.specs.declared.command.Command.{Command}
 use Rattle.vm_model.specs.declared.command.Command.TheVariants.{VmoWrite, VmoFill, VmoCommit}
 use Rattle.vm_model.specs.declared.reply.Reply.TheVariants.{Done, Refused}
-use Rattle.vm_model.specs.Content.{Content, sole}
-use Rattle.vm_model.specs.Owning.{OwnsAll}
-use Rattle.vm_model.specs.Writing.{touched, pieces, Writes}
-use Rattle.vm_model.specs.Names.{Name}
-use Rattle.vm_model.specs.State.{State, koid_of, place_of}
-use Rattle.vm_model.specs.Refusals.{change_refusals, refusals}
-use Rattle.vm_model.specs.Step.{Effect, may_lack_memory, touches_any}
+use Rattle.vm_model.specs.Contents.Content.{Content, sole}
+use Rattle.vm_model.specs.Contents.Owning.{OwnsAll}
+use Rattle.vm_model.specs.Contents.Writing.{touched, pieces, Writes}
+use Rattle.vm_model.specs.Naming.Names.{Name}
+use Rattle.vm_model.specs.Machine.State.{State, koid_of, place_of}
+use Rattle.vm_model.specs.Machine.Refusals.{change_refusals, refusals}
+use Rattle.vm_model.specs.Machine.Step.{Effect, may_lack_memory, touches_any}
 use Rattle.vm_model.proofs.NamesLaws.{target_of-at}
 use Rattle.vmo_ops.specs.Targets.{Does, IsPlaced}
 use Rattle.vmo_ops.specs.Changes.{IsRefusedBy, IsAllowed}

@@ -5,21 +5,21 @@ use Rattle.std.specs.List.{range_with_len}
 use Rattle.std.proofs.lemmas.Bool.{and_from, and_parts, or_from, or_parts, not-false, true_from_ne_false, eqb-true, eqb-false, ltb-false}
 use Rattle.vm_base.specs.declared.names.PinName.{PinName}
 use Rattle.vm_base.specs.declared.names.VmoName.{VmoName}
-use Rattle.vm_base.specs.declared.pages.TheConstants.{PAGE}
+use Rattle.vm_base.specs.declared.limits.TheConstants.{PAGE}
 use Rattle.vm_base.specs.declared.refusal.Refusal.{Refusal}
 use Rattle.vm_base.specs.declared.refusal.Refusal.TheVariants.{BadHandle, NameInUse, InvalidArgs, OutOfRange, NoMemory, HostMemory}
 use Rattle.vm_model.specs.declared.command.Command.TheVariants.{VmoPin}
 use Rattle.vm_model.specs.declared.reply.Reply.TheVariants.{Pins, Refused}
-use Rattle.vm_model.specs.Content.{used}
-use Rattle.vm_model.specs.Owning.{OwnsAll, need}
-use Rattle.vm_model.specs.Maps.{with_key}
-use Rattle.vm_model.specs.Names.{Name}
-use Rattle.vm_model.specs.Pins.{Pin}
-use Rattle.vm_model.specs.State.{State, is_open, name_pages, size_of, place_of}
-use Rattle.vm_model.specs.Writing.{touched}
-use Rattle.vm_model.specs.Refusals.{lacks_frames, refusals, first_of}
-use Rattle.vm_model.specs.Step.{frames_of, Step}
-use Rattle.vm_model.proofs.ContentLaws.{eqb_apart}
+use Rattle.vm_model.specs.Contents.Content.{used}
+use Rattle.vm_model.specs.Contents.Owning.{OwnsAll, need}
+use Rattle.vm_base.specs.Entries.{with_key}
+use Rattle.vm_model.specs.Naming.Names.{Name}
+use Rattle.vm_model.specs.Naming.Pins.{Pin}
+use Rattle.vm_model.specs.Machine.State.{State, is_open, name_pages, size_of, place_of}
+use Rattle.vm_model.specs.Contents.Writing.{touched}
+use Rattle.vm_model.specs.Machine.Refusals.{lacks_frames, refusals, first_of}
+use Rattle.vm_model.specs.Machine.Step.{frames_of, Step}
+use Rattle.vm_base.proofs.SearchLaws.{eqb_apart}
 use Rattle.vm_model.proofs.NamesLaws.{target_of-at}
 use Rattle.vmo_ops.specs.Targets.{IsPlaced}
 use Rattle.vmo_ops.proofs.StepRows.{first_of-skip, first_of-hit, Step-refused, Step-done, Step-lacks, test_less, test_not_less, open_at, past_at, within_at}

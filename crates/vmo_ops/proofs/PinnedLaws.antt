@@ -1,9 +1,9 @@
 -- Whether pages of a VMO are pinned, as the table of pins answers.
 use Rattle.std.proofs.Common.{◌≡◌, ℕ, ◌+◌, ◌-◌, Option, Some, Bool, true, sym, ap, ◌∙◌, inl, inr, arith}
 use Rattle.std.proofs.lemmas.Bool.{cases_Bool, cases_lt, false_from_ne_true}
-use Rattle.vm_model.specs.Content.{Content, pages_of}
-use Rattle.vm_model.specs.Pins.{Pin, has_pin, covers, any_pinned}
-use Rattle.vm_model.specs.State.{State, IsGoodState}
+use Rattle.vm_model.specs.Contents.Content.{Content, pages_of}
+use Rattle.vm_model.specs.Naming.Pins.{Pin, has_pin, covers, any_pinned}
+use Rattle.vm_model.specs.Machine.State.{State, IsGoodState}
 use Rattle.vm_model.proofs.ContentLaws.{pages_of-at}
 use Rattle.vm_model.proofs.PinLaws.{covers_at, has_pin_found, is_pinned_at, any_pinned_found, any_pinned_at, any_pinned-empty}
 use Rattle.vm_model.proofs.KeepLaws.{is_pinned-has_pin}

@@ -2,16 +2,16 @@
 use Rattle.std.proofs.Common.{◌≡◌, ℕ, ◌+◌, ◌*◌, ◌<◌, ◌≤◌, not, List, [], ◌∷◌, ◌++◌, Some, refl, sym, ap, ◌∙◌}
 use Rattle.std.specs.Prelude.{nat_lt}
 use Rattle.vm_base.specs.declared.names.VmoName.{VmoName}
-use Rattle.vm_base.specs.declared.pages.TheConstants.{PAGE}
+use Rattle.vm_base.specs.declared.limits.TheConstants.{PAGE}
 use Rattle.vm_base.specs.declared.refusal.Refusal.TheVariants.{BadHandle, InvalidArgs, OutOfRange}
 use Rattle.vm_model.specs.declared.command.Command.TheVariants.{VmoRead}
 use Rattle.vm_model.specs.declared.reply.Reply.TheVariants.{Bytes, Refused}
-use Rattle.vm_model.specs.Content.{Content}
-use Rattle.vm_model.specs.Names.{Name}
-use Rattle.vm_model.specs.Writing.{bytes_in}
-use Rattle.vm_model.specs.State.{State, is_open, name_pages, size_of}
-use Rattle.vm_model.specs.Refusals.{refusals, first_of}
-use Rattle.vm_model.specs.Step.{Step}
+use Rattle.vm_model.specs.Contents.Content.{Content}
+use Rattle.vm_model.specs.Naming.Names.{Name}
+use Rattle.vm_model.specs.Contents.Writing.{bytes_in}
+use Rattle.vm_model.specs.Machine.State.{State, is_open, name_pages, size_of}
+use Rattle.vm_model.specs.Machine.Refusals.{refusals, first_of}
+use Rattle.vm_model.specs.Machine.Step.{Step}
 use Rattle.vm_model.proofs.RangeLaws.{bytes_in-append}
 use Rattle.vmo_ops.specs.Targets.{IsPlaced}
 use Rattle.vmo_ops.proofs.StepRows.{first_of-skip, first_of-hit, Step-refused, Step-done, open_at, past_at, within_at, spot, test_not_less}

@@ -3,18 +3,18 @@ use Rattle.std.proofs.Common.{◌≡◌, ℕ, ◌*◌, ◌/◌, ◌≤◌, Bool,
 use Rattle.std.specs.Prelude.{nat_lt}
 use Rattle.std.proofs.lemmas.Bool.Decides.{nat_tests}
 use Rattle.vm_base.specs.Pages.{rounded}
-use Rattle.vm_base.specs.declared.pages.TheConstants.{PAGE, VMO_PAGES}
+use Rattle.vm_base.specs.declared.limits.TheConstants.{PAGE, VMO_PAGES}
 use Rattle.vm_base.specs.declared.refusal.Refusal.{Refusal}
 use Rattle.vm_base.specs.declared.refusal.Refusal.TheVariants.{BadHandle, AccessDenied, Unavailable, OutOfRange, BadState}
 use Rattle.vm_base.specs.declared.names.VmoName.{VmoName}
 use Rattle.vm_model.specs.declared.command.Command.TheVariants.{VmoSetSize}
 use Rattle.vm_model.specs.declared.reply.Reply.TheVariants.{Done, Refused}
-use Rattle.vm_model.specs.Content.{Content, pages_of}
-use Rattle.vm_model.specs.Zeroing.{resized}
-use Rattle.vm_model.specs.Names.{Name}
-use Rattle.vm_model.specs.Pins.{Pin, any_pinned}
-use Rattle.vm_model.specs.State.{State, is_open, target_of, koid_of}
-use Rattle.vm_model.specs.Refusals.{refusals, first_of}
+use Rattle.vm_model.specs.Contents.Content.{Content, pages_of}
+use Rattle.vm_model.specs.Contents.Zeroing.{resized}
+use Rattle.vm_model.specs.Naming.Names.{Name}
+use Rattle.vm_model.specs.Naming.Pins.{Pin, any_pinned}
+use Rattle.vm_model.specs.Machine.State.{State, is_open, target_of, koid_of}
+use Rattle.vm_model.specs.Machine.Refusals.{refusals, first_of}
 use Rattle.vm_model.proofs.NamesLaws.{target_of-at}
 use Rattle.vmo_ops.specs.Targets.{DoesWith}
 use Rattle.vmo_ops.proofs.StepRows.{first_of-skip, first_of-hit, Step-refused, Step-done, open_at, test_not_less}

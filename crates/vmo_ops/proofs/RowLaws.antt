@@ -2,10 +2,10 @@
 use Rattle.std.proofs.Common.{◌≡◌, ◌≢◌, ℕ, suc, ◌+◌, ◌-◌, ◌*◌, ◌<◌, ◌≤◌, Bool, true, false, cond, List, [], ◌∷◌, ◌⊎◌, inl, inr, refl, sym, ap, subst, ◌∙◌, arith}
 use Rattle.std.specs.List.{range_with_len}
 use Rattle.std.proofs.lemmas.Bool.{cases_Bool}
-use Rattle.vm_base.specs.declared.pages.TheConstants.{PAGE}
-use Rattle.vm_model.specs.Content.{Content, pages_of, used, sole, IsGood}
-use Rattle.vm_model.specs.Owning.{Owns, OwnsAll, need}
-use Rattle.vm_model.specs.Writing.{touched}
+use Rattle.vm_base.specs.declared.limits.TheConstants.{PAGE}
+use Rattle.vm_model.specs.Contents.Content.{Content, pages_of, used, sole, IsGood}
+use Rattle.vm_model.specs.Contents.Owning.{Owns, OwnsAll, need}
+use Rattle.vm_model.specs.Contents.Writing.{touched}
 use Rattle.vm_model.proofs.OwningLaws.{Owned-from_Owns, unowned, unowned-same, unowned-next, need-row}
 use Rattle.vm_model.proofs.WritingLaws.{Written}
 

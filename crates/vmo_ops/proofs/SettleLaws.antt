@@ -3,12 +3,12 @@ use Rattle.std.proofs.Common.{◌≡◌, ℕ, true, false, Option, None, Some, i
 use Rattle.std.specs.Prelude.{nat_lt, is_some, IsSome, IfSome, MatchOption}
 use Rattle.std.proofs.lemmas.Bool.{cases_Bool, or_cases, or_parts, ltb-true, ltb-false}
 use Rattle.vm_base.specs.declared.names.Koid.{Koid}
-use Rattle.vm_model.specs.Content.{Content}
-use Rattle.vm_model.specs.Sharing.{without}
-use Rattle.vm_model.specs.Names.{Name, Lineage, is_named, lineage_without}
-use Rattle.vm_model.specs.Pins.{pin_count, has_pin}
-use Rattle.vm_model.specs.State.{State, is_live, IsGoodState}
-use Rattle.vm_model.specs.Leaving.{pruned}
+use Rattle.vm_model.specs.Contents.Content.{Content}
+use Rattle.vm_model.specs.Contents.Sharing.{without}
+use Rattle.vm_model.specs.Naming.Names.{Name, Lineage, is_named, lineage_without}
+use Rattle.vm_model.specs.Naming.Pins.{pin_count, has_pin}
+use Rattle.vm_model.specs.Machine.State.{State, is_live, IsGoodState}
+use Rattle.vm_model.specs.Machine.Leaving.{pruned}
 use Rattle.vm_model.proofs.NamesLaws.{lineage-known}
 use Rattle.vm_model.proofs.PinLaws.{has_pin-count}
 use Rattle.vm_model.proofs.LeavingLaws.{Loosens, pruned-stays, pruned-leaves}

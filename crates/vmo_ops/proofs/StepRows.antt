@@ -2,17 +2,17 @@
 use Rattle.std.proofs.Common.{◌≡◌, ℕ, ◌+◌, ◌*◌, ◌<◌, ◌≤◌, Bool, true, false, not, cond, List, ◌∷◌, Option, None, Some, inl, inr, refl, sym, ap, subst, ◌∙◌, arith}
 use Rattle.std.specs.Prelude.{nat_lt, is_some, unwrap_or}
 use Rattle.std.proofs.lemmas.Bool.Decides.{nat_tests}
-use Rattle.vm_base.specs.declared.pages.TheConstants.{PAGE, VMO_PAGES}
+use Rattle.vm_base.specs.declared.limits.TheConstants.{PAGE, VMO_PAGES}
 use Rattle.vm_base.specs.declared.refusal.Refusal.{Refusal}
 use Rattle.vm_base.specs.declared.refusal.Refusal.TheVariants.{HostMemory}
 use Rattle.vm_model.specs.declared.command.Command.{Command}
 use Rattle.vm_model.specs.declared.reply.Reply.{Reply}
 use Rattle.vm_model.specs.declared.reply.Reply.TheVariants.{Refused}
-use Rattle.vm_model.specs.Content.{Content, pages_of, IsGood}
-use Rattle.vm_model.specs.Names.{Name}
-use Rattle.vm_model.specs.State.{State, is_open, koid_of, name_pages, size_of, place_of, IsGoodName, IsGoodState}
-use Rattle.vm_model.specs.Refusals.{refusals, first_of}
-use Rattle.vm_model.specs.Step.{Effect, may_lack_memory, StepAfter, Step}
+use Rattle.vm_model.specs.Contents.Content.{Content, pages_of, IsGood}
+use Rattle.vm_model.specs.Naming.Names.{Name}
+use Rattle.vm_model.specs.Machine.State.{State, is_open, koid_of, name_pages, size_of, place_of, IsGoodName, IsGoodState}
+use Rattle.vm_model.specs.Machine.Refusals.{refusals, first_of}
+use Rattle.vm_model.specs.Machine.Step.{Effect, may_lack_memory, StepAfter, Step}
 use Rattle.vm_model.proofs.NamesLaws.{target_of-at}
 use Rattle.vmo_ops.specs.Targets.{IsInside}
 

@@ -6,11 +6,11 @@ use Rattle.vm_base.specs.declared.names.PinName.{PinName}
 use Rattle.vm_base.specs.declared.refusal.Refusal.TheVariants.{BadHandle}
 use Rattle.vm_model.specs.declared.command.Command.TheVariants.{VmoUnpin}
 use Rattle.vm_model.specs.declared.reply.Reply.TheVariants.{Done}
-use Rattle.vm_model.specs.Sharing.{without}
-use Rattle.vm_model.specs.Maps.{without_key}
-use Rattle.vm_model.specs.Pins.{Pin, pin_count}
-use Rattle.vm_model.specs.State.{State, IsGoodState}
-use Rattle.vm_model.specs.Step.{Step}
+use Rattle.vm_model.specs.Contents.Sharing.{without}
+use Rattle.vm_base.specs.Entries.{without_key}
+use Rattle.vm_model.specs.Naming.Pins.{Pin, pin_count}
+use Rattle.vm_model.specs.Machine.State.{State, IsGoodState}
+use Rattle.vm_model.specs.Machine.Step.{Step}
 use Rattle.vm_model.proofs.LeavingLaws.{unpinned, Loosens-unpinned, pin_vmo}
 use Rattle.vmo_table.specs.Table.{Settles}
 use Rattle.vmo_ops.proofs.StepRows.{first_of-skip, Step-done}

@@ -1,10 +1,11 @@
 -- Laws of writing a page.
 use Rattle.std.proofs.Common.{◌≡◌, ℕ, ◌+◌, ◌-◌, ◌*◌, ◌/◌, ◌<◌, ◌≤◌, min, List, length, map, refl, sym, subst, ◌∙◌, arith}
 use Rattle.std.specs.Prelude.{slice_range}
-use Rattle.vm_base.specs.declared.pages.TheConstants.{PAGE}
-use Rattle.vm_model.specs.Content.{Page, Content, shown, pages_of, hold, IsGood}
-use Rattle.vm_model.specs.Owning.{Owns}
-use Rattle.vm_model.specs.Writing.{touched, replaced, Piece, piece, pieces, WritesPiece, Writes}
+use Rattle.vm_base.specs.declared.limits.TheConstants.{PAGE}
+use Rattle.vm_model.specs.Contents.Content.{Page, Content, shown, pages_of, hold, IsGood}
+use Rattle.vm_model.specs.Contents.Owning.{Owns}
+use Rattle.vm_model.specs.Contents.Writing.{touched, Piece, piece, pieces, WritesPiece, Writes}
+use Rattle.vm_base.specs.Pages.{replaced}
 use Rattle.vm_model.proofs.ContentLaws.{sole_alone, bytes_of-some}
 use Rattle.vm_model.proofs.OwningLaws.{Owned}
 use Rattle.vm_model.proofs.RangeLaws.{piece-page, piece_fits, slice_range-min}

@@ -4,21 +4,22 @@ use Rattle.std.proofs.Common.{◌≡◌, ◌≢◌, ℕ, zero, suc, ◌+◌, ◌
 use Rattle.std.specs.Prelude.{IsSome, is_some}
 use Rattle.std.specs.List.{range_with_len, list_any, filter}
 use Rattle.std.proofs.lemmas.Bool.{cases_Bool, and_from, and_left, or_left, or_right, not_from_false}
-use Rattle.vm_base.specs.declared.pages.TheConstants.{PAGE}
+use Rattle.vm_base.specs.declared.limits.TheConstants.{PAGE}
 use Rattle.vm_base.specs.declared.refusal.Refusal.{Refusal}
 use Rattle.vm_base.specs.declared.refusal.Refusal.TheVariants.{NoMemory, HostMemory}
 use Rattle.vm_model.specs.declared.command.Command.TheVariants.{VmoZero}
 use Rattle.vm_model.specs.declared.reply.Reply.TheVariants.{Done, Refused}
-use Rattle.vm_model.specs.Content.{Content, is_held, pages_of, used, sole, IsGood}
-use Rattle.vm_model.specs.Owning.{need}
-use Rattle.vm_model.specs.Writing.{touched}
-use Rattle.vm_model.specs.Zeroing.{is_whole, is_cleared, ZeroesPage, Zeroes, owned_by_zero}
-use Rattle.vm_model.specs.Names.{Name}
-use Rattle.vm_model.specs.Pins.{Pin, is_pinned, any_pinned}
-use Rattle.vm_model.specs.State.{State, target_of, koid_of, place_of}
-use Rattle.vm_model.specs.Refusals.{change_refusals, first_of}
-use Rattle.vm_model.proofs.NamesLaws.{some_is, target_of-at}
-use Rattle.vm_model.proofs.SearchLaws.{bit_le, bit-true}
+use Rattle.vm_model.specs.Contents.Content.{Content, is_held, pages_of, used, sole, IsGood}
+use Rattle.vm_model.specs.Contents.Owning.{need}
+use Rattle.vm_model.specs.Contents.Writing.{touched}
+use Rattle.vm_model.specs.Contents.Zeroing.{is_whole, is_cleared, ZeroesPage, Zeroes, owned_by_zero}
+use Rattle.vm_model.specs.Naming.Names.{Name}
+use Rattle.vm_model.specs.Naming.Pins.{Pin, is_pinned, any_pinned}
+use Rattle.vm_model.specs.Machine.State.{State, target_of, koid_of, place_of}
+use Rattle.vm_model.specs.Machine.Refusals.{change_refusals, first_of}
+use Rattle.vm_base.proofs.EntryLaws.{some_is}
+use Rattle.vm_model.proofs.NamesLaws.{target_of-at}
+use Rattle.vm_base.proofs.SearchLaws.{bit_le, bit-true}
 use Rattle.vm_model.proofs.AttributionLaws.{IsOfHeld, IsOfHeld-held}
 use Rattle.vm_model.proofs.OwningLaws.{count_from, count_from-same, count_from-next, count_from-none}
 use Rattle.vm_model.proofs.PinLaws.{any_pinned_at, none_pinned}

@@ -2,11 +2,11 @@
 use Rattle.std.specs.Prelude.{◌≡◌, ℕ, Bool, true, List, None, Some, ◌⊎◌}
 use Rattle.vm_base.specs.declared.refusal.Refusal.{Refusal}
 use Rattle.vm_base.specs.declared.refusal.Refusal.TheVariants.{HostMemory}
-use Rattle.vm_model.specs.Content.{Content}
-use Rattle.vm_model.specs.Names.{Name}
-use Rattle.vm_model.specs.State.{State}
-use Rattle.vm_model.specs.Refusals.{change_refusals, first_of}
-use Rattle.vm_model.specs.Step.{touches_any}
+use Rattle.vm_model.specs.Contents.Content.{Content}
+use Rattle.vm_model.specs.Naming.Names.{Name}
+use Rattle.vm_model.specs.Machine.State.{State}
+use Rattle.vm_model.specs.Machine.Refusals.{change_refusals, first_of}
+use Rattle.vm_model.specs.Machine.Step.{touches_any}
 
 -- A change to this range of a name, for which these pages of its VMO are owned, is refused: for the first reason that there is, or
 -- for want of the host's memory where a page that it touches passes the test.

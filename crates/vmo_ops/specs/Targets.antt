@@ -3,18 +3,18 @@ use Rattle.std.specs.Prelude.{◌≡◌, ℕ, ◌+◌, ◌*◌, ◌≤◌, Optio
 use Rattle.std.specs.declared.result.Result.TheVariants.{Ok, Err}
 use Rattle.vm_base.specs.declared.names.Koid.{Koid}
 use Rattle.vm_base.specs.declared.names.VmoName.{VmoName}
-use Rattle.vm_base.specs.declared.pages.TheConstants.{PAGE}
+use Rattle.vm_base.specs.declared.limits.TheConstants.{PAGE}
 use Rattle.vm_base.specs.declared.refusal.Refusal.{Refusal}
 use Rattle.vm_model.specs.declared.command.ChildKind.{ChildKind}
 use Rattle.vm_model.specs.declared.command.ChildKind.TheVariants.{Snapshot, Slice, Reference}
 use Rattle.vm_model.specs.declared.command.Command.{Command}
 use Rattle.vm_model.specs.declared.reply.Reply.{Reply}
 use Rattle.vm_model.specs.declared.reply.Reply.TheVariants.{Refused}
-use Rattle.vm_model.specs.Content.{Content, pages_of}
-use Rattle.vm_model.specs.Names.{Name}
-use Rattle.vm_model.specs.Pins.{Pin}
-use Rattle.vm_model.specs.State.{State, name_pages, IsGoodState}
-use Rattle.vm_model.specs.Step.{Step}
+use Rattle.vm_model.specs.Contents.Content.{Content, pages_of}
+use Rattle.vm_model.specs.Naming.Names.{Name}
+use Rattle.vm_model.specs.Naming.Pins.{Pin}
+use Rattle.vm_model.specs.Machine.State.{State, name_pages, IsGoodState}
+use Rattle.vm_model.specs.Machine.Step.{Step}
 use Rattle.vmo_table.specs.Table.{Table, state_with}
 
 -- what the name stands for lies inside its VMO

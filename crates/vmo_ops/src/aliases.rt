@@ -6,11 +6,11 @@ ghost use Rattle.vm_base.specs.declared.names.VmoName.{VmoName};
 ghost use Rattle.vm_model.specs.declared.command.Command.{Command};
 ghost use Rattle.vm_model.specs.declared.command.ChildKind.TheVariants.{Slice, Reference};
 ghost use Rattle.vm_model.specs.declared.reply.Reply.{Reply};
-ghost use Rattle.vm_model.specs.Content.{Content, IsGood};
-ghost use Rattle.vm_model.specs.Names.{is_kind};
-ghost use Rattle.vm_model.specs.Pins.{Pin};
-ghost use Rattle.vm_model.specs.State.{name_pages};
-ghost use Rattle.vm_model.specs.Step.{Step, slice_of, reference_of};
+ghost use Rattle.vm_model.specs.Contents.Content.{Content, IsGood};
+ghost use Rattle.vm_model.specs.Naming.Names.{is_kind};
+ghost use Rattle.vm_model.specs.Naming.Pins.{Pin};
+ghost use Rattle.vm_model.specs.Machine.State.{name_pages};
+ghost use Rattle.vm_model.specs.Machine.Step.{Step, slice_of, reference_of};
 ghost use Rattle.vmo_table.specs.Table.{name_of, names_of, lineage_in, keepers_of, state_with};
 ghost use Rattle.vmo_ops.specs.Targets.{IsInside, AreParts, IsNamed, reply_of};
 

@@ -3,10 +3,10 @@
 ghost use Rattle.std.specs.Prelude.{◌≡◌, ℕ, Option, IsSome, IfSome, MatchOption};
 ghost use Rattle.vm_model.specs.declared.command.Command.{Command};
 ghost use Rattle.vm_model.specs.declared.reply.Reply.{Reply};
-ghost use Rattle.vm_model.specs.Pins.{Pin};
-ghost use Rattle.vm_model.specs.Sharing.{without};
-ghost use Rattle.vm_model.specs.State.{IsGoodState};
-ghost use Rattle.vm_model.specs.Step.{Step};
+ghost use Rattle.vm_model.specs.Naming.Pins.{Pin};
+ghost use Rattle.vm_model.specs.Contents.Sharing.{without};
+ghost use Rattle.vm_model.specs.Machine.State.{IsGoodState};
+ghost use Rattle.vm_model.specs.Machine.Step.{Step};
 ghost use Rattle.vmo_table.specs.Table.{names_of, keepers_of, state_with, CountsPins};
 ghost use Rattle.vmo_ops.specs.Targets.{AreParts};
 

@@ -3,9 +3,9 @@
 ghost use Rattle.std.specs.Prelude.{◌≡◌, ℕ, ◌+◌, ◌*◌, ◌/◌, ◌<◌, ◌≤◌, ◌⊎◌, true, length, replicate, if◌then◌else◌};
 ghost use Rattle.vm_model.specs.declared.command.Command.{Command};
 ghost use Rattle.vm_model.specs.declared.reply.Reply.{Reply};
-ghost use Rattle.vm_model.specs.Content.{pages_of, sole, used, IsGood};
-ghost use Rattle.vm_model.specs.Owning.{need};
-ghost use Rattle.vm_model.specs.Writing.{touched, piece, pieces, WritesPiece, Writes};
+ghost use Rattle.vm_model.specs.Contents.Content.{pages_of, sole, used, IsGood};
+ghost use Rattle.vm_model.specs.Contents.Owning.{need};
+ghost use Rattle.vm_model.specs.Contents.Writing.{touched, piece, pieces, WritesPiece, Writes};
 ghost use Rattle.vmo_table.specs.Table.{name_of};
 ghost use Rattle.vmo_ops.specs.Targets.{IsInside, Does, reply_of};
 

@@ -3,8 +3,8 @@
 ghost use Rattle.std.specs.Prelude.{◌≡◌, ℕ, ◌<◌, ◌^◌, Option, None, IfOk};
 ghost use Rattle.vm_model.specs.declared.command.Command.{Command};
 ghost use Rattle.vm_model.specs.declared.reply.Reply.{Reply};
-ghost use Rattle.vm_model.specs.Pins.{Pin};
-ghost use Rattle.vm_model.specs.Step.{Step};
+ghost use Rattle.vm_model.specs.Naming.Pins.{Pin};
+ghost use Rattle.vm_model.specs.Machine.Step.{Step};
 ghost use Rattle.vmo_table.specs.Table.{names_of, keepers_of, state_with};
 ghost use Rattle.vmo_ops.specs.Targets.{AreParts, reply_of};
 

@@ -2,8 +2,8 @@
 
 ghost use Rattle.std.specs.Prelude.{◌≡◌, ◌+◌, ◌-◌, ◌<◌, ◌≤◌, ◌⊎◌, true, if◌then◌else◌, Some, IsSome, is_some, IfSome, OnOk, OnErr};
 ghost use Rattle.std.specs.List.{range_with_len};
-ghost use Rattle.vm_model.specs.Content.{Page, pages_of, sole, used, IsGood};
-ghost use Rattle.vm_model.specs.Owning.{Owns, need};
+ghost use Rattle.vm_model.specs.Contents.Content.{Page, pages_of, sole, used, IsGood};
+ghost use Rattle.vm_model.specs.Contents.Owning.{Owns, need};
 
 use crate::held_pages::next_held_below;
 use page_store::{Look, PageStore};

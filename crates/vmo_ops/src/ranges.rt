@@ -2,9 +2,9 @@
 
 ghost use Rattle.std.specs.Prelude.{◌≡◌, ◌+◌, ◌-◌, ◌*◌, ◌/◌, ◌<◌, ◌≤◌, ◌↔◌, IsTrue, IfNone, IfSome};
 ghost use Rattle.std.specs.List.{range_with_len};
-ghost use Rattle.vm_model.specs.Content.{IsGood};
-ghost use Rattle.vm_model.specs.State.{name_pages};
-ghost use Rattle.vm_model.specs.Writing.{touched};
+ghost use Rattle.vm_model.specs.Contents.Content.{IsGood};
+ghost use Rattle.vm_model.specs.Machine.State.{name_pages};
+ghost use Rattle.vm_model.specs.Contents.Writing.{touched};
 ghost use Rattle.vmo_table.specs.Table.{name_of};
 ghost use Rattle.vmo_ops.specs.Targets.{IsInside, IsPlaced};
 

@@ -3,8 +3,8 @@
 ghost use Rattle.std.specs.Prelude.{◌≡◌, ◌+◌, ◌*◌, ◌/◌, ◌%◌, ◌<◌, ◌≤◌, ◌++◌, length, take, drop};
 ghost use Rattle.vm_model.specs.declared.command.Command.{Command};
 ghost use Rattle.vm_model.specs.declared.reply.Reply.{Reply};
-ghost use Rattle.vm_model.specs.Content.{shown, pages_of, IsGood};
-ghost use Rattle.vm_model.specs.Writing.{bytes_in};
+ghost use Rattle.vm_model.specs.Contents.Content.{shown, pages_of, IsGood};
+ghost use Rattle.vm_model.specs.Contents.Writing.{bytes_in};
 ghost use Rattle.vmo_table.specs.Table.{name_of};
 ghost use Rattle.vmo_ops.specs.Targets.{IsInside, Does, reply_of};
 

@@ -3,10 +3,10 @@
 
 ghost use Rattle.std.specs.Prelude.{◌≡◌, ◌+◌, ◌*◌, ◌≤◌, ◌⊎◌, ◌<◌, not, false, true, IfOk, IfErr, OnOk};
 ghost use Rattle.vm_base.specs.declared.refusal.Refusal.TheVariants.{AccessDenied, OutOfRange};
-ghost use Rattle.vm_model.specs.Content.{sole, used, IsGood};
-ghost use Rattle.vm_model.specs.Owning.{need};
-ghost use Rattle.vm_model.specs.State.{name_pages};
-ghost use Rattle.vm_model.specs.Writing.{touched};
+ghost use Rattle.vm_model.specs.Contents.Content.{sole, used, IsGood};
+ghost use Rattle.vm_model.specs.Contents.Owning.{need};
+ghost use Rattle.vm_model.specs.Machine.State.{name_pages};
+ghost use Rattle.vm_model.specs.Contents.Writing.{touched};
 ghost use Rattle.vmo_table.specs.Table.{name_of};
 ghost use Rattle.vmo_ops.specs.Targets.{IsInside, IsPlaced};
 ghost use Rattle.vmo_ops.specs.Changes.{IsRefusedBy, IsAllowed};

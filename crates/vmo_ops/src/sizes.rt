@@ -3,8 +3,8 @@
 ghost use Rattle.std.specs.Prelude.{◌≡◌, ◌*◌};
 ghost use Rattle.vm_model.specs.declared.command.Command.{Command};
 ghost use Rattle.vm_model.specs.declared.reply.Reply.{Reply};
-ghost use Rattle.vm_model.specs.Content.{IsGood};
-ghost use Rattle.vm_model.specs.State.{name_pages};
+ghost use Rattle.vm_model.specs.Contents.Content.{IsGood};
+ghost use Rattle.vm_model.specs.Machine.State.{name_pages};
 ghost use Rattle.vmo_table.specs.Table.{name_of};
 ghost use Rattle.pin_table.specs.Table.{pins_of};
 ghost use Rattle.vmo_ops.specs.Targets.{IsInside, DoesWith, reply_of};

@@ -3,11 +3,11 @@
 ghost use Rattle.std.specs.Prelude.{◌≡◌, ◌+◌, ◌-◌, ◌*◌, ◌/◌, ◌<◌, ◌≤◌, true, replicate, IsSome, ◌⊎◌};
 ghost use Rattle.vm_model.specs.declared.command.Command.{Command};
 ghost use Rattle.vm_model.specs.declared.reply.Reply.{Reply};
-ghost use Rattle.vm_model.specs.Content.{pages_of, sole, used, IsGood};
-ghost use Rattle.vm_model.specs.Owning.{need};
-ghost use Rattle.vm_model.specs.Writing.{touched};
-ghost use Rattle.vm_model.specs.Pins.{is_pinned};
-ghost use Rattle.vm_model.specs.Zeroing.{is_whole, is_cleared, owned_by_zero, ZeroesPage, Zeroes};
+ghost use Rattle.vm_model.specs.Contents.Content.{pages_of, sole, used, IsGood};
+ghost use Rattle.vm_model.specs.Contents.Owning.{need};
+ghost use Rattle.vm_model.specs.Contents.Writing.{touched};
+ghost use Rattle.vm_model.specs.Naming.Pins.{is_pinned};
+ghost use Rattle.vm_model.specs.Contents.Zeroing.{is_whole, is_cleared, owned_by_zero, ZeroesPage, Zeroes};
 ghost use Rattle.vmo_table.specs.Table.{name_of};
 ghost use Rattle.pin_table.specs.Table.{pins_of};
 ghost use Rattle.vmo_ops.specs.Targets.{IsInside, DoesWith, reply_of};

@@ -7,8 +7,8 @@ use Rattle.std.specs.Map.Calls.{RetainsPairs}
 use Rattle.std.proofs.lemmas.Bool.{cases_eq, eq-eqb, ne_eqb, cond-true, cond-false}
 use Rattle.vm_base.specs.declared.names.Koid.{Koid}
 use Rattle.vm_base.specs.declared.names.VmoName.{VmoName}
-use Rattle.vm_model.specs.Maps.{with_key, without_key}
-use Rattle.vm_model.specs.Names.{is_parent, has_parent}
+use Rattle.vm_base.specs.Entries.{with_key, without_key}
+use Rattle.vm_model.specs.Naming.Names.{is_parent, has_parent}
 use Rattle.vmo_table.specs.declared.target.Target.{Target}
 use Rattle.vmo_table.specs.declared.vmos.Vmo.{Vmo}
 use Rattle.vmo_table.specs.Vmos.{koid_number, vmos_in, lineage_of_vmo, lineages, with_children, adopted, koid_after, vmos_without}

@@ -2,13 +2,14 @@
 use Rattle.std.proofs.Common.{◌≡◌, ℕ, ◌+◌, ◌-◌, ◌^◌, ◌<◌, ◌≤◌, true, false, cond, Option, None, Some, IsSome, sym, ap, subst, ◌∙◌, inl, inr, arith}
 use Rattle.std.specs.Option.{option_map}
 use Rattle.std.proofs.lemmas.Bool.{cases_Bool, cond-true, cond-false}
-use Rattle.vm_model.specs.Maps.{with_key}
-use Rattle.vm_model.specs.Names.{Name, Lineage, NAMES, KOIDS, is_parent, child_count}
+use Rattle.vm_base.specs.Entries.{with_key}
+use Rattle.vm_model.specs.Naming.Names.{Name, Lineage, is_parent, child_count}
+use Rattle.vm_base.specs.declared.limits.TheConstants.{NAMES, KOIDS}
 use Rattle.vmo_table.specs.declared.vmos.Vmo.{Vmo}
 use Rattle.vmo_table.specs.Vmos.{koid_number, lineage_of_vmo, lineages, adopted}
 use Rattle.vm_model.specs.declared.names.NameKind.TheVariants.{Owner}
 use Rattle.vmo_table.specs.TableFields.{AreRelated, HasNames, AreKept}
-use Rattle.vm_model.proofs.MapLaws.{with_key-cases}
+use Rattle.vm_base.proofs.EntryLaws.{with_key-cases}
 use Rattle.vmo_table.proofs.RelatedLaws.{is_parent_found, child_count-entered, child_count-entered_other, child_count-unknown, child_count_lt, AreRelated-empty, AreRelated-entered}
 use Rattle.vmo_table.proofs.NamedLaws.{HasNames-kept, HasNames-at, HasNames-first, HasNames-more_other}
 use Rattle.vmo_table.proofs.VmosLaws.{lineages-with_key, lineages-adopted, adopted_cases}

@@ -3,9 +3,10 @@ use Rattle.std.proofs.Common.{◌≡◌, ◌≢◌, ℕ, ◌+◌, ◌-◌, ◌<�
 use Rattle.std.proofs.lemmas.Bool.{eq-eqb, ne_eqb}
 use Rattle.vm_model.specs.declared.names.NameKind.{NameKind}
 use Rattle.vm_model.specs.declared.names.NameKind.TheVariants.{Owner, Slice, Reference}
-use Rattle.vm_model.specs.Maps.{with_key, without_key}
-use Rattle.vm_model.specs.Names.{Name, Lineage, NAMES, carries, is_kind, carries_as, names_as}
-use Rattle.vm_model.proofs.SearchLaws.{count_below_le, bit_same, bit-false}
+use Rattle.vm_base.specs.Entries.{with_key, without_key}
+use Rattle.vm_model.specs.Naming.Names.{Name, Lineage, carries, is_kind, carries_as, names_as}
+use Rattle.vm_base.specs.declared.limits.TheConstants.{NAMES}
+use Rattle.vm_base.proofs.SearchLaws.{count_below_le, bit_same, bit-false}
 use Rattle.vm_model.proofs.AliasLaws.{carries_as-at, names_as_le, names_as-with_key, names_as-without_key, names_as-unnamed}
 use Rattle.vmo_table.specs.declared.vmos.Vmo.{Vmo}
 use Rattle.vmo_table.specs.Vmos.{kind_bit, more_names, fewer_names}

@@ -3,12 +3,12 @@ use Rattle.std.proofs.Common.{◌≡◌, ◌≢◌, ℕ, ◌+◌, ◌<◌, ◌==
 use Rattle.std.specs.Option.{option_map}
 use Rattle.std.proofs.lemmas.Bool.{cases_Bool, cases_eq, eq-eqb, ne_eqb, eqb-true}
 use Rattle.std.proofs.lemmas.Option.{same_Some}
-use Rattle.vm_model.specs.Maps.{with_key, without_key}
-use Rattle.vm_model.specs.Names.{Name, Lineage, NAMES, KOIDS, carries, is_named, is_parent, has_parent, child_count, parent_without, lineage_without}
-use Rattle.vm_model.proofs.SearchLaws.{count_below_same, count_below_none, count_below_one_more, count_below_hit, count_below_miss, count_below_split, any_below_none, any_below-count}
+use Rattle.vm_base.specs.Entries.{with_key, without_key}
+use Rattle.vm_model.specs.Naming.Names.{Name, Lineage, carries, is_named, is_parent, has_parent, child_count, parent_without, lineage_without}
+use Rattle.vm_base.specs.declared.limits.TheConstants.{NAMES, KOIDS}
+use Rattle.vm_base.proofs.SearchLaws.{count_below_same, count_below_none, count_below_one_more, count_below_hit, count_below_miss, count_below_split, any_below_none, any_below-count}
 use Rattle.vmo_table.specs.TableFields.{name_count, AreRelated}
-use Rattle.vm_model.proofs.MapLaws.{with_key-here, with_key-other, without_key-here, without_key-other, with_key-cases, without_key-some, with_key-stays}
-use Rattle.vm_model.proofs.NamesLaws.{some_is}
+use Rattle.vm_base.proofs.EntryLaws.{with_key-here, with_key-other, without_key-here, without_key-other, with_key-cases, without_key-some, with_key-stays, some_is}
 
 -- ---- names
 

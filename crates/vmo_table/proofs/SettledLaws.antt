@@ -4,7 +4,8 @@ use Rattle.std.specs.Option.{option_map}
 use Rattle.std.proofs.lemmas.Bool.{cases_Bool, lt-ltb, le-ltb, cond-true, cond-false}
 use Rattle.std.proofs.Math.Bool.{or-true}
 use Rattle.vm_base.specs.declared.names.Koid.{Koid}
-use Rattle.vm_model.specs.Names.{Name, Lineage, KOIDS, is_named, is_parent, has_parent, child_count, lineage_without}
+use Rattle.vm_model.specs.Naming.Names.{Name, Lineage, is_named, is_parent, has_parent, child_count, lineage_without}
+use Rattle.vm_base.specs.declared.limits.TheConstants.{KOIDS}
 use Rattle.vmo_table.specs.declared.vmos.Vmo.{Vmo}
 use Rattle.vmo_table.specs.Vmos.{koid_number, lineage_of_vmo, lineages, adopted, vmos_without, is_held, settled}
 use Rattle.vmo_table.specs.Table.{parent_of, Settles}

@@ -6,9 +6,10 @@ use Rattle.std.specs.HashMap.{spare}
 use Rattle.std.proofs.lemmas.Bool.{cases_Bool, cases_lt}
 use Rattle.std.proofs.lemmas.Option.{same_Some}
 use Rattle.vm_base.specs.declared.names.Koid.{Koid}
-use Rattle.vm_model.specs.Maps.{with_key, without_key}
+use Rattle.vm_base.specs.Entries.{with_key, without_key}
 use Rattle.vm_model.specs.declared.names.NameKind.TheVariants.{Owner}
-use Rattle.vm_model.specs.Names.{Name, Lineage, NAMES, KOIDS, is_named, child_count, lineage_without, is_created, children, may_decommit}
+use Rattle.vm_model.specs.Naming.Names.{Name, Lineage, is_named, child_count, lineage_without, is_created, children, may_decommit}
+use Rattle.vm_base.specs.declared.limits.TheConstants.{NAMES, KOIDS}
 use Rattle.vmo_table.specs.declared.target.Target.{Target}
 use Rattle.vmo_table.specs.declared.vmos.Vmo.{Vmo}
 use Rattle.vmo_table.specs.declared.vmo_table.VmoTable.TheInside.{Inside}
@@ -17,7 +18,7 @@ use Rattle.vmo_table.specs.Table.{Table, name_of, names_in, names_of, lineage_in
 use Rattle.vmo_table.specs.TableFields.{table_of, HasNames, IsTable}
 use Rattle.vmo_table.proofs.VmosLaws.{lineages-none}
 use Rattle.vmo_table.proofs.EntryLaws.{vmo_at, target_at, vmos_in-is, names_in_found, vmo_there, lineage_at, target_there}
-use Rattle.vm_model.proofs.NamesLaws.{some_is}
+use Rattle.vm_base.proofs.EntryLaws.{some_is}
 use Rattle.vmo_table.proofs.NamedLaws.{names_fit}
 use Rattle.vmo_table.proofs.RelatedLaws.{child_count_lt, left-stays, left_unknown}
 use Rattle.vmo_table.proofs.KeepersLaws.{keepers_found, keepers_none}

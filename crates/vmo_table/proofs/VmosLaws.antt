@@ -5,11 +5,11 @@ use Rattle.std.proofs.lemmas.Bool.{cases_eq, cases_lt, eq-eqb, ne_eqb, lt-ltb, l
 use Rattle.std.proofs.lemmas.Option.{same_Some}
 use Rattle.std.proofs.Math.Bool.{or-true}
 use Rattle.vm_base.specs.declared.names.Koid.{Koid}
-use Rattle.vm_model.specs.Maps.{with_key}
-use Rattle.vm_model.specs.Names.{Lineage, is_parent, parent_without, lineage_without}
+use Rattle.vm_base.specs.Entries.{with_key}
+use Rattle.vm_model.specs.Naming.Names.{Lineage, is_parent, parent_without, lineage_without}
 use Rattle.vmo_table.specs.declared.vmos.Vmo.{Vmo}
 use Rattle.vmo_table.specs.Vmos.{koid_number, lineage_of_vmo, lineages, with_children, adopted, koid_after, vmos_without, is_held, settled}
-use Rattle.vm_model.proofs.MapLaws.{with_key-here, with_key-other}
+use Rattle.vm_base.proofs.EntryLaws.{with_key-here, with_key-other}
 use Rattle.vmo_table.proofs.RelatedLaws.{left-here, left-other, lineage_after}
 use Rattle.vmo_table.proofs.NamedLaws.{KeepsNames}
 

@@ -4,10 +4,10 @@ use Rattle.std.specs.Option.{option_map}
 use Rattle.std.specs.Map.{lookup}
 use Rattle.vm_base.specs.declared.names.Koid.{Koid}
 use Rattle.vm_base.specs.declared.names.VmoName.{VmoName}
-use Rattle.vm_model.specs.Content.{Content}
-use Rattle.vm_model.specs.Names.{Name, Lineage, is_named, lineage_without}
-use Rattle.vm_model.specs.Pins.{Pin, pin_count}
-use Rattle.vm_model.specs.State.{State}
+use Rattle.vm_model.specs.Contents.Content.{Content}
+use Rattle.vm_model.specs.Naming.Names.{Name, Lineage, is_named, lineage_without}
+use Rattle.vm_model.specs.Naming.Pins.{Pin, pin_count}
+use Rattle.vm_model.specs.Machine.State.{State}
 use Rattle.vmo_table.specs.declared.target.Target.{Target}
 use Rattle.vmo_table.specs.declared.vmos.Vmo.{Vmo}
 use Rattle.vmo_table.specs.Vmos.{vmos_in, lineages, keepers_in}

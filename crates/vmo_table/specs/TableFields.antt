@@ -1,9 +1,10 @@
 -- How the fields of the table are seen, and what holds of them.
 use Rattle.std.specs.Prelude.{◌≡◌, ℕ, ◌<◌, min, Option, Some, IsSome}
 use Rattle.std.specs.HashMap.{spare}
-use Rattle.vm_model.specs.Search.{count_below}
+use Rattle.vm_base.specs.Search.{count_below}
 use Rattle.vm_model.specs.declared.names.NameKind.TheVariants.{Slice, Reference}
-use Rattle.vm_model.specs.Names.{Name, Lineage, NAMES, KOIDS, carries, names_as, child_count}
+use Rattle.vm_model.specs.Naming.Names.{Name, Lineage, carries, names_as, child_count}
+use Rattle.vm_base.specs.declared.limits.TheConstants.{NAMES, KOIDS}
 use Rattle.vmo_table.specs.declared.vmos.Vmo.{Vmo}
 use Rattle.vmo_table.specs.declared.vmo_table.VmoTable.TheInside.{Inside}
 use Rattle.vmo_table.specs.Vmos.{vmos_in, lineages}

@@ -5,8 +5,8 @@ use Rattle.std.specs.Map.{lookup}
 use Rattle.vm_base.specs.declared.names.Koid.{Koid}
 use Rattle.vm_model.specs.declared.names.NameKind.{NameKind}
 use Rattle.vm_model.specs.declared.names.NameKind.TheVariants.{Slice, Reference}
-use Rattle.vm_model.specs.Maps.{with_key}
-use Rattle.vm_model.specs.Names.{Lineage, is_kind, is_parent}
+use Rattle.vm_base.specs.Entries.{with_key}
+use Rattle.vm_model.specs.Naming.Names.{Lineage, is_kind, is_parent}
 use Rattle.vmo_table.specs.declared.vmos.Vmo.{Vmo}
 
 -- the number of a koid

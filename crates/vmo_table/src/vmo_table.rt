@@ -2,8 +2,8 @@
 
 ghost use Rattle.std.specs.Prelude.{◌≡◌, ◌≢◌, ℕ, ◌+◌, ◌^◌, ◌<◌, ◌≤◌, ◌==◌, if◌then◌else◌, None, IsSome, IfSome, OnOk};
 ghost use Rattle.std.specs.Option.{option_map};
-ghost use Rattle.vm_model.specs.Maps.{with_key, without_key};
-ghost use Rattle.vm_model.specs.Names.{owner, children, may_decommit};
+ghost use Rattle.vm_base.specs.Entries.{with_key, without_key};
+ghost use Rattle.vm_model.specs.Naming.Names.{owner, children, may_decommit};
 ghost use Rattle.vmo_table.specs.Vmos.{koid_number};
 ghost use Rattle.vmo_table.specs.Table.{name_of, names_of, lineage_in, keepers_of, room_of, Settles, Closes};
 

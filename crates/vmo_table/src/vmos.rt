@@ -2,8 +2,9 @@
 
 ghost use Rattle.std.specs.Prelude.{◌≡◌, ℕ, ◌+◌, ◌-◌, ◌<◌, ◌≤◌, ◌^◌, if◌then◌else◌, false, true, None, Some};
 ghost use Rattle.std.specs.Option.{option_map};
-ghost use Rattle.vm_model.specs.Maps.{with_key};
-ghost use Rattle.vm_model.specs.Names.{NAMES, is_parent, has_parent};
+ghost use Rattle.vm_base.specs.Entries.{with_key};
+ghost use Rattle.vm_base.specs.declared.limits.TheConstants.{NAMES};
+ghost use Rattle.vm_model.specs.Naming.Names.{is_parent, has_parent};
 ghost use Rattle.vmo_table.specs.Vmos.{koid_number, vmos_in, lineages, kind_bit, more_names, fewer_names, adopted, koid_after, vmos_without, is_held, settled};
 ghost use Rattle.vmo_table.specs.declared.vmos.Vmo.{Vmo};
 

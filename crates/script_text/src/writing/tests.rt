@@ -1,5 +1,5 @@
 ghost use Rattle.std.specs.Prelude.{◌≡◌, ◌≤◌, true, length};
-ghost use Rattle.vm_model.specs.Spelling.{has_spelling};
+ghost use Rattle.vm_model.specs.Language.Spelling.{has_spelling};
 
 use super::*;
 use crate::{Line, read_line};
@@ -33,7 +33,7 @@ fn bytes_of(bytes: &[u8]) -> Bytes4k
 }
 
 #[test]
-#[tactic(auto, unfolding(vm_model::specs::Spelling::has_spelling))]
+#[tactic(auto, unfolding(vm_model::specs::Language::Spelling::has_spelling))]
 fn writes_commands_of_vmos(rt: HostRuntime) -> Result<(), Fail> {
     assert!(rt;
         is_written(
@@ -125,7 +125,7 @@ fn writes_commands_of_vmos(rt: HostRuntime) -> Result<(), Fail> {
 }
 
 #[test]
-#[tactic(auto, unfolding(vm_model::specs::Spelling::has_spelling))]
+#[tactic(auto, unfolding(vm_model::specs::Language::Spelling::has_spelling))]
 fn writes_commands_of_ranges_of_vmos(rt: HostRuntime) -> Result<(), Fail> {
     assert!(rt;
         is_written(
@@ -229,7 +229,7 @@ fn writes_commands_of_ranges_of_vmos(rt: HostRuntime) -> Result<(), Fail> {
 }
 
 #[test]
-#[tactic(auto, unfolding(vm_model::specs::Spelling::has_spelling))]
+#[tactic(auto, unfolding(vm_model::specs::Language::Spelling::has_spelling))]
 fn writes_commands_of_regions(rt: HostRuntime) -> Result<(), Fail> {
     assert!(rt;
         is_written(
@@ -365,7 +365,7 @@ fn writes_commands_of_regions(rt: HostRuntime) -> Result<(), Fail> {
 }
 
 #[test]
-#[tactic(auto, unfolding(vm_model::specs::Spelling::has_spelling))]
+#[tactic(auto, unfolding(vm_model::specs::Language::Spelling::has_spelling))]
 fn writes_the_most_bytes(rt: HostRuntime) -> Result<(), Fail> {
     let command = Command::VmoWrite {
         name: VmoName(7),

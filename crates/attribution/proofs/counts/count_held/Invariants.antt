@@ -1,5 +1,5 @@
 use Rattle.std.proofs.Common.{◌≤◌, ◌-◌}
-use Rattle.vm_model.specs.Content.{pages_of}
+use Rattle.vm_model.specs.Contents.Content.{pages_of}
 use Rattle.attribution.specs.Counts.{AreCounts}
 use Rattle.attribution.proofs.counts.count_held.Given as goal
 

@@ -1,12 +1,12 @@
 use Rattle.std.proofs.Common.{◌≡◌, ℕ, true, false, Option, None, refl, ap, sym, subst, ◌∙◌, arith}
 use Rattle.std.specs.Prelude.{is_some}
 use Rattle.vm_model.specs.declared.names.Origin.TheVariants.{Created}
-use Rattle.vm_model.specs.Content.{pages_of, created}
-use Rattle.vm_model.specs.Maps.{with_key}
-use Rattle.vm_model.specs.Names.{Name, owner}
-use Rattle.vm_model.specs.State.{State, IsGoodState}
-use Rattle.vm_model.specs.Step.{with_vmo}
-use Rattle.vm_model.proofs.MapLaws.{with_key-same}
+use Rattle.vm_model.specs.Contents.Content.{pages_of, created}
+use Rattle.vm_base.specs.Entries.{with_key}
+use Rattle.vm_model.specs.Naming.Names.{Name, owner}
+use Rattle.vm_model.specs.Machine.State.{State, IsGoodState}
+use Rattle.vm_model.specs.Machine.Step.{with_vmo}
+use Rattle.vm_base.proofs.EntryLaws.{with_key-same}
 use Rattle.vm_model.proofs.StepLaws.{create_keeps}
 use Rattle.page_store.proofs.HeldLaws.{created_grows}
 use Rattle.vmo_table.specs.Table.{state_with}

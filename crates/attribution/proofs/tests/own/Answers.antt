@@ -1,6 +1,6 @@
 use Rattle.std.proofs.Common.{◌≡◌, ℕ, ◌<◌, subst}
-use Rattle.vm_model.specs.Content.{Content, pages_of, IsGood}
-use Rattle.vm_model.specs.Owning.{Owns}
+use Rattle.vm_model.specs.Contents.Content.{Content, pages_of, IsGood}
+use Rattle.vm_model.specs.Contents.Owning.{Owns}
 use Rattle.vm_model.proofs.OwningLaws.{Owned, Owned-from_Owns}
 use Rattle.attribution.proofs.tests.own.Goals as goal
 

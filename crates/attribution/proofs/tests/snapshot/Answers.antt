@@ -1,5 +1,5 @@
 use Rattle.std.proofs.Common.{ap, ◌∙◌, arith}
-use Rattle.vm_model.specs.Content.{pages_of}
+use Rattle.vm_model.specs.Contents.Content.{pages_of}
 use Rattle.page_store.proofs.HeldLaws.{is_there, snapshotted_grows}
 use Rattle.attribution.proofs.tests.snapshot.Goals as goal
 

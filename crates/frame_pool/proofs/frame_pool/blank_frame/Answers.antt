@@ -1,5 +1,5 @@
 use Rattle.std.proofs.Common.{rules}
-use Rattle.vm_model.specs.Content.{zeros}
+use Rattle.vm_base.specs.Pages.{zeros}
 use Rattle.frame_pool.proofs.frame_pool.blank_frame.Goals as goal
 
 pub returns : goal.returns

@@ -1,7 +1,7 @@
 use Rattle.std.proofs.Common.{◌∙◌, ◌+◌, ◌++◌, ℕ, take, drop, length, ap, List, arith}
 use Rattle.std.proofs.lemmas.List.{take_all}
 use Rattle.std.proofs.lemmas.Slice.{put_mid-paste}
-use Rattle.vm_model.specs.Writing.{replaced}
+use Rattle.vm_base.specs.Pages.{replaced}
 use Rattle.frame_pool.proofs.frame_pool.overwrite.Goals as goal
 
 pub returns : goal.returns

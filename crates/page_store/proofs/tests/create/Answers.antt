@@ -1,5 +1,5 @@
 use Rattle.std.proofs.Common.{ap, ◌∙◌}
-use Rattle.vm_model.specs.Content.{pages_of}
+use Rattle.vm_model.specs.Contents.Content.{pages_of}
 use Rattle.page_store.proofs.HeldLaws.{created_grows}
 use Rattle.page_store.proofs.tests.create.Goals as goal
 

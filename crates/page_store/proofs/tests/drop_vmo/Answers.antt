@@ -1,5 +1,5 @@
 use Rattle.std.proofs.Common.{sym, ap, subst, ◌∙◌, not, ◌==◌}
-use Rattle.vm_model.specs.Content.{Content, pages_of, IsGood}
+use Rattle.vm_model.specs.Contents.Content.{Content, pages_of, IsGood}
 use Rattle.vm_model.proofs.SharingLaws.{IsGood-only, next-only, pages_of-without_other}
 use Rattle.page_store.proofs.HeldLaws.{is_there}
 use Rattle.page_store.proofs.tests.drop_vmo.Goals as goal

@@ -1,5 +1,5 @@
 use Rattle.std.proofs.Common.{◌≡◌, refl, sym, ap, subst, ◌∙◌}
-use Rattle.vm_model.specs.Content.{Content, nothing, IsGood}
+use Rattle.vm_model.specs.Contents.Content.{Content, nothing, IsGood}
 use Rattle.vm_model.proofs.ContentLaws.{IsGood-nothing}
 use Rattle.page_store.proofs.tests.fill.Goals as goal
 

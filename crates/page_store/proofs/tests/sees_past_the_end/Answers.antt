@@ -1,5 +1,5 @@
 use Rattle.std.proofs.Common.{◌<◌, arith}
-use Rattle.vm_model.specs.Content.{pages_of}
+use Rattle.vm_model.specs.Contents.Content.{pages_of}
 use Rattle.page_store.proofs.HeldLaws.{is_there}
 use Rattle.page_store.proofs.tests.sees_past_the_end.Goals as goal
 

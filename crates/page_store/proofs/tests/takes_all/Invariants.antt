@@ -1,5 +1,5 @@
 use Rattle.std.proofs.Common.{◌≡◌}
-use Rattle.vm_model.specs.Content.{pages_of, IsGood}
+use Rattle.vm_model.specs.Contents.Content.{pages_of, IsGood}
 use Rattle.page_store.proofs.tests.takes_all.Given as goal
 
 abbrev pub invariant-loop-page : goal.invariant-loop-page

@@ -1,6 +1,6 @@
 use Rattle.std.proofs.Common.{ℕ, Option, is_some, refl, ap, ◌∙◌}
-use Rattle.vm_model.specs.Pins.{Pin}
-use Rattle.vm_model.proofs.MapLaws.{with_key-here, with_key-other}
+use Rattle.vm_model.specs.Naming.Pins.{Pin}
+use Rattle.vm_base.proofs.EntryLaws.{with_key-here, with_key-other}
 use Rattle.pin_table.proofs.tests.add.Goals as goal
 
 pub returns-clause-pin : goal.returns-clause-pin

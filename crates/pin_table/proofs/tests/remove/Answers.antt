@@ -1,6 +1,6 @@
 use Rattle.std.proofs.Common.{ℕ, Option, ap, ◌∙◌}
-use Rattle.vm_model.specs.Pins.{Pin}
-use Rattle.vm_model.proofs.MapLaws.{without_key-other}
+use Rattle.vm_model.specs.Naming.Pins.{Pin}
+use Rattle.vm_base.proofs.EntryLaws.{without_key-other}
 use Rattle.pin_table.proofs.tests.remove.Goals as goal
 
 pub returns-clause-pins : goal.returns-clause-pins

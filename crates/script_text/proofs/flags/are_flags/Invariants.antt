@@ -1,5 +1,5 @@
 use Rattle.std.proofs.Common.{◌≡◌, length, map}
-use Rattle.vm_model.specs.Reading.{are_flags}
+use Rattle.vm_model.specs.Language.Reading.{are_flags}
 use Rattle.script_text.proofs.flags.are_flags.Given as goal
 
 abbrev pub invariant-loop-rest : goal.invariant-loop-rest

@@ -1,5 +1,5 @@
 use Rattle.std.proofs.Common.{◌≡◌, length, map}
-use Rattle.vm_model.specs.Reading.{stands}
+use Rattle.vm_model.specs.Language.Reading.{stands}
 use Rattle.script_text.proofs.flags.stands.Given as goal
 
 abbrev pub invariant-loop-rest : goal.invariant-loop-rest

@@ -1,5 +1,5 @@
 use Rattle.std.proofs.Common.{◌≡◌, ◌++◌, length, map}
-use Rattle.vm_model.specs.Reading.{words}
+use Rattle.vm_model.specs.Language.Reading.{words}
 use Rattle.script_text.proofs.words.arguments.Given as goal
 
 abbrev pub invariant-loop-word : goal.invariant-loop-word

@@ -1,5 +1,5 @@
 use Rattle.std.proofs.Common.{sym, ◌∙◌, ap, length, unwrap_or}
-use Rattle.vm_model.specs.Reading.{words}
+use Rattle.vm_model.specs.Language.Reading.{words}
 use Rattle.script_text.proofs.Cutting.{words-none}
 use Rattle.script_text.proofs.Places.{IsWordFrom-by_positions}
 use Rattle.script_text.proofs.words.word_from.Goals as goal

@@ -1,5 +1,5 @@
 use Rattle.std.proofs.Common.{◌+◌, ◌≤◌}
-use Rattle.vm_model.specs.State.{IsGoodState}
+use Rattle.vm_model.specs.Machine.State.{IsGoodState}
 use Rattle.vm_core.specs.Vm.{state_of}
 use Rattle.vm_core.proofs.tests.refuses_commands.Given as goal
 

@@ -1,6 +1,6 @@
 use Rattle.std.proofs.Common.{sym, ap, subst, ◌∙◌, arith}
-use Rattle.vm_model.specs.Content.{Content}
-use Rattle.vm_model.specs.State.{IsGoodState}
+use Rattle.vm_model.specs.Contents.Content.{Content}
+use Rattle.vm_model.specs.Machine.State.{IsGoodState}
 use Rattle.vm_model.proofs.StepLaws.{IsGoodState-empty}
 use Rattle.page_store.specs.Flat.{content_of}
 use Rattle.vm_core.specs.Vm.{state_of}

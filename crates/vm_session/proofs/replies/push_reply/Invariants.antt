@@ -1,7 +1,7 @@
 use Rattle.std.proofs.Common.{◌≤◌, take}
 use Rattle.std.specs.List.{concat}
 use Rattle.std.specs.Io.KnownBytes.{Appends}
-use Rattle.vm_model.specs.Text.{reply_lines}
+use Rattle.vm_model.specs.Language.Text.{reply_lines}
 use Rattle.vm_session.proofs.replies.push_reply.Given as goal
 
 abbrev pub invariant-loop-index : goal.invariant-loop-index

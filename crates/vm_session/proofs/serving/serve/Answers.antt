@@ -1,6 +1,6 @@
 use Rattle.std.proofs.Common.{◌∙◌, refl, sym, ap, subst, arith}
 use Rattle.std.proofs.lemmas.Grind.{common_steps}
-use Rattle.vm_model.specs.State.{IsGoodState}
+use Rattle.vm_model.specs.Machine.State.{IsGoodState}
 use Rattle.vm_model.proofs.StepLaws.{IsGoodState-empty}
 use Rattle.vm_session.proofs.Beginning.{NothingDone-yet, empty_state-filled, IsServed-fresh, IsReady-fresh}
 use Rattle.vm_session.proofs.serving.serve.Goals as goal

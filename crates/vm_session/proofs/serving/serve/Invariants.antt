@@ -1,6 +1,6 @@
 use Rattle.std.proofs.Common.{◌≡◌, ◌≤◌, length}
 use Rattle.vm_core.specs.Vm.{state_of}
-use Rattle.vm_model.specs.State.{IsGoodState}
+use Rattle.vm_model.specs.Machine.State.{IsGoodState}
 use Rattle.vm_session.specs.Serving.{IsServed, IsReady, bytes_left}
 use Rattle.vm_session.proofs.serving.serve.Given as goal
 

@@ -1,6 +1,6 @@
 use Rattle.std.proofs.Common.{refl, sym, ap, ◌∙◌}
 use Rattle.std.specs.Prelude.{is_some}
-use Rattle.vm_model.specs.Step.{reference_of}
+use Rattle.vm_model.specs.Machine.Step.{reference_of}
 use Rattle.vmo_table.specs.Table.{name_of, lineage_in, state_with}
 use Rattle.vmo_ops.proofs.EntryLaws.{entered}
 use Rattle.vmo_ops.proofs.AliasLaws.{with_alias-is, known_still, reference_refused, reference_of_slice, reference_lacks, reference_done}

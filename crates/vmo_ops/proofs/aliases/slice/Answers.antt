@@ -1,6 +1,6 @@
 use Rattle.std.proofs.Common.{refl, ap, ◌∙◌, arith}
 use Rattle.std.specs.Prelude.{is_some}
-use Rattle.vm_model.specs.Step.{slice_of}
+use Rattle.vm_model.specs.Machine.Step.{slice_of}
 use Rattle.vmo_table.specs.Table.{name_of, lineage_in, state_with}
 use Rattle.vmo_ops.proofs.EntryLaws.{entered}
 use Rattle.vmo_ops.proofs.NameLaws.{parts_inside, parts_lineage}

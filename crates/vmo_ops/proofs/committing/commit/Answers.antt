@@ -1,7 +1,7 @@
 use Rattle.std.proofs.Common.{subst}
-use Rattle.vm_model.specs.Content.{Content}
-use Rattle.vm_model.specs.Owning.{OwnsAll}
-use Rattle.vm_model.specs.Writing.{touched}
+use Rattle.vm_model.specs.Contents.Content.{Content}
+use Rattle.vm_model.specs.Contents.Owning.{OwnsAll}
+use Rattle.vm_model.specs.Contents.Writing.{touched}
 use Rattle.vmo_table.specs.Table.{name_of}
 use Rattle.vmo_ops.proofs.OwnSteps.{commit_owns, own_refused, own_done}
 use Rattle.vmo_ops.proofs.committing.commit.Goals as goal

@@ -1,4 +1,4 @@
-use Rattle.vm_model.specs.Writing.{touched}
+use Rattle.vm_model.specs.Contents.Writing.{touched}
 use Rattle.vmo_ops.proofs.RowLaws.{IsReady, Reaches, owning}
 use Rattle.vmo_ops.proofs.committing.own_pages.Given as goal
 

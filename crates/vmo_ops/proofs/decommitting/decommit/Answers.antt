@@ -1,7 +1,7 @@
 use Rattle.std.proofs.Common.{◌≡◌, ◌%◌, inl, inr, sym, ap, subst, arith}
 use Rattle.std.specs.Prelude.{IsSome}
-use Rattle.vm_model.specs.Content.{Content}
-use Rattle.vm_model.specs.Pins.{is_pinned}
+use Rattle.vm_model.specs.Contents.Content.{Content}
+use Rattle.vm_model.specs.Naming.Pins.{is_pinned}
 use Rattle.vm_model.proofs.ContentLaws.{used_le}
 use Rattle.pin_table.specs.Table.{pins_of}
 use Rattle.vmo_table.specs.Table.{name_of, state_with}

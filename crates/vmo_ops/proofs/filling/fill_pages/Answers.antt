@@ -1,6 +1,6 @@
 use Rattle.std.proofs.Common.{replicate, refl, arith}
 use Rattle.std.proofs.lemmas.List.{length-replicate}
-use Rattle.vm_model.specs.Writing.{touched}
+use Rattle.vm_model.specs.Contents.Writing.{touched}
 use Rattle.vmo_ops.proofs.StepRows.{pages_of_le}
 use Rattle.vmo_ops.proofs.RowLaws.{IsReady-start, IsReady-room, IsReady-step, Reaches-start, Reaches-step, Reaches-end}
 use Rattle.vmo_ops.proofs.WriteLaws.{writing, Writes-touched, Written-from_piece}

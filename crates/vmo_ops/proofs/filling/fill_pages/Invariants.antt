@@ -1,6 +1,6 @@
 use Rattle.std.proofs.Common.{replicate, ◌+◌, ◌*◌, ◌≤◌}
-use Rattle.vm_model.specs.Content.{pages_of}
-use Rattle.vm_model.specs.Writing.{touched}
+use Rattle.vm_model.specs.Contents.Content.{pages_of}
+use Rattle.vm_model.specs.Contents.Writing.{touched}
 use Rattle.vmo_ops.proofs.RowLaws.{IsReady, Reaches}
 use Rattle.vmo_ops.proofs.WriteLaws.{writing}
 use Rattle.vmo_ops.proofs.filling.fill_pages.Given as goal

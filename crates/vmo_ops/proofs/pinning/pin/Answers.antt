@@ -1,7 +1,7 @@
 use Rattle.std.proofs.Common.{subst, arith}
 use Rattle.std.specs.List.{range_with_len}
-use Rattle.vm_model.specs.Content.{Content}
-use Rattle.vm_model.specs.Owning.{OwnsAll}
+use Rattle.vm_model.specs.Contents.Content.{Content}
+use Rattle.vm_model.specs.Contents.Owning.{OwnsAll}
 use Rattle.vmo_table.specs.Table.{name_of, state_with}
 use Rattle.pin_table.specs.Table.{pins_of}
 use Rattle.vmo_ops.proofs.StepRows.{pages_of_le}

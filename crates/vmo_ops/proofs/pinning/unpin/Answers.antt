@@ -1,5 +1,5 @@
 use Rattle.std.proofs.Common.{refl, sym}
-use Rattle.vm_model.specs.Maps.{without_key}
+use Rattle.vm_base.specs.Entries.{without_key}
 use Rattle.vm_model.proofs.LeavingLaws.{pin_lineage}
 use Rattle.vmo_table.specs.Table.{keepers_of, state_with}
 use Rattle.pin_table.specs.Table.{pin_of, pins_of}

@@ -1,6 +1,6 @@
 use Rattle.std.proofs.Common.{◌≡◌, ◌-◌, ◌<◌, arith, ap, sym, ◌∙◌}
 use Rattle.std.specs.List.{range_with_len}
-use Rattle.vm_model.specs.Writing.{touched}
+use Rattle.vm_model.specs.Contents.Writing.{touched}
 use Rattle.vm_model.proofs.RangeLaws.{touched-row, touched-nil, touched_end-is}
 use Rattle.vmo_ops.proofs.ranges.touched_pages.Goals as goal
 

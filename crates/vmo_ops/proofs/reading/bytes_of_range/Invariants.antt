@@ -1,5 +1,5 @@
 use Rattle.std.proofs.Common.{◌-◌, ◌≡◌, ◌≤◌, length}
-use Rattle.vm_model.specs.Writing.{bytes_in}
+use Rattle.vm_model.specs.Contents.Writing.{bytes_in}
 use Rattle.vmo_ops.proofs.reading.bytes_of_range.Given as goal
 
 abbrev pub invariant-loop-done : goal.invariant-loop-done

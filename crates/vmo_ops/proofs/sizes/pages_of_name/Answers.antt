@@ -1,6 +1,6 @@
 use Rattle.std.proofs.Common.{ℕ, Option, sym, ap, ◌∙◌}
 use Rattle.std.specs.Prelude.{unwrap_or}
-use Rattle.vm_model.specs.Content.{pages_of}
+use Rattle.vm_model.specs.Contents.Content.{pages_of}
 use Rattle.vm_model.proofs.ContentLaws.{pages_of-at}
 use Rattle.vmo_ops.proofs.sizes.pages_of_name.Goals as goal
 

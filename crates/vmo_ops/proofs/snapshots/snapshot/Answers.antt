@@ -1,6 +1,6 @@
 use Rattle.std.proofs.Common.{ℕ, arith, refl, ap, sym, subst, Option}
 use Rattle.std.specs.Prelude.{IsSome, is_some}
-use Rattle.vm_model.specs.Names.{Lineage}
+use Rattle.vm_model.specs.Naming.Names.{Lineage}
 use Rattle.vm_model.proofs.StepLaws.{lineage_below}
 use Rattle.vmo_table.specs.Table.{name_of, state_with}
 use Rattle.pin_table.specs.Table.{pins_of}

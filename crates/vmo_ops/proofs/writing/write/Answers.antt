@@ -1,6 +1,6 @@
 use Rattle.std.proofs.Common.{length, subst}
-use Rattle.vm_model.specs.Content.{Content}
-use Rattle.vm_model.specs.Writing.{pieces, Writes}
+use Rattle.vm_model.specs.Contents.Content.{Content}
+use Rattle.vm_model.specs.Contents.Writing.{pieces, Writes}
 use Rattle.vmo_table.specs.Table.{name_of}
 use Rattle.vmo_ops.proofs.OwnSteps.{write_owns, own_refused, own_done}
 use Rattle.vmo_ops.proofs.writing.write.Goals as goal

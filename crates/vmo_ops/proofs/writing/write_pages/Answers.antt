@@ -1,5 +1,5 @@
 use Rattle.std.proofs.Common.{length, refl, arith}
-use Rattle.vm_model.specs.Writing.{touched, pieces}
+use Rattle.vm_model.specs.Contents.Writing.{touched, pieces}
 use Rattle.vmo_ops.proofs.StepRows.{pages_of_le}
 use Rattle.vmo_ops.proofs.RowLaws.{IsReady-start, IsReady-room, IsReady-step, Reaches-start, Reaches-step, Reaches-end}
 use Rattle.vmo_ops.proofs.WriteLaws.{writing, WritesPiece-same, piece_part, Written-from_piece}

@@ -1,5 +1,5 @@
 use Rattle.std.proofs.Common.{length}
-use Rattle.vm_model.specs.Writing.{touched}
+use Rattle.vm_model.specs.Contents.Writing.{touched}
 use Rattle.vmo_ops.proofs.RowLaws.{IsReady, Reaches}
 use Rattle.vmo_ops.proofs.WriteLaws.{writing}
 use Rattle.vmo_ops.proofs.writing.write_pages.Given as goal

@@ -1,7 +1,7 @@
 use Rattle.std.proofs.Common.{◌≡◌, ℕ, ◌+◌, Bool, true, false, not, ◌&&◌, refl, sym, ap, ◌∙◌, arith}
-use Rattle.vm_model.specs.Content.{sole}
-use Rattle.vm_model.specs.Pins.{is_pinned}
-use Rattle.vm_model.specs.Zeroing.{is_cleared}
+use Rattle.vm_model.specs.Contents.Content.{sole}
+use Rattle.vm_model.specs.Naming.Pins.{is_pinned}
+use Rattle.vm_model.specs.Contents.Zeroing.{is_cleared}
 use Rattle.pin_table.specs.Table.{pins_of}
 use Rattle.vmo_ops.proofs.StepRows.{pages_of_le}
 use Rattle.vmo_ops.proofs.ZeroLaws.{held_below, IsCounting-start, IsCounting-step, IsCounting-end}

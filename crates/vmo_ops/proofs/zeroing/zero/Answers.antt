@@ -1,8 +1,8 @@
 use Rattle.std.proofs.Common.{refl, subst, arith}
-use Rattle.vm_model.specs.Content.{Content}
-use Rattle.vm_model.specs.Writing.{touched}
-use Rattle.vm_model.specs.Zeroing.{Zeroes}
-use Rattle.vm_model.specs.Pins.{is_pinned}
+use Rattle.vm_model.specs.Contents.Content.{Content}
+use Rattle.vm_model.specs.Contents.Writing.{touched}
+use Rattle.vm_model.specs.Contents.Zeroing.{Zeroes}
+use Rattle.vm_model.specs.Naming.Pins.{is_pinned}
 use Rattle.pin_table.specs.Table.{pins_of}
 use Rattle.vmo_table.specs.Table.{name_of}
 use Rattle.vmo_ops.proofs.ChangeLaws.{IsRefusedBy-place}

@@ -1,5 +1,5 @@
 use Rattle.std.proofs.Common.{◌-◌}
-use Rattle.vm_model.specs.Pins.{is_pinned}
+use Rattle.vm_model.specs.Naming.Pins.{is_pinned}
 use Rattle.pin_table.specs.Table.{pins_of}
 use Rattle.vmo_ops.proofs.ZeroLaws.{IsReadyToZero, ReachesZeros}
 use Rattle.vmo_ops.proofs.zeroing.zero_pages.Given as goal

@@ -1,6 +1,6 @@
 use Rattle.std.proofs.Common.{ℕ, Option, is_some, refl, ap, ◌∙◌}
-use Rattle.vm_model.specs.Names.{Lineage}
-use Rattle.vm_model.proofs.MapLaws.{with_key-here}
+use Rattle.vm_model.specs.Naming.Names.{Lineage}
+use Rattle.vm_base.proofs.EntryLaws.{with_key-here}
 use Rattle.vmo_table.proofs.tests.a_snapshot_keeps_its_pages.Goals as goal
 
 pub may_decommit-requires : goal.may_decommit-requires

@@ -1,6 +1,6 @@
 use Rattle.std.proofs.Common.{ℕ, Option, is_some, refl, ap, ◌∙◌}
-use Rattle.vm_model.specs.Names.{Name, Lineage}
-use Rattle.vm_model.proofs.MapLaws.{with_key-here, with_key-other}
+use Rattle.vm_model.specs.Naming.Names.{Name, Lineage}
+use Rattle.vm_base.proofs.EntryLaws.{with_key-here, with_key-other}
 use Rattle.vmo_table.proofs.tests.enter.Goals as goal
 
 pub returns-clause-name : goal.returns-clause-name

@@ -1,6 +1,6 @@
 use Rattle.std.proofs.Common.{ℕ, Option, rules, ap, ◌∙◌}
-use Rattle.vm_model.specs.Names.{Name}
-use Rattle.vm_model.proofs.MapLaws.{without_key-other}
+use Rattle.vm_model.specs.Naming.Names.{Name}
+use Rattle.vm_base.proofs.EntryLaws.{without_key-other}
 use Rattle.vmo_table.proofs.TableLaws.{closes-unknown, closes-others}
 use Rattle.vmo_table.proofs.tests.leave.Goals as goal
 

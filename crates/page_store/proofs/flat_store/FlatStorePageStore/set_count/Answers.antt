@@ -1,5 +1,5 @@
 use Rattle.std.proofs.Common.{◌≡◌, List, get_or, sym, ap, ◌∙◌, arith}
-use Rattle.vm_model.specs.Content.{pages_of}
+use Rattle.vm_model.specs.Contents.Content.{pages_of}
 use Rattle.page_store.specs.declared.vmos.Vmo.{Vmo}
 use Rattle.page_store.specs.Vmos.{IsVmoFor}
 use Rattle.page_store.specs.Flat.{content_of}

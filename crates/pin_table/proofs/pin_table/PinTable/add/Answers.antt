@@ -1,5 +1,5 @@
 use Rattle.std.proofs.Common.{◌≡◌, ◌≤◌, refl, ap, ◌∙◌, arith}
-use Rattle.vm_model.specs.Maps.{with_key}
+use Rattle.vm_base.specs.Entries.{with_key}
 use Rattle.pin_table.specs.Table.{Table, pins_in, pins_of}
 use Rattle.pin_table.specs.TableFields.{table_of}
 use Rattle.pin_table.proofs.EntryLaws.{pins_in-put, from_ok}

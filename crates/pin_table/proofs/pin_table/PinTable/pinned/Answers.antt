@@ -1,6 +1,6 @@
 use Rattle.std.proofs.Common.{◌+◌, sym, ap, ◌∙◌}
 use Rattle.std.proofs.lemmas.Bool.{ltb-true, ltb-false}
-use Rattle.vm_model.specs.Pins.{any_pinned}
+use Rattle.vm_model.specs.Naming.Pins.{any_pinned}
 use Rattle.pin_table.specs.Table.{Table, pins_of}
 use Rattle.pin_table.proofs.CountedLaws.{pinned_past, pinned_next}
 use Rattle.pin_table.proofs.pin_table.PinTable.pinned.Goals as goal

@@ -1,5 +1,5 @@
 use Rattle.std.proofs.Common.{IsSome, refl, sym, ap, subst, ◌∙◌}
-use Rattle.vm_model.specs.Maps.{without_key}
+use Rattle.vm_base.specs.Entries.{without_key}
 use Rattle.pin_table.specs.Table.{Table, pin_of_held, pins_of}
 use Rattle.pin_table.proofs.EntryLaws.{pins_in_found, pins_in-taken, held_there}
 use Rattle.pin_table.proofs.CountedLaws.{AreCounted-same, AreCounted-removed, pages_counted}

@@ -1,5 +1,5 @@
 use Rattle.std.proofs.Common.{refl}
-use Rattle.vm_model.specs.Content.{nothing}
+use Rattle.vm_model.specs.Contents.Content.{nothing}
 use Rattle.pin_table.specs.Table.{pins_of}
 use Rattle.vm_core.proofs.NamesLaws.{state_of-empty, counts_none}
 use Rattle.vm_core.proofs.vm.Vm.new.Goals as goal

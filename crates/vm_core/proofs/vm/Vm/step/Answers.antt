@@ -1,8 +1,8 @@
 use Rattle.pin_table.specs.Table.{pins_of}
 use Rattle.vm_model.specs.declared.command.Command.{Command}
 use Rattle.vm_model.specs.declared.reply.Reply.{Reply}
-use Rattle.vm_model.specs.State.{State, IsGoodState}
-use Rattle.vm_model.specs.Step.{Step}
+use Rattle.vm_model.specs.Machine.State.{State, IsGoodState}
+use Rattle.vm_model.specs.Machine.Step.{Step}
 use Rattle.vm_model.proofs.StepLaws.{GivesName, Keeps, Step-keeps}
 use Rattle.vm_core.proofs.vm.Vm.step.Goals as goal
 

@@ -1,5 +1,5 @@
 use Rattle.std.proofs.Common.{sym, ap, ◌∙◌}
-use Rattle.vm_model.specs.Maps.{with_key}
+use Rattle.vm_base.specs.Entries.{with_key}
 use Rattle.vmo_table.specs.declared.vmos.Vmo.{Vmo}
 use Rattle.vmo_table.specs.Vmos.{lineages, keepers_in}
 use Rattle.vmo_table.specs.Table.{Table, name_of, names_of, lineage_in, keepers_of}

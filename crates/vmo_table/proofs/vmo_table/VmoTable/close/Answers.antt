@@ -1,5 +1,5 @@
 use Rattle.std.proofs.Common.{sym, ap, ◌∙◌}
-use Rattle.vm_model.specs.Maps.{without_key}
+use Rattle.vm_base.specs.Entries.{without_key}
 use Rattle.vmo_table.specs.declared.vmos.Vmo.{Vmo}
 use Rattle.vmo_table.specs.Vmos.{lineages, keepers_in}
 use Rattle.vmo_table.specs.Table.{Table, names_of, keepers_of}

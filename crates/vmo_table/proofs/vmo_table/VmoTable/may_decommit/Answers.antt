@@ -1,7 +1,7 @@
 use Rattle.std.proofs.Common.{ℕ, ◌≡◌, Bool, false, ◌==◌, ◌&&◌, sym, ap, ◌∙◌}
 use Rattle.std.proofs.lemmas.Bool.{ne_eqb}
 use Rattle.vm_model.specs.declared.names.Origin.{Origin}
-use Rattle.vm_model.specs.Names.{is_created}
+use Rattle.vm_model.specs.Naming.Names.{is_created}
 use Rattle.vmo_table.proofs.TableLaws.{known_there, decommit_counted}
 use Rattle.vmo_table.proofs.vmo_table.VmoTable.may_decommit.Goals as goal
 

@@ -1,6 +1,6 @@
 use Rattle.std.proofs.Common.{◌≡◌, Option, IsSome, refl, sym, ap, subst, ◌∙◌}
 use Rattle.std.specs.Prelude.{IfSome}
-use Rattle.vm_model.specs.Names.{Lineage}
+use Rattle.vm_model.specs.Naming.Names.{Lineage}
 use Rattle.vmo_table.specs.Table.{Table, lineage_in}
 use Rattle.vmo_table.proofs.EntryLaws.{vmo_there, lineage_at}
 use Rattle.vmo_table.proofs.vmo_table.VmoTable.resizable.Goals as goal

@@ -1,11 +1,11 @@
 -- The state of the machine: what the page store contains, the names of VMOs, the lineage of each VMO, and the pins.
 use Rattle.std.specs.Prelude.{◌≡◌, ℕ, ◌+◌, ◌*◌, ◌<◌, ◌≤◌, Bool, true, false, ◌||◌, Option, None, Some, IsSome, is_some, unwrap_or}
-use Rattle.vm_base.specs.declared.pages.TheConstants.{PAGE}
+use Rattle.vm_base.specs.declared.limits.TheConstants.{PAGE, NAMES, PIN_PAGES}
 use Rattle.vm_model.specs.declared.names.NameKind.TheVariants.{Slice}
 use Rattle.vm_model.specs.declared.names.Origin.TheVariants.{Created}
-use Rattle.vm_model.specs.Content.{Content, nothing, pages_of, sole, IsGood}
-use Rattle.vm_model.specs.Names.{Name, Lineage, NAMES, owner, is_named}
-use Rattle.vm_model.specs.Pins.{Pin, has_pin}
+use Rattle.vm_model.specs.Contents.Content.{Content, nothing, pages_of, sole, IsGood}
+use Rattle.vm_model.specs.Naming.Names.{Name, Lineage, owner, is_named}
+use Rattle.vm_model.specs.Naming.Pins.{Pin, has_pin}
 
 pub record State : Type 0 where
   pub content : Content
@@ -63,7 +63,7 @@ pub record IsGoodName (s : State) (target : Name) : Type 0 where
 -- What holds of every pin: it is of a VMO, and its pages, from 1 to 256, lie inside the VMO and are sole.
 pub record IsGoodPin (s : State) (pin : Pin) : Type 0 where
   pub vmo : IsSome (s.content.count pin.koid)
-  pub few : (1 ≤ pin.count) × (pin.count ≤ 256)
+  pub few : (1 ≤ pin.count) × (pin.count ≤ PIN_PAGES)
   pub inside : pin.first + pin.count ≤ pages_of s.content pin.koid
   pub alone : (p : ℕ) → pin.first ≤ p → p < pin.first + pin.count → sole s.content pin.koid p ≡ true
 

@@ -8,7 +8,8 @@ use Rattle.vm_model.specs.declared.command.ChildKind.{ChildKind}
 use Rattle.vm_model.specs.declared.command.ChildKind.TheVariants.{Snapshot, Slice, Reference}
 use Rattle.vm_model.specs.declared.command.Command.{Command}
 use Rattle.vm_model.specs.declared.command.Command.TheVariants.{VmoCreate, VmoChild, VmoClose, VmoSize, VmoSetSize, VmoRead, VmoWrite, VmoFill, VmoCommit, VmoDecommit, VmoZero, VmoPin, VmoUnpin, VmoInfo, RootCreate, VmarAllocate, VmarMap, VmarUnmap, VmarProtect, VmarDestroy, Maps, MemRead, MemWrite, Stat}
-use Rattle.vm_model.specs.Text.{data_text, perm_text}
+use Rattle.vm_model.specs.Language.Text.{data_text, perm_text}
+use Rattle.vm_base.specs.declared.limits.TheConstants.{DATA_BYTES}
 
 -- a set of bits has these
 abbrev pub has : ℕ → ℕ → Bool
@@ -87,7 +88,7 @@ Has64 n = n < 2 ^ 64
 
 -- byte data
 abbrev pub IsData : List ℕ → Type 0
-IsData bytes = (length bytes ≤ 4096) × All (λ b. b < 256) bytes
+IsData bytes = (length bytes ≤ DATA_BYTES) × All (λ b. b < 256) bytes
 
 -- the fields of a command are within their types
 abbrev pub HasRanges : Command → Type 0

@@ -3,10 +3,10 @@ use Rattle.std.specs.Prelude.{◌≡◌, ℕ, ◌==◌, List, [], ◌∷◌, ◌
 use Rattle.vm_base.specs.declared.refusal.Refusal.TheVariants.{Syntax}
 use Rattle.vm_model.specs.declared.reply.Reply.{Reply}
 use Rattle.vm_model.specs.declared.reply.Reply.TheVariants.{Refused}
-use Rattle.vm_model.specs.State.{State, empty_state}
-use Rattle.vm_model.specs.Step.{Step}
-use Rattle.vm_model.specs.Reading.{Reading, Blank, Order, Outside, reading}
-use Rattle.vm_model.specs.Text.{texts}
+use Rattle.vm_model.specs.Machine.State.{State, empty_state}
+use Rattle.vm_model.specs.Machine.Step.{Step}
+use Rattle.vm_model.specs.Language.Reading.{Reading, Blank, Order, Outside, reading}
+use Rattle.vm_model.specs.Language.Text.{texts}
 
 -- a byte before the first line, or a line of its own
 abbrev pub onto_first : ℕ → List (List ℕ) → List (List ℕ)

@@ -2,10 +2,10 @@
 -- from setting the size.
 use Rattle.std.specs.Prelude.{◌≡◌, ℕ, ◌+◌, ◌*◌, Bool, true, false, not, ◌&&◌, ◌==◌, nat_lt, nat_le, List, [], ◌∷◌, replicate, if◌then◌else◌, None}
 use Rattle.std.specs.List.{filter}
-use Rattle.vm_base.specs.declared.pages.TheConstants.{PAGE}
-use Rattle.vm_model.specs.Content.{Content, is_held, pages_of}
-use Rattle.vm_model.specs.Maps.{with_key}
-use Rattle.vm_model.specs.Writing.{touched, piece, WritesPiece}
+use Rattle.vm_base.specs.declared.limits.TheConstants.{PAGE}
+use Rattle.vm_model.specs.Contents.Content.{Content, is_held, pages_of}
+use Rattle.vm_base.specs.Entries.{with_key}
+use Rattle.vm_model.specs.Contents.Writing.{touched, piece, WritesPiece}
 
 -- a page is one of those from `first` to below `end`
 abbrev pub is_within : ℕ → ℕ → ℕ → Bool

@@ -1,9 +1,9 @@
 -- VMOs that leave the machine, since nothing keeps them any more.
 use Rattle.std.specs.Prelude.{ℕ, zero, suc, if◌then◌else◌, Option, None, Some}
 use Rattle.std.specs.Option.{option_map}
-use Rattle.vm_model.specs.Sharing.{only}
-use Rattle.vm_model.specs.Names.{Lineage}
-use Rattle.vm_model.specs.State.{State, is_live, lineage_of}
+use Rattle.vm_model.specs.Contents.Sharing.{only}
+use Rattle.vm_model.specs.Naming.Names.{Lineage}
+use Rattle.vm_model.specs.Machine.State.{State, is_live, lineage_of}
 
 -- The first that is live of a parent, its parent, and so on. Parents are older than their children, so at most `steps` of
 -- them are looked at for a child with the koid `steps`.

@@ -1,6 +1,6 @@
 -- Owning a page before it is written (copy on write), and how many frames that takes.
 use Rattle.std.specs.Prelude.{◌≡◌, ℕ, suc, ◌+◌, ◌<◌, true, false, List, [], ◌∷◌, if◌then◌else◌, Some}
-use Rattle.vm_model.specs.Content.{Content, Page, shown, in_use, sole, hold}
+use Rattle.vm_model.specs.Contents.Content.{Content, Page, shown, in_use, sole, hold}
 
 -- From old, owning page p of v may lead to new, with this frame. A sole page stays as it is. Any other page gets a frame
 -- that no page has, with the bytes that it showed.

@@ -2,7 +2,7 @@
 use Rattle.std.specs.Prelude.{◌≡◌, ℕ, ◌+◌, ◌-◌, ◌/◌, min, Bool, true, false, not, List, length, map, replicate, Option, None, Some, ◌⊎◌, ◌&&◌}
 use Rattle.std.specs.List.{list_any, range_with_len}
 use Rattle.vm_base.specs.Pages.{rounded}
-use Rattle.vm_base.specs.declared.pages.TheConstants.{PAGE}
+use Rattle.vm_base.specs.declared.limits.TheConstants.{PAGE}
 use Rattle.vm_base.specs.declared.refusal.Refusal.{Refusal}
 use Rattle.vm_base.specs.declared.refusal.Refusal.TheVariants.{HostMemory}
 use Rattle.vm_model.specs.declared.command.Command.{Command}
@@ -12,18 +12,18 @@ use Rattle.vm_model.specs.declared.names.NameKind.TheVariants.{Slice, Reference}
 use Rattle.vm_model.specs.declared.names.Origin.TheVariants.{Created, Snapshot}
 use Rattle.vm_model.specs.declared.reply.Reply.{Reply}
 use Rattle.vm_model.specs.declared.reply.Reply.TheVariants.{Done, Number, Bytes, Pins, Info as InfoReply, Stat as StatReply, Refused, Unbuilt}
-use Rattle.vm_model.specs.Content.{Content, Page, created, is_held, sole}
-use Rattle.vm_model.specs.Owning.{OwnsAll}
-use Rattle.vm_model.specs.Sharing.{snapshotted}
-use Rattle.vm_model.specs.Writing.{touched, bytes_in, pieces, Writes}
-use Rattle.vm_model.specs.Zeroing.{zeroed, resized, Zeroes}
-use Rattle.vm_model.specs.Maps.{with_key, without_key}
-use Rattle.vm_model.specs.Names.{Name, owner}
-use Rattle.vm_model.specs.Pins.{Pin, is_pinned}
-use Rattle.vm_model.specs.State.{State, target_of, koid_of, name_pages, size_of, place_of}
-use Rattle.vm_model.specs.Leaving.{pruned}
-use Rattle.vm_model.specs.Attribution.{info_at, stat_of}
-use Rattle.vm_model.specs.Refusals.{refusals, first_of}
+use Rattle.vm_model.specs.Contents.Content.{Content, Page, created, is_held, sole}
+use Rattle.vm_model.specs.Contents.Owning.{OwnsAll}
+use Rattle.vm_model.specs.Contents.Sharing.{snapshotted}
+use Rattle.vm_model.specs.Contents.Writing.{touched, bytes_in, pieces, Writes}
+use Rattle.vm_model.specs.Contents.Zeroing.{zeroed, resized, Zeroes}
+use Rattle.vm_base.specs.Entries.{with_key, without_key}
+use Rattle.vm_model.specs.Naming.Names.{Name, owner}
+use Rattle.vm_model.specs.Naming.Pins.{Pin, is_pinned}
+use Rattle.vm_model.specs.Machine.State.{State, target_of, koid_of, name_pages, size_of, place_of}
+use Rattle.vm_model.specs.Machine.Leaving.{pruned}
+use Rattle.vm_model.specs.Machine.Attribution.{info_at, stat_of}
+use Rattle.vm_model.specs.Machine.Refusals.{refusals, first_of}
 
 -- a new VMO of zero pages, and its name
 unfoldable pub with_vmo : State → ℕ → ℕ → Bool → State

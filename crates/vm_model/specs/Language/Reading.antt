@@ -12,6 +12,7 @@ use Rattle.vm_model.specs.declared.command.ChildKind.{ChildKind}
 use Rattle.vm_model.specs.declared.command.ChildKind.TheVariants.{Snapshot, Slice, Reference}
 use Rattle.vm_model.specs.declared.command.Command.{Command}
 use Rattle.vm_model.specs.declared.command.Command.TheVariants.{VmoCreate, VmoChild, VmoClose, VmoSize, VmoSetSize, VmoRead, VmoWrite, VmoFill, VmoCommit, VmoDecommit, VmoZero, VmoPin, VmoUnpin, VmoInfo, RootCreate, VmarAllocate, VmarMap, VmarUnmap, VmarProtect, VmarDestroy, Maps, MemRead, MemWrite, Stat}
+use Rattle.vm_base.specs.declared.limits.TheConstants.{LINE_BYTES, NAMES, DATA_BYTES}
 
 infixl 10 ◌>>=◌
 abbrev pub ◌>>=◌ : {A B : Type 0} → Option A → (A → Option B) → Option B
@@ -19,7 +20,7 @@ o >>= f = option_and_then f o
 
 -- the bytes of a line, without its line feed, are at most this many
 abbrev pub line_limit : ℕ
-line_limit = 16384
+line_limit = LINE_BYTES
 
 -- a space, a tab or a carriage return
 abbrev pub is_blank : ℕ → Bool
@@ -88,7 +89,7 @@ has_leading_zero [] = false
 -- the number of a name: a letter, and a decimal number below 2^32 without leading zeros
 abbrev pub name_behind : ℕ → List ℕ → Option ℕ
 name_behind letter [] = None
-name_behind letter (b ∷ bs) = if (b == letter) && not (has_leading_zero bs) then below (2 ^ 32) (digits 10 digit bs) else None
+name_behind letter (b ∷ bs) = if (b == letter) && not (has_leading_zero bs) then below NAMES (digits 10 digit bs) else None
 
 -- VMO: `v` and a number
 unfoldable pub vmo : List ℕ → Option VmoName
@@ -100,7 +101,7 @@ vmo word = do
 unfoldable pub byte_data : List ℕ → Option (List ℕ)
 byte_data word =
     if pointwise nat_eq word (codes "-") then Some []
-    else (if nat_lt 0 (length word) && nat_le (length word) 8192 then result_ok (decode_of word) else None)
+    else (if nat_lt 0 (length word) && nat_le (length word) (2 * DATA_BYTES) then result_ok (decode_of word) else None)
 
 -- BYTE: a number of at most 255
 abbrev pub byte : List ℕ → Option ℕ

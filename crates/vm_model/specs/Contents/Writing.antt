@@ -1,9 +1,10 @@
 -- Reading and writing a range of a VMO, in bytes from its first byte.
 use Rattle.std.specs.Prelude.{◌≡◌, ℕ, ◌+◌, ◌-◌, ◌*◌, ◌/◌, ◌%◌, ◌==◌, List, [], ◌∷◌, ◌++◌, length, take, drop, map, slice_index, slice_range, if◌then◌else◌}
 use Rattle.std.specs.List.{range_with_len}
-use Rattle.vm_base.specs.declared.pages.TheConstants.{PAGE}
-use Rattle.vm_model.specs.Content.{Content, shown, hold}
-use Rattle.vm_model.specs.Owning.{Owns}
+use Rattle.vm_base.specs.declared.limits.TheConstants.{PAGE}
+use Rattle.vm_model.specs.Contents.Content.{Content, shown, hold}
+use Rattle.vm_model.specs.Contents.Owning.{Owns}
+use Rattle.vm_base.specs.Pages.{replaced}
 
 -- the page behind the last that the range touches
 unfoldable pub touched_end : ℕ → ℕ → ℕ
@@ -20,10 +21,6 @@ byte_at c v at = slice_index (shown c v (at / PAGE)) (at % PAGE)
 -- the bytes of the range
 unfoldable pub bytes_in : Content → ℕ → ℕ → ℕ → List ℕ
 bytes_in c v offset len = map (byte_at c v) (range_with_len offset len)
-
--- old with these bytes from this place on
-unfoldable pub replaced : List ℕ → ℕ → List ℕ → List ℕ
-replaced old at bytes = take at old ++ bytes ++ drop (at + length bytes) old
 
 -- what a write puts into one page: bytes from a place in the page on
 pub record Piece : Type 0 where

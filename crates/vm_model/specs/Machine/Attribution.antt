@@ -1,13 +1,13 @@
 -- What a VMO holds: its held pages, those that it shares, and those that it is charged for. From the kernel's attribution of
 -- memory, where each frame is charged to one VMO.
 use Rattle.std.specs.Prelude.{ℕ, ◌-◌, ◌*◌, Bool, false, not, ◌&&◌, Option, None, Some}
-use Rattle.vm_base.specs.declared.pages.TheConstants.{PAGE}
+use Rattle.vm_base.specs.declared.limits.TheConstants.{PAGE}
 use Rattle.vm_model.specs.declared.reply.Info.{Info}
 use Rattle.vm_model.specs.declared.reply.Stat.{Stat}
-use Rattle.vm_model.specs.Search.{any_below, count_below}
-use Rattle.vm_model.specs.Content.{Content, Page, is_held, pages_of, views, sole, used, vmos_of}
-use Rattle.vm_model.specs.Names.{Name, children}
-use Rattle.vm_model.specs.State.{State, name_pages}
+use Rattle.vm_base.specs.Search.{any_below, count_below}
+use Rattle.vm_model.specs.Contents.Content.{Content, Page, is_held, pages_of, views, sole, used, vmos_of}
+use Rattle.vm_model.specs.Naming.Names.{Name, children}
+use Rattle.vm_model.specs.Machine.State.{State, name_pages}
 
 -- how many pages of v pass
 abbrev pub count_pages : Content → ℕ → (ℕ → Bool) → ℕ

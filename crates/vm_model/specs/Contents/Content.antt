@@ -1,7 +1,8 @@
 -- What a page store contains: page frames, and VMOs that show them. From the kernel's VMO pages: sparse, zero until written.
 use Rattle.std.specs.Prelude.{◌≡◌, ℕ, ◌+◌, ◌<◌, ◌≤◌, Bool, false, not, ◌&&◌, ◌==◌, List, length, replicate, if◌then◌else◌, Option, None, Some, is_some, unwrap_or}
-use Rattle.vm_base.specs.declared.pages.TheConstants.{PAGE, VMO_PAGES}
-use Rattle.vm_model.specs.Search.{any_below, count_below}
+use Rattle.vm_base.specs.declared.limits.TheConstants.{PAGE, VMO_PAGES}
+use Rattle.vm_base.specs.Search.{any_below, count_below}
+use Rattle.vm_base.specs.Pages.{zeros}
 
 -- a page that is held: the number of its frame, and the frame's bytes
 pub record Page : Type 0 where
@@ -19,10 +20,6 @@ pub record Content : Type 0 where
 -- no frames, no VMO, and the first koid is 1
 unfoldable pub nothing : Content
 nothing = record { frames = 0; next = 1; count = λ v. None; page = λ v p. None }
-
--- the bytes of a page that is not held
-unfoldable pub zeros : List ℕ
-zeros = replicate PAGE 0
 
 -- the bytes that a page shows
 unfoldable pub bytes_of : Option Page → List ℕ

@@ -5,7 +5,8 @@ use Rattle.vm_model.specs.declared.names.NameKind.{NameKind}
 use Rattle.vm_model.specs.declared.names.NameKind.TheVariants.{Owner, Slice, Reference}
 use Rattle.vm_model.specs.declared.names.Origin.{Origin}
 use Rattle.vm_model.specs.declared.names.Origin.TheVariants.{Created, Snapshot}
-use Rattle.vm_model.specs.Search.{any_below, count_below}
+use Rattle.vm_base.specs.Search.{any_below, count_below}
+use Rattle.vm_base.specs.declared.limits.TheConstants.{NAMES, KOIDS}
 
 -- A name that is open stands for a VMO, from one of its pages on: for so many pages, or for the whole VMO. It may write to
 -- it and change its size, or not.
@@ -22,14 +23,6 @@ pub record Lineage : Type 0 where
   pub resizable : Bool
   pub origin : Origin
   pub parent : Option ℕ
-
--- how many numbers of names there are
-abbrev pub NAMES : ℕ
-NAMES = 4294967296
-
--- koids are below 2^63, since no more are ever given
-abbrev pub KOIDS : ℕ
-KOIDS = 9223372036854775808
 
 -- the name of a VMO that was just made
 abbrev pub owner : ℕ → Bool → Bool → Name

@@ -1,8 +1,22 @@
 -- Laws of searching and counting below a bound.
-use Rattle.std.proofs.Common.{◌≡◌, ◌≢◌, ℕ, zero, suc, ◌+◌, ◌<◌, ◌≤◌, Bool, true, false, cond, ◌||◌, ◌⊎◌, refl, sym, ap, ◌∙◌, inl, inr, arith}
+use Rattle.std.proofs.Common.{◌≡◌, ◌≢◌, ℕ, zero, suc, ◌+◌, ◌<◌, ◌≤◌, Bool, true, false, cond, ◌||◌, ◌⊎◌, refl, sym, ap, ◌∙◌, inl, inr, arith, ◌==◌}
 use Rattle.std.specs.Prelude.{nat_lt}
-use Rattle.std.proofs.lemmas.Bool.{cases_order, cases_eq, cases_Bool, or_cases, or_parts, or_from, or_left, or_right, lt-ltb}
-use Rattle.vm_model.specs.Search.{any_below, count_below}
+use Rattle.std.proofs.lemmas.Bool.{cases_order, cases_eq, cases_Bool, or_cases, or_parts, or_from, or_left, or_right, lt-ltb, false_from_ne_true}
+use Rattle.vm_base.specs.Search.{any_below, count_below}
+use Rattle.std.proofs.lemmas.Bool.Decides.{Decides-eqb}
+
+-- ---- equal numbers as tests
+
+pub eqb_same : (n : ℕ) → (n == n) ≡ true
+eqb_same n = (Decides-eqb n n).1 refl
+
+pub eqb_apart : (m n : ℕ) → m ≢ n → (m == n) ≡ false
+eqb_apart m n apart = false_from_ne_true (m == n) (λ e. apart ((Decides-eqb m n).0 e))
+
+pub eqb_is : (m n : ℕ) → (m == n) ≡ true → m ≡ n
+eqb_is m n e = (Decides-eqb m n).0 e
+
+-- ---- searching and counting
 
 -- a number below n + 1 is n or below n
 pub below_next : (k n : ℕ) → k < suc n → (k ≡ n) ⊎ (k < n)

@@ -1,8 +1,8 @@
 -- Pins, which keep pages of a VMO in their frames. From the kernel's pinned memory.
 use Rattle.std.specs.Prelude.{ℕ, ◌+◌, Bool, false, ◌&&◌, ◌==◌, nat_le, Option, None, Some}
-use Rattle.vm_model.specs.Search.{any_below, count_below}
-use Rattle.vm_model.specs.Names.{NAMES}
-use Rattle.vm_model.specs.Zeroing.{is_within}
+use Rattle.vm_base.specs.Search.{any_below, count_below}
+use Rattle.vm_base.specs.declared.limits.TheConstants.{NAMES}
+use Rattle.vm_model.specs.Contents.Zeroing.{is_within}
 
 -- so many pages of a VMO, from one on
 pub record Pin : Type 0 where

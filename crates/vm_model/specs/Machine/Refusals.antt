@@ -1,20 +1,20 @@
 -- When each command is refused: conditions in the order of the ranks, each with its refusal.
 use Rattle.std.specs.Prelude.{ℕ, ◌+◌, ◌*◌, ◌/◌, ◌%◌, Bool, not, ◌&&◌, ◌||◌, ◌==◌, nat_lt, List, [], ◌∷◌, length, if◌then◌else◌, Option, None, Some, is_some}
 use Rattle.vm_base.specs.Pages.{rounded}
-use Rattle.vm_base.specs.declared.pages.TheConstants.{PAGE, VMO_PAGES}
+use Rattle.vm_base.specs.declared.limits.TheConstants.{PAGE, VMO_PAGES, PIN_PAGES, DATA_BYTES}
 use Rattle.vm_base.specs.declared.refusal.Refusal.{Refusal}
 use Rattle.vm_base.specs.declared.refusal.Refusal.TheVariants.{BadHandle, NameInUse, BadState, AccessDenied, InvalidArgs, NotSupported, Unavailable, OutOfRange, NoMemory}
 use Rattle.vm_model.specs.declared.command.Command.{Command}
 use Rattle.vm_model.specs.declared.command.Command.TheVariants.{VmoCreate, VmoChild, VmoClose, VmoSize, VmoSetSize, VmoRead, VmoWrite, VmoFill, VmoCommit, VmoDecommit, VmoZero, VmoPin, VmoUnpin, VmoInfo}
 use Rattle.vm_model.specs.declared.command.ChildKind.TheVariants.{Snapshot, Slice, Reference}
 use Rattle.vm_model.specs.declared.names.NameKind.TheVariants.{Slice as SliceName}
-use Rattle.vm_model.specs.Content.{used, pages_of}
-use Rattle.vm_model.specs.Owning.{need}
-use Rattle.vm_model.specs.Writing.{touched}
-use Rattle.vm_model.specs.Zeroing.{owned_by_zero}
-use Rattle.vm_model.specs.Names.{is_kind, may_decommit}
-use Rattle.vm_model.specs.Pins.{is_pinned, any_pinned, has_pin}
-use Rattle.vm_model.specs.State.{State, is_open, target_of, koid_of, size_of, place_of, lineage_of}
+use Rattle.vm_model.specs.Contents.Content.{used, pages_of}
+use Rattle.vm_model.specs.Contents.Owning.{need}
+use Rattle.vm_model.specs.Contents.Writing.{touched}
+use Rattle.vm_model.specs.Contents.Zeroing.{owned_by_zero}
+use Rattle.vm_model.specs.Naming.Names.{is_kind, may_decommit}
+use Rattle.vm_model.specs.Naming.Pins.{is_pinned, any_pinned, has_pin}
+use Rattle.vm_model.specs.Machine.State.{State, is_open, target_of, koid_of, size_of, place_of, lineage_of}
 
 -- owning these pages of the VMO of this name takes more frames than are free
 abbrev pub lacks_frames : State → ℕ → List ℕ → Bool
@@ -57,7 +57,7 @@ refusals s (VmoChild name parent Reference offset size resizable no_write) =
 refusals s (VmoClose name) = (not (is_open s name.0), BadHandle) ∷ []
 refusals s (VmoRead name offset len) =
     (not (is_open s name.0), BadHandle)
-    ∷ (nat_lt PAGE len, InvalidArgs)
+    ∷ (nat_lt DATA_BYTES len, InvalidArgs)
     ∷ (nat_lt (size_of s name.0) (offset + len), OutOfRange)
     ∷ []
 refusals s (VmoWrite name offset bytes) = change_refusals s name.0 offset (length bytes) (touched (place_of s name.0 offset) (length bytes))
@@ -82,7 +82,7 @@ refusals s (VmoSetSize name size) =
 refusals s (VmoPin pin name offset len) =
     (not (is_open s name.0), BadHandle)
     ∷ (is_some (s.pins pin.0), NameInUse)
-    ∷ (not (offset % PAGE == 0 && len % PAGE == 0) || (len == 0 || nat_lt (256 * PAGE) len), InvalidArgs)
+    ∷ (not (offset % PAGE == 0 && len % PAGE == 0) || (len == 0 || nat_lt (PIN_PAGES * PAGE) len), InvalidArgs)
     ∷ (nat_lt (size_of s name.0) (offset + len), OutOfRange)
     ∷ (lacks_frames s name.0 (touched (place_of s name.0 offset) len), NoMemory)
     ∷ []

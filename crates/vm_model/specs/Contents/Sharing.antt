@@ -1,8 +1,8 @@
 -- Pages that several VMOs show: how many show a frame and which is the first of them, a snapshot of a range, and VMOs that
 -- leave. From the kernel's snapshot children, whose pages are copied on write, and from the lifetime of VMOs.
 use Rattle.std.specs.Prelude.{◌≡◌, ℕ, ◌+◌, ◌<◌, Bool, true, false, not, ◌==◌, nat_lt, if◌then◌else◌, Option, None, Some}
-use Rattle.vm_model.specs.Search.{count_below}
-use Rattle.vm_model.specs.Content.{Page, Content, views}
+use Rattle.vm_base.specs.Search.{count_below}
+use Rattle.vm_model.specs.Contents.Content.{Page, Content, views}
 
 -- how many VMOs show the frame t
 unfoldable pub viewers : Content → ℕ → ℕ

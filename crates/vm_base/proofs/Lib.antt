@@ -1,0 +1,3 @@
+pub mod SearchLaws
+pub mod EntryLaws
+pub mod PageLaws

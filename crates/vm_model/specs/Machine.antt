@@ -1,0 +1,5 @@
+pub mod State
+pub mod Leaving
+pub mod Attribution
+pub mod Refusals
+pub mod Step
