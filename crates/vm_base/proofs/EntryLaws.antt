@@ -126,6 +126,14 @@ module _ {A : Type 0} (bound : ℕ) (test : A → Bool) (map : ℕ → Option A)
   unfolding entry_count
   entry_count_le = count_below_le bound (λ k. passes test (map k))
 
+-- where each fails, none counts
+pub entry_count_miss : {A : Type 0} (bound : ℕ) (test : A → Bool) (map : ℕ → Option A) → ((k : ℕ) (a : A) → k < bound → map k ≡ Some a → test a ≡ false) → entry_count bound test map ≡ 0
+unfolding entry_count
+entry_count_miss bound test map each = count_below_none bound (λ k. passes test (map k)) (λ k h. false_from_ne_true (passes test (map k)) (λ e.
+    let value = passes_found test (map k) e in
+    let miss = each k value.0 h value.1 in
+    absurd (let hit = value.2 in cc)))
+
 -- in an empty map nothing passes, and nothing counts
 pub any_entry-empty : {A : Type 0} (bound : ℕ) (test : A → Bool) (map : ℕ → Option A) → ((k : ℕ) → map k ≡ None) → any_entry bound test map ≡ false
 any_entry-empty bound test map free = none_entry bound test map (λ k a h e. absurd (let none = free k in cc))
@@ -221,3 +229,14 @@ any_entry-without_key_other {A} bound test map k a e miss = any_entry_either bou
     let one : a ≡ found.1 = cc in
     absurd (let hit = ap test one ∙ found.4 in cc) in
     any_entry_at bound test (without_key map k) found.0 found.1 found.2 (without_key-other map k found.0 apart ∙ found.3) found.4)
+
+-- the new entry passes
+pub any_entry-with_key_new : {A : Type 0} (bound : ℕ) (test : A → Bool) (map : ℕ → Option A) (k : ℕ) (a : A) → k < bound → test a ≡ true → any_entry bound test (with_key map k a) ≡ true
+any_entry-with_key_new bound test map k a h hit = any_entry_at bound test (with_key map k a) k a h (with_key-same map k a) hit
+
+-- what passed does so still, where a key that was free got a value
+pub any_entry-with_key_kept : {A : Type 0} (bound : ℕ) (test : A → Bool) (map : ℕ → Option A) (k : ℕ) (a : A) → is_some (map k) ≡ false → any_entry bound test map ≡ true → any_entry bound test (with_key map k a) ≡ true
+any_entry-with_key_kept bound test map k a free e =
+    let found = any_entry_found bound test map e in
+    let apart : found.0 ≢ k = λ same. absurd (let here = found.3 in let none = ap map same ∙ none_is (map k) free in cc) in
+    any_entry_at bound test (with_key map k a) found.0 found.1 found.2 (with_key-other map k a found.0 apart ∙ found.3) found.4

@@ -1,5 +1,5 @@
 -- Laws of what each kind of change keeps: a good state stays good.
-use Rattle.std.proofs.Common.{◌≡◌, ◌≢◌, ℕ, ◌+◌, ◌-◌, ◌*◌, ◌/◌, ◌%◌, ◌<◌, ◌≤◌, Bool, true, false, not, List, length, Option, None, Some, refl, sym, ap, subst, ◌∙◌, inl, inr, arith}
+use Rattle.std.proofs.Common.{◌≡◌, ◌≢◌, ℕ, ◌+◌, ◌-◌, ◌*◌, ◌/◌, ◌%◌, ◌<◌, ◌≤◌, Bool, true, false, not, List, length, Option, None, Some, refl, sym, ap, subst, ◌∙◌, inl, inr, arith, ◌==◌}
 use Rattle.std.specs.Prelude.{unwrap_or, IsSome, is_some}
 use Rattle.std.proofs.lemmas.Bool.{cases_eq, cases_lt, or_cases, or_left, or_right, both_ways}
 use Rattle.std.proofs.Math.Nat.{min-le_left}
@@ -11,7 +11,7 @@ use Rattle.vm_model.specs.Contents.Sharing.{snapshotted}
 use Rattle.vm_model.specs.Contents.Writing.{touched, pieces, Writes}
 use Rattle.vm_model.specs.Contents.Zeroing.{zeroed, resized, Zeroes}
 use Rattle.vm_base.specs.Entries.{with_key}
-use Rattle.vm_model.specs.Naming.Names.{Name, Lineage, owner, is_named}
+use Rattle.vm_model.specs.Naming.Names.{Name, Lineage, owner, is_named, is_of}
 use Rattle.vm_model.specs.Naming.Pins.{Pin, has_pin, covers, is_pinned, any_pinned}
 use Rattle.vm_model.specs.Machine.State.{State, is_open, is_live, target_of, lineage_of, name_pages, IsGoodName, IsGoodPin, IsGoodState}
 use Rattle.vm_model.specs.Machine.Leaving.{pruned}
@@ -23,10 +23,12 @@ use Rattle.vm_model.proofs.WritingLaws.{IsKept, Writes-keeps_all}
 use Rattle.vm_model.proofs.CommitLaws.{OwnsAll-keeps_all}
 use Rattle.vm_model.proofs.ZeroesLaws.{zeroed-keeps, Zeroes-keeps_all}
 use Rattle.vm_model.proofs.SoleLaws.{KeepsSole, KeepsSole-Writes_all, KeepsSole-OwnsAll_all, KeepsSole-Zeroes, OwnsAll-alone_pages, sole-created_kept, sole-snapshotted_kept, sole-zeroed_kept, sole-resized_kept}
-use Rattle.vm_base.proofs.EntryLaws.{with_key-same, with_key-other, with_key-cases}
-use Rattle.vm_model.proofs.NamesLaws.{is_named-with_key_new, is_named-with_key_kept, names-open, lineage_of-at, lineage_of-same}
-use Rattle.vm_model.proofs.PinLaws.{covers_at, covers_found, has_pin_at, has_pin-with_key_kept, is_pinned_found, is_pinned_at, any_pinned_at}
+use Rattle.vm_base.proofs.EntryLaws.{with_key-same, with_key-other, with_key-cases, any_entry-with_key_kept, any_entry-with_key_new}
+use Rattle.vm_model.proofs.NamesLaws.{names-open, lineage_of-at, lineage_of-same}
+use Rattle.vm_model.proofs.PinLaws.{is_pinned_of, is_pinned-has_pin, any_pinned_at}
 use Rattle.vm_model.proofs.LeavingLaws.{lineage_at, count_at, IsGoodName-same, Loosens, unnamed, unpinned, Loosens-unnamed, Loosens-unpinned, IsGoodState-pruned, next-pruned, frames-pruned}
+use Rattle.vm_base.proofs.SearchLaws.{eqb_same}
+use Rattle.vm_model.proofs.LiveLaws.{is_live-named, is_live-pinned, is_live_cases, is_live-same}
 
 -- ---- what a step keeps
 
@@ -46,9 +48,9 @@ lineage_below s v good h = koid_some s.content v good.content (count_at s v good
 
 -- a VMO stays live where names and pins of it stay
 live_kept : (old new : State) (v : ℕ) → (is_named old.names v ≡ true → is_named new.names v ≡ true) → (has_pin old.pins v ≡ true → has_pin new.pins v ≡ true) → is_live old v ≡ true → is_live new v ≡ true
-live_kept old new v names pins e = elim (or_cases (is_named old.names v) (has_pin old.pins v) e) [
-  | inl named ↦ or_left (is_named new.names v) (has_pin new.pins v) (names named)
-  | inr pinned ↦ or_right (is_named new.names v) (has_pin new.pins v) (pins pinned)
+live_kept old new v names pins e = elim (is_live_cases old v e) [
+  | inl named ↦ is_live-named new v (names named)
+  | inr pinned ↦ is_live-pinned new v (pins pinned)
 ]
 
 -- a name is as good in a state with the same counts and lineage
@@ -67,17 +69,6 @@ pub record KeepsPinned (pins : ℕ → Option Pin) (old new : Content) : Type 0 
 pub KeepsPinned-from : (pins : ℕ → Option Pin) (old new : Content) → KeepsSole old new → KeepsPinned pins old new
 KeepsPinned-from pins old new all = record { keeps = λ w q pinned alone. all.keeps w q alone }
 
--- a page of a pin is pinned
-pin_pages : (pins : ℕ → Option Pin) (n p : ℕ) (pin : Pin) → n < NAMES → pins n ≡ Some pin → pin.first ≤ p → p < pin.first + pin.count → is_pinned pins pin.koid p ≡ true
-pin_pages pins n p pin h e low high = is_pinned_at pins pin.koid p n h (ap (covers pin.koid p) e ∙ covers_at pin.koid p pin refl low high)
-
--- the VMO of a pinned page has a pin
-pub is_pinned-has_pin : (pins : ℕ → Option Pin) (v p : ℕ) → is_pinned pins v p ≡ true → has_pin pins v ≡ true
-is_pinned-has_pin pins v p e =
-    let found = is_pinned_found pins v p e in
-    let pin = covers_found v p (pins found.0) found.2 in
-    has_pin_at pins v found.0 pin.0 found.1 pin.1 pin.2
-
 module _ (old new : State) (good : IsGoodState old) (kept : KeepsPinned old.pins old.content new.content) where
   -- a pin stays good where its pages are still pages of its VMO
   pub IsGoodPin-inside : (n : ℕ) (pin : Pin) → old.pins n ≡ Some pin → IsSome (new.content.count pin.koid) → pin.first + pin.count ≤ pages_of new.content pin.koid → (n < NAMES) × IsGoodPin new pin
@@ -88,7 +79,7 @@ module _ (old new : State) (good : IsGoodState old) (kept : KeepsPinned old.pins
           vmo = vmo;
           few = was.1.few;
           inside = inside;
-          alone = λ p low high. kept.keeps pin.koid p (pin_pages old.pins n p pin was.0 e low high) (was.1.alone p low high);
+          alone = λ p low high. kept.keeps pin.koid p (is_pinned_of old.pins n p pin was.0 e low high) (was.1.alone p low high);
         },
       )
 
@@ -139,9 +130,9 @@ enter_keeps old c name pages may_write l good h closed fine new_count other_coun
           | inr apart ↦ ap is_some (with_key-other old.lineage koid l v apart) ∙ (good.known v ∙ ap is_some (sym (other_count v apart)))
         ];
         live = λ v e. elim (cases_eq v koid) [
-          | inl same ↦ ap (is_live state) same ∙ or_left (is_named state.names koid) (has_pin state.pins koid) (is_named-with_key_new old.names name fresh h)
+          | inl same ↦ ap (is_live state) same ∙ is_live-named state koid (any_entry-with_key_new NAMES (is_of koid) old.names name fresh h (eqb_same koid))
           | inr apart ↦
-              live_kept old state v (λ named. is_named-with_key_kept old.names name fresh v closed named) (λ has. has)
+              live_kept old state v (λ named. any_entry-with_key_kept NAMES (is_of v) old.names name fresh closed named) (λ has. has)
               (good.live v (ap is_some (sym (with_key-other old.lineage koid l v apart)) ∙ e))
         ];
         parents = λ v p k e f. elim (with_key-cases old.lineage koid l v k e) [
@@ -204,7 +195,7 @@ alias_keeps old name target good h closed fine =
           | inr was ↦ let before = good.names n other was.1 in (before.0, IsGoodName-kept old state other refl refl before.1)
         ];
         known = good.known;
-        live = λ v e. live_kept old state v (λ named. is_named-with_key_kept old.names name target v closed named) (λ has. has) (good.live v e);
+        live = λ v e. live_kept old state v (λ named. any_entry-with_key_kept NAMES (is_of v) old.names name target closed named) (λ has. has) (good.live v e);
         parents = good.parents;
         pins = λ n pin e. IsGoodPin-kept old state good (record { keeps = λ w q pinned alone. alone }) n pin e refl;
       };
@@ -325,7 +316,7 @@ IsGoodState-pinned s n pin good h free fine =
       content = good.content;
       names = λ m target e. let was = good.names m target e in (was.0, IsGoodName-kept s state target refl refl was.1);
       known = good.known;
-      live = λ v e. live_kept s state v (λ named. named) (λ has. has_pin-with_key_kept s.pins n pin v free has) (good.live v e);
+      live = λ v e. live_kept s state v (λ named. named) (λ has. any_entry-with_key_kept NAMES (λ (p : Pin). p.koid == v) s.pins n pin (ap is_some free) has) (good.live v e);
       parents = good.parents;
       pins = λ m other e. elim (with_key-cases s.pins n pin m other e) [
         | inl new ↦ (subst (λ (k : ℕ). k < NAMES) (sym new.0) h, same other (subst (IsGoodPin s) new.1 fine))
@@ -408,7 +399,7 @@ resize_keeps old name target pages good open_name may few free =
               before ∙ sym (ap (λ (u : ℕ). is_some (state.content.count u)) same ∙ counted)
           | inr apart ↦ good.known w ∙ ap is_some (sym (count-resized_other c v pages w apart))
         ];
-        live = good.live;
+        live = λ w h. is_live-same old state w refl refl ∙ good.live w h;
         parents = good.parents;
         pins = λ n pin e. elim (cases_eq pin.koid v) [
           | inr apart ↦ IsGoodPin-kept old state good kept n pin e (count-resized_other c v pages pin.koid apart)
@@ -417,7 +408,7 @@ resize_keeps old name target pages good open_name may few free =
               let last = pin.first + pin.count - 1 in
               let inside : last < pages_of c v = omega (arith, was.1.few.0, was.1.inside, ap (pages_of c) same) in
               let pinned : is_pinned old.pins v last ≡ true =
-              subst (λ (u : ℕ). is_pinned old.pins u last ≡ true) same (pin_pages old.pins n last pin was.0 e (omega (arith, was.1.few.0)) (omega (arith, was.1.few.0))) in
+              subst (λ (u : ℕ). is_pinned old.pins u last ≡ true) same (is_pinned_of old.pins n last pin was.0 e (omega (arith, was.1.few.0)) (omega (arith, was.1.few.0))) in
               let room = below last inside pinned in
               IsGoodPin-inside old state good kept n pin e (subst (λ (w : ℕ). IsSome (state.content.count w)) (sym same) counted)
               (omega (arith, was.1.few.0, room, ap (pages_of state.content) same, pages_of-resized_here c v pages))

@@ -8,17 +8,17 @@ use Rattle.std.proofs.lemmas.Bool.Decides.{Decides-eqb}
 use Rattle.vm_model.specs.Contents.Content.{Page, Content, pages_of, sole, IsGood}
 use Rattle.vm_model.specs.Contents.Sharing.{only, without}
 use Rattle.vm_base.specs.Entries.{without_key}
-use Rattle.vm_model.specs.Naming.Names.{Name, Lineage, is_named, parent_without, lineage_without}
+use Rattle.vm_model.specs.Naming.Names.{Name, Lineage, is_named, parent_without, lineage_without, is_of}
 use Rattle.vm_base.specs.declared.limits.TheConstants.{NAMES}
 use Rattle.vm_model.specs.Naming.Pins.{Pin, has_pin}
 use Rattle.vm_model.specs.Machine.State.{State, is_live, lineage_of, IsGoodName, IsGoodPin, IsGoodState}
 use Rattle.vm_model.specs.Machine.Leaving.{first_live, lineage_left, pruned}
 use Rattle.vm_base.proofs.SearchLaws.{eqb_apart}
-use Rattle.vm_base.proofs.EntryLaws.{without_key-some, some_is, none_is}
-use Rattle.vm_model.proofs.NamesLaws.{is_named_none, is_named-without_key_other, lineage_of-at, lineage-known, lineage_of-same, parent_without-none, parent_without-same, parent_without-other, left_by, lineage_without-same, lineage_without-other, lineage_without-at, lineage_without-some, is_some-lineage_without}
-use Rattle.vm_model.proofs.PinLaws.{has_pin_none, has_pin-without_key_other}
+use Rattle.vm_base.proofs.EntryLaws.{without_key-some, some_is, none_is, any_entry_none, any_entry-without_key_other}
+use Rattle.vm_model.proofs.NamesLaws.{lineage_of-at, lineage-known, lineage_of-same, parent_without-none, parent_without-same, parent_without-other, left_by, lineage_without-same, lineage_without-other, lineage_without-at, lineage_without-some, is_some-lineage_without}
 use Rattle.vm_model.proofs.SharingLaws.{IsGood-only, frames-only, next-only, count-without_here, count-without_other}
 use Rattle.vm_model.proofs.SoleLaws.{sole-only_kept}
+use Rattle.vm_model.proofs.LiveLaws.{is_live_none, is_live-same}
 
 -- ---- what good states say
 
@@ -85,6 +85,10 @@ IsGoodPin-same s t pin count kept good = record {
   inside = let pages : pages_of t.content pin.koid ≡ pages_of s.content pin.koid = ap (λ (o : Option ℕ). unwrap_or o 0) count in omega (arith, good.inside, pages);
   alone = λ p low high. kept p (good.alone p low high);
 }
+
+-- a koid that is not v
+koid_apart : (koid v : ℕ) → (koid == v) ≡ false → koid ≢ v
+koid_apart koid v off same = absurd (let on = (Decides-eqb koid v).1 same in cc)
 
 -- ---- the first that is live
 
@@ -274,7 +278,7 @@ module _ (t : State) (v : ℕ) (good : IsLoose t v) where
     content = IsGood-only t.content (λ w. not (w == v)) good.content;
     names = λ m target e.
         let fine = good.names m target e in
-        (fine.0, name_left target (is_named_none t.names v m target off.0 fine.0 e) fine.1);
+        (fine.0, name_left target (koid_apart target.koid v (any_entry_none NAMES (is_of v) t.names m target off.0 fine.0 e)) fine.1);
     known = λ w. elim (cases_eq w v) [
       | inl vmo ↦
           ap (λ (u : ℕ). is_some (lineage_without t.lineage v (lineage_of t v).parent u)) vmo
@@ -286,17 +290,17 @@ module _ (t : State) (v : ℕ) (good : IsLoose t v) where
     live = λ w h.
         let found = some_is (lineage_without t.lineage v (lineage_of t v).parent w) h in
         let old = lineage_without-some t.lineage v (lineage_of t v).parent w found.0 found.1 in
-        good.live w old.1 (ap is_some old.2);
+        is_live-same t (left_vmo t v) w refl refl ∙ good.live w old.1 (ap is_some old.2);
     parents = λ w p l e f.
         let old = lineage_without-some t.lineage v (lineage_of t v).parent w l e in
         parent w p old.0 old.2 old.0.parent refl (sym (ap (λ (k : Lineage). k.parent) old.3) ∙ f);
     pins = λ m pin e.
         let fine = good.pins m pin e in
-        (fine.0, pin_left pin (has_pin_none t.pins v m pin off.1 fine.0 e) fine.1);
+        (fine.0, pin_left pin (koid_apart pin.koid v (any_entry_none NAMES (λ (p : Pin). p.koid == v) t.pins m pin off.1 fine.0 e)) fine.1);
   } where
     -- neither a name nor a pin is of the VMO
     off : (is_named t.names v ≡ false) × (has_pin t.pins v ≡ false)
-    off = or_parts (is_named t.names v) (has_pin t.pins v) gone
+    off = is_live_none t v gone
 
     stays : (w p : ℕ) → p < w → IsSome (t.lineage p) → p ≢ v → (p < w) × IsSome (lineage_without t.lineage v (lineage_of t v).parent p)
     stays w p h there apart = (h, is_some-lineage_without t.lineage v (lineage_of t v).parent p apart ∙ there)
@@ -387,7 +391,7 @@ Loosens-unnamed s n t good e = record {
   lineage = refl;
   names = λ m target f. (without_key-some s.names n m target f).1;
   pins = λ m pin f. f;
-  live = λ w apart. ap (λ (b : Bool). b || has_pin s.pins w) (is_named-without_key_other s.names n t w e apart);
+  live = λ w apart. is_live-same s (unnamed s n) w (any_entry-without_key_other NAMES (is_of w) s.names n t e (eqb_apart t.koid w (λ same. apart (sym same)))) refl;
   vmo = name_lineage s n t good e;
 }
 
@@ -398,7 +402,7 @@ Loosens-unpinned s n pin good e = record {
   lineage = refl;
   names = λ m target f. f;
   pins = λ m other f. (without_key-some s.pins n m other f).1;
-  live = λ w apart. ap (λ (b : Bool). is_named s.names w || b) (has_pin-without_key_other s.pins n pin w e apart);
+  live = λ w apart. is_live-same s (unpinned s n) w refl (any_entry-without_key_other NAMES (λ (p : Pin). p.koid == w) s.pins n pin e (eqb_apart pin.koid w (λ same. apart (sym same))));
   vmo = pin_lineage s n pin good e;
 }
 

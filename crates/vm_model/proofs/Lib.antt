@@ -11,6 +11,7 @@ pub mod NamesLaws
 pub mod AliasLaws
 pub mod AttributionLaws
 pub mod PinLaws
+pub mod LiveLaws
 pub mod LeavingLaws
 pub mod KeepLaws
 pub mod StepLaws

@@ -44,12 +44,8 @@ place_of s name offset = (target_of s name).first * PAGE + offset
 unfoldable pub lineage_of : State → ℕ → Lineage
 lineage_of s v = unwrap_or (s.lineage v) (record { resizable = false; origin = Created; parent = None })
 
--- the pages that a pin keeps. Where there is none, this means nothing
-unfoldable pub pin_of : State → ℕ → Pin
-pin_of s n = unwrap_or (s.pins n) (record { koid = 0; first = 0; count = 0 })
-
 -- a VMO is live while a name stands for it or a pin is of it
-abbrev pub is_live : State → ℕ → Bool
+unfoldable pub is_live : State → ℕ → Bool
 is_live s v = is_named s.names v || has_pin s.pins v
 
 -- What holds of every name: it stands for a VMO. A name of a part is a slice, of a VMO that keeps its size, and the part lies

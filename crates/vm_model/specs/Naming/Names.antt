@@ -5,7 +5,7 @@ use Rattle.vm_model.specs.declared.names.NameKind.{NameKind}
 use Rattle.vm_model.specs.declared.names.NameKind.TheVariants.{Owner, Slice, Reference}
 use Rattle.vm_model.specs.declared.names.Origin.{Origin}
 use Rattle.vm_model.specs.declared.names.Origin.TheVariants.{Created, Snapshot}
-use Rattle.vm_base.specs.Search.{any_below, count_below}
+use Rattle.vm_base.specs.Entries.{passes, any_entry, entry_count}
 use Rattle.vm_base.specs.declared.limits.TheConstants.{NAMES, KOIDS}
 
 -- A name that is open stands for a VMO, from one of its pages on: for so many pages, or for the whole VMO. It may write to
@@ -29,13 +29,12 @@ abbrev pub owner : ℕ → Bool → Bool → Name
 owner koid may_write may_resize = record { koid = koid; first = 0; limit = None; kind = Owner; may_write = may_write; may_resize = may_resize }
 
 -- a name stands for the VMO v
-unfoldable pub carries : ℕ → Option Name → Bool
-carries v None = false
-carries v (Some target) = target.koid == v
+abbrev pub is_of : ℕ → Name → Bool
+is_of v target = target.koid == v
 
 -- some name stands for the VMO v
-unfoldable pub is_named : (ℕ → Option Name) → ℕ → Bool
-is_named names v = any_below NAMES (λ n. carries v (names n))
+abbrev pub is_named : (ℕ → Option Name) → ℕ → Bool
+is_named names v = any_entry NAMES (is_of v) names
 
 -- two kinds are the same
 abbrev pub is_kind : NameKind → NameKind → Bool
@@ -50,27 +49,24 @@ is_created Created = true
 is_created Snapshot = false
 
 -- a parent is v
-unfoldable pub is_parent : ℕ → Option ℕ → Bool
-is_parent v None = false
-is_parent v (Some p) = p == v
+abbrev pub is_parent : ℕ → Option ℕ → Bool
+is_parent v parent = passes (λ (p : ℕ). p == v) parent
 
 -- a name of this kind stands for the VMO v
-unfoldable pub carries_as : NameKind → ℕ → Option Name → Bool
-carries_as kind v None = false
-carries_as kind v (Some target) = (target.koid == v) && is_kind kind target.kind
+abbrev pub is_of_as : NameKind → ℕ → Name → Bool
+is_of_as kind v target = (target.koid == v) && is_kind kind target.kind
 
 -- how many names of this kind stand for the VMO v
-unfoldable pub names_as : NameKind → (ℕ → Option Name) → ℕ → ℕ
-names_as kind names v = count_below NAMES (λ n. carries_as kind v (names n))
+abbrev pub names_as : NameKind → (ℕ → Option Name) → ℕ → ℕ
+names_as kind names v = entry_count NAMES (is_of_as kind v) names
 
 -- the VMO with this lineage has the parent v
-unfoldable pub has_parent : ℕ → Option Lineage → Bool
-has_parent v None = false
-has_parent v (Some l) = is_parent v l.parent
+abbrev pub has_parent : ℕ → Lineage → Bool
+has_parent v l = is_parent v l.parent
 
 -- how many VMOs have the parent v
-unfoldable pub child_count : (ℕ → Option Lineage) → ℕ → ℕ
-child_count lineage v = count_below KOIDS (λ w. has_parent v (lineage w))
+abbrev pub child_count : (ℕ → Option Lineage) → ℕ → ℕ
+child_count lineage v = entry_count KOIDS (has_parent v) lineage
 
 -- The children of the VMO v: the VMOs whose parent it is, and the slices and references that stand for it.
 abbrev pub children : (ℕ → Option Name) → (ℕ → Option Lineage) → ℕ → ℕ

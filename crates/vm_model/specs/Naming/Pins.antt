@@ -1,6 +1,7 @@
 -- Pins, which keep pages of a VMO in their frames. From the kernel's pinned memory.
 use Rattle.std.specs.Prelude.{ℕ, ◌+◌, Bool, false, ◌&&◌, ◌==◌, nat_le, Option, None, Some}
-use Rattle.vm_base.specs.Search.{any_below, count_below}
+use Rattle.vm_base.specs.Search.{any_below}
+use Rattle.vm_base.specs.Entries.{any_entry, entry_count}
 use Rattle.vm_base.specs.declared.limits.TheConstants.{NAMES}
 use Rattle.vm_model.specs.Contents.Zeroing.{is_within}
 
@@ -10,27 +11,21 @@ pub record Pin : Type 0 where
   pub first : ℕ
   pub count : ℕ
 
--- a pin is of the VMO v
-unfoldable pub pins_vmo : ℕ → Option Pin → Bool
-pins_vmo v None = false
-pins_vmo v (Some pin) = pin.koid == v
-
 -- some pin is of the VMO v
-unfoldable pub has_pin : (ℕ → Option Pin) → ℕ → Bool
-has_pin pins v = any_below NAMES (λ n. pins_vmo v (pins n))
+abbrev pub has_pin : (ℕ → Option Pin) → ℕ → Bool
+has_pin pins v = any_entry NAMES (λ (pin : Pin). pin.koid == v) pins
 
 -- how many pins are of the VMO v
-unfoldable pub pin_count : (ℕ → Option Pin) → ℕ → ℕ
-pin_count pins v = count_below NAMES (λ n. pins_vmo v (pins n))
+abbrev pub pin_count : (ℕ → Option Pin) → ℕ → ℕ
+pin_count pins v = entry_count NAMES (λ (pin : Pin). pin.koid == v) pins
 
 -- a pin covers page p of the VMO v
-unfoldable pub covers : ℕ → ℕ → Option Pin → Bool
-covers v p None = false
-covers v p (Some pin) = (pin.koid == v) && is_within pin.first (pin.first + pin.count) p
+abbrev pub covers : ℕ → ℕ → Pin → Bool
+covers v p pin = (pin.koid == v) && is_within pin.first (pin.first + pin.count) p
 
 -- some pin covers page p of the VMO v
-unfoldable pub is_pinned : (ℕ → Option Pin) → ℕ → ℕ → Bool
-is_pinned pins v p = any_below NAMES (λ n. covers v p (pins n))
+abbrev pub is_pinned : (ℕ → Option Pin) → ℕ → ℕ → Bool
+is_pinned pins v p = any_entry NAMES (covers v p) pins
 
 -- some page of the VMO v is pinned, of those from `first` to below `end`
 unfoldable pub any_pinned : (ℕ → Option Pin) → ℕ → ℕ → ℕ → Bool
