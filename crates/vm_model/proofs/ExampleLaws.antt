@@ -10,9 +10,10 @@ use Rattle.vm_base.specs.declared.refusal.Refusal.{Refusal}
 use Rattle.vm_base.specs.declared.refusal.Refusal.TheVariants.{BadHandle, AccessDenied, InvalidArgs, OutOfRange, NoMemory, HostMemory}
 use Rattle.vm_model.specs.Contents.Content.{Page, Content, nothing, shown, pages_of, in_use, used, hold, created, IsGood}
 use Rattle.vm_model.specs.Contents.Owning.{Owns, need}
-use Rattle.vm_model.specs.Contents.Writing.{touched_end, touched, bytes_in, Piece, piece, pieces, WritesPiece, Writes}
+use Rattle.vm_model.specs.Contents.Writing.{touched_end, part_at, part_bytes, touched, bytes_in, Piece, pieces, WritesPiece, Writes}
 use Rattle.vm_base.specs.Entries.{with_key}
-use Rattle.vm_model.specs.Naming.Names.{Name, owner}
+use Rattle.vm_model.specs.declared.names.Target.{Target}
+use Rattle.vm_model.specs.Naming.Names.{owner}
 use Rattle.vm_model.specs.Machine.State.{State, empty_state, is_open, target_of, koid_of, name_pages, size_of, place_of}
 use Rattle.vm_model.specs.Machine.Refusals.{lacks_frames, refusals, first_of}
 use Rattle.vm_model.specs.Machine.Step.{with_vmo, Effect, StepAfter, Step}
@@ -91,11 +92,11 @@ unfolding with_vmo
 made-is = refl
 
 -- what its name stands for
-abbrev target : Name
+abbrev target : Target
 target = owner 1 true false
 
 abbrev part : Piece
-part = record { page = 0; at = 4094; bytes = marks }
+part = record { koid = 1; page = 0; at = 4094; bytes = marks }
 
 create_free : first_of (refusals start create) ≡ None
 unfolding empty_state
@@ -133,8 +134,8 @@ write-touched : touched 4094 2 ≡ 0 ∷ []
 unfolding touched touched_end
 write-touched = refl
 
-write-pieces : pieces 4094 marks ≡ part ∷ []
-unfolding pieces piece touched touched_end
+write-pieces : pieces 1 4094 marks ≡ part ∷ []
+unfolding pieces part_at part_bytes touched touched_end
 write-pieces = refl
 
 made-need : need made.content 1 (touched 4094 2) ≤ 1
@@ -148,23 +149,23 @@ none_of a b c x y z e f g = ap (λ t. cond t (Some x) (first_of ((b, y) ∷ (c, 
 
 -- the size of a name that stands for the target
 size-target : (s : State) → target_of s 1 ≡ target → pages_of s.content 1 ≡ 2 → size_of s 1 ≡ 8192
-size-target s e pages = let size : size_of s 1 ≡ pages_of s.content 1 * PAGE = ap (λ (t : Name). name_pages s.content t * PAGE) e in omega (arith, size, pages)
+size-target s e pages = let size : size_of s 1 ≡ pages_of s.content 1 * PAGE = ap (λ (t : Target). name_pages s.content t * PAGE) e in omega (arith, size, pages)
 
 write_free : first_of (refusals made write) ≡ None
 write_free =
     let size = size-target made made-target made-pages in
     let inside : nat_lt (size_of made 1) (4094 + 2) ≡ false = le-ltb (size_of made 1) (4094 + 2) (omega (arith, size)) in
     let needed : need made.content (koid_of made 1) (touched (place_of made 1 4094) 2) ≡ need made.content 1 (touched 4094 2) =
-    ap (λ (t : Name). need made.content t.koid (touched (t.first * PAGE + 4094) 2)) made-target in
+    ap (λ (t : Target). need made.content t.koid.0 (touched (t.first * PAGE + 4094) 2)) made-target in
     let room : lacks_frames made 1 (touched (place_of made 1 4094) 2) ≡ false =
     le-ltb made.content.frames (used made.content + need made.content (koid_of made 1) (touched (place_of made 1 4094) 2)) (omega (arith, made-used, needed, made-need, made-frames)) in
-    let may : not (target_of made 1).may_write ≡ false = ap (λ (t : Name). not t.may_write) made-target in
+    let may : not (target_of made 1).may_write ≡ false = ap (λ (t : Target). not t.may_write) made-target in
     ap (λ b. cond b (Some BadHandle) (first_of ((not (target_of made 1).may_write, AccessDenied) ∷ (nat_lt (size_of made 1) (4094 + 2), OutOfRange) ∷ (lacks_frames made 1 (touched (place_of made 1 4094) 2), NoMemory) ∷ []))) (ap not made-open)
     ∙ none_of (not (target_of made 1).may_write) (nat_lt (size_of made 1) (4094 + 2)) (lacks_frames made 1 (touched (place_of made 1 4094) 2)) AccessDenied OutOfRange NoMemory may inside room
 
 -- the same names, the same targets
 target-is : (s : State) → s.names ≡ made.names → target_of s 1 ≡ target
-target-is s e = target_of-same s made 1 (ap (λ (f : ℕ → Option Name). f 1) e) ∙ made-target
+target-is s e = target_of-same s made 1 (ap (λ (f : ℕ → Option Target). f 1) e) ∙ made-target
 
 -- what the VMO shows after the second line
 pub record IsWritten (s : State) : Type 0 where
@@ -175,9 +176,9 @@ pub record IsWritten (s : State) : Type 0 where
 
 IsWritten-from_effect : (reply : Reply) (s : State) → Effect made write reply s → IsWritten s
 IsWritten-from_effect reply s effect =
-    let whole : Writes made.content 1 (pieces 4094 marks) s.content = subst (λ (t : Name). Writes made.content t.koid (pieces (t.first * PAGE + 4094) marks) s.content) made-target effect.2 in
-    let w : Writes made.content 1 (part ∷ []) s.content = subst (λ (ps : List Piece). Writes made.content 1 ps s.content) write-pieces whole in
-    let piece_ : WritesPiece made.content 1 part w.0 = w.1 in
+    let whole : Writes made.content (pieces 1 4094 marks) s.content = subst (λ (t : Target). Writes made.content (pieces t.koid.0 (t.first * PAGE + 4094) marks) s.content) made-target effect.2 in
+    let w : Writes made.content (part ∷ []) s.content = subst (λ (ps : List Piece). Writes made.content ps s.content) write-pieces whole in
+    let piece_ : WritesPiece made.content part w.0 = w.1 in
     let below : 0 < pages_of made.content 1 = omega (arith, made-pages) in
     let owned = Owned-from_Owns made.content piece_.owned 1 0 piece_.tag made-good below piece_.owns in
     let was : shown piece_.owned 1 0 ≡ zeros =
@@ -214,12 +215,12 @@ bytes_read c first second = five _ _ _ _ _ 0 170 187 0 0
 
 -- what the name shows then
 read_at : (s : State) → IsWritten s → bytes_in s.content (koid_of s 1) (place_of s 1 4093) 5 ≡ 0 ∷ 170 ∷ 187 ∷ 0 ∷ 0 ∷ []
-read_at s w = ap (λ (t : Name). bytes_in s.content t.koid (t.first * PAGE + 4093) 5) (target-is s w.names) ∙ bytes_read s.content w.first w.second
+read_at s w = ap (λ (t : Target). bytes_in s.content t.koid.0 (t.first * PAGE + 4093) 5) (target-is s w.names) ∙ bytes_read s.content w.first w.second
 
 -- nothing refuses the third line
 read_free : (s : State) → IsWritten s → first_of (refusals s read) ≡ None
 read_free s w =
-    let named : is_open s 1 ≡ true = ap (λ (f : ℕ → Option Name). is_some (f 1)) w.names ∙ made-open in
+    let named : is_open s 1 ≡ true = ap (λ (f : ℕ → Option Target). is_some (f 1)) w.names ∙ made-open in
     let size = size-target s (target-is s w.names) w.pages in
     let inside : nat_lt (size_of s 1) (4093 + 5) ≡ false = le-ltb (size_of s 1) (4093 + 5) (omega (arith, size)) in
     none_of (not (is_open s 1)) (nat_lt PAGE 5) (nat_lt (size_of s 1) (4093 + 5)) BadHandle InvalidArgs OutOfRange (ap not named) refl inside
@@ -287,9 +288,9 @@ write_effect =
       stays = λ alone. let none : ◌≡◌ {A = Bool} true false = sym alone ∙ sole-zero made.content 1 0 (made-page 1 0) in absurd cc;
       copies = λ shared. (omega (arith, made-frames), free_tag, refl);
     } in
-    let w : Writes made.content 1 (part ∷ []) written.content = (written.content, record { tag = 0; owned = owned; owns = owns; bytes = refl }, refl) in
-    let whole : Writes made.content 1 (pieces 4094 marks) written.content = subst (λ (ps : List Piece). Writes made.content 1 ps written.content) (sym write-pieces) w in
-    (refl, refl, subst (λ (t : Name). Writes made.content t.koid (pieces (t.first * PAGE + 4094) marks) written.content) (sym made-target) whole)
+    let w : Writes made.content (part ∷ []) written.content = (written.content, record { tag = 0; owned = owned; owns = owns; bytes = refl }, refl) in
+    let whole : Writes made.content (pieces 1 4094 marks) written.content = subst (λ (ps : List Piece). Writes made.content ps written.content) (sym write-pieces) w in
+    (refl, refl, subst (λ (t : Target). Writes made.content (pieces t.koid.0 (t.first * PAGE + 4094) marks) written.content) (sym made-target) whole)
 
 abbrev outcome : List Reply
 outcome = Done ∷ Done ∷ Bytes (bytes_in written.content (koid_of written 1) (place_of written 1 4093) 5) ∷ []

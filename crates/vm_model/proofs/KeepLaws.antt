@@ -1,7 +1,7 @@
 -- Laws of what each kind of change keeps: a good state stays good.
 use Rattle.std.proofs.Common.{◌≡◌, ◌≢◌, ℕ, ◌+◌, ◌-◌, ◌*◌, ◌/◌, ◌%◌, ◌<◌, ◌≤◌, Bool, true, false, not, List, length, Option, None, Some, refl, sym, ap, subst, ◌∙◌, inl, inr, arith, ◌==◌}
 use Rattle.std.specs.Prelude.{unwrap_or, IsSome, is_some}
-use Rattle.std.proofs.lemmas.Bool.{cases_eq, cases_lt, or_cases, or_left, or_right, both_ways}
+use Rattle.std.proofs.lemmas.Bool.{cases_eq, cases_lt, both_ways}
 use Rattle.std.proofs.Math.Nat.{min-le_left}
 use Rattle.vm_base.specs.declared.limits.TheConstants.{PAGE, VMO_PAGES, NAMES, PIN_PAGES}
 use Rattle.vm_model.specs.declared.names.Origin.TheVariants.{Created, Snapshot}
@@ -11,8 +11,9 @@ use Rattle.vm_model.specs.Contents.Sharing.{snapshotted}
 use Rattle.vm_model.specs.Contents.Writing.{touched, pieces, Writes}
 use Rattle.vm_model.specs.Contents.Zeroing.{zeroed, resized, Zeroes}
 use Rattle.vm_base.specs.Entries.{with_key}
-use Rattle.vm_model.specs.Naming.Names.{Name, Lineage, owner, is_named, is_of}
-use Rattle.vm_model.specs.Naming.Pins.{Pin, has_pin, covers, is_pinned, any_pinned}
+use Rattle.vm_model.specs.declared.names.Target.{Target}
+use Rattle.vm_model.specs.Naming.Names.{Lineage, owner, is_named, is_of}
+use Rattle.vm_model.specs.Naming.Pins.{Pin, has_pin, is_pinned, any_pinned}
 use Rattle.vm_model.specs.Machine.State.{State, is_open, is_live, target_of, lineage_of, name_pages, IsGoodName, IsGoodPin, IsGoodState}
 use Rattle.vm_model.specs.Machine.Leaving.{pruned}
 use Rattle.vm_model.specs.Machine.Step.{with_vmo, seen_pages, with_snapshot, slice_of, reference_of, with_alias, ChangesContent}
@@ -54,10 +55,10 @@ live_kept old new v names pins e = elim (is_live_cases old v e) [
 ]
 
 -- a name is as good in a state with the same counts and lineage
-IsGoodName-kept : (old new : State) (target : Name) → new.content.count ≡ old.content.count → new.lineage ≡ old.lineage → IsGoodName old target → IsGoodName new target
+IsGoodName-kept : (old new : State) (target : Target) → new.content.count ≡ old.content.count → new.lineage ≡ old.lineage → IsGoodName old target → IsGoodName new target
 IsGoodName-kept old new target count lineage good =
-    IsGoodName-same old new target (ap (λ (f : ℕ → Option ℕ). f target.koid) count)
-    (ap (λ (l : Lineage). l.resizable) (lineage_of-same new old target.koid (ap (λ (f : ℕ → Option Lineage). f target.koid) lineage))) good
+    IsGoodName-same old new target (ap (λ (f : ℕ → Option ℕ). f target.koid.0) count)
+    (ap (λ (l : Lineage). l.resizable) (lineage_of-same new old target.koid.0 (ap (λ (f : ℕ → Option Lineage). f target.koid.0) lineage))) good
 
 -- ---- what keeps pins good
 
@@ -100,7 +101,7 @@ pub enter_keeps : (old : State) (c : Content) (name pages : ℕ) (may_write : Bo
     → Keeps old (record old { content = c; names = with_key old.names name (owner old.content.next may_write l.resizable); lineage = with_key old.lineage old.content.next l })
 enter_keeps old c name pages may_write l good h closed fine new_count other_count next frames pinned parent =
     let koid = old.content.next in
-    let fresh : Name = owner koid may_write l.resizable in
+    let fresh : Target = owner koid may_write l.resizable in
     let state : State = record old { content = c; names = with_key old.names name fresh; lineage = with_key old.lineage koid l } in
     let older : (v : ℕ) → IsSome (old.lineage v) → v ≢ koid = λ v there. let below = lineage_below old v good there in omega (arith, below) in
     let kept : (v : ℕ) → IsSome (old.lineage v) → IsSome (with_key old.lineage koid l v) = λ v there. ap is_some (with_key-other old.lineage koid l v (older v there)) ∙ there in
@@ -117,10 +118,10 @@ enter_keeps old c name pages may_write l good h closed fine new_count other_coun
           | inl new ↦ (subst (λ (m : ℕ). m < NAMES) (sym new.0) h, subst (IsGoodName state) new.1 fresh_good)
           | inr was ↦
               let before = good.names n target was.1 in
-              let apart : target.koid ≢ koid = older target.koid (lineage_at old target.koid good before.1.vmo) in (
+              let apart : target.koid.0 ≢ koid = older target.koid.0 (lineage_at old target.koid.0 good before.1.vmo) in (
                 before.0,
-                IsGoodName-same old state target (other_count target.koid apart)
-                    (ap (λ (k : Lineage). k.resizable) (lineage_of-same state old target.koid (with_key-other old.lineage koid l target.koid apart))) before.1,
+                IsGoodName-same old state target (other_count target.koid.0 apart)
+                    (ap (λ (k : Lineage). k.resizable) (lineage_of-same state old target.koid.0 (with_key-other old.lineage koid l target.koid.0 apart))) before.1,
               )
         ];
         known = λ v. elim (cases_eq v koid) [
@@ -160,30 +161,30 @@ create_keeps old name pages resizable good h closed few =
     (record { keeps = λ w q pinned alone. sole-created_kept c pages w q good.content alone }) (λ p e. absurd cc)
 
 -- a snapshot sees no more pages than it has
-pub seen_le : (c : Content) (target : Name) (start pages : ℕ) → seen_pages c target start pages ≤ pages
+pub seen_le : (c : Content) (target : Target) (start pages : ℕ) → seen_pages c target start pages ≤ pages
 seen_le c target start pages = min-le_left pages (name_pages c target - start)
 
 -- a snapshot of what a name stands for, under a name that is not open. No pin is of the VMO of which it is one
-pub snapshot_keeps : (old : State) (name : ℕ) (target : Name) (start pages : ℕ) (resizable no_write : Bool) → IsGoodState old → name < NAMES → is_open old name ≡ false → IsSome (old.content.count target.koid) → has_pin old.pins target.koid ≡ false → pages ≤ VMO_PAGES → Keeps old (with_snapshot old name target start pages resizable no_write)
+pub snapshot_keeps : (old : State) (name : ℕ) (target : Target) (start pages : ℕ) (resizable no_write : Bool) → IsGoodState old → name < NAMES → is_open old name ≡ false → IsSome (old.content.count target.koid.0) → has_pin old.pins target.koid.0 ≡ false → pages ≤ VMO_PAGES → Keeps old (with_snapshot old name target start pages resizable no_write)
 unfolding with_snapshot
 snapshot_keeps old name target start pages resizable no_write good h closed vmo free few =
     let c = old.content in
     let first = target.first + start in
     let seen = seen_pages c target start pages in
-    let l : Lineage = record { resizable = resizable; origin = Snapshot; parent = Some target.koid } in
-    let elsewhere : (w q : ℕ) → is_pinned old.pins w q ≡ true → w ≢ target.koid = λ w q pinned same.
-    both_ways (has_pin old.pins target.koid) free (ap (has_pin old.pins) (sym same) ∙ is_pinned-has_pin old.pins w q pinned) in
-    enter_keeps old (snapshotted c target.koid first seen pages) name pages (not no_write) l good h closed
-    (IsGood-snapshotted c target.koid first seen pages good.content (seen_le c target start pages) few)
-    (count-snapshotted_new c target.koid first seen pages) (λ v apart. count-snapshotted_other c target.koid first seen pages v apart)
-    (next-snapshotted c target.koid first seen pages) (frames-snapshotted c target.koid first seen pages)
-    (record { keeps = λ w q pinned alone. sole-snapshotted_kept c target.koid first seen pages w q good.content (elsewhere w q pinned) alone })
-    (λ p e. let is : target.koid ≡ p = cc in subst (λ (v : ℕ). IsSome (old.lineage v)) is (lineage_at old target.koid good vmo))
+    let l : Lineage = record { resizable = resizable; origin = Snapshot; parent = Some target.koid.0 } in
+    let elsewhere : (w q : ℕ) → is_pinned old.pins w q ≡ true → w ≢ target.koid.0 = λ w q pinned same.
+    both_ways (has_pin old.pins target.koid.0) free (ap (has_pin old.pins) (sym same) ∙ is_pinned-has_pin old.pins w q pinned) in
+    enter_keeps old (snapshotted c target.koid.0 first seen pages) name pages (not no_write) l good h closed
+    (IsGood-snapshotted c target.koid.0 first seen pages good.content (seen_le c target start pages) few)
+    (count-snapshotted_new c target.koid.0 first seen pages) (λ v apart. count-snapshotted_other c target.koid.0 first seen pages v apart)
+    (next-snapshotted c target.koid.0 first seen pages) (frames-snapshotted c target.koid.0 first seen pages)
+    (record { keeps = λ w q pinned alone. sole-snapshotted_kept c target.koid.0 first seen pages w q good.content (elsewhere w q pinned) alone })
+    (λ p e. let is : target.koid.0 ≡ p = cc in subst (λ (v : ℕ). IsSome (old.lineage v)) is (lineage_at old target.koid.0 good vmo))
 
 -- ---- a name more
 
 -- one name more of a VMO that is there, under a number that is not open
-pub alias_keeps : (old : State) (name : ℕ) (target : Name) → IsGoodState old → name < NAMES → is_open old name ≡ false → IsGoodName old target → Keeps old (with_alias old name target)
+pub alias_keeps : (old : State) (name : ℕ) (target : Target) → IsGoodState old → name < NAMES → is_open old name ≡ false → IsGoodName old target → Keeps old (with_alias old name target)
 unfolding with_alias
 alias_keeps old name target good h closed fine =
     let state : State = record old { names = with_key old.names name target } in
@@ -204,19 +205,19 @@ alias_keeps old name target good h closed fine =
     }
 
 -- A part of what a good name stands for is a good name, where the VMO keeps its size and the part lies inside the name
-pub slice_good : (s : State) (target : Name) (start pages : ℕ) (no_write : Bool) → IsGoodName s target → (lineage_of s target.koid).resizable ≡ false → start + pages ≤ name_pages s.content target → IsGoodName s (slice_of target start pages no_write)
+pub slice_good : (s : State) (target : Target) (start pages : ℕ) (no_write : Bool) → IsGoodName s target → (lineage_of s target.koid.0).resizable ≡ false → start + pages ≤ name_pages s.content target → IsGoodName s (slice_of target start pages no_write)
 slice_good s target start pages no_write good fixed inside = record {
   vmo = good.vmo;
   whole = λ e. absurd cc;
-  part = λ n e. let is : pages ≡ n = cc in (refl, fixed, subst (λ (m : ℕ). target.first + start + m ≤ pages_of s.content target.koid) is (go target.limit refl inside));
+  part = λ n e. let is : pages ≡ n = cc in (refl, fixed, subst (λ (m : ℕ). target.first + start + m ≤ pages_of s.content target.koid.0) is (go target.limit refl inside));
   resize = λ e. absurd cc;
 } where
-  go : (o : Option ℕ) → target.limit ≡ o → start + pages ≤ unwrap_or o (pages_of s.content target.koid) → target.first + start + pages ≤ pages_of s.content target.koid
+  go : (o : Option ℕ) → target.limit ≡ o → start + pages ≤ unwrap_or o (pages_of s.content target.koid.0) → target.first + start + pages ≤ pages_of s.content target.koid.0
   go None e l = omega (arith, good.whole e)
   go (Some n) e l = omega (arith, (good.part n e).2)
 
 -- Another name of all of a good name's VMO is good, where it may change the size only if that name may
-pub reference_good : (s : State) (target : Name) (resizable no_write : Bool) → IsGoodName s target → (resizable ≡ true → target.may_resize ≡ true) → IsGoodName s (reference_of target resizable no_write)
+pub reference_good : (s : State) (target : Target) (resizable no_write : Bool) → IsGoodName s target → (resizable ≡ true → target.may_resize ≡ true) → IsGoodName s (reference_of target resizable no_write)
 reference_good s target resizable no_write good may = record {
   vmo = good.vmo;
   whole = λ e. refl;
@@ -238,7 +239,7 @@ loose_keeps old less v good loose = record {
 pub close_keeps : (old : State) (name : ℕ) → IsGoodState old → is_open old name ≡ true → Keeps old (pruned (unnamed old name))
 close_keeps old name good open_name =
     let target = target_of old name in
-    loose_keeps old (unnamed old name) target.koid good (Loosens-unnamed old name target good (names-open old name open_name))
+    loose_keeps old (unnamed old name) target.koid.0 good (Loosens-unnamed old name target good (names-open old name open_name))
 
 -- a pin that is taken off
 pub unpin_keeps : (old : State) (name : ℕ) (pin : Pin) → IsGoodState old → old.pins name ≡ Some pin → Keeps old (pruned (unpinned old name))
@@ -251,10 +252,10 @@ pub kept_keeps : (old new : State) → IsGoodState old → new.names ≡ old.nam
 kept_keeps old new good names lineage pins kept pinned = record {
   good = record {
     content = kept.good;
-    names = λ n target e. let was = good.names n target (ap (λ (f : ℕ → Option Name). f n) (sym names) ∙ e) in (was.0, IsGoodName-kept old new target kept.count lineage was.1);
+    names = λ n target e. let was = good.names n target (ap (λ (f : ℕ → Option Target). f n) (sym names) ∙ e) in (was.0, IsGoodName-kept old new target kept.count lineage was.1);
     known = λ v. ap (λ (f : ℕ → Option Lineage). is_some (f v)) lineage ∙ (good.known v ∙ ap (λ (f : ℕ → Option ℕ). is_some (f v)) (sym kept.count));
     live = λ v h.
-        live_kept old new v (λ named. ap (λ (f : ℕ → Option Name). is_named f v) names ∙ named) (λ has. ap (λ (f : ℕ → Option Pin). has_pin f v) pins ∙ has)
+        live_kept old new v (λ named. ap (λ (f : ℕ → Option Target). is_named f v) names ∙ named) (λ has. ap (λ (f : ℕ → Option Pin). has_pin f v) pins ∙ has)
         (good.live v (ap (λ (f : ℕ → Option Lineage). is_some (f v)) (sym lineage) ∙ h));
     parents = λ v p l e f.
         let was = good.parents v p l (ap (λ (g : ℕ → Option Lineage). g v) (sym lineage) ∙ e) f in
@@ -271,7 +272,7 @@ change_keeps old new good change kept pinned =
     kept_keeps old new good (ap (λ (s : State). s.names) change) (ap (λ (s : State). s.lineage) change) (ap (λ (s : State). s.pins) change) kept pinned
 
 -- pages written inside a VMO
-pub write_keeps : (old new : State) (v offset : ℕ) (bytes : List ℕ) → IsGoodState old → offset + length bytes ≤ pages_of old.content v * PAGE → ChangesContent old new → Writes old.content v (pieces offset bytes) new.content → Keeps old new
+pub write_keeps : (old new : State) (v offset : ℕ) (bytes : List ℕ) → IsGoodState old → offset + length bytes ≤ pages_of old.content v * PAGE → ChangesContent old new → Writes old.content (pieces v offset bytes) new.content → Keeps old new
 write_keeps old new v offset bytes good h change writes =
     change_keeps old new good change (Writes-keeps_all v offset bytes old.content new.content good.content h writes)
     (KeepsPinned-from old.pins old.content new.content (KeepsSole-Writes_all v offset bytes old.content new.content good.content h writes))
@@ -349,8 +350,8 @@ pin_keeps old new n v offset len good h free vmo begins whole some few inside is
 -- ---- a change of size
 
 -- no name of a VMO that may change its size is a name of a part
-pub no_part : (s : State) (target : Name) (n : ℕ) → IsGoodName s target → (lineage_of s target.koid).resizable ≡ true → target.limit ≢ Some n
-no_part s target n good changes e = both_ways (lineage_of s target.koid).resizable (good.part n e).1 changes
+pub no_part : (s : State) (target : Target) (n : ℕ) → IsGoodName s target → (lineage_of s target.koid.0).resizable ≡ true → target.limit ≢ Some n
+no_part s target n good changes e = both_ways (lineage_of s target.koid.0).resizable (good.part n e).1 changes
 
 -- where no page past a new end is pinned, a pinned page lies below it
 pinned_below : (s : State) (v pages p : ℕ) → IsGoodState s → any_pinned s.pins v pages (pages_of s.content v) ≡ false → p < pages_of s.content v → is_pinned s.pins v p ≡ true → p < pages
@@ -360,10 +361,10 @@ pinned_below s v pages p good free inside pinned = elim (cases_lt p pages) [
 ]
 
 -- So a VMO of which a name may change its size takes any size that a VMO can have, where no page past the new end is pinned
-pub resize_keeps : (old : State) (name : ℕ) (target : Name) (pages : ℕ) → IsGoodState old → old.names name ≡ Some target → target.may_resize ≡ true → pages ≤ VMO_PAGES → any_pinned old.pins target.koid pages (pages_of old.content target.koid) ≡ false → Keeps old (record old { content = resized old.content target.koid pages })
+pub resize_keeps : (old : State) (name : ℕ) (target : Target) (pages : ℕ) → IsGoodState old → old.names name ≡ Some target → target.may_resize ≡ true → pages ≤ VMO_PAGES → any_pinned old.pins target.koid.0 pages (pages_of old.content target.koid.0) ≡ false → Keeps old (record old { content = resized old.content target.koid.0 pages })
 resize_keeps old name target pages good open_name may few free =
     let c = old.content in
-    let v = target.koid in
+    let v = target.koid.0 in
     let state : State = record old { content = resized c v pages } in
     let fine = (good.names name target open_name).1 in
     let counted : IsSome (state.content.count v) = ap is_some (count-resized_here c v pages) in
@@ -381,16 +382,16 @@ resize_keeps old name target pages good open_name may few free =
         names = λ n other e.
             let was = good.names n other e in (
               was.0,
-              elim (cases_eq other.koid v) [
+              elim (cases_eq other.koid.0 v) [
                 | inl same ↦
-                    let changes : (lineage_of old other.koid).resizable ≡ true = ap (λ (w : ℕ). (lineage_of old w).resizable) same ∙ fine.resize may in
+                    let changes : (lineage_of old other.koid.0).resizable ≡ true = ap (λ (w : ℕ). (lineage_of old w).resizable) same ∙ fine.resize may in
                     record {
                       vmo = subst (λ (w : ℕ). IsSome (state.content.count w)) (sym same) counted;
                       whole = was.1.whole;
                       part = λ m f. absurd (no_part old other m was.1 changes f);
-                      resize = λ f. lineage other.koid ∙ was.1.resize f;
+                      resize = λ f. lineage other.koid.0 ∙ was.1.resize f;
                     }
-                | inr apart ↦ IsGoodName-same old state other (count-resized_other c v pages other.koid apart) (lineage other.koid) was.1
+                | inr apart ↦ IsGoodName-same old state other (count-resized_other c v pages other.koid.0 apart) (lineage other.koid.0) was.1
               ],
             );
         known = λ w. elim (cases_eq w v) [

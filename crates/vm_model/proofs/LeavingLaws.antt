@@ -1,14 +1,15 @@
 -- Laws of VMOs that leave: nothing leaves a good state. Where a name or a pin of a VMO goes, at most that VMO leaves, and the
 -- state stays good.
-use Rattle.std.proofs.Common.{◌≡◌, ◌≢◌, ℕ, zero, suc, ◌<◌, Bool, true, false, not, cond, ◌||◌, ◌==◌, Option, None, Some, ◌⊎◌, refl, sym, ap, subst, ◌∙◌, inl, inr, arith}
+use Rattle.std.proofs.Common.{◌≡◌, ◌≢◌, ℕ, zero, suc, ◌<◌, Bool, true, false, not, cond, ◌==◌, Option, None, Some, ◌⊎◌, refl, sym, ap, subst, ◌∙◌, inl, inr, arith}
 use Rattle.std.specs.Prelude.{unwrap_or, IsSome, is_some}
 use Rattle.std.specs.Option.{option_map}
-use Rattle.std.proofs.lemmas.Bool.{cases_Bool, cases_eq, or_parts, not_from_true, not_from_false}
+use Rattle.std.proofs.lemmas.Bool.{cases_Bool, cases_eq, not_from_true, not_from_false}
 use Rattle.std.proofs.lemmas.Bool.Decides.{Decides-eqb}
 use Rattle.vm_model.specs.Contents.Content.{Page, Content, pages_of, sole, IsGood}
 use Rattle.vm_model.specs.Contents.Sharing.{only, without}
 use Rattle.vm_base.specs.Entries.{without_key}
-use Rattle.vm_model.specs.Naming.Names.{Name, Lineage, is_named, parent_without, lineage_without, is_of}
+use Rattle.vm_model.specs.declared.names.Target.{Target}
+use Rattle.vm_model.specs.Naming.Names.{Lineage, is_named, parent_without, lineage_without, is_of}
 use Rattle.vm_base.specs.declared.limits.TheConstants.{NAMES}
 use Rattle.vm_model.specs.Naming.Pins.{Pin, has_pin}
 use Rattle.vm_model.specs.Machine.State.{State, is_live, lineage_of, IsGoodName, IsGoodPin, IsGoodState}
@@ -31,11 +32,11 @@ pub count_at : (s : State) (v : ℕ) → IsGoodState s → IsSome (s.lineage v) 
 count_at s v good h = sym (good.known v) ∙ h
 
 -- the VMO of an open name
-pub name_vmo : (s : State) (n : ℕ) (t : Name) → IsGoodState s → s.names n ≡ Some t → IsSome (s.content.count t.koid)
+pub name_vmo : (s : State) (n : ℕ) (t : Target) → IsGoodState s → s.names n ≡ Some t → IsSome (s.content.count t.koid.0)
 name_vmo s n t good e = (good.names n t e).1.vmo
 
-pub name_lineage : (s : State) (n : ℕ) (t : Name) → IsGoodState s → s.names n ≡ Some t → IsSome (s.lineage t.koid)
-name_lineage s n t good e = lineage_at s t.koid good (name_vmo s n t good e)
+pub name_lineage : (s : State) (n : ℕ) (t : Target) → IsGoodState s → s.names n ≡ Some t → IsSome (s.lineage t.koid.0)
+name_lineage s n t good e = lineage_at s t.koid.0 good (name_vmo s n t good e)
 
 -- the VMO of a pin
 pub pin_vmo : (s : State) (n : ℕ) (pin : Pin) → IsGoodState s → s.pins n ≡ Some pin → IsSome (s.content.count pin.koid)
@@ -64,14 +65,14 @@ page_none c v p good none = go (c.page v p) refl where
       let counted : pages_of c v ≡ 0 = ap (λ (o : Option ℕ). unwrap_or o 0) none in absurd (omega (arith, below, counted))
 
 -- a name is as good in a state with the same VMO and the same leave to change its size
-pub IsGoodName-same : (s t : State) (target : Name) → t.content.count target.koid ≡ s.content.count target.koid → (lineage_of t target.koid).resizable ≡ (lineage_of s target.koid).resizable → IsGoodName s target → IsGoodName t target
+pub IsGoodName-same : (s t : State) (target : Target) → t.content.count target.koid.0 ≡ s.content.count target.koid.0 → (lineage_of t target.koid.0).resizable ≡ (lineage_of s target.koid.0).resizable → IsGoodName s target → IsGoodName t target
 unfolding pages_of
 IsGoodName-same s t target count resizable good = record {
   vmo = ap is_some count ∙ good.vmo;
   whole = good.whole;
   part = λ n e.
       let was = good.part n e in
-      let pages : pages_of t.content target.koid ≡ pages_of s.content target.koid = ap (λ (o : Option ℕ). unwrap_or o 0) count in
+      let pages : pages_of t.content target.koid.0 ≡ pages_of s.content target.koid.0 = ap (λ (o : Option ℕ). unwrap_or o 0) count in
       (was.0, resizable ∙ was.1, omega (arith, was.2, pages));
   resize = λ e. resizable ∙ good.resize e;
 }
@@ -174,7 +175,7 @@ pruned-good s good = λ i. record { content = same i; names = s.names; lineage =
 -- the state is good, but that the VMO v may not be live
 pub record IsLoose (t : State) (v : ℕ) : Type 0 where
   pub content : IsGood t.content
-  pub names : (n : ℕ) (target : Name) → t.names n ≡ Some target → (n < NAMES) × IsGoodName t target
+  pub names : (n : ℕ) (target : Target) → t.names n ≡ Some target → (n < NAMES) × IsGoodName t target
   pub known : (w : ℕ) → is_some (t.lineage w) ≡ is_some (t.content.count w)
   pub live : (w : ℕ) → w ≢ v → IsSome (t.lineage w) → is_live t w ≡ true
   pub parents : (w p : ℕ) (l : Lineage) → t.lineage w ≡ Some l → l.parent ≡ Some p → (p < w) × IsSome (t.lineage p)
@@ -262,9 +263,9 @@ module _ (t : State) (v : ℕ) (good : IsLoose t v) where
       ap (λ (l : Lineage). l.resizable) (lineage_of-at (left_vmo t v) w (left_by v (lineage_of t v).parent (lineage_of t w)) (lineage_without-at t.lineage v (lineage_of t v).parent w (lineage_of t w) apart (lineage-known t w h)))
 
   -- a name of another VMO is as good as before
-  name_left : (target : Name) → target.koid ≢ v → IsGoodName t target → IsGoodName (left_vmo t v) target
+  name_left : (target : Target) → target.koid.0 ≢ v → IsGoodName t target → IsGoodName (left_vmo t v) target
   name_left target apart fine =
-      IsGoodName-same t (left_vmo t v) target (count-without_other t.content v target.koid apart) (resizable-left target.koid apart (good.known target.koid ∙ fine.vmo)) fine
+      IsGoodName-same t (left_vmo t v) target (count-without_other t.content v target.koid.0 apart) (resizable-left target.koid.0 apart (good.known target.koid.0 ∙ fine.vmo)) fine
 
   -- and so is a pin of another VMO: each frame is shown by no more VMOs than before
   pin_left : (pin : Pin) → pin.koid ≢ v → IsGoodPin t pin → IsGoodPin (left_vmo t v) pin
@@ -278,7 +279,7 @@ module _ (t : State) (v : ℕ) (good : IsLoose t v) where
     content = IsGood-only t.content (λ w. not (w == v)) good.content;
     names = λ m target e.
         let fine = good.names m target e in
-        (fine.0, name_left target (koid_apart target.koid v (any_entry_none NAMES (is_of v) t.names m target off.0 fine.0 e)) fine.1);
+        (fine.0, name_left target (koid_apart target.koid.0 v (any_entry_none NAMES (is_of v) t.names m target off.0 fine.0 e)) fine.1);
     known = λ w. elim (cases_eq w v) [
       | inl vmo ↦
           ap (λ (u : ℕ). is_some (lineage_without t.lineage v (lineage_of t v).parent u)) vmo
@@ -326,7 +327,7 @@ module _ (t : State) (v : ℕ) (good : IsLoose t v) where
 pub record Loosens (s t : State) (v : ℕ) : Type 0 where
   pub content : t.content ≡ s.content
   pub lineage : t.lineage ≡ s.lineage
-  pub names : (n : ℕ) (target : Name) → t.names n ≡ Some target → s.names n ≡ Some target
+  pub names : (n : ℕ) (target : Target) → t.names n ≡ Some target → s.names n ≡ Some target
   pub pins : (n : ℕ) (pin : Pin) → t.pins n ≡ Some pin → s.pins n ≡ Some pin
   pub live : (w : ℕ) → w ≢ v → is_live t w ≡ is_live s w
   pub vmo : IsSome (s.lineage v)
@@ -346,10 +347,10 @@ module _ (s t : State) (v : ℕ) (good : IsGoodState s) (less : Loosens s t v) w
     there : (w : ℕ) → is_some (t.lineage w) ≡ is_some (s.lineage w)
     there w = ap (λ (g : ℕ → Option Lineage). is_some (g w)) less.lineage
 
-    name_same : (target : Name) → IsGoodName s target → IsGoodName t target
+    name_same : (target : Target) → IsGoodName s target → IsGoodName t target
     name_same target fine =
-        IsGoodName-same s t target (ap (λ (c : Content). c.count target.koid) less.content)
-        (ap (λ (l : Lineage). l.resizable) (lineage_of-same t s target.koid (ap (λ (g : ℕ → Option Lineage). g target.koid) less.lineage))) fine
+        IsGoodName-same s t target (ap (λ (c : Content). c.count target.koid.0) less.content)
+        (ap (λ (l : Lineage). l.resizable) (lineage_of-same t s target.koid.0 (ap (λ (g : ℕ → Option Lineage). g target.koid.0) less.lineage))) fine
 
     pin_same : (pin : Pin) → IsGoodPin s pin → IsGoodPin t pin
     pin_same pin fine =
@@ -385,13 +386,13 @@ abbrev pub unpinned : State → ℕ → State
 unpinned s n = record s { pins = without_key s.pins n }
 
 -- without a name, less keeps its VMO
-pub Loosens-unnamed : (s : State) (n : ℕ) (t : Name) → IsGoodState s → s.names n ≡ Some t → Loosens s (unnamed s n) t.koid
+pub Loosens-unnamed : (s : State) (n : ℕ) (t : Target) → IsGoodState s → s.names n ≡ Some t → Loosens s (unnamed s n) t.koid.0
 Loosens-unnamed s n t good e = record {
   content = refl;
   lineage = refl;
   names = λ m target f. (without_key-some s.names n m target f).1;
   pins = λ m pin f. f;
-  live = λ w apart. is_live-same s (unnamed s n) w (any_entry-without_key_other NAMES (is_of w) s.names n t e (eqb_apart t.koid w (λ same. apart (sym same)))) refl;
+  live = λ w apart. is_live-same s (unnamed s n) w (any_entry-without_key_other NAMES (is_of w) s.names n t e (eqb_apart t.koid.0 w (λ same. apart (sym same)))) refl;
   vmo = name_lineage s n t good e;
 }
 

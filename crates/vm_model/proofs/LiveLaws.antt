@@ -1,8 +1,8 @@
 -- Laws of what keeps a VMO live: a name that stands for it, or a pin of it. Nothing else opens the word.
-use Rattle.std.proofs.Common.{◌≡◌, ℕ, Bool, true, false, ◌||◌, Option, ◌⊎◌, ap, ◌∙◌}
+use Rattle.std.proofs.Common.{◌≡◌, ℕ, Bool, true, false, ◌||◌, ◌⊎◌, ap, ◌∙◌}
 use Rattle.std.proofs.lemmas.Bool.{or_cases, or_parts, or_left, or_right}
-use Rattle.vm_model.specs.Naming.Names.{Name, is_named}
-use Rattle.vm_model.specs.Naming.Pins.{Pin, has_pin}
+use Rattle.vm_model.specs.Naming.Names.{is_named}
+use Rattle.vm_model.specs.Naming.Pins.{has_pin}
 use Rattle.vm_model.specs.Machine.State.{State, is_live}
 
 module _ (s : State) (v : ℕ) where

@@ -1,26 +1,24 @@
 -- Laws of names and of the lineage of VMOs: which VMOs a name stands for, and what is kept of them after one left.
-use Rattle.std.proofs.Common.{◌≡◌, ◌≢◌, ℕ, ◌<◌, Bool, true, false, cond, ◌==◌, Option, None, Some, refl, sym, ap, ◌∙◌, inl, inr}
+use Rattle.std.proofs.Common.{◌≡◌, ◌≢◌, ℕ, Bool, false, cond, Option, None, Some, refl, sym, ap, ◌∙◌, inl, inr}
 use Rattle.std.specs.Prelude.{unwrap_or, IsSome, is_some}
 use Rattle.std.specs.Option.{option_map}
-use Rattle.std.proofs.lemmas.Bool.{cases_Bool, cases_eq, false_from_ne_true}
-use Rattle.std.proofs.lemmas.Bool.Decides.{Decides-eqb}
+use Rattle.std.proofs.lemmas.Bool.{cases_eq}
 use Rattle.vm_model.specs.declared.names.Origin.TheVariants.{Created}
-use Rattle.vm_base.specs.Entries.{with_key, without_key}
-use Rattle.vm_model.specs.Naming.Names.{Name, Lineage, owner, parent_without, lineage_without}
-use Rattle.vm_base.specs.declared.limits.TheConstants.{NAMES}
+use Rattle.vm_model.specs.declared.names.Target.{Target}
+use Rattle.vm_model.specs.Naming.Names.{Lineage, owner, parent_without, lineage_without}
 use Rattle.vm_model.specs.Machine.State.{State, target_of, lineage_of}
-use Rattle.vm_base.proofs.SearchLaws.{any_below_found, any_below_at, eqb_same, eqb_apart, eqb_is}
-use Rattle.vm_base.proofs.EntryLaws.{with_key-same, with_key-other, with_key-cases, without_key-other, without_key-some, some_is, none_is}
+use Rattle.vm_base.proofs.SearchLaws.{eqb_same, eqb_apart}
+use Rattle.vm_base.proofs.EntryLaws.{some_is}
 
 -- ---- what the words of a state say where a map has a value
 
-pub target_of-at : (s : State) (n : ℕ) (target : Name) → s.names n ≡ Some target → target_of s n ≡ target
+pub target_of-at : (s : State) (n : ℕ) (target : Target) → s.names n ≡ Some target → target_of s n ≡ target
 unfolding target_of
-target_of-at s n target e = ap (λ (o : Option Name). unwrap_or o (owner 0 false false)) e
+target_of-at s n target e = ap (λ (o : Option Target). unwrap_or o (owner 0 false false)) e
 
 -- a name that is open stands for its target
 pub names-open : (s : State) (n : ℕ) → IsSome (s.names n) → s.names n ≡ Some (target_of s n)
-names-open s n h = let found = some_is (s.names n) h in found.1 ∙ ap (λ (t : Name). Some t) (sym (target_of-at s n found.0 found.1))
+names-open s n h = let found = some_is (s.names n) h in found.1 ∙ ap (λ (t : Target). Some t) (sym (target_of-at s n found.0 found.1))
 
 pub lineage_of-at : (s : State) (v : ℕ) (l : Lineage) → s.lineage v ≡ Some l → lineage_of s v ≡ l
 unfolding lineage_of
@@ -37,7 +35,7 @@ lineage_of-same s t v e = ap (λ (o : Option Lineage). unwrap_or o (record { res
 
 pub target_of-same : (s t : State) (n : ℕ) → s.names n ≡ t.names n → target_of s n ≡ target_of t n
 unfolding target_of
-target_of-same s t n e = ap (λ (o : Option Name). unwrap_or o (owner 0 false false)) e
+target_of-same s t n e = ap (λ (o : Option Target). unwrap_or o (owner 0 false false)) e
 
 -- ---- the lineage without a VMO
 

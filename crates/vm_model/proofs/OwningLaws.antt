@@ -4,7 +4,7 @@ use Rattle.std.specs.List.{range_with_len, list_any, filter}
 use Rattle.std.proofs.lemmas.Bool.{cases_Bool, or_left, or_right}
 use Rattle.vm_base.specs.declared.limits.TheConstants.{PAGE}
 use Rattle.vm_model.specs.Contents.Content.{Page, Content, shown, pages_of, used, sole, hold, IsGood}
-use Rattle.vm_model.specs.Contents.Owning.{Owns, need_from, need}
+use Rattle.vm_model.specs.Contents.Owning.{Owns, pages_at, need_from, need}
 use Rattle.vm_base.proofs.SearchLaws.{bit_le, bit_same, bit-false}
 use Rattle.vm_model.proofs.ContentLaws.{frames-hold, next-hold, count-hold, pages_of-hold, page-hold_here, page-hold_other_page, page-hold_other_vmo, sole_held, sole-hold_new, sole-hold_elsewhere, IsGood-hold_new, used-hold_new, bytes_of-some, bytes_of-none}
 use Rattle.vm_base.proofs.PageLaws.{length-zeros}
@@ -186,7 +186,7 @@ unfolding unowned
 unowned-sole c v first n = count_from-not (sole c v) first n
 
 -- the need of those pages in a row that pass is the number of them that are not sole
-pub need_from-filter : (fresh : ℕ) (c : Content) (v first n : ℕ) (test : ℕ → Bool) → need_from fresh c v (filter test (range_with_len first n)) ≡ count_from (λ p. test p && not (sole c v p)) first n
+pub need_from-filter : (fresh : ℕ) (c : Content) (v first n : ℕ) (test : ℕ → Bool) → need_from fresh c (pages_at v (filter test (range_with_len first n))) ≡ count_from (λ p. test p && not (sole c v p)) first n
 unfolding need_from count_from
 need_from-filter fresh c v first zero test = refl
 need_from-filter fresh c v first (suc n) test =
@@ -200,8 +200,8 @@ need_from-filter fresh c v first (suc n) test =
       bits true x y z e f = omega (arith, e)
       bits false x y z e f = omega (arith, f)
 
-      one : (pass : Bool) (ps : List ℕ) (z : ℕ) → need_from fresh c v ps ≡ z → need_from (fresh + 1) (hold c v first (record { tag = fresh; bytes = shown c v first })) v ps ≡ z
-          → need_from fresh c v (cond pass (first ∷ ps) ps) ≡ cond (pass && not (sole c v first)) 1 0 + z
+      one : (pass : Bool) (ps : List ℕ) (z : ℕ) → need_from fresh c (pages_at v ps) ≡ z → need_from (fresh + 1) (hold c v first (record { tag = fresh; bytes = shown c v first })) (pages_at v ps) ≡ z
+          → need_from fresh c (pages_at v (cond pass (first ∷ ps) ps)) ≡ cond (pass && not (sole c v first)) 1 0 + z
       one true ps z stays comes = bits (sole c v first) _ _ z stays comes
       one false ps z stays comes = omega (arith, stays)
 

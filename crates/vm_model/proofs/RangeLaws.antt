@@ -3,13 +3,12 @@ use Rattle.std.proofs.Common.{◌≡◌, ◌≢◌, ℕ, zero, suc, ◌+◌, ◌
 use Rattle.std.specs.Prelude.{slice_range}
 use Rattle.std.specs.List.{range_with_len, list_any}
 use Rattle.std.proofs.lemmas.Bool.{cases_lt}
-use Rattle.std.proofs.lemmas.List.{length-take, length-drop, length-append, map-append, take_all, get_or-take, get_or-drop}
+use Rattle.std.proofs.lemmas.List.{length-take, length-drop, map-append, take_all, get_or-take, get_or-drop}
 use Rattle.std.proofs.lemmas.List.FromFn.{length-map-range_with_len, get_or-map-range_with_len}
 use Rattle.std.proofs.lemmas.Grind.{same_number_lists}
 use Rattle.vm_base.specs.declared.limits.TheConstants.{PAGE}
 use Rattle.vm_model.specs.Contents.Content.{Content, shown, sole, IsGood}
-use Rattle.vm_model.specs.Contents.Writing.{touched_end, touched, byte_at, bytes_in, piece}
-use Rattle.vm_base.specs.Pages.{replaced}
+use Rattle.vm_model.specs.Contents.Writing.{touched_end, touched, byte_at, bytes_in, part_at, part_bytes}
 use Rattle.vm_model.specs.Contents.Owning.{need_from, need}
 use Rattle.vm_base.proofs.SearchLaws.{eqb_apart}
 use Rattle.vm_model.proofs.OwningLaws.{length-shown, unowned, need-row, unowned-any}
@@ -40,17 +39,13 @@ touched_end_le offset len pages h = omega arith
 
 -- ---- pieces
 
-pub piece-page : (offset : ℕ) (bytes : List ℕ) (p : ℕ) → (piece offset bytes p).page ≡ p
-unfolding piece
-piece-page offset bytes p = refl
+pub part_at-is : (offset p : ℕ) → part_at offset p ≡ offset - PAGE * p
+unfolding part_at
+part_at-is offset p = refl
 
-pub piece-at : (offset : ℕ) (bytes : List ℕ) (p : ℕ) → (piece offset bytes p).at ≡ offset - PAGE * p
-unfolding piece
-piece-at offset bytes p = refl
-
-pub piece-bytes : (offset : ℕ) (bytes : List ℕ) (p : ℕ) → (piece offset bytes p).bytes ≡ slice_range bytes (PAGE * p - offset) (PAGE * (p + 1) - offset)
-unfolding piece
-piece-bytes offset bytes p = refl
+pub part_bytes-is : (offset : ℕ) (bytes : List ℕ) (p : ℕ) → part_bytes offset bytes p ≡ slice_range bytes (PAGE * p - offset) (PAGE * (p + 1) - offset)
+unfolding part_bytes
+part_bytes-is offset bytes p = refl
 
 -- a range that ends behind the list ends with it
 pub slice_range-min : (bytes : List ℕ) (i j : ℕ) → slice_range bytes i j ≡ slice_range bytes i (min j (length bytes))
@@ -63,10 +58,10 @@ slice_range-min bytes i j = elim (cases_lt j (length bytes)) [
       all ∙ (sym same ∙ ap (λ (n : ℕ). take (n - i) (drop i bytes)) (sym e))
 ]
 
--- a piece lies in its page
-pub piece_fits : (offset : ℕ) (bytes : List ℕ) (p : ℕ) → offset / PAGE ≤ p → (piece offset bytes p).at + length (piece offset bytes p).bytes ≤ PAGE
-unfolding piece
-piece_fits offset bytes p h = simp (length-take, length-drop) (omega arith)
+-- a part lies in its page
+pub part_fits : (offset : ℕ) (bytes : List ℕ) (p : ℕ) → offset / PAGE ≤ p → part_at offset p + length (part_bytes offset bytes p) ≤ PAGE
+unfolding part_at part_bytes
+part_fits offset bytes p h = simp (length-take, length-drop) (omega arith)
 
 -- ---- reading
 

@@ -15,7 +15,7 @@ use Rattle.vm_model.proofs.ContentLaws.{page-hold_other_page, page-hold_other_vm
 use Rattle.vm_model.proofs.SharingLaws.{page-snapshotted_old, page-snapshotted_cases, page-only_stays, page-only_held}
 use Rattle.vm_model.proofs.OwningLaws.{Owned-from_Owns}
 use Rattle.vm_model.proofs.ZeroingLaws.{page-zeroed_out, page-zeroed_other, page-zeroed_some, page-resized_below, page-resized_other, page-resized_some}
-use Rattle.vm_model.proofs.RangeLaws.{piece-page, piece_fits, touched-row, touched-nil, touched_end_le, touched_below, touched_end-is}
+use Rattle.vm_model.proofs.RangeLaws.{part_fits, touched-row, touched-nil, touched_end_le, touched_below, touched_end-is}
 use Rattle.vm_model.proofs.WritingLaws.{WritesPiece-keeps}
 use Rattle.vm_model.proofs.CommitLaws.{touched-below, Owns-keeps}
 use Rattle.vm_model.proofs.ZeroesLaws.{beside, ZeroesPage-keeps}
@@ -183,34 +183,33 @@ OwnsAll-alone_pages v offset len old new good h owns p begins whole from less =
 -- ---- writes
 
 -- a piece below the count
-pub KeepsSole-WritesPiece : (old : Content) (v : ℕ) (part : Piece) (new : Content) → IsGood old → part.page < pages_of old v → WritesPiece old v part new → KeepsSole old new
-KeepsSole-WritesPiece old v part new good h writes =
-    let owned = Owned-from_Owns old writes.owned v part.page writes.tag good h writes.owns in
-    KeepsSole-trans old writes.owned new (KeepsSole-Owns old writes.owned v part.page writes.tag good writes.owns)
-    (subst (KeepsSole writes.owned) (sym writes.bytes) (KeepsSole-hold writes.owned v part.page _ owned.good (inr (_, owned.held, refl))))
+pub KeepsSole-WritesPiece : (old : Content) (part : Piece) (new : Content) → IsGood old → part.page < pages_of old part.koid → WritesPiece old part new → KeepsSole old new
+KeepsSole-WritesPiece old part new good h writes =
+    let owned = Owned-from_Owns old writes.owned part.koid part.page writes.tag good h writes.owns in
+    KeepsSole-trans old writes.owned new (KeepsSole-Owns old writes.owned part.koid part.page writes.tag good writes.owns)
+    (subst (KeepsSole writes.owned) (sym writes.bytes) (KeepsSole-hold writes.owned part.koid part.page _ owned.good (inr (_, owned.held, refl))))
 
 -- pieces in a row of pages below the count
-pub KeepsSole-Writes : (v offset : ℕ) (bytes : List ℕ) (first n : ℕ) (old new : Content) → IsGood old → offset / PAGE ≤ first → first + n ≤ pages_of old v → Writes old v (map (piece offset bytes) (range_with_len first n)) new → KeepsSole old new
+pub KeepsSole-Writes : (v offset : ℕ) (bytes : List ℕ) (first n : ℕ) (old new : Content) → IsGood old → offset / PAGE ≤ first → first + n ≤ pages_of old v → Writes old (map (piece v offset bytes) (range_with_len first n)) new → KeepsSole old new
 KeepsSole-Writes v offset bytes first zero old new good from h writes = KeepsSole-same old new writes
 KeepsSole-Writes v offset bytes first (suc n) old new good from h writes =
-    let page = piece-page offset bytes first in
-    let below : (piece offset bytes first).page < pages_of old v = omega (arith, page, h) in
-    let step = WritesPiece-keeps old v (piece offset bytes first) writes.0 good below (piece_fits offset bytes first from) writes.1 in
-    KeepsSole-trans old writes.0 new (KeepsSole-WritesPiece old v (piece offset bytes first) writes.0 good below writes.1)
+    let below : (piece v offset bytes first).page < pages_of old v = omega (arith, h) in
+    let step = WritesPiece-keeps old (piece v offset bytes first) writes.0 good below (part_fits offset bytes first from) writes.1 in
+    KeepsSole-trans old writes.0 new (KeepsSole-WritesPiece old (piece v offset bytes first) writes.0 good below writes.1)
     (KeepsSole-Writes v offset bytes (first + 1) n writes.0 new step.good (omega arith) (omega (arith, step.pages v)) writes.2)
 
 -- a whole write inside the VMO
-pub KeepsSole-Writes_all : (v offset : ℕ) (bytes : List ℕ) (old new : Content) → IsGood old → offset + length bytes ≤ pages_of old v * PAGE → Writes old v (pieces offset bytes) new → KeepsSole old new
+pub KeepsSole-Writes_all : (v offset : ℕ) (bytes : List ℕ) (old new : Content) → IsGood old → offset + length bytes ≤ pages_of old v * PAGE → Writes old (pieces v offset bytes) new → KeepsSole old new
 unfolding pieces
 KeepsSole-Writes_all v offset bytes old new good h writes = elim (cases_eq (length bytes) 0) [
   | inl empty ↦
       let none : touched offset (length bytes) ≡ [] = ap (touched offset) empty ∙ touched-nil offset in
-      KeepsSole-same old new (subst (λ (ps : List ℕ). Writes old v (map (piece offset bytes) ps) new) none writes)
+      KeepsSole-same old new (subst (λ (ps : List ℕ). Writes old (map (piece v offset bytes) ps) new) none writes)
   | inr apart ↦
       let some : 0 < length bytes = omega arith in
       KeepsSole-Writes v offset bytes (offset / PAGE) (touched_end offset (length bytes) - offset / PAGE) old new good (omega arith)
       (omega (arith, touched_end_le offset (length bytes) (pages_of old v) h, touched_below offset (length bytes) some))
-      (subst (λ (ps : List ℕ). Writes old v (map (piece offset bytes) ps) new) (touched-row offset (length bytes) some) writes)
+      (subst (λ (ps : List ℕ). Writes old (map (piece v offset bytes) ps) new) (touched-row offset (length bytes) some) writes)
 ]
 
 -- ---- zeroing a range
@@ -226,8 +225,8 @@ KeepsSole-ZeroesPage old v pinned offset len p new good h zeroes w q alone pin =
       ]))
   | inr part ↦ elim (cases_Bool (is_held old v p)) [
     | inl held ↦
-        let below : (piece offset (replicate len 0) p).page < pages_of old v = omega (arith, piece-page offset (replicate {A = ℕ} len 0) p, h) in
-        (KeepsSole-WritesPiece old v (piece offset (replicate len 0) p) new good below (zeroes.held part held)).keeps w q alone
+        let below : (piece v offset (replicate len 0) p).page < pages_of old v = omega (arith, h) in
+        (KeepsSole-WritesPiece old (piece v offset (replicate len 0) p) new good below (zeroes.held part held)).keeps w q alone
     | inr free ↦ (KeepsSole-same old new (zeroes.zero part free)).keeps w q alone
   ]
 ]

@@ -15,7 +15,8 @@ use Rattle.vm_model.specs.declared.reply.Reply.{Reply}
 use Rattle.vm_model.specs.Contents.Content.{nothing, pages_of}
 use Rattle.vm_model.specs.Contents.Writing.{touched}
 use Rattle.vm_model.specs.Contents.Zeroing.{owned_by_zero}
-use Rattle.vm_model.specs.Naming.Names.{Name}
+use Rattle.vm_model.specs.declared.names.Target.{Target}
+
 use Rattle.vm_model.specs.Naming.Pins.{is_pinned}
 use Rattle.vm_model.specs.Machine.State.{State, empty_state, is_open, target_of, koid_of, name_pages, size_of, place_of, IsGoodName, IsGoodState}
 use Rattle.vm_model.specs.Machine.Refusals.{lacks_frames, change_refusals, refusals, first_of}
@@ -59,21 +60,21 @@ AllOff-from_none (row ∷ rows) e = let parts = split row.0 (first_of rows) e in
 -- ---- places
 
 -- what lies inside a good name lies inside its VMO
-pub part_inside : (s : State) (target : Name) (offset len : ℕ) → IsGoodName s target → offset + len ≤ name_pages s.content target * PAGE → target.first * PAGE + offset + len ≤ pages_of s.content target.koid * PAGE
+pub part_inside : (s : State) (target : Target) (offset len : ℕ) → IsGoodName s target → offset + len ≤ name_pages s.content target * PAGE → target.first * PAGE + offset + len ≤ pages_of s.content target.koid.0 * PAGE
 part_inside s target offset len good h = go target.limit refl h where
-  go : (o : Option ℕ) → target.limit ≡ o → offset + len ≤ unwrap_or o (pages_of s.content target.koid) * PAGE → target.first * PAGE + offset + len ≤ pages_of s.content target.koid * PAGE
+  go : (o : Option ℕ) → target.limit ≡ o → offset + len ≤ unwrap_or o (pages_of s.content target.koid.0) * PAGE → target.first * PAGE + offset + len ≤ pages_of s.content target.koid.0 * PAGE
   go None e l = omega (arith, good.whole e)
   go (Some n) e l = omega (arith, (good.part n e).2)
 
 -- a range inside a name that is open, at its place inside the VMO
-pub place_inside : (s : State) (n : ℕ) (target : Name) (offset len : ℕ) → IsGoodState s → s.names n ≡ Some target → offset + len ≤ size_of s n → place_of s n offset + len ≤ pages_of s.content (koid_of s n) * PAGE
+pub place_inside : (s : State) (n : ℕ) (target : Target) (offset len : ℕ) → IsGoodState s → s.names n ≡ Some target → offset + len ≤ size_of s n → place_of s n offset + len ≤ pages_of s.content (koid_of s n) * PAGE
 place_inside s n target offset len good e h =
     part_inside s (target_of s n) offset len (good.names n (target_of s n) (names-open s n (ap is_some e))).1 h
 
 -- the pages of a good name that a snapshot sees lie inside its VMO
-pub seen_inside : (s : State) (target : Name) (start pages p : ℕ) → IsGoodName s target → p < seen_pages s.content target start pages → target.first + start + p < pages_of s.content target.koid
+pub seen_inside : (s : State) (target : Target) (start pages p : ℕ) → IsGoodName s target → p < seen_pages s.content target start pages → target.first + start + p < pages_of s.content target.koid.0
 seen_inside s target start pages p good h = go target.limit refl (omega (arith, h, min-le_right pages (name_pages s.content target - start))) where
-  go : (o : Option ℕ) → target.limit ≡ o → start + p < unwrap_or o (pages_of s.content target.koid) → target.first + start + p < pages_of s.content target.koid
+  go : (o : Option ℕ) → target.limit ≡ o → start + p < unwrap_or o (pages_of s.content target.koid.0) → target.first + start + p < pages_of s.content target.koid.0
   go None e l = omega (arith, good.whole e)
   go (Some n) e l = omega (arith, (good.part n e).2)
 
@@ -179,7 +180,7 @@ effect_keeps old (VmoPin pin name offset len) reply new good h none effect =
     let is = names-open old name.0 (not-false (is_open old name.0) off.0) in
     let range = pin_range offset len off.1.1.0 in
     let inside = place_inside old name.0 target offset len good is (ltb-false (size_of old name.0) (offset + len) off.1.1.1.0) in
-    pin_keeps old new pin.0 target.koid (place_of old name.0 offset) len good h (none_is (old.pins pin.0) off.1.0) (name_vmo old name.0 target good is)
+    pin_keeps old new pin.0 target.koid.0 (place_of old name.0 offset) len good h (none_is (old.pins pin.0) off.1.0) (name_vmo old name.0 target good is)
     (omega (arith, range.0)) range.1 range.2 range.3 inside effect.1 effect.2
 effect_keeps old (VmoUnpin pin) reply new good h none effect =
     let off = AllOff-from_none (refusals old (VmoUnpin pin)) none in

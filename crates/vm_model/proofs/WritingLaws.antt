@@ -8,7 +8,7 @@ use Rattle.vm_model.specs.Contents.Writing.{Piece, piece, pieces, touched, touch
 use Rattle.vm_model.proofs.ContentLaws.{frames-hold, next-hold, count-hold, pages_of-hold, page-hold_other_page, IsGood-hold_bytes, sole-hold_kept, sole-hold_elsewhere, used-hold_kept}
 use Rattle.vm_model.proofs.OwningLaws.{Owned-from_Owns, length-shown}
 use Rattle.vm_base.proofs.PageLaws.{length-replaced}
-use Rattle.vm_model.proofs.RangeLaws.{piece_fits, piece-page, touched-row, touched-nil, touched_end_le, touched_below}
+use Rattle.vm_model.proofs.RangeLaws.{part_fits, touched-row, touched-nil, touched_end_le, touched_below}
 
 -- new has the frames and VMOs of old, and is good
 pub record IsKept (old new : Content) : Type 0 where
@@ -32,20 +32,20 @@ IsKept-trans a b c p q = record {
 }
 
 -- a piece that lies in its page, below the count
-pub WritesPiece-keeps : (old : Content) (v : ℕ) (part : Piece) (new : Content) → IsGood old → part.page < pages_of old v → part.at + length part.bytes ≤ PAGE → WritesPiece old v part new → IsKept old new
-WritesPiece-keeps old v part new good h fits w =
-    let owned = Owned-from_Owns old w.owned v part.page w.tag good h w.owns in
-    let held : Page = record { tag = w.tag; bytes = shown old v part.page } in
-    let page : Page = record { tag = w.tag; bytes = replaced (shown w.owned v part.page) part.at part.bytes } in
+pub WritesPiece-keeps : (old : Content) (part : Piece) (new : Content) → IsGood old → part.page < pages_of old part.koid → part.at + length part.bytes ≤ PAGE → WritesPiece old part new → IsKept old new
+WritesPiece-keeps old part new good h fits w =
+    let owned = Owned-from_Owns old w.owned part.koid part.page w.tag good h w.owns in
+    let held : Page = record { tag = w.tag; bytes = shown old part.koid part.page } in
+    let page : Page = record { tag = w.tag; bytes = replaced (shown w.owned part.koid part.page) part.at part.bytes } in
     let whole : length page.bytes ≡ PAGE =
-    length-replaced (shown w.owned v part.page) part.at part.bytes (subst (λ (n : ℕ). part.at + length part.bytes ≤ n) (sym (length-shown w.owned v part.page owned.good)) fits)
-    ∙ length-shown w.owned v part.page owned.good in
-    let kept : IsKept old (hold w.owned v part.page page) = record {
-      good = IsGood-hold_bytes w.owned v part.page held page owned.good owned.alone owned.held refl whole;
-      frames = frames-hold w.owned v part.page page ∙ owned.frames;
-      next = next-hold w.owned v part.page page ∙ owned.next;
-      count = count-hold w.owned v part.page page ∙ owned.count;
-      pages = λ u. pages_of-hold w.owned v part.page page u ∙ owned.pages u;
+    length-replaced (shown w.owned part.koid part.page) part.at part.bytes (subst (λ (n : ℕ). part.at + length part.bytes ≤ n) (sym (length-shown w.owned part.koid part.page owned.good)) fits)
+    ∙ length-shown w.owned part.koid part.page owned.good in
+    let kept : IsKept old (hold w.owned part.koid part.page page) = record {
+      good = IsGood-hold_bytes w.owned part.koid part.page held page owned.good owned.alone owned.held refl whole;
+      frames = frames-hold w.owned part.koid part.page page ∙ owned.frames;
+      next = next-hold w.owned part.koid part.page page ∙ owned.next;
+      count = count-hold w.owned part.koid part.page page ∙ owned.count;
+      pages = λ u. pages_of-hold w.owned part.koid part.page page u ∙ owned.pages u;
     } in
     subst (IsKept old) (sym w.bytes) kept
 
@@ -57,42 +57,41 @@ pub record Written (old : Content) (v p : ℕ) (new : Content) : Type 0 where
   pub other_sole : (q : ℕ) → q ≢ p → sole new v q ≡ sole old v q
   pub used : used new ≡ cond (sole old v p) (used old) (used old + 1)
 
-pub Written-from_WritesPiece : (old : Content) (v : ℕ) (part : Piece) (new : Content) → IsGood old → part.page < pages_of old v → part.at + length part.bytes ≤ PAGE → WritesPiece old v part new → Written old v part.page new
-Written-from_WritesPiece old v part new good h fits w =
-    let owned = Owned-from_Owns old w.owned v part.page w.tag good h w.owns in
-    let held : Page = record { tag = w.tag; bytes = shown old v part.page } in
-    let page : Page = record { tag = w.tag; bytes = replaced (shown w.owned v part.page) part.at part.bytes } in
+pub Written-from_WritesPiece : (old : Content) (part : Piece) (new : Content) → IsGood old → part.page < pages_of old part.koid → part.at + length part.bytes ≤ PAGE → WritesPiece old part new → Written old part.koid part.page new
+Written-from_WritesPiece old part new good h fits w =
+    let owned = Owned-from_Owns old w.owned part.koid part.page w.tag good h w.owns in
+    let held : Page = record { tag = w.tag; bytes = shown old part.koid part.page } in
+    let page : Page = record { tag = w.tag; bytes = replaced (shown w.owned part.koid part.page) part.at part.bytes } in
     let whole : length page.bytes ≡ PAGE =
-    length-replaced (shown w.owned v part.page) part.at part.bytes (subst (λ (n : ℕ). part.at + length part.bytes ≤ n) (sym (length-shown w.owned v part.page owned.good)) fits)
-    ∙ length-shown w.owned v part.page owned.good in
-    let kept : IsKept old new = WritesPiece-keeps old v part new good h fits w in
+    length-replaced (shown w.owned part.koid part.page) part.at part.bytes (subst (λ (n : ℕ). part.at + length part.bytes ≤ n) (sym (length-shown w.owned part.koid part.page owned.good)) fits)
+    ∙ length-shown w.owned part.koid part.page owned.good in
+    let kept : IsKept old new = WritesPiece-keeps old part new good h fits w in
     record {
       kept = kept;
-      alone = subst (λ (c : Content). sole c v part.page ≡ true) (sym w.bytes) (sole-hold_kept w.owned v part.page held page owned.good owned.alone owned.held refl);
-      other_page = λ q apart. ap (λ (c : Content). c.page v q) w.bytes ∙ (page-hold_other_page w.owned v part.page page v q apart ∙ owned.other_page q apart);
-      other_sole = λ q apart. subst (λ (c : Content). sole c v q ≡ sole old v q) (sym w.bytes) (sole-hold_elsewhere w.owned v part.page q page apart ∙ owned.other_sole q apart);
-      used = ap used w.bytes ∙ (used-hold_kept w.owned v part.page held page owned.good owned.alone owned.held refl whole ∙ owned.used);
+      alone = subst (λ (c : Content). sole c part.koid part.page ≡ true) (sym w.bytes) (sole-hold_kept w.owned part.koid part.page held page owned.good owned.alone owned.held refl);
+      other_page = λ q apart. ap (λ (c : Content). c.page part.koid q) w.bytes ∙ (page-hold_other_page w.owned part.koid part.page page part.koid q apart ∙ owned.other_page q apart);
+      other_sole = λ q apart. subst (λ (c : Content). sole c part.koid q ≡ sole old part.koid q) (sym w.bytes) (sole-hold_elsewhere w.owned part.koid part.page q page apart ∙ owned.other_sole q apart);
+      used = ap used w.bytes ∙ (used-hold_kept w.owned part.koid part.page held page owned.good owned.alone owned.held refl whole ∙ owned.used);
     }
 
 -- pieces in a row of pages below the count
-pub Writes-keeps : (v offset : ℕ) (bytes : List ℕ) (first n : ℕ) (old new : Content) → IsGood old → offset / PAGE ≤ first → first + n ≤ pages_of old v → Writes old v (map (piece offset bytes) (range_with_len first n)) new → IsKept old new
+pub Writes-keeps : (v offset : ℕ) (bytes : List ℕ) (first n : ℕ) (old new : Content) → IsGood old → offset / PAGE ≤ first → first + n ≤ pages_of old v → Writes old (map (piece v offset bytes) (range_with_len first n)) new → IsKept old new
 Writes-keeps v offset bytes first zero old new good from h w = IsKept-same old new good w
 Writes-keeps v offset bytes first (suc n) old new good from h w =
-    let page = piece-page offset bytes first in
-    let step = WritesPiece-keeps old v (piece offset bytes first) w.0 good (omega (arith, page, h)) (piece_fits offset bytes first from) w.1 in
+    let step = WritesPiece-keeps old (piece v offset bytes first) w.0 good (omega (arith, h)) (part_fits offset bytes first from) w.1 in
     IsKept-trans old w.0 new step (Writes-keeps v offset bytes (first + 1) n w.0 new step.good (omega arith) (omega (arith, step.pages v)) w.2)
 
 -- a whole write inside the VMO
-pub Writes-keeps_all : (v offset : ℕ) (bytes : List ℕ) (old new : Content) → IsGood old → offset + length bytes ≤ pages_of old v * PAGE → Writes old v (pieces offset bytes) new → IsKept old new
+pub Writes-keeps_all : (v offset : ℕ) (bytes : List ℕ) (old new : Content) → IsGood old → offset + length bytes ≤ pages_of old v * PAGE → Writes old (pieces v offset bytes) new → IsKept old new
 unfolding pieces
 Writes-keeps_all v offset bytes old new good h w = go (length bytes) refl where
   go : (n : ℕ) → length bytes ≡ n → IsKept old new
   go zero e =
       let none : touched offset (length bytes) ≡ [] = ap (touched offset) e ∙ touched-nil offset in
-      Writes-keeps v offset bytes (offset / PAGE) 0 old new good (omega arith) (omega (arith, e, h)) (subst (λ (ps : List ℕ). Writes old v (map (piece offset bytes) ps) new) none w)
+      Writes-keeps v offset bytes (offset / PAGE) 0 old new good (omega arith) (omega (arith, e, h)) (subst (λ (ps : List ℕ). Writes old (map (piece v offset bytes) ps) new) none w)
   go (suc n) e =
       let some : 0 < length bytes = omega (arith, e) in
       let row = touched-row offset (length bytes) some in
       Writes-keeps v offset bytes (offset / PAGE) (touched_end offset (length bytes) - offset / PAGE) old new good (omega arith)
       (omega (arith, touched_end_le offset (length bytes) (pages_of old v) h, touched_below offset (length bytes) some))
-      (subst (λ (ps : List ℕ). Writes old v (map (piece offset bytes) ps) new) row w)
+      (subst (λ (ps : List ℕ). Writes old (map (piece v offset bytes) ps) new) row w)

@@ -10,7 +10,7 @@ use Rattle.vm_model.specs.Contents.Writing.{touched, touched_end, piece, WritesP
 use Rattle.vm_model.specs.Contents.Zeroing.{zeroed, is_cleared, ZeroesPage, Zeroes, owned_by_zero}
 use Rattle.vm_model.proofs.OwningLaws.{count_from, need-filter}
 use Rattle.vm_model.proofs.ZeroingLaws.{frames-zeroed, next-zeroed, count-zeroed, pages_of-zeroed, page-zeroed_out, sole-zeroed_out, IsGood-zeroed, used-zeroed_le, zeroed-none}
-use Rattle.vm_model.proofs.RangeLaws.{piece-page, piece_fits, touched-row, touched-nil, touched_end_le, touched_below}
+use Rattle.vm_model.proofs.RangeLaws.{part_fits, touched-row, touched-nil, touched_end_le, touched_below}
 use Rattle.vm_model.proofs.WritingLaws.{IsKept, IsKept-same, IsKept-trans, Written, Written-from_WritesPiece}
 
 -- ---- one page
@@ -47,12 +47,11 @@ module _ (old : Content) (v : ℕ) (pinned : ℕ → Bool) (offset len p : ℕ) 
   })
 
   -- another page that is held, written with zeros
-  part_page : p < pages_of old v → offset / PAGE ≤ p → is_cleared pinned offset len p ≡ false → is_held old v p ≡ true → WritesPiece old v (piece offset (replicate len 0) p) new → ZeroedPage old v pinned offset len p new
+  part_page : p < pages_of old v → offset / PAGE ≤ p → is_cleared pinned offset len p ≡ false → is_held old v p ≡ true → WritesPiece old (piece v offset (replicate len 0) p) new → ZeroedPage old v pinned offset len p new
   part_page h from part held writes =
-      let page = piece-page offset (replicate {A = ℕ} len 0) p in
-      let below : (piece offset (replicate len 0) p).page < pages_of old v = omega (arith, page, h) in
-      let written : Written old v p new = subst (λ (q : ℕ). Written old v q new) page
-      (Written-from_WritesPiece old v (piece offset (replicate len 0) p) new good below (piece_fits offset (replicate len 0) p from) writes) in
+      let below : (piece v offset (replicate len 0) p).page < pages_of old v = omega (arith, h) in
+      let written : Written old v p new =
+      Written-from_WritesPiece old (piece v offset (replicate len 0) p) new good below (part_fits offset (replicate len 0) p from) writes in
       record {
         kept = written.kept;
         other_page = written.other_page;

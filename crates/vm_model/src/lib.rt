@@ -19,7 +19,7 @@ mod runs;
 
 pub use bytes::Bytes4k;
 pub use command::{ChildKind, Command};
-pub use names::{NameKind, Origin};
+pub use names::{NameKind, Origin, Target};
 pub use numbers::PinNumbers;
 pub use reply::{Info, Reply, Stat};
 pub use runs::{Run, Runs};

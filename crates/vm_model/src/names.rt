@@ -1,5 +1,7 @@
 //! What the names of VMOs and the VMOs themselves are to the machine.
 
+use vm_base::{Koid, PageNo};
+
 /// How a name came to stand for its VMO.
 #[derive(Clone, Copy, Debug, PartialEq, Eq, Hash)]
 pub enum NameKind {
@@ -18,4 +20,17 @@ pub enum Origin {
     Created,
     /// It was made with the pages of another VMO (`ZX_VMO_CHILD_SNAPSHOT`).
     Snapshot,
+}
+
+/// What a name that is open stands for: a VMO, from its page `first` on. `limit` is how many pages that
+/// are, or `None` where it is the whole VMO, whatever its size. By it the VMO may be written or not, and
+/// its size changed or not.
+#[derive(Clone, Copy, Debug, PartialEq, Eq)]
+pub struct Target {
+    pub koid: Koid,
+    pub first: PageNo,
+    pub limit: Option<PageNo>,
+    pub kind: NameKind,
+    pub may_write: bool,
+    pub may_resize: bool,
 }

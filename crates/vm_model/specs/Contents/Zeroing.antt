@@ -31,7 +31,7 @@ is_cleared pinned offset len p = is_whole offset len p && not (pinned p)
 -- pinned becomes zero. Another page that is held is written with zeros there, as by a write. A page that is zero stays so.
 pub record ZeroesPage (old : Content) (v : ℕ) (pinned : ℕ → Bool) (offset len p : ℕ) (new : Content) : Type 0 where
   pub cleared : is_cleared pinned offset len p ≡ true → new ≡ zeroed old v p (p + 1)
-  pub held : is_cleared pinned offset len p ≡ false → is_held old v p ≡ true → WritesPiece old v (piece offset (replicate len 0) p) new
+  pub held : is_cleared pinned offset len p ≡ false → is_held old v p ≡ true → WritesPiece old (piece v offset (replicate len 0) p) new
   pub zero : is_cleared pinned offset len p ≡ false → is_held old v p ≡ false → new ≡ old
 
 -- what of a range falls into these pages is zeroed, one page after another

@@ -6,7 +6,8 @@ use Rattle.vm_model.specs.declared.reply.Info.{Info}
 use Rattle.vm_model.specs.declared.reply.Stat.{Stat}
 use Rattle.vm_base.specs.Search.{any_below, count_below}
 use Rattle.vm_model.specs.Contents.Content.{Content, Page, is_held, pages_of, views, sole, used, vmos_of}
-use Rattle.vm_model.specs.Naming.Names.{Name, children}
+use Rattle.vm_model.specs.declared.names.Target.{Target}
+use Rattle.vm_model.specs.Naming.Names.{children}
 use Rattle.vm_model.specs.Machine.State.{State, name_pages}
 
 -- how many pages of v pass
@@ -26,15 +27,15 @@ abbrev pub is_charged : Content → ℕ → ℕ → Bool
 is_charged c v p = is_charged_page c v (c.page v p)
 
 -- What is told of a VMO by a name that stands for it. The size is the name's, and all else is of the whole VMO
-abbrev pub info_at : State → Name → Info
+abbrev pub info_at : State → Target → Info
 info_at s target = record {
-  koid = record { 0 = target.koid };
+  koid = target.koid;
   size = name_pages s.content target * PAGE;
-  held = count_pages s.content target.koid (is_held s.content target.koid);
-  private_pages = count_pages s.content target.koid (sole s.content target.koid);
-  shared_pages = count_pages s.content target.koid (is_shared s.content target.koid);
-  charged = count_pages s.content target.koid (is_charged s.content target.koid);
-  children = children s.names s.lineage target.koid;
+  held = count_pages s.content target.koid.0 (is_held s.content target.koid.0);
+  private_pages = count_pages s.content target.koid.0 (sole s.content target.koid.0);
+  shared_pages = count_pages s.content target.koid.0 (is_shared s.content target.koid.0);
+  charged = count_pages s.content target.koid.0 (is_charged s.content target.koid.0);
+  children = children s.names s.lineage target.koid.0;
 }
 
 -- how many frames the machine has, how many some VMO shows and how many none does, and how many VMOs there are

@@ -4,12 +4,13 @@ use Rattle.vm_base.specs.declared.limits.TheConstants.{PAGE, NAMES, PIN_PAGES}
 use Rattle.vm_model.specs.declared.names.NameKind.TheVariants.{Slice}
 use Rattle.vm_model.specs.declared.names.Origin.TheVariants.{Created}
 use Rattle.vm_model.specs.Contents.Content.{Content, nothing, pages_of, sole, IsGood}
-use Rattle.vm_model.specs.Naming.Names.{Name, Lineage, owner, is_named}
+use Rattle.vm_model.specs.declared.names.Target.{Target}
+use Rattle.vm_model.specs.Naming.Names.{Lineage, owner, is_named}
 use Rattle.vm_model.specs.Naming.Pins.{Pin, has_pin}
 
 pub record State : Type 0 where
   pub content : Content
-  pub names : ℕ → Option Name
+  pub names : ℕ → Option Target
   pub lineage : ℕ → Option Lineage
   pub pins : ℕ → Option Pin
 
@@ -21,16 +22,16 @@ abbrev pub is_open : State → ℕ → Bool
 is_open s name = is_some (s.names name)
 
 -- what the name stands for. Where it is not open, this means nothing
-unfoldable pub target_of : State → ℕ → Name
+unfoldable pub target_of : State → ℕ → Target
 target_of s name = unwrap_or (s.names name) (owner 0 false false)
 
 -- the koid of the VMO that the name stands for
 abbrev pub koid_of : State → ℕ → ℕ
-koid_of s name = (target_of s name).koid
+koid_of s name = (target_of s name).koid.0
 
 -- how many pages the name has
-abbrev pub name_pages : Content → Name → ℕ
-name_pages c target = unwrap_or target.limit (pages_of c target.koid)
+abbrev pub name_pages : Content → Target → ℕ
+name_pages c target = unwrap_or target.limit (pages_of c target.koid.0)
 
 -- the bytes of the name
 abbrev pub size_of : State → ℕ → ℕ
@@ -50,11 +51,11 @@ is_live s v = is_named s.names v || has_pin s.pins v
 
 -- What holds of every name: it stands for a VMO. A name of a part is a slice, of a VMO that keeps its size, and the part lies
 -- inside the VMO.
-pub record IsGoodName (s : State) (target : Name) : Type 0 where
-  pub vmo : IsSome (s.content.count target.koid)
+pub record IsGoodName (s : State) (target : Target) : Type 0 where
+  pub vmo : IsSome (s.content.count target.koid.0)
   pub whole : target.limit ≡ None → target.first ≡ 0
-  pub part : (n : ℕ) → target.limit ≡ Some n → (target.kind ≡ Slice) × ((lineage_of s target.koid).resizable ≡ false) × (target.first + n ≤ pages_of s.content target.koid)
-  pub resize : target.may_resize ≡ true → (lineage_of s target.koid).resizable ≡ true
+  pub part : (n : ℕ) → target.limit ≡ Some n → (target.kind ≡ Slice) × ((lineage_of s target.koid.0).resizable ≡ false) × (target.first + n ≤ pages_of s.content target.koid.0)
+  pub resize : target.may_resize ≡ true → (lineage_of s target.koid.0).resizable ≡ true
 
 -- What holds of every pin: it is of a VMO, and its pages, from 1 to 256, lie inside the VMO and are sole.
 pub record IsGoodPin (s : State) (pin : Pin) : Type 0 where
@@ -66,7 +67,7 @@ pub record IsGoodPin (s : State) (pin : Pin) : Type 0 where
 -- What holds of every state that the machine comes to.
 pub record IsGoodState (s : State) : Type 0 where
   pub content : IsGood s.content
-  pub names : (n : ℕ) (target : Name) → s.names n ≡ Some target → (n < NAMES) × IsGoodName s target
+  pub names : (n : ℕ) (target : Target) → s.names n ≡ Some target → (n < NAMES) × IsGoodName s target
   -- the VMOs of the content have a lineage, and no other koid has. Each of them is live
   pub known : (v : ℕ) → is_some (s.lineage v) ≡ is_some (s.content.count v)
   pub live : (v : ℕ) → IsSome (s.lineage v) → is_live s v ≡ true

@@ -18,7 +18,8 @@ use Rattle.vm_model.specs.Contents.Sharing.{snapshotted}
 use Rattle.vm_model.specs.Contents.Writing.{touched, bytes_in, pieces, Writes}
 use Rattle.vm_model.specs.Contents.Zeroing.{zeroed, resized, Zeroes}
 use Rattle.vm_base.specs.Entries.{with_key, without_key}
-use Rattle.vm_model.specs.Naming.Names.{Name, owner}
+use Rattle.vm_model.specs.declared.names.Target.{Target}
+use Rattle.vm_model.specs.Naming.Names.{owner}
 use Rattle.vm_model.specs.Naming.Pins.{Pin, is_pinned}
 use Rattle.vm_model.specs.Machine.State.{State, target_of, koid_of, name_pages, size_of, place_of}
 use Rattle.vm_model.specs.Machine.Leaving.{pruned}
@@ -34,20 +35,20 @@ with_vmo s name pages resizable = record s {
 }
 
 -- how many pages of a name a snapshot of `pages` pages sees, from page `start` of the name on. Differences stop at 0
-abbrev pub seen_pages : Content → Name → ℕ → ℕ → ℕ
+abbrev pub seen_pages : Content → Target → ℕ → ℕ → ℕ
 seen_pages c target start pages = min pages (name_pages c target - start)
 
 -- A snapshot of what a name stands for, from its page `start` on, and the snapshot's name. Pages past the end of the name
 -- are zero, also if the name's VMO grows later.
-unfoldable pub with_snapshot : State → ℕ → Name → ℕ → ℕ → Bool → Bool → State
+unfoldable pub with_snapshot : State → ℕ → Target → ℕ → ℕ → Bool → Bool → State
 with_snapshot s name target start pages resizable no_write = record s {
-  content = snapshotted s.content target.koid (target.first + start) (seen_pages s.content target start pages) pages;
+  content = snapshotted s.content target.koid.0 (target.first + start) (seen_pages s.content target start pages) pages;
   names = with_key s.names name (owner s.content.next (not no_write) resizable);
-  lineage = with_key s.lineage s.content.next (record { resizable = resizable; origin = Snapshot; parent = Some target.koid });
+  lineage = with_key s.lineage s.content.next (record { resizable = resizable; origin = Snapshot; parent = Some target.koid.0 });
 }
 
 -- a part of what a name stands for, from its page `start` on. It keeps its size
-abbrev pub slice_of : Name → ℕ → ℕ → Bool → Name
+abbrev pub slice_of : Target → ℕ → ℕ → Bool → Target
 slice_of target start pages no_write = record {
   koid = target.koid;
   first = target.first + start;
@@ -58,7 +59,7 @@ slice_of target start pages no_write = record {
 }
 
 -- all of the VMO that a name stands for, under another name
-abbrev pub reference_of : Name → Bool → Bool → Name
+abbrev pub reference_of : Target → Bool → Bool → Target
 reference_of target resizable no_write = record {
   koid = target.koid;
   first = 0;
@@ -69,7 +70,7 @@ reference_of target resizable no_write = record {
 }
 
 -- one name more, of a VMO that is there
-unfoldable pub with_alias : State → ℕ → Name → State
+unfoldable pub with_alias : State → ℕ → Target → State
 with_alias s name target = record s { names = with_key s.names name target }
 
 -- the pages of a range of a name, as those of a pin
@@ -104,9 +105,9 @@ Effect old (VmoClose name) reply new =
 Effect old (VmoRead name offset len) reply new =
     (reply ≡ Bytes (bytes_in old.content (koid_of old name.0) (place_of old name.0 offset) len)) × (new ≡ old)
 Effect old (VmoWrite name offset bytes) reply new =
-    (reply ≡ Done) × ChangesContent old new × Writes old.content (koid_of old name.0) (pieces (place_of old name.0 offset) bytes) new.content
+    (reply ≡ Done) × ChangesContent old new × Writes old.content (pieces (koid_of old name.0) (place_of old name.0 offset) bytes) new.content
 Effect old (VmoFill name offset len byte) reply new =
-    (reply ≡ Done) × ChangesContent old new × Writes old.content (koid_of old name.0) (pieces (place_of old name.0 offset) (replicate len byte)) new.content
+    (reply ≡ Done) × ChangesContent old new × Writes old.content (pieces (koid_of old name.0) (place_of old name.0 offset) (replicate len byte)) new.content
 Effect old (VmoCommit name offset len) reply new =
     (reply ≡ Done) × ChangesContent old new × OwnsAll old.content (koid_of old name.0) (touched (place_of old name.0 offset) len) new.content
 Effect old (VmoDecommit name offset len) reply new =

@@ -3,20 +3,11 @@ use Rattle.std.specs.Prelude.{ℕ, Bool, false, ◌&&◌, ◌==◌, if◌then◌
 use Rattle.std.specs.Option.{option_map}
 use Rattle.vm_model.specs.declared.names.NameKind.{NameKind}
 use Rattle.vm_model.specs.declared.names.NameKind.TheVariants.{Owner, Slice, Reference}
+use Rattle.vm_model.specs.declared.names.Target.{Target}
 use Rattle.vm_model.specs.declared.names.Origin.{Origin}
 use Rattle.vm_model.specs.declared.names.Origin.TheVariants.{Created, Snapshot}
 use Rattle.vm_base.specs.Entries.{passes, any_entry, entry_count}
 use Rattle.vm_base.specs.declared.limits.TheConstants.{NAMES, KOIDS}
-
--- A name that is open stands for a VMO, from one of its pages on: for so many pages, or for the whole VMO. It may write to
--- it and change its size, or not.
-pub record Name : Type 0 where
-  pub koid : ℕ
-  pub first : ℕ
-  pub limit : Option ℕ
-  pub kind : NameKind
-  pub may_write : Bool
-  pub may_resize : Bool
 
 -- a VMO may change its size or not, it was created or is a snapshot, and it may have a parent
 pub record Lineage : Type 0 where
@@ -25,15 +16,15 @@ pub record Lineage : Type 0 where
   pub parent : Option ℕ
 
 -- the name of a VMO that was just made
-abbrev pub owner : ℕ → Bool → Bool → Name
-owner koid may_write may_resize = record { koid = koid; first = 0; limit = None; kind = Owner; may_write = may_write; may_resize = may_resize }
+abbrev pub owner : ℕ → Bool → Bool → Target
+owner koid may_write may_resize = record { koid = record { 0 = koid }; first = 0; limit = None; kind = Owner; may_write = may_write; may_resize = may_resize }
 
 -- a name stands for the VMO v
-abbrev pub is_of : ℕ → Name → Bool
-is_of v target = target.koid == v
+abbrev pub is_of : ℕ → Target → Bool
+is_of v target = target.koid.0 == v
 
 -- some name stands for the VMO v
-abbrev pub is_named : (ℕ → Option Name) → ℕ → Bool
+abbrev pub is_named : (ℕ → Option Target) → ℕ → Bool
 is_named names v = any_entry NAMES (is_of v) names
 
 -- two kinds are the same
@@ -53,11 +44,11 @@ abbrev pub is_parent : ℕ → Option ℕ → Bool
 is_parent v parent = passes (λ (p : ℕ). p == v) parent
 
 -- a name of this kind stands for the VMO v
-abbrev pub is_of_as : NameKind → ℕ → Name → Bool
-is_of_as kind v target = (target.koid == v) && is_kind kind target.kind
+abbrev pub is_of_as : NameKind → ℕ → Target → Bool
+is_of_as kind v target = (target.koid.0 == v) && is_kind kind target.kind
 
 -- how many names of this kind stand for the VMO v
-abbrev pub names_as : NameKind → (ℕ → Option Name) → ℕ → ℕ
+abbrev pub names_as : NameKind → (ℕ → Option Target) → ℕ → ℕ
 names_as kind names v = entry_count NAMES (is_of_as kind v) names
 
 -- the VMO with this lineage has the parent v
@@ -69,12 +60,12 @@ abbrev pub child_count : (ℕ → Option Lineage) → ℕ → ℕ
 child_count lineage v = entry_count KOIDS (has_parent v) lineage
 
 -- The children of the VMO v: the VMOs whose parent it is, and the slices and references that stand for it.
-abbrev pub children : (ℕ → Option Name) → (ℕ → Option Lineage) → ℕ → ℕ
+abbrev pub children : (ℕ → Option Target) → (ℕ → Option Lineage) → ℕ → ℕ
 children names lineage v = child_count lineage v + names_as Slice names v + names_as Reference names v
 
 -- The pages of the VMO v with this lineage may be taken back: it is no snapshot, no VMO is its child, and no reference stands
 -- for it.
-abbrev pub may_decommit : (ℕ → Option Name) → (ℕ → Option Lineage) → ℕ → Lineage → Bool
+abbrev pub may_decommit : (ℕ → Option Target) → (ℕ → Option Lineage) → ℕ → Lineage → Bool
 may_decommit names lineage v l = is_created l.origin && ((child_count lineage v == 0) && (names_as Reference names v == 0))
 
 -- a parent, after the VMO v left: its children get its own parent

@@ -1,5 +1,5 @@
 -- Pins, which keep pages of a VMO in their frames. From the kernel's pinned memory.
-use Rattle.std.specs.Prelude.{ℕ, ◌+◌, Bool, false, ◌&&◌, ◌==◌, nat_le, Option, None, Some}
+use Rattle.std.specs.Prelude.{ℕ, ◌+◌, Bool, ◌&&◌, ◌==◌, nat_le, Option}
 use Rattle.vm_base.specs.Search.{any_below}
 use Rattle.vm_base.specs.Entries.{any_entry, entry_count}
 use Rattle.vm_base.specs.declared.limits.TheConstants.{NAMES}
