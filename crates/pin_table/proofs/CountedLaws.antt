@@ -4,14 +4,15 @@ use Rattle.std.specs.declared.cmp.Ordering.TheVariants.{Less, Greater}
 use Rattle.std.proofs.lemmas.Bool.{cases_Bool, cases_eq, cases_order, and_parts, lt-ltb, le-ltb, eqb-true}
 use Rattle.std.proofs.lemmas.Bool.Decides.{nat_tests}
 use Rattle.std.proofs.lemmas.List.{get_or_read}
-use Rattle.vm_base.specs.declared.limits.TheConstants.{VMO_PAGES, NAMES}
+use Rattle.vm_base.specs.declared.limits.TheConstants.{PAGES_END, NAMES}
 use Rattle.vm_base.specs.Entries.{with_key, without_key}
 use Rattle.vm_model.specs.Contents.Zeroing.{is_within}
 use Rattle.vm_model.specs.Naming.Pins.{Pin, covers, is_pinned, any_pinned}
-use Rattle.vm_base.proofs.SearchLaws.{count_below_hit, count_below_none, bit_same}
-use Rattle.vm_base.proofs.EntryLaws.{with_key-other, with_key-cases, without_key-other, without_key-some}
+use Rattle.vm_base.specs.Entries.{passes, entry_count}
+use Rattle.vm_base.proofs.SearchLaws.{bit_same}
+use Rattle.vm_base.proofs.EntryLaws.{passes-some, any_entry-count, entry_count_le, entry_count_hit, entry_count-empty, entry_count-with_key, entry_count-without_key, with_key-other, with_key-cases, without_key-other, without_key-some}
 use Rattle.vm_model.proofs.ZeroingLaws.{is_within-parts}
-use Rattle.vm_model.proofs.PinLaws.{covers-none, covers-some, covers_at, pins_over, pins_over_le, pins_over-with_key, pins_over-without_key, is_pinned-count, any_pinned_at, none_pinned}
+use Rattle.vm_model.proofs.PinLaws.{covers_at, any_pinned_at, none_pinned}
 use Rattle.pin_table.specs.declared.pages.PinnedPage.{PinnedPage}
 use Rattle.pin_table.specs.Pages.{is_entry, pins_at, AreKept, IsBoundFor, AddsPin}
 use Rattle.pin_table.specs.TableFields.{AreCounted}
@@ -29,7 +30,7 @@ AreCounted-empty pins entries none empty =
       kept = record { sorted = λ i j d l h. absurd (omega arith); pinned = λ k d h. absurd (omega arith) };
       counted = λ v p.
           pins_at-none entries v p (λ k d h. absurd (omega arith))
-          ∙ sym (count_below_none NAMES (λ n. covers v p (pins n)) (λ n h. ap (covers v p) (none n) ∙ covers-none v p));
+          ∙ sym (entry_count-empty NAMES (covers v p) pins none);
     }
 
 -- pins and entries that agree
@@ -40,17 +41,17 @@ AreCounted-same pins others entries more e f counted =
 module _ (pins : ℕ → Option Pin) (entries : List PinnedPage) (counted : AreCounted pins entries) where
   -- no page has more pins than there are names
   pub pins_few : (v p : ℕ) → pins_at v p entries ≤ NAMES
-  pins_few v p = omega (arith, counted.counted v p, pins_over_le pins v p)
+  pins_few v p = omega (arith, counted.counted v p, entry_count_le NAMES (covers v p) pins)
 
   -- the pages of a pin have one
   pub pages_counted : (n : ℕ) (pin : Pin) → pins n ≡ Some pin → (p : ℕ) → pin.first ≤ p → p < pin.first + pin.count → 1 ≤ pins_at pin.koid p entries
   pages_counted n pin e p low high =
-      let hit = count_below_hit NAMES n (λ m. covers pin.koid p (pins m)) (counted.names_below n (ap is_some e)) (ap (covers pin.koid p) e ∙ covers_at pin.koid p pin refl low high) in
+      let hit = entry_count_hit NAMES (covers pin.koid p) pins n pin (counted.names_below n (ap is_some e)) e (covers_at pin.koid p pin refl low high) in
       omega (arith, counted.counted pin.koid p, hit)
 
   -- ---- a pin is added
 
-  pub AreCounted-added : (n : ℕ) (pin : Pin) (more : List PinnedPage) → n < NAMES → pins n ≡ None → pin.first + pin.count ≤ VMO_PAGES → AreKept more →
+  pub AreCounted-added : (n : ℕ) (pin : Pin) (more : List PinnedPage) → n < NAMES → pins n ≡ None → pin.first + pin.count ≤ PAGES_END → AreKept more →
       AddsPin entries more pin.koid pin.first (pin.first + pin.count) → AreCounted (with_key pins n pin) more
   AreCounted-added n pin more low free end kept adds = record {
     names_below = λ m some. elim (cases_eq m n) [
@@ -63,8 +64,7 @@ module _ (pins : ℕ → Option Pin) (entries : List PinnedPage) (counted : AreC
     ];
     kept = kept;
     counted = λ v p.
-        let bit = bit_same (covers v p (Some pin)) ((pin.koid == v) && is_within pin.first (pin.first + pin.count) p) (covers-some v p pin) in
-        omega (arith, adds.counts v p, counted.counted v p, pins_over-with_key pins n pin v p low free, bit);
+        omega (arith, adds.counts v p, counted.counted v p, entry_count-with_key NAMES (covers v p) pins n pin low free);
   }
 
   -- ---- a pin is taken out
@@ -80,17 +80,17 @@ module _ (pins : ℕ → Option Pin) (entries : List PinnedPage) (counted : AreC
         ends = λ m other e. counted.ends m other (without_key-some pins n m other e).1;
         kept = kept;
         counted = λ v p.
-            let bit = bit_same (covers v p (pins n)) ((pin.koid == v) && is_within pin.first (pin.first + pin.count) p) (ap (covers v p) there ∙ covers-some v p pin) in
-            omega (arith, adds.counts v p, counted.counted v p, pins_over-without_key pins n v p low, bit);
+            let bit = bit_same (passes (covers v p) (pins n)) (covers v p pin) (passes-some (covers v p) (pins n) pin there) in
+            omega (arith, adds.counts v p, counted.counted v p, entry_count-without_key NAMES (covers v p) pins n low, bit);
       }
 
   -- ---- pages that are pinned
 
   pinned_at : (v p : ℕ) → 1 ≤ pins_at v p entries → is_pinned pins v p ≡ true
-  pinned_at v p some = is_pinned-count pins v p ∙ lt-ltb 0 (pins_over pins v p) (omega (arith, counted.counted v p))
+  pinned_at v p some = any_entry-count NAMES (covers v p) pins ∙ lt-ltb 0 (entry_count NAMES (covers v p) pins) (omega (arith, counted.counted v p))
 
   unpinned_at : (v p : ℕ) → pins_at v p entries ≡ 0 → is_pinned pins v p ≡ false
-  unpinned_at v p none = is_pinned-count pins v p ∙ le-ltb 0 (pins_over pins v p) (omega (arith, counted.counted v p))
+  unpinned_at v p none = any_entry-count NAMES (covers v p) pins ∙ le-ltb 0 (entry_count NAMES (covers v p) pins) (omega (arith, counted.counted v p))
 
 -- an entry before the bound of the first page is that of none of the pages
 entry_before : (v first p w q : ℕ) → page_cmp v first w q ≡ Less → first ≤ p → ((w == v) && (q == p)) ≡ false

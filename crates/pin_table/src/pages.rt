@@ -7,7 +7,7 @@ ghost use Rattle.vm_model.specs.Contents.Zeroing.{is_within};
 ghost use Rattle.pin_table.specs.Pages.{entry_cmp, pins_at, IsSorted, AreKept, IsEntryFor, IsGapFor, IsBoundFor, AddsPin};
 
 use std::cmp::Ordering;
-use vm_base::{Koid, PageNo};
+use vm_base::{Koid, PAGES_END, PageNo};
 
 /// A page that some pin covers, and how many pins do.
 #[derive(Clone, Copy, Debug)]
@@ -84,7 +84,7 @@ fn pin_page(pages: &mut Vec<PinnedPage>, koid: Koid, page: PageNo)
 pub(crate) fn pin_pages(pages: &mut Vec<PinnedPage>, koid: Koid, first: PageNo, count: u64)
     requires kept { AreKept pages.old.items }
     requires few { (p : ℕ) → pins_at koid.0 p pages.old.items ≤ NAMES }
-    requires end { first + count ≤ 16777216 }
+    requires end { first + count ≤ PAGES_END }
     requires room { vec_len pages.old + count ≤ vec_capacity pages.old }
     ensures kept { AreKept pages.new.items }
     ensures pin { AddsPin pages.old.items pages.new.items koid.0 first (first + count) }
@@ -115,7 +115,7 @@ fn unpin_page(pages: &mut Vec<PinnedPage>, koid: Koid, page: PageNo)
 pub(crate) fn unpin_pages(pages: &mut Vec<PinnedPage>, koid: Koid, first: PageNo, count: u64)
     requires kept { AreKept pages.old.items }
     requires pinned { (p : ℕ) → first ≤ p → p < first + count → 1 ≤ pins_at koid.0 p pages.old.items }
-    requires end { first + count ≤ 16777216 }
+    requires end { first + count ≤ PAGES_END }
     ensures kept { AreKept pages.new.items }
     ensures pin { AddsPin pages.new.items pages.old.items koid.0 first (first + count) }
 {

@@ -10,10 +10,7 @@ use crate::pages::{PinnedPage, lower_bound, pin_pages, unpin_pages};
 use std::alloc::Global;
 use std::collections::HashMap;
 use std::marker::Model;
-use vm_base::{HostMemory, Koid, PageNo, PinName};
-
-/// How many pages a pin has at most.
-const PIN_PAGES: usize = 256;
+use vm_base::{HostMemory, Koid, PAGES_END, PIN_PAGES, PageNo, PinName};
 
 /// A pin: so many pages of a VMO, from one on.
 #[derive(Clone, Copy, Debug)]
@@ -23,7 +20,7 @@ struct Pin {
     count: u64,
 }
 
-/// The pins, each a name for up to 256 pages of a VMO. Pins may overlap: a page is pinned while some pin
+/// The pins, each a name for up to `PIN_PAGES` pages of a VMO. Pins may overlap: a page is pinned while some pin
 /// covers it. No call but `reserve` asks the host for memory.
 #[derive(Drop)]
 pub struct PinTable {
@@ -70,11 +67,12 @@ impl PinTable {
         Ok(())
     }
 
-    /// Adds a pin that is not there: `count` pages of a VMO, from 1 to 256, from its page `first` on.
+    /// Adds a pin that is not there: `count` pages of a VMO, from 1 to `PIN_PAGES`, from its page `first`
+    /// on. They end at or below page `PAGES_END`.
     pub fn add(&mut self, pin: PinName, koid: Koid, first: PageNo, count: u64)
         requires pin { pins_of self.old pin.0 ≡ None }
-        requires few { (1 ≤ count) × (count ≤ 256) }
-        requires pages { first + count ≤ 16777216 }
+        requires few { (1 ≤ count) × (count ≤ PIN_PAGES) }
+        requires pages { first + count ≤ PAGES_END }
         requires room { 1 ≤ room_of self.old }
         ensures { pins_of self.new ≡ with_key (pins_of self.old) pin.0 (record { koid = koid.0; first = first; count = count }) }
     {

@@ -4,7 +4,7 @@ use Rattle.std.proofs.Common.{◌≡◌, ◌≢◌, ℕ, ◌+◌, ◌<◌, ◌�
 use Rattle.std.specs.Prelude.{IsSome, is_some, nat_lt}
 use Rattle.std.proofs.lemmas.Bool.{cases_Bool, cases_eq, or_left, false_from_ne_true}
 use Rattle.vm_base.specs.Entries.{with_key, without_key, passes, any_entry, entry_count}
-use Rattle.vm_base.proofs.SearchLaws.{eqb_same, eqb_apart, any_below_found, any_below_at, any_below_same, any_below-count, count_below_le, count_below_same, count_below_none, count_below_change, bit_same, bit-false}
+use Rattle.vm_base.proofs.SearchLaws.{eqb_same, eqb_apart, any_below_found, any_below_at, any_below_same, any_below-count, count_below_le, count_below_same, count_below_none, count_below_hit, count_below_change, bit_same, bit-false}
 
 -- ---- options
 
@@ -133,6 +133,11 @@ entry_count_miss bound test map each = count_below_none bound (λ k. passes test
     let value = passes_found test (map k) e in
     let miss = each k value.0 h value.1 in
     absurd (let hit = value.2 in cc)))
+
+-- an entry that passes counts
+pub entry_count_hit : {A : Type 0} (bound : ℕ) (test : A → Bool) (map : ℕ → Option A) (k : ℕ) (a : A) → k < bound → map k ≡ Some a → test a ≡ true → 0 < entry_count bound test map
+unfolding entry_count
+entry_count_hit bound test map k a h e hit = count_below_hit bound k (λ n. passes test (map n)) h (passes-some test (map k) a e ∙ hit)
 
 -- in an empty map nothing passes, and nothing counts
 pub any_entry-empty : {A : Type 0} (bound : ℕ) (test : A → Bool) (map : ℕ → Option A) → ((k : ℕ) → map k ≡ None) → any_entry bound test map ≡ false

@@ -13,7 +13,7 @@ mod refusal;
 
 pub use flags::{MapFlags, Perm};
 pub use limits::{
-    DATA_BYTES, FRAMES, KOIDS, LINE_BYTES, NAMES, PAGE, PAGE_BYTES, PIN_PAGES, ROOT_END,
+    DATA_BYTES, FRAMES, KOIDS, LINE_BYTES, NAMES, PAGE, PAGE_BYTES, PAGES_END, PIN_PAGES, ROOT_END,
     ROOT_FIRST, SCRIPT_BYTES, TEXT_BYTES, TEXT_ROOM, VMO_PAGES,
 };
 pub use names::{Koid, PinName, RegionName, Tag, VmoName};

@@ -12,6 +12,10 @@ pub const VMO_PAGES: u64 = 16777216;
 /// The greatest number of page frames of a machine.
 pub const FRAMES: u32 = 65536;
 
+/// A range of pages, of a VMO or of an address space, ends at or below this page number: 2^52, so that its
+/// bytes are numbered by 64 bits.
+pub const PAGES_END: u64 = 4503599627370496;
+
 /// The first page of a root region, at address 0x200000.
 pub const ROOT_FIRST: u64 = 512;
 

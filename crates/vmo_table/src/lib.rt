@@ -8,11 +8,10 @@
 //! `VmoTable::new`, and takes room by `VmoTable::reserve` before it enters a name.
 #![tactic(auto)]
 
-mod target;
 mod vmo_table;
 mod vmos;
 
-pub use target::Target;
+pub use vm_model::Target;
 pub use vm_model::{NameKind, Origin};
 pub use vmo_table::VmoTable;
 
