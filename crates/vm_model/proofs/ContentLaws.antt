@@ -374,6 +374,34 @@ IsGood-hold_bytes c v p held other good alone e tag whole =
       ];
     }
 
+-- ---- a part of a good content
+
+-- Each page that is held in d was held in c, with this frame and these bytes. The pages of one VMO of d come from one VMO of
+-- c, different ones from different ones. The counts of d are good.
+pub record IsPart (c d : Content) : Type 0 where
+  pub frames : d.frames ≡ c.frames
+  pub first_koid : 1 ≤ d.next
+  pub counts : (w n : ℕ) → d.count w ≡ Some n → (1 ≤ w) × (w < d.next) × (n ≤ VMO_PAGES)
+  pub below : (w q : ℕ) (held : Page) → d.page w q ≡ Some held → q < pages_of d w
+  pub home : ℕ → ℕ
+  pub place : ℕ → ℕ → ℕ
+  pub from : (w q : ℕ) (held : Page) → d.page w q ≡ Some held → c.page (home w) (place w q) ≡ Some held
+  pub one_place : (w q y : ℕ) → place w q ≡ place w y → q ≡ y
+
+pub IsGood-part : (c d : Content) → IsGood c → IsPart c d → IsGood d
+IsGood-part c d good part = record {
+  koids = λ w n e. let k = part.counts w n e in (k.0, k.1);
+  counts = λ w n e. (part.counts w n e).2;
+  first_koid = part.first_koid;
+  below = part.below;
+  whole = λ w q held e. good.whole (part.home w) (part.place w q) held (part.from w q held e);
+  tags = λ w q held e. omega (arith, part.frames, good.tags (part.home w) (part.place w q) held (part.from w q held e));
+  alike = λ w q x y held other e f same.
+      good.alike (part.home w) (part.place w q) (part.home x) (part.place x y) held other (part.from w q held e) (part.from x y other f) same;
+  apart = λ w q y held other e f same.
+      part.one_place w q y (good.apart (part.home w) (part.place w q) (part.place w y) held other (part.from w q held e) (part.from w y other f) same);
+}
+
 -- a new VMO keeps a content good
 pub IsGood-created : (c : Content) (pages : ℕ) → IsGood c → pages ≤ VMO_PAGES → IsGood (created c pages)
 IsGood-created c pages good few =

@@ -8,7 +8,7 @@ use Rattle.vm_base.specs.Search.{any_below, count_below}
 use Rattle.vm_model.specs.Contents.Content.{Page, Content, nothing, pages_of, has_tag, views, in_use, used, vmos_of, seen_elsewhere, is_sole_page, hold, created, IsGood}
 use Rattle.vm_model.specs.Contents.Sharing.{viewers, page_seen, snapshotted, only, without}
 use Rattle.vm_base.proofs.SearchLaws.{any_below_at, any_below_same, any_below_either, any_below-count, count_below_same, count_below_le, count_below_none, count_below-suc, count_below_change, count_below-bound, bit_same, bit-true, bit-false, eqb_same, eqb_apart}
-use Rattle.vm_model.proofs.ContentLaws.{pages_of-at, has_tag_from, has_tag_held, next-hold, count-hold, pages_of-hold, page-hold_here, page-hold_other_page, page-hold_other_vmo, page-hold_cases, page-hold_parts, page-nothing, next-created, page-created, count-created_other, views_found, views_at, koid_below, in_use_at, not_in_use, is_sole_page-some, in_use_found}
+use Rattle.vm_model.proofs.ContentLaws.{pages_of-at, has_tag_from, has_tag_held, next-hold, count-hold, pages_of-hold, page-hold_here, page-hold_other_page, page-hold_other_vmo, page-hold_cases, page-hold_parts, page-nothing, next-created, page-created, count-created_other, views_found, views_at, koid_below, in_use_at, not_in_use, is_sole_page-some, in_use_found, IsPart, IsGood-part}
 
 -- two tests of one outcome, where each passes if the other does
 tests_same : (a b : Bool) → (a ≡ true → b ≡ true) → (b ≡ true → a ≡ true) → a ≡ b
@@ -324,46 +324,63 @@ viewers-snapshotted c v first seen pages good few t =
     page-snapshotted_other c v first seen pages w q apart)) in
     omega (arith, more, bit_same (views made t c.next) (sees_tag c v first seen t) (views-snapshotted_new c v first seen pages few t))
 
+-- where a page of the snapshot comes from
+module _ (c : Content) (v first : ℕ) where
+  abbrev home_of : ℕ → ℕ
+  home_of w = cond (w == c.next) v w
+
+  abbrev place_of_page : ℕ → ℕ → ℕ
+  place_of_page w q = cond (w == c.next) (first + q) q
+
+  home-cases : (w q : ℕ) → ((w ≡ c.next) × (home_of w ≡ v) × (place_of_page w q ≡ first + q)) ⊎ ((w ≢ c.next) × (home_of w ≡ w) × (place_of_page w q ≡ q))
+  home-cases w q = elim (cases_eq w c.next) [
+    | inl same ↦
+        let hit : (w == c.next) ≡ true = ap (λ (u : ℕ). u == c.next) same ∙ eqb_same c.next in
+        inl (same, ap (λ (b : Bool). cond b v w) hit, ap (λ (b : Bool). cond b (first + q) q) hit)
+    | inr apart ↦ inr (apart, ap (λ (b : Bool). cond b v w) (eqb_apart w c.next apart), ap (λ (b : Bool). cond b (first + q) q) (eqb_apart w c.next apart))
+  ]
+
 -- a snapshot keeps a content good
 pub IsGood-snapshotted : (c : Content) (v first seen pages : ℕ) → IsGood c → seen ≤ pages → pages ≤ VMO_PAGES → IsGood (snapshotted c v first seen pages)
 IsGood-snapshotted c v first seen pages good few bound =
     let made = snapshotted c v first seen pages in
-    let from = page-snapshotted_from c v first seen pages in
     let next = next-snapshotted c v first seen pages in
-    record {
-      koids = λ w n e. elim (count-snapshotted_cases c v first seen pages w n e) [
-        | inl new ↦ (omega (arith, new.0, good.first_koid), omega (arith, new.0, next))
-        | inr old ↦ let k = good.koids w n old.1 in (k.0, omega (arith, k.1, next))
-      ];
-      counts = λ w n e. elim (count-snapshotted_cases c v first seen pages w n e) [
-        | inl new ↦ subst (λ (m : ℕ). m ≤ VMO_PAGES) new.1 bound
-        | inr old ↦ good.counts w n old.1
-      ];
+    IsGood-part c made good (record {
+      frames = frames-snapshotted c v first seen pages;
       first_koid = omega (arith, next);
+      counts = λ w n e. elim (count-snapshotted_cases c v first seen pages w n e) [
+        | inl new ↦ (omega (arith, new.0, good.first_koid), omega (arith, new.0, next), subst (λ (m : ℕ). m ≤ VMO_PAGES) new.1 bound)
+        | inr old ↦ let k = good.koids w n old.1 in (k.0, omega (arith, k.1, next), good.counts w n old.1)
+      ];
       below = λ w q held e. elim (page-snapshotted_cases c v first seen pages w q held e) [
         | inl new ↦
             let size : pages_of made w ≡ pages = ap (pages_of made) new.0 ∙ pages_of-snapshotted_new c v first seen pages in
             omega (arith, size, new.1)
         | inr old ↦ omega (arith, pages_of-snapshotted_other c v first seen pages w old.0, good.below w q held old.1)
       ];
-      whole = λ w q held e. let old = from w q held e in good.whole old.0 old.1 held old.2;
-      tags = λ w q held e.
-          let old = from w q held e in
-          omega (arith, frames-snapshotted c v first seen pages, good.tags old.0 old.1 held old.2);
-      alike = λ w q x y held other e f same.
-          let old = from w q held e in let before = from x y other f in
-          good.alike old.0 old.1 before.0 before.1 held other old.2 before.2 same;
-      apart = λ w q y held other e f same. elim (page-snapshotted_cases c v first seen pages w q held e) [
-        | inl new ↦ elim (page-snapshotted_cases c v first seen pages w y other f) [
-          | inl again ↦ let one = good.apart v (first + q) (first + y) held other new.2 again.2 same in omega arith
-          | inr old ↦ absurd (old.0 new.0)
+      home = home_of c v first;
+      place = place_of_page c v first;
+      from = λ w q held e. elim (page-snapshotted_cases c v first seen pages w q held e) [
+        | inl new ↦ elim (home-cases c v first w q) [
+          | inl here ↦ ap (λ (x : ℕ). c.page x (place_of_page c v first w q)) here.1 ∙ (ap (c.page v) here.2 ∙ new.2)
+          | inr there ↦ absurd (there.0 new.0)
         ]
-        | inr old ↦ elim (page-snapshotted_cases c v first seen pages w y other f) [
-          | inl again ↦ absurd (old.0 again.0)
-          | inr before ↦ good.apart w q y held other old.1 before.1 same
+        | inr old ↦ elim (home-cases c v first w q) [
+          | inl here ↦ absurd (old.0 here.0)
+          | inr there ↦ ap (λ (x : ℕ). c.page x (place_of_page c v first w q)) there.1 ∙ (ap (c.page w) there.2 ∙ old.1)
         ]
       ];
-    }
+      one_place = λ w q y same. elim (home-cases c v first w q) [
+        | inl here ↦ elim (home-cases c v first w y) [
+          | inl again ↦ omega (arith, same, here.2, again.2)
+          | inr there ↦ absurd (there.0 here.0)
+        ]
+        | inr there ↦ elim (home-cases c v first w y) [
+          | inl here ↦ absurd (there.0 here.0)
+          | inr again ↦ omega (arith, same, there.2, again.2)
+        ]
+      ];
+    })
 
 -- a snapshot takes no frame
 pub in_use-snapshotted : (c : Content) (v first seen pages : ℕ) → IsGood c → seen ≤ pages → (t : ℕ) → in_use (snapshotted c v first seen pages) t ≡ in_use c t
@@ -468,21 +485,21 @@ module _ (c : Content) (stays : ℕ → Bool) where
 
 -- where VMOs leave, a content stays good
 pub IsGood-only : (c : Content) (stays : ℕ → Bool) → IsGood c → IsGood (only c stays)
-IsGood-only c stays good =
-    let from : (w q : ℕ) (held : Page) → (only c stays).page w q ≡ Some held → c.page w q ≡ Some held =
-    λ w q held e. (page-only_held c stays w q held e).1 in
-    record {
-      koids = λ w n e. let k = good.koids w n (count-only_some c stays w n e).1 in (k.0, omega (arith, k.1, next-only c stays));
-      counts = λ w n e. good.counts w n (count-only_some c stays w n e).1;
-      first_koid = omega (arith, next-only c stays);
-      below = λ w q held e.
-          let old = page-only_held c stays w q held e in
-          omega (arith, pages_of-only_stays c stays w old.0, good.below w q held old.1);
-      whole = λ w q held e. good.whole w q held (from w q held e);
-      tags = λ w q held e. omega (arith, frames-only c stays, good.tags w q held (from w q held e));
-      alike = λ w q x y held other e f same. good.alike w q x y held other (from w q held e) (from x y other f) same;
-      apart = λ w q y held other e f same. good.apart w q y held other (from w q held e) (from w y other f) same;
-    }
+IsGood-only c stays good = IsGood-part c (only c stays) good (record {
+  frames = frames-only c stays;
+  first_koid = omega (arith, next-only c stays, good.first_koid);
+  counts = λ w n e.
+      let old = (count-only_some c stays w n e).1 in
+      let k = good.koids w n old in
+      (k.0, omega (arith, k.1, next-only c stays), good.counts w n old);
+  below = λ w q held e.
+      let old = page-only_held c stays w q held e in
+      omega (arith, pages_of-only_stays c stays w old.0, good.below w q held old.1);
+  home = λ w. w;
+  place = λ w q. q;
+  from = λ w q held e. (page-only_held c stays w q held e).1;
+  one_place = λ w q y same. same;
+})
 
 -- ---- one VMO that leaves
 

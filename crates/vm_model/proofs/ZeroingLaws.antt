@@ -10,7 +10,7 @@ use Rattle.vm_base.specs.Entries.{with_key}
 use Rattle.vm_model.specs.Contents.Sharing.{viewers}
 use Rattle.vm_model.specs.Contents.Zeroing.{is_within, zeroed, resized}
 use Rattle.vm_base.proofs.SearchLaws.{any_below_found, any_below_at, any_below_same, any_below_either, count_below_same, count_below_less, count_below-bound, eqb_same, eqb_apart}
-use Rattle.vm_model.proofs.ContentLaws.{pages_of-at, has_tag_held, views_found, views_at}
+use Rattle.vm_model.proofs.ContentLaws.{pages_of-at, has_tag_held, views_found, views_at, IsPart, IsGood-part}
 use Rattle.vm_base.proofs.EntryLaws.{with_key-same, with_key-other, with_key-cases, some_is}
 use Rattle.vm_model.proofs.SharingLaws.{views-same, viewers-change, koid_some}
 
@@ -94,20 +94,20 @@ module _ (c : Content) (v first end : ℕ) where
   -- a content stays good
   pub IsGood-zeroed : IsGood c → IsGood (zeroed c v first end)
   IsGood-zeroed good =
-      let from : (w q : ℕ) (held : Page) → (zeroed c v first end).page w q ≡ Some held → c.page w q ≡ Some held =
-      λ w q held e. (page-zeroed_some w q held e).0 in
       let counted : (w n : ℕ) → (zeroed c v first end).count w ≡ Some n → c.count w ≡ Some n =
       λ w n e. ap (λ (f : ℕ → Option ℕ). f w) (sym count-zeroed) ∙ e in
-      record {
-        koids = λ w n e. let k = good.koids w n (counted w n e) in (k.0, omega (arith, k.1, next-zeroed));
-        counts = λ w n e. good.counts w n (counted w n e);
+      IsGood-part c (zeroed c v first end) good (record {
+        frames = frames-zeroed;
         first_koid = omega (arith, good.first_koid, next-zeroed);
-        below = λ w q held e. omega (arith, pages_of-zeroed w, good.below w q held (from w q held e));
-        whole = λ w q held e. good.whole w q held (from w q held e);
-        tags = λ w q held e. omega (arith, frames-zeroed, good.tags w q held (from w q held e));
-        alike = λ w q x y held other e f same. good.alike w q x y held other (from w q held e) (from x y other f) same;
-        apart = λ w q y held other e f same. good.apart w q y held other (from w q held e) (from w y other f) same;
-      }
+        counts = λ w n e.
+            let k = good.koids w n (counted w n e) in
+            (k.0, omega (arith, k.1, next-zeroed), good.counts w n (counted w n e));
+        below = λ w q held e. omega (arith, pages_of-zeroed w, good.below w q held (page-zeroed_some w q held e).0);
+        home = λ w. w;
+        place = λ w q. q;
+        from = λ w q held e. (page-zeroed_some w q held e).0;
+        one_place = λ w q y same. same;
+      })
 
   -- ---- who shows a frame
 
@@ -317,27 +317,22 @@ module _ (c : Content) (v pages : ℕ) where
 
   -- a content stays good
   pub IsGood-resized : IsGood c → IsSome (c.count v) → pages ≤ VMO_PAGES → IsGood (resized c v pages)
-  IsGood-resized good is_there few = record {
-    koids = λ w n e. elim (count-resized_cases w n e) [
+  IsGood-resized good is_there few = IsGood-part c (resized c v pages) good (record {
+    frames = frames-resized;
+    first_koid = omega (arith, good.first_koid, next-resized);
+    counts = λ w n e. elim (count-resized_cases w n e) [
       | inl new ↦
           let count = some_is (c.count v) is_there in
           let k = good.koids v count.0 count.1 in
-          (omega (arith, new.0, k.0), omega (arith, new.0, k.1, next-resized))
-      | inr old ↦ let k = good.koids w n old.1 in (k.0, omega (arith, k.1, next-resized))
+          (omega (arith, new.0, k.0), omega (arith, new.0, k.1, next-resized), omega (arith, new.1))
+      | inr old ↦ let k = good.koids w n old.1 in (k.0, omega (arith, k.1, next-resized), good.counts w n old.1)
     ];
-    counts = λ w n e. elim (count-resized_cases w n e) [
-      | inl new ↦ omega (arith, new.1)
-      | inr old ↦ good.counts w n old.1
-    ];
-    first_koid = omega (arith, good.first_koid, next-resized);
     below = λ w q held e. page-resized_fits w q held good e;
-    whole = λ w q held e. good.whole w q held (page-resized_some w q held e);
-    tags = λ w q held e. omega (arith, frames-resized, good.tags w q held (page-resized_some w q held e));
-    alike = λ w q x y held other e f same.
-        good.alike w q x y held other (page-resized_some w q held e) (page-resized_some x y other f) same;
-    apart = λ w q y held other e f same.
-        good.apart w q y held other (page-resized_some w q held e) (page-resized_some w y other f) same;
-  }
+    home = λ w. w;
+    place = λ w q. q;
+    from = page-resized_some;
+    one_place = λ w q y same. same;
+  })
 
   -- the frames are shown as where the pages past the new end became zero
   pub views-resized : IsGood c → (t w : ℕ) → views (resized c v pages) t w ≡ views (zeroed c v pages (pages_of c v)) t w
