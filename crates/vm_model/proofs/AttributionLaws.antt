@@ -1,14 +1,14 @@
 -- Laws of what a VMO holds: what each test says of a page, that the held pages are those that are sole and those that are
 -- shared, that the least koid that shows a frame is charged for it, and how the pages are counted from one held page to the
 -- next.
-use Rattle.std.proofs.Common.{◌≡◌, ◌≢◌, ℕ, ◌+◌, ◌<◌, ◌≤◌, Bool, true, false, not, cond, ◌&&◌, ◌==◌, Option, None, Some, refl, sym, ap, ◌∙◌, inl, inr, arith}
+use Rattle.std.proofs.Common.{◌≡◌, ◌≢◌, ℕ, Bool, true, false, not, ◌&&◌, ◌==◌, None, Some, refl, sym, ap, ◌∙◌, inl, inr, arith}
 use Rattle.std.specs.Prelude.{is_some}
 use Rattle.std.proofs.lemmas.Bool.{cases_order, both_ways, not_from_true, not_from_false}
-use Rattle.vm_base.specs.Search.{any_below, count_below}
-use Rattle.vm_model.specs.Contents.Content.{Page, Content, is_held, pages_of, views, sole, IsGood}
+use Rattle.vm_base.specs.Search.{any_below}
+use Rattle.vm_model.specs.Contents.Content.{Page, Content, is_held, views, sole, IsGood}
 use Rattle.vm_model.specs.Contents.Sharing.{IsLeastViewer}
-use Rattle.vm_model.specs.Machine.Attribution.{count_pages, is_shared, is_charged_page, is_charged}
-use Rattle.vm_base.proofs.SearchLaws.{any_below_at, none_below, count_below_le, count_below_less, count_below_gap, count_below_next, count_below_split, bit_same, bit-true, bit-false, eqb_same, eqb_apart}
+use Rattle.vm_model.specs.Machine.Attribution.{is_shared, is_charged_page, is_charged}
+use Rattle.vm_base.proofs.SearchLaws.{any_below_at, none_below, eqb_same, eqb_apart}
 use Rattle.vm_model.proofs.ContentLaws.{sole-zero}
 use Rattle.vm_model.proofs.SharingLaws.{views_held}
 
@@ -41,13 +41,6 @@ is_charged-zero c v p zero = ap (is_charged_page c v) zero ∙ is_charged_page-z
 pub is_charged-at : (c : Content) (v p : ℕ) (held : Page) → c.page v p ≡ Some held → is_charged c v p ≡ is_charged_page c v (Some held)
 is_charged-at c v p held e = ap (is_charged_page c v) e
 
--- what is charged is held
-pub is_charged_held : (c : Content) (v p : ℕ) → is_charged c v p ≡ true → is_held c v p ≡ true
-is_charged_held c v p e = go (c.page v p) refl where
-  go : (o : Option Page) → c.page v p ≡ o → is_held c v p ≡ true
-  go None zero = absurd (both_ways (is_charged c v p) (is_charged-zero c v p zero) e)
-  go (Some held) here = is_held-some c v p held here
-
 -- ---- who is charged
 
 -- a VMO that shows a frame is charged for it exactly where its koid is the least that does
@@ -74,28 +67,6 @@ is_charged-least c v p w held good e least = is_charged-at c v p held e ∙ is_c
 
 -- ---- counts
 
--- held pages are sole or shared, and none is both
-pub held-parts : (c : Content) (v p : ℕ) → ◌≡◌ {A = ℕ} (cond (is_held c v p) 1 0) (cond (sole c v p) 1 0 + cond (is_shared c v p) 1 0)
-held-parts c v p = go (c.page v p) refl where
-  bits : (b : Bool) → ◌≡◌ {A = ℕ} 1 (cond b 1 0 + cond (not b) 1 0)
-  bits true = refl
-  bits false = refl
-
-  go : (o : Option Page) → c.page v p ≡ o → ◌≡◌ {A = ℕ} (cond (is_held c v p) 1 0) (cond (sole c v p) 1 0 + cond (is_shared c v p) 1 0)
-  go None zero = omega (arith, bit-false (is_held c v p) (is_held-zero c v p zero), bit-false (sole c v p) (sole-zero c v p zero), bit-false (is_shared c v p) (is_shared-zero c v p zero))
-  go (Some held) e = omega (arith, bit-true (is_held c v p) (is_held-some c v p held e), bits (sole c v p), bit_same (is_shared c v p) (not (sole c v p)) (is_shared-some c v p held e))
-
-pub count_held-parts : (c : Content) (v : ℕ) → count_pages c v (is_held c v) ≡ count_pages c v (sole c v) + count_pages c v (is_shared c v)
-count_held-parts c v = count_below_split (pages_of c v) (sole c v) (is_shared c v) (is_held c v) (λ p. held-parts c v p)
-
--- no more pages pass than the VMO has
-pub count_pages_le : (c : Content) (v : ℕ) (test : ℕ → Bool) → count_pages c v test ≤ pages_of c v
-count_pages_le c v test = count_below_le (pages_of c v) test
-
--- no more pages are charged than are held
-pub count_charged_le : (c : Content) (v : ℕ) → count_pages c v (is_charged c v) ≤ count_pages c v (is_held c v)
-count_charged_le c v = count_below_less (pages_of c v) (is_charged c v) (is_held c v) (λ p h e. is_charged_held c v p e)
-
 -- ---- from one held page to the next
 
 -- a test that no zero page of v passes
@@ -114,11 +85,3 @@ module _ (c : Content) (v : ℕ) where
 
   pub IsOfHeld-charged : IsOfHeld c v (is_charged c v)
   IsOfHeld-charged = record { zero_fails = λ p zero. is_charged-zero c v p zero }
-
-  -- where the pages from m to below p are zero, p counts next
-  pub count_held_next : (test : ℕ → Bool) (m p : ℕ) → IsOfHeld c v test → m ≤ p → ((q : ℕ) → m ≤ q → q < p → c.page v q ≡ None) → count_below (p + 1) test ≡ count_below m test + cond (test p) 1 0
-  count_held_next test m p is h zero = count_below_next m p test h (λ q l less. is.zero_fails q (zero q l less))
-
-  -- where the pages from m on are zero, all is counted
-  pub count_held_end : (test : ℕ → Bool) (m : ℕ) → IsOfHeld c v test → m ≤ pages_of c v → ((q : ℕ) → m ≤ q → c.page v q ≡ None) → count_pages c v test ≡ count_below m test
-  count_held_end test m is h zero = count_below_gap m (pages_of c v) test h (λ q l less. is.zero_fails q (zero q l))

@@ -31,11 +31,6 @@ unfolding has_tag
 has_tag_held t None e = absurd cc
 has_tag_held t (Some held) e = (held, refl, eqb_is held.tag t e)
 
--- the same tag or none, the same test
-pub has_tag-same : (t : ℕ) (held other : Page) → held.tag ≡ other.tag → has_tag t (Some held) ≡ has_tag t (Some other)
-unfolding has_tag
-has_tag-same t held other e = ap (λ n. n == t) e
-
 pub bytes_of-none : (o : Option Page) → o ≡ None → bytes_of o ≡ zeros
 unfolding bytes_of
 bytes_of-none o e = ap bytes_of e

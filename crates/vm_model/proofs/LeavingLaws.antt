@@ -409,14 +409,6 @@ Loosens-unpinned s n pin good e = record {
 
 -- ---- what a state without the VMOs that left has as before
 
-pub names-pruned : (s : State) → (pruned s).names ≡ s.names
-unfolding pruned
-names-pruned s = refl
-
-pub pins-pruned : (s : State) → (pruned s).pins ≡ s.pins
-unfolding pruned
-pins-pruned s = refl
-
 pub next-pruned : (s : State) → (pruned s).content.next ≡ s.content.next
 unfolding pruned
 next-pruned s = next-only s.content (is_live s)

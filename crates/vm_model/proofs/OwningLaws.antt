@@ -96,11 +96,6 @@ pub count_from-next : (test : ℕ → Bool) (p end : ℕ) → p < end → count_
 unfolding count_from
 count_from-next test p end h = let e : end - p ≡ suc (end - (p + 1)) = omega arith in ap (count_from test p) e
 
--- at the end none is left
-pub count_from-end : (test : ℕ → Bool) (p : ℕ) → count_from test p (p - p) ≡ 0
-unfolding count_from
-count_from-end test p = let e : p - p ≡ 0 = omega arith in ap (count_from test p) e
-
 -- where no page passes, none counts
 pub count_from-none : (test : ℕ → Bool) (first n : ℕ) → ((p : ℕ) → first ≤ p → p < first + n → test p ≡ false) → count_from test first n ≡ 0
 unfolding count_from
@@ -155,10 +150,6 @@ count_from-not test first (suc n) = omega (arith, bits (test first), count_from-
 unfoldable pub unowned : Content → ℕ → ℕ → ℕ → ℕ
 unowned c v first n = count_from (λ p. not (sole c v p)) first n
 
-pub unowned-count : (c : Content) (v first n : ℕ) → unowned c v first n ≡ count_from (λ p. not (sole c v p)) first n
-unfolding unowned
-unowned-count c v first n = refl
-
 -- it looks at those pages alone
 pub unowned-same : (c d : Content) (v first n : ℕ) → ((p : ℕ) → first ≤ p → sole c v p ≡ sole d v p) → unowned c v first n ≡ unowned d v first n
 unfolding unowned
@@ -175,10 +166,6 @@ unowned-next c v p end h = omega (arith, bits (sole c v p), count_from-next (λ 
   bits : (b : Bool) → ◌≡◌ {A = ℕ} (cond (not b) 1 0) (cond b 0 1)
   bits true = refl
   bits false = refl
-
-pub unowned-end : (c : Content) (v p : ℕ) → unowned c v p (p - p) ≡ 0
-unfolding unowned
-unowned-end c v p = count_from-end (λ q. not (sole c v q)) p
 
 -- a page is sole or counted
 pub unowned-sole : (c : Content) (v first n : ℕ) → unowned c v first n + count_from (sole c v) first n ≡ n

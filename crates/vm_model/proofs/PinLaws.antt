@@ -1,11 +1,11 @@
 -- Laws of pins: the pages that a pin covers, and which pages of a row are pinned.
-use Rattle.std.proofs.Common.{◌≡◌, ◌≢◌, ℕ, ◌+◌, ◌<◌, ◌≤◌, Bool, true, false, ◌&&◌, ◌==◌, Option, None, Some, refl, ap, inl, inr, arith}
+use Rattle.std.proofs.Common.{◌≡◌, ℕ, ◌+◌, ◌<◌, ◌≤◌, true, false, ◌&&◌, ◌==◌, Option, Some, refl, inl, inr, arith}
 use Rattle.std.specs.Prelude.{nat_le}
 use Rattle.std.proofs.lemmas.Bool.{cases_Bool, and_parts, and_from, and_left, and_right, leb-true, le-leb}
 use Rattle.std.proofs.lemmas.Bool.Decides.{Decides-eqb}
 use Rattle.vm_base.specs.declared.limits.TheConstants.{NAMES}
-use Rattle.vm_base.proofs.SearchLaws.{any_below_found, any_below_at, none_below, any_below_same, eqb_apart, eqb_is}
-use Rattle.vm_base.proofs.EntryLaws.{any_entry_at, any_entry_found, any_entry-empty}
+use Rattle.vm_base.proofs.SearchLaws.{any_below_found, any_below_at, none_below, eqb_is}
+use Rattle.vm_base.proofs.EntryLaws.{any_entry_at, any_entry_found}
 use Rattle.vm_model.specs.Contents.Zeroing.{is_within}
 use Rattle.vm_model.specs.Naming.Pins.{Pin, has_pin, covers, is_pinned, any_pinned}
 use Rattle.vm_model.proofs.ZeroingLaws.{is_within-true, is_within-parts}
@@ -16,10 +16,6 @@ use Rattle.vm_model.proofs.ZeroingLaws.{is_within-true, is_within-parts}
 pub covers_at : (v p : ℕ) (pin : Pin) → pin.koid ≡ v → pin.first ≤ p → p < pin.first + pin.count → covers v p pin ≡ true
 covers_at v p pin same low high =
     and_from (pin.koid == v) (is_within pin.first (pin.first + pin.count) p) ((Decides-eqb pin.koid v).1 same) (is_within-true pin.first (pin.first + pin.count) p low high)
-
--- and no page of another VMO
-pub covers-other : (v p : ℕ) (pin : Pin) → pin.koid ≢ v → covers v p pin ≡ false
-covers-other v p pin apart = and_left (pin.koid == v) (is_within pin.first (pin.first + pin.count) p) (eqb_apart pin.koid v apart)
 
 -- what covers a page is a pin of its VMO, and the page is one of its range
 pub covers_parts : (v p : ℕ) (pin : Pin) → covers v p pin ≡ true → (pin.koid ≡ v) × (pin.first ≤ p) × (p < pin.first + pin.count)
@@ -67,20 +63,6 @@ none_pinned pins v first end each = none_below end (λ p. nat_le first p && is_p
   | inr below ↦ and_left (nat_le first p) (is_pinned pins v p) below
 ])
 
--- pins of which no page differs
-pub any_pinned-same : (pins others : ℕ → Option Pin) (v first end : ℕ) → ((p : ℕ) → p < end → is_pinned pins v p ≡ is_pinned others v p) → any_pinned pins v first end ≡ any_pinned others v first end
-unfolding any_pinned
-any_pinned-same pins others v first end each =
-    any_below_same end (λ p. nat_le first p && is_pinned pins v p) (λ p. nat_le first p && is_pinned others v p) (λ p h. ap (λ (b : Bool). nat_le first p && b) (each p h))
-
--- no pins, no pages
-pub any_pinned-nothing : (pins : ℕ → Option Pin) (v first end : ℕ) → ((n : ℕ) → pins n ≡ None) → any_pinned pins v first end ≡ false
-any_pinned-nothing pins v first end none = none_pinned pins v first end (λ p low high. any_entry-empty NAMES (covers v p) pins none)
-
 -- no pages, none pinned
 pub any_pinned-empty : (pins : ℕ → Option Pin) (v first end : ℕ) → end ≤ first → any_pinned pins v first end ≡ false
 any_pinned-empty pins v first end h = none_pinned pins v first end (λ p low high. absurd (omega arith))
-
--- where no page of a range is pinned, none of a part of it is
-pub any_pinned-part : (pins : ℕ → Option Pin) (v first end from to : ℕ) → any_pinned pins v first end ≡ false → first ≤ from → to ≤ end → any_pinned pins v from to ≡ false
-any_pinned-part pins v first end from to e low high = none_pinned pins v from to (λ p l h. any_pinned_none pins v first end p e (omega arith) (omega arith))

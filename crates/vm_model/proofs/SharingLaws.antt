@@ -1,14 +1,14 @@
 -- Laws of sharing: how many VMOs show a frame, what a snapshot and a VMO that leaves change, and that contents stay good.
 use Rattle.std.proofs.Common.{◌≡◌, ◌≢◌, ℕ, ◌+◌, ◌<◌, ◌≤◌, Bool, true, false, not, cond, ◌&&◌, ◌==◌, Option, None, Some, ◌⊎◌, refl, sym, ap, subst, ◌∙◌, inl, inr, arith}
 use Rattle.std.specs.Prelude.{nat_lt, unwrap_or, IsSome, is_some}
-use Rattle.std.proofs.lemmas.Bool.{cases_Bool, cases_eq, cases_lt, and_left, not_from_true, not_from_false, false_from_ne_true, both_ways, lt-ltb, le-ltb, ltb-true}
+use Rattle.std.proofs.lemmas.Bool.{cases_Bool, cases_eq, cases_lt, and_left, not_from_true, not_from_false, false_from_ne_true, lt-ltb, le-ltb}
 use Rattle.std.proofs.lemmas.Bool.Decides.{nat_tests}
 use Rattle.vm_base.specs.declared.limits.TheConstants.{VMO_PAGES}
 use Rattle.vm_base.specs.Search.{any_below, count_below}
-use Rattle.vm_model.specs.Contents.Content.{Page, Content, nothing, pages_of, has_tag, views, in_use, used, vmos_of, seen_elsewhere, is_sole_page, hold, created, IsGood}
+use Rattle.vm_model.specs.Contents.Content.{Page, Content, nothing, pages_of, has_tag, views, in_use, vmos_of, seen_elsewhere, is_sole_page, hold, created, IsGood}
 use Rattle.vm_model.specs.Contents.Sharing.{viewers, page_seen, snapshotted, only, without}
-use Rattle.vm_base.proofs.SearchLaws.{any_below_at, any_below_same, any_below_either, any_below-count, count_below_same, count_below_le, count_below_none, count_below-suc, count_below_change, count_below-bound, bit_same, bit-true, bit-false, eqb_same, eqb_apart}
-use Rattle.vm_model.proofs.ContentLaws.{pages_of-at, has_tag_from, has_tag_held, next-hold, count-hold, pages_of-hold, page-hold_here, page-hold_other_page, page-hold_other_vmo, page-hold_cases, page-hold_parts, page-nothing, next-created, page-created, count-created_other, views_found, views_at, koid_below, in_use_at, not_in_use, is_sole_page-some, in_use_found, IsPart, IsGood-part}
+use Rattle.vm_base.proofs.SearchLaws.{any_below_same, any_below-count, count_below_same, count_below_le, count_below_none, count_below-suc, count_below_change, count_below-bound, bit_same, bit-true, bit-false, eqb_same, eqb_apart}
+use Rattle.vm_model.proofs.ContentLaws.{pages_of-at, next-hold, count-hold, pages_of-hold, page-hold_here, page-hold_other_page, page-hold_other_vmo, page-hold_cases, page-hold_parts, page-nothing, next-created, page-created, count-created_other, views_found, views_at, koid_below, not_in_use, is_sole_page-some, IsGood-part}
 
 -- two tests of one outcome, where each passes if the other does
 tests_same : (a b : Bool) → (a ≡ true → b ≡ true) → (b ≡ true → a ≡ true) → a ≡ b
@@ -273,13 +273,6 @@ module _ (c : Content) (v first seen pages : ℕ) where
     | inr apart ↦ inr (apart, sym (page-snapshotted_other w p apart) ∙ e)
   ]
 
-  -- each page that is held now was held before, there or where the snapshot was taken
-  pub page-snapshotted_from : (w p : ℕ) (held : Page) → (snapshotted c v first seen pages).page w p ≡ Some held → (x y : ℕ) × (c.page x y ≡ Some held)
-  page-snapshotted_from w p held e = elim (page-snapshotted_cases w p held e) [
-    | inl new ↦ (v, first + p, new.2)
-    | inr old ↦ (w, p, old.1)
-  ]
-
   -- a page that was held is held still
   pub page-snapshotted_old : (w p : ℕ) (held : Page) → IsGood c → c.page w p ≡ Some held → (snapshotted c v first seen pages).page w p ≡ Some held
   page-snapshotted_old w p held good e =
@@ -294,35 +287,6 @@ module _ (c : Content) (v first seen pages : ℕ) where
         inl (same, cc)
     | inr apart ↦ inr (apart, sym (count-snapshotted_other w apart) ∙ e)
   ]
-
--- the frame t is on one of the first pages of a range
-abbrev pub sees_tag : Content → ℕ → ℕ → ℕ → ℕ → Bool
-sees_tag c v first seen t = any_below seen (λ p. has_tag t (c.page v (first + p)))
-
--- a snapshot shows the frames of the pages that it sees
-pub views-snapshotted_new : (c : Content) (v first seen pages : ℕ) → seen ≤ pages → (t : ℕ) → views (snapshotted c v first seen pages) t c.next ≡ sees_tag c v first seen t
-unfolding views
-views-snapshotted_new c v first seen pages few t =
-    let made = snapshotted c v first seen pages in
-    ap (λ (n : ℕ). any_below n (λ p. has_tag t (made.page c.next p))) (pages_of-snapshotted_new c v first seen pages)
-    ∙ any_below_either pages seen (λ p. has_tag t (made.page c.next p)) (λ p. has_tag t (c.page v (first + p)))
-    (λ p h e.
-    let held = has_tag_held t (made.page c.next p) e in
-    let sees = page_seen_held c v first seen p held.0 (sym (page-snapshotted_new c v first seen pages p) ∙ held.1) in
-    any_below_at seen p (λ q. has_tag t (c.page v (first + q))) sees.0 (has_tag_from t (c.page v (first + p)) held.0 sees.1 held.2))
-    (λ p h e.
-    let same : made.page c.next p ≡ c.page v (first + p) = page-snapshotted_new c v first seen pages p ∙ page_seen-in c v first seen p h in
-    any_below_at pages p (λ q. has_tag t (made.page c.next q)) (omega arith) (ap (has_tag t) same ∙ e))
-
--- so each of these frames is shown by one VMO more
-pub viewers-snapshotted : (c : Content) (v first seen pages : ℕ) → IsGood c → seen ≤ pages → (t : ℕ) → viewers (snapshotted c v first seen pages) t ≡ viewers c t + cond (sees_tag c v first seen t) 1 0
-viewers-snapshotted c v first seen pages good few t =
-    let made = snapshotted c v first seen pages in
-    let more = viewers-more c made t (next-snapshotted c v first seen pages) (λ w h.
-    let apart : w ≢ c.next = omega arith in
-    views-same c made t w (count-snapshotted_other c v first seen pages w apart) (λ q.
-    page-snapshotted_other c v first seen pages w q apart)) in
-    omega (arith, more, bit_same (views made t c.next) (sees_tag c v first seen t) (views-snapshotted_new c v first seen pages few t))
 
 -- where a page of the snapshot comes from
 module _ (c : Content) (v first : ℕ) where
@@ -382,26 +346,6 @@ IsGood-snapshotted c v first seen pages good few bound =
       ];
     })
 
--- a snapshot takes no frame
-pub in_use-snapshotted : (c : Content) (v first seen pages : ℕ) → IsGood c → seen ≤ pages → (t : ℕ) → in_use (snapshotted c v first seen pages) t ≡ in_use c t
-in_use-snapshotted c v first seen pages good few t = tests_same (in_use (snapshotted c v first seen pages) t) (in_use c t)
-    (λ shows.
-    let page = in_use_found (snapshotted c v first seen pages) t shows in
-    let old = page-snapshotted_from c v first seen pages page.0 page.1 page.2 page.5 in
-    ap (in_use c) (sym page.6) ∙ in_use_at c old.0 old.1 page.2 good old.2)
-    (λ shows.
-    let made = snapshotted c v first seen pages in
-    let before = ltb-true 0 (viewers c t) (sym (in_use-viewers c t) ∙ shows) in
-    let now = viewers-snapshotted c v first seen pages good few t in
-    in_use-viewers made t ∙ lt-ltb 0 (viewers made t) (omega (arith, before, now)))
-
--- and so as many frames are used
-pub used-snapshotted : (c : Content) (v first seen pages : ℕ) → IsGood c → seen ≤ pages → used (snapshotted c v first seen pages) ≡ used c
-unfolding used
-used-snapshotted c v first seen pages good few =
-    ap (λ (n : ℕ). count_below n (in_use (snapshotted c v first seen pages))) (frames-snapshotted c v first seen pages)
-    ∙ count_below_same c.frames _ _ (λ t h. in_use-snapshotted c v first seen pages good few t)
-
 -- one VMO more
 pub vmos_of-snapshotted : (c : Content) (v first seen pages : ℕ) → IsGood c → vmos_of (snapshotted c v first seen pages) ≡ vmos_of c + 1
 unfolding vmos_of
@@ -448,10 +392,6 @@ module _ (c : Content) (stays : ℕ → Bool) where
   unfolding pages_of
   pages_of-only_stays v e = ap (λ o. unwrap_or o 0) (count-only_stays v e)
 
-  pub pages_of-only_leaves : (v : ℕ) → stays v ≡ false → pages_of (only c stays) v ≡ 0
-  unfolding pages_of
-  pages_of-only_leaves v e = ap (λ o. unwrap_or o 0) (count-only_leaves v e)
-
   -- a page that is held now is one of a VMO that stays, and was held before
   pub page-only_held : (v p : ℕ) (held : Page) → (only c stays).page v p ≡ Some held → (stays v ≡ true) × (c.page v p ≡ Some held)
   page-only_held v p held e = elim (cases_Bool (stays v)) [
@@ -464,24 +404,6 @@ module _ (c : Content) (stays : ℕ → Bool) where
     | inl kept ↦ (kept, sym (count-only_stays v kept) ∙ e)
     | inr left ↦ let none : ◌≡◌ {A = Option ℕ} None (Some n) = sym (count-only_leaves v left) ∙ e in absurd cc
   ]
-
-  -- the VMOs that stay show what they showed, and the others nothing
-  pub views-only : (t v : ℕ) → views (only c stays) t v ≡ (stays v && views c t v)
-  views-only t v = elim (cases_Bool (stays v)) [
-    | inl kept ↦
-        views-same c (only c stays) t v (count-only_stays v kept) (λ q. page-only_stays v q kept)
-        ∙ sym (ap (λ b. b && views c t v) kept)
-    | inr left ↦
-        views_none (only c stays) t v (λ p held e. absurd (both_ways (stays v) left (page-only_held v p held e).0))
-        ∙ sym (and_left (stays v) (views c t v) left)
-  ]
-
-  -- the VMOs that stay are counted
-  pub viewers-only : (t : ℕ) → viewers (only c stays) t ≡ count_below c.next (λ v. stays v && views c t v)
-  unfolding viewers
-  viewers-only t =
-      ap (λ (n : ℕ). count_below n (views (only c stays) t)) next-only
-      ∙ count_below_same c.next (views (only c stays) t) (λ v. stays v && views c t v) (λ v h. views-only t v)
 
 -- where VMOs leave, a content stays good
 pub IsGood-only : (c : Content) (stays : ℕ → Bool) → IsGood c → IsGood (only c stays)
@@ -525,33 +447,12 @@ module _ (c : Content) (v : ℕ) where
   pub pages_of-without_other : (w : ℕ) → w ≢ v → pages_of (without c v) w ≡ pages_of c w
   pages_of-without_other w apart = pages_of-only_stays c (λ w. not (w == v)) w (stays_elsewhere w apart)
 
-  pub views-without_here : (t : ℕ) → views (without c v) t v ≡ false
-  views-without_here t = views-only c (λ w. not (w == v)) t v ∙ and_left (not (v == v)) (views c t v) stays_not_here
-
-  pub views-without_other : (t w : ℕ) → w ≢ v → views (without c v) t w ≡ views c t w
-  views-without_other t w apart = views-same c (without c v) t w (count-without_other w apart) (λ q. page-without_other w q apart)
-
-  -- a frame stays in use where another VMO shows it
-  pub in_use-without : (t : ℕ) → in_use (without c v) t ≡ seen_elsewhere c t v
-  unfolding in_use seen_elsewhere
-  in_use-without t =
-      ap (λ (n : ℕ). any_below n (views (without c v) t)) (next-only c (λ w. not (w == v)))
-      ∙ any_below_same c.next (views (without c v) t) (λ w. not (w == v) && views c t w) (λ w h. views-only c (λ w. not (w == v)) t w)
-
 -- a VMO's koid is below the next
 pub koid_some : (c : Content) (v : ℕ) → IsGood c → IsSome (c.count v) → v < c.next
 koid_some c v good is_there = go (c.count v) refl is_there where
   go : (o : Option ℕ) → c.count v ≡ o → is_some o ≡ true → v < c.next
   go None e h = absurd cc
   go (Some n) e h = (good.koids v n e).1
-
--- a frame that the VMO showed is shown by one VMO less
-pub viewers-without : (c : Content) (v : ℕ) → IsGood c → IsSome (c.count v) → (t : ℕ) → viewers (without c v) t + cond (views c t v) 1 0 ≡ viewers c t
-viewers-without c v good is_there t =
-    let next = next-only c (λ w. not (w == v)) in
-    let h = koid_some c v good is_there in
-    let change = viewers-change c (without c v) t v next h (λ w l apart. views-without_other c v t w apart) in
-    omega (arith, change, bit-false (views (without c v) t v) (views-without_here c v t))
 
 -- one VMO less
 pub vmos_of-without : (c : Content) (v : ℕ) → IsGood c → IsSome (c.count v) → vmos_of (without c v) + 1 ≡ vmos_of c

@@ -1,10 +1,9 @@
 -- Laws of the step: a good state stays good.
-use Rattle.std.proofs.Common.{◌≡◌, ℕ, ◌+◌, ◌-◌, ◌*◌, ◌/◌, ◌%◌, ◌<◌, ◌≤◌, ◌==◌, Bool, true, false, not, cond, ◌&&◌, ◌||◌, List, [], ◌∷◌, length, replicate, Option, None, Some, refl, sym, ap, subst, inl, inr, arith}
+use Rattle.std.proofs.Common.{◌≡◌, ℕ, ◌+◌, ◌*◌, ◌/◌, ◌%◌, ◌<◌, ◌≤◌, ◌==◌, Bool, true, false, not, cond, ◌&&◌, ◌||◌, List, [], ◌∷◌, length, replicate, Option, None, Some, refl, sym, ap, subst, inl, inr, arith}
 use Rattle.std.specs.Prelude.{nat_lt, unwrap_or, IsSome, is_some}
 use Rattle.std.specs.List.{AllByRecursion}
 use Rattle.std.proofs.lemmas.Bool.{ltb-false, eqb-true, eqb-false, not-false, and_cases, and_parts, or_parts, both_ways}
 use Rattle.std.proofs.lemmas.List.{length-replicate}
-use Rattle.std.proofs.Math.Nat.{min-le_right}
 use Rattle.vm_base.specs.Pages.{rounded}
 use Rattle.vm_base.specs.declared.limits.TheConstants.{PAGE, VMO_PAGES, NAMES, PIN_PAGES}
 use Rattle.vm_base.specs.declared.refusal.Refusal.{Refusal}
@@ -21,7 +20,7 @@ use Rattle.vm_model.specs.Naming.Pins.{is_pinned}
 use Rattle.vm_model.specs.Machine.State.{State, empty_state, is_open, target_of, koid_of, name_pages, size_of, place_of, IsGoodName, IsGoodState}
 use Rattle.vm_model.specs.Machine.Refusals.{lacks_frames, change_refusals, refusals, first_of}
 use Rattle.vm_model.specs.Language.Spelling.{HasRanges}
-use Rattle.vm_model.specs.Machine.Step.{seen_pages, slice_of, reference_of, Effect, StepAfter, Step}
+use Rattle.vm_model.specs.Machine.Step.{slice_of, reference_of, Effect, StepAfter, Step}
 use Rattle.vm_model.proofs.ContentLaws.{IsGood-nothing}
 use Rattle.vm_base.proofs.EntryLaws.{some_is, none_is}
 use Rattle.vm_model.proofs.NamesLaws.{names-open}
@@ -70,13 +69,6 @@ part_inside s target offset len good h = go target.limit refl h where
 pub place_inside : (s : State) (n : ℕ) (target : Target) (offset len : ℕ) → IsGoodState s → s.names n ≡ Some target → offset + len ≤ size_of s n → place_of s n offset + len ≤ pages_of s.content (koid_of s n) * PAGE
 place_inside s n target offset len good e h =
     part_inside s (target_of s n) offset len (good.names n (target_of s n) (names-open s n (ap is_some e))).1 h
-
--- the pages of a good name that a snapshot sees lie inside its VMO
-pub seen_inside : (s : State) (target : Target) (start pages p : ℕ) → IsGoodName s target → p < seen_pages s.content target start pages → target.first + start + p < pages_of s.content target.koid.0
-seen_inside s target start pages p good h = go target.limit refl (omega (arith, h, min-le_right pages (name_pages s.content target - start))) where
-  go : (o : Option ℕ) → target.limit ≡ o → start + p < unwrap_or o (pages_of s.content target.koid.0) → target.first + start + p < pages_of s.content target.koid.0
-  go None e l = omega (arith, good.whole e)
-  go (Some n) e l = omega (arith, (good.part n e).2)
 
 -- ---- a change of a range
 

@@ -1,18 +1,17 @@
 -- Laws of pages that become zero, in a range and by another size: which pages stay, who shows a frame then, how many frames are
 -- used, and that contents stay good.
-use Rattle.std.proofs.Common.{◌≡◌, ◌≢◌, ℕ, ◌+◌, ◌<◌, ◌≤◌, true, false, not, cond, ◌&&◌, ◌==◌, Option, None, Some, ◌⊎◌, refl, sym, ap, ◌∙◌, inl, inr, arith}
+use Rattle.std.proofs.Common.{◌≡◌, ◌≢◌, ℕ, ◌<◌, ◌≤◌, true, false, not, cond, ◌&&◌, ◌==◌, Option, None, Some, ◌⊎◌, refl, sym, ap, ◌∙◌, inl, inr, arith}
 use Rattle.std.specs.Prelude.{nat_lt, nat_le, IsSome, is_some, unwrap_or}
 use Rattle.std.proofs.lemmas.Bool.{cases_eq, cases_lt, and_parts, and_from, and_left, and_right, not_from_true, le-leb, lt-leb, leb-true, lt-ltb, le-ltb, ltb-true}
 use Rattle.vm_base.specs.declared.limits.TheConstants.{VMO_PAGES}
 use Rattle.vm_base.specs.Search.{any_below}
-use Rattle.vm_model.specs.Contents.Content.{Page, Content, pages_of, has_tag, views, in_use, used, vmos_of, seen_elsewhere, is_sole_page, sole, IsGood}
+use Rattle.vm_model.specs.Contents.Content.{Page, Content, pages_of, views, in_use, used, vmos_of, seen_elsewhere, is_sole_page, sole, IsGood}
 use Rattle.vm_base.specs.Entries.{with_key}
-use Rattle.vm_model.specs.Contents.Sharing.{viewers}
 use Rattle.vm_model.specs.Contents.Zeroing.{is_within, zeroed, resized}
-use Rattle.vm_base.proofs.SearchLaws.{any_below_found, any_below_at, any_below_same, any_below_either, count_below_same, count_below_less, count_below-bound, eqb_same, eqb_apart}
-use Rattle.vm_model.proofs.ContentLaws.{pages_of-at, has_tag_held, views_found, views_at, IsPart, IsGood-part}
+use Rattle.vm_base.proofs.SearchLaws.{any_below_found, any_below_at, any_below_same, count_below_same, count_below_less, count_below-bound, eqb_same, eqb_apart}
+use Rattle.vm_model.proofs.ContentLaws.{pages_of-at, views_found, views_at, IsGood-part}
 use Rattle.vm_base.proofs.EntryLaws.{with_key-same, with_key-other, with_key-cases, some_is}
-use Rattle.vm_model.proofs.SharingLaws.{views-same, viewers-change, koid_some}
+use Rattle.vm_model.proofs.SharingLaws.{views-same}
 
 -- ---- ranges of pages
 
@@ -122,11 +121,6 @@ module _ (c : Content) (v first end : ℕ) where
       let page = views_found (zeroed c v first end) t w shows in
       views_at c t w page.0 page.1 (omega (arith, page.2, pages_of-zeroed w)) (page-zeroed_some w page.0 page.1 page.3).0 page.4
 
-  -- the count of those that show a frame changes by that VMO alone
-  pub viewers-zeroed : IsGood c → IsSome (c.count v) → (t : ℕ) → viewers (zeroed c v first end) t + cond (views c t v) 1 0 ≡ viewers c t + cond (views (zeroed c v first end) t v) 1 0
-  viewers-zeroed good is_there t =
-      viewers-change c (zeroed c v first end) t v next-zeroed (koid_some c v good is_there) (λ w h apart. views-zeroed_other t w apart)
-
   -- ---- sole pages and frames in use
 
   -- other VMOs show a frame where they did
@@ -231,19 +225,6 @@ page_past c v p good h = go (c.page v p) refl where
   go None e = refl
   go (Some held) e = absurd (omega (arith, good.below v p held e))
 
--- a VMO with the same pages shows the same frames, whatever the counts above its held pages
-views_alike : (c d : Content) (t w : ℕ) → ((p : ℕ) → d.page w p ≡ c.page w p) → ((p : ℕ) (held : Page) → c.page w p ≡ Some held → (p < pages_of c w) × (p < pages_of d w)) → views d t w ≡ views c t w
-unfolding views
-views_alike c d t w page below =
-    any_below_either (pages_of d w) (pages_of c w) (λ p. has_tag t (d.page w p)) (λ p. has_tag t (c.page w p))
-    (λ p h e.
-    let old : has_tag t (c.page w p) ≡ true = ap (has_tag t) (sym (page p)) ∙ e in
-    let held = has_tag_held t (c.page w p) old in
-    any_below_at (pages_of c w) p (λ q. has_tag t (c.page w q)) (below p held.0 held.1).0 old)
-    (λ p h e.
-    let held = has_tag_held t (c.page w p) e in
-    any_below_at (pages_of d w) p (λ q. has_tag t (d.page w q)) (below p held.0 held.1).1 (ap (has_tag t) (page p) ∙ e))
-
 module _ (c : Content) (v pages : ℕ) where
   -- the count and the pages of the VMO alone change
   pub frames-resized : (resized c v pages).frames ≡ c.frames
@@ -333,23 +314,6 @@ module _ (c : Content) (v pages : ℕ) where
     from = page-resized_some;
     one_place = λ w q y same. same;
   })
-
-  -- the frames are shown as where the pages past the new end became zero
-  pub views-resized : IsGood c → (t w : ℕ) → views (resized c v pages) t w ≡ views (zeroed c v pages (pages_of c v)) t w
-  views-resized good t w =
-      let zero = zeroed c v pages (pages_of c v) in
-      views_alike zero (resized c v pages) t w (page-resized w) (λ p held e. (
-        (IsGood-zeroed c v pages (pages_of c v) good).below w p held e,
-        page-resized_fits w p held good (page-resized w p ∙ e),
-      ))
-
-  -- and by as many VMOs
-  pub viewers-resized : IsGood c → (t : ℕ) → viewers (resized c v pages) t ≡ viewers (zeroed c v pages (pages_of c v)) t
-  unfolding viewers
-  viewers-resized good t =
-      let zero = zeroed c v pages (pages_of c v) in
-      count_below-bound (resized c v pages).next zero.next (views (resized c v pages) t) (next-resized ∙ sym (next-zeroed c v pages (pages_of c v)))
-      ∙ count_below_same zero.next (views (resized c v pages) t) (views zero t) (λ w h. views-resized good t w)
 
   -- as many VMOs
   pub vmos_of-resized : IsSome (c.count v) → vmos_of (resized c v pages) ≡ vmos_of c
