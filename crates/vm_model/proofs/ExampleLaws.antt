@@ -80,11 +80,10 @@ start = empty_state 1024
 
 -- after the first line
 abbrev made : State
-made = record {
+made = record start {
   content = created start.content (rounded 8192 / PAGE);
   names = with_key start.names 1 (owner start.content.next true false);
   lineage = with_key start.lineage start.content.next (record { resizable = false; origin = Created; parent = None });
-  pins = start.pins;
 }
 
 made-is : with_vmo start 1 (rounded 8192 / PAGE) false ≡ made
@@ -280,7 +279,7 @@ abbrev owned : Content
 owned = hold made.content 1 0 (record { tag = 0; bytes = shown made.content 1 0 })
 
 abbrev written : State
-written = record { content = hold owned 1 0 (record { tag = 0; bytes = replaced (shown owned 1 0) 4094 marks }); names = made.names; lineage = made.lineage; pins = made.pins }
+written = record made { content = hold owned 1 0 (record { tag = 0; bytes = replaced (shown owned 1 0) 4094 marks }) }
 
 write_effect : Effect made write Done written
 write_effect =

@@ -153,7 +153,7 @@ lineage_left-is s v l parent e = ap (λ (o : Option ℕ). record l { parent = o 
 -- nothing leaves a good state
 pub pruned-good : (s : State) → IsGoodState s → pruned s ≡ s
 unfolding pruned
-pruned-good s good = λ i. record { content = same i; names = s.names; lineage = λ v. each v (s.lineage v) refl i; pins = s.pins } where
+pruned-good s good = λ i. record s { content = same i; lineage = λ v. each v (s.lineage v) refl i } where
   same : only s.content (is_live s) ≡ s.content
   same = only-alike s.content (is_live s) (λ v. true) good.content (λ v. elim (cases_Bool (is_live s v)) [
     | inl live ↦ inl live
@@ -214,7 +214,7 @@ module _ (t : State) (v : ℕ) (good : IsLoose t v) where
   -- a VMO that is not live leaves, and it alone. Its children get its parent
   pub pruned-left : is_live t v ≡ false → pruned t ≡ left_vmo t v
   unfolding pruned
-  pruned-left gone = λ i. record { content = same i; names = t.names; lineage = λ w. each w i; pins = t.pins } where
+  pruned-left gone = λ i. record t { content = same i; lineage = λ w. each w i } where
     same : only t.content (is_live t) ≡ without t.content v
     same = only-alike t.content (is_live t) (λ w. not (w == v)) good.content (λ w. elim (cases_eq w v) [
       | inl vmo ↦ inl (ap (is_live t) vmo ∙ (gone ∙ sym (not_from_true (w == v) ((Decides-eqb w v).1 vmo))))
