@@ -7,13 +7,13 @@ use Rattle.std.specs.Map.Calls.{RetainsPairs}
 use Rattle.std.proofs.lemmas.Bool.{cases_eq, eq-eqb, ne_eqb, cond-true, cond-false}
 use Rattle.vm_base.specs.declared.names.Koid.{Koid}
 use Rattle.vm_base.specs.declared.names.VmoName.{VmoName}
-use Rattle.vm_base.specs.Entries.{with_key, without_key}
+use Rattle.vm_base.specs.Entries.{with_key, without_key, passes}
+use Rattle.vm_base.proofs.EntryLaws.{passes-some}
+use Rattle.vm_model.specs.declared.names.Target.{Target}
 use Rattle.vm_model.specs.Naming.Names.{is_parent, has_parent}
-use Rattle.vmo_table.specs.declared.target.Target.{Target}
 use Rattle.vmo_table.specs.declared.vmos.Vmo.{Vmo}
 use Rattle.vmo_table.specs.Vmos.{koid_number, vmos_in, lineage_of_vmo, lineages, with_children, adopted, koid_after, vmos_without}
-use Rattle.vmo_table.specs.Table.{name_of, names_in}
-use Rattle.vmo_table.proofs.RelatedLaws.{has_parent_is}
+use Rattle.vmo_table.specs.Table.{names_in}
 use Rattle.vmo_table.proofs.VmosLaws.{lineages-is, without-here, without-other, vmo_after}
 
 -- an entry of the map of VMOs
@@ -28,13 +28,13 @@ pub vmos_in-is : (entries : List (Koid × Vmo)) (v : ℕ) → vmos_in entries v 
 unfolding vmos_in
 vmos_in-is entries v = refl
 
-pub names_in-is : (entries : List (VmoName × Target)) (n : ℕ) → names_in entries n ≡ option_map name_of (target_at entries n)
+pub names_in-is : (entries : List (VmoName × Target)) (n : ℕ) → names_in entries n ≡ target_at entries n
 unfolding names_in
 names_in-is entries n = refl
 
 -- a name and its koid
-pub names_in_found : (entries : List (VmoName × Target)) (n : ℕ) (t : Target) → target_at entries n ≡ Some t → names_in entries n ≡ Some (name_of t)
-names_in_found entries n t e = names_in-is entries n ∙ ap (option_map name_of) e
+pub names_in_found : (entries : List (VmoName × Target)) (n : ℕ) (t : Target) → target_at entries n ≡ Some t → names_in entries n ≡ Some t
+names_in_found entries n t e = names_in-is entries n ∙ e
 
 flipped : {A : Type 0} (a b : ℕ) (x y : A) → cond (a == b) x y ≡ cond (b == a) x y
 flipped a b x y = elim (cases_eq a b) [
@@ -55,7 +55,7 @@ vmos_in-put old new k vmo each = λ i v. (each (record { 0 = v }) ∙ flipped k 
 -- the counts of the parent were changed
 pub vmos_in-adopted : (old new : List (Koid × Vmo)) (k : ℕ) (vmo : Vmo) (gone come : ℕ) → vmo_at old k ≡ Some vmo →
     ((q : Koid) → vmo_at new q.0 ≡ cond (k == q.0) (Some (with_children gone come vmo)) (vmo_at old q.0)) → vmos_in new ≡ adopted (vmos_in old) (Some k) gone come
-unfolding vmos_in adopted is_parent
+unfolding vmos_in adopted passes
 vmos_in-adopted old new k vmo gone come found each = λ i v. (each (record { 0 = v }) ∙ at v) i
   where
     at : (v : ℕ) → cond (k == v) (Some (with_children gone come vmo)) (vmo_at old v) ≡ cond (k == v) (option_map (with_children gone come) (vmo_at old v)) (vmo_at old v)
@@ -66,11 +66,11 @@ vmos_in-adopted old new k vmo gone come found each = λ i v. (each (record { 0 =
 
 -- no VMO, no change
 pub adopted-nobody : (vmos : ℕ → Option Vmo) (gone come : ℕ) → vmos ≡ adopted vmos None gone come
-unfolding adopted is_parent
+unfolding adopted passes
 adopted-nobody vmos gone come = refl
 
 pub adopted-absent : (entries : List (Koid × Vmo)) (k gone come : ℕ) → vmo_at entries k ≡ None → vmos_in entries ≡ adopted (vmos_in entries) (Some k) gone come
-unfolding vmos_in adopted is_parent
+unfolding vmos_in adopted passes
 adopted-absent entries k gone come none = λ i v. at v i
   where
     at : (v : ℕ) → vmo_at entries v ≡ cond (k == v) (option_map (with_children gone come) (vmo_at entries v)) (vmo_at entries v)
@@ -83,17 +83,17 @@ adopted-absent entries k gone come none = λ i v. at v i
 
 -- a VMO that is not the parent of any
 not_child : (v : ℕ) (parent o : Option Koid) → is_parent v (option_map koid_number o) ≡ false → koid_after v parent o ≡ o
-unfolding koid_after is_parent
+unfolding koid_after passes
 not_child v parent None h = refl
 not_child v parent (Some p) h = cond-false (p.0 == v) parent (Some p) h
 
-stays_as_is : (v : ℕ) (parent : Option Koid) (o : Option Vmo) → has_parent v (option_map lineage_of_vmo o) ≡ false → o ≡ option_map (vmo_after v parent) o
+stays_as_is : (v : ℕ) (parent : Option Koid) (o : Option Vmo) → passes (has_parent v) (option_map lineage_of_vmo o) ≡ false → o ≡ option_map (vmo_after v parent) o
 stays_as_is v parent None h = refl
 stays_as_is v parent (Some vmo) h =
-    ap (λ (p : Option Koid). Some (record vmo { parent = p })) (sym (not_child v parent vmo.parent (sym (has_parent_is v (lineage_of_vmo vmo)) ∙ h)))
+    ap (λ (p : Option Koid). Some (record vmo { parent = p })) (sym (not_child v parent vmo.parent (sym (passes-some (has_parent v) (Some (lineage_of_vmo vmo)) (lineage_of_vmo vmo) refl) ∙ h)))
 
 -- a VMO without children was removed
-pub vmos_in-removed : (old new : List (Koid × Vmo)) (k : ℕ) (parent : Option Koid) → ((w : ℕ) → has_parent k (lineages (vmos_in old) w) ≡ false) →
+pub vmos_in-removed : (old new : List (Koid × Vmo)) (k : ℕ) (parent : Option Koid) → ((w : ℕ) → passes (has_parent k) (lineages (vmos_in old) w) ≡ false) →
     ((q : Koid) → vmo_at new q.0 ≡ cond (k == q.0) None (vmo_at old q.0)) → vmos_in new ≡ vmos_without (vmos_in old) k parent
 vmos_in-removed old new k parent childless each = λ i v. (vmos_in-is new v ∙ (each (record { 0 = v }) ∙ at v)) i
   where
@@ -101,7 +101,7 @@ vmos_in-removed old new k parent childless each = λ i v. (vmos_in-is new v ∙ 
     at v = elim (cases_eq k v) [
       | inl same ↦ cond-true (k == v) None (vmo_at old v) (eq-eqb k v same) ∙ sym (without-here (vmos_in old) k parent v (sym same))
       | inr apart ↦ cond-false (k == v) None (vmo_at old v) (ne_eqb k v apart) ∙ (sym (vmos_in-is old v)
-          ∙ (stays_as_is k parent (vmos_in old v) (ap (has_parent k) (sym (lineages-is (vmos_in old) v)) ∙ childless v)
+          ∙ (stays_as_is k parent (vmos_in old v) (ap (passes (has_parent k)) (sym (lineages-is (vmos_in old) v)) ∙ childless v)
           ∙ sym (without-other (vmos_in old) k parent v (λ e. apart (sym e)))))
     ]
 
@@ -147,29 +147,21 @@ vmos_in-retained T k parent f each es kept h = λ i u. retained T k parent f eac
 
 pub names_in-same : (old new : List (VmoName × Target)) → ((q : VmoName) → target_at new q.0 ≡ target_at old q.0) → names_in new ≡ names_in old
 unfolding names_in
-names_in-same old new each = λ i n. option_map name_of (each (record { 0 = n }) i)
+names_in-same old new each = λ i n. each (record { 0 = n }) i
 
-pub names_in-put : (old new : List (VmoName × Target)) (k : ℕ) (t : Target) → ((q : VmoName) → target_at new q.0 ≡ cond (k == q.0) (Some t) (target_at old q.0)) → names_in new ≡ with_key (names_in old) k (name_of t)
+pub names_in-put : (old new : List (VmoName × Target)) (k : ℕ) (t : Target) → ((q : VmoName) → target_at new q.0 ≡ cond (k == q.0) (Some t) (target_at old q.0)) → names_in new ≡ with_key (names_in old) k t
 unfolding names_in with_key
-names_in-put old new k t each = λ i n. (ap (option_map name_of) (each (record { 0 = n }) ∙ flipped k n (Some t) (target_at old n)) ∙ of (n == k) (target_at old n)) i
-  where
-    of : (b : Bool) (o : Option Target) → option_map name_of (cond b (Some t) o) ≡ cond b (Some (name_of t)) (option_map name_of o)
-    of true o = refl
-    of false o = refl
+names_in-put old new k t each = λ i n. (each (record { 0 = n }) ∙ flipped k n (Some t) (target_at old n)) i
 
 pub names_in-taken : (old new : List (VmoName × Target)) (k : ℕ) → ((q : VmoName) → target_at new q.0 ≡ cond (k == q.0) None (target_at old q.0)) → names_in new ≡ without_key (names_in old) k
 unfolding names_in without_key
-names_in-taken old new k each = λ i n. (ap (option_map name_of) (each (record { 0 = n }) ∙ flipped k n None (target_at old n)) ∙ of (n == k) (target_at old n)) i
-  where
-    of : (b : Bool) (o : Option Target) → option_map name_of (cond b None o) ≡ cond b None (option_map name_of o)
-    of true o = refl
-    of false o = refl
+names_in-taken old new k each = λ i n. (each (record { 0 = n }) ∙ flipped k n None (target_at old n)) i
 
 -- ---- nothing is in a map
 
 pub names_in-empty : (entries : List (VmoName × Target)) → entries ≡ [] → (n : ℕ) → names_in entries n ≡ None
 unfolding names_in
-names_in-empty entries e n = ap (λ (es : List (VmoName × Target)). option_map name_of (target_at es n)) e
+names_in-empty entries e n = ap (λ (es : List (VmoName × Target)). target_at es n) e
 
 pub vmos_in-empty : (entries : List (Koid × Vmo)) → entries ≡ [] → (v : ℕ) → vmos_in entries v ≡ None
 unfolding vmos_in
@@ -181,11 +173,7 @@ lineages-empty entries e v = lineages-is (vmos_in entries) v ∙ ap (option_map 
 -- ---- what is in a map
 
 pub target_there : (entries : List (VmoName × Target)) (n : ℕ) → IsSome (names_in entries n) → IsSome (target_at entries n)
-target_there entries n h = of (target_at entries n) (sym (ap is_some (names_in-is entries n)) ∙ h)
-  where
-    of : (o : Option Target) → IsSome (option_map name_of o) → IsSome o
-    of None e = absurd (cc)
-    of (Some t) e = refl
+target_there entries n h = sym (ap is_some (names_in-is entries n)) ∙ h
 
 pub vmo_there : (entries : List (Koid × Vmo)) (v : ℕ) → IsSome (lineages (vmos_in entries) v) → IsSome (vmo_at entries v)
 vmo_there entries v h = of (vmo_at entries v) (sym (ap is_some (lineages-is (vmos_in entries) v ∙ ap (option_map lineage_of_vmo) (vmos_in-is entries v))) ∙ h)

@@ -4,18 +4,21 @@ use Rattle.std.specs.Option.{option_map}
 use Rattle.std.proofs.lemmas.Bool.{cases_Bool, lt-ltb, le-ltb, cond-true, cond-false}
 use Rattle.std.proofs.Math.Bool.{or-true}
 use Rattle.vm_base.specs.declared.names.Koid.{Koid}
-use Rattle.vm_model.specs.Naming.Names.{Name, Lineage, is_named, is_parent, has_parent, child_count, lineage_without}
-use Rattle.vm_base.specs.declared.limits.TheConstants.{KOIDS}
+use Rattle.vm_model.specs.declared.names.Target.{Target}
+use Rattle.vm_model.specs.Naming.Names.{Lineage, is_named, is_parent, has_parent, child_count, lineage_without, is_of}
+use Rattle.vm_base.specs.declared.limits.TheConstants.{KOIDS, NAMES}
 use Rattle.vmo_table.specs.declared.vmos.Vmo.{Vmo}
 use Rattle.vmo_table.specs.Vmos.{koid_number, lineage_of_vmo, lineages, adopted, vmos_without, is_held, settled}
 use Rattle.vmo_table.specs.Table.{parent_of, Settles}
 use Rattle.vmo_table.specs.TableFields.{AreRelated, HasNames, AreKept}
-use Rattle.vmo_table.proofs.RelatedLaws.{is_named-counted, is_parent_found, child_count_lt, child_counts, no_child, child_count-left, child_count-left_other, AreRelated-left}
+use Rattle.vmo_table.proofs.RelatedLaws.{is_parent_found, child_count_lt, child_counts, no_child, child_count-left, child_count-left_other, AreRelated-left}
 use Rattle.vmo_table.proofs.NamedLaws.{HasNames-kept}
 use Rattle.vmo_table.proofs.VmosLaws.{lineages_found, lineages-adopted, adopted_cases, lineages-without, without_cases, settled-held, settled-free, free_counts}
 use Rattle.vmo_table.proofs.WrittenLaws.{IsWritten, lineages-is_written, own_children, AreKept-written}
+use Rattle.vm_base.proofs.EntryLaws.{any_entry-count}
+use Rattle.vm_base.specs.Entries.{passes}
 
-module _ (names : ℕ → Option Name) (vmos : ℕ → Option Vmo) (k : ℕ) (old new : Vmo) (is : IsWritten names vmos k old new) where
+module _ (names : ℕ → Option Target) (vmos : ℕ → Option Vmo) (k : ℕ) (old new : Vmo) (is : IsWritten names vmos k old new) where
   abbrev above : Option ℕ
   above = option_map koid_number new.parent
 
@@ -35,9 +38,9 @@ module _ (names : ℕ → Option Name) (vmos : ℕ → Option Vmo) (k : ℕ) (ol
 
   -- a VMO is named where it has names
   named_by : is_named names k ≡ nat_lt 0 new.names
-  named_by = is_named-counted names k ∙ ap (nat_lt 0) (sym is.here.named)
+  named_by = any_entry-count NAMES (is_of k) names ∙ ap (nat_lt 0) (sym is.here.named)
 
-  pub childless : new.children ≡ 0 → (w : ℕ) → has_parent k (lineages vmos w) ≡ false
+  pub childless : new.children ≡ 0 → (w : ℕ) → passes (has_parent k) (lineages vmos w) ≡ false
   childless none = no_child names (lineages vmos) k is.related (sym (own_children names vmos k old new is) ∙ none)
 
   left_related : is_held new ≡ false → AreRelated names left

@@ -8,13 +8,13 @@ use Rattle.std.proofs.lemmas.Option.{same_Some}
 use Rattle.vm_base.specs.declared.names.Koid.{Koid}
 use Rattle.vm_base.specs.Entries.{with_key, without_key}
 use Rattle.vm_model.specs.declared.names.NameKind.TheVariants.{Owner}
-use Rattle.vm_model.specs.Naming.Names.{Name, Lineage, is_named, child_count, lineage_without, is_created, children, may_decommit}
+use Rattle.vm_model.specs.declared.names.Target.{Target}
+use Rattle.vm_model.specs.Naming.Names.{Lineage, is_named, child_count, lineage_without, is_created, children, may_decommit}
 use Rattle.vm_base.specs.declared.limits.TheConstants.{NAMES, KOIDS}
-use Rattle.vmo_table.specs.declared.target.Target.{Target}
 use Rattle.vmo_table.specs.declared.vmos.Vmo.{Vmo}
 use Rattle.vmo_table.specs.declared.vmo_table.VmoTable.TheInside.{Inside}
 use Rattle.vmo_table.specs.Vmos.{koid_number, vmos_in, lineage_of_vmo, lineages, keepers_in, more_names, fewer_names}
-use Rattle.vmo_table.specs.Table.{Table, name_of, names_in, names_of, lineage_in, keepers_of, room_of, parent_of, Settles, Closes}
+use Rattle.vmo_table.specs.Table.{Table, names_in, names_of, lineage_in, keepers_of, room_of, parent_of, Settles, Closes}
 use Rattle.vmo_table.specs.TableFields.{table_of, HasNames, IsTable}
 use Rattle.vmo_table.proofs.VmosLaws.{lineages-none}
 use Rattle.vmo_table.proofs.EntryLaws.{vmo_at, target_at, vmos_in-is, names_in_found, vmo_there, lineage_at, target_there}
@@ -38,7 +38,7 @@ parent_at (Some koid) Q h p e = subst Q (same_Some koid.0 p e) h
 -- a VMO may be entered
 pub enters : (a : Inside) (now : Table) (name : ℕ) (t : Target) (vmo : Vmo) → table_of a ≡ now → IsTable a → names_of now name ≡ None → lineage_in now t.koid.0 ≡ None →
     IfSome vmo.parent (λ p. (p.0 < t.koid.0) × IsSome (lineage_in now p.0)) → name ≤ 4294967295 → t.koid.0 < KOIDS → t.kind ≡ Owner → vmo.names ≡ 1 → vmo.slices ≡ 0 → vmo.references ≡ 0 → vmo.children ≡ 0 →
-    Enters (names_in a.names.entries) (vmos_in a.vmos.entries) name (name_of t) vmo
+    Enters (names_in a.names.entries) (vmos_in a.vmos.entries) name t vmo
 enters a now name t vmo view table no_name no_koid parent low small owns one no_slice no_reference none = record {
   kept = table.kept;
   name_free = ap (λ (x : Table). names_of x name) view ∙ no_name;
@@ -72,7 +72,7 @@ counts_of a v vmo table found =
 
 -- so another name may stand for it
 pub aliases : (a : Inside) (now : Table) (name : ℕ) (t : Target) (vmo : Vmo) → table_of a ≡ now → IsTable a → names_of now name ≡ None → name ≤ 4294967295 → vmo_at a.vmos.entries t.koid.0 ≡ Some vmo →
-    IsAliased (names_in a.names.entries) (vmos_in a.vmos.entries) name (name_of t) vmo
+    IsAliased (names_in a.names.entries) (vmos_in a.vmos.entries) name t vmo
 aliases a now name t vmo view table no_name low found = record {
   kept = table.kept;
   name_free = ap (λ (x : Table). names_of x name) view ∙ no_name;
@@ -106,11 +106,11 @@ open_there a now name view h = target_there a.names.entries name (subst (λ (x :
 
 -- its VMO is in the map of VMOs
 pub held_there : (a : Inside) (name : ℕ) (t : Target) → IsTable a → target_at a.names.entries name ≡ Some t → IsSome (vmo_at a.vmos.entries t.koid.0)
-held_there a name t table found = vmo_there a.vmos.entries t.koid.0 (table.kept.related.held name (name_of t) (names_in_found a.names.entries name t found))
+held_there a name t table found = vmo_there a.vmos.entries t.koid.0 (table.kept.related.held name t (names_in_found a.names.entries name t found))
 
 -- so the name stands for the VMO
 pub open_in : (a : Inside) (name : ℕ) (t : Target) (vmo : Vmo) → IsTable a → target_at a.names.entries name ≡ Some t → vmo_at a.vmos.entries t.koid.0 ≡ Some vmo →
-    IsOpenIn (names_in a.names.entries) (vmos_in a.vmos.entries) name (name_of t) vmo
+    IsOpenIn (names_in a.names.entries) (vmos_in a.vmos.entries) name t vmo
 open_in a name t vmo table found there = record {
   kept = table.kept;
   name = names_in_found a.names.entries name t found;
@@ -121,17 +121,17 @@ open_in a name t vmo table found there = record {
 
 -- by a name that is added
 pub aliasing : (a : Inside) (now : Table) (name : ℕ) (t : Target) (vmo more : Vmo) → table_of a ≡ now → IsTable a → names_of now name ≡ None → name ≤ 4294967295 → vmo_at a.vmos.entries t.koid.0 ≡ Some vmo →
-    more ≡ more_names t.kind vmo → IsWritten (with_key (names_in a.names.entries) name (name_of t)) (vmos_in a.vmos.entries) t.koid.0 vmo more
+    more ≡ more_names t.kind vmo → IsWritten (with_key (names_in a.names.entries) name t) (vmos_in a.vmos.entries) t.koid.0 vmo more
 aliasing a now name t vmo more view table no_name low found is =
-    subst (λ (x : Vmo). IsWritten (with_key (names_in a.names.entries) name (name_of t)) (vmos_in a.vmos.entries) t.koid.0 vmo x) (sym is)
-    (IsWritten-aliased (names_in a.names.entries) (vmos_in a.vmos.entries) name (name_of t) vmo (aliases a now name t vmo view table no_name low found))
+    subst (λ (x : Vmo). IsWritten (with_key (names_in a.names.entries) name t) (vmos_in a.vmos.entries) t.koid.0 vmo x) (sym is)
+    (IsWritten-aliased (names_in a.names.entries) (vmos_in a.vmos.entries) name t vmo (aliases a now name t vmo view table no_name low found))
 
 -- by a name that is closed
 pub closing : (a : Inside) (name : ℕ) (t : Target) (vmo fewer : Vmo) → IsTable a → target_at a.names.entries name ≡ Some t → vmo_at a.vmos.entries t.koid.0 ≡ Some vmo →
     fewer ≡ fewer_names t.kind vmo → IsWritten (without_key (names_in a.names.entries) name) (vmos_in a.vmos.entries) t.koid.0 vmo fewer
 closing a name t vmo fewer table found there is =
     subst (λ (x : Vmo). IsWritten (without_key (names_in a.names.entries) name) (vmos_in a.vmos.entries) t.koid.0 vmo x) (sym is)
-    (IsWritten-closed (names_in a.names.entries) (vmos_in a.vmos.entries) name (name_of t) vmo (open_in a name t vmo table found there))
+    (IsWritten-closed (names_in a.names.entries) (vmos_in a.vmos.entries) name t vmo (open_in a name t vmo table found there))
 
 -- by keepers that come or go
 pub keeping : (a : Inside) (v : ℕ) (vmo : Vmo) (keepers : ℕ) → IsTable a → vmo_at a.vmos.entries v ≡ Some vmo → IsWritten (names_in a.names.entries) (vmos_in a.vmos.entries) v vmo (with_keepers keepers vmo)
@@ -152,25 +152,25 @@ keepers_unknown a now v view none =
 -- ---- what settling a VMO of the table says
 
 -- said of other names, keepers and lineages, which are the same
-pub settles_same : (a : Inside) (now : Table) (names names2 : ℕ → Option Name) (keepers keepers2 v : ℕ) (new new2 : ℕ → Option Lineage) (answer : Option Koid) → table_of a ≡ now → names2 ≡ names → keepers2 ≡ keepers → new2 ≡ new →
+pub settles_same : (a : Inside) (now : Table) (names names2 : ℕ → Option Target) (keepers keepers2 v : ℕ) (new new2 : ℕ → Option Lineage) (answer : Option Koid) → table_of a ≡ now → names2 ≡ names → keepers2 ≡ keepers → new2 ≡ new →
     Settles names keepers v (lineages (vmos_in a.vmos.entries)) new answer → Settles names2 keepers2 v (lineage_in now) new2 answer
 settles_same a now names names2 keepers keepers2 v new new2 answer view same_names same_keepers same_new settles =
     subst (λ (x : Table). Settles names2 keepers2 v (lineage_in x) new2 answer) view
-    (subst (λ (m : ℕ → Option Name). Settles m keepers2 v (lineages (vmos_in a.vmos.entries)) new2 answer) (sym same_names)
+    (subst (λ (m : ℕ → Option Target). Settles m keepers2 v (lineages (vmos_in a.vmos.entries)) new2 answer) (sym same_names)
     (subst (λ (k : ℕ). Settles names k v (lineages (vmos_in a.vmos.entries)) new2 answer) (sym same_keepers)
     (subst (λ (l : ℕ → Option Lineage). Settles names keepers v (lineages (vmos_in a.vmos.entries)) l answer) (sym same_new) settles)))
 
 -- closing a name settles its VMO
-pub closes_now : (a : Inside) (now : Table) (name : ℕ) (t : Target) (after : ℕ → Option Name) (new : ℕ → Option Lineage) (answer : Option Koid) → table_of a ≡ now → target_at a.names.entries name ≡ Some t →
+pub closes_now : (a : Inside) (now : Table) (name : ℕ) (t : Target) (after : ℕ → Option Target) (new : ℕ → Option Lineage) (answer : Option Koid) → table_of a ≡ now → target_at a.names.entries name ≡ Some t →
     Settles after (keepers_of now t.koid.0) t.koid.0 (lineage_in now) new answer → Closes (names_of now) after (keepers_of now) (lineage_in now) new name answer
 closes_now a now name t after new answer view found settles = λ s e.
-    let same = same_Some (name_of t) s (sym (ap (λ (x : Table). names_of x name) (sym view) ∙ names_in_found a.names.entries name t found) ∙ e) in
-    subst (λ (x : Name). Settles after (keepers_of now x.koid) x.koid (lineage_in now) new answer) same settles
+    let same = same_Some t s (sym (ap (λ (x : Table). names_of x name) (sym view) ∙ names_in_found a.names.entries name t found) ∙ e) in
+    subst (λ (x : Target). Settles after (keepers_of now x.koid.0) x.koid.0 (lineage_in now) new answer) same settles
 
 -- ---- for callers
 
 -- a VMO that is settled stays or leaves
-settles_either : {P : Type 0} (names : ℕ → Option Name) (keepers v : ℕ) (old new : ℕ → Option Lineage) (answer : Option Koid) → Settles names keepers v old new answer → ((answer ≡ None) × (new ≡ old) → P) →
+settles_either : {P : Type 0} (names : ℕ → Option Target) (keepers v : ℕ) (old new : ℕ → Option Lineage) (answer : Option Koid) → Settles names keepers v old new answer → ((answer ≡ None) × (new ≡ old) → P) →
     ((answer ≡ Some (record { 0 = v })) × (new ≡ lineage_without old v (parent_of (old v))) → P) → P
 settles_either names keepers v old new answer settles stays leaves = elim (cases_Bool (is_named names v)) [
   | inl named ↦ stays (settles.stays (inl named))
@@ -181,13 +181,13 @@ settles_either names keepers v old new answer settles stays leaves = elim (cases
 ]
 
 -- settling makes no VMO
-pub settles-unknown : (names : ℕ → Option Name) (keepers v : ℕ) (old new : ℕ → Option Lineage) (answer : Option Koid) → Settles names keepers v old new answer → (w : ℕ) → old w ≡ None → new w ≡ None
+pub settles-unknown : (names : ℕ → Option Target) (keepers v : ℕ) (old new : ℕ → Option Lineage) (answer : Option Koid) → Settles names keepers v old new answer → (w : ℕ) → old w ≡ None → new w ≡ None
 settles-unknown names keepers v old new answer settles w none = settles_either names keepers v old new answer settles
     (λ stays. ap (λ (m : ℕ → Option Lineage). m w) stays.1 ∙ none)
     (λ left. ap (λ (m : ℕ → Option Lineage). m w) left.1 ∙ left_unknown old v (parent_of (old v)) w none)
 
 -- and all but the one that is answered stay
-pub settles-others : (names : ℕ → Option Name) (keepers v : ℕ) (old new : ℕ → Option Lineage) (answer : Option Koid) (koid : Koid) → Settles names keepers v old new answer → answer ≡ Some koid → (w : ℕ) → w ≢ koid.0 → IsSome (old w) → IsSome (new w)
+pub settles-others : (names : ℕ → Option Target) (keepers v : ℕ) (old new : ℕ → Option Lineage) (answer : Option Koid) (koid : Koid) → Settles names keepers v old new answer → answer ≡ Some koid → (w : ℕ) → w ≢ koid.0 → IsSome (old w) → IsSome (new w)
 settles-others names keepers v old new answer koid settles is w apart there = settles_either names keepers v old new answer settles
     (λ stays. ap (λ (m : ℕ → Option Lineage). is_some (m w)) stays.1 ∙ there)
     (λ left.
@@ -195,7 +195,7 @@ settles-others names keepers v old new answer koid settles is w apart there = se
     ap (λ (m : ℕ → Option Lineage). is_some (m w)) left.1 ∙ left-stays old v (parent_of (old v)) w (λ e. apart (e ∙ its)) there)
 
 -- and where no VMO is answered, nothing changes
-pub settles-none : (names : ℕ → Option Name) (keepers v : ℕ) (old new : ℕ → Option Lineage) (answer : Option Koid) → Settles names keepers v old new answer → answer ≡ None → (w : ℕ) → new w ≡ old w
+pub settles-none : (names : ℕ → Option Target) (keepers v : ℕ) (old new : ℕ → Option Lineage) (answer : Option Koid) → Settles names keepers v old new answer → answer ≡ None → (w : ℕ) → new w ≡ old w
 settles-none names keepers v old new answer settles is w = settles_either names keepers v old new answer settles
     (λ stays. ap (λ (m : ℕ → Option Lineage). m w) stays.1)
     (λ left. absurd (let it = left.0 in cc))
@@ -203,18 +203,18 @@ settles-none names keepers v old new answer settles is w = settles_either names 
 -- the same, where a name is closed
 module _ (old new : Table) (n : ℕ) (answer : Option Koid) (closes : Closes (names_of old) (names_of new) (keepers_of old) (lineage_in old) (lineage_in new) n answer) (there : IsSome (names_of old n)) where
   -- the name was open
-  name : (t : Name) × (names_of old n ≡ Some t)
+  name : (t : Target) × (names_of old n ≡ Some t)
   name = some_is (names_of old n) there
 
   -- its VMO is settled
-  closes-settles : Settles (names_of new) (keepers_of old name.0.koid) name.0.koid (lineage_in old) (lineage_in new) answer
+  closes-settles : Settles (names_of new) (keepers_of old name.0.koid.0) name.0.koid.0 (lineage_in old) (lineage_in new) answer
   closes-settles = closes name.0 name.1
 
   pub closes-unknown : (v : ℕ) → lineage_in old v ≡ None → lineage_in new v ≡ None
-  closes-unknown = settles-unknown (names_of new) (keepers_of old name.0.koid) name.0.koid (lineage_in old) (lineage_in new) answer closes-settles
+  closes-unknown = settles-unknown (names_of new) (keepers_of old name.0.koid.0) name.0.koid.0 (lineage_in old) (lineage_in new) answer closes-settles
 
   pub closes-others : (koid : Koid) → answer ≡ Some koid → (v : ℕ) → v ≢ koid.0 → IsSome (lineage_in old v) → IsSome (lineage_in new v)
-  closes-others koid = settles-others (names_of new) (keepers_of old name.0.koid) name.0.koid (lineage_in old) (lineage_in new) answer koid closes-settles
+  closes-others koid = settles-others (names_of new) (keepers_of old name.0.koid.0) name.0.koid.0 (lineage_in old) (lineage_in new) answer koid closes-settles
 
   pub closes-none : answer ≡ None → (v : ℕ) → lineage_in new v ≡ lineage_in old v
-  closes-none = settles-none (names_of new) (keepers_of old name.0.koid) name.0.koid (lineage_in old) (lineage_in new) answer closes-settles
+  closes-none = settles-none (names_of new) (keepers_of old name.0.koid.0) name.0.koid.0 (lineage_in old) (lineage_in new) answer closes-settles

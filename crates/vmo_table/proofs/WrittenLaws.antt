@@ -2,7 +2,8 @@
 use Rattle.std.proofs.Common.{◌≡◌, ◌≢◌, ℕ, ◌<◌, ◌≤◌, Option, None, Some, is_some, refl, sym, ap, subst, ◌∙◌, inl, inr}
 use Rattle.vm_base.specs.Entries.{with_key, without_key}
 use Rattle.vm_model.specs.declared.names.NameKind.TheVariants.{Slice, Reference}
-use Rattle.vm_model.specs.Naming.Names.{Name, Lineage, child_count}
+use Rattle.vm_model.specs.declared.names.Target.{Target}
+use Rattle.vm_model.specs.Naming.Names.{Lineage, child_count}
 use Rattle.vm_base.specs.declared.limits.TheConstants.{NAMES}
 use Rattle.vmo_table.specs.declared.vmos.Vmo.{Vmo}
 use Rattle.vmo_table.specs.Vmos.{lineage_of_vmo, lineages, kind_bit, more_names, fewer_names}
@@ -13,7 +14,7 @@ use Rattle.vmo_table.proofs.NamedLaws.{HasNames-at, HasNames-more, HasNames-more
 use Rattle.vmo_table.proofs.VmosLaws.{lineages_found, lineages-written}
 
 -- A VMO of the table gets another value, which has the names that stand for it now. The other VMOs have theirs.
-pub record IsWritten (names : ℕ → Option Name) (vmos : ℕ → Option Vmo) (k : ℕ) (old new : Vmo) : Type 0 where
+pub record IsWritten (names : ℕ → Option Target) (vmos : ℕ → Option Vmo) (k : ℕ) (old new : Vmo) : Type 0 where
   pub related : AreRelated names (lineages vmos)
   pub found : vmos k ≡ Some old
   pub lineage : lineage_of_vmo new ≡ lineage_of_vmo old
@@ -22,7 +23,7 @@ pub record IsWritten (names : ℕ → Option Name) (vmos : ℕ → Option Vmo) (
   pub others : (v : ℕ) (vmo : Vmo) → k ≢ v → vmos v ≡ Some vmo → HasNames names v vmo
   pub counted : (v : ℕ) (vmo : Vmo) → vmos v ≡ Some vmo → vmo.children ≡ child_count (lineages vmos) v
 
-module _ (names : ℕ → Option Name) (vmos : ℕ → Option Vmo) (k : ℕ) (old new : Vmo) (is : IsWritten names vmos k old new) where
+module _ (names : ℕ → Option Target) (vmos : ℕ → Option Vmo) (k : ℕ) (old new : Vmo) (is : IsWritten names vmos k old new) where
   pub lineages-is_written : lineages (with_key vmos k new) ≡ lineages vmos
   lineages-is_written = lineages-written vmos k old new is.found is.lineage
 
@@ -51,23 +52,23 @@ module _ (names : ℕ → Option Name) (vmos : ℕ → Option Vmo) (k : ℕ) (ol
 -- ---- a name is added
 
 -- A name that is not open, for a VMO of the table.
-pub record IsAliased (names : ℕ → Option Name) (vmos : ℕ → Option Vmo) (n : ℕ) (t : Name) (vmo : Vmo) : Type 0 where
+pub record IsAliased (names : ℕ → Option Target) (vmos : ℕ → Option Vmo) (n : ℕ) (t : Target) (vmo : Vmo) : Type 0 where
   pub kept : AreKept names vmos
   pub name_free : names n ≡ None
   pub name_low : n < NAMES
-  pub found : vmos t.koid ≡ Some vmo
+  pub found : vmos t.koid.0 ≡ Some vmo
 
-module _ (names : ℕ → Option Name) (vmos : ℕ → Option Vmo) (n : ℕ) (t : Name) (vmo : Vmo) (aliased : IsAliased names vmos n t vmo) where
+module _ (names : ℕ → Option Target) (vmos : ℕ → Option Vmo) (n : ℕ) (t : Target) (vmo : Vmo) (aliased : IsAliased names vmos n t vmo) where
   pub may_name : (vmo.names ≤ NAMES) × (vmo.slices ≤ NAMES) × (vmo.references ≤ NAMES)
-  may_name = names_fit names t.koid vmo (aliased.kept.counted.named t.koid vmo aliased.found)
+  may_name = names_fit names t.koid.0 vmo (aliased.kept.counted.named t.koid.0 vmo aliased.found)
 
-  pub IsWritten-aliased : IsWritten (with_key names n t) vmos t.koid vmo (more_names t.kind vmo)
+  pub IsWritten-aliased : IsWritten (with_key names n t) vmos t.koid.0 vmo (more_names t.kind vmo)
   IsWritten-aliased = record {
-    related = AreRelated-aliased names (lineages vmos) n t aliased.kept.related aliased.name_low (ap is_some (lineages_found vmos t.koid vmo aliased.found));
+    related = AreRelated-aliased names (lineages vmos) n t aliased.kept.related aliased.name_low (ap is_some (lineages_found vmos t.koid.0 vmo aliased.found));
     found = aliased.found;
     lineage = refl;
     children = refl;
-    here = HasNames-more names n t aliased.name_low aliased.name_free vmo (aliased.kept.counted.named t.koid vmo aliased.found);
+    here = HasNames-more names n t aliased.name_low aliased.name_free vmo (aliased.kept.counted.named t.koid.0 vmo aliased.found);
     others = λ v x apart e. HasNames-more_other names n t aliased.name_low aliased.name_free v x apart (aliased.kept.counted.named v x e);
     counted = aliased.kept.counted.children;
   }
@@ -75,25 +76,25 @@ module _ (names : ℕ → Option Name) (vmos : ℕ → Option Vmo) (n : ℕ) (t 
 -- ---- a name is closed
 
 -- A name that is open stands for a VMO of the table.
-pub record IsOpenIn (names : ℕ → Option Name) (vmos : ℕ → Option Vmo) (n : ℕ) (t : Name) (vmo : Vmo) : Type 0 where
+pub record IsOpenIn (names : ℕ → Option Target) (vmos : ℕ → Option Vmo) (n : ℕ) (t : Target) (vmo : Vmo) : Type 0 where
   pub kept : AreKept names vmos
   pub name : names n ≡ Some t
-  pub found : vmos t.koid ≡ Some vmo
+  pub found : vmos t.koid.0 ≡ Some vmo
 
-module _ (names : ℕ → Option Name) (vmos : ℕ → Option Vmo) (n : ℕ) (t : Name) (vmo : Vmo) (open_ : IsOpenIn names vmos n t vmo) where
+module _ (names : ℕ → Option Target) (vmos : ℕ → Option Vmo) (n : ℕ) (t : Target) (vmo : Vmo) (open_ : IsOpenIn names vmos n t vmo) where
   low : n < NAMES
   low = open_.kept.related.names_below n (ap is_some open_.name)
 
   pub name_counted : (1 ≤ vmo.names) × (kind_bit Slice t.kind ≤ vmo.slices) × (kind_bit Reference t.kind ≤ vmo.references)
-  name_counted = counts_fit names n t low open_.name vmo (open_.kept.counted.named t.koid vmo open_.found)
+  name_counted = counts_fit names n t low open_.name vmo (open_.kept.counted.named t.koid.0 vmo open_.found)
 
-  pub IsWritten-closed : IsWritten (without_key names n) vmos t.koid vmo (fewer_names t.kind vmo)
+  pub IsWritten-closed : IsWritten (without_key names n) vmos t.koid.0 vmo (fewer_names t.kind vmo)
   IsWritten-closed = record {
     related = AreRelated-closed names (lineages vmos) n open_.kept.related;
     found = open_.found;
     lineage = refl;
     children = refl;
-    here = HasNames-fewer names n t low open_.name vmo (open_.kept.counted.named t.koid vmo open_.found);
+    here = HasNames-fewer names n t low open_.name vmo (open_.kept.counted.named t.koid.0 vmo open_.found);
     others = λ v x apart e. HasNames-fewer_other names n t low open_.name v x apart (open_.kept.counted.named v x e);
     counted = open_.kept.counted.children;
   }
@@ -104,7 +105,7 @@ module _ (names : ℕ → Option Name) (vmos : ℕ → Option Vmo) (n : ℕ) (t 
 abbrev pub with_keepers : ℕ → Vmo → Vmo
 with_keepers keepers vmo = record vmo { keepers = keepers }
 
-pub IsWritten-kept : (names : ℕ → Option Name) (vmos : ℕ → Option Vmo) (k : ℕ) (vmo : Vmo) (keepers : ℕ) → AreKept names vmos → vmos k ≡ Some vmo → IsWritten names vmos k vmo (with_keepers keepers vmo)
+pub IsWritten-kept : (names : ℕ → Option Target) (vmos : ℕ → Option Vmo) (k : ℕ) (vmo : Vmo) (keepers : ℕ) → AreKept names vmos → vmos k ≡ Some vmo → IsWritten names vmos k vmo (with_keepers keepers vmo)
 IsWritten-kept names vmos k vmo keepers kept found =
     let has = kept.counted.named k vmo found in
     record {

@@ -1,14 +1,13 @@
 -- The table of names and VMOs as plain lists, and what it is to its callers: a map from names, a map from koids, and room.
 use Rattle.std.specs.Prelude.{◌≡◌, ℕ, ◌<◌, true, false, ◌==◌, ◌⊎◌, List, Option, None, Some}
-use Rattle.std.specs.Option.{option_map}
 use Rattle.std.specs.Map.{lookup}
 use Rattle.vm_base.specs.declared.names.Koid.{Koid}
 use Rattle.vm_base.specs.declared.names.VmoName.{VmoName}
 use Rattle.vm_model.specs.Contents.Content.{Content}
-use Rattle.vm_model.specs.Naming.Names.{Name, Lineage, is_named, lineage_without}
+use Rattle.vm_model.specs.declared.names.Target.{Target}
+use Rattle.vm_model.specs.Naming.Names.{Lineage, is_named, lineage_without}
 use Rattle.vm_model.specs.Naming.Pins.{Pin, pin_count}
 use Rattle.vm_model.specs.Machine.State.{State}
-use Rattle.vmo_table.specs.declared.target.Target.{Target}
 use Rattle.vmo_table.specs.declared.vmos.Vmo.{Vmo}
 use Rattle.vmo_table.specs.Vmos.{vmos_in, lineages, keepers_in}
 
@@ -18,16 +17,12 @@ pub record Table : Type 0 where
   pub vmos : List (Koid × Vmo)
   pub room : ℕ
 
--- what a name stands for, in plain numbers
-abbrev pub name_of : Target → Name
-name_of t = record { koid = t.koid.0; first = t.first; limit = t.limit; kind = t.kind; may_write = t.may_write; may_resize = t.may_resize }
-
 -- entries of names, as a map from numbers
-unfoldable pub names_in : List (VmoName × Target) → ℕ → Option Name
-names_in entries n = option_map name_of (lookup (λ (name : VmoName). n == name.0) entries)
+unfoldable pub names_in : List (VmoName × Target) → ℕ → Option Target
+names_in entries n = lookup (λ (name : VmoName). n == name.0) entries
 
 -- what the names that are open stand for
-abbrev pub names_of : Table → ℕ → Option Name
+abbrev pub names_of : Table → ℕ → Option Target
 names_of t = names_in t.names
 
 -- what is kept of each VMO
@@ -57,10 +52,10 @@ parent_of (Some l) = l.parent
 
 -- What becomes of the VMO v once something that kept it is gone, where it has these names and so many keepers left: nothing, where
 -- something keeps it still. Else it leaves with its koid as the answer, and its children get its parent.
-pub record Settles (names : ℕ → Option Name) (keepers v : ℕ) (old new : ℕ → Option Lineage) (answer : Option Koid) : Type 0 where
+pub record Settles (names : ℕ → Option Target) (keepers v : ℕ) (old new : ℕ → Option Lineage) (answer : Option Koid) : Type 0 where
   pub stays : (is_named names v ≡ true) ⊎ (0 < keepers) → (answer ≡ None) × (new ≡ old)
   pub leaves : is_named names v ≡ false → keepers ≡ 0 → (answer ≡ Some (record { 0 = v })) × (new ≡ lineage_without old v (parent_of (old v)))
 
 -- Closing the name n settles what becomes of its VMO
-abbrev pub Closes : (ℕ → Option Name) → (ℕ → Option Name) → (ℕ → ℕ) → (ℕ → Option Lineage) → (ℕ → Option Lineage) → ℕ → Option Koid → Type 0
-Closes names after keepers old new n answer = (t : Name) → names n ≡ Some t → Settles after (keepers t.koid) t.koid old new answer
+abbrev pub Closes : (ℕ → Option Target) → (ℕ → Option Target) → (ℕ → ℕ) → (ℕ → Option Lineage) → (ℕ → Option Lineage) → ℕ → Option Koid → Type 0
+Closes names after keepers old new n answer = (t : Target) → names n ≡ Some t → Settles after (keepers t.koid.0) t.koid.0 old new answer

@@ -1,9 +1,10 @@
 -- How the fields of the table are seen, and what holds of them.
 use Rattle.std.specs.Prelude.{◌≡◌, ℕ, ◌<◌, min, Option, Some, IsSome}
 use Rattle.std.specs.HashMap.{spare}
-use Rattle.vm_base.specs.Search.{count_below}
+use Rattle.vm_base.specs.Entries.{entry_count}
 use Rattle.vm_model.specs.declared.names.NameKind.TheVariants.{Slice, Reference}
-use Rattle.vm_model.specs.Naming.Names.{Name, Lineage, carries, names_as, child_count}
+use Rattle.vm_model.specs.declared.names.Target.{Target}
+use Rattle.vm_model.specs.Naming.Names.{Lineage, is_of, names_as, child_count}
 use Rattle.vm_base.specs.declared.limits.TheConstants.{NAMES, KOIDS}
 use Rattle.vmo_table.specs.declared.vmos.Vmo.{Vmo}
 use Rattle.vmo_table.specs.declared.vmo_table.VmoTable.TheInside.{Inside}
@@ -18,29 +19,29 @@ table_of a = record {
 }
 
 -- how many names stand for the VMO v
-unfoldable pub name_count : (ℕ → Option Name) → ℕ → ℕ
-name_count names v = count_below NAMES (λ n. carries v (names n))
+abbrev pub name_count : (ℕ → Option Target) → ℕ → ℕ
+name_count names v = entry_count NAMES (is_of v) names
 
 -- Each name stands for a VMO of the table, and a parent is in the table and older. Names and
 -- koids are as small as NAMES and KOIDS say.
-pub record AreRelated (names : ℕ → Option Name) (lineage : ℕ → Option Lineage) : Type 0 where
+pub record AreRelated (names : ℕ → Option Target) (lineage : ℕ → Option Lineage) : Type 0 where
   pub names_below : (n : ℕ) → IsSome (names n) → n < NAMES
   pub koids_below : (v : ℕ) → IsSome (lineage v) → v < KOIDS
-  pub held : (n : ℕ) (t : Name) → names n ≡ Some t → IsSome (lineage t.koid)
+  pub held : (n : ℕ) (t : Target) → names n ≡ Some t → IsSome (lineage t.koid.0)
   pub parents : (v p : ℕ) (l : Lineage) → lineage v ≡ Some l → l.parent ≡ Some p → (p < v) × IsSome (lineage p)
 
 -- The VMO v has as many names as are counted, and as many slices and references among them.
-pub record HasNames (names : ℕ → Option Name) (v : ℕ) (vmo : Vmo) : Type 0 where
+pub record HasNames (names : ℕ → Option Target) (v : ℕ) (vmo : Vmo) : Type 0 where
   pub named : vmo.names ≡ name_count names v
   pub sliced : vmo.slices ≡ names_as Slice names v
   pub referred : vmo.references ≡ names_as Reference names v
 
 -- Each VMO has as many names and children as are counted. One that only keepers keep has no name.
-pub record AreCounted (names : ℕ → Option Name) (vmos : ℕ → Option Vmo) : Type 0 where
+pub record AreCounted (names : ℕ → Option Target) (vmos : ℕ → Option Vmo) : Type 0 where
   pub named : (v : ℕ) (vmo : Vmo) → vmos v ≡ Some vmo → HasNames names v vmo
   pub children : (v : ℕ) (vmo : Vmo) → vmos v ≡ Some vmo → vmo.children ≡ child_count (lineages vmos) v
 
-pub record AreKept (names : ℕ → Option Name) (vmos : ℕ → Option Vmo) : Type 0 where
+pub record AreKept (names : ℕ → Option Target) (vmos : ℕ → Option Vmo) : Type 0 where
   pub related : AreRelated names (lineages vmos)
   pub counted : AreCounted names vmos
 

@@ -11,8 +11,7 @@
 mod vmo_table;
 mod vmos;
 
-pub use vm_model::Target;
-pub use vm_model::{NameKind, Origin};
+pub use vm_model::{NameKind, Origin, Target};
 pub use vmo_table::VmoTable;
 
 #[cfg(test)]

@@ -5,15 +5,14 @@ ghost use Rattle.std.specs.Option.{option_map};
 ghost use Rattle.vm_base.specs.Entries.{with_key, without_key};
 ghost use Rattle.vm_model.specs.Naming.Names.{owner, children, may_decommit};
 ghost use Rattle.vmo_table.specs.Vmos.{koid_number};
-ghost use Rattle.vmo_table.specs.Table.{name_of, names_of, lineage_in, keepers_of, room_of, Settles, Closes};
+ghost use Rattle.vmo_table.specs.Table.{names_of, lineage_in, keepers_of, room_of, Settles, Closes};
 
-use crate::target::Target;
 use crate::vmos::{Vmo, add_name, count_children, settle, take_name, write_back};
 use std::alloc::Global;
 use std::collections::HashMap;
 use std::marker::Model;
 use vm_base::{HostMemory, Koid, VmoName};
-use vm_model::{NameKind, Origin};
+use vm_model::{NameKind, Origin, Target};
 
 /// The names of VMOs, and what is kept of each VMO. No call but `reserve` asks the host for memory.
 #[derive(Drop)]
@@ -118,7 +117,7 @@ impl VmoTable {
         requires koid { IsSome (lineage_in self.old target.koid.0) }
         requires kind { target.kind ≢ NameKind.Owner }
         requires room { 1 ≤ room_of self.old }
-        ensures names { names_of self.new ≡ with_key (names_of self.old) name.0 (name_of target) }
+        ensures names { names_of self.new ≡ with_key (names_of self.old) name.0 target }
         ensures lineage { lineage_in self.new ≡ lineage_in self.old }
         ensures keepers { keepers_of self.new ≡ keepers_of self.old }
     {
@@ -131,7 +130,7 @@ impl VmoTable {
 
     /// What a name stands for. `None` exactly where it is not open.
     pub fn resolve(&self, name: VmoName) -> Option<Target>
-        ensures { option_map name_of result ≡ names_of self.now name.0 }
+        ensures { result ≡ names_of self.now name.0 }
     {
         self.names.get(&name).copied()
     }

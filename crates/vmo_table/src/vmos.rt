@@ -2,7 +2,7 @@
 
 ghost use Rattle.std.specs.Prelude.{◌≡◌, ℕ, ◌+◌, ◌-◌, ◌<◌, ◌≤◌, ◌^◌, if◌then◌else◌, false, true, None, Some};
 ghost use Rattle.std.specs.Option.{option_map};
-ghost use Rattle.vm_base.specs.Entries.{with_key};
+ghost use Rattle.vm_base.specs.Entries.{with_key, passes};
 ghost use Rattle.vm_base.specs.declared.limits.TheConstants.{NAMES};
 ghost use Rattle.vm_model.specs.Naming.Names.{is_parent, has_parent};
 ghost use Rattle.vmo_table.specs.Vmos.{koid_number, vmos_in, lineages, kind_bit, more_names, fewer_names, adopted, koid_after, vmos_without, is_held, settled};
@@ -106,7 +106,7 @@ fn parent_after(gone: Koid, parent: Option<Koid>, old: Option<Koid>) -> Option<K
 /// Takes a VMO out, whose children get its parent. Only a VMO that has children costs a pass over
 /// the table.
 fn take_out(vmos: &mut HashMap<Koid, Vmo>, koid: Koid, parent: Option<Koid>, children: u64)
-    requires { children ≡ 0 → (w : ℕ) → has_parent koid.0 (lineages (vmos_in vmos.old.entries) w) ≡ false }
+    requires { children ≡ 0 → (w : ℕ) → passes (has_parent koid.0) (lineages (vmos_in vmos.old.entries) w) ≡ false }
     ensures { vmos_in vmos.new.entries ≡ vmos_without (vmos_in vmos.old.entries) koid.0 parent }
 {
     if children == 0 {
@@ -123,7 +123,7 @@ fn take_out(vmos: &mut HashMap<Koid, Vmo>, koid: Koid, parent: Option<Koid>, chi
 /// leaves, its children get its parent, and its koid is the answer.
 pub(crate) fn settle(vmos: &mut HashMap<Koid, Vmo>, koid: Koid, vmo: Vmo) -> Option<Koid>
     requires found { (old : Vmo) × (vmos_in vmos.old.entries koid.0 ≡ Some old) }
-    requires childless { vmo.children ≡ 0 → (w : ℕ) → has_parent koid.0 (lineages (vmos_in vmos.old.entries) w) ≡ false }
+    requires childless { vmo.children ≡ 0 → (w : ℕ) → passes (has_parent koid.0) (lineages (vmos_in vmos.old.entries) w) ≡ false }
     requires fits { is_held vmo ≡ false → (v : ℕ) (above : Vmo) → is_parent v (option_map koid_number vmo.parent) ≡ true →
         vmos_without (vmos_in vmos.old.entries) koid.0 vmo.parent v ≡ Some above → (1 ≤ above.children) × (above.children - 1 + vmo.children < 2 ^ 64) }
     ensures vmos { vmos_in vmos.new.entries ≡ settled (vmos_in vmos.old.entries) koid.0 vmo }

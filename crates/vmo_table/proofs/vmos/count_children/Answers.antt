@@ -1,20 +1,20 @@
-use Rattle.std.proofs.Common.{◌≡◌, ℕ, ◌+◌, ◌-◌, ◌<◌, ◌≤◌, ◌^◌, true, List, Option, Some, is_some, refl, sym, ap, ◌∙◌, arith}
+use Rattle.std.proofs.Common.{◌≡◌, ℕ, ◌+◌, ◌-◌, ◌<◌, ◌≤◌, ◌^◌, true, List, Option, Some, is_some, refl, sym, ap, ◌∙◌, arith, ◌==◌}
 use Rattle.std.specs.Option.{option_map}
 use Rattle.std.proofs.lemmas.Bool.{eq-eqb}
 use Rattle.vm_base.specs.declared.names.Koid.{Koid}
 use Rattle.vm_model.specs.Naming.Names.{is_parent}
 use Rattle.vmo_table.specs.declared.vmos.Vmo.{Vmo}
 use Rattle.vmo_table.specs.Vmos.{koid_number, vmos_in, adopted, with_children}
-use Rattle.vmo_table.proofs.RelatedLaws.{is_parent_some}
 use Rattle.vmo_table.proofs.EntryLaws.{vmo_at, vmos_in-is, vmos_in-adopted, adopted-nobody, adopted-absent}
 use Rattle.vmo_table.proofs.vmos.count_children.Goals as goal
+use Rattle.vm_base.proofs.EntryLaws.{passes-some}
 
 -- the counts of the parent that was found fit
 fits : (entries : List (Koid × Vmo)) (parent : Option Koid) (koid : Koid) (vmo : Vmo) (gone come : ℕ) →
     ((v : ℕ) (x : Vmo) → is_parent v (option_map koid_number parent) ≡ true → vmos_in entries v ≡ Some x → (gone ≤ x.children) × (x.children - gone + come < 2 ^ 64)) →
     parent ≡ Some koid → vmo_at entries koid.0 ≡ Some vmo → (gone ≤ vmo.children) × (vmo.children - gone + come < 2 ^ 64)
 fits entries parent koid vmo gone come each is found =
-    each koid.0 vmo (ap (λ (p : Option Koid). is_parent koid.0 (option_map koid_number p)) is ∙ (is_parent_some koid.0 koid.0 ∙ eq-eqb koid.0 koid.0 refl)) (vmos_in-is entries koid.0 ∙ found)
+    each koid.0 vmo (passes-some (λ (p : ℕ). p == koid.0) (option_map koid_number parent) koid.0 (ap (option_map koid_number) is) ∙ eq-eqb koid.0 koid.0 refl) (vmos_in-is entries koid.0 ∙ found)
 
 pub returns-in_default : goal.returns-in_default
 returns-in_default c =

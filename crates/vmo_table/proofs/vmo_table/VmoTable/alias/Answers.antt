@@ -2,7 +2,7 @@ use Rattle.std.proofs.Common.{sym, ap, ◌∙◌}
 use Rattle.vm_base.specs.Entries.{with_key}
 use Rattle.vmo_table.specs.declared.vmos.Vmo.{Vmo}
 use Rattle.vmo_table.specs.Vmos.{lineages, keepers_in}
-use Rattle.vmo_table.specs.Table.{Table, name_of, names_of, lineage_in, keepers_of}
+use Rattle.vmo_table.specs.Table.{Table, names_of, lineage_in, keepers_of}
 use Rattle.vmo_table.proofs.EntryLaws.{names_in-put, from_ok}
 use Rattle.vmo_table.proofs.KeepersLaws.{keepers-same}
 use Rattle.vmo_table.proofs.KeptLaws.{AreKept-same}
@@ -37,7 +37,7 @@ returns-clause-names c =
     let room = rooms c.self.inside c.args.self.now c.self.view_is c.requires.room in
     names_in-put c.self.inside.names.entries c.insert-named.new.self.entries c.args.name.0 c.args.target
     (from_ok c.insert-named.result (c.insert-named.ensures.succeeds room.0) c.insert-named.ensures.updates).0
-    ∙ ap (λ (m : Table). with_key (names_of m) c.args.name.0 (name_of c.args.target)) c.self.view_is
+    ∙ ap (λ (m : Table). with_key (names_of m) c.args.name.0 c.args.target) c.self.view_is
 
 pub returns-clause-lineage : goal.returns-clause-lineage
 returns-clause-lineage c =

@@ -4,10 +4,10 @@ use Rattle.vm_base.specs.declared.names.Koid.{Koid}
 use Rattle.vm_base.specs.Entries.{with_key}
 use Rattle.vm_model.specs.declared.names.NameKind.TheVariants.{Owner}
 use Rattle.vm_model.specs.declared.names.Origin.{Origin}
-use Rattle.vmo_table.specs.declared.target.Target.{Target}
+use Rattle.vm_model.specs.declared.names.Target.{Target}
 use Rattle.vmo_table.specs.declared.vmos.Vmo.{Vmo}
 use Rattle.vmo_table.specs.Vmos.{koid_number, lineage_of_vmo, lineages, keepers_in, adopted}
-use Rattle.vmo_table.specs.Table.{Table, name_of, names_of, lineage_in, keepers_of}
+use Rattle.vmo_table.specs.Table.{Table, names_of, lineage_in, keepers_of}
 use Rattle.vmo_table.proofs.EntryLaws.{names_in-put, vmos_in-put, from_ok}
 use Rattle.vmo_table.proofs.KeepersLaws.{keepers-same, keepers-adopted}
 use Rattle.vmo_table.proofs.KeptLaws.{AreKept-entered, AreKept-same, entered_fits}
@@ -48,7 +48,7 @@ returns-clause-names c =
     let room = rooms c.self.inside c.args.self.now c.self.view_is c.requires.room in
     let named = from_ok c.insert-named.result (c.insert-named.ensures.succeeds room.0) c.insert-named.ensures.updates in
     names_in-put c.self.inside.names.entries c.insert-named.new.self.entries c.args.name.0 to named.0
-    ∙ ap (λ (m : Table). with_key (names_of m) c.args.name.0 (name_of to)) c.self.view_is
+    ∙ ap (λ (m : Table). with_key (names_of m) c.args.name.0 to) c.self.view_is
 
 pub returns-clause-lineage : goal.returns-clause-lineage
 returns-clause-lineage c =
