@@ -3,7 +3,7 @@
 ghost use Rattle.std.specs.Prelude.{◌≡◌, ℕ, Option};
 ghost use Rattle.vm_model.specs.Machine.Attribution.{info_at};
 ghost use Rattle.vm_model.specs.Naming.Pins.{Pin};
-ghost use Rattle.vmo_table.specs.Table.{names_of, name_of, state_with};
+ghost use Rattle.vmo_table.specs.Table.{names_of, state_with};
 ghost use Rattle.vmo_ops.specs.Targets.{AreParts, IsNamed};
 
 use crate::counts::count_held;
@@ -18,8 +18,8 @@ use vmo_table::{Target, VmoTable};
 /// what the store takes to find the least koid that shows a frame.
 pub fn info<P: PageStore>(store: &P, vmos: &VmoTable, target: &Target) -> Info
     requires parts { AreParts (P.content store.now) vmos.now }
-    requires named { IsNamed (names_of vmos.now) (name_of target.now) }
-    ensures { (pins : ℕ → Option Pin) → result ≡ info_at (state_with (P.content store.now) vmos.now pins) (name_of target.now) }
+    requires named { IsNamed (names_of vmos.now) target.now }
+    ensures { (pins : ℕ → Option Pin) → result ≡ info_at (state_with (P.content store.now) vmos.now pins) target.now }
 {
     let counts = count_held(store, target.koid);
     Info {

@@ -13,7 +13,8 @@ use Rattle.vm_model.specs.declared.command.ChildKind.TheVariants.{Slice as Slice
 use Rattle.vm_model.specs.declared.names.NameKind.TheVariants.{Slice}
 use Rattle.vm_model.specs.declared.reply.Reply.TheVariants.{Done, Refused}
 use Rattle.vm_base.specs.Entries.{with_key}
-use Rattle.vm_model.specs.Naming.Names.{Name, Lineage, is_kind}
+use Rattle.vm_model.specs.declared.names.Target.{Target}
+use Rattle.vm_model.specs.Naming.Names.{Lineage, is_kind}
 use Rattle.vm_model.specs.Machine.State.{State, is_open, target_of, koid_of, name_pages, size_of, lineage_of}
 use Rattle.vm_model.specs.Machine.Refusals.{refusals, first_of}
 use Rattle.vm_model.specs.Machine.Step.{slice_of, reference_of, with_alias, Step}
@@ -22,25 +23,25 @@ use Rattle.vmo_ops.proofs.StepRows.{first_of-skip, first_of-hit, Step-refused, S
 
 -- ---- a name more
 
-pub with_alias-is : (s new : State) (name : ℕ) (given target : Name) → new.content ≡ s.content → new.names ≡ with_key s.names name given → given ≡ target → new.lineage ≡ s.lineage → new.pins ≡ s.pins → new ≡ with_alias s name target
+pub with_alias-is : (s new : State) (name : ℕ) (given target : Target) → new.content ≡ s.content → new.names ≡ with_key s.names name given → given ≡ target → new.lineage ≡ s.lineage → new.pins ≡ s.pins → new ≡ with_alias s name target
 unfolding with_alias
 with_alias-is s new name given target content names same lineage pins =
     (λ i. record { content = content i; names = names i; lineage = lineage i; pins = pins i }) ∙ λ i. record s { names = with_key s.names name (same i) }
 
 -- the VMO of a name is in the table, also after a step that keeps the table, and for a name that is the same
-pub known_still : (old new : ℕ → Option Lineage) (given target : Name) → IsSome (old target.koid) → new ≡ old → given ≡ target → IsSome (new given.koid)
-known_still old new given target there kept same = subst (λ (t : Name). IsSome (new t.koid)) (sym same) (subst (λ (f : ℕ → Option Lineage). IsSome (f target.koid)) (sym kept) there)
+pub known_still : (old new : ℕ → Option Lineage) (given target : Target) → IsSome (old target.koid.0) → new ≡ old → given ≡ target → IsSome (new given.koid.0)
+known_still old new given target there kept same = subst (λ (t : Target). IsSome (new t.koid.0)) (sym same) (subst (λ (f : ℕ → Option Lineage). IsSome (f target.koid.0)) (sym kept) there)
 
 -- whether the VMO of a name may change its size, as the table says of the VMO
-pub resizable_at : (s : State) (n : ℕ) (target : Name) (b : Bool) → IsSome (s.lineage target.koid) → s.names n ≡ Some target → IfSome (s.lineage target.koid) (λ l. b ≡ l.resizable) → (lineage_of s (koid_of s n)).resizable ≡ b
+pub resizable_at : (s : State) (n : ℕ) (target : Target) (b : Bool) → IsSome (s.lineage target.koid.0) → s.names n ≡ Some target → IfSome (s.lineage target.koid.0) (λ l. b ≡ l.resizable) → (lineage_of s (koid_of s n)).resizable ≡ b
 resizable_at s n target b there named told =
-    let known = lineage-known s target.koid there in
-    ap (λ (t : Name). (lineage_of s t.koid).resizable) (target_of-at s n target named)
+    let known = lineage-known s target.koid.0 there in
+    ap (λ (t : Target). (lineage_of s t.koid.0).resizable) (target_of-at s n target named)
     ∙ sym (subst (λ (o : Option Lineage). IfSome o (λ l. b ≡ l.resizable)) known told)
 
 -- ---- the steps of a slice
 
-module _ (s : State) (name parent : VmoName) (offset size : ℕ) (resizable no_write : Bool) (target : Name) (named : s.names parent.0 ≡ Some target) (free : is_open s name.0 ≡ false) where
+module _ (s : State) (name parent : VmoName) (offset size : ℕ) (resizable no_write : Bool) (target : Target) (named : s.names parent.0 ≡ Some target) (free : is_open s name.0 ≡ false) where
   slice_wrong : Bool
   slice_wrong = not (offset % PAGE == 0) || (resizable || nat_lt (size_of s parent.0) (offset + rounded size))
 
@@ -76,7 +77,7 @@ module _ (s : State) (name parent : VmoName) (offset size : ℕ) (resizable no_w
     fixed_row = slice_rows ∙ first_of-skip slice_wrong InvalidArgs fixed_rows slice_right
 
     -- what the table says of the VMO
-    module _ (there : IsSome (s.lineage target.koid)) (answer : Bool) (told : IfSome (s.lineage target.koid) (λ l. answer ≡ l.resizable)) where
+    module _ (there : IsSome (s.lineage target.koid.0)) (answer : Bool) (told : IfSome (s.lineage target.koid.0) (λ l. answer ≡ l.resizable)) where
       -- a part of a VMO that may change its size
       pub slice_of_resizable : answer ≡ true → Step s (VmoChild name parent SliceChild offset size resizable no_write) (Refused NotSupported) s
       unfolding fixed_rows
@@ -99,13 +100,13 @@ module _ (s : State) (name parent : VmoName) (offset size : ℕ) (resizable no_w
           refl,
           same
               ∙ (λ i. with_alias s name.0 (slice_of target (e i) (f i) no_write))
-              ∙ ap (λ (t : Name). with_alias s name.0 (slice_of t (offset / PAGE) (rounded size / PAGE) no_write)) (sym (target_of-at s parent.0 target named)),
+              ∙ ap (λ (t : Target). with_alias s name.0 (slice_of t (offset / PAGE) (rounded size / PAGE) no_write)) (sym (target_of-at s parent.0 target named)),
         )
 
 -- ---- the steps of a reference
 
-module _ (s : State) (name parent : VmoName) (offset size : ℕ) (resizable no_write : Bool) (target : Name) (named : s.names parent.0 ≡ Some target) (free : is_open s name.0 ≡ false) where
-  reference_wrong : Name → Bool
+module _ (s : State) (name parent : VmoName) (offset size : ℕ) (resizable no_write : Bool) (target : Target) (named : s.names parent.0 ≡ Some target) (free : is_open s name.0 ≡ false) where
+  reference_wrong : Target → Bool
   reference_wrong t = not (offset == 0 && size == 0) || (resizable && (no_write || not t.may_resize))
 
   kind_rows : List (Bool × Refusal)
@@ -129,7 +130,7 @@ module _ (s : State) (name parent : VmoName) (offset size : ℕ) (resizable no_w
     kind_row = reference_rows ∙ first_of-skip (reference_wrong (target_of s parent.0)) InvalidArgs kind_rows (ap reference_wrong (target_of-at s parent.0 target named) ∙ sym right)
 
     kind_at : (b : Bool) → is_kind Slice target.kind ≡ b → is_kind Slice (target_of s parent.0).kind ≡ b
-    kind_at b e = ap (λ (t : Name). is_kind Slice t.kind) (target_of-at s parent.0 target named) ∙ e
+    kind_at b e = ap (λ (t : Target). is_kind Slice t.kind) (target_of-at s parent.0 target named) ∙ e
 
     -- all of what a slice stands for
     pub reference_of_slice : is_kind Slice target.kind ≡ true → Step s (VmoChild name parent ReferenceChild offset size resizable no_write) (Refused NotSupported) s
@@ -150,5 +151,5 @@ module _ (s : State) (name parent : VmoName) (offset size : ℕ) (resizable no_w
       pub reference_done : (new : State) → new ≡ with_alias s name.0 (reference_of target resizable no_write) → Step s (VmoChild name parent ReferenceChild offset size resizable no_write) Done new
       reference_done new same = Step-done s (VmoChild name parent ReferenceChild offset size resizable no_write) Done new reference_none (
         refl,
-        same ∙ ap (λ (t : Name). with_alias s name.0 (reference_of t resizable no_write)) (sym (target_of-at s parent.0 target named)),
+        same ∙ ap (λ (t : Target). with_alias s name.0 (reference_of t resizable no_write)) (sym (target_of-at s parent.0 target named)),
       )

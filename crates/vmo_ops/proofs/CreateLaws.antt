@@ -14,7 +14,8 @@ use Rattle.vm_model.specs.declared.reply.Reply.TheVariants.{Done, Refused}
 use Rattle.vm_model.specs.Contents.Content.{Content, created}
 use Rattle.vm_model.specs.Contents.Sharing.{snapshotted, page_seen}
 use Rattle.vm_base.specs.Entries.{with_key}
-use Rattle.vm_model.specs.Naming.Names.{Name, owner}
+use Rattle.vm_model.specs.declared.names.Target.{Target}
+use Rattle.vm_model.specs.Naming.Names.{owner}
 use Rattle.vm_model.specs.Naming.Pins.{has_pin}
 use Rattle.vm_model.specs.Machine.State.{State, is_open, koid_of}
 use Rattle.vm_model.specs.Machine.Refusals.{refusals, first_of}
@@ -65,18 +66,18 @@ snapshotted-first c v first start seen pages (inr none) =
       page = λ w p. cond (w == c.next) (same p i) (c.page w p);
     }
 
-with_snapshot-is : (s new : State) (name koid : ℕ) (target : Name) (start first seen pages : ℕ) (resizable no_write : Bool) → koid ≡ s.content.next
-    → seen ≡ seen_pages s.content target start pages → (first ≡ target.first + start) ⊎ (seen ≡ 0) → new.content ≡ snapshotted s.content target.koid first seen pages
-    → new.names ≡ with_key s.names name (owner koid (not no_write) resizable) → new.lineage ≡ with_key s.lineage koid (record { resizable = resizable; origin = Snapshot; parent = Some target.koid })
+with_snapshot-is : (s new : State) (name koid : ℕ) (target : Target) (start first seen pages : ℕ) (resizable no_write : Bool) → koid ≡ s.content.next
+    → seen ≡ seen_pages s.content target start pages → (first ≡ target.first + start) ⊎ (seen ≡ 0) → new.content ≡ snapshotted s.content target.koid.0 first seen pages
+    → new.names ≡ with_key s.names name (owner koid (not no_write) resizable) → new.lineage ≡ with_key s.lineage koid (record { resizable = resizable; origin = Snapshot; parent = Some target.koid.0 })
     → new.pins ≡ s.pins → new ≡ with_snapshot s name target start pages resizable no_write
 unfolding with_snapshot
 with_snapshot-is s new name koid target start first seen pages resizable no_write e saw from content names lineage pins =
-    let place = snapshotted-first s.content target.koid first (target.first + start) seen pages from in
+    let place = snapshotted-first s.content target.koid.0 first (target.first + start) seen pages from in
     (λ i. record { content = (content ∙ place) i; names = names i; lineage = lineage i; pins = pins i })
     ∙ λ i. record s {
-      content = snapshotted s.content target.koid (target.first + start) (saw i) pages;
+      content = snapshotted s.content target.koid.0 (target.first + start) (saw i) pages;
       names = with_key s.names name (owner (e i) (not no_write) resizable);
-      lineage = with_key s.lineage (e i) (record { resizable = resizable; origin = Snapshot; parent = Some target.koid });
+      lineage = with_key s.lineage (e i) (record { resizable = resizable; origin = Snapshot; parent = Some target.koid.0 });
     }
 
 -- arguments that do not contradict each other
@@ -88,8 +89,8 @@ args_fine offset at resizable no_write e f either =
       go (inr h) = ap (λ (b : Bool). b && no_write) h
 
 -- a snapshot whose arguments and size are fine
-module _ (s : State) (name parent : VmoName) (offset size : ℕ) (resizable no_write : Bool) (target : Name) (named : s.names parent.0 ≡ Some target) (free : is_open s name.0 ≡ false)
-    (fine : (not (offset % PAGE == 0) || (resizable && no_write)) ≡ false) (few : offset + rounded size ≤ VMO_PAGES * PAGE) (answer : Bool) (told : answer ≡ has_pin s.pins target.koid) where
+module _ (s : State) (name parent : VmoName) (offset size : ℕ) (resizable no_write : Bool) (target : Target) (named : s.names parent.0 ≡ Some target) (free : is_open s name.0 ≡ false)
+    (fine : (not (offset % PAGE == 0) || (resizable && no_write)) ≡ false) (few : offset + rounded size ≤ VMO_PAGES * PAGE) (answer : Bool) (told : answer ≡ has_pin s.pins target.koid.0) where
   pin_rows : List (Bool × Refusal)
   pin_rows = (has_pin s.pins (koid_of s parent.0), BadState) ∷ []
 
@@ -124,13 +125,13 @@ module _ (s : State) (name parent : VmoName) (offset size : ℕ) (resizable no_w
     -- the snapshot is made, and the name entered
     pub snapshot_done : (new : State) (koid start first seen pages : ℕ) → koid ≡ s.content.next → start ≡ offset / PAGE → pages ≡ rounded size / PAGE
         → seen ≡ seen_pages s.content target start pages → (first ≡ target.first + start) ⊎ (seen ≡ 0)
-        → new.content ≡ snapshotted s.content target.koid first seen pages → new.names ≡ with_key s.names name.0 (owner koid (not no_write) resizable)
-        → new.lineage ≡ with_key s.lineage koid (record { resizable = resizable; origin = Snapshot; parent = Some target.koid }) → new.pins ≡ s.pins
+        → new.content ≡ snapshotted s.content target.koid.0 first seen pages → new.names ≡ with_key s.names name.0 (owner koid (not no_write) resizable)
+        → new.lineage ≡ with_key s.lineage koid (record { resizable = resizable; origin = Snapshot; parent = Some target.koid.0 }) → new.pins ≡ s.pins
         → Step s (VmoChild name parent SnapshotChild offset size resizable no_write) Done new
     snapshot_done new koid start first seen pages e f h saw from content names lineage pins =
         Step-done s (VmoChild name parent SnapshotChild offset size resizable no_write) Done new snapshot_none (
           refl,
           with_snapshot-is s new name.0 koid target start first seen pages resizable no_write e saw from content names lineage pins
               ∙ (λ i. with_snapshot s name.0 target (f i) (h i) resizable no_write)
-              ∙ ap (λ (t : Name). with_snapshot s name.0 t (offset / PAGE) (rounded size / PAGE) resizable no_write) (sym (target_of-at s parent.0 target named)),
+              ∙ ap (λ (t : Target). with_snapshot s name.0 t (offset / PAGE) (rounded size / PAGE) resizable no_write) (sym (target_of-at s parent.0 target named)),
         )

@@ -14,7 +14,8 @@ use Rattle.vm_model.specs.Contents.Content.{Content, is_held, sole}
 use Rattle.vm_model.specs.Contents.Owning.{need}
 use Rattle.vm_model.specs.Contents.Writing.{touched, touched_end}
 use Rattle.vm_model.specs.Contents.Zeroing.{zeroed, is_whole, is_cleared, Zeroes, owned_by_zero}
-use Rattle.vm_model.specs.Naming.Names.{Name, Lineage, may_decommit}
+use Rattle.vm_model.specs.declared.names.Target.{Target}
+use Rattle.vm_model.specs.Naming.Names.{Lineage, may_decommit}
 use Rattle.vm_model.specs.Naming.Pins.{Pin, is_pinned, any_pinned}
 use Rattle.vm_model.specs.Machine.State.{State, is_open, target_of, koid_of, name_pages, size_of, place_of, lineage_of, IsGoodState}
 use Rattle.vm_model.specs.Machine.Refusals.{refusals, first_of}
@@ -96,7 +97,7 @@ module _ (offset len : ℕ) (start : offset % PAGE ≡ 0) (whole : len % PAGE �
 
 -- ---- the steps of a decommit
 
-module _ (s : State) (name : VmoName) (offset len : ℕ) (target : Name) (named : s.names name.0 ≡ Some target) where
+module _ (s : State) (name : VmoName) (offset len : ℕ) (target : Target) (named : s.names name.0 ≡ Some target) where
   -- a page of the range is pinned
   has_pins : Bool
   has_pins = any_pinned s.pins (koid_of s name.0) (place_of s name.0 offset / PAGE) (place_of s name.0 (offset + len) / PAGE)
@@ -118,7 +119,7 @@ module _ (s : State) (name : VmoName) (offset len : ℕ) (target : Name) (named 
   odd_rows = (not (offset % PAGE == 0 && len % PAGE == 0), InvalidArgs) ∷ kept_rows
 
   locked_at : (b : Bool) → target.may_write ≡ b → not (target_of s name.0).may_write ≡ not b
-  locked_at b may = ap (λ (t : Name). not t.may_write) (target_of-at s name.0 target named) ∙ ap not may
+  locked_at b may = ap (λ (t : Target). not t.may_write) (target_of-at s name.0 target named) ∙ ap not may
 
   open_row : first_of (refusals s (VmoDecommit name offset len)) ≡ first_of ((not (target_of s name.0).may_write, AccessDenied) ∷ odd_rows)
   unfolding odd_rows kept_rows keeps_frames past_rows pinned_rows has_pins
@@ -143,7 +144,7 @@ module _ (s : State) (name : VmoName) (offset len : ℕ) (target : Name) (named 
           go (inr odd) = and_right (offset % PAGE == 0) (len % PAGE == 0) (ne_eqb (len % PAGE) 0 odd)
 
     -- a range of whole pages, and what the table says of the VMO
-    module _ (start : offset % PAGE ≡ 0) (whole : len % PAGE ≡ 0) (good : IsGoodState s) (answer : Bool) (told : IfSome (s.lineage target.koid) (λ l. answer ≡ may_decommit s.names s.lineage target.koid l)) where
+    module _ (start : offset % PAGE ≡ 0) (whole : len % PAGE ≡ 0) (good : IsGoodState s) (answer : Bool) (told : IfSome (s.lineage target.koid.0) (λ l. answer ≡ may_decommit s.names s.lineage target.koid.0 l)) where
       kept_row : first_of (refusals s (VmoDecommit name offset len)) ≡ first_of kept_rows
       unfolding odd_rows
       kept_row = write_row ∙ first_of-skip (not (offset % PAGE == 0 && len % PAGE == 0)) InvalidArgs kept_rows
@@ -152,9 +153,9 @@ module _ (s : State) (name : VmoName) (offset len : ℕ) (target : Name) (named 
       kept_at : keeps_frames ≡ not answer
       unfolding keeps_frames
       kept_at =
-          ap (λ (t : Name). not (may_decommit s.names s.lineage t.koid (lineage_of s t.koid))) (target_of-at s name.0 target named)
-          ∙ ap not (sym (subst (λ (o : Option Lineage). IfSome o (λ l. answer ≡ may_decommit s.names s.lineage target.koid l))
-          (lineage-known s target.koid (name_lineage s name.0 target good named)) told))
+          ap (λ (t : Target). not (may_decommit s.names s.lineage t.koid.0 (lineage_of s t.koid.0))) (target_of-at s name.0 target named)
+          ∙ ap not (sym (subst (λ (o : Option Lineage). IfSome o (λ l. answer ≡ may_decommit s.names s.lineage target.koid.0 l))
+          (lineage-known s target.koid.0 (name_lineage s name.0 target good named)) told))
 
       -- a VMO that keeps its frames
       pub decommit_kept : answer ≡ false → Step s (VmoDecommit name offset len) (Refused NotSupported) s
@@ -174,7 +175,7 @@ module _ (s : State) (name : VmoName) (offset len : ℕ) (target : Name) (named 
 
         -- a range inside the name, its place in the VMO, and whether a page of it is found pinned
         module _ (at : ℕ) (placed : IsPlaced s.content target offset len at) (first count : ℕ) (from : first ≡ at / PAGE) (pages : count ≡ len / PAGE)
-            (found : Bool) (is : found ≡ any_pinned s.pins target.koid first (first + count)) where
+            (found : Bool) (is : found ≡ any_pinned s.pins target.koid.0 first (first + count)) where
           pinned_row : first_of (refusals s (VmoDecommit name offset len)) ≡ first_of pinned_rows
           unfolding past_rows
           pinned_row = past_row ∙ first_of-skip (nat_lt (size_of s name.0) (offset + len)) OutOfRange pinned_rows (within_at s name.0 target named (offset + len) placed.range)
@@ -184,8 +185,8 @@ module _ (s : State) (name : VmoName) (offset len : ℕ) (target : Name) (named 
           pins_at =
               let low : (target.first * PAGE + offset) / PAGE ≡ first = omega (arith, placed.place, from) in
               let high : (target.first * PAGE + (offset + len)) / PAGE ≡ first + count = omega (arith, from, pages, start, whole) in
-              ap (λ (t : Name). any_pinned s.pins t.koid ((t.first * PAGE + offset) / PAGE) ((t.first * PAGE + (offset + len)) / PAGE)) (target_of-at s name.0 target named)
-              ∙ (λ i. any_pinned s.pins target.koid (low i) (high i)) ∙ sym is
+              ap (λ (t : Target). any_pinned s.pins t.koid.0 ((t.first * PAGE + offset) / PAGE) ((t.first * PAGE + (offset + len)) / PAGE)) (target_of-at s name.0 target named)
+              ∙ (λ i. any_pinned s.pins target.koid.0 (low i) (high i)) ∙ sym is
 
           -- a page of it is pinned
           pub decommit_pinned : found ≡ true → Step s (VmoDecommit name offset len) (Refused BadState) s
@@ -199,22 +200,22 @@ module _ (s : State) (name : VmoName) (offset len : ℕ) (target : Name) (named 
             no_row = pinned_row ∙ first_of-skip has_pins BadState [] (pins_at ∙ none)
 
             -- the host has too little memory, and the range touches a held page
-            pub decommit_lacks : (t : State) → t ≡ s → 0 < held_touched s.content target.koid at len → Step s (VmoDecommit name offset len) (Refused HostMemory) t
+            pub decommit_lacks : (t : State) → t ≡ s → 0 < held_touched s.content target.koid.0 at len → Step s (VmoDecommit name offset len) (Refused HostMemory) t
             decommit_lacks t same h = Step-lacks s t (VmoDecommit name offset len) no_row
-                (spot s name.0 target named offset at placed.place (λ v a. list_any (is_held s.content v) (touched a len)) ∙ held_touched-any s.content target.koid at len h)
+                (spot s name.0 target named offset at placed.place (λ v a. list_any (is_held s.content v) (touched a len)) ∙ held_touched-any s.content target.koid.0 at len h)
                 same
 
             -- the pages become zero
-            pub decommit_done : (mid new : Content) → mid ≡ s.content → Zeroes mid target.koid (is_pinned s.pins target.koid) at len (touched at len) new → Step s (VmoDecommit name offset len) Done (record s { content = new })
+            pub decommit_done : (mid new : Content) → mid ≡ s.content → Zeroes mid target.koid.0 (is_pinned s.pins target.koid.0) at len (touched at len) new → Step s (VmoDecommit name offset len) Done (record s { content = new })
             decommit_done mid new same zeroes =
                 let first_at : at ≡ target.first * PAGE + offset = placed.place in
                 let end_at : at + len ≡ target.first * PAGE + (offset + len) = omega arith in
                 let on_page : at % PAGE ≡ 0 = omega arith in
-                let all : new ≡ zeroed mid target.koid (at / PAGE) ((at + len) / PAGE) =
-                Zeroes-whole at len on_page whole (is_pinned s.pins target.koid) (none_within at len on_page whole s.pins target.koid first count found from pages is none) target.koid mid new zeroes in
+                let all : new ≡ zeroed mid target.koid.0 (at / PAGE) ((at + len) / PAGE) =
+                Zeroes-whole at len on_page whole (is_pinned s.pins target.koid.0) (none_within at len on_page whole s.pins target.koid.0 first count found from pages is none) target.koid.0 mid new zeroes in
                 Step-done s (VmoDecommit name offset len) Done (record s { content = new }) no_row (
                   refl,
                   ap (λ (c : Content). record s { content = c }) all
-                      ∙ (λ i. record s { content = zeroed (same i) target.koid (first_at i / PAGE) (end_at i / PAGE) })
-                      ∙ ap (λ (t : Name). record s { content = zeroed s.content t.koid ((t.first * PAGE + offset) / PAGE) ((t.first * PAGE + (offset + len)) / PAGE) }) (sym (target_of-at s name.0 target named)),
+                      ∙ (λ i. record s { content = zeroed (same i) target.koid.0 (first_at i / PAGE) (end_at i / PAGE) })
+                      ∙ ap (λ (t : Target). record s { content = zeroed s.content t.koid.0 ((t.first * PAGE + offset) / PAGE) ((t.first * PAGE + (offset + len)) / PAGE) }) (sym (target_of-at s name.0 target named)),
                 )

@@ -13,7 +13,7 @@ use Rattle.vm_model.specs.declared.reply.Reply.TheVariants.{Pins, Refused}
 use Rattle.vm_model.specs.Contents.Content.{used}
 use Rattle.vm_model.specs.Contents.Owning.{OwnsAll, need}
 use Rattle.vm_base.specs.Entries.{with_key}
-use Rattle.vm_model.specs.Naming.Names.{Name}
+use Rattle.vm_model.specs.declared.names.Target.{Target}
 use Rattle.vm_model.specs.Naming.Pins.{Pin}
 use Rattle.vm_model.specs.Machine.State.{State, is_open, name_pages, size_of, place_of}
 use Rattle.vm_model.specs.Contents.Writing.{touched}
@@ -30,10 +30,10 @@ use Rattle.vmo_ops.proofs.FrameLaws.{frames_in}
 abbrev pub IsPinRange : ℕ → ℕ → Type 0
 IsPinRange offset len = (offset % PAGE ≡ 0) × (len % PAGE ≡ 0) × (1 ≤ len) × (len ≤ 256 * PAGE)
 
-module _ (s : State) (pin : PinName) (name : VmoName) (offset len : ℕ) (target : Name) (named : s.names name.0 ≡ Some target) (free : s.pins pin.0 ≡ None) where
+module _ (s : State) (pin : PinName) (name : VmoName) (offset len : ℕ) (target : Target) (named : s.names name.0 ≡ Some target) (free : s.pins pin.0 ≡ None) where
   -- the pin, by what its name stands for
-  abbrev pin_of : Name → Pin
-  pin_of u = record { koid = u.koid; first = (u.first * PAGE + offset) / PAGE; count = len / PAGE }
+  abbrev pin_of : Target → Pin
+  pin_of u = record { koid = u.koid.0; first = (u.first * PAGE + offset) / PAGE; count = len / PAGE }
 
   memory_rows : List (Bool × Refusal)
   memory_rows = (lacks_frames s name.0 (touched (place_of s name.0 offset) len), NoMemory) ∷ []
@@ -99,46 +99,46 @@ module _ (s : State) (pin : PinName) (name : VmoName) (offset len : ℕ) (target
           let n : (target.first * PAGE + offset + len) / PAGE - (target.first * PAGE + offset) / PAGE ≡ count = omega (arith, range.0, range.1, many) in
           touched-pages (target.first * PAGE + offset) len (omega (arith, range.0)) range.1 ∙ (λ i. range_with_len (sym here i) (n i))
 
-      lacks_at : lacks_frames s name.0 (touched (place_of s name.0 offset) len) ≡ nat_lt s.content.frames (used s.content + need s.content target.koid (range_with_len first count))
+      lacks_at : lacks_frames s name.0 (touched (place_of s name.0 offset) len) ≡ nat_lt s.content.frames (used s.content + need s.content target.koid.0 (range_with_len first count))
       lacks_at =
-          ap (λ (t : Name). nat_lt s.content.frames (used s.content + need s.content t.koid (touched (t.first * PAGE + offset) len))) (target_of-at s name.0 target named)
-          ∙ ap (λ (ps : List ℕ). nat_lt s.content.frames (used s.content + need s.content target.koid ps)) pin_pages
+          ap (λ (t : Target). nat_lt s.content.frames (used s.content + need s.content t.koid.0 (touched (t.first * PAGE + offset) len))) (target_of-at s name.0 target named)
+          ∙ ap (λ (ps : List ℕ). nat_lt s.content.frames (used s.content + need s.content target.koid.0 ps)) pin_pages
 
       memory_row : first_of (refusals s (VmoPin pin name offset len)) ≡ first_of memory_rows
       unfolding range_rows
       memory_row = range_row ∙ first_of-skip (nat_lt (size_of s name.0) (offset + len)) OutOfRange memory_rows (within_at s name.0 target named (offset + len) placed.range)
 
-      module _ (n : ℕ) (counted : n ≡ need s.content target.koid (range_with_len first ((first + count) - first))) where
-        need_at : need s.content target.koid (range_with_len first count) ≡ n
-        need_at = let m : (first + count) - first ≡ count = omega arith in sym (counted ∙ ap (λ (k : ℕ). need s.content target.koid (range_with_len first k)) m)
+      module _ (n : ℕ) (counted : n ≡ need s.content target.koid.0 (range_with_len first ((first + count) - first))) where
+        need_at : need s.content target.koid.0 (range_with_len first count) ≡ n
+        need_at = let m : (first + count) - first ≡ count = omega arith in sym (counted ∙ ap (λ (k : ℕ). need s.content target.koid.0 (range_with_len first k)) m)
 
         -- the machine has too few free frames
         pub pin_no_memory : s.content.frames < used s.content + n → Step s (VmoPin pin name offset len) (Refused NoMemory) s
         unfolding memory_rows
         pin_no_memory h = Step-refused s (VmoPin pin name offset len) NoMemory
             (memory_row ∙ first_of-hit (lacks_frames s name.0 (touched (place_of s name.0 offset) len)) NoMemory []
-            (lacks_at ∙ test_less s.content.frames (used s.content + need s.content target.koid (range_with_len first count)) (omega (arith, need_at, h))))
+            (lacks_at ∙ test_less s.content.frames (used s.content + need s.content target.koid.0 (range_with_len first count)) (omega (arith, need_at, h))))
 
         module _ (enough : used s.content + n ≤ s.content.frames) where
           no_row : first_of (refusals s (VmoPin pin name offset len)) ≡ None
           unfolding memory_rows
           no_row = memory_row ∙ first_of-skip (lacks_frames s name.0 (touched (place_of s name.0 offset) len)) NoMemory []
-              (lacks_at ∙ test_not_less s.content.frames (used s.content + need s.content target.koid (range_with_len first count)) (omega (arith, need_at, enough)))
+              (lacks_at ∙ test_not_less s.content.frames (used s.content + need s.content target.koid.0 (range_with_len first count)) (omega (arith, need_at, enough)))
 
           -- the host has too little memory
           pub pin_lacks : (t : State) → t ≡ s → Step s (VmoPin pin name offset len) (Refused HostMemory) t
           pin_lacks t same = Step-lacks s t (VmoPin pin name offset len) no_row refl same
 
           -- the pages are owned, and the pin is there
-          pub pin_done : (numbers : List ℕ) (t : State) → OwnsAll s.content target.koid (range_with_len first count) t.content → numbers ≡ frames_in t.content target.koid first count
-              → t.names ≡ s.names → t.lineage ≡ s.lineage → t.pins ≡ with_key s.pins pin.0 (record { koid = target.koid; first = first; count = count }) → Step s (VmoPin pin name offset len) (Pins numbers) t
+          pub pin_done : (numbers : List ℕ) (t : State) → OwnsAll s.content target.koid.0 (range_with_len first count) t.content → numbers ≡ frames_in t.content target.koid.0 first count
+              → t.names ≡ s.names → t.lineage ≡ s.lineage → t.pins ≡ with_key s.pins pin.0 (record { koid = target.koid.0; first = first; count = count }) → Step s (VmoPin pin name offset len) (Pins numbers) t
           pin_done numbers t owns frames names lineage pins =
-              let pinned : Pin = record { koid = target.koid; first = first; count = count } in
-              let is : pinned ≡ pin_of target = λ i. record { koid = target.koid; first = here i; count = many i } in
+              let pinned : Pin = record { koid = target.koid.0; first = first; count = count } in
+              let is : pinned ≡ pin_of target = λ i. record { koid = target.koid.0; first = here i; count = many i } in
               let answer : Pins numbers ≡ Pins (frames_of t.content (pin_of target)) = ap (λ (ns : List ℕ). Pins ns) (frames ∙ ap (frames_of t.content) is) in
               let new : t ≡ record s { content = t.content; pins = with_key s.pins pin.0 (pin_of target) } =
               λ i. record { content = t.content; names = names i; lineage = lineage i; pins = (pins ∙ ap (with_key s.pins pin.0) is) i } in
               Step-done s (VmoPin pin name offset len) (Pins numbers) t no_row
-              (subst (λ (u : Name). (Pins numbers ≡ Pins (frames_of t.content (pin_of u))) × (t ≡ record s { content = t.content; pins = with_key s.pins pin.0 (pin_of u) })
-              × OwnsAll s.content u.koid (touched (u.first * PAGE + offset) len) t.content)
-              (sym (target_of-at s name.0 target named)) (answer, new, subst (λ (ps : List ℕ). OwnsAll s.content target.koid ps t.content) (sym pin_pages) owns))
+              (subst (λ (u : Target). (Pins numbers ≡ Pins (frames_of t.content (pin_of u))) × (t ≡ record s { content = t.content; pins = with_key s.pins pin.0 (pin_of u) })
+              × OwnsAll s.content u.koid.0 (touched (u.first * PAGE + offset) len) t.content)
+              (sym (target_of-at s name.0 target named)) (answer, new, subst (λ (ps : List ℕ). OwnsAll s.content target.koid.0 ps t.content) (sym pin_pages) owns))

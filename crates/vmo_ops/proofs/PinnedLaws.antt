@@ -1,23 +1,26 @@
 -- Whether pages of a VMO are pinned, as the table of pins answers.
-use Rattle.std.proofs.Common.{◌≡◌, ℕ, ◌+◌, ◌-◌, Option, Some, Bool, true, sym, ap, ◌∙◌, inl, inr, arith}
+use Rattle.std.proofs.Common.{◌≡◌, ℕ, ◌+◌, ◌-◌, ◌==◌, Option, Some, Bool, true, sym, ap, ◌∙◌, inl, inr, arith}
 use Rattle.std.proofs.lemmas.Bool.{cases_Bool, cases_lt, false_from_ne_true}
+use Rattle.vm_base.specs.declared.limits.TheConstants.{NAMES}
+use Rattle.vm_base.proofs.SearchLaws.{eqb_is}
+use Rattle.vm_base.proofs.EntryLaws.{any_entry_found}
 use Rattle.vm_model.specs.Contents.Content.{Content, pages_of}
-use Rattle.vm_model.specs.Naming.Pins.{Pin, has_pin, covers, any_pinned}
+use Rattle.vm_model.specs.Naming.Pins.{Pin, has_pin, is_pinned, any_pinned}
 use Rattle.vm_model.specs.Machine.State.{State, IsGoodState}
 use Rattle.vm_model.proofs.ContentLaws.{pages_of-at}
-use Rattle.vm_model.proofs.PinLaws.{covers_at, has_pin_found, is_pinned_at, any_pinned_found, any_pinned_at, any_pinned-empty}
-use Rattle.vm_model.proofs.KeepLaws.{is_pinned-has_pin}
+use Rattle.vm_model.proofs.PinLaws.{is_pinned_of, is_pinned-has_pin, any_pinned_found, any_pinned_at, any_pinned-empty}
 
 -- ---- all pages of a VMO
 
 -- a VMO of a good state with a pin has a page that is pinned: the first of the pin
 pinned_page : (s : State) (v : ℕ) → IsGoodState s → has_pin s.pins v ≡ true → any_pinned s.pins v 0 (pages_of s.content v) ≡ true
 pinned_page s v good e =
-    let found = has_pin_found s.pins v e in
+    let found = any_entry_found NAMES (λ (pin : Pin). pin.koid == v) s.pins e in
     let pin = found.1 in
+    let same : pin.koid ≡ v = eqb_is pin.koid v found.4 in
     let fine = (good.pins found.0 pin found.3).1 in
-    any_pinned_at s.pins v 0 (pages_of s.content v) pin.first (omega arith) (omega (arith, fine.few.0, fine.inside, ap (pages_of s.content) found.4))
-    (is_pinned_at s.pins v pin.first found.0 found.2 (ap (covers v pin.first) found.3 ∙ covers_at v pin.first pin found.4 (omega arith) (omega (arith, fine.few.0))))
+    any_pinned_at s.pins v 0 (pages_of s.content v) pin.first (omega arith) (omega (arith, fine.few.0, fine.inside, ap (pages_of s.content) same))
+    (ap (λ (w : ℕ). is_pinned s.pins w pin.first) (sym same) ∙ is_pinned_of s.pins found.0 pin.first pin found.2 found.3 (omega arith) (omega (arith, fine.few.0)))
 
 -- so a page of the VMO is pinned exactly where the VMO has a pin
 pinned_all : (s : State) (v : ℕ) → IsGoodState s → any_pinned s.pins v 0 (pages_of s.content v) ≡ has_pin s.pins v

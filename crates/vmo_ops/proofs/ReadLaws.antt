@@ -7,7 +7,7 @@ use Rattle.vm_base.specs.declared.refusal.Refusal.TheVariants.{BadHandle, Invali
 use Rattle.vm_model.specs.declared.command.Command.TheVariants.{VmoRead}
 use Rattle.vm_model.specs.declared.reply.Reply.TheVariants.{Bytes, Refused}
 use Rattle.vm_model.specs.Contents.Content.{Content}
-use Rattle.vm_model.specs.Naming.Names.{Name}
+use Rattle.vm_model.specs.declared.names.Target.{Target}
 use Rattle.vm_model.specs.Contents.Writing.{bytes_in}
 use Rattle.vm_model.specs.Machine.State.{State, is_open, name_pages, size_of}
 use Rattle.vm_model.specs.Machine.Refusals.{refusals, first_of}
@@ -21,7 +21,7 @@ pub bytes_in-more : (c : Content) (v offset done len : ℕ) (old new : List ℕ)
 bytes_in-more c v offset done len old new before now =
     now ∙ (ap (λ (xs : List ℕ). xs ++ bytes_in c v (offset + done) len) before ∙ sym (bytes_in-append c v offset done len))
 
-module _ (s : State) (name : VmoName) (offset len : ℕ) (target : Name) (named : s.names name.0 ≡ Some target) (few : len ≤ PAGE) where
+module _ (s : State) (name : VmoName) (offset len : ℕ) (target : Target) (named : s.names name.0 ≡ Some target) (few : len ≤ PAGE) where
   read_rows : first_of (refusals s (VmoRead name offset len)) ≡ first_of ((nat_lt (size_of s name.0) (offset + len), OutOfRange) ∷ [])
   read_rows =
       let range_row = (nat_lt (size_of s name.0) (offset + len), OutOfRange) ∷ [] in
@@ -34,7 +34,7 @@ module _ (s : State) (name : VmoName) (offset len : ℕ) (target : Name) (named 
       (read_rows ∙ first_of-hit (nat_lt (size_of s name.0) (offset + len)) OutOfRange [] (past_at s name.0 target named (offset + len) h))
 
   -- the bytes at the place of the range are answered
-  pub read_done : (at : ℕ) (bytes : List ℕ) → IsPlaced s.content target offset len at → bytes ≡ bytes_in s.content target.koid at len → Step s (VmoRead name offset len) (Bytes bytes) s
+  pub read_done : (at : ℕ) (bytes : List ℕ) → IsPlaced s.content target offset len at → bytes ≡ bytes_in s.content target.koid.0 at len → Step s (VmoRead name offset len) (Bytes bytes) s
   read_done at bytes placed e = Step-done s (VmoRead name offset len) (Bytes bytes) s
       (read_rows ∙ first_of-skip (nat_lt (size_of s name.0) (offset + len)) OutOfRange [] (within_at s name.0 target named (offset + len) placed.range))
       (ap (λ (bs : List ℕ). Bytes bs) (e ∙ sym (spot s name.0 target named offset at placed.place (λ v a. bytes_in s.content v a len))), refl)

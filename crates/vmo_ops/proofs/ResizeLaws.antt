@@ -11,7 +11,7 @@ use Rattle.vm_model.specs.declared.command.Command.TheVariants.{VmoSetSize}
 use Rattle.vm_model.specs.declared.reply.Reply.TheVariants.{Done, Refused}
 use Rattle.vm_model.specs.Contents.Content.{Content, pages_of}
 use Rattle.vm_model.specs.Contents.Zeroing.{resized}
-use Rattle.vm_model.specs.Naming.Names.{Name}
+use Rattle.vm_model.specs.declared.names.Target.{Target}
 use Rattle.vm_model.specs.Naming.Pins.{Pin, any_pinned}
 use Rattle.vm_model.specs.Machine.State.{State, is_open, target_of, koid_of}
 use Rattle.vm_model.specs.Machine.Refusals.{refusals, first_of}
@@ -26,7 +26,7 @@ test_over limit n over = grind (arith, nat_tests)
 
 -- ---- the rows
 
-module _ (s : State) (name : VmoName) (size : ℕ) (target : Name) (named : s.names name.0 ≡ Some target) where
+module _ (s : State) (name : VmoName) (size : ℕ) (target : Target) (named : s.names name.0 ≡ Some target) where
   pin_rows : List (Bool × Refusal)
   pin_rows = (any_pinned s.pins (koid_of s name.0) (rounded size / PAGE) (pages_of s.content (koid_of s name.0)), BadState) ∷ []
 
@@ -36,8 +36,8 @@ module _ (s : State) (name : VmoName) (size : ℕ) (target : Name) (named : s.na
   resize_rows : List (Bool × Refusal)
   resize_rows = (not (target_of s name.0).may_resize, Unavailable) ∷ size_rows
 
-  at_target : (right : Name → Bool) (b : Bool) → right target ≡ b → not (right (target_of s name.0)) ≡ not b
-  at_target right b e = ap (λ (t : Name). not (right t)) (target_of-at s name.0 target named) ∙ ap not e
+  at_target : (right : Target → Bool) (b : Bool) → right target ≡ b → not (right (target_of s name.0)) ≡ not b
+  at_target right b e = ap (λ (t : Target). not (right t)) (target_of-at s name.0 target named) ∙ ap not e
 
   open_row : first_of (refusals s (VmoSetSize name size)) ≡ first_of ((not (target_of s name.0).may_write, AccessDenied) ∷ resize_rows)
   unfolding pin_rows size_rows resize_rows
@@ -64,7 +64,7 @@ module _ (s : State) (name : VmoName) (size : ℕ) (target : Name) (named : s.na
       size_refusals-large over = resize_row ∙ first_of-hit (nat_lt (VMO_PAGES * PAGE) (rounded size)) OutOfRange pin_rows (test_over (VMO_PAGES * PAGE) (rounded size) over)
 
       -- whether a page past the new end is pinned
-      module _ (few : rounded size ≤ VMO_PAGES * PAGE) (answer : Bool) (told : answer ≡ any_pinned s.pins target.koid (rounded size / PAGE) (pages_of s.content target.koid)) where
+      module _ (few : rounded size ≤ VMO_PAGES * PAGE) (answer : Bool) (told : answer ≡ any_pinned s.pins target.koid.0 (rounded size / PAGE) (pages_of s.content target.koid.0)) where
         size_row : first_of (refusals s (VmoSetSize name size)) ≡ first_of pin_rows
         unfolding size_rows
         size_row = resize_row ∙ first_of-skip (nat_lt (VMO_PAGES * PAGE) (rounded size)) OutOfRange pin_rows (test_not_less (VMO_PAGES * PAGE) (rounded size) few)
@@ -82,7 +82,7 @@ module _ (s : State) (name : VmoName) (size : ℕ) (target : Name) (named : s.na
 
 -- ---- the steps
 
-module _ (pins : ℕ → Option Pin) (c : Content) (target : Name) (size : ℕ) where
+module _ (pins : ℕ → Option Pin) (c : Content) (target : Target) (size : ℕ) where
   -- the name may not write
   pub resize_denied : target.may_write ≡ false → DoesWith pins (λ name. VmoSetSize name size) target c (Refused AccessDenied) c
   resize_denied may = λ s name named.
@@ -105,12 +105,12 @@ module _ (pins : ℕ → Option Pin) (c : Content) (target : Name) (size : ℕ) 
 
       -- the new size in pages, and whether a page past it is pinned
       module _ (few : rounded size ≤ VMO_PAGES * PAGE) (whole pages : ℕ) (e : whole ≡ rounded size) (f : pages ≡ whole / PAGE)
-          (answer : Bool) (told : answer ≡ any_pinned pins target.koid pages (pages_of c target.koid)) where
+          (answer : Bool) (told : answer ≡ any_pinned pins target.koid.0 pages (pages_of c target.koid.0)) where
         count : pages ≡ rounded size / PAGE
         count = f ∙ ap (λ (n : ℕ). n / PAGE) e
 
-        told_so : answer ≡ any_pinned pins target.koid (rounded size / PAGE) (pages_of c target.koid)
-        told_so = told ∙ ap (λ (n : ℕ). any_pinned pins target.koid n (pages_of c target.koid)) count
+        told_so : answer ≡ any_pinned pins target.koid.0 (rounded size / PAGE) (pages_of c target.koid.0)
+        told_so = told ∙ ap (λ (n : ℕ). any_pinned pins target.koid.0 n (pages_of c target.koid.0)) count
 
         -- a page past the new end is pinned
         pub resize_pinned : answer ≡ true → DoesWith pins (λ name. VmoSetSize name size) target c (Refused BadState) c
@@ -119,7 +119,7 @@ module _ (pins : ℕ → Option Pin) (c : Content) (target : Name) (size : ℕ) 
             Step-refused t (VmoSetSize name size) BadState (size_refusals-pinned t name size target named may resizes few answer told_so pinned)
 
         -- the VMO has its new size
-        pub resize_done : answer ≡ false → (new : Content) → new ≡ resized c target.koid pages → DoesWith pins (λ name. VmoSetSize name size) target c Done new
+        pub resize_done : answer ≡ false → (new : Content) → new ≡ resized c target.koid.0 pages → DoesWith pins (λ name. VmoSetSize name size) target c Done new
         resize_done free new is = λ s name named.
             let t : State = record s { content = c; pins = pins } in
             Step-done t (VmoSetSize name size) Done (record s { content = new; pins = pins }) (size_refusals-none t name size target named may resizes few answer told_so free) (

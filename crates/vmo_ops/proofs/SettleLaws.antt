@@ -1,20 +1,23 @@
 -- Something that kept a VMO went, a name or a pin: what the table says of the VMO is what the machine does.
-use Rattle.std.proofs.Common.{◌≡◌, ℕ, true, false, Option, None, Some, inl, inr, sym, ap, subst, ◌∙◌, arith}
+use Rattle.std.proofs.Common.{◌≡◌, ℕ, ◌==◌, true, false, Option, None, Some, inl, inr, sym, ap, subst, ◌∙◌, arith}
 use Rattle.std.specs.Prelude.{nat_lt, is_some, IsSome, IfSome, MatchOption}
-use Rattle.std.proofs.lemmas.Bool.{cases_Bool, or_cases, or_parts, ltb-true, ltb-false}
+use Rattle.std.proofs.lemmas.Bool.{cases_Bool, ltb-true, ltb-false}
 use Rattle.vm_base.specs.declared.names.Koid.{Koid}
+use Rattle.vm_base.specs.declared.limits.TheConstants.{NAMES}
+use Rattle.vm_base.proofs.EntryLaws.{any_entry-count}
 use Rattle.vm_model.specs.Contents.Content.{Content}
 use Rattle.vm_model.specs.Contents.Sharing.{without}
-use Rattle.vm_model.specs.Naming.Names.{Name, Lineage, is_named, lineage_without}
-use Rattle.vm_model.specs.Naming.Pins.{pin_count, has_pin}
+use Rattle.vm_model.specs.declared.names.Target.{Target}
+use Rattle.vm_model.specs.Naming.Names.{Lineage, is_named, lineage_without}
+use Rattle.vm_model.specs.Naming.Pins.{Pin, pin_count, has_pin}
 use Rattle.vm_model.specs.Machine.State.{State, is_live, IsGoodState}
 use Rattle.vm_model.specs.Machine.Leaving.{pruned}
 use Rattle.vm_model.proofs.NamesLaws.{lineage-known}
-use Rattle.vm_model.proofs.PinLaws.{has_pin-count}
+use Rattle.vm_model.proofs.LiveLaws.{is_live_cases, is_live_none}
 use Rattle.vm_model.proofs.LeavingLaws.{Loosens, pruned-stays, pruned-leaves}
 use Rattle.vmo_table.specs.Table.{parent_of, Settles}
 
-module _ (names : ℕ → Option Name) (keepers v : ℕ) (old new : ℕ → Option Lineage) where
+module _ (names : ℕ → Option Target) (keepers v : ℕ) (old new : ℕ → Option Lineage) where
   -- only the VMO itself leaves
   pub settled_koid : (koid : Koid) → Settles names keepers v old new (Some koid) → koid.0 ≡ v
   settled_koid koid settles = elim (cases_Bool (is_named names v)) [
@@ -35,18 +38,18 @@ module _ (names : ℕ → Option Name) (keepers v : ℕ) (old new : ℕ → Opti
 
 -- The state t is the good state s with less that keeps the VMO v, whose keepers are its pins that are left.
 module _ (s t new : State) (v : ℕ) (good : IsGoodState s) (less : Loosens s t v)
-    (names : ℕ → Option Name) (named : names ≡ t.names) (keepers : ℕ) (counted : keepers ≡ pin_count t.pins v)
+    (names : ℕ → Option Target) (named : names ≡ t.names) (keepers : ℕ) (counted : keepers ≡ pin_count t.pins v)
     (answer : Option Koid) (settles : Settles names keepers v s.lineage new.lineage answer) where
   named_now : is_named names v ≡ is_named t.names v
-  named_now = ap (λ (f : ℕ → Option Name). is_named f v) named
+  named_now = ap (λ (f : ℕ → Option Target). is_named f v) named
 
   -- keepers are there where a pin is
   kept_now : has_pin t.pins v ≡ nat_lt 0 keepers
-  kept_now = has_pin-count t.pins v ∙ ap (nat_lt 0) (sym counted)
+  kept_now = any_entry-count NAMES (λ (pin : Pin). pin.koid == v) t.pins ∙ ap (nat_lt 0) (sym counted)
 
   -- a VMO that is live stays, and nothing else changes
   settled_stays : is_live t v ≡ true → (answer ≡ None) × (new.lineage ≡ s.lineage)
-  settled_stays live = elim (or_cases (is_named t.names v) (has_pin t.pins v) live) [
+  settled_stays live = elim (is_live_cases t v live) [
     | inl by_name ↦ settles.stays (inl (named_now ∙ by_name))
     | inr by_pin ↦ settles.stays (inr (ltb-true 0 keepers (sym kept_now ∙ by_pin)))
   ]
@@ -54,7 +57,7 @@ module _ (s t new : State) (v : ℕ) (good : IsGoodState s) (less : Loosens s t 
   -- one that is not leaves
   settled_leaves : is_live t v ≡ false → (answer ≡ Some (record { 0 = v })) × (new.lineage ≡ lineage_without s.lineage v (parent_of (s.lineage v)))
   settled_leaves gone =
-      let off = or_parts (is_named t.names v) (has_pin t.pins v) gone in
+      let off = is_live_none t v gone in
       let none = ltb-false 0 keepers (sym kept_now ∙ off.1) in
       settles.leaves (named_now ∙ off.0) (omega arith)
 

@@ -9,7 +9,7 @@ use Rattle.vm_model.specs.declared.command.Command.{Command}
 use Rattle.vm_model.specs.declared.reply.Reply.{Reply}
 use Rattle.vm_model.specs.declared.reply.Reply.TheVariants.{Refused}
 use Rattle.vm_model.specs.Contents.Content.{Content, pages_of, IsGood}
-use Rattle.vm_model.specs.Naming.Names.{Name}
+use Rattle.vm_model.specs.declared.names.Target.{Target}
 use Rattle.vm_model.specs.Machine.State.{State, is_open, koid_of, name_pages, size_of, place_of, IsGoodName, IsGoodState}
 use Rattle.vm_model.specs.Machine.Refusals.{refusals, first_of}
 use Rattle.vm_model.specs.Machine.Step.{Effect, may_lack_memory, StepAfter, Step}
@@ -52,12 +52,12 @@ test_not_less m n h = grind (arith, nat_tests)
 
 -- ---- a name that is open
 
-module _ (s : State) (n : ℕ) (target : Name) (named : s.names n ≡ Some target) where
+module _ (s : State) (n : ℕ) (target : Target) (named : s.names n ≡ Some target) where
   pub open_at : not (is_open s n) ≡ false
-  open_at = ap (λ (o : Option Name). not (is_some o)) named
+  open_at = ap (λ (o : Option Target). not (is_some o)) named
 
   pub size_of-at : size_of s n ≡ name_pages s.content target * PAGE
-  size_of-at = ap (λ (t : Name). name_pages s.content t * PAGE) (target_of-at s n target named)
+  size_of-at = ap (λ (t : Target). name_pages s.content t * PAGE) (target_of-at s n target named)
 
   pub past_at : (end : ℕ) → name_pages s.content target * PAGE < end → nat_lt (size_of s n) end ≡ true
   past_at end h = ap (λ (m : ℕ). nat_lt m end) size_of-at ∙ test_less (name_pages s.content target * PAGE) end h
@@ -66,8 +66,8 @@ module _ (s : State) (n : ℕ) (target : Name) (named : s.names n ≡ Some targe
   within_at end h = ap (λ (m : ℕ). nat_lt m end) size_of-at ∙ test_not_less (name_pages s.content target * PAGE) end h
 
   -- what is said of the koid of the name and of a place in its VMO
-  pub spot : {A : Type 0} (offset at : ℕ) → at ≡ target.first * PAGE + offset → (f : ℕ → ℕ → A) → f (koid_of s n) (place_of s n offset) ≡ f target.koid at
-  spot {A} offset at e f = ap (λ (t : Name). f t.koid (t.first * PAGE + offset)) (target_of-at s n target named) ∙ ap (f target.koid) (sym e)
+  pub spot : {A : Type 0} (offset at : ℕ) → at ≡ target.first * PAGE + offset → (f : ℕ → ℕ → A) → f (koid_of s n) (place_of s n offset) ≡ f target.koid.0 at
+  spot {A} offset at e f = ap (λ (t : Target). f t.koid.0 (t.first * PAGE + offset)) (target_of-at s n target named) ∙ ap (f target.koid.0) (sym e)
 
 -- ---- what lies inside
 
@@ -80,12 +80,12 @@ pages_of_le c v good = go (c.count v) (good.counts v) where
   go (Some n) each = each n refl
 
 -- what a name of a good state stands for lies inside its VMO
-pub IsInside-good : (s : State) (n : ℕ) (target : Name) → IsGoodState s → s.names n ≡ Some target → IsInside s.content target
+pub IsInside-good : (s : State) (n : ℕ) (target : Target) → IsGoodState s → s.names n ≡ Some target → IsInside s.content target
 IsInside-good s n target good e = let fine = (good.names n target e).1 in record { vmo = fine.vmo; pages = go fine target.limit refl } where
-  go : IsGoodName s target → (o : Option ℕ) → target.limit ≡ o → target.first + unwrap_or o (pages_of s.content target.koid) ≤ pages_of s.content target.koid
+  go : IsGoodName s target → (o : Option ℕ) → target.limit ≡ o → target.first + unwrap_or o (pages_of s.content target.koid.0) ≤ pages_of s.content target.koid.0
   go fine None f = omega (arith, fine.whole f)
   go fine (Some m) f = (fine.part m f).2
 
 -- what a name stands for ends at or below the greatest size of a VMO
-pub name_few : (c : Content) (target : Name) → IsGood c → IsInside c target → target.first + name_pages c target ≤ VMO_PAGES
-name_few c target good inside = omega (arith, inside.pages, pages_of_le c target.koid good)
+pub name_few : (c : Content) (target : Target) → IsGood c → IsInside c target → target.first + name_pages c target ≤ VMO_PAGES
+name_few c target good inside = omega (arith, inside.pages, pages_of_le c target.koid.0 good)

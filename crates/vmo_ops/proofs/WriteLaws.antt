@@ -4,11 +4,11 @@ use Rattle.std.specs.Prelude.{slice_range}
 use Rattle.vm_base.specs.declared.limits.TheConstants.{PAGE}
 use Rattle.vm_model.specs.Contents.Content.{Page, Content, shown, pages_of, hold, IsGood}
 use Rattle.vm_model.specs.Contents.Owning.{Owns}
-use Rattle.vm_model.specs.Contents.Writing.{touched, Piece, piece, pieces, WritesPiece, Writes}
+use Rattle.vm_model.specs.Contents.Writing.{touched, Piece, piece, part_at, part_bytes, pieces, WritesPiece, Writes}
 use Rattle.vm_base.specs.Pages.{replaced}
 use Rattle.vm_model.proofs.ContentLaws.{sole_alone, bytes_of-some}
 use Rattle.vm_model.proofs.OwningLaws.{Owned}
-use Rattle.vm_model.proofs.RangeLaws.{piece-page, piece_fits, slice_range-min}
+use Rattle.vm_model.proofs.RangeLaws.{part_fits, slice_range-min}
 use Rattle.vm_model.proofs.WritingLaws.{Written, Written-from_WritesPiece}
 use Rattle.page_store.specs.Pages.{IsShownOnce, Overwrites}
 use Rattle.vmo_ops.proofs.RowLaws.{Run}
@@ -29,7 +29,7 @@ IsShownOnce-owned old new v p tag owned =
 
 -- a page that was owned and whose bytes were then overwritten
 pub WritesPiece-from_parts : (old mid new : Content) (v p tag at : ℕ) (bytes : List ℕ) → Owned old mid v p tag → Owns old mid v p tag → Overwrites mid new tag at bytes
-    → WritesPiece old v (record { page = p; at = at; bytes = bytes }) new
+    → WritesPiece old (record { koid = v; page = p; at = at; bytes = bytes }) new
 WritesPiece-from_parts old mid new v p tag at bytes owned owns overwrites =
     let held : Page = record { tag = tag; bytes = shown old v p } in
     let same : shown old v p ≡ shown mid v p = sym (bytes_of-some (mid.page v p) held owned.held) in
@@ -42,11 +42,11 @@ WritesPiece-from_parts old mid new v p tag at bytes owned owns overwrites =
 
 -- the piece of a write that falls into page p is written, by its place in the page and its bytes
 pub WritesPiece-same : (old new : Content) (v offset p at : ℕ) (bytes part : List ℕ) → at ≡ offset - p * 4096 → part ≡ slice_range bytes (PAGE * p - offset) (PAGE * (p + 1) - offset)
-    → WritesPiece old v (record { page = p; at = at; bytes = part }) new → WritesPiece old v (piece offset bytes p) new
-unfolding piece
+    → WritesPiece old (record { koid = v; page = p; at = at; bytes = part }) new → WritesPiece old (piece v offset bytes p) new
+unfolding part_at part_bytes
 WritesPiece-same old new v offset p at bytes part place same writes =
     let spot : at ≡ offset - PAGE * p = omega arith in
-    subst (λ (q : Piece). WritesPiece old v q new) (λ i. record { page = p; at = spot i; bytes = same i }) writes
+    subst (λ (q : Piece). WritesPiece old q new) (λ i. record { koid = v; page = p; at = spot i; bytes = same i }) writes
 
 -- the part of the bytes that the code takes is the piece's
 pub piece_part : (offset p from until : ℕ) (bytes : List ℕ) → from ≡ p * 4096 - offset → until ≡ min (p * 4096 + 4096 - offset) (length bytes)
@@ -58,16 +58,14 @@ piece_part offset p from until bytes e f =
 
 -- a write at this offset, from a content over pages of v to another
 abbrev pub writing : ℕ → ℕ → List ℕ → Run
-writing v offset bytes c ps new = Writes c v (map (piece offset bytes) ps) new
+writing v offset bytes c ps new = Writes c (map (piece v offset bytes) ps) new
 
 -- a piece of a write was written
-pub Written-from_piece : (old new : Content) (v offset p : ℕ) (bytes : List ℕ) → IsGood old → p < pages_of old v → offset / PAGE ≤ p → WritesPiece old v (piece offset bytes p) new → Written old v p new
+pub Written-from_piece : (old new : Content) (v offset p : ℕ) (bytes : List ℕ) → IsGood old → p < pages_of old v → offset / PAGE ≤ p → WritesPiece old (piece v offset bytes p) new → Written old v p new
 Written-from_piece old new v offset p bytes good below from writes =
-    let page = piece-page offset bytes p in
-    subst (λ (q : ℕ). Written old v q new) page
-    (Written-from_WritesPiece old v (piece offset bytes p) new good (omega (arith, page, below)) (piece_fits offset bytes p from) writes)
+    Written-from_WritesPiece old (piece v offset bytes p) new good below (part_fits offset bytes p from) writes
 
 -- where all pages that a range touches are written, all pieces are
-pub Writes-touched : (v offset len : ℕ) (bytes : List ℕ) (old new : Content) → length bytes ≡ len → writing v offset bytes old (touched offset len) new → Writes old v (pieces offset bytes) new
+pub Writes-touched : (v offset len : ℕ) (bytes : List ℕ) (old new : Content) → length bytes ≡ len → writing v offset bytes old (touched offset len) new → Writes old (pieces v offset bytes) new
 unfolding pieces
 Writes-touched v offset len bytes old new size writes = subst (λ (n : ℕ). writing v offset bytes old (touched offset n) new) (sym size) writes

@@ -13,7 +13,7 @@ use Rattle.vm_model.specs.Contents.Content.{Content, is_held, pages_of, used, so
 use Rattle.vm_model.specs.Contents.Owning.{need}
 use Rattle.vm_model.specs.Contents.Writing.{touched}
 use Rattle.vm_model.specs.Contents.Zeroing.{is_whole, is_cleared, ZeroesPage, Zeroes, owned_by_zero}
-use Rattle.vm_model.specs.Naming.Names.{Name}
+use Rattle.vm_model.specs.declared.names.Target.{Target}
 use Rattle.vm_model.specs.Naming.Pins.{Pin, is_pinned, any_pinned}
 use Rattle.vm_model.specs.Machine.State.{State, target_of, koid_of, place_of}
 use Rattle.vm_model.specs.Machine.Refusals.{change_refusals, first_of}
@@ -243,13 +243,13 @@ ReachesZeros-end old now v pinned offset len from end reaches none = reaches now
 
 -- ---- the steps of zeroing a range of a target
 
-module _ (old new : Content) (pins : ℕ → Option Pin) (target : Name) (offset len : ℕ) where
+module _ (old new : Content) (pins : ℕ → Option Pin) (target : Target) (offset len : ℕ) where
   -- the pages that are owned for it, where the range is at this place in the VMO
   owned_at : ℕ → ℕ → List ℕ
   owned_at v at = owned_by_zero old v (is_pinned pins v) at len
 
   -- it is refused, and nothing has changed
-  pub zero_refused : (refusal : Refusal) → IsRefusedBy old target offset len (owned_by_zero old target.koid (is_pinned pins target.koid) (target.first * PAGE + offset) len) (is_held old target.koid) refusal → new ≡ old
+  pub zero_refused : (refusal : Refusal) → IsRefusedBy old target offset len (owned_by_zero old target.koid.0 (is_pinned pins target.koid.0) (target.first * PAGE + offset) len) (is_held old target.koid.0) refusal → new ≡ old
       → DoesWith pins (λ name. VmoZero name offset len) target old (Refused refusal) new
   unfolding owned_at
   zero_refused refusal refused same = λ s name named.
@@ -260,31 +260,31 @@ module _ (old new : Content) (pins : ℕ → Option Pin) (target : Name) (offset
 
   -- a name that may write, and the place of the range in the VMO
   module _ (at : ℕ) (may : target.may_write ≡ true) (placed : IsPlaced old target offset len at) where
-    zero_need : need old target.koid (owned_by_zero old target.koid (is_pinned pins target.koid) (target.first * PAGE + offset) len) ≡ need old target.koid (owned_by_zero old target.koid (is_pinned pins target.koid) at len)
-    zero_need = ap (λ (a : ℕ). need old target.koid (owned_by_zero old target.koid (is_pinned pins target.koid) a len)) (sym placed.place)
+    zero_need : need old target.koid.0 (owned_by_zero old target.koid.0 (is_pinned pins target.koid.0) (target.first * PAGE + offset) len) ≡ need old target.koid.0 (owned_by_zero old target.koid.0 (is_pinned pins target.koid.0) at len)
+    zero_need = ap (λ (a : ℕ). need old target.koid.0 (owned_by_zero old target.koid.0 (is_pinned pins target.koid.0) a len)) (sym placed.place)
 
     -- the machine has too few free frames
-    pub zero_no_memory : old.frames < used old + need old target.koid (owned_by_zero old target.koid (is_pinned pins target.koid) at len) → new ≡ old → DoesWith pins (λ name. VmoZero name offset len) target old (Refused NoMemory) new
-    zero_no_memory h same = zero_refused NoMemory (IsRefusedBy-no_memory old target offset len _ (is_held old target.koid) may placed.range (omega (arith, h, zero_need))) same
+    pub zero_no_memory : old.frames < used old + need old target.koid.0 (owned_by_zero old target.koid.0 (is_pinned pins target.koid.0) at len) → new ≡ old → DoesWith pins (λ name. VmoZero name offset len) target old (Refused NoMemory) new
+    zero_no_memory h same = zero_refused NoMemory (IsRefusedBy-no_memory old target offset len _ (is_held old target.koid.0) may placed.range (omega (arith, h, zero_need))) same
 
-    module _ (free : used old + need old target.koid (owned_by_zero old target.koid (is_pinned pins target.koid) at len) ≤ old.frames) where
+    module _ (free : used old + need old target.koid.0 (owned_by_zero old target.koid.0 (is_pinned pins target.koid.0) at len) ≤ old.frames) where
       -- the host has too little memory, and the range touches a held page
-      pub zero_lacks : 0 < held_touched old target.koid at len → new ≡ old → DoesWith pins (λ name. VmoZero name offset len) target old (Refused HostMemory) new
+      pub zero_lacks : 0 < held_touched old target.koid.0 at len → new ≡ old → DoesWith pins (λ name. VmoZero name offset len) target old (Refused HostMemory) new
       zero_lacks h same =
-          zero_refused HostMemory (IsRefusedBy-lacks old target offset len _ (is_held old target.koid) may placed.range (omega (arith, free, zero_need))
-          (ap (λ (a : ℕ). list_any (is_held old target.koid) (touched a len)) (sym placed.place) ∙ held_touched-any old target.koid at len h)) same
+          zero_refused HostMemory (IsRefusedBy-lacks old target offset len _ (is_held old target.koid.0) may placed.range (omega (arith, free, zero_need))
+          (ap (λ (a : ℕ). list_any (is_held old target.koid.0) (touched a len)) (sym placed.place) ∙ held_touched-any old target.koid.0 at len h)) same
 
       -- the range is zeroed
-      pub zero_done : Zeroes old target.koid (is_pinned pins target.koid) at len (touched at len) new → DoesWith pins (λ name. VmoZero name offset len) target old Done new
+      pub zero_done : Zeroes old target.koid.0 (is_pinned pins target.koid.0) at len (touched at len) new → DoesWith pins (λ name. VmoZero name offset len) target old Done new
       unfolding owned_at
       zero_done zeroes = λ s name named.
           let t : State = record s { content = old; pins = pins } in
           let stands : target_of t name.0 ≡ target = target_of-at t name.0 target named in
           Step-change_done t (record s { content = new; pins = pins }) (VmoZero name offset len) name.0 offset len (owned_at (koid_of t name.0) (place_of t name.0 offset)) refl
-          (subst (λ (u : Name). first_of (change_refusals t name.0 offset len (owned_at u.koid (u.first * PAGE + offset))) ≡ None) (sym stands)
-          (IsAllowed-free old target offset len (owned_at target.koid (target.first * PAGE + offset)) may placed.range (omega (arith, free, zero_need)) (record s { pins = pins }) name.0 named)) (
+          (subst (λ (u : Target). first_of (change_refusals t name.0 offset len (owned_at u.koid.0 (u.first * PAGE + offset))) ≡ None) (sym stands)
+          (IsAllowed-free old target offset len (owned_at target.koid.0 (target.first * PAGE + offset)) may placed.range (omega (arith, free, zero_need)) (record s { pins = pins }) name.0 named)) (
             refl,
             refl,
-            subst (λ (u : Name). Zeroes old u.koid (is_pinned pins u.koid) (u.first * PAGE + offset) len (touched (u.first * PAGE + offset) len) new) (sym stands)
-                (subst (λ (a : ℕ). Zeroes old target.koid (is_pinned pins target.koid) a len (touched a len) new) placed.place zeroes),
+            subst (λ (u : Target). Zeroes old u.koid.0 (is_pinned pins u.koid.0) (u.first * PAGE + offset) len (touched (u.first * PAGE + offset) len) new) (sym stands)
+                (subst (λ (a : ℕ). Zeroes old target.koid.0 (is_pinned pins target.koid.0) a len (touched a len) new) placed.place zeroes),
           )

@@ -11,25 +11,25 @@ use Rattle.vm_model.specs.declared.command.Command.{Command}
 use Rattle.vm_model.specs.declared.reply.Reply.{Reply}
 use Rattle.vm_model.specs.declared.reply.Reply.TheVariants.{Refused}
 use Rattle.vm_model.specs.Contents.Content.{Content, pages_of}
-use Rattle.vm_model.specs.Naming.Names.{Name}
+use Rattle.vm_model.specs.declared.names.Target.{Target}
 use Rattle.vm_model.specs.Naming.Pins.{Pin}
 use Rattle.vm_model.specs.Machine.State.{State, name_pages, IsGoodState}
 use Rattle.vm_model.specs.Machine.Step.{Step}
 use Rattle.vmo_table.specs.Table.{Table, state_with}
 
 -- what the name stands for lies inside its VMO
-pub record IsInside (c : Content) (target : Name) : Type 0 where
-  pub vmo : IsSome (c.count target.koid)
-  pub pages : target.first + name_pages c target ≤ pages_of c target.koid
+pub record IsInside (c : Content) (target : Target) : Type 0 where
+  pub vmo : IsSome (c.count target.koid.0)
+  pub pages : target.first + name_pages c target ≤ pages_of c target.koid.0
 
 -- a range of a name lies inside it, at this place in the VMO
-pub record IsPlaced (c : Content) (target : Name) (offset len at : ℕ) : Type 0 where
+pub record IsPlaced (c : Content) (target : Target) (offset len at : ℕ) : Type 0 where
   pub range : offset + len ≤ name_pages c target * PAGE
   pub place : at ≡ target.first * PAGE + offset
-  pub inside : at + len ≤ pages_of c target.koid * PAGE
+  pub inside : at + len ≤ pages_of c target.koid.0 * PAGE
 
 -- some name stands for this
-abbrev pub IsNamed : (ℕ → Option Name) → Name → Type 0
+abbrev pub IsNamed : (ℕ → Option Target) → Target → Type 0
 IsNamed names target = (n : ℕ) × (names n ≡ Some target)
 
 -- what a call answers, as a reply of the machine
@@ -39,12 +39,12 @@ reply_of done (Err refusal) = Refused refusal
 
 -- A name that stands for the target gives the command: from the old content to the new it is a step of the machine with this reply,
 -- whichever name it is and whatever else the state has.
-abbrev pub Does : (VmoName → Command) → Name → Content → Reply → Content → Type 0
+abbrev pub Does : (VmoName → Command) → Target → Content → Reply → Content → Type 0
 Does command target old reply new =
     (s : State) (name : VmoName) → s.names name.0 ≡ Some target → Step (record s { content = old }) (command name) reply (record s { content = new })
 
 -- the same beside these pins
-abbrev pub DoesWith : (ℕ → Option Pin) → (VmoName → Command) → Name → Content → Reply → Content → Type 0
+abbrev pub DoesWith : (ℕ → Option Pin) → (VmoName → Command) → Target → Content → Reply → Content → Type 0
 DoesWith pins command target old reply new =
     (s : State) (name : VmoName) → s.names name.0 ≡ Some target
     → Step (record s { content = old; pins = pins }) (command name) reply (record s { content = new; pins = pins })

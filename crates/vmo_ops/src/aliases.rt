@@ -11,7 +11,7 @@ ghost use Rattle.vm_model.specs.Naming.Names.{is_kind};
 ghost use Rattle.vm_model.specs.Naming.Pins.{Pin};
 ghost use Rattle.vm_model.specs.Machine.State.{name_pages};
 ghost use Rattle.vm_model.specs.Machine.Step.{Step, slice_of, reference_of};
-ghost use Rattle.vmo_table.specs.Table.{name_of, names_of, lineage_in, keepers_of, state_with};
+ghost use Rattle.vmo_table.specs.Table.{names_of, lineage_in, keepers_of, state_with};
 ghost use Rattle.vmo_ops.specs.Targets.{IsInside, AreParts, IsNamed, reply_of};
 
 use crate::sizes::size;
@@ -32,9 +32,9 @@ pub(crate) fn slice<P: PageStore>(
     no_write: bool,
 ) -> Result<(), Refusal>
     requires parts { AreParts (P.content store.now) vmos.old }
-    requires named { IsNamed (names_of vmos.old) (name_of t.now) }
+    requires named { IsNamed (names_of vmos.old) t.now }
     requires closed { names_of vmos.old name.0 ≡ None }
-    ensures step { (pins : ℕ → Option Pin) (parent : VmoName) → names_of vmos.old parent.0 ≡ Some (name_of t.now) →
+    ensures step { (pins : ℕ → Option Pin) (parent : VmoName) → names_of vmos.old parent.0 ≡ Some t.now →
         Step (state_with (P.content store.now) vmos.old pins)
         (Command.VmoChild name parent Slice offset bytes resizable no_write)
         (reply_of (λ _. Reply.Done) result) (state_with (P.content store.now) vmos.new pins) }
@@ -59,11 +59,11 @@ pub(crate) fn slice<P: PageStore>(
 // The pages of `bytes` bytes, where `offset` is a whole number of pages and they end inside the name.
 fn pages_inside<P: PageStore>(store: &P, target: &Target, offset: u64, bytes: u64) -> Option<PageNo>
     requires good { IsGood (P.content store.now) }
-    requires inside { IsInside (P.content store.now) (name_of target.now) }
+    requires inside { IsInside (P.content store.now) target.now }
     ensures some { IfSome result (λ pages. (offset % 4096 ≡ 0) × (pages ≡ rounded bytes / 4096)
-        × (offset + rounded bytes ≤ name_pages (P.content store.now) (name_of target.now) * 4096)) }
+        × (offset + rounded bytes ≤ name_pages (P.content store.now) target.now * 4096)) }
     ensures none { IfNone result ((offset % 4096 ≢ 0)
-        ⊎ (name_pages (P.content store.now) (name_of target.now) * 4096 < offset + rounded bytes)) }
+        ⊎ (name_pages (P.content store.now) target.now * 4096 < offset + rounded bytes)) }
 {
     if in_page(offset) != 0 {
         return None;
@@ -76,7 +76,7 @@ fn pages_inside<P: PageStore>(store: &P, target: &Target, offset: u64, bytes: u6
 // What a slice of so many pages stands for, from the name's page `start` on.
 fn slice_target(target: &Target, start: PageNo, pages: PageNo, no_write: bool) -> Target
     requires { target.now.first + start < 2 ^ 64 }
-    ensures { name_of result ≡ slice_of (name_of target.now) start pages no_write }
+    ensures { result ≡ slice_of target.now start pages no_write }
 {
     Target {
         koid: target.koid,
@@ -99,10 +99,10 @@ pub(crate) fn reference(
     resizable: bool,
     no_write: bool,
 ) -> Result<(), Refusal>
-    requires named { IsNamed (names_of vmos.old) (name_of t.now) }
+    requires named { IsNamed (names_of vmos.old) t.now }
     requires vmo { IsSome (lineage_in vmos.old t.now.koid.0) }
     requires closed { names_of vmos.old name.0 ≡ None }
-    ensures step { (c : Content) (pins : ℕ → Option Pin) (parent : VmoName) → names_of vmos.old parent.0 ≡ Some (name_of t.now) →
+    ensures step { (c : Content) (pins : ℕ → Option Pin) (parent : VmoName) → names_of vmos.old parent.0 ≡ Some t.now →
         Step (state_with c vmos.old pins) (Command.VmoChild name parent Reference offset bytes resizable no_write)
         (reply_of (λ _. Reply.Done) result) (state_with c vmos.new pins) }
     ensures keepers { keepers_of vmos.new ≡ keepers_of vmos.old }
@@ -143,7 +143,7 @@ fn is_slice(kind: NameKind) -> bool
 
 // What a reference stands for: all of the VMO of the name.
 fn reference_target(target: &Target, resizable: bool, no_write: bool) -> Target
-    ensures { name_of result ≡ reference_of (name_of target.now) resizable no_write }
+    ensures { result ≡ reference_of target.now resizable no_write }
 {
     Target {
         koid: target.koid,

@@ -6,7 +6,7 @@ ghost use Rattle.vm_model.specs.declared.command.Command.{Command};
 ghost use Rattle.vm_model.specs.declared.reply.Reply.{Reply};
 ghost use Rattle.vm_model.specs.Machine.State.{IsGoodState};
 ghost use Rattle.vm_model.specs.Machine.Step.{Step};
-ghost use Rattle.vmo_table.specs.Table.{name_of, names_of, keepers_of, state_with};
+ghost use Rattle.vmo_table.specs.Table.{names_of, keepers_of, state_with};
 ghost use Rattle.pin_table.specs.Table.{pins_of};
 ghost use Rattle.vmo_ops.specs.Targets.{IsNamed, koid_given, reply_of};
 
@@ -43,10 +43,10 @@ pub fn create_child<P: PageStore>(
     no_write: bool,
 ) -> Result<Option<Koid>, Refusal>
     requires good { IsGoodState (state_with (P.content store.old) vmos.old (pins_of pins.now)) }
-    requires named { IsNamed (names_of vmos.old) (name_of t.now) }
+    requires named { IsNamed (names_of vmos.old) t.now }
     requires closed { names_of vmos.old name.0 ≡ None }
     requires next { (P.content store.old).next < 2 ^ 63 }
-    ensures step { (parent : VmoName) → names_of vmos.old parent.0 ≡ Some (name_of t.now) →
+    ensures step { (parent : VmoName) → names_of vmos.old parent.0 ≡ Some t.now →
         Step (state_with (P.content store.old) vmos.old (pins_of pins.now))
         (Command.VmoChild name parent kind offset size resizable no_write)
         (reply_of (λ _. Reply.Done) result) (state_with (P.content store.new) vmos.new (pins_of pins.now)) }

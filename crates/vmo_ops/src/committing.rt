@@ -6,7 +6,6 @@ ghost use Rattle.vm_model.specs.declared.reply.Reply.{Reply};
 ghost use Rattle.vm_model.specs.Contents.Content.{pages_of, used, IsGood};
 ghost use Rattle.vm_model.specs.Contents.Owning.{need, OwnsAll};
 ghost use Rattle.vm_model.specs.Contents.Writing.{touched};
-ghost use Rattle.vmo_table.specs.Table.{name_of};
 ghost use Rattle.vmo_ops.specs.Targets.{IsInside, Does, reply_of};
 
 use crate::owning::own_for_write;
@@ -22,8 +21,8 @@ use vmo_table::Target;
 /// not sole are more than the free frames, `HostMemory` only where there is such a page.
 pub fn commit<P: PageStore>(store: &mut P, t: &Target, offset: u64, len: u64) -> Result<(), Refusal>
     requires good { IsGood (P.content store.old) }
-    requires inside { IsInside (P.content store.old) (name_of t.now) }
-    ensures { Does (λ name. Command.VmoCommit name offset len) (name_of t.now) (P.content store.old)
+    requires inside { IsInside (P.content store.old) t.now }
+    ensures { Does (λ name. Command.VmoCommit name offset len) t.now (P.content store.old)
         (reply_of (λ _. Reply.Done) result) (P.content store.new) }
 {
     let at = match ready_to_own(store, t, offset, len) {

@@ -6,7 +6,7 @@ ghost use Rattle.vm_model.specs.declared.command.Command.{Command};
 ghost use Rattle.vm_model.specs.declared.reply.Reply.{Reply};
 ghost use Rattle.vm_model.specs.Machine.State.{IsGoodState};
 ghost use Rattle.vm_model.specs.Machine.Step.{Step};
-ghost use Rattle.vmo_table.specs.Table.{name_of, names_of, state_with};
+ghost use Rattle.vmo_table.specs.Table.{names_of, state_with};
 ghost use Rattle.pin_table.specs.Table.{pins_of};
 ghost use Rattle.vmo_ops.specs.Targets.{IsNamed, reply_of};
 
@@ -33,8 +33,8 @@ pub fn decommit<P: PageStore>(
     len: u64,
 ) -> Result<(), Refusal>
     requires good { IsGoodState (state_with (P.content store.old) vmos.now (pins_of pins.now)) }
-    requires named { IsNamed (names_of vmos.now) (name_of t.now) }
-    ensures { (name : VmoName) → names_of vmos.now name.0 ≡ Some (name_of t.now) →
+    requires named { IsNamed (names_of vmos.now) t.now }
+    ensures { (name : VmoName) → names_of vmos.now name.0 ≡ Some t.now →
         Step (state_with (P.content store.old) vmos.now (pins_of pins.now)) (Command.VmoDecommit name offset len)
         (reply_of (λ _. Reply.Done) result) (state_with (P.content store.new) vmos.now (pins_of pins.now)) }
 {

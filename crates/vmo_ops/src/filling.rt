@@ -6,7 +6,6 @@ ghost use Rattle.vm_model.specs.declared.reply.Reply.{Reply};
 ghost use Rattle.vm_model.specs.Contents.Content.{pages_of, sole, used, IsGood};
 ghost use Rattle.vm_model.specs.Contents.Owning.{need};
 ghost use Rattle.vm_model.specs.Contents.Writing.{touched, piece, pieces, WritesPiece, Writes};
-ghost use Rattle.vmo_table.specs.Table.{name_of};
 ghost use Rattle.vmo_ops.specs.Targets.{IsInside, Does, reply_of};
 
 use crate::ranges::touched_pages;
@@ -26,8 +25,8 @@ pub fn fill<P: PageStore>(
     byte: u8,
 ) -> Result<(), Refusal>
     requires good { IsGood (P.content store.old) }
-    requires inside { IsInside (P.content store.old) (name_of t.now) }
-    ensures { Does (λ name. Command.VmoFill name offset len byte) (name_of t.now) (P.content store.old)
+    requires inside { IsInside (P.content store.old) t.now }
+    ensures { Does (λ name. Command.VmoFill name offset len byte) t.now (P.content store.old)
         (reply_of (λ _. Reply.Done) result) (P.content store.new) }
 {
     let at = match ready_to_own(store, t, offset, len) {
@@ -45,7 +44,7 @@ fn fill_pages<P: PageStore>(store: &mut P, v: Koid, offset: u64, len: u64, byte:
     requires room { need (P.content store.old) v.0 (touched offset len) ≤ P.spare store.old }
     requires free { used (P.content store.old) + need (P.content store.old) v.0 (touched offset len)
         ≤ (P.content store.old).frames }
-    ensures { Writes (P.content store.old) v.0 (pieces offset (replicate len byte)) (P.content store.new) }
+    ensures { Writes (P.content store.old) (pieces v.0 offset (replicate len byte)) (P.content store.new) }
 {
     let bytes = [byte; 4096];
     let (first, end) = touched_pages(offset, len);
@@ -73,7 +72,7 @@ pub(crate) fn fill_part<P: PageStore>(
     requires room { (sole (P.content store.old) v.0 page ≡ true)
         ⊎ ((1 ≤ P.spare store.old) × (used (P.content store.old) < (P.content store.old).frames)) }
     ensures writes { (byte : ℕ) → bytes.now ≡ replicate 4096 byte →
-        WritesPiece (P.content store.old) v.0 (piece offset (replicate len byte) page) (P.content store.new) }
+        WritesPiece (P.content store.old) (piece v.0 offset (replicate len byte) page) (P.content store.new) }
     ensures spare { P.spare store.old
         ≤ P.spare store.new + (if sole (P.content store.old) v.0 page then 0 else 1) }
 {

@@ -9,7 +9,7 @@ ghost use Rattle.vm_model.specs.Contents.Content.{pages_of, used, IsGood};
 ghost use Rattle.vm_model.specs.Contents.Owning.{need, OwnsAll};
 ghost use Rattle.vm_model.specs.Machine.State.{IsGoodState};
 ghost use Rattle.vm_model.specs.Machine.Step.{Step, frame_of};
-ghost use Rattle.vmo_table.specs.Table.{name_of, names_of, state_with, CountsPins};
+ghost use Rattle.vmo_table.specs.Table.{names_of, state_with, CountsPins};
 ghost use Rattle.pin_table.specs.Table.{pins_of};
 ghost use Rattle.vmo_ops.specs.Targets.{IsNamed, reply_of};
 
@@ -42,9 +42,9 @@ pub fn pin<P: PageStore>(
 ) -> Result<PinNumbers, Refusal>
     requires good { IsGoodState (state_with (P.content store.old) vmos.old (pins_of pins.old)) }
     requires counted { CountsPins vmos.old (pins_of pins.old) }
-    requires named { IsNamed (names_of vmos.old) (name_of t.now) }
+    requires named { IsNamed (names_of vmos.old) t.now }
     requires free { pins_of pins.old pin.0 ≡ None }
-    ensures step { (name : VmoName) → names_of vmos.old name.0 ≡ Some (name_of t.now) →
+    ensures step { (name : VmoName) → names_of vmos.old name.0 ≡ Some t.now →
         Step (state_with (P.content store.old) vmos.old (pins_of pins.old)) (Command.VmoPin pin name offset len)
         (reply_of (λ numbers. Reply.Pins numbers) result)
         (state_with (P.content store.new) vmos.new (pins_of pins.new)) }

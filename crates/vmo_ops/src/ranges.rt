@@ -5,7 +5,6 @@ ghost use Rattle.std.specs.List.{range_with_len};
 ghost use Rattle.vm_model.specs.Contents.Content.{IsGood};
 ghost use Rattle.vm_model.specs.Machine.State.{name_pages};
 ghost use Rattle.vm_model.specs.Contents.Writing.{touched};
-ghost use Rattle.vmo_table.specs.Table.{name_of};
 ghost use Rattle.vmo_ops.specs.Targets.{IsInside, IsPlaced};
 
 use crate::sizes::size;
@@ -22,9 +21,9 @@ pub(crate) fn place_in_vmo<P: PageStore>(
     len: u64,
 ) -> Option<u64>
     requires good { IsGood (P.content store.now) }
-    requires inside { IsInside (P.content store.now) (name_of target.now) }
-    ensures some { IfSome result (λ at. IsPlaced (P.content store.now) (name_of target.now) offset len at) }
-    ensures none { IfNone result (name_pages (P.content store.now) (name_of target.now) * 4096 < offset + len) }
+    requires inside { IsInside (P.content store.now) target.now }
+    ensures some { IfSome result (λ at. IsPlaced (P.content store.now) target.now offset len at) }
+    ensures none { IfNone result (name_pages (P.content store.now) target.now * 4096 < offset + len) }
 {
     if !is_in_range(store, target, offset, len) {
         return None;
@@ -35,8 +34,8 @@ pub(crate) fn place_in_vmo<P: PageStore>(
 // Whether the range lies inside the name. An offset and a length whose sum passes 2^64 do not.
 fn is_in_range<P: PageStore>(store: &P, target: &Target, offset: u64, len: u64) -> bool
     requires good { IsGood (P.content store.now) }
-    requires inside { IsInside (P.content store.now) (name_of target.now) }
-    ensures { IsTrue result ↔ (offset + len ≤ name_pages (P.content store.now) (name_of target.now) * 4096) }
+    requires inside { IsInside (P.content store.now) target.now }
+    ensures { IsTrue result ↔ (offset + len ≤ name_pages (P.content store.now) target.now * 4096) }
 {
     let bytes = size(store, target);
     len <= bytes && offset <= bytes - len

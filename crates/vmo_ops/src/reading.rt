@@ -5,7 +5,6 @@ ghost use Rattle.vm_model.specs.declared.command.Command.{Command};
 ghost use Rattle.vm_model.specs.declared.reply.Reply.{Reply};
 ghost use Rattle.vm_model.specs.Contents.Content.{shown, pages_of, IsGood};
 ghost use Rattle.vm_model.specs.Contents.Writing.{bytes_in};
-ghost use Rattle.vmo_table.specs.Table.{name_of};
 ghost use Rattle.vmo_ops.specs.Targets.{IsInside, Does, reply_of};
 
 use crate::ranges::place_in_vmo;
@@ -19,8 +18,8 @@ use vmo_table::Target;
 /// wants memory.
 pub fn read<P: PageStore>(store: &P, t: &Target, offset: u64, len: u64) -> Result<Bytes4k, Refusal>
     requires good { IsGood (P.content store.now) }
-    requires inside { IsInside (P.content store.now) (name_of t.now) }
-    ensures { Does (λ name. Command.VmoRead name offset len) (name_of t.now) (P.content store.now)
+    requires inside { IsInside (P.content store.now) t.now }
+    ensures { Does (λ name. Command.VmoRead name offset len) t.now (P.content store.now)
         (reply_of (λ bytes. Reply.Bytes bytes) result) (P.content store.now) }
 {
     if len > PAGE {

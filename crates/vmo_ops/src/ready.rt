@@ -7,7 +7,6 @@ ghost use Rattle.vm_model.specs.Contents.Content.{sole, used, IsGood};
 ghost use Rattle.vm_model.specs.Contents.Owning.{need};
 ghost use Rattle.vm_model.specs.Machine.State.{name_pages};
 ghost use Rattle.vm_model.specs.Contents.Writing.{touched};
-ghost use Rattle.vmo_table.specs.Table.{name_of};
 ghost use Rattle.vmo_ops.specs.Targets.{IsInside, IsPlaced};
 ghost use Rattle.vmo_ops.specs.Changes.{IsRefusedBy, IsAllowed};
 
@@ -26,12 +25,12 @@ pub(crate) fn place_to_change<P: PageStore>(
     len: u64,
 ) -> Result<u64, Refusal>
     requires good { IsGood (P.content store.now) }
-    requires inside { IsInside (P.content store.now) (name_of t.now) }
+    requires inside { IsInside (P.content store.now) t.now }
     ensures ok { IfOk result (λ at. (t.now.may_write ≡ true)
-        × IsPlaced (P.content store.now) (name_of t.now) offset len at) }
+        × IsPlaced (P.content store.now) t.now offset len at) }
     ensures err { IfErr result (λ refusal. ((refusal ≡ AccessDenied) × (t.now.may_write ≡ false))
         ⊎ ((refusal ≡ OutOfRange) × (t.now.may_write ≡ true)
-        × (name_pages (P.content store.now) (name_of t.now) * 4096 < offset + len))) }
+        × (name_pages (P.content store.now) t.now * 4096 < offset + len))) }
 {
     if !t.may_write {
         return Err(Refusal::AccessDenied);
@@ -51,13 +50,13 @@ pub(crate) fn ready_to_own<P: PageStore>(
     len: u64,
 ) -> Result<u64, Refusal>
     requires good { IsGood (P.content store.old) }
-    requires inside { IsInside (P.content store.old) (name_of t.now) }
+    requires inside { IsInside (P.content store.old) t.now }
     ensures same { P.content store.new ≡ P.content store.old }
-    ensures err { IfErr result (IsRefusedBy (P.content store.old) (name_of t.now) offset len
+    ensures err { IfErr result (IsRefusedBy (P.content store.old) t.now offset len
         (touched (t.now.first * 4096 + offset) len) (λ p. not (sole (P.content store.old) t.now.koid.0 p))) }
-    ensures allowed { OnOk result (IsAllowed (P.content store.old) (name_of t.now) offset len
+    ensures allowed { OnOk result (IsAllowed (P.content store.old) t.now offset len
         (touched (t.now.first * 4096 + offset) len)) }
-    ensures placed { IfOk result (IsPlaced (P.content store.old) (name_of t.now) offset len) }
+    ensures placed { IfOk result (IsPlaced (P.content store.old) t.now offset len) }
     ensures room { IfOk result (λ at. need (P.content store.old) t.now.koid.0 (touched at len) ≤ P.spare store.new) }
     ensures free { IfOk result (λ at. used (P.content store.old)
         + need (P.content store.old) t.now.koid.0 (touched at len) ≤ (P.content store.old).frames) }

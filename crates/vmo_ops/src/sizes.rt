@@ -5,7 +5,6 @@ ghost use Rattle.vm_model.specs.declared.command.Command.{Command};
 ghost use Rattle.vm_model.specs.declared.reply.Reply.{Reply};
 ghost use Rattle.vm_model.specs.Contents.Content.{IsGood};
 ghost use Rattle.vm_model.specs.Machine.State.{name_pages};
-ghost use Rattle.vmo_table.specs.Table.{name_of};
 ghost use Rattle.pin_table.specs.Table.{pins_of};
 ghost use Rattle.vmo_ops.specs.Targets.{IsInside, DoesWith, reply_of};
 
@@ -17,16 +16,16 @@ use vmo_table::Target;
 /// The size in bytes of what a name stands for: its pages', at most 2^36.
 pub fn size<P: PageStore>(store: &P, t: &Target) -> u64
     requires good { IsGood (P.content store.now) }
-    requires inside { IsInside (P.content store.now) (name_of t.now) }
-    ensures { result ≡ name_pages (P.content store.now) (name_of t.now) * 4096 }
+    requires inside { IsInside (P.content store.now) t.now }
+    ensures { result ≡ name_pages (P.content store.now) t.now * 4096 }
 {
     pages_of_name(store, t) * PAGE
 }
 
 /// How many pages a name has: as many as its limit says, or all of its VMO.
 pub(crate) fn pages_of_name<P: PageStore>(store: &P, t: &Target) -> PageNo
-    requires { IsInside (P.content store.now) (name_of t.now) }
-    ensures { result ≡ name_pages (P.content store.now) (name_of t.now) }
+    requires { IsInside (P.content store.now) t.now }
+    ensures { result ≡ name_pages (P.content store.now) t.now }
 {
     match t.limit {
         Some(pages) => pages,
@@ -45,8 +44,8 @@ pub fn resize<P: PageStore>(
     size: u64,
 ) -> Result<(), Refusal>
     requires good { IsGood (P.content store.old) }
-    requires inside { IsInside (P.content store.old) (name_of t.now) }
-    ensures { DoesWith (pins_of pins.now) (λ name. Command.VmoSetSize name size) (name_of t.now) (P.content store.old)
+    requires inside { IsInside (P.content store.old) t.now }
+    ensures { DoesWith (pins_of pins.now) (λ name. Command.VmoSetSize name size) t.now (P.content store.old)
         (reply_of (λ _. Reply.Done) result) (P.content store.new) }
 {
     if !t.may_write {

@@ -9,7 +9,7 @@ ghost use Rattle.vm_model.specs.declared.reply.Reply.{Reply};
 ghost use Rattle.vm_model.specs.Contents.Content.{pages_of, IsGood};
 ghost use Rattle.vm_model.specs.Machine.State.{IsGoodState};
 ghost use Rattle.vm_model.specs.Machine.Step.{Step, seen_pages};
-ghost use Rattle.vmo_table.specs.Table.{name_of, names_of, keepers_of, state_with};
+ghost use Rattle.vmo_table.specs.Table.{names_of, keepers_of, state_with};
 ghost use Rattle.pin_table.specs.Table.{pins_of};
 ghost use Rattle.vmo_ops.specs.Targets.{IsInside, IsNamed, reply_of};
 
@@ -34,10 +34,10 @@ pub(crate) fn snapshot<P: PageStore>(
     no_write: bool,
 ) -> Result<Koid, Refusal>
     requires good { IsGoodState (state_with (P.content store.old) vmos.old (pins_of pins.now)) }
-    requires named { IsNamed (names_of vmos.old) (name_of t.now) }
+    requires named { IsNamed (names_of vmos.old) t.now }
     requires closed { names_of vmos.old name.0 ≡ None }
     requires next { (P.content store.old).next < 2 ^ 63 }
-    ensures step { (parent : VmoName) → names_of vmos.old parent.0 ≡ Some (name_of t.now) →
+    ensures step { (parent : VmoName) → names_of vmos.old parent.0 ≡ Some t.now →
         Step (state_with (P.content store.old) vmos.old (pins_of pins.now))
         (Command.VmoChild name parent Snapshot offset size resizable no_write)
         (reply_of (λ _. Reply.Done) result) (state_with (P.content store.new) vmos.new (pins_of pins.now)) }
@@ -91,8 +91,8 @@ fn seen_part<P: PageStore>(
     pages: PageNo,
 ) -> (PageNo, PageNo)
     requires good { IsGood (P.content store.now) }
-    requires inside { IsInside (P.content store.now) (name_of target.now) }
-    ensures seen { result.1 ≡ seen_pages (P.content store.now) (name_of target.now) start pages }
+    requires inside { IsInside (P.content store.now) target.now }
+    ensures seen { result.1 ≡ seen_pages (P.content store.now) target.now start pages }
     ensures first { (result.0 ≡ target.now.first + start) ⊎ (result.1 ≡ 0) }
     ensures inside { result.0 + result.1 ≤ pages_of (P.content store.now) target.now.koid.0 }
     ensures few { result.1 ≤ pages }

@@ -6,7 +6,6 @@ ghost use Rattle.vm_model.specs.declared.reply.Reply.{Reply};
 ghost use Rattle.vm_model.specs.Contents.Content.{pages_of, sole, used, IsGood};
 ghost use Rattle.vm_model.specs.Contents.Owning.{need};
 ghost use Rattle.vm_model.specs.Contents.Writing.{touched, piece, pieces, WritesPiece, Writes};
-ghost use Rattle.vmo_table.specs.Table.{name_of};
 ghost use Rattle.vmo_ops.specs.Targets.{IsInside, Does, reply_of};
 
 use crate::owning::own_for_write;
@@ -27,8 +26,8 @@ pub fn write<P: PageStore>(
     bytes: &[u8],
 ) -> Result<(), Refusal>
     requires good { IsGood (P.content store.old) }
-    requires inside { IsInside (P.content store.old) (name_of t.now) }
-    ensures { Does (λ name. Command.VmoWrite name offset bytes.now) (name_of t.now) (P.content store.old)
+    requires inside { IsInside (P.content store.old) t.now }
+    ensures { Does (λ name. Command.VmoWrite name offset bytes.now) t.now (P.content store.old)
         (reply_of (λ _. Reply.Done) result) (P.content store.new) }
 {
     let at = match ready_to_own(store, t, offset, bytes.len() as u64) {
@@ -48,7 +47,7 @@ fn write_pages<P: PageStore>(store: &mut P, v: Koid, offset: u64, bytes: &[u8])
     requires free { used (P.content store.old)
         + need (P.content store.old) v.0 (touched offset (length bytes.now))
         ≤ (P.content store.old).frames }
-    ensures { Writes (P.content store.old) v.0 (pieces offset bytes.now) (P.content store.new) }
+    ensures { Writes (P.content store.old) (pieces v.0 offset bytes.now) (P.content store.new) }
 {
     let (first, end) = touched_pages(offset, bytes.len() as u64);
     for page in first..end {
@@ -72,8 +71,8 @@ pub(crate) fn write_part<P: PageStore>(store: &mut P, v: Koid, page: PageNo, at:
     requires within { at + length bytes.now ≤ 4096 }
     requires room { (sole (P.content store.old) v.0 page ≡ true)
         ⊎ ((1 ≤ P.spare store.old) × (used (P.content store.old) < (P.content store.old).frames)) }
-    ensures writes { WritesPiece (P.content store.old) v.0
-        (record { page = page; at = at; bytes = bytes.now }) (P.content store.new) }
+    ensures writes { WritesPiece (P.content store.old)
+        (record { koid = v.0; page = page; at = at; bytes = bytes.now }) (P.content store.new) }
     ensures spare { P.spare store.old
         ≤ P.spare store.new + (if sole (P.content store.old) v.0 page then 0 else 1) }
 {

@@ -8,7 +8,6 @@ ghost use Rattle.vm_model.specs.Contents.Owning.{need};
 ghost use Rattle.vm_model.specs.Contents.Writing.{touched};
 ghost use Rattle.vm_model.specs.Naming.Pins.{is_pinned};
 ghost use Rattle.vm_model.specs.Contents.Zeroing.{is_whole, is_cleared, owned_by_zero, ZeroesPage, Zeroes};
-ghost use Rattle.vmo_table.specs.Table.{name_of};
 ghost use Rattle.pin_table.specs.Table.{pins_of};
 ghost use Rattle.vmo_ops.specs.Targets.{IsInside, DoesWith, reply_of};
 ghost use Rattle.vmo_ops.specs.Costs.{held_touched};
@@ -37,8 +36,8 @@ pub fn zero<P: PageStore>(
     len: u64,
 ) -> Result<(), Refusal>
     requires good { IsGood (P.content store.old) }
-    requires inside { IsInside (P.content store.old) (name_of t.now) }
-    ensures { DoesWith (pins_of pins.now) (λ name. Command.VmoZero name offset len) (name_of t.now) (P.content store.old)
+    requires inside { IsInside (P.content store.old) t.now }
+    ensures { DoesWith (pins_of pins.now) (λ name. Command.VmoZero name offset len) t.now (P.content store.old)
         (reply_of (λ _. Reply.Done) result) (P.content store.new) }
 {
     let at = match place_to_change(store, t, offset, len) {

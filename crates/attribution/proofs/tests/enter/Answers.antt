@@ -3,7 +3,8 @@ use Rattle.std.specs.Prelude.{is_some}
 use Rattle.vm_model.specs.declared.names.Origin.TheVariants.{Created}
 use Rattle.vm_model.specs.Contents.Content.{pages_of, created}
 use Rattle.vm_base.specs.Entries.{with_key}
-use Rattle.vm_model.specs.Naming.Names.{Name, owner}
+use Rattle.vm_model.specs.declared.names.Target.{Target}
+use Rattle.vm_model.specs.Naming.Names.{owner}
 use Rattle.vm_model.specs.Machine.State.{State, IsGoodState}
 use Rattle.vm_model.specs.Machine.Step.{with_vmo}
 use Rattle.vm_base.proofs.EntryLaws.{with_key-same}
@@ -37,7 +38,7 @@ returns-clause-good g c =
     subst IsGoodState (sym is) (create_keeps old 7 c.args.count false c.requires.good (omega arith) (ap is_some c.requires.name) c.requires.count).good
 
 pub returns-clause-named : goal.returns-clause-named
-returns-clause-named g c = ap (λ (f : ℕ → Option Name). f 7) c.enter.ensures.names ∙ with_key-same _ 7 _
+returns-clause-named g c = ap (λ (f : ℕ → Option Target). f 7) c.enter.ensures.names ∙ with_key-same _ 7 _
 
 pub returns-clause-pages : goal.returns-clause-pages
 returns-clause-pages g c =

@@ -1,7 +1,7 @@
 use Rattle.std.proofs.Common.{refl, sym, ap, ◌∙◌}
 use Rattle.std.specs.Prelude.{is_some}
 use Rattle.vm_model.specs.Machine.Step.{reference_of}
-use Rattle.vmo_table.specs.Table.{name_of, lineage_in, state_with}
+use Rattle.vmo_table.specs.Table.{lineage_in, state_with}
 use Rattle.vmo_ops.proofs.EntryLaws.{entered}
 use Rattle.vmo_ops.proofs.AliasLaws.{with_alias-is, known_still, reference_refused, reference_of_slice, reference_lacks, reference_done}
 use Rattle.vmo_ops.proofs.aliases.reference.Goals as goal
@@ -9,22 +9,22 @@ use Rattle.vmo_ops.proofs.aliases.reference.Goals as goal
 pub returns-then-is_contradictory-clause-step : goal.returns-then-is_contradictory-clause-step
 returns-then-is_contradictory-clause-step c = λ d pins parent named.
     reference_refused (state_with d c.args.vmos.now pins) c.args.name parent c.args.offset c.args.bytes c.args.resizable c.args.no_write
-    (name_of c.args.t.now) named (ap is_some c.requires.closed) c.if-is_contradictory.ensures
+    c.args.t.now named (ap is_some c.requires.closed) c.if-is_contradictory.ensures
 
 pub returns-then-is_slice-clause-step : goal.returns-then-is_slice-clause-step
 returns-then-is_slice-clause-step c = λ d pins parent named.
     reference_of_slice (state_with d c.args.vmos.now pins) c.args.name parent c.args.offset c.args.bytes c.args.resizable c.args.no_write
-    (name_of c.args.t.now) named (ap is_some c.requires.closed) c.if-is_contradictory.ensures (sym c.if-is_slice.ensures)
+    c.args.t.now named (ap is_some c.requires.closed) c.if-is_contradictory.ensures (sym c.if-is_slice.ensures)
 
 pub returns-in_default-clause-step : goal.returns-in_default-clause-step
 returns-in_default-clause-step c = λ d pins parent named.
     reference_lacks (state_with d c.args.vmos.now pins) c.args.name parent c.args.offset c.args.bytes c.args.resizable c.args.no_write
-    (name_of c.args.t.now) named (ap is_some c.requires.closed) c.if-is_contradictory.ensures (sym c.if-is_slice.ensures)
+    c.args.t.now named (ap is_some c.requires.closed) c.if-is_contradictory.ensures (sym c.if-is_slice.ensures)
     (state_with d c.reserve.new.self pins) (λ i. record { content = d; names = c.reserve.ensures.names i; lineage = c.reserve.ensures.lineage i; pins = pins })
 
 pub alias-requires-clause-koid : goal.alias-requires-clause-koid
 alias-requires-clause-koid c =
-    known_still (lineage_in c.args.vmos.now) (lineage_in c.reserve.new.self) (name_of c.reference_target.result) (reference_of (name_of c.args.t.now) c.args.resizable c.args.no_write)
+    known_still (lineage_in c.args.vmos.now) (lineage_in c.reserve.new.self) c.reference_target.result (reference_of c.args.t.now c.args.resizable c.args.no_write)
     c.requires.vmo c.reserve.ensures.lineage c.reference_target.ensures
 
 pub returns-clause-step : goal.returns-clause-step
@@ -32,6 +32,6 @@ returns-clause-step c = λ d pins parent named.
     let s = state_with d c.args.vmos.now pins in
     let new = state_with d c.alias.new.self pins in
     reference_done s c.args.name parent c.args.offset c.args.bytes c.args.resizable c.args.no_write
-    (name_of c.args.t.now) named (ap is_some c.requires.closed) c.if-is_contradictory.ensures (sym c.if-is_slice.ensures)
-    new (with_alias-is s new c.args.name.0 (name_of c.reference_target.result) _ refl (entered _ _ _ _ _ c.reserve.ensures.names c.alias.ensures.names)
+    c.args.t.now named (ap is_some c.requires.closed) c.if-is_contradictory.ensures (sym c.if-is_slice.ensures)
+    new (with_alias-is s new c.args.name.0 c.reference_target.result _ refl (entered _ _ _ _ _ c.reserve.ensures.names c.alias.ensures.names)
     c.reference_target.ensures (c.alias.ensures.lineage ∙ c.reserve.ensures.lineage) refl)

@@ -1,7 +1,7 @@
 use Rattle.std.proofs.Common.{refl, ap, ◌∙◌, arith}
 use Rattle.std.specs.Prelude.{is_some}
 use Rattle.vm_model.specs.Machine.Step.{slice_of}
-use Rattle.vmo_table.specs.Table.{name_of, lineage_in, state_with}
+use Rattle.vmo_table.specs.Table.{lineage_in, state_with}
 use Rattle.vmo_ops.proofs.EntryLaws.{entered}
 use Rattle.vmo_ops.proofs.NameLaws.{parts_inside, parts_lineage}
 use Rattle.vmo_ops.proofs.StepRows.{name_few}
@@ -10,46 +10,46 @@ use Rattle.vmo_ops.proofs.aliases.slice.Goals as goal
 
 pub pages_inside-requires-clause-inside : goal.pages_inside-requires-clause-inside
 pages_inside-requires-clause-inside g c =
-    parts_inside (g.P.PageStore.content c.args.store.now) c.args.vmos.now (name_of c.args.t.now) c.requires.parts c.requires.named
+    parts_inside (g.P.PageStore.content c.args.store.now) c.args.vmos.now c.args.t.now c.requires.parts c.requires.named
 
 pub returns-in_default-clause-step : goal.returns-in_default-clause-step
 returns-in_default-clause-step g c = λ pins parent named.
     slice_outside (state_with (g.P.PageStore.content c.args.store.now) c.args.vmos.now pins) c.args.name parent c.args.offset c.args.bytes c.args.resizable c.args.no_write
-    (name_of c.args.t.now) named (ap is_some c.requires.closed) c.in_default.ensures.none
+    c.args.t.now named (ap is_some c.requires.closed) c.in_default.ensures.none
 
 pub resizable-requires : goal.resizable-requires
 resizable-requires g c =
-    parts_lineage (g.P.PageStore.content c.args.store.now) c.args.vmos.now (name_of c.args.t.now) c.requires.parts c.requires.named
+    parts_lineage (g.P.PageStore.content c.args.store.now) c.args.vmos.now c.args.t.now c.requires.parts c.requires.named
 
 pub returns-then-resizable-2-clause-step : goal.returns-then-resizable-2-clause-step
 returns-then-resizable-2-clause-step g c = λ pins parent named.
     let part = c.in-Some.ensures.some in
-    let there = parts_lineage (g.P.PageStore.content c.args.store.now) c.args.vmos.now (name_of c.args.t.now) c.requires.parts c.requires.named in
+    let there = parts_lineage (g.P.PageStore.content c.args.store.now) c.args.vmos.now c.args.t.now c.requires.parts c.requires.named in
     slice_of_resizable (state_with (g.P.PageStore.content c.args.store.now) c.args.vmos.now pins) c.args.name parent c.args.offset c.args.bytes c.args.resizable c.args.no_write
-    (name_of c.args.t.now) named (ap is_some c.requires.closed)
+    c.args.t.now named (ap is_some c.requires.closed)
     part.0 c.if-resizable.false part.2 there c.resizable.result c.resizable.ensures c.if-resizable-2.true
 
 pub returns-in_default-reserve-clause-step : goal.returns-in_default-reserve-clause-step
 returns-in_default-reserve-clause-step g c = λ pins parent named.
     let d = g.P.PageStore.content c.args.store.now in
     let part = c.in-Some.ensures.some in
-    let there = parts_lineage (g.P.PageStore.content c.args.store.now) c.args.vmos.now (name_of c.args.t.now) c.requires.parts c.requires.named in
+    let there = parts_lineage (g.P.PageStore.content c.args.store.now) c.args.vmos.now c.args.t.now c.requires.parts c.requires.named in
     slice_lacks (state_with d c.args.vmos.now pins) c.args.name parent c.args.offset c.args.bytes c.args.resizable c.args.no_write
-    (name_of c.args.t.now) named (ap is_some c.requires.closed)
+    c.args.t.now named (ap is_some c.requires.closed)
     part.0 c.if-resizable.false part.2 there c.resizable.result c.resizable.ensures c.if-resizable-2.false
     (state_with d c.reserve.new.self pins) (λ i. record { content = d; names = c.reserve.ensures.names i; lineage = c.reserve.ensures.lineage i; pins = pins })
 
 pub slice_target-requires : goal.slice_target-requires
 slice_target-requires g c =
     let d = g.P.PageStore.content c.args.store.now in
-    let few = name_few d (name_of c.args.t.now) c.requires.parts.1.content (parts_inside d c.args.vmos.now (name_of c.args.t.now) c.requires.parts c.requires.named) in
+    let few = name_few d c.args.t.now c.requires.parts.1.content (parts_inside d c.args.vmos.now c.args.t.now c.requires.parts c.requires.named) in
     let part = c.in-Some.ensures.some in
     omega (arith, few, part.2, c.page_of.ensures)
 
 pub alias-requires-clause-koid : goal.alias-requires-clause-koid
 alias-requires-clause-koid g c =
-    known_still (lineage_in c.args.vmos.now) (lineage_in c.reserve.new.self) (name_of c.slice_target.result) (slice_of (name_of c.args.t.now) c.page_of.result c.in-Some.pages c.args.no_write)
-    (parts_lineage (g.P.PageStore.content c.args.store.now) c.args.vmos.now (name_of c.args.t.now) c.requires.parts c.requires.named) c.reserve.ensures.lineage c.slice_target.ensures
+    known_still (lineage_in c.args.vmos.now) (lineage_in c.reserve.new.self) c.slice_target.result (slice_of c.args.t.now c.page_of.result c.in-Some.pages c.args.no_write)
+    (parts_lineage (g.P.PageStore.content c.args.store.now) c.args.vmos.now c.args.t.now c.requires.parts c.requires.named) c.reserve.ensures.lineage c.slice_target.ensures
 
 pub returns-clause-step : goal.returns-clause-step
 returns-clause-step g c = λ pins parent named.
@@ -57,10 +57,10 @@ returns-clause-step g c = λ pins parent named.
     let s = state_with d c.args.vmos.now pins in
     let new = state_with d c.alias.new.self pins in
     let part = c.in-Some.ensures.some in
-    let there = parts_lineage (g.P.PageStore.content c.args.store.now) c.args.vmos.now (name_of c.args.t.now) c.requires.parts c.requires.named in
+    let there = parts_lineage (g.P.PageStore.content c.args.store.now) c.args.vmos.now c.args.t.now c.requires.parts c.requires.named in
     slice_done s c.args.name parent c.args.offset c.args.bytes c.args.resizable c.args.no_write
-    (name_of c.args.t.now) named (ap is_some c.requires.closed)
+    c.args.t.now named (ap is_some c.requires.closed)
     part.0 c.if-resizable.false part.2 there c.resizable.result c.resizable.ensures c.if-resizable-2.false
     new c.page_of.result c.in-Some.pages c.page_of.ensures part.1
-    (with_alias-is s new c.args.name.0 (name_of c.slice_target.result) (slice_of (name_of c.args.t.now) c.page_of.result c.in-Some.pages c.args.no_write) refl
+    (with_alias-is s new c.args.name.0 c.slice_target.result (slice_of c.args.t.now c.page_of.result c.in-Some.pages c.args.no_write) refl
     (entered _ _ _ _ _ c.reserve.ensures.names c.alias.ensures.names) c.slice_target.ensures (c.alias.ensures.lineage ∙ c.reserve.ensures.lineage) refl)

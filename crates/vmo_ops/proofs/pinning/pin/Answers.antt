@@ -2,7 +2,7 @@ use Rattle.std.proofs.Common.{subst, arith}
 use Rattle.std.specs.List.{range_with_len}
 use Rattle.vm_model.specs.Contents.Content.{Content}
 use Rattle.vm_model.specs.Contents.Owning.{OwnsAll}
-use Rattle.vmo_table.specs.Table.{name_of, state_with}
+use Rattle.vmo_table.specs.Table.{state_with}
 use Rattle.pin_table.specs.Table.{pins_of}
 use Rattle.vmo_ops.proofs.StepRows.{pages_of_le}
 use Rattle.vmo_ops.proofs.NameLaws.{named_vmo, named_lineage, named_inside}
@@ -13,31 +13,31 @@ use Rattle.vmo_ops.proofs.pinning.pin.Goals as goal
 
 pub returns-then-not-is_pin_range-clause-step : goal.returns-then-not-is_pin_range-clause-step
 returns-then-not-is_pin_range-clause-step g c = λ name named.
-    pin_odd (state_with (g.P.PageStore.content c.args.store.now) c.args.vmos.now (pins_of c.args.pins.now)) c.args.pin name c.args.offset c.args.len (name_of c.args.t.now) named c.requires.free
+    pin_odd (state_with (g.P.PageStore.content c.args.store.now) c.args.vmos.now (pins_of c.args.pins.now)) c.args.pin name c.args.offset c.args.len c.args.t.now named c.requires.free
     (λ range. absurd (let yes_range = c.is_pin_range.ensures.1 range in let not_range = c.if-not-is_pin_range.true in cc))
 
 pub place_in_vmo-requires-clause-inside : goal.place_in_vmo-requires-clause-inside
 place_in_vmo-requires-clause-inside g c =
-    named_inside (state_with (g.P.PageStore.content c.args.store.now) c.args.vmos.now (pins_of c.args.pins.now)) (name_of c.args.t.now) c.requires.good c.requires.named
+    named_inside (state_with (g.P.PageStore.content c.args.store.now) c.args.vmos.now (pins_of c.args.pins.now)) c.args.t.now c.requires.good c.requires.named
 
 pub returns-in_default-clause-step : goal.returns-in_default-clause-step
 returns-in_default-clause-step g c = λ name named.
-    pin_past (state_with (g.P.PageStore.content c.args.store.now) c.args.vmos.now (pins_of c.args.pins.now)) c.args.pin name c.args.offset c.args.len (name_of c.args.t.now) named c.requires.free
+    pin_past (state_with (g.P.PageStore.content c.args.store.now) c.args.vmos.now (pins_of c.args.pins.now)) c.args.pin name c.args.offset c.args.len c.args.t.now named c.requires.free
     (c.is_pin_range.ensures.0 c.if-not-is_pin_range.false) c.in_default.ensures.none
 
 pub need_of-need-requires-clause-vmo : goal.need_of-need-requires-clause-vmo
 need_of-need-requires-clause-vmo g c =
-    named_vmo (state_with (g.P.PageStore.content c.args.store.now) c.args.vmos.now (pins_of c.args.pins.now)) (name_of c.args.t.now) c.requires.good c.requires.named
+    named_vmo (state_with (g.P.PageStore.content c.args.store.now) c.args.vmos.now (pins_of c.args.pins.now)) c.args.t.now c.requires.good c.requires.named
 
 pub returns-then-need-from-clause-step : goal.returns-then-need-from-clause-step
 returns-then-need-from-clause-step g c = λ name named.
-    pin_no_memory (state_with (g.P.PageStore.content c.args.store.now) c.args.vmos.now (pins_of c.args.pins.now)) c.args.pin name c.args.offset c.args.len (name_of c.args.t.now) named c.requires.free
+    pin_no_memory (state_with (g.P.PageStore.content c.args.store.now) c.args.vmos.now (pins_of c.args.pins.now)) c.args.pin name c.args.offset c.args.len c.args.t.now named c.requires.free
     (c.is_pin_range.ensures.0 c.if-not-is_pin_range.false) c.in-Some.at c.page_of-first.result c.page_of-count.result c.in-Some.ensures.some c.page_of-first.ensures c.page_of-count.ensures
     c.need_of-need.result c.need_of-need.ensures (omega (arith, c.free.ensures, c.from.ensures))
 
 pub returns-in_default-reserve-clause-step : goal.returns-in_default-reserve-clause-step
 returns-in_default-reserve-clause-step g c = λ name named.
-    pin_lacks (state_with (g.P.PageStore.content c.args.store.now) c.args.vmos.now (pins_of c.args.pins.now)) c.args.pin name c.args.offset c.args.len (name_of c.args.t.now) named c.requires.free
+    pin_lacks (state_with (g.P.PageStore.content c.args.store.now) c.args.vmos.now (pins_of c.args.pins.now)) c.args.pin name c.args.offset c.args.len c.args.t.now named c.requires.free
     (c.is_pin_range.ensures.0 c.if-not-is_pin_range.false) c.in-Some.at c.page_of-first.result c.page_of-count.result c.in-Some.ensures.some c.page_of-first.ensures c.page_of-count.ensures
     c.need_of-need.result c.need_of-need.ensures (omega (arith, c.free.ensures, c.from.ensures))
     (state_with (g.P.PageStore.content c.args.store.now) c.args.vmos.now (pins_of c.reserve.new.self))
@@ -45,7 +45,7 @@ returns-in_default-reserve-clause-step g c = λ name named.
 
 pub returns-in_default-reserve_rows-clause-step : goal.returns-in_default-reserve_rows-clause-step
 returns-in_default-reserve_rows-clause-step g c = λ name named.
-    pin_lacks (state_with (g.P.PageStore.content c.args.store.now) c.args.vmos.now (pins_of c.args.pins.now)) c.args.pin name c.args.offset c.args.len (name_of c.args.t.now) named c.requires.free
+    pin_lacks (state_with (g.P.PageStore.content c.args.store.now) c.args.vmos.now (pins_of c.args.pins.now)) c.args.pin name c.args.offset c.args.len c.args.t.now named c.requires.free
     (c.is_pin_range.ensures.0 c.if-not-is_pin_range.false) c.in-Some.at c.page_of-first.result c.page_of-count.result c.in-Some.ensures.some c.page_of-first.ensures c.page_of-count.ensures
     c.need_of-need.result c.need_of-need.ensures (omega (arith, c.free.ensures, c.from.ensures))
     (state_with (g.P.PageStore.content c.reserve_rows.new.store) c.args.vmos.now (pins_of c.reserve.new.self))
@@ -58,7 +58,7 @@ add-requires-clause-pages g c =
 
 pub keep-requires-clause-koid : goal.keep-requires-clause-koid
 keep-requires-clause-koid g c =
-    named_lineage (state_with (g.P.PageStore.content c.args.store.now) c.args.vmos.now (pins_of c.args.pins.now)) (name_of c.args.t.now) c.requires.good c.requires.named
+    named_lineage (state_with (g.P.PageStore.content c.args.store.now) c.args.vmos.now (pins_of c.args.pins.now)) c.args.t.now c.requires.good c.requires.named
 
 pub keep-requires-clause-few : goal.keep-requires-clause-few
 keep-requires-clause-few g c = omega (arith, c.requires.counted c.args.t.now.koid.0, pin_count_le (pins_of c.args.pins.now) c.args.t.now.koid.0)
@@ -68,7 +68,7 @@ returns-clause-step g c = λ name named.
     let first = c.page_of-first.result in
     let count = c.page_of-count.result in
     let new = g.P.PageStore.content c.own_frames-numbers.new.store in
-    pin_done (state_with (g.P.PageStore.content c.args.store.now) c.args.vmos.now (pins_of c.args.pins.now)) c.args.pin name c.args.offset c.args.len (name_of c.args.t.now) named c.requires.free
+    pin_done (state_with (g.P.PageStore.content c.args.store.now) c.args.vmos.now (pins_of c.args.pins.now)) c.args.pin name c.args.offset c.args.len c.args.t.now named c.requires.free
     (c.is_pin_range.ensures.0 c.if-not-is_pin_range.false) c.in-Some.at c.page_of-first.result c.page_of-count.result c.in-Some.ensures.some c.page_of-first.ensures c.page_of-count.ensures
     c.need_of-need.result c.need_of-need.ensures (omega (arith, c.free.ensures, c.from.ensures))
     c.own_frames-numbers.result (state_with new c.keep.new.self (pins_of c.add.new.self))

@@ -1,5 +1,4 @@
 use Rattle.std.proofs.Common.{◌*◌, ◌+◌, arith}
-use Rattle.vmo_table.specs.Table.{name_of}
 use Rattle.vmo_ops.proofs.StepRows.{pages_of_le}
 use Rattle.vmo_ops.proofs.ChangeLaws.{IsRefusedBy-place, IsRefusedBy-no_memory, IsRefusedBy-lacks, IsAllowed-free}
 use Rattle.vmo_ops.proofs.NeedLaws.{need-any, need-at}
@@ -37,4 +36,4 @@ returns-clause-allowed g c =
     let ok = c.in-Ok.ensures.ok in
     let place = c.args.t.now.first * 4096 + c.args.offset in
     let counted = need-at d c.args.t.now.koid.0 c.in-Ok.at place c.args.len _ _ _ ok.1.place c.touched_pages-first.ensures.pages c.need_of-need.ensures in
-    IsAllowed-free d (name_of c.args.t.now) c.args.offset c.args.len _ ok.0 ok.1.range (omega (arith, counted, c.free.ensures, c.from.ensures))
+    IsAllowed-free d c.args.t.now c.args.offset c.args.len _ ok.0 ok.1.range (omega (arith, counted, c.free.ensures, c.from.ensures))

@@ -1,9 +1,8 @@
 use Rattle.std.proofs.Common.{arith}
-use Rattle.vmo_table.specs.Table.{name_of}
 use Rattle.vmo_ops.proofs.StepRows.{name_few}
 use Rattle.vmo_ops.proofs.sizes.size.Goals as goal
 
 pub overflow_mul-result : goal.overflow_mul-result
 overflow_mul-result g c =
-    let few = name_few (g.P.PageStore.content c.args.store.now) (name_of c.args.t.now) c.requires.good c.requires.inside in
+    let few = name_few (g.P.PageStore.content c.args.store.now) c.args.t.now c.requires.good c.requires.inside in
     omega arith

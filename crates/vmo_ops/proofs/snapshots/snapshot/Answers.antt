@@ -2,7 +2,7 @@ use Rattle.std.proofs.Common.{ℕ, arith, refl, ap, sym, subst, Option}
 use Rattle.std.specs.Prelude.{IsSome, is_some}
 use Rattle.vm_model.specs.Naming.Names.{Lineage}
 use Rattle.vm_model.proofs.StepLaws.{lineage_below}
-use Rattle.vmo_table.specs.Table.{name_of, state_with}
+use Rattle.vmo_table.specs.Table.{state_with}
 use Rattle.pin_table.specs.Table.{pins_of}
 use Rattle.vmo_ops.proofs.EntryLaws.{entered}
 use Rattle.vmo_ops.proofs.NameLaws.{named_inside, named_vmo, named_lineage}
@@ -12,12 +12,12 @@ use Rattle.vmo_ops.proofs.snapshots.snapshot.Goals as goal
 
 pub count-requires : goal.count-requires
 count-requires g c =
-    named_vmo (state_with (g.P.PageStore.content c.args.store.now) c.args.vmos.now (pins_of c.args.pins.now)) (name_of c.args.t.now) c.requires.good c.requires.named
+    named_vmo (state_with (g.P.PageStore.content c.args.store.now) c.args.vmos.now (pins_of c.args.pins.now)) c.args.t.now c.requires.good c.requires.named
 
 pub returns-then-pinned-clause-step : goal.returns-then-pinned-clause-step
 returns-then-pinned-clause-step g c = λ parent named.
     let s = state_with (g.P.PageStore.content c.args.store.now) c.args.vmos.now (pins_of c.args.pins.now) in
-    snapshot_pinned s c.args.name parent c.args.offset c.args.size c.args.resizable c.args.no_write (name_of c.args.t.now) named (ap is_some c.requires.closed)
+    snapshot_pinned s c.args.name parent c.args.offset c.args.size c.args.resizable c.args.no_write c.args.t.now named (ap is_some c.requires.closed)
     (args_fine c.args.offset c.in_page.result c.args.resizable c.args.no_write c.in_page.ensures c.if-in_page-ne0.false c.if-no_write.either) c.in-Some.ensures.some.1
     c.pinned.result (pinned_whole s c.args.t.now.koid.0 c.count.result c.pinned.result c.requires.good c.count.ensures c.pinned.ensures) c.if-pinned.true
 
@@ -26,7 +26,7 @@ returns-in_default-reserve-clause-step g c = λ parent named.
     let pins = pins_of c.args.pins.now in
     let s = state_with (g.P.PageStore.content c.args.store.now) c.args.vmos.now pins in
     let t = state_with (g.P.PageStore.content c.args.store.now) c.reserve.new.self pins in
-    snapshot_lacks s c.args.name parent c.args.offset c.args.size c.args.resizable c.args.no_write (name_of c.args.t.now) named (ap is_some c.requires.closed)
+    snapshot_lacks s c.args.name parent c.args.offset c.args.size c.args.resizable c.args.no_write c.args.t.now named (ap is_some c.requires.closed)
     (args_fine c.args.offset c.in_page.result c.args.resizable c.args.no_write c.in_page.ensures c.if-in_page-ne0.false c.if-no_write.either) c.in-Some.ensures.some.1
     c.pinned.result (pinned_whole s c.args.t.now.koid.0 c.count.result c.pinned.result c.requires.good c.count.ensures c.pinned.ensures) c.if-pinned.false
     t (λ i. record { content = s.content; names = c.reserve.ensures.names i; lineage = c.reserve.ensures.lineage i; pins = pins })
@@ -36,23 +36,23 @@ returns-in_default-snapshot-clause-step g c = λ parent named.
     let pins = pins_of c.args.pins.now in
     let s = state_with (g.P.PageStore.content c.args.store.now) c.args.vmos.now pins in
     let t = state_with (g.P.PageStore.content c.snapshot.new.self) c.reserve.new.self pins in
-    snapshot_lacks s c.args.name parent c.args.offset c.args.size c.args.resizable c.args.no_write (name_of c.args.t.now) named (ap is_some c.requires.closed)
+    snapshot_lacks s c.args.name parent c.args.offset c.args.size c.args.resizable c.args.no_write c.args.t.now named (ap is_some c.requires.closed)
     (args_fine c.args.offset c.in_page.result c.args.resizable c.args.no_write c.in_page.ensures c.if-in_page-ne0.false c.if-no_write.either) c.in-Some.ensures.some.1
     c.pinned.result (pinned_whole s c.args.t.now.koid.0 c.count.result c.pinned.result c.requires.good c.count.ensures c.pinned.ensures) c.if-pinned.false
     t (λ i. record { content = c.in_default-snapshot.ensures.err i; names = c.reserve.ensures.names i; lineage = c.reserve.ensures.lineage i; pins = pins })
 
 pub seen_part-first-requires-clause-inside : goal.seen_part-first-requires-clause-inside
 seen_part-first-requires-clause-inside g c =
-    named_inside (state_with (g.P.PageStore.content c.args.store.now) c.args.vmos.now (pins_of c.args.pins.now)) (name_of c.args.t.now) c.requires.good c.requires.named
+    named_inside (state_with (g.P.PageStore.content c.args.store.now) c.args.vmos.now (pins_of c.args.pins.now)) c.args.t.now c.requires.good c.requires.named
 
 pub snapshot-requires-clause-vmo : goal.snapshot-requires-clause-vmo
 snapshot-requires-clause-vmo g c =
-    named_vmo (state_with (g.P.PageStore.content c.args.store.now) c.args.vmos.now (pins_of c.args.pins.now)) (name_of c.args.t.now) c.requires.good c.requires.named
+    named_vmo (state_with (g.P.PageStore.content c.args.store.now) c.args.vmos.now (pins_of c.args.pins.now)) c.args.t.now c.requires.good c.requires.named
 
 pub enter-requires-clause-parent : goal.enter-requires-clause-parent
 enter-requires-clause-parent g c =
     let s = state_with (g.P.PageStore.content c.args.store.now) c.args.vmos.now (pins_of c.args.pins.now) in
-    let there = named_lineage s (name_of c.args.t.now) c.requires.good c.requires.named in
+    let there = named_lineage s c.args.t.now c.requires.good c.requires.named in
     let older = lineage_below s c.args.t.now.koid.0 c.requires.good there in
     (omega (arith, older, c.in-Ok-snapshot.ensures.koid), subst (λ (f : ℕ → Option Lineage). IsSome (f c.args.t.now.koid.0)) (sym c.reserve.ensures.lineage) there)
 
@@ -62,7 +62,7 @@ returns-clause-step g c = λ parent named.
     let s = state_with (g.P.PageStore.content c.args.store.now) c.args.vmos.now pins in
     let new = state_with (g.P.PageStore.content c.snapshot.new.self) c.enter.new.self pins in
     let part = c.seen_part-first.ensures in
-    snapshot_done s c.args.name parent c.args.offset c.args.size c.args.resizable c.args.no_write (name_of c.args.t.now) named (ap is_some c.requires.closed)
+    snapshot_done s c.args.name parent c.args.offset c.args.size c.args.resizable c.args.no_write c.args.t.now named (ap is_some c.requires.closed)
     (args_fine c.args.offset c.in_page.result c.args.resizable c.args.no_write c.in_page.ensures c.if-in_page-ne0.false c.if-no_write.either) c.in-Some.ensures.some.1
     c.pinned.result (pinned_whole s c.args.t.now.koid.0 c.count.result c.pinned.result c.requires.good c.count.ensures c.pinned.ensures) c.if-pinned.false
     new c.in-Ok-snapshot.koid.0 c.page_of.result c.seen_part-first.result.0 c.seen_part-first.result.1 c.in-Some.pages
