@@ -10,6 +10,3 @@ mod vmo_info;
 
 pub use machine_stat::stat;
 pub use vmo_info::info;
-
-#[cfg(test)]
-mod tests;
