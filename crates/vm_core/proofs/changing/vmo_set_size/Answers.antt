@@ -1,12 +1,12 @@
 use Rattle.std.proofs.Common.{sym}
-use Rattle.vmo_table.specs.Table.{name_of, state_with}
+use Rattle.vmo_table.specs.Table.{state_with}
 use Rattle.pin_table.specs.Table.{pins_of}
 use Rattle.vmo_ops.proofs.StepRows.{IsInside-good}
 use Rattle.vm_core.proofs.changing.vmo_set_size.Goals as goal
 
 pub resize-requires-clause-inside : goal.resize-requires-clause-inside
 resize-requires-clause-inside g c =
-    IsInside-good (state_with (g.P.PageStore.content c.args.store.now) c.args.vmos.now (pins_of c.args.pins.now)) c.args.name.0 (name_of c.in-Some.target) c.requires (sym c.in-Some.ensures)
+    IsInside-good (state_with (g.P.PageStore.content c.args.store.now) c.args.vmos.now (pins_of c.args.pins.now)) c.args.name.0 c.in-Some.target c.requires (sym c.in-Some.ensures)
 
 pub returns-in-Some : goal.returns-in-Some
 returns-in-Some g c =
