@@ -4,7 +4,7 @@ use Rattle.std.proofs.lemmas.List.{nil_from_length, take_at}
 use Rattle.std.proofs.lemmas.List.Elements.{All-append, All-nil}
 use Rattle.script_io.specs.Reader.{HasNoFeed, IsOver, Reader, Window}
 use Rattle.script_io.specs.Fetching.{IsPending, Fetched, Measured, Looked}
-use Rattle.script_io.specs.declared.line_reader.TheConstants.{LINE_LIMIT}
+use Rattle.vm_base.specs.declared.limits.TheConstants.{LINE_BYTES}
 use Rattle.script_io.specs.declared.line_reader.Fetch.{Fetch}
 use Rattle.script_io.specs.declared.line_reader.Fetch.TheVariants.{Line, TooLong, End, Fault, Limit}
 
@@ -22,11 +22,11 @@ measured_line Line new bytes dropped line left lost size no_feed no_feed' parts 
         no_feed = subst HasNoFeed (sym measured.2) no_feed';
         parts = subst (λ (xs : List ℕ). (bytes ≡ xs ++ 10 ∷ left) ⊎ ((bytes ≡ xs) × (left ≡ []) × (0 < length xs) × (new.ended ≡ true))) whole parts;
       },
-      subst (λ (xs : List ℕ). length xs ≤ LINE_LIMIT) (sym measured.2) measured.1,
+      subst (λ (xs : List ℕ). length xs ≤ LINE_BYTES) (sym measured.2) measured.1,
       within,
     )
 measured_line TooLong new bytes dropped line left lost size no_feed no_feed' parts measured within =
-    let long : LINE_LIMIT < length (dropped ++ line) = simp length-append (omega (arith, measured.0)) in
+    let long : LINE_BYTES < length (dropped ++ line) = simp length-append (omega (arith, measured.0)) in
     (dropped ++ line, record { no_feed = All-append (λ b. b ≢ 10) dropped line no_feed no_feed'; parts = parts }, long, measured.1, within)
 measured_line End new bytes dropped line left lost size no_feed no_feed' parts measured within = absurd measured
 measured_line Fault new bytes dropped line left lost size no_feed no_feed' parts measured within = absurd measured

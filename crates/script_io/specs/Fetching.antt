@@ -2,7 +2,7 @@
 use Rattle.std.specs.Prelude.{◌≡◌, ℕ, ◌+◌, ◌<◌, ◌≤◌, ◌⊎◌, Bool, true, List, [], ◌∷◌, ◌++◌, length, Option, None, Some}
 use Rattle.std.specs.Io.KnownBytes.{Consumes, IsAtEnd}
 use Rattle.script_io.specs.Reader.{Reader, HasNoFeed, IsOver}
-use Rattle.script_io.specs.declared.line_reader.TheConstants.{LINE_LIMIT}
+use Rattle.vm_base.specs.declared.limits.TheConstants.{LINE_BYTES}
 use Rattle.script_io.specs.declared.line_reader.Fetch.{Fetch}
 use Rattle.script_io.specs.declared.line_reader.Fetch.TheVariants.{Line, TooLong, End, Fault, Limit}
 
@@ -23,12 +23,12 @@ pub record IsFirstLine (ended : Bool) (bytes line left : List ℕ) : Type 0 wher
 
 -- What a reader answers of the bytes that were pending, with those that it took since, and what it leaves pending.
 abbrev pub Fetched : Fetch → Reader → List ℕ → List ℕ → Type 0
--- the first line has at most 16,384 bytes, and the reader lends it
+-- the first line has at most LINE_BYTES bytes, and the reader lends it
 Fetched Line reader bytes left =
-    IsFirstLine reader.ended bytes reader.line left × (length reader.line ≤ LINE_LIMIT) × (reader.taken ≤ reader.limit)
+    IsFirstLine reader.ended bytes reader.line left × (length reader.line ≤ LINE_BYTES) × (reader.taken ≤ reader.limit)
 -- the first line is longer, and was passed over
 Fetched TooLong reader bytes left =
-    (line : List ℕ) × IsFirstLine reader.ended bytes line left × (LINE_LIMIT < length line) × (reader.line ≡ []) × (reader.taken ≤ reader.limit)
+    (line : List ℕ) × IsFirstLine reader.ended bytes line left × (LINE_BYTES < length line) × (reader.line ≡ []) × (reader.taken ≤ reader.limit)
 -- the source is at its end and every line was given
 Fetched End reader bytes left =
     (bytes ≡ []) × (left ≡ []) × (reader.ended ≡ true) × (reader.line ≡ []) × (reader.taken ≤ reader.limit)
@@ -63,8 +63,8 @@ pub record Waits (old new : Reader) (before after : Option (List ℕ)) (pending 
   pub taken : new.taken ≡ old.taken + length part
   pub still : IsPending new after (pending ++ part)
 
--- a line is at most 16,384 bytes long and is lent, or it is longer and is not: `dropped` bytes of its front were dropped
+-- a line has at most LINE_BYTES bytes and is lent, or it has more and is not: `dropped` bytes of its front were dropped
 abbrev pub Measured : Fetch → ℕ → List ℕ → List ℕ → Type 0
-Measured Line dropped line lent = (dropped ≡ 0) × (length line ≤ LINE_LIMIT) × (lent ≡ line)
-Measured TooLong dropped line lent = (LINE_LIMIT < dropped + length line) × (lent ≡ [])
+Measured Line dropped line lent = (dropped ≡ 0) × (length line ≤ LINE_BYTES) × (lent ≡ line)
+Measured TooLong dropped line lent = (LINE_BYTES < dropped + length line) × (lent ≡ [])
 Measured _ dropped line lent = ⊥

@@ -21,7 +21,7 @@ mod sure_source;
 mod write_sink;
 
 pub use count_sink::CountSink;
-pub use line_reader::{Fetch, LINE_LIMIT, Lines};
+pub use line_reader::{Fetch, Lines};
 pub use mem_sink::MemSink;
 pub use mem_source::MemSource;
 pub use read_source::ReadSource;

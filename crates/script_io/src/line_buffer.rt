@@ -11,8 +11,10 @@ use std::alloc::Global;
 use std::marker::Model;
 use vm_base::{Failed, HostMemory};
 
-/// The bytes of a buffer.
-pub(crate) const BUFFER_BYTES: usize = 65536;
+/// The most bytes that a reader holds of its source at once, and so the most that one pull gives it.
+/// A choice of this file: more than a line may have, so that there is always room to pull, and
+/// several times as many, so that one pull brings many lines.
+const BUFFER_BYTES: usize = 65536;
 
 const LINE_FEED: u8 = b'\n';
 

@@ -10,17 +10,14 @@ use crate::line_buffer::LineBuffer;
 use crate::source::Source;
 use std::alloc::Global;
 use std::marker::Model;
-use vm_base::{Failed, HostMemory};
-
-/// How many bytes a line may have, without its line feed.
-pub const LINE_LIMIT: usize = 16384;
+use vm_base::{Failed, HostMemory, LINE_BYTES};
 
 /// What a line reader fetched.
 #[derive(Clone, Copy, Debug, PartialEq, Eq)]
 pub enum Fetch {
     /// The next line, which the reader lends.
     Line,
-    /// The next line has more than `LINE_LIMIT` bytes. It was passed over.
+    /// The next line has more than `LINE_BYTES` bytes. It was passed over.
     TooLong,
     /// The source is at its end, and every line was fetched.
     End,
@@ -44,7 +41,7 @@ pub struct Lines {
 impl Model for Lines {
     ghost use Rattle.std.specs.Prelude.{◌++◌};
     ghost use Rattle.script_io.specs.Reader.{Reader, IsReading};
-    ghost use Rattle.script_io.specs.declared.line_reader.TheConstants.{LINE_LIMIT};
+    ghost use Rattle.vm_base.specs.declared.limits.TheConstants.{LINE_BYTES};
 
     ghost Value = { Reader };
 
@@ -57,7 +54,7 @@ impl Model for Lines {
       ended = s.ended;
     } };
 
-    ghost invariant = { λ s. IsReading LINE_LIMIT s.limit s.taken s.lost s.buffer };
+    ghost invariant = { λ s. IsReading LINE_BYTES s.limit s.taken s.lost s.buffer };
 }
 
 impl Lines {
@@ -88,7 +85,7 @@ impl Lines {
     /// fetched none.
     pub fn line(&self) -> &[u8]
         ensures bytes { result.now ≡ self.now.line }
-        ensures len { length result.now ≤ LINE_LIMIT }
+        ensures len { length result.now ≤ LINE_BYTES }
     {
         self.buffer.line()
     }
@@ -124,7 +121,7 @@ impl Lines {
             → IsPending self.old remaining pending → Looked result self.new remaining pending }
         ensures given { result ≢ Some Fetch.Fault }
         ensures none { IfNone result ((self.new.ended ≡ false) × (self.new.taken ≤ self.new.limit)
-            × (self.new.line ≡ []) × HasNoFeed self.new.held × (length self.new.held ≤ LINE_LIMIT)) }
+            × (self.new.line ≡ []) × HasNoFeed self.new.held × (length self.new.held ≤ LINE_BYTES)) }
         ensures limit { self.new.limit ≡ self.old.limit }
         ensures taken { self.new.taken ≡ self.old.taken }
         ensures ended { self.new.ended ≡ self.old.ended }
@@ -151,7 +148,7 @@ impl Lines {
         requires ended { self.old.ended ≡ false }
         requires within { self.old.taken ≤ self.old.limit }
         requires no_feed { HasNoFeed self.old.held }
-        requires short { length self.old.held ≤ LINE_LIMIT }
+        requires short { length self.old.held ≤ LINE_BYTES }
         ensures grows { IfOk result (λ n.
             Grows self.old.held self.new.held (S.remaining source.old) (S.remaining source.new) n) }
         ensures ok { IfOk result (λ n. self.new ≡ record self.old {
@@ -177,14 +174,14 @@ impl Lines {
 /// dropped.
 fn measure(buffer: &mut LineBuffer, lost: &mut u64) -> Fetch
     requires fits { lost.old + length buffer.old.line < 2 ^ 64 }
-    requires long { 0 < lost.old → LINE_LIMIT < lost.old }
+    requires long { 0 < lost.old → LINE_BYTES < lost.old }
     ensures measured { Measured result lost.old buffer.old.line buffer.new.line }
     ensures lost { lost.new ≡ 0 }
     ensures buffer { buffer.new ≡ record buffer.old { line = buffer.new.line } }
 {
     let len = *lost + buffer.line_len() as u64;
     *lost = 0;
-    if len <= LINE_LIMIT as u64 {
+    if len <= LINE_BYTES as u64 {
         return Fetch::Line;
     }
     buffer.forget_line();
@@ -194,15 +191,15 @@ fn measure(buffer: &mut LineBuffer, lost: &mut u64) -> Fetch
 /// Drops the bytes that were searched where they are the front of a line that is too long.
 fn shed(buffer: &mut LineBuffer, lost: &mut u64)
     requires fits { lost.old + length buffer.old.seen < 2 ^ 64 }
-    requires long { 0 < lost.old → LINE_LIMIT < lost.old }
+    requires long { 0 < lost.old → LINE_BYTES < lost.old }
     ensures lost { lost.new + length buffer.new.seen ≡ lost.old + length buffer.old.seen }
-    ensures short { length buffer.new.seen ≤ LINE_LIMIT }
-    ensures long { 0 < lost.new → LINE_LIMIT < lost.new }
+    ensures short { length buffer.new.seen ≤ LINE_BYTES }
+    ensures long { 0 < lost.new → LINE_BYTES < lost.new }
     ensures buffer { (buffer.new ≡ buffer.old)
         ⊎ (buffer.new ≡ record buffer.old { seen = [] }) }
 {
     let len = buffer.seen_len();
-    if *lost > 0 || len > LINE_LIMIT {
+    if *lost > 0 || len > LINE_BYTES {
         *lost += len as u64;
         buffer.drop_seen();
     }
