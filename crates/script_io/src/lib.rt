@@ -32,6 +32,4 @@ pub use sure_source::SureSource;
 pub use write_sink::WriteSink;
 
 #[cfg(test)]
-mod line_tests;
-#[cfg(test)]
 mod tests;

@@ -1,86 +1,129 @@
+// What no clause says: that there is memory where there is ample, and in which order and how often
+// the forms over the system, the line reader and `push_all` call what they stand on.
 use super::*;
+use std::io::{self, ErrorKind, Read, Write};
 use std::test::Fail;
 use vm_base::Failed;
 
-const BYTES: &[u8; 7] = b"abcdefg";
+/// A reader whose next read may be made to fail, as one that a signal interrupts. It fails once.
+#[derive(Drop)]
+struct Interrupted<'a> {
+    rest: &'a [u8],
+    fails: bool,
+}
 
-// Moves the whole source into the sink, and says how many calls on either failed.
-fn moved<S: Source, K: Sink>(source: &mut S, sink: &mut K) -> usize {
-    let mut failed = 0usize;
-    for _ in 0..100 {
-        let mut buf = [0u8; 4];
-        match source.pull(&mut buf) {
-            Ok(0) => return failed,
-            Ok(n) => {
-                if push_all(sink, &buf[..n]).is_err() {
-                    failed = failed.saturating_add(1);
-                }
-            }
-            Err(_) => failed = failed.saturating_add(1),
+impl<'a> Read for Interrupted<'a> {
+    fn read(&mut self, buf: &mut [u8]) -> io::Result<usize> {
+        if self.fails {
+            self.fails = false;
+            return Err(io::Error::from(ErrorKind::Interrupted));
         }
+        self.rest.read(buf)
     }
-    failed
 }
 
-#[test]
-fn pieces_give_the_same_bytes(rt: HostRuntime) -> Result<(), Fail> {
-    for piece in [1, 2, 3, 7] {
-        let mut source = MemSource::new(rt.alloc(), BYTES, piece, &[])?;
-        let mut sink = MemSink::new(rt.alloc(), 7, piece, &[])?;
-        assert_eq!(rt; moved(&mut source, &mut sink), 0, "in pieces of {piece}");
-        assert_eq!(rt; sink.bytes(), BYTES.as_slice(), "in pieces of {piece}");
+/// A writer that holds what it takes, and passes it on when it is flushed. Its next write and its
+/// next flush may be made to fail. Each fails once.
+#[derive(Drop)]
+struct Holding {
+    held: Vec<u8>,
+    passed: Vec<u8>,
+    write_fails: bool,
+    flush_fails: bool,
+}
+
+impl Write for Holding {
+    fn write(&mut self, buf: &[u8]) -> io::Result<usize> {
+        if self.write_fails {
+            self.write_fails = false;
+            return Err(io::Error::from(ErrorKind::Interrupted));
+        }
+        self.held.extend_from_slice(buf)?;
+        Ok(buf.len())
     }
-    let mut sink = MemSink::new(rt.alloc(), 100, 100, &[])?;
-    assert_eq!(rt; moved(&mut SureSource::new(BYTES), &mut sink), 0);
-    assert_eq!(rt; sink.bytes(), BYTES.as_slice());
-    Ok(())
+
+    fn flush(&mut self) -> io::Result<()> {
+        if self.flush_fails {
+            self.flush_fails = false;
+            return Err(io::Error::from(ErrorKind::Interrupted));
+        }
+        self.passed.extend_from_slice(self.held.as_slice())?;
+        self.held.clear();
+        Ok(())
+    }
 }
 
 #[test]
-fn planned_calls_fail_and_the_next_go_on(rt: HostRuntime) -> Result<(), Fail> {
-    let mut source = MemSource::new(rt.alloc(), BYTES, 3, &[1, 3])?;
-    let mut sink = MemSink::new(rt.alloc(), 7, 7, &[])?;
-    assert_eq!(rt; moved(&mut source, &mut sink), 2);
-    assert_eq!(rt; sink.bytes(), BYTES.as_slice());
-
-    let mut sink = MemSink::new(rt.alloc(), 7, 2, &[2])?;
-    assert_eq!(rt; push_all(&mut sink, BYTES), Err(Failed));
-    assert_eq!(rt; sink.bytes(), b"ab".as_slice());
-    assert_eq!(rt; push_all(&mut sink, b"xyz"), Ok(()));
-    assert_eq!(rt; sink.bytes(), b"abxyz".as_slice());
-    Ok(())
-}
-
-#[test]
-fn a_full_sink_fails(rt: HostRuntime) -> Result<(), Fail> {
-    let mut sink = MemSink::new(rt.alloc(), 5, 3, &[])?;
-    assert_eq!(rt; push_all(&mut sink, BYTES), Err(Failed));
+fn lines_move_where_memory_is_ample(rt: HostRuntime) -> Result<(), Fail> {
+    let mut source = MemSource::new(rt.alloc(), b"ab\ncde", 2, &[])?;
+    let mut sink = MemSink::new(rt.alloc(), 5, 2, &[])?;
+    let mut lines = Lines::new(rt.alloc(), 1000)?;
+    assert_eq!(rt; lines.next(&mut source), Fetch::Line);
+    push_all(&mut sink, lines.line())?;
+    assert_eq!(rt; lines.next(&mut source), Fetch::Line);
+    push_all(&mut sink, lines.line())?;
+    assert_eq!(rt; lines.next(&mut source), Fetch::End);
     assert_eq!(rt; sink.bytes(), b"abcde".as_slice());
-    assert_eq!(rt; push_all(&mut sink, b""), Ok(()));
-    assert_eq!(rt; sink.push(b"f"), Err(Failed));
     Ok(())
 }
 
 #[test]
-fn readers_and_writers_move_bytes(rt: HostRuntime) -> Result<(), Fail> {
-    let mut written = Vec::new(rt.alloc());
-    let mut sink = WriteSink::new(&mut written);
-    let mut source = ReadSource::new(BYTES.as_slice());
-    assert_eq!(rt; moved(&mut source, &mut sink), 0);
-    assert_eq!(rt; written.as_slice(), BYTES.as_slice());
-    Ok(())
-}
-
-#[test]
-fn codes_are_in_order(rt: HostRuntime) {
-    for (status, want) in [
-        (Status::Done, 0),
-        (Status::Usage, 2),
-        (Status::HostMemory, 3),
-        (Status::ReadFault, 4),
-        (Status::WriteFault, 5),
-        (Status::ScriptLimit, 6),
+fn a_failed_pull_is_answered_at_once(rt: HostRuntime) -> Result<(), Fail> {
+    let mut source = MemSource::new(rt.alloc(), b"ab\ncd", 4, &[1, 2, 4, 5])?;
+    let mut lines = Lines::new(rt.alloc(), 1000)?;
+    for want in [
+        Fetch::Fault,
+        Fetch::Fault,
+        Fetch::Line,
+        Fetch::Fault,
+        Fetch::Fault,
+        Fetch::Line,
+        Fetch::End,
     ] {
-        assert_eq!(rt; code(status), want, "of {status:?}");
+        assert_eq!(rt; lines.next(&mut source), want);
     }
+    Ok(())
+}
+
+#[test]
+fn a_failed_push_is_answered_at_once(rt: HostRuntime) -> Result<(), Fail> {
+    let mut sink = MemSink::new(rt.alloc(), 9, 2, &[2, 3])?;
+    assert_eq!(rt; push_all(&mut sink, b"abcd"), Err(Failed));
+    assert_eq!(rt; push_all(&mut sink, b"efgh"), Err(Failed));
+    assert_eq!(rt; push_all(&mut sink, b"ijkl"), Ok(()));
+    assert_eq!(rt; sink.bytes(), b"abijkl".as_slice());
+    Ok(())
+}
+
+#[test]
+fn a_failed_read_is_answered_at_once(rt: HostRuntime) {
+    let mut source = ReadSource::new(Interrupted {
+        rest: b"abc",
+        fails: true,
+    });
+    let mut buf = [0u8; 5];
+    assert_eq!(rt; source.pull(&mut buf), Err(Failed));
+    assert_eq!(rt; source.pull(&mut buf), Ok(3));
+    assert_eq!(rt; &buf, b"abc\0\0");
+    assert_eq!(rt; source.pull(&mut buf), Ok(0));
+}
+
+#[test]
+fn a_push_is_flushed_and_a_failed_one_is_answered_at_once(rt: HostRuntime) {
+    let mut writer = Holding {
+        held: Vec::new(rt.alloc()),
+        passed: Vec::new(rt.alloc()),
+        write_fails: false,
+        flush_fails: false,
+    };
+    assert_eq!(rt; WriteSink::new(&mut writer).push(b"abc"), Ok(3));
+    assert_eq!(rt; writer.passed.as_slice(), b"abc".as_slice());
+
+    writer.flush_fails = true;
+    assert_eq!(rt; WriteSink::new(&mut writer).push(b"de"), Err(Failed));
+    assert_eq!(rt; writer.held.as_slice(), b"de".as_slice());
+
+    writer.write_fails = true;
+    assert_eq!(rt; WriteSink::new(&mut writer).push(b"f"), Err(Failed));
+    assert_eq!(rt; writer.held.as_slice(), b"de".as_slice());
 }
