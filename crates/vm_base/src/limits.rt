@@ -1,4 +1,5 @@
 //! The sizes and limits of the machine, each in one place: code, clauses and definitions cite these.
+//! A `const _` below a constant says once more, in other words, what is known of it, and is proved.
 
 /// The bytes of a page (`ZX_PAGE_SIZE`).
 pub const PAGE: u64 = 4096;
@@ -6,8 +7,12 @@ pub const PAGE: u64 = 4096;
 /// The bytes of a page, as the length of an array.
 pub const PAGE_BYTES: usize = PAGE as usize;
 
+const _: () = prove!(PAGE_BYTES == 1 << 12);
+
 /// The greatest page count of a VMO: 2^36 bytes.
 pub const VMO_PAGES: u64 = 16777216;
+
+const _: () = prove!(VMO_PAGES * PAGE == 1 << 36);
 
 /// The greatest number of page frames of a machine.
 pub const FRAMES: u32 = 65536;
@@ -19,8 +24,12 @@ pub const PAGES_END: u64 = 4503599627370496;
 /// The first page of a root region, at address 0x200000.
 pub const ROOT_FIRST: u64 = 512;
 
+const _: () = prove!(ROOT_FIRST * PAGE == 0x200000);
+
 /// The page behind the last page of a root region, at address 2^48.
 pub const ROOT_END: u64 = 68719476736;
+
+const _: () = prove!(ROOT_END * PAGE == 1 << 48);
 
 /// The most bytes of one read or write command.
 pub const DATA_BYTES: usize = 4096;
@@ -31,8 +40,12 @@ pub const PIN_PAGES: usize = 256;
 /// How many names of a kind there are: `v0`, `v1` and so on, and the same of regions and pins.
 pub const NAMES: u64 = 4294967296;
 
+const _: () = prove!(NAMES == 1 << 32);
+
 /// Koids are below it, since a script has fewer lines: 2^63.
 pub const KOIDS: u64 = 9223372036854775808;
+
+const _: () = prove!(KOIDS == 1 << 63);
 
 /// The most bytes of a line of a script, without its line feed.
 pub const LINE_BYTES: usize = 16384;
@@ -40,8 +53,12 @@ pub const LINE_BYTES: usize = 16384;
 /// The most bytes of a script.
 pub const SCRIPT_BYTES: u64 = 4294967296;
 
+const _: () = prove!(SCRIPT_BYTES < KOIDS);
+
 /// The room that a line of a reply and a spelled command are written to, in bytes.
 pub const TEXT_ROOM: usize = 16384;
 
 /// Each line of a reply and each spelled command is shorter, in bytes, line feed and all.
 pub const TEXT_BYTES: usize = 8300;
+
+const _: () = prove!(TEXT_BYTES <= TEXT_ROOM);
