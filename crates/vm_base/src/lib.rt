@@ -19,6 +19,3 @@ pub use limits::{
 pub use names::{Koid, PinName, RegionName, Tag, VmoName};
 pub use pages::{PageNo, in_page, page_of, round_up};
 pub use refusal::{Failed, HostMemory, Refusal};
-
-#[cfg(test)]
-mod tests;

@@ -36,10 +36,12 @@ pub enum Refusal {
     HostMemory,
 }
 
-/// The host has too little memory. Nothing was changed.
+/// The host has too little memory for what a call asked for. What the object holds is as it was, as
+/// the clauses of each call that answers this say. They say nothing of its spare room.
 #[derive(Clone, Copy, Debug, PartialEq, Eq)]
 pub struct HostMemory;
 
-/// Reading or writing failed at the system. No byte was taken by the call that failed.
+/// Reading or writing failed. A source or a sink that tells its bytes has those that it had before
+/// the call. One over the system tells none: a part of what it was to write may have been written.
 #[derive(Clone, Copy, Debug, PartialEq, Eq)]
 pub struct Failed;
