@@ -8,7 +8,8 @@ use crate::sink::Sink;
 use std::marker::Model;
 use vm_base::Failed;
 
-/// A sink that takes everything and keeps only how many bytes it took. Clauses see that number.
+/// A sink that takes everything, never fails, and keeps only how many bytes it took. Clauses see that
+/// number.
 #[derive(Debug, Drop)]
 pub struct CountSink {
     taken: u64,

@@ -1,10 +1,11 @@
 //! Where the bytes of a script come from and where replies go, and how a run ends.
 //!
 //! A `Source` gives bytes, a `Sink` takes them, and each counts its faults, so that a layer above
-//! may promise that it reports a fault only where one came. `SureSource`, `MemSource` and `MemSink`
-//! stand in memory and tell their bytes; `CountSink` only counts them; `ReadSource` and `WriteSink`
-//! reach the system. `Lines` reads a source line by line. It stands on `vm_base` alone. The layers
-//! above may use all of it.
+//! may promise that it reports a fault only where one was counted, or the count stands at its end.
+//! `SureSource`, `MemSource` and `MemSink` stand in memory and tell their bytes to clauses;
+//! `CountSink` only counts them; `ReadSource` and `WriteSink` stand over a reader and a writer, such
+//! as the system's streams. `Lines` reads a source line by line, and `push_all` pushes all of some
+//! bytes. It stands on `vm_base` alone. The layers above may use all of it.
 #![tactic(auto)]
 
 mod count_sink;

@@ -133,8 +133,8 @@ impl LineBuffer {
         }
     }
 
-    /// Pulls bytes behind those that are held: as many as there is room for, and at most `most`.
-    /// It lends no line any more.
+    /// Pulls bytes once, behind those that are held: at most `most`, and no more than there is room
+    /// for. It lends no line any more.
     pub(crate) fn pull<S: Source>(&mut self, source: &mut S, most: u64) -> Result<usize, Failed>
         requires room { length self.old.seen + length self.old.fresh < BUFFER_BYTES }
         requires some { 0 < most }
@@ -171,8 +171,8 @@ fn move_to_front(bytes: &mut Vec<u8>, start: usize, end: usize)
     }
 }
 
-/// Pulls bytes into a buffer behind the first `from`: as many as there is room for, and at most
-/// `most`.
+/// Pulls bytes once, into a buffer behind its first `from`: at most `most`, and no more than there is
+/// room for.
 fn pull_behind<S: Source>(
     source: &mut S,
     bytes: &mut [u8],
@@ -192,7 +192,7 @@ fn pull_behind<S: Source>(
     source.pull(&mut behind[..room])
 }
 
-/// As many zeros as a buffer has bytes.
+/// The memory of a buffer. What its bytes are does not matter.
 fn zero_bytes(alloc: Global) -> Result<Vec<u8>, HostMemory>
     ensures { IfOk result (λ v. length v.items ≡ BUFFER_BYTES) }
 {

@@ -19,11 +19,12 @@ pub enum Fetch {
     Line,
     /// The next line has more than `LINE_BYTES` bytes. It was passed over.
     TooLong,
-    /// The source is at its end, and every line was fetched.
+    /// The source has said that it is at its end, and every line was fetched.
     End,
     /// Reading failed. The bytes that were taken are kept, and the next call goes on with them.
     Fault,
-    /// More bytes than the limit were taken, and every line that ends within the limit was fetched.
+    /// One byte more than the limit was taken, and every line whose line feed lies within the limit was
+    /// fetched.
     Limit,
 }
 
@@ -90,8 +91,9 @@ impl Lines {
         self.buffer.line()
     }
 
-    /// Fetches the next line. Bytes are pulled only when all that were pulled before are used up,
-    /// and once the end was seen none are.
+    /// Fetches the next line. Bytes are pulled only where those that were pulled before have no line
+    /// feed left, and none are once the source has said that it is at its end. A pull that fails is
+    /// answered, and the next call pulls again.
     pub fn next<S: Source>(&mut self, source: &mut S) -> Fetch
         ensures fetches { (pending : List ℕ)
             → IsPending self.old (S.remaining source.old) pending
@@ -113,8 +115,8 @@ impl Lines {
         }
     }
 
-    /// Fetches from the bytes that are held. `None` where they are the front of a line, and what
-    /// they are the front of is kept.
+    /// Fetches from the bytes that are held. `None` where they have no line feed and more may come:
+    /// they are kept as the front of a line, or dropped where it is too long.
     fn look(&mut self) -> Option<Fetch>
         requires { self.old.line ≡ [] }
         ensures looked { (remaining : Option (List ℕ)) (pending : List ℕ)
@@ -143,7 +145,8 @@ impl Lines {
         None
     }
 
-    /// Pulls bytes, up to the limit, or one byte where the limit is reached.
+    /// Pulls bytes, at most those that are left to the limit, or one where it is reached. An answer
+    /// of 0 is taken for the end.
     fn pull<S: Source>(&mut self, source: &mut S) -> Result<usize, Failed>
         requires ended { self.old.ended ≡ false }
         requires within { self.old.taken ≤ self.old.limit }
@@ -170,8 +173,8 @@ impl Lines {
     }
 }
 
-/// Whether the line in the buffer is one, or is too long to be lent: `lost` bytes of its front were
-/// dropped.
+/// Says of the line in the buffer, of whose front `lost` bytes were dropped, that it is lent or that it
+/// is too long. One that is too long is lent no more.
 fn measure(buffer: &mut LineBuffer, lost: &mut u64) -> Fetch
     requires fits { lost.old + length buffer.old.line < 2 ^ 64 }
     requires long { 0 < lost.old → LINE_BYTES < lost.old }
@@ -188,7 +191,7 @@ fn measure(buffer: &mut LineBuffer, lost: &mut u64) -> Fetch
     Fetch::TooLong
 }
 
-/// Drops the bytes that were searched where they are the front of a line that is too long.
+/// Drops the bytes that were searched where they are of a line that is too long, and counts them.
 fn shed(buffer: &mut LineBuffer, lost: &mut u64)
     requires fits { lost.old + length buffer.old.seen < 2 ^ 64 }
     requires long { 0 < lost.old → LINE_BYTES < lost.old }

@@ -11,8 +11,8 @@ use std::alloc::Global;
 use std::marker::Model;
 use vm_base::{Failed, HostMemory};
 
-/// A sink that keeps bytes in memory, takes them in small pieces, and fails when it is full and at
-/// calls that were chosen when it was made.
+/// A sink that keeps bytes in memory. It takes at most so many a call, and fails when it is full and
+/// at calls that were chosen when it was made.
 #[derive(Debug, Drop)]
 pub struct MemSink {
     taken: Vec<u8>,

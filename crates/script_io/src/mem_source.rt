@@ -11,7 +11,7 @@ use std::alloc::Global;
 use std::marker::Model;
 use vm_base::{Failed, HostMemory};
 
-/// A source over bytes of its own, which gives them in small pieces and fails at calls that were
+/// A source over bytes of its own. It gives at most so many a call, and fails at calls that were
 /// chosen when it was made.
 #[derive(Debug, Drop)]
 pub struct MemSource {

@@ -6,16 +6,18 @@ ghost use Rattle.script_io.specs.Faults.{HasCause};
 
 use vm_base::Failed;
 
-/// A source of bytes.
+/// A source of bytes. Whether it tells its bytes is for clauses alone, and costs nothing.
 pub trait Source {
     /// The bytes that it has left, where it tells them.
     ghost remaining: { Self → Option (List ℕ) };
 
-    /// How often reading has failed. It never falls, and stays at 2^64 - 1.
+    /// How often reading has failed. No call lowers it, and a call that fails raises it, unless it
+    /// stands at 2^64 - 1.
     ghost faults: { Self → ℕ };
 
-    /// Moves bytes to the front of `buf`, and answers how many: 0 only at the end. `Failed` where
-    /// reading failed, and then no byte was taken.
+    /// Puts its next bytes at the front of `buf`, and answers how many; 0 says that it is at its
+    /// end. `Failed` where reading failed. A source that tells its bytes says 0 only where it has none
+    /// left, and has all of them still where reading failed.
     fn pull(&mut self, buf: &mut [u8]) -> Result<usize, Failed>
         requires { 0 < length buf.old }
         ensures count { IfOk result (λ n. n ≤ length buf.old) }

@@ -9,8 +9,10 @@ use std::io::{self, Write};
 use std::marker::Model;
 use vm_base::Failed;
 
-/// A sink over a writer, as a file or the standard output. It flushes what it wrote, and tells no
-/// bytes. Clauses see the writer, and how often writing has failed.
+/// A sink over a writer, as a file or the standard output. Each push writes once and then flushes,
+/// and any error that the writer answers to either is a fault. So bytes may have been written by a
+/// push that fails: all that it wrote, where the flush failed. It tells no bytes. Clauses see the
+/// writer, and how often writing has failed, up to 2^64 - 1.
 #[derive(Debug, Drop)]
 pub struct WriteSink<W> {
     writer: W,
