@@ -2,7 +2,7 @@
 
 ghost use Rattle.std.specs.Prelude.{◌≡◌, ◌<◌, ◌≤◌, ℕ, None, length, take, is_ok, IfOk, if◌then◌else◌};
 ghost use Rattle.std.specs.Io.KnownBytes.{Appends, WriteAppends};
-ghost use Rattle.script_io.specs.Faults.{counted, HasCause};
+ghost use Rattle.script_io.specs.Faults.{counted, AppendsFront, HasCause};
 
 use crate::sink::Sink;
 use std::io::{self, Write};
@@ -47,9 +47,10 @@ impl<W: Write> Sink for WriteSink<W> {
         ensures cause { HasCause self.old.1 self.new.1 result }
         ensures faults { self.new.1 ≡ (if is_ok result then self.old.1 else counted self.old.1) }
 
-        // What the writer took.
+        // What the writer took; after a failure a front part of the bytes.
         ensures written { IfOk result
             (λ n. Appends (W.contents self.old.0) (W.contents self.new.0) (take n bytes.now)) }
+        ensures front { AppendsFront (W.contents self.old.0) (W.contents self.new.0) bytes.now }
     {
         match write_out(&mut self.writer, bytes) {
             Ok(n) if n > 0 => Ok(n),
@@ -61,11 +62,13 @@ impl<W: Write> Sink for WriteSink<W> {
     }
 }
 
-/// Writes bytes once and flushes them, and answers how many.
+/// Writes bytes once and flushes them, and answers how many were written. After an error that may be
+/// any number of them, all where it was the flush that failed.
 fn write_out<W: Write>(writer: &mut W, bytes: &[u8]) -> io::Result<usize>
     ensures count { IfOk result (λ n. n ≤ length bytes.now) }
     ensures bytes { IfOk result
         (λ n. Appends (W.contents writer.old) (W.contents writer.new) (take n bytes.now)) }
+    ensures front { AppendsFront (W.contents writer.old) (W.contents writer.new) bytes.now }
 {
     let n = writer.write(bytes)?;
     writer.flush()?;
