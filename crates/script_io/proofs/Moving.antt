@@ -1,5 +1,5 @@
--- Bytes that move in several calls.
-use Rattle.std.proofs.Common.{◌≡◌, ℕ, ◌+◌, ◌-◌, ◌≤◌, ◌<◌, min, Option, List, [], ◌++◌, length, take, drop, sym, ap, ◌∙◌, subst, arith, take-append-drop, length-drop}
+-- Bytes that move in several calls, and calls that fail.
+use Rattle.std.proofs.Common.{◌≡◌, ℕ, ◌+◌, ◌-◌, ◌≤◌, ◌<◌, min, Option, List, [], ◌++◌, length, take, drop, sym, ap, ◌∙◌, subst, arith, take-append-drop, length-drop, Result, Ok, Err, OnErr}
 use Rattle.std.proofs.Math.Seq.{take-add}
 use Rattle.std.proofs.lemmas.List.{take_rest, drop-drop, drop_all}
 use Rattle.std.proofs.KnownBytes.{Appends-trans}
@@ -23,3 +23,8 @@ given_front bytes whole rest out at n piece room within some roomy same left cou
       left ∙ sym (take-append-drop n (drop at bytes)) ∙ ap (λ (xs : List ℕ). xs ++ drop n (drop at bytes)) (sym moved) ∙ ap (λ (xs : List ℕ). take n out ++ xs) (drop-drop n at bytes),
       λ none _. drop_all (at + n) bytes (omega arith),
     )
+
+-- a fact that holds, for an error
+pub on_err : {T E P : Type 0} (result : Result T E) → P → OnErr result P
+on_err (Ok x) h = tt
+on_err (Err e) h = h

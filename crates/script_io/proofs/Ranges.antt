@@ -5,6 +5,7 @@ use Rattle.std.proofs.Math.Seq.{take-add}
 use Rattle.std.proofs.lemmas.Slice.{between_is}
 use Rattle.std.proofs.lemmas.List.{drop-drop, drop-take, drop_more, take-take, take_at, take-append-le}
 use lib.Seq.{paste}
+use Rattle.script_io.specs.declared.line_buffer.TheConstants.{LINE_FEED}
 
 -- two ranges that meet are one
 pub ranges_join : (xs : List ℕ) (i j k : ℕ) → i ≤ j → j ≤ k → slice_range xs i k ≡ slice_range xs i j ++ slice_range xs j k
@@ -45,8 +46,8 @@ range_moved xs start end i j within inside ordered below =
     ∙ ap (λ (n : ℕ). take n (drop (start + i) xs)) width
 
 -- a line feed stands at place n of a range
-pub range_parts : (xs : List ℕ) (start end n : ℕ) → start + n < end → end ≤ length xs → get_or (slice_range xs start end) n 0 ≡ 10
-    → slice_range xs start end ≡ take n (slice_range xs start end) ++ 10 ∷ slice_range xs (start + n + 1) end
+pub range_parts : (xs : List ℕ) (start end n : ℕ) → start + n < end → end ≤ length xs → get_or (slice_range xs start end) n 0 ≡ LINE_FEED
+    → slice_range xs start end ≡ take n (slice_range xs start end) ++ LINE_FEED ∷ slice_range xs (start + n + 1) end
 range_parts xs start end n below within is =
     let range : List ℕ = slice_range xs start end in
     let inside : n < length range = simp (length-take, length-drop) (omega arith) in
@@ -57,7 +58,7 @@ range_parts xs start end n below within is =
     ∙ drop-take (n + 1) (end - (start + n + 1)) (drop start xs)
     ∙ ap (take (end - (start + n + 1))) (drop-drop (n + 1) start xs ∙ ap (λ (k : ℕ). drop k xs) place) in
     sym (take-append-drop n range)
-    ∙ ap (λ (ys : List ℕ). take n range ++ ys) (drop_more range n 0 inside ∙ ap (λ (b : ℕ). b ∷ drop (n + 1) range) is ∙ ap (λ (ys : List ℕ). 10 ∷ ys) behind)
+    ∙ ap (λ (ys : List ℕ). take n range ++ ys) (drop_more range n 0 inside ∙ ap (λ (b : ℕ). b ∷ drop (n + 1) range) is ∙ ap (λ (ys : List ℕ). LINE_FEED ∷ ys) behind)
 
 -- the front of a range is a range
 pub take-range : (xs : List ℕ) (start end n : ℕ) → start + n ≤ end → take n (slice_range xs start end) ≡ slice_range xs start (start + n)

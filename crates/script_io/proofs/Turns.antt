@@ -14,7 +14,7 @@ no_feed_front xs ys none = λ k d below is. none k d (simp length-append (omega 
 
 -- a search answers
 pub fetches_found : (answer : Fetch) (old mid new : Reader) (before after : Option (List ℕ)) (pending : List ℕ) (w : Waits old mid before after pending)
-    → new.taken ≡ mid.taken → Looked (Some answer) new after (pending ++ w.part) → Fetches old new before after pending answer
+    → new.taken ≡ mid.taken → Looked new after (pending ++ w.part) (Some answer) → Fetches old new before after pending answer
 fetches_found answer old mid new before after pending w taken looked = record {
   part = w.part;
   left = looked.0;
@@ -27,7 +27,7 @@ fetches_found answer old mid new before after pending w taken looked = record {
 
 -- a pull fails
 pub fetches_fault : (old mid seen new : Reader) (before between after : Option (List ℕ)) (pending : List ℕ) (w : Waits old mid before between pending)
-    → seen.taken ≡ mid.taken → Looked None seen between (pending ++ w.part) → seen.ended ≡ false → seen.taken ≤ seen.limit
+    → seen.taken ≡ mid.taken → Looked seen between (pending ++ w.part) None → seen.ended ≡ false → seen.taken ≤ seen.limit
     → (new ≡ record seen { line = [] }) × Keeps between after → Fetches old new before after pending Fault
 fetches_fault old mid seen new before between after pending w taken looked not_ended within failed = record {
   part = w.part;
@@ -36,10 +36,10 @@ fetches_fault old mid seen new before between after pending w taken looked not_e
   drained = w.drained;
   taken = ap (λ (r : Reader). r.taken) failed.0 ∙ taken ∙ w.taken;
   still = record {
-    dropped = looked.0.dropped;
+    front = looked.0.front;
     no_feed = looked.0.no_feed;
-    size = looked.0.size ∙ sym (ap (λ (r : Reader). r.lost) failed.0);
-    parts = looked.0.parts ∙ ap (λ (xs : List ℕ). looked.0.dropped ++ xs) (sym (ap (λ (r : Reader). r.held) failed.0));
+    size = looked.0.size ∙ sym (ap (λ (r : Reader). r.dropped) failed.0);
+    parts = looked.0.parts ∙ ap (λ (xs : List ℕ). looked.0.front ++ xs) (sym (ap (λ (r : Reader). r.held) failed.0));
     at_end = λ ended. absurd (false≢true (sym not_ended ∙ sym (ap (λ (r : Reader). r.ended) failed.0) ∙ ended));
   };
   fetched = (
@@ -52,7 +52,7 @@ fetches_fault old mid seen new before between after pending w taken looked not_e
 
 -- a pull gives bytes, or finds the end
 pub waits_more : (old mid seen new : Reader) (before between after : Option (List ℕ)) (pending : List ℕ) (n : ℕ) (w : Waits old mid before between pending)
-    → seen.taken ≡ mid.taken → Looked None seen between (pending ++ w.part) → Grows seen.held new.held between after n
+    → seen.taken ≡ mid.taken → Looked seen between (pending ++ w.part) None → Grows seen.held new.held between after n
     → new ≡ record seen { taken = seen.taken + n; held = new.held; line = []; ended = n == 0 } → Waits old new before after pending
 waits_more old mid seen new before between after pending n w taken looked grows given =
     let count : length (w.part ++ grows.part) ≡ length w.part + n = length-append w.part grows.part ∙ ap (λ (k : ℕ). length w.part + k) grows.size in
@@ -63,13 +63,13 @@ waits_more old mid seen new before between after pending n w taken looked grows 
       drained = inr (no_feed_front pending w.part looked.1);
       taken = omega (arith, count, now, taken, w.taken);
       still = record {
-        dropped = looked.0.dropped;
+        front = looked.0.front;
         no_feed = looked.0.no_feed;
-        size = looked.0.size ∙ sym (ap (λ (r : Reader). r.lost) given);
+        size = looked.0.size ∙ sym (ap (λ (r : Reader). r.dropped) given);
         parts = sym (append_assoc pending w.part grows.part)
             ∙ ap (λ (xs : List ℕ). xs ++ grows.part) looked.0.parts
-            ∙ append_assoc looked.0.dropped seen.held grows.part
-            ∙ ap (λ (xs : List ℕ). looked.0.dropped ++ xs) (sym grows.behind);
+            ∙ append_assoc looked.0.front seen.held grows.part
+            ∙ ap (λ (xs : List ℕ). looked.0.front ++ xs) (sym grows.behind);
         at_end = λ ended. grows.at_end (eqb-true n 0 (sym (ap (λ (r : Reader). r.ended) given) ∙ ended));
       };
     }

@@ -7,15 +7,15 @@ pub record Tally : Type 0 where
   pub calls : ℕ
   pub faults : ℕ
 
--- a source's bytes that are left, and how many it gives a call
-pub record Feed : Type 0 where
-  pub rest : List ℕ
+-- the bytes that a source has left, and how many it gives a call
+pub record SourceState : Type 0 where
+  pub remaining : List ℕ
   pub piece : ℕ
   pub tally : Tally
 
 -- the bytes that a sink took, how many it keeps, and how many it takes a call
-pub record Store : Type 0 where
-  pub taken : List ℕ
+pub record SinkState : Type 0 where
+  pub contents : List ℕ
   pub room : ℕ
   pub piece : ℕ
   pub tally : Tally

@@ -25,9 +25,9 @@ pub(crate) struct LineBuffer {
     bytes: Vec<u8>,
     line_start: usize,
     line_end: usize,
-    start: usize,
-    searched: usize,
-    end: usize,
+    seen_start: usize,
+    fresh_start: usize,
+    fresh_end: usize,
 }
 
 impl Model for LineBuffer {
@@ -39,13 +39,13 @@ impl Model for LineBuffer {
 
     ghost view = { λ b. record {
       line = slice_range b.bytes.items b.line_start b.line_end;
-      seen = slice_range b.bytes.items b.start b.searched;
-      fresh = slice_range b.bytes.items b.searched b.end;
+      seen = slice_range b.bytes.items b.seen_start b.fresh_start;
+      fresh = slice_range b.bytes.items b.fresh_start b.fresh_end;
     } };
 
     ghost invariant = { λ b. (vec_len b.bytes ≡ BUFFER_BYTES)
         × (b.line_start ≤ b.line_end) × (b.line_end ≤ BUFFER_BYTES)
-        × (b.start ≤ b.searched) × (b.searched ≤ b.end) × (b.end ≤ BUFFER_BYTES) };
+        × (b.seen_start ≤ b.fresh_start) × (b.fresh_start ≤ b.fresh_end) × (b.fresh_end ≤ BUFFER_BYTES) };
 }
 
 impl LineBuffer {
@@ -58,9 +58,9 @@ impl LineBuffer {
             bytes,
             line_start: 0,
             line_end: 0,
-            start: 0,
-            searched: 0,
-            end: 0,
+            seen_start: 0,
+            fresh_start: 0,
+            fresh_end: 0,
         })
     }
 
@@ -82,7 +82,7 @@ impl LineBuffer {
     pub(crate) fn seen_len(&self) -> usize
         ensures { result ≡ length self.now.seen }
     {
-        self.searched - self.start
+        self.fresh_start - self.seen_start
     }
 
     /// Lends no line.
@@ -96,16 +96,16 @@ impl LineBuffer {
     pub(crate) fn drop_seen(&mut self)
         ensures { self.new ≡ record self.old { seen = [] } }
     {
-        self.start = self.searched;
+        self.seen_start = self.fresh_start;
     }
 
     /// Makes the bytes that were searched the line.
     pub(crate) fn take_seen(&mut self)
         ensures { self.new ≡ record self.old { line = self.old.seen; seen = [] } }
     {
-        self.line_start = self.start;
-        self.line_end = self.searched;
-        self.start = self.searched;
+        self.line_start = self.seen_start;
+        self.line_end = self.fresh_start;
+        self.seen_start = self.fresh_start;
     }
 
     /// Searches on for a line feed. Where there is one, what stands before it is the line, and it
@@ -113,21 +113,21 @@ impl LineBuffer {
     pub(crate) fn find_line(&mut self) -> bool
         ensures found { MatchBool result
             ((self.new.seen ≡ []) × (line : _) × HasNoFeed line
-            × (self.new.line ≡ self.old.seen ++ line) × (self.old.fresh ≡ line ++ 10 ∷ self.new.fresh))
+            × (self.new.line ≡ self.old.seen ++ line) × (self.old.fresh ≡ line ++ LINE_FEED ∷ self.new.fresh))
             (HasNoFeed self.old.fresh
             × (self.new ≡ record self.old { seen = self.old.seen ++ self.old.fresh; fresh = [] })) }
     {
-        match feed_place(&self.bytes[self.searched..self.end]) {
+        match feed_place(&self.bytes[self.fresh_start..self.fresh_end]) {
             Some(place) => {
-                let feed = self.searched + place;
-                self.line_start = self.start;
+                let feed = self.fresh_start + place;
+                self.line_start = self.seen_start;
                 self.line_end = feed;
-                self.start = feed + 1;
-                self.searched = feed + 1;
+                self.seen_start = feed + 1;
+                self.fresh_start = feed + 1;
                 true
             }
             None => {
-                self.searched = self.end;
+                self.fresh_start = self.fresh_end;
                 false
             }
         }
@@ -149,12 +149,12 @@ impl LineBuffer {
     {
         self.line_start = 0;
         self.line_end = 0;
-        move_to_front(&mut self.bytes, self.start, self.end);
-        self.searched -= self.start;
-        self.end -= self.start;
-        self.start = 0;
-        let n = pull_behind(source, self.bytes.as_mut_slice(), self.end, most)?;
-        self.end += n;
+        move_to_front(&mut self.bytes, self.seen_start, self.fresh_end);
+        self.fresh_start -= self.seen_start;
+        self.fresh_end -= self.seen_start;
+        self.seen_start = 0;
+        let n = pull_behind(source, self.bytes.as_mut_slice(), self.fresh_end, most)?;
+        self.fresh_end += n;
         Ok(n)
     }
 }
@@ -202,7 +202,7 @@ fn zero_bytes(alloc: Global) -> Result<Vec<u8>, HostMemory>
 /// The place of the first line feed.
 fn feed_place(bytes: &[u8]) -> Option<usize>
     ensures { MatchOption result (HasNoFeed bytes.now) (λ n. (n < length bytes.now)
-        × HasNoFeed (take n bytes.now) × (slice_index bytes.now n ≡ 10)) }
+        × HasNoFeed (take n bytes.now) × (slice_index bytes.now n ≡ LINE_FEED)) }
 {
     bytes.iter().position(|b| *b == LINE_FEED)
 }

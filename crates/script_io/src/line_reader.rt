@@ -35,7 +35,7 @@ pub struct Lines {
     buffer: LineBuffer,
     limit: u64,
     taken: u64,
-    lost: u64,
+    dropped: u64,
     ended: bool,
 }
 
@@ -49,13 +49,13 @@ impl Model for Lines {
     ghost view = { λ s. record {
       limit = s.limit;
       taken = s.taken;
-      lost = s.lost;
+      dropped = s.dropped;
       held = s.buffer.seen ++ s.buffer.fresh;
       line = s.buffer.line;
       ended = s.ended;
     } };
 
-    ghost invariant = { λ s. IsReading LINE_BYTES s.limit s.taken s.lost s.buffer };
+    ghost invariant = { λ s. IsReading LINE_BYTES s.limit s.taken s.dropped s.buffer };
 }
 
 impl Lines {
@@ -66,7 +66,7 @@ impl Lines {
         ensures { IfOk result (λ r. r ≡ record {
           limit = limit;
           taken = 0;
-          lost = 0;
+          dropped = 0;
           held = [];
           line = [];
           ended = false;
@@ -77,7 +77,7 @@ impl Lines {
             buffer,
             limit,
             taken: 0,
-            lost: 0,
+            dropped: 0,
             ended: false,
         })
     }
@@ -120,8 +120,8 @@ impl Lines {
     fn look(&mut self) -> Option<Fetch>
         requires { self.old.line ≡ [] }
         ensures looked { (remaining : Option (List ℕ)) (pending : List ℕ)
-            → IsPending self.old remaining pending → Looked result self.new remaining pending }
-        ensures given { result ≢ Some Fetch.Fault }
+            → IsPending self.old remaining pending → Looked self.new remaining pending result }
+        ensures no_fault { result ≢ Some Fetch.Fault }
         ensures none { IfNone result ((self.new.ended ≡ false) × (self.new.taken ≤ self.new.limit)
             × (self.new.line ≡ []) × HasNoFeed self.new.held × (length self.new.held ≤ LINE_BYTES)) }
         ensures limit { self.new.limit ≡ self.old.limit }
@@ -132,16 +132,16 @@ impl Lines {
             return Some(Fetch::Limit);
         }
         if self.buffer.find_line() {
-            return Some(measure(&mut self.buffer, &mut self.lost));
+            return Some(measure(&mut self.buffer, &mut self.dropped));
         }
         if self.ended {
-            if self.lost == 0 && self.buffer.seen_len() == 0 {
+            if self.dropped == 0 && self.buffer.seen_len() == 0 {
                 return Some(Fetch::End);
             }
             self.buffer.take_seen();
-            return Some(measure(&mut self.buffer, &mut self.lost));
+            return Some(measure(&mut self.buffer, &mut self.dropped));
         }
-        shed(&mut self.buffer, &mut self.lost);
+        drop_long(&mut self.buffer, &mut self.dropped);
         None
     }
 
@@ -173,17 +173,17 @@ impl Lines {
     }
 }
 
-/// Says of the line in the buffer, of whose front `lost` bytes were dropped, that it is lent or that it
+/// Says of the line in the buffer, of whose front `dropped` bytes were dropped, that it is lent or that it
 /// is too long. One that is too long is lent no more.
-fn measure(buffer: &mut LineBuffer, lost: &mut u64) -> Fetch
-    requires fits { lost.old + length buffer.old.line < 2 ^ 64 }
-    requires long { 0 < lost.old → LINE_BYTES < lost.old }
-    ensures measured { Measured result lost.old buffer.old.line buffer.new.line }
-    ensures lost { lost.new ≡ 0 }
+fn measure(buffer: &mut LineBuffer, dropped: &mut u64) -> Fetch
+    requires fits { dropped.old + length buffer.old.line < 2 ^ 64 }
+    requires long { 0 < dropped.old → LINE_BYTES < dropped.old }
+    ensures measured { Measured dropped.old buffer.old.line buffer.new.line result }
+    ensures dropped { dropped.new ≡ 0 }
     ensures buffer { buffer.new ≡ record buffer.old { line = buffer.new.line } }
 {
-    let len = *lost + buffer.line_len() as u64;
-    *lost = 0;
+    let len = *dropped + buffer.line_len() as u64;
+    *dropped = 0;
     if len <= LINE_BYTES as u64 {
         return Fetch::Line;
     }
@@ -192,18 +192,18 @@ fn measure(buffer: &mut LineBuffer, lost: &mut u64) -> Fetch
 }
 
 /// Drops the bytes that were searched where they are of a line that is too long, and counts them.
-fn shed(buffer: &mut LineBuffer, lost: &mut u64)
-    requires fits { lost.old + length buffer.old.seen < 2 ^ 64 }
-    requires long { 0 < lost.old → LINE_BYTES < lost.old }
-    ensures lost { lost.new + length buffer.new.seen ≡ lost.old + length buffer.old.seen }
+fn drop_long(buffer: &mut LineBuffer, dropped: &mut u64)
+    requires fits { dropped.old + length buffer.old.seen < 2 ^ 64 }
+    requires long { 0 < dropped.old → LINE_BYTES < dropped.old }
+    ensures dropped { dropped.new + length buffer.new.seen ≡ dropped.old + length buffer.old.seen }
     ensures short { length buffer.new.seen ≤ LINE_BYTES }
-    ensures long { 0 < lost.new → LINE_BYTES < lost.new }
+    ensures long { 0 < dropped.new → LINE_BYTES < dropped.new }
     ensures buffer { (buffer.new ≡ buffer.old)
         ⊎ (buffer.new ≡ record buffer.old { seen = [] }) }
 {
     let len = buffer.seen_len();
-    if *lost > 0 || len > LINE_BYTES {
-        *lost += len as u64;
+    if *dropped > 0 || len > LINE_BYTES {
+        *dropped += len as u64;
         buffer.drop_seen();
     }
 }

@@ -2,8 +2,8 @@
 
 ghost use Rattle.std.specs.Prelude.{◌≡◌, ◌≤◌, ◌<◌, ◌↔◌, ℕ, Some, min, length, drop, IfOk, is_ok, IsErr, Contains, if◌then◌else◌};
 ghost use Rattle.std.specs.Io.KnownBytes.{ReadConsumes};
-ghost use Rattle.script_io.specs.Faults.{counted, HasCause};
-ghost use Rattle.script_io.specs.Memory.{Feed};
+ghost use Rattle.script_io.specs.Faults.{next_count, HasCause};
+ghost use Rattle.script_io.specs.Memory.{SourceState};
 
 use crate::plan::Plan;
 use crate::source::{Source, copy_front};
@@ -23,11 +23,11 @@ pub struct MemSource {
 
 impl Model for MemSource {
     ghost use Rattle.std.specs.Prelude.{drop, ◌≤◌, vec_len};
-    ghost use Rattle.script_io.specs.Memory.{Feed};
+    ghost use Rattle.script_io.specs.Memory.{SourceState};
 
-    ghost Value = { Feed };
+    ghost Value = { SourceState };
 
-    ghost view = { λ s. record { rest = drop s.at s.bytes.items; piece = s.piece; tally = s.plan } };
+    ghost view = { λ s. record { remaining = drop s.at s.bytes.items; piece = s.piece; tally = s.plan } };
 
     ghost invariant = { λ s. (s.at ≤ vec_len s.bytes) × (1 ≤ s.piece) };
 }
@@ -42,7 +42,7 @@ impl MemSource {
         fails: &[u64],
     ) -> Result<MemSource, HostMemory>
         requires { 1 ≤ piece }
-        ensures rest { IfOk result (λ s. s.rest ≡ bytes.now) }
+        ensures remaining { IfOk result (λ s. s.remaining ≡ bytes.now) }
         ensures piece { IfOk result (λ s. s.piece ≡ piece) }
         ensures tally { IfOk result (λ s. s.tally ≡ record { fails = fails.now; calls = 0; faults = 0 }) }
     {
@@ -58,32 +58,32 @@ impl MemSource {
 }
 
 impl Source for MemSource {
-    ghost remaining = { λ s. Some s.rest };
+    ghost remaining = { λ s. Some s.remaining };
 
     ghost faults = { λ s. s.tally.faults };
 
     fn pull(&mut self, buf: &mut [u8]) -> Result<usize, Failed>
         requires { 0 < length buf.old }
         ensures count { IfOk result (λ n. n ≤ length buf.old) }
-        ensures bytes { ReadConsumes (Some self.old.rest) (Some self.new.rest) result buf.new }
+        ensures bytes { ReadConsumes (Some self.old.remaining) (Some self.new.remaining) result buf.new }
         ensures cause { HasCause self.old.tally.faults self.new.tally.faults result }
 
         // Which calls fail, and how many bytes the others give.
         ensures planned { IsErr result
-            ↔ Contains self.old.tally.fails (counted self.old.tally.calls) }
+            ↔ Contains self.old.tally.fails (next_count self.old.tally.calls) }
         ensures given { IfOk result
-            (λ n. n ≡ min self.old.piece (min (length self.old.rest) (length buf.old))) }
+            (λ n. n ≡ min self.old.piece (min (length self.old.remaining) (length buf.old))) }
         ensures kept { self.new.piece ≡ self.old.piece }
         ensures faults { self.new.tally.faults
-            ≡ (if is_ok result then self.old.tally.faults else counted self.old.tally.faults) }
-        ensures calls { self.new.tally.calls ≡ counted self.old.tally.calls }
+            ≡ (if is_ok result then self.old.tally.faults else next_count self.old.tally.faults) }
+        ensures calls { self.new.tally.calls ≡ next_count self.old.tally.calls }
         ensures fails { self.new.tally.fails ≡ self.old.tally.fails }
     {
         if self.plan.count_call() {
             self.plan.count_fault();
             return Err(Failed);
         }
-        let n = copy_front(&self.bytes[self.at..], self.piece, buf);
+        let n = copy_front(buf, &self.bytes[self.at..], self.piece);
         self.at += n;
         Ok(n)
     }

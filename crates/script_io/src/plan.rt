@@ -1,7 +1,7 @@
 //! Which calls on a source or a sink in memory fail.
 
 ghost use Rattle.std.specs.Prelude.{◌≡◌, ℕ, [], ◌↔◌, ◌≤◌, IsTrue, IfOk, Contains};
-ghost use Rattle.script_io.specs.Faults.{counted, HasFailed};
+ghost use Rattle.script_io.specs.Faults.{next_count, HasFailed};
 ghost use Rattle.script_io.specs.Memory.{Tally};
 
 use std::alloc::Global;
@@ -40,8 +40,8 @@ impl Plan {
 
     /// Counts a call, and answers whether it is one that is to fail.
     pub(crate) fn count_call(&mut self) -> bool
-        ensures planned { IsTrue result ↔ Contains self.old.fails (counted self.old.calls) }
-        ensures after { self.new ≡ record self.old { calls = counted self.old.calls } }
+        ensures planned { IsTrue result ↔ Contains self.old.fails (next_count self.old.calls) }
+        ensures after { self.new ≡ record self.old { calls = next_count self.old.calls } }
     {
         self.calls = self.calls.saturating_add(1);
         self.fails.as_slice().contains(&self.calls)
@@ -49,7 +49,7 @@ impl Plan {
 
     /// Counts a fault.
     pub(crate) fn count_fault(&mut self)
-        ensures after { self.new ≡ record self.old { faults = counted self.old.faults } }
+        ensures after { self.new ≡ record self.old { faults = next_count self.old.faults } }
         ensures later { self.old.faults ≤ self.new.faults }
         ensures failed { HasFailed self.old.faults self.new.faults }
     {

@@ -2,7 +2,7 @@
 
 ghost use Rattle.std.specs.Prelude.{◌≡◌, ◌<◌, ◌≤◌, ℕ, None, length, is_ok, IfOk, if◌then◌else◌};
 ghost use Rattle.std.specs.Io.KnownBytes.{ReadConsumes};
-ghost use Rattle.script_io.specs.Faults.{counted, HasCause};
+ghost use Rattle.script_io.specs.Faults.{next_count, HasCause};
 
 use crate::source::Source;
 use std::io::Read;
@@ -43,7 +43,7 @@ impl<R: Read> Source for ReadSource<R> {
         ensures count { IfOk result (λ n. n ≤ length buf.old) }
         ensures bytes { ReadConsumes None None result buf.new }
         ensures cause { HasCause self.old.1 self.new.1 result }
-        ensures faults { self.new.1 ≡ (if is_ok result then self.old.1 else counted self.old.1) }
+        ensures faults { self.new.1 ≡ (if is_ok result then self.old.1 else next_count self.old.1) }
 
         // What the reader gave.
         ensures read { ReadConsumes (R.remaining self.old.0) (R.remaining self.new.0) result buf.new }
@@ -56,7 +56,7 @@ impl<R: Read> Source for ReadSource<R> {
 fn read_counted<R: Read>(reader: &mut R, faults: &mut u64, buf: &mut [u8]) -> Result<usize, Failed>
     ensures count { IfOk result (λ n. n ≤ length buf.old) }
     ensures bytes { ReadConsumes (R.remaining reader.old) (R.remaining reader.new) result buf.new }
-    ensures faults { faults.new ≡ (if is_ok result then faults.old else counted faults.old) }
+    ensures faults { faults.new ≡ (if is_ok result then faults.old else next_count faults.old) }
     ensures cause { HasCause faults.old faults.new result }
 {
     match reader.read(buf) {

@@ -25,9 +25,9 @@ pub trait Source {
         ensures cause { HasCause (faults self.old) (faults self.new) result };
 }
 
-/// Copies bytes from the front of `from` to the front of `to`, at most `most` of them and as many
-/// as fit, and answers how many.
-pub(crate) fn copy_front(from: &[u8], most: usize, to: &mut [u8]) -> usize
+/// Copies bytes to the front of `to` from the front of `from`, at most `most` of them and as many as
+/// fit, and answers how many.
+pub(crate) fn copy_front(to: &mut [u8], from: &[u8], most: usize) -> usize
     ensures count { result ≡ min most (min (length from.now) (length to.old)) }
     ensures bytes { take result to.new ≡ take result from.now }
 {

@@ -12,13 +12,13 @@ use vm_base::Failed;
 /// bytes that are left.
 #[derive(Debug, Drop)]
 pub struct SureSource<'a> {
-    rest: &'a [u8],
+    remaining: &'a [u8],
 }
 
 impl<'a> Model for SureSource<'a> {
     ghost Value = { List ℕ };
 
-    ghost view = { λ s. s.rest.now };
+    ghost view = { λ s. s.remaining.now };
 }
 
 impl<'a> SureSource<'a> {
@@ -26,7 +26,7 @@ impl<'a> SureSource<'a> {
     pub fn new(bytes: &'a [u8]) -> SureSource<'a>
         ensures { result ≡ bytes.now }
     {
-        SureSource { rest: bytes }
+        SureSource { remaining: bytes }
     }
 }
 
@@ -41,9 +41,9 @@ impl<'a> Source for SureSource<'a> {
         ensures bytes { ReadConsumes (Some self.old) (Some self.new) result buf.new }
         ensures cause { HasCause 0 0 result }
     {
-        let rest = self.rest;
-        let n = copy_front(rest, rest.len(), buf);
-        self.rest = &rest[n..];
+        let remaining = self.remaining;
+        let n = copy_front(buf, remaining, remaining.len());
+        self.remaining = &remaining[n..];
         Ok(n)
     }
 }

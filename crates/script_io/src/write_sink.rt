@@ -2,7 +2,7 @@
 
 ghost use Rattle.std.specs.Prelude.{◌≡◌, ◌<◌, ◌≤◌, ℕ, None, length, take, is_ok, IfOk, if◌then◌else◌};
 ghost use Rattle.std.specs.Io.KnownBytes.{Appends, WriteAppends};
-ghost use Rattle.script_io.specs.Faults.{counted, AppendsFront, HasCause};
+ghost use Rattle.script_io.specs.Faults.{next_count, AppendsFront, HasCause};
 
 use crate::sink::Sink;
 use std::io::{self, Write};
@@ -45,7 +45,7 @@ impl<W: Write> Sink for WriteSink<W> {
         ensures count { IfOk result (λ n. (1 ≤ n) × (n ≤ length bytes.now)) }
         ensures bytes { WriteAppends None None result bytes.now }
         ensures cause { HasCause self.old.1 self.new.1 result }
-        ensures faults { self.new.1 ≡ (if is_ok result then self.old.1 else counted self.old.1) }
+        ensures faults { self.new.1 ≡ (if is_ok result then self.old.1 else next_count self.old.1) }
 
         // What the writer took; after a failure a front part of the bytes.
         ensures written { IfOk result

@@ -1,5 +1,5 @@
 use Rattle.std.proofs.Common.{◌≡◌, ◌+◌, ◌≤◌, ◌++◌, List, ℕ, length, sym, ap, ◌∙◌, subst, arith, append_assoc, length-append}
-use Rattle.script_io.specs.Reader.{HasNoFeed, IsOver, Reader}
+use Rattle.script_io.specs.Reader.{HasNoFeed, HasNoFeedBeforeLast, Reader}
 use Rattle.script_io.proofs.FetchingLaws.{over_after}
 use Rattle.script_io.proofs.line_reader.Lines.pull.Goals as goal
 
@@ -17,8 +17,8 @@ invariant_of-self-2 g c =
       small = c.self.invariant.small;
       short = omega (arith, ap length given.line);
       within = omega (arith, within, given.count, c.max-most.ensures);
-      counted = omega (arith, size, ap length given.seen, c.self.invariant.counted);
+      all_taken = omega (arith, size, ap length given.seen, c.self.invariant.all_taken);
       long = c.self.invariant.long;
       no_feed = subst HasNoFeed (sym given.seen) c.self.invariant.no_feed;
-      over = λ above. subst IsOver (sym grown) (over_after (buffer.seen ++ buffer.fresh) given.grows.part (subst HasNoFeed (sym held) c.requires.no_feed) (omega (arith, above, within, given.grows.size, given.count, c.max-most.ensures)));
+      over = λ above. subst HasNoFeedBeforeLast (sym grown) (over_after (buffer.seen ++ buffer.fresh) given.grows.part (subst HasNoFeed (sym held) c.requires.no_feed) (omega (arith, above, within, given.grows.size, given.count, c.max-most.ensures)));
     }
