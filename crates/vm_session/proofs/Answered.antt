@@ -101,8 +101,8 @@ used_up ended bytes line left first = go first.parts where
   go (inr h) = omega (arith, ap (λ (xs : List ℕ). length xs) h.0, ap (λ (xs : List ℕ). length xs) h.1, h.2)
 
 -- a reader's pending bytes are those that it dropped and those that it holds
-pending_size : (reader : Reader) (remaining : Option (List ℕ)) (pending : List ℕ) → IsPending reader remaining pending → length pending ≡ reader.lost + length reader.held
-pending_size reader remaining pending p = omega (arith, ap (λ (xs : List ℕ). length xs) p.parts, length-append p.dropped reader.held, p.size)
+pending_size : (reader : Reader) (remaining : Option (List ℕ)) (pending : List ℕ) → IsPending reader remaining pending → length pending ≡ reader.dropped + length reader.held
+pending_size reader remaining pending p = omega (arith, ap (λ (xs : List ℕ). length xs) p.parts, length-append p.front reader.held, p.size)
 
 pub IsReady-answered : {T E : Type 0} (old new : Reader) (source_old source_new sink_old sink_new : Option (List ℕ)) (before after : State) (result : Result T E)
     (r : IsReady old source_old before.content.next) → IsAnswered old new source_old source_new sink_old sink_new before after r.pending result → IsReady new source_new after.content.next

@@ -27,10 +27,10 @@ empty_state-filled c filled frames vm e f none =
 
 -- a line reader that took nothing yet
 abbrev pub fresh : ℕ → Reader
-fresh limit = record { limit = limit; taken = 0; lost = 0; held = []; line = []; ended = false }
+fresh limit = record { limit = limit; taken = 0; dropped = 0; held = []; line = []; ended = false }
 
 IsPending-fresh : (limit : ℕ) (source : Option (List ℕ)) → IsPending (fresh limit) source []
-IsPending-fresh limit source = record { dropped = []; no_feed = λ k d l. absurd (omega (arith, l)); size = refl; parts = refl; at_end = λ e. absurd cc }
+IsPending-fresh limit source = record { front = []; no_feed = λ k d l. absurd (omega (arith, l)); size = refl; parts = refl; at_end = λ e. absurd cc }
 
 -- no line was answered yet
 pub IsServed-fresh : (frames limit : ℕ) (reader : Reader) (source sink : Option (List ℕ)) (now : State) → reader ≡ fresh limit → now ≡ empty_state frames → IsServed frames limit reader source source sink sink now

@@ -17,11 +17,6 @@ use Rattle.vm_model.specs.Language.Text.{reply_lines, text, texts}
 use Rattle.vm_model.specs.Scripts.Run.{GivesAs}
 use Rattle.vm_session.specs.Outcome.{Writes, AnswersLine}
 
--- a fact holds at an error
-pub on_err : {T E P : Type 0} (result : Result T E) → P → OnErr result P
-on_err (Ok x) p = tt
-on_err (Err e) p = p
-
 -- the pieces up to one, the piece, and those behind it
 pub concat_parts : (xs : List (List ℕ)) (i : ℕ) (x : List ℕ) → slice_get xs i ≡ Some x → (concat (take (i + 1) xs) ≡ concat (take i xs) ++ x) × ((rest : List ℕ) × (concat xs ≡ concat (take i xs) ++ (x ++ rest)))
 concat_parts [] i x e = absurd cc

@@ -44,7 +44,7 @@ pub record IsReady (reader : Reader) (remaining : Option (List ℕ)) (next : ℕ
 
 -- how many bytes are left to use up, at most
 abbrev pub bytes_left : Reader → ℕ
-bytes_left reader = (reader.limit + 1 - reader.taken) + (reader.lost + length reader.held)
+bytes_left reader = (reader.limit + 1 - reader.taken) + (reader.dropped + length reader.held)
 
 -- From old, whatever was pending, one fetch led to new. A call that says this uses up one line at most, and so its replies
 -- are written before the next line is looked at.

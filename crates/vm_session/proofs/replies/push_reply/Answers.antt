@@ -1,6 +1,7 @@
 use Rattle.std.proofs.Common.{take, arith}
-use Rattle.vm_session.proofs.Writing.{on_err, line_written, reply_written, reply_cut}
+use Rattle.vm_session.proofs.Writing.{line_written, reply_written, reply_cut}
 use Rattle.vm_session.proofs.replies.push_reply.Goals as goal
+use Rattle.script_io.proofs.Moving.{on_err}
 
 pub returns-in_err-push_all-clause-err : goal.returns-in_err-push_all-clause-err
 returns-in_err-push_all-clause-err g c =
