@@ -21,6 +21,8 @@ pub const FRAMES: u32 = 65536;
 /// bytes are numbered by 64 bits.
 pub const PAGES_END: u64 = 4503599627370496;
 
+const _: () = prove!(PAGES_END == u64::MAX / PAGE + 1);
+
 /// The first page of a root region, at address 0x200000.
 pub const ROOT_FIRST: u64 = 512;
 
