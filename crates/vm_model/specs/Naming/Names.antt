@@ -1,5 +1,5 @@
 -- The names of VMOs, and what the machine keeps of a VMO beside its pages. From the kernel's handles and VMO children.
-use Rattle.std.specs.Prelude.{ℕ, Bool, false, ◌&&◌, ◌==◌, if◌then◌else◌, Option, None, Some, ◌+◌, true}
+use Rattle.std.specs.Prelude.{ℕ, Bool, false, ◌&&◌, ◌==◌, if◌then◌else◌, Option, None, Some, ◌+◌, ◌^◌, true}
 use Rattle.std.specs.Option.{option_map}
 use Rattle.vm_model.specs.declared.names.NameKind.{NameKind}
 use Rattle.vm_model.specs.declared.names.NameKind.TheVariants.{Owner, Slice, Reference}
@@ -7,7 +7,7 @@ use Rattle.vm_model.specs.declared.names.Target.{Target}
 use Rattle.vm_model.specs.declared.names.Origin.{Origin}
 use Rattle.vm_model.specs.declared.names.Origin.TheVariants.{Created, Snapshot}
 use Rattle.vm_base.specs.Entries.{passes, any_entry, entry_count}
-use Rattle.vm_base.specs.declared.limits.TheConstants.{NAMES, KOIDS}
+use Rattle.vm_base.specs.declared.limits.TheConstants.{NAMES}
 
 -- a VMO may change its size or not, it was created or is a snapshot, and it may have a parent
 pub record Lineage : Type 0 where
@@ -55,9 +55,9 @@ names_as kind names v = entry_count NAMES (is_of_as kind v) names
 abbrev pub has_parent : ℕ → Lineage → Bool
 has_parent v l = is_parent v l.parent
 
--- how many VMOs have the parent v
+-- how many VMOs have the parent v. Koids are numbers of 64 bits
 abbrev pub child_count : (ℕ → Option Lineage) → ℕ → ℕ
-child_count lineage v = entry_count KOIDS (has_parent v) lineage
+child_count lineage v = entry_count (2 ^ 64) (has_parent v) lineage
 
 -- The children of the VMO v: the VMOs whose parent it is, and the slices and references that stand for it.
 abbrev pub children : (ℕ → Option Target) → (ℕ → Option Lineage) → ℕ → ℕ
