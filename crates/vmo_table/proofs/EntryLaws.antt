@@ -1,20 +1,21 @@
 -- What the entries of the two maps are as maps from numbers, after a call of the library.
-use Rattle.std.proofs.Common.{◌≡◌, ℕ, ◌==◌, Bool, true, false, not, cond, List, [], ◌∷◌, Option, None, Some, IsSome, is_some, Result, Ok, Err, refl, sym, ap, subst, ◌∙◌, inl, inr}
+use Rattle.std.proofs.Common.{◌≡◌, ℕ, ◌==◌, Bool, true, false, not, cond, List, [], ◌∷◌, Option, None, Some, IsSome, is_some, Result, Ok, Err, refl, sym, ap, subst, ◌∙◌, inl, inr, ◌≢◌, ◌+◌, ◌^◌, ◌≤◌, length, arith}
 use Rattle.std.specs.Option.{option_map}
 use Rattle.std.specs.Prelude.{IsOk, OnOk}
 use Rattle.std.specs.Map.{lookup}
 use Rattle.std.specs.Map.Calls.{RetainsPairs}
-use Rattle.std.proofs.lemmas.Bool.{cases_eq, eq-eqb, ne_eqb, cond-true, cond-false}
+use Rattle.std.proofs.lemmas.Bool.{cases_eq, eq-eqb, ne_eqb, cond-true, cond-false, cases_lt}
 use Rattle.vm_base.specs.declared.names.Koid.{Koid}
 use Rattle.vm_base.specs.declared.names.VmoName.{VmoName}
-use Rattle.vm_base.specs.Entries.{with_key, without_key, passes}
-use Rattle.vm_base.proofs.EntryLaws.{passes-some}
+use Rattle.vm_base.specs.Entries.{with_key, without_key, passes, entry_count}
+use Rattle.vm_base.proofs.EntryLaws.{passes-some, entry_count-change, entry_count-same, entry_count-empty}
 use Rattle.vm_model.specs.declared.names.Target.{Target}
 use Rattle.vm_model.specs.Naming.Names.{is_parent, has_parent}
 use Rattle.vmo_table.specs.declared.vmos.Vmo.{Vmo}
-use Rattle.vmo_table.specs.Vmos.{koid_number, vmos_in, lineage_of_vmo, lineages, with_children, adopted, koid_after, vmos_without}
+use Rattle.vmo_table.specs.Vmos.{koid_number, vmos_in, lineage_of_vmo, lineages, with_children, adopted, koid_after, vmos_without, vmo_count}
 use Rattle.vmo_table.specs.Table.{names_in}
 use Rattle.vmo_table.proofs.VmosLaws.{lineages-is, without-here, without-other, vmo_after}
+use Rattle.vm_base.proofs.SearchLaws.{bit_le}
 
 -- an entry of the map of VMOs
 abbrev pub vmo_at : List (Koid × Vmo) → ℕ → Option Vmo
@@ -169,6 +170,29 @@ vmos_in-empty entries e v = ap (λ (es : List (Koid × Vmo)). vmo_at es v) e
 
 pub lineages-empty : (entries : List (Koid × Vmo)) → entries ≡ [] → (v : ℕ) → lineages (vmos_in entries) v ≡ None
 lineages-empty entries e v = lineages-is (vmos_in entries) v ∙ ap (option_map lineage_of_vmo) (vmos_in-empty entries e v)
+
+-- ---- how much is in a map
+
+-- maps that differ at one key
+count_apart : {A : Type 0} (bound : ℕ) (test : A → Bool) (map new : ℕ → Option A) (k : ℕ) → ((n : ℕ) → n ≢ k → new n ≡ map n) → entry_count bound test new ≤ entry_count bound test map + 1
+count_apart bound test map new k others = elim (cases_lt k bound) [
+  | inl low ↦
+      let change = entry_count-change bound test map new k low others in
+      let one = bit_le (passes test (new k)) in
+      omega arith
+  | inr high ↦
+      let same = entry_count-same bound test new test map (λ n h. ap (passes test) (others n (λ e. absurd (omega arith)))) in
+      omega arith
+]
+
+-- there are no more VMOs than entries
+pub vmo_count_le : (entries : List (Koid × Vmo)) → vmo_count (vmos_in entries) ≤ length entries
+vmo_count_le [] = let none = entry_count-empty (2 ^ 64) (λ (vmo : Vmo). true) (vmos_in []) (λ v. vmos_in-empty [] refl v) in omega (arith, none)
+vmo_count_le (e ∷ es) =
+    let rest = vmo_count_le es in
+    let one = count_apart (2 ^ 64) (λ (vmo : Vmo). true) (vmos_in es) (vmos_in (e ∷ es)) e.0.0 (λ v apart.
+    vmos_in-is (e ∷ es) v ∙ (cond-false (v == e.0.0) (Some e.1) (vmo_at es v) (ne_eqb v e.0.0 apart) ∙ sym (vmos_in-is es v))) in
+    omega (arith, rest, one)
 
 -- ---- what is in a map
 

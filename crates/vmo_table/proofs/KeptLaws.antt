@@ -1,19 +1,19 @@
 -- What stays true of the table as VMOs are entered.
-use Rattle.std.proofs.Common.{◌≡◌, ℕ, ◌+◌, ◌-◌, ◌^◌, ◌<◌, ◌≤◌, true, false, cond, Option, None, Some, IsSome, sym, ap, subst, ◌∙◌, inl, inr, arith, Bool}
+use Rattle.std.proofs.Common.{◌≡◌, ℕ, ◌+◌, ◌-◌, ◌^◌, ◌<◌, ◌≤◌, true, false, cond, Option, None, Some, IsSome, sym, ap, subst, ◌∙◌, inl, inr, arith, Bool, is_some}
 use Rattle.std.specs.Option.{option_map}
 use Rattle.std.proofs.lemmas.Bool.{cases_Bool, cond-true, cond-false}
 use Rattle.vm_base.specs.Entries.{with_key}
 use Rattle.vm_model.specs.declared.names.Target.{Target}
 use Rattle.vm_model.specs.Naming.Names.{Lineage, is_parent, child_count, has_parent}
-use Rattle.vm_base.specs.declared.limits.TheConstants.{NAMES, KOIDS}
+use Rattle.vm_base.specs.declared.limits.TheConstants.{NAMES}
 use Rattle.vmo_table.specs.declared.vmos.Vmo.{Vmo}
-use Rattle.vmo_table.specs.Vmos.{koid_number, lineage_of_vmo, lineages, adopted}
+use Rattle.vmo_table.specs.Vmos.{koid_number, lineage_of_vmo, lineages, adopted, vmo_count}
 use Rattle.vm_model.specs.declared.names.NameKind.TheVariants.{Owner}
 use Rattle.vmo_table.specs.TableFields.{AreRelated, HasNames, AreKept}
 use Rattle.vm_base.proofs.EntryLaws.{with_key-cases, entry_count-with_key}
-use Rattle.vmo_table.proofs.RelatedLaws.{is_parent_found, child_count-unknown, child_count_lt, AreRelated-empty, AreRelated-entered}
+use Rattle.vmo_table.proofs.RelatedLaws.{is_parent_found, child_count-unknown, AreRelated-empty, AreRelated-entered}
 use Rattle.vmo_table.proofs.NamedLaws.{HasNames-kept, HasNames-at, HasNames-first, HasNames-more_other}
-use Rattle.vmo_table.proofs.VmosLaws.{lineages-with_key, lineages-adopted, adopted_cases}
+use Rattle.vmo_table.proofs.VmosLaws.{lineages-with_key, lineages-adopted, adopted_cases, children_le}
 
 -- ---- an empty table
 
@@ -34,13 +34,14 @@ pub record Enters (names : ℕ → Option Target) (vmos : ℕ → Option Vmo) (n
   pub name_free : names n ≡ None
   pub koid_free : lineages vmos t.koid.0 ≡ None
   pub name_low : n < NAMES
-  pub koid_low : t.koid.0 < KOIDS
+  pub koid_low : t.koid.0 < 2 ^ 64
+  pub few : vmo_count vmos + 1 < 2 ^ 64
   pub owns : t.kind ≡ Owner
   pub one_name : vmo.names ≡ 1
   pub no_slice : vmo.slices ≡ 0
   pub no_reference : vmo.references ≡ 0
   pub no_child : vmo.children ≡ 0
-  pub parent : (p : ℕ) → option_map koid_number vmo.parent ≡ Some p → (p < t.koid.0) × IsSome (lineages vmos p)
+  pub parent : (p : ℕ) → option_map koid_number vmo.parent ≡ Some p → IsSome (lineages vmos p)
 
 module _ (names : ℕ → Option Target) (vmos : ℕ → Option Vmo) (n : ℕ) (t : Target) (vmo : Vmo) (enters : Enters names vmos n t vmo) where
   abbrev own : Option ℕ
@@ -53,19 +54,22 @@ module _ (names : ℕ → Option Target) (vmos : ℕ → Option Vmo) (n : ℕ) (
   after = with_key (lineages vmos) t.koid.0 (lineage_of_vmo vmo)
 
   entered_related : AreRelated (with_key names n t) after
-  entered_related = AreRelated-entered names (lineages vmos) n t (lineage_of_vmo vmo) enters.kept.related enters.name_low enters.koid_low enters.parent
+  entered_related = AreRelated-entered names (lineages vmos) n t (lineage_of_vmo vmo) enters.kept.related enters.name_low enters.koid_low enters.koid_free enters.parent
 
   -- a VMO is not its own parent
   not_own : is_parent t.koid.0 own ≡ false
   not_own = elim (cases_Bool (is_parent t.koid.0 own)) [
-    | inl hit ↦ absurd (let below = (enters.parent t.koid.0 (is_parent_found t.koid.0 own hit)).0 in omega arith)
+    | inl hit ↦ absurd (
+        let there : is_some (lineages vmos t.koid.0) ≡ true = enters.parent t.koid.0 (is_parent_found t.koid.0 own hit) in
+        let free = enters.koid_free in
+        cc)
     | inr miss ↦ miss
   ]
 
   -- how many children a koid has then
   entered : (v : ℕ) (b : Bool) → is_parent v own ≡ b → child_count after v ≡ child_count (lineages vmos) v + cond b 1 0
   entered v b is =
-      entry_count-with_key KOIDS (has_parent v) (lineages vmos) t.koid.0 (lineage_of_vmo vmo) enters.koid_low enters.koid_free
+      entry_count-with_key (2 ^ 64) (has_parent v) (lineages vmos) t.koid.0 (lineage_of_vmo vmo) enters.koid_low enters.koid_free
       ∙ ap (λ (c : Bool). child_count (lineages vmos) v + cond c 1 0) is
 
   -- the children of a VMO that was there
@@ -85,10 +89,9 @@ module _ (names : ℕ → Option Target) (vmos : ℕ → Option Vmo) (n : ℕ) (
   entered_fits v old hit e = elim (with_key-cases vmos t.koid.0 vmo v old e) [
     | inl new ↦ absurd (let miss = not_own in let same : is_parent t.koid.0 own ≡ true = ap (λ (x : ℕ). is_parent x own) (sym new.0) ∙ hit in cc)
     | inr was ↦
-        let counted = entered_children v old was.1 in
-        let is = cond-true (is_parent v own) (old.children - 0 + 1) old.children hit in
-        let less = child_count_lt (with_key names n t) after v entered_related in
-        (omega arith, omega arith)
+        let few = children_le vmos v in
+        let was_counted = enters.kept.counted.children v old was.1 in
+        (omega arith, omega (arith, enters.few))
   ]
 
   entered_counted : (v : ℕ) (new : Vmo) → adopted put own 0 1 v ≡ Some new → HasNames (with_key names n t) v new × (new.children ≡ child_count after v)

@@ -1,16 +1,18 @@
 -- What stays of names and VMOs as they come and go, and how many names and children a VMO has then.
-use Rattle.std.proofs.Common.{◌≡◌, ◌≢◌, ℕ, ◌+◌, ◌<◌, ◌==◌, true, false, cond, Option, None, Some, IsSome, is_some, refl, sym, ap, ◌∙◌, inl, inr, arith, ◌⊎◌, Bool, ◌&&◌}
+use Rattle.std.proofs.Common.{◌≡◌, ◌≢◌, ℕ, ◌+◌, ◌<◌, ◌==◌, true, false, cond, Option, None, Some, IsSome, is_some, refl, sym, ap, ◌∙◌, inl, inr, arith, ◌⊎◌, Bool, ◌&&◌, ◌^◌}
 use Rattle.std.specs.Option.{option_map}
-use Rattle.std.proofs.lemmas.Bool.{cases_eq, eq-eqb, ne_eqb, eqb-true, false_from_ne_true}
+use Rattle.std.proofs.lemmas.Bool.{cases_eq, eq-eqb, ne_eqb, eqb-true, false_from_ne_true, cond-true, cond-false}
 use Rattle.std.proofs.lemmas.Option.{same_Some}
 use Rattle.vm_base.specs.Entries.{with_key, without_key, passes, entry_count}
 use Rattle.vm_model.specs.declared.names.Target.{Target}
 use Rattle.vm_model.specs.Naming.Names.{Lineage, is_named, is_parent, has_parent, child_count, parent_without, lineage_without, is_of, is_of_as, names_as, is_kind}
-use Rattle.vm_base.specs.declared.limits.TheConstants.{NAMES, KOIDS}
+use Rattle.vm_base.specs.declared.limits.TheConstants.{NAMES}
 use Rattle.vm_base.proofs.SearchLaws.{count_below_one_more, count_below_hit, count_below_miss, count_below_split}
-use Rattle.vmo_table.specs.TableFields.{name_count, AreRelated}
+use Rattle.vmo_table.specs.TableFields.{name_count, AreRelated, Ranking}
 use Rattle.vm_base.proofs.EntryLaws.{with_key-here, with_key-other, with_key-cases, without_key-some, with_key-stays, some_is, passes-none, passes-some, passes_found, any_entry_none, entry_count_miss, entry_count-same}
 use Rattle.vm_model.specs.declared.names.NameKind.{NameKind}
+use Rattle.std.proofs.lemmas.Grind.{not_there}
+use Rattle.std.proofs.Math.Logic.{∥∥₁_map}
 
 -- ---- names
 
@@ -43,24 +45,16 @@ pub is_parent_found : (u : ℕ) (o : Option ℕ) → is_parent u o ≡ true → 
 is_parent_found u o e = let found = passes_found (λ (p : ℕ). p == u) o e in found.1 ∙ ap (λ (q : ℕ). Some q) (eqb-true found.0 u found.2)
 
 -- a VMO is counted at its parent
-pub child_counts : (lineage : ℕ → Option Lineage) (k : ℕ) (l : Lineage) (u : ℕ) → k < KOIDS → lineage k ≡ Some l → is_parent u l.parent ≡ true → 0 < child_count lineage u
+pub child_counts : (lineage : ℕ → Option Lineage) (k : ℕ) (l : Lineage) (u : ℕ) → k < 2 ^ 64 → lineage k ≡ Some l → is_parent u l.parent ≡ true → 0 < child_count lineage u
 unfolding entry_count
 child_counts lineage k l u h was parent =
-    count_below_hit KOIDS k (λ w. passes (has_parent u) (lineage w)) h (passes-some (has_parent u) (lineage k) l was ∙ parent)
+    count_below_hit (2 ^ 64) k (λ w. passes (has_parent u) (lineage w)) h (passes-some (has_parent u) (lineage k) l was ∙ parent)
 
 -- a koid that no VMO has, has no children
 pub child_count-unknown : (names : ℕ → Option Target) (lineage : ℕ → Option Lineage) (u : ℕ) → AreRelated names lineage → lineage u ≡ None → child_count lineage u ≡ 0
-child_count-unknown names lineage u related none = entry_count_miss KOIDS (has_parent u) lineage (λ w l h e. false_from_ne_true (has_parent u l) (λ hit. absurd (
-    let there : is_some (lineage u) ≡ true = (related.parents w u l e (is_parent_found u l.parent hit)).1 in
+child_count-unknown names lineage u related none = entry_count_miss (2 ^ 64) (has_parent u) lineage (λ w l h e. false_from_ne_true (has_parent u l) (λ hit. absurd (
+    let there : is_some (lineage u) ≡ true = related.parents w u l e (is_parent_found u l.parent hit) in
     cc)))
-
--- the koid 0 is no child, so there are fewer children than koids
-pub child_count_lt : (names : ℕ → Option Target) (lineage : ℕ → Option Lineage) (u : ℕ) → AreRelated names lineage → child_count lineage u < KOIDS
-unfolding entry_count
-child_count_lt names lineage u related = count_below_miss KOIDS 0 (λ w. passes (has_parent u) (lineage w)) (omega arith) (false_from_ne_true (passes (has_parent u) (lineage 0)) (λ hit. absurd (
-    let found = passes_found (has_parent u) (lineage 0) hit in
-    let below : u < 0 = (related.parents 0 u found.0 found.1 (is_parent_found u found.0.parent found.2)).0 in
-    omega arith)))
 
 -- where no children count, no VMO is a child
 pub no_child : (names : ℕ → Option Target) (lineage : ℕ → Option Lineage) (u : ℕ) → AreRelated names lineage → child_count lineage u ≡ 0 → (w : ℕ) → passes (has_parent u) (lineage w) ≡ false
@@ -128,7 +122,7 @@ has_parent-mapped u f (Some l) each = each l
 
 pub child_count-left_other : (lineage : ℕ → Option Lineage) (v : ℕ) (l : Lineage) (u : ℕ) → lineage v ≡ Some l → u ≢ v → is_parent u l.parent ≡ false → child_count (lineage_without lineage v l.parent) u ≡ child_count lineage u
 child_count-left_other lineage v l u was apart other =
-    entry_count-same KOIDS (has_parent u) (lineage_without lineage v l.parent) (has_parent u) lineage (λ w h. elim (cases_eq w v) [
+    entry_count-same (2 ^ 64) (has_parent u) (lineage_without lineage v l.parent) (has_parent u) lineage (λ w h. elim (cases_eq w v) [
       | inl same ↦ passes-none (has_parent u) (lineage_without lineage v l.parent w) (left-here lineage v l.parent w same) ∙ sym (passes-some (has_parent u) (lineage w) l (ap lineage same ∙ was) ∙ other)
       | inr else_ ↦ ap (passes (has_parent u)) (left-other lineage v l.parent w else_) ∙ has_parent-mapped u (lineage_after v l.parent) (lineage w) (λ k. after_other u v l.parent k.parent apart other)
     ])
@@ -156,18 +150,18 @@ unfolding passes
 has_parent-gained u v None apart = refl
 has_parent-gained u v (Some l) apart = after_parent u v l.parent apart
 
-pub child_count-left : (lineage : ℕ → Option Lineage) (v : ℕ) (l : Lineage) (u : ℕ) → v < KOIDS → lineage v ≡ Some l → u ≢ v → l.parent ≡ Some u → child_count (lineage_without lineage v l.parent) u + 1 ≡ child_count lineage u + child_count lineage v
+pub child_count-left : (lineage : ℕ → Option Lineage) (v : ℕ) (l : Lineage) (u : ℕ) → v < 2 ^ 64 → lineage v ≡ Some l → u ≢ v → l.parent ≡ Some u → child_count (lineage_without lineage v l.parent) u + 1 ≡ child_count lineage u + child_count lineage v
 unfolding entry_count passes parent_without
 child_count-left lineage v l u h was apart parent =
     let here = λ (w : ℕ). passes (has_parent u) (lineage w) in
     let there = λ (w : ℕ). passes (has_parent v) (lineage w) in
     let both = λ (w : ℕ). passes (has_parent u) (option_map (lineage_after v l.parent) (lineage w)) in
     let left = λ (w : ℕ). passes (has_parent u) (lineage_without lineage v l.parent w) in
-    let gained = count_below_split KOIDS here there both (λ w. ap (λ (o : Option ℕ). cond {A = ℕ} (passes (has_parent u) (option_map (lineage_after v o) (lineage w))) 1 0) parent ∙ has_parent-gained u v (lineage w) apart) in
+    let gained = count_below_split (2 ^ 64) here there both (λ w. ap (λ (o : Option ℕ). cond {A = ℕ} (passes (has_parent u) (option_map (lineage_after v o) (lineage w))) 1 0) parent ∙ has_parent-gained u v (lineage w) apart) in
     let own : both v ≡ true =
     ap (λ o. passes (has_parent u) (option_map (lineage_after v l.parent) o)) was
     ∙ (ap (λ (o : Option ℕ). is_parent u (parent_without v o o)) parent ∙ (ap (λ b. is_parent u (cond b (Some u) (Some u))) (ne_eqb u v apart) ∙ eq-eqb u u refl)) in
-    let fewer = count_below_one_more KOIDS v left both h
+    let fewer = count_below_one_more (2 ^ 64) v left both h
     (passes-none (has_parent u) (lineage_without lineage v l.parent v) (left-here lineage v l.parent v refl)) own
     (λ w else_. sym (ap (passes (has_parent u)) (left-other lineage v l.parent w else_))) in
     omega arith
@@ -180,11 +174,42 @@ AreRelated-empty names lineage no_name no_vmo = record {
   koids_below = λ v h. absurd (let e = no_vmo v in cc);
   held = λ n t e. absurd (let f = no_name n in cc);
   parents = λ v p l e f. absurd (let g = no_vmo v in cc);
+  ranked = ∣ record { rank = λ v. 0; falls = λ v p l e f. absurd (let g = no_vmo v in cc) } ∣₁;
 }
 
-pub AreRelated-entered : (names : ℕ → Option Target) (lineage : ℕ → Option Lineage) (n : ℕ) (t : Target) (l : Lineage) → AreRelated names lineage → n < NAMES → t.koid.0 < KOIDS →
-    ((p : ℕ) → l.parent ≡ Some p → (p < t.koid.0) × IsSome (lineage p)) → AreRelated (with_key names n t) (with_key lineage t.koid.0 l)
-AreRelated-entered names lineage n t l related low small parent = record {
+-- the parent of a VMO that is entered is another
+parent_apart : (lineage : ℕ → Option Lineage) (k p : ℕ) → lineage k ≡ None → IsSome (lineage p) → p ≢ k
+parent_apart lineage k p free there same = absurd (let gone = ap lineage same ∙ free in let it : is_some (lineage p) ≡ true = there in cc)
+
+-- the rank of a VMO that is entered is above its parent's
+rank_over : (ℕ → ℕ) → Option ℕ → ℕ
+rank_over rank None = 0
+rank_over rank (Some p) = rank p + 1
+
+rank_over-some : (rank : ℕ → ℕ) (o : Option ℕ) (p : ℕ) → o ≡ Some p → rank_over rank o ≡ rank p + 1
+unfolding rank_over
+rank_over-some rank o p e = ap (rank_over rank) e
+
+Ranking-entered : (lineage : ℕ → Option Lineage) (k : ℕ) (l : Lineage) → Ranking lineage → lineage k ≡ None → ((v p : ℕ) (m : Lineage) → lineage v ≡ Some m → m.parent ≡ Some p → IsSome (lineage p)) →
+    ((p : ℕ) → l.parent ≡ Some p → IsSome (lineage p)) → Ranking (with_key lineage k l)
+Ranking-entered lineage k l r free parents parent =
+    let rank = λ (v : ℕ). cond {A = ℕ} (v == k) (rank_over r.rank l.parent) (r.rank v) in
+    let here : (v : ℕ) → v ≡ k → rank v ≡ rank_over r.rank l.parent = λ v same. cond-true {A = ℕ} (v == k) (rank_over r.rank l.parent) (r.rank v) (eq-eqb v k same) in
+    let other : (v : ℕ) → v ≢ k → rank v ≡ r.rank v = λ v apart. cond-false {A = ℕ} (v == k) (rank_over r.rank l.parent) (r.rank v) (ne_eqb v k apart) in
+    record {
+      rank = rank;
+      falls = λ v p m e f. elim (with_key-cases lineage k l v m e) [
+        | inl new ↦
+            let own = ap (λ (x : Lineage). x.parent) new.1 ∙ f in
+            omega (arith, here v new.0, other p (parent_apart lineage k p free (parent p own)), rank_over-some r.rank l.parent p own)
+        | inr old ↦
+            omega (arith, other v old.0, other p (parent_apart lineage k p free (parents v p m old.1 f)), r.falls v p m old.1 f)
+      ];
+    }
+
+pub AreRelated-entered : (names : ℕ → Option Target) (lineage : ℕ → Option Lineage) (n : ℕ) (t : Target) (l : Lineage) → AreRelated names lineage → n < NAMES → t.koid.0 < 2 ^ 64 → lineage t.koid.0 ≡ None →
+    ((p : ℕ) → l.parent ≡ Some p → IsSome (lineage p)) → AreRelated (with_key names n t) (with_key lineage t.koid.0 l)
+AreRelated-entered names lineage n t l related low small free parent = record {
   names_below = λ m h. elim (cases_eq m n) [
     | inl same ↦ omega arith
     | inr apart ↦ related.names_below m (sym (ap is_some (with_key-other names n t m apart)) ∙ h)
@@ -198,13 +223,10 @@ AreRelated-entered names lineage n t l related low small parent = record {
     | inr old ↦ with_key-stays lineage t.koid.0 l s.koid.0 (related.held m s old.1)
   ];
   parents = λ v p k e f. elim (with_key-cases lineage t.koid.0 l v k e) [
-    | inl new ↦
-        let ok = parent p (ap (λ (x : Lineage). x.parent) new.1 ∙ f) in
-        (omega (arith, ok.0, new.0), with_key-stays lineage t.koid.0 l p ok.1)
-    | inr old ↦
-        let ok = related.parents v p k old.1 f in
-        (ok.0, with_key-stays lineage t.koid.0 l p ok.1)
+    | inl new ↦ with_key-stays lineage t.koid.0 l p (parent p (ap (λ (x : Lineage). x.parent) new.1 ∙ f))
+    | inr old ↦ with_key-stays lineage t.koid.0 l p (related.parents v p k old.1 f)
   ];
+  ranked = ∥∥₁_map related.ranked (λ r. Ranking-entered lineage t.koid.0 l r free related.parents parent);
 }
 
 -- a VMO gets one name more
@@ -220,6 +242,7 @@ AreRelated-aliased names lineage n t related low there = record {
     | inr old ↦ related.held m s old.1
   ];
   parents = related.parents;
+  ranked = related.ranked;
 }
 
 pub AreRelated-closed : (names : ℕ → Option Target) (lineage : ℕ → Option Lineage) (n : ℕ) → AreRelated names lineage → AreRelated (without_key names n) lineage
@@ -228,6 +251,7 @@ AreRelated-closed names lineage n related = record {
   koids_below = related.koids_below;
   held = λ m s e. related.held m s (without_key-some names n m s e).1;
   parents = related.parents;
+  ranked = related.ranked;
 }
 
 -- the parent of a child that is left
@@ -240,6 +264,25 @@ parent_after v own (Some q) p e = elim (cases_eq q v) [
       let it : ◌≡◌ {A = Option ℕ} (Some q) (Some p) = sym (ap (λ b. cond b own (Some q)) (ne_eqb q v apart)) ∙ e in
       inr (it, λ f. apart (same_Some q p it ∙ f))
 ]
+
+-- a VMO is not its own parent
+not_own_parent : (lineage : ℕ → Option Lineage) (v : ℕ) (l : Lineage) → ∥ Ranking lineage ∥₁ → lineage v ≡ Some l → l.parent ≡ Some v → ⊥
+not_own_parent lineage v l ranked was own = not_there ranked (λ r. let below = r.falls v v l was own in omega arith)
+
+-- the ranks stay
+Ranking-left : (lineage : ℕ → Option Lineage) (v : ℕ) (l : Lineage) → Ranking lineage → lineage v ≡ Some l → Ranking (lineage_without lineage v l.parent)
+Ranking-left lineage v l r was = record {
+  rank = r.rank;
+  falls = λ w p k e f.
+      let left = left_cases lineage v l.parent w k e in
+      elim (parent_after v l.parent left.1.parent p (ap (λ (x : Lineage). x.parent) left.3 ∙ f)) [
+        | inl passed ↦
+            let above = r.falls v p l was passed.1 in
+            let below = r.falls w v left.1 left.2 passed.0 in
+            omega arith
+        | inr kept ↦ r.falls w p left.1 left.2 kept.0
+      ];
+}
 
 pub AreRelated-left : (names : ℕ → Option Target) (lineage : ℕ → Option Lineage) (v : ℕ) (l : Lineage) → AreRelated names lineage → lineage v ≡ Some l → is_named names v ≡ false → AreRelated names (lineage_without lineage v l.parent)
 AreRelated-left names lineage v l related was miss = record {
@@ -256,11 +299,9 @@ AreRelated-left names lineage v l related was miss = record {
       let up = ap (λ (x : Lineage). x.parent) left.3 ∙ f in
       elim (parent_after v l.parent left.1.parent p up) [
         | inl passed ↦
-            let own = related.parents v p l was passed.1 in
-            let child = related.parents w v left.1 left.2 passed.0 in
-            (omega (arith, own.0, child.0), left-stays lineage v l.parent p (λ s. absurd (omega (arith, own.0, s))) own.1)
-        | inr kept ↦
-            let ok = related.parents w p left.1 left.2 kept.0 in
-            (ok.0, left-stays lineage v l.parent p kept.1 ok.1)
+            let above = related.parents v p l was passed.1 in
+            left-stays lineage v l.parent p (λ same. not_own_parent lineage v l related.ranked was (passed.1 ∙ ap (λ (x : ℕ). Some x) same)) above
+        | inr kept ↦ left-stays lineage v l.parent p kept.1 (related.parents w p left.1 left.2 kept.0)
       ];
+  ranked = ∥∥₁_map related.ranked (λ r. Ranking-left lineage v l r was);
 }

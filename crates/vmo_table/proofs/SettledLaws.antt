@@ -6,14 +6,14 @@ use Rattle.std.proofs.Math.Bool.{or-true}
 use Rattle.vm_base.specs.declared.names.Koid.{Koid}
 use Rattle.vm_model.specs.declared.names.Target.{Target}
 use Rattle.vm_model.specs.Naming.Names.{Lineage, is_named, is_parent, has_parent, child_count, lineage_without, is_of}
-use Rattle.vm_base.specs.declared.limits.TheConstants.{KOIDS, NAMES}
+use Rattle.vm_base.specs.declared.limits.TheConstants.{NAMES}
 use Rattle.vmo_table.specs.declared.vmos.Vmo.{Vmo}
-use Rattle.vmo_table.specs.Vmos.{koid_number, lineage_of_vmo, lineages, adopted, vmos_without, is_held, settled}
+use Rattle.vmo_table.specs.Vmos.{koid_number, lineage_of_vmo, lineages, adopted, vmos_without, is_held, settled, vmo_count}
 use Rattle.vmo_table.specs.Table.{parent_of, Settles}
 use Rattle.vmo_table.specs.TableFields.{AreRelated, HasNames, AreKept}
-use Rattle.vmo_table.proofs.RelatedLaws.{is_parent_found, child_count_lt, child_counts, no_child, child_count-left, child_count-left_other, AreRelated-left}
+use Rattle.vmo_table.proofs.RelatedLaws.{is_parent_found, child_counts, no_child, child_count-left, child_count-left_other, AreRelated-left}
 use Rattle.vmo_table.proofs.NamedLaws.{HasNames-kept}
-use Rattle.vmo_table.proofs.VmosLaws.{lineages_found, lineages-adopted, adopted_cases, lineages-without, without_cases, settled-held, settled-free, free_counts}
+use Rattle.vmo_table.proofs.VmosLaws.{lineages_found, lineages-adopted, adopted_cases, lineages-without, without_cases, settled-held, settled-free, free_counts, left_children_le}
 use Rattle.vmo_table.proofs.WrittenLaws.{IsWritten, lineages-is_written, own_children, AreKept-written}
 use Rattle.vm_base.proofs.EntryLaws.{any_entry-count}
 use Rattle.vm_base.specs.Entries.{passes}
@@ -33,7 +33,7 @@ module _ (names : ℕ → Option Target) (vmos : ℕ → Option Vmo) (k : ℕ) (
   was : lineages vmos k ≡ Some (lineage_of_vmo new)
   was = lineages_found vmos k old is.found ∙ ap (λ (l : Lineage). Some l) (sym is.lineage)
 
-  small : k < KOIDS
+  small : k < 2 ^ 64
   small = is.related.koids_below k (ap is_some was)
 
   -- a VMO is named where it has names
@@ -61,15 +61,15 @@ module _ (names : ℕ → Option Target) (vmos : ℕ → Option Vmo) (k : ℕ) (
             cond-false (is_parent v above) (vmo.children - 1 + new.children) vmo.children miss ∙ omega arith
       ]
 
-  pub left_fits : is_held new ≡ false → (v : ℕ) (vmo : Vmo) → is_parent v above ≡ true → gone v ≡ Some vmo → (1 ≤ vmo.children) × (vmo.children - 1 + new.children < 2 ^ 64)
+  pub left_fits : is_held new ≡ false → (v : ℕ) (vmo : Vmo) → is_parent v above ≡ true → gone v ≡ Some vmo → (1 ≤ vmo.children) × (vmo.children - 1 + new.children ≤ vmo_count vmos)
   left_fits free v vmo hit e =
       let was_there = without_cases vmos k new.parent v vmo e in
       let counted = left_children v was_there.1 was_there.0 was_there.2 in
       let this = cond-true (is_parent v above) (was_there.1.children - 1 + new.children) was_there.1.children hit in
       let one = child_counts (lineages vmos) k (lineage_of_vmo new) v small was hit in
       let own = is.counted v was_there.1 was_there.2 in
-      let less = child_count_lt names left v (left_related free) in
-      let fits : vmo.children - 1 + new.children < 2 ^ 64 = omega (arith, was_there.4) in
+      let less = left_children_le vmos k above v in
+      let fits : vmo.children - 1 + new.children ≤ vmo_count vmos = omega (arith, was_there.4) in
       (omega (arith, was_there.4), fits)
 
   lineages-left : lineages (adopted gone above 1 new.children) ≡ left

@@ -1,5 +1,5 @@
 -- From what a caller says of the table to its fields.
-use Rattle.std.proofs.Common.{◌≡◌, ◌≢◌, ℕ, ◌+◌, ◌<◌, ◌≤◌, ◌==◌, ◌&&◌, Bool, Option, None, Some, IsSome, is_some, min, sym, ap, subst, ◌∙◌, inl, inr, arith}
+use Rattle.std.proofs.Common.{◌≡◌, ◌≢◌, ℕ, ◌+◌, ◌<◌, ◌≤◌, ◌==◌, ◌&&◌, Bool, Option, None, Some, IsSome, is_some, min, sym, ap, subst, ◌∙◌, inl, inr, arith, length, ◌^◌}
 use Rattle.std.specs.Prelude.{IfSome}
 use Rattle.std.specs.Option.{option_map}
 use Rattle.std.specs.HashMap.{spare}
@@ -10,17 +10,17 @@ use Rattle.vm_base.specs.Entries.{with_key, without_key}
 use Rattle.vm_model.specs.declared.names.NameKind.TheVariants.{Owner}
 use Rattle.vm_model.specs.declared.names.Target.{Target}
 use Rattle.vm_model.specs.Naming.Names.{Lineage, is_named, child_count, lineage_without, is_created, children, may_decommit}
-use Rattle.vm_base.specs.declared.limits.TheConstants.{NAMES, KOIDS}
+use Rattle.vm_base.specs.declared.limits.TheConstants.{NAMES}
 use Rattle.vmo_table.specs.declared.vmos.Vmo.{Vmo}
 use Rattle.vmo_table.specs.declared.vmo_table.VmoTable.TheInside.{Inside}
 use Rattle.vmo_table.specs.Vmos.{koid_number, vmos_in, lineage_of_vmo, lineages, keepers_in, more_names, fewer_names}
 use Rattle.vmo_table.specs.Table.{Table, names_in, names_of, lineage_in, keepers_of, room_of, parent_of, Settles, Closes}
 use Rattle.vmo_table.specs.TableFields.{table_of, HasNames, IsTable}
-use Rattle.vmo_table.proofs.VmosLaws.{lineages-none}
-use Rattle.vmo_table.proofs.EntryLaws.{vmo_at, target_at, vmos_in-is, names_in_found, vmo_there, lineage_at, target_there}
+use Rattle.vmo_table.proofs.VmosLaws.{lineages-none, children_le}
+use Rattle.vmo_table.proofs.EntryLaws.{vmo_at, target_at, vmos_in-is, names_in_found, vmo_there, lineage_at, target_there, vmo_count_le}
 use Rattle.vm_base.proofs.EntryLaws.{some_is}
 use Rattle.vmo_table.proofs.NamedLaws.{names_fit}
-use Rattle.vmo_table.proofs.RelatedLaws.{child_count_lt, left-stays, left_unknown}
+use Rattle.vmo_table.proofs.RelatedLaws.{left-stays, left_unknown}
 use Rattle.vmo_table.proofs.KeepersLaws.{keepers_found, keepers_none}
 use Rattle.vmo_table.proofs.KeptLaws.{Enters}
 use Rattle.vmo_table.proofs.WrittenLaws.{IsWritten, IsAliased, IsWritten-aliased, IsOpenIn, IsWritten-closed, with_keepers, IsWritten-kept}
@@ -37,22 +37,21 @@ parent_at (Some koid) Q h p e = subst Q (same_Some koid.0 p e) h
 
 -- a VMO may be entered
 pub enters : (a : Inside) (now : Table) (name : ℕ) (t : Target) (vmo : Vmo) → table_of a ≡ now → IsTable a → names_of now name ≡ None → lineage_in now t.koid.0 ≡ None →
-    IfSome vmo.parent (λ p. (p.0 < t.koid.0) × IsSome (lineage_in now p.0)) → name ≤ 4294967295 → t.koid.0 < KOIDS → t.kind ≡ Owner → vmo.names ≡ 1 → vmo.slices ≡ 0 → vmo.references ≡ 0 → vmo.children ≡ 0 →
+    IfSome vmo.parent (λ p. IsSome (lineage_in now p.0)) → name < NAMES → t.koid.0 < 2 ^ 64 → length a.vmos.entries + 1 < 2 ^ 64 → t.kind ≡ Owner → vmo.names ≡ 1 → vmo.slices ≡ 0 → vmo.references ≡ 0 → vmo.children ≡ 0 →
     Enters (names_in a.names.entries) (vmos_in a.vmos.entries) name t vmo
-enters a now name t vmo view table no_name no_koid parent low small owns one no_slice no_reference none = record {
+enters a now name t vmo view table no_name no_koid parent low small few owns one no_slice no_reference none = record {
   kept = table.kept;
   name_free = ap (λ (x : Table). names_of x name) view ∙ no_name;
   koid_free = ap (λ (x : Table). lineage_in x t.koid.0) view ∙ no_koid;
-  name_low = omega arith;
+  name_low = low;
   koid_low = small;
+  few = let count = vmo_count_le a.vmos.entries in omega arith;
   owns = owns;
   one_name = one;
   no_slice = no_slice;
   no_reference = no_reference;
   no_child = none;
-  parent = λ p e.
-      let ok = parent_at vmo.parent (λ q. (q < t.koid.0) × IsSome (lineage_in now q)) parent p e in
-      (ok.0, subst (λ (x : Table). IsSome (lineage_in x p)) (sym view) ok.1);
+  parent = λ p e. subst (λ (x : Table). IsSome (lineage_in x p)) (sym view) (parent_at vmo.parent (λ q. IsSome (lineage_in now q)) parent p e);
 }
 
 -- a VMO that is known is in the map of VMOs
@@ -71,24 +70,25 @@ counts_of a v vmo table found =
     (table.kept.counted.named v vmo there, table.kept.counted.children v vmo there)
 
 -- so another name may stand for it
-pub aliases : (a : Inside) (now : Table) (name : ℕ) (t : Target) (vmo : Vmo) → table_of a ≡ now → IsTable a → names_of now name ≡ None → name ≤ 4294967295 → vmo_at a.vmos.entries t.koid.0 ≡ Some vmo →
+pub aliases : (a : Inside) (now : Table) (name : ℕ) (t : Target) (vmo : Vmo) → table_of a ≡ now → IsTable a → names_of now name ≡ None → name < NAMES → vmo_at a.vmos.entries t.koid.0 ≡ Some vmo →
     IsAliased (names_in a.names.entries) (vmos_in a.vmos.entries) name t vmo
 aliases a now name t vmo view table no_name low found = record {
   kept = table.kept;
   name_free = ap (λ (x : Table). names_of x name) view ∙ no_name;
-  name_low = omega arith;
+  name_low = low;
   found = vmos_in-is a.vmos.entries t.koid.0 ∙ found;
 }
 
 -- its children, slices and references are counted
 pub children_counted : (a : Inside) (now : Table) (v : ℕ) (vmo : Vmo) → table_of a ≡ now → IsTable a → vmo_at a.vmos.entries v ≡ Some vmo →
-    (vmo.children + vmo.slices + vmo.references ≡ children (names_of now) (lineage_in now) v) × (vmo.children < KOIDS) × (vmo.slices ≤ NAMES) × (vmo.references ≤ NAMES)
+    (vmo.children + vmo.slices + vmo.references ≡ children (names_of now) (lineage_in now) v) × (vmo.children ≤ length a.vmos.entries) × (vmo.slices ≤ NAMES) × (vmo.references ≤ NAMES)
 children_counted a now v vmo view table found =
     let counts = counts_of a v vmo table found in
     let fit = names_fit (names_in a.names.entries) v vmo counts.0 in
-    let less = child_count_lt (names_in a.names.entries) (lineages (vmos_in a.vmos.entries)) v table.kept.related in
+    let less = children_le (vmos_in a.vmos.entries) v in
+    let few = vmo_count_le a.vmos.entries in
     let is : vmo.children + vmo.slices + vmo.references ≡ children (names_in a.names.entries) (lineages (vmos_in a.vmos.entries)) v = omega (arith, counts.0.sliced, counts.0.referred, counts.1) in
-    (is ∙ ap (λ (x : Table). children (names_of x) (lineage_in x) v) view, omega (arith, less, counts.1), fit.1, fit.2)
+    (is ∙ ap (λ (x : Table). children (names_of x) (lineage_in x) v) view, omega (arith, less, few, counts.1), fit.1, fit.2)
 
 -- its frames may be taken back where its counts say so
 pub decommit_counted : (a : Inside) (now : Table) (v : ℕ) (vmo : Vmo) → table_of a ≡ now → IsTable a → vmo_at a.vmos.entries v ≡ Some vmo →
@@ -120,7 +120,7 @@ open_in a name t vmo table found there = record {
 -- ---- a VMO is written
 
 -- by a name that is added
-pub aliasing : (a : Inside) (now : Table) (name : ℕ) (t : Target) (vmo more : Vmo) → table_of a ≡ now → IsTable a → names_of now name ≡ None → name ≤ 4294967295 → vmo_at a.vmos.entries t.koid.0 ≡ Some vmo →
+pub aliasing : (a : Inside) (now : Table) (name : ℕ) (t : Target) (vmo more : Vmo) → table_of a ≡ now → IsTable a → names_of now name ≡ None → name < NAMES → vmo_at a.vmos.entries t.koid.0 ≡ Some vmo →
     more ≡ more_names t.kind vmo → IsWritten (with_key (names_in a.names.entries) name t) (vmos_in a.vmos.entries) t.koid.0 vmo more
 aliasing a now name t vmo more view table no_name low found is =
     subst (λ (x : Vmo). IsWritten (with_key (names_in a.names.entries) name t) (vmos_in a.vmos.entries) t.koid.0 vmo x) (sym is)

@@ -1,17 +1,18 @@
 -- Laws of the VMOs of the table as a map from koids.
-use Rattle.std.proofs.Common.{◌≡◌, ◌≢◌, ℕ, ◌+◌, ◌-◌, ◌<◌, ◌≤◌, ◌==◌, ◌||◌, Bool, true, false, cond, nat_lt, Option, None, Some, refl, sym, ap, subst, ◌∙◌, ◌⊎◌, inl, inr}
+use Rattle.std.proofs.Common.{◌≡◌, ◌≢◌, ℕ, ◌+◌, ◌-◌, ◌<◌, ◌≤◌, ◌==◌, ◌||◌, Bool, true, false, cond, nat_lt, Option, None, Some, refl, sym, ap, subst, ◌∙◌, ◌⊎◌, inl, inr, ◌^◌, IsSome, is_some}
 use Rattle.std.specs.Option.{option_map}
 use Rattle.std.proofs.lemmas.Bool.{cases_eq, cases_lt, eq-eqb, ne_eqb, lt-ltb, le-ltb, cond-true, cond-false}
 use Rattle.std.proofs.lemmas.Option.{same_Some}
 use Rattle.std.proofs.Math.Bool.{or-true}
 use Rattle.vm_base.specs.declared.names.Koid.{Koid}
-use Rattle.vm_base.specs.Entries.{with_key}
-use Rattle.vm_model.specs.Naming.Names.{Lineage, is_parent, parent_without, lineage_without}
+use Rattle.vm_base.specs.Entries.{with_key, passes, entry_count}
+use Rattle.vm_model.specs.Naming.Names.{Lineage, is_parent, parent_without, lineage_without, has_parent, child_count}
 use Rattle.vmo_table.specs.declared.vmos.Vmo.{Vmo}
-use Rattle.vmo_table.specs.Vmos.{koid_number, lineage_of_vmo, lineages, with_children, adopted, koid_after, vmos_without, is_held, settled}
-use Rattle.vm_base.proofs.EntryLaws.{with_key-here, with_key-other}
-use Rattle.vmo_table.proofs.RelatedLaws.{left-here, left-other, lineage_after}
+use Rattle.vmo_table.specs.Vmos.{koid_number, lineage_of_vmo, lineages, with_children, adopted, koid_after, vmos_without, is_held, settled, vmo_count}
+use Rattle.vm_base.proofs.EntryLaws.{with_key-here, with_key-other, some_is, passes_found, passes-some}
+use Rattle.vmo_table.proofs.RelatedLaws.{left-here, left-other, lineage_after, left_cases}
 use Rattle.vmo_table.proofs.NamedLaws.{KeepsNames}
+use Rattle.vm_base.proofs.SearchLaws.{count_below_less}
 
 pub lineages-is : (vmos : ℕ → Option Vmo) (v : ℕ) → lineages vmos v ≡ option_map lineage_of_vmo (vmos v)
 unfolding lineages
@@ -37,6 +38,32 @@ lineages-with_key vmos k vmo = λ i w. at w i
       | inr apart ↦ lineages-is (with_key vmos k vmo) w ∙ (ap (option_map lineage_of_vmo) (with_key-other vmos k vmo w apart)
           ∙ (sym (lineages-is vmos w) ∙ sym (with_key-other (lineages vmos) k (lineage_of_vmo vmo) w apart)))
     ]
+
+-- what has a lineage is there
+lineages_there : (vmos : ℕ → Option Vmo) (v : ℕ) → IsSome (lineages vmos v) → IsSome (vmos v)
+lineages_there vmos v h = of (vmos v) (sym (ap is_some (lineages-is vmos v)) ∙ h)
+  where
+    of : (o : Option Vmo) → IsSome (option_map lineage_of_vmo o) → IsSome o
+    of None e = absurd (cc)
+    of (Some vmo) e = refl
+
+-- no more VMOs have a parent than there are
+child_count_le : (vmos : ℕ → Option Vmo) (lineage : ℕ → Option Lineage) (u : ℕ) → ((w : ℕ) → IsSome (lineage w) → IsSome (vmos w)) → child_count lineage u ≤ vmo_count vmos
+unfolding entry_count
+child_count_le vmos lineage u there =
+    count_below_less (2 ^ 64) (λ w. passes (has_parent u) (lineage w)) (λ w. passes (λ (vmo : Vmo). true) (vmos w)) (λ w h hit.
+    let found = passes_found (has_parent u) (lineage w) hit in
+    let vmo = some_is (vmos w) (there w (ap is_some found.1)) in
+    passes-some (λ (x : Vmo). true) (vmos w) vmo.0 vmo.1)
+
+pub children_le : (vmos : ℕ → Option Vmo) (u : ℕ) → child_count (lineages vmos) u ≤ vmo_count vmos
+children_le vmos u = child_count_le vmos (lineages vmos) u (lineages_there vmos)
+
+-- nor do after one left
+pub left_children_le : (vmos : ℕ → Option Vmo) (v : ℕ) (parent : Option ℕ) (u : ℕ) → child_count (lineage_without (lineages vmos) v parent) u ≤ vmo_count vmos
+left_children_le vmos v parent u = child_count_le vmos (lineage_without (lineages vmos) v parent) u (λ w h.
+    let found = some_is (lineage_without (lineages vmos) v parent w) h in
+    lineages_there vmos w (ap is_some (left_cases (lineages vmos) v parent w found.0 found.1).2))
 
 -- another count of names changes no lineage
 pub lineages-written : (vmos : ℕ → Option Vmo) (k : ℕ) (old new : Vmo) → vmos k ≡ Some old → lineage_of_vmo new ≡ lineage_of_vmo old → lineages (with_key vmos k new) ≡ lineages vmos

@@ -1,11 +1,11 @@
 -- How the fields of the table are seen, and what holds of them.
-use Rattle.std.specs.Prelude.{◌≡◌, ℕ, ◌<◌, min, Option, Some, IsSome}
+use Rattle.std.specs.Prelude.{◌≡◌, ℕ, ◌<◌, min, Option, Some, IsSome, ◌^◌}
 use Rattle.std.specs.HashMap.{spare}
 use Rattle.vm_base.specs.Entries.{entry_count}
 use Rattle.vm_model.specs.declared.names.NameKind.TheVariants.{Slice, Reference}
 use Rattle.vm_model.specs.declared.names.Target.{Target}
 use Rattle.vm_model.specs.Naming.Names.{Lineage, is_of, names_as, child_count}
-use Rattle.vm_base.specs.declared.limits.TheConstants.{NAMES, KOIDS}
+use Rattle.vm_base.specs.declared.limits.TheConstants.{NAMES}
 use Rattle.vmo_table.specs.declared.vmos.Vmo.{Vmo}
 use Rattle.vmo_table.specs.declared.vmo_table.VmoTable.TheInside.{Inside}
 use Rattle.vmo_table.specs.Vmos.{vmos_in, lineages}
@@ -22,13 +22,19 @@ table_of a = record {
 abbrev pub name_count : (ℕ → Option Target) → ℕ → ℕ
 name_count names v = entry_count NAMES (is_of v) names
 
--- Each name stands for a VMO of the table, and a parent is in the table and older. Names and
--- koids are as small as NAMES and KOIDS say.
+-- a number for each VMO, smaller for its parent, so that no chain of parents is a ring
+pub record Ranking (lineage : ℕ → Option Lineage) : Type 0 where
+  pub rank : ℕ → ℕ
+  pub falls : (v p : ℕ) (l : Lineage) → lineage v ≡ Some l → l.parent ≡ Some p → rank p < rank v
+
+-- Each name stands for a VMO of the table, a parent is in the table, and no chain of parents is a ring. Names and koids have the
+-- ranges of their types.
 pub record AreRelated (names : ℕ → Option Target) (lineage : ℕ → Option Lineage) : Type 0 where
   pub names_below : (n : ℕ) → IsSome (names n) → n < NAMES
-  pub koids_below : (v : ℕ) → IsSome (lineage v) → v < KOIDS
+  pub koids_below : (v : ℕ) → IsSome (lineage v) → v < 2 ^ 64
   pub held : (n : ℕ) (t : Target) → names n ≡ Some t → IsSome (lineage t.koid.0)
-  pub parents : (v p : ℕ) (l : Lineage) → lineage v ≡ Some l → l.parent ≡ Some p → (p < v) × IsSome (lineage p)
+  pub parents : (v p : ℕ) (l : Lineage) → lineage v ≡ Some l → l.parent ≡ Some p → IsSome (lineage p)
+  pub ranked : ∥ Ranking lineage ∥₁
 
 -- The VMO v has as many names as are counted, and as many slices and references among them.
 pub record HasNames (names : ℕ → Option Target) (v : ℕ) (vmo : Vmo) : Type 0 where

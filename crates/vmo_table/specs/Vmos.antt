@@ -1,11 +1,11 @@
 -- The VMOs of the table as a map from koids, and what becomes of it.
-use Rattle.std.specs.Prelude.{ℕ, ◌+◌, ◌-◌, ◌==◌, ◌||◌, nat_lt, Bool, List, if◌then◌else◌, Option, None, Some, unwrap_or}
+use Rattle.std.specs.Prelude.{ℕ, ◌+◌, ◌-◌, ◌==◌, ◌||◌, nat_lt, Bool, List, if◌then◌else◌, Option, None, Some, unwrap_or, ◌^◌, true}
 use Rattle.std.specs.Option.{option_map}
 use Rattle.std.specs.Map.{lookup}
 use Rattle.vm_base.specs.declared.names.Koid.{Koid}
 use Rattle.vm_model.specs.declared.names.NameKind.{NameKind}
 use Rattle.vm_model.specs.declared.names.NameKind.TheVariants.{Slice, Reference}
-use Rattle.vm_base.specs.Entries.{with_key}
+use Rattle.vm_base.specs.Entries.{with_key, entry_count}
 use Rattle.vm_model.specs.Naming.Names.{Lineage, is_kind, is_parent}
 use Rattle.vmo_table.specs.declared.vmos.Vmo.{Vmo}
 
@@ -23,6 +23,10 @@ lineage_of_vmo vmo = record { resizable = vmo.resizable; origin = vmo.origin; pa
 
 unfoldable pub lineages : (ℕ → Option Vmo) → ℕ → Option Lineage
 lineages vmos v = option_map lineage_of_vmo (vmos v)
+
+-- how many VMOs there are. Koids are numbers of 64 bits
+abbrev pub vmo_count : (ℕ → Option Vmo) → ℕ
+vmo_count vmos = entry_count (2 ^ 64) (λ (vmo : Vmo). true) vmos
 
 -- how many pins and mapped pages keep a VMO, and none where there is no VMO
 unfoldable pub keepers_in : (ℕ → Option Vmo) → ℕ → ℕ

@@ -10,8 +10,7 @@ use vm_base::{Koid, VmoName};
 fn enter(table: &mut VmoTable, name: VmoName, koid: Koid, parent: Option<Koid>) -> Result<(), Fail>
     requires name { names_of table.old name.0 ≡ None }
     requires koid { lineage_in table.old koid.0 ≡ None }
-    requires small { koid.0 < 2 ^ 63 }
-    requires parent { IfSome parent (λ p. (p.0 < koid.0) × IsSome (lineage_in table.old p.0)) }
+    requires parent { IfSome parent (λ p. IsSome (lineage_in table.old p.0)) }
     ensures name { OnOk result (IsSome (names_of table.new name.0)) }
     ensures names { OnOk result ((n : ℕ) → n ≢ name.0 → names_of table.new n ≡ names_of table.old n) }
     ensures koid { OnOk result (IsSome (lineage_in table.new koid.0)) }

@@ -62,9 +62,8 @@ impl VmoTable {
         Ok(())
     }
 
-    /// Enters a VMO under a koid that is new and below 2^63, and a name that is not open and stands for
-    /// all of it. The name may resize the VMO exactly where the VMO is resizable. A parent is in the
-    /// table, and older.
+    /// Enters a VMO under a koid that is new, and a name that is not open and stands for all of it. The
+    /// name may resize the VMO exactly where the VMO is resizable. A parent is in the table.
     pub fn enter(
         &mut self,
         name: VmoName,
@@ -76,16 +75,17 @@ impl VmoTable {
     )
         requires name { names_of self.old name.0 ≡ None }
         requires koid { lineage_in self.old koid.0 ≡ None }
-        requires small { koid.0 < 2 ^ 63 }
-        requires parent { IfSome parent (λ p. (p.0 < koid.0) × IsSome (lineage_in self.old p.0)) }
+        requires parent { IfSome parent (λ p. IsSome (lineage_in self.old p.0)) }
         requires room { 1 ≤ room_of self.old }
         ensures names { names_of self.new ≡ with_key (names_of self.old) name.0 (owner koid.0 may_write resizable) }
         ensures lineage { lineage_in self.new ≡ with_key (lineage_in self.old) koid.0
             (record { resizable = resizable; origin = origin; parent = option_map koid_number parent }) }
         ensures keepers { keepers_of self.new ≡ keepers_of self.old }
     {
-        // How far the table counts rests on the range of the names.
+        // How far the table counts rests on the ranges of names and koids, and on how many VMOs a map holds.
         prove!(name.0 <= u32::MAX);
+        prove!(koid.0 <= u64::MAX);
+        prove!(self.vmos.len() < usize::MAX);
         let vmo = Vmo {
             resizable,
             origin,
@@ -196,6 +196,8 @@ impl VmoTable {
         requires { IsSome (lineage_in self.now koid.0) }
         ensures { result ≡ children (names_of self.now) (lineage_in self.now) koid.0 }
     {
+        // The sum fits, since a map holds fewer than 2^63 VMOs.
+        prove!(self.vmos.len() <= usize::MAX / 2);
         let vmo = self.vmos[&koid];
         vmo.children + vmo.slices + vmo.references
     }

@@ -1,9 +1,10 @@
-use Rattle.std.proofs.Common.{ℕ, Option, sym, ap, ◌∙◌}
+use Rattle.std.proofs.Common.{ℕ, Option, sym, ap, ◌∙◌, arith}
 use Rattle.std.specs.Option.{option_map}
 use Rattle.vmo_table.specs.declared.vmos.Vmo.{Vmo}
 use Rattle.vmo_table.specs.Vmos.{koid_number, vmos_in, adopted}
 use Rattle.vmo_table.proofs.VmosLaws.{settled-held, settled-free, held_by, held_by_none}
 use Rattle.vmo_table.proofs.vmos.settle.Goals as goal
+use Rattle.vmo_table.proofs.EntryLaws.{vmo_count_le}
 
 pub returns-then-vmo-gt0-clause-vmos : goal.returns-then-vmo-gt0-clause-vmos
 returns-then-vmo-gt0-clause-vmos c =
@@ -11,7 +12,9 @@ returns-then-vmo-gt0-clause-vmos c =
 
 pub count_children-requires : goal.count_children-requires
 count_children-requires c = λ v above hit e.
-    c.requires.fits (held_by_none c.args.vmo c.if-vmo-gt0.false c.if-vmo-gt0-2.false) v above hit (ap (λ (m : ℕ → Option Vmo). m v) (sym c.take_out.ensures) ∙ e)
+    let fits = c.requires.fits (held_by_none c.args.vmo c.if-vmo-gt0.false c.if-vmo-gt0-2.false) v above hit (ap (λ (m : ℕ → Option Vmo). m v) (sym c.take_out.ensures) ∙ e) in
+    let few = vmo_count_le c.args.vmos.now.entries in
+    (fits.0, omega (arith, fits.1, few, c.len.ensures.small))
 
 pub returns-clause-vmos : goal.returns-clause-vmos
 returns-clause-vmos c =

@@ -1,4 +1,4 @@
-use Rattle.std.proofs.Common.{sym, ap, ◌∙◌}
+use Rattle.std.proofs.Common.{sym, ap, ◌∙◌, arith}
 use Rattle.vm_base.specs.Entries.{with_key}
 use Rattle.vmo_table.specs.declared.vmos.Vmo.{Vmo}
 use Rattle.vmo_table.specs.Vmos.{lineages, keepers_in}
@@ -15,18 +15,18 @@ index-vmo-requires c = known_there c.self.inside c.args.self.now c.args.target.k
 
 pub add_name-requires : goal.add_name-requires
 add_name-requires c =
-    let aliased = aliases c.self.inside c.args.self.now c.args.name.0 c.args.target c.index-vmo.result.now c.self.view_is c.self.invariant c.requires.name c.if-prove.false c.index-vmo.ensures in
+    let aliased = aliases c.self.inside c.args.self.now c.args.name.0 c.args.target c.index-vmo.result.now c.self.view_is c.self.invariant c.requires.name (omega arith) c.index-vmo.ensures in
     let fit = may_name _ _ _ _ _ aliased in
     record { names = fit.0; slices = fit.1; references = fit.2 }
 
 pub write_back-requires : goal.write_back-requires
 write_back-requires c =
-    let aliased = aliases c.self.inside c.args.self.now c.args.name.0 c.args.target c.index-vmo.result.now c.self.view_is c.self.invariant c.requires.name c.if-prove.false c.index-vmo.ensures in
+    let aliased = aliases c.self.inside c.args.self.now c.args.name.0 c.args.target c.index-vmo.result.now c.self.view_is c.self.invariant c.requires.name (omega arith) c.index-vmo.ensures in
     (c.index-vmo.result.now, aliased.found)
 
 pub invariant_of-self : goal.invariant_of-self
 invariant_of-self c =
-    let written = aliasing c.self.inside c.args.self.now c.args.name.0 c.args.target c.index-vmo.result.now c.add_name.result c.self.view_is c.self.invariant c.requires.name c.if-prove.false c.index-vmo.ensures c.add_name.ensures in
+    let written = aliasing c.self.inside c.args.self.now c.args.name.0 c.args.target c.index-vmo.result.now c.add_name.result c.self.view_is c.self.invariant c.requires.name (omega arith) c.index-vmo.ensures c.add_name.ensures in
     let room = rooms c.self.inside c.args.self.now c.self.view_is c.requires.room in
     let named = names_in-put c.self.inside.names.entries c.insert-named.new.self.entries c.args.name.0 c.args.target
     (from_ok c.insert-named.result (c.insert-named.ensures.succeeds room.0) c.insert-named.ensures.updates).0 in
@@ -41,7 +41,7 @@ returns-clause-names c =
 
 pub returns-clause-lineage : goal.returns-clause-lineage
 returns-clause-lineage c =
-    let written = aliasing c.self.inside c.args.self.now c.args.name.0 c.args.target c.index-vmo.result.now c.add_name.result c.self.view_is c.self.invariant c.requires.name c.if-prove.false c.index-vmo.ensures c.add_name.ensures in
+    let written = aliasing c.self.inside c.args.self.now c.args.name.0 c.args.target c.index-vmo.result.now c.add_name.result c.self.view_is c.self.invariant c.requires.name (omega arith) c.index-vmo.ensures c.add_name.ensures in
     ap lineages c.write_back.ensures ∙ (lineages-is_written _ _ _ _ _ written ∙ ap lineage_in c.self.view_is)
 
 pub returns-clause-keepers : goal.returns-clause-keepers

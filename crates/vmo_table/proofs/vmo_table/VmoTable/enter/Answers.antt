@@ -1,4 +1,4 @@
-use Rattle.std.proofs.Common.{ℕ, Bool, Option, None, refl, sym, ap, ◌∙◌}
+use Rattle.std.proofs.Common.{ℕ, Bool, Option, None, refl, sym, ap, ◌∙◌, arith}
 use Rattle.std.specs.Option.{option_map}
 use Rattle.vm_base.specs.declared.names.Koid.{Koid}
 use Rattle.vm_base.specs.Entries.{with_key}
@@ -27,7 +27,7 @@ count_children-requires c = λ v old hit e.
     let room = rooms c.self.inside c.args.self.now c.self.view_is c.requires.room in
     let kept = vmos_in-put c.self.inside.vmos.entries c.insert-kept.new.self.entries c.args.koid.0 new (from_ok c.insert-kept.result (c.insert-kept.ensures.succeeds room.1) c.insert-kept.ensures.updates).0 in
     let entering = enters c.self.inside c.args.self.now c.args.name.0 (target c.args.koid c.args.may_write c.args.resizable) new c.self.view_is c.self.invariant
-    c.requires.name c.requires.koid c.requires.parent c.if-prove.false c.requires.small refl refl refl refl refl in
+    c.requires.name c.requires.koid c.requires.parent (omega arith) (omega arith) (omega arith) refl refl refl refl refl in
     entered_fits _ _ _ _ _ entering v old hit (ap (λ (m : ℕ → Option Vmo). m v) (sym kept) ∙ e)
 
 pub invariant_of-self : goal.invariant_of-self
@@ -38,7 +38,7 @@ invariant_of-self c =
     let named = names_in-put c.self.inside.names.entries c.insert-named.new.self.entries c.args.name.0 to (from_ok c.insert-named.result (c.insert-named.ensures.succeeds room.0) c.insert-named.ensures.updates).0 in
     let kept = vmos_in-put c.self.inside.vmos.entries c.insert-kept.new.self.entries c.args.koid.0 new (from_ok c.insert-kept.result (c.insert-kept.ensures.succeeds room.1) c.insert-kept.ensures.updates).0 in
     let entering = enters c.self.inside c.args.self.now c.args.name.0 to new c.self.view_is c.self.invariant
-    c.requires.name c.requires.koid c.requires.parent c.if-prove.false c.requires.small refl refl refl refl refl in
+    c.requires.name c.requires.koid c.requires.parent (omega arith) (omega arith) (omega arith) refl refl refl refl refl in
     let counted = ap (λ (m : ℕ → Option Vmo). adopted m (option_map koid_number c.args.parent) 0 1) kept in
     record { kept = AreKept-same _ _ _ _ named (c.count_children.ensures ∙ counted) (AreKept-entered _ _ _ _ _ entering) }
 
