@@ -7,12 +7,13 @@ use Rattle.vm_base.specs.Entries.{with_key, without_key, passes, entry_count}
 use Rattle.vm_model.specs.declared.names.Target.{Target}
 use Rattle.vm_model.specs.Naming.Names.{Lineage, is_named, is_parent, has_parent, child_count, parent_without, lineage_without, is_of, is_of_as, names_as, is_kind}
 use Rattle.vm_base.specs.declared.limits.TheConstants.{NAMES}
-use Rattle.vm_base.proofs.SearchLaws.{count_below_one_more, count_below_hit, count_below_miss, count_below_split}
+use Rattle.vm_base.proofs.SearchLaws.{count_below_one_more, count_below_hit, count_below_split}
 use Rattle.vmo_table.specs.TableFields.{name_count, AreRelated, Ranking}
-use Rattle.vm_base.proofs.EntryLaws.{with_key-here, with_key-other, with_key-cases, without_key-some, with_key-stays, some_is, passes-none, passes-some, passes_found, any_entry_none, entry_count_miss, entry_count-same}
+use Rattle.vm_base.proofs.EntryLaws.{with_key-here, with_key-other, with_key-cases, without_key-some, with_key-stays, some_is, passes-none, passes-some, passes_found, any_entry_none, entry_count_miss, entry_count-same, none_entry}
 use Rattle.vm_model.specs.declared.names.NameKind.{NameKind}
 use Rattle.std.proofs.lemmas.Grind.{not_there}
 use Rattle.std.proofs.Math.Logic.{∥∥₁_map}
+use Rattle.vm_model.proofs.NamesLaws.{parent_without-none, parent_without-other}
 
 -- ---- names
 
@@ -29,6 +30,9 @@ none_of names lineage v related none n t e = ne_eqb t.koid.0 v (λ same. absurd 
     let there : is_some (lineage t.koid.0) ≡ true = related.held n t e in
     let gone : lineage t.koid.0 ≡ None = ap lineage same ∙ none in
     cc))
+
+pub is_named-unknown : (names : ℕ → Option Target) (lineage : ℕ → Option Lineage) (v : ℕ) → AreRelated names lineage → lineage v ≡ None → is_named names v ≡ false
+is_named-unknown names lineage v related none = none_entry NAMES (is_of v) names (λ n t h e. none_of names lineage v related none n t e)
 
 -- so it has no names, of any kind
 pub name_count-unknown : (names : ℕ → Option Target) (lineage : ℕ → Option Lineage) (v : ℕ) → AreRelated names lineage → lineage v ≡ None → name_count names v ≡ 0
@@ -106,6 +110,28 @@ left_unknown lineage v parent w none = elim (cases_eq w v) [
   | inr apart ↦ left-other lineage v parent w apart ∙ ap (option_map (lineage_after v parent)) none
 ]
 
+-- a VMO that is there is another than one that is not
+parent_apart : (lineage : ℕ → Option Lineage) (k p : ℕ) → lineage k ≡ None → IsSome (lineage p) → p ≢ k
+parent_apart lineage k p free there same = absurd (let gone = ap lineage same ∙ free in let it : is_some (lineage p) ≡ true = there in cc)
+
+-- a VMO that is not there leaves nothing
+pub left_absent : (names : ℕ → Option Target) (lineage : ℕ → Option Lineage) (v : ℕ) (parent : Option ℕ) → AreRelated names lineage → lineage v ≡ None → lineage_without lineage v parent ≡ lineage
+left_absent names lineage v parent related none = λ i w. at w i
+  where
+    kept : (o : Option ℕ) → ((p : ℕ) → o ≡ Some p → p ≢ v) → parent_without v parent o ≡ o
+    kept None each = parent_without-none v parent
+    kept (Some p) each = parent_without-other v parent p (each p refl)
+
+    of : (w : ℕ) (o : Option Lineage) → lineage w ≡ o → option_map (lineage_after v parent) o ≡ o
+    of w None e = refl
+    of w (Some l) e = ap (λ (p : Option ℕ). Some (record l { parent = p })) (kept l.parent (λ p f. parent_apart lineage v p none (related.parents w p l e f)))
+
+    at : (w : ℕ) → lineage_without lineage v parent w ≡ lineage w
+    at w = elim (cases_eq w v) [
+      | inl same ↦ left-here lineage v parent w same ∙ sym (ap lineage same ∙ none)
+      | inr apart ↦ left-other lineage v parent w apart ∙ of w (lineage w) refl
+    ]
+
 -- another VMO than the parent gains no child
 after_other : (u v : ℕ) (parent o : Option ℕ) → u ≢ v → is_parent u parent ≡ false → is_parent u (parent_without v parent o) ≡ is_parent u o
 unfolding passes parent_without
@@ -176,10 +202,6 @@ AreRelated-empty names lineage no_name no_vmo = record {
   parents = λ v p l e f. absurd (let g = no_vmo v in cc);
   ranked = ∣ record { rank = λ v. 0; falls = λ v p l e f. absurd (let g = no_vmo v in cc) } ∣₁;
 }
-
--- the parent of a VMO that is entered is another
-parent_apart : (lineage : ℕ → Option Lineage) (k p : ℕ) → lineage k ≡ None → IsSome (lineage p) → p ≢ k
-parent_apart lineage k p free there same = absurd (let gone = ap lineage same ∙ free in let it : is_some (lineage p) ≡ true = there in cc)
 
 -- the rank of a VMO that is entered is above its parent's
 rank_over : (ℕ → ℕ) → Option ℕ → ℕ

@@ -1,5 +1,5 @@
 -- What stays true of the table where a VMO is settled: it is written, or it leaves.
-use Rattle.std.proofs.Common.{◌≡◌, ◌≢◌, ℕ, ◌+◌, ◌-◌, ◌^◌, ◌<◌, ◌≤◌, ◌||◌, Bool, true, false, cond, nat_lt, Option, None, Some, is_some, sym, ap, subst, ◌∙◌, ◌⊎◌, inl, inr, arith}
+use Rattle.std.proofs.Common.{◌≡◌, ◌≢◌, ℕ, ◌+◌, ◌-◌, ◌^◌, ◌<◌, ◌≤◌, ◌||◌, Bool, true, false, cond, nat_lt, Option, None, Some, is_some, sym, ap, subst, ◌∙◌, ◌⊎◌, inl, inr, arith, refl}
 use Rattle.std.specs.Option.{option_map}
 use Rattle.std.proofs.lemmas.Bool.{cases_Bool, lt-ltb, le-ltb, cond-true, cond-false}
 use Rattle.std.proofs.Math.Bool.{or-true}
@@ -8,15 +8,16 @@ use Rattle.vm_model.specs.declared.names.Target.{Target}
 use Rattle.vm_model.specs.Naming.Names.{Lineage, is_named, is_parent, has_parent, child_count, lineage_without, is_of}
 use Rattle.vm_base.specs.declared.limits.TheConstants.{NAMES}
 use Rattle.vmo_table.specs.declared.vmos.Vmo.{Vmo}
-use Rattle.vmo_table.specs.Vmos.{koid_number, lineage_of_vmo, lineages, adopted, vmos_without, is_held, settled, vmo_count}
+use Rattle.vmo_table.specs.Vmos.{koid_number, lineage_of_vmo, lineages, adopted, vmos_without, is_held, settled, vmo_count, keepers_in}
 use Rattle.vmo_table.specs.Table.{parent_of, Settles}
 use Rattle.vmo_table.specs.TableFields.{AreRelated, HasNames, AreKept}
-use Rattle.vmo_table.proofs.RelatedLaws.{is_parent_found, child_counts, no_child, child_count-left, child_count-left_other, AreRelated-left}
+use Rattle.vmo_table.proofs.RelatedLaws.{is_parent_found, child_counts, no_child, child_count-left, child_count-left_other, AreRelated-left, is_named-unknown, left_absent}
 use Rattle.vmo_table.proofs.NamedLaws.{HasNames-kept}
-use Rattle.vmo_table.proofs.VmosLaws.{lineages_found, lineages-adopted, adopted_cases, lineages-without, without_cases, settled-held, settled-free, free_counts, left_children_le}
+use Rattle.vmo_table.proofs.VmosLaws.{lineages_found, lineages-adopted, adopted_cases, lineages-without, without_cases, settled-held, settled-free, free_counts, left_children_le, lineages-is}
 use Rattle.vmo_table.proofs.WrittenLaws.{IsWritten, lineages-is_written, own_children, AreKept-written}
 use Rattle.vm_base.proofs.EntryLaws.{any_entry-count}
 use Rattle.vm_base.specs.Entries.{passes}
+use Rattle.vmo_table.proofs.KeepersLaws.{keepers_none}
 
 module _ (names : ℕ → Option Target) (vmos : ℕ → Option Vmo) (k : ℕ) (old new : Vmo) (is : IsWritten names vmos k old new) where
   abbrev above : Option ℕ
@@ -122,3 +123,17 @@ module _ (names : ℕ → Option Target) (vmos : ℕ → Option Vmo) (k : ℕ) (
     stays = λ by. let held = held_still by in (said ∙ cond-true (is_held new) None (Some (record { 0 = k })) held, lineages-held held);
     leaves = λ unnamed none. let free = held_no_more unnamed none in (said ∙ cond-false (is_held new) None (Some (record { 0 = k })) free, lineages-free free);
   }
+
+-- a VMO that is not in the table has nothing that keeps it, and settling it changes nothing
+pub settles_absent : (names : ℕ → Option Target) (vmos : ℕ → Option Vmo) (v : ℕ) → AreKept names vmos → vmos v ≡ None → Settles names (keepers_in vmos v) v (lineages vmos) (lineages vmos) (Some (record { 0 = v }))
+settles_absent names vmos v kept none =
+    let unknown = lineages-is vmos v ∙ ap (option_map lineage_of_vmo) none in
+    let unnamed = is_named-unknown names (lineages vmos) v kept.related unknown in
+    let unkept = keepers_none vmos v none in
+    record {
+      stays = λ by. elim by [
+        | inl named ↦ absurd (cc)
+        | inr keeper ↦ absurd (omega arith)
+      ];
+      leaves = λ no_name no_keeper. (refl, sym (left_absent names (lineages vmos) v (parent_of (lineages vmos v)) kept.related unknown));
+    }

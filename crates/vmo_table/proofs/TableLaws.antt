@@ -24,6 +24,7 @@ use Rattle.vmo_table.proofs.RelatedLaws.{left-stays, left_unknown}
 use Rattle.vmo_table.proofs.KeepersLaws.{keepers_found, keepers_none}
 use Rattle.vmo_table.proofs.KeptLaws.{Enters}
 use Rattle.vmo_table.proofs.WrittenLaws.{IsWritten, IsAliased, IsWritten-aliased, IsOpenIn, IsWritten-closed, with_keepers, IsWritten-kept}
+use Rattle.vmo_table.proofs.SettledLaws.{settles_absent}
 
 -- both maps have room
 pub rooms : (a : Inside) (now : Table) → table_of a ≡ now → 1 ≤ room_of now → (0 < spare a.names) × (0 < spare a.vmos)
@@ -159,6 +160,16 @@ settles_same a now names names2 keepers keepers2 v new new2 answer view same_nam
     (subst (λ (m : ℕ → Option Target). Settles m keepers2 v (lineages (vmos_in a.vmos.entries)) new2 answer) (sym same_names)
     (subst (λ (k : ℕ). Settles names k v (lineages (vmos_in a.vmos.entries)) new2 answer) (sym same_keepers)
     (subst (λ (l : ℕ → Option Lineage). Settles names keepers v (lineages (vmos_in a.vmos.entries)) l answer) (sym same_new) settles)))
+
+-- a VMO that is not in the table has nothing that keeps it
+pub keepers_absent : (a : Inside) (now : Table) (v : ℕ) → table_of a ≡ now → vmo_at a.vmos.entries v ≡ None → keepers_of now v ≡ 0
+keepers_absent a now v view none = ap (λ (x : Table). keepers_of x v) (sym view) ∙ keepers_none (vmos_in a.vmos.entries) v (vmos_in-is a.vmos.entries v ∙ none)
+
+pub settles_now_absent : (a : Inside) (now : Table) (koid : Koid) → table_of a ≡ now → IsTable a → vmo_at a.vmos.entries koid.0 ≡ None →
+    Settles (names_of now) (keepers_of now koid.0) koid.0 (lineage_in now) (lineage_in now) (Some koid)
+settles_now_absent a now koid view table none =
+    subst (λ (x : Table). Settles (names_of x) (keepers_of x koid.0) koid.0 (lineage_in x) (lineage_in x) (Some koid)) view
+    (settles_absent (names_in a.names.entries) (vmos_in a.vmos.entries) koid.0 table.kept (vmos_in-is a.vmos.entries koid.0 ∙ none))
 
 -- closing a name settles its VMO
 pub closes_now : (a : Inside) (now : Table) (name : ℕ) (t : Target) (after : ℕ → Option Target) (new : ℕ → Option Lineage) (answer : Option Koid) → table_of a ≡ now → target_at a.names.entries name ≡ Some t →

@@ -165,16 +165,18 @@ impl VmoTable {
         write_back(&mut self.vmos, koid, kept);
     }
 
-    /// Lets `n` keepers of a VMO of the table go. Where nothing keeps the VMO any more, it leaves the table,
-    /// its children get its parent, and its koid is the answer. Else the answer is `None`.
+    /// Lets `n` keepers of a VMO go. Where nothing keeps the VMO any more, it leaves the table, its children
+    /// get its parent, and its koid is the answer: also where it was not in the table. Else the answer is
+    /// `None`.
     pub fn release(&mut self, koid: Koid, n: u64) -> Option<Koid>
-        requires koid { IsSome (lineage_in self.old koid.0) }
         requires keepers { n ≤ keepers_of self.old koid.0 }
         ensures names { names_of self.new ≡ names_of self.old }
         ensures keepers { (v : ℕ) → keepers_of self.new v + (if v == koid.0 then n else 0) ≡ keepers_of self.old v }
         ensures vmo { Settles (names_of self.old) (keepers_of self.new koid.0) koid.0 (lineage_in self.old) (lineage_in self.new) result }
     {
-        let vmo = self.vmos[&koid];
+        let Some(vmo) = self.vmos.get(&koid).copied() else {
+            return Some(koid);
+        };
         let left = Vmo {
             keepers: vmo.keepers - u128::from(n),
             ..vmo
