@@ -1,20 +1,17 @@
 use Rattle.std.proofs.Common.{refl, sym}
 use Rattle.vm_base.specs.Entries.{without_key}
-use Rattle.vm_model.proofs.LeavingLaws.{pin_lineage}
 use Rattle.vmo_table.specs.Table.{keepers_of, state_with}
 use Rattle.pin_table.specs.Table.{pin_of, pins_of}
 use Rattle.vmo_ops.proofs.KeeperLaws.{CountsPins-released, pin_kept}
 use Rattle.vmo_ops.proofs.UnpinSteps.{unpinning_vmo, unpin_done}
 use Rattle.vmo_ops.proofs.pinning.unpin.Goals as goal
 
-pub release-requires-clause-koid : goal.release-requires-clause-koid
-release-requires-clause-koid g c =
-    pin_lineage (state_with (g.P.PageStore.content c.args.store.now) c.args.vmos.now (pins_of c.args.pins.now)) c.args.pin.0 (pin_of c.remove.result) c.requires.good (sym c.remove.ensures.pin)
-
-pub release-requires-clause-keepers : goal.release-requires-clause-keepers
-release-requires-clause-keepers g c =
+pub release-requires : goal.release-requires
+release-requires g c =
     let held = sym c.remove.ensures.pin in
-    pin_kept c.args.vmos.now (pins_of c.args.pins.now) c.args.pin.0 (pin_of c.remove.result) (c.requires.good.pins c.args.pin.0 (pin_of c.remove.result) held).0 c.requires.counted held
+    record {
+      keepers = pin_kept c.args.vmos.now (pins_of c.args.pins.now) c.args.pin.0 (pin_of c.remove.result) (c.requires.good.pins c.args.pin.0 (pin_of c.remove.result) held).0 c.requires.counted held;
+    }
 
 pub drop_gone-requires : goal.drop_gone-requires
 drop_gone-requires g c =

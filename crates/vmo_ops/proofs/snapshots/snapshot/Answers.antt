@@ -1,7 +1,6 @@
-use Rattle.std.proofs.Common.{ℕ, arith, refl, ap, sym, subst, Option}
+use Rattle.std.proofs.Common.{ℕ, refl, ap, sym, subst, Option}
 use Rattle.std.specs.Prelude.{IsSome, is_some}
 use Rattle.vm_model.specs.Naming.Names.{Lineage}
-use Rattle.vm_model.proofs.StepLaws.{lineage_below}
 use Rattle.vmo_table.specs.Table.{state_with}
 use Rattle.pin_table.specs.Table.{pins_of}
 use Rattle.vmo_ops.proofs.EntryLaws.{entered}
@@ -53,8 +52,7 @@ pub enter-requires-clause-parent : goal.enter-requires-clause-parent
 enter-requires-clause-parent g c =
     let s = state_with (g.P.PageStore.content c.args.store.now) c.args.vmos.now (pins_of c.args.pins.now) in
     let there = named_lineage s c.args.t.now c.requires.good c.requires.named in
-    let older = lineage_below s c.args.t.now.koid.0 c.requires.good there in
-    (omega (arith, older, c.in-Ok-snapshot.ensures.koid), subst (λ (f : ℕ → Option Lineage). IsSome (f c.args.t.now.koid.0)) (sym c.reserve.ensures.lineage) there)
+    subst (λ (f : ℕ → Option Lineage). IsSome (f c.args.t.now.koid.0)) (sym c.reserve.ensures.lineage) there
 
 pub returns-clause-step : goal.returns-clause-step
 returns-clause-step g c = λ parent named.
