@@ -1,9 +1,9 @@
 //! What a VMO holds (`ZX_INFO_VMO`).
 
-ghost use Rattle.std.specs.Prelude.{◌≡◌, ℕ, Option};
+ghost use Rattle.std.specs.Prelude.{◌≡◌};
 ghost use Rattle.vm_model.specs.Machine.Attribution.{info_at};
-ghost use Rattle.vm_model.specs.Naming.Pins.{Pin};
-ghost use Rattle.vmo_table.specs.Table.{names_of, state_with};
+ghost use Rattle.vm_model.specs.Machine.State.{State};
+ghost use Rattle.vmo_table.specs.Table.{names_of, with_vmos};
 ghost use Rattle.vmo_ops.specs.Targets.{AreParts, IsNamed};
 
 use crate::counts::count_held;
@@ -19,7 +19,7 @@ use vmo_table::{Target, VmoTable};
 pub fn info<P: PageStore>(store: &P, vmos: &VmoTable, target: &Target) -> Info
     requires parts { AreParts (P.content store.now) vmos.now }
     requires named { IsNamed (names_of vmos.now) target.now }
-    ensures { (pins : ℕ → Option Pin) → result ≡ info_at (state_with (P.content store.now) vmos.now pins) target.now }
+    ensures { (s : State) → result ≡ info_at (with_vmos s (P.content store.now) vmos.now) target.now }
 {
     let counts = count_held(store, target.koid);
     Info {

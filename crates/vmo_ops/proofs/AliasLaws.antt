@@ -23,10 +23,11 @@ use Rattle.vmo_ops.proofs.StepRows.{first_of-skip, first_of-hit, Step-refused, S
 
 -- ---- a name more
 
-pub with_alias-is : (s new : State) (name : ℕ) (given target : Target) → new.content ≡ s.content → new.names ≡ with_key s.names name given → given ≡ target → new.lineage ≡ s.lineage → new.pins ≡ s.pins → new ≡ with_alias s name target
+pub with_alias-is : (s : State) (names : ℕ → Option Target) (lineage : ℕ → Option Lineage) (name : ℕ) (given target : Target) → names ≡ with_key s.names name given → given ≡ target → lineage ≡ s.lineage
+    → record s { names = names; lineage = lineage } ≡ with_alias s name target
 unfolding with_alias
-with_alias-is s new name given target content names same lineage pins =
-    (λ i. record { content = content i; names = names i; lineage = lineage i; pins = pins i }) ∙ λ i. record s { names = with_key s.names name (same i) }
+with_alias-is s names lineage name given target entered same kept =
+    (λ i. record s { names = entered i; lineage = kept i }) ∙ λ i. record s { names = with_key s.names name (same i) }
 
 -- the VMO of a name is in the table, also after a step that keeps the table, and for a name that is the same
 pub known_still : (old new : ℕ → Option Lineage) (given target : Target) → IsSome (old target.koid.0) → new ≡ old → given ≡ target → IsSome (new given.koid.0)

@@ -1,5 +1,5 @@
 -- The steps of making a VMO, and a snapshot.
-use Rattle.std.proofs.Common.{◌≡◌, ℕ, ◌+◌, ◌*◌, ◌/◌, ◌%◌, ◌≤◌, ◌==◌, Bool, true, false, not, cond, ◌&&◌, ◌||◌, List, [], ◌∷◌, None, Some, ◌⊎◌, inl, inr, refl, sym, ap, ◌∙◌, arith}
+use Rattle.std.proofs.Common.{◌≡◌, ℕ, ◌+◌, ◌*◌, ◌/◌, ◌%◌, ◌≤◌, ◌==◌, Bool, true, false, not, cond, ◌&&◌, ◌||◌, List, [], ◌∷◌, Option, None, Some, ◌⊎◌, inl, inr, refl, sym, ap, ◌∙◌, arith}
 use Rattle.std.specs.Prelude.{nat_lt}
 use Rattle.std.proofs.lemmas.Bool.Decides.{Decides-eqb}
 use Rattle.vm_base.specs.Pages.{rounded}
@@ -15,7 +15,7 @@ use Rattle.vm_model.specs.Contents.Content.{Content, created}
 use Rattle.vm_model.specs.Contents.Sharing.{snapshotted, page_seen}
 use Rattle.vm_base.specs.Entries.{with_key}
 use Rattle.vm_model.specs.declared.names.Target.{Target}
-use Rattle.vm_model.specs.Naming.Names.{owner}
+use Rattle.vm_model.specs.Naming.Names.{Lineage, owner}
 use Rattle.vm_model.specs.Naming.Pins.{has_pin}
 use Rattle.vm_model.specs.Machine.State.{State, is_open, koid_of}
 use Rattle.vm_model.specs.Machine.Refusals.{refusals, first_of}
@@ -27,12 +27,12 @@ use Rattle.vmo_ops.proofs.ChangeLaws.{koid_of-at}
 
 -- ---- a VMO
 
-with_vmo-is : (s new : State) (name koid pages : ℕ) (resizable : Bool) → koid ≡ s.content.next → new.content ≡ created s.content pages
-    → new.names ≡ with_key s.names name (owner koid true resizable) → new.lineage ≡ with_key s.lineage koid (record { resizable = resizable; origin = Created; parent = None })
-    → new.pins ≡ s.pins → new ≡ with_vmo s name pages resizable
+with_vmo-is : (s : State) (content : Content) (names : ℕ → Option Target) (lineage : ℕ → Option Lineage) (name koid pages : ℕ) (resizable : Bool) → koid ≡ s.content.next → content ≡ created s.content pages
+    → names ≡ with_key s.names name (owner koid true resizable) → lineage ≡ with_key s.lineage koid (record { resizable = resizable; origin = Created; parent = None })
+    → record s { content = content; names = names; lineage = lineage } ≡ with_vmo s name pages resizable
 unfolding with_vmo
-with_vmo-is s new name koid pages resizable e content names lineage pins =
-    (λ i. record { content = content i; names = names i; lineage = lineage i; pins = pins i })
+with_vmo-is s content names lineage name koid pages resizable e made entered kept =
+    (λ i. record s { content = made i; names = entered i; lineage = kept i })
     ∙ λ i. record s {
       content = created s.content pages;
       names = with_key s.names name (owner (e i) true resizable);
@@ -40,15 +40,15 @@ with_vmo-is s new name koid pages resizable e content names lineage pins =
     }
 
 -- the VMO is made, and the name entered
-pub create_done : (s new : State) (name : VmoName) (size : ℕ) (resizable : Bool) (koid pages : ℕ) → is_open s name.0 ≡ false → rounded size ≤ VMO_PAGES * PAGE
-    → koid ≡ s.content.next → pages ≡ rounded size / PAGE → new.content ≡ created s.content pages
-    → new.names ≡ with_key s.names name.0 (owner koid true resizable) → new.lineage ≡ with_key s.lineage koid (record { resizable = resizable; origin = Created; parent = None })
-    → new.pins ≡ s.pins → Step s (VmoCreate name size resizable) Done new
-create_done s new name size resizable koid pages free few e f content names lineage pins =
+pub create_done : (s : State) (name : VmoName) (size : ℕ) (resizable : Bool) (koid pages : ℕ) (content : Content) (names : ℕ → Option Target) (lineage : ℕ → Option Lineage)
+    → is_open s name.0 ≡ false → rounded size ≤ VMO_PAGES * PAGE → koid ≡ s.content.next → pages ≡ rounded size / PAGE → content ≡ created s.content pages
+    → names ≡ with_key s.names name.0 (owner koid true resizable) → lineage ≡ with_key s.lineage koid (record { resizable = resizable; origin = Created; parent = None })
+    → Step s (VmoCreate name size resizable) Done (record s { content = content; names = names; lineage = lineage })
+create_done s name size resizable koid pages content names lineage free few e f made entered kept =
     let large = nat_lt (VMO_PAGES * PAGE) (rounded size) in
-    Step-done s (VmoCreate name size resizable) Done new
+    Step-done s (VmoCreate name size resizable) Done (record s { content = content; names = names; lineage = lineage })
     (first_of-skip (is_open s name.0) NameInUse ((large, OutOfRange) ∷ []) free ∙ first_of-skip large OutOfRange [] (test_not_less (VMO_PAGES * PAGE) (rounded size) few))
-    (refl, with_vmo-is s new name.0 koid pages resizable e content names lineage pins ∙ ap (λ (n : ℕ). with_vmo s name.0 n resizable) f)
+    (refl, with_vmo-is s content names lineage name.0 koid pages resizable e made entered kept ∙ ap (λ (n : ℕ). with_vmo s name.0 n resizable) f)
 
 -- ---- a snapshot
 
@@ -66,14 +66,14 @@ snapshotted-first c v first start seen pages (inr none) =
       page = λ w p. cond (w == c.next) (same p i) (c.page w p);
     }
 
-with_snapshot-is : (s new : State) (name koid : ℕ) (target : Target) (start first seen pages : ℕ) (resizable no_write : Bool) → koid ≡ s.content.next
-    → seen ≡ seen_pages s.content target start pages → (first ≡ target.first + start) ⊎ (seen ≡ 0) → new.content ≡ snapshotted s.content target.koid.0 first seen pages
-    → new.names ≡ with_key s.names name (owner koid (not no_write) resizable) → new.lineage ≡ with_key s.lineage koid (record { resizable = resizable; origin = Snapshot; parent = Some target.koid.0 })
-    → new.pins ≡ s.pins → new ≡ with_snapshot s name target start pages resizable no_write
+with_snapshot-is : (s : State) (content : Content) (names : ℕ → Option Target) (lineage : ℕ → Option Lineage) (name koid : ℕ) (target : Target) (start first seen pages : ℕ) (resizable no_write : Bool) → koid ≡ s.content.next
+    → seen ≡ seen_pages s.content target start pages → (first ≡ target.first + start) ⊎ (seen ≡ 0) → content ≡ snapshotted s.content target.koid.0 first seen pages
+    → names ≡ with_key s.names name (owner koid (not no_write) resizable) → lineage ≡ with_key s.lineage koid (record { resizable = resizable; origin = Snapshot; parent = Some target.koid.0 })
+    → record s { content = content; names = names; lineage = lineage } ≡ with_snapshot s name target start pages resizable no_write
 unfolding with_snapshot
-with_snapshot-is s new name koid target start first seen pages resizable no_write e saw from content names lineage pins =
+with_snapshot-is s content names lineage name koid target start first seen pages resizable no_write e saw from made entered kept =
     let place = snapshotted-first s.content target.koid.0 first (target.first + start) seen pages from in
-    (λ i. record { content = (content ∙ place) i; names = names i; lineage = lineage i; pins = pins i })
+    (λ i. record s { content = (made ∙ place) i; names = entered i; lineage = kept i })
     ∙ λ i. record s {
       content = snapshotted s.content target.koid.0 (target.first + start) (saw i) pages;
       names = with_key s.names name (owner (e i) (not no_write) resizable);
@@ -123,15 +123,15 @@ module _ (s : State) (name parent : VmoName) (offset size : ℕ) (resizable no_w
     snapshot_lacks t same = Step-lacks s t (VmoChild name parent SnapshotChild offset size resizable no_write) snapshot_none refl same
 
     -- the snapshot is made, and the name entered
-    pub snapshot_done : (new : State) (koid start first seen pages : ℕ) → koid ≡ s.content.next → start ≡ offset / PAGE → pages ≡ rounded size / PAGE
+    pub snapshot_done : (content : Content) (names : ℕ → Option Target) (lineage : ℕ → Option Lineage) (koid start first seen pages : ℕ) → koid ≡ s.content.next → start ≡ offset / PAGE → pages ≡ rounded size / PAGE
         → seen ≡ seen_pages s.content target start pages → (first ≡ target.first + start) ⊎ (seen ≡ 0)
-        → new.content ≡ snapshotted s.content target.koid.0 first seen pages → new.names ≡ with_key s.names name.0 (owner koid (not no_write) resizable)
-        → new.lineage ≡ with_key s.lineage koid (record { resizable = resizable; origin = Snapshot; parent = Some target.koid.0 }) → new.pins ≡ s.pins
-        → Step s (VmoChild name parent SnapshotChild offset size resizable no_write) Done new
-    snapshot_done new koid start first seen pages e f h saw from content names lineage pins =
-        Step-done s (VmoChild name parent SnapshotChild offset size resizable no_write) Done new snapshot_none (
+        → content ≡ snapshotted s.content target.koid.0 first seen pages → names ≡ with_key s.names name.0 (owner koid (not no_write) resizable)
+        → lineage ≡ with_key s.lineage koid (record { resizable = resizable; origin = Snapshot; parent = Some target.koid.0 })
+        → Step s (VmoChild name parent SnapshotChild offset size resizable no_write) Done (record s { content = content; names = names; lineage = lineage })
+    snapshot_done content names lineage koid start first seen pages e f h saw from made entered kept =
+        Step-done s (VmoChild name parent SnapshotChild offset size resizable no_write) Done (record s { content = content; names = names; lineage = lineage }) snapshot_none (
           refl,
-          with_snapshot-is s new name.0 koid target start first seen pages resizable no_write e saw from content names lineage pins
+          with_snapshot-is s content names lineage name.0 koid target start first seen pages resizable no_write e saw from made entered kept
               ∙ (λ i. with_snapshot s name.0 target (f i) (h i) resizable no_write)
               ∙ ap (λ (t : Target). with_snapshot s name.0 t (offset / PAGE) (rounded size / PAGE) resizable no_write) (sym (target_of-at s parent.0 target named)),
         )

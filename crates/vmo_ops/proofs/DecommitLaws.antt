@@ -1,6 +1,6 @@
 -- Laws of giving back whole pages, none of which is pinned: zeroing them owns none, and leaves them zero. And the steps of a decommit.
 use Rattle.std.proofs.Common.{◌≡◌, ◌≢◌, ℕ, zero, suc, ◌+◌, ◌-◌, ◌*◌, ◌/◌, ◌%◌, ◌<◌, ◌≤◌, ◌==◌, Bool, true, false, not, ◌&&◌, List, [], ◌∷◌, Option, None, Some, ◌⊎◌, inl, inr, refl, sym, ap, subst, ◌∙◌, arith}
-use Rattle.std.specs.Prelude.{nat_lt, nat_le, IfSome}
+use Rattle.std.specs.Prelude.{nat_lt, nat_le, IsSome, IfSome}
 use Rattle.std.specs.List.{range_with_len, list_any}
 use Rattle.std.proofs.lemmas.Bool.{and_from, and_left, and_right, not_from_true, not_from_false, le-leb, ne_eqb}
 use Rattle.std.proofs.lemmas.Bool.Decides.{Decides-eqb}
@@ -17,11 +17,10 @@ use Rattle.vm_model.specs.Contents.Zeroing.{zeroed, is_whole, is_cleared, Zeroes
 use Rattle.vm_model.specs.declared.names.Target.{Target}
 use Rattle.vm_model.specs.Naming.Names.{Lineage, may_decommit}
 use Rattle.vm_model.specs.Naming.Pins.{Pin, is_pinned, any_pinned}
-use Rattle.vm_model.specs.Machine.State.{State, is_open, target_of, koid_of, name_pages, size_of, place_of, lineage_of, IsGoodState}
+use Rattle.vm_model.specs.Machine.State.{State, is_open, target_of, koid_of, name_pages, size_of, place_of, lineage_of}
 use Rattle.vm_model.specs.Machine.Refusals.{refusals, first_of}
 use Rattle.vm_model.specs.Machine.Step.{Step}
 use Rattle.vm_model.proofs.NamesLaws.{target_of-at, lineage-known}
-use Rattle.vm_model.proofs.LeavingLaws.{name_lineage}
 use Rattle.vm_model.proofs.OwningLaws.{count_from-none}
 use Rattle.vm_model.proofs.RangeLaws.{touched-row, touched-nil, touched_end-is}
 use Rattle.vm_model.proofs.ZeroingLaws.{zeroed-empty, zeroed-more}
@@ -144,7 +143,7 @@ module _ (s : State) (name : VmoName) (offset len : ℕ) (target : Target) (name
           go (inr odd) = and_right (offset % PAGE == 0) (len % PAGE == 0) (ne_eqb (len % PAGE) 0 odd)
 
     -- a range of whole pages, and what the table says of the VMO
-    module _ (start : offset % PAGE ≡ 0) (whole : len % PAGE ≡ 0) (good : IsGoodState s) (answer : Bool) (told : IfSome (s.lineage target.koid.0) (λ l. answer ≡ may_decommit s.names s.lineage target.koid.0 l)) where
+    module _ (start : offset % PAGE ≡ 0) (whole : len % PAGE ≡ 0) (there : IsSome (s.lineage target.koid.0)) (answer : Bool) (told : IfSome (s.lineage target.koid.0) (λ l. answer ≡ may_decommit s.names s.lineage target.koid.0 l)) where
       kept_row : first_of (refusals s (VmoDecommit name offset len)) ≡ first_of kept_rows
       unfolding odd_rows
       kept_row = write_row ∙ first_of-skip (not (offset % PAGE == 0 && len % PAGE == 0)) InvalidArgs kept_rows
@@ -155,7 +154,7 @@ module _ (s : State) (name : VmoName) (offset len : ℕ) (target : Target) (name
       kept_at =
           ap (λ (t : Target). not (may_decommit s.names s.lineage t.koid.0 (lineage_of s t.koid.0))) (target_of-at s name.0 target named)
           ∙ ap not (sym (subst (λ (o : Option Lineage). IfSome o (λ l. answer ≡ may_decommit s.names s.lineage target.koid.0 l))
-          (lineage-known s target.koid.0 (name_lineage s name.0 target good named)) told))
+          (lineage-known s target.koid.0 there) told))
 
       -- a VMO that keeps its frames
       pub decommit_kept : answer ≡ false → Step s (VmoDecommit name offset len) (Refused NotSupported) s

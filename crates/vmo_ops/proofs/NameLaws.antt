@@ -4,7 +4,7 @@ use Rattle.std.specs.Prelude.{IsSome}
 use Rattle.vm_model.specs.Contents.Content.{Content}
 use Rattle.vm_model.specs.declared.names.Target.{Target}
 use Rattle.vm_model.specs.Machine.State.{State, IsGoodState, IsGoodName}
-use Rattle.vmo_table.specs.Table.{Table, names_of, lineage_in, state_with}
+use Rattle.vmo_table.specs.Table.{Table, names_of, lineage_in, with_vmos}
 use Rattle.vmo_ops.specs.Targets.{IsInside, IsNamed, AreParts}
 use Rattle.vmo_ops.proofs.StepRows.{IsInside-good}
 
@@ -26,7 +26,7 @@ named_inside s target good named = IsInside-good s named.0 target good named.1
 -- ---- a content and a table that are parts of a good state
 
 pub parts_lineage : (c : Content) (t : Table) (target : Target) → AreParts c t → IsNamed (names_of t) target → IsSome (lineage_in t target.koid.0)
-parts_lineage c t target parts named = named_lineage (state_with c t parts.0) target parts.1 named
+parts_lineage c t target parts named = named_lineage (with_vmos parts.0 c t) target parts.1 named
 
 pub parts_inside : (c : Content) (t : Table) (target : Target) → AreParts c t → IsNamed (names_of t) target → IsInside c target
-parts_inside c t target parts named = named_inside (state_with c t parts.0) target parts.1 named
+parts_inside c t target parts named = named_inside (with_vmos parts.0 c t) target parts.1 named

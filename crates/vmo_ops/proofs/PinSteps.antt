@@ -1,5 +1,5 @@
 -- The steps of a pin.
-use Rattle.std.proofs.Common.{◌≡◌, ◌≢◌, ℕ, ◌+◌, ◌-◌, ◌*◌, ◌/◌, ◌%◌, ◌<◌, ◌≤◌, ◌==◌, Bool, false, not, ◌&&◌, ◌||◌, List, [], ◌∷◌, None, Some, refl, sym, ap, subst, ◌∙◌, arith}
+use Rattle.std.proofs.Common.{◌≡◌, ◌≢◌, ℕ, ◌+◌, ◌-◌, ◌*◌, ◌/◌, ◌%◌, ◌<◌, ◌≤◌, ◌==◌, Bool, false, not, ◌&&◌, ◌||◌, List, [], ◌∷◌, Option, None, Some, refl, sym, ap, subst, ◌∙◌, arith}
 use Rattle.std.specs.Prelude.{nat_lt, is_some}
 use Rattle.std.specs.List.{range_with_len}
 use Rattle.std.proofs.lemmas.Bool.{and_from, and_parts, or_from, or_parts, not-false, true_from_ne_false, eqb-true, eqb-false, ltb-false}
@@ -10,10 +10,11 @@ use Rattle.vm_base.specs.declared.refusal.Refusal.{Refusal}
 use Rattle.vm_base.specs.declared.refusal.Refusal.TheVariants.{BadHandle, NameInUse, InvalidArgs, OutOfRange, NoMemory, HostMemory}
 use Rattle.vm_model.specs.declared.command.Command.TheVariants.{VmoPin}
 use Rattle.vm_model.specs.declared.reply.Reply.TheVariants.{Pins, Refused}
-use Rattle.vm_model.specs.Contents.Content.{used}
+use Rattle.vm_model.specs.Contents.Content.{Content, used}
 use Rattle.vm_model.specs.Contents.Owning.{OwnsAll, need}
 use Rattle.vm_base.specs.Entries.{with_key}
 use Rattle.vm_model.specs.declared.names.Target.{Target}
+use Rattle.vm_model.specs.Naming.Names.{Lineage}
 use Rattle.vm_model.specs.Naming.Pins.{Pin}
 use Rattle.vm_model.specs.Machine.State.{State, is_open, name_pages, size_of, place_of}
 use Rattle.vm_model.specs.Contents.Writing.{touched}
@@ -130,14 +131,17 @@ module _ (s : State) (pin : PinName) (name : VmoName) (offset len : ℕ) (target
           pin_lacks t same = Step-lacks s t (VmoPin pin name offset len) no_row refl same
 
           -- the pages are owned, and the pin is there
-          pub pin_done : (numbers : List ℕ) (t : State) → OwnsAll s.content target.koid.0 (range_with_len first count) t.content → numbers ≡ frames_in t.content target.koid.0 first count
-              → t.names ≡ s.names → t.lineage ≡ s.lineage → t.pins ≡ with_key s.pins pin.0 (record { koid = target.koid.0; first = first; count = count }) → Step s (VmoPin pin name offset len) (Pins numbers) t
-          pin_done numbers t owns frames names lineage pins =
+          pub pin_done : (numbers : List ℕ) (content : Content) (names : ℕ → Option Target) (lineage : ℕ → Option Lineage) (pins : ℕ → Option Pin)
+              → OwnsAll s.content target.koid.0 (range_with_len first count) content → numbers ≡ frames_in content target.koid.0 first count
+              → names ≡ s.names → lineage ≡ s.lineage → pins ≡ with_key s.pins pin.0 (record { koid = target.koid.0; first = first; count = count })
+              → Step s (VmoPin pin name offset len) (Pins numbers) (record s { content = content; names = names; lineage = lineage; pins = pins })
+          pin_done numbers content names lineage pins owns frames same kept added =
+              let t : State = record s { content = content; names = names; lineage = lineage; pins = pins } in
               let pinned : Pin = record { koid = target.koid.0; first = first; count = count } in
               let is : pinned ≡ pin_of target = λ i. record { koid = target.koid.0; first = here i; count = many i } in
               let answer : Pins numbers ≡ Pins (frames_of t.content (pin_of target)) = ap (λ (ns : List ℕ). Pins ns) (frames ∙ ap (frames_of t.content) is) in
               let new : t ≡ record s { content = t.content; pins = with_key s.pins pin.0 (pin_of target) } =
-              λ i. record { content = t.content; names = names i; lineage = lineage i; pins = (pins ∙ ap (with_key s.pins pin.0) is) i } in
+              λ i. record s { content = content; names = same i; lineage = kept i; pins = (added ∙ ap (with_key s.pins pin.0) is) i } in
               Step-done s (VmoPin pin name offset len) (Pins numbers) t no_row
               (subst (λ (u : Target). (Pins numbers ≡ Pins (frames_of t.content (pin_of u))) × (t ≡ record s { content = t.content; pins = with_key s.pins pin.0 (pin_of u) })
               × OwnsAll s.content u.koid.0 (touched (u.first * PAGE + offset) len) t.content)

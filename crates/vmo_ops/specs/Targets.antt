@@ -15,7 +15,8 @@ use Rattle.vm_model.specs.declared.names.Target.{Target}
 use Rattle.vm_model.specs.Naming.Pins.{Pin}
 use Rattle.vm_model.specs.Machine.State.{State, name_pages, IsGoodState}
 use Rattle.vm_model.specs.Machine.Step.{Step}
-use Rattle.vmo_table.specs.Table.{Table, state_with}
+use Rattle.vmo_table.specs.Table.{Table as Vmos, with_vmos, CountsKeepers}
+use Rattle.pin_table.specs.Table.{Table as Pins, pins_of}
 
 -- what the name stands for lies inside its VMO
 pub record IsInside (c : Content) (target : Target) : Type 0 where
@@ -49,9 +50,22 @@ DoesWith pins command target old reply new =
     (s : State) (name : VmoName) → s.names name.0 ≡ Some target
     → Step (record s { content = old; pins = pins }) (command name) reply (record s { content = new; pins = pins })
 
--- the content of a store and a table are parts of one good state, with some pins
-abbrev pub AreParts : Content → Table → Type 0
-AreParts c t = (pins : ℕ → Option Pin) × IsGoodState (state_with c t pins)
+-- the state s, but with this content of a store, and what these two tables have
+abbrev pub with_tables : State → Content → Vmos → Pins → State
+with_tables s c vmos pins = record (with_vmos s c vmos) { pins = pins_of pins }
+
+-- the content of a store and a table of VMOs are parts of one good state
+abbrev pub AreParts : Content → Vmos → Type 0
+AreParts c vmos = (s : State) × IsGoodState (with_vmos s c vmos)
+
+-- the content of a store and the two tables are parts of one good state
+abbrev pub AreTogether : Content → Vmos → Pins → Type 0
+AreTogether c vmos pins = (s : State) × IsGoodState (with_tables s c vmos pins)
+
+-- a state is good, and the table counts what keeps each VMO of it
+pub record IsCounted (vmos : Vmos) (s : State) : Type 0 where
+  pub good : IsGoodState s
+  pub counted : CountsKeepers vmos s
 
 -- the koid that a child of this kind is given, where the next koid is this: a snapshot is a VMO of its own
 abbrev pub koid_given : ChildKind → ℕ → Option Koid

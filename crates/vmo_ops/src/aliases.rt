@@ -8,10 +8,9 @@ ghost use Rattle.vm_model.specs.declared.command.ChildKind.TheVariants.{Slice, R
 ghost use Rattle.vm_model.specs.declared.reply.Reply.{Reply};
 ghost use Rattle.vm_model.specs.Contents.Content.{Content, IsGood};
 ghost use Rattle.vm_model.specs.Naming.Names.{is_kind};
-ghost use Rattle.vm_model.specs.Naming.Pins.{Pin};
-ghost use Rattle.vm_model.specs.Machine.State.{name_pages};
+ghost use Rattle.vm_model.specs.Machine.State.{State, name_pages};
 ghost use Rattle.vm_model.specs.Machine.Step.{Step, slice_of, reference_of};
-ghost use Rattle.vmo_table.specs.Table.{names_of, lineage_in, keepers_of, state_with};
+ghost use Rattle.vmo_table.specs.Table.{names_of, lineage_in, keepers_of, with_vmos};
 ghost use Rattle.vmo_ops.specs.Targets.{IsInside, AreParts, IsNamed, reply_of};
 
 use crate::sizes::size;
@@ -34,10 +33,10 @@ pub(crate) fn slice<P: PageStore>(
     requires parts { AreParts (P.content store.now) vmos.old }
     requires named { IsNamed (names_of vmos.old) t.now }
     requires closed { names_of vmos.old name.0 ≡ None }
-    ensures step { (pins : ℕ → Option Pin) (parent : VmoName) → names_of vmos.old parent.0 ≡ Some t.now →
-        Step (state_with (P.content store.now) vmos.old pins)
+    ensures step { (s : State) (parent : VmoName) → names_of vmos.old parent.0 ≡ Some t.now →
+        Step (with_vmos s (P.content store.now) vmos.old)
         (Command.VmoChild name parent Slice offset bytes resizable no_write)
-        (reply_of (λ _. Reply.Done) result) (state_with (P.content store.now) vmos.new pins) }
+        (reply_of (λ _. Reply.Done) result) (with_vmos s (P.content store.now) vmos.new) }
     ensures keepers { keepers_of vmos.new ≡ keepers_of vmos.old }
 {
     if resizable {
@@ -102,9 +101,9 @@ pub(crate) fn reference(
     requires named { IsNamed (names_of vmos.old) t.now }
     requires vmo { IsSome (lineage_in vmos.old t.now.koid.0) }
     requires closed { names_of vmos.old name.0 ≡ None }
-    ensures step { (c : Content) (pins : ℕ → Option Pin) (parent : VmoName) → names_of vmos.old parent.0 ≡ Some t.now →
-        Step (state_with c vmos.old pins) (Command.VmoChild name parent Reference offset bytes resizable no_write)
-        (reply_of (λ _. Reply.Done) result) (state_with c vmos.new pins) }
+    ensures step { (c : Content) (s : State) (parent : VmoName) → names_of vmos.old parent.0 ≡ Some t.now →
+        Step (with_vmos s c vmos.old) (Command.VmoChild name parent Reference offset bytes resizable no_write)
+        (reply_of (λ _. Reply.Done) result) (with_vmos s c vmos.new) }
     ensures keepers { keepers_of vmos.new ≡ keepers_of vmos.old }
 {
     if is_contradictory(offset, bytes, resizable, no_write, t.may_resize) {

@@ -1,14 +1,13 @@
 //! Closing a name of a VMO (`zx_handle_close`).
 
-ghost use Rattle.std.specs.Prelude.{◌≡◌, ℕ, Option, IsSome, IfSome, MatchOption};
+ghost use Rattle.std.specs.Prelude.{◌≡◌, IsSome, IfSome, MatchOption};
 ghost use Rattle.vm_model.specs.declared.command.Command.{Command};
 ghost use Rattle.vm_model.specs.declared.reply.Reply.{Reply};
-ghost use Rattle.vm_model.specs.Naming.Pins.{Pin};
 ghost use Rattle.vm_model.specs.Contents.Sharing.{without};
-ghost use Rattle.vm_model.specs.Machine.State.{IsGoodState};
+ghost use Rattle.vm_model.specs.Machine.State.{State};
 ghost use Rattle.vm_model.specs.Machine.Step.{Step};
-ghost use Rattle.vmo_table.specs.Table.{names_of, keepers_of, state_with, CountsPins};
-ghost use Rattle.vmo_ops.specs.Targets.{AreParts};
+ghost use Rattle.vmo_table.specs.Table.{names_of, keepers_of, with_vmos};
+ghost use Rattle.vmo_ops.specs.Targets.{IsCounted};
 
 use page_store::PageStore;
 use vm_base::{Koid, VmoName};
@@ -17,11 +16,11 @@ use vmo_table::VmoTable;
 /// Closes a name that is open. A VMO that nothing keeps any more leaves with its pages, and its children
 /// get its parent. It never wants memory.
 pub fn close<P: PageStore>(store: &mut P, vmos: &mut VmoTable, name: VmoName)
-    requires parts { AreParts (P.content store.old) vmos.old }
+    requires parts { (s : State) × IsCounted vmos.old (with_vmos s (P.content store.old) vmos.old) }
     requires named { IsSome (names_of vmos.old name.0) }
-    ensures step { (pins : ℕ → Option Pin) → IsGoodState (state_with (P.content store.old) vmos.old pins) →
-        CountsPins vmos.old pins → Step (state_with (P.content store.old) vmos.old pins) (Command.VmoClose name)
-        Reply.Done (state_with (P.content store.new) vmos.new pins) }
+    ensures step { (s : State) → IsCounted vmos.old (with_vmos s (P.content store.old) vmos.old) →
+        Step (with_vmos s (P.content store.old) vmos.old) (Command.VmoClose name) Reply.Done
+        (with_vmos s (P.content store.new) vmos.new) }
     ensures keepers { keepers_of vmos.new ≡ keepers_of vmos.old }
 {
     drop_gone(store, vmos.close(name));

@@ -4,11 +4,11 @@ ghost use Rattle.std.specs.Prelude.{◌≡◌, Some};
 ghost use Rattle.vm_base.specs.declared.names.VmoName.{VmoName};
 ghost use Rattle.vm_model.specs.declared.command.Command.{Command};
 ghost use Rattle.vm_model.specs.declared.reply.Reply.{Reply};
-ghost use Rattle.vm_model.specs.Machine.State.{IsGoodState};
+ghost use Rattle.vm_model.specs.Machine.State.{State};
 ghost use Rattle.vm_model.specs.Machine.Step.{Step};
-ghost use Rattle.vmo_table.specs.Table.{names_of, state_with};
+ghost use Rattle.vmo_table.specs.Table.{names_of};
 ghost use Rattle.pin_table.specs.Table.{pins_of};
-ghost use Rattle.vmo_ops.specs.Targets.{IsNamed, reply_of};
+ghost use Rattle.vmo_ops.specs.Targets.{AreTogether, IsNamed, with_tables, reply_of};
 
 use crate::owning::reserve_rows;
 use crate::ranges::place_in_vmo;
@@ -32,11 +32,11 @@ pub fn decommit<P: PageStore>(
     offset: u64,
     len: u64,
 ) -> Result<(), Refusal>
-    requires good { IsGoodState (state_with (P.content store.old) vmos.now (pins_of pins.now)) }
+    requires parts { AreTogether (P.content store.old) vmos.now pins.now }
     requires named { IsNamed (names_of vmos.now) t.now }
-    ensures { (name : VmoName) → names_of vmos.now name.0 ≡ Some t.now →
-        Step (state_with (P.content store.old) vmos.now (pins_of pins.now)) (Command.VmoDecommit name offset len)
-        (reply_of (λ _. Reply.Done) result) (state_with (P.content store.new) vmos.now (pins_of pins.now)) }
+    ensures { (s : State) (name : VmoName) → names_of vmos.now name.0 ≡ Some t.now →
+        Step (with_tables s (P.content store.old) vmos.now pins.now) (Command.VmoDecommit name offset len)
+        (reply_of (λ _. Reply.Done) result) (with_tables s (P.content store.new) vmos.now pins.now) }
 {
     if !t.may_write {
         return Err(Refusal::AccessDenied);

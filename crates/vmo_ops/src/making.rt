@@ -1,11 +1,11 @@
 //! Making a VMO (`zx_vmo_create`).
 
-ghost use Rattle.std.specs.Prelude.{◌≡◌, ℕ, ◌<◌, ◌^◌, Option, None, IfOk};
+ghost use Rattle.std.specs.Prelude.{◌≡◌, ◌<◌, ◌^◌, None, IfOk};
 ghost use Rattle.vm_model.specs.declared.command.Command.{Command};
 ghost use Rattle.vm_model.specs.declared.reply.Reply.{Reply};
-ghost use Rattle.vm_model.specs.Naming.Pins.{Pin};
+ghost use Rattle.vm_model.specs.Machine.State.{State};
 ghost use Rattle.vm_model.specs.Machine.Step.{Step};
-ghost use Rattle.vmo_table.specs.Table.{names_of, keepers_of, state_with};
+ghost use Rattle.vmo_table.specs.Table.{names_of, keepers_of, with_vmos};
 ghost use Rattle.vmo_ops.specs.Targets.{AreParts, reply_of};
 
 use page_store::PageStore;
@@ -25,9 +25,9 @@ pub fn create<P: PageStore>(
     requires parts { AreParts (P.content store.old) vmos.old }
     requires closed { names_of vmos.old name.0 ≡ None }
     requires next { (P.content store.old).next < 2 ^ 63 }
-    ensures step { (pins : ℕ → Option Pin) → Step (state_with (P.content store.old) vmos.old pins)
+    ensures step { (s : State) → Step (with_vmos s (P.content store.old) vmos.old)
         (Command.VmoCreate name size resizable) (reply_of (λ _. Reply.Done) result)
-        (state_with (P.content store.new) vmos.new pins) }
+        (with_vmos s (P.content store.new) vmos.new) }
     ensures keepers { keepers_of vmos.new ≡ keepers_of vmos.old }
     ensures koid { IfOk result (λ koid. koid.0 ≡ (P.content store.old).next) }
 {

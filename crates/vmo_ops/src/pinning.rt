@@ -7,11 +7,11 @@ ghost use Rattle.vm_model.specs.declared.command.Command.{Command};
 ghost use Rattle.vm_model.specs.declared.reply.Reply.{Reply};
 ghost use Rattle.vm_model.specs.Contents.Content.{pages_of, used, IsGood};
 ghost use Rattle.vm_model.specs.Contents.Owning.{need, OwnsAll};
-ghost use Rattle.vm_model.specs.Machine.State.{IsGoodState};
+ghost use Rattle.vm_model.specs.Machine.State.{State};
 ghost use Rattle.vm_model.specs.Machine.Step.{Step, frame_of};
-ghost use Rattle.vmo_table.specs.Table.{names_of, state_with, CountsPins};
+ghost use Rattle.vmo_table.specs.Table.{names_of, CountsKeepers};
 ghost use Rattle.pin_table.specs.Table.{pins_of};
-ghost use Rattle.vmo_ops.specs.Targets.{IsNamed, reply_of};
+ghost use Rattle.vmo_ops.specs.Targets.{IsCounted, IsNamed, with_tables, reply_of};
 
 use crate::closing::drop_gone;
 use crate::owning::{need_of, own_for_write, reserve_rows};
@@ -40,15 +40,15 @@ pub fn pin<P: PageStore>(
     offset: u64,
     len: u64,
 ) -> Result<PinNumbers, Refusal>
-    requires good { IsGoodState (state_with (P.content store.old) vmos.old (pins_of pins.old)) }
-    requires counted { CountsPins vmos.old (pins_of pins.old) }
+    requires parts { (s : State) × IsCounted vmos.old (with_tables s (P.content store.old) vmos.old pins.old) }
     requires named { IsNamed (names_of vmos.old) t.now }
     requires free { pins_of pins.old pin.0 ≡ None }
-    ensures step { (name : VmoName) → names_of vmos.old name.0 ≡ Some t.now →
-        Step (state_with (P.content store.old) vmos.old (pins_of pins.old)) (Command.VmoPin pin name offset len)
+    ensures step { (s : State) (name : VmoName) → names_of vmos.old name.0 ≡ Some t.now →
+        Step (with_tables s (P.content store.old) vmos.old pins.old) (Command.VmoPin pin name offset len)
         (reply_of (λ numbers. Reply.Pins numbers) result)
-        (state_with (P.content store.new) vmos.new (pins_of pins.new)) }
-    ensures counted { CountsPins vmos.new (pins_of pins.new) }
+        (with_tables s (P.content store.new) vmos.new pins.new) }
+    ensures counted { (s : State) → CountsKeepers vmos.old (record s { pins = pins_of pins.old }) →
+        CountsKeepers vmos.new (record s { pins = pins_of pins.new }) }
 {
     if !is_pin_range(offset, len) {
         return Err(Refusal::InvalidArgs);
@@ -107,12 +107,13 @@ fn own_frames<P: PageStore>(store: &mut P, v: Koid, first: PageNo, count: u64) -
 /// Takes a pin away that is there. A VMO that nothing keeps any more leaves with its pages, and its
 /// children get its parent. It never wants memory.
 pub fn unpin<P: PageStore>(store: &mut P, vmos: &mut VmoTable, pins: &mut PinTable, pin: PinName)
-    requires good { IsGoodState (state_with (P.content store.old) vmos.old (pins_of pins.old)) }
-    requires counted { CountsPins vmos.old (pins_of pins.old) }
+    requires parts { (s : State) × IsCounted vmos.old (with_tables s (P.content store.old) vmos.old pins.old) }
     requires there { IsSome (pins_of pins.old pin.0) }
-    ensures step { Step (state_with (P.content store.old) vmos.old (pins_of pins.old)) (Command.VmoUnpin pin) Reply.Done
-        (state_with (P.content store.new) vmos.new (pins_of pins.new)) }
-    ensures counted { CountsPins vmos.new (pins_of pins.new) }
+    ensures step { (s : State) → IsCounted vmos.old (with_tables s (P.content store.old) vmos.old pins.old) →
+        Step (with_tables s (P.content store.old) vmos.old pins.old) (Command.VmoUnpin pin) Reply.Done
+        (with_tables s (P.content store.new) vmos.new pins.new) }
+    ensures counted { (s : State) → CountsKeepers vmos.old (record s { pins = pins_of pins.old }) →
+        CountsKeepers vmos.new (record s { pins = pins_of pins.new }) }
 {
     let (koid, _, _) = pins.remove(pin);
     drop_gone(store, vmos.release(koid, 1));

@@ -7,11 +7,11 @@ ghost use Rattle.vm_model.specs.declared.command.Command.{Command};
 ghost use Rattle.vm_model.specs.declared.command.ChildKind.TheVariants.{Snapshot};
 ghost use Rattle.vm_model.specs.declared.reply.Reply.{Reply};
 ghost use Rattle.vm_model.specs.Contents.Content.{pages_of, IsGood};
-ghost use Rattle.vm_model.specs.Machine.State.{IsGoodState};
+ghost use Rattle.vm_model.specs.Machine.State.{State};
 ghost use Rattle.vm_model.specs.Machine.Step.{Step, seen_pages};
-ghost use Rattle.vmo_table.specs.Table.{names_of, keepers_of, state_with};
+ghost use Rattle.vmo_table.specs.Table.{names_of, keepers_of};
 ghost use Rattle.pin_table.specs.Table.{pins_of};
-ghost use Rattle.vmo_ops.specs.Targets.{IsInside, IsNamed, reply_of};
+ghost use Rattle.vmo_ops.specs.Targets.{AreTogether, IsInside, IsNamed, with_tables, reply_of};
 
 use crate::sizes::pages_of_name;
 use page_store::PageStore;
@@ -33,14 +33,14 @@ pub(crate) fn snapshot<P: PageStore>(
     resizable: bool,
     no_write: bool,
 ) -> Result<Koid, Refusal>
-    requires good { IsGoodState (state_with (P.content store.old) vmos.old (pins_of pins.now)) }
+    requires parts { AreTogether (P.content store.old) vmos.old pins.now }
     requires named { IsNamed (names_of vmos.old) t.now }
     requires closed { names_of vmos.old name.0 ≡ None }
     requires next { (P.content store.old).next < 2 ^ 63 }
-    ensures step { (parent : VmoName) → names_of vmos.old parent.0 ≡ Some t.now →
-        Step (state_with (P.content store.old) vmos.old (pins_of pins.now))
+    ensures step { (s : State) (parent : VmoName) → names_of vmos.old parent.0 ≡ Some t.now →
+        Step (with_tables s (P.content store.old) vmos.old pins.now)
         (Command.VmoChild name parent Snapshot offset size resizable no_write)
-        (reply_of (λ _. Reply.Done) result) (state_with (P.content store.new) vmos.new (pins_of pins.now)) }
+        (reply_of (λ _. Reply.Done) result) (with_tables s (P.content store.new) vmos.new pins.now) }
     ensures keepers { keepers_of vmos.new ≡ keepers_of vmos.old }
     ensures koid { IfOk result (λ koid. koid.0 ≡ (P.content store.old).next) }
 {

@@ -6,7 +6,7 @@ use Rattle.vm_base.specs.declared.names.VmoName.{VmoName}
 use Rattle.vm_model.specs.Contents.Content.{Content}
 use Rattle.vm_model.specs.declared.names.Target.{Target}
 use Rattle.vm_model.specs.Naming.Names.{Lineage, is_named, lineage_without}
-use Rattle.vm_model.specs.Naming.Pins.{Pin, pin_count}
+use Rattle.vm_model.specs.Naming.Pins.{pin_count}
 use Rattle.vm_model.specs.Machine.State.{State}
 use Rattle.vmo_table.specs.declared.vmos.Vmo.{Vmo}
 use Rattle.vmo_table.specs.Vmos.{vmos_in, lineages, keepers_in}
@@ -37,13 +37,13 @@ keepers_of t = keepers_in (vmos_in t.vmos)
 abbrev pub room_of : Table → ℕ
 room_of t = t.room
 
--- the state of the machine that the content of a store, a table and pins stand for together
-abbrev pub state_with : Content → Table → (ℕ → Option Pin) → State
-state_with c t pins = record { content = c; names = names_of t; lineage = lineage_in t; pins = pins }
+-- the state s, but with this content of a store, and the names and the lineage of this table
+abbrev pub with_vmos : State → Content → Table → State
+with_vmos s c t = record s { content = c; names = names_of t; lineage = lineage_in t }
 
--- the keepers of each VMO are the pins that are of it
-abbrev pub CountsPins : Table → (ℕ → Option Pin) → Type 0
-CountsPins t pins = (v : ℕ) → keepers_of t v ≡ pin_count pins v
+-- the table counts what keeps each VMO of a state beside its names: the pins that are of it
+abbrev pub CountsKeepers : Table → State → Type 0
+CountsKeepers t s = (v : ℕ) → keepers_of t v ≡ pin_count s.pins v
 
 -- the parent of a VMO, where it has one
 abbrev pub parent_of : Option Lineage → Option ℕ

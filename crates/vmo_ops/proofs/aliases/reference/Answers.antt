@@ -1,26 +1,26 @@
-use Rattle.std.proofs.Common.{refl, sym, ap, ◌∙◌}
+use Rattle.std.proofs.Common.{sym, ap, ◌∙◌}
 use Rattle.std.specs.Prelude.{is_some}
 use Rattle.vm_model.specs.Machine.Step.{reference_of}
-use Rattle.vmo_table.specs.Table.{lineage_in, state_with}
+use Rattle.vmo_table.specs.Table.{lineage_in, with_vmos}
 use Rattle.vmo_ops.proofs.EntryLaws.{entered}
 use Rattle.vmo_ops.proofs.AliasLaws.{with_alias-is, known_still, reference_refused, reference_of_slice, reference_lacks, reference_done}
 use Rattle.vmo_ops.proofs.aliases.reference.Goals as goal
 
 pub returns-then-is_contradictory-clause-step : goal.returns-then-is_contradictory-clause-step
-returns-then-is_contradictory-clause-step c = λ d pins parent named.
-    reference_refused (state_with d c.args.vmos.now pins) c.args.name parent c.args.offset c.args.bytes c.args.resizable c.args.no_write
+returns-then-is_contradictory-clause-step c = λ d rest parent named.
+    reference_refused (with_vmos rest d c.args.vmos.now) c.args.name parent c.args.offset c.args.bytes c.args.resizable c.args.no_write
     c.args.t.now named (ap is_some c.requires.closed) c.if-is_contradictory.ensures
 
 pub returns-then-is_slice-clause-step : goal.returns-then-is_slice-clause-step
-returns-then-is_slice-clause-step c = λ d pins parent named.
-    reference_of_slice (state_with d c.args.vmos.now pins) c.args.name parent c.args.offset c.args.bytes c.args.resizable c.args.no_write
+returns-then-is_slice-clause-step c = λ d rest parent named.
+    reference_of_slice (with_vmos rest d c.args.vmos.now) c.args.name parent c.args.offset c.args.bytes c.args.resizable c.args.no_write
     c.args.t.now named (ap is_some c.requires.closed) c.if-is_contradictory.ensures (sym c.if-is_slice.ensures)
 
 pub returns-in_default-clause-step : goal.returns-in_default-clause-step
-returns-in_default-clause-step c = λ d pins parent named.
-    reference_lacks (state_with d c.args.vmos.now pins) c.args.name parent c.args.offset c.args.bytes c.args.resizable c.args.no_write
+returns-in_default-clause-step c = λ d rest parent named.
+    reference_lacks (with_vmos rest d c.args.vmos.now) c.args.name parent c.args.offset c.args.bytes c.args.resizable c.args.no_write
     c.args.t.now named (ap is_some c.requires.closed) c.if-is_contradictory.ensures (sym c.if-is_slice.ensures)
-    (state_with d c.reserve.new.self pins) (λ i. record { content = d; names = c.reserve.ensures.names i; lineage = c.reserve.ensures.lineage i; pins = pins })
+    (with_vmos rest d c.reserve.new.self) (λ i. record rest { content = d; names = c.reserve.ensures.names i; lineage = c.reserve.ensures.lineage i })
 
 pub alias-requires-clause-koid : goal.alias-requires-clause-koid
 alias-requires-clause-koid c =
@@ -28,10 +28,10 @@ alias-requires-clause-koid c =
     c.requires.vmo c.reserve.ensures.lineage c.reference_target.ensures
 
 pub returns-clause-step : goal.returns-clause-step
-returns-clause-step c = λ d pins parent named.
-    let s = state_with d c.args.vmos.now pins in
-    let new = state_with d c.alias.new.self pins in
+returns-clause-step c = λ d rest parent named.
+    let s = with_vmos rest d c.args.vmos.now in
+    let new = with_vmos rest d c.alias.new.self in
     reference_done s c.args.name parent c.args.offset c.args.bytes c.args.resizable c.args.no_write
     c.args.t.now named (ap is_some c.requires.closed) c.if-is_contradictory.ensures (sym c.if-is_slice.ensures)
-    new (with_alias-is s new c.args.name.0 c.reference_target.result _ refl (entered _ _ _ _ _ c.reserve.ensures.names c.alias.ensures.names)
-    c.reference_target.ensures (c.alias.ensures.lineage ∙ c.reserve.ensures.lineage) refl)
+    new (with_alias-is s _ _ c.args.name.0 c.reference_target.result _ (entered _ _ _ _ _ c.reserve.ensures.names c.alias.ensures.names)
+    c.reference_target.ensures (c.alias.ensures.lineage ∙ c.reserve.ensures.lineage))

@@ -1,7 +1,7 @@
-use Rattle.std.proofs.Common.{refl, ap, ◌∙◌, arith}
+use Rattle.std.proofs.Common.{ap, ◌∙◌, arith}
 use Rattle.std.specs.Prelude.{is_some}
 use Rattle.vm_model.specs.Machine.Step.{slice_of}
-use Rattle.vmo_table.specs.Table.{lineage_in, state_with}
+use Rattle.vmo_table.specs.Table.{lineage_in, with_vmos}
 use Rattle.vmo_ops.proofs.EntryLaws.{entered}
 use Rattle.vmo_ops.proofs.NameLaws.{parts_inside, parts_lineage}
 use Rattle.vmo_ops.proofs.StepRows.{name_few}
@@ -13,8 +13,8 @@ pages_inside-requires-clause-inside g c =
     parts_inside (g.P.PageStore.content c.args.store.now) c.args.vmos.now c.args.t.now c.requires.parts c.requires.named
 
 pub returns-in_default-clause-step : goal.returns-in_default-clause-step
-returns-in_default-clause-step g c = λ pins parent named.
-    slice_outside (state_with (g.P.PageStore.content c.args.store.now) c.args.vmos.now pins) c.args.name parent c.args.offset c.args.bytes c.args.resizable c.args.no_write
+returns-in_default-clause-step g c = λ rest parent named.
+    slice_outside (with_vmos rest (g.P.PageStore.content c.args.store.now) c.args.vmos.now) c.args.name parent c.args.offset c.args.bytes c.args.resizable c.args.no_write
     c.args.t.now named (ap is_some c.requires.closed) c.in_default.ensures.none
 
 pub resizable-requires : goal.resizable-requires
@@ -22,22 +22,22 @@ resizable-requires g c =
     parts_lineage (g.P.PageStore.content c.args.store.now) c.args.vmos.now c.args.t.now c.requires.parts c.requires.named
 
 pub returns-then-resizable-2-clause-step : goal.returns-then-resizable-2-clause-step
-returns-then-resizable-2-clause-step g c = λ pins parent named.
+returns-then-resizable-2-clause-step g c = λ rest parent named.
     let part = c.in-Some.ensures.some in
     let there = parts_lineage (g.P.PageStore.content c.args.store.now) c.args.vmos.now c.args.t.now c.requires.parts c.requires.named in
-    slice_of_resizable (state_with (g.P.PageStore.content c.args.store.now) c.args.vmos.now pins) c.args.name parent c.args.offset c.args.bytes c.args.resizable c.args.no_write
+    slice_of_resizable (with_vmos rest (g.P.PageStore.content c.args.store.now) c.args.vmos.now) c.args.name parent c.args.offset c.args.bytes c.args.resizable c.args.no_write
     c.args.t.now named (ap is_some c.requires.closed)
     part.0 c.if-resizable.false part.2 there c.resizable.result c.resizable.ensures c.if-resizable-2.true
 
 pub returns-in_default-reserve-clause-step : goal.returns-in_default-reserve-clause-step
-returns-in_default-reserve-clause-step g c = λ pins parent named.
+returns-in_default-reserve-clause-step g c = λ rest parent named.
     let d = g.P.PageStore.content c.args.store.now in
     let part = c.in-Some.ensures.some in
     let there = parts_lineage (g.P.PageStore.content c.args.store.now) c.args.vmos.now c.args.t.now c.requires.parts c.requires.named in
-    slice_lacks (state_with d c.args.vmos.now pins) c.args.name parent c.args.offset c.args.bytes c.args.resizable c.args.no_write
+    slice_lacks (with_vmos rest d c.args.vmos.now) c.args.name parent c.args.offset c.args.bytes c.args.resizable c.args.no_write
     c.args.t.now named (ap is_some c.requires.closed)
     part.0 c.if-resizable.false part.2 there c.resizable.result c.resizable.ensures c.if-resizable-2.false
-    (state_with d c.reserve.new.self pins) (λ i. record { content = d; names = c.reserve.ensures.names i; lineage = c.reserve.ensures.lineage i; pins = pins })
+    (with_vmos rest d c.reserve.new.self) (λ i. record rest { content = d; names = c.reserve.ensures.names i; lineage = c.reserve.ensures.lineage i })
 
 pub slice_target-requires : goal.slice_target-requires
 slice_target-requires g c =
@@ -52,15 +52,15 @@ alias-requires-clause-koid g c =
     (parts_lineage (g.P.PageStore.content c.args.store.now) c.args.vmos.now c.args.t.now c.requires.parts c.requires.named) c.reserve.ensures.lineage c.slice_target.ensures
 
 pub returns-clause-step : goal.returns-clause-step
-returns-clause-step g c = λ pins parent named.
+returns-clause-step g c = λ rest parent named.
     let d = g.P.PageStore.content c.args.store.now in
-    let s = state_with d c.args.vmos.now pins in
-    let new = state_with d c.alias.new.self pins in
+    let s = with_vmos rest d c.args.vmos.now in
+    let new = with_vmos rest d c.alias.new.self in
     let part = c.in-Some.ensures.some in
     let there = parts_lineage (g.P.PageStore.content c.args.store.now) c.args.vmos.now c.args.t.now c.requires.parts c.requires.named in
     slice_done s c.args.name parent c.args.offset c.args.bytes c.args.resizable c.args.no_write
     c.args.t.now named (ap is_some c.requires.closed)
     part.0 c.if-resizable.false part.2 there c.resizable.result c.resizable.ensures c.if-resizable-2.false
     new c.page_of.result c.in-Some.pages c.page_of.ensures part.1
-    (with_alias-is s new c.args.name.0 c.slice_target.result (slice_of c.args.t.now c.page_of.result c.in-Some.pages c.args.no_write) refl
-    (entered _ _ _ _ _ c.reserve.ensures.names c.alias.ensures.names) c.slice_target.ensures (c.alias.ensures.lineage ∙ c.reserve.ensures.lineage) refl)
+    (with_alias-is s _ _ c.args.name.0 c.slice_target.result (slice_of c.args.t.now c.page_of.result c.in-Some.pages c.args.no_write)
+    (entered _ _ _ _ _ c.reserve.ensures.names c.alias.ensures.names) c.slice_target.ensures (c.alias.ensures.lineage ∙ c.reserve.ensures.lineage))

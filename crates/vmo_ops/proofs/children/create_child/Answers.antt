@@ -1,8 +1,29 @@
-use Rattle.vmo_table.specs.Table.{state_with}
 use Rattle.pin_table.specs.Table.{pins_of}
+use Rattle.vmo_ops.specs.Targets.{with_tables}
 use Rattle.vmo_ops.proofs.NameLaws.{named_lineage}
 use Rattle.vmo_ops.proofs.children.create_child.Goals as goal
 
+pub slice-requires-clause-parts : goal.slice-requires-clause-parts
+slice-requires-clause-parts g c = (record c.requires.parts.0 { pins = pins_of c.args.pins.now }, c.requires.parts.1)
+
 pub reference-requires-clause-vmo : goal.reference-requires-clause-vmo
 reference-requires-clause-vmo g c =
-    named_lineage (state_with (g.P.PageStore.content c.args.store.now) c.args.vmos.now (pins_of c.args.pins.now)) c.args.t.now c.requires.good c.requires.named
+    named_lineage (with_tables c.requires.parts.0 (g.P.PageStore.content c.args.store.now) c.args.vmos.now c.args.pins.now) c.args.t.now c.requires.parts.1 c.requires.named
+
+pub returns-in-Ok-clause-step : goal.returns-in-Ok-clause-step
+returns-in-Ok-clause-step g c = λ rest parent named. rw c.in-Snapshot.is (c.in-Ok.ensures.step rest parent named)
+
+pub returns-in-Err-clause-step : goal.returns-in-Err-clause-step
+returns-in-Err-clause-step g c = λ rest parent named. rw c.in-Snapshot.is (c.in-Err.ensures.step rest parent named)
+
+pub returns-in-Ok-slice-clause-step : goal.returns-in-Ok-slice-clause-step
+returns-in-Ok-slice-clause-step g c = λ rest parent named. rw c.in-Slice.is (c.in-Ok-slice.ensures.step (record rest { pins = pins_of c.args.pins.now }) parent named)
+
+pub returns-in-Err-slice-clause-step : goal.returns-in-Err-slice-clause-step
+returns-in-Err-slice-clause-step g c = λ rest parent named. rw c.in-Slice.is (c.in-Err-slice.ensures.step (record rest { pins = pins_of c.args.pins.now }) parent named)
+
+pub returns-in-Ok-reference-clause-step : goal.returns-in-Ok-reference-clause-step
+returns-in-Ok-reference-clause-step g c = λ rest parent named. rw c.in-Reference.is (c.in-Ok-reference.ensures.step (g.P.PageStore.content c.args.store.now) (record rest { pins = pins_of c.args.pins.now }) parent named)
+
+pub returns-in-Err-reference-clause-step : goal.returns-in-Err-reference-clause-step
+returns-in-Err-reference-clause-step g c = λ rest parent named. rw c.in-Reference.is (c.in-Err-reference.ensures.step (g.P.PageStore.content c.args.store.now) (record rest { pins = pins_of c.args.pins.now }) parent named)

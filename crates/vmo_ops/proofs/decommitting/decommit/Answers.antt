@@ -4,19 +4,19 @@ use Rattle.vm_model.specs.Contents.Content.{Content}
 use Rattle.vm_model.specs.Naming.Pins.{is_pinned}
 use Rattle.vm_model.proofs.ContentLaws.{used_le}
 use Rattle.pin_table.specs.Table.{pins_of}
-use Rattle.vmo_table.specs.Table.{state_with}
+use Rattle.vmo_ops.specs.Targets.{with_tables}
 use Rattle.vmo_ops.proofs.NameLaws.{named_vmo, named_lineage, named_inside}
 use Rattle.vmo_ops.proofs.DecommitLaws.{need-pages, none_within, decommit_denied, decommit_odd, decommit_kept, decommit_past, decommit_pinned, decommit_lacks, decommit_done}
 use Rattle.vmo_ops.proofs.decommitting.decommit.Goals as goal
 use Rattle.vmo_ops.proofs.decommitting.decommit.Goals.{then-in_page-ne0-via-then-in_page-ne0, then-in_page-ne0-via-else-in_page-ne0+then-in_page-ne0-2}
 
 pub returns-then-not-t : goal.returns-then-not-t
-returns-then-not-t g c = λ name named.
-    decommit_denied (state_with (g.P.PageStore.content c.args.store.now) c.args.vmos.now (pins_of c.args.pins.now)) name c.args.offset c.args.len c.args.t.now named c.if-not-t.true
+returns-then-not-t g c = λ rest name named.
+    decommit_denied (with_tables rest (g.P.PageStore.content c.args.store.now) c.args.vmos.now c.args.pins.now) name c.args.offset c.args.len c.args.t.now named c.if-not-t.true
 
 pub returns-then-in_page-ne0 : goal.returns-then-in_page-ne0
-returns-then-in_page-ne0 g c = λ name named.
-    decommit_odd (state_with (g.P.PageStore.content c.args.store.now) c.args.vmos.now (pins_of c.args.pins.now)) name c.args.offset c.args.len c.args.t.now named c.if-not-t.false
+returns-then-in_page-ne0 g c = λ rest name named.
+    decommit_odd (with_tables rest (g.P.PageStore.content c.args.store.now) c.args.vmos.now c.args.pins.now) name c.args.offset c.args.len c.args.t.now named c.if-not-t.false
     (elim c.then-in_page-ne0.branch [
       | then-in_page-ne0-via-then-in_page-ne0 w ↦ inl (omega (arith, c.in_page.ensures, w.if-in_page-ne0.true))
       | then-in_page-ne0-via-else-in_page-ne0+then-in_page-ne0-2 w ↦ inr (omega (arith, w.in_page-else-in_page-ne0.ensures, w.if-in_page-ne0-2.true))
@@ -24,44 +24,44 @@ returns-then-in_page-ne0 g c = λ name named.
 
 pub may_decommit-requires : goal.may_decommit-requires
 may_decommit-requires g c =
-    named_lineage (state_with (g.P.PageStore.content c.args.store.now) c.args.vmos.now (pins_of c.args.pins.now)) c.args.t.now c.requires.good c.requires.named
+    named_lineage (with_tables c.requires.parts.0 (g.P.PageStore.content c.args.store.now) c.args.vmos.now c.args.pins.now) c.args.t.now c.requires.parts.1 c.requires.named
 
 pub returns-then-not-may_decommit : goal.returns-then-not-may_decommit
-returns-then-not-may_decommit g c = λ name named.
-    decommit_kept (state_with (g.P.PageStore.content c.args.store.now) c.args.vmos.now (pins_of c.args.pins.now)) name c.args.offset c.args.len c.args.t.now named c.if-not-t.false
-    (omega arith) (omega arith) c.requires.good c.may_decommit.result c.may_decommit.ensures c.if-not-may_decommit.true
+returns-then-not-may_decommit g c = λ rest name named.
+    decommit_kept (with_tables rest (g.P.PageStore.content c.args.store.now) c.args.vmos.now c.args.pins.now) name c.args.offset c.args.len c.args.t.now named c.if-not-t.false
+    (omega arith) (omega arith) (named_lineage (with_tables c.requires.parts.0 (g.P.PageStore.content c.args.store.now) c.args.vmos.now c.args.pins.now) c.args.t.now c.requires.parts.1 c.requires.named) c.may_decommit.result c.may_decommit.ensures c.if-not-may_decommit.true
 
 pub place_in_vmo-requires-clause-inside : goal.place_in_vmo-requires-clause-inside
 place_in_vmo-requires-clause-inside g c =
-    named_inside (state_with (g.P.PageStore.content c.args.store.now) c.args.vmos.now (pins_of c.args.pins.now)) c.args.t.now c.requires.good c.requires.named
+    named_inside (with_tables c.requires.parts.0 (g.P.PageStore.content c.args.store.now) c.args.vmos.now c.args.pins.now) c.args.t.now c.requires.parts.1 c.requires.named
 
 pub returns-in_default : goal.returns-in_default
-returns-in_default g c = λ name named.
-    decommit_past (state_with (g.P.PageStore.content c.args.store.now) c.args.vmos.now (pins_of c.args.pins.now)) name c.args.offset c.args.len c.args.t.now named c.if-not-t.false
-    (omega arith) (omega arith) c.requires.good c.may_decommit.result c.may_decommit.ensures c.if-not-may_decommit.false c.in_default.ensures.none
+returns-in_default g c = λ rest name named.
+    decommit_past (with_tables rest (g.P.PageStore.content c.args.store.now) c.args.vmos.now c.args.pins.now) name c.args.offset c.args.len c.args.t.now named c.if-not-t.false
+    (omega arith) (omega arith) (named_lineage (with_tables c.requires.parts.0 (g.P.PageStore.content c.args.store.now) c.args.vmos.now c.args.pins.now) c.args.t.now c.requires.parts.1 c.requires.named) c.may_decommit.result c.may_decommit.ensures c.if-not-may_decommit.false c.in_default.ensures.none
 
 pub returns-then-pinned : goal.returns-then-pinned
-returns-then-pinned g c = λ name named.
-    decommit_pinned (state_with (g.P.PageStore.content c.args.store.now) c.args.vmos.now (pins_of c.args.pins.now)) name c.args.offset c.args.len c.args.t.now named c.if-not-t.false
-    (omega arith) (omega arith) c.requires.good c.may_decommit.result c.may_decommit.ensures c.if-not-may_decommit.false c.in-Some.at c.in-Some.ensures.some
+returns-then-pinned g c = λ rest name named.
+    decommit_pinned (with_tables rest (g.P.PageStore.content c.args.store.now) c.args.vmos.now c.args.pins.now) name c.args.offset c.args.len c.args.t.now named c.if-not-t.false
+    (omega arith) (omega arith) (named_lineage (with_tables c.requires.parts.0 (g.P.PageStore.content c.args.store.now) c.args.vmos.now c.args.pins.now) c.args.t.now c.requires.parts.1 c.requires.named) c.may_decommit.result c.may_decommit.ensures c.if-not-may_decommit.false c.in-Some.at c.in-Some.ensures.some
     _ _ c.page_of.ensures c.page_of-2.ensures _ c.pinned.ensures c.if-pinned.true
 
 pub cost_to_zero-cost-requires-clause-vmo : goal.cost_to_zero-cost-requires-clause-vmo
 cost_to_zero-cost-requires-clause-vmo g c =
-    named_vmo (state_with (g.P.PageStore.content c.args.store.now) c.args.vmos.now (pins_of c.args.pins.now)) c.args.t.now c.requires.good c.requires.named
+    named_vmo (with_tables c.requires.parts.0 (g.P.PageStore.content c.args.store.now) c.args.vmos.now c.args.pins.now) c.args.t.now c.requires.parts.1 c.requires.named
 
 pub returns-in_default-reserve_rows : goal.returns-in_default-reserve_rows
-returns-in_default-reserve_rows g c = λ name named.
-    decommit_lacks (state_with (g.P.PageStore.content c.args.store.now) c.args.vmos.now (pins_of c.args.pins.now)) name c.args.offset c.args.len c.args.t.now named c.if-not-t.false
-    (omega arith) (omega arith) c.requires.good c.may_decommit.result c.may_decommit.ensures c.if-not-may_decommit.false c.in-Some.at c.in-Some.ensures.some
+returns-in_default-reserve_rows g c = λ rest name named.
+    decommit_lacks (with_tables rest (g.P.PageStore.content c.args.store.now) c.args.vmos.now c.args.pins.now) name c.args.offset c.args.len c.args.t.now named c.if-not-t.false
+    (omega arith) (omega arith) (named_lineage (with_tables c.requires.parts.0 (g.P.PageStore.content c.args.store.now) c.args.vmos.now c.args.pins.now) c.args.t.now c.requires.parts.1 c.requires.named) c.may_decommit.result c.may_decommit.ensures c.if-not-may_decommit.false c.in-Some.at c.in-Some.ensures.some
     _ _ c.page_of.ensures c.page_of-2.ensures _ c.pinned.ensures c.if-pinned.false _
-    (ap (λ (d : Content). state_with d c.args.vmos.now (pins_of c.args.pins.now)) c.reserve_rows.ensures.same)
+    (ap (λ (d : Content). with_tables rest d c.args.vmos.now c.args.pins.now) c.reserve_rows.ensures.same)
     (omega (arith, c.cost_to_zero-cost.ensures.held, c.in_default-reserve_rows.ensures.err))
 
 pub zero_pages-requires-clause-vmo : goal.zero_pages-requires-clause-vmo
 zero_pages-requires-clause-vmo g c =
     subst (λ (d : Content). IsSome (d.count c.args.t.now.koid.0)) (sym c.reserve_rows.ensures.same)
-    (named_vmo (state_with (g.P.PageStore.content c.args.store.now) c.args.vmos.now (pins_of c.args.pins.now)) c.args.t.now c.requires.good c.requires.named)
+    (named_vmo (with_tables c.requires.parts.0 (g.P.PageStore.content c.args.store.now) c.args.vmos.now c.args.pins.now) c.args.t.now c.requires.parts.1 c.requires.named)
 
 pub zero_pages-requires-clause-free : goal.zero_pages-requires-clause-free
 zero_pages-requires-clause-free g c =
@@ -75,8 +75,8 @@ zero_pages-requires-clause-free g c =
     omega (arith, none, used_le d)
 
 pub returns : goal.returns
-returns g c = λ name named.
-    decommit_done (state_with (g.P.PageStore.content c.args.store.now) c.args.vmos.now (pins_of c.args.pins.now)) name c.args.offset c.args.len c.args.t.now named c.if-not-t.false
-    (omega arith) (omega arith) c.requires.good c.may_decommit.result c.may_decommit.ensures c.if-not-may_decommit.false c.in-Some.at c.in-Some.ensures.some
+returns g c = λ rest name named.
+    decommit_done (with_tables rest (g.P.PageStore.content c.args.store.now) c.args.vmos.now c.args.pins.now) name c.args.offset c.args.len c.args.t.now named c.if-not-t.false
+    (omega arith) (omega arith) (named_lineage (with_tables c.requires.parts.0 (g.P.PageStore.content c.args.store.now) c.args.vmos.now c.args.pins.now) c.args.t.now c.requires.parts.1 c.requires.named) c.may_decommit.result c.may_decommit.ensures c.if-not-may_decommit.false c.in-Some.at c.in-Some.ensures.some
     _ _ c.page_of.ensures c.page_of-2.ensures _ c.pinned.ensures c.if-pinned.false
     (g.P.PageStore.content c.reserve_rows.new.store) (g.P.PageStore.content c.zero_pages.new.store) c.reserve_rows.ensures.same c.zero_pages.ensures
