@@ -11,7 +11,8 @@ use Rattle.vm_model.specs.Contents.Sharing.{IsLeastViewer}
 use Rattle.vm_model.specs.Machine.Attribution.{is_shared, is_charged}
 use Rattle.vm_base.proofs.SearchLaws.{none_below, count_below_le, count_below-suc, count_below-zero, count_below_gap, bit_same}
 use Rattle.vm_model.proofs.ContentLaws.{count_from_page, views_found, sole_alone}
-use Rattle.vm_model.proofs.AttributionLaws.{is_held-some, is_shared-some, is_charged-at, is_charged_page-some, is_charged-least, IsOfHeld, IsOfHeld-held, IsOfHeld-sole, IsOfHeld-shared, IsOfHeld-charged}
+use Rattle.vm_model.proofs.ContentLaws.{IsOfHeld, IsOfHeld-held}
+use Rattle.attribution.proofs.AttributionLaws.{is_held-some, is_shared-some, is_charged-at, is_charged_page-some, is_charged-least, IsOfHeld-sole, IsOfHeld-shared, IsOfHeld-charged}
 use Rattle.page_store.specs.declared.page_store.Look.TheVariants as look
 use Rattle.page_store.specs.Pages.{look_at, IsShown}
 use Rattle.vmo_ops.proofs.ZeroLaws.{byte_bit}

@@ -1,1 +1,2 @@
+pub mod AttributionLaws
 pub mod CountLaws

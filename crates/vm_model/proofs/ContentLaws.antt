@@ -5,7 +5,7 @@ use Rattle.std.proofs.lemmas.Bool.{cases_Bool, cases_eq, and_parts, and_from, an
 use Rattle.std.proofs.lemmas.Bool.Decides.{Decides-eqb}
 use Rattle.vm_base.specs.declared.limits.TheConstants.{PAGE, VMO_PAGES}
 use Rattle.vm_base.specs.Search.{count_below}
-use Rattle.vm_model.specs.Contents.Content.{Page, Content, nothing, bytes_of, pages_of, has_tag, views, in_use, used, vmos_of, seen_elsewhere, is_sole_page, sole, hold, created, IsGood}
+use Rattle.vm_model.specs.Contents.Content.{Page, Content, nothing, bytes_of, is_held, pages_of, has_tag, views, in_use, used, vmos_of, seen_elsewhere, is_sole_page, sole, hold, created, IsGood}
 use Rattle.vm_base.specs.Pages.{zeros}
 use Rattle.vm_base.proofs.SearchLaws.{any_below_found, any_below_at, any_below_same, count_below_same, count_below_le, count_below_one_more, count_below-suc, count_below_none, eqb_same, eqb_apart, eqb_is}
 
@@ -528,3 +528,15 @@ vmos_of-created c pages good =
     let there : (created c pages).next ≡ c.next + 1 = next-created c pages in
     ap (λ (n : ℕ). count_below n (λ v. is_some ((created c pages).count v))) there
     ∙ (count_below-suc c.next (λ v. is_some ((created c pages).count v)) ∙ omega (arith, before, here))
+
+-- ---- tests of held pages
+
+-- a test that no zero page of v passes
+pub record IsOfHeld (c : Content) (v : ℕ) (test : ℕ → Bool) : Type 0 where
+  pub zero_fails : (p : ℕ) → c.page v p ≡ None → test p ≡ false
+
+pub is_held-zero : (c : Content) (v p : ℕ) → c.page v p ≡ None → is_held c v p ≡ false
+is_held-zero c v p zero = ap is_some zero
+
+pub IsOfHeld-held : (c : Content) (v : ℕ) → IsOfHeld c v (is_held c v)
+IsOfHeld-held c v = record { zero_fails = λ p zero. is_held-zero c v p zero }

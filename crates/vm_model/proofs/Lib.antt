@@ -8,14 +8,11 @@ pub mod CommitLaws
 pub mod ZeroesLaws
 pub mod SoleLaws
 pub mod NamesLaws
-pub mod AliasLaws
-pub mod AttributionLaws
 pub mod PinLaws
 pub mod LiveLaws
 pub mod LeavingLaws
 pub mod KeepLaws
 pub mod StepLaws
-pub mod RunLaws
 pub mod ExampleLaws
 pub mod WordLaws
 pub mod FieldLaws

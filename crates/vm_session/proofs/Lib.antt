@@ -1,3 +1,4 @@
+mod RunLaws
 mod Served
 mod Answered
 mod Beginning

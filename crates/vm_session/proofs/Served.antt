@@ -11,7 +11,7 @@ use Rattle.vm_model.specs.declared.reply.Reply.{Reply}
 use Rattle.vm_model.specs.Machine.State.{State, empty_state}
 use Rattle.vm_model.specs.Language.Text.{texts}
 use Rattle.vm_model.specs.Scripts.Run.{lines_of, whole_lines, Gives, Run}
-use Rattle.vm_model.proofs.RunLaws.{lines_of-line, lines_of-piece, lines_of-nil, whole_lines-line, whole_lines-none, texts-append, Run-more}
+use Rattle.vm_session.proofs.RunLaws.{lines_of-line, lines_of-piece, lines_of-nil, whole_lines-line, whole_lines-none, texts-append, Run-more}
 use Rattle.vm_session.specs.Outcome.{AnswersAll, AnswersPart, Completes, StopsReading, ReachesLimit, BreaksOff}
 use Rattle.vm_session.specs.Serving.{AreLines, AreAll, IsServed}
 

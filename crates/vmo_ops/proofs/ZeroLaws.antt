@@ -20,7 +20,7 @@ use Rattle.vm_model.specs.Machine.Refusals.{change_refusals, first_of}
 use Rattle.vm_base.proofs.EntryLaws.{some_is}
 use Rattle.vm_model.proofs.NamesLaws.{target_of-at}
 use Rattle.vm_base.proofs.SearchLaws.{bit_le, bit-true}
-use Rattle.vm_model.proofs.AttributionLaws.{IsOfHeld, IsOfHeld-held}
+use Rattle.vm_model.proofs.ContentLaws.{IsOfHeld, IsOfHeld-held}
 use Rattle.vm_model.proofs.OwningLaws.{count_from, count_from-same, count_from-next, count_from-none}
 use Rattle.vm_model.proofs.PinLaws.{any_pinned_at, none_pinned}
 use Rattle.vm_model.proofs.ZeroesLaws.{ZeroedPage, ZeroedPage-from_ZeroesPage, ZeroesPage-none, Zeroes-none, need-zero}

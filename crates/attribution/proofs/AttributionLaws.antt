@@ -1,6 +1,4 @@
--- Laws of what a VMO holds: what each test says of a page, that the held pages are those that are sole and those that are
--- shared, that the least koid that shows a frame is charged for it, and how the pages are counted from one held page to the
--- next.
+-- Laws of what a VMO holds: what each test says of a page, and that the least koid that shows a frame is charged for it.
 use Rattle.std.proofs.Common.{◌≡◌, ◌≢◌, ℕ, Bool, true, false, not, ◌&&◌, ◌==◌, None, Some, refl, sym, ap, ◌∙◌, inl, inr, arith}
 use Rattle.std.specs.Prelude.{is_some}
 use Rattle.std.proofs.lemmas.Bool.{cases_order, both_ways, not_from_true, not_from_false}
@@ -9,13 +7,10 @@ use Rattle.vm_model.specs.Contents.Content.{Page, Content, is_held, views, sole,
 use Rattle.vm_model.specs.Contents.Sharing.{IsLeastViewer}
 use Rattle.vm_model.specs.Machine.Attribution.{is_shared, is_charged_page, is_charged}
 use Rattle.vm_base.proofs.SearchLaws.{any_below_at, none_below, eqb_same, eqb_apart}
-use Rattle.vm_model.proofs.ContentLaws.{sole-zero}
+use Rattle.vm_model.proofs.ContentLaws.{IsOfHeld, is_held-zero, sole-zero}
 use Rattle.vm_model.proofs.SharingLaws.{views_held}
 
 -- ---- what each test says of a page
-
-pub is_held-zero : (c : Content) (v p : ℕ) → c.page v p ≡ None → is_held c v p ≡ false
-is_held-zero c v p zero = ap is_some zero
 
 pub is_held-some : (c : Content) (v p : ℕ) (held : Page) → c.page v p ≡ Some held → is_held c v p ≡ true
 is_held-some c v p held e = ap is_some e
@@ -65,18 +60,9 @@ is_charged_page-least c v p w held good e least =
 pub is_charged-least : (c : Content) (v p w : ℕ) (held : Page) → IsGood c → c.page v p ≡ Some held → IsLeastViewer c held.tag w → is_charged c v p ≡ (w == v)
 is_charged-least c v p w held good e least = is_charged-at c v p held e ∙ is_charged_page-least c v p w held good e least
 
--- ---- counts
-
--- ---- from one held page to the next
-
--- a test that no zero page of v passes
-pub record IsOfHeld (c : Content) (v : ℕ) (test : ℕ → Bool) : Type 0 where
-  pub zero_fails : (p : ℕ) → c.page v p ≡ None → test p ≡ false
+-- ---- tests of held pages
 
 module _ (c : Content) (v : ℕ) where
-  pub IsOfHeld-held : IsOfHeld c v (is_held c v)
-  IsOfHeld-held = record { zero_fails = λ p zero. is_held-zero c v p zero }
-
   pub IsOfHeld-sole : IsOfHeld c v (sole c v)
   IsOfHeld-sole = record { zero_fails = λ p zero. sole-zero c v p zero }
 
