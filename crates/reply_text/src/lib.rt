@@ -1,11 +1,11 @@
 //! How replies are spelled: the lines of a reply, as bytes.
 //!
-//! It stands on the definitions of `vm_model`, on `hex` for byte data and on `itoa` for numbers. It
-//! takes no memory, and the layers above may use all of it.
+//! It stands on the definitions of `vm_model` and on `word_text` for numbers, byte data and
+//! permissions. It takes no memory, and the layers above may use all of it.
 #![tactic(auto)]
 
 mod lines;
-mod put;
+mod parts;
 
 pub use lines::{line_count, write_line};
 

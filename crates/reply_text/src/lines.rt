@@ -3,12 +3,10 @@
 ghost use Rattle.std.specs.Prelude.{◌≡◌, ◌+◌, ◌*◌, ◌<◌, ◌≤◌, [], ◌∷◌, ◌++◌, length, take, drop, map, codes, slice_get};
 ghost use Rattle.vm_model.specs.Language.Text.{reply_lines, run_line, refusal_name};
 
-use crate::put::{
-    put, put_access, put_address, put_data, put_field, put_info, put_number, put_numbers, put_run,
-    put_stat,
-};
-use vm_base::Refusal;
+use crate::parts::{put_access, put_address, put_field, put_info, put_numbers, put_run, put_stat};
+use vm_base::{Refusal, TEXT_BYTES, TEXT_ROOM};
 use vm_model::{Reply, Run};
+use word_text::{put, put_data, put_number};
 
 /// How many lines a reply has.
 pub fn line_count(reply: &Reply) -> u64
@@ -21,17 +19,17 @@ pub fn line_count(reply: &Reply) -> u64
 /// answers its length in bytes. The rest of `out` is left open.
 pub fn write_line(reply: &Reply, index: u64, out: &mut [u8]) -> usize
     requires index { index < length (reply_lines reply.now) }
-    requires room { 16384 ≤ length out.old }
+    requires room { TEXT_ROOM ≤ length out.old }
     ensures line { slice_get (reply_lines reply.now) index ≡ Some (take result out.new) }
     ensures len { result ≤ length out.new }
-    ensures short { result < 8300 }
+    ensures short { result < TEXT_BYTES }
 {
     if index == 0 {
         let end = put_first_line(reply, out);
-        return put(out, end, b"\n");
+        return put(b"\n", out, end);
     }
     let runs = runs_of(reply);
-    put_run(out, &runs[index as usize - 1])
+    put_run(&runs[index as usize - 1], out, 0)
 }
 
 /// The runs of a reply, each of which has a line behind the first. Only `Runs` has any.
@@ -59,24 +57,24 @@ fn runs_of(reply: &Reply) -> &[Run]
 /// Writes the first line of a reply, without its line feed, and answers where it ends.
 #[tactic(auto, unfolding(vm_model::specs::Language::Text::reply_lines))]
 fn put_first_line(reply: &Reply, out: &mut [u8]) -> usize
-    requires { 16384 ≤ length out.old }
+    requires { TEXT_ROOM ≤ length out.old }
     ensures line { slice_get (reply_lines reply.now) 0 ≡ Some (take result out.new ++ codes "\n") }
-    ensures short { result < 8299 }
+    ensures short { result + 1 < TEXT_BYTES }
 {
-    let ok = put(out, 0, b"OK");
+    let ok = put(b"OK", out, 0);
     match reply {
         Reply::Done => ok,
-        Reply::Number(number) => put_number(out, ok, *number),
-        Reply::Bytes(bytes) => put_data(out, ok, bytes.as_slice()),
-        Reply::Pins(numbers) => put_numbers(out, ok, numbers.as_slice()),
-        Reply::Address(address) => put_address(out, ok, *address),
-        Reply::Access { faults, bytes } => put_access(out, ok, *faults, bytes.as_slice()),
-        Reply::Faults(faults) => put_field(out, ok, b"faults", *faults),
-        Reply::Info(info) => put_info(out, ok, info),
-        Reply::Runs(runs) => put_number(out, ok, runs.as_slice().len() as u64),
-        Reply::Stat(stat) => put_stat(out, ok, stat),
-        Reply::Refused(refusal) => put(out, 0, name_of(*refusal)),
-        Reply::Unbuilt => put(out, 0, b"UNBUILT"),
+        Reply::Number(number) => put_number(*number, out, ok),
+        Reply::Bytes(bytes) => put_data(bytes.as_slice(), out, ok),
+        Reply::Pins(numbers) => put_numbers(numbers.as_slice(), out, ok),
+        Reply::Address(address) => put_address(*address, out, ok),
+        Reply::Access { faults, bytes } => put_access(*faults, bytes.as_slice(), out, ok),
+        Reply::Faults(faults) => put_field(b"faults", *faults, out, ok),
+        Reply::Info(info) => put_info(info, out, ok),
+        Reply::Runs(runs) => put_number(runs.as_slice().len() as u64, out, ok),
+        Reply::Stat(stat) => put_stat(stat, out, ok),
+        Reply::Refused(refusal) => put(name_of(*refusal), out, 0),
+        Reply::Unbuilt => put(b"UNBUILT", out, 0),
     }
 }
 

@@ -1,4 +1,4 @@
-use Rattle.reply_text.proofs.put.+put_hex.Given as goal
+use Rattle.reply_text.proofs.parts.+put_hex.Given as goal
 
 abbrev pub decreases-put_hex : goal.decreases-put_hex
 decreases-put_hex l = l.number

@@ -2,7 +2,7 @@
 use Rattle.std.proofs.Common.{arith}
 use Rattle.std.proofs.lemmas.Grind.{common_steps}
 use Rattle.reply_text.proofs.Hex.{hex_step, length-hex_step}
-use Rattle.reply_text.proofs.put.+put_hex.Goals as goal
+use Rattle.reply_text.proofs.parts.+put_hex.Goals as goal
 
 pub put_hex-at-requires : goal.put_hex-at-requires
 put_hex-at-requires t c =

@@ -1,6 +1,6 @@
 use Rattle.std.proofs.Common.{◌≡◌, ◌+◌, ◌*◌, ◌≤◌, ◌++◌, take, codes, decimal}
 use Rattle.std.specs.List.{flat_map}
-use Rattle.reply_text.proofs.put.put_numbers.Given as goal
+use Rattle.reply_text.proofs.parts.put_numbers.Given as goal
 
 abbrev pub invariant-loop-number : goal.invariant-loop-number
 invariant-loop-number l = record {

@@ -1,0 +1,18 @@
+//! The words that commands and replies have in common, as text: numbers in decimal, byte data and
+//! permissions.
+//!
+//! It stands on `vm_base` for sets of permissions, on `vm_model` for the definitions of the texts, on
+//! `hex` for byte data, on `itoa` for numbers, and on `bitflags` for the bits of a set. It takes no
+//! memory, and the layers above may use all of it.
+//!
+//! Its functions have one form, and so have those of the layers above that write a part of a line: each
+//! is handed what it writes, the buffer (`out`), and how many of its bytes are in use (`at`), and
+//! answers how many are in use then. Those before stay as they are.
+#![tactic(auto)]
+
+mod words;
+
+pub use words::{put, put_data, put_decimal, put_number, put_perm, put_word};
+
+#[cfg(test)]
+mod tests;
