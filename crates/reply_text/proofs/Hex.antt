@@ -49,7 +49,7 @@ length-hex_step n more fits =
     ap length (hex_step n more fits) ∙ length-append (digits 16 false (n / 16)) (digit_glyph false (n % 16) ∷ [])
 
 -- a number below 16 ^ k has at most k digits
-pub length-hex-le : (k n : ℕ) → 0 < k → n < 16 ^ k → n < 2 ^ 64 → length (digits 16 false n) ≤ k
+length-hex-le : (k n : ℕ) → 0 < k → n < 16 ^ k → n < 2 ^ 64 → length (digits 16 false n) ≤ k
 length-hex-le zero n some small fits = absurd (omega arith)
 length-hex-le (suc zero) n some small fits =
     let one = ap length (hex_one_digit false n (omega arith)) in omega arith

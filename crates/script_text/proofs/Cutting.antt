@@ -40,7 +40,7 @@ pub start-solid : (b : ℕ) (bs : List ℕ) → is_blank b ≡ false → positio
 start-solid b bs e = rw e
 
 -- blanks in front change nothing
-pub words-drop_blanks : (xs : List ℕ) → words (drop (position_or_len is_solid xs) xs) ≡ words xs
+words-drop_blanks : (xs : List ℕ) → words (drop (position_or_len is_solid xs) xs) ≡ words xs
 words-drop_blanks [] = refl
 words-drop_blanks (b ∷ bs) =
     let goal : Type 0 = words (drop (position_or_len is_solid (b ∷ bs)) (b ∷ bs)) ≡ words (b ∷ bs) in

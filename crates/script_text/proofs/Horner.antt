@@ -7,7 +7,7 @@ use Rattle.std.proofs.lemmas.List.{at_drop_more}
 use Rattle.vm_model.specs.Language.Reading.{digits_from, below}
 
 -- a number that has reached the bound stays there
-pub below-digits_from : (bound base before : ℕ) (value : ℕ → Option ℕ) (bs : List ℕ) → 1 ≤ base → bound ≤ before → below bound (digits_from base value before bs) ≡ None
+below-digits_from : (bound base before : ℕ) (value : ℕ → Option ℕ) (bs : List ℕ) → 1 ≤ base → bound ≤ before → below bound (digits_from base value before bs) ≡ None
 unfolding digits_from
 below-digits_from bound base before value [] b h = grind (arith, nat_tests)
 below-digits_from bound base before value (x ∷ bs) b h =
@@ -17,7 +17,7 @@ below-digits_from bound base before value (x ∷ bs) b h =
     ]
 
 -- one digit more
-pub digits_from-drop : (base before : ℕ) (value : ℕ → Option ℕ) (xs : List ℕ) (i : ℕ) → i < length xs → digits_from base value before (drop i xs) ≡ option_and_then (λ d. digits_from base value (before * base + d) (drop (i + 1) xs)) (value (get_or xs i 0))
+digits_from-drop : (base before : ℕ) (value : ℕ → Option ℕ) (xs : List ℕ) (i : ℕ) → i < length xs → digits_from base value before (drop i xs) ≡ option_and_then (λ d. digits_from base value (before * base + d) (drop (i + 1) xs)) (value (get_or xs i 0))
 unfolding digits_from
 digits_from-drop base before value xs i h = at_drop_more (digits_from base value before) xs i 0 h
 

@@ -15,7 +15,7 @@ before_first-append : (a : ℕ) (vs us ws : List (List ℕ)) (w : List ℕ) → 
 before_first-append a vs us ws w e = rw e refl
 
 -- a line may be cut before a blank
-pub words-apart : (xs ys : List ℕ) → begins_blank ys ≡ true → words (xs ++ ys) ≡ words xs ++ words ys
+words-apart : (xs ys : List ℕ) → begins_blank ys ≡ true → words (xs ++ ys) ≡ words xs ++ words ys
 unfolding words
 words-apart [] ys h = refl
 words-apart (a ∷ []) ys h =
@@ -66,7 +66,7 @@ begins_blank-behind (b ∷ bs) =
     ] refl
 
 -- the word behind a place, by where its first byte stands behind the place and how long it is
-pub position-is : (xs : List ℕ) (i : ℕ) → position is_solid xs ≡ Some i → i ≡ position_or_len is_solid xs
+position-is : (xs : List ℕ) (i : ℕ) → position is_solid xs ≡ Some i → i ≡ position_or_len is_solid xs
 position-is xs i e = grind (arith, nat_tests)
 
 -- the word at a place of a line, by where its first byte stands behind the place and how long it is
@@ -114,13 +114,6 @@ IsPassed-next line index left passed start end p w some =
     let cut : length (words line) ≡ length (words (take end line)) + length (words (drop end line)) = ap length w.apart ∙ length-append _ _ in
     let first : length (words (drop passed line)) ≡ length (slice_range line start end ∷ words (drop end line)) = ap length w.first in
     record { within = w.within; joined = w.apart; counted = omega arith }
-
--- no word is left
-pub IsPassed-none : (line : List ℕ) (index left passed : ℕ) → IsPassed line index left passed → words (drop passed line) ≡ [] → length (words line) ≤ index
-IsPassed-none line index left passed p e =
-    let whole : length (words line) ≡ length (words (take passed line)) + length (words (drop passed line)) = ap length p.joined ∙ length-append _ _ in
-    let none : length (words (drop passed line)) ≡ 0 = ap length e in
-    omega (arith, p.counted)
 
 -- the word that was looked for
 pub record IsFound (line : List ℕ) (index start end : ℕ) : Type 0 where

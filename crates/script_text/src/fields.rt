@@ -4,11 +4,11 @@ ghost use Rattle.std.specs.Prelude.{◌≡◌, ◌^◌};
 ghost use Rattle.vm_model.specs.Language.Reading.{below, digits, number, byte, name_behind, vmo, region, pin, byte_data, perm, child_kind};
 ghost use Rattle.script_text.specs.Radixes.{base_of, value_in};
 
-use vm_base::{Perm, PinName, RegionName, VmoName};
+use vm_base::{DATA_BYTES, Perm, PinName, RegionName, VmoName};
 use vm_model::{Bytes4k, ChildKind};
 
-/// The most digits of byte data, two for each of 4,096 bytes.
-const MOST_DIGITS: usize = 8192;
+/// The most digits of byte data, two for each byte.
+const MOST_DIGITS: usize = 2 * DATA_BYTES;
 
 /// What the digits of a number stand for.
 #[derive(Clone, Copy)]
@@ -122,7 +122,7 @@ pub fn pin(word: &[u8]) -> Option<PinName>
     Some(PinName(name_behind(b'p', word)?))
 }
 
-/// Byte data: `-` for no bytes, or two hexadecimal digits of either case for each of 1 to 4,096
+/// Byte data: `-` for no bytes, or two hexadecimal digits of either case for each of 1 to `DATA_BYTES`
 /// bytes. `None` where it is spelled otherwise.
 #[tactic(auto, unfolding(vm_model::specs::Language::Reading::byte_data))]
 pub fn byte_data(word: &[u8]) -> Option<Bytes4k>
@@ -134,7 +134,7 @@ pub fn byte_data(word: &[u8]) -> Option<Bytes4k>
     if word.is_empty() || word.len() > MOST_DIGITS {
         return None;
     }
-    let mut room = [0; MOST_DIGITS / 2];
+    let mut room = [0; DATA_BYTES];
     let (decoded, _) = room.split_at_mut(word.len() / 2);
     hex::decode_to_slice(word, decoded).ok()?;
     let mut bytes = Bytes4k::new();

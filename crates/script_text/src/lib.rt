@@ -2,21 +2,25 @@
 //! spelled; and the one canonical line of each command.
 //!
 //! It stands on `vm_base` for names and sets of flags, on `vm_model` for commands and for the
-//! definitions of how a line is read and a command is spelled, on `hex` for byte data, on `itoa` for
-//! numbers, on `bitflags` for going through a set of flags, and on `arrayvec` for the words of a line.
-//! It takes no memory of the host. The layer above hands in one line without its line feed, by
-//! `read_line`; the readers of single fields are there for other front ends, and `word_at` says where
-//! a word of a line stands. A program that makes scripts hands commands to `write_command`.
+//! definitions of how a line is read and a command is spelled, on `word_text` for writing numbers, byte
+//! data and permissions, on `hex` for reading byte data, on `bitflags` for the bits of a set of flags,
+//! and on `arrayvec` for the words of a line. It takes no memory of the host. The layer above hands in
+//! one line without its line feed, by `read_line`; the readers of single fields are there for other
+//! front ends, and `word_at` says where a word of a line stands. A program that makes scripts hands
+//! commands to `write_command`.
 //!
 //! `words` cuts a line, `fields` and `flags` read its words, and `vmo_commands` and `region_commands`
-//! have the commands one by one. `pieces` has the parts of a spelling, and `writing` puts them together.
+//! have the commands one by one. `writing` spells a command, by `vmo_arguments` and `region_arguments`
+//! for its arguments, and `parts` for their words.
 #![tactic(auto)]
 
 mod fields;
 mod flags;
-mod pieces;
+mod parts;
 mod reading;
+mod region_arguments;
 mod region_commands;
+mod vmo_arguments;
 mod vmo_commands;
 mod words;
 mod writing;

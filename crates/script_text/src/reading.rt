@@ -6,10 +6,8 @@ ghost use Rattle.script_text.specs.Lines.{reading_of};
 
 use crate::vmo_commands::command;
 use crate::words::{arguments, next_word};
+use vm_base::LINE_BYTES;
 use vm_model::Command;
-
-/// The most bytes of a line, without its line feed.
-const LINE_LIMIT: usize = 16_384;
 
 /// The line is outside the grammar.
 #[derive(Clone, Copy, Debug, PartialEq, Eq)]
@@ -24,13 +22,13 @@ pub enum Line {
     Order(Command),
 }
 
-/// Reads one line of a script, without its line feed. `SyntaxFault` where it has more than 16,384
+/// Reads one line of a script, without its line feed. `SyntaxFault` where it has more than `LINE_BYTES`
 /// bytes, or where it is not blank, no comment and no command.
 #[tactic(auto, unfolding(vm_model::specs::Language::Reading::reading))]
 pub fn read_line(line: &[u8]) -> Result<Line, SyntaxFault>
     ensures { reading_of result ≡ reading line.now }
 {
-    if line.len() > LINE_LIMIT {
+    if line.len() > LINE_BYTES {
         return Err(SyntaxFault);
     }
     let Some((word, rest)) = next_word(line) else {

@@ -10,9 +10,9 @@
 //! answers how many are in use then. Those before stay as they are.
 #![tactic(auto)]
 
-mod words;
+mod parts;
 
-pub use words::{put, put_data, put_decimal, put_number, put_perm, put_word};
+pub use parts::{put, put_data, put_decimal, put_number, put_perm, put_word};
 
 #[cfg(test)]
 mod tests;

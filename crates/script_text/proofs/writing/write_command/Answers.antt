@@ -1,6 +1,5 @@
-use Rattle.std.proofs.Common.{◌≡◌, ◌++◌, ap, arith}
+use Rattle.std.proofs.Common.{arith}
 use Rattle.std.proofs.lemmas.Grind.{common_steps}
-use Rattle.std.specs.List.{join_with_byte}
 use Rattle.vm_model.specs.Language.Spelling.{command_words, spelling}
 use Rattle.vm_model.proofs.SpellingLaws.{spelling-read}
 use Rattle.script_text.proofs.SpacedLaws.{join-first}

@@ -1,4 +1,4 @@
-//! Words of a line, each written behind what a buffer holds already.
+//! The parts of a line, each written behind what a buffer holds already.
 
 ghost use Rattle.std.specs.Prelude.{◌≡◌, ◌+◌, ◌*◌, ◌<◌, ◌≤◌, All, ◌++◌, length, take, codes, decimal};
 ghost use Rattle.vm_model.specs.Language.Spelling.{Has32};

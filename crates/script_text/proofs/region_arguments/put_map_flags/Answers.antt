@@ -2,7 +2,7 @@ use Rattle.std.proofs.Common.{◌∙◌, [], ◌∷◌, take}
 use Rattle.std.specs.Prelude.{codes}
 use Rattle.vm_model.specs.Language.Spelling.{has}
 use Rattle.script_text.proofs.SpacedLaws.{after_flag, last_flag}
-use Rattle.script_text.proofs.writing.put_map_flags.Goals as goal
+use Rattle.script_text.proofs.region_arguments.put_map_flags.Goals as goal
 
 pub returns-clause-written : goal.returns-clause-written
 returns-clause-written c =
