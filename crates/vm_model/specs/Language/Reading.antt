@@ -18,10 +18,6 @@ infixl 10 ◌>>=◌
 abbrev pub ◌>>=◌ : {A B : Type 0} → Option A → (A → Option B) → Option B
 o >>= f = option_and_then f o
 
--- the bytes of a line, without its line feed, are at most this many
-abbrev pub line_limit : ℕ
-line_limit = LINE_BYTES
-
 -- a space, a tab or a carriage return
 abbrev pub is_blank : ℕ → Bool
 is_blank b = (b == 32) || (b == 9) || (b == 13)
@@ -316,9 +312,9 @@ abbrev pub by_word : List (List ℕ × (List (List ℕ) → Option Command)) →
 by_word [] word arguments = None
 by_word (row ∷ rows) word arguments = if is_word word row.0 then row.1 arguments else by_word rows word arguments
 
--- a command word and its arguments
-unfoldable pub command : List ℕ → List (List ℕ) → Option Command
-command word arguments = by_word (
+-- the readings of all commands, by their words
+abbrev pub commands : List (List ℕ × (List (List ℕ) → Option Command))
+commands =
     (codes "vmo_create", vmo_create)
     ∷ (codes "vmo_create_child", vmo_create_child)
     ∷ (codes "vmo_close", of_vmo VmoClose)
@@ -343,7 +339,11 @@ command word arguments = by_word (
     ∷ (codes "mem_read", of_region_range MemRead)
     ∷ (codes "mem_write", mem_write)
     ∷ (codes "stat", stat)
-    ∷ []) word arguments
+    ∷ []
+
+-- a command word and its arguments
+unfoldable pub command : List ℕ → List (List ℕ) → Option Command
+command word arguments = by_word commands word arguments
 
 -- a line is blank, an order, or outside the grammar
 pub data Reading : Type 0 where
@@ -364,6 +364,6 @@ abbrev pub reading_of_words : List (List ℕ) → Reading
 reading_of_words [] = Blank
 reading_of_words (word ∷ arguments) = if is_comment word then Blank else order_or_outside (command word arguments)
 
--- what a line says. A line over the limit is outside the grammar, whatever it holds
+-- what a line says, without its line feed. A line over the limit is outside the grammar, whatever it holds
 unfoldable pub reading : List ℕ → Reading
-reading line = if nat_lt line_limit (length line) then Outside else reading_of_words (words line)
+reading line = if nat_lt LINE_BYTES (length line) then Outside else reading_of_words (words line)
