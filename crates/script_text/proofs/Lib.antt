@@ -4,4 +4,5 @@ pub mod Horner
 pub mod Many
 pub mod SpacedLaws
 pub mod ShapeLaws
+pub mod RowLaws
 pub mod Places

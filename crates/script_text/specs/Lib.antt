@@ -1,5 +1,6 @@
 pub mod Radixes
 pub mod Lines
+pub mod Rows
 pub mod Spaced
 pub mod Subjects
 pub mod Shapes

@@ -1,12 +1,10 @@
--- The arguments of commands of one shape, and the part of the table of commands that speaks of regions.
+-- The arguments of commands of one shape, and the flags of regions and mappings.
 use Rattle.std.specs.Prelude.{ℕ, ◌+◌, List, [], ◌∷◌, codes, Option, Some, None}
 use Rattle.vm_base.specs.declared.names.VmoName.{VmoName}
 use Rattle.vm_base.specs.declared.names.RegionName.{RegionName}
 use Rattle.vm_base.specs.declared.flags.MapFlags.{MapFlags}
 use Rattle.vm_base.specs.declared.flags.Perm.{Perm}
-use Rattle.vm_model.specs.declared.command.Command.{Command}
-use Rattle.vm_model.specs.declared.command.Command.TheVariants.{RootCreate, VmarUnmap, VmarDestroy, Maps, MemRead}
-use Rattle.vm_model.specs.Language.Reading.{◌>>=◌, vmo, region, number, bit, stands, of_region, of_region_range, vmar_allocate, vmar_map, vmar_protect, mem_write, stat}
+use Rattle.vm_model.specs.Language.Reading.{◌>>=◌, vmo, region, number, bit, stands}
 
 -- the argument of a command of one VMO
 abbrev pub one_vmo : List (List ℕ) → Option VmoName
@@ -55,18 +53,3 @@ region_caps ws = record { 0 = bit (stands (codes "can_read") ws) 1 + bit (stands
 -- how a mapping is placed, by its flags
 abbrev pub map_flags : List (List ℕ) → MapFlags
 map_flags ws = record { 0 = bit (stands (codes "specific") ws) 1 + bit (stands (codes "specific_overwrite") ws) 2 + bit (stands (codes "upper_limit") ws) 4 + bit (stands (codes "allow_faults") ws) 8 }
-
--- the rows of the table of commands that stand behind those of VMOs
-abbrev pub region_rows : List (List ℕ × (List (List ℕ) → Option Command))
-region_rows =
-    (codes "root_create", of_region RootCreate)
-    ∷ (codes "vmar_allocate", vmar_allocate)
-    ∷ (codes "vmar_map", vmar_map)
-    ∷ (codes "vmar_unmap", of_region_range VmarUnmap)
-    ∷ (codes "vmar_protect", vmar_protect)
-    ∷ (codes "vmar_destroy", of_region VmarDestroy)
-    ∷ (codes "maps", of_region Maps)
-    ∷ (codes "mem_read", of_region_range MemRead)
-    ∷ (codes "mem_write", mem_write)
-    ∷ (codes "stat", stat)
-    ∷ []

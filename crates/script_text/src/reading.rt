@@ -4,7 +4,7 @@ ghost use Rattle.std.specs.Prelude.{◌≡◌};
 ghost use Rattle.vm_model.specs.Language.Reading.{command, is_comment, reading, words};
 ghost use Rattle.script_text.specs.Lines.{reading_of};
 
-use crate::vmo_commands::command;
+use crate::command_words::command;
 use crate::words::{arguments, next_word};
 use vm_base::LINE_BYTES;
 use vm_model::Command;

@@ -1,44 +1,14 @@
 //! The commands of address regions and of the whole machine, from their arguments.
 
 ghost use Rattle.std.specs.Prelude.{◌≡◌, map};
-ghost use Rattle.vm_model.specs.Language.Reading.{are_flags, by_word, of_region, of_region_range, vmar_allocate, vmar_map, vmar_protect, mem_write, stat};
+ghost use Rattle.vm_model.specs.Language.Reading.{are_flags, of_region, of_region_range, vmar_allocate, vmar_map, vmar_protect, mem_write, stat};
 ghost use Rattle.vm_model.specs.declared.command.Command.TheVariants.{RootCreate, VmarUnmap, VmarDestroy, Maps, MemRead};
-ghost use Rattle.script_text.specs.Shapes.{map_flag_words, map_flags, one_region, region_caps, region_flag_words, region_flags, region_range, region_rows};
+ghost use Rattle.script_text.specs.Shapes.{map_flag_words, map_flags, one_region, region_caps, region_flag_words, region_flags, region_range};
 
 use crate::fields::{byte_data, number, perm, region, vmo};
 use crate::flags::{are_flags, bit, stands};
 use vm_base::{MapFlags, Perm, RegionName};
 use vm_model::Command;
-
-/// The command of this word and these arguments, or `None` where there is none of a region or of the
-/// whole machine.
-pub fn region_command(word: &[u8], arguments: &[&[u8]]) -> Option<Command>
-    ensures { result ≡ by_word region_rows word.now (map (λ a. a.now) arguments.now) }
-{
-    if word == b"root_create".as_slice() {
-        root_create(arguments)
-    } else if word == b"vmar_allocate".as_slice() {
-        vmar_allocate(arguments)
-    } else if word == b"vmar_map".as_slice() {
-        vmar_map(arguments)
-    } else if word == b"vmar_unmap".as_slice() {
-        vmar_unmap(arguments)
-    } else if word == b"vmar_protect".as_slice() {
-        vmar_protect(arguments)
-    } else if word == b"vmar_destroy".as_slice() {
-        vmar_destroy(arguments)
-    } else if word == b"maps".as_slice() {
-        maps(arguments)
-    } else if word == b"mem_read".as_slice() {
-        mem_read(arguments)
-    } else if word == b"mem_write".as_slice() {
-        mem_write(arguments)
-    } else if word == b"stat".as_slice() {
-        stat(arguments)
-    } else {
-        None
-    }
-}
 
 /// The one argument of a command of a region.
 fn one_region(arguments: &[&[u8]]) -> Option<RegionName>
@@ -62,7 +32,7 @@ fn region_range(arguments: &[&[u8]]) -> Option<(RegionName, u64, u64)>
 
 /// `root_create REGION`
 #[tactic(auto, using(crate::proofs::ShapeLaws::of_region_by_one))]
-fn root_create(arguments: &[&[u8]]) -> Option<Command>
+pub fn root_create(arguments: &[&[u8]]) -> Option<Command>
     ensures { result ≡ of_region RootCreate (map (λ a. a.now) arguments.now) }
 {
     let region = one_region(arguments)?;
@@ -70,7 +40,7 @@ fn root_create(arguments: &[&[u8]]) -> Option<Command>
 }
 
 /// `vmar_allocate REGION PARENT OFFSET LEN [specific] [upper_limit] [can_read] [can_write] [can_execute]`
-fn vmar_allocate(arguments: &[&[u8]]) -> Option<Command>
+pub fn vmar_allocate(arguments: &[&[u8]]) -> Option<Command>
     ensures { result ≡ vmar_allocate (map (λ a. a.now) arguments.now) }
 {
     let [name, parent, offset, len, flags @ ..] = arguments else {
@@ -126,7 +96,7 @@ fn region_caps(flags: &[&[u8]]) -> Perm
 }
 
 /// `vmar_map REGION OFFSET VMO VMO_OFFSET LEN PERM [specific] [specific_overwrite] [upper_limit] [allow_faults]`
-fn vmar_map(arguments: &[&[u8]]) -> Option<Command>
+pub fn vmar_map(arguments: &[&[u8]]) -> Option<Command>
     ensures { result ≡ vmar_map (map (λ a. a.now) arguments.now) }
 {
     let [name, offset, source, vmo_offset, len, allowed, flags @ ..] = arguments else {
@@ -179,7 +149,7 @@ fn map_flags(flags: &[&[u8]]) -> MapFlags
 
 /// `vmar_unmap REGION ADDR LEN`
 #[tactic(auto, using(crate::proofs::ShapeLaws::of_region_range_by_range))]
-fn vmar_unmap(arguments: &[&[u8]]) -> Option<Command>
+pub fn vmar_unmap(arguments: &[&[u8]]) -> Option<Command>
     ensures { result ≡ of_region_range VmarUnmap (map (λ a. a.now) arguments.now) }
 {
     let (region, addr, len) = region_range(arguments)?;
@@ -187,7 +157,7 @@ fn vmar_unmap(arguments: &[&[u8]]) -> Option<Command>
 }
 
 /// `vmar_protect REGION ADDR LEN PERM`
-fn vmar_protect(arguments: &[&[u8]]) -> Option<Command>
+pub fn vmar_protect(arguments: &[&[u8]]) -> Option<Command>
     ensures { result ≡ vmar_protect (map (λ a. a.now) arguments.now) }
 {
     let [name, addr, len, allowed] = arguments else {
@@ -203,7 +173,7 @@ fn vmar_protect(arguments: &[&[u8]]) -> Option<Command>
 
 /// `vmar_destroy REGION`
 #[tactic(auto, using(crate::proofs::ShapeLaws::of_region_by_one))]
-fn vmar_destroy(arguments: &[&[u8]]) -> Option<Command>
+pub fn vmar_destroy(arguments: &[&[u8]]) -> Option<Command>
     ensures { result ≡ of_region VmarDestroy (map (λ a. a.now) arguments.now) }
 {
     let region = one_region(arguments)?;
@@ -212,7 +182,7 @@ fn vmar_destroy(arguments: &[&[u8]]) -> Option<Command>
 
 /// `maps REGION`
 #[tactic(auto, using(crate::proofs::ShapeLaws::of_region_by_one))]
-fn maps(arguments: &[&[u8]]) -> Option<Command>
+pub fn maps(arguments: &[&[u8]]) -> Option<Command>
     ensures { result ≡ of_region Maps (map (λ a. a.now) arguments.now) }
 {
     let region = one_region(arguments)?;
@@ -221,7 +191,7 @@ fn maps(arguments: &[&[u8]]) -> Option<Command>
 
 /// `mem_read REGION ADDR LEN`
 #[tactic(auto, using(crate::proofs::ShapeLaws::of_region_range_by_range))]
-fn mem_read(arguments: &[&[u8]]) -> Option<Command>
+pub fn mem_read(arguments: &[&[u8]]) -> Option<Command>
     ensures { result ≡ of_region_range MemRead (map (λ a. a.now) arguments.now) }
 {
     let (region, addr, len) = region_range(arguments)?;
@@ -229,7 +199,7 @@ fn mem_read(arguments: &[&[u8]]) -> Option<Command>
 }
 
 /// `mem_write REGION ADDR DATA`
-fn mem_write(arguments: &[&[u8]]) -> Option<Command>
+pub fn mem_write(arguments: &[&[u8]]) -> Option<Command>
     ensures { result ≡ mem_write (map (λ a. a.now) arguments.now) }
 {
     let [name, addr, data] = arguments else {
@@ -243,7 +213,7 @@ fn mem_write(arguments: &[&[u8]]) -> Option<Command>
 }
 
 /// `stat`
-fn stat(arguments: &[&[u8]]) -> Option<Command>
+pub fn stat(arguments: &[&[u8]]) -> Option<Command>
     ensures { result ≡ stat (map (λ a. a.now) arguments.now) }
 {
     if !arguments.is_empty() {

@@ -1,53 +1,14 @@
 //! The commands of VMOs, from their arguments.
 
 ghost use Rattle.std.specs.Prelude.{◌≡◌, map};
-ghost use Rattle.vm_model.specs.Language.Reading.{command, of_vmo, of_vmo_range, vmo_create, vmo_create_child, vmo_set_size, vmo_write, vmo_fill, vmo_pin, vmo_unpin};
+ghost use Rattle.vm_model.specs.Language.Reading.{of_vmo, of_vmo_range, vmo_create, vmo_create_child, vmo_set_size, vmo_write, vmo_fill, vmo_pin, vmo_unpin};
 ghost use Rattle.vm_model.specs.declared.command.Command.TheVariants.{VmoClose, VmoSize, VmoRead, VmoCommit, VmoDecommit, VmoZero, VmoInfo};
 ghost use Rattle.script_text.specs.Shapes.{one_vmo, vmo_range};
 
 use crate::fields::{byte, byte_data, child_kind, number, pin, vmo};
 use crate::flags::{are_flags, stands};
-use crate::region_commands::region_command;
 use vm_base::VmoName;
 use vm_model::Command;
-
-/// The command of this word and these arguments, or `None` where there is none.
-#[tactic(auto, unfolding(vm_model::specs::Language::Reading::command))]
-pub fn command(word: &[u8], arguments: &[&[u8]]) -> Option<Command>
-    ensures { result ≡ command word.now (map (λ a. a.now) arguments.now) }
-{
-    if word == b"vmo_create".as_slice() {
-        vmo_create(arguments)
-    } else if word == b"vmo_create_child".as_slice() {
-        vmo_create_child(arguments)
-    } else if word == b"vmo_close".as_slice() {
-        vmo_close(arguments)
-    } else if word == b"vmo_size".as_slice() {
-        vmo_size(arguments)
-    } else if word == b"vmo_set_size".as_slice() {
-        vmo_set_size(arguments)
-    } else if word == b"vmo_read".as_slice() {
-        vmo_read(arguments)
-    } else if word == b"vmo_write".as_slice() {
-        vmo_write(arguments)
-    } else if word == b"vmo_fill".as_slice() {
-        vmo_fill(arguments)
-    } else if word == b"vmo_commit".as_slice() {
-        vmo_commit(arguments)
-    } else if word == b"vmo_decommit".as_slice() {
-        vmo_decommit(arguments)
-    } else if word == b"vmo_zero".as_slice() {
-        vmo_zero(arguments)
-    } else if word == b"vmo_pin".as_slice() {
-        vmo_pin(arguments)
-    } else if word == b"vmo_unpin".as_slice() {
-        vmo_unpin(arguments)
-    } else if word == b"vmo_info".as_slice() {
-        vmo_info(arguments)
-    } else {
-        region_command(word, arguments)
-    }
-}
 
 /// The one argument of a command of a VMO.
 fn one_vmo(arguments: &[&[u8]]) -> Option<VmoName>
@@ -70,7 +31,7 @@ fn vmo_range(arguments: &[&[u8]]) -> Option<(VmoName, u64, u64)>
 }
 
 /// `vmo_create VMO SIZE [resizable]`
-fn vmo_create(arguments: &[&[u8]]) -> Option<Command>
+pub fn vmo_create(arguments: &[&[u8]]) -> Option<Command>
     ensures { result ≡ vmo_create (map (λ a. a.now) arguments.now) }
 {
     let [name, size, flags @ ..] = arguments else {
@@ -89,7 +50,7 @@ fn vmo_create(arguments: &[&[u8]]) -> Option<Command>
 }
 
 /// `vmo_create_child VMO PARENT KIND OFFSET SIZE [resizable] [no_write]`
-fn vmo_create_child(arguments: &[&[u8]]) -> Option<Command>
+pub fn vmo_create_child(arguments: &[&[u8]]) -> Option<Command>
     ensures { result ≡ vmo_create_child (map (λ a. a.now) arguments.now) }
 {
     let [name, parent, kind, offset, size, flags @ ..] = arguments else {
@@ -116,7 +77,7 @@ fn vmo_create_child(arguments: &[&[u8]]) -> Option<Command>
 
 /// `vmo_close VMO`
 #[tactic(auto, using(crate::proofs::ShapeLaws::of_vmo_by_one))]
-fn vmo_close(arguments: &[&[u8]]) -> Option<Command>
+pub fn vmo_close(arguments: &[&[u8]]) -> Option<Command>
     ensures { result ≡ of_vmo VmoClose (map (λ a. a.now) arguments.now) }
 {
     let name = one_vmo(arguments)?;
@@ -125,7 +86,7 @@ fn vmo_close(arguments: &[&[u8]]) -> Option<Command>
 
 /// `vmo_size VMO`
 #[tactic(auto, using(crate::proofs::ShapeLaws::of_vmo_by_one))]
-fn vmo_size(arguments: &[&[u8]]) -> Option<Command>
+pub fn vmo_size(arguments: &[&[u8]]) -> Option<Command>
     ensures { result ≡ of_vmo VmoSize (map (λ a. a.now) arguments.now) }
 {
     let name = one_vmo(arguments)?;
@@ -133,7 +94,7 @@ fn vmo_size(arguments: &[&[u8]]) -> Option<Command>
 }
 
 /// `vmo_set_size VMO SIZE`
-fn vmo_set_size(arguments: &[&[u8]]) -> Option<Command>
+pub fn vmo_set_size(arguments: &[&[u8]]) -> Option<Command>
     ensures { result ≡ vmo_set_size (map (λ a. a.now) arguments.now) }
 {
     let [name, size] = arguments else {
@@ -147,7 +108,7 @@ fn vmo_set_size(arguments: &[&[u8]]) -> Option<Command>
 
 /// `vmo_read VMO OFFSET LEN`
 #[tactic(auto, using(crate::proofs::ShapeLaws::of_vmo_range_by_range))]
-fn vmo_read(arguments: &[&[u8]]) -> Option<Command>
+pub fn vmo_read(arguments: &[&[u8]]) -> Option<Command>
     ensures { result ≡ of_vmo_range VmoRead (map (λ a. a.now) arguments.now) }
 {
     let (name, offset, len) = vmo_range(arguments)?;
@@ -155,7 +116,7 @@ fn vmo_read(arguments: &[&[u8]]) -> Option<Command>
 }
 
 /// `vmo_write VMO OFFSET DATA`
-fn vmo_write(arguments: &[&[u8]]) -> Option<Command>
+pub fn vmo_write(arguments: &[&[u8]]) -> Option<Command>
     ensures { result ≡ vmo_write (map (λ a. a.now) arguments.now) }
 {
     let [name, offset, data] = arguments else {
@@ -169,7 +130,7 @@ fn vmo_write(arguments: &[&[u8]]) -> Option<Command>
 }
 
 /// `vmo_fill VMO OFFSET LEN BYTE`
-fn vmo_fill(arguments: &[&[u8]]) -> Option<Command>
+pub fn vmo_fill(arguments: &[&[u8]]) -> Option<Command>
     ensures { result ≡ vmo_fill (map (λ a. a.now) arguments.now) }
 {
     let [name, offset, len, value] = arguments else {
@@ -185,7 +146,7 @@ fn vmo_fill(arguments: &[&[u8]]) -> Option<Command>
 
 /// `vmo_commit VMO OFFSET LEN`
 #[tactic(auto, using(crate::proofs::ShapeLaws::of_vmo_range_by_range))]
-fn vmo_commit(arguments: &[&[u8]]) -> Option<Command>
+pub fn vmo_commit(arguments: &[&[u8]]) -> Option<Command>
     ensures { result ≡ of_vmo_range VmoCommit (map (λ a. a.now) arguments.now) }
 {
     let (name, offset, len) = vmo_range(arguments)?;
@@ -194,7 +155,7 @@ fn vmo_commit(arguments: &[&[u8]]) -> Option<Command>
 
 /// `vmo_decommit VMO OFFSET LEN`
 #[tactic(auto, using(crate::proofs::ShapeLaws::of_vmo_range_by_range))]
-fn vmo_decommit(arguments: &[&[u8]]) -> Option<Command>
+pub fn vmo_decommit(arguments: &[&[u8]]) -> Option<Command>
     ensures { result ≡ of_vmo_range VmoDecommit (map (λ a. a.now) arguments.now) }
 {
     let (name, offset, len) = vmo_range(arguments)?;
@@ -203,7 +164,7 @@ fn vmo_decommit(arguments: &[&[u8]]) -> Option<Command>
 
 /// `vmo_zero VMO OFFSET LEN`
 #[tactic(auto, using(crate::proofs::ShapeLaws::of_vmo_range_by_range))]
-fn vmo_zero(arguments: &[&[u8]]) -> Option<Command>
+pub fn vmo_zero(arguments: &[&[u8]]) -> Option<Command>
     ensures { result ≡ of_vmo_range VmoZero (map (λ a. a.now) arguments.now) }
 {
     let (name, offset, len) = vmo_range(arguments)?;
@@ -211,7 +172,7 @@ fn vmo_zero(arguments: &[&[u8]]) -> Option<Command>
 }
 
 /// `vmo_pin PIN VMO OFFSET LEN`
-fn vmo_pin(arguments: &[&[u8]]) -> Option<Command>
+pub fn vmo_pin(arguments: &[&[u8]]) -> Option<Command>
     ensures { result ≡ vmo_pin (map (λ a. a.now) arguments.now) }
 {
     let [token, name, offset, len] = arguments else {
@@ -226,7 +187,7 @@ fn vmo_pin(arguments: &[&[u8]]) -> Option<Command>
 }
 
 /// `vmo_unpin PIN`
-fn vmo_unpin(arguments: &[&[u8]]) -> Option<Command>
+pub fn vmo_unpin(arguments: &[&[u8]]) -> Option<Command>
     ensures { result ≡ vmo_unpin (map (λ a. a.now) arguments.now) }
 {
     let [token] = arguments else {
@@ -237,7 +198,7 @@ fn vmo_unpin(arguments: &[&[u8]]) -> Option<Command>
 
 /// `vmo_info VMO`
 #[tactic(auto, using(crate::proofs::ShapeLaws::of_vmo_by_one))]
-fn vmo_info(arguments: &[&[u8]]) -> Option<Command>
+pub fn vmo_info(arguments: &[&[u8]]) -> Option<Command>
     ensures { result ≡ of_vmo VmoInfo (map (λ a. a.now) arguments.now) }
 {
     let name = one_vmo(arguments)?;
