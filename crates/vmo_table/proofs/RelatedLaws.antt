@@ -13,7 +13,7 @@ use Rattle.vm_base.proofs.EntryLaws.{with_key-here, with_key-other, with_key-cas
 use Rattle.vm_model.specs.declared.names.NameKind.{NameKind}
 use Rattle.std.proofs.lemmas.Grind.{not_there}
 use Rattle.std.proofs.Math.Logic.{∥∥₁_map}
-use Rattle.vm_model.proofs.NamesLaws.{parent_without-none, parent_without-other}
+use Rattle.vm_model.proofs.NamesLaws.{parent_without-none, parent_without-other, left_by, lineage_without-same, lineage_without-other, lineage_without-some, is_some-lineage_without}
 
 -- ---- names
 
@@ -70,45 +70,13 @@ no_child names lineage u related none w = false_from_ne_true (passes (has_parent
 
 -- ---- a VMO that leaves
 
--- a VMO whose child's lineage was l, after the VMO v left
-abbrev pub lineage_after : ℕ → Option ℕ → Lineage → Lineage
-lineage_after v parent l = record l { parent = parent_without v parent l.parent }
-
-pub left-here : (lineage : ℕ → Option Lineage) (v : ℕ) (parent : Option ℕ) (w : ℕ) → w ≡ v → lineage_without lineage v parent w ≡ None
-unfolding lineage_without
-left-here lineage v parent w same = ap (λ b. cond b None (option_map (lineage_after v parent) (lineage w))) (eq-eqb w v same)
-
-pub left-other : (lineage : ℕ → Option Lineage) (v : ℕ) (parent : Option ℕ) (w : ℕ) → w ≢ v → lineage_without lineage v parent w ≡ option_map (lineage_after v parent) (lineage w)
-unfolding lineage_without
-left-other lineage v parent w apart = ap (λ b. cond b None (option_map (lineage_after v parent) (lineage w))) (ne_eqb w v apart)
-
-mapped_found : (f : Lineage → Lineage) (o : Option Lineage) (k : Lineage) → option_map f o ≡ Some k → (l : Lineage) × (o ≡ Some l) × (f l ≡ k)
-mapped_found f None k e = absurd (cc)
-mapped_found f (Some l) k e = (l, refl, same_Some (f l) k e)
-
-mapped-some : (f : Lineage → Lineage) (o : Option Lineage) → is_some (option_map f o) ≡ is_some o
-mapped-some f None = refl
-mapped-some f (Some l) = refl
-
--- what is left was there before
-pub left_cases : (lineage : ℕ → Option Lineage) (v : ℕ) (parent : Option ℕ) (w : ℕ) (k : Lineage) → lineage_without lineage v parent w ≡ Some k → (w ≢ v) × (l : Lineage) × (lineage w ≡ Some l) × (lineage_after v parent l ≡ k)
-left_cases lineage v parent w k e = elim (cases_eq w v) [
-  | inl same ↦ absurd (let gone = left-here lineage v parent w same in cc)
-  | inr apart ↦
-      let found = mapped_found (lineage_after v parent) (lineage w) k (sym (left-other lineage v parent w apart) ∙ e) in
-      (apart, found.0, found.1, found.2)
-]
-
 -- all others are left
-pub left-stays : (lineage : ℕ → Option Lineage) (v : ℕ) (parent : Option ℕ) (w : ℕ) → w ≢ v → IsSome (lineage w) → IsSome (lineage_without lineage v parent w)
-left-stays lineage v parent w apart h = ap is_some (left-other lineage v parent w apart) ∙ (mapped-some (lineage_after v parent) (lineage w) ∙ h)
+left-stays : (lineage : ℕ → Option Lineage) (v : ℕ) (parent : Option ℕ) (w : ℕ) → w ≢ v → IsSome (lineage w) → IsSome (lineage_without lineage v parent w)
+left-stays lineage v parent w apart h = is_some-lineage_without lineage v parent w apart ∙ h
 
--- what is unknown stays so
-pub left_unknown : (lineage : ℕ → Option Lineage) (v : ℕ) (parent : Option ℕ) (w : ℕ) → lineage w ≡ None → lineage_without lineage v parent w ≡ None
-left_unknown lineage v parent w none = elim (cases_eq w v) [
-  | inl same ↦ left-here lineage v parent w same
-  | inr apart ↦ left-other lineage v parent w apart ∙ ap (option_map (lineage_after v parent)) none
-]
+-- the VMO itself is not
+pub left-here : (lineage : ℕ → Option Lineage) (v : ℕ) (parent : Option ℕ) (w : ℕ) → w ≡ v → lineage_without lineage v parent w ≡ None
+left-here lineage v parent w same = ap (lineage_without lineage v parent) same ∙ lineage_without-same lineage v parent
 
 -- a VMO that is there is another than one that is not
 parent_apart : (lineage : ℕ → Option Lineage) (k p : ℕ) → lineage k ≡ None → IsSome (lineage p) → p ≢ k
@@ -122,14 +90,14 @@ left_absent names lineage v parent related none = λ i w. at w i
     kept None each = parent_without-none v parent
     kept (Some p) each = parent_without-other v parent p (each p refl)
 
-    of : (w : ℕ) (o : Option Lineage) → lineage w ≡ o → option_map (lineage_after v parent) o ≡ o
+    of : (w : ℕ) (o : Option Lineage) → lineage w ≡ o → option_map (left_by v parent) o ≡ o
     of w None e = refl
     of w (Some l) e = ap (λ (p : Option ℕ). Some (record l { parent = p })) (kept l.parent (λ p f. parent_apart lineage v p none (related.parents w p l e f)))
 
     at : (w : ℕ) → lineage_without lineage v parent w ≡ lineage w
     at w = elim (cases_eq w v) [
       | inl same ↦ left-here lineage v parent w same ∙ sym (ap lineage same ∙ none)
-      | inr apart ↦ left-other lineage v parent w apart ∙ of w (lineage w) refl
+      | inr apart ↦ lineage_without-other lineage v parent w apart ∙ of w (lineage w) refl
     ]
 
 -- another VMO than the parent gains no child
@@ -150,7 +118,7 @@ pub child_count-left_other : (lineage : ℕ → Option Lineage) (v : ℕ) (l : L
 child_count-left_other lineage v l u was apart other =
     entry_count-same (2 ^ 64) (has_parent u) (lineage_without lineage v l.parent) (has_parent u) lineage (λ w h. elim (cases_eq w v) [
       | inl same ↦ passes-none (has_parent u) (lineage_without lineage v l.parent w) (left-here lineage v l.parent w same) ∙ sym (passes-some (has_parent u) (lineage w) l (ap lineage same ∙ was) ∙ other)
-      | inr else_ ↦ ap (passes (has_parent u)) (left-other lineage v l.parent w else_) ∙ has_parent-mapped u (lineage_after v l.parent) (lineage w) (λ k. after_other u v l.parent k.parent apart other)
+      | inr else_ ↦ ap (passes (has_parent u)) (lineage_without-other lineage v l.parent w else_) ∙ has_parent-mapped u (left_by v l.parent) (lineage w) (λ k. after_other u v l.parent k.parent apart other)
     ])
 
 -- the parent gains the children
@@ -171,7 +139,7 @@ after_parent u v (Some p) apart = elim (cases_eq p v) [
       omega arith
 ]
 
-has_parent-gained : (u v : ℕ) (o : Option Lineage) → u ≢ v → ◌≡◌ {A = ℕ} (cond (passes (has_parent u) (option_map (lineage_after v (Some u)) o)) 1 0) (cond (passes (has_parent u) o) 1 0 + cond (passes (has_parent v) o) 1 0)
+has_parent-gained : (u v : ℕ) (o : Option Lineage) → u ≢ v → ◌≡◌ {A = ℕ} (cond (passes (has_parent u) (option_map (left_by v (Some u)) o)) 1 0) (cond (passes (has_parent u) o) 1 0 + cond (passes (has_parent v) o) 1 0)
 unfolding passes
 has_parent-gained u v None apart = refl
 has_parent-gained u v (Some l) apart = after_parent u v l.parent apart
@@ -181,15 +149,15 @@ unfolding entry_count passes parent_without
 child_count-left lineage v l u h was apart parent =
     let here = λ (w : ℕ). passes (has_parent u) (lineage w) in
     let there = λ (w : ℕ). passes (has_parent v) (lineage w) in
-    let both = λ (w : ℕ). passes (has_parent u) (option_map (lineage_after v l.parent) (lineage w)) in
+    let both = λ (w : ℕ). passes (has_parent u) (option_map (left_by v l.parent) (lineage w)) in
     let left = λ (w : ℕ). passes (has_parent u) (lineage_without lineage v l.parent w) in
-    let gained = count_below_split (2 ^ 64) here there both (λ w. ap (λ (o : Option ℕ). cond {A = ℕ} (passes (has_parent u) (option_map (lineage_after v o) (lineage w))) 1 0) parent ∙ has_parent-gained u v (lineage w) apart) in
+    let gained = count_below_split (2 ^ 64) here there both (λ w. ap (λ (o : Option ℕ). cond {A = ℕ} (passes (has_parent u) (option_map (left_by v o) (lineage w))) 1 0) parent ∙ has_parent-gained u v (lineage w) apart) in
     let own : both v ≡ true =
-    ap (λ o. passes (has_parent u) (option_map (lineage_after v l.parent) o)) was
+    ap (λ o. passes (has_parent u) (option_map (left_by v l.parent) o)) was
     ∙ (ap (λ (o : Option ℕ). is_parent u (parent_without v o o)) parent ∙ (ap (λ b. is_parent u (cond b (Some u) (Some u))) (ne_eqb u v apart) ∙ eq-eqb u u refl)) in
     let fewer = count_below_one_more (2 ^ 64) v left both h
     (passes-none (has_parent u) (lineage_without lineage v l.parent v) (left-here lineage v l.parent v refl)) own
-    (λ w else_. sym (ap (passes (has_parent u)) (left-other lineage v l.parent w else_))) in
+    (λ w else_. sym (ap (passes (has_parent u)) (lineage_without-other lineage v l.parent w else_))) in
     omega arith
 
 -- ---- what stays of the relation
@@ -296,13 +264,13 @@ Ranking-left : (lineage : ℕ → Option Lineage) (v : ℕ) (l : Lineage) → Ra
 Ranking-left lineage v l r was = record {
   rank = r.rank;
   falls = λ w p k e f.
-      let left = left_cases lineage v l.parent w k e in
-      elim (parent_after v l.parent left.1.parent p (ap (λ (x : Lineage). x.parent) left.3 ∙ f)) [
+      let left = lineage_without-some lineage v l.parent w k e in
+      elim (parent_after v l.parent left.0.parent p (sym (ap (λ (x : Lineage). x.parent) left.3) ∙ f)) [
         | inl passed ↦
             let above = r.falls v p l was passed.1 in
-            let below = r.falls w v left.1 left.2 passed.0 in
+            let below = r.falls w v left.0 left.2 passed.0 in
             omega arith
-        | inr kept ↦ r.falls w p left.1 left.2 kept.0
+        | inr kept ↦ r.falls w p left.0 left.2 kept.0
       ];
 }
 
@@ -311,19 +279,19 @@ AreRelated-left names lineage v l related was miss = record {
   names_below = related.names_below;
   koids_below = λ w h.
       let found = some_is (lineage_without lineage v l.parent w) h in
-      let left = left_cases lineage v l.parent w found.0 found.1 in
+      let left = lineage_without-some lineage v l.parent w found.0 found.1 in
       related.koids_below w (ap is_some left.2);
   held = λ n t e.
       let other = not_of v names n t miss (related.names_below n (ap is_some e)) e in
       left-stays lineage v l.parent t.koid.0 other (related.held n t e);
   parents = λ w p k e f.
-      let left = left_cases lineage v l.parent w k e in
-      let up = ap (λ (x : Lineage). x.parent) left.3 ∙ f in
-      elim (parent_after v l.parent left.1.parent p up) [
+      let left = lineage_without-some lineage v l.parent w k e in
+      let up = sym (ap (λ (x : Lineage). x.parent) left.3) ∙ f in
+      elim (parent_after v l.parent left.0.parent p up) [
         | inl passed ↦
             let above = related.parents v p l was passed.1 in
             left-stays lineage v l.parent p (λ same. not_own_parent lineage v l related.ranked was (passed.1 ∙ ap (λ (x : ℕ). Some x) same)) above
-        | inr kept ↦ left-stays lineage v l.parent p kept.1 (related.parents w p left.1 left.2 kept.0)
+        | inr kept ↦ left-stays lineage v l.parent p kept.1 (related.parents w p left.0 left.2 kept.0)
       ];
   ranked = ∥∥₁_map related.ranked (λ r. Ranking-left lineage v l r was);
 }

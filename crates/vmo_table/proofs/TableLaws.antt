@@ -1,26 +1,23 @@
 -- From what a caller says of the table to its fields.
-use Rattle.std.proofs.Common.{◌≡◌, ◌≢◌, ℕ, ◌+◌, ◌<◌, ◌≤◌, ◌==◌, ◌&&◌, Bool, Option, None, Some, IsSome, is_some, min, sym, ap, subst, ◌∙◌, inl, inr, arith, length, ◌^◌}
+use Rattle.std.proofs.Common.{◌≡◌, ℕ, ◌+◌, ◌<◌, ◌≤◌, ◌==◌, ◌&&◌, Bool, Option, None, Some, IsSome, min, sym, ap, subst, ◌∙◌, arith, length, ◌^◌}
 use Rattle.std.specs.Prelude.{IfSome}
 use Rattle.std.specs.Option.{option_map}
 use Rattle.std.specs.HashMap.{spare}
-use Rattle.std.proofs.lemmas.Bool.{cases_Bool, cases_lt}
 use Rattle.std.proofs.lemmas.Option.{same_Some}
 use Rattle.vm_base.specs.declared.names.Koid.{Koid}
 use Rattle.vm_base.specs.Entries.{with_key, without_key}
 use Rattle.vm_model.specs.declared.names.NameKind.TheVariants.{Owner}
 use Rattle.vm_model.specs.declared.names.Target.{Target}
-use Rattle.vm_model.specs.Naming.Names.{Lineage, is_named, child_count, lineage_without, is_created, children, may_decommit}
+use Rattle.vm_model.specs.Naming.Names.{Lineage, child_count, is_created, children, may_decommit}
 use Rattle.vm_base.specs.declared.limits.TheConstants.{NAMES}
 use Rattle.vmo_table.specs.declared.vmos.Vmo.{Vmo}
 use Rattle.vmo_table.specs.declared.vmo_table.VmoTable.TheInside.{Inside}
 use Rattle.vmo_table.specs.Vmos.{koid_number, vmos_in, lineage_of_vmo, lineages, keepers_in, more_names, fewer_names}
-use Rattle.vmo_table.specs.Table.{Table, names_in, names_of, lineage_in, keepers_of, room_of, parent_of, Settles, Closes}
+use Rattle.vmo_table.specs.Table.{Table, names_in, names_of, lineage_in, keepers_of, room_of, Settles, Closes}
 use Rattle.vmo_table.specs.TableFields.{table_of, HasNames, IsTable}
 use Rattle.vmo_table.proofs.VmosLaws.{lineages-none, children_le}
 use Rattle.vmo_table.proofs.EntryLaws.{vmo_at, target_at, vmos_in-is, names_in_found, vmo_there, lineage_at, target_there, vmo_count_le}
-use Rattle.vm_base.proofs.EntryLaws.{some_is}
 use Rattle.vmo_table.proofs.NamedLaws.{names_fit}
-use Rattle.vmo_table.proofs.RelatedLaws.{left-stays, left_unknown}
 use Rattle.vmo_table.proofs.KeepersLaws.{keepers_found, keepers_none}
 use Rattle.vmo_table.proofs.KeptLaws.{Enters}
 use Rattle.vmo_table.proofs.WrittenLaws.{IsWritten, IsAliased, IsWritten-aliased, IsOpenIn, IsWritten-closed, with_keepers, IsWritten-kept}
@@ -177,55 +174,3 @@ pub closes_now : (a : Inside) (now : Table) (name : ℕ) (t : Target) (after : �
 closes_now a now name t after new answer view found settles = λ s e.
     let same = same_Some t s (sym (ap (λ (x : Table). names_of x name) (sym view) ∙ names_in_found a.names.entries name t found) ∙ e) in
     subst (λ (x : Target). Settles after (keepers_of now x.koid.0) x.koid.0 (lineage_in now) new answer) same settles
-
--- ---- for callers
-
--- a VMO that is settled stays or leaves
-settles_either : {P : Type 0} (names : ℕ → Option Target) (keepers v : ℕ) (old new : ℕ → Option Lineage) (answer : Option Koid) → Settles names keepers v old new answer → ((answer ≡ None) × (new ≡ old) → P) →
-    ((answer ≡ Some (record { 0 = v })) × (new ≡ lineage_without old v (parent_of (old v))) → P) → P
-settles_either names keepers v old new answer settles stays leaves = elim (cases_Bool (is_named names v)) [
-  | inl named ↦ stays (settles.stays (inl named))
-  | inr unnamed ↦ elim (cases_lt 0 keepers) [
-    | inl kept ↦ stays (settles.stays (inr kept))
-    | inr free ↦ leaves (settles.leaves unnamed (omega arith))
-  ]
-]
-
--- settling makes no VMO
-pub settles-unknown : (names : ℕ → Option Target) (keepers v : ℕ) (old new : ℕ → Option Lineage) (answer : Option Koid) → Settles names keepers v old new answer → (w : ℕ) → old w ≡ None → new w ≡ None
-settles-unknown names keepers v old new answer settles w none = settles_either names keepers v old new answer settles
-    (λ stays. ap (λ (m : ℕ → Option Lineage). m w) stays.1 ∙ none)
-    (λ left. ap (λ (m : ℕ → Option Lineage). m w) left.1 ∙ left_unknown old v (parent_of (old v)) w none)
-
--- and all but the one that is answered stay
-pub settles-others : (names : ℕ → Option Target) (keepers v : ℕ) (old new : ℕ → Option Lineage) (answer : Option Koid) (koid : Koid) → Settles names keepers v old new answer → answer ≡ Some koid → (w : ℕ) → w ≢ koid.0 → IsSome (old w) → IsSome (new w)
-settles-others names keepers v old new answer koid settles is w apart there = settles_either names keepers v old new answer settles
-    (λ stays. ap (λ (m : ℕ → Option Lineage). is_some (m w)) stays.1 ∙ there)
-    (λ left.
-    let its : v ≡ koid.0 = ap (λ (x : Koid). x.0) (same_Some (record { 0 = v }) koid (sym left.0 ∙ is)) in
-    ap (λ (m : ℕ → Option Lineage). is_some (m w)) left.1 ∙ left-stays old v (parent_of (old v)) w (λ e. apart (e ∙ its)) there)
-
--- and where no VMO is answered, nothing changes
-pub settles-none : (names : ℕ → Option Target) (keepers v : ℕ) (old new : ℕ → Option Lineage) (answer : Option Koid) → Settles names keepers v old new answer → answer ≡ None → (w : ℕ) → new w ≡ old w
-settles-none names keepers v old new answer settles is w = settles_either names keepers v old new answer settles
-    (λ stays. ap (λ (m : ℕ → Option Lineage). m w) stays.1)
-    (λ left. absurd (let it = left.0 in cc))
-
--- the same, where a name is closed
-module _ (old new : Table) (n : ℕ) (answer : Option Koid) (closes : Closes (names_of old) (names_of new) (keepers_of old) (lineage_in old) (lineage_in new) n answer) (there : IsSome (names_of old n)) where
-  -- the name was open
-  name : (t : Target) × (names_of old n ≡ Some t)
-  name = some_is (names_of old n) there
-
-  -- its VMO is settled
-  closes-settles : Settles (names_of new) (keepers_of old name.0.koid.0) name.0.koid.0 (lineage_in old) (lineage_in new) answer
-  closes-settles = closes name.0 name.1
-
-  pub closes-unknown : (v : ℕ) → lineage_in old v ≡ None → lineage_in new v ≡ None
-  closes-unknown = settles-unknown (names_of new) (keepers_of old name.0.koid.0) name.0.koid.0 (lineage_in old) (lineage_in new) answer closes-settles
-
-  pub closes-others : (koid : Koid) → answer ≡ Some koid → (v : ℕ) → v ≢ koid.0 → IsSome (lineage_in old v) → IsSome (lineage_in new v)
-  closes-others koid = settles-others (names_of new) (keepers_of old name.0.koid.0) name.0.koid.0 (lineage_in old) (lineage_in new) answer koid closes-settles
-
-  pub closes-none : answer ≡ None → (v : ℕ) → lineage_in new v ≡ lineage_in old v
-  closes-none = settles-none (names_of new) (keepers_of old name.0.koid.0) name.0.koid.0 (lineage_in old) (lineage_in new) answer closes-settles

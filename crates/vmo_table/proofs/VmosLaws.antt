@@ -10,7 +10,8 @@ use Rattle.vm_model.specs.Naming.Names.{Lineage, is_parent, parent_without, line
 use Rattle.vmo_table.specs.declared.vmos.Vmo.{Vmo}
 use Rattle.vmo_table.specs.Vmos.{koid_number, lineage_of_vmo, lineages, with_children, adopted, koid_after, vmos_without, is_held, settled, vmo_count}
 use Rattle.vm_base.proofs.EntryLaws.{with_key-here, with_key-other, some_is, passes_found, passes-some}
-use Rattle.vmo_table.proofs.RelatedLaws.{left-here, left-other, lineage_after, left_cases}
+use Rattle.vm_model.proofs.NamesLaws.{left_by, lineage_without-other, lineage_without-some}
+use Rattle.vmo_table.proofs.RelatedLaws.{left-here}
 use Rattle.vmo_table.proofs.NamedLaws.{KeepsNames}
 use Rattle.vm_base.proofs.SearchLaws.{count_below_less}
 
@@ -63,7 +64,7 @@ children_le vmos u = child_count_le vmos (lineages vmos) u (lineages_there vmos)
 pub left_children_le : (vmos : ℕ → Option Vmo) (v : ℕ) (parent : Option ℕ) (u : ℕ) → child_count (lineage_without (lineages vmos) v parent) u ≤ vmo_count vmos
 left_children_le vmos v parent u = child_count_le vmos (lineage_without (lineages vmos) v parent) u (λ w h.
     let found = some_is (lineage_without (lineages vmos) v parent w) h in
-    lineages_there vmos w (ap is_some (left_cases (lineages vmos) v parent w found.0 found.1).2))
+    lineages_there vmos w (ap is_some (lineage_without-some (lineages vmos) v parent w found.0 found.1).2))
 
 -- another count of names changes no lineage
 pub lineages-written : (vmos : ℕ → Option Vmo) (k : ℕ) (old new : Vmo) → vmos k ≡ Some old → lineage_of_vmo new ≡ lineage_of_vmo old → lineages (with_key vmos k new) ≡ lineages vmos
@@ -114,7 +115,7 @@ number_after v parent (Some p) = of (p.0 == v)
     of true = refl
     of false = refl
 
-lineage-after : (v : ℕ) (parent : Option Koid) (o : Option Vmo) → option_map lineage_of_vmo (option_map (vmo_after v parent) o) ≡ option_map (lineage_after v (option_map koid_number parent)) (option_map lineage_of_vmo o)
+lineage-after : (v : ℕ) (parent : Option Koid) (o : Option Vmo) → option_map lineage_of_vmo (option_map (vmo_after v parent) o) ≡ option_map (left_by v (option_map koid_number parent)) (option_map lineage_of_vmo o)
 lineage-after v parent None = refl
 lineage-after v parent (Some vmo) = ap (λ (p : Option ℕ). Some (record { resizable = vmo.resizable; origin = vmo.origin; parent = p })) (number_after v parent vmo.parent)
 
@@ -134,8 +135,8 @@ lineages-without vmos v parent = λ i w. at w i
     at w = elim (cases_eq w v) [
       | inl same ↦ lineages-is (vmos_without vmos v parent) w ∙ (ap (option_map lineage_of_vmo) (without-here vmos v parent w same) ∙ sym (left-here (lineages vmos) v (option_map koid_number parent) w same))
       | inr apart ↦ lineages-is (vmos_without vmos v parent) w ∙ (ap (option_map lineage_of_vmo) (without-other vmos v parent w apart)
-          ∙ (lineage-after v parent (vmos w) ∙ (ap (option_map (lineage_after v (option_map koid_number parent))) (sym (lineages-is vmos w))
-          ∙ sym (left-other (lineages vmos) v (option_map koid_number parent) w apart))))
+          ∙ (lineage-after v parent (vmos w) ∙ (ap (option_map (left_by v (option_map koid_number parent))) (sym (lineages-is vmos w))
+          ∙ sym (lineage_without-other (lineages vmos) v (option_map koid_number parent) w apart))))
     ]
 
 -- a VMO that is left keeps its counts
