@@ -7,9 +7,9 @@ use Rattle.vm_base.specs.declared.names.Koid.{Koid}
 use Rattle.vm_base.specs.Entries.{with_key}
 use Rattle.vm_model.specs.Naming.Names.{is_parent}
 use Rattle.vmo_table.specs.declared.vmos.Vmo.{Vmo}
-use Rattle.vmo_table.specs.Vmos.{koid_number, keepers_in, with_children, adopted, vmos_without, is_held, settled}
+use Rattle.vmo_table.specs.Vmos.{koid_number, keepers_in, with_children, adopted, vmos_without, is_kept, settled}
 use Rattle.vm_base.proofs.EntryLaws.{with_key-here, with_key-other}
-use Rattle.vmo_table.proofs.VmosLaws.{vmo_after, without-here, without-other, settled-held, settled-free, free_counts}
+use Rattle.vmo_table.proofs.VmosLaws.{vmo_after, without-here, without-other, settled-kept, settled-free, free_counts}
 
 -- the keepers of a VMO that may be there
 abbrev keepers_at : Option Vmo → ℕ
@@ -93,15 +93,15 @@ keepers-left vmos k parent v apart =
 
 -- a VMO that is settled has the keepers of its new value, whether it leaves or not
 pub keepers-settled : (vmos : ℕ → Option Vmo) (k : ℕ) (new : Vmo) → keepers_in (settled vmos k new) ≡ keepers_in (with_key vmos k new)
-keepers-settled vmos k new = elim (cases_Bool (is_held new)) [
-  | inl held ↦ ap keepers_in (settled-held vmos k new held)
+keepers-settled vmos k new = elim (cases_Bool (is_kept new)) [
+  | inl held ↦ ap keepers_in (settled-kept vmos k new held)
   | inr free ↦ ap keepers_in (settled-free vmos k new free) ∙ (keepers-adopted (vmos_without vmos k new.parent) (option_map koid_number new.parent) 1 new.children ∙ λ i v. at free v i)
 ]
   where
-    no_keepers : is_held new ≡ false → 0 ≡ new.keepers
+    no_keepers : is_kept new ≡ false → 0 ≡ new.keepers
     no_keepers free = let none = (free_counts new free).1 in omega arith
 
-    at : is_held new ≡ false → (v : ℕ) → keepers_in (vmos_without vmos k new.parent) v ≡ keepers_in (with_key vmos k new) v
+    at : is_kept new ≡ false → (v : ℕ) → keepers_in (vmos_without vmos k new.parent) v ≡ keepers_in (with_key vmos k new) v
     at free v = elim (cases_eq v k) [
       | inl here ↦ keepers-gone vmos k new.parent v here ∙ (no_keepers free ∙ sym (keepers-here vmos k new v here))
       | inr apart ↦ keepers-left vmos k new.parent v apart ∙ sym (keepers-other vmos k new v apart)

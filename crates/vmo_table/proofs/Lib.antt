@@ -2,7 +2,7 @@ pub mod RelatedLaws
 pub mod NamedLaws
 pub mod VmosLaws
 pub mod KeepersLaws
-pub mod KeptLaws
+pub mod EnteredLaws
 pub mod WrittenLaws
 pub mod SettledLaws
 pub mod EntryLaws

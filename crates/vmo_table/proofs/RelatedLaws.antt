@@ -27,7 +27,7 @@ not_of v names n t miss h open_ same =
 -- no name stands for a koid that no VMO has
 none_of : (names : ℕ → Option Target) (lineage : ℕ → Option Lineage) (v : ℕ) → AreRelated names lineage → lineage v ≡ None → (n : ℕ) (t : Target) → names n ≡ Some t → is_of v t ≡ false
 none_of names lineage v related none n t e = ne_eqb t.koid.0 v (λ same. absurd (
-    let there : is_some (lineage t.koid.0) ≡ true = related.held n t e in
+    let there : is_some (lineage t.koid.0) ≡ true = related.targets n t e in
     let gone : lineage t.koid.0 ≡ None = ap lineage same ∙ none in
     cc))
 
@@ -166,7 +166,7 @@ pub AreRelated-empty : (names : ℕ → Option Target) (lineage : ℕ → Option
 AreRelated-empty names lineage no_name no_vmo = record {
   names_below = λ n h. absurd (let e = no_name n in cc);
   koids_below = λ v h. absurd (let e = no_vmo v in cc);
-  held = λ n t e. absurd (let f = no_name n in cc);
+  targets = λ n t e. absurd (let f = no_name n in cc);
   parents = λ v p l e f. absurd (let g = no_vmo v in cc);
   ranked = ∣ record { rank = λ v. 0; falls = λ v p l e f. absurd (let g = no_vmo v in cc) } ∣₁;
 }
@@ -208,9 +208,9 @@ AreRelated-entered names lineage n t l related low small free parent = record {
     | inl same ↦ omega arith
     | inr apart ↦ related.koids_below v (sym (ap is_some (with_key-other lineage t.koid.0 l v apart)) ∙ h)
   ];
-  held = λ m s e. elim (with_key-cases names n t m s e) [
+  targets = λ m s e. elim (with_key-cases names n t m s e) [
     | inl new ↦ ap is_some (with_key-here lineage t.koid.0 l s.koid.0 (ap (λ (x : Target). x.koid.0) (sym new.1)))
-    | inr old ↦ with_key-stays lineage t.koid.0 l s.koid.0 (related.held m s old.1)
+    | inr old ↦ with_key-stays lineage t.koid.0 l s.koid.0 (related.targets m s old.1)
   ];
   parents = λ v p k e f. elim (with_key-cases lineage t.koid.0 l v k e) [
     | inl new ↦ with_key-stays lineage t.koid.0 l p (parent p (ap (λ (x : Lineage). x.parent) new.1 ∙ f))
@@ -227,9 +227,9 @@ AreRelated-aliased names lineage n t related low there = record {
     | inr apart ↦ related.names_below m (sym (ap is_some (with_key-other names n t m apart)) ∙ h)
   ];
   koids_below = related.koids_below;
-  held = λ m s e. elim (with_key-cases names n t m s e) [
+  targets = λ m s e. elim (with_key-cases names n t m s e) [
     | inl new ↦ ap (λ (x : Target). is_some (lineage x.koid.0)) (sym new.1) ∙ there
-    | inr old ↦ related.held m s old.1
+    | inr old ↦ related.targets m s old.1
   ];
   parents = related.parents;
   ranked = related.ranked;
@@ -239,7 +239,7 @@ pub AreRelated-closed : (names : ℕ → Option Target) (lineage : ℕ → Optio
 AreRelated-closed names lineage n related = record {
   names_below = λ m h. let open_ = some_is (without_key names n m) h in related.names_below m (ap is_some (without_key-some names n m open_.0 open_.1).1);
   koids_below = related.koids_below;
-  held = λ m s e. related.held m s (without_key-some names n m s e).1;
+  targets = λ m s e. related.targets m s (without_key-some names n m s e).1;
   parents = related.parents;
   ranked = related.ranked;
 }
@@ -281,9 +281,9 @@ AreRelated-left names lineage v l related was miss = record {
       let found = some_is (lineage_without lineage v l.parent w) h in
       let left = lineage_without-some lineage v l.parent w found.0 found.1 in
       related.koids_below w (ap is_some left.2);
-  held = λ n t e.
+  targets = λ n t e.
       let other = not_of v names n t miss (related.names_below n (ap is_some e)) e in
-      left-stays lineage v l.parent t.koid.0 other (related.held n t e);
+      left-stays lineage v l.parent t.koid.0 other (related.targets n t e);
   parents = λ w p k e f.
       let left = lineage_without-some lineage v l.parent w k e in
       let up = sym (ap (λ (x : Lineage). x.parent) left.3) ∙ f in

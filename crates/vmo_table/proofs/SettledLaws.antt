@@ -8,13 +8,13 @@ use Rattle.vm_model.specs.declared.names.Target.{Target}
 use Rattle.vm_model.specs.Naming.Names.{Lineage, is_named, is_parent, has_parent, child_count, lineage_without, is_of}
 use Rattle.vm_base.specs.declared.limits.TheConstants.{NAMES}
 use Rattle.vmo_table.specs.declared.vmos.Vmo.{Vmo}
-use Rattle.vmo_table.specs.Vmos.{koid_number, lineage_of_vmo, lineages, adopted, vmos_without, is_held, settled, vmo_count, keepers_in}
+use Rattle.vmo_table.specs.Vmos.{koid_number, lineage_of_vmo, lineages, adopted, vmos_without, is_kept, settled, vmo_count, keepers_in}
 use Rattle.vmo_table.specs.Table.{parent_of, Settles}
-use Rattle.vmo_table.specs.TableFields.{AreRelated, HasNames, AreKept}
+use Rattle.vmo_table.specs.TableFields.{AreRelated, HasNames, AreConsistent}
 use Rattle.vmo_table.proofs.RelatedLaws.{is_parent_found, child_counts, no_child, child_count-left, child_count-left_other, AreRelated-left, is_named-unknown, left_absent}
 use Rattle.vmo_table.proofs.NamedLaws.{HasNames-kept}
-use Rattle.vmo_table.proofs.VmosLaws.{lineages_found, lineages-adopted, adopted_cases, lineages-without, without_cases, settled-held, settled-free, free_counts, left_children_le, lineages-is}
-use Rattle.vmo_table.proofs.WrittenLaws.{IsWritten, lineages-is_written, own_children, AreKept-written}
+use Rattle.vmo_table.proofs.VmosLaws.{lineages_found, lineages-adopted, adopted_cases, lineages-without, without_cases, settled-kept, settled-free, free_counts, left_children_le, lineages-is}
+use Rattle.vmo_table.proofs.WrittenLaws.{IsWritten, lineages-is_written, own_children, AreConsistent-written}
 use Rattle.vm_base.proofs.EntryLaws.{any_entry-count}
 use Rattle.vm_base.specs.Entries.{passes}
 use Rattle.vmo_table.proofs.KeepersLaws.{keepers_none}
@@ -44,7 +44,7 @@ module _ (names : ℕ → Option Target) (vmos : ℕ → Option Vmo) (k : ℕ) (
   pub childless : new.children ≡ 0 → (w : ℕ) → passes (has_parent k) (lineages vmos w) ≡ false
   childless none = no_child names (lineages vmos) k is.related (sym (own_children names vmos k old new is) ∙ none)
 
-  left_related : is_held new ≡ false → AreRelated names left
+  left_related : is_kept new ≡ false → AreRelated names left
   left_related free = AreRelated-left names (lineages vmos) k (lineage_of_vmo new) is.related was (named_by ∙ le-ltb 0 new.names (free_counts new free).0)
 
   -- the children of a VMO that is left
@@ -62,7 +62,7 @@ module _ (names : ℕ → Option Target) (vmos : ℕ → Option Vmo) (k : ℕ) (
             cond-false (is_parent v above) (vmo.children - 1 + new.children) vmo.children miss ∙ omega arith
       ]
 
-  pub left_fits : is_held new ≡ false → (v : ℕ) (vmo : Vmo) → is_parent v above ≡ true → gone v ≡ Some vmo → (1 ≤ vmo.children) × (vmo.children - 1 + new.children ≤ vmo_count vmos)
+  pub left_fits : is_kept new ≡ false → (v : ℕ) (vmo : Vmo) → is_parent v above ≡ true → gone v ≡ Some vmo → (1 ≤ vmo.children) × (vmo.children - 1 + new.children ≤ vmo_count vmos)
   left_fits free v vmo hit e =
       let was_there = without_cases vmos k new.parent v vmo e in
       let counted = left_children v was_there.1 was_there.0 was_there.2 in
@@ -85,8 +85,8 @@ module _ (names : ℕ → Option Target) (vmos : ℕ → Option Vmo) (k : ℕ) (
         case.3 ∙ (ap (λ (c : ℕ). cond (is_parent v above) (c - 1 + new.children) c) then_.4 ∙ left_children v then_.1 then_.0 then_.2),
       )
 
-  AreKept-left : is_held new ≡ false → AreKept names (adopted gone above 1 new.children)
-  AreKept-left free = record {
+  AreConsistent-left : is_kept new ≡ false → AreConsistent names (adopted gone above 1 new.children)
+  AreConsistent-left free = record {
     related = subst (λ (l : ℕ → Option Lineage). AreRelated names l) (sym lineages-left) (left_related free);
     counted = record {
       named = λ v vmo e. (left_counted v vmo e).0;
@@ -96,36 +96,36 @@ module _ (names : ℕ → Option Target) (vmos : ℕ → Option Vmo) (k : ℕ) (
 
   -- ---- the VMO is settled
 
-  pub AreKept-settled : AreKept names (settled vmos k new)
-  AreKept-settled = elim (cases_Bool (is_held new)) [
-    | inl held ↦ subst (λ (m : ℕ → Option Vmo). AreKept names m) (sym (settled-held vmos k new held)) (AreKept-written names vmos k old new is)
-    | inr free ↦ subst (λ (m : ℕ → Option Vmo). AreKept names m) (sym (settled-free vmos k new free)) (AreKept-left free)
+  pub AreConsistent-settled : AreConsistent names (settled vmos k new)
+  AreConsistent-settled = elim (cases_Bool (is_kept new)) [
+    | inl held ↦ subst (λ (m : ℕ → Option Vmo). AreConsistent names m) (sym (settled-kept vmos k new held)) (AreConsistent-written names vmos k old new is)
+    | inr free ↦ subst (λ (m : ℕ → Option Vmo). AreConsistent names m) (sym (settled-free vmos k new free)) (AreConsistent-left free)
   ]
 
-  lineages-held : is_held new ≡ true → lineages (settled vmos k new) ≡ lineages vmos
-  lineages-held held = ap lineages (settled-held vmos k new held) ∙ lineages-is_written names vmos k old new is
+  lineages-kept : is_kept new ≡ true → lineages (settled vmos k new) ≡ lineages vmos
+  lineages-kept held = ap lineages (settled-kept vmos k new held) ∙ lineages-is_written names vmos k old new is
 
-  lineages-free : is_held new ≡ false → lineages (settled vmos k new) ≡ lineage_without (lineages vmos) k (parent_of (lineages vmos k))
+  lineages-free : is_kept new ≡ false → lineages (settled vmos k new) ≡ lineage_without (lineages vmos) k (parent_of (lineages vmos k))
   lineages-free free =
       ap lineages (settled-free vmos k new free)
       ∙ (lineages-left ∙ ap (λ (o : Option Lineage). lineage_without (lineages vmos) k (parent_of o)) (sym was))
 
-  held_still : (is_named names k ≡ true) ⊎ (0 < new.keepers) → is_held new ≡ true
-  held_still (inl named) = ap (λ (b : Bool). b || nat_lt 0 new.keepers) (sym named_by ∙ named)
-  held_still (inr kept) = ap (λ (b : Bool). nat_lt 0 new.names || b) (lt-ltb 0 new.keepers kept) ∙ or-true (nat_lt 0 new.names)
+  kept_still : (is_named names k ≡ true) ⊎ (0 < new.keepers) → is_kept new ≡ true
+  kept_still (inl named) = ap (λ (b : Bool). b || nat_lt 0 new.keepers) (sym named_by ∙ named)
+  kept_still (inr kept) = ap (λ (b : Bool). nat_lt 0 new.names || b) (lt-ltb 0 new.keepers kept) ∙ or-true (nat_lt 0 new.names)
 
-  held_no_more : is_named names k ≡ false → new.keepers ≡ 0 → is_held new ≡ false
-  held_no_more unnamed none = ap (λ (b : Bool). b || nat_lt 0 new.keepers) (sym named_by ∙ unnamed) ∙ le-ltb 0 new.keepers (omega arith)
+  kept_no_more : is_named names k ≡ false → new.keepers ≡ 0 → is_kept new ≡ false
+  kept_no_more unnamed none = ap (λ (b : Bool). b || nat_lt 0 new.keepers) (sym named_by ∙ unnamed) ∙ le-ltb 0 new.keepers (omega arith)
 
   -- what becomes of it
-  pub settles : (answer : Option Koid) → answer ≡ cond (is_held new) None (Some (record { 0 = k })) → Settles names new.keepers k (lineages vmos) (lineages (settled vmos k new)) answer
+  pub settles : (answer : Option Koid) → answer ≡ cond (is_kept new) None (Some (record { 0 = k })) → Settles names new.keepers k (lineages vmos) (lineages (settled vmos k new)) answer
   settles answer said = record {
-    stays = λ by. let held = held_still by in (said ∙ cond-true (is_held new) None (Some (record { 0 = k })) held, lineages-held held);
-    leaves = λ unnamed none. let free = held_no_more unnamed none in (said ∙ cond-false (is_held new) None (Some (record { 0 = k })) free, lineages-free free);
+    stays = λ by. let held = kept_still by in (said ∙ cond-true (is_kept new) None (Some (record { 0 = k })) held, lineages-kept held);
+    leaves = λ unnamed none. let free = kept_no_more unnamed none in (said ∙ cond-false (is_kept new) None (Some (record { 0 = k })) free, lineages-free free);
   }
 
 -- a VMO that is not in the table has nothing that keeps it, and settling it changes nothing
-pub settles_absent : (names : ℕ → Option Target) (vmos : ℕ → Option Vmo) (v : ℕ) → AreKept names vmos → vmos v ≡ None → Settles names (keepers_in vmos v) v (lineages vmos) (lineages vmos) (Some (record { 0 = v }))
+pub settles_absent : (names : ℕ → Option Target) (vmos : ℕ → Option Vmo) (v : ℕ) → AreConsistent names vmos → vmos v ≡ None → Settles names (keepers_in vmos v) v (lineages vmos) (lineages vmos) (Some (record { 0 = v }))
 settles_absent names vmos v kept none =
     let unknown = lineages-is vmos v ∙ ap (option_map lineage_of_vmo) none in
     let unnamed = is_named-unknown names (lineages vmos) v kept.related unknown in

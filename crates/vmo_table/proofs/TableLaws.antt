@@ -19,8 +19,8 @@ use Rattle.vmo_table.proofs.VmosLaws.{lineages-none, children_le}
 use Rattle.vmo_table.proofs.EntryLaws.{vmo_at, target_at, vmos_in-is, names_in_found, vmo_there, lineage_at, target_there, vmo_count_le}
 use Rattle.vmo_table.proofs.NamedLaws.{names_fit}
 use Rattle.vmo_table.proofs.KeepersLaws.{keepers_found, keepers_none}
-use Rattle.vmo_table.proofs.KeptLaws.{Enters}
-use Rattle.vmo_table.proofs.WrittenLaws.{IsWritten, IsAliased, IsWritten-aliased, IsOpenIn, IsWritten-closed, with_keepers, IsWritten-kept}
+use Rattle.vmo_table.proofs.EnteredLaws.{Enters}
+use Rattle.vmo_table.proofs.WrittenLaws.{IsWritten, IsAliased, IsWritten-aliased, IsOpenIn, IsWritten-closed, with_keepers, IsWritten-keepers}
 use Rattle.vmo_table.proofs.SettledLaws.{settles_absent}
 
 -- both maps have room
@@ -38,7 +38,7 @@ pub enters : (a : Inside) (now : Table) (name : ℕ) (t : Target) (vmo : Vmo) �
     IfSome vmo.parent (λ p. IsSome (lineage_in now p.0)) → name < NAMES → t.koid.0 < 2 ^ 64 → length a.vmos.entries + 1 < 2 ^ 64 → t.kind ≡ Owner → vmo.names ≡ 1 → vmo.slices ≡ 0 → vmo.references ≡ 0 → vmo.children ≡ 0 →
     Enters (names_in a.names.entries) (vmos_in a.vmos.entries) name t vmo
 enters a now name t vmo view table no_name no_koid parent low small few owns one no_slice no_reference none = record {
-  kept = table.kept;
+  consistent = table.consistent;
   name_free = ap (λ (x : Table). names_of x name) view ∙ no_name;
   koid_free = ap (λ (x : Table). lineage_in x t.koid.0) view ∙ no_koid;
   name_low = low;
@@ -65,13 +65,13 @@ pub counts_of : (a : Inside) (v : ℕ) (vmo : Vmo) → IsTable a → vmo_at a.vm
     HasNames (names_in a.names.entries) v vmo × (vmo.children ≡ child_count (lineages (vmos_in a.vmos.entries)) v)
 counts_of a v vmo table found =
     let there = vmos_in-is a.vmos.entries v ∙ found in
-    (table.kept.counted.named v vmo there, table.kept.counted.children v vmo there)
+    (table.consistent.counted.named v vmo there, table.consistent.counted.children v vmo there)
 
 -- so another name may stand for it
 pub aliases : (a : Inside) (now : Table) (name : ℕ) (t : Target) (vmo : Vmo) → table_of a ≡ now → IsTable a → names_of now name ≡ None → name < NAMES → vmo_at a.vmos.entries t.koid.0 ≡ Some vmo →
     IsAliased (names_in a.names.entries) (vmos_in a.vmos.entries) name t vmo
 aliases a now name t vmo view table no_name low found = record {
-  kept = table.kept;
+  consistent = table.consistent;
   name_free = ap (λ (x : Table). names_of x name) view ∙ no_name;
   name_low = low;
   found = vmos_in-is a.vmos.entries t.koid.0 ∙ found;
@@ -103,14 +103,14 @@ pub open_there : (a : Inside) (now : Table) (name : ℕ) → table_of a ≡ now 
 open_there a now name view h = target_there a.names.entries name (subst (λ (x : Table). IsSome (names_of x name)) (sym view) h)
 
 -- its VMO is in the map of VMOs
-pub held_there : (a : Inside) (name : ℕ) (t : Target) → IsTable a → target_at a.names.entries name ≡ Some t → IsSome (vmo_at a.vmos.entries t.koid.0)
-held_there a name t table found = vmo_there a.vmos.entries t.koid.0 (table.kept.related.held name t (names_in_found a.names.entries name t found))
+pub named_there : (a : Inside) (name : ℕ) (t : Target) → IsTable a → target_at a.names.entries name ≡ Some t → IsSome (vmo_at a.vmos.entries t.koid.0)
+named_there a name t table found = vmo_there a.vmos.entries t.koid.0 (table.consistent.related.targets name t (names_in_found a.names.entries name t found))
 
 -- so the name stands for the VMO
 pub open_in : (a : Inside) (name : ℕ) (t : Target) (vmo : Vmo) → IsTable a → target_at a.names.entries name ≡ Some t → vmo_at a.vmos.entries t.koid.0 ≡ Some vmo →
     IsOpenIn (names_in a.names.entries) (vmos_in a.vmos.entries) name t vmo
 open_in a name t vmo table found there = record {
-  kept = table.kept;
+  consistent = table.consistent;
   name = names_in_found a.names.entries name t found;
   found = vmos_in-is a.vmos.entries t.koid.0 ∙ there;
 }
@@ -133,7 +133,7 @@ closing a name t vmo fewer table found there is =
 
 -- by keepers that come or go
 pub keeping : (a : Inside) (v : ℕ) (vmo : Vmo) (keepers : ℕ) → IsTable a → vmo_at a.vmos.entries v ≡ Some vmo → IsWritten (names_in a.names.entries) (vmos_in a.vmos.entries) v vmo (with_keepers keepers vmo)
-keeping a v vmo keepers table found = IsWritten-kept (names_in a.names.entries) (vmos_in a.vmos.entries) v vmo keepers table.kept (vmos_in-is a.vmos.entries v ∙ found)
+keeping a v vmo keepers table found = IsWritten-keepers (names_in a.names.entries) (vmos_in a.vmos.entries) v vmo keepers table.consistent (vmos_in-is a.vmos.entries v ∙ found)
 
 -- its keepers are those that the table has of it
 pub keepers_kept : (a : Inside) (v : ℕ) (vmo : Vmo) → vmo_at a.vmos.entries v ≡ Some vmo → keepers_in (vmos_in a.vmos.entries) v ≡ vmo.keepers
@@ -166,7 +166,7 @@ pub settles_now_absent : (a : Inside) (now : Table) (koid : Koid) → table_of a
     Settles (names_of now) (keepers_of now koid.0) koid.0 (lineage_in now) (lineage_in now) (Some koid)
 settles_now_absent a now koid view table none =
     subst (λ (x : Table). Settles (names_of x) (keepers_of x koid.0) koid.0 (lineage_in x) (lineage_in x) (Some koid)) view
-    (settles_absent (names_in a.names.entries) (vmos_in a.vmos.entries) koid.0 table.kept (vmos_in-is a.vmos.entries koid.0 ∙ none))
+    (settles_absent (names_in a.names.entries) (vmos_in a.vmos.entries) koid.0 table.consistent (vmos_in-is a.vmos.entries koid.0 ∙ none))
 
 -- closing a name settles its VMO
 pub closes_now : (a : Inside) (now : Table) (name : ℕ) (t : Target) (after : ℕ → Option Target) (new : ℕ → Option Lineage) (answer : Option Koid) → table_of a ≡ now → target_at a.names.entries name ≡ Some t →

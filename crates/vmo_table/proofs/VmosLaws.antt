@@ -1,14 +1,13 @@
 -- Laws of the VMOs of the table as a map from koids.
-use Rattle.std.proofs.Common.{◌≡◌, ◌≢◌, ℕ, ◌+◌, ◌-◌, ◌<◌, ◌≤◌, ◌==◌, ◌||◌, Bool, true, false, cond, nat_lt, Option, None, Some, refl, sym, ap, subst, ◌∙◌, ◌⊎◌, inl, inr, ◌^◌, IsSome, is_some}
+use Rattle.std.proofs.Common.{◌≡◌, ◌≢◌, ℕ, ◌+◌, ◌-◌, ◌≤◌, ◌==◌, Bool, true, false, cond, nat_lt, Option, None, Some, refl, sym, ap, subst, ◌∙◌, inl, inr, ◌^◌, IsSome, is_some}
 use Rattle.std.specs.Option.{option_map}
-use Rattle.std.proofs.lemmas.Bool.{cases_eq, cases_lt, eq-eqb, ne_eqb, lt-ltb, le-ltb, cond-true, cond-false}
+use Rattle.std.proofs.lemmas.Bool.{cases_eq, eq-eqb, ne_eqb, cond-true, cond-false, or_parts, ltb-false}
 use Rattle.std.proofs.lemmas.Option.{same_Some}
-use Rattle.std.proofs.Math.Bool.{or-true}
 use Rattle.vm_base.specs.declared.names.Koid.{Koid}
 use Rattle.vm_base.specs.Entries.{with_key, passes, entry_count}
 use Rattle.vm_model.specs.Naming.Names.{Lineage, is_parent, parent_without, lineage_without, has_parent, child_count}
 use Rattle.vmo_table.specs.declared.vmos.Vmo.{Vmo}
-use Rattle.vmo_table.specs.Vmos.{koid_number, lineage_of_vmo, lineages, with_children, adopted, koid_after, vmos_without, is_held, settled, vmo_count}
+use Rattle.vmo_table.specs.Vmos.{koid_number, lineage_of_vmo, lineages, with_children, adopted, koid_after, vmos_without, is_kept, settled, vmo_count}
 use Rattle.vm_base.proofs.EntryLaws.{with_key-here, with_key-other, some_is, passes_found, passes-some}
 use Rattle.vm_model.proofs.NamesLaws.{left_by, lineage_without-other, lineage_without-some}
 use Rattle.vmo_table.proofs.RelatedLaws.{left-here}
@@ -154,32 +153,17 @@ without_cases vmos v parent w new e = elim (cases_eq w v) [
 -- ---- a VMO is settled
 
 -- a VMO that something keeps is written
-pub settled-held : (vmos : ℕ → Option Vmo) (v : ℕ) (vmo : Vmo) → is_held vmo ≡ true → settled vmos v vmo ≡ with_key vmos v vmo
+pub settled-kept : (vmos : ℕ → Option Vmo) (v : ℕ) (vmo : Vmo) → is_kept vmo ≡ true → settled vmos v vmo ≡ with_key vmos v vmo
 unfolding settled
-settled-held vmos v vmo held = cond-true (is_held vmo) (with_key vmos v vmo) (adopted (vmos_without vmos v vmo.parent) (option_map koid_number vmo.parent) 1 vmo.children) held
+settled-kept vmos v vmo held = cond-true (is_kept vmo) (with_key vmos v vmo) (adopted (vmos_without vmos v vmo.parent) (option_map koid_number vmo.parent) 1 vmo.children) held
 
 -- a VMO that nothing keeps leaves
-pub settled-free : (vmos : ℕ → Option Vmo) (v : ℕ) (vmo : Vmo) → is_held vmo ≡ false → settled vmos v vmo ≡ adopted (vmos_without vmos v vmo.parent) (option_map koid_number vmo.parent) 1 vmo.children
+pub settled-free : (vmos : ℕ → Option Vmo) (v : ℕ) (vmo : Vmo) → is_kept vmo ≡ false → settled vmos v vmo ≡ adopted (vmos_without vmos v vmo.parent) (option_map koid_number vmo.parent) 1 vmo.children
 unfolding settled
-settled-free vmos v vmo free = cond-false (is_held vmo) (with_key vmos v vmo) (adopted (vmos_without vmos v vmo.parent) (option_map koid_number vmo.parent) 1 vmo.children) free
+settled-free vmos v vmo free = cond-false (is_kept vmo) (with_key vmos v vmo) (adopted (vmos_without vmos v vmo.parent) (option_map koid_number vmo.parent) 1 vmo.children) free
 
--- a name or a keeper keeps a VMO
-pub held_by : (vmo : Vmo) → (0 < vmo.names) ⊎ ((vmo.names ≤ 0) × (0 < vmo.keepers)) → is_held vmo ≡ true
-held_by vmo (inl named) = ap (λ (b : Bool). b || nat_lt 0 vmo.keepers) (lt-ltb 0 vmo.names named)
-held_by vmo (inr kept) = ap (λ (b : Bool). nat_lt 0 vmo.names || b) (lt-ltb 0 vmo.keepers kept.1) ∙ or-true (nat_lt 0 vmo.names)
-
-pub held_by_none : (vmo : Vmo) → vmo.names ≤ 0 → vmo.keepers ≤ 0 → is_held vmo ≡ false
-held_by_none vmo no_name no_keeper = ap (λ (b : Bool). b || nat_lt 0 vmo.keepers) (le-ltb 0 vmo.names no_name) ∙ le-ltb 0 vmo.keepers no_keeper
-
--- so one that nothing keeps has neither
-pub free_counts : (vmo : Vmo) → is_held vmo ≡ false → (vmo.names ≤ 0) × (vmo.keepers ≤ 0)
-free_counts vmo free = (
-  elim (cases_lt 0 vmo.names) [
-    | inl named ↦ absurd (let held = held_by vmo (inl named) in cc)
-    | inr none ↦ none
-  ],
-  elim (cases_lt 0 vmo.keepers) [
-    | inl kept ↦ absurd (let held = ap (λ (b : Bool). nat_lt 0 vmo.names || b) (lt-ltb 0 vmo.keepers kept) ∙ or-true (nat_lt 0 vmo.names) in cc)
-    | inr none ↦ none
-  ],
-)
+-- a VMO that nothing keeps has neither a name nor a keeper
+pub free_counts : (vmo : Vmo) → is_kept vmo ≡ false → (vmo.names ≤ 0) × (vmo.keepers ≤ 0)
+free_counts vmo free =
+    let none = or_parts (nat_lt 0 vmo.names) (nat_lt 0 vmo.keepers) free in
+    (ltb-false 0 vmo.names none.0, ltb-false 0 vmo.keepers none.1)

@@ -32,7 +32,7 @@ pub record Ranking (lineage : ℕ → Option Lineage) : Type 0 where
 pub record AreRelated (names : ℕ → Option Target) (lineage : ℕ → Option Lineage) : Type 0 where
   pub names_below : (n : ℕ) → IsSome (names n) → n < NAMES
   pub koids_below : (v : ℕ) → IsSome (lineage v) → v < 2 ^ 64
-  pub held : (n : ℕ) (t : Target) → names n ≡ Some t → IsSome (lineage t.koid.0)
+  pub targets : (n : ℕ) (t : Target) → names n ≡ Some t → IsSome (lineage t.koid.0)
   pub parents : (v p : ℕ) (l : Lineage) → lineage v ≡ Some l → l.parent ≡ Some p → IsSome (lineage p)
   pub ranked : ∥ Ranking lineage ∥₁
 
@@ -47,9 +47,9 @@ pub record AreCounted (names : ℕ → Option Target) (vmos : ℕ → Option Vmo
   pub named : (v : ℕ) (vmo : Vmo) → vmos v ≡ Some vmo → HasNames names v vmo
   pub children : (v : ℕ) (vmo : Vmo) → vmos v ≡ Some vmo → vmo.children ≡ child_count (lineages vmos) v
 
-pub record AreKept (names : ℕ → Option Target) (vmos : ℕ → Option Vmo) : Type 0 where
+pub record AreConsistent (names : ℕ → Option Target) (vmos : ℕ → Option Vmo) : Type 0 where
   pub related : AreRelated names (lineages vmos)
   pub counted : AreCounted names vmos
 
 pub record IsTable (a : Inside) : Type 0 where
-  pub kept : AreKept (names_in a.names.entries) (vmos_in a.vmos.entries)
+  pub consistent : AreConsistent (names_in a.names.entries) (vmos_in a.vmos.entries)

@@ -73,11 +73,11 @@ vmos_without vmos v parent w =
     else option_map (λ (vmo : Vmo). record vmo { parent = koid_after v parent vmo.parent }) (vmos w)
 
 -- a name or a keeper keeps a VMO
-abbrev pub is_held : Vmo → Bool
-is_held vmo = nat_lt 0 vmo.names || nat_lt 0 vmo.keepers
+abbrev pub is_kept : Vmo → Bool
+is_kept vmo = nat_lt 0 vmo.names || nat_lt 0 vmo.keepers
 
 -- the VMOs, after the VMO v got this value: where nothing keeps it, it leaves, and its parent gets its children
 unfoldable pub settled : (ℕ → Option Vmo) → ℕ → Vmo → ℕ → Option Vmo
 settled vmos v vmo =
-    if is_held vmo then with_key vmos v vmo
+    if is_kept vmo then with_key vmos v vmo
     else adopted (vmos_without vmos v vmo.parent) (option_map koid_number vmo.parent) 1 vmo.children

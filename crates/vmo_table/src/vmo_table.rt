@@ -7,7 +7,7 @@ ghost use Rattle.vm_model.specs.Naming.Names.{owner, children, may_decommit};
 ghost use Rattle.vmo_table.specs.Vmos.{koid_number};
 ghost use Rattle.vmo_table.specs.Table.{names_of, lineage_in, keepers_of, room_of, Settles, Closes};
 
-use crate::vmos::{Vmo, add_name, count_children, settle, take_name, write_back};
+use crate::vmos::{Vmo, count_children, settle, write_back};
 use std::alloc::Global;
 use std::collections::HashMap;
 use std::marker::Model;
@@ -123,7 +123,7 @@ impl VmoTable {
     {
         prove!(name.0 <= u32::MAX);
         let vmo = self.vmos[&target.koid];
-        write_back(&mut self.vmos, target.koid, add_name(vmo, target.kind));
+        write_back(&mut self.vmos, target.koid, vmo.add_name(target.kind));
         // It succeeds, since there is room.
         let _named = self.names.insert(name, target);
     }
@@ -146,7 +146,7 @@ impl VmoTable {
         let target = self.names[&name];
         let vmo = self.vmos[&target.koid];
         let _closed = self.names.remove(&name);
-        settle(&mut self.vmos, target.koid, take_name(vmo, target.kind))
+        settle(&mut self.vmos, target.koid, vmo.take_name(target.kind))
     }
 
     /// Lets `n` further keepers keep a VMO of the table: pins, or pages that are mapped.

@@ -5,7 +5,7 @@ ghost use Rattle.std.specs.Option.{option_map};
 ghost use Rattle.vm_base.specs.Entries.{with_key, passes};
 ghost use Rattle.vm_base.specs.declared.limits.TheConstants.{NAMES};
 ghost use Rattle.vm_model.specs.Naming.Names.{is_parent, has_parent};
-ghost use Rattle.vmo_table.specs.Vmos.{koid_number, vmos_in, lineages, kind_bit, more_names, fewer_names, adopted, koid_after, vmos_without, vmo_count, is_held, settled};
+ghost use Rattle.vmo_table.specs.Vmos.{koid_number, vmos_in, lineages, kind_bit, more_names, fewer_names, adopted, koid_after, vmos_without, vmo_count, is_kept, settled};
 ghost use Rattle.vmo_table.specs.declared.vmos.Vmo.{Vmo};
 
 use std::collections::HashMap;
@@ -37,33 +37,42 @@ fn bit_of(kind: NameKind, other: NameKind) -> u64
     if kind == other { 1 } else { 0 }
 }
 
-/// The VMO with one name more of this kind.
-pub(crate) fn add_name(vmo: Vmo, kind: NameKind) -> Vmo
-    requires names { vmo.names ≤ NAMES }
-    requires slices { vmo.slices ≤ NAMES }
-    requires references { vmo.references ≤ NAMES }
-    ensures { result ≡ more_names kind vmo }
-{
-    Vmo {
-        names: vmo.names + 1,
-        slices: vmo.slices + bit_of(NameKind::Slice, kind),
-        references: vmo.references + bit_of(NameKind::Reference, kind),
-        ..vmo
+impl Vmo {
+    /// The VMO with one name more of this kind.
+    pub fn add_name(self, kind: NameKind) -> Vmo
+        requires names { self.names ≤ NAMES }
+        requires slices { self.slices ≤ NAMES }
+        requires references { self.references ≤ NAMES }
+        ensures { result ≡ more_names kind self }
+    {
+        Vmo {
+            names: self.names + 1,
+            slices: self.slices + bit_of(NameKind::Slice, kind),
+            references: self.references + bit_of(NameKind::Reference, kind),
+            ..self
+        }
     }
-}
 
-/// The VMO with one name less of this kind.
-pub(crate) fn take_name(vmo: Vmo, kind: NameKind) -> Vmo
-    requires names { 1 ≤ vmo.names }
-    requires slices { kind_bit NameKind.Slice kind ≤ vmo.slices }
-    requires references { kind_bit NameKind.Reference kind ≤ vmo.references }
-    ensures { result ≡ fewer_names kind vmo }
-{
-    Vmo {
-        names: vmo.names - 1,
-        slices: vmo.slices - bit_of(NameKind::Slice, kind),
-        references: vmo.references - bit_of(NameKind::Reference, kind),
-        ..vmo
+    /// The VMO with one name less of this kind.
+    pub fn take_name(self, kind: NameKind) -> Vmo
+        requires names { 1 ≤ self.names }
+        requires slices { kind_bit NameKind.Slice kind ≤ self.slices }
+        requires references { kind_bit NameKind.Reference kind ≤ self.references }
+        ensures { result ≡ fewer_names kind self }
+    {
+        Vmo {
+            names: self.names - 1,
+            slices: self.slices - bit_of(NameKind::Slice, kind),
+            references: self.references - bit_of(NameKind::Reference, kind),
+            ..self
+        }
+    }
+
+    /// Whether a name or a keeper keeps the VMO.
+    fn is_kept(self) -> bool
+        ensures { result ≡ is_kept self }
+    {
+        self.names > 0 || self.keepers > 0
     }
 }
 
@@ -124,13 +133,13 @@ fn take_out(vmos: &mut HashMap<Koid, Vmo>, koid: Koid, parent: Option<Koid>, chi
 pub(crate) fn settle(vmos: &mut HashMap<Koid, Vmo>, koid: Koid, vmo: Vmo) -> Option<Koid>
     requires found { (old : Vmo) × (vmos_in vmos.old.entries koid.0 ≡ Some old) }
     requires childless { vmo.children ≡ 0 → (w : ℕ) → passes (has_parent koid.0) (lineages (vmos_in vmos.old.entries) w) ≡ false }
-    requires fits { is_held vmo ≡ false → (v : ℕ) (above : Vmo) → is_parent v (option_map koid_number vmo.parent) ≡ true →
+    requires fits { is_kept vmo ≡ false → (v : ℕ) (above : Vmo) → is_parent v (option_map koid_number vmo.parent) ≡ true →
         vmos_without (vmos_in vmos.old.entries) koid.0 vmo.parent v ≡ Some above →
         (1 ≤ above.children) × (above.children - 1 + vmo.children ≤ vmo_count (vmos_in vmos.old.entries)) }
     ensures vmos { vmos_in vmos.new.entries ≡ settled (vmos_in vmos.old.entries) koid.0 vmo }
-    ensures answer { result ≡ (if is_held vmo then None else Some koid) }
+    ensures answer { result ≡ (if is_kept vmo then None else Some koid) }
 {
-    if vmo.names > 0 || vmo.keepers > 0 {
+    if vmo.is_kept() {
         write_back(vmos, koid, vmo);
         return None;
     }

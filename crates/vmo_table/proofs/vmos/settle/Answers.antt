@@ -2,17 +2,17 @@ use Rattle.std.proofs.Common.{ℕ, Option, sym, ap, ◌∙◌, arith}
 use Rattle.std.specs.Option.{option_map}
 use Rattle.vmo_table.specs.declared.vmos.Vmo.{Vmo}
 use Rattle.vmo_table.specs.Vmos.{koid_number, vmos_in, adopted}
-use Rattle.vmo_table.proofs.VmosLaws.{settled-held, settled-free, held_by, held_by_none}
+use Rattle.vmo_table.proofs.VmosLaws.{settled-kept, settled-free}
 use Rattle.vmo_table.proofs.vmos.settle.Goals as goal
 use Rattle.vmo_table.proofs.EntryLaws.{vmo_count_le}
 
-pub returns-then-vmo-gt0-clause-vmos : goal.returns-then-vmo-gt0-clause-vmos
-returns-then-vmo-gt0-clause-vmos c =
-    c.write_back.ensures ∙ sym (settled-held (vmos_in c.args.vmos.now.entries) c.args.koid.0 c.args.vmo (held_by c.args.vmo c.then-vmo-gt0.either))
+pub returns-then-is_kept-clause-vmos : goal.returns-then-is_kept-clause-vmos
+returns-then-is_kept-clause-vmos c =
+    c.write_back.ensures ∙ sym (settled-kept (vmos_in c.args.vmos.now.entries) c.args.koid.0 c.args.vmo (sym c.is_kept.ensures ∙ c.if-is_kept.true))
 
 pub count_children-requires : goal.count_children-requires
 count_children-requires c = λ v above hit e.
-    let fits = c.requires.fits (held_by_none c.args.vmo c.if-vmo-gt0.false c.if-vmo-gt0-2.false) v above hit (ap (λ (m : ℕ → Option Vmo). m v) (sym c.take_out.ensures) ∙ e) in
+    let fits = c.requires.fits (sym c.is_kept.ensures ∙ c.if-is_kept.false) v above hit (ap (λ (m : ℕ → Option Vmo). m v) (sym c.take_out.ensures) ∙ e) in
     let few = vmo_count_le c.args.vmos.now.entries in
     (fits.0, omega (arith, fits.1, few, c.len.ensures.small))
 
@@ -21,4 +21,4 @@ returns-clause-vmos c =
     let vmo = c.args.vmo in
     c.count_children.ensures
     ∙ (ap (λ (m : ℕ → Option Vmo). adopted m (option_map koid_number vmo.parent) 1 vmo.children) c.take_out.ensures
-    ∙ sym (settled-free (vmos_in c.args.vmos.now.entries) c.args.koid.0 vmo (held_by_none vmo c.if-vmo-gt0.false c.if-vmo-gt0-2.false)))
+    ∙ sym (settled-free (vmos_in c.args.vmos.now.entries) c.args.koid.0 vmo (sym c.is_kept.ensures ∙ c.if-is_kept.false)))

@@ -5,8 +5,8 @@ use Rattle.vmo_table.specs.Vmos.{lineages, keepers_in}
 use Rattle.vmo_table.specs.Table.{Table, names_of, lineage_in, keepers_of}
 use Rattle.vmo_table.proofs.EntryLaws.{names_in-put, from_ok}
 use Rattle.vmo_table.proofs.KeepersLaws.{keepers-same}
-use Rattle.vmo_table.proofs.KeptLaws.{AreKept-same}
-use Rattle.vmo_table.proofs.WrittenLaws.{may_name, lineages-is_written, AreKept-written}
+use Rattle.vmo_table.proofs.EnteredLaws.{AreConsistent-same}
+use Rattle.vmo_table.proofs.WrittenLaws.{may_name, lineages-is_written, AreConsistent-written}
 use Rattle.vmo_table.proofs.TableLaws.{rooms, known_there, aliases, aliasing, keepers_kept}
 use Rattle.vmo_table.proofs.vmo_table.VmoTable.alias.Goals as goal
 
@@ -30,7 +30,7 @@ invariant_of-self c =
     let room = rooms c.self.inside c.args.self.now c.self.view_is c.requires.room in
     let named = names_in-put c.self.inside.names.entries c.insert-named.new.self.entries c.args.name.0 c.args.target
     (from_ok c.insert-named.result (c.insert-named.ensures.succeeds room.0) c.insert-named.ensures.updates).0 in
-    record { kept = AreKept-same _ _ _ _ named c.write_back.ensures (AreKept-written _ _ _ _ _ written) }
+    record { consistent = AreConsistent-same _ _ _ _ named c.write_back.ensures (AreConsistent-written _ _ _ _ _ written) }
 
 pub returns-clause-names : goal.returns-clause-names
 returns-clause-names c =

@@ -5,17 +5,17 @@ use Rattle.vmo_table.specs.Vmos.{lineages, keepers_in}
 use Rattle.vmo_table.specs.Table.{Table, names_of, keepers_of}
 use Rattle.vmo_table.proofs.EntryLaws.{names_in-taken}
 use Rattle.vmo_table.proofs.KeepersLaws.{keepers-settled, keepers-same}
-use Rattle.vmo_table.proofs.KeptLaws.{AreKept-same}
+use Rattle.vmo_table.proofs.EnteredLaws.{AreConsistent-same}
 use Rattle.vmo_table.proofs.WrittenLaws.{name_counted}
-use Rattle.vmo_table.proofs.SettledLaws.{childless, left_fits, AreKept-settled, settles}
-use Rattle.vmo_table.proofs.TableLaws.{open_there, held_there, open_in, closing, keepers_kept, keepers_known, settles_same, closes_now}
+use Rattle.vmo_table.proofs.SettledLaws.{childless, left_fits, AreConsistent-settled, settles}
+use Rattle.vmo_table.proofs.TableLaws.{open_there, named_there, open_in, closing, keepers_kept, keepers_known, settles_same, closes_now}
 use Rattle.vmo_table.proofs.vmo_table.VmoTable.close.Goals as goal
 
 pub index-requires : goal.index-requires
 index-requires c = open_there c.self.inside c.args.self.now c.args.name.0 c.self.view_is c.requires
 
 pub index-vmo-requires : goal.index-vmo-requires
-index-vmo-requires c = held_there c.self.inside c.args.name.0 c.index.result.now c.self.invariant c.index.ensures
+index-vmo-requires c = named_there c.self.inside c.args.name.0 c.index.result.now c.self.invariant c.index.ensures
 
 pub take_name-requires : goal.take_name-requires
 take_name-requires c =
@@ -32,7 +32,7 @@ pub invariant_of-self : goal.invariant_of-self
 invariant_of-self c =
     let written = closing c.self.inside c.args.name.0 c.index.result.now c.index-vmo.result.now c.take_name.result c.self.invariant c.index.ensures c.index-vmo.ensures c.take_name.ensures in
     let names = names_in-taken c.self.inside.names.entries c.remove-closed.new.self.entries c.args.name.0 c.remove-closed.ensures.updates.0 in
-    record { kept = AreKept-same _ _ _ _ names c.settle.ensures.vmos (AreKept-settled _ _ _ _ _ written) }
+    record { consistent = AreConsistent-same _ _ _ _ names c.settle.ensures.vmos (AreConsistent-settled _ _ _ _ _ written) }
 
 pub returns-clause-names : goal.returns-clause-names
 returns-clause-names c =

@@ -10,7 +10,7 @@ use Rattle.vmo_table.specs.Vmos.{koid_number, lineage_of_vmo, lineages, keepers_
 use Rattle.vmo_table.specs.Table.{Table, names_of, lineage_in, keepers_of}
 use Rattle.vmo_table.proofs.EntryLaws.{names_in-put, vmos_in-put, from_ok}
 use Rattle.vmo_table.proofs.KeepersLaws.{keepers-same, keepers-adopted}
-use Rattle.vmo_table.proofs.KeptLaws.{AreKept-entered, AreKept-same, entered_fits}
+use Rattle.vmo_table.proofs.EnteredLaws.{AreConsistent-entered, AreConsistent-same, entered_fits}
 use Rattle.vmo_table.proofs.VmosLaws.{lineages-adopted, lineages-with_key}
 use Rattle.vmo_table.proofs.TableLaws.{rooms, enters, keepers_unknown}
 use Rattle.vmo_table.proofs.vmo_table.VmoTable.enter.Goals as goal
@@ -40,7 +40,7 @@ invariant_of-self c =
     let entering = enters c.self.inside c.args.self.now c.args.name.0 to new c.self.view_is c.self.invariant
     c.requires.name c.requires.koid c.requires.parent (omega arith) (omega arith) (omega arith) refl refl refl refl refl in
     let counted = ap (λ (m : ℕ → Option Vmo). adopted m (option_map koid_number c.args.parent) 0 1) kept in
-    record { kept = AreKept-same _ _ _ _ named (c.count_children.ensures ∙ counted) (AreKept-entered _ _ _ _ _ entering) }
+    record { consistent = AreConsistent-same _ _ _ _ named (c.count_children.ensures ∙ counted) (AreConsistent-entered _ _ _ _ _ entering) }
 
 pub returns-clause-names : goal.returns-clause-names
 returns-clause-names c =

@@ -4,8 +4,8 @@ use Rattle.vmo_table.specs.Vmos.{lineages, keepers_in}
 use Rattle.vmo_table.specs.Table.{Table, lineage_in, keepers_of}
 use Rattle.vmo_table.proofs.EntryLaws.{vmos_in-is}
 use Rattle.vmo_table.proofs.KeepersLaws.{keepers-more}
-use Rattle.vmo_table.proofs.KeptLaws.{AreKept-same}
-use Rattle.vmo_table.proofs.WrittenLaws.{with_keepers, lineages-is_written, AreKept-written}
+use Rattle.vmo_table.proofs.EnteredLaws.{AreConsistent-same}
+use Rattle.vmo_table.proofs.WrittenLaws.{with_keepers, lineages-is_written, AreConsistent-written}
 use Rattle.vmo_table.proofs.TableLaws.{known_there, keeping, keepers_kept, keepers_known}
 use Rattle.vmo_table.proofs.vmo_table.VmoTable.keep.Goals as goal
 
@@ -24,7 +24,7 @@ pub invariant_of-self : goal.invariant_of-self
 invariant_of-self c =
     let vmo = c.index-vmo.result.now in
     let written = keeping c.self.inside c.args.koid.0 vmo (vmo.keepers + c.from.result) c.self.invariant c.index-vmo.ensures in
-    record { kept = AreKept-same _ _ _ _ refl c.write_back.ensures (AreKept-written _ _ _ _ _ written) }
+    record { consistent = AreConsistent-same _ _ _ _ refl c.write_back.ensures (AreConsistent-written _ _ _ _ _ written) }
 
 pub returns-clause-lineage : goal.returns-clause-lineage
 returns-clause-lineage c =
