@@ -21,27 +21,6 @@ target koid may_write resizable = record { koid = koid; first = 0; limit = None;
 abbrev vmo : Bool → Origin → Option Koid → Vmo
 vmo resizable origin parent = record { resizable = resizable; origin = origin; parent = parent; names = 1; slices = 0; references = 0; children = 0; keepers = 0 }
 
-pub count_children-requires : goal.count_children-requires
-count_children-requires c = λ v old hit e.
-    let new = vmo c.args.resizable c.args.origin c.args.parent in
-    let room = rooms c.self.inside c.args.self.now c.self.view_is c.requires.room in
-    let kept = vmos_in-put c.self.inside.vmos.entries c.insert-kept.new.self.entries c.args.koid.0 new (from_ok c.insert-kept.result (c.insert-kept.ensures.succeeds room.1) c.insert-kept.ensures.updates).0 in
-    let entering = enters c.self.inside c.args.self.now c.args.name.0 (target c.args.koid c.args.may_write c.args.resizable) new c.self.view_is c.self.invariant
-    c.requires.name c.requires.koid c.requires.parent (omega arith) (omega arith) (omega arith) refl refl refl refl refl in
-    entered_fits _ _ _ _ _ entering v old hit (ap (λ (m : ℕ → Option Vmo). m v) (sym kept) ∙ e)
-
-pub invariant_of-self : goal.invariant_of-self
-invariant_of-self c =
-    let new = vmo c.args.resizable c.args.origin c.args.parent in
-    let to = target c.args.koid c.args.may_write c.args.resizable in
-    let room = rooms c.self.inside c.args.self.now c.self.view_is c.requires.room in
-    let named = names_in-put c.self.inside.names.entries c.insert-named.new.self.entries c.args.name.0 to (from_ok c.insert-named.result (c.insert-named.ensures.succeeds room.0) c.insert-named.ensures.updates).0 in
-    let kept = vmos_in-put c.self.inside.vmos.entries c.insert-kept.new.self.entries c.args.koid.0 new (from_ok c.insert-kept.result (c.insert-kept.ensures.succeeds room.1) c.insert-kept.ensures.updates).0 in
-    let entering = enters c.self.inside c.args.self.now c.args.name.0 to new c.self.view_is c.self.invariant
-    c.requires.name c.requires.koid c.requires.parent (omega arith) (omega arith) (omega arith) refl refl refl refl refl in
-    let counted = ap (λ (m : ℕ → Option Vmo). adopted m (option_map koid_number c.args.parent) 0 1) kept in
-    record { consistent = AreConsistent-same _ _ _ _ named (c.count_children.ensures ∙ counted) (AreConsistent-entered _ _ _ _ _ entering) }
-
 pub returns-clause-names : goal.returns-clause-names
 returns-clause-names c =
     let to = target c.args.koid c.args.may_write c.args.resizable in
@@ -66,3 +45,24 @@ returns-clause-keepers c =
     let kept = vmos_in-put c.self.inside.vmos.entries c.insert-kept.new.self.entries c.args.koid.0 new (from_ok c.insert-kept.result (c.insert-kept.ensures.succeeds room.1) c.insert-kept.ensures.updates).0 in
     let free = keepers_unknown c.self.inside c.args.self.now c.args.koid.0 c.self.view_is c.requires.koid in
     ap keepers_in c.count_children.ensures ∙ (keepers-adopted _ _ 0 1 ∙ (ap keepers_in kept ∙ (keepers-same _ c.args.koid.0 new free ∙ ap keepers_of c.self.view_is)))
+
+pub count_children-requires : goal.count_children-requires
+count_children-requires c = λ v old hit e.
+    let new = vmo c.args.resizable c.args.origin c.args.parent in
+    let room = rooms c.self.inside c.args.self.now c.self.view_is c.requires.room in
+    let kept = vmos_in-put c.self.inside.vmos.entries c.insert-kept.new.self.entries c.args.koid.0 new (from_ok c.insert-kept.result (c.insert-kept.ensures.succeeds room.1) c.insert-kept.ensures.updates).0 in
+    let entering = enters c.self.inside c.args.self.now c.args.name.0 (target c.args.koid c.args.may_write c.args.resizable) new c.self.view_is c.self.invariant
+    c.requires.name c.requires.koid c.requires.parent (omega arith) (omega arith) (omega arith) refl refl refl refl refl in
+    entered_fits _ _ _ _ _ entering v old hit (ap (λ (m : ℕ → Option Vmo). m v) (sym kept) ∙ e)
+
+pub invariant_of-self : goal.invariant_of-self
+invariant_of-self c =
+    let new = vmo c.args.resizable c.args.origin c.args.parent in
+    let to = target c.args.koid c.args.may_write c.args.resizable in
+    let room = rooms c.self.inside c.args.self.now c.self.view_is c.requires.room in
+    let named = names_in-put c.self.inside.names.entries c.insert-named.new.self.entries c.args.name.0 to (from_ok c.insert-named.result (c.insert-named.ensures.succeeds room.0) c.insert-named.ensures.updates).0 in
+    let kept = vmos_in-put c.self.inside.vmos.entries c.insert-kept.new.self.entries c.args.koid.0 new (from_ok c.insert-kept.result (c.insert-kept.ensures.succeeds room.1) c.insert-kept.ensures.updates).0 in
+    let entering = enters c.self.inside c.args.self.now c.args.name.0 to new c.self.view_is c.self.invariant
+    c.requires.name c.requires.koid c.requires.parent (omega arith) (omega arith) (omega arith) refl refl refl refl refl in
+    let counted = ap (λ (m : ℕ → Option Vmo). adopted m (option_map koid_number c.args.parent) 0 1) kept in
+    record { consistent = AreConsistent-same _ _ _ _ named (c.count_children.ensures ∙ counted) (AreConsistent-entered _ _ _ _ _ entering) }
