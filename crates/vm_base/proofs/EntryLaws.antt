@@ -1,10 +1,10 @@
 -- Laws of maps from numbers: what they hold after a key was given a value or was taken out, whether some entry passes a test,
 -- and how many entries do.
-use Rattle.std.proofs.Common.{◌≡◌, ◌≢◌, ℕ, ◌+◌, ◌<◌, ◌≤◌, Bool, true, false, cond, ◌||◌, Option, None, Some, ◌⊎◌, refl, sym, ap, ◌∙◌, inl, inr, arith}
+use Rattle.std.proofs.Common.{◌≡◌, ◌≢◌, ℕ, ◌+◌, ◌<◌, ◌≤◌, Bool, true, false, cond, Option, None, Some, ◌⊎◌, refl, sym, ap, ◌∙◌, inl, inr, arith}
 use Rattle.std.specs.Prelude.{IsSome, is_some, nat_lt}
-use Rattle.std.proofs.lemmas.Bool.{cases_Bool, cases_eq, or_left, false_from_ne_true}
+use Rattle.std.proofs.lemmas.Bool.{cases_Bool, cases_eq, false_from_ne_true}
 use Rattle.vm_base.specs.Entries.{with_key, without_key, passes, any_entry, entry_count}
-use Rattle.vm_base.proofs.SearchLaws.{eqb_same, eqb_apart, any_below_found, any_below_at, any_below_same, any_below-count, count_below_le, count_below_same, count_below_none, count_below_hit, count_below_change, bit_same, bit-false}
+use Rattle.vm_base.proofs.SearchLaws.{eqb_same, eqb_apart, any_below_found, any_below_at, any_below-count, count_below_le, count_below_same, count_below_none, count_below_hit, count_below_change, bit_same, bit-false}
 
 -- ---- options
 
@@ -76,9 +76,6 @@ without_key-some {A} map k n a e = elim (cases_eq n k) [
 pub with_key-here : {A : Type 0} (map : ℕ → Option A) (k : ℕ) (a : A) (n : ℕ) → n ≡ k → with_key map k a n ≡ Some a
 with_key-here {A} map k a n same = ap (with_key map k a) same ∙ with_key-same map k a
 
-pub without_key-here : {A : Type 0} (map : ℕ → Option A) (k n : ℕ) → n ≡ k → without_key map k n ≡ None
-without_key-here {A} map k n same = ap (without_key map k) same ∙ without_key-same map k
-
 -- keys stay where one is given a value
 pub with_key-stays : {A : Type 0} (map : ℕ → Option A) (k : ℕ) (a : A) (n : ℕ) → IsSome (map n) → IsSome (with_key map k a n)
 with_key-stays {A} map k a n h = elim (cases_eq n k) [
@@ -139,19 +136,9 @@ pub entry_count_hit : {A : Type 0} (bound : ℕ) (test : A → Bool) (map : ℕ 
 unfolding entry_count
 entry_count_hit bound test map k a h e hit = count_below_hit bound k (λ n. passes test (map n)) h (passes-some test (map k) a e ∙ hit)
 
--- in an empty map nothing passes, and nothing counts
-pub any_entry-empty : {A : Type 0} (bound : ℕ) (test : A → Bool) (map : ℕ → Option A) → ((k : ℕ) → map k ≡ None) → any_entry bound test map ≡ false
-any_entry-empty bound test map free = none_entry bound test map (λ k a h e. absurd (let none = free k in cc))
-
 pub entry_count-empty : {A : Type 0} (bound : ℕ) (test : A → Bool) (map : ℕ → Option A) → ((k : ℕ) → map k ≡ None) → entry_count bound test map ≡ 0
 unfolding entry_count
 entry_count-empty bound test map free = count_below_none bound (λ k. passes test (map k)) (λ k h. passes-none test (map k) (free k))
-
--- maps whose entries pass alike
-pub any_entry-same : {A B : Type 0} (bound : ℕ) (test : A → Bool) (map : ℕ → Option A) (other_test : B → Bool) (other : ℕ → Option B) →
-    ((k : ℕ) → k < bound → passes test (map k) ≡ passes other_test (other k)) → any_entry bound test map ≡ any_entry bound other_test other
-unfolding any_entry
-any_entry-same bound test map other_test other each = any_below_same bound (λ k. passes test (map k)) (λ k. passes other_test (other k)) each
 
 pub entry_count-same : {A B : Type 0} (bound : ℕ) (test : A → Bool) (map : ℕ → Option A) (other_test : B → Bool) (other : ℕ → Option B) →
     ((k : ℕ) → k < bound → passes test (map k) ≡ passes other_test (other k)) → entry_count bound test map ≡ entry_count bound other_test other
@@ -194,27 +181,6 @@ entry_count-without_key bound test map k h =
     omega (arith, change, is)
 
 -- ---- some entry passes, as keys come and go
-
--- one entry more, under a key that was free: it passes, or another does
-pub any_entry-with_key : {A : Type 0} (bound : ℕ) (test : A → Bool) (map : ℕ → Option A) (k : ℕ) (a : A) → k < bound → map k ≡ None →
-    any_entry bound test (with_key map k a) ≡ (test a || any_entry bound test map)
-any_entry-with_key bound test map k a h free = elim (cases_Bool (test a)) [
-  | inl hit ↦ any_entry_at bound test (with_key map k a) k a h (with_key-same map k a) hit ∙ sym (or_left (test a) (any_entry bound test map) hit)
-  | inr miss ↦ any_entry_either bound test (with_key map k a) test map
-      (λ e.
-      let found = any_entry_found bound test (with_key map k a) e in
-      elim (with_key-cases map k a found.0 found.1 found.3) [
-        | inl new ↦ absurd (let hit = ap test new.1 ∙ found.4 in cc)
-        | inr old ↦ any_entry_at bound test map found.0 found.1 found.2 old.1 found.4
-      ])
-      (λ e.
-      let found = any_entry_found bound test map e in
-      let apart : found.0 ≢ k = λ same. absurd (let here = found.3 in let none = ap map same ∙ free in cc) in
-      any_entry_at bound test (with_key map k a) found.0 found.1 found.2 (with_key-other map k a found.0 apart ∙ found.3) found.4)
-      ∙ sym (or_from_left (test a) (any_entry bound test map) miss)
-] where
-  or_from_left : (b c : Bool) → b ≡ false → (b || c) ≡ c
-  or_from_left b c e = ap (λ (d : Bool). d || c) e
 
 -- what passes without an entry passed with it
 pub any_entry-without_key_was : {A : Type 0} (bound : ℕ) (test : A → Bool) (map : ℕ → Option A) (k : ℕ) → any_entry bound test (without_key map k) ≡ true → any_entry bound test map ≡ true

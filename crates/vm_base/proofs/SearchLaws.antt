@@ -65,16 +65,6 @@ any_below_same zero p q each = refl
 any_below_same (suc n) p q each =
     ap (λ b. b || any_below n p) (each n (omega arith)) ∙ ap (λ b. q n || b) (any_below_same n p q (λ k h. each k (omega arith)))
 
--- two searches, of one outcome where each find of the one is matched in the other
-pub any_below_either : (m n : ℕ) (p q : ℕ → Bool) → ((k : ℕ) → k < m → p k ≡ true → any_below n q ≡ true) → ((k : ℕ) → k < n → q k ≡ true → any_below m p ≡ true) → any_below m p ≡ any_below n q
-any_below_either m n p q there back = elim (cases_Bool (any_below m p)) [
-  | inl hit ↦ let found = any_below_found m p hit in hit ∙ sym (there found.0 found.1 found.2)
-  | inr miss ↦ miss ∙ sym (none_below n q (λ k h. elim (cases_Bool (q k)) [
-    | inl passes ↦ absurd (let hit = back k h passes in cc)
-    | inr fails ↦ fails
-  ]))
-]
-
 -- tests that agree below the bound count alike
 pub count_below_same : (n : ℕ) (p q : ℕ → Bool) → ((k : ℕ) → k < n → p k ≡ q k) → count_below n p ≡ count_below n q
 unfolding count_below
@@ -119,18 +109,6 @@ count_below_one_more (suc n) k p q h miss hit others = elim (below_next k n h) [
       let before = count_below_one_more n k p q less miss hit others in
       let same : ◌≡◌ {A = ℕ} (cond (q n) 1 0) (cond (p n) 1 0) = ap (λ (b : Bool). cond {A = ℕ} b 1 0) (others n (omega arith)) in
       omega (arith, before, same)
-]
-
--- where not all pass, one does not
-pub count_below_room : (n : ℕ) (p : ℕ → Bool) → count_below n p < n → (k : ℕ) × (k < n) × (p k ≡ false)
-unfolding count_below
-count_below_room zero p h = absurd (omega arith)
-count_below_room (suc n) p h = elim (cases_Bool (p n)) [
-  | inl hit ↦
-      let counted : ◌≡◌ {A = ℕ} (cond (p n) 1 0) 1 = ap (λ (b : Bool). cond {A = ℕ} b 1 0) hit in
-      let found = count_below_room n p (omega (arith, counted, h)) in
-      (found.0, omega (arith, found.1), found.2)
-  | inr miss ↦ (n, omega arith, miss)
 ]
 
 -- a number is found where more than none count
@@ -181,28 +159,11 @@ count_below_hit (suc n) k p h e = elim (below_next k n h) [
   | inr less ↦ omega (arith, count_below_hit n k p less e)
 ]
 
--- where something fails, not all count
-pub count_below_miss : (n k : ℕ) (p : ℕ → Bool) → k < n → p k ≡ false → count_below n p < n
-unfolding count_below
-count_below_miss zero k p h e = absurd (omega arith)
-count_below_miss (suc n) k p h e = elim (below_next k n h) [
-  | inl same ↦
-      let bit : ◌≡◌ {A = ℕ} (cond (p n) 1 0) 0 = ap (λ (b : Bool). cond {A = ℕ} b 1 0) (ap p (sym same) ∙ e) in
-      omega (arith, count_below_le n p)
-  | inr less ↦ omega (arith, bit_le (p n), count_below_miss n k p less e)
-]
-
 -- tests that share out what a third passes count together as it does
 pub count_below_split : (n : ℕ) (p q r : ℕ → Bool) → ((k : ℕ) → cond (r k) 1 0 ≡ cond (p k) 1 0 + cond (q k) 1 0) → count_below n r ≡ count_below n p + count_below n q
 unfolding count_below
 count_below_split zero p q r each = refl
 count_below_split (suc n) p q r each = omega (arith, each n, count_below_split n p q r each)
-
--- the same for three tests
-pub count_below_split_three : (n : ℕ) (p q s r : ℕ → Bool) → ((k : ℕ) → cond (r k) 1 0 ≡ cond (p k) 1 0 + cond (q k) 1 0 + cond (s k) 1 0) → count_below n r ≡ count_below n p + count_below n q + count_below n s
-unfolding count_below
-count_below_split_three zero p q s r each = refl
-count_below_split_three (suc n) p q s r each = omega (arith, each n, count_below_split_three n p q s r each)
 
 -- where nothing passes from m on, the numbers below m are all that count
 pub count_below_gap : (m n : ℕ) (p : ℕ → Bool) → m ≤ n → ((k : ℕ) → m ≤ k → k < n → p k ≡ false) → count_below n p ≡ count_below m p
@@ -214,10 +175,6 @@ count_below_gap m (suc n) p h none = elim (cases_eq m (suc n)) [
       let rest = count_below_gap m n p (omega arith) (λ k l less. none k l (omega arith)) in
       omega (arith, rest, bit-false (p n) (none n (omega arith) (omega arith)))
 ]
-
--- where nothing passes from m to below k, k counts next
-pub count_below_next : (m k : ℕ) (p : ℕ → Bool) → m ≤ k → ((j : ℕ) → m ≤ j → j < k → p j ≡ false) → count_below (k + 1) p ≡ count_below m p + cond (p k) 1 0
-count_below_next m k p h none = omega (arith, count_below-suc k p, count_below_gap m k p h none)
 
 -- nothing counts below 0
 pub count_below-zero : (p : ℕ → Bool) → count_below 0 p ≡ 0

@@ -39,14 +39,6 @@ touched_end_le offset len pages h = omega arith
 
 -- ---- pieces
 
-pub part_at-is : (offset p : ℕ) → part_at offset p ≡ offset - PAGE * p
-unfolding part_at
-part_at-is offset p = refl
-
-pub part_bytes-is : (offset : ℕ) (bytes : List ℕ) (p : ℕ) → part_bytes offset bytes p ≡ slice_range bytes (PAGE * p - offset) (PAGE * (p + 1) - offset)
-unfolding part_bytes
-part_bytes-is offset bytes p = refl
-
 -- a range that ends behind the list ends with it
 pub slice_range-min : (bytes : List ℕ) (i j : ℕ) → slice_range bytes i j ≡ slice_range bytes i (min j (length bytes))
 slice_range-min bytes i j = elim (cases_lt j (length bytes)) [

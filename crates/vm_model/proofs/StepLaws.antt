@@ -15,7 +15,6 @@ use Rattle.vm_model.specs.Contents.Content.{nothing, pages_of}
 use Rattle.vm_model.specs.Contents.Writing.{touched}
 use Rattle.vm_model.specs.Contents.Zeroing.{owned_by_zero}
 use Rattle.vm_model.specs.declared.names.Target.{Target}
-
 use Rattle.vm_model.specs.Naming.Pins.{is_pinned}
 use Rattle.vm_model.specs.Machine.State.{State, empty_state, is_open, target_of, koid_of, name_pages, size_of, place_of, IsGoodName, IsGoodState}
 use Rattle.vm_model.specs.Machine.Refusals.{lacks_frames, change_refusals, refusals, first_of}
