@@ -3,14 +3,14 @@ use Rattle.std.proofs.Common.{◌≡◌, ℕ, ◌+◌, ◌-◌, ◌^◌, ◌<◌
 use Rattle.std.specs.Option.{option_map}
 use Rattle.std.proofs.lemmas.Bool.{cases_Bool, cond-true, cond-false}
 use Rattle.vm_base.specs.Entries.{with_key}
+use Rattle.vm_base.specs.declared.limits.TheConstants.{NAMES}
+use Rattle.vm_base.proofs.EntryLaws.{with_key-cases, entry_count-with_key}
 use Rattle.vm_model.specs.declared.names.Target.{Target}
 use Rattle.vm_model.specs.Naming.Names.{Lineage, is_parent, child_count, has_parent}
-use Rattle.vm_base.specs.declared.limits.TheConstants.{NAMES}
+use Rattle.vm_model.specs.declared.names.NameKind.TheVariants.{Owner}
 use Rattle.vmo_table.specs.declared.vmos.Vmo.{Vmo}
 use Rattle.vmo_table.specs.Vmos.{koid_number, lineage_of_vmo, lineages, adopted, vmo_count}
-use Rattle.vm_model.specs.declared.names.NameKind.TheVariants.{Owner}
 use Rattle.vmo_table.specs.TableFields.{AreRelated, HasNames, AreConsistent}
-use Rattle.vm_base.proofs.EntryLaws.{with_key-cases, entry_count-with_key}
 use Rattle.vmo_table.proofs.RelatedLaws.{is_parent_found, child_count-unknown, AreRelated-empty, AreRelated-entered}
 use Rattle.vmo_table.proofs.NamedLaws.{HasNames-kept, HasNames-at, HasNames-first, HasNames-more_other}
 use Rattle.vmo_table.proofs.VmosLaws.{lineages-with_key, lineages-adopted, adopted_cases, children_le}

@@ -5,17 +5,18 @@ use Rattle.std.specs.Prelude.{IsOk, OnOk}
 use Rattle.std.specs.Map.{lookup}
 use Rattle.std.specs.Map.Calls.{RetainsPairs}
 use Rattle.std.proofs.lemmas.Bool.{cases_eq, eq-eqb, ne_eqb, cond-true, cond-false, cases_lt}
+use Rattle.std.proofs.lemmas.Bool.Decides.{nat_tests}
 use Rattle.vm_base.specs.declared.names.Koid.{Koid}
 use Rattle.vm_base.specs.declared.names.VmoName.{VmoName}
 use Rattle.vm_base.specs.Entries.{with_key, without_key, passes, entry_count}
 use Rattle.vm_base.proofs.EntryLaws.{passes-some, entry_count-change, entry_count-same, entry_count-empty}
+use Rattle.vm_base.proofs.SearchLaws.{bit_le}
 use Rattle.vm_model.specs.declared.names.Target.{Target}
 use Rattle.vm_model.specs.Naming.Names.{is_parent, has_parent}
 use Rattle.vmo_table.specs.declared.vmos.Vmo.{Vmo}
 use Rattle.vmo_table.specs.Vmos.{koid_number, vmos_in, lineage_of_vmo, lineages, with_children, adopted, koid_after, vmos_without, vmo_count}
 use Rattle.vmo_table.specs.Table.{names_in}
-use Rattle.vmo_table.proofs.VmosLaws.{lineages-is, without-here, without-other, vmo_after}
-use Rattle.vm_base.proofs.SearchLaws.{bit_le}
+use Rattle.vmo_table.proofs.VmosLaws.{lineages-is, without-here, without-other, vmo_after, is_some-lineages}
 
 -- an entry of the map of VMOs
 abbrev pub vmo_at : List (Koid × Vmo) → ℕ → Option Vmo
@@ -38,10 +39,10 @@ pub names_in_found : (entries : List (VmoName × Target)) (n : ℕ) (t : Target)
 names_in_found entries n t e = names_in-is entries n ∙ e
 
 flipped : {A : Type 0} (a b : ℕ) (x y : A) → cond (a == b) x y ≡ cond (b == a) x y
-flipped a b x y = elim (cases_eq a b) [
-  | inl same ↦ cond-true (a == b) x y (eq-eqb a b same) ∙ sym (cond-true (b == a) x y (eq-eqb b a (sym same)))
-  | inr apart ↦ cond-false (a == b) x y (ne_eqb a b apart) ∙ sym (cond-false (b == a) x y (ne_eqb b a (λ e. apart (sym e))))
-]
+flipped a b x y = ap (λ (t : Bool). cond t x y) (turned a b)
+  where
+    turned : (m n : ℕ) → (m == n) ≡ (n == m)
+    turned m n = grind (arith, nat_tests)
 
 -- ---- the map of VMOs
 
@@ -200,11 +201,7 @@ pub target_there : (entries : List (VmoName × Target)) (n : ℕ) → IsSome (na
 target_there entries n h = sym (ap is_some (names_in-is entries n)) ∙ h
 
 pub vmo_there : (entries : List (Koid × Vmo)) (v : ℕ) → IsSome (lineages (vmos_in entries) v) → IsSome (vmo_at entries v)
-vmo_there entries v h = of (vmo_at entries v) (sym (ap is_some (lineages-is (vmos_in entries) v ∙ ap (option_map lineage_of_vmo) (vmos_in-is entries v))) ∙ h)
-  where
-    of : (o : Option Vmo) → IsSome (option_map lineage_of_vmo o) → IsSome o
-    of None e = absurd (cc)
-    of (Some vmo) e = refl
+vmo_there entries v h = sym (is_some-lineages (vmos_in entries) v ∙ ap is_some (vmos_in-is entries v)) ∙ h
 
 pub lineage_at : (entries : List (Koid × Vmo)) (v : ℕ) (vmo : Vmo) → vmo_at entries v ≡ Some vmo → lineages (vmos_in entries) v ≡ Some (lineage_of_vmo vmo)
 lineage_at entries v vmo e = lineages-is (vmos_in entries) v ∙ ap (option_map lineage_of_vmo) (vmos_in-is entries v ∙ e)

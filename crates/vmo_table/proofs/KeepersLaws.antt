@@ -5,10 +5,10 @@ use Rattle.std.specs.Option.{option_map}
 use Rattle.std.proofs.lemmas.Bool.{cases_Bool, cases_eq, eq-eqb, ne_eqb, cond-true, cond-false}
 use Rattle.vm_base.specs.declared.names.Koid.{Koid}
 use Rattle.vm_base.specs.Entries.{with_key}
+use Rattle.vm_base.proofs.EntryLaws.{with_key-here, with_key-other}
 use Rattle.vm_model.specs.Naming.Names.{is_parent}
 use Rattle.vmo_table.specs.declared.vmos.Vmo.{Vmo}
 use Rattle.vmo_table.specs.Vmos.{koid_number, keepers_in, with_children, adopted, vmos_without, is_kept, settled}
-use Rattle.vm_base.proofs.EntryLaws.{with_key-here, with_key-other}
 use Rattle.vmo_table.proofs.VmosLaws.{vmo_after, without-here, without-other, settled-kept, settled-free, free_counts}
 
 -- the keepers of a VMO that may be there

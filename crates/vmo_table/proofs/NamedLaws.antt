@@ -1,17 +1,17 @@
 -- How many names of each kind a VMO has, as names come and go.
 use Rattle.std.proofs.Common.{◌≡◌, ◌≢◌, ℕ, ◌+◌, ◌-◌, ◌<◌, ◌≤◌, ◌&&◌, false, Option, None, Some, refl, sym, ap, ◌∙◌, arith, Bool, true, cond}
 use Rattle.std.proofs.lemmas.Bool.{eq-eqb, ne_eqb}
+use Rattle.vm_base.specs.Entries.{with_key, without_key, entry_count}
+use Rattle.vm_base.specs.declared.limits.TheConstants.{NAMES}
+use Rattle.vm_base.proofs.EntryLaws.{passes-some, entry_count_le, entry_count-with_key, entry_count-without_key}
 use Rattle.vm_model.specs.declared.names.NameKind.{NameKind}
 use Rattle.vm_model.specs.declared.names.NameKind.TheVariants.{Owner, Slice, Reference}
-use Rattle.vm_base.specs.Entries.{with_key, without_key, entry_count}
 use Rattle.vm_model.specs.declared.names.Target.{Target}
 use Rattle.vm_model.specs.Naming.Names.{Lineage, is_kind, names_as, is_of, is_of_as}
-use Rattle.vm_base.specs.declared.limits.TheConstants.{NAMES}
 use Rattle.vmo_table.specs.declared.vmos.Vmo.{Vmo}
 use Rattle.vmo_table.specs.Vmos.{kind_bit, more_names, fewer_names}
 use Rattle.vmo_table.specs.TableFields.{name_count, AreRelated, HasNames}
 use Rattle.vmo_table.proofs.RelatedLaws.{name_count-unknown, names_as-unknown}
-use Rattle.vm_base.proofs.EntryLaws.{passes-some, entry_count_le, entry_count-with_key, entry_count-without_key}
 
 -- A VMO whose names are counted as before.
 pub record KeepsNames (old new : Vmo) : Type 0 where

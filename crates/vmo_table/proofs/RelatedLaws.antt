@@ -3,17 +3,17 @@ use Rattle.std.proofs.Common.{◌≡◌, ◌≢◌, ℕ, ◌+◌, ◌<◌, ◌==
 use Rattle.std.specs.Option.{option_map}
 use Rattle.std.proofs.lemmas.Bool.{cases_eq, eq-eqb, ne_eqb, eqb-true, false_from_ne_true, cond-true, cond-false}
 use Rattle.std.proofs.lemmas.Option.{same_Some}
-use Rattle.vm_base.specs.Entries.{with_key, without_key, passes, entry_count}
-use Rattle.vm_model.specs.declared.names.Target.{Target}
-use Rattle.vm_model.specs.Naming.Names.{Lineage, is_named, is_parent, has_parent, child_count, parent_without, lineage_without, is_of, is_of_as, names_as, is_kind}
-use Rattle.vm_base.specs.declared.limits.TheConstants.{NAMES}
-use Rattle.vm_base.proofs.SearchLaws.{count_below_one_more, count_below_hit, count_below_split}
-use Rattle.vmo_table.specs.TableFields.{name_count, AreRelated, Ranking}
-use Rattle.vm_base.proofs.EntryLaws.{with_key-here, with_key-other, with_key-cases, without_key-some, with_key-stays, some_is, passes-none, passes-some, passes_found, any_entry_none, entry_count_miss, entry_count-same, none_entry}
-use Rattle.vm_model.specs.declared.names.NameKind.{NameKind}
 use Rattle.std.proofs.lemmas.Grind.{not_there}
 use Rattle.std.proofs.Math.Logic.{∥∥₁_map}
+use Rattle.vm_base.specs.Entries.{with_key, without_key, passes, entry_count}
+use Rattle.vm_base.specs.declared.limits.TheConstants.{NAMES}
+use Rattle.vm_base.proofs.SearchLaws.{count_below_one_more, count_below_hit, count_below_split}
+use Rattle.vm_base.proofs.EntryLaws.{with_key-here, with_key-other, with_key-cases, without_key-some, with_key-stays, some_is, passes-none, passes-some, passes_found, any_entry_none, entry_count_miss, entry_count-same, none_entry}
+use Rattle.vm_model.specs.declared.names.Target.{Target}
+use Rattle.vm_model.specs.Naming.Names.{Lineage, is_named, is_parent, has_parent, child_count, parent_without, lineage_without, is_of, is_of_as, names_as, is_kind}
+use Rattle.vm_model.specs.declared.names.NameKind.{NameKind}
 use Rattle.vm_model.proofs.NamesLaws.{parent_without-none, parent_without-other, left_by, lineage_without-same, lineage_without-other, lineage_without-some, is_some-lineage_without}
+use Rattle.vmo_table.specs.TableFields.{name_count, AreRelated, Ranking}
 
 -- ---- names
 

@@ -4,9 +4,11 @@ use Rattle.std.specs.Option.{option_map}
 use Rattle.std.proofs.lemmas.Bool.{cases_Bool, lt-ltb, le-ltb, cond-true, cond-false}
 use Rattle.std.proofs.Math.Bool.{or-true}
 use Rattle.vm_base.specs.declared.names.Koid.{Koid}
+use Rattle.vm_base.specs.declared.limits.TheConstants.{NAMES}
+use Rattle.vm_base.specs.Entries.{passes}
+use Rattle.vm_base.proofs.EntryLaws.{any_entry-count}
 use Rattle.vm_model.specs.declared.names.Target.{Target}
 use Rattle.vm_model.specs.Naming.Names.{Lineage, is_named, is_parent, has_parent, child_count, lineage_without, is_of}
-use Rattle.vm_base.specs.declared.limits.TheConstants.{NAMES}
 use Rattle.vmo_table.specs.declared.vmos.Vmo.{Vmo}
 use Rattle.vmo_table.specs.Vmos.{koid_number, lineage_of_vmo, lineages, adopted, vmos_without, is_kept, settled, vmo_count, keepers_in}
 use Rattle.vmo_table.specs.Table.{parent_of, Settles}
@@ -15,8 +17,6 @@ use Rattle.vmo_table.proofs.RelatedLaws.{is_parent_found, child_counts, no_child
 use Rattle.vmo_table.proofs.NamedLaws.{HasNames-kept}
 use Rattle.vmo_table.proofs.VmosLaws.{lineages_found, lineages-adopted, adopted_cases, lineages-without, without_cases, settled-kept, settled-free, free_counts, left_children_le, lineages-is}
 use Rattle.vmo_table.proofs.WrittenLaws.{IsWritten, lineages-is_written, own_children, AreConsistent-written}
-use Rattle.vm_base.proofs.EntryLaws.{any_entry-count}
-use Rattle.vm_base.specs.Entries.{passes}
 use Rattle.vmo_table.proofs.KeepersLaws.{keepers_none}
 
 module _ (names : ℕ → Option Target) (vmos : ℕ → Option Vmo) (k : ℕ) (old new : Vmo) (is : IsWritten names vmos k old new) where

@@ -6,10 +6,10 @@ use Rattle.std.specs.HashMap.{spare}
 use Rattle.std.proofs.lemmas.Option.{same_Some}
 use Rattle.vm_base.specs.declared.names.Koid.{Koid}
 use Rattle.vm_base.specs.Entries.{with_key, without_key}
+use Rattle.vm_base.specs.declared.limits.TheConstants.{NAMES}
 use Rattle.vm_model.specs.declared.names.NameKind.TheVariants.{Owner}
 use Rattle.vm_model.specs.declared.names.Target.{Target}
 use Rattle.vm_model.specs.Naming.Names.{Lineage, child_count, is_created, children, may_decommit}
-use Rattle.vm_base.specs.declared.limits.TheConstants.{NAMES}
 use Rattle.vmo_table.specs.declared.vmos.Vmo.{Vmo}
 use Rattle.vmo_table.specs.declared.vmo_table.VmoTable.TheInside.{Inside}
 use Rattle.vmo_table.specs.Vmos.{koid_number, vmos_in, lineage_of_vmo, lineages, keepers_in, more_names, fewer_names}

@@ -5,14 +5,14 @@ use Rattle.std.proofs.lemmas.Bool.{cases_eq, eq-eqb, ne_eqb, cond-true, cond-fal
 use Rattle.std.proofs.lemmas.Option.{same_Some}
 use Rattle.vm_base.specs.declared.names.Koid.{Koid}
 use Rattle.vm_base.specs.Entries.{with_key, passes, entry_count}
+use Rattle.vm_base.proofs.EntryLaws.{with_key-here, with_key-other, some_is, passes_found, passes-some, none_is}
+use Rattle.vm_base.proofs.SearchLaws.{count_below_less}
 use Rattle.vm_model.specs.Naming.Names.{Lineage, is_parent, parent_without, lineage_without, has_parent, child_count}
+use Rattle.vm_model.proofs.NamesLaws.{left_by, lineage_without-other, lineage_without-some}
 use Rattle.vmo_table.specs.declared.vmos.Vmo.{Vmo}
 use Rattle.vmo_table.specs.Vmos.{koid_number, lineage_of_vmo, lineages, with_children, adopted, koid_after, vmos_without, is_kept, settled, vmo_count}
-use Rattle.vm_base.proofs.EntryLaws.{with_key-here, with_key-other, some_is, passes_found, passes-some}
-use Rattle.vm_model.proofs.NamesLaws.{left_by, lineage_without-other, lineage_without-some}
 use Rattle.vmo_table.proofs.RelatedLaws.{left-here}
 use Rattle.vmo_table.proofs.NamedLaws.{KeepsNames}
-use Rattle.vm_base.proofs.SearchLaws.{count_below_less}
 
 pub lineages-is : (vmos : ℕ → Option Vmo) (v : ℕ) → lineages vmos v ≡ option_map lineage_of_vmo (vmos v)
 unfolding lineages
@@ -22,12 +22,16 @@ lineages-is vmos v = refl
 pub lineages_found : (vmos : ℕ → Option Vmo) (v : ℕ) (vmo : Vmo) → vmos v ≡ Some vmo → lineages vmos v ≡ Some (lineage_of_vmo vmo)
 lineages_found vmos v vmo e = lineages-is vmos v ∙ ap (option_map lineage_of_vmo) e
 
-pub lineages-none : (vmos : ℕ → Option Vmo) (v : ℕ) → lineages vmos v ≡ None → vmos v ≡ None
-lineages-none vmos v e = of (vmos v) (sym (lineages-is vmos v) ∙ e)
+-- what has a lineage is there
+pub is_some-lineages : (vmos : ℕ → Option Vmo) (v : ℕ) → is_some (lineages vmos v) ≡ is_some (vmos v)
+is_some-lineages vmos v = ap is_some (lineages-is vmos v) ∙ of (vmos v)
   where
-    of : (o : Option Vmo) → option_map lineage_of_vmo o ≡ None → o ≡ None
-    of None h = refl
-    of (Some vmo) h = absurd (cc)
+    of : (o : Option Vmo) → is_some (option_map lineage_of_vmo o) ≡ is_some o
+    of None = refl
+    of (Some vmo) = refl
+
+pub lineages-none : (vmos : ℕ → Option Vmo) (v : ℕ) → lineages vmos v ≡ None → vmos v ≡ None
+lineages-none vmos v e = none_is (vmos v) (sym (is_some-lineages vmos v) ∙ ap is_some e)
 
 pub lineages-with_key : (vmos : ℕ → Option Vmo) (k : ℕ) (vmo : Vmo) → lineages (with_key vmos k vmo) ≡ with_key (lineages vmos) k (lineage_of_vmo vmo)
 lineages-with_key vmos k vmo = λ i w. at w i
@@ -39,14 +43,6 @@ lineages-with_key vmos k vmo = λ i w. at w i
           ∙ (sym (lineages-is vmos w) ∙ sym (with_key-other (lineages vmos) k (lineage_of_vmo vmo) w apart)))
     ]
 
--- what has a lineage is there
-lineages_there : (vmos : ℕ → Option Vmo) (v : ℕ) → IsSome (lineages vmos v) → IsSome (vmos v)
-lineages_there vmos v h = of (vmos v) (sym (ap is_some (lineages-is vmos v)) ∙ h)
-  where
-    of : (o : Option Vmo) → IsSome (option_map lineage_of_vmo o) → IsSome o
-    of None e = absurd (cc)
-    of (Some vmo) e = refl
-
 -- no more VMOs have a parent than there are
 child_count_le : (vmos : ℕ → Option Vmo) (lineage : ℕ → Option Lineage) (u : ℕ) → ((w : ℕ) → IsSome (lineage w) → IsSome (vmos w)) → child_count lineage u ≤ vmo_count vmos
 unfolding entry_count
@@ -57,13 +53,13 @@ child_count_le vmos lineage u there =
     passes-some (λ (x : Vmo). true) (vmos w) vmo.0 vmo.1)
 
 pub children_le : (vmos : ℕ → Option Vmo) (u : ℕ) → child_count (lineages vmos) u ≤ vmo_count vmos
-children_le vmos u = child_count_le vmos (lineages vmos) u (lineages_there vmos)
+children_le vmos u = child_count_le vmos (lineages vmos) u (λ w h. sym (is_some-lineages vmos w) ∙ h)
 
 -- nor do after one left
 pub left_children_le : (vmos : ℕ → Option Vmo) (v : ℕ) (parent : Option ℕ) (u : ℕ) → child_count (lineage_without (lineages vmos) v parent) u ≤ vmo_count vmos
 left_children_le vmos v parent u = child_count_le vmos (lineage_without (lineages vmos) v parent) u (λ w h.
     let found = some_is (lineage_without (lineages vmos) v parent w) h in
-    lineages_there vmos w (ap is_some (lineage_without-some (lineages vmos) v parent w found.0 found.1).2))
+    sym (is_some-lineages vmos w) ∙ ap is_some (lineage_without-some (lineages vmos) v parent w found.0 found.1).2)
 
 -- another count of names changes no lineage
 pub lineages-written : (vmos : ℕ → Option Vmo) (k : ℕ) (old new : Vmo) → vmos k ≡ Some old → lineage_of_vmo new ≡ lineage_of_vmo old → lineages (with_key vmos k new) ≡ lineages vmos

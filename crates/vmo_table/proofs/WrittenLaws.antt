@@ -1,14 +1,14 @@
 -- What stays true of the table where a VMO gets another value, as it gets a name or a keeper more or less.
 use Rattle.std.proofs.Common.{◌≡◌, ◌≢◌, ℕ, ◌<◌, ◌≤◌, Option, None, Some, is_some, refl, sym, ap, subst, ◌∙◌, inl, inr}
 use Rattle.vm_base.specs.Entries.{with_key, without_key}
+use Rattle.vm_base.specs.declared.limits.TheConstants.{NAMES}
+use Rattle.vm_base.proofs.EntryLaws.{with_key-cases}
 use Rattle.vm_model.specs.declared.names.NameKind.TheVariants.{Slice, Reference}
 use Rattle.vm_model.specs.declared.names.Target.{Target}
 use Rattle.vm_model.specs.Naming.Names.{Lineage, child_count}
-use Rattle.vm_base.specs.declared.limits.TheConstants.{NAMES}
 use Rattle.vmo_table.specs.declared.vmos.Vmo.{Vmo}
 use Rattle.vmo_table.specs.Vmos.{lineage_of_vmo, lineages, kind_bit, more_names, fewer_names}
 use Rattle.vmo_table.specs.TableFields.{AreRelated, HasNames, AreConsistent}
-use Rattle.vm_base.proofs.EntryLaws.{with_key-cases}
 use Rattle.vmo_table.proofs.RelatedLaws.{AreRelated-aliased, AreRelated-closed}
 use Rattle.vmo_table.proofs.NamedLaws.{HasNames-at, HasNames-more, HasNames-more_other, counts_fit, names_fit, HasNames-fewer, HasNames-fewer_other}
 use Rattle.vmo_table.proofs.VmosLaws.{lineages_found, lineages-written}

@@ -1,4 +1,5 @@
--- The table of names and VMOs as plain lists, and what it is to its callers: a map from names, a map from koids, and room.
+-- The table of names and VMOs as plain lists, and what it is to its callers: a map from names, a map from koids,
+-- and room.
 use Rattle.std.specs.Prelude.{◌≡◌, ℕ, ◌<◌, true, false, ◌==◌, ◌⊎◌, List, Option, None, Some}
 use Rattle.std.specs.Map.{lookup}
 use Rattle.vm_base.specs.declared.names.Koid.{Koid}
@@ -50,12 +51,17 @@ abbrev pub parent_of : Option Lineage → Option ℕ
 parent_of None = None
 parent_of (Some l) = l.parent
 
--- What becomes of the VMO v once something that kept it is gone, where it has these names and so many keepers left: nothing, where
--- something keeps it still. Else it leaves with its koid as the answer, and its children get its parent.
-pub record Settles (names : ℕ → Option Target) (keepers v : ℕ) (old new : ℕ → Option Lineage) (answer : Option Koid) : Type 0 where
+-- What becomes of the VMO v once something that kept it is gone, where it has these names and so many keepers left:
+-- nothing, where something keeps it still. Else it leaves with its koid as the answer, and its children get its
+-- parent.
+pub record Settles (names : ℕ → Option Target) (keepers v : ℕ) (old new : ℕ → Option Lineage)
+    (answer : Option Koid) : Type 0 where
   pub stays : (is_named names v ≡ true) ⊎ (0 < keepers) → (answer ≡ None) × (new ≡ old)
-  pub leaves : is_named names v ≡ false → keepers ≡ 0 → (answer ≡ Some (record { 0 = v })) × (new ≡ lineage_without old v (parent_of (old v)))
+  pub leaves : is_named names v ≡ false → keepers ≡ 0 →
+      (answer ≡ Some (record { 0 = v })) × (new ≡ lineage_without old v (parent_of (old v)))
 
 -- Closing the name n settles what becomes of its VMO
-abbrev pub Closes : (ℕ → Option Target) → (ℕ → Option Target) → (ℕ → ℕ) → (ℕ → Option Lineage) → (ℕ → Option Lineage) → ℕ → Option Koid → Type 0
-Closes names after keepers old new n answer = (t : Target) → names n ≡ Some t → Settles after (keepers t.koid.0) t.koid.0 old new answer
+abbrev pub Closes : (ℕ → Option Target) → (ℕ → Option Target) → (ℕ → ℕ) → (ℕ → Option Lineage) →
+    (ℕ → Option Lineage) → ℕ → Option Koid → Type 0
+Closes names after keepers old new n answer =
+    (t : Target) → names n ≡ Some t → Settles after (keepers t.koid.0) t.koid.0 old new answer

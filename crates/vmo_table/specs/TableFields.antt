@@ -2,10 +2,10 @@
 use Rattle.std.specs.Prelude.{◌≡◌, ℕ, ◌<◌, min, Option, Some, IsSome, ◌^◌}
 use Rattle.std.specs.HashMap.{spare}
 use Rattle.vm_base.specs.Entries.{entry_count}
+use Rattle.vm_base.specs.declared.limits.TheConstants.{NAMES}
 use Rattle.vm_model.specs.declared.names.NameKind.TheVariants.{Slice, Reference}
 use Rattle.vm_model.specs.declared.names.Target.{Target}
 use Rattle.vm_model.specs.Naming.Names.{Lineage, is_of, names_as, child_count}
-use Rattle.vm_base.specs.declared.limits.TheConstants.{NAMES}
 use Rattle.vmo_table.specs.declared.vmos.Vmo.{Vmo}
 use Rattle.vmo_table.specs.declared.vmo_table.VmoTable.TheInside.{Inside}
 use Rattle.vmo_table.specs.Vmos.{vmos_in, lineages}
@@ -27,8 +27,8 @@ pub record Ranking (lineage : ℕ → Option Lineage) : Type 0 where
   pub rank : ℕ → ℕ
   pub falls : (v p : ℕ) (l : Lineage) → lineage v ≡ Some l → l.parent ≡ Some p → rank p < rank v
 
--- Each name stands for a VMO of the table, a parent is in the table, and no chain of parents is a ring. Names and koids have the
--- ranges of their types.
+-- Each name stands for a VMO of the table, a parent is in the table, and no chain of parents is a ring. Names and
+-- koids have the ranges of their types.
 pub record AreRelated (names : ℕ → Option Target) (lineage : ℕ → Option Lineage) : Type 0 where
   pub names_below : (n : ℕ) → IsSome (names n) → n < NAMES
   pub koids_below : (v : ℕ) → IsSome (lineage v) → v < 2 ^ 64

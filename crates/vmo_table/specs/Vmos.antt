@@ -1,11 +1,11 @@
 -- The VMOs of the table as a map from koids, and what becomes of it.
-use Rattle.std.specs.Prelude.{ℕ, ◌+◌, ◌-◌, ◌==◌, ◌||◌, nat_lt, Bool, List, if◌then◌else◌, Option, None, Some, unwrap_or, ◌^◌, true}
+use Rattle.std.specs.Prelude.{ℕ, ◌+◌, ◌-◌, ◌^◌, ◌==◌, nat_lt, Bool, true, ◌||◌, if◌then◌else◌, Option, None, Some, unwrap_or, List}
 use Rattle.std.specs.Option.{option_map}
 use Rattle.std.specs.Map.{lookup}
 use Rattle.vm_base.specs.declared.names.Koid.{Koid}
+use Rattle.vm_base.specs.Entries.{with_key, entry_count}
 use Rattle.vm_model.specs.declared.names.NameKind.{NameKind}
 use Rattle.vm_model.specs.declared.names.NameKind.TheVariants.{Slice, Reference}
-use Rattle.vm_base.specs.Entries.{with_key, entry_count}
 use Rattle.vm_model.specs.Naming.Names.{Lineage, is_kind, is_parent}
 use Rattle.vmo_table.specs.declared.vmos.Vmo.{Vmo}
 
@@ -19,7 +19,8 @@ vmos_in entries v = lookup (λ (koid : Koid). v == koid.0) entries
 
 -- what is kept of a VMO, but for the counts
 abbrev pub lineage_of_vmo : Vmo → Lineage
-lineage_of_vmo vmo = record { resizable = vmo.resizable; origin = vmo.origin; parent = option_map koid_number vmo.parent }
+lineage_of_vmo vmo =
+    record { resizable = vmo.resizable; origin = vmo.origin; parent = option_map koid_number vmo.parent }
 
 unfoldable pub lineages : (ℕ → Option Vmo) → ℕ → Option Lineage
 lineages vmos v = option_map lineage_of_vmo (vmos v)

@@ -141,7 +141,8 @@ impl VmoTable {
         requires { IsSome (names_of self.old name.0) }
         ensures names { names_of self.new ≡ without_key (names_of self.old) name.0 }
         ensures keepers { keepers_of self.new ≡ keepers_of self.old }
-        ensures vmo { Closes (names_of self.old) (names_of self.new) (keepers_of self.old) (lineage_in self.old) (lineage_in self.new) name.0 result }
+        ensures vmo { Closes (names_of self.old) (names_of self.new) (keepers_of self.old)
+            (lineage_in self.old) (lineage_in self.new) name.0 result }
     {
         let target = self.names[&name];
         let vmo = self.vmos[&target.koid];
@@ -172,7 +173,8 @@ impl VmoTable {
         requires keepers { n ≤ keepers_of self.old koid.0 }
         ensures names { names_of self.new ≡ names_of self.old }
         ensures keepers { (v : ℕ) → keepers_of self.new v + (if v == koid.0 then n else 0) ≡ keepers_of self.old v }
-        ensures vmo { Settles (names_of self.old) (keepers_of self.new koid.0) koid.0 (lineage_in self.old) (lineage_in self.new) result }
+        ensures vmo { Settles (names_of self.old) (keepers_of self.new koid.0) koid.0
+            (lineage_in self.old) (lineage_in self.new) result }
     {
         let Some(vmo) = self.vmos.get(&koid).copied() else {
             return Some(koid);

@@ -5,7 +5,8 @@ ghost use Rattle.std.specs.Option.{option_map};
 ghost use Rattle.vm_base.specs.Entries.{with_key, passes};
 ghost use Rattle.vm_base.specs.declared.limits.TheConstants.{NAMES};
 ghost use Rattle.vm_model.specs.Naming.Names.{is_parent, has_parent};
-ghost use Rattle.vmo_table.specs.Vmos.{koid_number, vmos_in, lineages, kind_bit, more_names, fewer_names, adopted, koid_after, vmos_without, vmo_count, is_kept, settled};
+ghost use Rattle.vmo_table.specs.Vmos.{koid_number, vmos_in, lineages, kind_bit, more_names, fewer_names};
+ghost use Rattle.vmo_table.specs.Vmos.{adopted, koid_after, vmos_without, vmo_count, is_kept, settled};
 ghost use Rattle.vmo_table.specs.declared.vmos.Vmo.{Vmo};
 
 use std::collections::HashMap;
@@ -132,8 +133,10 @@ fn take_out(vmos: &mut HashMap<Koid, Vmo>, koid: Koid, parent: Option<Koid>, chi
 /// leaves, its children get its parent, and its koid is the answer.
 pub(crate) fn settle(vmos: &mut HashMap<Koid, Vmo>, koid: Koid, vmo: Vmo) -> Option<Koid>
     requires found { (old : Vmo) × (vmos_in vmos.old.entries koid.0 ≡ Some old) }
-    requires childless { vmo.children ≡ 0 → (w : ℕ) → passes (has_parent koid.0) (lineages (vmos_in vmos.old.entries) w) ≡ false }
-    requires fits { is_kept vmo ≡ false → (v : ℕ) (above : Vmo) → is_parent v (option_map koid_number vmo.parent) ≡ true →
+    requires childless { vmo.children ≡ 0 → (w : ℕ) →
+        passes (has_parent koid.0) (lineages (vmos_in vmos.old.entries) w) ≡ false }
+    requires fits { is_kept vmo ≡ false → (v : ℕ) (above : Vmo) →
+        is_parent v (option_map koid_number vmo.parent) ≡ true →
         vmos_without (vmos_in vmos.old.entries) koid.0 vmo.parent v ≡ Some above →
         (1 ≤ above.children) × (above.children - 1 + vmo.children ≤ vmo_count (vmos_in vmos.old.entries)) }
     ensures vmos { vmos_in vmos.new.entries ≡ settled (vmos_in vmos.old.entries) koid.0 vmo }

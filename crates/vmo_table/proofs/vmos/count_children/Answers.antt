@@ -2,12 +2,12 @@ use Rattle.std.proofs.Common.{◌≡◌, ℕ, ◌+◌, ◌-◌, ◌<◌, ◌≤�
 use Rattle.std.specs.Option.{option_map}
 use Rattle.std.proofs.lemmas.Bool.{eq-eqb}
 use Rattle.vm_base.specs.declared.names.Koid.{Koid}
+use Rattle.vm_base.proofs.EntryLaws.{passes-some}
 use Rattle.vm_model.specs.Naming.Names.{is_parent}
 use Rattle.vmo_table.specs.declared.vmos.Vmo.{Vmo}
 use Rattle.vmo_table.specs.Vmos.{koid_number, vmos_in, adopted, with_children}
 use Rattle.vmo_table.proofs.EntryLaws.{vmo_at, vmos_in-is, vmos_in-adopted, adopted-nobody, adopted-absent}
 use Rattle.vmo_table.proofs.vmos.count_children.Goals as goal
-use Rattle.vm_base.proofs.EntryLaws.{passes-some}
 
 -- the counts of the parent that was found fit
 fits : (entries : List (Koid × Vmo)) (parent : Option Koid) (koid : Koid) (vmo : Vmo) (gone come : ℕ) →

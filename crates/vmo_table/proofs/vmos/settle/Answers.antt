@@ -3,8 +3,8 @@ use Rattle.std.specs.Option.{option_map}
 use Rattle.vmo_table.specs.declared.vmos.Vmo.{Vmo}
 use Rattle.vmo_table.specs.Vmos.{koid_number, vmos_in, adopted}
 use Rattle.vmo_table.proofs.VmosLaws.{settled-kept, settled-free}
-use Rattle.vmo_table.proofs.vmos.settle.Goals as goal
 use Rattle.vmo_table.proofs.EntryLaws.{vmo_count_le}
+use Rattle.vmo_table.proofs.vmos.settle.Goals as goal
 
 pub returns-then-is_kept-clause-vmos : goal.returns-then-is_kept-clause-vmos
 returns-then-is_kept-clause-vmos c =

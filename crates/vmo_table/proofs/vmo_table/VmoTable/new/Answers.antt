@@ -1,8 +1,8 @@
+use Rattle.vmo_table.specs.Vmos.{vmos_in}
+use Rattle.vmo_table.specs.Table.{names_in}
 use Rattle.vmo_table.proofs.EntryLaws.{names_in-empty, vmos_in-empty, lineages-empty}
 use Rattle.vmo_table.proofs.KeepersLaws.{keepers_none}
 use Rattle.vmo_table.proofs.EnteredLaws.{AreConsistent-empty}
-use Rattle.vmo_table.specs.Vmos.{vmos_in}
-use Rattle.vmo_table.specs.Table.{names_in}
 use Rattle.vmo_table.proofs.vmo_table.VmoTable.new.Goals as goal
 
 pub invariant_of-result : goal.invariant_of-result
