@@ -17,7 +17,8 @@ use Rattle.vmo_table.proofs.VmosLaws.{lineages-with_key, lineages-adopted, adopt
 
 -- ---- an empty table
 
-pub AreConsistent-empty : (names : ℕ → Option Target) (vmos : ℕ → Option Vmo) → ((n : ℕ) → names n ≡ None) → ((v : ℕ) → vmos v ≡ None) → ((v : ℕ) → lineages vmos v ≡ None) → AreConsistent names vmos
+pub AreConsistent-empty : (names : ℕ → Option Target) (vmos : ℕ → Option Vmo) → ((n : ℕ) → names n ≡ None) →
+    ((v : ℕ) → vmos v ≡ None) → ((v : ℕ) → lineages vmos v ≡ None) → AreConsistent names vmos
 AreConsistent-empty names vmos no_name no_vmo no_lineage = record {
   related = AreRelated-empty names (lineages vmos) no_name no_lineage;
   counted = record {
@@ -54,7 +55,8 @@ module _ (names : ℕ → Option Target) (vmos : ℕ → Option Vmo) (n : ℕ) (
   after = with_key (lineages vmos) t.koid.0 (lineage_of_vmo vmo)
 
   entered_related : AreRelated (with_key names n t) after
-  entered_related = AreRelated-entered names (lineages vmos) n t (lineage_of_vmo vmo) enters.consistent.related enters.name_low enters.koid_low enters.koid_free enters.parent
+  entered_related =
+      AreRelated-entered names (lineages vmos) n t (lineage_of_vmo vmo) enters.consistent.related enters.name_low enters.koid_low enters.koid_free enters.parent
 
   -- a VMO is not its own parent
   not_own : is_parent t.koid.0 own ≡ false
@@ -73,7 +75,8 @@ module _ (names : ℕ → Option Target) (vmos : ℕ → Option Vmo) (n : ℕ) (
       ∙ ap (λ (c : Bool). child_count (lineages vmos) v + cond c 1 0) is
 
   -- the children of a VMO that was there
-  entered_children : (v : ℕ) (old : Vmo) → vmos v ≡ Some old → cond (is_parent v own) (old.children - 0 + 1) old.children ≡ child_count after v
+  entered_children : (v : ℕ) (old : Vmo) → vmos v ≡ Some old →
+      cond (is_parent v own) (old.children - 0 + 1) old.children ≡ child_count after v
   entered_children v old e =
       let counted = enters.consistent.counted.children v old e in
       elim (cases_Bool (is_parent v own)) [
@@ -85,7 +88,8 @@ module _ (names : ℕ → Option Target) (vmos : ℕ → Option Vmo) (n : ℕ) (
             cond-false (is_parent v own) (old.children - 0 + 1) old.children miss ∙ omega arith
       ]
 
-  pub entered_fits : (v : ℕ) (old : Vmo) → is_parent v own ≡ true → put v ≡ Some old → (0 ≤ old.children) × (old.children - 0 + 1 < 2 ^ 64)
+  pub entered_fits : (v : ℕ) (old : Vmo) → is_parent v own ≡ true → put v ≡ Some old →
+      (0 ≤ old.children) × (old.children - 0 + 1 < 2 ^ 64)
   entered_fits v old hit e = elim (with_key-cases vmos t.koid.0 vmo v old e) [
     | inl new ↦ absurd (let miss = not_own in let same : is_parent t.koid.0 own ≡ true = ap (λ (x : ℕ). is_parent x own) (sym new.0) ∙ hit in cc)
     | inr was ↦
@@ -94,7 +98,8 @@ module _ (names : ℕ → Option Target) (vmos : ℕ → Option Vmo) (n : ℕ) (
         (omega arith, omega (arith, enters.few))
   ]
 
-  entered_counted : (v : ℕ) (new : Vmo) → adopted put own 0 1 v ≡ Some new → HasNames (with_key names n t) v new × (new.children ≡ child_count after v)
+  entered_counted : (v : ℕ) (new : Vmo) → adopted put own 0 1 v ≡ Some new →
+      HasNames (with_key names n t) v new × (new.children ≡ child_count after v)
   entered_counted v new e =
       let case = adopted_cases put own 0 1 v new e in
       elim (with_key-cases vmos t.koid.0 vmo v case.0 case.1) [
@@ -125,6 +130,7 @@ module _ (names : ℕ → Option Target) (vmos : ℕ → Option Vmo) (n : ℕ) (
 
 -- ---- maps that agree
 
-pub AreConsistent-same : (names new_names : ℕ → Option Target) (vmos new_vmos : ℕ → Option Vmo) → new_names ≡ names → new_vmos ≡ vmos → AreConsistent names vmos → AreConsistent new_names new_vmos
+pub AreConsistent-same : (names new_names : ℕ → Option Target) (vmos new_vmos : ℕ → Option Vmo) → new_names ≡ names →
+    new_vmos ≡ vmos → AreConsistent names vmos → AreConsistent new_names new_vmos
 AreConsistent-same names new_names vmos new_vmos e f kept =
     subst (λ (m : ℕ → Option Target). AreConsistent m new_vmos) (sym e) (subst (λ (m : ℕ → Option Vmo). AreConsistent names m) (sym f) kept)

@@ -35,7 +35,8 @@ unfolding names_in
 names_in-is entries n = refl
 
 -- a name and its koid
-pub names_in_found : (entries : List (VmoName × Target)) (n : ℕ) (t : Target) → target_at entries n ≡ Some t → names_in entries n ≡ Some t
+pub names_in_found : (entries : List (VmoName × Target)) (n : ℕ) (t : Target) → target_at entries n ≡ Some t →
+    names_in entries n ≡ Some t
 names_in_found entries n t e = names_in-is entries n ∙ e
 
 flipped : {A : Type 0} (a b : ℕ) (x y : A) → cond (a == b) x y ≡ cond (b == a) x y
@@ -46,21 +47,25 @@ flipped a b x y = ap (λ (t : Bool). cond t x y) (turned a b)
 
 -- ---- the map of VMOs
 
-pub vmos_in-same : (old new : List (Koid × Vmo)) → ((q : Koid) → vmo_at new q.0 ≡ vmo_at old q.0) → vmos_in new ≡ vmos_in old
+pub vmos_in-same : (old new : List (Koid × Vmo)) → ((q : Koid) → vmo_at new q.0 ≡ vmo_at old q.0) →
+    vmos_in new ≡ vmos_in old
 unfolding vmos_in
 vmos_in-same old new each = λ i v. each (record { 0 = v }) i
 
-pub vmos_in-put : (old new : List (Koid × Vmo)) (k : ℕ) (vmo : Vmo) → ((q : Koid) → vmo_at new q.0 ≡ cond (k == q.0) (Some vmo) (vmo_at old q.0)) → vmos_in new ≡ with_key (vmos_in old) k vmo
+pub vmos_in-put : (old new : List (Koid × Vmo)) (k : ℕ) (vmo : Vmo) → ((q : Koid) →
+    vmo_at new q.0 ≡ cond (k == q.0) (Some vmo) (vmo_at old q.0)) → vmos_in new ≡ with_key (vmos_in old) k vmo
 unfolding vmos_in with_key
 vmos_in-put old new k vmo each = λ i v. (each (record { 0 = v }) ∙ flipped k v (Some vmo) (vmo_at old v)) i
 
 -- the counts of the parent were changed
 pub vmos_in-adopted : (old new : List (Koid × Vmo)) (k : ℕ) (vmo : Vmo) (gone come : ℕ) → vmo_at old k ≡ Some vmo →
-    ((q : Koid) → vmo_at new q.0 ≡ cond (k == q.0) (Some (with_children gone come vmo)) (vmo_at old q.0)) → vmos_in new ≡ adopted (vmos_in old) (Some k) gone come
+    ((q : Koid) → vmo_at new q.0 ≡ cond (k == q.0) (Some (with_children gone come vmo)) (vmo_at old q.0)) →
+    vmos_in new ≡ adopted (vmos_in old) (Some k) gone come
 unfolding vmos_in adopted passes
 vmos_in-adopted old new k vmo gone come found each = λ i v. (each (record { 0 = v }) ∙ at v) i
   where
-    at : (v : ℕ) → cond (k == v) (Some (with_children gone come vmo)) (vmo_at old v) ≡ cond (k == v) (option_map (with_children gone come) (vmo_at old v)) (vmo_at old v)
+    at : (v : ℕ) →
+        cond (k == v) (Some (with_children gone come vmo)) (vmo_at old v) ≡ cond (k == v) (option_map (with_children gone come) (vmo_at old v)) (vmo_at old v)
     at v = elim (cases_eq k v) [
       | inl same ↦ ap (λ (o : Option Vmo). cond (k == v) o (vmo_at old v)) (ap (option_map (with_children gone come)) (sym found ∙ ap (vmo_at old) same))
       | inr apart ↦ cond-false (k == v) (Some (with_children gone come vmo)) (vmo_at old v) (ne_eqb k v apart) ∙ sym (cond-false (k == v) (option_map (with_children gone come) (vmo_at old v)) (vmo_at old v) (ne_eqb k v apart))
@@ -71,11 +76,13 @@ pub adopted-nobody : (vmos : ℕ → Option Vmo) (gone come : ℕ) → vmos ≡ 
 unfolding adopted passes
 adopted-nobody vmos gone come = refl
 
-pub adopted-absent : (entries : List (Koid × Vmo)) (k gone come : ℕ) → vmo_at entries k ≡ None → vmos_in entries ≡ adopted (vmos_in entries) (Some k) gone come
+pub adopted-absent : (entries : List (Koid × Vmo)) (k gone come : ℕ) → vmo_at entries k ≡ None →
+    vmos_in entries ≡ adopted (vmos_in entries) (Some k) gone come
 unfolding vmos_in adopted passes
 adopted-absent entries k gone come none = λ i v. at v i
   where
-    at : (v : ℕ) → vmo_at entries v ≡ cond (k == v) (option_map (with_children gone come) (vmo_at entries v)) (vmo_at entries v)
+    at : (v : ℕ) →
+        vmo_at entries v ≡ cond (k == v) (option_map (with_children gone come) (vmo_at entries v)) (vmo_at entries v)
     at v = elim (cases_eq k v) [
       | inl same ↦
           let gone_too : vmo_at entries v ≡ None = ap (vmo_at entries) (sym same) ∙ none in
@@ -84,19 +91,23 @@ adopted-absent entries k gone come none = λ i v. at v i
     ]
 
 -- a VMO that is not the parent of any
-not_child : (v : ℕ) (parent o : Option Koid) → is_parent v (option_map koid_number o) ≡ false → koid_after v parent o ≡ o
+not_child : (v : ℕ) (parent o : Option Koid) → is_parent v (option_map koid_number o) ≡ false →
+    koid_after v parent o ≡ o
 unfolding koid_after passes
 not_child v parent None h = refl
 not_child v parent (Some p) h = cond-false (p.0 == v) parent (Some p) h
 
-stays_as_is : (v : ℕ) (parent : Option Koid) (o : Option Vmo) → passes (has_parent v) (option_map lineage_of_vmo o) ≡ false → o ≡ option_map (vmo_after v parent) o
+stays_as_is : (v : ℕ) (parent : Option Koid) (o : Option Vmo) →
+    passes (has_parent v) (option_map lineage_of_vmo o) ≡ false → o ≡ option_map (vmo_after v parent) o
 stays_as_is v parent None h = refl
 stays_as_is v parent (Some vmo) h =
     ap (λ (p : Option Koid). Some (record vmo { parent = p })) (sym (not_child v parent vmo.parent (sym (passes-some (has_parent v) (Some (lineage_of_vmo vmo)) (lineage_of_vmo vmo) refl) ∙ h)))
 
 -- a VMO without children was removed
-pub vmos_in-removed : (old new : List (Koid × Vmo)) (k : ℕ) (parent : Option Koid) → ((w : ℕ) → passes (has_parent k) (lineages (vmos_in old) w) ≡ false) →
-    ((q : Koid) → vmo_at new q.0 ≡ cond (k == q.0) None (vmo_at old q.0)) → vmos_in new ≡ vmos_without (vmos_in old) k parent
+pub vmos_in-removed : (old new : List (Koid × Vmo)) (k : ℕ) (parent : Option Koid) → ((w : ℕ) →
+    passes (has_parent k) (lineages (vmos_in old) w) ≡ false) →
+    ((q : Koid) → vmo_at new q.0 ≡ cond (k == q.0) None (vmo_at old q.0)) →
+    vmos_in new ≡ vmos_without (vmos_in old) k parent
 vmos_in-removed old new k parent childless each = λ i v. (vmos_in-is new v ∙ (each (record { 0 = v }) ∙ at v)) i
   where
     at : (v : ℕ) → cond (k == v) None (vmo_at old v) ≡ vmos_without (vmos_in old) k parent v
@@ -108,7 +119,8 @@ vmos_in-removed old new k parent childless each = λ i v. (vmos_in-is new v ∙ 
     ]
 
 -- one entry of a pass over the table
-one_retained : (k : ℕ) (parent : Option Koid) (q : ℕ) (vmo : Vmo) (u : ℕ) (key : Koid) (rest es : List (Koid × Vmo)) → key.0 ≡ q → vmo_at rest u ≡ cond (u == k) None (option_map (vmo_after k parent) (vmo_at es u)) →
+one_retained : (k : ℕ) (parent : Option Koid) (q : ℕ) (vmo : Vmo) (u : ℕ) (key : Koid) (rest es : List (Koid × Vmo)) →
+    key.0 ≡ q → vmo_at rest u ≡ cond (u == k) None (option_map (vmo_after k parent) (vmo_at es u)) →
     vmo_at (cond (not (q == k)) ((key, vmo_after k parent vmo) ∷ rest) rest) u ≡ cond (u == k) None (option_map (vmo_after k parent) (cond (u == q) (Some vmo) (vmo_at es u)))
 one_retained k parent q vmo u key rest es is before = elim (cases_eq q k) [
   | inl same ↦ ap (λ b. vmo_at (cond (not b) ((key, vmo_after k parent vmo) ∷ rest) rest) u) (eq-eqb q k same) ∙ (before ∙ elim (cases_eq u k) [
@@ -126,8 +138,10 @@ one_retained k parent q vmo u key rest es is before = elim (cases_eq q k) [
 
 -- a VMO with children was taken out in a pass over the table
 retained : {F : Type 0} (T : F → Koid → Vmo → Bool → Vmo → F → Type 0) (k : ℕ) (parent : Option Koid) (f : F) →
-    ((q : Koid) (v : Vmo) (b : Bool) (w : Vmo) (g : F) → T f q v b w g → (b ≡ not (q.0 == k)) × (w ≡ vmo_after k parent v) × (g ≡ f)) →
-    (es kept : List (Koid × Vmo)) → RetainsPairs T f es kept → (u : ℕ) → vmo_at kept u ≡ cond (u == k) None (option_map (vmo_after k parent) (vmo_at es u))
+    ((q : Koid) (v : Vmo) (b : Bool) (w : Vmo) (g : F) → T f q v b w g →
+    (b ≡ not (q.0 == k)) × (w ≡ vmo_after k parent v) × (g ≡ f)) →
+    (es kept : List (Koid × Vmo)) → RetainsPairs T f es kept → (u : ℕ) →
+    vmo_at kept u ≡ cond (u == k) None (option_map (vmo_after k parent) (vmo_at es u))
 retained T k parent f each [] kept h u = ap (λ (es : List (Koid × Vmo)). vmo_at es u) h ∙ none (u == k)
   where
     none : (b : Bool) → None ≡ cond {A = Option Vmo} b None None
@@ -139,23 +153,28 @@ retained T k parent f each (e ∷ es) kept h u =
     let kept_is = h.6 ∙ (ap (λ (b : Bool). cond b ((e.0, h.1) ∷ h.3) h.3) call.0 ∙ ap (λ (w : Vmo). cond (not (e.0.0 == k)) ((e.0, w) ∷ h.3) h.3) call.1) in
     ap (λ (es2 : List (Koid × Vmo)). vmo_at es2 u) kept_is ∙ one_retained k parent e.0.0 e.1 u e.0 h.3 es refl rest
 
-pub vmos_in-retained : {F : Type 0} (T : F → Koid → Vmo → Bool → Vmo → F → Type 0) (k : ℕ) (parent : Option Koid) (f : F) →
-    ((q : Koid) (v : Vmo) (b : Bool) (w : Vmo) (g : F) → T f q v b w g → (b ≡ not (q.0 == k)) × (w ≡ vmo_after k parent v) × (g ≡ f)) →
+pub vmos_in-retained : {F : Type 0} (T : F → Koid → Vmo → Bool → Vmo → F →
+    Type 0) (k : ℕ) (parent : Option Koid) (f : F) →
+    ((q : Koid) (v : Vmo) (b : Bool) (w : Vmo) (g : F) → T f q v b w g →
+    (b ≡ not (q.0 == k)) × (w ≡ vmo_after k parent v) × (g ≡ f)) →
     (es kept : List (Koid × Vmo)) → RetainsPairs T f es kept → vmos_in kept ≡ vmos_without (vmos_in es) k parent
 unfolding vmos_in vmos_without
 vmos_in-retained T k parent f each es kept h = λ i u. retained T k parent f each es kept h u i
 
 -- ---- the map of names
 
-pub names_in-same : (old new : List (VmoName × Target)) → ((q : VmoName) → target_at new q.0 ≡ target_at old q.0) → names_in new ≡ names_in old
+pub names_in-same : (old new : List (VmoName × Target)) → ((q : VmoName) → target_at new q.0 ≡ target_at old q.0) →
+    names_in new ≡ names_in old
 unfolding names_in
 names_in-same old new each = λ i n. each (record { 0 = n }) i
 
-pub names_in-put : (old new : List (VmoName × Target)) (k : ℕ) (t : Target) → ((q : VmoName) → target_at new q.0 ≡ cond (k == q.0) (Some t) (target_at old q.0)) → names_in new ≡ with_key (names_in old) k t
+pub names_in-put : (old new : List (VmoName × Target)) (k : ℕ) (t : Target) → ((q : VmoName) →
+    target_at new q.0 ≡ cond (k == q.0) (Some t) (target_at old q.0)) → names_in new ≡ with_key (names_in old) k t
 unfolding names_in with_key
 names_in-put old new k t each = λ i n. (each (record { 0 = n }) ∙ flipped k n (Some t) (target_at old n)) i
 
-pub names_in-taken : (old new : List (VmoName × Target)) (k : ℕ) → ((q : VmoName) → target_at new q.0 ≡ cond (k == q.0) None (target_at old q.0)) → names_in new ≡ without_key (names_in old) k
+pub names_in-taken : (old new : List (VmoName × Target)) (k : ℕ) → ((q : VmoName) →
+    target_at new q.0 ≡ cond (k == q.0) None (target_at old q.0)) → names_in new ≡ without_key (names_in old) k
 unfolding names_in without_key
 names_in-taken old new k each = λ i n. (each (record { 0 = n }) ∙ flipped k n None (target_at old n)) i
 
@@ -170,12 +189,14 @@ unfolding vmos_in
 vmos_in-empty entries e v = ap (λ (es : List (Koid × Vmo)). vmo_at es v) e
 
 pub lineages-empty : (entries : List (Koid × Vmo)) → entries ≡ [] → (v : ℕ) → lineages (vmos_in entries) v ≡ None
-lineages-empty entries e v = lineages-is (vmos_in entries) v ∙ ap (option_map lineage_of_vmo) (vmos_in-empty entries e v)
+lineages-empty entries e v =
+    lineages-is (vmos_in entries) v ∙ ap (option_map lineage_of_vmo) (vmos_in-empty entries e v)
 
 -- ---- how much is in a map
 
 -- maps that differ at one key
-count_apart : {A : Type 0} (bound : ℕ) (test : A → Bool) (map new : ℕ → Option A) (k : ℕ) → ((n : ℕ) → n ≢ k → new n ≡ map n) → entry_count bound test new ≤ entry_count bound test map + 1
+count_apart : {A : Type 0} (bound : ℕ) (test : A → Bool) (map new : ℕ → Option A) (k : ℕ) → ((n : ℕ) → n ≢ k →
+    new n ≡ map n) → entry_count bound test new ≤ entry_count bound test map + 1
 count_apart bound test map new k others = elim (cases_lt k bound) [
   | inl low ↦
       let change = entry_count-change bound test map new k low others in
@@ -197,13 +218,16 @@ vmo_count_le (e ∷ es) =
 
 -- ---- what is in a map
 
-pub target_there : (entries : List (VmoName × Target)) (n : ℕ) → IsSome (names_in entries n) → IsSome (target_at entries n)
+pub target_there : (entries : List (VmoName × Target)) (n : ℕ) → IsSome (names_in entries n) →
+    IsSome (target_at entries n)
 target_there entries n h = sym (ap is_some (names_in-is entries n)) ∙ h
 
-pub vmo_there : (entries : List (Koid × Vmo)) (v : ℕ) → IsSome (lineages (vmos_in entries) v) → IsSome (vmo_at entries v)
+pub vmo_there : (entries : List (Koid × Vmo)) (v : ℕ) → IsSome (lineages (vmos_in entries) v) →
+    IsSome (vmo_at entries v)
 vmo_there entries v h = sym (is_some-lineages (vmos_in entries) v ∙ ap is_some (vmos_in-is entries v)) ∙ h
 
-pub lineage_at : (entries : List (Koid × Vmo)) (v : ℕ) (vmo : Vmo) → vmo_at entries v ≡ Some vmo → lineages (vmos_in entries) v ≡ Some (lineage_of_vmo vmo)
+pub lineage_at : (entries : List (Koid × Vmo)) (v : ℕ) (vmo : Vmo) → vmo_at entries v ≡ Some vmo →
+    lineages (vmos_in entries) v ≡ Some (lineage_of_vmo vmo)
 lineage_at entries v vmo e = lineages-is (vmos_in entries) v ∙ ap (option_map lineage_of_vmo) (vmos_in-is entries v ∙ e)
 
 -- what holds on success holds

@@ -29,14 +29,18 @@ keepers_none vmos v e = keepers_in-is vmos v ∙ ap keepers_at e
 
 -- ---- a VMO is written
 
-pub keepers-here : (vmos : ℕ → Option Vmo) (k : ℕ) (new : Vmo) (v : ℕ) → v ≡ k → keepers_in (with_key vmos k new) v ≡ new.keepers
+pub keepers-here : (vmos : ℕ → Option Vmo) (k : ℕ) (new : Vmo) (v : ℕ) → v ≡ k →
+    keepers_in (with_key vmos k new) v ≡ new.keepers
 keepers-here vmos k new v same = keepers_found (with_key vmos k new) v new (with_key-here vmos k new v same)
 
-keepers-other : (vmos : ℕ → Option Vmo) (k : ℕ) (new : Vmo) (v : ℕ) → v ≢ k → keepers_in (with_key vmos k new) v ≡ keepers_in vmos v
-keepers-other vmos k new v apart = keepers_in-is (with_key vmos k new) v ∙ (ap keepers_at (with_key-other vmos k new v apart) ∙ sym (keepers_in-is vmos v))
+keepers-other : (vmos : ℕ → Option Vmo) (k : ℕ) (new : Vmo) (v : ℕ) → v ≢ k →
+    keepers_in (with_key vmos k new) v ≡ keepers_in vmos v
+keepers-other vmos k new v apart =
+    keepers_in-is (with_key vmos k new) v ∙ (ap keepers_at (with_key-other vmos k new v apart) ∙ sym (keepers_in-is vmos v))
 
 -- with the keepers that there were, which are none for a VMO that is new
-pub keepers-same : (vmos : ℕ → Option Vmo) (k : ℕ) (new : Vmo) → keepers_in vmos k ≡ new.keepers → keepers_in (with_key vmos k new) ≡ keepers_in vmos
+pub keepers-same : (vmos : ℕ → Option Vmo) (k : ℕ) (new : Vmo) → keepers_in vmos k ≡ new.keepers →
+    keepers_in (with_key vmos k new) ≡ keepers_in vmos
 keepers-same vmos k new same = λ i v. at v i
   where
     at : (v : ℕ) → keepers_in (with_key vmos k new) v ≡ keepers_in vmos v
@@ -46,7 +50,8 @@ keepers-same vmos k new same = λ i v. at v i
     ]
 
 -- with some more
-pub keepers-more : (vmos : ℕ → Option Vmo) (k : ℕ) (new : Vmo) (n : ℕ) → new.keepers ≡ keepers_in vmos k + n → (v : ℕ) → keepers_in (with_key vmos k new) v ≡ keepers_in vmos v + cond (v == k) n 0
+pub keepers-more : (vmos : ℕ → Option Vmo) (k : ℕ) (new : Vmo) (n : ℕ) → new.keepers ≡ keepers_in vmos k + n →
+    (v : ℕ) → keepers_in (with_key vmos k new) v ≡ keepers_in vmos v + cond (v == k) n 0
 keepers-more vmos k new n more v = elim (cases_eq v k) [
   | inl here ↦ keepers-here vmos k new v here ∙ (more ∙ (ap (λ (w : ℕ). keepers_in vmos w + n) (sym here) ∙ ap (λ (m : ℕ). keepers_in vmos v + m) (sym (cond-true (v == k) n 0 (eq-eqb v k here)))))
   | inr apart ↦
@@ -56,7 +61,8 @@ keepers-more vmos k new n more v = elim (cases_eq v k) [
 ]
 
 -- with some less
-pub keepers-less : (vmos : ℕ → Option Vmo) (k : ℕ) (new : Vmo) (n : ℕ) → new.keepers + n ≡ keepers_in vmos k → (v : ℕ) → keepers_in (with_key vmos k new) v + cond (v == k) n 0 ≡ keepers_in vmos v
+pub keepers-less : (vmos : ℕ → Option Vmo) (k : ℕ) (new : Vmo) (n : ℕ) → new.keepers + n ≡ keepers_in vmos k →
+    (v : ℕ) → keepers_in (with_key vmos k new) v + cond (v == k) n 0 ≡ keepers_in vmos v
 keepers-less vmos k new n less v = elim (cases_eq v k) [
   | inl here ↦
       let all = cond-true (v == k) n 0 (eq-eqb v k here) in
@@ -71,7 +77,8 @@ keepers-less vmos k new n less v = elim (cases_eq v k) [
 
 -- ---- a VMO leaves, or counts of children change
 
-pub keepers-adopted : (vmos : ℕ → Option Vmo) (parent : Option ℕ) (gone come : ℕ) → keepers_in (adopted vmos parent gone come) ≡ keepers_in vmos
+pub keepers-adopted : (vmos : ℕ → Option Vmo) (parent : Option ℕ) (gone come : ℕ) →
+    keepers_in (adopted vmos parent gone come) ≡ keepers_in vmos
 unfolding keepers_in adopted
 keepers-adopted vmos parent gone come = λ i v. of (is_parent v parent) (vmos v) i
   where
@@ -80,10 +87,12 @@ keepers-adopted vmos parent gone come = λ i v. of (is_parent v parent) (vmos v)
     of true (Some vmo) = refl
     of false o = refl
 
-keepers-gone : (vmos : ℕ → Option Vmo) (k : ℕ) (parent : Option Koid) (v : ℕ) → v ≡ k → keepers_in (vmos_without vmos k parent) v ≡ 0
+keepers-gone : (vmos : ℕ → Option Vmo) (k : ℕ) (parent : Option Koid) (v : ℕ) → v ≡ k →
+    keepers_in (vmos_without vmos k parent) v ≡ 0
 keepers-gone vmos k parent v same = keepers_none (vmos_without vmos k parent) v (without-here vmos k parent v same)
 
-keepers-left : (vmos : ℕ → Option Vmo) (k : ℕ) (parent : Option Koid) (v : ℕ) → v ≢ k → keepers_in (vmos_without vmos k parent) v ≡ keepers_in vmos v
+keepers-left : (vmos : ℕ → Option Vmo) (k : ℕ) (parent : Option Koid) (v : ℕ) → v ≢ k →
+    keepers_in (vmos_without vmos k parent) v ≡ keepers_in vmos v
 keepers-left vmos k parent v apart =
     keepers_in-is (vmos_without vmos k parent) v ∙ (ap keepers_at (without-other vmos k parent v apart) ∙ (of (vmos v) ∙ sym (keepers_in-is vmos v)))
   where
@@ -92,7 +101,8 @@ keepers-left vmos k parent v apart =
     of (Some vmo) = refl
 
 -- a VMO that is settled has the keepers of its new value, whether it leaves or not
-pub keepers-settled : (vmos : ℕ → Option Vmo) (k : ℕ) (new : Vmo) → keepers_in (settled vmos k new) ≡ keepers_in (with_key vmos k new)
+pub keepers-settled : (vmos : ℕ → Option Vmo) (k : ℕ) (new : Vmo) →
+    keepers_in (settled vmos k new) ≡ keepers_in (with_key vmos k new)
 keepers-settled vmos k new = elim (cases_Bool (is_kept new)) [
   | inl held ↦ ap keepers_in (settled-kept vmos k new held)
   | inr free ↦ ap keepers_in (settled-free vmos k new free) ∙ (keepers-adopted (vmos_without vmos k new.parent) (option_map koid_number new.parent) 1 new.children ∙ λ i v. at free v i)
@@ -101,7 +111,8 @@ keepers-settled vmos k new = elim (cases_Bool (is_kept new)) [
     no_keepers : is_kept new ≡ false → 0 ≡ new.keepers
     no_keepers free = let none = (free_counts new free).1 in omega arith
 
-    at : is_kept new ≡ false → (v : ℕ) → keepers_in (vmos_without vmos k new.parent) v ≡ keepers_in (with_key vmos k new) v
+    at : is_kept new ≡ false → (v : ℕ) →
+        keepers_in (vmos_without vmos k new.parent) v ≡ keepers_in (with_key vmos k new) v
     at free v = elim (cases_eq v k) [
       | inl here ↦ keepers-gone vmos k new.parent v here ∙ (no_keepers free ∙ sym (keepers-here vmos k new v here))
       | inr apart ↦ keepers-left vmos k new.parent v apart ∙ sym (keepers-other vmos k new v apart)

@@ -7,8 +7,8 @@ use Rattle.std.proofs.lemmas.Grind.{not_there}
 use Rattle.std.proofs.Math.Logic.{∥∥₁_map}
 use Rattle.vm_base.specs.Entries.{with_key, without_key, passes, entry_count}
 use Rattle.vm_base.specs.declared.limits.TheConstants.{NAMES}
-use Rattle.vm_base.proofs.SearchLaws.{count_below_one_more, count_below_hit, count_below_split}
-use Rattle.vm_base.proofs.EntryLaws.{with_key-here, with_key-other, with_key-cases, without_key-some, with_key-stays, some_is, passes-none, passes-some, passes_found, any_entry_none, entry_count_miss, entry_count-same, none_entry}
+use Rattle.vm_base.proofs.SearchLaws.{count_below_one_more, count_below_split}
+use Rattle.vm_base.proofs.EntryLaws.{with_key-here, with_key-other, with_key-cases, without_key-some, with_key-stays, some_is, passes-none, passes-some, passes_found, any_entry_none, entry_count_miss, entry_count-same, none_entry, entry_count_hit}
 use Rattle.vm_model.specs.declared.names.Target.{Target}
 use Rattle.vm_model.specs.Naming.Names.{Lineage, is_named, is_parent, has_parent, child_count, parent_without, lineage_without, is_of, is_of_as, names_as, is_kind}
 use Rattle.vm_model.specs.declared.names.NameKind.{NameKind}
@@ -18,27 +18,34 @@ use Rattle.vmo_table.specs.TableFields.{name_count, AreRelated, Ranking}
 -- ---- names
 
 -- a name of another VMO
-pub not_of : (v : ℕ) (names : ℕ → Option Target) (n : ℕ) (t : Target) → is_named names v ≡ false → n < NAMES → names n ≡ Some t → t.koid.0 ≢ v
+pub not_of : (v : ℕ) (names : ℕ → Option Target) (n : ℕ) (t : Target) → is_named names v ≡ false → n < NAMES →
+    names n ≡ Some t → t.koid.0 ≢ v
 not_of v names n t miss h open_ same =
     let other = any_entry_none NAMES (is_of v) names n t miss h open_ in
     let it = eq-eqb t.koid.0 v same in
     absurd (cc)
 
 -- no name stands for a koid that no VMO has
-none_of : (names : ℕ → Option Target) (lineage : ℕ → Option Lineage) (v : ℕ) → AreRelated names lineage → lineage v ≡ None → (n : ℕ) (t : Target) → names n ≡ Some t → is_of v t ≡ false
+none_of : (names : ℕ → Option Target) (lineage : ℕ → Option Lineage) (v : ℕ) → AreRelated names lineage →
+    lineage v ≡ None → (n : ℕ) (t : Target) → names n ≡ Some t → is_of v t ≡ false
 none_of names lineage v related none n t e = ne_eqb t.koid.0 v (λ same. absurd (
     let there : is_some (lineage t.koid.0) ≡ true = related.targets n t e in
     let gone : lineage t.koid.0 ≡ None = ap lineage same ∙ none in
     cc))
 
-pub is_named-unknown : (names : ℕ → Option Target) (lineage : ℕ → Option Lineage) (v : ℕ) → AreRelated names lineage → lineage v ≡ None → is_named names v ≡ false
-is_named-unknown names lineage v related none = none_entry NAMES (is_of v) names (λ n t h e. none_of names lineage v related none n t e)
+pub is_named-unknown : (names : ℕ → Option Target) (lineage : ℕ → Option Lineage) (v : ℕ) → AreRelated names lineage →
+    lineage v ≡ None → is_named names v ≡ false
+is_named-unknown names lineage v related none =
+    none_entry NAMES (is_of v) names (λ n t h e. none_of names lineage v related none n t e)
 
 -- so it has no names, of any kind
-pub name_count-unknown : (names : ℕ → Option Target) (lineage : ℕ → Option Lineage) (v : ℕ) → AreRelated names lineage → lineage v ≡ None → name_count names v ≡ 0
-name_count-unknown names lineage v related none = entry_count_miss NAMES (is_of v) names (λ n t h e. none_of names lineage v related none n t e)
+pub name_count-unknown : (names : ℕ → Option Target) (lineage : ℕ → Option Lineage) (v : ℕ) →
+    AreRelated names lineage → lineage v ≡ None → name_count names v ≡ 0
+name_count-unknown names lineage v related none =
+    entry_count_miss NAMES (is_of v) names (λ n t h e. none_of names lineage v related none n t e)
 
-pub names_as-unknown : (kind : NameKind) (names : ℕ → Option Target) (lineage : ℕ → Option Lineage) (v : ℕ) → AreRelated names lineage → lineage v ≡ None → names_as kind names v ≡ 0
+pub names_as-unknown : (kind : NameKind) (names : ℕ → Option Target) (lineage : ℕ → Option Lineage) (v : ℕ) →
+    AreRelated names lineage → lineage v ≡ None → names_as kind names v ≡ 0
 names_as-unknown kind names lineage v related none =
     entry_count_miss NAMES (is_of_as kind v) names (λ n t h e. ap (λ (b : Bool). b && is_kind kind t.kind) (none_of names lineage v related none n t e))
 
@@ -46,22 +53,25 @@ names_as-unknown kind names lineage v related none =
 
 -- the parent that a test found
 pub is_parent_found : (u : ℕ) (o : Option ℕ) → is_parent u o ≡ true → o ≡ Some u
-is_parent_found u o e = let found = passes_found (λ (p : ℕ). p == u) o e in found.1 ∙ ap (λ (q : ℕ). Some q) (eqb-true found.0 u found.2)
+is_parent_found u o e =
+    let found = passes_found (λ (p : ℕ). p == u) o e in found.1 ∙ ap (λ (q : ℕ). Some q) (eqb-true found.0 u found.2)
 
 -- a VMO is counted at its parent
-pub child_counts : (lineage : ℕ → Option Lineage) (k : ℕ) (l : Lineage) (u : ℕ) → k < 2 ^ 64 → lineage k ≡ Some l → is_parent u l.parent ≡ true → 0 < child_count lineage u
-unfolding entry_count
-child_counts lineage k l u h was parent =
-    count_below_hit (2 ^ 64) k (λ w. passes (has_parent u) (lineage w)) h (passes-some (has_parent u) (lineage k) l was ∙ parent)
+pub child_counts : (lineage : ℕ → Option Lineage) (k : ℕ) (l : Lineage) (u : ℕ) → k < 2 ^ 64 → lineage k ≡ Some l →
+    is_parent u l.parent ≡ true → 0 < child_count lineage u
+child_counts lineage k l u h was parent = entry_count_hit (2 ^ 64) (has_parent u) lineage k l h was parent
 
 -- a koid that no VMO has, has no children
-pub child_count-unknown : (names : ℕ → Option Target) (lineage : ℕ → Option Lineage) (u : ℕ) → AreRelated names lineage → lineage u ≡ None → child_count lineage u ≡ 0
-child_count-unknown names lineage u related none = entry_count_miss (2 ^ 64) (has_parent u) lineage (λ w l h e. false_from_ne_true (has_parent u l) (λ hit. absurd (
+pub child_count-unknown : (names : ℕ → Option Target) (lineage : ℕ → Option Lineage) (u : ℕ) →
+    AreRelated names lineage → lineage u ≡ None → child_count lineage u ≡ 0
+child_count-unknown names lineage u related none =
+    entry_count_miss (2 ^ 64) (has_parent u) lineage (λ w l h e. false_from_ne_true (has_parent u l) (λ hit. absurd (
     let there : is_some (lineage u) ≡ true = related.parents w u l e (is_parent_found u l.parent hit) in
     cc)))
 
 -- where no children count, no VMO is a child
-pub no_child : (names : ℕ → Option Target) (lineage : ℕ → Option Lineage) (u : ℕ) → AreRelated names lineage → child_count lineage u ≡ 0 → (w : ℕ) → passes (has_parent u) (lineage w) ≡ false
+pub no_child : (names : ℕ → Option Target) (lineage : ℕ → Option Lineage) (u : ℕ) → AreRelated names lineage →
+    child_count lineage u ≡ 0 → (w : ℕ) → passes (has_parent u) (lineage w) ≡ false
 no_child names lineage u related none w = false_from_ne_true (passes (has_parent u) (lineage w)) (λ hit. absurd (
     let found = passes_found (has_parent u) (lineage w) hit in
     let below = related.koids_below w (ap is_some found.1) in
@@ -71,19 +81,23 @@ no_child names lineage u related none w = false_from_ne_true (passes (has_parent
 -- ---- a VMO that leaves
 
 -- all others are left
-left-stays : (lineage : ℕ → Option Lineage) (v : ℕ) (parent : Option ℕ) (w : ℕ) → w ≢ v → IsSome (lineage w) → IsSome (lineage_without lineage v parent w)
+left-stays : (lineage : ℕ → Option Lineage) (v : ℕ) (parent : Option ℕ) (w : ℕ) → w ≢ v → IsSome (lineage w) →
+    IsSome (lineage_without lineage v parent w)
 left-stays lineage v parent w apart h = is_some-lineage_without lineage v parent w apart ∙ h
 
 -- the VMO itself is not
-pub left-here : (lineage : ℕ → Option Lineage) (v : ℕ) (parent : Option ℕ) (w : ℕ) → w ≡ v → lineage_without lineage v parent w ≡ None
+pub left-here : (lineage : ℕ → Option Lineage) (v : ℕ) (parent : Option ℕ) (w : ℕ) → w ≡ v →
+    lineage_without lineage v parent w ≡ None
 left-here lineage v parent w same = ap (lineage_without lineage v parent) same ∙ lineage_without-same lineage v parent
 
 -- a VMO that is there is another than one that is not
 parent_apart : (lineage : ℕ → Option Lineage) (k p : ℕ) → lineage k ≡ None → IsSome (lineage p) → p ≢ k
-parent_apart lineage k p free there same = absurd (let gone = ap lineage same ∙ free in let it : is_some (lineage p) ≡ true = there in cc)
+parent_apart lineage k p free there same =
+    absurd (let gone = ap lineage same ∙ free in let it : is_some (lineage p) ≡ true = there in cc)
 
 -- a VMO that is not there leaves nothing
-pub left_absent : (names : ℕ → Option Target) (lineage : ℕ → Option Lineage) (v : ℕ) (parent : Option ℕ) → AreRelated names lineage → lineage v ≡ None → lineage_without lineage v parent ≡ lineage
+pub left_absent : (names : ℕ → Option Target) (lineage : ℕ → Option Lineage) (v : ℕ) (parent : Option ℕ) →
+    AreRelated names lineage → lineage v ≡ None → lineage_without lineage v parent ≡ lineage
 left_absent names lineage v parent related none = λ i w. at w i
   where
     kept : (o : Option ℕ) → ((p : ℕ) → o ≡ Some p → p ≢ v) → parent_without v parent o ≡ o
@@ -92,7 +106,8 @@ left_absent names lineage v parent related none = λ i w. at w i
 
     of : (w : ℕ) (o : Option Lineage) → lineage w ≡ o → option_map (left_by v parent) o ≡ o
     of w None e = refl
-    of w (Some l) e = ap (λ (p : Option ℕ). Some (record l { parent = p })) (kept l.parent (λ p f. parent_apart lineage v p none (related.parents w p l e f)))
+    of w (Some l) e =
+        ap (λ (p : Option ℕ). Some (record l { parent = p })) (kept l.parent (λ p f. parent_apart lineage v p none (related.parents w p l e f)))
 
     at : (w : ℕ) → lineage_without lineage v parent w ≡ lineage w
     at w = elim (cases_eq w v) [
@@ -101,7 +116,8 @@ left_absent names lineage v parent related none = λ i w. at w i
     ]
 
 -- another VMO than the parent gains no child
-after_other : (u v : ℕ) (parent o : Option ℕ) → u ≢ v → is_parent u parent ≡ false → is_parent u (parent_without v parent o) ≡ is_parent u o
+after_other : (u v : ℕ) (parent o : Option ℕ) → u ≢ v → is_parent u parent ≡ false →
+    is_parent u (parent_without v parent o) ≡ is_parent u o
 unfolding passes parent_without
 after_other u v parent None apart other = refl
 after_other u v parent (Some p) apart other = elim (cases_eq p v) [
@@ -109,12 +125,14 @@ after_other u v parent (Some p) apart other = elim (cases_eq p v) [
   | inr else_ ↦ ap (λ b. is_parent u (cond b parent (Some p))) (ne_eqb p v else_)
 ]
 
-has_parent-mapped : (u : ℕ) (f : Lineage → Lineage) (o : Option Lineage) → ((l : Lineage) → is_parent u (f l).parent ≡ is_parent u l.parent) → passes (has_parent u) (option_map f o) ≡ passes (has_parent u) o
+has_parent-mapped : (u : ℕ) (f : Lineage → Lineage) (o : Option Lineage) → ((l : Lineage) →
+    is_parent u (f l).parent ≡ is_parent u l.parent) → passes (has_parent u) (option_map f o) ≡ passes (has_parent u) o
 unfolding passes
 has_parent-mapped u f None each = refl
 has_parent-mapped u f (Some l) each = each l
 
-pub child_count-left_other : (lineage : ℕ → Option Lineage) (v : ℕ) (l : Lineage) (u : ℕ) → lineage v ≡ Some l → u ≢ v → is_parent u l.parent ≡ false → child_count (lineage_without lineage v l.parent) u ≡ child_count lineage u
+pub child_count-left_other : (lineage : ℕ → Option Lineage) (v : ℕ) (l : Lineage) (u : ℕ) → lineage v ≡ Some l →
+    u ≢ v → is_parent u l.parent ≡ false → child_count (lineage_without lineage v l.parent) u ≡ child_count lineage u
 child_count-left_other lineage v l u was apart other =
     entry_count-same (2 ^ 64) (has_parent u) (lineage_without lineage v l.parent) (has_parent u) lineage (λ w h. elim (cases_eq w v) [
       | inl same ↦ passes-none (has_parent u) (lineage_without lineage v l.parent w) (left-here lineage v l.parent w same) ∙ sym (passes-some (has_parent u) (lineage w) l (ap lineage same ∙ was) ∙ other)
@@ -122,7 +140,8 @@ child_count-left_other lineage v l u was apart other =
     ])
 
 -- the parent gains the children
-after_parent : (u v : ℕ) (o : Option ℕ) → u ≢ v → ◌≡◌ {A = ℕ} (cond (is_parent u (parent_without v (Some u) o)) 1 0) (cond (is_parent u o) 1 0 + cond (is_parent v o) 1 0)
+after_parent : (u v : ℕ) (o : Option ℕ) → u ≢ v →
+    ◌≡◌ {A = ℕ} (cond (is_parent u (parent_without v (Some u) o)) 1 0) (cond (is_parent u o) 1 0 + cond (is_parent v o) 1 0)
 unfolding passes parent_without
 after_parent u v None apart = refl
 after_parent u v (Some p) apart = elim (cases_eq p v) [
@@ -139,12 +158,15 @@ after_parent u v (Some p) apart = elim (cases_eq p v) [
       omega arith
 ]
 
-has_parent-gained : (u v : ℕ) (o : Option Lineage) → u ≢ v → ◌≡◌ {A = ℕ} (cond (passes (has_parent u) (option_map (left_by v (Some u)) o)) 1 0) (cond (passes (has_parent u) o) 1 0 + cond (passes (has_parent v) o) 1 0)
+has_parent-gained : (u v : ℕ) (o : Option Lineage) → u ≢ v →
+    ◌≡◌ {A = ℕ} (cond (passes (has_parent u) (option_map (left_by v (Some u)) o)) 1 0) (cond (passes (has_parent u) o) 1 0 + cond (passes (has_parent v) o) 1 0)
 unfolding passes
 has_parent-gained u v None apart = refl
 has_parent-gained u v (Some l) apart = after_parent u v l.parent apart
 
-pub child_count-left : (lineage : ℕ → Option Lineage) (v : ℕ) (l : Lineage) (u : ℕ) → v < 2 ^ 64 → lineage v ≡ Some l → u ≢ v → l.parent ≡ Some u → child_count (lineage_without lineage v l.parent) u + 1 ≡ child_count lineage u + child_count lineage v
+pub child_count-left : (lineage : ℕ → Option Lineage) (v : ℕ) (l : Lineage) (u : ℕ) → v < 2 ^ 64 →
+    lineage v ≡ Some l → u ≢ v → l.parent ≡ Some u →
+    child_count (lineage_without lineage v l.parent) u + 1 ≡ child_count lineage u + child_count lineage v
 unfolding entry_count passes parent_without
 child_count-left lineage v l u h was apart parent =
     let here = λ (w : ℕ). passes (has_parent u) (lineage w) in
@@ -162,7 +184,8 @@ child_count-left lineage v l u h was apart parent =
 
 -- ---- what stays of the relation
 
-pub AreRelated-empty : (names : ℕ → Option Target) (lineage : ℕ → Option Lineage) → ((n : ℕ) → names n ≡ None) → ((v : ℕ) → lineage v ≡ None) → AreRelated names lineage
+pub AreRelated-empty : (names : ℕ → Option Target) (lineage : ℕ → Option Lineage) → ((n : ℕ) → names n ≡ None) →
+    ((v : ℕ) → lineage v ≡ None) → AreRelated names lineage
 AreRelated-empty names lineage no_name no_vmo = record {
   names_below = λ n h. absurd (let e = no_name n in cc);
   koids_below = λ v h. absurd (let e = no_vmo v in cc);
@@ -180,7 +203,8 @@ rank_over-some : (rank : ℕ → ℕ) (o : Option ℕ) (p : ℕ) → o ≡ Some 
 unfolding rank_over
 rank_over-some rank o p e = ap (rank_over rank) e
 
-Ranking-entered : (lineage : ℕ → Option Lineage) (k : ℕ) (l : Lineage) → Ranking lineage → lineage k ≡ None → ((v p : ℕ) (m : Lineage) → lineage v ≡ Some m → m.parent ≡ Some p → IsSome (lineage p)) →
+Ranking-entered : (lineage : ℕ → Option Lineage) (k : ℕ) (l : Lineage) → Ranking lineage → lineage k ≡ None →
+    ((v p : ℕ) (m : Lineage) → lineage v ≡ Some m → m.parent ≡ Some p → IsSome (lineage p)) →
     ((p : ℕ) → l.parent ≡ Some p → IsSome (lineage p)) → Ranking (with_key lineage k l)
 Ranking-entered lineage k l r free parents parent =
     let rank = λ (v : ℕ). cond {A = ℕ} (v == k) (rank_over r.rank l.parent) (r.rank v) in
@@ -197,7 +221,9 @@ Ranking-entered lineage k l r free parents parent =
       ];
     }
 
-pub AreRelated-entered : (names : ℕ → Option Target) (lineage : ℕ → Option Lineage) (n : ℕ) (t : Target) (l : Lineage) → AreRelated names lineage → n < NAMES → t.koid.0 < 2 ^ 64 → lineage t.koid.0 ≡ None →
+pub AreRelated-entered : (names : ℕ → Option Target) (lineage : ℕ →
+    Option Lineage) (n : ℕ) (t : Target) (l : Lineage) → AreRelated names lineage → n < NAMES → t.koid.0 < 2 ^ 64 →
+    lineage t.koid.0 ≡ None →
     ((p : ℕ) → l.parent ≡ Some p → IsSome (lineage p)) → AreRelated (with_key names n t) (with_key lineage t.koid.0 l)
 AreRelated-entered names lineage n t l related low small free parent = record {
   names_below = λ m h. elim (cases_eq m n) [
@@ -220,7 +246,8 @@ AreRelated-entered names lineage n t l related low small free parent = record {
 }
 
 -- a VMO gets one name more
-pub AreRelated-aliased : (names : ℕ → Option Target) (lineage : ℕ → Option Lineage) (n : ℕ) (t : Target) → AreRelated names lineage → n < NAMES → IsSome (lineage t.koid.0) → AreRelated (with_key names n t) lineage
+pub AreRelated-aliased : (names : ℕ → Option Target) (lineage : ℕ → Option Lineage) (n : ℕ) (t : Target) →
+    AreRelated names lineage → n < NAMES → IsSome (lineage t.koid.0) → AreRelated (with_key names n t) lineage
 AreRelated-aliased names lineage n t related low there = record {
   names_below = λ m h. elim (cases_eq m n) [
     | inl same ↦ omega arith
@@ -235,7 +262,8 @@ AreRelated-aliased names lineage n t related low there = record {
   ranked = related.ranked;
 }
 
-pub AreRelated-closed : (names : ℕ → Option Target) (lineage : ℕ → Option Lineage) (n : ℕ) → AreRelated names lineage → AreRelated (without_key names n) lineage
+pub AreRelated-closed : (names : ℕ → Option Target) (lineage : ℕ → Option Lineage) (n : ℕ) →
+    AreRelated names lineage → AreRelated (without_key names n) lineage
 AreRelated-closed names lineage n related = record {
   names_below = λ m h. let open_ = some_is (without_key names n m) h in related.names_below m (ap is_some (without_key-some names n m open_.0 open_.1).1);
   koids_below = related.koids_below;
@@ -245,7 +273,8 @@ AreRelated-closed names lineage n related = record {
 }
 
 -- the parent of a child that is left
-parent_after : (v : ℕ) (own o : Option ℕ) (p : ℕ) → parent_without v own o ≡ Some p → ((o ≡ Some v) × (own ≡ Some p)) ⊎ ((o ≡ Some p) × (p ≢ v))
+parent_after : (v : ℕ) (own o : Option ℕ) (p : ℕ) → parent_without v own o ≡ Some p →
+    ((o ≡ Some v) × (own ≡ Some p)) ⊎ ((o ≡ Some p) × (p ≢ v))
 unfolding parent_without
 parent_after v own None p e = absurd (cc)
 parent_after v own (Some q) p e = elim (cases_eq q v) [
@@ -256,11 +285,13 @@ parent_after v own (Some q) p e = elim (cases_eq q v) [
 ]
 
 -- a VMO is not its own parent
-not_own_parent : (lineage : ℕ → Option Lineage) (v : ℕ) (l : Lineage) → ∥ Ranking lineage ∥₁ → lineage v ≡ Some l → l.parent ≡ Some v → ⊥
+not_own_parent : (lineage : ℕ → Option Lineage) (v : ℕ) (l : Lineage) → ∥ Ranking lineage ∥₁ → lineage v ≡ Some l →
+    l.parent ≡ Some v → ⊥
 not_own_parent lineage v l ranked was own = not_there ranked (λ r. let below = r.falls v v l was own in omega arith)
 
 -- the ranks stay
-Ranking-left : (lineage : ℕ → Option Lineage) (v : ℕ) (l : Lineage) → Ranking lineage → lineage v ≡ Some l → Ranking (lineage_without lineage v l.parent)
+Ranking-left : (lineage : ℕ → Option Lineage) (v : ℕ) (l : Lineage) → Ranking lineage → lineage v ≡ Some l →
+    Ranking (lineage_without lineage v l.parent)
 Ranking-left lineage v l r was = record {
   rank = r.rank;
   falls = λ w p k e f.
@@ -274,7 +305,9 @@ Ranking-left lineage v l r was = record {
       ];
 }
 
-pub AreRelated-left : (names : ℕ → Option Target) (lineage : ℕ → Option Lineage) (v : ℕ) (l : Lineage) → AreRelated names lineage → lineage v ≡ Some l → is_named names v ≡ false → AreRelated names (lineage_without lineage v l.parent)
+pub AreRelated-left : (names : ℕ → Option Target) (lineage : ℕ → Option Lineage) (v : ℕ) (l : Lineage) →
+    AreRelated names lineage → lineage v ≡ Some l → is_named names v ≡ false →
+    AreRelated names (lineage_without lineage v l.parent)
 AreRelated-left names lineage v l related was miss = record {
   names_below = related.names_below;
   koids_below = λ w h.

@@ -45,10 +45,12 @@ module _ (names : ℕ → Option Target) (vmos : ℕ → Option Vmo) (k : ℕ) (
   childless none = no_child names (lineages vmos) k is.related (sym (own_children names vmos k old new is) ∙ none)
 
   left_related : is_kept new ≡ false → AreRelated names left
-  left_related free = AreRelated-left names (lineages vmos) k (lineage_of_vmo new) is.related was (named_by ∙ le-ltb 0 new.names (free_counts new free).0)
+  left_related free =
+      AreRelated-left names (lineages vmos) k (lineage_of_vmo new) is.related was (named_by ∙ le-ltb 0 new.names (free_counts new free).0)
 
   -- the children of a VMO that is left
-  left_children : (v : ℕ) (vmo : Vmo) → v ≢ k → vmos v ≡ Some vmo → cond (is_parent v above) (vmo.children - 1 + new.children) vmo.children ≡ child_count left v
+  left_children : (v : ℕ) (vmo : Vmo) → v ≢ k → vmos v ≡ Some vmo →
+      cond (is_parent v above) (vmo.children - 1 + new.children) vmo.children ≡ child_count left v
   left_children v vmo apart e =
       let counted = is.counted v vmo e in
       let own = own_children names vmos k old new is in
@@ -62,7 +64,8 @@ module _ (names : ℕ → Option Target) (vmos : ℕ → Option Vmo) (k : ℕ) (
             cond-false (is_parent v above) (vmo.children - 1 + new.children) vmo.children miss ∙ omega arith
       ]
 
-  pub left_fits : is_kept new ≡ false → (v : ℕ) (vmo : Vmo) → is_parent v above ≡ true → gone v ≡ Some vmo → (1 ≤ vmo.children) × (vmo.children - 1 + new.children ≤ vmo_count vmos)
+  pub left_fits : is_kept new ≡ false → (v : ℕ) (vmo : Vmo) → is_parent v above ≡ true → gone v ≡ Some vmo →
+      (1 ≤ vmo.children) × (vmo.children - 1 + new.children ≤ vmo_count vmos)
   left_fits free v vmo hit e =
       let was_there = without_cases vmos k new.parent v vmo e in
       let counted = left_children v was_there.1 was_there.0 was_there.2 in
@@ -76,7 +79,8 @@ module _ (names : ℕ → Option Target) (vmos : ℕ → Option Vmo) (k : ℕ) (
   lineages-left : lineages (adopted gone above 1 new.children) ≡ left
   lineages-left = lineages-adopted gone above 1 new.children ∙ lineages-without vmos k new.parent
 
-  left_counted : (v : ℕ) (vmo : Vmo) → adopted gone above 1 new.children v ≡ Some vmo → HasNames names v vmo × (vmo.children ≡ child_count left v)
+  left_counted : (v : ℕ) (vmo : Vmo) → adopted gone above 1 new.children v ≡ Some vmo →
+      HasNames names v vmo × (vmo.children ≡ child_count left v)
   left_counted v vmo e =
       let case = adopted_cases gone above 1 new.children v vmo e in
       let then_ = without_cases vmos k new.parent v case.0 case.1 in
@@ -105,27 +109,32 @@ module _ (names : ℕ → Option Target) (vmos : ℕ → Option Vmo) (k : ℕ) (
   lineages-kept : is_kept new ≡ true → lineages (settled vmos k new) ≡ lineages vmos
   lineages-kept held = ap lineages (settled-kept vmos k new held) ∙ lineages-is_written names vmos k old new is
 
-  lineages-free : is_kept new ≡ false → lineages (settled vmos k new) ≡ lineage_without (lineages vmos) k (parent_of (lineages vmos k))
+  lineages-free : is_kept new ≡ false →
+      lineages (settled vmos k new) ≡ lineage_without (lineages vmos) k (parent_of (lineages vmos k))
   lineages-free free =
       ap lineages (settled-free vmos k new free)
       ∙ (lineages-left ∙ ap (λ (o : Option Lineage). lineage_without (lineages vmos) k (parent_of o)) (sym was))
 
   kept_still : (is_named names k ≡ true) ⊎ (0 < new.keepers) → is_kept new ≡ true
   kept_still (inl named) = ap (λ (b : Bool). b || nat_lt 0 new.keepers) (sym named_by ∙ named)
-  kept_still (inr kept) = ap (λ (b : Bool). nat_lt 0 new.names || b) (lt-ltb 0 new.keepers kept) ∙ or-true (nat_lt 0 new.names)
+  kept_still (inr kept) =
+      ap (λ (b : Bool). nat_lt 0 new.names || b) (lt-ltb 0 new.keepers kept) ∙ or-true (nat_lt 0 new.names)
 
   kept_no_more : is_named names k ≡ false → new.keepers ≡ 0 → is_kept new ≡ false
-  kept_no_more unnamed none = ap (λ (b : Bool). b || nat_lt 0 new.keepers) (sym named_by ∙ unnamed) ∙ le-ltb 0 new.keepers (omega arith)
+  kept_no_more unnamed none =
+      ap (λ (b : Bool). b || nat_lt 0 new.keepers) (sym named_by ∙ unnamed) ∙ le-ltb 0 new.keepers (omega arith)
 
   -- what becomes of it
-  pub settles : (answer : Option Koid) → answer ≡ cond (is_kept new) None (Some (record { 0 = k })) → Settles names new.keepers k (lineages vmos) (lineages (settled vmos k new)) answer
+  pub settles : (answer : Option Koid) → answer ≡ cond (is_kept new) None (Some (record { 0 = k })) →
+      Settles names new.keepers k (lineages vmos) (lineages (settled vmos k new)) answer
   settles answer said = record {
     stays = λ by. let held = kept_still by in (said ∙ cond-true (is_kept new) None (Some (record { 0 = k })) held, lineages-kept held);
     leaves = λ unnamed none. let free = kept_no_more unnamed none in (said ∙ cond-false (is_kept new) None (Some (record { 0 = k })) free, lineages-free free);
   }
 
 -- a VMO that is not in the table has nothing that keeps it, and settling it changes nothing
-pub settles_absent : (names : ℕ → Option Target) (vmos : ℕ → Option Vmo) (v : ℕ) → AreConsistent names vmos → vmos v ≡ None → Settles names (keepers_in vmos v) v (lineages vmos) (lineages vmos) (Some (record { 0 = v }))
+pub settles_absent : (names : ℕ → Option Target) (vmos : ℕ → Option Vmo) (v : ℕ) → AreConsistent names vmos →
+    vmos v ≡ None → Settles names (keepers_in vmos v) v (lineages vmos) (lineages vmos) (Some (record { 0 = v }))
 settles_absent names vmos v kept none =
     let unknown = lineages-is vmos v ∙ ap (option_map lineage_of_vmo) none in
     let unnamed = is_named-unknown names (lineages vmos) v kept.related unknown in

@@ -19,7 +19,8 @@ unfolding lineages
 lineages-is vmos v = refl
 
 -- what stands behind a lineage
-pub lineages_found : (vmos : ℕ → Option Vmo) (v : ℕ) (vmo : Vmo) → vmos v ≡ Some vmo → lineages vmos v ≡ Some (lineage_of_vmo vmo)
+pub lineages_found : (vmos : ℕ → Option Vmo) (v : ℕ) (vmo : Vmo) → vmos v ≡ Some vmo →
+    lineages vmos v ≡ Some (lineage_of_vmo vmo)
 lineages_found vmos v vmo e = lineages-is vmos v ∙ ap (option_map lineage_of_vmo) e
 
 -- what has a lineage is there
@@ -33,7 +34,8 @@ is_some-lineages vmos v = ap is_some (lineages-is vmos v) ∙ of (vmos v)
 pub lineages-none : (vmos : ℕ → Option Vmo) (v : ℕ) → lineages vmos v ≡ None → vmos v ≡ None
 lineages-none vmos v e = none_is (vmos v) (sym (is_some-lineages vmos v) ∙ ap is_some e)
 
-pub lineages-with_key : (vmos : ℕ → Option Vmo) (k : ℕ) (vmo : Vmo) → lineages (with_key vmos k vmo) ≡ with_key (lineages vmos) k (lineage_of_vmo vmo)
+pub lineages-with_key : (vmos : ℕ → Option Vmo) (k : ℕ) (vmo : Vmo) →
+    lineages (with_key vmos k vmo) ≡ with_key (lineages vmos) k (lineage_of_vmo vmo)
 lineages-with_key vmos k vmo = λ i w. at w i
   where
     at : (w : ℕ) → lineages (with_key vmos k vmo) w ≡ with_key (lineages vmos) k (lineage_of_vmo vmo) w
@@ -44,7 +46,8 @@ lineages-with_key vmos k vmo = λ i w. at w i
     ]
 
 -- no more VMOs have a parent than there are
-child_count_le : (vmos : ℕ → Option Vmo) (lineage : ℕ → Option Lineage) (u : ℕ) → ((w : ℕ) → IsSome (lineage w) → IsSome (vmos w)) → child_count lineage u ≤ vmo_count vmos
+child_count_le : (vmos : ℕ → Option Vmo) (lineage : ℕ → Option Lineage) (u : ℕ) → ((w : ℕ) → IsSome (lineage w) →
+    IsSome (vmos w)) → child_count lineage u ≤ vmo_count vmos
 unfolding entry_count
 child_count_le vmos lineage u there =
     count_below_less (2 ^ 64) (λ w. passes (has_parent u) (lineage w)) (λ w. passes (λ (vmo : Vmo). true) (vmos w)) (λ w h hit.
@@ -56,13 +59,15 @@ pub children_le : (vmos : ℕ → Option Vmo) (u : ℕ) → child_count (lineage
 children_le vmos u = child_count_le vmos (lineages vmos) u (λ w h. sym (is_some-lineages vmos w) ∙ h)
 
 -- nor do after one left
-pub left_children_le : (vmos : ℕ → Option Vmo) (v : ℕ) (parent : Option ℕ) (u : ℕ) → child_count (lineage_without (lineages vmos) v parent) u ≤ vmo_count vmos
+pub left_children_le : (vmos : ℕ → Option Vmo) (v : ℕ) (parent : Option ℕ) (u : ℕ) →
+    child_count (lineage_without (lineages vmos) v parent) u ≤ vmo_count vmos
 left_children_le vmos v parent u = child_count_le vmos (lineage_without (lineages vmos) v parent) u (λ w h.
     let found = some_is (lineage_without (lineages vmos) v parent w) h in
     sym (is_some-lineages vmos w) ∙ ap is_some (lineage_without-some (lineages vmos) v parent w found.0 found.1).2)
 
 -- another count of names changes no lineage
-pub lineages-written : (vmos : ℕ → Option Vmo) (k : ℕ) (old new : Vmo) → vmos k ≡ Some old → lineage_of_vmo new ≡ lineage_of_vmo old → lineages (with_key vmos k new) ≡ lineages vmos
+pub lineages-written : (vmos : ℕ → Option Vmo) (k : ℕ) (old new : Vmo) → vmos k ≡ Some old →
+    lineage_of_vmo new ≡ lineage_of_vmo old → lineages (with_key vmos k new) ≡ lineages vmos
 lineages-written vmos k old new was same_lineage = λ i w. at w i
   where
     at : (w : ℕ) → lineages (with_key vmos k new) w ≡ lineages vmos w
@@ -72,21 +77,26 @@ lineages-written vmos k old new was same_lineage = λ i w. at w i
     ]
 
 -- nor do other counts of children
-pub lineages-adopted : (vmos : ℕ → Option Vmo) (parent : Option ℕ) (gone come : ℕ) → lineages (adopted vmos parent gone come) ≡ lineages vmos
+pub lineages-adopted : (vmos : ℕ → Option Vmo) (parent : Option ℕ) (gone come : ℕ) →
+    lineages (adopted vmos parent gone come) ≡ lineages vmos
 unfolding lineages adopted
 lineages-adopted vmos parent gone come = λ i w. of (is_parent w parent) (vmos w) i
   where
-    of : (b : Bool) (o : Option Vmo) → option_map lineage_of_vmo (cond b (option_map (with_children gone come) o) o) ≡ option_map lineage_of_vmo o
+    of : (b : Bool) (o : Option Vmo) →
+        option_map lineage_of_vmo (cond b (option_map (with_children gone come) o) o) ≡ option_map lineage_of_vmo o
     of true None = refl
     of true (Some vmo) = refl
     of false o = refl
 
 -- a VMO that got no other names
-keeps : (old by new : Vmo) → by ≡ new → by.names ≡ old.names → by.slices ≡ old.slices → by.references ≡ old.references → KeepsNames old new
-keeps old by new same names slices references = subst (λ (x : Vmo). KeepsNames old x) same (record { names = names; slices = slices; references = references })
+keeps : (old by new : Vmo) → by ≡ new → by.names ≡ old.names → by.slices ≡ old.slices →
+    by.references ≡ old.references → KeepsNames old new
+keeps old by new same names slices references =
+    subst (λ (x : Vmo). KeepsNames old x) same (record { names = names; slices = slices; references = references })
 
 -- a VMO after counts of children were changed
-pub adopted_cases : (vmos : ℕ → Option Vmo) (parent : Option ℕ) (gone come v : ℕ) (new : Vmo) → adopted vmos parent gone come v ≡ Some new →
+pub adopted_cases : (vmos : ℕ → Option Vmo) (parent : Option ℕ) (gone come v : ℕ) (new : Vmo) →
+    adopted vmos parent gone come v ≡ Some new →
     (old : Vmo) × (vmos v ≡ Some old) × KeepsNames old new × (new.children ≡ cond (is_parent v parent) (old.children - gone + come) old.children)
 unfolding adopted
 adopted_cases vmos parent gone come v new e = of (is_parent v parent) (vmos v) e
@@ -94,39 +104,50 @@ adopted_cases vmos parent gone come v new e = of (is_parent v parent) (vmos v) e
     of : (b : Bool) (o : Option Vmo) → cond b (option_map (with_children gone come) o) o ≡ Some new →
         (old : Vmo) × (o ≡ Some old) × KeepsNames old new × (new.children ≡ cond b (old.children - gone + come) old.children)
     of true None h = absurd (cc)
-    of true (Some old) h = let same = same_Some (with_children gone come old) new h in (old, refl, keeps old (with_children gone come old) new same refl refl refl, ap (λ (x : Vmo). x.children) (sym same))
+    of true (Some old) h =
+        let same = same_Some (with_children gone come old) new h in (old, refl, keeps old (with_children gone come old) new same refl refl refl, ap (λ (x : Vmo). x.children) (sym same))
     of false None h = absurd (cc)
-    of false (Some old) h = let same = same_Some old new h in (old, refl, keeps old old new same refl refl refl, ap (λ (x : Vmo). x.children) (sym same))
+    of false (Some old) h =
+        let same = same_Some old new h in (old, refl, keeps old old new same refl refl refl, ap (λ (x : Vmo). x.children) (sym same))
 
 abbrev pub vmo_after : ℕ → Option Koid → Vmo → Vmo
 vmo_after v parent vmo = record vmo { parent = koid_after v parent vmo.parent }
 
-number_after : (v : ℕ) (parent o : Option Koid) → option_map koid_number (koid_after v parent o) ≡ parent_without v (option_map koid_number parent) (option_map koid_number o)
+number_after : (v : ℕ) (parent o : Option Koid) →
+    option_map koid_number (koid_after v parent o) ≡ parent_without v (option_map koid_number parent) (option_map koid_number o)
 unfolding koid_after parent_without
 number_after v parent None = refl
 number_after v parent (Some p) = of (p.0 == v)
   where
-    of : (b : Bool) → option_map koid_number (cond b parent (Some p)) ≡ cond b (option_map koid_number parent) (Some p.0)
+    of : (b : Bool) →
+        option_map koid_number (cond b parent (Some p)) ≡ cond b (option_map koid_number parent) (Some p.0)
     of true = refl
     of false = refl
 
-lineage-after : (v : ℕ) (parent : Option Koid) (o : Option Vmo) → option_map lineage_of_vmo (option_map (vmo_after v parent) o) ≡ option_map (left_by v (option_map koid_number parent)) (option_map lineage_of_vmo o)
+lineage-after : (v : ℕ) (parent : Option Koid) (o : Option Vmo) →
+    option_map lineage_of_vmo (option_map (vmo_after v parent) o) ≡ option_map (left_by v (option_map koid_number parent)) (option_map lineage_of_vmo o)
 lineage-after v parent None = refl
-lineage-after v parent (Some vmo) = ap (λ (p : Option ℕ). Some (record { resizable = vmo.resizable; origin = vmo.origin; parent = p })) (number_after v parent vmo.parent)
+lineage-after v parent (Some vmo) =
+    ap (λ (p : Option ℕ). Some (record { resizable = vmo.resizable; origin = vmo.origin; parent = p })) (number_after v parent vmo.parent)
 
 -- a VMO leaves
-pub without-here : (vmos : ℕ → Option Vmo) (v : ℕ) (parent : Option Koid) (w : ℕ) → w ≡ v → vmos_without vmos v parent w ≡ None
+pub without-here : (vmos : ℕ → Option Vmo) (v : ℕ) (parent : Option Koid) (w : ℕ) → w ≡ v →
+    vmos_without vmos v parent w ≡ None
 unfolding vmos_without
 without-here vmos v parent w same = ap (λ b. cond b None (option_map (vmo_after v parent) (vmos w))) (eq-eqb w v same)
 
-pub without-other : (vmos : ℕ → Option Vmo) (v : ℕ) (parent : Option Koid) (w : ℕ) → w ≢ v → vmos_without vmos v parent w ≡ option_map (vmo_after v parent) (vmos w)
+pub without-other : (vmos : ℕ → Option Vmo) (v : ℕ) (parent : Option Koid) (w : ℕ) → w ≢ v →
+    vmos_without vmos v parent w ≡ option_map (vmo_after v parent) (vmos w)
 unfolding vmos_without
-without-other vmos v parent w apart = ap (λ b. cond b None (option_map (vmo_after v parent) (vmos w))) (ne_eqb w v apart)
+without-other vmos v parent w apart =
+    ap (λ b. cond b None (option_map (vmo_after v parent) (vmos w))) (ne_eqb w v apart)
 
-pub lineages-without : (vmos : ℕ → Option Vmo) (v : ℕ) (parent : Option Koid) → lineages (vmos_without vmos v parent) ≡ lineage_without (lineages vmos) v (option_map koid_number parent)
+pub lineages-without : (vmos : ℕ → Option Vmo) (v : ℕ) (parent : Option Koid) →
+    lineages (vmos_without vmos v parent) ≡ lineage_without (lineages vmos) v (option_map koid_number parent)
 lineages-without vmos v parent = λ i w. at w i
   where
-    at : (w : ℕ) → lineages (vmos_without vmos v parent) w ≡ lineage_without (lineages vmos) v (option_map koid_number parent) w
+    at : (w : ℕ) →
+        lineages (vmos_without vmos v parent) w ≡ lineage_without (lineages vmos) v (option_map koid_number parent) w
     at w = elim (cases_eq w v) [
       | inl same ↦ lineages-is (vmos_without vmos v parent) w ∙ (ap (option_map lineage_of_vmo) (without-here vmos v parent w same) ∙ sym (left-here (lineages vmos) v (option_map koid_number parent) w same))
       | inr apart ↦ lineages-is (vmos_without vmos v parent) w ∙ (ap (option_map lineage_of_vmo) (without-other vmos v parent w apart)
@@ -135,28 +156,35 @@ lineages-without vmos v parent = λ i w. at w i
     ]
 
 -- a VMO that is left keeps its counts
-pub without_cases : (vmos : ℕ → Option Vmo) (v : ℕ) (parent : Option Koid) (w : ℕ) (new : Vmo) → vmos_without vmos v parent w ≡ Some new →
+pub without_cases : (vmos : ℕ → Option Vmo) (v : ℕ) (parent : Option Koid) (w : ℕ) (new : Vmo) →
+    vmos_without vmos v parent w ≡ Some new →
     (w ≢ v) × (old : Vmo) × (vmos w ≡ Some old) × KeepsNames old new × (new.children ≡ old.children)
 without_cases vmos v parent w new e = elim (cases_eq w v) [
   | inl same ↦ absurd (let gone = without-here vmos v parent w same in cc)
   | inr apart ↦ let found = of (vmos w) (sym (without-other vmos v parent w apart) ∙ e) in (apart, found.0, found.1, found.2, found.3)
 ]
   where
-    of : (o : Option Vmo) → option_map (vmo_after v parent) o ≡ Some new → (old : Vmo) × (o ≡ Some old) × KeepsNames old new × (new.children ≡ old.children)
+    of : (o : Option Vmo) → option_map (vmo_after v parent) o ≡ Some new →
+        (old : Vmo) × (o ≡ Some old) × KeepsNames old new × (new.children ≡ old.children)
     of None h = absurd (cc)
-    of (Some old) h = let same = same_Some (vmo_after v parent old) new h in (old, refl, keeps old (vmo_after v parent old) new same refl refl refl, ap (λ (x : Vmo). x.children) (sym same))
+    of (Some old) h =
+        let same = same_Some (vmo_after v parent old) new h in (old, refl, keeps old (vmo_after v parent old) new same refl refl refl, ap (λ (x : Vmo). x.children) (sym same))
 
 -- ---- a VMO is settled
 
 -- a VMO that something keeps is written
-pub settled-kept : (vmos : ℕ → Option Vmo) (v : ℕ) (vmo : Vmo) → is_kept vmo ≡ true → settled vmos v vmo ≡ with_key vmos v vmo
+pub settled-kept : (vmos : ℕ → Option Vmo) (v : ℕ) (vmo : Vmo) → is_kept vmo ≡ true →
+    settled vmos v vmo ≡ with_key vmos v vmo
 unfolding settled
-settled-kept vmos v vmo held = cond-true (is_kept vmo) (with_key vmos v vmo) (adopted (vmos_without vmos v vmo.parent) (option_map koid_number vmo.parent) 1 vmo.children) held
+settled-kept vmos v vmo held =
+    cond-true (is_kept vmo) (with_key vmos v vmo) (adopted (vmos_without vmos v vmo.parent) (option_map koid_number vmo.parent) 1 vmo.children) held
 
 -- a VMO that nothing keeps leaves
-pub settled-free : (vmos : ℕ → Option Vmo) (v : ℕ) (vmo : Vmo) → is_kept vmo ≡ false → settled vmos v vmo ≡ adopted (vmos_without vmos v vmo.parent) (option_map koid_number vmo.parent) 1 vmo.children
+pub settled-free : (vmos : ℕ → Option Vmo) (v : ℕ) (vmo : Vmo) → is_kept vmo ≡ false →
+    settled vmos v vmo ≡ adopted (vmos_without vmos v vmo.parent) (option_map koid_number vmo.parent) 1 vmo.children
 unfolding settled
-settled-free vmos v vmo free = cond-false (is_kept vmo) (with_key vmos v vmo) (adopted (vmos_without vmos v vmo.parent) (option_map koid_number vmo.parent) 1 vmo.children) free
+settled-free vmos v vmo free =
+    cond-false (is_kept vmo) (with_key vmos v vmo) (adopted (vmos_without vmos v vmo.parent) (option_map koid_number vmo.parent) 1 vmo.children) free
 
 -- a VMO that nothing keeps has neither a name nor a keeper
 pub free_counts : (vmo : Vmo) → is_kept vmo ≡ false → (vmo.names ≤ 0) × (vmo.keepers ≤ 0)

@@ -85,7 +85,8 @@ module _ (names : ℕ → Option Target) (vmos : ℕ → Option Vmo) (n : ℕ) (
   low : n < NAMES
   low = open_.consistent.related.names_below n (ap is_some open_.name)
 
-  pub name_counted : (1 ≤ vmo.names) × (kind_bit Slice t.kind ≤ vmo.slices) × (kind_bit Reference t.kind ≤ vmo.references)
+  pub name_counted : (1 ≤ vmo.names) × (kind_bit Slice t.kind ≤ vmo.slices)
+      × (kind_bit Reference t.kind ≤ vmo.references)
   name_counted = counts_fit names n t low open_.name vmo (open_.consistent.counted.named t.koid.0 vmo open_.found)
 
   pub IsWritten-closed : IsWritten (without_key names n) vmos t.koid.0 vmo (fewer_names t.kind vmo)
@@ -105,7 +106,8 @@ module _ (names : ℕ → Option Target) (vmos : ℕ → Option Vmo) (n : ℕ) (
 abbrev pub with_keepers : ℕ → Vmo → Vmo
 with_keepers keepers vmo = record vmo { keepers = keepers }
 
-pub IsWritten-keepers : (names : ℕ → Option Target) (vmos : ℕ → Option Vmo) (k : ℕ) (vmo : Vmo) (keepers : ℕ) → AreConsistent names vmos → vmos k ≡ Some vmo → IsWritten names vmos k vmo (with_keepers keepers vmo)
+pub IsWritten-keepers : (names : ℕ → Option Target) (vmos : ℕ → Option Vmo) (k : ℕ) (vmo : Vmo) (keepers : ℕ) →
+    AreConsistent names vmos → vmos k ≡ Some vmo → IsWritten names vmos k vmo (with_keepers keepers vmo)
 IsWritten-keepers names vmos k vmo keepers kept found =
     let has = kept.counted.named k vmo found in
     record {

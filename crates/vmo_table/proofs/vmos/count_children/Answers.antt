@@ -11,7 +11,8 @@ use Rattle.vmo_table.proofs.vmos.count_children.Goals as goal
 
 -- the counts of the parent that was found fit
 fits : (entries : List (Koid × Vmo)) (parent : Option Koid) (koid : Koid) (vmo : Vmo) (gone come : ℕ) →
-    ((v : ℕ) (x : Vmo) → is_parent v (option_map koid_number parent) ≡ true → vmos_in entries v ≡ Some x → (gone ≤ x.children) × (x.children - gone + come < 2 ^ 64)) →
+    ((v : ℕ) (x : Vmo) → is_parent v (option_map koid_number parent) ≡ true → vmos_in entries v ≡ Some x →
+    (gone ≤ x.children) × (x.children - gone + come < 2 ^ 64)) →
     parent ≡ Some koid → vmo_at entries koid.0 ≡ Some vmo → (gone ≤ vmo.children) × (vmo.children - gone + come < 2 ^ 64)
 fits entries parent koid vmo gone come each is found =
     each koid.0 vmo (passes-some (λ (p : ℕ). p == koid.0) (option_map koid_number parent) koid.0 (ap (option_map koid_number) is) ∙ eq-eqb koid.0 koid.0 refl) (vmos_in-is entries koid.0 ∙ found)
@@ -22,7 +23,8 @@ returns-in_default c =
     ∙ ap (λ (p : Option Koid). adopted (vmos_in c.args.vmos.now.entries) (option_map koid_number p) c.args.gone c.args.come) (sym c.in_default.is)
 
 pub overflow_sub-vmo : goal.overflow_sub-vmo
-overflow_sub-vmo c = (fits c.args.vmos.now.entries c.args.parent c.in-Some.koid c.in-Some-get_mut.vmo.now c.args.gone c.args.come c.requires c.in-Some.is (sym c.in-Some-get_mut.ensures.value)).0
+overflow_sub-vmo c =
+    (fits c.args.vmos.now.entries c.args.parent c.in-Some.koid c.in-Some-get_mut.vmo.now c.args.gone c.args.come c.requires c.in-Some.is (sym c.in-Some-get_mut.ensures.value)).0
 
 pub overflow_add-vmo : goal.overflow_add-vmo
 overflow_add-vmo c =

@@ -16,4 +16,5 @@ overflow_add-result-2 c =
     omega (arith, counted.1, counted.2, counted.3)
 
 pub returns : goal.returns
-returns c = (children_counted c.self.inside c.args.self.now c.args.koid.0 c.index-vmo.result.now c.self.view_is c.self.invariant c.index-vmo.ensures).0
+returns c =
+    (children_counted c.self.inside c.args.self.now c.args.koid.0 c.index-vmo.result.now c.self.view_is c.self.invariant c.index-vmo.ensures).0

@@ -16,10 +16,12 @@ use Rattle.vmo_table.proofs.TableLaws.{rooms, enters, keepers_unknown}
 use Rattle.vmo_table.proofs.vmo_table.VmoTable.enter.Goals as goal
 
 abbrev target : Koid → Bool → Bool → Target
-target koid may_write resizable = record { koid = koid; first = 0; limit = None; kind = Owner; may_write = may_write; may_resize = resizable }
+target koid may_write resizable =
+    record { koid = koid; first = 0; limit = None; kind = Owner; may_write = may_write; may_resize = resizable }
 
 abbrev vmo : Bool → Origin → Option Koid → Vmo
-vmo resizable origin parent = record { resizable = resizable; origin = origin; parent = parent; names = 1; slices = 0; references = 0; children = 0; keepers = 0 }
+vmo resizable origin parent =
+    record { resizable = resizable; origin = origin; parent = parent; names = 1; slices = 0; references = 0; children = 0; keepers = 0 }
 
 pub returns-clause-names : goal.returns-clause-names
 returns-clause-names c =

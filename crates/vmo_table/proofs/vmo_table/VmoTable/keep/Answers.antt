@@ -18,7 +18,8 @@ overflow_add-kept c =
     omega (arith, c.requires.few)
 
 pub write_back-requires : goal.write_back-requires
-write_back-requires c = (c.index-vmo.result.now, vmos_in-is c.self.inside.vmos.entries c.args.koid.0 ∙ c.index-vmo.ensures)
+write_back-requires c =
+    (c.index-vmo.result.now, vmos_in-is c.self.inside.vmos.entries c.args.koid.0 ∙ c.index-vmo.ensures)
 
 pub invariant_of-self : goal.invariant_of-self
 invariant_of-self c =

@@ -18,4 +18,5 @@ pub returns-clause-lineage : goal.returns-clause-lineage
 returns-clause-lineage c = lineages-empty c.new-2.result.entries c.new-2.ensures.empty
 
 pub returns-clause-keepers : goal.returns-clause-keepers
-returns-clause-keepers c = λ v. keepers_none (vmos_in c.new-2.result.entries) v (vmos_in-empty c.new-2.result.entries c.new-2.ensures.empty v)
+returns-clause-keepers c =
+    λ v. keepers_none (vmos_in c.new-2.result.entries) v (vmos_in-empty c.new-2.result.entries c.new-2.ensures.empty v)

@@ -6,7 +6,8 @@ use Rattle.vmo_table.proofs.EntryLaws.{vmo_there, lineage_at}
 use Rattle.vmo_table.proofs.vmo_table.VmoTable.resizable.Goals as goal
 
 pub index-requires : goal.index-requires
-index-requires c = vmo_there c.self.inside.vmos.entries c.args.koid.0 (subst (λ (t : Table). IsSome (lineage_in t c.args.koid.0)) (sym c.self.view_is) c.requires)
+index-requires c =
+    vmo_there c.self.inside.vmos.entries c.args.koid.0 (subst (λ (t : Table). IsSome (lineage_in t c.args.koid.0)) (sym c.self.view_is) c.requires)
 
 pub returns : goal.returns
 returns c =
