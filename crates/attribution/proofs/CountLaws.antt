@@ -1,6 +1,6 @@
 -- How the held pages of a VMO are counted from one to the next.
 use mir.Val.{bool_byte}
-use Rattle.std.proofs.Common.{◌≡◌, ℕ, ◌+◌, ◌<◌, ◌≤◌, Bool, true, false, not, ◌==◌, Option, None, Some, refl, sym, ap, subst, ◌∙◌, arith}
+use Rattle.std.proofs.Common.{◌≡◌, ℕ, ◌+◌, ◌<◌, ◌≤◌, Bool, true, false, not, cond, ◌==◌, Option, None, Some, refl, sym, ap, subst, ◌∙◌, arith}
 use Rattle.std.specs.Prelude.{IsSome}
 use Rattle.std.proofs.lemmas.Bool.{not_from_false, false_from_ne_true}
 use Rattle.vm_base.specs.declared.names.Tag.{Tag}
@@ -15,7 +15,6 @@ use Rattle.vm_model.proofs.ContentLaws.{IsOfHeld, IsOfHeld-held}
 use Rattle.attribution.proofs.AttributionLaws.{is_held-some, is_shared-some, is_charged-at, is_charged_page-some, is_charged-least, IsOfHeld-sole, IsOfHeld-shared, IsOfHeld-charged}
 use Rattle.page_store.specs.declared.page_store.Look.TheVariants as look
 use Rattle.page_store.specs.Pages.{look_at, IsShown}
-use Rattle.vmo_ops.proofs.ZeroLaws.{byte_bit}
 use Rattle.attribution.specs.declared.counts.Counts.{Counts}
 use Rattle.attribution.specs.Counts.{AreCounts}
 
@@ -24,6 +23,10 @@ use Rattle.attribution.specs.Counts.{AreCounts}
 pub byte_le : (b : Bool) → bool_byte b ≤ 1
 byte_le true = omega arith
 byte_le false = omega arith
+
+byte_bit : (b : Bool) → ◌≡◌ {A = ℕ} (bool_byte b) (cond b 1 0)
+byte_bit true = refl
+byte_bit false = refl
 
 -- ---- a held page
 

@@ -3,32 +3,30 @@
 ghost use Rattle.std.specs.Prelude.{◌≡◌};
 ghost use Rattle.vm_model.specs.Machine.Attribution.{info_at};
 ghost use Rattle.vm_model.specs.Machine.State.{State};
-ghost use Rattle.vmo_table.specs.Table.{names_of, with_vmos};
-ghost use Rattle.vmo_ops.specs.Targets.{AreParts, IsNamed};
+ghost use Rattle.vmo_table.specs.Table.{names_of, with_vmos, AreParts, IsNamed};
 
 use crate::counts::count_held;
-use page_store::PageStore;
+use page_store::{PageStore, size_of_name};
 use vm_model::Info;
-use vmo_ops::size;
 use vmo_table::{Target, VmoTable};
 
 /// What is told of a VMO by a name of the table that stands for it: the koid, the size of the name in
 /// bytes, the pages that are held, sole, shared with another VMO, and charged to the VMO (the frames
 /// that no VMO with a lesser koid shows), and its children. It costs the held pages of the VMO, and
 /// what the store takes to find the least koid that shows a frame.
-pub fn info<P: PageStore>(store: &P, vmos: &VmoTable, target: &Target) -> Info
+pub fn info<P: PageStore>(store: &P, vmos: &VmoTable, t: &Target) -> Info
     requires parts { AreParts (P.content store.now) vmos.now }
-    requires named { IsNamed (names_of vmos.now) target.now }
-    ensures { (s : State) → result ≡ info_at (with_vmos s (P.content store.now) vmos.now) target.now }
+    requires named { IsNamed (names_of vmos.now) t.now }
+    ensures { (s : State) → result ≡ info_at (with_vmos s (P.content store.now) vmos.now) t.now }
 {
-    let counts = count_held(store, target.koid);
+    let counts = count_held(store, t.koid);
     Info {
-        koid: target.koid,
-        size: size(store, target),
+        koid: t.koid,
+        size: size_of_name(store, t),
         held: counts.held,
         private_pages: counts.sole,
         shared_pages: counts.shared,
         charged: counts.charged,
-        children: vmos.children(target.koid),
+        children: vmos.children(t.koid),
     }
 }

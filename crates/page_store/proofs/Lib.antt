@@ -1,3 +1,4 @@
+pub mod NameLaws
 pub mod RowLaws
 pub mod BoundLaws
 pub mod VmoLaws

@@ -1,4 +1,5 @@
 pub mod Pages
+pub mod Names
 pub mod Rows
 pub mod Vmos
 pub mod Shares

@@ -4,9 +4,9 @@ use Rattle.std.specs.Prelude.{IsSome}
 use Rattle.vm_model.specs.Contents.Content.{Content}
 use Rattle.vm_model.specs.declared.names.Target.{Target}
 use Rattle.vm_model.specs.Machine.State.{State, IsGoodState, IsGoodName}
-use Rattle.vmo_table.specs.Table.{Table, names_of, lineage_in, with_vmos}
-use Rattle.vmo_ops.specs.Targets.{IsInside, IsNamed, AreParts}
-use Rattle.vmo_ops.proofs.StepRows.{IsInside-good}
+use Rattle.vmo_table.specs.Table.{Table, names_of, lineage_in, with_vmos, IsNamed, AreParts}
+use Rattle.page_store.proofs.NameLaws.{IsInside-good}
+use Rattle.page_store.specs.Names.{IsInside}
 
 pub good_name : (s : State) (target : Target) → IsGoodState s → IsNamed s.names target → IsGoodName s target
 good_name s target good named = (good.names named.0 target named.1).1

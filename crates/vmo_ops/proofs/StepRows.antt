@@ -1,20 +1,18 @@
 -- Building a step: which row of the refusals is first, and what follows from it.
 use Rattle.std.proofs.Common.{◌≡◌, ℕ, ◌+◌, ◌*◌, ◌<◌, ◌≤◌, Bool, true, false, not, cond, List, ◌∷◌, Option, None, Some, inl, inr, refl, sym, ap, subst, ◌∙◌, arith}
-use Rattle.std.specs.Prelude.{nat_lt, is_some, unwrap_or}
+use Rattle.std.specs.Prelude.{nat_lt, is_some}
 use Rattle.std.proofs.lemmas.Bool.Decides.{nat_tests}
-use Rattle.vm_base.specs.declared.limits.TheConstants.{PAGE, VMO_PAGES}
+use Rattle.vm_base.specs.declared.limits.TheConstants.{PAGE}
 use Rattle.vm_base.specs.declared.refusal.Refusal.{Refusal}
 use Rattle.vm_base.specs.declared.refusal.Refusal.TheVariants.{HostMemory}
 use Rattle.vm_model.specs.declared.command.Command.{Command}
 use Rattle.vm_model.specs.declared.reply.Reply.{Reply}
 use Rattle.vm_model.specs.declared.reply.Reply.TheVariants.{Refused}
-use Rattle.vm_model.specs.Contents.Content.{Content, pages_of, IsGood}
 use Rattle.vm_model.specs.declared.names.Target.{Target}
-use Rattle.vm_model.specs.Machine.State.{State, is_open, koid_of, name_pages, size_of, place_of, IsGoodName, IsGoodState}
+use Rattle.vm_model.specs.Machine.State.{State, is_open, koid_of, name_pages, size_of, place_of}
 use Rattle.vm_model.specs.Machine.Refusals.{refusals, first_of}
 use Rattle.vm_model.specs.Machine.Step.{Effect, may_lack_memory, StepAfter, Step}
 use Rattle.vm_model.proofs.NamesLaws.{target_of-at}
-use Rattle.vmo_ops.specs.Targets.{IsInside}
 
 -- ---- rows
 
@@ -68,24 +66,3 @@ module _ (s : State) (n : ℕ) (target : Target) (named : s.names n ≡ Some tar
   -- what is said of the koid of the name and of a place in its VMO
   pub spot : {A : Type 0} (offset at : ℕ) → at ≡ target.first * PAGE + offset → (f : ℕ → ℕ → A) → f (koid_of s n) (place_of s n offset) ≡ f target.koid.0 at
   spot {A} offset at e f = ap (λ (t : Target). f t.koid.0 (t.first * PAGE + offset)) (target_of-at s n target named) ∙ ap (f target.koid.0) (sym e)
-
--- ---- what lies inside
-
--- a VMO of a good content has no more pages than a VMO may have
-pub pages_of_le : (c : Content) (v : ℕ) → IsGood c → pages_of c v ≤ VMO_PAGES
-unfolding pages_of
-pages_of_le c v good = go (c.count v) (good.counts v) where
-  go : (o : Option ℕ) → ((n : ℕ) → o ≡ Some n → n ≤ VMO_PAGES) → unwrap_or o 0 ≤ VMO_PAGES
-  go None each = omega arith
-  go (Some n) each = each n refl
-
--- what a name of a good state stands for lies inside its VMO
-pub IsInside-good : (s : State) (n : ℕ) (target : Target) → IsGoodState s → s.names n ≡ Some target → IsInside s.content target
-IsInside-good s n target good e = let fine = (good.names n target e).1 in record { vmo = fine.vmo; pages = go fine target.limit refl } where
-  go : IsGoodName s target → (o : Option ℕ) → target.limit ≡ o → target.first + unwrap_or o (pages_of s.content target.koid.0) ≤ pages_of s.content target.koid.0
-  go fine None f = omega (arith, fine.whole f)
-  go fine (Some m) f = (fine.part m f).2
-
--- what a name stands for ends at or below the greatest size of a VMO
-pub name_few : (c : Content) (target : Target) → IsGood c → IsInside c target → target.first + name_pages c target ≤ VMO_PAGES
-name_few c target good inside = omega (arith, inside.pages, pages_of_le c target.koid.0 good)

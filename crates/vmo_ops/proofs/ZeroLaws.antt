@@ -1,5 +1,4 @@
 -- Laws of zeroing a range by its held pages, from one to the next: what it takes, and what it leads to.
-use mir.Val.{bool_byte}
 use Rattle.std.proofs.Common.{◌≡◌, ◌≢◌, ℕ, zero, suc, ◌+◌, ◌-◌, ◌*◌, ◌/◌, ◌<◌, ◌≤◌, Bool, true, false, not, cond, ◌&&◌, List, [], ◌∷◌, length, Option, None, ◌⊎◌, inl, inr, refl, sym, ap, subst, ◌∙◌, arith}
 use Rattle.std.specs.Prelude.{IsSome, is_some}
 use Rattle.std.specs.List.{range_with_len, list_any, filter}
@@ -94,11 +93,6 @@ length-passing test first (suc n) = one (test first) (filter test (range_with_le
 pub held_touched-count : (c : Content) (v offset len first end : ℕ) → touched offset len ≡ range_with_len first (end - first) → held_touched c v offset len ≡ count_from (is_held c v) first (end - first)
 held_touched-count c v offset len first end row = ap (λ (ps : List ℕ). length (filter (is_held c v) ps)) row ∙ length-passing (is_held c v) first (end - first)
 
--- a test as a number
-pub byte_bit : (b : Bool) → ◌≡◌ {A = ℕ} (bool_byte b) (cond b 1 0)
-byte_bit true = refl
-byte_bit false = refl
-
 -- what was counted, and what is left to count from a page on, make all that the range takes
 pub record IsCounting (c : Content) (v : ℕ) (pinned : ℕ → Bool) (offset len from end : ℕ) (cost : ZeroCost) : Type 0 where
   pub bound : from ≤ end
@@ -118,10 +112,10 @@ module _ (c : Content) (v : ℕ) (pinned : ℕ → Bool) (offset len : ℕ) wher
 
   -- a held page is counted
   pub IsCounting-step : (from end page : ℕ) (old new : ZeroCost) (takes : Bool) → IsCounting c v pinned offset len from end old → IsNextHeld c v from end page
-      → takes ≡ (not (is_cleared pinned offset len page) && not (sole c v page)) → new.held ≡ old.held + 1 → new.owned ≡ old.owned + bool_byte takes → IsCounting c v pinned offset len (page + 1) end new
+      → takes ≡ (not (is_cleared pinned offset len page) && not (sole c v page)) → new.held ≡ old.held + 1 → new.owned ≡ old.owned + cond takes 1 0 → IsCounting c v pinned offset len (page + 1) end new
   IsCounting-step from end page old new takes counting next is h o =
-      let bit : ◌≡◌ {A = ℕ} (bool_byte takes) (cond (takes_frame c v pinned offset len page) 1 0) =
-      byte_bit takes ∙ ap (λ (b : Bool). cond b 1 0) (is ∙ sym (takes_frame-held c v pinned offset len page next.2)) in
+      let bit : ◌≡◌ {A = ℕ} (cond takes 1 0) (cond (takes_frame c v pinned offset len page) 1 0) =
+      ap (λ (b : Bool). cond b 1 0) (is ∙ sym (takes_frame-held c v pinned offset len page next.2)) in
       record {
         bound = omega (arith, next.1);
         few = (omega (arith, counting.few.0, next.0), omega (arith, counting.few.1, next.0, bit, bit_le (takes_frame c v pinned offset len page)));

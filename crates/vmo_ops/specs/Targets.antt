@@ -1,5 +1,5 @@
 -- What a name stands for, and what a command does by it.
-use Rattle.std.specs.Prelude.{◌≡◌, ℕ, ◌+◌, ◌*◌, ◌≤◌, Option, None, Some, Result, IsSome}
+use Rattle.std.specs.Prelude.{◌≡◌, ℕ, ◌+◌, ◌*◌, ◌≤◌, Option, None, Some, Result}
 use Rattle.std.specs.declared.result.Result.TheVariants.{Ok, Err}
 use Rattle.vm_base.specs.declared.names.Koid.{Koid}
 use Rattle.vm_base.specs.declared.names.VmoName.{VmoName}
@@ -18,20 +18,11 @@ use Rattle.vm_model.specs.Machine.Step.{Step}
 use Rattle.vmo_table.specs.Table.{Table as Vmos, with_vmos, CountsKeepers}
 use Rattle.pin_table.specs.Table.{Table as Pins, pins_of}
 
--- what the name stands for lies inside its VMO
-pub record IsInside (c : Content) (target : Target) : Type 0 where
-  pub vmo : IsSome (c.count target.koid.0)
-  pub pages : target.first + name_pages c target ≤ pages_of c target.koid.0
-
 -- a range of a name lies inside it, at this place in the VMO
 pub record IsPlaced (c : Content) (target : Target) (offset len at : ℕ) : Type 0 where
   pub range : offset + len ≤ name_pages c target * PAGE
   pub place : at ≡ target.first * PAGE + offset
   pub inside : at + len ≤ pages_of c target.koid.0 * PAGE
-
--- some name stands for this
-abbrev pub IsNamed : (ℕ → Option Target) → Target → Type 0
-IsNamed names target = (n : ℕ) × (names n ≡ Some target)
 
 -- what a call answers, as a reply of the machine
 abbrev pub reply_of : {A : Type 0} → (A → Reply) → Result A Refusal → Reply
@@ -53,10 +44,6 @@ DoesWith pins command target old reply new =
 -- the state s, but with this content of a store, and what these two tables have
 abbrev pub with_tables : State → Content → Vmos → Pins → State
 with_tables s c vmos pins = record (with_vmos s c vmos) { pins = pins_of pins }
-
--- the content of a store and a table of VMOs are parts of one good state
-abbrev pub AreParts : Content → Vmos → Type 0
-AreParts c vmos = (s : State) × IsGoodState (with_vmos s c vmos)
 
 -- the content of a store and the two tables are parts of one good state
 abbrev pub AreTogether : Content → Vmos → Pins → Type 0

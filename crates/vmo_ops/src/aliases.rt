@@ -10,11 +10,11 @@ ghost use Rattle.vm_model.specs.Contents.Content.{Content, IsGood};
 ghost use Rattle.vm_model.specs.Naming.Names.{is_kind};
 ghost use Rattle.vm_model.specs.Machine.State.{State, name_pages};
 ghost use Rattle.vm_model.specs.Machine.Step.{Step, slice_of, reference_of};
-ghost use Rattle.vmo_table.specs.Table.{names_of, lineage_in, keepers_of, with_vmos};
-ghost use Rattle.vmo_ops.specs.Targets.{IsInside, AreParts, IsNamed, reply_of};
+ghost use Rattle.vmo_table.specs.Table.{names_of, lineage_in, keepers_of, with_vmos, AreParts, IsNamed};
+ghost use Rattle.vmo_ops.specs.Targets.{reply_of};
+ghost use Rattle.page_store.specs.Names.{IsInside};
 
-use crate::sizes::size;
-use page_store::PageStore;
+use page_store::{PageStore, size_of_name};
 use vm_base::{PageNo, Refusal, VmoName, in_page, page_of, round_up};
 use vmo_table::{NameKind, Target, VmoTable};
 
@@ -67,7 +67,7 @@ fn pages_inside<P: PageStore>(store: &P, target: &Target, offset: u64, bytes: u6
     if in_page(offset) != 0 {
         return None;
     }
-    let limit = size(store, target).checked_sub(offset)?;
+    let limit = size_of_name(store, target).checked_sub(offset)?;
     let whole = round_up(bytes, limit)?;
     Some(page_of(whole))
 }

@@ -6,7 +6,8 @@ ghost use Rattle.vm_model.specs.declared.reply.Reply.{Reply};
 ghost use Rattle.vm_model.specs.Contents.Content.{pages_of, used, IsGood};
 ghost use Rattle.vm_model.specs.Contents.Owning.{need, OwnsAll};
 ghost use Rattle.vm_model.specs.Contents.Writing.{touched};
-ghost use Rattle.vmo_ops.specs.Targets.{IsInside, Does, reply_of};
+ghost use Rattle.vmo_ops.specs.Targets.{Does, reply_of};
+ghost use Rattle.page_store.specs.Names.{IsInside};
 
 use crate::owning::own_for_write;
 use crate::ranges::touched_pages;

@@ -6,9 +6,9 @@ ghost use Rattle.vm_model.specs.declared.command.Command.{Command};
 ghost use Rattle.vm_model.specs.declared.reply.Reply.{Reply};
 ghost use Rattle.vm_model.specs.Machine.State.{State};
 ghost use Rattle.vm_model.specs.Machine.Step.{Step};
-ghost use Rattle.vmo_table.specs.Table.{names_of};
+ghost use Rattle.vmo_table.specs.Table.{names_of, IsNamed};
 ghost use Rattle.pin_table.specs.Table.{pins_of};
-ghost use Rattle.vmo_ops.specs.Targets.{AreTogether, IsNamed, with_tables, reply_of};
+ghost use Rattle.vmo_ops.specs.Targets.{AreTogether, with_tables, reply_of};
 
 use crate::owning::reserve_rows;
 use crate::ranges::place_in_vmo;

@@ -33,6 +33,6 @@ pub use filling::fill;
 pub use making::create;
 pub use pinning::{pin, unpin};
 pub use reading::read;
-pub use sizes::{resize, size};
+pub use sizes::resize;
 pub use writing::write;
 pub use zeroing::zero;

@@ -9,9 +9,9 @@ ghost use Rattle.vm_model.specs.Contents.Content.{pages_of, used, IsGood};
 ghost use Rattle.vm_model.specs.Contents.Owning.{need, OwnsAll};
 ghost use Rattle.vm_model.specs.Machine.State.{State};
 ghost use Rattle.vm_model.specs.Machine.Step.{Step, frame_of};
-ghost use Rattle.vmo_table.specs.Table.{names_of, CountsKeepers};
+ghost use Rattle.vmo_table.specs.Table.{names_of, CountsKeepers, IsNamed};
 ghost use Rattle.pin_table.specs.Table.{pins_of};
-ghost use Rattle.vmo_ops.specs.Targets.{IsCounted, IsNamed, with_tables, reply_of};
+ghost use Rattle.vmo_ops.specs.Targets.{IsCounted, with_tables, reply_of};
 
 use crate::closing::drop_gone;
 use crate::owning::{need_of, own_for_write, reserve_rows};

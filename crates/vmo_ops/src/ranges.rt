@@ -5,10 +5,10 @@ ghost use Rattle.std.specs.List.{range_with_len};
 ghost use Rattle.vm_model.specs.Contents.Content.{IsGood};
 ghost use Rattle.vm_model.specs.Machine.State.{name_pages};
 ghost use Rattle.vm_model.specs.Contents.Writing.{touched};
-ghost use Rattle.vmo_ops.specs.Targets.{IsInside, IsPlaced};
+ghost use Rattle.vmo_ops.specs.Targets.{IsPlaced};
+ghost use Rattle.page_store.specs.Names.{IsInside};
 
-use crate::sizes::size;
-use page_store::PageStore;
+use page_store::{PageStore, size_of_name};
 use vm_base::{PAGE, PageNo, page_of};
 use vmo_table::Target;
 
@@ -37,7 +37,7 @@ fn is_in_range<P: PageStore>(store: &P, target: &Target, offset: u64, len: u64) 
     requires inside { IsInside (P.content store.now) target.now }
     ensures { IsTrue result ↔ (offset + len ≤ name_pages (P.content store.now) target.now * 4096) }
 {
-    let bytes = size(store, target);
+    let bytes = size_of_name(store, target);
     len <= bytes && offset <= bytes - len
 }
 

@@ -1,37 +1,17 @@
-//! The size of a VMO, and changing it (`zx_vmo_get_size`, `zx_vmo_set_size`).
+//! Changing the size of a VMO (`zx_vmo_set_size`).
 
-ghost use Rattle.std.specs.Prelude.{◌≡◌, ◌*◌};
+ghost use Rattle.std.specs.Prelude.{◌≡◌};
 ghost use Rattle.vm_model.specs.declared.command.Command.{Command};
 ghost use Rattle.vm_model.specs.declared.reply.Reply.{Reply};
 ghost use Rattle.vm_model.specs.Contents.Content.{IsGood};
-ghost use Rattle.vm_model.specs.Machine.State.{name_pages};
 ghost use Rattle.pin_table.specs.Table.{pins_of};
-ghost use Rattle.vmo_ops.specs.Targets.{IsInside, DoesWith, reply_of};
+ghost use Rattle.vmo_ops.specs.Targets.{DoesWith, reply_of};
+ghost use Rattle.page_store.specs.Names.{IsInside};
 
 use page_store::PageStore;
 use pin_table::PinTable;
-use vm_base::{PAGE, PageNo, Refusal, VMO_PAGES, page_of, round_up};
+use vm_base::{PAGE, Refusal, VMO_PAGES, page_of, round_up};
 use vmo_table::Target;
-
-/// The size in bytes of what a name stands for: its pages', at most 2^36.
-pub fn size<P: PageStore>(store: &P, t: &Target) -> u64
-    requires good { IsGood (P.content store.now) }
-    requires inside { IsInside (P.content store.now) t.now }
-    ensures { result ≡ name_pages (P.content store.now) t.now * 4096 }
-{
-    pages_of_name(store, t) * PAGE
-}
-
-/// How many pages a name has: as many as its limit says, or all of its VMO.
-pub(crate) fn pages_of_name<P: PageStore>(store: &P, t: &Target) -> PageNo
-    requires { IsInside (P.content store.now) t.now }
-    ensures { result ≡ name_pages (P.content store.now) t.now }
-{
-    match t.limit {
-        Some(pages) => pages,
-        None => store.count(t.koid),
-    }
-}
 
 /// Changes the size of a VMO to `size` bytes, rounded up to whole pages. Pages past the new end leave
 /// it, and pages that come in are zero. Refusals, in their order: `AccessDenied` where the name may not

@@ -9,12 +9,12 @@ ghost use Rattle.vm_model.specs.declared.reply.Reply.{Reply};
 ghost use Rattle.vm_model.specs.Contents.Content.{pages_of, IsGood};
 ghost use Rattle.vm_model.specs.Machine.State.{State};
 ghost use Rattle.vm_model.specs.Machine.Step.{Step, seen_pages};
-ghost use Rattle.vmo_table.specs.Table.{names_of, keepers_of};
+ghost use Rattle.vmo_table.specs.Table.{names_of, keepers_of, IsNamed};
 ghost use Rattle.pin_table.specs.Table.{pins_of};
-ghost use Rattle.vmo_ops.specs.Targets.{AreTogether, IsInside, IsNamed, with_tables, reply_of};
+ghost use Rattle.vmo_ops.specs.Targets.{AreTogether, with_tables, reply_of};
+ghost use Rattle.page_store.specs.Names.{IsInside};
 
-use crate::sizes::pages_of_name;
-use page_store::PageStore;
+use page_store::{PageStore, pages_of_name};
 use pin_table::PinTable;
 use vm_base::{Koid, PAGE, PageNo, Refusal, VMO_PAGES, VmoName, in_page, page_of, round_up};
 use vmo_table::{Origin, Target, VmoTable};

@@ -1,6 +1,6 @@
 //! Zeroing a range (`ZX_VMO_OP_ZERO`).
 
-ghost use Rattle.std.specs.Prelude.{◌≡◌, ◌+◌, ◌-◌, ◌*◌, ◌/◌, ◌<◌, ◌≤◌, true, replicate, IsSome, ◌⊎◌};
+ghost use Rattle.std.specs.Prelude.{◌≡◌, ◌+◌, ◌-◌, ◌*◌, ◌/◌, ◌<◌, ◌≤◌, not, ◌&&◌, true, replicate, IsSome, ◌⊎◌};
 ghost use Rattle.vm_model.specs.declared.command.Command.{Command};
 ghost use Rattle.vm_model.specs.declared.reply.Reply.{Reply};
 ghost use Rattle.vm_model.specs.Contents.Content.{pages_of, sole, used, IsGood};
@@ -9,8 +9,9 @@ ghost use Rattle.vm_model.specs.Contents.Writing.{touched};
 ghost use Rattle.vm_model.specs.Naming.Pins.{is_pinned};
 ghost use Rattle.vm_model.specs.Contents.Zeroing.{is_whole, is_cleared, owned_by_zero, ZeroesPage, Zeroes};
 ghost use Rattle.pin_table.specs.Table.{pins_of};
-ghost use Rattle.vmo_ops.specs.Targets.{IsInside, DoesWith, reply_of};
+ghost use Rattle.vmo_ops.specs.Targets.{DoesWith, reply_of};
 ghost use Rattle.vmo_ops.specs.Costs.{held_touched};
+ghost use Rattle.page_store.specs.Names.{IsInside};
 
 use crate::filling::fill_part;
 use crate::held_pages::next_held_below;
@@ -82,12 +83,31 @@ pub(crate) fn cost_to_zero<P: PageStore>(
     let mut from = first;
     while let Some(page) = next_held_below(store, v, from, end) {
         cost.held += 1;
-        cost.owned += u64::from(
-            !is_cleared_page(pins, v, offset, len, page) && !is_sole(store, v, page),
-        );
+        if takes_frame(store, pins, v, offset, len, page) {
+            cost.owned += 1;
+        }
         from = page + 1;
     }
     cost
+}
+
+// Whether zeroing a range takes a frame for a page of it that is held: the page does not become zero as a
+// whole, and is not sole.
+fn takes_frame<P: PageStore>(
+    store: &P,
+    pins: &PinTable,
+    v: Koid,
+    offset: u64,
+    len: u64,
+    page: PageNo,
+) -> bool
+    requires good { IsGood (P.content store.now) }
+    requires inside { offset + len ≤ pages_of (P.content store.now) v.0 * PAGE }
+    requires page { page < pages_of (P.content store.now) v.0 }
+    ensures { result ≡ (not (is_cleared (is_pinned (pins_of pins.now) v.0) offset len page)
+        && not (sole (P.content store.now) v.0 page)) }
+{
+    !is_cleared_page(pins, v, offset, len, page) && !is_sole(store, v, page)
 }
 
 // Whether a page lies wholly in a range.

@@ -8,7 +8,7 @@ use Rattle.vm_model.specs.Contents.Content.{Content}
 use Rattle.vm_model.specs.declared.names.Target.{Target}
 use Rattle.vm_model.specs.Naming.Names.{Lineage, is_named, lineage_without}
 use Rattle.vm_model.specs.Naming.Pins.{pin_count}
-use Rattle.vm_model.specs.Machine.State.{State}
+use Rattle.vm_model.specs.Machine.State.{State, IsGoodState}
 use Rattle.vmo_table.specs.declared.vmos.Vmo.{Vmo}
 use Rattle.vmo_table.specs.Vmos.{vmos_in, lineages, keepers_in}
 
@@ -41,6 +41,14 @@ room_of t = t.room
 -- the state s, but with this content of a store, and the names and the lineage of this table
 abbrev pub with_vmos : State → Content → Table → State
 with_vmos s c t = record s { content = c; names = names_of t; lineage = lineage_in t }
+
+-- the content of a store and a table are parts of one good state
+abbrev pub AreParts : Content → Table → Type 0
+AreParts c t = (s : State) × IsGoodState (with_vmos s c t)
+
+-- some name stands for this
+abbrev pub IsNamed : (ℕ → Option Target) → Target → Type 0
+IsNamed names target = (n : ℕ) × (names n ≡ Some target)
 
 -- the table counts what keeps each VMO of a state beside its names: the pins that are of it
 abbrev pub CountsKeepers : Table → State → Type 0

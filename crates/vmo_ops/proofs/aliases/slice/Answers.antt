@@ -4,9 +4,9 @@ use Rattle.vm_model.specs.Machine.Step.{slice_of}
 use Rattle.vmo_table.specs.Table.{lineage_in, with_vmos}
 use Rattle.vmo_ops.proofs.EntryLaws.{entered}
 use Rattle.vmo_ops.proofs.NameLaws.{parts_inside, parts_lineage}
-use Rattle.vmo_ops.proofs.StepRows.{name_few}
 use Rattle.vmo_ops.proofs.AliasLaws.{with_alias-is, known_still, slice_outside, slice_of_resizable, slice_lacks, slice_done}
 use Rattle.vmo_ops.proofs.aliases.slice.Goals as goal
+use Rattle.page_store.proofs.NameLaws.{name_few}
 
 pub pages_inside-requires-clause-inside : goal.pages_inside-requires-clause-inside
 pages_inside-requires-clause-inside g c =

@@ -1,8 +1,8 @@
 use Rattle.std.proofs.Common.{arith}
 use Rattle.vm_model.specs.Contents.Writing.{touched}
-use Rattle.vmo_ops.proofs.StepRows.{pages_of_le}
 use Rattle.vmo_ops.proofs.RowLaws.{Written-from_Owns, IsReady-start, IsReady-room, IsReady-step, owning, Reaches-start, Reaches-step}
 use Rattle.vmo_ops.proofs.committing.own_pages.Goals as goal
+use Rattle.page_store.proofs.NameLaws.{pages_of_le}
 
 pub touched_pages-first-requires : goal.touched_pages-first-requires
 touched_pages-first-requires g c =

@@ -1,10 +1,10 @@
 use Rattle.std.proofs.Common.{replicate, refl, arith}
 use Rattle.std.proofs.lemmas.List.{length-replicate}
 use Rattle.vm_model.specs.Contents.Writing.{touched}
-use Rattle.vmo_ops.proofs.StepRows.{pages_of_le}
 use Rattle.vmo_ops.proofs.RowLaws.{IsReady-start, IsReady-room, IsReady-step, Reaches-start, Reaches-step, Reaches-end}
 use Rattle.vmo_ops.proofs.WriteLaws.{writing, Writes-touched, Written-from_piece}
 use Rattle.vmo_ops.proofs.filling.fill_pages.Goals as goal
+use Rattle.page_store.proofs.NameLaws.{pages_of_le}
 
 pub touched_pages-first-requires : goal.touched_pages-first-requires
 touched_pages-first-requires g c =

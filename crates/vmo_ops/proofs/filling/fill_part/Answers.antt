@@ -1,8 +1,8 @@
 use Rattle.std.proofs.Common.{replicate, arith}
-use Rattle.vmo_ops.proofs.StepRows.{pages_of_le}
 use Rattle.vmo_ops.proofs.WriteLaws.{WritesPiece-same}
 use Rattle.vmo_ops.proofs.FillLaws.{fill_piece}
 use Rattle.vmo_ops.proofs.filling.fill_part.Goals as goal
+use Rattle.page_store.proofs.NameLaws.{pages_of_le}
 
 pub overflow_mul-start : goal.overflow_mul-start
 overflow_mul-start g c =

@@ -1,10 +1,10 @@
 use Rattle.std.proofs.Common.{◌≡◌, ◌+◌, ◌-◌, ◌<◌, length, refl, sym, ap, arith}
 use Rattle.std.specs.List.{range_with_len}
 use Rattle.vm_model.proofs.OwningLaws.{Owned-from_Owns}
-use Rattle.vmo_ops.proofs.StepRows.{pages_of_le}
 use Rattle.vmo_ops.proofs.RowLaws.{Written-from_Owns, IsReady-room, IsReady-step, owning, Reaches-start, Reaches-step, Reaches-end}
 use Rattle.vmo_ops.proofs.FrameLaws.{IsReady-row, AreFrames-start, AreFrames-length, AreFrames-step, AreFrames-end}
 use Rattle.vmo_ops.proofs.pinning.own_frames.Goals as goal
+use Rattle.page_store.proofs.NameLaws.{pages_of_le}
 
 pub overflow_add-page-end : goal.overflow_add-page-end
 overflow_add-page-end g c =

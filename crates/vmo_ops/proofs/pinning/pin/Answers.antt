@@ -6,12 +6,12 @@ use Rattle.vm_model.specs.Naming.Pins.{Pin}
 use Rattle.vmo_table.specs.Table.{names_of, lineage_in, with_vmos, CountsKeepers}
 use Rattle.vmo_ops.specs.Targets.{with_tables}
 use Rattle.pin_table.specs.Table.{pins_of}
-use Rattle.vmo_ops.proofs.StepRows.{pages_of_le}
 use Rattle.vmo_ops.proofs.NameLaws.{named_vmo, named_lineage, named_inside}
 use Rattle.vmo_ops.proofs.EntryLaws.{entered}
 use Rattle.vmo_ops.proofs.KeeperLaws.{pin_count_le, CountsKeepers-kept}
 use Rattle.vmo_ops.proofs.PinSteps.{pin_odd, pin_past, pin_no_memory, pin_lacks, pin_done}
 use Rattle.vmo_ops.proofs.pinning.pin.Goals as goal
+use Rattle.page_store.proofs.NameLaws.{pages_of_le}
 
 pub returns-then-not-is_pin_range-clause-step : goal.returns-then-not-is_pin_range-clause-step
 returns-then-not-is_pin_range-clause-step g c = λ rest name named.

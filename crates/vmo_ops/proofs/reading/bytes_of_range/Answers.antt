@@ -1,8 +1,8 @@
 use Rattle.std.proofs.Common.{arith, ap, sym, ◌∙◌, ◌+◌, length}
 use Rattle.vm_model.proofs.RangeLaws.{length-bytes_in, bytes_in-nil}
-use Rattle.vmo_ops.proofs.StepRows.{pages_of_le}
 use Rattle.vmo_ops.proofs.ReadLaws.{bytes_in-more}
 use Rattle.vmo_ops.proofs.reading.bytes_of_range.Goals as goal
+use Rattle.page_store.proofs.NameLaws.{pages_of_le}
 
 pub loop-done-init : goal.loop-done-init
 loop-done-init g c =

@@ -1,8 +1,8 @@
 use Rattle.std.proofs.Common.{◌*◌, ◌+◌, arith}
-use Rattle.vmo_ops.proofs.StepRows.{pages_of_le}
 use Rattle.vmo_ops.proofs.ChangeLaws.{IsRefusedBy-place, IsRefusedBy-no_memory, IsRefusedBy-lacks, IsAllowed-free}
 use Rattle.vmo_ops.proofs.NeedLaws.{need-any, need-at}
 use Rattle.vmo_ops.proofs.ready.ready_to_own.Goals as goal
+use Rattle.page_store.proofs.NameLaws.{pages_of_le}
 
 pub returns-in-Err-clause-err : goal.returns-in-Err-clause-err
 returns-in-Err-clause-err g c = IsRefusedBy-place _ _ _ _ _ _ c.in-Err.refusal c.in-Err.ensures.err

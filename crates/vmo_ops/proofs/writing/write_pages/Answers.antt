@@ -1,9 +1,9 @@
 use Rattle.std.proofs.Common.{length, refl, arith}
 use Rattle.vm_model.specs.Contents.Writing.{touched, pieces}
-use Rattle.vmo_ops.proofs.StepRows.{pages_of_le}
 use Rattle.vmo_ops.proofs.RowLaws.{IsReady-start, IsReady-room, IsReady-step, Reaches-start, Reaches-step, Reaches-end}
 use Rattle.vmo_ops.proofs.WriteLaws.{writing, WritesPiece-same, piece_part, Written-from_piece}
 use Rattle.vmo_ops.proofs.writing.write_pages.Goals as goal
+use Rattle.page_store.proofs.NameLaws.{pages_of_le}
 
 pub touched_pages-first-requires : goal.touched_pages-first-requires
 touched_pages-first-requires g c =

@@ -1,10 +1,10 @@
 use Rattle.std.proofs.Common.{arith}
-use Rattle.vmo_ops.proofs.StepRows.{pages_of_le}
 use Rattle.vm_model.specs.Naming.Pins.{is_pinned}
 use Rattle.pin_table.specs.Table.{pins_of}
 use Rattle.vm_model.proofs.ZeroesLaws.{need-zero}
 use Rattle.vmo_ops.proofs.ZeroLaws.{held_touched-count, IsReadyToZero-room, IsReadyToZero-free, IsReadyToZero-step, ReachesZeros-start, ReachesZeros-step, ReachesZeros-end}
 use Rattle.vmo_ops.proofs.zeroing.zero_pages.Goals as goal
+use Rattle.page_store.proofs.NameLaws.{pages_of_le}
 
 pub touched_pages-first-requires : goal.touched_pages-first-requires
 touched_pages-first-requires g c =

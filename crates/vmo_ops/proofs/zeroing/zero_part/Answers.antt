@@ -1,7 +1,7 @@
 use Rattle.std.proofs.Common.{arith}
-use Rattle.vmo_ops.proofs.StepRows.{pages_of_le}
 use Rattle.vmo_ops.proofs.ZeroLaws.{held_below}
 use Rattle.vmo_ops.proofs.zeroing.zero_part.Goals as goal
+use Rattle.page_store.proofs.NameLaws.{pages_of_le}
 
 pub is_cleared_page-requires-clause-range : goal.is_cleared_page-requires-clause-range
 is_cleared_page-requires-clause-range g c =

@@ -2,7 +2,7 @@ use Rattle.std.proofs.Common.{ℕ, Option, sym, ap, ◌∙◌}
 use Rattle.std.specs.Prelude.{unwrap_or}
 use Rattle.vm_model.specs.Contents.Content.{pages_of}
 use Rattle.vm_model.proofs.ContentLaws.{pages_of-at}
-use Rattle.vmo_ops.proofs.sizes.pages_of_name.Goals as goal
+use Rattle.page_store.proofs.names.pages_of_name.Goals as goal
 
 pub returns-in-None : goal.returns-in-None
 returns-in-None g c =
