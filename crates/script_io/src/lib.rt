@@ -5,7 +5,8 @@
 //! `SureSource`, `MemSource` and `MemSink` stand in memory and tell their bytes to clauses;
 //! `CountSink` only counts them; `ReadSource` and `WriteSink` stand over a reader and a writer, such
 //! as the system's streams. `Lines` reads a source line by line, and `push_all` pushes all of some
-//! bytes. It stands on `vm_base` alone. The layers above may use all of it.
+//! bytes. It stands on `vm_base`, and finds line feeds by the ported crate `memchr`. The layers above
+//! may use all of it.
 #![tactic(auto)]
 
 mod count_sink;

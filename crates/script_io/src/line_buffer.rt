@@ -7,6 +7,7 @@ ghost use Rattle.script_io.specs.Faults.{HasCause};
 ghost use Rattle.script_io.specs.Reader.{Window, HasNoFeed, Grows};
 
 use crate::source::Source;
+use memchr::memchr;
 use std::alloc::Global;
 use std::marker::Model;
 use vm_base::{Failed, HostMemory};
@@ -20,11 +21,17 @@ const LINE_FEED: u8 = b'\n';
 
 /// Bytes that were pulled: those that were searched for a line feed, and behind them those that
 /// were not; and the line that was found last.
+///
+/// A byte that was searched is not searched again, however many pulls its line takes. It is copied
+/// by the pull that gives it, and once more only where it is of a line whose end was not pulled with
+/// it and something stood before it: then it moves to the front, to make room behind. A line is lent
+/// where it stands.
 #[derive(Debug, Drop)]
 pub(crate) struct LineBuffer {
     bytes: Vec<u8>,
     line_start: usize,
     line_end: usize,
+    // The bytes that were searched end where those that were not begin.
     seen_start: usize,
     fresh_start: usize,
     fresh_end: usize,
@@ -108,8 +115,8 @@ impl LineBuffer {
         self.seen_start = self.fresh_start;
     }
 
-    /// Searches on for a line feed. Where there is one, what stands before it is the line, and it
-    /// is used up with its line feed.
+    /// Searches on for a line feed, among the bytes that were not searched. Where there is one, what
+    /// stands before it is the line, and it is used up with its line feed.
     pub(crate) fn find_line(&mut self) -> bool
         ensures found { MatchBool result
             ((self.new.seen ≡ []) × (line : _) × HasNoFeed line
@@ -159,7 +166,7 @@ impl LineBuffer {
     }
 }
 
-/// Moves the bytes from `start` to `end` to the front.
+/// Moves the bytes from `start` to `end` to the front, if they do not stand there.
 fn move_to_front(bytes: &mut Vec<u8>, start: usize, end: usize)
     requires ordered { start ≤ end }
     requires within { end ≤ vec_len bytes.old }
@@ -204,5 +211,5 @@ fn feed_place(bytes: &[u8]) -> Option<usize>
     ensures { MatchOption result (HasNoFeed bytes.now) (λ n. (n < length bytes.now)
         × HasNoFeed (take n bytes.now) × (slice_index bytes.now n ≡ LINE_FEED)) }
 {
-    bytes.iter().position(|b| *b == LINE_FEED)
+    memchr(LINE_FEED, bytes)
 }
