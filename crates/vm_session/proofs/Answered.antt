@@ -11,7 +11,7 @@ use Rattle.script_io.specs.declared.line_reader.Fetch.TheVariants.{Line, TooLong
 use Rattle.vm_base.specs.declared.refusal.Refusal.TheVariants.{Syntax}
 use Rattle.vm_model.specs.declared.reply.Reply.{Reply}
 use Rattle.vm_model.specs.declared.reply.Reply.TheVariants.{Refused}
-use Rattle.vm_model.specs.Machine.State.{State}
+use Rattle.vm_model.specs.Machine.State.{State, IsGoodState}
 use Rattle.vm_model.specs.Language.Text.{text, texts}
 use Rattle.vm_model.specs.Scripts.Run.{Gives}
 use Rattle.vm_model.specs.Language.Reading.{Outside, reading, reading_of_words, words}
@@ -32,13 +32,14 @@ pub record IsAnswered {T E : Type 0} (old new : Reader) (source_old source_new s
   pub first : IsFirstLine new.ended (pending ++ part) line left
   pub within : new.taken ≤ new.limit
   pub gives : Gives line before replies after
+  pub good : IsGoodState after
   pub written : Writes result sink_old sink_new (texts replies)
   pub koids : after.content.next ≤ before.content.next + 1
 
 pub IsAnswered-line : {T E : Type 0} (old new : Reader) (source_old source_new sink_old sink_new : Option (List ℕ)) (before after : State) (pending line : List ℕ) (result : Result T E)
-    → Fetches old new source_old source_new pending Line → line ≡ new.line → AnswersLine line before after sink_old sink_new result → after.content.next ≤ before.content.next + 1
+    → Fetches old new source_old source_new pending Line → line ≡ new.line → AnswersLine line before after sink_old sink_new result → IsGoodState after → after.content.next ≤ before.content.next + 1
     → IsAnswered old new source_old source_new sink_old sink_new before after pending result
-IsAnswered-line old new source_old source_new sink_old sink_new before after pending line result f e answer koids = record {
+IsAnswered-line old new source_old source_new sink_old sink_new before after pending line result f e answer good koids = record {
   part = f.part;
   left = f.left;
   line = line;
@@ -49,6 +50,7 @@ IsAnswered-line old new source_old source_new sink_old sink_new before after pen
   first = subst (λ (l : List ℕ). IsFirstLine new.ended (pending ++ f.part) l f.left) (sym e) f.fetched.0;
   within = f.fetched.2;
   gives = answer.gives;
+  good = good;
   written = answer.written;
   koids = koids;
 }
@@ -59,9 +61,9 @@ unfolding reading
 long_is_outside line long = sym (ap (λ t. cond t Outside (reading_of_words (words line))) ((Decides-ltb 16384 (length line)).1 long))
 
 pub IsAnswered-long : {T E : Type 0} (old new : Reader) (source_old source_new sink_old sink_new : Option (List ℕ)) (now : State) (pending : List ℕ) (result : Result T E)
-    → Fetches old new source_old source_new pending TooLong → OnOk result (Appends sink_old sink_new (text (Refused Syntax))) → OnErr result (IsCutOff sink_old sink_new (text (Refused Syntax)))
+    → Fetches old new source_old source_new pending TooLong → IsGoodState now → OnOk result (Appends sink_old sink_new (text (Refused Syntax))) → OnErr result (IsCutOff sink_old sink_new (text (Refused Syntax)))
     → IsAnswered old new source_old source_new sink_old sink_new now now pending result
-IsAnswered-long old new source_old source_new sink_old sink_new now pending result f ok err =
+IsAnswered-long old new source_old source_new sink_old sink_new now pending result f good ok err =
     let line = f.fetched.0 in
     let answer = AnswersLine-outside line now sink_old sink_new result (long_is_outside line f.fetched.2) ok err in
     record {
@@ -75,6 +77,7 @@ IsAnswered-long old new source_old source_new sink_old sink_new now pending resu
       first = f.fetched.1;
       within = f.fetched.4;
       gives = answer.gives;
+      good = good;
       written = answer.written;
       koids = omega arith;
     }
@@ -84,14 +87,14 @@ pub IsServed-answered : (frames limit : ℕ) (old new : Reader) (source_old sour
     → (s : IsServed frames limit old source_old source_mid sink_old sink_mid before) → IsAnswered old new source_mid source_new sink_mid sink_new before after s.pending result
     → new.limit ≡ old.limit → (old.ended ≡ true → new.taken ≡ old.taken) → IsServed frames limit new source_old source_new sink_old sink_new after
 IsServed-answered frames limit old new source_old source_mid source_new sink_old sink_mid sink_new before after {T} {E} result x e s a same none =
-    IsServed-more frames limit old new source_old source_mid source_new sink_old sink_mid sink_new before after a.replies a.line a.left s a.part a.consumes a.taken a.still a.first a.within same none a.gives (subst (λ (r : Result T E). Writes r sink_mid sink_new (texts a.replies)) e a.written)
+    IsServed-more frames limit old new source_old source_mid source_new sink_old sink_mid sink_new before after a.replies a.line a.left s a.part a.consumes a.taken a.still a.first a.within same none a.gives a.good (subst (λ (r : Result T E). Writes r sink_mid sink_new (texts a.replies)) e a.written)
 
 -- its replies were cut off
 pub BreaksOff-answered : (frames limit : ℕ) (old new : Reader) (source_old source_mid source_new sink_old sink_mid sink_new : Option (List ℕ)) (before after : State) {T E : Type 0} (result : Result T E) (x : E) → result ≡ Err x
     → (s : IsServed frames limit old source_old source_mid sink_old sink_mid before) → IsAnswered old new source_mid source_new sink_mid sink_new before after s.pending result
     → new.limit ≡ old.limit → (old.ended ≡ true → new.taken ≡ old.taken) → BreaksOff frames limit source_old source_new sink_old sink_new after.content
 BreaksOff-answered frames limit old new source_old source_mid source_new sink_old sink_mid sink_new before after {T} {E} result x e s a same none =
-    BreaksOff-more frames limit old new source_old source_mid source_new sink_old sink_mid sink_new before after a.replies a.line a.left s a.part a.consumes a.taken a.still a.first a.within same none a.gives (subst (λ (r : Result T E). Writes r sink_mid sink_new (texts a.replies)) e a.written)
+    BreaksOff-more frames limit old new source_old source_mid source_new sink_old sink_mid sink_new before after a.replies a.line a.left s a.part a.consumes a.taken a.still a.first a.within same none a.gives a.good (subst (λ (r : Result T E). Writes r sink_mid sink_new (texts a.replies)) e a.written)
 
 -- a first line is a byte at least
 pub used_up : (ended : Bool) (bytes line left : List ℕ) → IsFirstLine ended bytes line left → length left + 1 ≤ length bytes

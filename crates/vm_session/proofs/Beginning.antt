@@ -2,13 +2,13 @@
 use Rattle.std.proofs.Common.{◌≡◌, ℕ, inl, false, List, [], Option, refl, sym, ap, subst, ◌∙◌, arith}
 use Rattle.std.proofs.KnownBytes.{Appends-nil, Consumes-nil}
 use Rattle.vm_model.specs.Contents.Content.{Content, nothing}
-use Rattle.vm_model.specs.Machine.State.{State, empty_state}
+use Rattle.vm_model.specs.Machine.State.{State, IsGoodState, empty_state}
 use Rattle.vm_model.proofs.ContentLaws.{count-nothing}
 use Rattle.vm_core.specs.declared.vm.Vm.{Vm}
 use Rattle.vm_core.specs.Vm.{state_of}
 use Rattle.script_io.specs.Reader.{Reader}
 use Rattle.script_io.specs.Fetching.{IsPending}
-use Rattle.vm_model.proofs.StepLaws.{next-empty}
+use Rattle.vm_model.proofs.StepLaws.{IsGoodState-empty, next-empty}
 use Rattle.vm_session.specs.Outcome.{HasNoVmo, NothingDone}
 use Rattle.vm_session.specs.Serving.{IsServed, IsReady}
 use Rattle.vm_session.proofs.Served.{AreLines-none}
@@ -46,6 +46,7 @@ IsServed-fresh frames limit reader source sink now e f = subst (λ (r : Reader).
   split = inl AreLines-none;
   replies = [];
   run = (refl, f);
+  good = subst IsGoodState (sym f) (IsGoodState-empty frames);
   written = Appends-nil sink;
 })
 

@@ -8,7 +8,7 @@ use Rattle.script_io.specs.Faults.{IsCutOff}
 use Rattle.script_io.specs.Reader.{Reader, HasNoFeed}
 use Rattle.script_io.specs.Fetching.{IsPending, IsFirstLine}
 use Rattle.vm_model.specs.declared.reply.Reply.{Reply}
-use Rattle.vm_model.specs.Machine.State.{State, empty_state}
+use Rattle.vm_model.specs.Machine.State.{State, IsGoodState, empty_state}
 use Rattle.vm_model.specs.Language.Text.{texts}
 use Rattle.vm_model.specs.Scripts.Run.{lines_of, whole_lines, Gives, Run}
 use Rattle.vm_session.proofs.RunLaws.{lines_of-line, lines_of-piece, lines_of-nil, whole_lines-line, whole_lines-none, texts-append, Run-more}
@@ -82,10 +82,10 @@ pub IsServed-more : (frames limit : ℕ) (old new : Reader) (source_old source_m
     (replies : List Reply) (line left : List ℕ) (s : IsServed frames limit old source_old source_mid sink_old sink_mid before) (part : List ℕ)
     → Consumes source_mid source_new part → new.taken ≡ old.taken + length part → IsPending new source_new left → IsFirstLine new.ended (s.pending ++ part) line left
     → new.taken ≤ new.limit → new.limit ≡ old.limit → (old.ended ≡ true → new.taken ≡ old.taken)
-    → Gives line before replies after → Appends sink_mid sink_new (texts replies)
+    → Gives line before replies after → IsGoodState after → Appends sink_mid sink_new (texts replies)
     → IsServed frames limit new source_old source_new sink_old sink_new after
 IsServed-more frames limit old new source_old source_mid source_new sink_old sink_mid sink_new before after replies line left s part
-    consumes taken still first within same none gives written =
+    consumes taken still first within same none gives good written =
     go first.parts where
       so_far : AreLines s.front s.lines
       so_far = still_lines old s.front s.pending part line left s.lines new.ended (λ e. omega (arith, taken, none e)) s.split first
@@ -118,6 +118,7 @@ IsServed-more frames limit old new source_old source_mid source_new sink_old sin
         split = split;
         replies = s.replies ++ replies;
         run = run;
+        good = good;
         written = all_written;
       }
 
@@ -136,10 +137,10 @@ pub BreaksOff-more : (frames limit : ℕ) (old new : Reader) (source_old source_
     (replies : List Reply) (line left : List ℕ) (s : IsServed frames limit old source_old source_mid sink_old sink_mid before) (part : List ℕ)
     → Consumes source_mid source_new part → new.taken ≡ old.taken + length part → IsPending new source_new left → IsFirstLine new.ended (s.pending ++ part) line left
     → new.taken ≤ new.limit → new.limit ≡ old.limit → (old.ended ≡ true → new.taken ≡ old.taken)
-    → Gives line before replies after → IsCutOff sink_mid sink_new (texts replies)
+    → Gives line before replies after → IsGoodState after → IsCutOff sink_mid sink_new (texts replies)
     → BreaksOff frames limit source_old source_new sink_old sink_new after.content
 BreaksOff-more frames limit old new source_old source_mid source_new sink_old sink_mid sink_new before after replies line left s part
-    consumes taken still first within same none gives cut =
+    consumes taken still first within same none gives good cut =
     go first.parts where
       so_far : AreLines s.front s.lines
       so_far = still_lines old s.front s.pending part line left s.lines new.ended (λ e. omega (arith, taken, none e)) s.split first
@@ -162,6 +163,7 @@ BreaksOff-more frames limit old new source_old source_mid source_new sink_old si
         replies = replies;
         last = after;
         gives = gives;
+        good = good;
         part = cut.part;
         rest = cut.rest;
         cut = cut.whole;
@@ -195,6 +197,7 @@ answers_all frames limit reader source_old source_now sink_old sink_now now line
   out = texts s.replies;
   last = now;
   legal = record { replies = s.replies; run = subst (λ (ls : List (List ℕ)). Run (empty_state frames) ls s.replies now) (sym e) s.run; text = refl };
+  good = s.good;
   written = s.written;
   store = refl;
 }

@@ -11,7 +11,7 @@ use Rattle.script_io.specs.declared.status.Status.TheVariants.{Done, Usage, Host
 use Rattle.script_io.specs.Faults.{IsCutOff}
 use Rattle.vm_model.specs.declared.reply.Reply.{Reply}
 use Rattle.vm_model.specs.Contents.Content.{Content}
-use Rattle.vm_model.specs.Machine.State.{State, empty_state}
+use Rattle.vm_model.specs.Machine.State.{State, IsGoodState, empty_state}
 use Rattle.vm_model.specs.Language.Text.{texts}
 use Rattle.vm_model.specs.Language.Reading.{is_hex, number, ◌>>=◌}
 use Rattle.vm_model.specs.Scripts.Run.{lines_of, whole_lines, Gives, Run, Legal}
@@ -58,16 +58,17 @@ pub record AnswersLine {T E : Type 0} (line : List ℕ) (old new : State) (sink_
   pub written : Writes result sink_old sink_new (texts replies)
 
 -- The lines were answered as on a machine with this many frames, their replies were written, and the store has what the
--- machine has in the end.
+-- machine has in the end, which is a good state.
 pub record AnswersAll (frames : ℕ) (lines : List (List ℕ)) (sink_old sink_new : Option (List ℕ)) (content : Content) : Type 0 where
   pub out : List ℕ
   pub last : State
   pub legal : Legal frames lines out last
+  pub good : IsGoodState last
   pub written : Appends sink_old sink_new out
   pub store : content ≡ last.content
 
 -- Some of the lines were answered and their replies written. One line more was done, and only a part of its replies was
--- written. The store has what the machine has then.
+-- written. The store has what the machine has then, which is a good state.
 pub record AnswersPart (frames : ℕ) (lines : List (List ℕ)) (sink_old sink_new : Option (List ℕ)) (content : Content) : Type 0 where
   pub answered : ℕ
   pub line : List ℕ
@@ -78,6 +79,7 @@ pub record AnswersPart (frames : ℕ) (lines : List (List ℕ)) (sink_old sink_n
   pub replies : List Reply
   pub last : State
   pub gives : Gives line mid replies last
+  pub good : IsGoodState last
   pub part : List ℕ
   pub rest : List ℕ
   pub cut : texts replies ≡ part ++ rest

@@ -1,7 +1,5 @@
-use Rattle.std.proofs.Common.{◌∙◌, refl, sym, ap, subst, arith}
+use Rattle.std.proofs.Common.{◌∙◌, refl, ap, arith}
 use Rattle.std.proofs.lemmas.Grind.{common_steps}
-use Rattle.vm_model.specs.Machine.State.{IsGoodState}
-use Rattle.vm_model.proofs.StepLaws.{IsGoodState-empty}
 use Rattle.vm_session.proofs.Beginning.{NothingDone-yet, empty_state-filled, IsServed-fresh, IsReady-fresh}
 use Rattle.vm_session.proofs.serving.serve.Goals as goal
 
@@ -19,7 +17,6 @@ loop-status-init g c =
     let empty = empty_state-filled _ _ c.args.frames c.new-vm.result c.requires.empty c.in-Ok-fill.ensures.ok c.new-vm.ensures in
     record {
       served = IsServed-fresh c.args.frames c.args.limit _ _ _ _ c.in-Ok.ensures empty;
-      good = subst IsGoodState (sym empty) (IsGoodState-empty c.args.frames);
       ready = IsReady-fresh c.args.frames c.args.limit _ _ _ c.in-Ok.ensures empty;
       limit = ap (λ r. r.limit) c.in-Ok.ensures;
       room = c.in-Ok-zeroed.ensures;
@@ -30,7 +27,6 @@ loop-status-init g c =
 pub loop-status-preserved : goal.loop-status-preserved
 loop-status-preserved g c = record {
   served = c.in_default-next.ensures.served c.args.frames c.args.limit _ _ c.loop-status.invariant.served;
-  good = c.in_default-next.ensures.good;
   ready = c.in_default-next.ensures.ready;
   limit = c.in_default-next.ensures.limit ∙ c.loop-status.invariant.limit;
   room = grind (arith, common_steps, c.loop-status.invariant.room, c.in_default-next.ensures.room, c.as_mut_slice.ensures.len, c.as_mut_slice.ensures.value, c.loop-status.buffer.ok);

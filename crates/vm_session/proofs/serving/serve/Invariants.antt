@@ -1,6 +1,5 @@
 use Rattle.std.proofs.Common.{◌≡◌, ◌≤◌, length}
 use Rattle.vm_core.specs.Vm.{state_of}
-use Rattle.vm_model.specs.Machine.State.{IsGoodState}
 use Rattle.vm_session.specs.Serving.{IsServed, IsReady, bytes_left}
 use Rattle.vm_session.proofs.serving.serve.Given as goal
 
@@ -9,7 +8,6 @@ invariant-loop-status g l =
     let state = state_of (g.P.PageStore.content l.store) l.vm in
     record {
       served : IsServed l.fn.frames l.fn.limit l.lines (g.S.Source.remaining l.fn.source) (g.S.Source.remaining l.source) (g.K.Sink.contents l.fn.sink) (g.K.Sink.contents l.sink) state;
-      good : IsGoodState state;
       ready : IsReady l.lines (g.S.Source.remaining l.source) (g.P.PageStore.content l.store).next;
       limit : l.lines.limit ≡ l.fn.limit;
       room : length l.buffer.items ≡ 16384;
