@@ -1,7 +1,7 @@
 use Rattle.std.proofs.Common.{◌+◌, ◌≤◌}
 use Rattle.vm_model.specs.Machine.State.{IsGoodState}
 use Rattle.vm_core.specs.Vm.{state_of}
-use Rattle.vm_core.proofs.tests.keeps_koids.Given as goal
+use Rattle.vm_core.proofs.tests.first_refusal.Given as goal
 
 abbrev pub invariant-loop-command : goal.invariant-loop-command
 invariant-loop-command g l = record {
