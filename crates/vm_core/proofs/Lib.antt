@@ -1,5 +1,4 @@
-mod NamesLaws
 mod InfoLaws
 mod SizeLaws
 mod ReplyLaws
-mod StartLaws
+pub mod StartLaws

@@ -1,12 +1,62 @@
--- A store that was just filled with page frames.
-use Rattle.std.proofs.Common.{◌≡◌, ℕ, ap, ◌∙◌}
-use Rattle.vm_model.specs.Contents.Content.{Content, nothing}
+-- A machine with no names and no pins, over a store without VMOs.
+use Rattle.std.proofs.Common.{◌≡◌, ℕ, ◌<◌, Option, None, Some, refl, sym, ap, ◌∙◌, arith}
+use Rattle.std.specs.Prelude.{is_some, unwrap_or}
+use Rattle.vm_model.specs.Contents.Content.{Content, Page, nothing, pages_of, IsGood}
+use Rattle.vm_model.specs.Machine.State.{IsGoodState, empty_state}
+use Rattle.vm_base.specs.declared.limits.TheConstants.{NAMES}
+use Rattle.vm_base.proofs.SearchLaws.{count_below_none}
+use Rattle.vm_model.specs.Naming.Pins.{Pin, pins_vmo, pin_count}
+use Rattle.vmo_table.specs.Table.{Table as Vmos, names_of, lineage_in, keepers_of, CountsPins}
+use Rattle.pin_table.specs.Table.{pins_of}
+use Rattle.vm_core.specs.Vm.{Parts, HasNoVmo, bare_state, state_of}
 
--- it has these frames and nothing else
-pub filled : (frames : ℕ) (new old : Content) → new ≡ record old { frames = frames } → old ≡ nothing → new ≡ record nothing { frames = frames }
-filled frames new old e f = e ∙ ap (λ (c : Content). record c { frames = frames }) f
+-- tables in which nothing stands
+pub state_of-bare : (c : Content) (vm : Parts) → ((n : ℕ) → names_of vm.vmos n ≡ None) → ((v : ℕ) → lineage_in vm.vmos v ≡ None)
+    → ((n : ℕ) → pins_of vm.pins n ≡ None) → state_of c vm ≡ bare_state c
+unfolding empty_state
+state_of-bare c vm names lineage pins = λ i. record (bare_state c) {
+  names = λ n. names n i;
+  lineage = λ v. lineage v i;
+  pins = λ n. pins n i;
+}
 
--- and its next koid is the first
-pub first_koid : (frames : ℕ) (new old : Content) → new ≡ record old { frames = frames } → old ≡ nothing → new.next ≡ 1
-unfolding nothing
-first_koid frames new old e f = ap (λ (c : Content). c.next) (filled frames new old e f)
+-- the machine is good
+pub IsGoodState-bare : (c : Content) → IsGood c → HasNoVmo c → IsGoodState (bare_state c)
+unfolding empty_state
+IsGoodState-bare c good none = record {
+  content = good;
+  names = λ n target e. absurd cc;
+  known = λ v. ap is_some (sym (none v));
+  live = λ v h. absurd cc;
+  parents = λ v p l e f. absurd cc;
+  pins = λ n pin e. absurd cc;
+}
+
+-- in a store without VMOs no page is held
+no_page : (c : Content) (v p : ℕ) → IsGood c → HasNoVmo c → c.page v p ≡ None
+unfolding pages_of
+no_page c v p good none = go (c.page v p) (good.below v p) where
+  go : (o : Option Page) → ((held : Page) → o ≡ Some held → p < pages_of c v) → o ≡ None
+  go None below = refl
+  go (Some held) below = absurd (omega (arith, below held refl, ap (λ (o : Option ℕ). unwrap_or o 0) (none v)))
+
+-- with the first koid to come it is the empty machine
+pub bare_state-first : (c : Content) → IsGood c → HasNoVmo c → c.next ≡ 1 → bare_state c ≡ empty_state c.frames
+unfolding empty_state nothing
+bare_state-first c good none first = λ i. record (bare_state c) {
+  content = record { frames = c.frames; next = first i; count = λ v. none v i; page = λ v p. no_page c v p good none i };
+}
+
+-- a store that had nothing, with page frames
+pub state_of-filled : (frames : ℕ) (new old : Content) (vm : Parts) → ((c : Content) → state_of c vm ≡ bare_state c)
+    → new ≡ record old { frames = frames } → old ≡ nothing → state_of new vm ≡ empty_state frames
+unfolding empty_state
+state_of-filled frames new old vm bare filled e =
+    let same : new ≡ record nothing { frames = frames } = filled ∙ ap (λ (c : Content). record c { frames = frames }) e in
+    bare new ∙ ap bare_state same
+
+-- in a table of VMOs without keepers no pin is counted
+pub counts_none : (vmos : Vmos) (pins : ℕ → Option Pin) → ((v : ℕ) → keepers_of vmos v ≡ 0) → ((n : ℕ) → pins n ≡ None) → CountsPins vmos pins
+unfolding pin_count pins_vmo
+counts_none vmos pins none empty = λ v.
+    none v ∙ sym (count_below_none NAMES (λ n. pins_vmo v (pins n)) (λ k h. ap (pins_vmo v) (empty k)))

@@ -1,7 +1,8 @@
 -- What a `Vm` is to its callers, and the state of the machine that it and its store stand for.
+use Rattle.std.specs.Prelude.{◌≡◌, ℕ, None}
 use Rattle.vm_model.specs.Contents.Content.{Content}
-use Rattle.vm_model.specs.Machine.State.{State}
-use Rattle.vmo_table.specs.Table.{Table as Vmos, state_with}
+use Rattle.vm_model.specs.Machine.State.{State, empty_state}
+use Rattle.vmo_table.specs.Table.{Table as Vmos, names_of, lineage_in}
 use Rattle.pin_table.specs.Table.{Table as Pins, pins_of}
 
 -- the table of names and VMOs, and the table of pins
@@ -9,6 +10,22 @@ pub record Parts : Type 0 where
   pub vmos : Vmos
   pub pins : Pins
 
--- the content of the store, the names and the lineage of the one table, and the pins of the other
+-- the state s, with this content of a store and the names and the lineage of this table
+abbrev pub with_vmos : State → Content → Vmos → State
+with_vmos s c vmos = record s { content = c; names = names_of vmos; lineage = lineage_in vmos }
+
+-- and with the pins of this table
+abbrev pub with_tables : State → Content → Vmos → Pins → State
+with_tables s c vmos pins = record (with_vmos s c vmos) { pins = pins_of pins }
+
+-- a machine with this content, and without names, lineage and pins
+abbrev pub bare_state : Content → State
+bare_state c = record (empty_state c.frames) { content = c }
+
+-- the state of the machine. What neither the store nor the tables keep is as in a machine without any of it
 abbrev pub state_of : Content → Parts → State
-state_of c vm = state_with c vm.vmos (pins_of vm.pins)
+state_of c vm = with_tables (bare_state c) c vm.vmos vm.pins
+
+-- the store has no VMO
+abbrev pub HasNoVmo : Content → Type 0
+HasNoVmo c = (v : ℕ) → c.count v ≡ None

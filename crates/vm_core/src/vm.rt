@@ -1,6 +1,7 @@
 //! The machine, and its step.
 
-ghost use Rattle.std.specs.Prelude.{◌≡◌, ℕ, ◌+◌, ◌<◌, ◌≤◌, ◌^◌, None};
+ghost use Rattle.std.specs.Prelude.{◌≡◌, ◌+◌, ◌<◌, ◌≤◌};
+ghost use Rattle.vm_base.specs.declared.limits.TheConstants.{KOIDS};
 
 use crate::asking::{vmo_info, vmo_read, vmo_size};
 use crate::changing::{vmo_commit, vmo_decommit, vmo_fill, vmo_set_size, vmo_write, vmo_zero};
@@ -36,14 +37,16 @@ impl Model for Vm {
 
 impl Vm {
     ghost use Rattle.vm_model.specs.Machine.State.{IsGoodState, empty_state};
-    ghost use Rattle.vm_model.specs.Contents.Content.{Content, nothing};
+    ghost use Rattle.vm_model.specs.Contents.Content.{Content, IsGood};
     ghost use Rattle.vm_model.specs.Machine.Step.{Step};
-    ghost use Rattle.vm_core.specs.Vm.{state_of};
+    ghost use Rattle.vm_core.specs.Vm.{HasNoVmo, bare_state, state_of};
 
-    /// A machine with no names and no pins. Over a store with page frames and no VMO it is the empty
-    /// machine.
+    /// A machine with no names and no pins. It agrees with every good store that has no VMO, whatever its
+    /// next koid is. Where that is 1, they are the empty machine.
     pub fn new(alloc: Global) -> Vm
-        ensures { (frames : ℕ) → state_of (record nothing { frames = frames }) result ≡ empty_state frames }
+        ensures bare { (c : Content) → state_of c result ≡ bare_state c }
+        ensures good { (c : Content) → IsGood c → HasNoVmo c → IsGoodState (state_of c result) }
+        ensures empty { (c : Content) → IsGood c → HasNoVmo c → c.next ≡ 1 → state_of c result ≡ empty_state c.frames }
     {
         Vm {
             vmos: VmoTable::new(alloc),
@@ -57,7 +60,7 @@ impl Vm {
     /// anything else is looked at, and changes nothing.
     pub fn step<P: PageStore>(&mut self, store: &mut P, command: &Command) -> Reply
         requires good { IsGoodState (state_of (P.content store.old) self.old) }
-        requires next { (P.content store.old).next < 2 ^ 63 }
+        requires next { (P.content store.old).next < KOIDS }
         ensures step { Step (state_of (P.content store.old) self.old) command.now result
             (state_of (P.content store.new) self.new) }
         ensures good { IsGoodState (state_of (P.content store.new) self.new) }

@@ -4,12 +4,11 @@ use Rattle.std.proofs.KnownBytes.{Appends-nil, Consumes-nil}
 use Rattle.vm_model.specs.Contents.Content.{Content, nothing}
 use Rattle.vm_model.specs.Machine.State.{State, IsGoodState, empty_state}
 use Rattle.vm_model.proofs.ContentLaws.{count-nothing}
-use Rattle.vm_core.specs.declared.vm.Vm.{Vm}
-use Rattle.vm_core.specs.Vm.{state_of}
+use Rattle.vm_core.specs.Vm.{HasNoVmo}
 use Rattle.script_io.specs.Reader.{Reader}
 use Rattle.script_io.specs.Fetching.{IsPending}
 use Rattle.vm_model.proofs.StepLaws.{IsGoodState-empty, next-empty}
-use Rattle.vm_session.specs.Outcome.{HasNoVmo, NothingDone}
+use Rattle.vm_session.specs.Outcome.{NothingDone}
 use Rattle.vm_session.specs.Serving.{IsServed, IsReady}
 use Rattle.vm_session.proofs.Served.{AreLines-none}
 
@@ -19,11 +18,6 @@ HasNoVmo-nothing c e v = ap (λ (d : Content). d.count v) e ∙ count-nothing v
 -- nothing was done to a store that contains nothing
 pub NothingDone-yet : (source sink : Option (List ℕ)) (c d : Content) → c ≡ d → d ≡ nothing → NothingDone source source sink sink c
 NothingDone-yet source sink c d same e = record { read = refl; written = refl; store = HasNoVmo-nothing c (same ∙ e) }
-
--- a store with frames, and a machine with no names
-pub empty_state-filled : (c filled : Content) (frames : ℕ) (vm : Vm) → c ≡ nothing → filled ≡ record c { frames = frames } → ((n : ℕ) → state_of (record nothing { frames = n }) vm ≡ empty_state n) → state_of filled vm ≡ empty_state frames
-empty_state-filled c filled frames vm e f none =
-    ap (λ (d : Content). state_of d vm) (f ∙ ap (λ (d : Content). record d { frames = frames }) e) ∙ none frames
 
 -- a line reader that took nothing yet
 abbrev pub fresh : ℕ → Reader

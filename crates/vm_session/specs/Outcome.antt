@@ -14,6 +14,7 @@ use Rattle.vm_model.specs.Contents.Content.{Content}
 use Rattle.vm_model.specs.Machine.State.{State, IsGoodState, empty_state}
 use Rattle.vm_model.specs.Language.Text.{texts}
 use Rattle.vm_model.specs.Language.Reading.{is_hex, number, ◌>>=◌}
+use Rattle.vm_core.specs.Vm.{HasNoVmo}
 use Rattle.vm_model.specs.Scripts.Run.{lines_of, whole_lines, Gives, Run, Legal}
 
 -- ---- the words of the command line
@@ -42,10 +43,6 @@ abbrev pub frames_of : List (String Global) → Option ℕ
 frames_of words = frames_in (map string_bytes words)
 
 -- ---- what was answered
-
--- the store has no VMO
-abbrev pub HasNoVmo : Content → Type 0
-HasNoVmo c = (v : ℕ) → c.count v ≡ None
 
 -- a call that may fail writing: the sink took all of these bytes, or a part of them
 abbrev pub Writes : {T E : Type 0} → Result T E → Option (List ℕ) → Option (List ℕ) → List ℕ → Type 0

@@ -1,6 +1,7 @@
 use Rattle.std.proofs.Common.{◌∙◌, refl, ap, arith}
 use Rattle.std.proofs.lemmas.Grind.{common_steps}
-use Rattle.vm_session.proofs.Beginning.{NothingDone-yet, empty_state-filled, IsServed-fresh, IsReady-fresh}
+use Rattle.vm_core.proofs.StartLaws.{state_of-filled}
+use Rattle.vm_session.proofs.Beginning.{NothingDone-yet, IsServed-fresh, IsReady-fresh}
 use Rattle.vm_session.proofs.serving.serve.Goals as goal
 
 pub returns-in_default-clause-ends : goal.returns-in_default-clause-ends
@@ -14,7 +15,7 @@ returns-in_default-fill-clause-ends g c = NothingDone-yet _ _ _ _ c.in_default-f
 
 pub loop-status-init : goal.loop-status-init
 loop-status-init g c =
-    let empty = empty_state-filled _ _ c.args.frames c.new-vm.result c.requires.empty c.in-Ok-fill.ensures.ok c.new-vm.ensures in
+    let empty = state_of-filled c.args.frames _ _ c.new-vm.result c.new-vm.ensures.bare c.in-Ok-fill.ensures.ok c.requires.empty in
     record {
       served = IsServed-fresh c.args.frames c.args.limit _ _ _ _ c.in-Ok.ensures empty;
       ready = IsReady-fresh c.args.frames c.args.limit _ _ _ c.in-Ok.ensures empty;

@@ -1,11 +1,20 @@
-use Rattle.std.proofs.Common.{refl}
-use Rattle.vm_model.specs.Contents.Content.{nothing}
+use Rattle.std.proofs.Common.{sym, subst, ◌∙◌}
+use Rattle.vm_model.specs.Machine.State.{IsGoodState}
 use Rattle.pin_table.specs.Table.{pins_of}
-use Rattle.vm_core.proofs.NamesLaws.{state_of-empty, counts_none}
+use Rattle.vm_core.proofs.StartLaws.{counts_none, state_of-bare, IsGoodState-bare, bare_state-first}
 use Rattle.vm_core.proofs.vm.Vm.new.Goals as goal
 
 pub invariant_of-result : goal.invariant_of-result
-invariant_of-result c = record { counted = counts_none c.new.result (pins_of c.new-2.result) c.new.ensures.keepers c.new-2.ensures }
+invariant_of-result c = record {
+  counted = counts_none c.new.result (pins_of c.new-2.result) c.new.ensures.keepers c.new-2.ensures;
+}
 
-pub returns : goal.returns
-returns c = λ frames. state_of-empty (record nothing { frames = frames }) (record { vmos = c.new.result; pins = c.new-2.result }) frames refl c.new.ensures.names c.new.ensures.lineage c.new-2.ensures
+pub returns-clause-bare : goal.returns-clause-bare
+returns-clause-bare c = λ d.
+    state_of-bare d (record { vmos = c.new.result; pins = c.new-2.result }) c.new.ensures.names c.new.ensures.lineage c.new-2.ensures
+
+pub returns-clause-good : goal.returns-clause-good
+returns-clause-good c = λ d good none. subst IsGoodState (sym (returns-clause-bare c d)) (IsGoodState-bare d good none)
+
+pub returns-clause-empty : goal.returns-clause-empty
+returns-clause-empty c = λ d good none first. returns-clause-bare c d ∙ bare_state-first d good none first
