@@ -1,4 +1,3 @@
-mod InfoLaws
-mod SizeLaws
-mod ReplyLaws
+mod AskingLaws
+mod CallLaws
 pub mod StartLaws

@@ -11,8 +11,8 @@ use Rattle.pin_table.specs.Table.{pins_of}
 use Rattle.vm_core.specs.Vm.{Parts, HasNoVmo, bare_state, state_of}
 
 -- tables in which nothing stands
-pub state_of-bare : (c : Content) (vm : Parts) → ((n : ℕ) → names_of vm.vmos n ≡ None) → ((v : ℕ) → lineage_in vm.vmos v ≡ None)
-    → ((n : ℕ) → pins_of vm.pins n ≡ None) → state_of c vm ≡ bare_state c
+pub state_of-bare : (c : Content) (vm : Parts) → ((n : ℕ) → names_of vm.vmos n ≡ None)
+    → ((v : ℕ) → lineage_in vm.vmos v ≡ None) → ((n : ℕ) → pins_of vm.pins n ≡ None) → state_of c vm ≡ bare_state c
 unfolding empty_state
 state_of-bare c vm names lineage pins = λ i. record (bare_state c) {
   names = λ n. names n i;
@@ -44,7 +44,7 @@ no_page c v p good none = go (c.page v p) (good.below v p) where
 pub bare_state-first : (c : Content) → IsGood c → HasNoVmo c → c.next ≡ 1 → bare_state c ≡ empty_state c.frames
 unfolding empty_state nothing
 bare_state-first c good none first = λ i. record (bare_state c) {
-  content = record { frames = c.frames; next = first i; count = λ v. none v i; page = λ v p. no_page c v p good none i };
+  content = record c { next = first i; count = λ v. none v i; page = λ v p. no_page c v p good none i };
 }
 
 -- a store that had nothing, with page frames
@@ -52,11 +52,12 @@ pub state_of-filled : (frames : ℕ) (new old : Content) (vm : Parts) → ((c : 
     → new ≡ record old { frames = frames } → old ≡ nothing → state_of new vm ≡ empty_state frames
 unfolding empty_state
 state_of-filled frames new old vm bare filled e =
-    let same : new ≡ record nothing { frames = frames } = filled ∙ ap (λ (c : Content). record c { frames = frames }) e in
-    bare new ∙ ap bare_state same
+    let with_frames = λ (c : Content). record c { frames = frames } in
+    bare new ∙ ap bare_state (filled ∙ ap with_frames e)
 
 -- in a table of VMOs without keepers no pin is counted
-pub counts_none : (vmos : Vmos) (pins : ℕ → Option Pin) → ((v : ℕ) → keepers_of vmos v ≡ 0) → ((n : ℕ) → pins n ≡ None) → CountsPins vmos pins
+pub counts_none : (vmos : Vmos) (pins : ℕ → Option Pin) → ((v : ℕ) → keepers_of vmos v ≡ 0)
+    → ((n : ℕ) → pins n ≡ None) → CountsPins vmos pins
 unfolding pin_count pins_vmo
 counts_none vmos pins none empty = λ v.
     none v ∙ sym (count_below_none NAMES (λ n. pins_vmo v (pins n)) (λ k h. ap (pins_vmo v) (empty k)))

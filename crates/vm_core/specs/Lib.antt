@@ -1,2 +1,3 @@
 pub mod Vm
 pub mod VmFields
+pub mod Calls

@@ -20,7 +20,7 @@ with_tables s c vmos pins = record (with_vmos s c vmos) { pins = pins_of pins }
 
 -- a machine with this content, and without names, lineage and pins
 abbrev pub bare_state : Content → State
-bare_state c = record (empty_state c.frames) { content = c }
+bare_state c = record (empty_state 0) { content = c }
 
 -- the state of the machine. What neither the store nor the tables keep is as in a machine without any of it
 abbrev pub state_of : Content → Parts → State

@@ -1,11 +1,8 @@
 //! The commands that change nothing: `vmo_read`, `vmo_size`, `vmo_info`. None wants memory.
 
-ghost use Rattle.std.specs.Prelude.{ℕ, Option};
 ghost use Rattle.vm_model.specs.declared.command.Command.{Command};
-ghost use Rattle.vm_model.specs.Naming.Pins.{Pin};
-ghost use Rattle.vm_model.specs.Machine.Step.{Step};
-ghost use Rattle.vmo_table.specs.Table.{state_with};
 ghost use Rattle.vmo_ops.specs.Targets.{AreParts};
+ghost use Rattle.vm_core.specs.Calls.{StepsVmos};
 
 use attribution::info;
 use page_store::PageStore;
@@ -15,15 +12,15 @@ use vmo_table::VmoTable;
 
 /// Reads `len` bytes from `offset` bytes into the name on, where it is open.
 pub(crate) fn vmo_read<P: PageStore>(
-    vmos: &VmoTable,
     store: &P,
+    vmos: &VmoTable,
     name: VmoName,
     offset: u64,
     len: u64,
 ) -> Reply
     requires { AreParts (P.content store.now) vmos.now }
-    ensures { (pins : ℕ → Option Pin) → Step (state_with (P.content store.now) vmos.now pins)
-        (Command.VmoRead name offset len) result (state_with (P.content store.now) vmos.now pins) }
+    ensures { StepsVmos (P.content store.now) vmos.now (Command.VmoRead name offset len) result
+        (P.content store.now) vmos.now }
 {
     let Some(target) = vmos.resolve(name) else {
         return Reply::Refused(Refusal::BadHandle);
@@ -35,10 +32,9 @@ pub(crate) fn vmo_read<P: PageStore>(
 }
 
 /// Answers the size in bytes of what the name stands for.
-pub(crate) fn vmo_size<P: PageStore>(vmos: &VmoTable, store: &P, name: VmoName) -> Reply
+pub(crate) fn vmo_size<P: PageStore>(store: &P, vmos: &VmoTable, name: VmoName) -> Reply
     requires { AreParts (P.content store.now) vmos.now }
-    ensures { (pins : ℕ → Option Pin) → Step (state_with (P.content store.now) vmos.now pins)
-        (Command.VmoSize name) result (state_with (P.content store.now) vmos.now pins) }
+    ensures { StepsVmos (P.content store.now) vmos.now (Command.VmoSize name) result (P.content store.now) vmos.now }
 {
     match vmos.resolve(name) {
         Some(target) => Reply::Number(vmo_ops::size(store, &target)),
@@ -47,10 +43,9 @@ pub(crate) fn vmo_size<P: PageStore>(vmos: &VmoTable, store: &P, name: VmoName) 
 }
 
 /// Tells of the VMO that the name stands for.
-pub(crate) fn vmo_info<P: PageStore>(vmos: &VmoTable, store: &P, name: VmoName) -> Reply
+pub(crate) fn vmo_info<P: PageStore>(store: &P, vmos: &VmoTable, name: VmoName) -> Reply
     requires { AreParts (P.content store.now) vmos.now }
-    ensures { (pins : ℕ → Option Pin) → Step (state_with (P.content store.now) vmos.now pins)
-        (Command.VmoInfo name) result (state_with (P.content store.now) vmos.now pins) }
+    ensures { StepsVmos (P.content store.now) vmos.now (Command.VmoInfo name) result (P.content store.now) vmos.now }
 {
     match vmos.resolve(name) {
         Some(target) => Reply::Info(info(store, vmos, &target)),

@@ -2,15 +2,11 @@
 //! `vmo_zero`, `vmo_decommit`, `vmo_set_size`. Each is the operation of that name, where the VMO's name is
 //! open.
 
-ghost use Rattle.std.specs.Prelude.{◌≡◌, ℕ, Option};
+ghost use Rattle.std.specs.Prelude.{◌≡◌};
 ghost use Rattle.vm_model.specs.declared.command.Command.{Command};
 ghost use Rattle.vm_model.specs.declared.reply.Reply.{Reply};
-ghost use Rattle.vm_model.specs.Naming.Pins.{Pin};
-ghost use Rattle.vm_model.specs.Machine.State.{IsGoodState};
-ghost use Rattle.vm_model.specs.Machine.Step.{Step};
-ghost use Rattle.vmo_table.specs.Table.{state_with};
-ghost use Rattle.pin_table.specs.Table.{pins_of};
 ghost use Rattle.vmo_ops.specs.Targets.{AreParts, reply_of};
+ghost use Rattle.vm_core.specs.Calls.{AreTogether, Steps, StepsVmos};
 
 use page_store::PageStore;
 use pin_table::PinTable;
@@ -20,15 +16,15 @@ use vmo_table::VmoTable;
 
 /// Writes bytes from `offset` bytes into the name on.
 pub(crate) fn vmo_write<P: PageStore>(
-    vmos: &VmoTable,
     store: &mut P,
+    vmos: &VmoTable,
     name: VmoName,
     offset: u64,
     bytes: &[u8],
 ) -> Reply
     requires { AreParts (P.content store.old) vmos.now }
-    ensures { (pins : ℕ → Option Pin) → Step (state_with (P.content store.old) vmos.now pins)
-        (Command.VmoWrite name offset bytes.now) result (state_with (P.content store.new) vmos.now pins) }
+    ensures { StepsVmos (P.content store.old) vmos.now (Command.VmoWrite name offset bytes.now) result
+        (P.content store.new) vmos.now }
 {
     match vmos.resolve(name) {
         Some(target) => done(vmo_ops::write(store, &target, offset, bytes)),
@@ -38,16 +34,16 @@ pub(crate) fn vmo_write<P: PageStore>(
 
 /// Writes one byte at every place of a range.
 pub(crate) fn vmo_fill<P: PageStore>(
-    vmos: &VmoTable,
     store: &mut P,
+    vmos: &VmoTable,
     name: VmoName,
     offset: u64,
     len: u64,
     byte: u8,
 ) -> Reply
     requires { AreParts (P.content store.old) vmos.now }
-    ensures { (pins : ℕ → Option Pin) → Step (state_with (P.content store.old) vmos.now pins)
-        (Command.VmoFill name offset len byte) result (state_with (P.content store.new) vmos.now pins) }
+    ensures { StepsVmos (P.content store.old) vmos.now (Command.VmoFill name offset len byte) result
+        (P.content store.new) vmos.now }
 {
     match vmos.resolve(name) {
         Some(target) => done(vmo_ops::fill(store, &target, offset, len, byte)),
@@ -57,15 +53,15 @@ pub(crate) fn vmo_fill<P: PageStore>(
 
 /// Gives each page that a range touches a frame of its own.
 pub(crate) fn vmo_commit<P: PageStore>(
-    vmos: &VmoTable,
     store: &mut P,
+    vmos: &VmoTable,
     name: VmoName,
     offset: u64,
     len: u64,
 ) -> Reply
     requires { AreParts (P.content store.old) vmos.now }
-    ensures { (pins : ℕ → Option Pin) → Step (state_with (P.content store.old) vmos.now pins)
-        (Command.VmoCommit name offset len) result (state_with (P.content store.new) vmos.now pins) }
+    ensures { StepsVmos (P.content store.old) vmos.now (Command.VmoCommit name offset len) result
+        (P.content store.new) vmos.now }
 {
     match vmos.resolve(name) {
         Some(target) => done(vmo_ops::commit(store, &target, offset, len)),
@@ -75,16 +71,16 @@ pub(crate) fn vmo_commit<P: PageStore>(
 
 /// Makes the bytes of a range zero.
 pub(crate) fn vmo_zero<P: PageStore>(
+    store: &mut P,
     vmos: &VmoTable,
     pins: &PinTable,
-    store: &mut P,
     name: VmoName,
     offset: u64,
     len: u64,
 ) -> Reply
-    requires { IsGoodState (state_with (P.content store.old) vmos.now (pins_of pins.now)) }
-    ensures { Step (state_with (P.content store.old) vmos.now (pins_of pins.now))
-        (Command.VmoZero name offset len) result (state_with (P.content store.new) vmos.now (pins_of pins.now)) }
+    requires { AreTogether (P.content store.old) vmos.now pins.now }
+    ensures { Steps (P.content store.old) vmos.now pins.now (Command.VmoZero name offset len) result
+        (P.content store.new) vmos.now pins.now }
 {
     match vmos.resolve(name) {
         Some(target) => done(vmo_ops::zero(store, pins, &target, offset, len)),
@@ -94,16 +90,16 @@ pub(crate) fn vmo_zero<P: PageStore>(
 
 /// Makes the pages of a range zero and gives their frames back.
 pub(crate) fn vmo_decommit<P: PageStore>(
+    store: &mut P,
     vmos: &VmoTable,
     pins: &PinTable,
-    store: &mut P,
     name: VmoName,
     offset: u64,
     len: u64,
 ) -> Reply
-    requires { IsGoodState (state_with (P.content store.old) vmos.now (pins_of pins.now)) }
-    ensures { Step (state_with (P.content store.old) vmos.now (pins_of pins.now))
-        (Command.VmoDecommit name offset len) result (state_with (P.content store.new) vmos.now (pins_of pins.now)) }
+    requires { AreTogether (P.content store.old) vmos.now pins.now }
+    ensures { Steps (P.content store.old) vmos.now pins.now (Command.VmoDecommit name offset len) result
+        (P.content store.new) vmos.now pins.now }
 {
     match vmos.resolve(name) {
         Some(target) => done(vmo_ops::decommit(store, vmos, pins, &target, offset, len)),
@@ -113,15 +109,15 @@ pub(crate) fn vmo_decommit<P: PageStore>(
 
 /// Changes the size of the VMO.
 pub(crate) fn vmo_set_size<P: PageStore>(
+    store: &mut P,
     vmos: &VmoTable,
     pins: &PinTable,
-    store: &mut P,
     name: VmoName,
     size: u64,
 ) -> Reply
-    requires { IsGoodState (state_with (P.content store.old) vmos.now (pins_of pins.now)) }
-    ensures { Step (state_with (P.content store.old) vmos.now (pins_of pins.now))
-        (Command.VmoSetSize name size) result (state_with (P.content store.new) vmos.now (pins_of pins.now)) }
+    requires { AreTogether (P.content store.old) vmos.now pins.now }
+    ensures { Steps (P.content store.old) vmos.now pins.now (Command.VmoSetSize name size) result
+        (P.content store.new) vmos.now pins.now }
 {
     match vmos.resolve(name) {
         Some(target) => done(vmo_ops::resize(store, pins, &target, size)),

@@ -8,6 +8,7 @@
 
 mod asking;
 mod changing;
+mod dispatching;
 mod naming;
 mod pinning;
 mod vm;

@@ -1,14 +1,15 @@
 //! The commands that give a name or close one: `vmo_create`, `vmo_create_child`, `vmo_close`. Each clause
 //! `name` hands up the range of the name's number, which the caller has behind a reference.
 
-ghost use Rattle.std.specs.Prelude.{◌≡◌, ℕ, Option, ◌<◌, ◌^◌};
+ghost use Rattle.std.specs.Prelude.{◌≡◌, ◌<◌};
+ghost use Rattle.vm_base.specs.declared.limits.TheConstants.{KOIDS, NAMES};
 ghost use Rattle.vm_model.specs.declared.command.Command.{Command};
-ghost use Rattle.vm_model.specs.Naming.Pins.{Pin};
-ghost use Rattle.vm_model.specs.Machine.State.{IsGoodState};
+ghost use Rattle.vm_model.specs.Machine.State.{State, IsGoodState};
 ghost use Rattle.vm_model.specs.Machine.Step.{Step};
-ghost use Rattle.vmo_table.specs.Table.{keepers_of, state_with, CountsPins};
-ghost use Rattle.pin_table.specs.Table.{pins_of};
+ghost use Rattle.vmo_table.specs.Table.{keepers_of, CountsPins};
 ghost use Rattle.vmo_ops.specs.Targets.{AreParts};
+ghost use Rattle.vm_core.specs.Vm.{with_vmos};
+ghost use Rattle.vm_core.specs.Calls.{AreTogether, Steps, StepsVmos};
 
 use page_store::PageStore;
 use pin_table::PinTable;
@@ -18,18 +19,18 @@ use vmo_table::VmoTable;
 
 /// Makes a VMO, where the name is not open.
 pub(crate) fn vmo_create<P: PageStore>(
-    vmos: &mut VmoTable,
     store: &mut P,
+    vmos: &mut VmoTable,
     name: VmoName,
     size: u64,
     resizable: bool,
 ) -> Reply
     requires parts { AreParts (P.content store.old) vmos.old }
-    requires next { (P.content store.old).next < 2 ^ 63 }
-    ensures step { (pins : ℕ → Option Pin) → Step (state_with (P.content store.old) vmos.old pins)
-        (Command.VmoCreate name size resizable) result (state_with (P.content store.new) vmos.new pins) }
+    requires next { (P.content store.old).next < KOIDS }
+    ensures step { StepsVmos (P.content store.old) vmos.old (Command.VmoCreate name size resizable) result
+        (P.content store.new) vmos.new }
     ensures keepers { keepers_of vmos.new ≡ keepers_of vmos.old }
-    ensures name { name.0 < 2 ^ 32 }
+    ensures name { name.0 < NAMES }
 {
     if vmos.resolve(name).is_some() {
         return Reply::Refused(Refusal::NameInUse);
@@ -42,9 +43,9 @@ pub(crate) fn vmo_create<P: PageStore>(
 
 /// Makes a child of what `parent` stands for, where `parent` is open and the name is not.
 pub(crate) fn vmo_create_child<P: PageStore>(
+    store: &mut P,
     vmos: &mut VmoTable,
     pins: &PinTable,
-    store: &mut P,
     name: VmoName,
     parent: VmoName,
     kind: ChildKind,
@@ -53,13 +54,13 @@ pub(crate) fn vmo_create_child<P: PageStore>(
     resizable: bool,
     no_write: bool,
 ) -> Reply
-    requires good { IsGoodState (state_with (P.content store.old) vmos.old (pins_of pins.now)) }
-    requires next { (P.content store.old).next < 2 ^ 63 }
-    ensures step { Step (state_with (P.content store.old) vmos.old (pins_of pins.now))
+    requires good { AreTogether (P.content store.old) vmos.old pins.now }
+    requires next { (P.content store.old).next < KOIDS }
+    ensures step { Steps (P.content store.old) vmos.old pins.now
         (Command.VmoChild name parent kind offset size resizable no_write) result
-        (state_with (P.content store.new) vmos.new (pins_of pins.now)) }
+        (P.content store.new) vmos.new pins.now }
     ensures keepers { keepers_of vmos.new ≡ keepers_of vmos.old }
-    ensures name { name.0 < 2 ^ 32 }
+    ensures name { name.0 < NAMES }
 {
     let Some(target) = vmos.resolve(parent) else {
         return Reply::Refused(Refusal::BadHandle);
@@ -76,11 +77,11 @@ pub(crate) fn vmo_create_child<P: PageStore>(
 }
 
 /// Closes a name, where it is open.
-pub(crate) fn vmo_close<P: PageStore>(vmos: &mut VmoTable, store: &mut P, name: VmoName) -> Reply
+pub(crate) fn vmo_close<P: PageStore>(store: &mut P, vmos: &mut VmoTable, name: VmoName) -> Reply
     requires parts { AreParts (P.content store.old) vmos.old }
-    ensures step { (pins : ℕ → Option Pin) → IsGoodState (state_with (P.content store.old) vmos.old pins) →
-        CountsPins vmos.old pins → Step (state_with (P.content store.old) vmos.old pins)
-        (Command.VmoClose name) result (state_with (P.content store.new) vmos.new pins) }
+    ensures step { (s : State) → IsGoodState (with_vmos s (P.content store.old) vmos.old) → CountsPins vmos.old s.pins
+        → Step (with_vmos s (P.content store.old) vmos.old) (Command.VmoClose name) result
+        (with_vmos s (P.content store.new) vmos.new) }
     ensures keepers { keepers_of vmos.new ≡ keepers_of vmos.old }
 {
     if vmos.resolve(name).is_none() {

@@ -1,12 +1,12 @@
 //! The commands that pin pages and let them go: `vmo_pin`, `vmo_unpin`. The clause `pin` hands up the range of
 //! the pin's number, which the caller has behind a reference.
 
-ghost use Rattle.std.specs.Prelude.{◌<◌, ◌^◌};
+ghost use Rattle.std.specs.Prelude.{◌<◌};
+ghost use Rattle.vm_base.specs.declared.limits.TheConstants.{NAMES};
 ghost use Rattle.vm_model.specs.declared.command.Command.{Command};
-ghost use Rattle.vm_model.specs.Machine.State.{IsGoodState};
-ghost use Rattle.vm_model.specs.Machine.Step.{Step};
-ghost use Rattle.vmo_table.specs.Table.{state_with, CountsPins};
+ghost use Rattle.vmo_table.specs.Table.{CountsPins};
 ghost use Rattle.pin_table.specs.Table.{pins_of};
+ghost use Rattle.vm_core.specs.Calls.{AreTogether, Steps};
 
 use page_store::PageStore;
 use pin_table::PinTable;
@@ -16,21 +16,20 @@ use vmo_table::VmoTable;
 
 /// Pins the pages of a range, where the name is open and the pin is not there.
 pub(crate) fn vmo_pin<P: PageStore>(
+    store: &mut P,
     vmos: &mut VmoTable,
     pins: &mut PinTable,
-    store: &mut P,
     pin: PinName,
     name: VmoName,
     offset: u64,
     len: u64,
 ) -> Reply
-    requires good { IsGoodState (state_with (P.content store.old) vmos.old (pins_of pins.old)) }
+    requires good { AreTogether (P.content store.old) vmos.old pins.old }
     requires counted { CountsPins vmos.old (pins_of pins.old) }
-    ensures step { Step (state_with (P.content store.old) vmos.old (pins_of pins.old))
-        (Command.VmoPin pin name offset len) result
-        (state_with (P.content store.new) vmos.new (pins_of pins.new)) }
+    ensures step { Steps (P.content store.old) vmos.old pins.old (Command.VmoPin pin name offset len) result
+        (P.content store.new) vmos.new pins.new }
     ensures counted { CountsPins vmos.new (pins_of pins.new) }
-    ensures pin { pin.0 < 2 ^ 32 }
+    ensures pin { pin.0 < NAMES }
 {
     let Some(target) = vmos.resolve(name) else {
         return Reply::Refused(Refusal::BadHandle);
@@ -46,15 +45,15 @@ pub(crate) fn vmo_pin<P: PageStore>(
 
 /// Takes a pin away, where it is there.
 pub(crate) fn vmo_unpin<P: PageStore>(
+    store: &mut P,
     vmos: &mut VmoTable,
     pins: &mut PinTable,
-    store: &mut P,
     pin: PinName,
 ) -> Reply
-    requires good { IsGoodState (state_with (P.content store.old) vmos.old (pins_of pins.old)) }
+    requires good { AreTogether (P.content store.old) vmos.old pins.old }
     requires counted { CountsPins vmos.old (pins_of pins.old) }
-    ensures step { Step (state_with (P.content store.old) vmos.old (pins_of pins.old))
-        (Command.VmoUnpin pin) result (state_with (P.content store.new) vmos.new (pins_of pins.new)) }
+    ensures step { Steps (P.content store.old) vmos.old pins.old (Command.VmoUnpin pin) result
+        (P.content store.new) vmos.new pins.new }
     ensures counted { CountsPins vmos.new (pins_of pins.new) }
 {
     if pins.get(pin).is_none() {

@@ -3,11 +3,7 @@
 ghost use Rattle.std.specs.Prelude.{◌≡◌, ◌+◌, ◌<◌, ◌≤◌};
 ghost use Rattle.vm_base.specs.declared.limits.TheConstants.{KOIDS};
 
-use crate::asking::{vmo_info, vmo_read, vmo_size};
-use crate::changing::{vmo_commit, vmo_decommit, vmo_fill, vmo_set_size, vmo_write, vmo_zero};
-use crate::naming::{vmo_close, vmo_create, vmo_create_child};
-use crate::pinning::{vmo_pin, vmo_unpin};
-use attribution::stat;
+use crate::dispatching::dispatch;
 use page_store::PageStore;
 use pin_table::PinTable;
 use std::alloc::Global;
@@ -66,78 +62,6 @@ impl Vm {
         ensures good { IsGoodState (state_of (P.content store.new) self.new) }
         ensures next { (P.content store.new).next ≤ (P.content store.old).next + 1 }
     {
-        match command {
-            Command::VmoCreate {
-                name,
-                size,
-                resizable,
-            } => vmo_create(&mut self.vmos, store, *name, *size, *resizable),
-            Command::VmoChild {
-                name,
-                parent,
-                kind,
-                offset,
-                size,
-                resizable,
-                no_write,
-            } => vmo_create_child(
-                &mut self.vmos,
-                &self.pins,
-                store,
-                *name,
-                *parent,
-                *kind,
-                *offset,
-                *size,
-                *resizable,
-                *no_write,
-            ),
-            Command::VmoClose { name } => vmo_close(&mut self.vmos, store, *name),
-            Command::VmoRead { name, offset, len } => vmo_read(
-                &self.vmos, store, *name, *offset, *len,
-            ),
-            Command::VmoWrite {
-                name,
-                offset,
-                bytes,
-            } => vmo_write(&self.vmos, store, *name, *offset, bytes.as_slice()),
-            Command::VmoFill {
-                name,
-                offset,
-                len,
-                byte,
-            } => vmo_fill(&self.vmos, store, *name, *offset, *len, *byte),
-            Command::VmoCommit { name, offset, len } => {
-                vmo_commit(&self.vmos, store, *name, *offset, *len)
-            }
-            Command::VmoZero { name, offset, len } => vmo_zero(
-                &self.vmos, &self.pins, store, *name, *offset, *len,
-            ),
-            Command::VmoDecommit { name, offset, len } => {
-                vmo_decommit(&self.vmos, &self.pins, store, *name, *offset, *len)
-            }
-            Command::VmoSetSize { name, size } => vmo_set_size(
-                &self.vmos, &self.pins, store, *name, *size,
-            ),
-            Command::VmoPin {
-                pin,
-                name,
-                offset,
-                len,
-            } => vmo_pin(
-                &mut self.vmos,
-                &mut self.pins,
-                store,
-                *pin,
-                *name,
-                *offset,
-                *len,
-            ),
-            Command::VmoUnpin { pin } => { vmo_unpin(&mut self.vmos, &mut self.pins, store, *pin) }
-            Command::VmoSize { name } => vmo_size(&self.vmos, store, *name),
-            Command::VmoInfo { name } => vmo_info(&self.vmos, store, *name),
-            Command::Stat => Reply::Stat(stat(store)),
-            _ => Reply::Unbuilt,
-        }
+        dispatch(store, &mut self.vmos, &mut self.pins, command)
     }
 }

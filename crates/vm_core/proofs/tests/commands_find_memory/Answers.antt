@@ -7,10 +7,12 @@ use Rattle.vm_core.proofs.tests.commands_find_memory.Goals as goal
 
 pub first_refusal-requires-clause-good : goal.first_refusal-requires-clause-good
 first_refusal-requires-clause-good g c =
-    let e = state_of-filled 8 (content_of c.fill.new.self) (content_of c.new-store.result) c.new-vm.result c.new-vm.ensures.bare c.in_ok-fill.ensures.ok c.new-store.ensures.content in
+    let bare = c.new-vm.ensures.bare in
+    let e = state_of-filled 8 _ _ c.new-vm.result bare c.in_ok-fill.ensures.ok c.new-store.ensures.content in
     subst IsGoodState (sym e) (IsGoodState-empty 8)
 
 pub first_refusal-requires-clause-next : goal.first_refusal-requires-clause-next
 first_refusal-requires-clause-next g c =
-    let e = state_of-filled 8 (content_of c.fill.new.self) (content_of c.new-store.result) c.new-vm.result c.new-vm.ensures.bare c.in_ok-fill.ensures.ok c.new-store.ensures.content in
+    let bare = c.new-vm.ensures.bare in
+    let e = state_of-filled 8 _ _ c.new-vm.result bare c.in_ok-fill.ensures.ok c.new-store.ensures.content in
     omega (arith, next-empty 8, ap (λ (s : State). s.content.next) e)

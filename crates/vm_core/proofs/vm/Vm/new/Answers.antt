@@ -1,6 +1,7 @@
 use Rattle.std.proofs.Common.{sym, subst, ◌∙◌}
 use Rattle.vm_model.specs.Machine.State.{IsGoodState}
 use Rattle.pin_table.specs.Table.{pins_of}
+use Rattle.vm_core.specs.Vm.{Parts}
 use Rattle.vm_core.proofs.StartLaws.{counts_none, state_of-bare, IsGoodState-bare, bare_state-first}
 use Rattle.vm_core.proofs.vm.Vm.new.Goals as goal
 
@@ -11,7 +12,8 @@ invariant_of-result c = record {
 
 pub returns-clause-bare : goal.returns-clause-bare
 returns-clause-bare c = λ d.
-    state_of-bare d (record { vmos = c.new.result; pins = c.new-2.result }) c.new.ensures.names c.new.ensures.lineage c.new-2.ensures
+    let vm : Parts = record { vmos = c.new.result; pins = c.new-2.result } in
+    state_of-bare d vm c.new.ensures.names c.new.ensures.lineage c.new-2.ensures
 
 pub returns-clause-good : goal.returns-clause-good
 returns-clause-good c = λ d good none. subst IsGoodState (sym (returns-clause-bare c d)) (IsGoodState-bare d good none)
