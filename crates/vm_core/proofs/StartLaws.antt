@@ -1,14 +1,15 @@
 -- A machine with no names and no pins, over a store without VMOs.
-use Rattle.std.proofs.Common.{◌≡◌, ℕ, ◌<◌, Option, None, Some, refl, sym, ap, ◌∙◌, arith}
+use Rattle.std.proofs.Common.{◌≡◌, ℕ, ◌<◌, Option, None, Some, refl, sym, ap, ◌∙◌, ◌==◌, arith}
 use Rattle.std.specs.Prelude.{is_some, unwrap_or}
 use Rattle.vm_model.specs.Contents.Content.{Content, Page, nothing, pages_of, IsGood}
 use Rattle.vm_model.specs.Machine.State.{IsGoodState, empty_state}
 use Rattle.vm_base.specs.declared.limits.TheConstants.{NAMES}
-use Rattle.vm_base.proofs.SearchLaws.{count_below_none}
-use Rattle.vm_model.specs.Naming.Pins.{Pin, pins_vmo, pin_count}
-use Rattle.vmo_table.specs.Table.{Table as Vmos, names_of, lineage_in, keepers_of, CountsPins}
-use Rattle.pin_table.specs.Table.{pins_of}
+use Rattle.vm_base.proofs.EntryLaws.{entry_count-empty}
+use Rattle.vm_model.specs.Naming.Pins.{Pin}
+use Rattle.vmo_table.specs.Table.{Table as Vmos, names_of, lineage_in, keepers_of}
+use Rattle.pin_table.specs.Table.{Table as Pins, pins_of}
 use Rattle.vm_core.specs.Vm.{Parts, HasNoVmo, bare_state, state_of}
+use Rattle.vm_core.specs.Calls.{CountsPins}
 
 -- tables in which nothing stands
 pub state_of-bare : (c : Content) (vm : Parts) → ((n : ℕ) → names_of vm.vmos n ≡ None)
@@ -56,8 +57,7 @@ state_of-filled frames new old vm bare filled e =
     bare new ∙ ap bare_state (filled ∙ ap with_frames e)
 
 -- in a table of VMOs without keepers no pin is counted
-pub counts_none : (vmos : Vmos) (pins : ℕ → Option Pin) → ((v : ℕ) → keepers_of vmos v ≡ 0)
-    → ((n : ℕ) → pins n ≡ None) → CountsPins vmos pins
-unfolding pin_count pins_vmo
-counts_none vmos pins none empty = λ v.
-    none v ∙ sym (count_below_none NAMES (λ n. pins_vmo v (pins n)) (λ k h. ap (pins_vmo v) (empty k)))
+pub counts_none : (vmos : Vmos) (pins : Pins) → ((v : ℕ) → keepers_of vmos v ≡ 0) → ((n : ℕ) → pins_of pins n ≡ None)
+    → CountsPins vmos pins
+counts_none vmos pins none empty = λ s v.
+    none v ∙ sym (entry_count-empty NAMES (λ (pin : Pin). pin.koid == v) (pins_of pins) empty)

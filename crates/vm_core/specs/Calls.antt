@@ -1,18 +1,17 @@
--- What the handlers of commands ask and promise of the content of their store and of the tables that they are given, as
--- they begin and as they end. What else the machine has is that of any state s.
+-- What the handlers of commands promise of the content of their store and of the tables that they are given, as they begin
+-- and as they end. What else the machine has is that of any state s.
 use Rattle.vm_model.specs.declared.command.Command.{Command}
 use Rattle.vm_model.specs.declared.reply.Reply.{Reply}
 use Rattle.vm_model.specs.Contents.Content.{Content}
 use Rattle.vm_model.specs.Machine.State.{State, IsGoodState}
 use Rattle.vm_model.specs.Machine.Step.{Step}
-use Rattle.vmo_table.specs.Table.{Table as Vmos}
-use Rattle.pin_table.specs.Table.{Table as Pins}
-use Rattle.vm_core.specs.Vm.{with_vmos, with_tables}
+use Rattle.vmo_table.specs.Table.{Table as Vmos, with_vmos, CountsKeepers}
+use Rattle.pin_table.specs.Table.{Table as Pins, pins_of}
+use Rattle.vmo_ops.specs.Targets.{with_tables}
 
--- a store and the two tables are parts of one good state
-pub record AreTogether (c : Content) (vmos : Vmos) (pins : Pins) : Type 0 where
-  pub state : State
-  pub good : IsGoodState (with_tables state c vmos pins)
+-- the table of VMOs counts what keeps each VMO: the pins of the other table
+abbrev pub CountsPins : Vmos → Pins → Type 0
+CountsPins vmos pins = (s : State) → CountsKeepers vmos (record s { pins = pins_of pins })
 
 -- a store and a table of VMOs do a step of the machine, whatever else it has
 pub record StepsVmos (old : Content) (vmos_old : Vmos) (command : Command) (reply : Reply)

@@ -2,21 +2,14 @@
 use Rattle.std.specs.Prelude.{◌≡◌, ℕ, None}
 use Rattle.vm_model.specs.Contents.Content.{Content}
 use Rattle.vm_model.specs.Machine.State.{State, empty_state}
-use Rattle.vmo_table.specs.Table.{Table as Vmos, names_of, lineage_in}
-use Rattle.pin_table.specs.Table.{Table as Pins, pins_of}
+use Rattle.vmo_table.specs.Table.{Table as Vmos}
+use Rattle.pin_table.specs.Table.{Table as Pins}
+use Rattle.vmo_ops.specs.Targets.{with_tables}
 
 -- the table of names and VMOs, and the table of pins
 pub record Parts : Type 0 where
   pub vmos : Vmos
   pub pins : Pins
-
--- the state s, with this content of a store and the names and the lineage of this table
-abbrev pub with_vmos : State → Content → Vmos → State
-with_vmos s c vmos = record s { content = c; names = names_of vmos; lineage = lineage_in vmos }
-
--- and with the pins of this table
-abbrev pub with_tables : State → Content → Vmos → Pins → State
-with_tables s c vmos pins = record (with_vmos s c vmos) { pins = pins_of pins }
 
 -- a machine with this content, and without names, lineage and pins
 abbrev pub bare_state : Content → State

@@ -1,11 +1,11 @@
 //! The commands that change nothing: `vmo_read`, `vmo_size`, `vmo_info`. None wants memory.
 
 ghost use Rattle.vm_model.specs.declared.command.Command.{Command};
-ghost use Rattle.vmo_ops.specs.Targets.{AreParts};
+ghost use Rattle.vmo_table.specs.Table.{AreParts};
 ghost use Rattle.vm_core.specs.Calls.{StepsVmos};
 
 use attribution::info;
-use page_store::PageStore;
+use page_store::{PageStore, size_of_name};
 use vm_base::{Refusal, VmoName};
 use vm_model::Reply;
 use vmo_table::VmoTable;
@@ -37,7 +37,7 @@ pub(crate) fn vmo_size<P: PageStore>(store: &P, vmos: &VmoTable, name: VmoName) 
     ensures { StepsVmos (P.content store.now) vmos.now (Command.VmoSize name) result (P.content store.now) vmos.now }
 {
     match vmos.resolve(name) {
-        Some(target) => Reply::Number(vmo_ops::size(store, &target)),
+        Some(target) => Reply::Number(size_of_name(store, &target)),
         None => Reply::Refused(Refusal::BadHandle),
     }
 }

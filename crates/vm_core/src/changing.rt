@@ -5,8 +5,9 @@
 ghost use Rattle.std.specs.Prelude.{◌≡◌};
 ghost use Rattle.vm_model.specs.declared.command.Command.{Command};
 ghost use Rattle.vm_model.specs.declared.reply.Reply.{Reply};
-ghost use Rattle.vmo_ops.specs.Targets.{AreParts, reply_of};
-ghost use Rattle.vm_core.specs.Calls.{AreTogether, Steps, StepsVmos};
+ghost use Rattle.vmo_table.specs.Table.{AreParts};
+ghost use Rattle.vmo_ops.specs.Targets.{AreTogether, reply_of};
+ghost use Rattle.vm_core.specs.Calls.{Steps, StepsVmos};
 
 use page_store::PageStore;
 use pin_table::PinTable;

@@ -3,9 +3,8 @@
 ghost use Rattle.std.specs.Prelude.{◌<◌};
 ghost use Rattle.vm_base.specs.declared.limits.TheConstants.{KOIDS};
 ghost use Rattle.vm_model.proofs.StepLaws.{GivesName};
-ghost use Rattle.vmo_table.specs.Table.{CountsPins};
-ghost use Rattle.pin_table.specs.Table.{pins_of};
-ghost use Rattle.vm_core.specs.Calls.{AreTogether, Steps};
+ghost use Rattle.vmo_ops.specs.Targets.{AreTogether};
+ghost use Rattle.vm_core.specs.Calls.{CountsPins, Steps};
 
 use crate::asking::{vmo_info, vmo_read, vmo_size};
 use crate::changing::{vmo_commit, vmo_decommit, vmo_fill, vmo_set_size, vmo_write, vmo_zero};
@@ -26,11 +25,11 @@ pub(crate) fn dispatch<P: PageStore>(
     command: &Command,
 ) -> Reply
     requires good { AreTogether (P.content store.old) vmos.old pins.old }
-    requires counted { CountsPins vmos.old (pins_of pins.old) }
+    requires counted { CountsPins vmos.old pins.old }
     requires next { (P.content store.old).next < KOIDS }
     ensures step { Steps (P.content store.old) vmos.old pins.old command.now result
         (P.content store.new) vmos.new pins.new }
-    ensures counted { CountsPins vmos.new (pins_of pins.new) }
+    ensures counted { CountsPins vmos.new pins.new }
     ensures name { GivesName command.now }
 {
     match command {

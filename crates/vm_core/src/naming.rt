@@ -4,12 +4,11 @@
 ghost use Rattle.std.specs.Prelude.{◌≡◌, ◌<◌};
 ghost use Rattle.vm_base.specs.declared.limits.TheConstants.{KOIDS, NAMES};
 ghost use Rattle.vm_model.specs.declared.command.Command.{Command};
-ghost use Rattle.vm_model.specs.Machine.State.{State, IsGoodState};
+ghost use Rattle.vm_model.specs.Machine.State.{State};
 ghost use Rattle.vm_model.specs.Machine.Step.{Step};
-ghost use Rattle.vmo_table.specs.Table.{keepers_of, CountsPins};
-ghost use Rattle.vmo_ops.specs.Targets.{AreParts};
-ghost use Rattle.vm_core.specs.Vm.{with_vmos};
-ghost use Rattle.vm_core.specs.Calls.{AreTogether, Steps, StepsVmos};
+ghost use Rattle.vmo_table.specs.Table.{keepers_of, with_vmos, AreParts};
+ghost use Rattle.vmo_ops.specs.Targets.{AreTogether, IsCounted};
+ghost use Rattle.vm_core.specs.Calls.{Steps, StepsVmos};
 
 use page_store::PageStore;
 use pin_table::PinTable;
@@ -78,9 +77,9 @@ pub(crate) fn vmo_create_child<P: PageStore>(
 
 /// Closes a name, where it is open.
 pub(crate) fn vmo_close<P: PageStore>(store: &mut P, vmos: &mut VmoTable, name: VmoName) -> Reply
-    requires parts { AreParts (P.content store.old) vmos.old }
-    ensures step { (s : State) → IsGoodState (with_vmos s (P.content store.old) vmos.old) → CountsPins vmos.old s.pins
-        → Step (with_vmos s (P.content store.old) vmos.old) (Command.VmoClose name) result
+    requires { (s : State) × IsCounted vmos.old (with_vmos s (P.content store.old) vmos.old) }
+    ensures step { (s : State) → IsCounted vmos.old (with_vmos s (P.content store.old) vmos.old) →
+        Step (with_vmos s (P.content store.old) vmos.old) (Command.VmoClose name) result
         (with_vmos s (P.content store.new) vmos.new) }
     ensures keepers { keepers_of vmos.new ≡ keepers_of vmos.old }
 {

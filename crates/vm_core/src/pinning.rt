@@ -4,9 +4,8 @@
 ghost use Rattle.std.specs.Prelude.{◌<◌};
 ghost use Rattle.vm_base.specs.declared.limits.TheConstants.{NAMES};
 ghost use Rattle.vm_model.specs.declared.command.Command.{Command};
-ghost use Rattle.vmo_table.specs.Table.{CountsPins};
-ghost use Rattle.pin_table.specs.Table.{pins_of};
-ghost use Rattle.vm_core.specs.Calls.{AreTogether, Steps};
+ghost use Rattle.vmo_ops.specs.Targets.{AreTogether};
+ghost use Rattle.vm_core.specs.Calls.{CountsPins, Steps};
 
 use page_store::PageStore;
 use pin_table::PinTable;
@@ -25,10 +24,10 @@ pub(crate) fn vmo_pin<P: PageStore>(
     len: u64,
 ) -> Reply
     requires good { AreTogether (P.content store.old) vmos.old pins.old }
-    requires counted { CountsPins vmos.old (pins_of pins.old) }
+    requires counted { CountsPins vmos.old pins.old }
     ensures step { Steps (P.content store.old) vmos.old pins.old (Command.VmoPin pin name offset len) result
         (P.content store.new) vmos.new pins.new }
-    ensures counted { CountsPins vmos.new (pins_of pins.new) }
+    ensures counted { CountsPins vmos.new pins.new }
     ensures pin { pin.0 < NAMES }
 {
     let Some(target) = vmos.resolve(name) else {
@@ -51,10 +50,10 @@ pub(crate) fn vmo_unpin<P: PageStore>(
     pin: PinName,
 ) -> Reply
     requires good { AreTogether (P.content store.old) vmos.old pins.old }
-    requires counted { CountsPins vmos.old (pins_of pins.old) }
+    requires counted { CountsPins vmos.old pins.old }
     ensures step { Steps (P.content store.old) vmos.old pins.old (Command.VmoUnpin pin) result
         (P.content store.new) vmos.new pins.new }
-    ensures counted { CountsPins vmos.new (pins_of pins.new) }
+    ensures counted { CountsPins vmos.new pins.new }
 {
     if pins.get(pin).is_none() {
         return Reply::Refused(Refusal::BadHandle);

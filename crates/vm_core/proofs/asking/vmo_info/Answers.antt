@@ -3,4 +3,4 @@ use Rattle.vm_core.proofs.asking.vmo_info.Goals as goal
 
 pub returns-in-Some : goal.returns-in-Some
 returns-in-Some g c =
-    info_named c.args.vmos.now c.args.name _ c.in-Some.ensures c.info.result (λ rest. c.info.ensures rest.pins)
+    info_named c.args.vmos.now c.args.name _ c.in-Some.ensures c.info.result c.info.ensures

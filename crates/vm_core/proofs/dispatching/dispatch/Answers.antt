@@ -1,9 +1,45 @@
-use Rattle.vm_core.specs.Vm.{with_tables}
+use Rattle.vmo_ops.specs.Targets.{with_tables}
+use Rattle.vm_core.proofs.CallLaws.{parts_of, counted_parts, counts_same}
 use Rattle.vm_core.proofs.dispatching.dispatch.Goals as goal
 
 pub returns-in-VmoClose-clause-step : goal.returns-in-VmoClose-clause-step
 returns-in-VmoClose-clause-step g c = rw c.in-VmoClose.is (record {
   step = λ s good.
       let machine = with_tables s (g.P.PageStore.content c.args.store.now) c.args.vmos.now c.args.pins.now in
-      c.vmo_close.ensures.step machine good c.requires.counted;
+      c.vmo_close.ensures.step machine (record { good = good; counted = c.requires.counted machine });
 })
+
+pub vmo_create-requires-clause-parts : goal.vmo_create-requires-clause-parts
+vmo_create-requires-clause-parts g c = parts_of _ c.args.vmos.now c.args.pins.now c.requires.good
+
+pub vmo_read-requires : goal.vmo_read-requires
+vmo_read-requires g c = parts_of _ c.args.vmos.now c.args.pins.now c.requires.good
+
+pub vmo_write-requires : goal.vmo_write-requires
+vmo_write-requires g c = parts_of _ c.args.vmos.now c.args.pins.now c.requires.good
+
+pub vmo_fill-requires : goal.vmo_fill-requires
+vmo_fill-requires g c = parts_of _ c.args.vmos.now c.args.pins.now c.requires.good
+
+pub vmo_commit-requires : goal.vmo_commit-requires
+vmo_commit-requires g c = parts_of _ c.args.vmos.now c.args.pins.now c.requires.good
+
+pub vmo_size-requires : goal.vmo_size-requires
+vmo_size-requires g c = parts_of _ c.args.vmos.now c.args.pins.now c.requires.good
+
+pub vmo_info-requires : goal.vmo_info-requires
+vmo_info-requires g c = parts_of _ c.args.vmos.now c.args.pins.now c.requires.good
+
+pub vmo_close-requires : goal.vmo_close-requires
+vmo_close-requires g c =
+    let counted = counted_parts _ c.args.vmos.now c.args.pins.now c.requires.good c.requires.counted in
+    (with_tables counted.0 (g.P.PageStore.content c.args.store.now) c.args.vmos.now c.args.pins.now, counted.1)
+
+pub returns-in-VmoCreate-clause-counted : goal.returns-in-VmoCreate-clause-counted
+returns-in-VmoCreate-clause-counted g c = counts_same c.args.vmos.now c.vmo_create.new.vmos c.args.pins.now c.vmo_create.ensures.keepers c.requires.counted
+
+pub returns-in-VmoChild-clause-counted : goal.returns-in-VmoChild-clause-counted
+returns-in-VmoChild-clause-counted g c = counts_same c.args.vmos.now c.vmo_create_child.new.vmos c.args.pins.now c.vmo_create_child.ensures.keepers c.requires.counted
+
+pub returns-in-VmoClose-clause-counted : goal.returns-in-VmoClose-clause-counted
+returns-in-VmoClose-clause-counted g c = counts_same c.args.vmos.now c.vmo_close.new.vmos c.args.pins.now c.vmo_close.ensures.keepers c.requires.counted

@@ -7,7 +7,7 @@ use Rattle.vm_core.proofs.vm.Vm.new.Goals as goal
 
 pub invariant_of-result : goal.invariant_of-result
 invariant_of-result c = record {
-  counted = counts_none c.new.result (pins_of c.new-2.result) c.new.ensures.keepers c.new-2.ensures;
+  counted = counts_none c.new.result c.new-2.result c.new.ensures.keepers c.new-2.ensures;
 }
 
 pub returns-clause-bare : goal.returns-clause-bare

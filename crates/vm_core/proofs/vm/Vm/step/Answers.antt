@@ -3,10 +3,8 @@ use Rattle.vm_core.specs.Vm.{bare_state}
 use Rattle.vm_core.proofs.vm.Vm.step.Goals as goal
 
 pub dispatch-requires-clause-good : goal.dispatch-requires-clause-good
-dispatch-requires-clause-good g c = record {
-  state = bare_state (g.P.PageStore.content c.args.store.now);
-  good = rw (← c.self.view_is) at c.requires.good;
-}
+dispatch-requires-clause-good g c =
+    (bare_state (g.P.PageStore.content c.args.store.now), rw (← c.self.view_is) at c.requires.good)
 
 pub returns-clause-step : goal.returns-clause-step
 returns-clause-step g c =
