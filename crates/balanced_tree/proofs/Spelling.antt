@@ -1,0 +1,169 @@
+-- How trees stand in a slab: what links lead to, and what stays where a row is put over its parts.
+use Rattle.std.proofs.Common.{◌≡◌, ◌≢◌, ◌⊎◌, ℕ, ◌+◌, ◌<◌, ◌≤◌, ◌^◌, Bool, true, false, cond, Option, None, Some, is_some, IsSome, refl, sym, ap, ◌∙◌, subst, inl, inr, arith}
+use Rattle.std.proofs.lemmas.Bool.{ltb-true, ltb-false, lt-ltb, le-ltb, cases_eq}
+use Rattle.std.proofs.lemmas.Option.{same_Some}
+use Rattle.slab.specs.Slab.{Slab, get, ContainsKey, Updates}
+use Rattle.balanced_tree.specs.declared.children.Child.{Child}
+use Rattle.balanced_tree.specs.Row.{Functions, AreLawful, link_of, height_in}
+use Rattle.balanced_tree.specs.Tree.{Tree, Leaf, Node, place_of, child_of, stored, IsOrdered}
+use Rattle.balanced_tree.specs.Standing.{child_under, child_at, Spells, Same, Keeps, Becomes, IsSplit, Splits}
+
+-- what is picked of one thing or none is that thing
+pub picked-is : {A : Type 0} (b : Bool) (o picked : Option A) (m : A) → picked ≡ cond b o None → picked ≡ Some m → o ≡ Some m
+picked-is true o picked m e h = sym e ∙ h
+picked-is false o picked m e h = cc
+
+pub picked-test : {A : Type 0} (b : Bool) (o picked : Option A) (m : A) → picked ≡ cond b o None → picked ≡ Some m → b ≡ true
+picked-test true o picked m e h = refl
+picked-test false o picked m e h = cc
+
+pub not_picked : {A : Type 0} (b : Bool) (o picked : Option A) (m : A) → o ≡ Some m → picked ≡ cond b o None → picked ≡ None → b ≡ false
+not_picked true o picked m is e h = cc
+not_picked false o picked m is e h = refl
+
+-- a write elsewhere leaves the place with a row
+pub ContainsKey-Updates : {R : Type 0} {old new : Slab R} {place : ℕ} {x : R} (q : ℕ) → Updates old new place (Some x) → ContainsKey old q → ContainsKey new q
+ContainsKey-Updates {old = old} {new = new} {place = place} q u h =
+    elim (cases_eq q place) [ inl same ↦ rw same (ap is_some u.changed) | inr differs ↦ ap is_some (u.others q differs) ∙ h ]
+
+module _ {R : Type 0} (f : Functions R) where
+  pub link_of-child_of : (t : Tree R) → link_of (child_of f t) ≡ place_of t
+  link_of-child_of Leaf = refl
+  link_of-child_of (Node l p x r) = refl
+
+  pub child_at-place_of : (s : Slab R) (t : Tree R) → Spells f s t → child_at s (place_of t) ≡ child_of f t
+  child_at-place_of s Leaf h = refl
+  child_at-place_of s (Node l p x r) h = ap (child_under p) h.0
+
+  -- the ranks between the bounds of a tree are some or none
+  pub IsOrdered-bounds : (low high : ℕ) (t : Tree R) → IsOrdered f low high t → low ≤ high
+  IsOrdered-bounds low high Leaf h = h
+  IsOrdered-bounds low high (Node l p x r) h =
+      omega (arith, IsOrdered-bounds low (f.rank x) l h.0, IsOrdered-bounds (f.rank x + 1) high r h.1)
+
+  pub IsOrdered-wider : (low a b high : ℕ) (t : Tree R) → low ≤ a → b ≤ high → IsOrdered f a b t → IsOrdered f low high t
+  IsOrdered-wider low a b high Leaf g h o = omega arith
+  IsOrdered-wider low a b high (Node l p x r) g h o =
+      (IsOrdered-wider low a (f.rank x) (f.rank x) l g (omega arith) o.0, IsOrdered-wider (f.rank x + 1) (f.rank x + 1) b high r (omega arith) h o.1)
+
+  -- what a change within other bounds leaves
+  pub Spells-kept : {low high : ℕ} {old new : Slab R} (a b : ℕ) (t : Tree R) → Keeps f low high old new → AreLawful f → IsOrdered f a b t → (b ≤ low) ⊎ (high ≤ a) → Spells f old t → Spells f new t
+  Spells-kept a b Leaf k laws o apart h = tt
+  Spells-kept {low} {high} a b (Node l p x r) k laws o apart h =
+      let from = IsOrdered-bounds a (f.rank x) l o.0 in
+      let to = IsOrdered-bounds (f.rank x + 1) b r o.1 in
+      let same = laws.rank_kept x (child_of f l) (child_of f r) in
+      let outside : (f.rank (f.linked x (child_of f l) (child_of f r)) < low) ⊎ (high ≤ f.rank (f.linked x (child_of f l) (child_of f r))) = elim apart [ inl e ↦ inl (omega arith) | inr e ↦ inr (omega arith) ] in
+      let in_left : (f.rank x ≤ low) ⊎ (high ≤ a) = elim apart [ inl e ↦ inl (omega arith) | inr e ↦ inr e ] in
+      let in_right : (b ≤ low) ⊎ (high ≤ f.rank x + 1) = elim apart [ inl e ↦ inl e | inr e ↦ inr (omega arith) ] in
+      (k.kept p _ h.0 outside, Spells-kept a (f.rank x) l k laws o.0 in_left h.1, Spells-kept (f.rank x + 1) b r k laws o.1 in_right h.2)
+
+  pub Keeps-refl : (low high : ℕ) (s : Slab R) → Keeps f low high s s
+  Keeps-refl low high s = record { kept = λ p x e o. e }
+
+  pub Keeps-trans : {low high : ℕ} {s s1 s2 : Slab R} → Keeps f low high s s1 → Keeps f low high s1 s2 → Keeps f low high s s2
+  Keeps-trans h k = record { kept = λ p x e o. k.kept p x (h.kept p x e o) o }
+
+  pub Keeps-wider : {low high : ℕ} {old new : Slab R} (a b : ℕ) → a ≤ low → high ≤ b → Keeps f low high old new → Keeps f a b old new
+  Keeps-wider {low} {high} a b h k keeps =
+      record { kept = λ p x e o. keeps.kept p x e (elim o as (λ _. (f.rank x < low) ⊎ (high ≤ f.rank x)) [ inl q ↦ inl (omega arith) | inr q ↦ inr (omega arith) ]) }
+
+  -- a write under the place of a row within the bounds
+  pub Keeps-Updates : {old new : Slab R} {place : ℕ} {slot : Option R} (low high : ℕ) (had : R) → get old place ≡ Some had → low ≤ f.rank had → f.rank had < high → Updates old new place slot → Keeps f low high old new
+  Keeps-Updates {old} {new} {place} low high had at from below u =
+      record { kept = λ p x e o. elim (cases_eq p place) [
+        | inl same ↦ (let both : had ≡ x = same_Some had x (sym at ∙ ap (get old) (sym same) ∙ e) in elim o [ inl q ↦ absurd (omega (arith, ap f.rank both)) | inr q ↦ absurd (omega (arith, ap f.rank both)) ])
+        | inr differs ↦ u.others p differs ∙ e
+      ] }
+
+  pub Same-refl : (x : R) → Same f x x
+  Same-refl x = record { linked = λ l r. refl; rank = refl }
+
+  pub Same-linked : AreLawful f → (x : R) (l r : Option (Child R)) → Same f x (f.linked x l r)
+  Same-linked laws x l r = record { linked = λ a b. laws.forgets x l r a b; rank = laws.rank_kept x l r }
+
+  -- the new slab has the tree, and the row that is handed back is its root
+  pub record IsPlaced (old new : Slab R) (t : Tree R) (low high : ℕ) (c : Child R) : Type 0 where
+    pub becomes : Becomes f old new t low high
+    pub child : Some c ≡ child_of f t
+
+  -- a row is put over its parts
+  pub place_over-tree :
+    {s s1 : Slab R} {l r : Tree R} {p place low high : ℕ} {x w : R} {cl cr : Option (Child R)} {c : Child R}
+    → AreLawful f
+    → IsSplit f s l p x r low high → Same f x w → cl ≡ child_of f l → cr ≡ child_of f r → place ≡ p
+    → Updates s s1 place (Some (f.linked w cl cr)) → c ≡ record { link = place; row = f.linked w cl cr }
+    → IsPlaced s s1 (Node l p x r) low high c
+  place_over-tree {s} {s1} {l} {r} {p} {place} {low} {high} {x} {w} {cl} {cr} {c} laws split same left right is_p u child =
+      let row_is : f.linked w cl cr ≡ f.linked x (child_of f l) (child_of f r) = rw (left, right) (same.linked _ _) in
+      let v : Updates s s1 p (Some (f.linked x (child_of f l) (child_of f r))) = subst (λ q. Updates s s1 q (Some (f.linked x (child_of f l) (child_of f r)))) is_p (subst (λ y. Updates s s1 place (Some y)) row_is u) in
+      let from = IsOrdered-bounds low split.middle l split.left_ordered in
+      let to = IsOrdered-bounds split.past high r split.right_ordered in
+      let narrow = Keeps-Updates split.middle split.past split.had split.at split.had_from split.had_below v in
+      record {
+        becomes = record {
+          spelled = (v.changed, Spells-kept low split.middle l narrow laws split.left_ordered (inl (omega arith)) split.left, Spells-kept split.past high r narrow laws split.right_ordered (inr (omega arith)) split.right);
+          ordered = (IsOrdered-wider low low split.middle (f.rank x) l (omega arith) split.row_from split.left_ordered, IsOrdered-wider (f.rank x + 1) split.past high high r (omega (arith, split.row_below)) (omega arith) split.right_ordered);
+          kept = Keeps-wider low high from to narrow;
+        };
+        child = ap Some (child ∙ rw (is_p, row_is) refl);
+      }
+
+  -- a row in the slab, and what stands under its links
+  pub record HasParts (s : Slab R) (c : Child R) : Type 0 where
+    pub left : Tree R
+    pub right : Tree R
+    pub at : get s c.link ≡ Some c.row
+    pub left_is : f.left c.row ≡ place_of left
+    pub right_is : f.right c.row ≡ place_of right
+    pub left_spelled : Spells f s left
+    pub right_spelled : Spells f s right
+
+  pub HasParts-child_of : AreLawful f → (s : Slab R) (t : Tree R) (c : Child R) → Spells f s t → Some c ≡ child_of f t → HasParts s c
+  HasParts-child_of laws s Leaf c h e = cc
+  HasParts-child_of laws s (Node l p x r) c h e =
+      subst (HasParts s) (sym (same_Some _ _ e)) (record {
+        left = l;
+        right = r;
+        at = h.0;
+        left_is = laws.left_set x _ _ ∙ link_of-child_of l;
+        right_is = laws.right_set x _ _ ∙ link_of-child_of r;
+        left_spelled = h.1;
+        right_spelled = h.2;
+      })
+
+  pub HasParts-left : AreLawful f → (s : Slab R) (c m : Child R) → HasParts s c → child_at s (f.left c.row) ≡ Some m → HasParts s m
+  HasParts-left laws s c m h e =
+      HasParts-child_of laws s h.left m h.left_spelled (sym e ∙ ap (child_at s) h.left_is ∙ child_at-place_of s h.left h.left_spelled)
+
+  pub HasParts-right : AreLawful f → (s : Slab R) (c m : Child R) → HasParts s c → child_at s (f.right c.row) ≡ Some m → HasParts s m
+  HasParts-right laws s c m h e =
+      HasParts-child_of laws s h.right m h.right_spelled (sym e ∙ ap (child_at s) h.right_is ∙ child_at-place_of s h.right h.right_spelled)
+
+  pub ContainsKey-at : (s : Slab R) (p : ℕ) (x : R) → get s p ≡ Some x → ContainsKey s p
+  ContainsKey-at s p x e = ap is_some e
+
+  pub ContainsKey-place_of : (s : Slab R) (t : Tree R) (q : ℕ) → Spells f s t → place_of t ≡ Some q → ContainsKey s q
+  ContainsKey-place_of s Leaf q h e = cc
+  ContainsKey-place_of s (Node l p x r) q h e = subst (ContainsKey s) (same_Some p q e) (ContainsKey-at s p _ h.0)
+
+  pub readable-left : (s : Slab R) (c : Child R) (q : ℕ) → HasParts s c → f.left c.row ≡ Some q → ContainsKey s q
+  readable-left s c q h e = ContainsKey-place_of s h.left q h.left_spelled (sym h.left_is ∙ e)
+
+  pub readable-right : (s : Slab R) (c : Child R) (q : ℕ) → HasParts s c → f.right c.row ≡ Some q → ContainsKey s q
+  readable-right s c q h e = ContainsKey-place_of s h.right q h.right_spelled (sym h.right_is ∙ e)
+
+  pub HasParts-Splits_left : AreLawful f → (s : Slab R) (c : Child R) (p : ℕ) (x : R) (r : Option (Child R)) → Splits f s (Some c) p x r → HasParts s c
+  HasParts-Splits_left laws s c p x r h = HasParts-child_of laws s h.left_tree c h.split.left h.left_is
+
+  pub HasParts-Splits_right : AreLawful f → (s : Slab R) (c : Child R) (p : ℕ) (x : R) (l : Option (Child R)) → Splits f s l p x (Some c) → HasParts s c
+  HasParts-Splits_right laws s c p x l h = HasParts-child_of laws s h.right_tree c h.split.right h.right_is
+
+  -- a child of a child that was picked
+  pub HasParts-picked_right : AreLawful f → (s : Slab R) (c m : Child R) (p : ℕ) (x : R) (r inner picked : Option (Child R)) (b : Bool) → Splits f s (Some c) p x r → inner ≡ child_at s (f.right c.row) → picked ≡ cond b inner None → picked ≡ Some m → HasParts s m
+  HasParts-picked_right laws s c m p x r inner picked b h is e g =
+      HasParts-right laws s c m (HasParts-Splits_left laws s c p x r h) (sym is ∙ picked-is b inner picked m e g)
+
+  pub HasParts-picked_left : AreLawful f → (s : Slab R) (c m : Child R) (p : ℕ) (x : R) (l inner picked : Option (Child R)) (b : Bool) → Splits f s l p x (Some c) → inner ≡ child_at s (f.left c.row) → picked ≡ cond b inner None → picked ≡ Some m → HasParts s m
+  HasParts-picked_left laws s c m p x l inner picked b h is e g =
+      HasParts-left laws s c m (HasParts-Splits_right laws s c p x l h) (sym is ∙ picked-is b inner picked m e g)

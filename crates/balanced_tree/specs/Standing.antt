@@ -1,0 +1,119 @@
+-- How a tree stands in a slab, and what changes with a part of it.
+use Rattle.std.specs.Prelude.{◌≡◌, ◌⊎◌, ℕ, ◌+◌, ◌-◌, ◌^◌, ◌<◌, ◌≤◌, length, List, [], ◌∷◌, ◌++◌, zero, suc, IsTrue, Option, None, Some}
+use Rattle.slab.specs.Slab.{Slab, get, slab_len, HasRoomFor}
+use Rattle.balanced_tree.specs.declared.children.Child.{Child}
+use Rattle.balanced_tree.specs.Row.{Functions, height_in, plain}
+use Rattle.balanced_tree.specs.Rows.{Rows}
+use Rattle.balanced_tree.specs.Tree.{Tree, Leaf, Node, place_of, height, IsBalanced, child_of, rows_of, IsOrdered, has_rank}
+
+module _ {R : Type 0} where
+  -- a row with the link to it, if there is one
+  abbrev pub child_under : ℕ → Option R → Option (Child R)
+  child_under p None = None
+  child_under p (Some x) = Some (record { link = p; row = x })
+
+  -- the row that a link leads to, with the link
+  abbrev pub child_at : Slab R → Option ℕ → Option (Child R)
+  child_at s None = None
+  child_at s (Some p) = child_under p (get s p)
+
+  -- how many more rows fit with no memory from the host
+  abbrev pub spare_in : Slab R → ℕ
+  spare_in s = s.capacity - slab_len s
+
+module _ {R : Type 0} (f : Functions R) where
+  -- under each place of the tree stands its row over its parts
+  abbrev pub Spells : Slab R → Tree R → Type 0
+  Spells s Leaf = Unit {0}
+  Spells s (Node l p x r) = (get s p ≡ Some (f.linked x (child_of f l) (child_of f r))) × Spells s l × Spells s r
+
+  -- a row differs from another in its children alone
+  pub record Same (x y : R) : Type 0 where
+    pub linked : (l r : Option (Child R)) → f.linked y l r ≡ f.linked x l r
+    pub rank : f.rank y ≡ f.rank x
+
+  -- under this link stands this tree, with ranks from low on and below high; its height is less than a stored height can be
+  pub record IsStanding (s : Slab R) (at : Option ℕ) (t : Tree R) (low high : ℕ) : Type 0 where
+    pub spelled : Spells s t
+    pub is_at : place_of t ≡ at
+    pub ordered : IsOrdered f low high t
+    pub short : height t < 2 ^ 32
+
+  -- some tree stands under this link
+  pub record Stands (s : Slab R) (at : Option ℕ) : Type 0 where
+    pub tree : Tree R
+    pub low : ℕ
+    pub high : ℕ
+    pub standing : IsStanding s at tree low high
+
+  -- some tree stands under this link whose bounds hold this rank, and it has a row of it or there is room for one
+  pub record StandsFor (s : Slab R) (at : Option ℕ) (n : ℕ) : Type 0 where
+    pub tree : Tree R
+    pub low : ℕ
+    pub high : ℕ
+    pub standing : IsStanding s at tree low high
+    pub from_low : low ≤ n
+    pub below_high : n < high
+    pub room : IsTrue (has_rank f n tree) ⊎ HasRoomFor s 1
+
+  -- each row whose rank is outside these bounds stands where it stood
+  pub record Keeps (low high : ℕ) (old new : Slab R) : Type 0 where
+    pub kept : (p : ℕ) (x : R) → get old p ≡ Some x → (f.rank x < low) ⊎ (high ≤ f.rank x) → get new p ≡ Some x
+
+  -- the new slab has this tree in place of what was within the bounds, and keeps the rest
+  pub record Becomes (old new : Slab R) (t : Tree R) (low high : ℕ) : Type 0 where
+    pub spelled : Spells new t
+    pub ordered : IsOrdered f low high t
+    pub kept : Keeps low high old new
+
+  -- Two trees stand in the slab, and between them is a place with some row; the ranks of this row and of x lie between theirs.
+  pub record IsSplit (s : Slab R) (l : Tree R) (p : ℕ) (x : R) (r : Tree R) (low high : ℕ) : Type 0 where
+    pub middle : ℕ
+    pub past : ℕ
+    pub had : R
+    pub at : get s p ≡ Some had
+    pub left : Spells s l
+    pub right : Spells s r
+    pub left_ordered : IsOrdered f low middle l
+    pub right_ordered : IsOrdered f past high r
+    pub had_from : middle ≤ f.rank had
+    pub had_below : f.rank had < past
+    pub row_from : middle ≤ f.rank x
+    pub row_below : f.rank x < past
+
+  -- some trees stand so, with these roots
+  pub record Splits (s : Slab R) (left : Option (Child R)) (p : ℕ) (x : R) (right : Option (Child R)) : Type 0 where
+    pub left_tree : Tree R
+    pub right_tree : Tree R
+    pub low : ℕ
+    pub high : ℕ
+    pub split : IsSplit s left_tree p x right_tree low high
+    pub left_is : left ≡ child_of f left_tree
+    pub right_is : right ≡ child_of f right_tree
+
+  -- the height that is stored in the row under a link
+  abbrev pub height_at : Slab R → Option ℕ → ℕ
+  height_at s at = height_in f (child_at s at)
+
+  -- the rows below a child and its own, in order, where `below` gives those under a link
+  abbrev pub rows_round : Option (Child R) → (Option ℕ → List R) → List R
+  rows_round None below = []
+  rows_round (Some c) below = below (f.left c.row) ++ plain f c.row ∷ below (f.right c.row)
+
+  -- the rows under a link in order, down to this depth
+  unfoldable pub rows_down : ℕ → Slab R → Option ℕ → List R
+  rows_down zero s at = []
+  rows_down (suc n) s at = rows_round (child_at s at) (λ link. rows_down n s link)
+
+  -- the slab and the link to the root, as the rows in order and the room for more
+  abbrev pub rows_in : Slab R → Option ℕ → Rows R
+  rows_in s root = record { rows = rows_down (height_at s root) s root; spare = spare_in s }
+
+  -- the rows of the slab are those of one balanced tree
+  pub record IsTree (s : Slab R) (root : Option ℕ) : Type 0 where
+    pub tree : Tree R
+    pub standing : IsStanding s root tree 0 (2 ^ 128)
+    pub balanced : IsBalanced tree
+    pub count : slab_len s ≡ length (rows_of f tree)
+    pub holds : slab_len s ≤ s.capacity
+    pub fits : s.capacity < 2 ^ 64

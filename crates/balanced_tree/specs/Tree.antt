@@ -1,0 +1,117 @@
+-- A tree of rows, each under a place of the slab, and what is done to it, as functions of trees.
+use Rattle.std.specs.Prelude.{◌≡◌, ℕ, ◌+◌, ◌≤◌, max, Bool, true, false, cond, nat_lt, List, [], ◌∷◌, ◌++◌, Option, None, Some}
+use Rattle.balanced_tree.specs.declared.children.Child.{Child}
+use Rattle.balanced_tree.specs.Row.{Functions, height_in, plain}
+
+pub data Tree (R : Type 0) : Type 0 where
+  Leaf : Tree R
+  Node : (left : Tree R) (place : ℕ) (row : R) (right : Tree R) → Tree R
+
+module _ {R : Type 0} where
+  -- the place of the root
+  abbrev pub place_of : Tree R → Option ℕ
+  place_of Leaf = None
+  place_of (Node l p x r) = Some p
+
+  -- how many rows lie on the longest way down
+  abbrev pub height : Tree R → ℕ
+  height Leaf = 0
+  height (Node l p x r) = max (height l) (height r) + 1
+
+  -- the heights of each node's parts differ by at most one
+  abbrev pub IsBalanced : Tree R → Type 0
+  IsBalanced Leaf = Unit {0}
+  IsBalanced (Node l p x r) = (height l ≤ height r + 1) × (height r ≤ height l + 1) × IsBalanced l × IsBalanced r
+
+module _ {R : Type 0} (f : Functions R) where
+  -- the root with its link, as it is stored over its parts
+  abbrev pub child_of : Tree R → Option (Child R)
+  child_of Leaf = None
+  child_of (Node l p x r) = Some (record { link = p; row = f.linked x (child_of l) (child_of r) })
+
+  -- the height that is stored in the root
+  abbrev pub stored : Tree R → ℕ
+  stored t = height_in f (child_of t)
+
+  -- the rows from left to right, with no children
+  abbrev pub rows_of : Tree R → List R
+  rows_of Leaf = []
+  rows_of (Node l p x r) = rows_of l ++ plain f x ∷ rows_of r
+
+  -- the ranks rise from left to right, from low on and below high
+  abbrev pub IsOrdered : ℕ → ℕ → Tree R → Type 0
+  IsOrdered low high Leaf = low ≤ high
+  IsOrdered low high (Node l p x r) = IsOrdered low (f.rank x) l × IsOrdered (f.rank x + 1) high r
+
+  -- some row on the way down by rank has this rank
+  abbrev pub has_rank : ℕ → Tree R → Bool
+  has_rank n Leaf = false
+  has_rank n (Node l p x r) = cond (nat_lt n (f.rank x)) (has_rank n l) (cond (nat_lt (f.rank x) n) (has_rank n r) true)
+
+  -- the last row on the way down by rank that lies at this rank or past it, and else what was found above
+  abbrev pub found : ℕ → Option R → Tree R → Option R
+  found n best Leaf = best
+  found n best (Node l p x r) =
+      cond (nat_lt n (f.rank x)) (found n (Some (plain f x)) l) (cond (nat_lt (f.rank x) n) (found n best r) (Some (plain f x)))
+
+  -- The node made again where its left part is too high: the left child moves up, or the inner grandchild where this is
+  -- higher than the outer one.
+  unfoldable pub leaned_right : Tree R → ℕ → R → Tree R → Tree R
+  leaned_right Leaf p x r = Node Leaf p x r
+  leaned_right (Node a j y Leaf) p x r = Node a j y (Node Leaf p x r)
+  leaned_right (Node a j y (Node c k z d)) p x r =
+      cond
+      (nat_lt (stored a) (stored (Node c k z d)))
+      (Node (Node a j y c) k z (Node d p x r))
+      (Node a j y (Node (Node c k z d) p x r))
+
+  -- the same where its right part is too high
+  unfoldable pub leaned_left : Tree R → ℕ → R → Tree R → Tree R
+  leaned_left l p x Leaf = Node l p x Leaf
+  leaned_left l p x (Node Leaf j y b) = Node (Node l p x Leaf) j y b
+  leaned_left l p x (Node (Node c k z d) j y b) =
+      cond
+      (nat_lt (stored b) (stored (Node c k z d)))
+      (Node (Node l p x c) k z (Node d j y b))
+      (Node (Node l p x (Node c k z d)) j y b)
+
+  -- the node over parts whose heights differ by at most two, with a rotation where they differ by two
+  unfoldable pub balanced : Tree R → ℕ → R → Tree R → Tree R
+  balanced l p x r =
+      cond
+      (nat_lt (stored r + 1) (stored l))
+      (leaned_right l p x r)
+      (cond (nat_lt (stored l + 1) (stored r)) (leaned_left l p x r) (Node l p x r))
+
+  -- the tree with the row w, under the place q where no row has its rank
+  unfoldable pub inserted : ℕ → R → Tree R → Tree R
+  inserted q w Leaf = Node Leaf q w Leaf
+  inserted q w (Node l p x r) =
+      cond
+      (nat_lt (f.rank w) (f.rank x))
+      (balanced (inserted q w l) p x r)
+      (cond (nat_lt (f.rank x) (f.rank w)) (balanced l p x (inserted q w r)) (Node l p w r))
+
+  -- the first row of a tree whose root has the left part l and the row x
+  abbrev pub least : Tree R → R → R
+  least Leaf x = x
+  least (Node l p y r) x = least l y
+
+  -- the tree with the parts l and r and the row x between them, without its first row
+  unfoldable pub without_least : Tree R → ℕ → R → Tree R → Tree R
+  without_least Leaf p x r = r
+  without_least (Node a q y b) p x r = balanced (without_least a q y b) p x r
+
+  -- both parts as one tree, whose root stands at the place p where the right part has a row
+  unfoldable pub joined : Tree R → ℕ → Tree R → Tree R
+  joined l p Leaf = l
+  joined l p (Node a q y b) = balanced l p (least a y) (without_least a q y b)
+
+  -- the tree without the row of this rank
+  unfoldable pub removed : ℕ → Tree R → Tree R
+  removed n Leaf = Leaf
+  removed n (Node l p x r) =
+      cond
+      (nat_lt n (f.rank x))
+      (balanced (removed n l) p x r)
+      (cond (nat_lt (f.rank x) n) (balanced l p x (removed n r)) (joined l p r))

@@ -1,0 +1,25 @@
+//! A balanced search tree of rows that stand in a slab (`BalancedTree`), for every table that keeps an order: its callers see
+//! the list of the rows by rising rank, and room for more.
+//!
+//! It stands on `slab` alone. A row type implements `TreeRow`: it names the rank of a row, and holds the links and the height
+//! that the tree stores in it. `Steps` counts the rows that a call looks at, puts, adds or takes.
+#![tactic(auto)]
+
+//mod balanced_tree;
+mod children;
+//mod descent;
+//mod insertion;
+//mod removal;
+mod rotation;
+mod row_slab;
+mod steps;
+mod tree_row;
+
+//pub use balanced_tree::BalancedTree;
+pub use children::Child;
+pub use row_slab::RowSlab;
+pub use steps::Steps;
+pub use tree_row::TreeRow;
+
+//#[cfg(test)]
+//mod tests;
