@@ -1,2 +1,4 @@
 pub mod Spelling
 pub mod Turns
+pub mod Nodes
+pub mod Insertions

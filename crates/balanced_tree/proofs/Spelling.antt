@@ -21,6 +21,10 @@ pub not_picked : {A : Type 0} (b : Bool) (o picked : Option A) (m : A) → o ≡
 not_picked true o picked m is e h = cc
 not_picked false o picked m is e h = refl
 
+pub none_from : {A : Type 0} (o : Option A) → ((x : A) → o ≡ Some x → ⊥) → o ≡ None
+none_from None h = refl
+none_from (Some x) h = absurd (h x refl)
+
 -- a write elsewhere leaves the place with a row
 pub ContainsKey-Updates : {R : Type 0} {old new : Slab R} {place : ℕ} {x : R} (q : ℕ) → Updates old new place (Some x) → ContainsKey old q → ContainsKey new q
 ContainsKey-Updates {old = old} {new = new} {place = place} q u h =

@@ -1,6 +1,6 @@
 -- The rotations: rows that are put over their parts one after another spell the tree that is turned.
 use Rattle.std.proofs.Common.{◌≡◌, ◌⊎◌, ℕ, ◌+◌, ◌<◌, ◌≤◌, Bool, true, false, cond, ltb, Option, None, Some, refl, sym, ap, ◌∙◌, subst, inl, inr, arith, add-zero}
-use Rattle.std.proofs.lemmas.Bool.{cond-true, cond-false}
+use Rattle.std.proofs.lemmas.Bool.{cond-true, cond-false, le-ltb}
 use Rattle.std.proofs.lemmas.Option.{same_Some}
 use Rattle.slab.specs.Slab.{Slab, get, Updates}
 use Rattle.balanced_tree.specs.declared.children.Child.{Child}
@@ -270,3 +270,30 @@ module _ {R : Type 0} (f : Functions R) where
       let turn = sym test ∙ picked-test _ cm picked middle e some in
       subst (λ t. IsPlaced f s s3 t low high upper) (sym (cond-true (ltb (stored f b) (stored f (Node c k z d))) (Node (Node l p x c) k z (Node d j y b)) (Node (Node l p x (Node c k z d)) j y b) turn))
       (twice_left laws split same root.same inner.same root.link inner.link refl left_is (on_c ∙ inner.left) (on_d ∙ inner.right) (on_r ∙ root.right) u1 first_is u2 last_is u3 upper_is)
+
+  -- a child that is not picked is not higher
+  not_higher : (a b picked : Option (Child R)) (by : ℕ) → picked ≡ cond (ltb (height_in f b + by) (height_in f a)) a None → picked ≡ None → ltb (height_in f b + by) (height_in f a) ≡ false
+  not_higher None b picked by e h = le-ltb (height_in f b + by) 0 (omega arith)
+  not_higher (Some m) b picked by e h = not_picked _ (Some m) picked m refl e h
+
+  pub balanced-right : (P : Tree R → Type 0) (l : Tree R) (p : ℕ) (x : R) (r : Tree R) (cl cr picked : Option (Child R)) (m : Child R) → cl ≡ child_of f l → cr ≡ child_of f r → picked ≡ cond (ltb (height_in f cr + 1) (height_in f cl)) cl None → picked ≡ Some m → P (leaned_right f l p x r) → P (balanced f l p x r)
+  unfolding balanced
+  balanced-right P l p x r cl cr picked m left_is right_is e some h =
+      let same : ltb (height_in f cr + 1) (height_in f cl) ≡ ltb (stored f r + 1) (stored f l) = rw (left_is, right_is) refl in
+      subst P (sym (cond-true (ltb (stored f r + 1) (stored f l)) (leaned_right f l p x r) (cond (ltb (stored f l + 1) (stored f r)) (leaned_left f l p x r) (Node l p x r)) (sym same ∙ picked-test _ cl picked m e some))) h
+
+  balanced-not_right : (P : Tree R → Type 0) (l : Tree R) (p : ℕ) (x : R) (r : Tree R) (cl cr picked : Option (Child R)) → cl ≡ child_of f l → cr ≡ child_of f r → picked ≡ cond (ltb (height_in f cr + 1) (height_in f cl)) cl None → picked ≡ None → P (cond (ltb (stored f l + 1) (stored f r)) (leaned_left f l p x r) (Node l p x r)) → P (balanced f l p x r)
+  unfolding balanced
+  balanced-not_right P l p x r cl cr picked left_is right_is e none h =
+      let same : ltb (height_in f cr + 1) (height_in f cl) ≡ ltb (stored f r + 1) (stored f l) = rw (left_is, right_is) refl in
+      subst P (sym (cond-false (ltb (stored f r + 1) (stored f l)) (leaned_right f l p x r) (cond (ltb (stored f l + 1) (stored f r)) (leaned_left f l p x r) (Node l p x r)) (sym same ∙ not_higher cl cr picked 1 e none))) h
+
+  pub balanced-left : (P : Tree R → Type 0) (l : Tree R) (p : ℕ) (x : R) (r : Tree R) (cl cr first picked : Option (Child R)) (m : Child R) → cl ≡ child_of f l → cr ≡ child_of f r → first ≡ cond (ltb (height_in f cr + 1) (height_in f cl)) cl None → first ≡ None → picked ≡ cond (ltb (height_in f cl + 1) (height_in f cr)) cr None → picked ≡ Some m → P (leaned_left f l p x r) → P (balanced f l p x r)
+  balanced-left P l p x r cl cr first picked m left_is right_is e none g some h =
+      let same : ltb (height_in f cl + 1) (height_in f cr) ≡ ltb (stored f l + 1) (stored f r) = rw (left_is, right_is) refl in
+      balanced-not_right P l p x r cl cr first left_is right_is e none (subst P (sym (cond-true (ltb (stored f l + 1) (stored f r)) (leaned_left f l p x r) (Node l p x r) (sym same ∙ picked-test _ cr picked m g some))) h)
+
+  pub balanced-level : (P : Tree R → Type 0) (l : Tree R) (p : ℕ) (x : R) (r : Tree R) (cl cr first picked : Option (Child R)) → cl ≡ child_of f l → cr ≡ child_of f r → first ≡ cond (ltb (height_in f cr + 1) (height_in f cl)) cl None → first ≡ None → picked ≡ cond (ltb (height_in f cl + 1) (height_in f cr)) cr None → picked ≡ None → P (Node l p x r) → P (balanced f l p x r)
+  balanced-level P l p x r cl cr first picked left_is right_is e none g still h =
+      let same : ltb (height_in f cl + 1) (height_in f cr) ≡ ltb (stored f l + 1) (stored f r) = rw (left_is, right_is) refl in
+      balanced-not_right P l p x r cl cr first left_is right_is e none (subst P (sym (cond-false (ltb (stored f l + 1) (stored f r)) (leaned_left f l p x r) (Node l p x r) (sym same ∙ not_higher cr cl picked 1 g still))) h)

@@ -1,10 +1,10 @@
 -- How a tree stands in a slab, and what changes with a part of it.
-use Rattle.std.specs.Prelude.{◌≡◌, ◌⊎◌, ℕ, ◌+◌, ◌-◌, ◌^◌, ◌<◌, ◌≤◌, length, List, [], ◌∷◌, ◌++◌, zero, suc, IsTrue, Option, None, Some}
+use Rattle.std.specs.Prelude.{◌≡◌, ◌⊎◌, ℕ, ◌+◌, ◌-◌, ◌*◌, ◌^◌, ◌<◌, ◌≤◌, max, cond, length, List, [], ◌∷◌, ◌++◌, zero, suc, IsTrue, Option, None, Some}
 use Rattle.slab.specs.Slab.{Slab, get, slab_len, HasRoomFor}
 use Rattle.balanced_tree.specs.declared.children.Child.{Child}
 use Rattle.balanced_tree.specs.Row.{Functions, height_in, plain}
 use Rattle.balanced_tree.specs.Rows.{Rows}
-use Rattle.balanced_tree.specs.Tree.{Tree, Leaf, Node, place_of, height, IsBalanced, child_of, rows_of, IsOrdered, has_rank}
+use Rattle.balanced_tree.specs.Tree.{Tree, Leaf, Node, place_of, height, IsBalanced, child_of, rows_of, IsOrdered, has_rank, inserted, removed, least, without_least, joined}
 
 module _ {R : Type 0} where
   -- a row with the link to it, if there is one
@@ -90,6 +90,39 @@ module _ {R : Type 0} (f : Functions R) where
     pub split : IsSplit s left_tree p x right_tree low high
     pub left_is : left ≡ child_of f left_tree
     pub right_is : right ≡ child_of f right_tree
+
+  -- The new slab has the tree with the row w, and c is its root. It has a row more where no row had this rank. The count of
+  -- steps went from `before` to `after`.
+  pub record HasInserted (old new : Slab R) (w : R) (t : Tree R) (low high : ℕ) (c : Child R) (before after : ℕ) : Type 0 where
+    pub becomes : Becomes old new (inserted f old.vacant_key w t) low high
+    pub child : Some c ≡ child_of f (inserted f old.vacant_key w t)
+    pub len : slab_len new ≡ slab_len old + cond (has_rank f (f.rank w) t) 0 1
+    pub steps : after ≤ before + 9 * height t + 1
+
+  -- The new slab has the tree without the row of rank n, and c is its root. It has a row less where a row had this rank.
+  pub record HasRemoved (old new : Slab R) (n : ℕ) (t : Tree R) (low high : ℕ) (c : Option (Child R)) (before after : ℕ) : Type 0 where
+    pub becomes : Becomes old new (removed f n t) low high
+    pub child : c ≡ child_of f (removed f n t)
+    pub len : slab_len new + cond (has_rank f n t) 1 0 ≡ slab_len old
+    pub steps : after ≤ before + 9 * height t
+
+  -- The new slab has the tree without its first row, which is y, and c is the root of what is left.
+  pub record HasTakenLeast (old new : Slab R) (l : Tree R) (p : ℕ) (x : R) (r : Tree R) (low high : ℕ) (y : R) (c : Option (Child R)) (before after : ℕ) : Type 0 where
+    pub spelled : Spells new (without_least f l p x r)
+    pub ordered : IsOrdered f (f.rank (least f l x) + 1) high (without_least f l p x r)
+    pub kept : Keeps low high old new
+    pub child : c ≡ child_of f (without_least f l p x r)
+    pub row : Same (least f l x) y
+    pub from_low : low ≤ f.rank (least f l x)
+    pub len : slab_len new + 1 ≡ slab_len old
+    pub steps : after ≤ before + 9 * height (Node l p x r)
+
+  -- The new slab has both parts of a node as one tree, and c is its root. The node's row is gone.
+  pub record HasJoined (old new : Slab R) (l : Tree R) (p : ℕ) (r : Tree R) (low high : ℕ) (c : Option (Child R)) (before after : ℕ) : Type 0 where
+    pub becomes : Becomes old new (joined f l p r) low high
+    pub child : c ≡ child_of f (joined f l p r)
+    pub len : slab_len new + 1 ≡ slab_len old
+    pub steps : after ≤ before + 9 * max (height l) (height r) + 8
 
   -- the height that is stored in the row under a link
   abbrev pub height_at : Slab R → Option ℕ → ℕ

@@ -7,9 +7,9 @@
 
 //mod balanced_tree;
 mod children;
-//mod descent;
-//mod insertion;
-//mod removal;
+mod descent;
+mod insertion;
+mod removal;
 mod rotation;
 mod row_slab;
 mod steps;

@@ -1,0 +1,226 @@
+-- The root of a tree that stands in a slab, and its parts.
+use Rattle.std.proofs.Common.{◌≡◌, ◌⊎◌, ℕ, ◌+◌, ◌-◌, ◌<◌, ◌≤◌, ◌^◌, max, min, Bool, true, false, cond, ltb, Option, None, Some, IsTrue, refl, sym, ap, ◌∙◌, subst, inl, inr, arith}
+use Rattle.std.proofs.lemmas.Bool.{lt-ltb, le-ltb, cond-true, cond-false}
+use Rattle.std.proofs.lemmas.Option.{same_Some}
+use Rattle.slab.specs.Slab.{Slab, get, slab_len, ContainsKey, HasRoomFor, Updates}
+use Rattle.balanced_tree.specs.declared.children.Child.{Child}
+use Rattle.balanced_tree.specs.Row.{Functions, AreLawful, height_in, plain}
+use Rattle.balanced_tree.specs.Tree.{Tree, Leaf, Node, place_of, height, child_of, stored, IsOrdered, has_rank, found}
+use Rattle.balanced_tree.specs.Standing.{child_at, Spells, Same, IsStanding, Stands, StandsFor, Keeps, Becomes, IsSplit, height_at}
+use Rattle.balanced_tree.proofs.Spelling.{link_of-child_of, child_at-place_of, IsOrdered-bounds, Same-linked, Spells-kept, ContainsKey-place_of}
+
+module _ {R : Type 0} (f : Functions R) where
+  -- a height that is not too great is stored as it is
+  pub stored-short : AreLawful f → (t : Tree R) → height t < 2 ^ 32 → stored f t ≡ height t
+  stored-short laws Leaf h = refl
+  stored-short laws (Node l p x r) h =
+      let on_l = stored-short laws l (omega arith) in
+      let on_r = stored-short laws r (omega arith) in
+      laws.height_set x (child_of f l) (child_of f r) ∙ rw (on_l, on_r) (omega arith)
+
+  pub height_at-standing : {s : Slab R} {at : Option ℕ} {t : Tree R} {low high : ℕ} → AreLawful f → IsStanding f s at t low high → height_at f s at ≡ height t
+  height_at-standing {s} {at} {t} laws h =
+      ap (height_in f) (ap (child_at s) (sym h.is_at) ∙ child_at-place_of f s t h.spelled) ∙ stored-short laws t h.short
+
+  -- the tree at a place where this row is stored
+  pub record IsNode (s : Slab R) (p : ℕ) (here : R) (t : Tree R) (low high : ℕ) : Type 0 where
+    pub left : Tree R
+    pub right : Tree R
+    pub row : R
+    pub is : t ≡ Node left p row right
+    pub at : get s p ≡ Some here
+    pub same : Same f row here
+    pub left_standing : IsStanding f s (f.left here) left low (f.rank row)
+    pub right_standing : IsStanding f s (f.right here) right (f.rank row + 1) high
+
+  pub IsNode-standing : AreLawful f → (s : Slab R) (p : ℕ) (here : R) (t : Tree R) (low high : ℕ) → IsStanding f s (Some p) t low high → get s p ≡ Some here → IsNode s p here t low high
+  IsNode-standing laws s p here Leaf low high h at = let none : None ≡ Some p = h.is_at in cc
+  IsNode-standing laws s p here (Node l q x r) low high h at =
+      let e : q ≡ p = same_Some q p h.is_at in
+      let here_is : here ≡ f.linked x (child_of f l) (child_of f r) = same_Some _ _ (sym at ∙ ap (get s) (sym e) ∙ h.spelled.0) in
+      let short : max (height l) (height r) + 1 < 2 ^ 32 = h.short in
+      record {
+        left = l;
+        right = r;
+        row = x;
+        is = ap (λ k. Node l k x r) e;
+        at = at;
+        same = subst (Same f x) (sym here_is) (Same-linked f laws x _ _);
+        left_standing = record { spelled = h.spelled.1; is_at = sym (ap f.left here_is ∙ laws.left_set x _ _ ∙ link_of-child_of f l); ordered = h.ordered.0; short = omega arith };
+        right_standing = record { spelled = h.spelled.2; is_at = sym (ap f.right here_is ∙ laws.right_set x _ _ ∙ link_of-child_of f r); ordered = h.ordered.1; short = omega arith };
+      }
+
+  pub ContainsKey-Stands : {s : Slab R} {p : ℕ} → Stands f s (Some p) → ContainsKey s p
+  ContainsKey-Stands {s} {p} h = ContainsKey-place_of f s h.tree p h.standing.spelled h.standing.is_at
+
+  module _ {s : Slab R} {p : ℕ} {here : R} {t : Tree R} {low high : ℕ} (n : IsNode s p here t low high) where
+    pub height-left : height n.left + 1 ≤ height t
+    height-left = omega (arith, ap height n.is)
+
+    pub height-right : height n.right + 1 ≤ height t
+    height-right = omega (arith, ap height n.is)
+
+    pub rank_here : f.rank here ≡ f.rank n.row
+    rank_here = n.same.rank
+
+    pub falls-left : AreLawful f → height_at f s (f.left here) + 1 ≤ height t
+    falls-left laws = omega (arith, height_at-standing laws n.left_standing, height-left)
+
+    pub falls-right : AreLawful f → height_at f s (f.right here) + 1 ≤ height t
+    falls-right laws = omega (arith, height_at-standing laws n.right_standing, height-right)
+
+    -- the part that a link leads to can be read in a slab where it stands
+    pub readable-right_part : (s1 : Slab R) (q : ℕ) → Spells f s1 n.right → f.right here ≡ Some q → ContainsKey s1 q
+    readable-right_part s1 q h e = ContainsKey-place_of f s1 n.right q h (n.right_standing.is_at ∙ e)
+
+    pub readable-left_part : (s1 : Slab R) (q : ℕ) → Spells f s1 n.left → f.left here ≡ Some q → ContainsKey s1 q
+    readable-left_part s1 q h e = ContainsKey-place_of f s1 n.left q h (n.left_standing.is_at ∙ e)
+
+    -- a change of one part leaves the other, and the row
+    pub right_kept : {s1 : Slab R} → AreLawful f → Keeps f low (f.rank n.row) s s1 → Spells f s1 n.right
+    right_kept laws k = Spells-kept f (f.rank n.row + 1) high n.right k laws n.right_standing.ordered (inr (omega arith)) n.right_standing.spelled
+
+    pub left_kept : {s1 : Slab R} → AreLawful f → Keeps f (f.rank n.row + 1) high s s1 → Spells f s1 n.left
+    left_kept laws k = Spells-kept f low (f.rank n.row) n.left k laws n.left_standing.ordered (inl (omega arith)) n.left_standing.spelled
+
+    pub split_left : {s1 : Slab R} {l : Tree R} → AreLawful f → Becomes f s s1 l low (f.rank n.row) → IsSplit f s1 l p n.row n.right low high
+    split_left laws h =
+        record {
+          middle = f.rank n.row; past = f.rank n.row + 1; had = here;
+          at = h.kept.kept p here n.at (inr (omega (arith, rank_here)));
+          left = h.spelled; right = right_kept laws h.kept; left_ordered = h.ordered; right_ordered = n.right_standing.ordered;
+          had_from = omega (arith, rank_here); had_below = omega (arith, rank_here); row_from = omega arith; row_below = omega arith;
+        }
+
+    pub split_right : {s1 : Slab R} {r : Tree R} → AreLawful f → Becomes f s s1 r (f.rank n.row + 1) high → IsSplit f s1 n.left p n.row r low high
+    split_right laws h =
+        record {
+          middle = f.rank n.row; past = f.rank n.row + 1; had = here;
+          at = h.kept.kept p here n.at (inl (omega (arith, rank_here)));
+          left = left_kept laws h.kept; right = h.spelled; left_ordered = n.left_standing.ordered; right_ordered = h.ordered;
+          had_from = omega (arith, rank_here); had_below = omega (arith, rank_here); row_from = omega arith; row_below = omega arith;
+        }
+
+    pub right_is : (s1 : Slab R) {c : Option (Child R)} → Spells f s1 n.right → c ≡ child_at s1 (f.right here) → c ≡ child_of f n.right
+    right_is s1 h e = e ∙ ap (child_at s1) (sym n.right_standing.is_at) ∙ child_at-place_of f s1 n.right h
+
+    pub left_is : (s1 : Slab R) {c : Option (Child R)} → Spells f s1 n.left → c ≡ child_at s1 (f.left here) → c ≡ child_of f n.left
+    left_is s1 h e = e ∙ ap (child_at s1) (sym n.left_standing.is_at) ∙ child_at-place_of f s1 n.left h
+
+    in_low : low ≤ f.rank n.row
+    in_low = IsOrdered-bounds f low (f.rank n.row) n.left n.left_standing.ordered
+
+    in_high : f.rank n.row + 1 ≤ high
+    in_high = IsOrdered-bounds f (f.rank n.row + 1) high n.right n.right_standing.ordered
+
+    pub low_le : low ≤ f.rank here
+    low_le = omega (arith, in_low, rank_here)
+
+    pub high_gt : f.rank here < high
+    high_gt = omega (arith, in_high, rank_here)
+
+    pub kept_wider_left : {s1 : Slab R} → Keeps f low (f.rank n.row) s s1 → Keeps f low high s s1
+    kept_wider_left k = Rattle.balanced_tree.proofs.Spelling.Keeps-wider f low high (omega arith) (omega (arith, in_high)) k
+
+    pub kept_wider_right : {s1 : Slab R} → Keeps f (f.rank n.row + 1) high s s1 → Keeps f low high s s1
+    kept_wider_right k = Rattle.balanced_tree.proofs.Spelling.Keeps-wider f low high (omega (arith, in_low)) (omega arith) k
+
+    -- which way leads to a rank
+    pub found-left : (m : ℕ) (best : Option R) → m < f.rank here → found f m best t ≡ found f m (Some (f.linked here None None)) n.left
+    found-left m best h =
+        ap (found f m best) n.is ∙ cond-true (ltb m (f.rank n.row)) _ _ (lt-ltb m (f.rank n.row) (omega (arith, rank_here)))
+        ∙ ap (λ x. found f m (Some x) n.left) (sym (n.same.linked None None))
+
+    pub found-right : (m : ℕ) (best : Option R) → f.rank here < m → found f m best t ≡ found f m best n.right
+    found-right m best h =
+        ap (found f m best) n.is ∙ cond-false (ltb m (f.rank n.row)) _ _ (le-ltb m (f.rank n.row) (omega (arith, rank_here)))
+        ∙ cond-true (ltb (f.rank n.row) m) _ _ (lt-ltb (f.rank n.row) m (omega (arith, rank_here)))
+
+    pub found-here : (m : ℕ) (best : Option R) → f.rank here ≤ m → m ≤ f.rank here → found f m best t ≡ Some (f.linked here None None)
+    found-here m best g h =
+        ap (found f m best) n.is ∙ cond-false (ltb m (f.rank n.row)) _ _ (le-ltb m (f.rank n.row) (omega (arith, rank_here)))
+        ∙ cond-false (ltb (f.rank n.row) m) _ _ (le-ltb (f.rank n.row) m (omega (arith, rank_here)))
+        ∙ ap Some (sym (n.same.linked None None))
+
+    pub has_rank-left : (m : ℕ) → m < f.rank here → has_rank f m t ≡ has_rank f m n.left
+    has_rank-left m h = ap (has_rank f m) n.is ∙ cond-true (ltb m (f.rank n.row)) _ _ (lt-ltb m (f.rank n.row) (omega (arith, rank_here)))
+
+    pub has_rank-right : (m : ℕ) → f.rank here < m → has_rank f m t ≡ has_rank f m n.right
+    has_rank-right m h =
+        ap (has_rank f m) n.is ∙ cond-false (ltb m (f.rank n.row)) _ _ (le-ltb m (f.rank n.row) (omega (arith, rank_here)))
+        ∙ cond-true (ltb (f.rank n.row) m) _ _ (lt-ltb (f.rank n.row) m (omega (arith, rank_here)))
+
+    pub has_rank-here : (m : ℕ) → f.rank here ≤ m → m ≤ f.rank here → has_rank f m t ≡ true
+    has_rank-here m g h =
+        ap (has_rank f m) n.is ∙ cond-false (ltb m (f.rank n.row)) _ _ (le-ltb m (f.rank n.row) (omega (arith, rank_here)))
+        ∙ cond-false (ltb (f.rank n.row) m) _ _ (le-ltb (f.rank n.row) m (omega (arith, rank_here)))
+
+  pub standing-at : {s : Slab R} {at link : Option ℕ} {t : Tree R} {low high : ℕ} → at ≡ link → IsStanding f s at t low high → IsStanding f s link t low high
+  standing-at {s} {at} {link} {t} {low} {high} e h = subst (λ q. IsStanding f s q t low high) e h
+
+  -- the node of a tree that stands under a link
+  pub node_of : {s : Slab R} {at : Option ℕ} {p : ℕ} {here : R} {t : Tree R} {low high : ℕ} → AreLawful f → IsStanding f s at t low high → at ≡ Some p → get s p ≡ Some here → IsNode s p here t low high
+  node_of laws h is at = IsNode-standing laws _ _ _ _ _ _ (standing-at is h) at
+
+  pub lower-left : {s : Slab R} {at link : Option ℕ} {p : ℕ} {here : R} {t : Tree R} {low high : ℕ} → AreLawful f → IsStanding f s at t low high → at ≡ Some p → get s p ≡ Some here → link ≡ f.left here → height_at f s link < height_at f s at
+  lower-left {s} laws h is at e =
+      let n = node_of laws h is at in
+      omega (arith, ap (height_at f s) e, falls-left n laws, height_at-standing laws h)
+
+  pub lower-right : {s : Slab R} {at link : Option ℕ} {p : ℕ} {here : R} {t : Tree R} {low high : ℕ} → AreLawful f → IsStanding f s at t low high → at ≡ Some p → get s p ≡ Some here → link ≡ f.right here → height_at f s link < height_at f s at
+  lower-right {s} laws h is at e =
+      let n = node_of laws h is at in
+      omega (arith, ap (height_at f s) e, falls-right n laws, height_at-standing laws h)
+
+  IsSplit-Same : {s : Slab R} {l : Tree R} {p : ℕ} {x y : R} {r : Tree R} {low high : ℕ} → Same f x y → IsSplit f s l p x r low high → IsSplit f s l p y r low high
+  IsSplit-Same same h =
+      record {
+        middle = h.middle; past = h.past; had = h.had; at = h.at; left = h.left; right = h.right;
+        left_ordered = h.left_ordered; right_ordered = h.right_ordered; had_from = h.had_from; had_below = h.had_below;
+        row_from = omega (arith, same.rank, h.row_from); row_below = omega (arith, same.rank, h.row_below);
+      }
+
+  module _ {s s1 : Slab R} {p : ℕ} {here : R} {t : Tree R} {low high : ℕ} (laws : AreLawful f) (n : IsNode s p here t low high) where
+    -- what `balance` asks after a change of the left part
+    pub Splits-left : {l : Tree R} {left right : Option (Child R)} → Becomes f s s1 l low (f.rank n.row) → left ≡ child_of f l → right ≡ child_at s1 (f.right here) → Rattle.balanced_tree.specs.Standing.Splits f s1 left p here right
+    Splits-left {l} h on_left on_right =
+        record {
+          left_tree = l; right_tree = n.right; low = low; high = high; split = IsSplit-Same n.same (split_left n laws h);
+          left_is = on_left; right_is = right_is n s1 (right_kept n laws h.kept) on_right;
+        }
+
+    pub Splits-right : {r : Tree R} {left right : Option (Child R)} → Becomes f s s1 r (f.rank n.row + 1) high → left ≡ child_at s1 (f.left here) → right ≡ child_of f r → Rattle.balanced_tree.specs.Standing.Splits f s1 left p here right
+    Splits-right {r} h on_left on_right =
+        record {
+          left_tree = n.left; right_tree = r; low = low; high = high; split = IsSplit-Same n.same (split_right n laws h);
+          left_is = left_is n s1 (left_kept n laws h.kept) on_left; right_is = on_right;
+        }
+
+  -- what a recursion into a part asks
+  pub StandsFor-left : {s : Slab R} {at link : Option ℕ} {p m : ℕ} {here : R} → AreLawful f → StandsFor f s at m → at ≡ Some p → get s p ≡ Some here → link ≡ f.left here → m < f.rank here → StandsFor f s link m
+  StandsFor-left {s} {m = m} laws h is at e less =
+      let n = node_of laws h.standing is at in
+      record {
+        tree = n.left; low = h.low; high = f.rank n.row; standing = standing-at (sym e) n.left_standing;
+        from_low = h.from_low; below_high = omega (arith, rank_here n);
+        room = subst (λ b. IsTrue b ⊎ HasRoomFor s 1) (has_rank-left n m less) h.room;
+      }
+
+  pub StandsFor-right : {s : Slab R} {at link : Option ℕ} {p m : ℕ} {here : R} → AreLawful f → StandsFor f s at m → at ≡ Some p → get s p ≡ Some here → link ≡ f.right here → f.rank here < m → StandsFor f s link m
+  StandsFor-right {s} {m = m} laws h is at e more =
+      let n = node_of laws h.standing is at in
+      record {
+        tree = n.right; low = f.rank n.row + 1; high = h.high; standing = standing-at (sym e) n.right_standing;
+        from_low = omega (arith, rank_here n); below_high = h.below_high;
+        room = subst (λ b. IsTrue b ⊎ HasRoomFor s 1) (has_rank-right n m more) h.room;
+      }
+
+  pub Stands-left : {s : Slab R} {at link : Option ℕ} {p : ℕ} {here : R} → AreLawful f → Stands f s at → at ≡ Some p → get s p ≡ Some here → link ≡ f.left here → Stands f s link
+  Stands-left laws h is at e =
+      let n = node_of laws h.standing is at in
+      record { tree = n.left; low = h.low; high = f.rank n.row; standing = standing-at (sym e) n.left_standing }
+
+  pub Stands-right : {s : Slab R} {at link : Option ℕ} {p : ℕ} {here : R} → AreLawful f → Stands f s at → at ≡ Some p → get s p ≡ Some here → link ≡ f.right here → Stands f s link
+  Stands-right laws h is at e =
+      let n = node_of laws h.standing is at in
+      record { tree = n.right; low = f.rank n.row + 1; high = h.high; standing = standing-at (sym e) n.right_standing }
