@@ -2,3 +2,4 @@ pub mod Spelling
 pub mod Turns
 pub mod Nodes
 pub mod Insertions
+pub mod Removals

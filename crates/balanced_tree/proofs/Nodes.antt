@@ -107,10 +107,10 @@ module _ {R : Type 0} (f : Functions R) where
     pub left_is : (s1 : Slab R) {c : Option (Child R)} → Spells f s1 n.left → c ≡ child_at s1 (f.left here) → c ≡ child_of f n.left
     left_is s1 h e = e ∙ ap (child_at s1) (sym n.left_standing.is_at) ∙ child_at-place_of f s1 n.left h
 
-    in_low : low ≤ f.rank n.row
+    pub in_low : low ≤ f.rank n.row
     in_low = IsOrdered-bounds f low (f.rank n.row) n.left n.left_standing.ordered
 
-    in_high : f.rank n.row + 1 ≤ high
+    pub in_high : f.rank n.row + 1 ≤ high
     in_high = IsOrdered-bounds f (f.rank n.row + 1) high n.right n.right_standing.ordered
 
     pub low_le : low ≤ f.rank here
@@ -172,7 +172,7 @@ module _ {R : Type 0} (f : Functions R) where
       let n = node_of laws h is at in
       omega (arith, ap (height_at f s) e, falls-right n laws, height_at-standing laws h)
 
-  IsSplit-Same : {s : Slab R} {l : Tree R} {p : ℕ} {x y : R} {r : Tree R} {low high : ℕ} → Same f x y → IsSplit f s l p x r low high → IsSplit f s l p y r low high
+  pub IsSplit-Same : {s : Slab R} {l : Tree R} {p : ℕ} {x y : R} {r : Tree R} {low high : ℕ} → Same f x y → IsSplit f s l p x r low high → IsSplit f s l p y r low high
   IsSplit-Same same h =
       record {
         middle = h.middle; past = h.past; had = h.had; at = h.at; left = h.left; right = h.right;
@@ -224,3 +224,7 @@ module _ {R : Type 0} (f : Functions R) where
   Stands-right laws h is at e =
       let n = node_of laws h.standing is at in
       record { tree = n.right; low = f.rank n.row + 1; high = h.high; standing = standing-at (sym e) n.right_standing }
+
+  pub found-leaf : {s : Slab R} {at : Option ℕ} (t : Tree R) {low high : ℕ} (m : ℕ) (best : Option R) → at ≡ None → IsStanding f s at t low high → found f m best t ≡ best
+  found-leaf Leaf m best e h = refl
+  found-leaf (Node l p x r) m best e h = let none : Some p ≡ None = h.is_at ∙ e in cc

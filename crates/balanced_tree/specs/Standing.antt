@@ -4,7 +4,7 @@ use Rattle.slab.specs.Slab.{Slab, get, slab_len, HasRoomFor}
 use Rattle.balanced_tree.specs.declared.children.Child.{Child}
 use Rattle.balanced_tree.specs.Row.{Functions, height_in, plain}
 use Rattle.balanced_tree.specs.Rows.{Rows}
-use Rattle.balanced_tree.specs.Tree.{Tree, Leaf, Node, place_of, height, IsBalanced, child_of, rows_of, IsOrdered, has_rank, inserted, removed, least, without_least, joined}
+use Rattle.balanced_tree.specs.Tree.{Tree, Leaf, Node, place_of, height, IsBalanced, child_of, rows_of, IsOrdered, has_rank, inserted, removed, least, without_least, without_root}
 
 module _ {R : Type 0} where
   -- a row with the link to it, if there is one
@@ -107,22 +107,22 @@ module _ {R : Type 0} (f : Functions R) where
     pub steps : after ≤ before + 9 * height t
 
   -- The new slab has the tree without its first row, which is y, and c is the root of what is left.
-  pub record HasTakenLeast (old new : Slab R) (l : Tree R) (p : ℕ) (x : R) (r : Tree R) (low high : ℕ) (y : R) (c : Option (Child R)) (before after : ℕ) : Type 0 where
-    pub spelled : Spells new (without_least f l p x r)
-    pub ordered : IsOrdered f (f.rank (least f l x) + 1) high (without_least f l p x r)
+  pub record HasTakenLeast (old new : Slab R) (t : Tree R) (low high : ℕ) (y : R) (c : Option (Child R)) (before after : ℕ) : Type 0 where
+    pub spelled : Spells new (without_least f t)
+    pub ordered : IsOrdered f (f.rank (least f t y) + 1) high (without_least f t)
     pub kept : Keeps low high old new
-    pub child : c ≡ child_of f (without_least f l p x r)
-    pub row : Same (least f l x) y
-    pub from_low : low ≤ f.rank (least f l x)
+    pub child : c ≡ child_of f (without_least f t)
+    pub row : Same (least f t y) y
+    pub from_low : low ≤ f.rank (least f t y)
     pub len : slab_len new + 1 ≡ slab_len old
-    pub steps : after ≤ before + 9 * height (Node l p x r)
+    pub steps : after ≤ before + 9 * height t
 
-  -- The new slab has both parts of a node as one tree, and c is its root. The node's row is gone.
-  pub record HasJoined (old new : Slab R) (l : Tree R) (p : ℕ) (r : Tree R) (low high : ℕ) (c : Option (Child R)) (before after : ℕ) : Type 0 where
-    pub becomes : Becomes old new (joined f l p r) low high
-    pub child : c ≡ child_of f (joined f l p r)
+  -- The new slab has the tree without its root, and c is the new root.
+  pub record HasTakenRoot (old new : Slab R) (t : Tree R) (low high : ℕ) (c : Option (Child R)) (before after : ℕ) : Type 0 where
+    pub becomes : Becomes old new (without_root f t) low high
+    pub child : c ≡ child_of f (without_root f t)
     pub len : slab_len new + 1 ≡ slab_len old
-    pub steps : after ≤ before + 9 * max (height l) (height r) + 8
+    pub steps : after + 1 ≤ before + 9 * height t
 
   -- the height that is stored in the row under a link
   abbrev pub height_at : Slab R → Option ℕ → ℕ

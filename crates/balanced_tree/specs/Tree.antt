@@ -13,6 +13,10 @@ module _ {R : Type 0} where
   place_of Leaf = None
   place_of (Node l p x r) = Some p
 
+  abbrev pub is_leaf : Tree R → Bool
+  is_leaf Leaf = true
+  is_leaf (Node l p x r) = false
+
   -- how many rows lie on the longest way down
   abbrev pub height : Tree R → ℕ
   height Leaf = 0
@@ -92,20 +96,21 @@ module _ {R : Type 0} (f : Functions R) where
       (balanced (inserted q w l) p x r)
       (cond (nat_lt (f.rank x) (f.rank w)) (balanced l p x (inserted q w r)) (Node l p w r))
 
-  -- the first row of a tree whose root has the left part l and the row x
+  -- the first row, and d where there is none
   abbrev pub least : Tree R → R → R
-  least Leaf x = x
-  least (Node l p y r) x = least l y
+  least Leaf d = d
+  least (Node l p x r) d = least l x
 
-  -- the tree with the parts l and r and the row x between them, without its first row
-  unfoldable pub without_least : Tree R → ℕ → R → Tree R → Tree R
-  without_least Leaf p x r = r
-  without_least (Node a q y b) p x r = balanced (without_least a q y b) p x r
+  -- the tree without its first row
+  unfoldable pub without_least : Tree R → Tree R
+  without_least Leaf = Leaf
+  without_least (Node l p x r) = cond (is_leaf l) r (balanced (without_least l) p x r)
 
-  -- both parts as one tree, whose root stands at the place p where the right part has a row
-  unfoldable pub joined : Tree R → ℕ → Tree R → Tree R
-  joined l p Leaf = l
-  joined l p (Node a q y b) = balanced l p (least a y) (without_least a q y b)
+  -- the tree without its root: where it has a right part, the first row of this goes to the place of the root
+  unfoldable pub without_root : Tree R → Tree R
+  without_root Leaf = Leaf
+  without_root (Node l p x Leaf) = l
+  without_root (Node l p x (Node a q y b)) = balanced l p (least a y) (without_least (Node a q y b))
 
   -- the tree without the row of this rank
   unfoldable pub removed : ℕ → Tree R → Tree R
@@ -114,4 +119,4 @@ module _ {R : Type 0} (f : Functions R) where
       cond
       (nat_lt n (f.rank x))
       (balanced (removed n l) p x r)
-      (cond (nat_lt (f.rank x) n) (balanced l p x (removed n r)) (joined l p r))
+      (cond (nat_lt (f.rank x) n) (balanced l p x (removed n r)) (without_root (Node l p x r)))

@@ -2,8 +2,8 @@
 
 ghost use Rattle.std.specs.Prelude.{◌≡◌, ℕ, Some};
 ghost use Rattle.slab.specs.Slab.{get};
-ghost use Rattle.balanced_tree.specs.Tree.{Tree, Node};
-ghost use Rattle.balanced_tree.specs.Standing.{IsStanding, Stands, HasRemoved, HasTakenLeast, HasJoined};
+ghost use Rattle.balanced_tree.specs.Tree.{Tree};
+ghost use Rattle.balanced_tree.specs.Standing.{IsStanding, Stands, HasRemoved, HasTakenLeast, HasTakenRoot};
 
 use crate::children::Child;
 use crate::rotation::{balance, left_child, right_child};
@@ -26,8 +26,8 @@ fn take_least<R: TreeRow, L: Ledger>(
     steps: &mut Steps<L>,
 ) -> Least<R>
     requires { Stands R.functions rows.old (Some place) }
-    ensures taken { (l : Tree R) (x : R) (r : Tree R) (low high : ℕ) → IsStanding R.functions rows.old (Some place) (Node l place x r) low high
-      → HasTakenLeast R.functions rows.old rows.new l place x r low high result.row result.rest steps.old steps.new }
+    ensures taken { (t : Tree R) (low high : ℕ) → IsStanding R.functions rows.old (Some place) t low high
+      → HasTakenLeast R.functions rows.old rows.new t low high result.row result.rest steps.old steps.new }
     ensures capacity { rows.new.capacity ≡ rows.old.capacity }
 {
     let here = rows.row(place, steps);
@@ -45,8 +45,9 @@ fn take_least<R: TreeRow, L: Ledger>(
     }
 }
 
-/// Makes one tree of the two children of the row at a place, without this row, and answers its root.
-fn join_children<R: TreeRow, L: Ledger>(
+/// Takes the row at a place out of the tree there, and answers the root of its two children as one tree. Where there is a
+/// right child, the first row below it goes to this place.
+fn take_root<R: TreeRow, L: Ledger>(
     rows: &mut RowSlab<R>,
     place: usize,
     here: R,
@@ -54,8 +55,8 @@ fn join_children<R: TreeRow, L: Ledger>(
 ) -> Option<Child<R>>
     requires stands { Stands R.functions rows.old (Some place) }
     requires at { get rows.old place ≡ Some here }
-    ensures joined { (l : Tree R) (x : R) (r : Tree R) (low high : ℕ) → IsStanding R.functions rows.old (Some place) (Node l place x r) low high
-      → HasJoined R.functions rows.old rows.new l place r low high result steps.old steps.new }
+    ensures taken { (t : Tree R) (low high : ℕ) → IsStanding R.functions rows.old (Some place) t low high
+      → HasTakenRoot R.functions rows.old rows.new t low high result steps.old steps.new }
     ensures capacity { rows.new.capacity ≡ rows.old.capacity }
 {
     let Some(next) = here.right() else {
@@ -91,6 +92,6 @@ pub fn remove_below<R: TreeRow, L: Ledger>(
         let left = left_child(rows, here, steps);
         Some(balance(rows, place, here, left, right, steps))
     } else {
-        join_children(rows, place, here, steps)
+        take_root(rows, place, here, steps)
     }
 }
