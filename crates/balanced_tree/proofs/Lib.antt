@@ -3,3 +3,4 @@ pub mod Turns
 pub mod Nodes
 pub mod Insertions
 pub mod Removals
+pub mod TreeLaws

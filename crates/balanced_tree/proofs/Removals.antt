@@ -7,7 +7,7 @@ use Rattle.balanced_tree.specs.Row.{Functions, AreLawful}
 use Rattle.balanced_tree.specs.Tree.{Tree, Leaf, Node, is_leaf, place_of, height, child_of, IsOrdered, has_rank, balanced, least, without_least, without_root, removed}
 use Rattle.balanced_tree.specs.Standing.{child_at, Spells, Same, IsStanding, Stands, Keeps, Becomes, IsSplit, Splits, HasRemoved, HasTakenLeast, HasTakenRoot}
 use Rattle.balanced_tree.proofs.Spelling.{Keeps-refl, Keeps-trans, Keeps-wider, Keeps-Updates, Spells-kept}
-use Rattle.balanced_tree.proofs.Nodes.{IsNode, rank_here, height-left, height-right, in_low, in_high, low_le, high_gt, right_is, left_is, right_kept, left_kept, split_left, split_right, kept_wider_left, kept_wider_right, has_rank-left, has_rank-right, has_rank-here}
+use Rattle.balanced_tree.proofs.Nodes.{IsNode, rank_here, height-left, height-right, in_low, in_high, low_le, high_gt, right_is, left_is, right_kept, left_kept, split_left, split_right, kept_wider_left, kept_wider_right, has_rank-left, has_rank-right, has_rank-here, IsSplit-Same}
 use Rattle.balanced_tree.proofs.Insertions.{Balances, Becomes-left, Becomes-right}
 
 module _ {R : Type 0} where
@@ -73,6 +73,32 @@ module _ {R : Type 0} (f : Functions R) where
         steps = omega (arith, height-left f n);
       }
 
+  -- what stands once the first row of the left part is taken
+  split_least :
+    {s s1 : Slab R} {p : ℕ} {here y : R} {t : Tree R} {low high b1 b2 : ℕ} {rest : Option (Child R)}
+    → AreLawful f → (n : IsNode f s p here t low high)
+    → HasTakenLeast f s s1 n.left low (f.rank n.row) y rest b1 b2
+    → IsSplit f s1 (without_least f n.left) p n.row n.right (f.rank (least f n.left y) + 1) high
+  split_least {p = p} {here} laws n sub =
+      record {
+        middle = f.rank n.row; past = f.rank n.row + 1; had = here;
+        at = sub.kept.kept p here n.at (inr (omega (arith, rank_here f n)));
+        left = sub.spelled; right = right_kept f n laws sub.kept; left_ordered = sub.ordered; right_ordered = n.right_standing.ordered;
+        had_from = omega (arith, rank_here f n); had_below = omega (arith, rank_here f n); row_from = omega arith; row_below = omega arith;
+      }
+
+  pub Splits-least :
+    {s s1 : Slab R} {p : ℕ} {here y : R} {t : Tree R} {low high b1 b2 : ℕ} {rest right : Option (Child R)}
+    → AreLawful f → (n : IsNode f s p here t low high)
+    → HasTakenLeast f s s1 n.left low (f.rank n.row) y rest b1 b2
+    → right ≡ child_at s1 (f.right here) → Splits f s1 rest p here right
+  Splits-least {s1 = s1} {y = y} {high = high} laws n sub on_right =
+      record {
+        left_tree = without_least f n.left; right_tree = n.right; low = f.rank (least f n.left y) + 1; high = high;
+        split = IsSplit-Same f n.same (split_least laws n sub);
+        left_is = sub.child; right_is = right_is f n s1 (right_kept f n laws sub.kept) on_right;
+      }
+
   pub take-later :
     {s s1 s2 : Slab R} {p q : ℕ} {here y : R} {t : Tree R} {low high before b1 b2 b3 after : ℕ} {rest right : Option (Child R)} {root : Child R}
     → AreLawful f → (n : IsNode f s p here t low high) → f.left here ≡ Some q
@@ -85,13 +111,7 @@ module _ {R : Type 0} (f : Functions R) where
       let is : without_least f t ≡ balanced f (without_least f n.left) p n.row n.right = ap (without_least f) n.is ∙ without_least-later n.left p n.row n.right node in
       let first : least f t y ≡ least f n.left y = ap (λ u. least f u y) n.is ∙ least-any n.left n.row y node in
       let from = f.rank (least f n.left y) + 1 in
-      let split : IsSplit f s1 (without_least f n.left) p n.row n.right from high = record {
-        middle = f.rank n.row; past = f.rank n.row + 1; had = here;
-        at = sub.kept.kept p here n.at (inr (omega (arith, rank_here f n)));
-        left = sub.spelled; right = right_kept f n laws sub.kept; left_ordered = sub.ordered; right_ordered = n.right_standing.ordered;
-        had_from = omega (arith, rank_here f n); had_below = omega (arith, rank_here f n); row_from = omega arith; row_below = omega arith;
-      } in
-      let made = balance _ n.row n.right from high split n.same sub.child (right_is f n s1 (right_kept f n laws sub.kept) on_right) in
+      let made = balance _ n.row n.right from high (split_least laws n sub) n.same sub.child (right_is f n s1 (right_kept f n laws sub.kept) on_right) in
       record {
         spelled = subst (Spells f s2) (sym is) made.0.spelled;
         ordered = subst (λ z. IsOrdered f (f.rank z + 1) high (without_least f t)) (sym first) (subst (IsOrdered f from high) (sym is) made.0.ordered);
@@ -125,12 +145,12 @@ module _ {R : Type 0} (f : Functions R) where
       }
 
   -- what stands once the first row of the right part is taken, with this row for the place of the root
-  pub split_root :
-    {s s1 : Slab R} {p q : ℕ} {here y : R} {t : Tree R} {low high b1 b2 : ℕ} {rest : Option (Child R)}
+  split_root :
+    {s s1 : Slab R} {p : ℕ} {here y : R} {t : Tree R} {low high b1 b2 : ℕ} {rest : Option (Child R)}
     → AreLawful f → (n : IsNode f s p here t low high)
     → HasTakenLeast f s s1 n.right (f.rank n.row + 1) high y rest b1 b2
     → IsSplit f s1 n.left p (least f n.right y) (without_least f n.right) low high
-  split_root {s} {s1} {p} {q} {here} {y} {t} {low} {high} laws n sub =
+  split_root {p = p} {here} {y} laws n sub =
       record {
         middle = f.rank n.row; past = f.rank (least f n.right y) + 1; had = here;
         at = sub.kept.kept p here n.at (inl (omega (arith, rank_here f n)));
@@ -146,7 +166,7 @@ module _ {R : Type 0} (f : Functions R) where
   Splits-root {s} {s1} {p} {here} {y} {t} {low} {high} laws n sub on_left =
       record {
         left_tree = n.left; right_tree = without_least f n.right; low = low; high = high;
-        split = Rattle.balanced_tree.proofs.Nodes.IsSplit-Same f sub.row (split_root {q = p} laws n sub);
+        split = IsSplit-Same f sub.row (split_root laws n sub);
         left_is = left_is f n s1 (left_kept f n laws sub.kept) on_left; right_is = sub.child;
       }
 
@@ -160,7 +180,7 @@ module _ {R : Type 0} (f : Functions R) where
   take_root-node {s} {s1} {s2} {p} {q} {here} {y} {t} {low} {high} laws n some sub on_left balance len g2 g3 =
       let node = is_leaf-some n.right q (n.right_standing.is_at ∙ some) in
       let is : without_root f t ≡ balanced f n.left p (least f n.right y) (without_least f n.right) = ap (without_root f) n.is ∙ without_root-node n.left p n.row n.right y node in
-      let made = balance n.left _ _ low high (split_root {q = p} laws n sub) sub.row (left_is f n s1 (left_kept f n laws sub.kept) on_left) sub.child in
+      let made = balance n.left _ _ low high (split_root laws n sub) sub.row (left_is f n s1 (left_kept f n laws sub.kept) on_left) sub.child in
       record {
         becomes = Becomes-right f n (record { spelled = sub.spelled; ordered = IsOrdered-least sub; kept = sub.kept }) (subst (λ u. Becomes f s1 s2 u low high) (sym is) made.0);
         child = made.1 ∙ ap (child_of f) (sym is);
@@ -199,7 +219,7 @@ module _ {R : Type 0} (f : Functions R) where
       record {
         becomes = Becomes-left f n sub.becomes (subst (λ u. Becomes f s1 s2 u low high) (sym is) made.0);
         child = made.1 ∙ ap (child_of f) (sym is);
-        len = omega (arith, len, sub.len, ap (λ b. cond b 1 0) (has_rank-left f n m less));
+        len = omega (arith, len, sub.len, ap {B = ℕ} (λ b. cond b 1 0) (has_rank-left f n m less));
         steps = omega (arith, sub.steps, height-left f n);
       }
 
@@ -216,7 +236,7 @@ module _ {R : Type 0} (f : Functions R) where
       record {
         becomes = Becomes-right f n sub.becomes (subst (λ u. Becomes f s1 s2 u low high) (sym is) made.0);
         child = made.1 ∙ ap (child_of f) (sym is);
-        len = omega (arith, len, sub.len, ap (λ b. cond b 1 0) (has_rank-right f n m more));
+        len = omega (arith, len, sub.len, ap {B = ℕ} (λ b. cond b 1 0) (has_rank-right f n m more));
         steps = omega (arith, sub.steps, height-right f n);
       }
 
@@ -230,7 +250,7 @@ module _ {R : Type 0} (f : Functions R) where
       record {
         becomes = subst (λ u. Becomes f s s1 u low high) (sym is) sub.becomes;
         child = sub.child ∙ ap (child_of f) (sym is);
-        len = omega (arith, sub.len, ap (λ b. cond b 1 0) (has_rank-here f n m g h));
+        len = omega (arith, sub.len, ap {B = ℕ} (λ b. cond b 1 0) (has_rank-here f n m g h));
         steps = omega (arith, sub.steps);
       }
 

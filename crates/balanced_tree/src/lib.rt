@@ -5,7 +5,7 @@
 //! that the tree stores in it. `Steps` counts the rows that a call looks at, puts, adds or takes.
 #![tactic(auto)]
 
-//mod balanced_tree;
+mod balanced_tree;
 mod children;
 mod descent;
 mod insertion;
@@ -15,7 +15,7 @@ mod row_slab;
 mod steps;
 mod tree_row;
 
-//pub use balanced_tree::BalancedTree;
+pub use balanced_tree::BalancedTree;
 pub use children::Child;
 pub use row_slab::RowSlab;
 pub use steps::Steps;

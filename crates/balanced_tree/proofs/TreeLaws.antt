@@ -1,0 +1,168 @@
+-- What insertion and removal make of a tree's rows, heights and balance.
+use Rattle.std.proofs.Common.{◌≡◌, ◌⊎◌, inl, inr, ℕ, ◌+◌, ◌-◌, ◌*◌, ◌<◌, ◌≤◌, ◌^◌, max, min, Bool, true, false, cond, ltb, List, [], ◌∷◌, ◌++◌, length, refl, sym, ap, ◌∙◌, subst, arith, length-append}
+use Rattle.std.proofs.lemmas.Bool.{ltb-true, ltb-false, lt-ltb, le-ltb, cond-true, cond-false, cond_both}
+use Rattle.std.proofs.lemmas.List.{append_assoc}
+use Rattle.balanced_tree.specs.Row.{Functions, AreLawful, plain}
+use Rattle.balanced_tree.specs.Tree.{Tree, Leaf, Node, is_leaf, height, IsBalanced, stored, rows_of, has_rank, leaned_right, leaned_left, balanced, inserted, least, without_least, without_root, removed}
+use Rattle.balanced_tree.proofs.Nodes.{stored-short}
+
+module _ {R : Type 0} (f : Functions R) where
+  -- the rows of a node
+  abbrev pub joined_rows : Tree R → R → Tree R → List R
+  joined_rows l x r = rows_of f l ++ plain f x ∷ rows_of f r
+
+  rows-leaned_right : (l : Tree R) (p : ℕ) (x : R) (r : Tree R) → rows_of f (leaned_right f l p x r) ≡ joined_rows l x r
+  unfolding leaned_right
+  rows-leaned_right Leaf p x r = refl
+  rows-leaned_right (Node a j y Leaf) p x r = simp append_assoc
+  rows-leaned_right (Node a j y (Node c k z d)) p x r =
+      cond_both (ltb (stored f a) (stored f (Node c k z d))) (Node (Node a j y c) k z (Node d p x r)) (Node a j y (Node (Node c k z d) p x r))
+      (λ t. rows_of f t ≡ joined_rows (Node a j y (Node c k z d)) x r) (λ e. simp append_assoc) (λ e. simp append_assoc)
+
+  rows-leaned_left : (l : Tree R) (p : ℕ) (x : R) (r : Tree R) → rows_of f (leaned_left f l p x r) ≡ joined_rows l x r
+  unfolding leaned_left
+  rows-leaned_left l p x Leaf = refl
+  rows-leaned_left l p x (Node Leaf j y b) = simp append_assoc
+  rows-leaned_left l p x (Node (Node c k z d) j y b) =
+      cond_both (ltb (stored f b) (stored f (Node c k z d))) (Node (Node l p x c) k z (Node d j y b)) (Node (Node l p x (Node c k z d)) j y b)
+      (λ t. rows_of f t ≡ joined_rows l x (Node (Node c k z d) j y b)) (λ e. simp append_assoc) (λ e. simp append_assoc)
+
+  -- a rotation keeps the rows and their order
+  pub rows-balanced : (l : Tree R) (p : ℕ) (x : R) (r : Tree R) → rows_of f (balanced f l p x r) ≡ joined_rows l x r
+  unfolding balanced
+  rows-balanced l p x r =
+      cond_both (ltb (stored f r + 1) (stored f l)) (leaned_right f l p x r) (cond (ltb (stored f l + 1) (stored f r)) (leaned_left f l p x r) (Node l p x r))
+      (λ t. rows_of f t ≡ joined_rows l x r) (λ e. rows-leaned_right l p x r)
+      (λ e. cond_both (ltb (stored f l + 1) (stored f r)) (leaned_left f l p x r) (Node l p x r) (λ t. rows_of f t ≡ joined_rows l x r) (λ g. rows-leaned_left l p x r) (λ g. refl))
+
+  -- what a node is balanced to: as high as the higher part or one higher, and one higher where no rotation is needed
+  pub record IsSettled (l r t : Tree R) : Type 0 where
+    pub good : IsBalanced t
+    pub at_least : max (height l) (height r) ≤ height t
+    pub at_most : height t ≤ max (height l) (height r) + 1
+    pub level : (height t ≡ max (height l) (height r) + 1) ⊎ ((height l ≡ height r + 2) ⊎ (height r ≡ height l + 2))
+
+  settled-leaned_right : AreLawful f → (l : Tree R) (p : ℕ) (x : R) (r : Tree R) → IsBalanced l → IsBalanced r → height l ≡ height r + 2 → height l < 2 ^ 31 → IsSettled l r (leaned_right f l p x r)
+  unfolding leaned_right
+  settled-leaned_right laws Leaf p x r hl hr two short = absurd (omega arith)
+  settled-leaned_right laws (Node a j y Leaf) p x r hl hr two short =
+      let h1 = hl.0 in let h2 = hl.1 in
+      record { good = (omega arith, omega arith, hl.2, (omega arith, omega arith, tt, hr)); at_least = omega arith; at_most = omega arith; level = inr (inl two) }
+  settled-leaned_right laws (Node a j y (Node c k z d)) p x r hl hr two short =
+      let h1 = hl.0 in let h2 = hl.1 in let g1 = hl.3.0 in let g2 = hl.3.1 in
+      let sa = stored-short f laws a (omega arith) in
+      let sb = stored-short f laws (Node c k z d) (omega arith) in
+      cond_both (ltb (stored f a) (stored f (Node c k z d))) (Node (Node a j y c) k z (Node d p x r)) (Node a j y (Node (Node c k z d) p x r))
+      (IsSettled (Node a j y (Node c k z d)) r)
+      (λ e. let q = ltb-true (stored f a) (stored f (Node c k z d)) e in record {
+        good = (omega arith, omega arith, (omega arith, omega arith, hl.2, hl.3.2), (omega arith, omega arith, hl.3.3, hr));
+        at_least = omega arith; at_most = omega arith; level = inr (inl two);
+      })
+      (λ e. let q = ltb-false (stored f a) (stored f (Node c k z d)) e in record {
+        good = (omega arith, omega arith, hl.2, (omega arith, omega arith, hl.3, hr));
+        at_least = omega arith; at_most = omega arith; level = inr (inl two);
+      })
+
+  settled-leaned_left : AreLawful f → (l : Tree R) (p : ℕ) (x : R) (r : Tree R) → IsBalanced l → IsBalanced r → height r ≡ height l + 2 → height r < 2 ^ 31 → IsSettled l r (leaned_left f l p x r)
+  unfolding leaned_left
+  settled-leaned_left laws l p x Leaf hl hr two short = absurd (omega arith)
+  settled-leaned_left laws l p x (Node Leaf j y b) hl hr two short =
+      let h1 = hr.0 in let h2 = hr.1 in
+      record { good = (omega arith, omega arith, (omega arith, omega arith, hl, tt), hr.3); at_least = omega arith; at_most = omega arith; level = inr (inr two) }
+  settled-leaned_left laws l p x (Node (Node c k z d) j y b) hl hr two short =
+      let h1 = hr.0 in let h2 = hr.1 in let g1 = hr.2.0 in let g2 = hr.2.1 in
+      let sa = stored-short f laws b (omega arith) in
+      let sb = stored-short f laws (Node c k z d) (omega arith) in
+      cond_both (ltb (stored f b) (stored f (Node c k z d))) (Node (Node l p x c) k z (Node d j y b)) (Node (Node l p x (Node c k z d)) j y b)
+      (IsSettled l (Node (Node c k z d) j y b))
+      (λ e. let q = ltb-true (stored f b) (stored f (Node c k z d)) e in record {
+        good = (omega arith, omega arith, (omega arith, omega arith, hl, hr.2.2), (omega arith, omega arith, hr.2.3, hr.3));
+        at_least = omega arith; at_most = omega arith; level = inr (inr two);
+      })
+      (λ e. let q = ltb-false (stored f b) (stored f (Node c k z d)) e in record {
+        good = (omega arith, omega arith, (omega arith, omega arith, hl, hr.2), hr.3);
+        at_least = omega arith; at_most = omega arith; level = inr (inr two);
+      })
+
+  pub settled-balanced : AreLawful f → (l : Tree R) (p : ℕ) (x : R) (r : Tree R) → IsBalanced l → IsBalanced r → height l ≤ height r + 2 → height r ≤ height l + 2 → height l < 2 ^ 31 → height r < 2 ^ 31 → IsSettled l r (balanced f l p x r)
+  unfolding balanced
+  settled-balanced laws l p x r hl hr g h short_l short_r =
+      let sl = stored-short f laws l (omega arith) in
+      let sr = stored-short f laws r (omega arith) in
+      cond_both (ltb (stored f r + 1) (stored f l)) (leaned_right f l p x r) (cond (ltb (stored f l + 1) (stored f r)) (leaned_left f l p x r) (Node l p x r))
+      (IsSettled l r)
+      (λ e. settled-leaned_right laws l p x r hl hr (omega (arith, ltb-true (stored f r + 1) (stored f l) e)) short_l)
+      (λ e. cond_both (ltb (stored f l + 1) (stored f r)) (leaned_left f l p x r) (Node l p x r) (IsSettled l r)
+        (λ q. settled-leaned_left laws l p x r hl hr (omega (arith, ltb-true (stored f l + 1) (stored f r) q)) short_r)
+        (λ q. (let q1 = ltb-false (stored f r + 1) (stored f l) e in let q2 = ltb-false (stored f l + 1) (stored f r) q in
+          record { good = (omega arith, omega arith, hl, hr); at_least = omega arith; at_most = omega arith; level = inl refl })))
+
+  -- a tree that is balanced, and as high as another or one higher
+  pub record IsGrown (t u : Tree R) : Type 0 where
+    pub good : IsBalanced u
+    pub at_least : height t ≤ height u
+    pub at_most : height u ≤ height t + 1
+
+  pub grown-inserted : AreLawful f → (q : ℕ) (w : R) (t : Tree R) → IsBalanced t → height t + 1 < 2 ^ 31 → IsGrown t (inserted f q w t)
+  unfolding inserted
+  grown-inserted laws q w Leaf h short = record { good = (omega arith, omega arith, tt, tt); at_least = omega arith; at_most = omega arith }
+  grown-inserted laws q w (Node l p x r) h short =
+      let h1 = h.0 in let h2 = h.1 in
+      cond_both (ltb (f.rank w) (f.rank x)) (balanced f (inserted f q w l) p x r) (cond (ltb (f.rank x) (f.rank w)) (balanced f l p x (inserted f q w r)) (Node l p w r))
+      (IsGrown (Node l p x r))
+      (λ e. let sub = grown-inserted laws q w l h.2 (omega arith) in
+        let s = settled-balanced laws (inserted f q w l) p x r sub.good h.3 (omega (arith, sub.at_most)) (omega (arith, sub.at_least)) (omega (arith, sub.at_most)) (omega arith) in
+        record { good = s.good; at_least = omega (arith, sub.at_least, s.at_least, s.level); at_most = omega (arith, sub.at_most, s.at_most) })
+      (λ e. cond_both (ltb (f.rank x) (f.rank w)) (balanced f l p x (inserted f q w r)) (Node l p w r) (IsGrown (Node l p x r))
+        (λ g. let sub = grown-inserted laws q w r h.3 (omega arith) in
+          let s = settled-balanced laws l p x (inserted f q w r) h.2 sub.good (omega (arith, sub.at_least)) (omega (arith, sub.at_most)) (omega arith) (omega (arith, sub.at_most)) in
+          record { good = s.good; at_least = omega (arith, sub.at_least, s.at_least, s.level); at_most = omega (arith, sub.at_most, s.at_most) })
+        (λ g. record { good = h; at_least = omega arith; at_most = omega arith }))
+
+  -- a tree that is balanced, and as high as another or one lower
+  pub record IsShrunk (t u : Tree R) : Type 0 where
+    pub good : IsBalanced u
+    pub at_most : height u ≤ height t
+    pub at_least : height t ≤ height u + 1
+
+  shrunk-left : AreLawful f → (l u : Tree R) (p : ℕ) (x y : R) (r : Tree R) → IsBalanced (Node l p x r) → height (Node l p x r) < 2 ^ 31 → IsShrunk l u → IsShrunk (Node l p x r) (balanced f u p y r)
+  shrunk-left laws l u p x y r h short sub =
+      let h1 = h.0 in let h2 = h.1 in let g1 = sub.at_least in let g2 = sub.at_most in
+      let s = settled-balanced laws u p y r sub.good h.3 (omega arith) (omega arith) (omega arith) (omega arith) in
+      record { good = s.good; at_most = omega (arith, s.at_most, s.level); at_least = omega (arith, s.at_least, s.level) }
+
+  shrunk-right : AreLawful f → (l u : Tree R) (p : ℕ) (x y : R) (r : Tree R) → IsBalanced (Node l p x r) → height (Node l p x r) < 2 ^ 31 → IsShrunk r u → IsShrunk (Node l p x r) (balanced f l p y u)
+  shrunk-right laws l u p x y r h short sub =
+      let h1 = h.0 in let h2 = h.1 in let g1 = sub.at_least in let g2 = sub.at_most in
+      let s = settled-balanced laws l p y u h.2 sub.good (omega arith) (omega arith) (omega arith) (omega arith) in
+      record { good = s.good; at_most = omega (arith, s.at_most, s.level); at_least = omega (arith, s.at_least, s.level) }
+
+  shrunk-without_least : AreLawful f → (t : Tree R) → IsBalanced t → height t < 2 ^ 31 → IsShrunk t (without_least f t)
+  unfolding without_least
+  shrunk-without_least laws Leaf h short = record { good = tt; at_most = omega arith; at_least = omega arith }
+  shrunk-without_least laws (Node l p x r) h short =
+      let h1 = h.0 in let h2 = h.1 in
+      cond_both (is_leaf l) r (balanced f (without_least f l) p x r) (IsShrunk (Node l p x r))
+      (λ e. record { good = h.3; at_most = omega arith; at_least = omega (arith, height-leaf l e) })
+      (λ e. shrunk-left laws l (without_least f l) p x x r h short (shrunk-without_least laws l h.2 (omega arith)))
+    where
+    height-leaf : (t : Tree R) → is_leaf t ≡ true → height t ≡ 0
+    height-leaf Leaf e = refl
+    height-leaf (Node l p x r) e = cc
+
+  shrunk-without_root : AreLawful f → (l : Tree R) (p : ℕ) (x : R) (r : Tree R) → IsBalanced (Node l p x r) → height (Node l p x r) < 2 ^ 31 → IsShrunk (Node l p x r) (without_root f (Node l p x r))
+  unfolding without_root
+  shrunk-without_root laws l p x Leaf h short = let h1 = h.0 in let h2 = h.1 in record { good = h.2; at_most = omega arith; at_least = omega arith }
+  shrunk-without_root laws l p x (Node a q y b) h short =
+      shrunk-right laws l (without_least f (Node a q y b)) p x (least f a y) (Node a q y b) h short (shrunk-without_least laws (Node a q y b) h.3 (omega arith))
+
+  pub shrunk-removed : AreLawful f → (n : ℕ) (t : Tree R) → IsBalanced t → height t < 2 ^ 31 → IsShrunk t (removed f n t)
+  unfolding removed
+  shrunk-removed laws n Leaf h short = record { good = tt; at_most = omega arith; at_least = omega arith }
+  shrunk-removed laws n (Node l p x r) h short =
+      cond_both (ltb n (f.rank x)) (balanced f (removed f n l) p x r) (cond (ltb (f.rank x) n) (balanced f l p x (removed f n r)) (without_root f (Node l p x r)))
+      (IsShrunk (Node l p x r))
+      (λ e. shrunk-left laws l (removed f n l) p x x r h short (shrunk-removed laws n l h.2 (omega arith)))
+      (λ e. cond_both (ltb (f.rank x) n) (balanced f l p x (removed f n r)) (without_root f (Node l p x r)) (IsShrunk (Node l p x r))
+        (λ g. shrunk-right laws l (removed f n r) p x x r h short (shrunk-removed laws n r h.3 (omega arith)))
+        (λ g. shrunk-without_root laws l p x r h short))

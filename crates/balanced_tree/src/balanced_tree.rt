@@ -1,0 +1,128 @@
+//! The balanced tree as its callers see it.
+
+ghost use Rattle.std.specs.Prelude.{◌≡◌, ℕ, ◌+◌, ◌-◌, ◌^◌, ◌<◌, ◌≤◌, [], length, IsNone, IsSome, Some, OnOk};
+ghost use Rattle.balanced_tree.specs.Row.{plain};
+ghost use Rattle.balanced_tree.specs.Rows.{row_at, row_from, with_row, without_rank, IsRising};
+
+use crate::descent::find_below;
+use crate::insertion::insert_below;
+use crate::removal::remove_below;
+use crate::row_slab::RowSlab;
+use crate::steps::Steps;
+use crate::tree_row::TreeRow;
+use std::alloc::{AllocError, Global};
+use std::marker::{Brand, Model};
+use std::sync::ledger::{Blank, Ledger};
+
+/// Rows in the order of their ranks, as a search tree that is balanced by height. Contracts see the list of the rows, each with
+/// no children, and `spare`, how many more fit with no memory from the host. No call but `reserve` asks the host for memory.
+///
+/// A step of a counted call is one row that is looked at, put, added or taken. The other calls do the same and count nothing.
+#[derive(Drop)]
+pub struct BalancedTree<R: TreeRow> {
+    rows: RowSlab<R>,
+    root: Option<usize>,
+}
+
+impl<R: TreeRow> Model for BalancedTree<R> {
+    ghost use Rattle.balanced_tree.specs.Rows.{Rows, rows_code};
+
+    ghost Value = { Rows R };
+
+    ghost coded = { rows_code R.code };
+
+    ghost use Rattle.balanced_tree.specs.Standing.{rows_in, IsTree};
+
+    ghost view = { λ t. rows_in R.functions t.rows t.root };
+
+    ghost invariant = { λ t. IsTree R.functions t.rows t.root };
+}
+
+impl<R: TreeRow> BalancedTree<R> {
+    /// A tree with no row and no room.
+    pub fn new(alloc: Global) -> BalancedTree<R>
+        ensures rows { result.rows ≡ [] }
+        ensures spare { result.spare ≡ 0 }
+    {
+        BalancedTree {
+            rows: RowSlab::new(alloc),
+            root: None,
+        }
+    }
+
+    /// Makes room for `n` rows more. The error where the host has too little memory. The rows stay as they are on both
+    /// answers, and no room is lost.
+    pub fn reserve(&mut self, n: usize) -> Result<(), AllocError>
+        ensures room { OnOk result (n ≤ self.new.spare) }
+        ensures rows { self.new.rows ≡ self.old.rows }
+        ensures spare { self.old.spare ≤ self.new.spare }
+    {
+        self.rows.reserve(n)
+    }
+
+    /// How many rows there are. Their ranks rise.
+    pub fn len(&self) -> usize
+        ensures len { result ≡ length self.now.rows }
+        ensures rising { IsRising R.functions self.now.rows }
+    {
+        self.rows.len()
+    }
+
+    /// The row of this rank.
+    pub fn find_counted<L: Ledger>(&self, rank: u128, steps: &mut Steps<L>) -> Option<R>
+        ensures row { result ≡ row_at R.functions rank self.now.rows }
+        ensures cost { 2 ^ (steps.new - steps.old) ≤ (length self.now.rows + 1) ^ 2 }
+    {
+        let row = find_below(&self.rows, self.root, rank, None, steps)?;
+        if row.rank() == rank { Some(row) } else { None }
+    }
+
+    /// The first row of this rank or a higher one.
+    pub fn next_counted<L: Ledger>(&self, rank: u128, steps: &mut Steps<L>) -> Option<R>
+        ensures row { result ≡ row_from R.functions rank self.now.rows }
+        ensures cost { 2 ^ (steps.new - steps.old) ≤ (length self.now.rows + 1) ^ 2 }
+    {
+        find_below(&self.rows, self.root, rank, None, steps)
+    }
+
+    /// Puts a row of a rank that no row has yet.
+    pub fn insert_counted<L: Ledger>(&mut self, row: R, steps: &mut Steps<L>)
+        requires absent { IsNone (row_at R.functions (R.functions.rank row) self.old.rows) }
+        requires room { 1 ≤ self.old.spare }
+        ensures rows { self.new.rows ≡ with_row R.functions (plain R.functions row) self.old.rows }
+        ensures spare { self.new.spare + 1 ≡ self.old.spare }
+        ensures cost { 2 ^ (steps.new - steps.old) ≤ (length self.old.rows + 2) ^ 32 }
+    {
+        let _rank = row.rank();
+        let root = insert_below(&mut self.rows, self.root, row, steps);
+        self.root = Some(root.link);
+    }
+
+    /// Puts a row in place of the one of its rank, under the place in the slab where that one stood.
+    pub fn replace_counted<L: Ledger>(&mut self, row: R, steps: &mut Steps<L>)
+        requires present { IsSome (row_at R.functions (R.functions.rank row) self.old.rows) }
+        ensures rows { self.new.rows ≡ with_row R.functions (plain R.functions row) self.old.rows }
+        ensures spare { self.new.spare ≡ self.old.spare }
+        ensures cost { 2 ^ (steps.new - steps.old) ≤ (length self.old.rows + 2) ^ 32 }
+    {
+        let _rank = row.rank();
+        let root = insert_below(&mut self.rows, self.root, row, steps);
+        self.root = Some(root.link);
+    }
+
+    /// Takes the row of this rank out, and answers it.
+    pub fn remove_counted<L: Ledger>(&mut self, rank: u128, steps: &mut Steps<L>) -> R
+        requires present { IsSome (row_at R.functions rank self.old.rows) }
+        ensures row { row_at R.functions rank self.old.rows ≡ Some result }
+        ensures rows { self.new.rows ≡ without_rank R.functions rank self.old.rows }
+        ensures spare { self.new.spare ≡ self.old.spare + 1 }
+        ensures cost { 2 ^ (steps.new - steps.old) ≤ (length self.old.rows + 2) ^ 32 }
+    {
+        let Some(row) = self.find_counted(rank, steps) else {
+            unreachable!()
+        };
+        let root = remove_below(&mut self.rows, self.root, rank, steps);
+        self.root = root.map(|child| child.link);
+        row
+    }
+}
