@@ -10,15 +10,15 @@ use Rattle.balanced_tree.proofs.Spelling.{Keeps-trans, Same-refl, place_over-tre
 use Rattle.balanced_tree.proofs.Nodes.{IsNode, IsNode-standing, rank_here, height-left, height-right, right_is, left_is, right_kept, left_kept, split_left, split_right, kept_wider_left, kept_wider_right, has_rank-left, has_rank-right, has_rank-here}
 
 module _ {R : Type 0} (f : Functions R) where
-  inserted-left : (q : ℕ) (w : R) (l : Tree R) (p : ℕ) (x : R) (r : Tree R) → f.rank w < f.rank x → inserted f q w (Node l p x r) ≡ balanced f (inserted f q w l) p x r
+  pub inserted-left : (q : ℕ) (w : R) (l : Tree R) (p : ℕ) (x : R) (r : Tree R) → f.rank w < f.rank x → inserted f q w (Node l p x r) ≡ balanced f (inserted f q w l) p x r
   unfolding inserted
   inserted-left q w l p x r h = cond-true (ltb (f.rank w) (f.rank x)) _ _ (lt-ltb _ _ h)
 
-  inserted-right : (q : ℕ) (w : R) (l : Tree R) (p : ℕ) (x : R) (r : Tree R) → f.rank x < f.rank w → inserted f q w (Node l p x r) ≡ balanced f l p x (inserted f q w r)
+  pub inserted-right : (q : ℕ) (w : R) (l : Tree R) (p : ℕ) (x : R) (r : Tree R) → f.rank x < f.rank w → inserted f q w (Node l p x r) ≡ balanced f l p x (inserted f q w r)
   unfolding inserted
   inserted-right q w l p x r h = cond-false (ltb (f.rank w) (f.rank x)) _ _ (le-ltb _ _ (omega arith)) ∙ cond-true (ltb (f.rank x) (f.rank w)) _ _ (lt-ltb _ _ h)
 
-  inserted-here : (q : ℕ) (w : R) (l : Tree R) (p : ℕ) (x : R) (r : Tree R) → f.rank w ≡ f.rank x → inserted f q w (Node l p x r) ≡ Node l p w r
+  pub inserted-here : (q : ℕ) (w : R) (l : Tree R) (p : ℕ) (x : R) (r : Tree R) → f.rank w ≡ f.rank x → inserted f q w (Node l p x r) ≡ Node l p w r
   unfolding inserted
   inserted-here q w l p x r h = cond-false (ltb (f.rank w) (f.rank x)) _ _ (le-ltb _ _ (omega arith)) ∙ cond-false (ltb (f.rank x) (f.rank w)) _ _ (le-ltb _ _ (omega arith))
 
@@ -96,7 +96,7 @@ module _ {R : Type 0} (f : Functions R) where
         steps = omega (arith, height-left f n);
       }
 
-  insert-leaf_tree : (q : ℕ) (w : R) → inserted f q w Leaf ≡ Node Leaf q w Leaf
+  pub insert-leaf_tree : (q : ℕ) (w : R) → inserted f q w Leaf ≡ Node Leaf q w Leaf
   unfolding inserted
   insert-leaf_tree q w = refl
 

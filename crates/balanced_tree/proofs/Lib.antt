@@ -4,3 +4,4 @@ pub mod Nodes
 pub mod Insertions
 pub mod Removals
 pub mod TreeLaws
+pub mod RowLaws

@@ -190,19 +190,19 @@ module _ {R : Type 0} (f : Functions R) where
     IsOrdered-least : {s s1 : Slab R} {t : Tree R} {low high b1 b2 : ℕ} {y : R} {c : Option (Child R)} → HasTakenLeast f s s1 t low high y c b1 b2 → IsOrdered f low high (without_least f t)
     IsOrdered-least {s} {s1} {t} {low} {high} {y = y} h = Rattle.balanced_tree.proofs.Spelling.IsOrdered-wider f low (f.rank (least f t y) + 1) high high (without_least f t) (omega (arith, h.from_low)) (omega arith) h.ordered
 
-  removed-left : (m : ℕ) (l : Tree R) (p : ℕ) (x : R) (r : Tree R) → m < f.rank x → removed f m (Node l p x r) ≡ balanced f (removed f m l) p x r
+  pub removed-left : (m : ℕ) (l : Tree R) (p : ℕ) (x : R) (r : Tree R) → m < f.rank x → removed f m (Node l p x r) ≡ balanced f (removed f m l) p x r
   unfolding removed
   removed-left m l p x r h = cond-true (ltb m (f.rank x)) _ _ (lt-ltb _ _ h)
 
-  removed-right : (m : ℕ) (l : Tree R) (p : ℕ) (x : R) (r : Tree R) → f.rank x < m → removed f m (Node l p x r) ≡ balanced f l p x (removed f m r)
+  pub removed-right : (m : ℕ) (l : Tree R) (p : ℕ) (x : R) (r : Tree R) → f.rank x < m → removed f m (Node l p x r) ≡ balanced f l p x (removed f m r)
   unfolding removed
   removed-right m l p x r h = cond-false (ltb m (f.rank x)) _ _ (le-ltb _ _ (omega arith)) ∙ cond-true (ltb (f.rank x) m) _ _ (lt-ltb _ _ h)
 
-  removed-here : (m : ℕ) (l : Tree R) (p : ℕ) (x : R) (r : Tree R) → m ≡ f.rank x → removed f m (Node l p x r) ≡ without_root f (Node l p x r)
+  pub removed-here : (m : ℕ) (l : Tree R) (p : ℕ) (x : R) (r : Tree R) → m ≡ f.rank x → removed f m (Node l p x r) ≡ without_root f (Node l p x r)
   unfolding removed
   removed-here m l p x r h = cond-false (ltb m (f.rank x)) _ _ (le-ltb _ _ (omega arith)) ∙ cond-false (ltb (f.rank x) m) _ _ (le-ltb _ _ (omega arith))
 
-  removed-leaf : (m : ℕ) → removed f m Leaf ≡ Leaf
+  pub removed-leaf : (m : ℕ) → removed f m Leaf ≡ Leaf
   unfolding removed
   removed-leaf m = refl
 

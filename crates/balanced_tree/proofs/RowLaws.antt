@@ -1,0 +1,325 @@
+-- The rows of a tree as a list: what insertion, removal and look-up are of it.
+use Rattle.std.proofs.Common.{◌≡◌, ◌⊎◌, inl, inr, ℕ, ◌+◌, ◌-◌, ◌*◌, ◌<◌, ◌≤◌, ◌^◌, max, min, Bool, true, false, not, cond, ltb, leb, eqb, List, [], ◌∷◌, ◌++◌, length, Option, None, Some, is_some, refl, sym, ap, ◌∙◌, subst, arith, length-append}
+use Rattle.std.specs.List.{filter, find}
+use Rattle.std.specs.Option.{option_or}
+use Rattle.std.proofs.lemmas.Bool.{ltb-true, ltb-false, lt-ltb, le-ltb, le-leb, lt-leb, eq-eqb, ne_eqb, cond-true, cond-false, cases_order}
+use Rattle.std.proofs.lemmas.List.{append_assoc, append-nil}
+use Rattle.std.proofs.lemmas.List.Elements.{filter-append}
+use Rattle.std.proofs.lemmas.List.Folds.{find-append}
+use Rattle.balanced_tree.specs.Row.{Functions, AreLawful, plain}
+use Rattle.balanced_tree.specs.Rows.{row_at, row_from, with_row, without_rank, RisesWithin}
+use Rattle.balanced_tree.specs.Tree.{Tree, Leaf, Node, is_leaf, rows_of, IsOrdered, has_rank, found, balanced, inserted, least, without_least, without_root, removed}
+use Rattle.balanced_tree.proofs.TreeLaws.{rows-balanced}
+use Rattle.balanced_tree.proofs.Insertions.{inserted-left, inserted-right, inserted-here, insert-leaf_tree}
+use Rattle.balanced_tree.proofs.Removals.{removed-left, removed-right, removed-here, removed-leaf}
+
+option_or-none : {A : Type 0} (o : Option A) → option_or o None ≡ o
+option_or-none None = refl
+option_or-none (Some x) = refl
+
+option_or-some : {A : Type 0} (o : Option A) (x : A) (p : Option A) → option_or (option_or o (Some x)) p ≡ option_or o (Some x)
+option_or-some None x p = refl
+option_or-some (Some y) x p = refl
+
+module _ {R : Type 0} (f : Functions R) where
+  RisesWithin-bounds : (low high : ℕ) (xs : List R) → RisesWithin f low high xs → low ≤ high
+  RisesWithin-bounds low high [] h = h
+  RisesWithin-bounds low high (x ∷ xs) h = omega (arith, h.0, RisesWithin-bounds (f.rank x + 1) high xs h.1)
+
+  -- what a test of the rank keeps of rising rows where it passes all ranks between the bounds, or none
+  filter-all : (q : ℕ → Bool) (low high : ℕ) (xs : List R) → RisesWithin f low high xs → ((n : ℕ) → low ≤ n → n < high → q n ≡ true) → filter (λ x. q (f.rank x)) xs ≡ xs
+  filter-all q low high [] h p = refl
+  filter-all q low high (x ∷ xs) h p =
+      let end = RisesWithin-bounds (f.rank x + 1) high xs h.1 in
+      let from = h.0 in
+      let rest : filter (λ x. q (f.rank x)) xs ≡ xs = filter-all q (f.rank x + 1) high xs h.1 (λ n g e. p n (omega arith) e) in
+      cond-true (q (f.rank x)) (x ∷ filter (λ x. q (f.rank x)) xs) (filter (λ x. q (f.rank x)) xs) (p (f.rank x) h.0 (omega arith)) ∙ ap (λ l. x ∷ l) rest
+
+  filter-none : (q : ℕ → Bool) (low high : ℕ) (xs : List R) → RisesWithin f low high xs → ((n : ℕ) → low ≤ n → n < high → q n ≡ false) → filter (λ x. q (f.rank x)) xs ≡ []
+  filter-none q low high [] h p = refl
+  filter-none q low high (x ∷ xs) h p =
+      let end = RisesWithin-bounds (f.rank x + 1) high xs h.1 in
+      let from = h.0 in
+      cond-false (q (f.rank x)) (x ∷ filter (λ x. q (f.rank x)) xs) (filter (λ x. q (f.rank x)) xs) (p (f.rank x) h.0 (omega arith))
+      ∙ filter-none q (f.rank x + 1) high xs h.1 (λ n g e. p n (omega arith) e)
+
+  find-none : (q : ℕ → Bool) (low high : ℕ) (xs : List R) → RisesWithin f low high xs → ((n : ℕ) → low ≤ n → n < high → q n ≡ false) → find (λ x. q (f.rank x)) xs ≡ None
+  find-none q low high [] h p = refl
+  find-none q low high (x ∷ xs) h p =
+      let end = RisesWithin-bounds (f.rank x + 1) high xs h.1 in
+      let from = h.0 in
+      cond-false (q (f.rank x)) (Some x) (find (λ x. q (f.rank x)) xs) (p (f.rank x) h.0 (omega arith))
+      ∙ find-none q (f.rank x + 1) high xs h.1 (λ n g e. p n (omega arith) e)
+
+  -- rising rows on both sides of a row
+  pub RisesWithin-join : (low high : ℕ) (xs : List R) (y : R) (ys : List R) → RisesWithin f low (f.rank y) xs → RisesWithin f (f.rank y + 1) high ys → RisesWithin f low high (xs ++ y ∷ ys)
+  RisesWithin-join low high [] y ys h g = (h, g)
+  RisesWithin-join low high (x ∷ xs) y ys h g = (h.0, RisesWithin-join (f.rank x + 1) high xs y ys h.1 g)
+
+  below : R → R → Bool
+  below x y = ltb (f.rank y) (f.rank x)
+
+  module _ (x y : R) (low high : ℕ) (xs ys : List R) (left : RisesWithin f low (f.rank y) xs) (right : RisesWithin f (f.rank y + 1) high ys) where
+    whole_right : RisesWithin f (f.rank y) high (y ∷ ys)
+    whole_right = (omega arith, right)
+
+    with_row-left : f.rank x < f.rank y → with_row f x (xs ++ y ∷ ys) ≡ with_row f x xs ++ y ∷ ys
+    with_row-left h =
+        let less : filter (λ z. ltb (f.rank z) (f.rank x)) (y ∷ ys) ≡ [] = filter-none (λ n. ltb n (f.rank x)) (f.rank y) high (y ∷ ys) whole_right (λ n g e. le-ltb n (f.rank x) (omega arith)) in
+        let more : filter (λ z. ltb (f.rank x) (f.rank z)) (y ∷ ys) ≡ y ∷ ys = filter-all (λ n. ltb (f.rank x) n) (f.rank y) high (y ∷ ys) whole_right (λ n g e. lt-ltb (f.rank x) n (omega arith)) in
+        let e1 : filter (λ z. ltb (f.rank z) (f.rank x)) (xs ++ y ∷ ys) ≡ filter (λ z. ltb (f.rank z) (f.rank x)) xs = filter-append (λ z. ltb (f.rank z) (f.rank x)) xs (y ∷ ys) ∙ ap (λ l. filter (λ z. ltb (f.rank z) (f.rank x)) xs ++ l) less ∙ append-nil _ in
+        let e2 : filter (λ z. ltb (f.rank x) (f.rank z)) (xs ++ y ∷ ys) ≡ filter (λ z. ltb (f.rank x) (f.rank z)) xs ++ y ∷ ys = filter-append (λ z. ltb (f.rank x) (f.rank z)) xs (y ∷ ys) ∙ ap (λ l. filter (λ z. ltb (f.rank x) (f.rank z)) xs ++ l) more in
+        ap (λ l. l ++ x ∷ filter (λ z. ltb (f.rank x) (f.rank z)) (xs ++ y ∷ ys)) e1 ∙ ap (λ l. filter (λ z. ltb (f.rank z) (f.rank x)) xs ++ x ∷ l) e2
+        ∙ sym (append_assoc (filter (λ z. ltb (f.rank z) (f.rank x)) xs) (x ∷ filter (λ z. ltb (f.rank x) (f.rank z)) xs) (y ∷ ys))
+
+    with_row-right : f.rank y < f.rank x → with_row f x (xs ++ y ∷ ys) ≡ xs ++ y ∷ with_row f x ys
+    with_row-right h =
+        let less : filter (λ z. ltb (f.rank z) (f.rank x)) xs ≡ xs = filter-all (λ n. ltb n (f.rank x)) low (f.rank y) xs left (λ n g e. lt-ltb n (f.rank x) (omega arith)) in
+        let more : filter (λ z. ltb (f.rank x) (f.rank z)) xs ≡ [] = filter-none (λ n. ltb (f.rank x) n) low (f.rank y) xs left (λ n g e. le-ltb (f.rank x) n (omega arith)) in
+        let at_y : filter (λ z. ltb (f.rank z) (f.rank x)) (y ∷ ys) ≡ y ∷ filter (λ z. ltb (f.rank z) (f.rank x)) ys = cond-true (ltb (f.rank y) (f.rank x)) _ _ (lt-ltb _ _ h) in
+        let not_y : filter (λ z. ltb (f.rank x) (f.rank z)) (y ∷ ys) ≡ filter (λ z. ltb (f.rank x) (f.rank z)) ys = cond-false (ltb (f.rank x) (f.rank y)) _ _ (le-ltb _ _ (omega arith)) in
+        let e1 : filter (λ z. ltb (f.rank z) (f.rank x)) (xs ++ y ∷ ys) ≡ xs ++ y ∷ filter (λ z. ltb (f.rank z) (f.rank x)) ys = filter-append (λ z. ltb (f.rank z) (f.rank x)) xs (y ∷ ys) ∙ ap (λ l. l ++ filter (λ z. ltb (f.rank z) (f.rank x)) (y ∷ ys)) less ∙ ap (λ l. xs ++ l) at_y in
+        let e2 : filter (λ z. ltb (f.rank x) (f.rank z)) (xs ++ y ∷ ys) ≡ filter (λ z. ltb (f.rank x) (f.rank z)) ys = filter-append (λ z. ltb (f.rank x) (f.rank z)) xs (y ∷ ys) ∙ ap (λ l. l ++ filter (λ z. ltb (f.rank x) (f.rank z)) (y ∷ ys)) more ∙ not_y in
+        ap (λ l. l ++ x ∷ filter (λ z. ltb (f.rank x) (f.rank z)) (xs ++ y ∷ ys)) e1 ∙ ap (λ l. (xs ++ y ∷ filter (λ z. ltb (f.rank z) (f.rank x)) ys) ++ x ∷ l) e2
+        ∙ append_assoc xs (y ∷ filter (λ z. ltb (f.rank z) (f.rank x)) ys) (x ∷ filter (λ z. ltb (f.rank x) (f.rank z)) ys)
+
+    with_row-here : f.rank x ≡ f.rank y → with_row f x (xs ++ y ∷ ys) ≡ xs ++ x ∷ ys
+    with_row-here h =
+        let less : filter (λ z. ltb (f.rank z) (f.rank x)) xs ≡ xs = filter-all (λ n. ltb n (f.rank x)) low (f.rank y) xs left (λ n g e. lt-ltb n (f.rank x) (omega arith)) in
+        let more : filter (λ z. ltb (f.rank x) (f.rank z)) xs ≡ [] = filter-none (λ n. ltb (f.rank x) n) low (f.rank y) xs left (λ n g e. le-ltb (f.rank x) n (omega arith)) in
+        let no_less : filter (λ z. ltb (f.rank z) (f.rank x)) (y ∷ ys) ≡ [] = filter-none (λ n. ltb n (f.rank x)) (f.rank y) high (y ∷ ys) whole_right (λ n g e. le-ltb n (f.rank x) (omega arith)) in
+        let not_y : filter (λ z. ltb (f.rank x) (f.rank z)) (y ∷ ys) ≡ filter (λ z. ltb (f.rank x) (f.rank z)) ys = cond-false (ltb (f.rank x) (f.rank y)) _ _ (le-ltb _ _ (omega arith)) in
+        let all_more : filter (λ z. ltb (f.rank x) (f.rank z)) ys ≡ ys = filter-all (λ n. ltb (f.rank x) n) (f.rank y + 1) high ys right (λ n g e. lt-ltb (f.rank x) n (omega arith)) in
+        let e1 : filter (λ z. ltb (f.rank z) (f.rank x)) (xs ++ y ∷ ys) ≡ xs = filter-append (λ z. ltb (f.rank z) (f.rank x)) xs (y ∷ ys) ∙ ap (λ l. l ++ filter (λ z. ltb (f.rank z) (f.rank x)) (y ∷ ys)) less ∙ ap (λ l. xs ++ l) no_less ∙ append-nil xs in
+        let e2 : filter (λ z. ltb (f.rank x) (f.rank z)) (xs ++ y ∷ ys) ≡ ys = filter-append (λ z. ltb (f.rank x) (f.rank z)) xs (y ∷ ys) ∙ ap (λ l. l ++ filter (λ z. ltb (f.rank x) (f.rank z)) (y ∷ ys)) more ∙ not_y ∙ all_more in
+        ap (λ l. l ++ x ∷ filter (λ z. ltb (f.rank x) (f.rank z)) (xs ++ y ∷ ys)) e1 ∙ ap (λ l. xs ++ x ∷ l) e2
+
+  module _ (n : ℕ) (y : R) (low high : ℕ) (xs ys : List R) (left : RisesWithin f low (f.rank y) xs) (right : RisesWithin f (f.rank y + 1) high ys) where
+    differs : (a b : ℕ) → (a ≡ b → ⊥) → not (eqb a b) ≡ true
+    differs a b h = ap not (ne_eqb a b h)
+
+    without_rank-left : n < f.rank y → without_rank f n (xs ++ y ∷ ys) ≡ without_rank f n xs ++ y ∷ ys
+    without_rank-left h =
+        filter-append (λ z. not (eqb (f.rank z) n)) xs (y ∷ ys)
+        ∙ ap (λ l. filter (λ z. not (eqb (f.rank z) n)) xs ++ l) (filter-all (λ m. not (eqb m n)) (f.rank y) high (y ∷ ys) (omega arith, right) (λ m g e. differs m n (λ q. absurd (omega arith))))
+
+    without_rank-right : f.rank y < n → without_rank f n (xs ++ y ∷ ys) ≡ xs ++ y ∷ without_rank f n ys
+    without_rank-right h =
+        filter-append (λ z. not (eqb (f.rank z) n)) xs (y ∷ ys)
+        ∙ ap (λ l. l ++ filter (λ z. not (eqb (f.rank z) n)) (y ∷ ys)) (filter-all (λ m. not (eqb m n)) low (f.rank y) xs left (λ m g e. differs m n (λ q. absurd (omega arith))))
+        ∙ ap (λ l. xs ++ l) (cond-true (not (eqb (f.rank y) n)) (y ∷ filter (λ z. not (eqb (f.rank z) n)) ys) (filter (λ z. not (eqb (f.rank z) n)) ys) (differs (f.rank y) n (λ q. absurd (omega arith))))
+
+    without_rank-here : n ≡ f.rank y → without_rank f n (xs ++ y ∷ ys) ≡ xs ++ ys
+    without_rank-here h =
+        filter-append (λ z. not (eqb (f.rank z) n)) xs (y ∷ ys)
+        ∙ ap (λ l. l ++ filter (λ z. not (eqb (f.rank z) n)) (y ∷ ys)) (filter-all (λ m. not (eqb m n)) low (f.rank y) xs left (λ m g e. differs m n (λ q. absurd (omega arith))))
+        ∙ ap (λ l. xs ++ l)
+        (cond-false (not (eqb (f.rank y) n)) (y ∷ filter (λ z. not (eqb (f.rank z) n)) ys) (filter (λ z. not (eqb (f.rank z) n)) ys) (ap not (eq-eqb (f.rank y) n (sym h)))
+        ∙ filter-all (λ m. not (eqb m n)) (f.rank y + 1) high ys right (λ m g e. differs m n (λ q. absurd (omega arith))))
+
+    row_from-left : n < f.rank y → row_from f n (xs ++ y ∷ ys) ≡ option_or (row_from f n xs) (Some y)
+    row_from-left h =
+        find-append (λ z. leb n (f.rank z)) xs (y ∷ ys) ∙ ap (option_or (row_from f n xs)) (cond-true (leb n (f.rank y)) (Some y) (row_from f n ys) (le-leb n (f.rank y) (omega arith)))
+
+    row_from-right : f.rank y < n → row_from f n (xs ++ y ∷ ys) ≡ row_from f n ys
+    row_from-right h =
+        find-append (λ z. leb n (f.rank z)) xs (y ∷ ys)
+        ∙ ap (λ o. option_or o (row_from f n (y ∷ ys))) (find-none (λ m. leb n m) low (f.rank y) xs left (λ m g e. lt-leb n m (omega arith)))
+        ∙ cond-false (leb n (f.rank y)) (Some y) (row_from f n ys) (lt-leb n (f.rank y) h)
+
+    row_from-here : n ≡ f.rank y → row_from f n (xs ++ y ∷ ys) ≡ Some y
+    row_from-here h =
+        find-append (λ z. leb n (f.rank z)) xs (y ∷ ys)
+        ∙ ap (λ o. option_or o (row_from f n (y ∷ ys))) (find-none (λ m. leb n m) low (f.rank y) xs left (λ m g e. lt-leb n m (omega arith)))
+        ∙ cond-true (leb n (f.rank y)) (Some y) (row_from f n ys) (le-leb n (f.rank y) (omega arith))
+
+    row_at-left : n < f.rank y → row_at f n (xs ++ y ∷ ys) ≡ row_at f n xs
+    row_at-left h =
+        find-append (λ z. eqb (f.rank z) n) xs (y ∷ ys)
+        ∙ ap (option_or (row_at f n xs)) (find-none (λ m. eqb m n) (f.rank y) high (y ∷ ys) (omega arith, right) (λ m g e. ne_eqb m n (λ q. absurd (omega arith))))
+        ∙ option_or-none (row_at f n xs)
+
+    row_at-right : f.rank y < n → row_at f n (xs ++ y ∷ ys) ≡ row_at f n ys
+    row_at-right h =
+        find-append (λ z. eqb (f.rank z) n) xs (y ∷ ys)
+        ∙ ap (λ o. option_or o (row_at f n (y ∷ ys))) (find-none (λ m. eqb m n) low (f.rank y) xs left (λ m g e. ne_eqb m n (λ q. absurd (omega arith))))
+        ∙ cond-false (eqb (f.rank y) n) (Some y) (row_at f n ys) (ne_eqb (f.rank y) n (λ q. absurd (omega arith)))
+
+    row_at-here : n ≡ f.rank y → row_at f n (xs ++ y ∷ ys) ≡ Some y
+    row_at-here h =
+        find-append (λ z. eqb (f.rank z) n) xs (y ∷ ys)
+        ∙ ap (λ o. option_or o (row_at f n (y ∷ ys))) (find-none (λ m. eqb m n) low (f.rank y) xs left (λ m g e. ne_eqb m n (λ q. absurd (omega arith))))
+        ∙ cond-true (eqb (f.rank y) n) (Some y) (row_at f n ys) (eq-eqb (f.rank y) n (sym h))
+
+  -- a row, if it has this rank
+  abbrev pub if_at : ℕ → Option R → Option R
+  if_at n None = None
+  if_at n (Some x) = cond (eqb (f.rank x) n) (Some x) None
+
+  -- the row of a rank is the first from this rank on, if that has it
+  pub row_at-row_from : (n low high : ℕ) (xs : List R) → RisesWithin f low high xs → row_at f n xs ≡ if_at n (row_from f n xs)
+  row_at-row_from n low high [] h = refl
+  row_at-row_from n low high (y ∷ ys) h =
+      elim (cases_order n (f.rank y)) [
+        | inl same ↦
+          cond-true (eqb (f.rank y) n) (Some y) (row_at f n ys) (eq-eqb (f.rank y) n (sym same))
+          ∙ sym (ap (if_at n) (cond-true (leb n (f.rank y)) (Some y) (row_from f n ys) (le-leb n (f.rank y) (omega arith))) ∙ cond-true (eqb (f.rank y) n) (Some y) None (eq-eqb (f.rank y) n (sym same)))
+        | inr (inl less) ↦
+          cond-false (eqb (f.rank y) n) (Some y) (row_at f n ys) (ne_eqb (f.rank y) n (λ q. absurd (omega arith)))
+          ∙ find-none (λ m. eqb m n) (f.rank y + 1) high ys h.1 (λ m g e. ne_eqb m n (λ q. absurd (omega arith)))
+          ∙ sym (ap (if_at n) (cond-true (leb n (f.rank y)) (Some y) (row_from f n ys) (le-leb n (f.rank y) (omega arith))) ∙ cond-false (eqb (f.rank y) n) (Some y) None (ne_eqb (f.rank y) n (λ q. absurd (omega arith))))
+        | inr (inr more) ↦
+          cond-false (eqb (f.rank y) n) (Some y) (row_at f n ys) (ne_eqb (f.rank y) n (λ q. absurd (omega arith)))
+          ∙ row_at-row_from n (f.rank y + 1) high ys h.1
+          ∙ sym (ap (if_at n) (cond-false (leb n (f.rank y)) (Some y) (row_from f n ys) (lt-leb n (f.rank y) more)))
+      ]
+
+  module _ (laws : AreLawful f) where
+    rank-plain : (x : R) → f.rank (plain f x) ≡ f.rank x
+    rank-plain x = laws.rank_kept x None None
+
+    -- the rows of an ordered tree rise
+    pub rises-rows : (low high : ℕ) (t : Tree R) → IsOrdered f low high t → RisesWithin f low high (rows_of f t)
+    rises-rows low high Leaf h = h
+    rises-rows low high (Node l p x r) h =
+        RisesWithin-join low high (rows_of f l) (plain f x) (rows_of f r)
+        (subst (λ k. RisesWithin f low k (rows_of f l)) (sym (rank-plain x)) (rises-rows low (f.rank x) l h.0))
+        (subst (λ k. RisesWithin f (k + 1) high (rows_of f r)) (sym (rank-plain x)) (rises-rows (f.rank x + 1) high r h.1))
+
+    -- both sides of a node
+    record Sides (low high : ℕ) (l : Tree R) (x : R) (r : Tree R) : Type 0 where
+      pub left : RisesWithin f low (f.rank (plain f x)) (rows_of f l)
+      pub right : RisesWithin f (f.rank (plain f x) + 1) high (rows_of f r)
+
+    sides : (low high : ℕ) (l : Tree R) (p : ℕ) (x : R) (r : Tree R) → IsOrdered f low high (Node l p x r) → Sides low high l x r
+    sides low high l p x r h =
+        record {
+          left = subst (λ k. RisesWithin f low k (rows_of f l)) (sym (rank-plain x)) (rises-rows low (f.rank x) l h.0);
+          right = subst (λ k. RisesWithin f (k + 1) high (rows_of f r)) (sym (rank-plain x)) (rises-rows (f.rank x + 1) high r h.1);
+        }
+
+    pub rows-inserted : (q : ℕ) (w : R) (low high : ℕ) (t : Tree R) → IsOrdered f low high t → rows_of f (inserted f q w t) ≡ with_row f (plain f w) (rows_of f t)
+    rows-inserted q w low high Leaf h = ap (rows_of f) (insert-leaf_tree f q w)
+    rows-inserted q w low high (Node l p x r) h =
+        let s = sides low high l p x r h in
+        let ew = rank-plain w in
+        let ex = rank-plain x in
+        elim (cases_order (f.rank w) (f.rank x)) [
+          | inl same ↦ ap (rows_of f) (inserted-here f q w l p x r same) ∙ sym (with_row-here (plain f w) (plain f x) low high (rows_of f l) (rows_of f r) s.left s.right (omega arith))
+          | inr (inl less) ↦
+            ap (rows_of f) (inserted-left f q w l p x r less) ∙ rows-balanced f (inserted f q w l) p x r
+            ∙ ap (λ u. u ++ plain f x ∷ rows_of f r) (rows-inserted q w low (f.rank x) l h.0)
+            ∙ sym (with_row-left (plain f w) (plain f x) low high (rows_of f l) (rows_of f r) s.left s.right (omega arith))
+          | inr (inr more) ↦
+            ap (rows_of f) (inserted-right f q w l p x r more) ∙ rows-balanced f l p x (inserted f q w r)
+            ∙ ap (λ u. rows_of f l ++ plain f x ∷ u) (rows-inserted q w (f.rank x + 1) high r h.1)
+            ∙ sym (with_row-right (plain f w) (plain f x) low high (rows_of f l) (rows_of f r) s.left s.right (omega arith))
+        ]
+
+    rows-without_least : (d : R) (t : Tree R) → is_leaf t ≡ false → plain f (least f t d) ∷ rows_of f (without_least f t) ≡ rows_of f t
+    unfolding without_least
+    rows-without_least d Leaf h = cc
+    rows-without_least d (Node Leaf p x r) h = refl
+    rows-without_least d (Node (Node a q y b) p x r) h =
+        ap (λ u. plain f (least f a y) ∷ u) (rows-balanced f (without_least f (Node a q y b)) p x r)
+        ∙ ap (λ u. u ++ plain f x ∷ rows_of f r) (rows-without_least x (Node a q y b) refl)
+
+    rows-without_root : (l : Tree R) (p : ℕ) (x : R) (r : Tree R) → rows_of f (without_root f (Node l p x r)) ≡ rows_of f l ++ rows_of f r
+    unfolding without_root
+    rows-without_root l p x Leaf = sym (append-nil (rows_of f l))
+    rows-without_root l p x (Node a q y b) =
+        rows-balanced f l p (least f a y) (without_least f (Node a q y b)) ∙ ap (λ u. rows_of f l ++ u) (rows-without_least x (Node a q y b) refl)
+
+    pub rows-removed : (n low high : ℕ) (t : Tree R) → IsOrdered f low high t → rows_of f (removed f n t) ≡ without_rank f n (rows_of f t)
+    rows-removed n low high Leaf h = ap (rows_of f) (removed-leaf f n)
+    rows-removed n low high (Node l p x r) h =
+        let s = sides low high l p x r h in
+        let ex = rank-plain x in
+        elim (cases_order n (f.rank x)) [
+          | inl same ↦
+            ap (rows_of f) (removed-here f n l p x r same) ∙ rows-without_root l p x r
+            ∙ sym (without_rank-here n (plain f x) low high (rows_of f l) (rows_of f r) s.left s.right (omega arith))
+          | inr (inl less) ↦
+            ap (rows_of f) (removed-left f n l p x r less) ∙ rows-balanced f (removed f n l) p x r
+            ∙ ap (λ u. u ++ plain f x ∷ rows_of f r) (rows-removed n low (f.rank x) l h.0)
+            ∙ sym (without_rank-left n (plain f x) low high (rows_of f l) (rows_of f r) s.left s.right (omega arith))
+          | inr (inr more) ↦
+            ap (rows_of f) (removed-right f n l p x r more) ∙ rows-balanced f l p x (removed f n r)
+            ∙ ap (λ u. rows_of f l ++ plain f x ∷ u) (rows-removed n (f.rank x + 1) high r h.1)
+            ∙ sym (without_rank-right n (plain f x) low high (rows_of f l) (rows_of f r) s.left s.right (omega arith))
+        ]
+
+    -- what the way down finds
+    pub found-row_from : (n : ℕ) (best : Option R) (low high : ℕ) (t : Tree R) → IsOrdered f low high t → found f n best t ≡ option_or (row_from f n (rows_of f t)) best
+    found-row_from n best low high Leaf h = refl
+    found-row_from n best low high (Node l p x r) h =
+        let s = sides low high l p x r h in
+        let ex = rank-plain x in
+        elim (cases_order n (f.rank x)) [
+          | inl same ↦
+            cond-false (ltb n (f.rank x)) _ _ (le-ltb n (f.rank x) (omega arith)) ∙ cond-false (ltb (f.rank x) n) _ _ (le-ltb (f.rank x) n (omega arith))
+            ∙ sym (ap (λ o. option_or o best) (row_from-here n (plain f x) low high (rows_of f l) (rows_of f r) s.left s.right (omega arith)))
+          | inr (inl less) ↦
+            cond-true (ltb n (f.rank x)) _ _ (lt-ltb n (f.rank x) less) ∙ found-row_from n (Some (plain f x)) low (f.rank x) l h.0
+            ∙ sym (ap (λ o. option_or o best) (row_from-left n (plain f x) low high (rows_of f l) (rows_of f r) s.left s.right (omega arith)) ∙ option_or-some (row_from f n (rows_of f l)) (plain f x) best)
+          | inr (inr more) ↦
+            cond-false (ltb n (f.rank x)) _ _ (le-ltb n (f.rank x) (omega arith)) ∙ cond-true (ltb (f.rank x) n) _ _ (lt-ltb (f.rank x) n more)
+            ∙ found-row_from n best (f.rank x + 1) high r h.1
+            ∙ sym (ap (λ o. option_or o best) (row_from-right n (plain f x) low high (rows_of f l) (rows_of f r) s.left s.right (omega arith)))
+        ]
+
+    pub has_rank-row_at : (n low high : ℕ) (t : Tree R) → IsOrdered f low high t → has_rank f n t ≡ is_some (row_at f n (rows_of f t))
+    has_rank-row_at n low high Leaf h = refl
+    has_rank-row_at n low high (Node l p x r) h =
+        let s = sides low high l p x r h in
+        let ex = rank-plain x in
+        elim (cases_order n (f.rank x)) [
+          | inl same ↦
+            cond-false (ltb n (f.rank x)) _ _ (le-ltb n (f.rank x) (omega arith)) ∙ cond-false (ltb (f.rank x) n) _ _ (le-ltb (f.rank x) n (omega arith))
+            ∙ sym (ap is_some (row_at-here n (plain f x) low high (rows_of f l) (rows_of f r) s.left s.right (omega arith)))
+          | inr (inl less) ↦
+            cond-true (ltb n (f.rank x)) _ _ (lt-ltb n (f.rank x) less) ∙ has_rank-row_at n low (f.rank x) l h.0
+            ∙ sym (ap is_some (row_at-left n (plain f x) low high (rows_of f l) (rows_of f r) s.left s.right (omega arith)))
+          | inr (inr more) ↦
+            cond-false (ltb n (f.rank x)) _ _ (le-ltb n (f.rank x) (omega arith)) ∙ cond-true (ltb (f.rank x) n) _ _ (lt-ltb (f.rank x) n more)
+            ∙ has_rank-row_at n (f.rank x + 1) high r h.1
+            ∙ sym (ap is_some (row_at-right n (plain f x) low high (rows_of f l) (rows_of f r) s.left s.right (omega arith)))
+        ]
+
+    pub length-inserted : (q : ℕ) (w : R) (t : Tree R) → length (rows_of f (inserted f q w t)) ≡ length (rows_of f t) + cond (has_rank f (f.rank w) t) 0 1
+    length-inserted q w Leaf = ap (λ t. length (rows_of f t)) (insert-leaf_tree f q w)
+    length-inserted q w (Node l p x r) =
+        let whole = length-append (rows_of f l) (plain f x ∷ rows_of f r) in
+        elim (cases_order (f.rank w) (f.rank x)) [
+          | inl same ↦
+            let is = ap (λ t. length (rows_of f t)) (inserted-here f q w l p x r same) ∙ length-append (rows_of f l) (plain f w ∷ rows_of f r) in
+            let there : has_rank f (f.rank w) (Node l p x r) ≡ true = cond-false (ltb (f.rank w) (f.rank x)) _ _ (le-ltb _ _ (omega arith)) ∙ cond-false (ltb (f.rank x) (f.rank w)) _ _ (le-ltb _ _ (omega arith)) in
+            omega (arith, is, whole, ap {B = ℕ} (λ b. cond b 0 1) there)
+          | inr (inl less) ↦
+            let is = ap (λ t. length (rows_of f t)) (inserted-left f q w l p x r less) ∙ ap length (rows-balanced f (inserted f q w l) p x r) ∙ length-append (rows_of f (inserted f q w l)) (plain f x ∷ rows_of f r) in
+            let there : has_rank f (f.rank w) (Node l p x r) ≡ has_rank f (f.rank w) l = cond-true (ltb (f.rank w) (f.rank x)) _ _ (lt-ltb _ _ less) in
+            omega (arith, is, whole, length-inserted q w l, ap {B = ℕ} (λ b. cond b 0 1) there)
+          | inr (inr more) ↦
+            let is = ap (λ t. length (rows_of f t)) (inserted-right f q w l p x r more) ∙ ap length (rows-balanced f l p x (inserted f q w r)) ∙ length-append (rows_of f l) (plain f x ∷ rows_of f (inserted f q w r)) in
+            let there : has_rank f (f.rank w) (Node l p x r) ≡ has_rank f (f.rank w) r = cond-false (ltb (f.rank w) (f.rank x)) _ _ (le-ltb _ _ (omega arith)) ∙ cond-true (ltb (f.rank x) (f.rank w)) _ _ (lt-ltb _ _ more) in
+            omega (arith, is, whole, length-inserted q w r, ap {B = ℕ} (λ b. cond b 0 1) there)
+        ]
+
+    pub length-removed : (n : ℕ) (t : Tree R) → length (rows_of f (removed f n t)) + cond (has_rank f n t) 1 0 ≡ length (rows_of f t)
+    length-removed n Leaf = omega (arith, ap (λ t. length (rows_of f t)) (removed-leaf f n))
+    length-removed n (Node l p x r) =
+        let whole = length-append (rows_of f l) (plain f x ∷ rows_of f r) in
+        elim (cases_order n (f.rank x)) [
+          | inl same ↦
+            let is = ap (λ t. length (rows_of f t)) (removed-here f n l p x r same) ∙ ap length (rows-without_root l p x r) ∙ length-append (rows_of f l) (rows_of f r) in
+            let there : has_rank f n (Node l p x r) ≡ true = cond-false (ltb n (f.rank x)) _ _ (le-ltb _ _ (omega arith)) ∙ cond-false (ltb (f.rank x) n) _ _ (le-ltb _ _ (omega arith)) in
+            omega (arith, is, whole, ap {B = ℕ} (λ b. cond b 1 0) there)
+          | inr (inl less) ↦
+            let is = ap (λ t. length (rows_of f t)) (removed-left f n l p x r less) ∙ ap length (rows-balanced f (removed f n l) p x r) ∙ length-append (rows_of f (removed f n l)) (plain f x ∷ rows_of f r) in
+            let there : has_rank f n (Node l p x r) ≡ has_rank f n l = cond-true (ltb n (f.rank x)) _ _ (lt-ltb _ _ less) in
+            omega (arith, is, whole, length-removed n l, ap {B = ℕ} (λ b. cond b 1 0) there)
+          | inr (inr more) ↦
+            let is = ap (λ t. length (rows_of f t)) (removed-right f n l p x r more) ∙ ap length (rows-balanced f l p x (removed f n r)) ∙ length-append (rows_of f l) (plain f x ∷ rows_of f (removed f n r)) in
+            let there : has_rank f n (Node l p x r) ≡ has_rank f n r = cond-false (ltb n (f.rank x)) _ _ (le-ltb _ _ (omega arith)) ∙ cond-true (ltb (f.rank x) n) _ _ (lt-ltb _ _ more) in
+            omega (arith, is, whole, length-removed n r, ap {B = ℕ} (λ b. cond b 1 0) there)
+        ]
