@@ -5,3 +5,5 @@ pub mod Insertions
 pub mod Removals
 pub mod TreeLaws
 pub mod RowLaws
+pub mod Costs
+pub mod Views
