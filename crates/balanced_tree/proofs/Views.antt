@@ -1,6 +1,7 @@
 -- The rows that a slab and a link show are those of the tree that stands there.
-use Rattle.std.proofs.Common.{◌≡◌, ◌⊎◌, inl, inr, ℕ, zero, suc, ◌+◌, ◌-◌, ◌*◌, ◌<◌, ◌≤◌, ◌^◌, max, Bool, true, false, cond, List, [], ◌∷◌, ◌++◌, length, Option, None, Some, is_some, IsTrue, IsSome, IsNone, slice_index_or, count_by, refl, sym, ap, ◌∙◌, subst, arith}
+use Rattle.std.proofs.Common.{◌≡◌, ◌⊎◌, inl, inr, ℕ, zero, suc, ◌+◌, ◌-◌, ◌*◌, ◌<◌, ◌≤◌, ◌^◌, max, Bool, true, false, cond, List, [], ◌∷◌, ◌++◌, length, Option, None, Some, is_some, IsTrue, IsSome, IsNone, eqb, slice_index_or, count_by, refl, sym, ap, ◌∙◌, subst, arith}
 use Rattle.std.specs.Option.{option_or}
+use Rattle.std.proofs.lemmas.Bool.{cond-true, cond-false, eq-eqb, ne_eqb}
 use Rattle.slab.specs.Slab.{Slab, get, slab_len, HasRoomFor}
 use Rattle.balanced_tree.specs.declared.children.Child.{Child}
 use Rattle.balanced_tree.specs.Row.{Functions, AreLawful, plain, link_of}
@@ -142,3 +143,44 @@ module _ {R : Type 0} (f : Functions R) (laws : AreLawful f) where
     pub rows-IsTree_removed : (rows_in f s1 link).rows ≡ without_rank f n (rows_in f s root).rows
     rows-IsTree_removed =
         rows_in-standing removed_standing ∙ rows-removed f laws n 0 (2 ^ 128) h.tree h.standing.ordered ∙ ap (without_rank f n) (sym (rows_in-standing h.standing))
+
+  -- what a look-up by rank answers, from what the way down finds
+  module _ {s : Slab R} {root : Option ℕ} (n : ℕ) (o : Option R) (h : IsTree f s root) (is : o ≡ found f n None h.tree) where
+    at_found : row_at f n (rows_in f s root).rows ≡ if_at f n o
+    at_found = row_at-IsTree n h ∙ ap (if_at f n) (sym is)
+
+    pub find-nothing : o ≡ None → None ≡ row_at f n (rows_in f s root).rows
+    find-nothing e = sym (at_found ∙ ap (if_at f n) e)
+
+    pub find-same : (x : R) → o ≡ Some x → f.rank x ≡ n → Some x ≡ row_at f n (rows_in f s root).rows
+    find-same x e same = sym (at_found ∙ ap (if_at f n) e ∙ cond-true (eqb (f.rank x) n) (Some x) None (eq-eqb (f.rank x) n same))
+
+    pub find-other : (x : R) → o ≡ Some x → (f.rank x ≡ n → ⊥) → None ≡ row_at f n (rows_in f s root).rows
+    find-other x e other = sym (at_found ∙ ap (if_at f n) e ∙ cond-false (eqb (f.rank x) n) (Some x) None (ne_eqb (f.rank x) n other))
+
+    -- where there is a row of the rank, the way down finds it
+    pub find-present : IsSome (row_at f n (rows_in f s root).rows) → row_at f n (rows_in f s root).rows ≡ o
+    find-present some = at_found ∙ if_at-is o (subst IsSome at_found some) where
+      if_at-is : (p : Option R) → IsSome (if_at f n p) → if_at f n p ≡ p
+      if_at-is None q = refl
+      if_at-is (Some x) q = if_at-cond (eqb (f.rank x) n) x q where
+        if_at-cond : (b : Bool) (x : R) → IsSome (cond b (Some x) None) → cond b (Some x) None ≡ Some x
+        if_at-cond true x q = refl
+        if_at-cond false x q = cc
+
+  -- an insertion where a row has the rank needs no room
+  pub StandsFor-present : {s : Slab R} {root : Option ℕ} (n : ℕ) → n < 2 ^ 128 → IsTree f s root → IsSome (row_at f n (rows_in f s root).rows) → StandsFor f s root n
+  StandsFor-present n fits h some =
+      record {
+        tree = h.tree; low = 0; high = 2 ^ 128; standing = h.standing; from_low = omega arith; below_high = fits;
+        room = inl (has_rank-IsTree n h ∙ some);
+      }
+
+  pub not_there : {s : Slab R} {root : Option ℕ} (n : ℕ) → (h : IsTree f s root) → IsNone (row_at f n (rows_in f s root).rows) → has_rank f n h.tree ≡ false
+  not_there n h none = has_rank-IsTree n h ∙ is_some-none _ none where
+    is_some-none : {A : Type 0} (o : Option A) → IsNone o → is_some o ≡ false
+    is_some-none None q = refl
+    is_some-none (Some x) q = cc
+
+  pub there : {s : Slab R} {root : Option ℕ} (n : ℕ) → (h : IsTree f s root) → IsSome (row_at f n (rows_in f s root).rows) → has_rank f n h.tree ≡ true
+  there n h some = has_rank-IsTree n h ∙ some

@@ -6,7 +6,7 @@ ghost use Rattle.balanced_tree.specs.Rows.{row_at, row_from, with_row, without_r
 
 use crate::descent::find_below;
 use crate::insertion::insert_below;
-use crate::removal::remove_below;
+use crate::removal::{link_to, remove_below};
 use crate::row_slab::RowSlab;
 use crate::steps::Steps;
 use crate::tree_row::TreeRow;
@@ -100,7 +100,7 @@ impl<R: TreeRow> BalancedTree<R> {
 
     /// Puts a row in place of the one of its rank, under the place in the slab where that one stood.
     pub fn replace_counted<L: Ledger>(&mut self, row: R, steps: &mut Steps<L>)
-        requires present { IsSome (row_at R.functions (R.functions.rank row) self.old.rows) }
+        requires { IsSome (row_at R.functions (R.functions.rank row) self.old.rows) }
         ensures rows { self.new.rows ≡ with_row R.functions (plain R.functions row) self.old.rows }
         ensures spare { self.new.spare ≡ self.old.spare }
         ensures cost { 2 ^ (steps.new - steps.old) ≤ (length self.old.rows + 2) ^ 32 }
@@ -112,17 +112,17 @@ impl<R: TreeRow> BalancedTree<R> {
 
     /// Takes the row of this rank out, and answers it.
     pub fn remove_counted<L: Ledger>(&mut self, rank: u128, steps: &mut Steps<L>) -> R
-        requires present { IsSome (row_at R.functions rank self.old.rows) }
+        requires { IsSome (row_at R.functions rank self.old.rows) }
         ensures row { row_at R.functions rank self.old.rows ≡ Some result }
         ensures rows { self.new.rows ≡ without_rank R.functions rank self.old.rows }
         ensures spare { self.new.spare ≡ self.old.spare + 1 }
         ensures cost { 2 ^ (steps.new - steps.old) ≤ (length self.old.rows + 2) ^ 32 }
     {
-        let Some(row) = self.find_counted(rank, steps) else {
+        let Some(row) = find_below(&self.rows, self.root, rank, None, steps) else {
             unreachable!()
         };
         let root = remove_below(&mut self.rows, self.root, rank, steps);
-        self.root = root.map(|child| child.link);
+        self.root = link_to(root);
         row
     }
 }
