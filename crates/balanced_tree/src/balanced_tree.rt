@@ -125,4 +125,97 @@ impl<R: TreeRow> BalancedTree<R> {
         self.root = link_to(root);
         row
     }
+
+    /// The row of this rank.
+    pub fn find(&self, rank: u128) -> Option<R>
+        ensures { result ≡ row_at R.functions rank self.now.rows }
+    {
+        find_with::<R, Brand>(self, rank, Blank::new(1))
+    }
+
+    /// The first row of this rank or a higher one.
+    pub fn next(&self, rank: u128) -> Option<R>
+        ensures { result ≡ row_from R.functions rank self.now.rows }
+    {
+        next_with::<R, Brand>(self, rank, Blank::new(1))
+    }
+
+    /// Puts a row of a rank that no row has yet.
+    pub fn insert(&mut self, row: R)
+        requires absent { IsNone (row_at R.functions (R.functions.rank row) self.old.rows) }
+        requires room { 1 ≤ self.old.spare }
+        ensures rows { self.new.rows ≡ with_row R.functions (plain R.functions row) self.old.rows }
+        ensures spare { self.new.spare + 1 ≡ self.old.spare }
+    {
+        insert_with::<R, Brand>(self, row, Blank::new(1));
+    }
+
+    /// Puts a row in place of the one of its rank.
+    pub fn replace(&mut self, row: R)
+        requires { IsSome (row_at R.functions (R.functions.rank row) self.old.rows) }
+        ensures rows { self.new.rows ≡ with_row R.functions (plain R.functions row) self.old.rows }
+        ensures spare { self.new.spare ≡ self.old.spare }
+    {
+        replace_with::<R, Brand>(self, row, Blank::new(1));
+    }
+
+    /// Takes the row of this rank out, and answers it.
+    pub fn remove(&mut self, rank: u128) -> R
+        requires { IsSome (row_at R.functions rank self.old.rows) }
+        ensures row { row_at R.functions rank self.old.rows ≡ Some result }
+        ensures rows { self.new.rows ≡ without_rank R.functions rank self.old.rows }
+        ensures spare { self.new.spare ≡ self.old.spare + 1 }
+    {
+        remove_with::<R, Brand>(self, rank, Blank::new(1))
+    }
+}
+
+// The counted calls over a ledger that is thrown away.
+
+fn find_with<R: TreeRow, L: Ledger>(tree: &BalancedTree<R>, rank: u128, blank: Blank) -> Option<R>
+    requires ledger { (blank.name ≡ L.name) × (blank.parts ≡ L.parts) × (0 < blank.parts) }
+    ensures { result ≡ row_at R.functions rank tree.now.rows }
+{
+    let mut steps = Steps::<L>::new(blank);
+    tree.find_counted(rank, &mut steps)
+}
+
+fn next_with<R: TreeRow, L: Ledger>(tree: &BalancedTree<R>, rank: u128, blank: Blank) -> Option<R>
+    requires ledger { (blank.name ≡ L.name) × (blank.parts ≡ L.parts) × (0 < blank.parts) }
+    ensures { result ≡ row_from R.functions rank tree.now.rows }
+{
+    let mut steps = Steps::<L>::new(blank);
+    tree.next_counted(rank, &mut steps)
+}
+
+fn insert_with<R: TreeRow, L: Ledger>(tree: &mut BalancedTree<R>, row: R, blank: Blank)
+    requires ledger { (blank.name ≡ L.name) × (blank.parts ≡ L.parts) × (0 < blank.parts) }
+    requires absent { IsNone (row_at R.functions (R.functions.rank row) tree.old.rows) }
+    requires room { 1 ≤ tree.old.spare }
+    ensures rows { tree.new.rows ≡ with_row R.functions (plain R.functions row) tree.old.rows }
+    ensures spare { tree.new.spare + 1 ≡ tree.old.spare }
+{
+    let mut steps = Steps::<L>::new(blank);
+    tree.insert_counted(row, &mut steps);
+}
+
+fn replace_with<R: TreeRow, L: Ledger>(tree: &mut BalancedTree<R>, row: R, blank: Blank)
+    requires ledger { (blank.name ≡ L.name) × (blank.parts ≡ L.parts) × (0 < blank.parts) }
+    requires present { IsSome (row_at R.functions (R.functions.rank row) tree.old.rows) }
+    ensures rows { tree.new.rows ≡ with_row R.functions (plain R.functions row) tree.old.rows }
+    ensures spare { tree.new.spare ≡ tree.old.spare }
+{
+    let mut steps = Steps::<L>::new(blank);
+    tree.replace_counted(row, &mut steps);
+}
+
+fn remove_with<R: TreeRow, L: Ledger>(tree: &mut BalancedTree<R>, rank: u128, blank: Blank) -> R
+    requires ledger { (blank.name ≡ L.name) × (blank.parts ≡ L.parts) × (0 < blank.parts) }
+    requires present { IsSome (row_at R.functions rank tree.old.rows) }
+    ensures row { row_at R.functions rank tree.old.rows ≡ Some result }
+    ensures rows { tree.new.rows ≡ without_rank R.functions rank tree.old.rows }
+    ensures spare { tree.new.spare ≡ tree.old.spare + 1 }
+{
+    let mut steps = Steps::<L>::new(blank);
+    tree.remove_counted(rank, &mut steps)
 }
