@@ -20,7 +20,7 @@ module _ {R : Type 0} (f : Functions R) where
 
   pub height_at-standing : {s : Slab R} {at : Option ℕ} {t : Tree R} {low high : ℕ} → AreLawful f → IsStanding f s at t low high → height_at f s at ≡ height t
   height_at-standing {s} {at} {t} laws h =
-      ap (height_in f) (ap (child_at s) (sym h.is_at) ∙ child_at-place_of f s t h.spelled) ∙ stored-short laws t h.short
+      ap (height_in f.height) (ap (child_at s) (sym h.is_at) ∙ child_at-place_of f s t h.spelled) ∙ stored-short laws t h.short
 
   -- the tree at a place where this row is stored
   pub record IsNode (s : Slab R) (p : ℕ) (here : R) (t : Tree R) (low high : ℕ) : Type 0 where

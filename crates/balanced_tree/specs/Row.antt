@@ -17,9 +17,13 @@ module _ {R : Type 0} where
   link_of (Some c) = Some c.link
 
   -- the height that a child's row has; no child has the height 0
-  abbrev pub height_in : Functions R → Option (Child R) → ℕ
-  height_in f None = 0
-  height_in f (Some c) = f.height c.row
+  abbrev pub height_in : (R → ℕ) → Option (Child R) → ℕ
+  height_in of None = 0
+  height_in of (Some c) = of c.row
+
+  -- one more than the greater height of two children, up to the end of the height's type
+  abbrev pub height_over : (R → ℕ) → Option (Child R) → Option (Child R) → ℕ
+  height_over of l r = min (max (height_in of l) (height_in of r) + 1) (2 ^ 32 - 1)
 
   -- the row with no children
   abbrev pub plain : Functions R → R → R
@@ -31,5 +35,5 @@ pub record AreLawful {R : Type 0} (f : Functions R) : Type 0 where
   pub rank_kept : (x : R) (l r : Option (Child R)) → f.rank (f.linked x l r) ≡ f.rank x
   pub left_set : (x : R) (l r : Option (Child R)) → f.left (f.linked x l r) ≡ link_of l
   pub right_set : (x : R) (l r : Option (Child R)) → f.right (f.linked x l r) ≡ link_of r
-  pub height_set : (x : R) (l r : Option (Child R)) → f.height (f.linked x l r) ≡ min (max (height_in f l) (height_in f r) + 1) (2 ^ 32 - 1)
+  pub height_set : (x : R) (l r : Option (Child R)) → f.height (f.linked x l r) ≡ height_over f.height l r
   pub forgets : (x : R) (a b l r : Option (Child R)) → f.linked (f.linked x a b) l r ≡ f.linked x l r

@@ -126,7 +126,7 @@ module _ {R : Type 0} (f : Functions R) where
 
   -- the height that is stored in the row under a link
   abbrev pub height_at : Slab R → Option ℕ → ℕ
-  height_at s at = height_in f (child_at s at)
+  height_at s at = height_in f.height (child_at s at)
 
   -- the rows below a child and its own, in order, where `below` gives those under a link
   abbrev pub rows_round : Option (Child R) → (Option ℕ → List R) → List R

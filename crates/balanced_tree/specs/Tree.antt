@@ -35,7 +35,7 @@ module _ {R : Type 0} (f : Functions R) where
 
   -- the height that is stored in the root
   abbrev pub stored : Tree R → ℕ
-  stored t = height_in f (child_of t)
+  stored t = height_in f.height (child_of t)
 
   -- the rows from left to right, with no children
   abbrev pub rows_of : Tree R → List R

@@ -4,9 +4,10 @@ ghost use Rattle.std.specs.Prelude.{◌≡◌, ℕ, ◌+◌, ◌-◌, ◌^◌, �
 ghost use Rattle.balanced_tree.specs.Row.{plain};
 ghost use Rattle.balanced_tree.specs.Rows.{row_at, row_from, with_row, without_rank, IsRising};
 
+use crate::children::link_to;
 use crate::descent::find_below;
 use crate::insertion::insert_below;
-use crate::removal::{link_to, remove_below};
+use crate::removal::remove_below;
 use crate::row_slab::RowSlab;
 use crate::steps::Steps;
 use crate::tree_row::TreeRow;
@@ -66,6 +67,13 @@ impl<R: TreeRow> BalancedTree<R> {
         ensures rising { IsRising R.functions self.now.rows }
     {
         self.rows.len()
+    }
+
+    /// How many more rows fit with no memory from the host.
+    pub fn spare(&self) -> usize
+        ensures { result ≡ self.now.spare }
+    {
+        self.rows.spare()
     }
 
     /// The row of this rank.

@@ -16,7 +16,7 @@ mod steps;
 mod tree_row;
 
 pub use balanced_tree::BalancedTree;
-pub use children::Child;
+pub use children::{Child, link_to};
 pub use row_slab::RowSlab;
 pub use steps::Steps;
 pub use tree_row::TreeRow;

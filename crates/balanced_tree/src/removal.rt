@@ -2,7 +2,6 @@
 
 ghost use Rattle.std.specs.Prelude.{◌≡◌, ℕ, Some};
 ghost use Rattle.slab.specs.Slab.{get};
-ghost use Rattle.balanced_tree.specs.Row.{link_of};
 ghost use Rattle.balanced_tree.specs.Tree.{Tree};
 ghost use Rattle.balanced_tree.specs.Standing.{IsStanding, Stands, HasRemoved, HasTakenLeast, HasTakenRoot};
 
@@ -94,15 +93,5 @@ pub fn remove_below<R: TreeRow, L: Ledger>(
         Some(balance(rows, place, here, left, right, steps))
     } else {
         take_root(rows, place, here, steps)
-    }
-}
-
-/// The link to a child.
-pub fn link_to<R: TreeRow>(child: Option<Child<R>>) -> Option<usize>
-    ensures { result ≡ link_of child }
-{
-    match child {
-        None => None,
-        Some(child) => Some(child.link),
     }
 }

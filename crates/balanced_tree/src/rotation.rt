@@ -45,7 +45,7 @@ pub fn right_child<R: TreeRow, L: Ledger>(
 
 /// The height of a child; no child has the height 0.
 fn height_of<R: TreeRow>(child: Option<Child<R>>) -> u64
-    ensures height { result ≡ height_in R.functions child }
+    ensures height { result ≡ height_in R.functions.height child }
     ensures fits { result < 2 ^ 32 }
 {
     match child {
@@ -56,7 +56,7 @@ fn height_of<R: TreeRow>(child: Option<Child<R>>) -> u64
 
 /// The child, if it is higher than the other one by more than this.
 fn if_higher<R: TreeRow>(child: Option<Child<R>>, other: Option<Child<R>>, by: u32) -> Option<Child<R>>
-    ensures { result ≡ (if nat_lt (height_in R.functions other + by) (height_in R.functions child) then child else None) }
+    ensures { result ≡ (if nat_lt (height_in R.functions.height other + by) (height_in R.functions.height child) then child else None) }
 {
     if height_of(other) + u64::from(by) < height_of(child) {
         return child;
