@@ -21,5 +21,5 @@ pub use row_slab::RowSlab;
 pub use steps::Steps;
 pub use tree_row::TreeRow;
 
-//#[cfg(test)]
-//mod tests;
+#[cfg(test)]
+mod tests;
