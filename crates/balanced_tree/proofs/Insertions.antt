@@ -1,13 +1,13 @@
 -- What putting a row into a tree does, case by case.
-use Rattle.std.proofs.Common.{◌≡◌, ◌⊎◌, ℕ, ◌+◌, ◌-◌, ◌*◌, ◌<◌, ◌≤◌, ◌^◌, max, min, Bool, true, false, cond, ltb, Option, None, Some, IsTrue, refl, sym, ap, ◌∙◌, subst, inl, inr, arith}
-use Rattle.std.proofs.lemmas.Bool.{lt-ltb, le-ltb, cond-true, cond-false, cases_eq}
-use Rattle.slab.specs.Slab.{Slab, get, slab_len, HasRoomFor, Updates}
+use Rattle.std.proofs.Common.{◌≡◌, ℕ, ◌+◌, ◌<◌, ◌≤◌, cond, ltb, Option, None, Some, refl, sym, ap, ◌∙◌, subst, arith}
+use Rattle.std.proofs.lemmas.Bool.{lt-ltb, le-ltb, cond-true, cond-false}
+use Rattle.slab.specs.Slab.{Slab, get, slab_len, Updates}
 use Rattle.balanced_tree.specs.declared.children.Child.{Child}
 use Rattle.balanced_tree.specs.Row.{Functions, AreLawful}
-use Rattle.balanced_tree.specs.Tree.{Tree, Leaf, Node, place_of, height, child_of, IsOrdered, has_rank, balanced, inserted}
-use Rattle.balanced_tree.specs.Standing.{child_at, Spells, Same, IsStanding, Stands, StandsFor, Keeps, Becomes, IsSplit, HasInserted}
+use Rattle.balanced_tree.specs.Tree.{Tree, Leaf, Node, child_of, balanced, inserted}
+use Rattle.balanced_tree.specs.Standing.{child_at, Same, IsStanding, Becomes, IsSplit, HasInserted}
 use Rattle.balanced_tree.proofs.Spelling.{Keeps-trans, Same-refl, place_over-tree}
-use Rattle.balanced_tree.proofs.Nodes.{IsNode, IsNode-standing, rank_here, height-left, height-right, right_is, left_is, right_kept, left_kept, split_left, split_right, kept_wider_left, kept_wider_right, has_rank-left, has_rank-right, has_rank-here}
+use Rattle.balanced_tree.proofs.Nodes.{IsNode, rank_here, height-left, height-right, right_is, left_is, right_kept, left_kept, split_left, split_right, kept_wider_left, kept_wider_right, has_rank-left, has_rank-right, has_rank-here}
 
 module _ {R : Type 0} (f : Functions R) where
   pub inserted-left : (q : ℕ) (w : R) (l : Tree R) (p : ℕ) (x : R) (r : Tree R) → f.rank w < f.rank x → inserted f q w (Node l p x r) ≡ balanced f (inserted f q w l) p x r
@@ -36,13 +36,13 @@ module _ {R : Type 0} (f : Functions R) where
   Becomes-right n one two = record { spelled = two.spelled; ordered = two.ordered; kept = Keeps-trans f (kept_wider_right f n one.kept) two.kept }
 
   pub insert-left :
-    {s s1 s2 : Slab R} {p : ℕ} {here w : R} {t : Tree R} {low high before b1 b2 b3 after : ℕ} {left root : Child R} {right : Option (Child R)}
-    → AreLawful f → (n : IsNode f s p here t low high) → f.rank w < f.rank here
-    → HasInserted f s s1 w n.left low (f.rank n.row) left b1 b2
-    → right ≡ child_at s1 (f.right here)
-    → Balances s1 s2 p here (Some left) right root
-    → slab_len s2 ≡ slab_len s1 → b1 ≤ before + 1 → b3 ≤ b2 + 1 → after ≤ b3 + 7
-    → HasInserted f s s2 w t low high root before after
+      {s s1 s2 : Slab R} {p : ℕ} {here w : R} {t : Tree R} {low high before b1 b2 b3 after : ℕ} {left root : Child R} {right : Option (Child R)}
+      → AreLawful f → (n : IsNode f s p here t low high) → f.rank w < f.rank here
+      → HasInserted f s s1 w n.left low (f.rank n.row) left b1 b2
+      → right ≡ child_at s1 (f.right here)
+      → Balances s1 s2 p here (Some left) right root
+      → slab_len s2 ≡ slab_len s1 → b1 ≤ before + 1 → b3 ≤ b2 + 1 → after ≤ b3 + 7
+      → HasInserted f s s2 w t low high root before after
   insert-left {s} {s1} {s2} {p} {here} {w} {t} {low} {high} {before} {b1} {b2} {b3} {after} {left} {root} laws n less sub on_right balance len g1 g2 g3 =
       let q = s.vacant_key in
       let made = balance _ n.row n.right low high (split_left f n laws sub.becomes) n.same sub.child (right_is f n s1 (right_kept f n laws sub.becomes.kept) on_right) in
@@ -55,13 +55,13 @@ module _ {R : Type 0} (f : Functions R) where
       }
 
   pub insert-right :
-    {s s1 s2 : Slab R} {p : ℕ} {here w : R} {t : Tree R} {low high before b1 b2 b3 after : ℕ} {right root : Child R} {left : Option (Child R)}
-    → AreLawful f → (n : IsNode f s p here t low high) → f.rank here < f.rank w
-    → HasInserted f s s1 w n.right (f.rank n.row + 1) high right b1 b2
-    → left ≡ child_at s1 (f.left here)
-    → Balances s1 s2 p here left (Some right) root
-    → slab_len s2 ≡ slab_len s1 → b1 ≤ before + 1 → b3 ≤ b2 + 1 → after ≤ b3 + 7
-    → HasInserted f s s2 w t low high root before after
+      {s s1 s2 : Slab R} {p : ℕ} {here w : R} {t : Tree R} {low high before b1 b2 b3 after : ℕ} {right root : Child R} {left : Option (Child R)}
+      → AreLawful f → (n : IsNode f s p here t low high) → f.rank here < f.rank w
+      → HasInserted f s s1 w n.right (f.rank n.row + 1) high right b1 b2
+      → left ≡ child_at s1 (f.left here)
+      → Balances s1 s2 p here left (Some right) root
+      → slab_len s2 ≡ slab_len s1 → b1 ≤ before + 1 → b3 ≤ b2 + 1 → after ≤ b3 + 7
+      → HasInserted f s s2 w t low high root before after
   insert-right {s} {s1} {s2} {p} {here} {w} {t} {low} {high} {before} {b1} {b2} {b3} {after} {right} {root} laws n more sub on_left balance len g1 g2 g3 =
       let q = s.vacant_key in
       let made = balance n.left n.row _ low high (split_right f n laws sub.becomes) n.same (left_is f n s1 (left_kept f n laws sub.becomes.kept) on_left) sub.child in
@@ -74,18 +74,27 @@ module _ {R : Type 0} (f : Functions R) where
       }
 
   pub insert-here :
-    {s s2 : Slab R} {p : ℕ} {here w : R} {t : Tree R} {low high before after : ℕ} {root : Child R} {left right : Option (Child R)}
-    → AreLawful f → (n : IsNode f s p here t low high) → f.rank here ≤ f.rank w → f.rank w ≤ f.rank here
-    → left ≡ child_at s (f.left here) → right ≡ child_at s (f.right here)
-    → Updates s s2 p (Some (f.linked w left right)) → root ≡ record { link = p; row = f.linked w left right }
-    → slab_len s2 ≡ slab_len s → after ≤ before + 4
-    → HasInserted f s s2 w t low high root before after
+      {s s2 : Slab R} {p : ℕ} {here w : R} {t : Tree R} {low high before after : ℕ} {root : Child R} {left right : Option (Child R)}
+      → AreLawful f → (n : IsNode f s p here t low high) → f.rank here ≤ f.rank w → f.rank w ≤ f.rank here
+      → left ≡ child_at s (f.left here) → right ≡ child_at s (f.right here)
+      → Updates s s2 p (Some (f.linked w left right)) → root ≡ record { link = p; row = f.linked w left right }
+      → slab_len s2 ≡ slab_len s → after ≤ before + 4
+      → HasInserted f s s2 w t low high root before after
   insert-here {s} {s2} {p} {here} {w} {t} {low} {high} {before} {after} {root} laws n g h on_left on_right u root_is len steps =
       let q = s.vacant_key in
       let split : IsSplit f s n.left p w n.right low high = record {
-        middle = f.rank n.row; past = f.rank n.row + 1; had = here; at = n.at;
-        left = n.left_standing.spelled; right = n.right_standing.spelled; left_ordered = n.left_standing.ordered; right_ordered = n.right_standing.ordered;
-        had_from = omega (arith, rank_here f n); had_below = omega (arith, rank_here f n); row_from = omega (arith, rank_here f n); row_below = omega (arith, rank_here f n);
+        middle = f.rank n.row;
+        past = f.rank n.row + 1;
+        had = here;
+        at = n.at;
+        left = n.left_standing.spelled;
+        right = n.right_standing.spelled;
+        left_ordered = n.left_standing.ordered;
+        right_ordered = n.right_standing.ordered;
+        had_from = omega (arith, rank_here f n);
+        had_below = omega (arith, rank_here f n);
+        row_from = omega (arith, rank_here f n);
+        row_below = omega (arith, rank_here f n);
       } in
       let made = place_over-tree f laws split (Same-refl f w) (left_is f n s n.left_standing.spelled on_left) (right_is f n s n.right_standing.spelled on_right) refl u root_is in
       let is = ap (inserted f q w) n.is ∙ inserted-here q w n.left p n.row n.right (omega (arith, rank_here f n)) in
@@ -101,12 +110,12 @@ module _ {R : Type 0} (f : Functions R) where
   insert-leaf_tree q w = refl
 
   pub insert-leaf :
-    {s s2 : Slab R} {w : R} {low high before after : ℕ} {root : Child R} {link : ℕ}
-    (t : Tree R) → IsStanding f s None t low high → low ≤ f.rank w → f.rank w < high
-    → get s link ≡ None → link ≡ s.vacant_key
-    → Updates s s2 link (Some (f.linked w None None)) → root ≡ record { link = link; row = f.linked w None None }
-    → slab_len s2 ≡ slab_len s + 1 → after ≤ before + 1
-    → HasInserted f s s2 w t low high root before after
+      {s s2 : Slab R} {w : R} {low high before after : ℕ} {root : Child R} {link : ℕ}
+      (t : Tree R) → IsStanding f s None t low high → low ≤ f.rank w → f.rank w < high
+      → get s link ≡ None → link ≡ s.vacant_key
+      → Updates s s2 link (Some (f.linked w None None)) → root ≡ record { link = link; row = f.linked w None None }
+      → slab_len s2 ≡ slab_len s + 1 → after ≤ before + 1
+      → HasInserted f s s2 w t low high root before after
   insert-leaf {s} {s2} {w} {low} {high} {root = root} {link} Leaf h from below vacant is_key u root_is len steps =
       let key_is : inserted f s.vacant_key w Leaf ≡ Node Leaf link w Leaf = insert-leaf_tree s.vacant_key w ∙ ap (λ k. Node Leaf k w Leaf) (sym is_key) in
       record {
@@ -119,6 +128,6 @@ module _ {R : Type 0} (f : Functions R) where
         len = len;
         steps = omega arith;
       } where
-    below_next : f.rank w + 1 ≤ high
-    below_next = omega arith
+        below_next : f.rank w + 1 ≤ high
+        below_next = omega arith
   insert-leaf {s} (Node l p x r) h from below vacant is_key u root_is len steps = let none : Some p ≡ None = h.is_at in cc

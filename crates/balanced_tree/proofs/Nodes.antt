@@ -1,11 +1,11 @@
 -- The root of a tree that stands in a slab, and its parts.
-use Rattle.std.proofs.Common.{◌≡◌, ◌⊎◌, ℕ, ◌+◌, ◌-◌, ◌<◌, ◌≤◌, ◌^◌, max, min, Bool, true, false, cond, ltb, Option, None, Some, IsTrue, refl, sym, ap, ◌∙◌, subst, inl, inr, arith}
+use Rattle.std.proofs.Common.{◌≡◌, ◌⊎◌, ℕ, ◌+◌, ◌<◌, ◌≤◌, ◌^◌, max, true, ltb, Option, None, Some, IsTrue, refl, sym, ap, ◌∙◌, subst, inl, inr, arith}
 use Rattle.std.proofs.lemmas.Bool.{lt-ltb, le-ltb, cond-true, cond-false}
 use Rattle.std.proofs.lemmas.Option.{same_Some}
-use Rattle.slab.specs.Slab.{Slab, get, slab_len, ContainsKey, HasRoomFor, Updates}
+use Rattle.slab.specs.Slab.{Slab, get, ContainsKey, HasRoomFor}
 use Rattle.balanced_tree.specs.declared.children.Child.{Child}
-use Rattle.balanced_tree.specs.Row.{Functions, AreLawful, height_in, plain}
-use Rattle.balanced_tree.specs.Tree.{Tree, Leaf, Node, place_of, height, child_of, stored, IsOrdered, has_rank, found}
+use Rattle.balanced_tree.specs.Row.{Functions, AreLawful, height_in}
+use Rattle.balanced_tree.specs.Tree.{Tree, Leaf, Node, height, child_of, stored, has_rank, found}
 use Rattle.balanced_tree.specs.Standing.{child_at, Spells, Same, IsStanding, Stands, StandsFor, Keeps, Becomes, IsSplit, height_at}
 use Rattle.balanced_tree.proofs.Spelling.{link_of-child_of, child_at-place_of, IsOrdered-bounds, Same-linked, Spells-kept, ContainsKey-place_of}
 
@@ -86,19 +86,35 @@ module _ {R : Type 0} (f : Functions R) where
     pub split_left : {s1 : Slab R} {l : Tree R} → AreLawful f → Becomes f s s1 l low (f.rank n.row) → IsSplit f s1 l p n.row n.right low high
     split_left laws h =
         record {
-          middle = f.rank n.row; past = f.rank n.row + 1; had = here;
+          middle = f.rank n.row;
+          past = f.rank n.row + 1;
+          had = here;
           at = h.kept.kept p here n.at (inr (omega (arith, rank_here)));
-          left = h.spelled; right = right_kept laws h.kept; left_ordered = h.ordered; right_ordered = n.right_standing.ordered;
-          had_from = omega (arith, rank_here); had_below = omega (arith, rank_here); row_from = omega arith; row_below = omega arith;
+          left = h.spelled;
+          right = right_kept laws h.kept;
+          left_ordered = h.ordered;
+          right_ordered = n.right_standing.ordered;
+          had_from = omega (arith, rank_here);
+          had_below = omega (arith, rank_here);
+          row_from = omega arith;
+          row_below = omega arith;
         }
 
     pub split_right : {s1 : Slab R} {r : Tree R} → AreLawful f → Becomes f s s1 r (f.rank n.row + 1) high → IsSplit f s1 n.left p n.row r low high
     split_right laws h =
         record {
-          middle = f.rank n.row; past = f.rank n.row + 1; had = here;
+          middle = f.rank n.row;
+          past = f.rank n.row + 1;
+          had = here;
           at = h.kept.kept p here n.at (inl (omega (arith, rank_here)));
-          left = left_kept laws h.kept; right = h.spelled; left_ordered = n.left_standing.ordered; right_ordered = h.ordered;
-          had_from = omega (arith, rank_here); had_below = omega (arith, rank_here); row_from = omega arith; row_below = omega arith;
+          left = left_kept laws h.kept;
+          right = h.spelled;
+          left_ordered = n.left_standing.ordered;
+          right_ordered = h.ordered;
+          had_from = omega (arith, rank_here);
+          had_below = omega (arith, rank_here);
+          row_from = omega arith;
+          row_below = omega arith;
         }
 
     pub right_is : (s1 : Slab R) {c : Option (Child R)} → Spells f s1 n.right → c ≡ child_at s1 (f.right here) → c ≡ child_of f n.right
@@ -175,9 +191,18 @@ module _ {R : Type 0} (f : Functions R) where
   pub IsSplit-Same : {s : Slab R} {l : Tree R} {p : ℕ} {x y : R} {r : Tree R} {low high : ℕ} → Same f x y → IsSplit f s l p x r low high → IsSplit f s l p y r low high
   IsSplit-Same same h =
       record {
-        middle = h.middle; past = h.past; had = h.had; at = h.at; left = h.left; right = h.right;
-        left_ordered = h.left_ordered; right_ordered = h.right_ordered; had_from = h.had_from; had_below = h.had_below;
-        row_from = omega (arith, same.rank, h.row_from); row_below = omega (arith, same.rank, h.row_below);
+        middle = h.middle;
+        past = h.past;
+        had = h.had;
+        at = h.at;
+        left = h.left;
+        right = h.right;
+        left_ordered = h.left_ordered;
+        right_ordered = h.right_ordered;
+        had_from = h.had_from;
+        had_below = h.had_below;
+        row_from = omega (arith, same.rank, h.row_from);
+        row_below = omega (arith, same.rank, h.row_below);
       }
 
   module _ {s s1 : Slab R} {p : ℕ} {here : R} {t : Tree R} {low high : ℕ} (laws : AreLawful f) (n : IsNode s p here t low high) where
@@ -185,15 +210,25 @@ module _ {R : Type 0} (f : Functions R) where
     pub Splits-left : {l : Tree R} {left right : Option (Child R)} → Becomes f s s1 l low (f.rank n.row) → left ≡ child_of f l → right ≡ child_at s1 (f.right here) → Rattle.balanced_tree.specs.Standing.Splits f s1 left p here right
     Splits-left {l} h on_left on_right =
         record {
-          left_tree = l; right_tree = n.right; low = low; high = high; split = IsSplit-Same n.same (split_left n laws h);
-          left_is = on_left; right_is = right_is n s1 (right_kept n laws h.kept) on_right;
+          left_tree = l;
+          right_tree = n.right;
+          low = low;
+          high = high;
+          split = IsSplit-Same n.same (split_left n laws h);
+          left_is = on_left;
+          right_is = right_is n s1 (right_kept n laws h.kept) on_right;
         }
 
     pub Splits-right : {r : Tree R} {left right : Option (Child R)} → Becomes f s s1 r (f.rank n.row + 1) high → left ≡ child_at s1 (f.left here) → right ≡ child_of f r → Rattle.balanced_tree.specs.Standing.Splits f s1 left p here right
     Splits-right {r} h on_left on_right =
         record {
-          left_tree = n.left; right_tree = r; low = low; high = high; split = IsSplit-Same n.same (split_right n laws h);
-          left_is = left_is n s1 (left_kept n laws h.kept) on_left; right_is = on_right;
+          left_tree = n.left;
+          right_tree = r;
+          low = low;
+          high = high;
+          split = IsSplit-Same n.same (split_right n laws h);
+          left_is = left_is n s1 (left_kept n laws h.kept) on_left;
+          right_is = on_right;
         }
 
   -- what a recursion into a part asks
@@ -201,8 +236,12 @@ module _ {R : Type 0} (f : Functions R) where
   StandsFor-left {s} {m = m} laws h is at e less =
       let n = node_of laws h.standing is at in
       record {
-        tree = n.left; low = h.low; high = f.rank n.row; standing = standing-at (sym e) n.left_standing;
-        from_low = h.from_low; below_high = omega (arith, rank_here n);
+        tree = n.left;
+        low = h.low;
+        high = f.rank n.row;
+        standing = standing-at (sym e) n.left_standing;
+        from_low = h.from_low;
+        below_high = omega (arith, rank_here n);
         room = subst (λ b. IsTrue b ⊎ HasRoomFor s 1) (has_rank-left n m less) h.room;
       }
 
@@ -210,8 +249,12 @@ module _ {R : Type 0} (f : Functions R) where
   StandsFor-right {s} {m = m} laws h is at e more =
       let n = node_of laws h.standing is at in
       record {
-        tree = n.right; low = f.rank n.row + 1; high = h.high; standing = standing-at (sym e) n.right_standing;
-        from_low = omega (arith, rank_here n); below_high = h.below_high;
+        tree = n.right;
+        low = f.rank n.row + 1;
+        high = h.high;
+        standing = standing-at (sym e) n.right_standing;
+        from_low = omega (arith, rank_here n);
+        below_high = h.below_high;
         room = subst (λ b. IsTrue b ⊎ HasRoomFor s 1) (has_rank-right n m more) h.room;
       }
 

@@ -1,13 +1,13 @@
 -- What taking a row out of a tree does, case by case.
-use Rattle.std.proofs.Common.{◌≡◌, ◌⊎◌, ℕ, ◌+◌, ◌-◌, ◌*◌, ◌<◌, ◌≤◌, ◌^◌, max, min, Bool, true, false, cond, ltb, Option, None, Some, IsTrue, refl, sym, ap, ◌∙◌, subst, inl, inr, arith}
+use Rattle.std.proofs.Common.{◌≡◌, ℕ, ◌+◌, ◌<◌, ◌≤◌, true, false, cond, ltb, Option, None, Some, refl, sym, ap, ◌∙◌, subst, inl, inr, arith}
 use Rattle.std.proofs.lemmas.Bool.{lt-ltb, le-ltb, cond-true, cond-false}
-use Rattle.slab.specs.Slab.{Slab, get, slab_len, Updates}
+use Rattle.slab.specs.Slab.{Slab, slab_len, Updates}
 use Rattle.balanced_tree.specs.declared.children.Child.{Child}
 use Rattle.balanced_tree.specs.Row.{Functions, AreLawful}
-use Rattle.balanced_tree.specs.Tree.{Tree, Leaf, Node, is_leaf, place_of, height, child_of, IsOrdered, has_rank, balanced, least, without_least, without_root, removed}
-use Rattle.balanced_tree.specs.Standing.{child_at, Spells, Same, IsStanding, Stands, Keeps, Becomes, IsSplit, Splits, HasRemoved, HasTakenLeast, HasTakenRoot}
+use Rattle.balanced_tree.specs.Tree.{Tree, Leaf, Node, is_leaf, place_of, child_of, IsOrdered, balanced, least, without_least, without_root, removed}
+use Rattle.balanced_tree.specs.Standing.{child_at, Spells, Same, IsStanding, Keeps, Becomes, IsSplit, Splits, HasRemoved, HasTakenLeast, HasTakenRoot}
 use Rattle.balanced_tree.proofs.Spelling.{Keeps-refl, Keeps-trans, Keeps-wider, Keeps-Updates, Spells-kept}
-use Rattle.balanced_tree.proofs.Nodes.{IsNode, rank_here, height-left, height-right, in_low, in_high, low_le, high_gt, right_is, left_is, right_kept, left_kept, split_left, split_right, kept_wider_left, kept_wider_right, has_rank-left, has_rank-right, has_rank-here, IsSplit-Same}
+use Rattle.balanced_tree.proofs.Nodes.{IsNode, rank_here, height-left, height-right, in_low, in_high, right_is, left_is, right_kept, left_kept, split_left, split_right, kept_wider_left, has_rank-left, has_rank-right, has_rank-here, IsSplit-Same}
 use Rattle.balanced_tree.proofs.Insertions.{Balances, Becomes-left, Becomes-right}
 
 module _ {R : Type 0} where
@@ -52,10 +52,10 @@ module _ {R : Type 0} (f : Functions R) where
   Keeps-taken n u = Keeps-Updates f _ _ _ n.at (omega (arith, rank_here f n)) (omega (arith, rank_here f n)) u
 
   pub take-first :
-    {s s1 : Slab R} {p : ℕ} {here : R} {t : Tree R} {low high before after : ℕ} {rest : Option (Child R)}
-    → AreLawful f → (n : IsNode f s p here t low high) → f.left here ≡ None
-    → rest ≡ child_at s (f.right here) → Updates s s1 p None → slab_len s1 + 1 ≡ slab_len s → after ≤ before + 3
-    → HasTakenLeast f s s1 t low high here rest before after
+      {s s1 : Slab R} {p : ℕ} {here : R} {t : Tree R} {low high before after : ℕ} {rest : Option (Child R)}
+      → AreLawful f → (n : IsNode f s p here t low high) → f.left here ≡ None
+      → rest ≡ child_at s (f.right here) → Updates s s1 p None → slab_len s1 + 1 ≡ slab_len s → after ≤ before + 3
+      → HasTakenLeast f s s1 t low high here rest before after
   take-first {s} {s1} {p} {here} {t} {low} {high} laws n none on_right u len steps =
       let leaf = is_leaf-none n.left (n.left_standing.is_at ∙ none) in
       let is : without_least f t ≡ n.right = ap (without_least f) n.is ∙ without_least-first n.left p n.row n.right leaf in
@@ -75,37 +75,49 @@ module _ {R : Type 0} (f : Functions R) where
 
   -- what stands once the first row of the left part is taken
   split_least :
-    {s s1 : Slab R} {p : ℕ} {here y : R} {t : Tree R} {low high b1 b2 : ℕ} {rest : Option (Child R)}
-    → AreLawful f → (n : IsNode f s p here t low high)
-    → HasTakenLeast f s s1 n.left low (f.rank n.row) y rest b1 b2
-    → IsSplit f s1 (without_least f n.left) p n.row n.right (f.rank (least f n.left y) + 1) high
+      {s s1 : Slab R} {p : ℕ} {here y : R} {t : Tree R} {low high b1 b2 : ℕ} {rest : Option (Child R)}
+      → AreLawful f → (n : IsNode f s p here t low high)
+      → HasTakenLeast f s s1 n.left low (f.rank n.row) y rest b1 b2
+      → IsSplit f s1 (without_least f n.left) p n.row n.right (f.rank (least f n.left y) + 1) high
   split_least {p = p} {here} laws n sub =
       record {
-        middle = f.rank n.row; past = f.rank n.row + 1; had = here;
+        middle = f.rank n.row;
+        past = f.rank n.row + 1;
+        had = here;
         at = sub.kept.kept p here n.at (inr (omega (arith, rank_here f n)));
-        left = sub.spelled; right = right_kept f n laws sub.kept; left_ordered = sub.ordered; right_ordered = n.right_standing.ordered;
-        had_from = omega (arith, rank_here f n); had_below = omega (arith, rank_here f n); row_from = omega arith; row_below = omega arith;
+        left = sub.spelled;
+        right = right_kept f n laws sub.kept;
+        left_ordered = sub.ordered;
+        right_ordered = n.right_standing.ordered;
+        had_from = omega (arith, rank_here f n);
+        had_below = omega (arith, rank_here f n);
+        row_from = omega arith;
+        row_below = omega arith;
       }
 
   pub Splits-least :
-    {s s1 : Slab R} {p : ℕ} {here y : R} {t : Tree R} {low high b1 b2 : ℕ} {rest right : Option (Child R)}
-    → AreLawful f → (n : IsNode f s p here t low high)
-    → HasTakenLeast f s s1 n.left low (f.rank n.row) y rest b1 b2
-    → right ≡ child_at s1 (f.right here) → Splits f s1 rest p here right
+      {s s1 : Slab R} {p : ℕ} {here y : R} {t : Tree R} {low high b1 b2 : ℕ} {rest right : Option (Child R)}
+      → AreLawful f → (n : IsNode f s p here t low high)
+      → HasTakenLeast f s s1 n.left low (f.rank n.row) y rest b1 b2
+      → right ≡ child_at s1 (f.right here) → Splits f s1 rest p here right
   Splits-least {s1 = s1} {y = y} {high = high} laws n sub on_right =
       record {
-        left_tree = without_least f n.left; right_tree = n.right; low = f.rank (least f n.left y) + 1; high = high;
+        left_tree = without_least f n.left;
+        right_tree = n.right;
+        low = f.rank (least f n.left y) + 1;
+        high = high;
         split = IsSplit-Same f n.same (split_least laws n sub);
-        left_is = sub.child; right_is = right_is f n s1 (right_kept f n laws sub.kept) on_right;
+        left_is = sub.child;
+        right_is = right_is f n s1 (right_kept f n laws sub.kept) on_right;
       }
 
   pub take-later :
-    {s s1 s2 : Slab R} {p q : ℕ} {here y : R} {t : Tree R} {low high before b1 b2 b3 after : ℕ} {rest right : Option (Child R)} {root : Child R}
-    → AreLawful f → (n : IsNode f s p here t low high) → f.left here ≡ Some q
-    → HasTakenLeast f s s1 n.left low (f.rank n.row) y rest b1 b2
-    → right ≡ child_at s1 (f.right here) → Balances f s1 s2 p here rest right root
-    → slab_len s2 ≡ slab_len s1 → b1 ≤ before + 1 → b3 ≤ b2 + 1 → after ≤ b3 + 7
-    → HasTakenLeast f s s2 t low high y (Some root) before after
+      {s s1 s2 : Slab R} {p q : ℕ} {here y : R} {t : Tree R} {low high before b1 b2 b3 after : ℕ} {rest right : Option (Child R)} {root : Child R}
+      → AreLawful f → (n : IsNode f s p here t low high) → f.left here ≡ Some q
+      → HasTakenLeast f s s1 n.left low (f.rank n.row) y rest b1 b2
+      → right ≡ child_at s1 (f.right here) → Balances f s1 s2 p here rest right root
+      → slab_len s2 ≡ slab_len s1 → b1 ≤ before + 1 → b3 ≤ b2 + 1 → after ≤ b3 + 7
+      → HasTakenLeast f s s2 t low high y (Some root) before after
   take-later {s} {s1} {s2} {p} {q} {here} {y} {t} {low} {high} laws n some sub on_right balance len g1 g2 g3 =
       let node = is_leaf-some n.left q (n.left_standing.is_at ∙ some) in
       let is : without_least f t ≡ balanced f (without_least f n.left) p n.row n.right = ap (without_least f) n.is ∙ without_least-later n.left p n.row n.right node in
@@ -124,10 +136,10 @@ module _ {R : Type 0} (f : Functions R) where
       }
 
   pub take_root-leaf :
-    {s s1 : Slab R} {p : ℕ} {here : R} {t : Tree R} {low high before after : ℕ} {rest : Option (Child R)}
-    → AreLawful f → (n : IsNode f s p here t low high) → f.right here ≡ None
-    → rest ≡ child_at s (f.left here) → Updates s s1 p None → slab_len s1 + 1 ≡ slab_len s → after ≤ before + 2
-    → HasTakenRoot f s s1 t low high rest before after
+      {s s1 : Slab R} {p : ℕ} {here : R} {t : Tree R} {low high before after : ℕ} {rest : Option (Child R)}
+      → AreLawful f → (n : IsNode f s p here t low high) → f.right here ≡ None
+      → rest ≡ child_at s (f.left here) → Updates s s1 p None → slab_len s1 + 1 ≡ slab_len s → after ≤ before + 2
+      → HasTakenRoot f s s1 t low high rest before after
   take_root-leaf {s} {s1} {p} {here} {t} {low} {high} laws n none on_left u len steps =
       let leaf = is_leaf-none n.right (n.right_standing.is_at ∙ none) in
       let is : without_root f t ≡ n.left = ap (without_root f) n.is ∙ without_root-leaf n.left p n.row n.right leaf in
@@ -146,37 +158,49 @@ module _ {R : Type 0} (f : Functions R) where
 
   -- what stands once the first row of the right part is taken, with this row for the place of the root
   split_root :
-    {s s1 : Slab R} {p : ℕ} {here y : R} {t : Tree R} {low high b1 b2 : ℕ} {rest : Option (Child R)}
-    → AreLawful f → (n : IsNode f s p here t low high)
-    → HasTakenLeast f s s1 n.right (f.rank n.row + 1) high y rest b1 b2
-    → IsSplit f s1 n.left p (least f n.right y) (without_least f n.right) low high
+      {s s1 : Slab R} {p : ℕ} {here y : R} {t : Tree R} {low high b1 b2 : ℕ} {rest : Option (Child R)}
+      → AreLawful f → (n : IsNode f s p here t low high)
+      → HasTakenLeast f s s1 n.right (f.rank n.row + 1) high y rest b1 b2
+      → IsSplit f s1 n.left p (least f n.right y) (without_least f n.right) low high
   split_root {p = p} {here} {y} laws n sub =
       record {
-        middle = f.rank n.row; past = f.rank (least f n.right y) + 1; had = here;
+        middle = f.rank n.row;
+        past = f.rank (least f n.right y) + 1;
+        had = here;
         at = sub.kept.kept p here n.at (inl (omega (arith, rank_here f n)));
-        left = left_kept f n laws sub.kept; right = sub.spelled; left_ordered = n.left_standing.ordered; right_ordered = sub.ordered;
-        had_from = omega (arith, rank_here f n); had_below = omega (arith, rank_here f n, sub.from_low); row_from = omega (arith, sub.from_low); row_below = omega arith;
+        left = left_kept f n laws sub.kept;
+        right = sub.spelled;
+        left_ordered = n.left_standing.ordered;
+        right_ordered = sub.ordered;
+        had_from = omega (arith, rank_here f n);
+        had_below = omega (arith, rank_here f n, sub.from_low);
+        row_from = omega (arith, sub.from_low);
+        row_below = omega arith;
       }
 
   pub Splits-root :
-    {s s1 : Slab R} {p : ℕ} {here y : R} {t : Tree R} {low high b1 b2 : ℕ} {left rest : Option (Child R)}
-    → AreLawful f → (n : IsNode f s p here t low high)
-    → HasTakenLeast f s s1 n.right (f.rank n.row + 1) high y rest b1 b2
-    → left ≡ child_at s1 (f.left here) → Splits f s1 left p y rest
+      {s s1 : Slab R} {p : ℕ} {here y : R} {t : Tree R} {low high b1 b2 : ℕ} {left rest : Option (Child R)}
+      → AreLawful f → (n : IsNode f s p here t low high)
+      → HasTakenLeast f s s1 n.right (f.rank n.row + 1) high y rest b1 b2
+      → left ≡ child_at s1 (f.left here) → Splits f s1 left p y rest
   Splits-root {s} {s1} {p} {here} {y} {t} {low} {high} laws n sub on_left =
       record {
-        left_tree = n.left; right_tree = without_least f n.right; low = low; high = high;
+        left_tree = n.left;
+        right_tree = without_least f n.right;
+        low = low;
+        high = high;
         split = IsSplit-Same f sub.row (split_root laws n sub);
-        left_is = left_is f n s1 (left_kept f n laws sub.kept) on_left; right_is = sub.child;
+        left_is = left_is f n s1 (left_kept f n laws sub.kept) on_left;
+        right_is = sub.child;
       }
 
   pub take_root-node :
-    {s s1 s2 : Slab R} {p q : ℕ} {here y : R} {t : Tree R} {low high before b2 b3 after : ℕ} {left rest : Option (Child R)} {root : Child R}
-    → AreLawful f → (n : IsNode f s p here t low high) → f.right here ≡ Some q
-    → HasTakenLeast f s s1 n.right (f.rank n.row + 1) high y rest before b2
-    → left ≡ child_at s1 (f.left here) → Balances f s1 s2 p y left rest root
-    → slab_len s2 ≡ slab_len s1 → b3 ≤ b2 + 1 → after ≤ b3 + 7
-    → HasTakenRoot f s s2 t low high (Some root) before after
+      {s s1 s2 : Slab R} {p q : ℕ} {here y : R} {t : Tree R} {low high before b2 b3 after : ℕ} {left rest : Option (Child R)} {root : Child R}
+      → AreLawful f → (n : IsNode f s p here t low high) → f.right here ≡ Some q
+      → HasTakenLeast f s s1 n.right (f.rank n.row + 1) high y rest before b2
+      → left ≡ child_at s1 (f.left here) → Balances f s1 s2 p y left rest root
+      → slab_len s2 ≡ slab_len s1 → b3 ≤ b2 + 1 → after ≤ b3 + 7
+      → HasTakenRoot f s s2 t low high (Some root) before after
   take_root-node {s} {s1} {s2} {p} {q} {here} {y} {t} {low} {high} laws n some sub on_left balance len g2 g3 =
       let node = is_leaf-some n.right q (n.right_standing.is_at ∙ some) in
       let is : without_root f t ≡ balanced f n.left p (least f n.right y) (without_least f n.right) = ap (without_root f) n.is ∙ without_root-node n.left p n.row n.right y node in
@@ -187,8 +211,8 @@ module _ {R : Type 0} (f : Functions R) where
         len = omega (arith, len, sub.len);
         steps = omega (arith, sub.steps, height-right f n);
       } where
-    IsOrdered-least : {s s1 : Slab R} {t : Tree R} {low high b1 b2 : ℕ} {y : R} {c : Option (Child R)} → HasTakenLeast f s s1 t low high y c b1 b2 → IsOrdered f low high (without_least f t)
-    IsOrdered-least {s} {s1} {t} {low} {high} {y = y} h = Rattle.balanced_tree.proofs.Spelling.IsOrdered-wider f low (f.rank (least f t y) + 1) high high (without_least f t) (omega (arith, h.from_low)) (omega arith) h.ordered
+        IsOrdered-least : {s s1 : Slab R} {t : Tree R} {low high b1 b2 : ℕ} {y : R} {c : Option (Child R)} → HasTakenLeast f s s1 t low high y c b1 b2 → IsOrdered f low high (without_least f t)
+        IsOrdered-least {s} {s1} {t} {low} {high} {y = y} h = Rattle.balanced_tree.proofs.Spelling.IsOrdered-wider f low (f.rank (least f t y) + 1) high high (without_least f t) (omega (arith, h.from_low)) (omega arith) h.ordered
 
   pub removed-left : (m : ℕ) (l : Tree R) (p : ℕ) (x : R) (r : Tree R) → m < f.rank x → removed f m (Node l p x r) ≡ balanced f (removed f m l) p x r
   unfolding removed
@@ -207,12 +231,12 @@ module _ {R : Type 0} (f : Functions R) where
   removed-leaf m = refl
 
   pub remove-left :
-    {s s1 s2 : Slab R} {p m : ℕ} {here : R} {t : Tree R} {low high before b1 b2 b3 after : ℕ} {left right : Option (Child R)} {root : Child R}
-    → AreLawful f → (n : IsNode f s p here t low high) → m < f.rank here
-    → HasRemoved f s s1 m n.left low (f.rank n.row) left b1 b2
-    → right ≡ child_at s1 (f.right here) → Balances f s1 s2 p here left right root
-    → slab_len s2 ≡ slab_len s1 → b1 ≤ before + 1 → b3 ≤ b2 + 1 → after ≤ b3 + 7
-    → HasRemoved f s s2 m t low high (Some root) before after
+      {s s1 s2 : Slab R} {p m : ℕ} {here : R} {t : Tree R} {low high before b1 b2 b3 after : ℕ} {left right : Option (Child R)} {root : Child R}
+      → AreLawful f → (n : IsNode f s p here t low high) → m < f.rank here
+      → HasRemoved f s s1 m n.left low (f.rank n.row) left b1 b2
+      → right ≡ child_at s1 (f.right here) → Balances f s1 s2 p here left right root
+      → slab_len s2 ≡ slab_len s1 → b1 ≤ before + 1 → b3 ≤ b2 + 1 → after ≤ b3 + 7
+      → HasRemoved f s s2 m t low high (Some root) before after
   remove-left {s} {s1} {s2} {p} {m} {here} {t} {low} {high} laws n less sub on_right balance len g1 g2 g3 =
       let made = balance _ n.row n.right low high (split_left f n laws sub.becomes) n.same sub.child (right_is f n s1 (right_kept f n laws sub.becomes.kept) on_right) in
       let is = ap (removed f m) n.is ∙ removed-left m n.left p n.row n.right (omega (arith, rank_here f n)) in
@@ -224,12 +248,12 @@ module _ {R : Type 0} (f : Functions R) where
       }
 
   pub remove-right :
-    {s s1 s2 : Slab R} {p m : ℕ} {here : R} {t : Tree R} {low high before b1 b2 b3 after : ℕ} {left right : Option (Child R)} {root : Child R}
-    → AreLawful f → (n : IsNode f s p here t low high) → f.rank here < m
-    → HasRemoved f s s1 m n.right (f.rank n.row + 1) high right b1 b2
-    → left ≡ child_at s1 (f.left here) → Balances f s1 s2 p here left right root
-    → slab_len s2 ≡ slab_len s1 → b1 ≤ before + 1 → b3 ≤ b2 + 1 → after ≤ b3 + 7
-    → HasRemoved f s s2 m t low high (Some root) before after
+      {s s1 s2 : Slab R} {p m : ℕ} {here : R} {t : Tree R} {low high before b1 b2 b3 after : ℕ} {left right : Option (Child R)} {root : Child R}
+      → AreLawful f → (n : IsNode f s p here t low high) → f.rank here < m
+      → HasRemoved f s s1 m n.right (f.rank n.row + 1) high right b1 b2
+      → left ≡ child_at s1 (f.left here) → Balances f s1 s2 p here left right root
+      → slab_len s2 ≡ slab_len s1 → b1 ≤ before + 1 → b3 ≤ b2 + 1 → after ≤ b3 + 7
+      → HasRemoved f s s2 m t low high (Some root) before after
   remove-right {s} {s1} {s2} {p} {m} {here} {t} {low} {high} laws n more sub on_left balance len g1 g2 g3 =
       let made = balance n.left n.row _ low high (split_right f n laws sub.becomes) n.same (left_is f n s1 (left_kept f n laws sub.becomes.kept) on_left) sub.child in
       let is = ap (removed f m) n.is ∙ removed-right m n.left p n.row n.right (omega (arith, rank_here f n)) in
@@ -241,10 +265,10 @@ module _ {R : Type 0} (f : Functions R) where
       }
 
   pub remove-here :
-    {s s1 : Slab R} {p m : ℕ} {here : R} {t : Tree R} {low high before b1 after : ℕ} {root : Option (Child R)}
-    → (n : IsNode f s p here t low high) → f.rank here ≤ m → m ≤ f.rank here
-    → HasTakenRoot f s s1 t low high root b1 after → b1 ≤ before + 1
-    → HasRemoved f s s1 m t low high root before after
+      {s s1 : Slab R} {p m : ℕ} {here : R} {t : Tree R} {low high before b1 after : ℕ} {root : Option (Child R)}
+      → (n : IsNode f s p here t low high) → f.rank here ≤ m → m ≤ f.rank here
+      → HasTakenRoot f s s1 t low high root b1 after → b1 ≤ before + 1
+      → HasRemoved f s s1 m t low high root before after
   remove-here {s} {s1} {p} {m} {here} {t} {low} {high} n g h sub g1 =
       let is : removed f m t ≡ without_root f t = ap (removed f m) n.is ∙ removed-here m n.left p n.row n.right (omega (arith, rank_here f n)) ∙ ap (without_root f) (sym n.is) in
       record {

@@ -1,14 +1,14 @@
 -- The rows of a tree as a list: what insertion, removal and look-up are of it.
-use Rattle.std.proofs.Common.{◌≡◌, ◌⊎◌, inl, inr, ℕ, ◌+◌, ◌-◌, ◌*◌, ◌<◌, ◌≤◌, ◌^◌, max, min, Bool, true, false, not, cond, ltb, leb, eqb, List, [], ◌∷◌, ◌++◌, length, Option, None, Some, is_some, refl, sym, ap, ◌∙◌, subst, arith, length-append}
+use Rattle.std.proofs.Common.{◌≡◌, inl, inr, ℕ, ◌+◌, ◌<◌, ◌≤◌, Bool, true, false, not, cond, ltb, leb, eqb, List, [], ◌∷◌, ◌++◌, length, Option, None, Some, is_some, refl, sym, ap, ◌∙◌, subst, arith, length-append}
 use Rattle.std.specs.List.{filter, find}
 use Rattle.std.specs.Option.{option_or}
-use Rattle.std.proofs.lemmas.Bool.{ltb-true, ltb-false, lt-ltb, le-ltb, le-leb, lt-leb, eq-eqb, ne_eqb, cond-true, cond-false, cases_order}
+use Rattle.std.proofs.lemmas.Bool.{lt-ltb, le-ltb, le-leb, lt-leb, eq-eqb, ne_eqb, cond-true, cond-false, cases_order}
 use Rattle.std.proofs.lemmas.List.{append_assoc, append-nil}
 use Rattle.std.proofs.lemmas.List.Elements.{filter-append}
 use Rattle.std.proofs.lemmas.List.Folds.{find-append}
 use Rattle.balanced_tree.specs.Row.{Functions, AreLawful, plain}
 use Rattle.balanced_tree.specs.Rows.{row_at, row_from, with_row, without_rank, RisesWithin}
-use Rattle.balanced_tree.specs.Tree.{Tree, Leaf, Node, is_leaf, rows_of, IsOrdered, has_rank, found, balanced, inserted, least, without_least, without_root, removed}
+use Rattle.balanced_tree.specs.Tree.{Tree, Leaf, Node, is_leaf, rows_of, IsOrdered, has_rank, found, inserted, least, without_least, without_root, removed}
 use Rattle.balanced_tree.proofs.TreeLaws.{rows-balanced}
 use Rattle.balanced_tree.proofs.Insertions.{inserted-left, inserted-right, inserted-here, insert-leaf_tree}
 use Rattle.balanced_tree.proofs.Removals.{removed-left, removed-right, removed-here, removed-leaf}
@@ -162,16 +162,16 @@ module _ {R : Type 0} (f : Functions R) where
   row_at-row_from n low high (y ∷ ys) h =
       elim (cases_order n (f.rank y)) [
         | inl same ↦
-          cond-true (eqb (f.rank y) n) (Some y) (row_at f n ys) (eq-eqb (f.rank y) n (sym same))
-          ∙ sym (ap (if_at n) (cond-true (leb n (f.rank y)) (Some y) (row_from f n ys) (le-leb n (f.rank y) (omega arith))) ∙ cond-true (eqb (f.rank y) n) (Some y) None (eq-eqb (f.rank y) n (sym same)))
+            cond-true (eqb (f.rank y) n) (Some y) (row_at f n ys) (eq-eqb (f.rank y) n (sym same))
+            ∙ sym (ap (if_at n) (cond-true (leb n (f.rank y)) (Some y) (row_from f n ys) (le-leb n (f.rank y) (omega arith))) ∙ cond-true (eqb (f.rank y) n) (Some y) None (eq-eqb (f.rank y) n (sym same)))
         | inr (inl less) ↦
-          cond-false (eqb (f.rank y) n) (Some y) (row_at f n ys) (ne_eqb (f.rank y) n (λ q. absurd (omega arith)))
-          ∙ find-none (λ m. eqb m n) (f.rank y + 1) high ys h.1 (λ m g e. ne_eqb m n (λ q. absurd (omega arith)))
-          ∙ sym (ap (if_at n) (cond-true (leb n (f.rank y)) (Some y) (row_from f n ys) (le-leb n (f.rank y) (omega arith))) ∙ cond-false (eqb (f.rank y) n) (Some y) None (ne_eqb (f.rank y) n (λ q. absurd (omega arith))))
+            cond-false (eqb (f.rank y) n) (Some y) (row_at f n ys) (ne_eqb (f.rank y) n (λ q. absurd (omega arith)))
+            ∙ find-none (λ m. eqb m n) (f.rank y + 1) high ys h.1 (λ m g e. ne_eqb m n (λ q. absurd (omega arith)))
+            ∙ sym (ap (if_at n) (cond-true (leb n (f.rank y)) (Some y) (row_from f n ys) (le-leb n (f.rank y) (omega arith))) ∙ cond-false (eqb (f.rank y) n) (Some y) None (ne_eqb (f.rank y) n (λ q. absurd (omega arith))))
         | inr (inr more) ↦
-          cond-false (eqb (f.rank y) n) (Some y) (row_at f n ys) (ne_eqb (f.rank y) n (λ q. absurd (omega arith)))
-          ∙ row_at-row_from n (f.rank y + 1) high ys h.1
-          ∙ sym (ap (if_at n) (cond-false (leb n (f.rank y)) (Some y) (row_from f n ys) (lt-leb n (f.rank y) more)))
+            cond-false (eqb (f.rank y) n) (Some y) (row_at f n ys) (ne_eqb (f.rank y) n (λ q. absurd (omega arith)))
+            ∙ row_at-row_from n (f.rank y + 1) high ys h.1
+            ∙ sym (ap (if_at n) (cond-false (leb n (f.rank y)) (Some y) (row_from f n ys) (lt-leb n (f.rank y) more)))
       ]
 
   module _ (laws : AreLawful f) where
@@ -207,13 +207,13 @@ module _ {R : Type 0} (f : Functions R) where
         elim (cases_order (f.rank w) (f.rank x)) [
           | inl same ↦ ap (rows_of f) (inserted-here f q w l p x r same) ∙ sym (with_row-here (plain f w) (plain f x) low high (rows_of f l) (rows_of f r) s.left s.right (omega arith))
           | inr (inl less) ↦
-            ap (rows_of f) (inserted-left f q w l p x r less) ∙ rows-balanced f (inserted f q w l) p x r
-            ∙ ap (λ u. u ++ plain f x ∷ rows_of f r) (rows-inserted q w low (f.rank x) l h.0)
-            ∙ sym (with_row-left (plain f w) (plain f x) low high (rows_of f l) (rows_of f r) s.left s.right (omega arith))
+              ap (rows_of f) (inserted-left f q w l p x r less) ∙ rows-balanced f (inserted f q w l) p x r
+              ∙ ap (λ u. u ++ plain f x ∷ rows_of f r) (rows-inserted q w low (f.rank x) l h.0)
+              ∙ sym (with_row-left (plain f w) (plain f x) low high (rows_of f l) (rows_of f r) s.left s.right (omega arith))
           | inr (inr more) ↦
-            ap (rows_of f) (inserted-right f q w l p x r more) ∙ rows-balanced f l p x (inserted f q w r)
-            ∙ ap (λ u. rows_of f l ++ plain f x ∷ u) (rows-inserted q w (f.rank x + 1) high r h.1)
-            ∙ sym (with_row-right (plain f w) (plain f x) low high (rows_of f l) (rows_of f r) s.left s.right (omega arith))
+              ap (rows_of f) (inserted-right f q w l p x r more) ∙ rows-balanced f l p x (inserted f q w r)
+              ∙ ap (λ u. rows_of f l ++ plain f x ∷ u) (rows-inserted q w (f.rank x + 1) high r h.1)
+              ∙ sym (with_row-right (plain f w) (plain f x) low high (rows_of f l) (rows_of f r) s.left s.right (omega arith))
         ]
 
     rows-without_least : (d : R) (t : Tree R) → is_leaf t ≡ false → plain f (least f t d) ∷ rows_of f (without_least f t) ≡ rows_of f t
@@ -237,16 +237,16 @@ module _ {R : Type 0} (f : Functions R) where
         let ex = rank-plain x in
         elim (cases_order n (f.rank x)) [
           | inl same ↦
-            ap (rows_of f) (removed-here f n l p x r same) ∙ rows-without_root l p x r
-            ∙ sym (without_rank-here n (plain f x) low high (rows_of f l) (rows_of f r) s.left s.right (omega arith))
+              ap (rows_of f) (removed-here f n l p x r same) ∙ rows-without_root l p x r
+              ∙ sym (without_rank-here n (plain f x) low high (rows_of f l) (rows_of f r) s.left s.right (omega arith))
           | inr (inl less) ↦
-            ap (rows_of f) (removed-left f n l p x r less) ∙ rows-balanced f (removed f n l) p x r
-            ∙ ap (λ u. u ++ plain f x ∷ rows_of f r) (rows-removed n low (f.rank x) l h.0)
-            ∙ sym (without_rank-left n (plain f x) low high (rows_of f l) (rows_of f r) s.left s.right (omega arith))
+              ap (rows_of f) (removed-left f n l p x r less) ∙ rows-balanced f (removed f n l) p x r
+              ∙ ap (λ u. u ++ plain f x ∷ rows_of f r) (rows-removed n low (f.rank x) l h.0)
+              ∙ sym (without_rank-left n (plain f x) low high (rows_of f l) (rows_of f r) s.left s.right (omega arith))
           | inr (inr more) ↦
-            ap (rows_of f) (removed-right f n l p x r more) ∙ rows-balanced f l p x (removed f n r)
-            ∙ ap (λ u. rows_of f l ++ plain f x ∷ u) (rows-removed n (f.rank x + 1) high r h.1)
-            ∙ sym (without_rank-right n (plain f x) low high (rows_of f l) (rows_of f r) s.left s.right (omega arith))
+              ap (rows_of f) (removed-right f n l p x r more) ∙ rows-balanced f l p x (removed f n r)
+              ∙ ap (λ u. rows_of f l ++ plain f x ∷ u) (rows-removed n (f.rank x + 1) high r h.1)
+              ∙ sym (without_rank-right n (plain f x) low high (rows_of f l) (rows_of f r) s.left s.right (omega arith))
         ]
 
     -- what the way down finds
@@ -257,15 +257,15 @@ module _ {R : Type 0} (f : Functions R) where
         let ex = rank-plain x in
         elim (cases_order n (f.rank x)) [
           | inl same ↦
-            cond-false (ltb n (f.rank x)) _ _ (le-ltb n (f.rank x) (omega arith)) ∙ cond-false (ltb (f.rank x) n) _ _ (le-ltb (f.rank x) n (omega arith))
-            ∙ sym (ap (λ o. option_or o best) (row_from-here n (plain f x) low high (rows_of f l) (rows_of f r) s.left s.right (omega arith)))
+              cond-false (ltb n (f.rank x)) _ _ (le-ltb n (f.rank x) (omega arith)) ∙ cond-false (ltb (f.rank x) n) _ _ (le-ltb (f.rank x) n (omega arith))
+              ∙ sym (ap (λ o. option_or o best) (row_from-here n (plain f x) low high (rows_of f l) (rows_of f r) s.left s.right (omega arith)))
           | inr (inl less) ↦
-            cond-true (ltb n (f.rank x)) _ _ (lt-ltb n (f.rank x) less) ∙ found-row_from n (Some (plain f x)) low (f.rank x) l h.0
-            ∙ sym (ap (λ o. option_or o best) (row_from-left n (plain f x) low high (rows_of f l) (rows_of f r) s.left s.right (omega arith)) ∙ option_or-some (row_from f n (rows_of f l)) (plain f x) best)
+              cond-true (ltb n (f.rank x)) _ _ (lt-ltb n (f.rank x) less) ∙ found-row_from n (Some (plain f x)) low (f.rank x) l h.0
+              ∙ sym (ap (λ o. option_or o best) (row_from-left n (plain f x) low high (rows_of f l) (rows_of f r) s.left s.right (omega arith)) ∙ option_or-some (row_from f n (rows_of f l)) (plain f x) best)
           | inr (inr more) ↦
-            cond-false (ltb n (f.rank x)) _ _ (le-ltb n (f.rank x) (omega arith)) ∙ cond-true (ltb (f.rank x) n) _ _ (lt-ltb (f.rank x) n more)
-            ∙ found-row_from n best (f.rank x + 1) high r h.1
-            ∙ sym (ap (λ o. option_or o best) (row_from-right n (plain f x) low high (rows_of f l) (rows_of f r) s.left s.right (omega arith)))
+              cond-false (ltb n (f.rank x)) _ _ (le-ltb n (f.rank x) (omega arith)) ∙ cond-true (ltb (f.rank x) n) _ _ (lt-ltb (f.rank x) n more)
+              ∙ found-row_from n best (f.rank x + 1) high r h.1
+              ∙ sym (ap (λ o. option_or o best) (row_from-right n (plain f x) low high (rows_of f l) (rows_of f r) s.left s.right (omega arith)))
         ]
 
     pub has_rank-row_at : (n low high : ℕ) (t : Tree R) → IsOrdered f low high t → has_rank f n t ≡ is_some (row_at f n (rows_of f t))
@@ -275,15 +275,15 @@ module _ {R : Type 0} (f : Functions R) where
         let ex = rank-plain x in
         elim (cases_order n (f.rank x)) [
           | inl same ↦
-            cond-false (ltb n (f.rank x)) _ _ (le-ltb n (f.rank x) (omega arith)) ∙ cond-false (ltb (f.rank x) n) _ _ (le-ltb (f.rank x) n (omega arith))
-            ∙ sym (ap is_some (row_at-here n (plain f x) low high (rows_of f l) (rows_of f r) s.left s.right (omega arith)))
+              cond-false (ltb n (f.rank x)) _ _ (le-ltb n (f.rank x) (omega arith)) ∙ cond-false (ltb (f.rank x) n) _ _ (le-ltb (f.rank x) n (omega arith))
+              ∙ sym (ap is_some (row_at-here n (plain f x) low high (rows_of f l) (rows_of f r) s.left s.right (omega arith)))
           | inr (inl less) ↦
-            cond-true (ltb n (f.rank x)) _ _ (lt-ltb n (f.rank x) less) ∙ has_rank-row_at n low (f.rank x) l h.0
-            ∙ sym (ap is_some (row_at-left n (plain f x) low high (rows_of f l) (rows_of f r) s.left s.right (omega arith)))
+              cond-true (ltb n (f.rank x)) _ _ (lt-ltb n (f.rank x) less) ∙ has_rank-row_at n low (f.rank x) l h.0
+              ∙ sym (ap is_some (row_at-left n (plain f x) low high (rows_of f l) (rows_of f r) s.left s.right (omega arith)))
           | inr (inr more) ↦
-            cond-false (ltb n (f.rank x)) _ _ (le-ltb n (f.rank x) (omega arith)) ∙ cond-true (ltb (f.rank x) n) _ _ (lt-ltb (f.rank x) n more)
-            ∙ has_rank-row_at n (f.rank x + 1) high r h.1
-            ∙ sym (ap is_some (row_at-right n (plain f x) low high (rows_of f l) (rows_of f r) s.left s.right (omega arith)))
+              cond-false (ltb n (f.rank x)) _ _ (le-ltb n (f.rank x) (omega arith)) ∙ cond-true (ltb (f.rank x) n) _ _ (lt-ltb (f.rank x) n more)
+              ∙ has_rank-row_at n (f.rank x + 1) high r h.1
+              ∙ sym (ap is_some (row_at-right n (plain f x) low high (rows_of f l) (rows_of f r) s.left s.right (omega arith)))
         ]
 
     pub length-inserted : (q : ℕ) (w : R) (t : Tree R) → length (rows_of f (inserted f q w t)) ≡ length (rows_of f t) + cond (has_rank f (f.rank w) t) 0 1
@@ -292,17 +292,17 @@ module _ {R : Type 0} (f : Functions R) where
         let whole = length-append (rows_of f l) (plain f x ∷ rows_of f r) in
         elim (cases_order (f.rank w) (f.rank x)) [
           | inl same ↦
-            let is = ap (λ t. length (rows_of f t)) (inserted-here f q w l p x r same) ∙ length-append (rows_of f l) (plain f w ∷ rows_of f r) in
-            let there : has_rank f (f.rank w) (Node l p x r) ≡ true = cond-false (ltb (f.rank w) (f.rank x)) _ _ (le-ltb _ _ (omega arith)) ∙ cond-false (ltb (f.rank x) (f.rank w)) _ _ (le-ltb _ _ (omega arith)) in
-            omega (arith, is, whole, ap {B = ℕ} (λ b. cond b 0 1) there)
+              let is = ap (λ t. length (rows_of f t)) (inserted-here f q w l p x r same) ∙ length-append (rows_of f l) (plain f w ∷ rows_of f r) in
+              let there : has_rank f (f.rank w) (Node l p x r) ≡ true = cond-false (ltb (f.rank w) (f.rank x)) _ _ (le-ltb _ _ (omega arith)) ∙ cond-false (ltb (f.rank x) (f.rank w)) _ _ (le-ltb _ _ (omega arith)) in
+              omega (arith, is, whole, ap {B = ℕ} (λ b. cond b 0 1) there)
           | inr (inl less) ↦
-            let is = ap (λ t. length (rows_of f t)) (inserted-left f q w l p x r less) ∙ ap length (rows-balanced f (inserted f q w l) p x r) ∙ length-append (rows_of f (inserted f q w l)) (plain f x ∷ rows_of f r) in
-            let there : has_rank f (f.rank w) (Node l p x r) ≡ has_rank f (f.rank w) l = cond-true (ltb (f.rank w) (f.rank x)) _ _ (lt-ltb _ _ less) in
-            omega (arith, is, whole, length-inserted q w l, ap {B = ℕ} (λ b. cond b 0 1) there)
+              let is = ap (λ t. length (rows_of f t)) (inserted-left f q w l p x r less) ∙ ap length (rows-balanced f (inserted f q w l) p x r) ∙ length-append (rows_of f (inserted f q w l)) (plain f x ∷ rows_of f r) in
+              let there : has_rank f (f.rank w) (Node l p x r) ≡ has_rank f (f.rank w) l = cond-true (ltb (f.rank w) (f.rank x)) _ _ (lt-ltb _ _ less) in
+              omega (arith, is, whole, length-inserted q w l, ap {B = ℕ} (λ b. cond b 0 1) there)
           | inr (inr more) ↦
-            let is = ap (λ t. length (rows_of f t)) (inserted-right f q w l p x r more) ∙ ap length (rows-balanced f l p x (inserted f q w r)) ∙ length-append (rows_of f l) (plain f x ∷ rows_of f (inserted f q w r)) in
-            let there : has_rank f (f.rank w) (Node l p x r) ≡ has_rank f (f.rank w) r = cond-false (ltb (f.rank w) (f.rank x)) _ _ (le-ltb _ _ (omega arith)) ∙ cond-true (ltb (f.rank x) (f.rank w)) _ _ (lt-ltb _ _ more) in
-            omega (arith, is, whole, length-inserted q w r, ap {B = ℕ} (λ b. cond b 0 1) there)
+              let is = ap (λ t. length (rows_of f t)) (inserted-right f q w l p x r more) ∙ ap length (rows-balanced f l p x (inserted f q w r)) ∙ length-append (rows_of f l) (plain f x ∷ rows_of f (inserted f q w r)) in
+              let there : has_rank f (f.rank w) (Node l p x r) ≡ has_rank f (f.rank w) r = cond-false (ltb (f.rank w) (f.rank x)) _ _ (le-ltb _ _ (omega arith)) ∙ cond-true (ltb (f.rank x) (f.rank w)) _ _ (lt-ltb _ _ more) in
+              omega (arith, is, whole, length-inserted q w r, ap {B = ℕ} (λ b. cond b 0 1) there)
         ]
 
     pub length-removed : (n : ℕ) (t : Tree R) → length (rows_of f (removed f n t)) + cond (has_rank f n t) 1 0 ≡ length (rows_of f t)
@@ -311,15 +311,15 @@ module _ {R : Type 0} (f : Functions R) where
         let whole = length-append (rows_of f l) (plain f x ∷ rows_of f r) in
         elim (cases_order n (f.rank x)) [
           | inl same ↦
-            let is = ap (λ t. length (rows_of f t)) (removed-here f n l p x r same) ∙ ap length (rows-without_root l p x r) ∙ length-append (rows_of f l) (rows_of f r) in
-            let there : has_rank f n (Node l p x r) ≡ true = cond-false (ltb n (f.rank x)) _ _ (le-ltb _ _ (omega arith)) ∙ cond-false (ltb (f.rank x) n) _ _ (le-ltb _ _ (omega arith)) in
-            omega (arith, is, whole, ap {B = ℕ} (λ b. cond b 1 0) there)
+              let is = ap (λ t. length (rows_of f t)) (removed-here f n l p x r same) ∙ ap length (rows-without_root l p x r) ∙ length-append (rows_of f l) (rows_of f r) in
+              let there : has_rank f n (Node l p x r) ≡ true = cond-false (ltb n (f.rank x)) _ _ (le-ltb _ _ (omega arith)) ∙ cond-false (ltb (f.rank x) n) _ _ (le-ltb _ _ (omega arith)) in
+              omega (arith, is, whole, ap {B = ℕ} (λ b. cond b 1 0) there)
           | inr (inl less) ↦
-            let is = ap (λ t. length (rows_of f t)) (removed-left f n l p x r less) ∙ ap length (rows-balanced f (removed f n l) p x r) ∙ length-append (rows_of f (removed f n l)) (plain f x ∷ rows_of f r) in
-            let there : has_rank f n (Node l p x r) ≡ has_rank f n l = cond-true (ltb n (f.rank x)) _ _ (lt-ltb _ _ less) in
-            omega (arith, is, whole, length-removed n l, ap {B = ℕ} (λ b. cond b 1 0) there)
+              let is = ap (λ t. length (rows_of f t)) (removed-left f n l p x r less) ∙ ap length (rows-balanced f (removed f n l) p x r) ∙ length-append (rows_of f (removed f n l)) (plain f x ∷ rows_of f r) in
+              let there : has_rank f n (Node l p x r) ≡ has_rank f n l = cond-true (ltb n (f.rank x)) _ _ (lt-ltb _ _ less) in
+              omega (arith, is, whole, length-removed n l, ap {B = ℕ} (λ b. cond b 1 0) there)
           | inr (inr more) ↦
-            let is = ap (λ t. length (rows_of f t)) (removed-right f n l p x r more) ∙ ap length (rows-balanced f l p x (removed f n r)) ∙ length-append (rows_of f l) (plain f x ∷ rows_of f (removed f n r)) in
-            let there : has_rank f n (Node l p x r) ≡ has_rank f n r = cond-false (ltb n (f.rank x)) _ _ (le-ltb _ _ (omega arith)) ∙ cond-true (ltb (f.rank x) n) _ _ (lt-ltb _ _ more) in
-            omega (arith, is, whole, length-removed n r, ap {B = ℕ} (λ b. cond b 1 0) there)
+              let is = ap (λ t. length (rows_of f t)) (removed-right f n l p x r more) ∙ ap length (rows-balanced f l p x (removed f n r)) ∙ length-append (rows_of f l) (plain f x ∷ rows_of f (removed f n r)) in
+              let there : has_rank f n (Node l p x r) ≡ has_rank f n r = cond-false (ltb n (f.rank x)) _ _ (le-ltb _ _ (omega arith)) ∙ cond-true (ltb (f.rank x) n) _ _ (lt-ltb _ _ more) in
+              omega (arith, is, whole, length-removed n r, ap {B = ℕ} (λ b. cond b 1 0) there)
         ]

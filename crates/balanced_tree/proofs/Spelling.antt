@@ -1,11 +1,11 @@
 -- How trees stand in a slab: what links lead to, and what stays where a row is put over its parts.
-use Rattle.std.proofs.Common.{◌≡◌, ◌≢◌, ◌⊎◌, ℕ, ◌+◌, ◌<◌, ◌≤◌, ◌^◌, Bool, true, false, cond, Option, None, Some, is_some, IsSome, refl, sym, ap, ◌∙◌, subst, inl, inr, arith}
-use Rattle.std.proofs.lemmas.Bool.{ltb-true, ltb-false, lt-ltb, le-ltb, cases_eq}
+use Rattle.std.proofs.Common.{◌≡◌, ◌⊎◌, ℕ, ◌+◌, ◌<◌, ◌≤◌, Bool, true, false, cond, Option, None, Some, is_some, refl, sym, ap, ◌∙◌, subst, inl, inr, arith}
+use Rattle.std.proofs.lemmas.Bool.{cases_eq}
 use Rattle.std.proofs.lemmas.Option.{same_Some}
 use Rattle.slab.specs.Slab.{Slab, get, ContainsKey, Updates}
 use Rattle.balanced_tree.specs.declared.children.Child.{Child}
-use Rattle.balanced_tree.specs.Row.{Functions, AreLawful, link_of, height_in}
-use Rattle.balanced_tree.specs.Tree.{Tree, Leaf, Node, place_of, child_of, stored, IsOrdered}
+use Rattle.balanced_tree.specs.Row.{Functions, AreLawful, link_of}
+use Rattle.balanced_tree.specs.Tree.{Tree, Leaf, Node, place_of, child_of, IsOrdered}
 use Rattle.balanced_tree.specs.Standing.{child_under, child_at, Spells, Same, Keeps, Becomes, IsSplit, Splits}
 
 -- what is picked of one thing or none is that thing
@@ -75,10 +75,12 @@ module _ {R : Type 0} (f : Functions R) where
   -- a write under the place of a row within the bounds
   pub Keeps-Updates : {old new : Slab R} {place : ℕ} {slot : Option R} (low high : ℕ) (had : R) → get old place ≡ Some had → low ≤ f.rank had → f.rank had < high → Updates old new place slot → Keeps f low high old new
   Keeps-Updates {old} {new} {place} low high had at from below u =
-      record { kept = λ p x e o. elim (cases_eq p place) [
-        | inl same ↦ (let both : had ≡ x = same_Some had x (sym at ∙ ap (get old) (sym same) ∙ e) in elim o [ inl q ↦ absurd (omega (arith, ap f.rank both)) | inr q ↦ absurd (omega (arith, ap f.rank both)) ])
-        | inr differs ↦ u.others p differs ∙ e
-      ] }
+      record {
+        kept = λ p x e o. elim (cases_eq p place) [
+          | inl same ↦ (let both : had ≡ x = same_Some had x (sym at ∙ ap (get old) (sym same) ∙ e) in elim o [ inl q ↦ absurd (omega (arith, ap f.rank both)) | inr q ↦ absurd (omega (arith, ap f.rank both)) ])
+          | inr differs ↦ u.others p differs ∙ e
+        ];
+      }
 
   pub Same-refl : (x : R) → Same f x x
   Same-refl x = record { linked = λ l r. refl; rank = refl }
@@ -93,11 +95,11 @@ module _ {R : Type 0} (f : Functions R) where
 
   -- a row is put over its parts
   pub place_over-tree :
-    {s s1 : Slab R} {l r : Tree R} {p place low high : ℕ} {x w : R} {cl cr : Option (Child R)} {c : Child R}
-    → AreLawful f
-    → IsSplit f s l p x r low high → Same f x w → cl ≡ child_of f l → cr ≡ child_of f r → place ≡ p
-    → Updates s s1 place (Some (f.linked w cl cr)) → c ≡ record { link = place; row = f.linked w cl cr }
-    → IsPlaced s s1 (Node l p x r) low high c
+      {s s1 : Slab R} {l r : Tree R} {p place low high : ℕ} {x w : R} {cl cr : Option (Child R)} {c : Child R}
+      → AreLawful f
+      → IsSplit f s l p x r low high → Same f x w → cl ≡ child_of f l → cr ≡ child_of f r → place ≡ p
+      → Updates s s1 place (Some (f.linked w cl cr)) → c ≡ record { link = place; row = f.linked w cl cr }
+      → IsPlaced s s1 (Node l p x r) low high c
   place_over-tree {s} {s1} {l} {r} {p} {place} {low} {high} {x} {w} {cl} {cr} {c} laws split same left right is_p u child =
       let row_is : f.linked w cl cr ≡ f.linked x (child_of f l) (child_of f r) = rw (left, right) (same.linked _ _) in
       let v : Updates s s1 p (Some (f.linked x (child_of f l) (child_of f r))) = subst (λ q. Updates s s1 q (Some (f.linked x (child_of f l) (child_of f r)))) is_p (subst (λ y. Updates s s1 place (Some y)) row_is u) in

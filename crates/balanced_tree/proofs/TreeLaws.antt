@@ -1,9 +1,9 @@
 -- What insertion and removal make of a tree's rows, heights and balance.
-use Rattle.std.proofs.Common.{◌≡◌, ◌⊎◌, inl, inr, ℕ, ◌+◌, ◌-◌, ◌*◌, ◌<◌, ◌≤◌, ◌^◌, max, min, Bool, true, false, cond, ltb, List, [], ◌∷◌, ◌++◌, length, refl, sym, ap, ◌∙◌, subst, arith, length-append}
-use Rattle.std.proofs.lemmas.Bool.{ltb-true, ltb-false, lt-ltb, le-ltb, cond-true, cond-false, cond_both}
+use Rattle.std.proofs.Common.{◌≡◌, ◌⊎◌, inl, inr, ℕ, ◌+◌, ◌<◌, ◌≤◌, ◌^◌, max, true, cond, ltb, List, ◌∷◌, ◌++◌, refl, arith}
+use Rattle.std.proofs.lemmas.Bool.{ltb-true, ltb-false, cond_both}
 use Rattle.std.proofs.lemmas.List.{append_assoc}
 use Rattle.balanced_tree.specs.Row.{Functions, AreLawful, plain}
-use Rattle.balanced_tree.specs.Tree.{Tree, Leaf, Node, is_leaf, height, IsBalanced, stored, rows_of, has_rank, leaned_right, leaned_left, balanced, inserted, least, without_least, without_root, removed}
+use Rattle.balanced_tree.specs.Tree.{Tree, Leaf, Node, is_leaf, height, IsBalanced, stored, rows_of, leaned_right, leaned_left, balanced, inserted, least, without_least, without_root, removed}
 use Rattle.balanced_tree.proofs.Nodes.{stored-short}
 
 module _ {R : Type 0} (f : Functions R) where
@@ -56,11 +56,15 @@ module _ {R : Type 0} (f : Functions R) where
       (IsSettled (Node a j y (Node c k z d)) r)
       (λ e. let q = ltb-true (stored f a) (stored f (Node c k z d)) e in record {
         good = (omega arith, omega arith, (omega arith, omega arith, hl.2, hl.3.2), (omega arith, omega arith, hl.3.3, hr));
-        at_least = omega arith; at_most = omega arith; level = inr (inl two);
+        at_least = omega arith;
+        at_most = omega arith;
+        level = inr (inl two);
       })
       (λ e. let q = ltb-false (stored f a) (stored f (Node c k z d)) e in record {
         good = (omega arith, omega arith, hl.2, (omega arith, omega arith, hl.3, hr));
-        at_least = omega arith; at_most = omega arith; level = inr (inl two);
+        at_least = omega arith;
+        at_most = omega arith;
+        level = inr (inl two);
       })
 
   settled-leaned_left : AreLawful f → (l : Tree R) (p : ℕ) (x : R) (r : Tree R) → IsBalanced l → IsBalanced r → height r ≡ height l + 2 → height r < 2 ^ 31 → IsSettled l r (leaned_left f l p x r)
@@ -77,11 +81,15 @@ module _ {R : Type 0} (f : Functions R) where
       (IsSettled l (Node (Node c k z d) j y b))
       (λ e. let q = ltb-true (stored f b) (stored f (Node c k z d)) e in record {
         good = (omega arith, omega arith, (omega arith, omega arith, hl, hr.2.2), (omega arith, omega arith, hr.2.3, hr.3));
-        at_least = omega arith; at_most = omega arith; level = inr (inr two);
+        at_least = omega arith;
+        at_most = omega arith;
+        level = inr (inr two);
       })
       (λ e. let q = ltb-false (stored f b) (stored f (Node c k z d)) e in record {
         good = (omega arith, omega arith, (omega arith, omega arith, hl, hr.2), hr.3);
-        at_least = omega arith; at_most = omega arith; level = inr (inr two);
+        at_least = omega arith;
+        at_most = omega arith;
+        level = inr (inr two);
       })
 
   pub settled-balanced : AreLawful f → (l : Tree R) (p : ℕ) (x : R) (r : Tree R) → IsBalanced l → IsBalanced r → height l ≤ height r + 2 → height r ≤ height l + 2 → height l < 2 ^ 31 → height r < 2 ^ 31 → IsSettled l r (balanced f l p x r)
@@ -93,9 +101,9 @@ module _ {R : Type 0} (f : Functions R) where
       (IsSettled l r)
       (λ e. settled-leaned_right laws l p x r hl hr (omega (arith, ltb-true (stored f r + 1) (stored f l) e)) short_l)
       (λ e. cond_both (ltb (stored f l + 1) (stored f r)) (leaned_left f l p x r) (Node l p x r) (IsSettled l r)
-        (λ q. settled-leaned_left laws l p x r hl hr (omega (arith, ltb-true (stored f l + 1) (stored f r) q)) short_r)
-        (λ q. (let q1 = ltb-false (stored f r + 1) (stored f l) e in let q2 = ltb-false (stored f l + 1) (stored f r) q in
-          record { good = (omega arith, omega arith, hl, hr); at_least = omega arith; at_most = omega arith; level = inl refl })))
+      (λ q. settled-leaned_left laws l p x r hl hr (omega (arith, ltb-true (stored f l + 1) (stored f r) q)) short_r)
+      (λ q. (let q1 = ltb-false (stored f r + 1) (stored f l) e in let q2 = ltb-false (stored f l + 1) (stored f r) q in
+      record { good = (omega arith, omega arith, hl, hr); at_least = omega arith; at_most = omega arith; level = inl refl })))
 
   -- a tree that is balanced, and as high as another or one higher
   pub record IsGrown (t u : Tree R) : Type 0 where
@@ -111,13 +119,13 @@ module _ {R : Type 0} (f : Functions R) where
       cond_both (ltb (f.rank w) (f.rank x)) (balanced f (inserted f q w l) p x r) (cond (ltb (f.rank x) (f.rank w)) (balanced f l p x (inserted f q w r)) (Node l p w r))
       (IsGrown (Node l p x r))
       (λ e. let sub = grown-inserted laws q w l h.2 (omega arith) in
-        let s = settled-balanced laws (inserted f q w l) p x r sub.good h.3 (omega (arith, sub.at_most)) (omega (arith, sub.at_least)) (omega (arith, sub.at_most)) (omega arith) in
-        record { good = s.good; at_least = omega (arith, sub.at_least, s.at_least, s.level); at_most = omega (arith, sub.at_most, s.at_most) })
+      let s = settled-balanced laws (inserted f q w l) p x r sub.good h.3 (omega (arith, sub.at_most)) (omega (arith, sub.at_least)) (omega (arith, sub.at_most)) (omega arith) in
+      record { good = s.good; at_least = omega (arith, sub.at_least, s.at_least, s.level); at_most = omega (arith, sub.at_most, s.at_most) })
       (λ e. cond_both (ltb (f.rank x) (f.rank w)) (balanced f l p x (inserted f q w r)) (Node l p w r) (IsGrown (Node l p x r))
-        (λ g. let sub = grown-inserted laws q w r h.3 (omega arith) in
-          let s = settled-balanced laws l p x (inserted f q w r) h.2 sub.good (omega (arith, sub.at_least)) (omega (arith, sub.at_most)) (omega arith) (omega (arith, sub.at_most)) in
-          record { good = s.good; at_least = omega (arith, sub.at_least, s.at_least, s.level); at_most = omega (arith, sub.at_most, s.at_most) })
-        (λ g. record { good = h; at_least = omega arith; at_most = omega arith }))
+      (λ g. let sub = grown-inserted laws q w r h.3 (omega arith) in
+      let s = settled-balanced laws l p x (inserted f q w r) h.2 sub.good (omega (arith, sub.at_least)) (omega (arith, sub.at_most)) (omega arith) (omega (arith, sub.at_most)) in
+      record { good = s.good; at_least = omega (arith, sub.at_least, s.at_least, s.level); at_most = omega (arith, sub.at_most, s.at_most) })
+      (λ g. record { good = h; at_least = omega arith; at_most = omega arith }))
 
   -- a tree that is balanced, and as high as another or one lower
   pub record IsShrunk (t u : Tree R) : Type 0 where
@@ -146,9 +154,9 @@ module _ {R : Type 0} (f : Functions R) where
       (λ e. record { good = h.3; at_most = omega arith; at_least = omega (arith, height-leaf l e) })
       (λ e. shrunk-left laws l (without_least f l) p x x r h short (shrunk-without_least laws l h.2 (omega arith)))
     where
-    height-leaf : (t : Tree R) → is_leaf t ≡ true → height t ≡ 0
-    height-leaf Leaf e = refl
-    height-leaf (Node l p x r) e = cc
+      height-leaf : (t : Tree R) → is_leaf t ≡ true → height t ≡ 0
+      height-leaf Leaf e = refl
+      height-leaf (Node l p x r) e = cc
 
   shrunk-without_root : AreLawful f → (l : Tree R) (p : ℕ) (x : R) (r : Tree R) → IsBalanced (Node l p x r) → height (Node l p x r) < 2 ^ 31 → IsShrunk (Node l p x r) (without_root f (Node l p x r))
   unfolding without_root
@@ -164,5 +172,5 @@ module _ {R : Type 0} (f : Functions R) where
       (IsShrunk (Node l p x r))
       (λ e. shrunk-left laws l (removed f n l) p x x r h short (shrunk-removed laws n l h.2 (omega arith)))
       (λ e. cond_both (ltb (f.rank x) n) (balanced f l p x (removed f n r)) (without_root f (Node l p x r)) (IsShrunk (Node l p x r))
-        (λ g. shrunk-right laws l (removed f n r) p x x r h short (shrunk-removed laws n r h.3 (omega arith)))
-        (λ g. shrunk-without_root laws l p x r h short))
+      (λ g. shrunk-right laws l (removed f n r) p x x r h short (shrunk-removed laws n r h.3 (omega arith)))
+      (λ g. shrunk-without_root laws l p x r h short))

@@ -1,12 +1,12 @@
 -- The rotations: rows that are put over their parts one after another spell the tree that is turned.
-use Rattle.std.proofs.Common.{◌≡◌, ◌⊎◌, ℕ, ◌+◌, ◌<◌, ◌≤◌, Bool, true, false, cond, ltb, Option, None, Some, refl, sym, ap, ◌∙◌, subst, inl, inr, arith, add-zero}
+use Rattle.std.proofs.Common.{◌≡◌, ℕ, ◌+◌, ◌<◌, ◌≤◌, false, cond, ltb, Option, None, Some, refl, sym, ap, ◌∙◌, subst, inl, inr, arith, add-zero}
 use Rattle.std.proofs.lemmas.Bool.{cond-true, cond-false, le-ltb}
 use Rattle.std.proofs.lemmas.Option.{same_Some}
-use Rattle.slab.specs.Slab.{Slab, get, Updates}
+use Rattle.slab.specs.Slab.{Slab, Updates}
 use Rattle.balanced_tree.specs.declared.children.Child.{Child}
 use Rattle.balanced_tree.specs.Row.{Functions, AreLawful, height_in}
-use Rattle.balanced_tree.specs.Tree.{Tree, Leaf, Node, place_of, child_of, stored, IsOrdered, leaned_right, leaned_left, balanced}
-use Rattle.balanced_tree.specs.Standing.{child_at, Spells, Same, Keeps, Becomes, IsSplit, Splits}
+use Rattle.balanced_tree.specs.Tree.{Tree, Leaf, Node, child_of, stored, leaned_right, leaned_left, balanced}
+use Rattle.balanced_tree.specs.Standing.{child_at, Spells, Same, Keeps, IsSplit}
 use Rattle.balanced_tree.proofs.Spelling.{link_of-child_of, child_at-place_of, IsOrdered-bounds, Spells-kept, Keeps-trans, Keeps-wider, Same-linked, IsPlaced, place_over-tree, picked-is, picked-test, not_picked}
 
 module _ {R : Type 0} (f : Functions R) where
@@ -23,69 +23,100 @@ module _ {R : Type 0} (f : Functions R) where
       }
 
   pub once_right :
-    {s s1 s2 : Slab R} {a b r : Tree R} {p j q i low high : ℕ} {x y w v : R} {cl cm cr : Option (Child R)} {lower upper : Child R}
-    → AreLawful f
-    → IsSplit f s (Node a j y b) p x r low high → Same f x w → Same f y v → i ≡ j → q ≡ p
-    → cl ≡ child_of f a → cm ≡ child_of f b → cr ≡ child_of f r
-    → Updates s s1 q (Some (f.linked w cm cr)) → lower ≡ record { link = q; row = f.linked w cm cr }
-    → Updates s1 s2 i (Some (f.linked v cl (Some lower))) → upper ≡ record { link = i; row = f.linked v cl (Some lower) }
-    → IsPlaced f s s2 (Node a j y (Node b p x r)) low high upper
+      {s s1 s2 : Slab R} {a b r : Tree R} {p j q i low high : ℕ} {x y w v : R} {cl cm cr : Option (Child R)} {lower upper : Child R}
+      → AreLawful f
+      → IsSplit f s (Node a j y b) p x r low high → Same f x w → Same f y v → i ≡ j → q ≡ p
+      → cl ≡ child_of f a → cm ≡ child_of f b → cr ≡ child_of f r
+      → Updates s s1 q (Some (f.linked w cm cr)) → lower ≡ record { link = q; row = f.linked w cm cr }
+      → Updates s1 s2 i (Some (f.linked v cl (Some lower))) → upper ≡ record { link = i; row = f.linked v cl (Some lower) }
+      → IsPlaced f s s2 (Node a j y (Node b p x r)) low high upper
   once_right {s} {s1} {s2} {a} {b} {r} {p} {j} {q} {i} {low} {high} {x} {y} laws split same_x same_y is_j is_p left middle right u1 lower_is u2 upper_is =
       let inner : IsSplit f s b p x r (f.rank y + 1) high = record {
-        middle = split.middle; past = split.past; had = split.had; at = split.at;
-        left = split.left.2; right = split.right; left_ordered = split.left_ordered.1; right_ordered = split.right_ordered;
-        had_from = split.had_from; had_below = split.had_below; row_from = split.row_from; row_below = split.row_below;
+        middle = split.middle;
+        past = split.past;
+        had = split.had;
+        at = split.at;
+        left = split.left.2;
+        right = split.right;
+        left_ordered = split.left_ordered.1;
+        right_ordered = split.right_ordered;
+        had_from = split.had_from;
+        had_below = split.had_below;
+        row_from = split.row_from;
+        row_below = split.row_below;
       } in
       let one = place_over-tree f laws inner same_x middle right is_p u1 lower_is in
       let had = f.linked y (child_of f a) (child_of f b) in
       let rank_is : f.rank had ≡ f.rank y = laws.rank_kept y _ _ in
       let below = IsOrdered-bounds f low (f.rank y) a split.left_ordered.0 in
       let outer : IsSplit f s1 a j y (Node b p x r) low high = record {
-        middle = f.rank y; past = f.rank y + 1; had = had;
+        middle = f.rank y;
+        past = f.rank y + 1;
+        had = had;
         at = one.becomes.kept.kept j had split.left.0 (inl (omega arith));
         left = Spells-kept f low (f.rank y) a one.becomes.kept laws split.left_ordered.0 (inl (omega arith)) split.left.1;
-        right = one.becomes.spelled; left_ordered = split.left_ordered.0; right_ordered = one.becomes.ordered;
-        had_from = omega arith; had_below = omega arith; row_from = omega arith; row_below = omega arith;
+        right = one.becomes.spelled;
+        left_ordered = split.left_ordered.0;
+        right_ordered = one.becomes.ordered;
+        had_from = omega arith;
+        had_below = omega arith;
+        row_from = omega arith;
+        row_below = omega arith;
       } in
       IsPlaced-after (omega arith) (omega arith) one.becomes.kept (place_over-tree f laws outer same_y left one.child is_j u2 upper_is)
 
   pub once_left :
-    {s s1 s2 : Slab R} {l a b : Tree R} {p j q i low high : ℕ} {x y w v : R} {cl cm cr : Option (Child R)} {lower upper : Child R}
-    → AreLawful f
-    → IsSplit f s l p x (Node a j y b) low high → Same f x w → Same f y v → i ≡ j → q ≡ p
-    → cl ≡ child_of f l → cm ≡ child_of f a → cr ≡ child_of f b
-    → Updates s s1 q (Some (f.linked w cl cm)) → lower ≡ record { link = q; row = f.linked w cl cm }
-    → Updates s1 s2 i (Some (f.linked v (Some lower) cr)) → upper ≡ record { link = i; row = f.linked v (Some lower) cr }
-    → IsPlaced f s s2 (Node (Node l p x a) j y b) low high upper
+      {s s1 s2 : Slab R} {l a b : Tree R} {p j q i low high : ℕ} {x y w v : R} {cl cm cr : Option (Child R)} {lower upper : Child R}
+      → AreLawful f
+      → IsSplit f s l p x (Node a j y b) low high → Same f x w → Same f y v → i ≡ j → q ≡ p
+      → cl ≡ child_of f l → cm ≡ child_of f a → cr ≡ child_of f b
+      → Updates s s1 q (Some (f.linked w cl cm)) → lower ≡ record { link = q; row = f.linked w cl cm }
+      → Updates s1 s2 i (Some (f.linked v (Some lower) cr)) → upper ≡ record { link = i; row = f.linked v (Some lower) cr }
+      → IsPlaced f s s2 (Node (Node l p x a) j y b) low high upper
   once_left {s} {s1} {s2} {l} {a} {b} {p} {j} {q} {i} {low} {high} {x} {y} laws split same_x same_y is_j is_p left middle right u1 lower_is u2 upper_is =
       let inner : IsSplit f s l p x a low (f.rank y) = record {
-        middle = split.middle; past = split.past; had = split.had; at = split.at;
-        left = split.left; right = split.right.1; left_ordered = split.left_ordered; right_ordered = split.right_ordered.0;
-        had_from = split.had_from; had_below = split.had_below; row_from = split.row_from; row_below = split.row_below;
+        middle = split.middle;
+        past = split.past;
+        had = split.had;
+        at = split.at;
+        left = split.left;
+        right = split.right.1;
+        left_ordered = split.left_ordered;
+        right_ordered = split.right_ordered.0;
+        had_from = split.had_from;
+        had_below = split.had_below;
+        row_from = split.row_from;
+        row_below = split.row_below;
       } in
       let one = place_over-tree f laws inner same_x left middle is_p u1 lower_is in
       let had = f.linked y (child_of f a) (child_of f b) in
       let rank_is : f.rank had ≡ f.rank y = laws.rank_kept y _ _ in
       let above = IsOrdered-bounds f (f.rank y + 1) high b split.right_ordered.1 in
       let outer : IsSplit f s1 (Node l p x a) j y b low high = record {
-        middle = f.rank y; past = f.rank y + 1; had = had;
+        middle = f.rank y;
+        past = f.rank y + 1;
+        had = had;
         at = one.becomes.kept.kept j had split.right.0 (inr (omega arith));
         left = one.becomes.spelled;
         right = Spells-kept f (f.rank y + 1) high b one.becomes.kept laws split.right_ordered.1 (inr (omega arith)) split.right.2;
-        left_ordered = one.becomes.ordered; right_ordered = split.right_ordered.1;
-        had_from = omega arith; had_below = omega arith; row_from = omega arith; row_below = omega arith;
+        left_ordered = one.becomes.ordered;
+        right_ordered = split.right_ordered.1;
+        had_from = omega arith;
+        had_below = omega arith;
+        row_from = omega arith;
+        row_below = omega arith;
       } in
       IsPlaced-after (omega arith) (omega arith) one.becomes.kept (place_over-tree f laws outer same_y one.child right is_j u2 upper_is)
 
   pub twice_right :
-    {s s1 s2 s3 : Slab R} {a c d r : Tree R} {p j k q i h low high : ℕ} {x y z w v u : R} {ca cc cd cr : Option (Child R)} {first last upper : Child R}
-    → AreLawful f
-    → IsSplit f s (Node a j y (Node c k z d)) p x r low high → Same f x w → Same f y v → Same f z u → i ≡ j → h ≡ k → q ≡ p
-    → ca ≡ child_of f a → cc ≡ child_of f c → cd ≡ child_of f d → cr ≡ child_of f r
-    → Updates s s1 i (Some (f.linked v ca cc)) → first ≡ record { link = i; row = f.linked v ca cc }
-    → Updates s1 s2 q (Some (f.linked w cd cr)) → last ≡ record { link = q; row = f.linked w cd cr }
-    → Updates s2 s3 h (Some (f.linked u (Some first) (Some last))) → upper ≡ record { link = h; row = f.linked u (Some first) (Some last) }
-    → IsPlaced f s s3 (Node (Node a j y c) k z (Node d p x r)) low high upper
+      {s s1 s2 s3 : Slab R} {a c d r : Tree R} {p j k q i h low high : ℕ} {x y z w v u : R} {ca cc cd cr : Option (Child R)} {first last upper : Child R}
+      → AreLawful f
+      → IsSplit f s (Node a j y (Node c k z d)) p x r low high → Same f x w → Same f y v → Same f z u → i ≡ j → h ≡ k → q ≡ p
+      → ca ≡ child_of f a → cc ≡ child_of f c → cd ≡ child_of f d → cr ≡ child_of f r
+      → Updates s s1 i (Some (f.linked v ca cc)) → first ≡ record { link = i; row = f.linked v ca cc }
+      → Updates s1 s2 q (Some (f.linked w cd cr)) → last ≡ record { link = q; row = f.linked w cd cr }
+      → Updates s2 s3 h (Some (f.linked u (Some first) (Some last))) → upper ≡ record { link = h; row = f.linked u (Some first) (Some last) }
+      → IsPlaced f s s3 (Node (Node a j y c) k z (Node d p x r)) low high upper
   twice_right {s} {s1} {s2} {s3} {a} {c} {d} {r} {p} {j} {k} {q} {i} {h} {low} {high} {x} {y} {z} laws split same_x same_y same_z is_j is_k is_p on_a on_c on_d on_r u1 first_is u2 last_is u3 upper_is =
       let had_y = f.linked y (child_of f a) (child_of f (Node c k z d)) in
       let rank_y : f.rank had_y ≡ f.rank y = laws.rank_kept y _ _ in
@@ -98,38 +129,61 @@ module _ {R : Type 0} (f : Functions R) where
       let had_from : split.middle ≤ f.rank split.had = split.had_from in
       let had_below : f.rank split.had < split.past = split.had_below in
       let inner : IsSplit f s a j y c low (f.rank z) = record {
-        middle = f.rank y; past = f.rank y + 1; had = had_y; at = split.left.0;
-        left = split.left.1; right = split.left.2.1; left_ordered = split.left_ordered.0; right_ordered = split.left_ordered.1.0;
-        had_from = omega arith; had_below = omega arith; row_from = omega arith; row_below = omega arith;
+        middle = f.rank y;
+        past = f.rank y + 1;
+        had = had_y;
+        at = split.left.0;
+        left = split.left.1;
+        right = split.left.2.1;
+        left_ordered = split.left_ordered.0;
+        right_ordered = split.left_ordered.1.0;
+        had_from = omega arith;
+        had_below = omega arith;
+        row_from = omega arith;
+        row_below = omega arith;
       } in
       let one = place_over-tree f laws inner same_y on_a on_c is_j u1 first_is in
       let next : IsSplit f s1 d p x r (f.rank z + 1) high = record {
-        middle = split.middle; past = split.past; had = split.had; at = one.becomes.kept.kept p split.had split.at (inr (omega arith));
+        middle = split.middle;
+        past = split.past;
+        had = split.had;
+        at = one.becomes.kept.kept p split.had split.at (inr (omega arith));
         left = Spells-kept f (f.rank z + 1) split.middle d one.becomes.kept laws split.left_ordered.1.1 (inr (omega arith)) split.left.2.2;
         right = Spells-kept f split.past high r one.becomes.kept laws split.right_ordered (inr (omega arith)) split.right;
-        left_ordered = split.left_ordered.1.1; right_ordered = split.right_ordered;
-        had_from = split.had_from; had_below = split.had_below; row_from = split.row_from; row_below = split.row_below;
+        left_ordered = split.left_ordered.1.1;
+        right_ordered = split.right_ordered;
+        had_from = split.had_from;
+        had_below = split.had_below;
+        row_from = split.row_from;
+        row_below = split.row_below;
       } in
       let two = place_over-tree f laws next same_x on_d on_r is_p u2 last_is in
       let outer : IsSplit f s2 (Node a j y c) k z (Node d p x r) low high = record {
-        middle = f.rank z; past = f.rank z + 1; had = had_z;
+        middle = f.rank z;
+        past = f.rank z + 1;
+        had = had_z;
         at = two.becomes.kept.kept k had_z (one.becomes.kept.kept k had_z split.left.2.0 (inr (omega arith))) (inl (omega arith));
         left = Spells-kept f low (f.rank z) (Node a j y c) two.becomes.kept laws one.becomes.ordered (inl (omega arith)) one.becomes.spelled;
-        right = two.becomes.spelled; left_ordered = one.becomes.ordered; right_ordered = two.becomes.ordered;
-        had_from = omega arith; had_below = omega arith; row_from = omega arith; row_below = omega arith;
+        right = two.becomes.spelled;
+        left_ordered = one.becomes.ordered;
+        right_ordered = two.becomes.ordered;
+        had_from = omega arith;
+        had_below = omega arith;
+        row_from = omega arith;
+        row_below = omega arith;
       } in
       let three = place_over-tree f laws outer same_z one.child two.child is_k u3 upper_is in
       IsPlaced-after (omega arith) (omega arith) one.becomes.kept (IsPlaced-after (omega arith) (omega arith) two.becomes.kept three)
 
   pub twice_left :
-    {s s1 s2 s3 : Slab R} {l c d b : Tree R} {p j k q i h low high : ℕ} {x y z w v u : R} {cl cc cd cb : Option (Child R)} {first last upper : Child R}
-    → AreLawful f
-    → IsSplit f s l p x (Node (Node c k z d) j y b) low high → Same f x w → Same f y v → Same f z u → i ≡ j → h ≡ k → q ≡ p
-    → cl ≡ child_of f l → cc ≡ child_of f c → cd ≡ child_of f d → cb ≡ child_of f b
-    → Updates s s1 q (Some (f.linked w cl cc)) → first ≡ record { link = q; row = f.linked w cl cc }
-    → Updates s1 s2 i (Some (f.linked v cd cb)) → last ≡ record { link = i; row = f.linked v cd cb }
-    → Updates s2 s3 h (Some (f.linked u (Some first) (Some last))) → upper ≡ record { link = h; row = f.linked u (Some first) (Some last) }
-    → IsPlaced f s s3 (Node (Node l p x c) k z (Node d j y b)) low high upper
+      {s s1 s2 s3 : Slab R} {l c d b : Tree R} {p j k q i h low high : ℕ} {x y z w v u : R} {cl cc cd cb : Option (Child R)} {first last upper : Child R}
+      → AreLawful f
+      → IsSplit f s l p x (Node (Node c k z d) j y b) low high → Same f x w → Same f y v → Same f z u → i ≡ j → h ≡ k → q ≡ p
+      → cl ≡ child_of f l → cc ≡ child_of f c → cd ≡ child_of f d → cb ≡ child_of f b
+      → Updates s s1 q (Some (f.linked w cl cc)) → first ≡ record { link = q; row = f.linked w cl cc }
+      → Updates s1 s2 i (Some (f.linked v cd cb)) → last ≡ record { link = i; row = f.linked v cd cb }
+      → Updates s2 s3 h (Some (f.linked u (Some first) (Some last))) → upper ≡ record { link = h; row = f.linked u (Some first) (Some last) }
+      → IsPlaced f s s3 (Node (Node l p x c) k z (Node d j y b)) low high upper
   twice_left {s} {s1} {s2} {s3} {l} {c} {d} {b} {p} {j} {k} {q} {i} {h} {low} {high} {x} {y} {z} laws split same_x same_y same_z is_j is_k is_p on_l on_c on_d on_b u1 first_is u2 last_is u3 upper_is =
       let had_y = f.linked y (child_of f (Node c k z d)) (child_of f b) in
       let rank_y : f.rank had_y ≡ f.rank y = laws.rank_kept y _ _ in
@@ -142,25 +196,48 @@ module _ {R : Type 0} (f : Functions R) where
       let had_from : split.middle ≤ f.rank split.had = split.had_from in
       let had_below : f.rank split.had < split.past = split.had_below in
       let inner : IsSplit f s l p x c low (f.rank z) = record {
-        middle = split.middle; past = split.past; had = split.had; at = split.at;
-        left = split.left; right = split.right.1.1; left_ordered = split.left_ordered; right_ordered = split.right_ordered.0.0;
-        had_from = split.had_from; had_below = split.had_below; row_from = split.row_from; row_below = split.row_below;
+        middle = split.middle;
+        past = split.past;
+        had = split.had;
+        at = split.at;
+        left = split.left;
+        right = split.right.1.1;
+        left_ordered = split.left_ordered;
+        right_ordered = split.right_ordered.0.0;
+        had_from = split.had_from;
+        had_below = split.had_below;
+        row_from = split.row_from;
+        row_below = split.row_below;
       } in
       let one = place_over-tree f laws inner same_x on_l on_c is_p u1 first_is in
       let next : IsSplit f s1 d j y b (f.rank z + 1) high = record {
-        middle = f.rank y; past = f.rank y + 1; had = had_y; at = one.becomes.kept.kept j had_y split.right.0 (inr (omega arith));
+        middle = f.rank y;
+        past = f.rank y + 1;
+        had = had_y;
+        at = one.becomes.kept.kept j had_y split.right.0 (inr (omega arith));
         left = Spells-kept f (f.rank z + 1) (f.rank y) d one.becomes.kept laws split.right_ordered.0.1 (inr (omega arith)) split.right.1.2;
         right = Spells-kept f (f.rank y + 1) high b one.becomes.kept laws split.right_ordered.1 (inr (omega arith)) split.right.2;
-        left_ordered = split.right_ordered.0.1; right_ordered = split.right_ordered.1;
-        had_from = omega arith; had_below = omega arith; row_from = omega arith; row_below = omega arith;
+        left_ordered = split.right_ordered.0.1;
+        right_ordered = split.right_ordered.1;
+        had_from = omega arith;
+        had_below = omega arith;
+        row_from = omega arith;
+        row_below = omega arith;
       } in
       let two = place_over-tree f laws next same_y on_d on_b is_j u2 last_is in
       let outer : IsSplit f s2 (Node l p x c) k z (Node d j y b) low high = record {
-        middle = f.rank z; past = f.rank z + 1; had = had_z;
+        middle = f.rank z;
+        past = f.rank z + 1;
+        had = had_z;
         at = two.becomes.kept.kept k had_z (one.becomes.kept.kept k had_z split.right.1.0 (inr (omega arith))) (inl (omega arith));
         left = Spells-kept f low (f.rank z) (Node l p x c) two.becomes.kept laws one.becomes.ordered (inl (omega arith)) one.becomes.spelled;
-        right = two.becomes.spelled; left_ordered = one.becomes.ordered; right_ordered = two.becomes.ordered;
-        had_from = omega arith; had_below = omega arith; row_from = omega arith; row_below = omega arith;
+        right = two.becomes.spelled;
+        left_ordered = one.becomes.ordered;
+        right_ordered = two.becomes.ordered;
+        had_from = omega arith;
+        had_below = omega arith;
+        row_from = omega arith;
+        row_below = omega arith;
       } in
       let three = place_over-tree f laws outer same_z one.child two.child is_k u3 upper_is in
       IsPlaced-after (omega arith) (omega arith) one.becomes.kept (IsPlaced-after (omega arith) (omega arith) two.becomes.kept three)
@@ -182,14 +259,14 @@ module _ {R : Type 0} (f : Functions R) where
       })
 
   pub leaned_right-once :
-    {s s1 s2 : Slab R} {p low high : ℕ} {x w : R} {cl cm picked cr : Option (Child R)} {left lower upper : Child R}
-    (l r : Tree R) → AreLawful f
-    → IsSplit f s l p x r low high → Same f x w → Some left ≡ child_of f l → cr ≡ child_of f r
-    → cl ≡ child_at s (f.left left.row) → cm ≡ child_at s (f.right left.row)
-    → picked ≡ cond (ltb (height_in f.height cl + 0) (height_in f.height cm)) cm None → picked ≡ None
-    → Updates s s1 p (Some (f.linked w cm cr)) → lower ≡ record { link = p; row = f.linked w cm cr }
-    → Updates s1 s2 left.link (Some (f.linked left.row cl (Some lower))) → upper ≡ record { link = left.link; row = f.linked left.row cl (Some lower) }
-    → IsPlaced f s s2 (leaned_right f l p x r) low high upper
+      {s s1 s2 : Slab R} {p low high : ℕ} {x w : R} {cl cm picked cr : Option (Child R)} {left lower upper : Child R}
+      (l r : Tree R) → AreLawful f
+      → IsSplit f s l p x r low high → Same f x w → Some left ≡ child_of f l → cr ≡ child_of f r
+      → cl ≡ child_at s (f.left left.row) → cm ≡ child_at s (f.right left.row)
+      → picked ≡ cond (ltb (height_in f.height cl + 0) (height_in f.height cm)) cm None → picked ≡ None
+      → Updates s s1 p (Some (f.linked w cm cr)) → lower ≡ record { link = p; row = f.linked w cm cr }
+      → Updates s1 s2 left.link (Some (f.linked left.row cl (Some lower))) → upper ≡ record { link = left.link; row = f.linked left.row cl (Some lower) }
+      → IsPlaced f s s2 (leaned_right f l p x r) low high upper
   unfolding leaned_right
   leaned_right-once Leaf r laws split same left_is right_is on_l on_m e none u1 lower_is u2 upper_is = cc
   leaned_right-once {s} {left = left} (Node a j y Leaf) r laws split same left_is right_is on_l on_m e none u1 lower_is u2 upper_is =
@@ -203,16 +280,16 @@ module _ {R : Type 0} (f : Functions R) where
       (once_right laws split same root.same root.link refl (on_l ∙ root.left) (on_m ∙ root.right) right_is u1 lower_is u2 upper_is)
 
   pub leaned_right-twice :
-    {s s1 s2 s3 : Slab R} {p low high : ℕ} {x w : R} {cl cm picked cc cd cr : Option (Child R)} {left middle first last upper : Child R}
-    (l r : Tree R) → AreLawful f
-    → IsSplit f s l p x r low high → Same f x w → Some left ≡ child_of f l → cr ≡ child_of f r
-    → cl ≡ child_at s (f.left left.row) → cm ≡ child_at s (f.right left.row)
-    → picked ≡ cond (ltb (height_in f.height cl + 0) (height_in f.height cm)) cm None → picked ≡ Some middle
-    → cc ≡ child_at s (f.left middle.row) → cd ≡ child_at s (f.right middle.row)
-    → Updates s s1 left.link (Some (f.linked left.row cl cc)) → first ≡ record { link = left.link; row = f.linked left.row cl cc }
-    → Updates s1 s2 p (Some (f.linked w cd cr)) → last ≡ record { link = p; row = f.linked w cd cr }
-    → Updates s2 s3 middle.link (Some (f.linked middle.row (Some first) (Some last))) → upper ≡ record { link = middle.link; row = f.linked middle.row (Some first) (Some last) }
-    → IsPlaced f s s3 (leaned_right f l p x r) low high upper
+      {s s1 s2 s3 : Slab R} {p low high : ℕ} {x w : R} {cl cm picked cc cd cr : Option (Child R)} {left middle first last upper : Child R}
+      (l r : Tree R) → AreLawful f
+      → IsSplit f s l p x r low high → Same f x w → Some left ≡ child_of f l → cr ≡ child_of f r
+      → cl ≡ child_at s (f.left left.row) → cm ≡ child_at s (f.right left.row)
+      → picked ≡ cond (ltb (height_in f.height cl + 0) (height_in f.height cm)) cm None → picked ≡ Some middle
+      → cc ≡ child_at s (f.left middle.row) → cd ≡ child_at s (f.right middle.row)
+      → Updates s s1 left.link (Some (f.linked left.row cl cc)) → first ≡ record { link = left.link; row = f.linked left.row cl cc }
+      → Updates s1 s2 p (Some (f.linked w cd cr)) → last ≡ record { link = p; row = f.linked w cd cr }
+      → Updates s2 s3 middle.link (Some (f.linked middle.row (Some first) (Some last))) → upper ≡ record { link = middle.link; row = f.linked middle.row (Some first) (Some last) }
+      → IsPlaced f s s3 (leaned_right f l p x r) low high upper
   unfolding leaned_right
   leaned_right-twice Leaf r laws split same left_is right_is on_l on_m e some on_c on_d u1 first_is u2 last_is u3 upper_is = cc
   leaned_right-twice {s} {cm = cm} {picked} {left = left} {middle} (Node a j y Leaf) r laws split same left_is right_is on_l on_m e some on_c on_d u1 first_is u2 last_is u3 upper_is =
@@ -227,14 +304,14 @@ module _ {R : Type 0} (f : Functions R) where
       (twice_right laws split same root.same inner.same root.link inner.link refl (on_l ∙ root.left) (on_c ∙ inner.left) (on_d ∙ inner.right) right_is u1 first_is u2 last_is u3 upper_is)
 
   pub leaned_left-once :
-    {s s1 s2 : Slab R} {p low high : ℕ} {x w : R} {cl cm picked cr : Option (Child R)} {right lower upper : Child R}
-    (l r : Tree R) → AreLawful f
-    → IsSplit f s l p x r low high → Same f x w → cl ≡ child_of f l → Some right ≡ child_of f r
-    → cr ≡ child_at s (f.right right.row) → cm ≡ child_at s (f.left right.row)
-    → picked ≡ cond (ltb (height_in f.height cr + 0) (height_in f.height cm)) cm None → picked ≡ None
-    → Updates s s1 p (Some (f.linked w cl cm)) → lower ≡ record { link = p; row = f.linked w cl cm }
-    → Updates s1 s2 right.link (Some (f.linked right.row (Some lower) cr)) → upper ≡ record { link = right.link; row = f.linked right.row (Some lower) cr }
-    → IsPlaced f s s2 (leaned_left f l p x r) low high upper
+      {s s1 s2 : Slab R} {p low high : ℕ} {x w : R} {cl cm picked cr : Option (Child R)} {right lower upper : Child R}
+      (l r : Tree R) → AreLawful f
+      → IsSplit f s l p x r low high → Same f x w → cl ≡ child_of f l → Some right ≡ child_of f r
+      → cr ≡ child_at s (f.right right.row) → cm ≡ child_at s (f.left right.row)
+      → picked ≡ cond (ltb (height_in f.height cr + 0) (height_in f.height cm)) cm None → picked ≡ None
+      → Updates s s1 p (Some (f.linked w cl cm)) → lower ≡ record { link = p; row = f.linked w cl cm }
+      → Updates s1 s2 right.link (Some (f.linked right.row (Some lower) cr)) → upper ≡ record { link = right.link; row = f.linked right.row (Some lower) cr }
+      → IsPlaced f s s2 (leaned_left f l p x r) low high upper
   unfolding leaned_left
   leaned_left-once l Leaf laws split same left_is right_is on_r on_m e none u1 lower_is u2 upper_is = cc
   leaned_left-once {s} {right = right} l (Node Leaf j y b) laws split same left_is right_is on_r on_m e none u1 lower_is u2 upper_is =
@@ -248,16 +325,16 @@ module _ {R : Type 0} (f : Functions R) where
       (once_left laws split same root.same root.link refl left_is (on_m ∙ root.left) (on_r ∙ root.right) u1 lower_is u2 upper_is)
 
   pub leaned_left-twice :
-    {s s1 s2 s3 : Slab R} {p low high : ℕ} {x w : R} {cl cm picked cc cd cr : Option (Child R)} {right middle first last upper : Child R}
-    (l r : Tree R) → AreLawful f
-    → IsSplit f s l p x r low high → Same f x w → cl ≡ child_of f l → Some right ≡ child_of f r
-    → cr ≡ child_at s (f.right right.row) → cm ≡ child_at s (f.left right.row)
-    → picked ≡ cond (ltb (height_in f.height cr + 0) (height_in f.height cm)) cm None → picked ≡ Some middle
-    → cc ≡ child_at s (f.left middle.row) → cd ≡ child_at s (f.right middle.row)
-    → Updates s s1 p (Some (f.linked w cl cc)) → first ≡ record { link = p; row = f.linked w cl cc }
-    → Updates s1 s2 right.link (Some (f.linked right.row cd cr)) → last ≡ record { link = right.link; row = f.linked right.row cd cr }
-    → Updates s2 s3 middle.link (Some (f.linked middle.row (Some first) (Some last))) → upper ≡ record { link = middle.link; row = f.linked middle.row (Some first) (Some last) }
-    → IsPlaced f s s3 (leaned_left f l p x r) low high upper
+      {s s1 s2 s3 : Slab R} {p low high : ℕ} {x w : R} {cl cm picked cc cd cr : Option (Child R)} {right middle first last upper : Child R}
+      (l r : Tree R) → AreLawful f
+      → IsSplit f s l p x r low high → Same f x w → cl ≡ child_of f l → Some right ≡ child_of f r
+      → cr ≡ child_at s (f.right right.row) → cm ≡ child_at s (f.left right.row)
+      → picked ≡ cond (ltb (height_in f.height cr + 0) (height_in f.height cm)) cm None → picked ≡ Some middle
+      → cc ≡ child_at s (f.left middle.row) → cd ≡ child_at s (f.right middle.row)
+      → Updates s s1 p (Some (f.linked w cl cc)) → first ≡ record { link = p; row = f.linked w cl cc }
+      → Updates s1 s2 right.link (Some (f.linked right.row cd cr)) → last ≡ record { link = right.link; row = f.linked right.row cd cr }
+      → Updates s2 s3 middle.link (Some (f.linked middle.row (Some first) (Some last))) → upper ≡ record { link = middle.link; row = f.linked middle.row (Some first) (Some last) }
+      → IsPlaced f s s3 (leaned_left f l p x r) low high upper
   unfolding leaned_left
   leaned_left-twice l Leaf laws split same left_is right_is on_r on_m e some on_c on_d u1 first_is u2 last_is u3 upper_is = cc
   leaned_left-twice {s} {cm = cm} {picked} {right = right} {middle} l (Node Leaf j y b) laws split same left_is right_is on_r on_m e some on_c on_d u1 first_is u2 last_is u3 upper_is =

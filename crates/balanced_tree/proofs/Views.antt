@@ -1,13 +1,13 @@
 -- The rows that a slab and a link show are those of the tree that stands there.
-use Rattle.std.proofs.Common.{◌≡◌, ◌⊎◌, inl, inr, ℕ, zero, suc, ◌+◌, ◌-◌, ◌*◌, ◌<◌, ◌≤◌, ◌^◌, max, Bool, true, false, cond, List, [], ◌∷◌, ◌++◌, length, Option, None, Some, is_some, IsTrue, IsSome, IsNone, eqb, slice_index_or, count_by, refl, sym, ap, ◌∙◌, subst, arith}
+use Rattle.std.proofs.Common.{◌≡◌, inl, ℕ, zero, suc, ◌+◌, ◌-◌, ◌*◌, ◌<◌, ◌≤◌, ◌^◌, Bool, true, false, cond, [], ◌∷◌, ◌++◌, length, Option, None, Some, is_some, IsSome, IsNone, eqb, slice_index_or, count_by, refl, sym, ap, ◌∙◌, subst, arith}
 use Rattle.std.specs.Option.{option_or}
 use Rattle.std.proofs.lemmas.Bool.{cond-true, cond-false, eq-eqb, ne_eqb}
-use Rattle.slab.specs.Slab.{Slab, get, slab_len, HasRoomFor}
+use Rattle.slab.specs.Slab.{Slab, slab_len}
 use Rattle.balanced_tree.specs.declared.children.Child.{Child}
 use Rattle.balanced_tree.specs.Row.{Functions, AreLawful, plain, link_of}
-use Rattle.balanced_tree.specs.Rows.{Rows, row_at, row_from, with_row, without_rank, RisesWithin, IsRising}
-use Rattle.balanced_tree.specs.Tree.{Tree, Leaf, Node, place_of, height, IsBalanced, child_of, rows_of, IsOrdered, has_rank, found, inserted, removed}
-use Rattle.balanced_tree.specs.Standing.{child_at, spare_in, Spells, IsStanding, Stands, StandsFor, Becomes, HasInserted, HasRemoved, height_at, rows_round, rows_down, rows_in, IsTree}
+use Rattle.balanced_tree.specs.Rows.{row_at, row_from, with_row, without_rank, IsRising}
+use Rattle.balanced_tree.specs.Tree.{Tree, Leaf, Node, place_of, height, child_of, rows_of, has_rank, found, inserted, removed}
+use Rattle.balanced_tree.specs.Standing.{Spells, IsStanding, Stands, StandsFor, HasInserted, HasRemoved, height_at, rows_round, rows_down, rows_in, IsTree}
 use Rattle.balanced_tree.proofs.Spelling.{link_of-child_of, child_at-place_of}
 use Rattle.balanced_tree.proofs.Nodes.{height_at-standing}
 use Rattle.balanced_tree.proofs.TreeLaws.{IsGrown, IsShrunk, grown-inserted, shrunk-removed}
@@ -45,8 +45,12 @@ module _ {R : Type 0} (f : Functions R) (laws : AreLawful f) where
   IsTree-empty s none no_room =
       let len : slab_len s ≡ 0 = ap (λ u. count_by is_some u) none in
       record {
-        tree = Leaf; standing = record { spelled = tt; is_at = refl; ordered = omega arith; short = omega arith }; balanced = tt;
-        count = len; holds = omega arith; fits = omega arith;
+        tree = Leaf;
+        standing = record { spelled = tt; is_at = refl; ordered = omega arith; short = omega arith };
+        balanced = tt;
+        count = len;
+        holds = omega arith;
+        fits = omega arith;
       }
 
   -- more room in the slab changes nothing of the tree
@@ -79,9 +83,9 @@ module _ {R : Type 0} (f : Functions R) (laws : AreLawful f) where
   row_from-IsTree n h =
       found-row_from f laws n None 0 (2 ^ 128) h.tree h.standing.ordered ∙ option_or-nothing _ ∙ ap (row_from f n) (sym (rows_in-standing h.standing))
     where
-    option_or-nothing : {A : Type 0} (o : Option A) → option_or o None ≡ o
-    option_or-nothing None = refl
-    option_or-nothing (Some x) = refl
+      option_or-nothing : {A : Type 0} (o : Option A) → option_or o None ≡ o
+      option_or-nothing None = refl
+      option_or-nothing (Some x) = refl
 
   pub row_at-IsTree : {s : Slab R} {root : Option ℕ} (n : ℕ) → (h : IsTree f s root) → row_at f n (rows_in f s root).rows ≡ if_at f n (found f n None h.tree)
   row_at-IsTree n h = row_at-row_from f n 0 (2 ^ 128) _ (rising-rows h) ∙ ap (if_at f n) (sym (row_from-IsTree n h))
@@ -112,9 +116,12 @@ module _ {R : Type 0} (f : Functions R) (laws : AreLawful f) where
     pub IsTree-inserted : s1.capacity ≡ s.capacity → slab_len s1 ≤ s.capacity → IsTree f s1 (Some c.link)
     IsTree-inserted same holds =
         record {
-          tree = inserted f s.vacant_key w h.tree; standing = inserted_standing; balanced = grown.good;
+          tree = inserted f s.vacant_key w h.tree;
+          standing = inserted_standing;
+          balanced = grown.good;
           count = omega (arith, made.len, h.count, length-inserted f laws s.vacant_key w h.tree);
-          holds = omega arith; fits = omega (arith, h.fits);
+          holds = omega arith;
+          fits = omega (arith, h.fits);
         }
 
     pub rows-IsTree_inserted : (rows_in f s1 (Some c.link)).rows ≡ with_row f (plain f w) (rows_in f s root).rows
@@ -128,16 +135,21 @@ module _ {R : Type 0} (f : Functions R) (laws : AreLawful f) where
     removed_standing : IsStanding f s1 link (removed f n h.tree) 0 (2 ^ 128)
     removed_standing =
         record {
-          spelled = made.becomes.spelled; is_at = sym (at ∙ ap link_of made.child ∙ link_of-child_of f (removed f n h.tree));
-          ordered = made.becomes.ordered; short = omega (arith, shrunk.at_most, height-IsTree h);
+          spelled = made.becomes.spelled;
+          is_at = sym (at ∙ ap link_of made.child ∙ link_of-child_of f (removed f n h.tree));
+          ordered = made.becomes.ordered;
+          short = omega (arith, shrunk.at_most, height-IsTree h);
         }
 
     pub IsTree-removed : s1.capacity ≡ s.capacity → IsTree f s1 link
     IsTree-removed same =
         record {
-          tree = removed f n h.tree; standing = removed_standing; balanced = shrunk.good;
+          tree = removed f n h.tree;
+          standing = removed_standing;
+          balanced = shrunk.good;
           count = omega (arith, made.len, h.count, length-removed f laws n h.tree);
-          holds = omega (arith, made.len, h.holds); fits = omega (arith, h.fits);
+          holds = omega (arith, made.len, h.holds);
+          fits = omega (arith, h.fits);
         }
 
     pub rows-IsTree_removed : (rows_in f s1 link).rows ≡ without_rank f n (rows_in f s root).rows
@@ -172,7 +184,12 @@ module _ {R : Type 0} (f : Functions R) (laws : AreLawful f) where
   pub StandsFor-present : {s : Slab R} {root : Option ℕ} (n : ℕ) → n < 2 ^ 128 → IsTree f s root → IsSome (row_at f n (rows_in f s root).rows) → StandsFor f s root n
   StandsFor-present n fits h some =
       record {
-        tree = h.tree; low = 0; high = 2 ^ 128; standing = h.standing; from_low = omega arith; below_high = fits;
+        tree = h.tree;
+        low = 0;
+        high = 2 ^ 128;
+        standing = h.standing;
+        from_low = omega arith;
+        below_high = fits;
         room = inl (has_rank-IsTree n h ∙ some);
       }
 

@@ -19,9 +19,9 @@ pub fn find_below<R: TreeRow, L: Ledger>(
 ) -> Option<R>
     requires { Stands R.functions rows.now at }
     ensures row { (t : Tree R) (low high : ℕ) → IsStanding R.functions rows.now at t low high
-      → result ≡ found R.functions rank best t }
+        → result ≡ found R.functions rank best t }
     ensures steps { (t : Tree R) (low high : ℕ) → IsStanding R.functions rows.now at t low high
-      → steps.new ≤ steps.old + height t }
+        → steps.new ≤ steps.old + height t }
 {
     let Some(place) = at else {
         return best;

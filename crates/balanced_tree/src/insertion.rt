@@ -20,8 +20,8 @@ pub fn insert_below<R: TreeRow, L: Ledger>(
 ) -> Child<R>
     requires { StandsFor R.functions rows.old at (R.functions.rank row) }
     ensures inserted { (t : Tree R) (low high : ℕ) → IsStanding R.functions rows.old at t low high
-      → low ≤ R.functions.rank row → R.functions.rank row < high
-      → HasInserted R.functions rows.old rows.new row t low high result steps.old steps.new }
+        → low ≤ R.functions.rank row → R.functions.rank row < high
+        → HasInserted R.functions rows.old rows.new row t low high result steps.old steps.new }
     ensures capacity { rows.new.capacity ≡ rows.old.capacity }
 {
     let Some(place) = at else {

@@ -27,7 +27,7 @@ fn take_least<R: TreeRow, L: Ledger>(
 ) -> Least<R>
     requires { Stands R.functions rows.old (Some place) }
     ensures taken { (t : Tree R) (low high : ℕ) → IsStanding R.functions rows.old (Some place) t low high
-      → HasTakenLeast R.functions rows.old rows.new t low high result.row result.rest steps.old steps.new }
+        → HasTakenLeast R.functions rows.old rows.new t low high result.row result.rest steps.old steps.new }
     ensures capacity { rows.new.capacity ≡ rows.old.capacity }
 {
     let here = rows.row(place, steps);
@@ -56,7 +56,7 @@ fn take_root<R: TreeRow, L: Ledger>(
     requires stands { Stands R.functions rows.old (Some place) }
     requires at { get rows.old place ≡ Some here }
     ensures taken { (t : Tree R) (low high : ℕ) → IsStanding R.functions rows.old (Some place) t low high
-      → HasTakenRoot R.functions rows.old rows.new t low high result steps.old steps.new }
+        → HasTakenRoot R.functions rows.old rows.new t low high result steps.old steps.new }
     ensures capacity { rows.new.capacity ≡ rows.old.capacity }
 {
     let Some(next) = here.right() else {
@@ -78,7 +78,7 @@ pub fn remove_below<R: TreeRow, L: Ledger>(
 ) -> Option<Child<R>>
     requires { Stands R.functions rows.old at }
     ensures removed { (t : Tree R) (low high : ℕ) → IsStanding R.functions rows.old at t low high
-      → HasRemoved R.functions rows.old rows.new rank t low high result steps.old steps.new }
+        → HasRemoved R.functions rows.old rows.new rank t low high result steps.old steps.new }
     ensures capacity { rows.new.capacity ≡ rows.old.capacity }
 {
     let place = at?;

@@ -55,7 +55,11 @@ fn height_of<R: TreeRow>(child: Option<Child<R>>) -> u64
 }
 
 /// The child, if it is higher than the other one by more than this.
-fn if_higher<R: TreeRow>(child: Option<Child<R>>, other: Option<Child<R>>, by: u32) -> Option<Child<R>>
+fn if_higher<R: TreeRow>(
+    child: Option<Child<R>>,
+    other: Option<Child<R>>,
+    by: u32,
+) -> Option<Child<R>>
     ensures { result ≡ (if nat_lt (height_in R.functions.height other + by) (height_in R.functions.height child) then child else None) }
 {
     if height_of(other) + u64::from(by) < height_of(child) {
@@ -96,8 +100,8 @@ fn lean_right<R: TreeRow, L: Ledger>(
 ) -> Child<R>
     requires { Splits R.functions rows.old (Some left) place row right }
     ensures tree { (l : Tree R) (x : R) (r : Tree R) (low high : ℕ) → IsSplit R.functions rows.old l place x r low high
-      → Same R.functions x row → Some left ≡ child_of R.functions l → right ≡ child_of R.functions r
-      → Becomes R.functions rows.old rows.new (leaned_right R.functions l place x r) low high
+        → Same R.functions x row → Some left ≡ child_of R.functions l → right ≡ child_of R.functions r
+        → Becomes R.functions rows.old rows.new (leaned_right R.functions l place x r) low high
         × (Some result ≡ child_of R.functions (leaned_right R.functions l place x r)) }
     ensures len { slab_len rows.new ≡ slab_len rows.old }
     ensures capacity { rows.new.capacity ≡ rows.old.capacity }
@@ -108,7 +112,10 @@ fn lean_right<R: TreeRow, L: Ledger>(
     let inner = right_child(rows, parent, steps);
     match if_higher(inner, outer, 0) {
         Some(middle) => {
-            let Child { link: top, row: middle } = middle;
+            let Child {
+                link: top,
+                row: middle,
+            } = middle;
             let low = left_child(rows, middle, steps);
             let high = right_child(rows, middle, steps);
             let first = place_over(rows, link, parent, outer, low, steps);
@@ -133,8 +140,8 @@ fn lean_left<R: TreeRow, L: Ledger>(
 ) -> Child<R>
     requires { Splits R.functions rows.old left place row (Some right) }
     ensures tree { (l : Tree R) (x : R) (r : Tree R) (low high : ℕ) → IsSplit R.functions rows.old l place x r low high
-      → Same R.functions x row → left ≡ child_of R.functions l → Some right ≡ child_of R.functions r
-      → Becomes R.functions rows.old rows.new (leaned_left R.functions l place x r) low high
+        → Same R.functions x row → left ≡ child_of R.functions l → Some right ≡ child_of R.functions r
+        → Becomes R.functions rows.old rows.new (leaned_left R.functions l place x r) low high
         × (Some result ≡ child_of R.functions (leaned_left R.functions l place x r)) }
     ensures len { slab_len rows.new ≡ slab_len rows.old }
     ensures capacity { rows.new.capacity ≡ rows.old.capacity }
@@ -145,7 +152,10 @@ fn lean_left<R: TreeRow, L: Ledger>(
     let inner = left_child(rows, parent, steps);
     match if_higher(inner, outer, 0) {
         Some(middle) => {
-            let Child { link: top, row: middle } = middle;
+            let Child {
+                link: top,
+                row: middle,
+            } = middle;
             let low = left_child(rows, middle, steps);
             let high = right_child(rows, middle, steps);
             let first = place_over(rows, place, row, left, low, steps);
@@ -170,8 +180,8 @@ pub fn balance<R: TreeRow, L: Ledger>(
 ) -> Child<R>
     requires { Splits R.functions rows.old left place row right }
     ensures tree { (l : Tree R) (x : R) (r : Tree R) (low high : ℕ) → IsSplit R.functions rows.old l place x r low high
-      → Same R.functions x row → left ≡ child_of R.functions l → right ≡ child_of R.functions r
-      → Becomes R.functions rows.old rows.new (balanced R.functions l place x r) low high
+        → Same R.functions x row → left ≡ child_of R.functions l → right ≡ child_of R.functions r
+        → Becomes R.functions rows.old rows.new (balanced R.functions l place x r) low high
         × (Some result ≡ child_of R.functions (balanced R.functions l place x r)) }
     ensures len { slab_len rows.new ≡ slab_len rows.old }
     ensures capacity { rows.new.capacity ≡ rows.old.capacity }

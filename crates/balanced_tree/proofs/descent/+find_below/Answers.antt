@@ -1,4 +1,4 @@
-use Rattle.std.proofs.Common.{◌+◌, refl, sym, ◌∙◌, ap, arith, Some}
+use Rattle.std.proofs.Common.{◌+◌, sym, ◌∙◌, ap, arith, Some}
 use Rattle.balanced_tree.specs.Tree.{found}
 use Rattle.balanced_tree.proofs.Nodes.{node_of, standing-at, lower-left, lower-right, Stands-left, Stands-right, found-leaf, found-left, found-right, found-here, height-left, height-right}
 use Rattle.balanced_tree.proofs.descent.+find_below.Goals as goal

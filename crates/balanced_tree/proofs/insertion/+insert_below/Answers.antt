@@ -1,5 +1,5 @@
 use Rattle.std.proofs.Common.{◌+◌, refl, sym, arith}
-use Rattle.balanced_tree.proofs.Nodes.{IsNode, node_of, standing-at, lower-left, lower-right, rank_here, right_kept, left_kept, readable-left_part, readable-right_part, Splits-left, Splits-right, StandsFor-left, StandsFor-right}
+use Rattle.balanced_tree.proofs.Nodes.{node_of, standing-at, lower-left, lower-right, rank_here, right_kept, left_kept, readable-left_part, readable-right_part, Splits-left, Splits-right, StandsFor-left, StandsFor-right}
 use Rattle.balanced_tree.proofs.Insertions.{insert-left, insert-right, insert-here, insert-leaf}
 use Rattle.balanced_tree.proofs.insertion.+insert_below.Goals as goal
 

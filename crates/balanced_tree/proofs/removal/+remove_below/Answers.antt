@@ -1,5 +1,5 @@
-use Rattle.std.proofs.Common.{◌+◌, refl, sym, ◌∙◌, arith}
-use Rattle.balanced_tree.proofs.Nodes.{node_of, standing-at, lower-left, lower-right, Stands-left, Stands-right, rank_here, right_kept, left_kept, readable-left_part, readable-right_part, Splits-left, Splits-right}
+use Rattle.std.proofs.Common.{◌+◌, sym, arith}
+use Rattle.balanced_tree.proofs.Nodes.{node_of, standing-at, lower-left, lower-right, Stands-left, Stands-right, right_kept, left_kept, readable-left_part, readable-right_part, Splits-left, Splits-right}
 use Rattle.balanced_tree.proofs.Removals.{remove-left, remove-right, remove-here, remove-leaf}
 use Rattle.balanced_tree.proofs.removal.+remove_below.Goals as goal
 

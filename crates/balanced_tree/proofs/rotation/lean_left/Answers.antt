@@ -1,4 +1,3 @@
-use Rattle.std.proofs.Common.{sym, ◌∙◌}
 use Rattle.balanced_tree.proofs.Spelling.{HasParts-Splits_right, HasParts-picked_left, readable-left, readable-right, ContainsKey-at, ContainsKey-Updates}
 use Rattle.balanced_tree.proofs.Turns.{leaned_left-once, leaned_left-twice}
 use Rattle.balanced_tree.proofs.rotation.lean_left.Goals as goal

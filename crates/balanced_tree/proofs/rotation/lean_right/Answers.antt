@@ -1,4 +1,3 @@
-use Rattle.std.proofs.Common.{sym, ◌∙◌}
 use Rattle.balanced_tree.proofs.Spelling.{HasParts-Splits_left, HasParts-picked_right, readable-left, readable-right, ContainsKey-at, ContainsKey-Updates}
 use Rattle.balanced_tree.proofs.Turns.{leaned_right-once, leaned_right-twice}
 use Rattle.balanced_tree.proofs.rotation.lean_right.Goals as goal

@@ -1,4 +1,4 @@
-use Rattle.std.proofs.Common.{◌+◌, ◌-◌, ◌^◌, ◌≤◌, length, ap, subst, sym, ◌∙◌, arith}
+use Rattle.std.proofs.Common.{◌+◌, ◌-◌, ◌^◌, ◌≤◌, length, ap, subst, sym, ◌∙◌}
 use Rattle.balanced_tree.specs.Rows.{row_at}
 use Rattle.balanced_tree.proofs.Views.{find-nothing, find-same, find-other, look_cost-IsTree}
 use Rattle.balanced_tree.proofs.balanced_tree.BalancedTree.find_counted.Goals as goal

@@ -1,4 +1,3 @@
-use Rattle.std.proofs.Common.{arith}
 use Rattle.balanced_tree.proofs.Views.{rows-empty, IsTree-empty}
 use Rattle.balanced_tree.proofs.balanced_tree.BalancedTree.new.Goals as goal
 

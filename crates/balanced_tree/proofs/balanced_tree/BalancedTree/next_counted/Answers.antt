@@ -1,4 +1,4 @@
-use Rattle.std.proofs.Common.{◌+◌, ◌-◌, ◌^◌, ◌≤◌, length, ap, subst, sym, ◌∙◌, arith}
+use Rattle.std.proofs.Common.{◌+◌, ◌-◌, ◌^◌, ◌≤◌, length, ap, subst, ◌∙◌}
 use Rattle.balanced_tree.specs.Rows.{row_from}
 use Rattle.balanced_tree.proofs.Views.{row_from-IsTree, look_cost-IsTree}
 use Rattle.balanced_tree.proofs.balanced_tree.BalancedTree.next_counted.Goals as goal

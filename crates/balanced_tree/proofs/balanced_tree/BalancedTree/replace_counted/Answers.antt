@@ -1,4 +1,4 @@
-use Rattle.std.proofs.Common.{ℕ, ◌+◌, ◌-◌, ◌^◌, ◌≤◌, cond, length, IsNone, IsSome, ap, subst, sym, ◌∙◌, arith}
+use Rattle.std.proofs.Common.{ℕ, ◌+◌, ◌-◌, ◌^◌, ◌≤◌, cond, length, IsSome, ap, subst, sym, ◌∙◌, arith}
 use Rattle.balanced_tree.specs.Row.{plain}
 use Rattle.balanced_tree.specs.Rows.{row_at, with_row}
 use Rattle.balanced_tree.proofs.Views.{IsTree-inserted, rows-IsTree_inserted, change_cost-IsTree, there, StandsFor-present}
