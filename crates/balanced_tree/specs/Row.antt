@@ -1,4 +1,5 @@
--- What the tree knows of a row: its rank in the order, its links to its two children, and the height that is stored in it.
+-- What the tree knows of a row: its rank in the order, its links to its two children, and the height that is stored
+-- in it.
 use Rattle.std.specs.Prelude.{◌≡◌, ℕ, ◌+◌, ◌-◌, ◌^◌, min, max, Option, None, Some}
 use Rattle.balanced_tree.specs.declared.children.Child.{Child}
 
@@ -29,8 +30,8 @@ module _ {R : Type 0} where
   abbrev pub plain : Functions R → R → R
   plain f x = f.linked x None None
 
--- A row over two children has the rank that it had, links to these children, and is one higher than the higher of them, up to
--- the end of the height's type. Nothing is left of the children that it had before.
+-- A row over two children has the rank that it had, links to these children, and is one higher than the higher of
+-- them, up to the end of the height's type. Nothing is left of the children that it had before.
 pub record AreLawful {R : Type 0} (f : Functions R) : Type 0 where
   pub rank_kept : (x : R) (l r : Option (Child R)) → f.rank (f.linked x l r) ≡ f.rank x
   pub left_set : (x : R) (l r : Option (Child R)) → f.left (f.linked x l r) ≡ link_of l

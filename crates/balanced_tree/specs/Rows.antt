@@ -11,7 +11,12 @@ pub record Rows (R : Type 0) : Type 0 where
 -- rows are stored as the pair of the fields
 abbrev pub rows_code : {R : Type 0} → Coded R → Coded (Rows R)
 rows_code {R} code =
-    code_by (List R × ℕ) (coded× (coded_list code) coded_ℕ) (λ s. (s.rows, s.spare)) (λ p. record { rows = p.0; spare = p.1 }) (λ _. refl)
+    code_by
+    (List R × ℕ)
+    (coded× (coded_list code) coded_ℕ)
+    (λ s. (s.rows, s.spare))
+    (λ p. record { rows = p.0; spare = p.1 })
+    (λ _. refl)
 
 module _ {R : Type 0} (f : Functions R) where
   -- the row of this rank
@@ -24,7 +29,8 @@ module _ {R : Type 0} (f : Functions R) where
 
   -- the rows of lower rank, this row, and the rows of higher rank
   abbrev pub with_row : R → List R → List R
-  with_row x rows = filter (λ y. nat_lt (f.rank y) (f.rank x)) rows ++ x ∷ filter (λ y. nat_lt (f.rank x) (f.rank y)) rows
+  with_row x rows =
+      filter (λ y. nat_lt (f.rank y) (f.rank x)) rows ++ x ∷ filter (λ y. nat_lt (f.rank x) (f.rank y)) rows
 
   -- the rows of other ranks
   abbrev pub without_rank : ℕ → List R → List R

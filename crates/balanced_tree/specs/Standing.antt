@@ -32,7 +32,8 @@ module _ {R : Type 0} (f : Functions R) where
     pub linked : (l r : Option (Child R)) → f.linked y l r ≡ f.linked x l r
     pub rank : f.rank y ≡ f.rank x
 
-  -- under this link stands this tree, with ranks from low on and below high; its height is less than a stored height can be
+  -- under this link stands this tree, with ranks from low on and below high; its height is less than a stored height
+  -- can be
   pub record IsStanding (s : Slab R) (at : Option ℕ) (t : Tree R) (low high : ℕ) : Type 0 where
     pub spelled : Spells s t
     pub is_at : place_of t ≡ at
@@ -66,7 +67,8 @@ module _ {R : Type 0} (f : Functions R) where
     pub ordered : IsOrdered f low high t
     pub kept : Keeps low high old new
 
-  -- Two trees stand in the slab, and between them is a place with some row; the ranks of this row and of x lie between theirs.
+  -- Two trees stand in the slab, and between them is a place with some row; the ranks of this row and of x lie
+  -- between theirs.
   pub record IsSplit (s : Slab R) (l : Tree R) (p : ℕ) (x : R) (r : Tree R) (low high : ℕ) : Type 0 where
     pub middle : ℕ
     pub past : ℕ
@@ -91,23 +93,27 @@ module _ {R : Type 0} (f : Functions R) where
     pub left_is : left ≡ child_of f left_tree
     pub right_is : right ≡ child_of f right_tree
 
-  -- The new slab has the tree with the row w, and c is its root. It has a row more where no row had this rank. The count of
-  -- steps went from `before` to `after`.
-  pub record HasInserted (old new : Slab R) (w : R) (t : Tree R) (low high : ℕ) (c : Child R) (before after : ℕ) : Type 0 where
+  -- The new slab has the tree with the row w, and c is its root. It has a row more where no row had this rank. The
+  -- count of steps went from `before` to `after`.
+  pub record HasInserted (old new : Slab R) (w : R) (t : Tree R) (low high : ℕ) (c : Child R)
+      (before after : ℕ) : Type 0 where
     pub becomes : Becomes old new (inserted f old.vacant_key w t) low high
     pub child : Some c ≡ child_of f (inserted f old.vacant_key w t)
     pub len : slab_len new ≡ slab_len old + cond (has_rank f (f.rank w) t) 0 1
     pub steps : after ≤ before + 9 * height t + 1
 
-  -- The new slab has the tree without the row of rank n, and c is its root. It has a row less where a row had this rank.
-  pub record HasRemoved (old new : Slab R) (n : ℕ) (t : Tree R) (low high : ℕ) (c : Option (Child R)) (before after : ℕ) : Type 0 where
+  -- The new slab has the tree without the row of rank n, and c is its root. It has a row less where a row had this
+  -- rank.
+  pub record HasRemoved (old new : Slab R) (n : ℕ) (t : Tree R) (low high : ℕ) (c : Option (Child R))
+      (before after : ℕ) : Type 0 where
     pub becomes : Becomes old new (removed f n t) low high
     pub child : c ≡ child_of f (removed f n t)
     pub len : slab_len new + cond (has_rank f n t) 1 0 ≡ slab_len old
     pub steps : after ≤ before + 9 * height t
 
   -- The new slab has the tree without its first row, which is y, and c is the root of what is left.
-  pub record HasTakenLeast (old new : Slab R) (t : Tree R) (low high : ℕ) (y : R) (c : Option (Child R)) (before after : ℕ) : Type 0 where
+  pub record HasTakenLeast (old new : Slab R) (t : Tree R) (low high : ℕ) (y : R) (c : Option (Child R))
+      (before after : ℕ) : Type 0 where
     pub spelled : Spells new (without_least f t)
     pub ordered : IsOrdered f (f.rank (least f t y) + 1) high (without_least f t)
     pub kept : Keeps low high old new
@@ -118,7 +124,8 @@ module _ {R : Type 0} (f : Functions R) where
     pub steps : after ≤ before + 9 * height t
 
   -- The new slab has the tree without its root, and c is the new root.
-  pub record HasTakenRoot (old new : Slab R) (t : Tree R) (low high : ℕ) (c : Option (Child R)) (before after : ℕ) : Type 0 where
+  pub record HasTakenRoot (old new : Slab R) (t : Tree R) (low high : ℕ) (c : Option (Child R))
+      (before after : ℕ) : Type 0 where
     pub becomes : Becomes old new (without_root f t) low high
     pub child : c ≡ child_of f (without_root f t)
     pub len : slab_len new + 1 ≡ slab_len old

@@ -56,7 +56,10 @@ module _ {R : Type 0} (f : Functions R) where
   abbrev pub found : ℕ → Option R → Tree R → Option R
   found n best Leaf = best
   found n best (Node l p x r) =
-      cond (nat_lt n (f.rank x)) (found n (Some (plain f x)) l) (cond (nat_lt (f.rank x) n) (found n best r) (Some (plain f x)))
+      cond
+      (nat_lt n (f.rank x))
+      (found n (Some (plain f x)) l)
+      (cond (nat_lt (f.rank x) n) (found n best r) (Some (plain f x)))
 
   -- The node made again where its left part is too high: the left child moves up, or the inner grandchild where this is
   -- higher than the outer one.

@@ -15,10 +15,12 @@ use std::alloc::{AllocError, Global};
 use std::marker::{Brand, Model};
 use std::sync::ledger::{Blank, Ledger};
 
-/// Rows in the order of their ranks, as a search tree that is balanced by height. Contracts see the list of the rows, each with
-/// no children, and `spare`, how many more fit with no memory from the host. No call but `reserve` asks the host for memory.
+/// Rows in the order of their ranks, as a search tree that is balanced by height. Contracts see the list of the rows,
+/// each with no children, and `spare`, how many more fit with no memory from the host. No call but `reserve` asks the
+/// host for memory.
 ///
-/// A step of a counted call is one row that is looked at, put, added or taken. The other calls do the same and count nothing.
+/// A step of a counted call is one row that is looked at, put, added or taken. The other calls do the same and count
+/// nothing.
 #[derive(Drop)]
 pub struct BalancedTree<R: TreeRow> {
     rows: RowSlab<R>,

@@ -9,7 +9,8 @@ use crate::steps::Steps;
 use crate::tree_row::TreeRow;
 use std::sync::ledger::Ledger;
 
-/// The first row of this rank or a higher one in the tree under a link, with no children, and `best` where there is none.
+/// The first row of this rank or a higher one in the tree under a link, with no children, and `best` where there is
+/// none.
 pub fn find_below<R: TreeRow, L: Ledger>(
     rows: &RowSlab<R>,
     at: Option<usize>,

@@ -1,8 +1,8 @@
-//! A balanced search tree of rows that stand in a slab (`BalancedTree`), for every table that keeps an order: its callers see
-//! the list of the rows by rising rank, and room for more.
+//! A balanced search tree of rows that stand in a slab (`BalancedTree`), for every table that keeps an order: its
+//! callers see the list of the rows by rising rank, and room for more.
 //!
-//! It stands on `slab` alone. A row type implements `TreeRow`: it names the rank of a row, and holds the links and the height
-//! that the tree stores in it. `Steps` counts the rows that a call looks at, puts, adds or takes.
+//! It stands on `slab` alone. A row type implements `TreeRow`: it names the rank of a row, and holds the links and
+//! the height that the tree stores in it. `Steps` counts the rows that a call looks at, puts, adds or takes.
 #![tactic(auto)]
 
 mod balanced_tree;

@@ -60,7 +60,8 @@ fn if_higher<R: TreeRow>(
     other: Option<Child<R>>,
     by: u32,
 ) -> Option<Child<R>>
-    ensures { result ≡ (if nat_lt (height_in R.functions.height other + by) (height_in R.functions.height child) then child else None) }
+    ensures { result ≡
+        (if nat_lt (height_in R.functions.height other + by) (height_in R.functions.height child) then child else None) }
 {
     if height_of(other) + u64::from(by) < height_of(child) {
         return child;

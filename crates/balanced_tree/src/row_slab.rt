@@ -9,8 +9,8 @@ use std::alloc::{AllocError, Global};
 use std::marker::Model;
 use std::sync::ledger::Ledger;
 
-/// Rows, each under a place that the slab picks. A place keeps its row until the row is taken. Each call that looks at a row,
-/// puts, adds or takes one is one step. No call but `reserve` asks the host for memory.
+/// Rows, each under a place that the slab picks. A place keeps its row until the row is taken. Each call that looks
+/// at a row, puts, adds or takes one is one step. No call but `reserve` asks the host for memory.
 #[derive(Drop)]
 pub struct RowSlab<R> {
     rows: Slab<R>,

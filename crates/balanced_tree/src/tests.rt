@@ -56,7 +56,11 @@ impl TreeRow for Entry {
     }
 
     fn linked(self, left: Option<Child<Entry>>, right: Option<Child<Entry>>) -> Entry
-        ensures { result ≡ record self { left = link_of left; right = link_of right; height = height_over (λ y. y.height) left right } }
+        ensures { result ≡ record self {
+          left = link_of left;
+          right = link_of right;
+          height = height_over (λ y. y.height) left right;
+        } }
     {
         let height = height_of(left).max(height_of(right)).saturating_add(1);
         Entry {

@@ -4,8 +4,8 @@ ghost use Rattle.std.specs.Prelude.{◌≡◌};
 
 use crate::children::Child;
 
-/// A row that can stand in a balanced tree. Beside what a table keeps in it, it holds the links to its two children and its
-/// height, and whatever else a table wants to know of all rows below it: `linked` computes these anew.
+/// A row that can stand in a balanced tree. Beside what a table keeps in it, it holds the links to its two children
+/// and its height, and whatever else a table wants to know of all rows below it: `linked` computes these anew.
 pub trait TreeRow: Copy {
     ghost use Rattle.balanced_tree.specs.Row.{Functions, AreLawful};
 
@@ -28,8 +28,8 @@ pub trait TreeRow: Copy {
     fn height(self) -> u32
         ensures { result ≡ functions.height self };
 
-    /// The row over these two children, in place of those that it had: with their links, and one higher than the higher of
-    /// them (at most `u32::MAX`).
+    /// The row over these two children, in place of those that it had: with their links, and one higher than the
+    /// higher of them (at most `u32::MAX`).
     fn linked(self, left: Option<Child<Self>>, right: Option<Child<Self>>) -> Self
         ensures { result ≡ functions.linked self left right };
 
