@@ -6,7 +6,7 @@ use Rattle.frame_pool.specs.Pool.{Pool, IsPool}
 
 abbrev pub pool_of : Inside → Pool
 pool_of a = record {
-  limit = a.limit;
+  frames = a.frames;
   buffer = a.buffer.items;
   idle = a.idle.items;
 }
@@ -14,5 +14,5 @@ pool_of a = record {
 -- the lists are a pool, and all frames have room in the buffer and in the list of idle ones
 pub record ArePool (a : Inside) : Type 0 where
   pub pool : IsPool (pool_of a)
-  pub buffer_room : a.limit ≤ vec_capacity a.buffer
-  pub idle_room : a.limit ≤ vec_capacity a.idle
+  pub buffer_room : a.frames ≤ vec_capacity a.buffer
+  pub idle_room : a.frames ≤ vec_capacity a.idle

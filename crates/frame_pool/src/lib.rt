@@ -1,9 +1,8 @@
 //! The page frames of the machine, and their bytes (`FramePool`). A frame is free, or it was taken
-//! and has 4,096 bytes.
+//! and has the bytes of a page.
 //!
-//! It stands on `vm_base` for tags, and on `vm_model` for what bytes and counts are called. The layer
-//! above makes a pool by `FramePool::new`, and sees it as a number of frames (`frame_count`) and a
-//! map from the tags that are taken to their bytes (`bytes_at`).
+//! It stands on `vm_base` alone. The layer above makes a pool by `FramePool::new`, and sees it as a
+//! number of frames (`frames`) and a map from the tags that are taken to their bytes (`taken_frames`).
 #![tactic(auto)]
 
 mod frame_pool;

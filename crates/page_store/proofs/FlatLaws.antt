@@ -5,7 +5,8 @@ use Rattle.std.proofs.lemmas.Bool.Decides.{nat_tests}
 use Rattle.std.proofs.lemmas.List.{get_or_read, get_or-replicate, length-replicate, length_push}
 use Rattle.std.proofs.Math.Seq.{take-nil}
 use Rattle.vm_base.specs.declared.limits.TheConstants.{VMO_PAGES}
-use Rattle.frame_pool.specs.Pool.{Pool, frame_count, bytes_at, bytes_of, taken_count, no_bytes}
+use Rattle.frame_pool.specs.Pool.{Pool, taken_frames, frame_bytes, taken_count}
+use Rattle.frame_pool.proofs.PoolLaws.{taken_count-is}
 use Rattle.vm_base.specs.Search.{count_below}
 use Rattle.vm_model.specs.Contents.Content.{Page, Content, nothing, pages_of, in_use, used, vmos_of, is_sole_page, created, IsGood}
 use Rattle.vm_model.specs.Contents.Sharing.{viewers}
@@ -29,7 +30,7 @@ same_content c d frames next count page = λ i. record { frames = frames i; next
 -- ---- what the fields of the content are
 
 module _ (f : Flat) where
-  pub frames-content : (content_of f).frames ≡ frame_count f.pool
+  pub frames-content : (content_of f).frames ≡ f.pool.frames
   unfolding content_of
   frames-content = refl
 
@@ -52,7 +53,11 @@ content_of-spare f s = refl
 
 -- the page of a row
 abbrev pub page_from : Pool → Row → Page
-page_from pool row = record { tag = row.tag.0; bytes = bytes_of pool row.tag.0 }
+page_from pool row = record { tag = row.tag.0; bytes = frame_bytes pool row.tag.0 }
+
+-- a page with this frame
+abbrev pub some_page : ℕ → List ℕ → Option Page
+some_page t bytes = Some (record { tag = t; bytes = bytes })
 
 pub page_of_row-some : (pool : Pool) (row : Row) → page_of_row pool (Some row) ≡ Some (page_from pool row)
 unfolding page_of_row
@@ -76,8 +81,8 @@ page_of_row_free pool (Some row) e = absurd cc
 
 -- ---- a plain store, from its content
 
-pub flat_from : (f : Flat) (c : Content) → content_of f ≡ c → IsSorted f.rows → IsAscending f.vmos → IsGood c → vmos_of c ≡ length f.vmos → length f.shares ≡ frame_count f.pool →
-    ((t : ℕ) → t < frame_count f.pool → get_or f.shares t 0 ≡ viewers c t) → ((t : ℕ) → is_some (bytes_at f.pool t) ≡ nat_lt 0 (viewers c t)) → IsFlat f
+pub flat_from : (f : Flat) (c : Content) → content_of f ≡ c → IsSorted f.rows → IsAscending f.vmos → IsGood c → vmos_of c ≡ length f.vmos → length f.shares ≡ f.pool.frames →
+    ((t : ℕ) → t < f.pool.frames → get_or f.shares t 0 ≡ viewers c t) → ((t : ℕ) → is_some (taken_frames f.pool t) ≡ nat_lt 0 (viewers c t)) → IsFlat f
 flat_from f c e sorted ascending good vmos counts shares taken = record {
   sorted = sorted;
   ascending = ascending;
@@ -89,17 +94,17 @@ flat_from f c e sorted ascending good vmos counts shares taken = record {
 }
 
 -- a frame is taken where some VMO shows it
-pub taken_viewers : (f : Flat) → IsFlat f → (t : ℕ) → is_some (bytes_at f.pool t) ≡ nat_lt 0 (viewers (content_of f) t)
+pub taken_viewers : (f : Flat) → IsFlat f → (t : ℕ) → is_some (taken_frames f.pool t) ≡ nat_lt 0 (viewers (content_of f) t)
 taken_viewers f flat t = flat.taken t ∙ in_use-viewers (content_of f) t
 
 no_viewers : (n : ℕ) → false ≡ nat_lt 0 n → n ≡ 0
 no_viewers n e = grind (arith, nat_tests)
 
 -- no VMO shows a free frame
-pub free_viewers : (f : Flat) (t : ℕ) → IsFlat f → bytes_at f.pool t ≡ None → viewers (content_of f) t ≡ 0
+pub free_viewers : (f : Flat) (t : ℕ) → IsFlat f → taken_frames f.pool t ≡ None → viewers (content_of f) t ≡ 0
 free_viewers f t flat free = no_viewers (viewers (content_of f) t) (ap is_some (sym free) ∙ taken_viewers f flat t)
 
-pub free_in_use : (f : Flat) (t : ℕ) → IsFlat f → bytes_at f.pool t ≡ None → in_use (content_of f) t ≡ false
+pub free_in_use : (f : Flat) (t : ℕ) → IsFlat f → taken_frames f.pool t ≡ None → in_use (content_of f) t ≡ false
 free_in_use f t flat free = sym (flat.taken t) ∙ ap is_some free
 
 -- as many frames are taken as are used
@@ -107,10 +112,10 @@ pub used_taken : (f : Flat) → IsFlat f → used (content_of f) ≡ taken_count
 unfolding used
 used_taken f flat =
     ap (λ (n : ℕ). count_below n (in_use (content_of f))) (frames-content f)
-    ∙ count_below_same (frame_count f.pool) (in_use (content_of f)) (λ t. is_some (bytes_at f.pool t)) (λ t h. sym (flat.taken t))
+    ∙ (count_below_same f.pool.frames (in_use (content_of f)) (λ t. is_some (taken_frames f.pool t)) (λ t h. sym (flat.taken t)) ∙ sym (taken_count-is f.pool))
 
 -- and the others are free
-pub free_frames : (f : Flat) (n : ℕ) → IsFlat f → n + taken_count f.pool ≡ frame_count f.pool → n + used (content_of f) ≡ (content_of f).frames
+pub free_frames : (f : Flat) (n : ℕ) → IsFlat f → n + taken_count f.pool ≡ f.pool.frames → n + used (content_of f) ≡ (content_of f).frames
 free_frames f n flat e = omega (arith, used_taken f flat, frames-content f)
 
 pub IsFlat-spare : (f : Flat) (s : ℕ) → IsFlat f → IsFlat (record f { spare = s })
@@ -119,18 +124,18 @@ IsFlat-spare f s flat = flat_from (record f { spare = s }) (content_of f) (conte
 -- ---- a store with no VMO
 
 abbrev pub nothing_of : Pool → Content
-nothing_of pool = record nothing { frames = frame_count pool }
+nothing_of pool = record nothing { frames = pool.frames }
 
 pub vmos_of-nothing : (frames : ℕ) → vmos_of (record nothing { frames = frames }) ≡ 0
 unfolding vmos_of nothing
 vmos_of-nothing frames = count_below_none 1 _ (λ k h. refl)
 
-pub IsFlat-nothing : (f : Flat) → content_of f ≡ nothing_of f.pool → IsSorted f.rows → IsAscending f.vmos → length f.vmos ≡ 0 → length f.shares ≡ frame_count f.pool →
-    ((t : ℕ) → t < frame_count f.pool → get_or f.shares t 0 ≡ 0) → bytes_at f.pool ≡ no_bytes → IsFlat f
+pub IsFlat-nothing : (f : Flat) → content_of f ≡ nothing_of f.pool → IsSorted f.rows → IsAscending f.vmos → length f.vmos ≡ 0 → length f.shares ≡ f.pool.frames →
+    ((t : ℕ) → t < f.pool.frames → get_or f.shares t 0 ≡ 0) → ((t : ℕ) → taken_frames f.pool t ≡ None) → IsFlat f
 IsFlat-nothing f e sorted ascending none counts zeros free =
-    flat_from f (nothing_of f.pool) e sorted ascending (IsGood-nothing (frame_count f.pool)) (vmos_of-nothing (frame_count f.pool) ∙ sym none) counts
-    (λ t h. zeros t h ∙ sym (viewers-nothing (frame_count f.pool) t))
-    (λ t. ap (λ (m : ℕ → Option (List ℕ)). is_some (m t)) free ∙ ap (λ (n : ℕ). nat_lt 0 n) (sym (viewers-nothing (frame_count f.pool) t)))
+    flat_from f (nothing_of f.pool) e sorted ascending (IsGood-nothing f.pool.frames) (vmos_of-nothing f.pool.frames ∙ sym none) counts
+    (λ t h. zeros t h ∙ sym (viewers-nothing f.pool.frames t))
+    (λ t. ap is_some (free t) ∙ ap (λ (n : ℕ). nat_lt 0 n) (sym (viewers-nothing f.pool.frames t)))
 
 abbrev pub empty_flat : Pool → ℕ → Flat
 empty_flat pool s = record { pool = pool; next = 1; vmos = []; rows = []; shares = []; spare = s }
@@ -139,18 +144,18 @@ pub content_of-empty : (pool : Pool) (s : ℕ) → content_of (empty_flat pool s
 unfolding content_of nothing
 content_of-empty pool s = same_content _ _ refl refl count_in-nil (λ v p. ap (page_of_row pool) (find_row-nil v p) ∙ page_of_row-none pool)
 
-pub IsFlat-empty : (pool : Pool) (s : ℕ) → frame_count pool ≡ 0 → bytes_at pool ≡ no_bytes → IsFlat (empty_flat pool s)
+pub IsFlat-empty : (pool : Pool) (s : ℕ) → pool.frames ≡ 0 → ((t : ℕ) → taken_frames pool t ≡ None) → IsFlat (empty_flat pool s)
 IsFlat-empty pool s none free = IsFlat-nothing (empty_flat pool s) (content_of-empty pool s) sorted_nil ascending_nil refl (sym none) (λ t h. absurd (omega arith)) free
 
 pub nothing-frames : nothing ≡ record nothing { frames = 0 }
 unfolding nothing
 nothing-frames = refl
 
-pub content_of-none : (pool : Pool) (s : ℕ) → frame_count pool ≡ 0 → content_of (empty_flat pool s) ≡ nothing
+pub content_of-none : (pool : Pool) (s : ℕ) → pool.frames ≡ 0 → content_of (empty_flat pool s) ≡ nothing
 content_of-none pool s none = content_of-empty pool s ∙ (ap (λ (n : ℕ). record nothing { frames = n }) none ∙ sym nothing-frames)
 
 -- a store with no VMO has no frames and no VMO
-pub no_frames : (f : Flat) → content_of f ≡ nothing → frame_count f.pool ≡ 0
+pub no_frames : (f : Flat) → content_of f ≡ nothing → f.pool.frames ≡ 0
 no_frames f e = sym (frames-content f) ∙ ap (λ (c : Content). c.frames) (e ∙ nothing-frames)
 
 pub no_shares : (f : Flat) → IsFlat f → content_of f ≡ nothing → length f.shares ≡ 0
@@ -175,15 +180,15 @@ module _ (f : Flat) (pool : Pool) (shares : List ℕ) (empty : content_of f ≡ 
   page_empty : (v p : ℕ) → find_row v p f.rows ≡ None
   page_empty v p = page_of_row_free f.pool (find_row v p f.rows) (sym (page-content f v p) ∙ (ap (λ (c : Content). c.page v p) empty ∙ page-nothing v p))
 
-  pub content_of-filled : content_of (record f { pool = pool; shares = shares }) ≡ record (content_of f) { frames = frame_count pool }
+  pub content_of-filled : content_of (record f { pool = pool; shares = shares }) ≡ record (content_of f) { frames = pool.frames }
   unfolding content_of
   content_of-filled = same_content _ _ refl refl (λ v. refl) (λ v p. ap (page_of_row pool) (page_empty v p) ∙ (page_of_row-none pool ∙ sym (ap (page_of_row f.pool) (page_empty v p) ∙ page_of_row-none f.pool)))
 
-pub IsFlat-filled : (f : Flat) (pool : Pool) (n m : ℕ) → content_of f ≡ nothing → IsFlat f → frame_count pool ≡ n → bytes_at pool ≡ no_bytes → m ≡ n → IsFlat (record f { pool = pool; shares = take n f.shares ++ replicate m 0 })
+pub IsFlat-filled : (f : Flat) (pool : Pool) (n m : ℕ) → content_of f ≡ nothing → IsFlat f → pool.frames ≡ n → ((t : ℕ) → taken_frames pool t ≡ None) → m ≡ n → IsFlat (record f { pool = pool; shares = take n f.shares ++ replicate m 0 })
 IsFlat-filled f pool n m empty flat frames free same =
     let g : Flat = record f { pool = pool; shares = take n f.shares ++ replicate m 0 } in
     let zeros = resized f.shares n m (no_shares f flat empty) same in
-    IsFlat-nothing g (content_of-filled f pool (take n f.shares ++ replicate m 0) empty ∙ ap (λ (c : Content). record c { frames = frame_count pool }) empty) flat.sorted flat.ascending
+    IsFlat-nothing g (content_of-filled f pool (take n f.shares ++ replicate m 0) empty ∙ ap (λ (c : Content). record c { frames = pool.frames }) empty) flat.sorted flat.ascending
     (sym flat.vmos ∙ (ap vmos_of (empty ∙ nothing-frames) ∙ vmos_of-nothing 0)) (zeros.long ∙ sym frames) (λ t h. zeros.each t (omega arith)) free
 
 -- ---- a new VMO
@@ -241,9 +246,9 @@ page_in_gap f v p i gap = page-content f v p ∙ (ap (page_of_row f.pool) (find_
 
 -- what is known of the frame of a held page
 pub record IsFrameOf (f : Flat) (held : Page) : Type 0 where
-  pub below : held.tag < frame_count f.pool
-  pub taken : IsSome (bytes_at f.pool held.tag)
-  pub bytes : held.bytes ≡ bytes_of f.pool held.tag
+  pub below : held.tag < f.pool.frames
+  pub taken : IsSome (taken_frames f.pool held.tag)
+  pub bytes : held.bytes ≡ frame_bytes f.pool held.tag
   pub share : get_or f.shares held.tag 0 ≡ viewers (content_of f) held.tag
   pub shown : 1 ≤ get_or f.shares held.tag 0
 
@@ -252,13 +257,13 @@ some_viewers n m same e = grind (arith, nat_tests)
 
 pub frame_of : (f : Flat) (v p : ℕ) (held : Page) → IsFlat f → (content_of f).page v p ≡ Some held → IsFrameOf f held
 frame_of f v p held flat e =
-    let low : held.tag < frame_count f.pool = subst (λ (n : ℕ). held.tag < n) (frames-content f) (flat.good.tags v p held e) in
-    let used_here : is_some (bytes_at f.pool held.tag) ≡ true = flat.taken held.tag ∙ in_use_at (content_of f) v p held flat.good e in
+    let low : held.tag < f.pool.frames = subst (λ (n : ℕ). held.tag < n) (frames-content f) (flat.good.tags v p held e) in
+    let used_here : is_some (taken_frames f.pool held.tag) ≡ true = flat.taken held.tag ∙ in_use_at (content_of f) v p held flat.good e in
     let found = page_of_row_found f.pool (find_row v p f.rows) held (sym (page-content f v p) ∙ e) in
     record {
       below = low;
       taken = used_here;
-      bytes = ap (λ (page : Page). page.bytes) (sym found.2) ∙ ap (λ (page : Page). bytes_of f.pool page.tag) found.2;
+      bytes = ap (λ (page : Page). page.bytes) (sym found.2) ∙ ap (λ (page : Page). frame_bytes f.pool page.tag) found.2;
       share = flat.shares held.tag low;
       shown = some_viewers (viewers (content_of f) held.tag) (get_or f.shares held.tag 0) (flat.shares held.tag low) (sym used_here ∙ taken_viewers f flat held.tag);
     }
@@ -295,15 +300,15 @@ pub look_gap : (f : Flat) (v p i : ℕ) → IsGapFor f.rows v p i → look.Zero 
 look_gap f v p i gap = ap (look_at (content_of f) v) (sym (page_in_gap f v p i gap))
 
 -- the frame of a page that is shown is taken
-pub shown_taken : (f : Flat) (t : ℕ) → IsFlat f → IsShown (content_of f) t → IsSome (bytes_at f.pool t)
+pub shown_taken : (f : Flat) (t : ℕ) → IsFlat f → IsShown (content_of f) t → IsSome (taken_frames f.pool t)
 shown_taken f t flat shown =
-    subst (λ (u : ℕ). IsSome (bytes_at f.pool u)) shown.shows.tag (frame_of f shown.v shown.p shown.held flat shown.shows.page).taken
+    subst (λ (u : ℕ). IsSome (taken_frames f.pool u)) shown.shows.tag (frame_of f shown.v shown.p shown.held flat shown.shows.page).taken
 
 -- and has the bytes of the page
-pub shown_bytes : (f : Flat) (t v p : ℕ) (held : Page) → IsFlat f → ShowsTag (content_of f) t v p held → bytes_of f.pool t ≡ held.bytes
-shown_bytes f t v p held flat shows = ap (λ (u : ℕ). bytes_of f.pool u) (sym shows.tag) ∙ sym (frame_of f v p held flat shows.page).bytes
+pub shown_bytes : (f : Flat) (t v p : ℕ) (held : Page) → IsFlat f → ShowsTag (content_of f) t v p held → frame_bytes f.pool t ≡ held.bytes
+shown_bytes f t v p held flat shows = ap (λ (u : ℕ). frame_bytes f.pool u) (sym shows.tag) ∙ sym (frame_of f v p held flat shows.page).bytes
 
 -- bytes that were read from its frame
-pub bytes_read : (f : Flat) (t at n : ℕ) (bytes : List ℕ) (v p : ℕ) (held : Page) → IsFlat f → ShowsTag (content_of f) t v p held → length bytes ≡ n → bytes ≡ take n (drop at (bytes_of f.pool t)) → bytes ≡ take (length bytes) (drop at held.bytes)
+pub bytes_read : (f : Flat) (t at n : ℕ) (bytes : List ℕ) (v p : ℕ) (held : Page) → IsFlat f → ShowsTag (content_of f) t v p held → length bytes ≡ n → bytes ≡ take n (drop at (frame_bytes f.pool t)) → bytes ≡ take (length bytes) (drop at held.bytes)
 bytes_read f t at n bytes v p held flat shows long e =
-    e ∙ (ap (λ (m : ℕ). take m (drop at (bytes_of f.pool t))) (sym long) ∙ ap (λ (bs : List ℕ). take (length bytes) (drop at bs)) (shown_bytes f t v p held flat shows))
+    e ∙ (ap (λ (m : ℕ). take m (drop at (frame_bytes f.pool t))) (sym long) ∙ ap (λ (bs : List ℕ). take (length bytes) (drop at bs)) (shown_bytes f t v p held flat shows))

@@ -7,8 +7,10 @@ use Rattle.std.proofs.lemmas.Bool.{cases_eq, ne_eqb, eq-eqb, eqb-true}
 use Rattle.std.proofs.lemmas.Bool.Decides.{nat_tests}
 use Rattle.std.proofs.lemmas.List.{get_or_read, get_or-set_same, get_or-set_other}
 use Rattle.vm_base.specs.declared.limits.TheConstants.{PAGE}
-use Rattle.frame_pool.specs.Pool.{Pool, frame_count, bytes_at, bytes_of, taken_count, with_bytes, Takes}
-use Rattle.frame_pool.proofs.PoolLaws.{takes_apart, takes_keeps}
+use Rattle.vm_base.specs.Entries.{with_key}
+use Rattle.frame_pool.specs.Pool.{Pool, taken_frames, frame_bytes, taken_count, Takes}
+use Rattle.frame_pool.proofs.PoolLaws.{takes_apart}
+use Rattle.vm_base.proofs.EntryLaws.{with_key-same, with_key-other}
 use Rattle.vm_model.specs.Contents.Content.{Page, Content, shown, pages_of, views, in_use, used, vmos_of, is_sole_page, sole, hold, IsGood}
 use Rattle.vm_base.specs.Pages.{zeros}
 use Rattle.vm_model.specs.Contents.Sharing.{viewers}
@@ -22,34 +24,31 @@ use Rattle.page_store.specs.Vmos.{count_in, IsAscending}
 use Rattle.page_store.specs.Flat.{Flat, page_of_row, content_of, IsFlat}
 use Rattle.vm_model.proofs.SharingLaws.{viewers-hold_zero, viewers-hold_fresh}
 use Rattle.page_store.proofs.RowLaws.{IsRowAgain, page_cmp, cmp_itself, cmp_same, find_row-insert, sorted_insert, find_row-set, sorted_set}
-use Rattle.page_store.proofs.FlatLaws.{same_content, frames-content, page-content, page_from, page_of_row-some, page_of_row-none, flat_from, taken_viewers, free_viewers, free_in_use, used_taken, page_at_row, page_in_gap, frame_of, sole_share, share_below}
+use Rattle.page_store.proofs.FlatLaws.{same_content, frames-content, page-content, page_from, some_page, page_of_row-some, page_of_row-none, flat_from, taken_viewers, free_viewers, free_in_use, used_taken, page_at_row, page_in_gap, frame_of, sole_share, share_below}
 
 -- there is a free frame where one is not used
-pub room_free : (f : Flat) → IsFlat f → used (content_of f) < (content_of f).frames → taken_count f.pool < frame_count f.pool
+pub room_free : (f : Flat) → IsFlat f → used (content_of f) < (content_of f).frames → taken_count f.pool < f.pool.frames
 room_free f flat room = let a = used_taken f flat in let b = frames-content f in omega arith
 
 -- ---- the pages of rows, where one frame gets bytes
 
-bytes_of-with : (old new : Pool) (t : ℕ) (bytes : List ℕ) → bytes_at new ≡ with_bytes (bytes_at old) t bytes → bytes_of new t ≡ bytes
-bytes_of-with old new t bytes e = ap (λ (m : ℕ → Option (List ℕ)). unwrap_or (m t) []) e ∙ ap (λ b. unwrap_or (cond b (Some bytes) (bytes_at old t)) []) (eq-eqb t t refl)
+frame_bytes-with : (old new : Pool) (t : ℕ) (bytes : List ℕ) → taken_frames new ≡ with_key (taken_frames old) t bytes → frame_bytes new t ≡ bytes
+frame_bytes-with old new t bytes e = ap (λ (m : ℕ → Option (List ℕ)). unwrap_or (m t) []) e ∙ ap (λ o. unwrap_or o []) (with_key-same (taken_frames old) t bytes)
 
-bytes_of-with_other : (old new : Pool) (t u : ℕ) (bytes : List ℕ) → bytes_at new ≡ with_bytes (bytes_at old) t bytes → u ≢ t → bytes_of new u ≡ bytes_of old u
-bytes_of-with_other old new t u bytes e apart =
-    ap (λ (m : ℕ → Option (List ℕ)). unwrap_or (m u) []) e ∙ ap (λ b. unwrap_or (cond b (Some bytes) (bytes_at old u)) []) (ne_eqb u t apart)
-
-abbrev pub some_page : ℕ → List ℕ → Option Page
-some_page t bytes = Some (record { tag = t; bytes = bytes })
+frame_bytes-with_other : (old new : Pool) (t u : ℕ) (bytes : List ℕ) → taken_frames new ≡ with_key (taken_frames old) t bytes → u ≢ t → frame_bytes new u ≡ frame_bytes old u
+frame_bytes-with_other old new t u bytes e apart =
+    ap (λ (m : ℕ → Option (List ℕ)). unwrap_or (m u) []) e ∙ ap (λ o. unwrap_or o []) (with_key-other (taken_frames old) t bytes u apart)
 
 -- the page of another frame is as it was
-pub page_of_row-other : (old new : Pool) (t : ℕ) (bytes : List ℕ) → bytes_at new ≡ with_bytes (bytes_at old) t bytes → (o : Option Row) → ((row : Row) → o ≡ Some row → row.tag.0 ≢ t) → page_of_row new o ≡ page_of_row old o
+pub page_of_row-other : (old new : Pool) (t : ℕ) (bytes : List ℕ) → taken_frames new ≡ with_key (taken_frames old) t bytes → (o : Option Row) → ((row : Row) → o ≡ Some row → row.tag.0 ≢ t) → page_of_row new o ≡ page_of_row old o
 page_of_row-other old new t bytes e None apart = page_of_row-none new ∙ sym (page_of_row-none old)
 page_of_row-other old new t bytes e (Some row) apart =
     page_of_row-some new row
-    ∙ (ap (λ (bs : List ℕ). some_page row.tag.0 bs) (bytes_of-with_other old new t row.tag.0 bytes e (apart row refl))
+    ∙ (ap (λ (bs : List ℕ). some_page row.tag.0 bs) (frame_bytes-with_other old new t row.tag.0 bytes e (apart row refl))
     ∙ sym (page_of_row-some old row))
 
-pub page_of_row-here : (old new : Pool) (row : Row) (bytes : List ℕ) → bytes_at new ≡ with_bytes (bytes_at old) row.tag.0 bytes → page_of_row new (Some row) ≡ some_page row.tag.0 bytes
-page_of_row-here old new row bytes e = page_of_row-some new row ∙ ap (λ (bs : List ℕ). some_page row.tag.0 bs) (bytes_of-with old new row.tag.0 bytes e)
+pub page_of_row-here : (old new : Pool) (row : Row) (bytes : List ℕ) → taken_frames new ≡ with_key (taken_frames old) row.tag.0 bytes → page_of_row new (Some row) ≡ some_page row.tag.0 bytes
+page_of_row-here old new row bytes e = page_of_row-some new row ∙ ap (λ (bs : List ℕ). some_page row.tag.0 bs) (frame_bytes-with old new row.tag.0 bytes e)
 
 pub vmos_of-hold : (c : Content) (v p : ℕ) (held : Page) → vmos_of (hold c v p held) ≡ vmos_of c
 unfolding vmos_of hold
@@ -59,13 +58,13 @@ vmos_of-hold c v p held = refl
 
 -- g is f, but the page of the row has its frame, which was free, with these bytes
 pub record HoldsRow (f g : Flat) (row : Row) (bytes : List ℕ) : Type 0 where
-  pub frames : frame_count g.pool ≡ frame_count f.pool
+  pub frames : g.pool.frames ≡ f.pool.frames
   pub next : g.next ≡ f.next
   pub vmos : g.vmos ≡ f.vmos
   pub counts : length g.shares ≡ length f.shares
-  pub below : row.tag.0 < frame_count f.pool
-  pub was_free : bytes_at f.pool row.tag.0 ≡ None
-  pub frame : bytes_at g.pool ≡ with_bytes (bytes_at f.pool) row.tag.0 bytes
+  pub below : row.tag.0 < f.pool.frames
+  pub was_free : taken_frames f.pool row.tag.0 ≡ None
+  pub frame : taken_frames g.pool ≡ with_key (taken_frames f.pool) row.tag.0 bytes
   pub whole : length bytes ≡ PAGE
   pub sorted : IsSorted g.rows
   pub rows : (w q : ℕ) → find_row w q g.rows ≡ cond ((w == row.koid.0) && (q == row.page)) (Some row) (find_row w q f.rows)
@@ -83,6 +82,13 @@ taken_again n m true false e h = grind (arith, nat_tests)
 taken_again n m false true e h = let low = h refl in grind (arith, nat_tests)
 taken_again n m false false e h = grind (arith, nat_tests)
 
+is_some-with_key : (m : ℕ → Option (List ℕ)) (t : ℕ) (bytes : List ℕ) (u : ℕ) → is_some (with_key m t bytes u) ≡ cond (u == t) true (is_some (m u))
+unfolding with_key
+is_some-with_key m t bytes u = go (u == t) (m u) where
+  go : (b : Bool) (o : Option (List ℕ)) → is_some (cond b (Some bytes) o) ≡ cond b true (is_some o)
+  go true o = refl
+  go false o = refl
+
 module _ (f g : Flat) (row : Row) (bytes : List ℕ) (flat : IsFlat f) (is : HoldsRow f g row bytes) where
   abbrev new_page : Page
   new_page = record { tag = row.tag.0; bytes = bytes }
@@ -91,8 +97,8 @@ module _ (f g : Flat) (row : Row) (bytes : List ℕ) (flat : IsFlat f) (is : Hol
   frame_apart : (w q : ℕ) (other : Row) → find_row w q f.rows ≡ Some other → other.tag.0 ≢ row.tag.0
   frame_apart w q other e same =
       let held = frame_of f w q (page_from f.pool other) flat (page-content f w q ∙ (ap (page_of_row f.pool) e ∙ page_of_row-some f.pool other)) in
-      let there : is_some (bytes_at f.pool row.tag.0) ≡ true = subst (λ (u : ℕ). IsSome (bytes_at f.pool u)) same held.taken in
-      let free : is_some (bytes_at f.pool row.tag.0) ≡ false = ap is_some is.was_free in
+      let there : is_some (taken_frames f.pool row.tag.0) ≡ true = subst (λ (u : ℕ). IsSome (taken_frames f.pool u)) same held.taken in
+      let free : is_some (taken_frames f.pool row.tag.0) ≡ false = ap is_some is.was_free in
       let clash : ◌≡◌ {A = Bool} true false = sym there ∙ free in absurd cc
 
   page_held : (w q : ℕ) → page_of_row g.pool (find_row w q g.rows) ≡ cond ((w == row.koid.0) && (q == row.page)) (Some new_page) (page_of_row f.pool (find_row w q f.rows))
@@ -112,7 +118,7 @@ module _ (f g : Flat) (row : Row) (bytes : List ℕ) (flat : IsFlat f) (is : Hol
   frame_below = let e = frames-content f in let low = is.below in omega arith
 
   pub IsFlat-held : (leaves : ℕ → Bool) → AreShares (viewers (content_of f)) (viewers (hold (content_of f) row.koid.0 row.page new_page)) row.tag.0 leaves →
-      ((t : ℕ) → t < frame_count f.pool → get_or g.shares t 0 ≡ viewers (hold (content_of f) row.koid.0 row.page new_page) t) → IsFlat g
+      ((t : ℕ) → t < f.pool.frames → get_or g.shares t 0 ≡ viewers (hold (content_of f) row.koid.0 row.page new_page) t) → IsFlat g
   IsFlat-held leaves are shares =
       let d = hold (content_of f) row.koid.0 row.page new_page in
       flat_from g d content_of-held is.sorted (subst IsAscending (sym is.vmos) flat.ascending)
@@ -121,13 +127,9 @@ module _ (f g : Flat) (row : Row) (bytes : List ℕ) (flat : IsFlat f) (is : Hol
       (is.counts ∙ (flat.counts ∙ sym is.frames))
       (λ t h. shares t (omega (arith, is.frames)))
       (λ t. ap (λ (m : ℕ → Option (List ℕ)). is_some (m t)) is.frame
-      ∙ (some_cond (t == row.tag.0) (bytes_at f.pool t)
+      ∙ (is_some-with_key (taken_frames f.pool) row.tag.0 bytes t
       ∙ (ap (λ b. cond (t == row.tag.0) true b) (taken_viewers f flat t)
       ∙ taken_again (viewers (content_of f) t) (viewers d t) (t == row.tag.0) (leaves t) (are.is t) (are.stays t))))
-    where
-      some_cond : (b : Bool) (o : Option (List ℕ)) → is_some (cond b (Some bytes) o) ≡ cond b true (is_some o)
-      some_cond true o = refl
-      some_cond false o = refl
 
   -- so the page was owned
   pub owns_new : sole (content_of f) row.koid.0 row.page ≡ false → bytes ≡ shown (content_of f) row.koid.0 row.page → Owns (content_of f) (content_of g) row.koid.0 row.page row.tag.0
@@ -214,7 +216,7 @@ views_unused c t v p good h e = any_below_none c.next v (views c t) e (koid_belo
 abbrev pub zero_owned : Flat → Pool → Row → ℕ → ℕ → Flat
 zero_owned f pool row i s = record f { pool = pool; rows = insert f.rows i row; shares = set f.shares row.tag.0 1; spare = s }
 
-module _ (f : Flat) (pool : Pool) (row : Row) (i s : ℕ) (flat : IsFlat f) (gap : IsGapFor f.rows row.koid.0 row.page i) (h : row.page < pages_of (content_of f) row.koid.0) (frames : frame_count pool ≡ frame_count f.pool) (takes : Takes f.pool pool row.tag.0) where
+module _ (f : Flat) (pool : Pool) (row : Row) (i s : ℕ) (flat : IsFlat f) (gap : IsGapFor f.rows row.koid.0 row.page i) (h : row.page < pages_of (content_of f) row.koid.0) (frames : pool.frames ≡ f.pool.frames) (takes : Takes f.pool pool row.tag.0 zeros) where
   holds_zero : HoldsRow f (zero_owned f pool row i s) row zeros
   holds_zero = record {
     frames = frames;
@@ -223,7 +225,7 @@ module _ (f : Flat) (pool : Pool) (row : Row) (i s : ℕ) (flat : IsFlat f) (gap
     counts = length-set f.shares row.tag.0 1;
     below = takes.below;
     was_free = takes.was_free;
-    frame = takes.bytes;
+    frame = takes.taken;
     whole = length-zeros;
     sorted = sorted_insert f.rows i row flat.sorted gap;
     rows = find_row-insert f.rows i row gap.before;
@@ -241,7 +243,7 @@ module _ (f : Flat) (pool : Pool) (row : Row) (i s : ℕ) (flat : IsFlat f) (gap
   owned_zero = record {
     flat = IsFlat-held f (zero_owned f pool row i s) row zeros flat holds_zero (λ u. false)
         (record { is = λ u. let now = zero_viewers u in omega arith; stays = λ u e. absurd cc })
-        (shares_zero (frame_count f.pool) f.shares (viewers (content_of f)) _ row.tag.0 zero_viewers (free_viewers f row.tag.0 flat takes.was_free) (let e = flat.counts in omega arith) flat.shares);
+        (shares_zero f.pool.frames f.shares (viewers (content_of f)) _ row.tag.0 zero_viewers (free_viewers f row.tag.0 flat takes.was_free) (let e = flat.counts in omega arith) flat.shares);
     owns = owns_new f (zero_owned f pool row i s) row zeros flat holds_zero (sole-zero (content_of f) row.koid.0 row.page zero_before)
         (sym (bytes_of-none ((content_of f).page row.koid.0 row.page) zero_before));
   }
@@ -290,29 +292,15 @@ module _ (f : Flat) (i : ℕ) (row : Row) (flat : IsFlat f) (h : i < length f.ro
 
   -- and else there is a free frame
   pub room_held : (n : ℕ) → n ≡ get_or f.shares row.tag.0 n → n ≢ 1 → ((v p : ℕ) → IsRowFor f.rows v p i → (sole (content_of f) v p ≡ true) ⊎ (used (content_of f) < (content_of f).frames)) →
-      taken_count f.pool < frame_count f.pool
+      taken_count f.pool < f.pool.frames
   room_held n share shared room = elim (room row.koid.0 row.page (row_for f.rows i row h read)) [
     | inl alone ↦ absurd (let clash : ◌≡◌ {A = Bool} true false = sym alone ∙ (sole_is n share ∙ ne_eqb n 1 shared) in cc)
     | inr free ↦ room_free f flat free
   ]
 
-  -- its frame is another than the one that was taken, and is still taken
-  pub held_apart : (mid : Pool) (t : ℕ) → Takes f.pool mid t → row.tag.0 ≢ t
-  held_apart mid t takes = takes_apart f.pool mid t row.tag.0 takes (frame_of f row.koid.0 row.page (page_from f.pool row) flat page_at).taken
-
-  pub held_taken : (mid : Pool) (t : ℕ) → Takes f.pool mid t → IsSome (bytes_at mid row.tag.0)
-  held_taken mid t takes = takes_keeps f.pool mid t row.tag.0 takes (frame_of f row.koid.0 row.page (page_from f.pool row) flat page_at).taken
-
--- a frame gets zeros, and then the bytes of another
-pub taken_copied : (old mid new : Pool) (t s : ℕ) → Takes old mid t → IsSome (bytes_at old s) → bytes_at new ≡ with_bytes (bytes_at mid) t (bytes_of mid s) → bytes_at new ≡ with_bytes (bytes_at old) t (bytes_of old s)
-taken_copied old mid new t s takes there e = λ k u. (ap (λ (m : ℕ → Option (List ℕ)). m u) e
-    ∙ (ap (λ (m : ℕ → Option (List ℕ)). cond (u == t) (Some (bytes_of mid s)) (m u)) takes.bytes
-    ∙ (go (u == t) (bytes_at old u)
-    ∙ ap (λ (bs : List ℕ). cond (u == t) (Some bs) (bytes_at old u)) (bytes_of-with_other old mid t s zeros takes.bytes (takes_apart old mid t s takes there))))) k
-  where
-    go : (b : Bool) (o : Option (List ℕ)) → cond b (Some (bytes_of mid s)) (cond b (Some zeros) o) ≡ cond b (Some (bytes_of mid s)) o
-    go true o = refl
-    go false o = refl
+  -- its frame is taken
+  pub held_taken : IsSome (taken_frames f.pool row.tag.0)
+  held_taken = (frame_of f row.koid.0 row.page (page_from f.pool row) flat page_at).taken
 
 abbrev pub moved : Row → ℕ → Row
 moved row t = record row { tag = record { 0 = t } }
@@ -320,8 +308,8 @@ moved row t = record row { tag = record { 0 = t } }
 abbrev pub held_owned : Flat → Pool → Row → Row → ℕ → ℕ → ℕ → Flat
 held_owned f pool row new i n t = record f { pool = pool; rows = set f.rows i (moved new t); shares = set (set f.shares row.tag.0 (n - 1)) t 1 }
 
-module _ (f : Flat) (mid pool : Pool) (row : Row) (i t : ℕ) (flat : IsFlat f) (h : i < length f.rows) (read : row ≡ get_or f.rows i row)
-    (frames : frame_count pool ≡ frame_count f.pool) (takes : Takes f.pool mid t) (copied : bytes_at pool ≡ with_bytes (bytes_at mid) t (bytes_of mid row.tag.0)) where
+module _ (f : Flat) (pool : Pool) (row : Row) (i t : ℕ) (flat : IsFlat f) (h : i < length f.rows) (read : row ≡ get_or f.rows i row)
+    (frames : pool.frames ≡ f.pool.frames) (takes : Takes f.pool pool t (frame_bytes f.pool row.tag.0)) where
   abbrev held_before : Page
   held_before = page_from f.pool row
 
@@ -331,7 +319,7 @@ module _ (f : Flat) (mid pool : Pool) (row : Row) (i t : ℕ) (flat : IsFlat f) 
   held_is : (content_of f).page row.koid.0 row.page ≡ Some held_before
   held_is = page_at f i row flat h read
 
-  holds_held : HoldsRow f moved_flat (moved row t) (bytes_of f.pool row.tag.0)
+  holds_held : HoldsRow f moved_flat (moved row t) (frame_bytes f.pool row.tag.0)
   holds_held =
       let again : IsRowAgain f.rows i (moved row t) = record {
         in_range = h;
@@ -345,24 +333,24 @@ module _ (f : Flat) (mid pool : Pool) (row : Row) (i t : ℕ) (flat : IsFlat f) 
         counts = length-set (set f.shares row.tag.0 (get_or f.shares row.tag.0 0 - 1)) t 1 ∙ length-set f.shares row.tag.0 (get_or f.shares row.tag.0 0 - 1);
         below = takes.below;
         was_free = takes.was_free;
-        frame = taken_copied f.pool mid pool t row.tag.0 takes (frame_of f row.koid.0 row.page held_before flat held_is).taken copied;
+        frame = takes.taken;
         whole = flat.good.whole row.koid.0 row.page held_before held_is;
         sorted = sorted_set f.rows i (moved row t) flat.sorted again;
         rows = find_row-set f.rows i (moved row t) flat.sorted again;
         page = flat.good.below row.koid.0 row.page held_before held_is;
       }
 
-  held_viewers : (u : ℕ) → viewers (hold (content_of f) row.koid.0 row.page (record { tag = t; bytes = bytes_of f.pool row.tag.0 })) u + cond (u == row.tag.0) 1 0 ≡ viewers (content_of f) u + cond (u == t) 1 0
-  held_viewers = viewers-hold_fresh (content_of f) row.koid.0 row.page held_before (record { tag = t; bytes = bytes_of f.pool row.tag.0 }) flat.good held_is (free_in_use f t flat takes.was_free)
+  held_viewers : (u : ℕ) → viewers (hold (content_of f) row.koid.0 row.page (record { tag = t; bytes = frame_bytes f.pool row.tag.0 })) u + cond (u == row.tag.0) 1 0 ≡ viewers (content_of f) u + cond (u == t) 1 0
+  held_viewers = viewers-hold_fresh (content_of f) row.koid.0 row.page held_before (record { tag = t; bytes = frame_bytes f.pool row.tag.0 }) flat.good held_is (free_in_use f t flat takes.was_free)
 
   owned_held : get_or f.shares row.tag.0 0 ≢ 1 → IsOwned f moved_flat row.koid.0 row.page t
   owned_held shared =
       let frame = frame_of f row.koid.0 row.page held_before flat held_is in
       record {
-        flat = IsFlat-held f moved_flat (moved row t) (bytes_of f.pool row.tag.0) flat holds_held (λ u. u == row.tag.0)
+        flat = IsFlat-held f moved_flat (moved row t) (frame_bytes f.pool row.tag.0) flat holds_held (λ u. u == row.tag.0)
             (record { is = held_viewers; stays = λ u e. subst (λ (k : ℕ). 2 ≤ viewers (content_of f) k) (sym (eqb-true u row.tag.0 e)) (let a = frame.share in let b = frame.shown in omega arith) })
-            (shares_held (frame_count f.pool) f.shares (viewers (content_of f)) _ row.tag.0 t held_viewers (held_apart f i row flat h read mid t takes) (free_viewers f t flat takes.was_free) (let e = flat.counts in omega arith) flat.shares);
-        owns = owns_new f moved_flat (moved row t) (bytes_of f.pool row.tag.0) flat holds_held
+            (shares_held f.pool.frames f.shares (viewers (content_of f)) _ row.tag.0 t held_viewers (takes_apart f.pool pool t (frame_bytes f.pool row.tag.0) takes row.tag.0 (held_taken f i row flat h read)) (free_viewers f t flat takes.was_free) (let e = flat.counts in omega arith) flat.shares);
+        owns = owns_new f moved_flat (moved row t) (frame_bytes f.pool row.tag.0) flat holds_held
             (ap (is_sole_page (content_of f) row.koid.0) held_is ∙ (sole_share f row.koid.0 row.page held_before flat held_is ∙ ne_eqb (get_or f.shares row.tag.0 0) 1 shared))
             (sym (bytes_of-some ((content_of f).page row.koid.0 row.page) held_before held_is));
       }

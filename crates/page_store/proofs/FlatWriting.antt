@@ -1,12 +1,14 @@
 -- Bytes written to a frame that one page of the plain store shows.
 use Rattle.std.proofs.Common.{◌≡◌, ℕ, ◌+◌, ◌≤◌, Bool, true, false, cond, ◌&&◌, ◌==◌, List, length, Option, Some, refl, sym, ap, ◌∙◌, inl, inr, arith}
 use Rattle.std.specs.Prelude.{is_some, nat_lt}
-use Rattle.std.proofs.lemmas.Bool.{cases_Bool, and_parts, and_from, eqb-true, eq-eqb}
+use Rattle.std.proofs.lemmas.Bool.{cases_Bool, cases_eq, and_parts, and_from, eqb-true, eq-eqb}
 use Rattle.vm_base.specs.declared.limits.TheConstants.{PAGE}
-use Rattle.frame_pool.specs.Pool.{Pool, frame_count, bytes_at, bytes_of, with_bytes}
+use Rattle.vm_base.specs.Entries.{with_key}
+use Rattle.frame_pool.specs.Pool.{Pool, taken_frames, frame_bytes}
 use Rattle.vm_model.specs.Contents.Content.{Page, Content, hold}
 use Rattle.vm_base.specs.Pages.{replaced}
 use Rattle.vm_model.proofs.ContentLaws.{sole_from, IsGood-hold_bytes}
+use Rattle.vm_base.proofs.EntryLaws.{with_key-here, with_key-other}
 use Rattle.vm_base.proofs.PageLaws.{length-replaced}
 use Rattle.vm_model.proofs.SharingLaws.{viewers-hold_bytes}
 use Rattle.page_store.specs.Rows.{find_row}
@@ -28,8 +30,8 @@ alone c t v p held once shows w q other others =
 abbrev with_replaced : Page → ℕ → List ℕ → Page
 with_replaced held at bytes = record held { bytes = replaced held.bytes at bytes }
 
-module _ (f : Flat) (pool : Pool) (t at : ℕ) (bytes : List ℕ) (flat : IsFlat f) (once : IsShownOnce (content_of f) t) (frames : frame_count pool ≡ frame_count f.pool)
-    (frame : bytes_at pool ≡ with_bytes (bytes_at f.pool) t (replaced (bytes_of f.pool t) at bytes)) where
+module _ (f : Flat) (pool : Pool) (t at : ℕ) (bytes : List ℕ) (flat : IsFlat f) (once : IsShownOnce (content_of f) t) (frames : pool.frames ≡ f.pool.frames)
+    (frame : taken_frames pool ≡ with_key (taken_frames f.pool) t (replaced (frame_bytes f.pool t) at bytes)) where
   page_written : (v p : ℕ) (held : Page) → ShowsTag (content_of f) t v p held → (w q : ℕ) →
       page_of_row pool (find_row w q f.rows) ≡ cond ((w == v) && (q == p)) (Some (with_replaced held at bytes)) (page_of_row f.pool (find_row w q f.rows))
   page_written v p held shows w q = elim (cases_Bool ((w == v) && (q == p))) [
@@ -39,16 +41,16 @@ module _ (f : Flat) (pool : Pool) (t at : ℕ) (bytes : List ℕ) (flat : IsFlat
         ap (λ (u : ℕ). (content_of f).page u q) (eqb-true w v both.0) ∙ (ap (λ (r : ℕ). (content_of f).page v r) (eqb-true q p both.1) ∙ shows.page) in
         let found = page_of_row_found f.pool (find_row w q f.rows) held (sym (page-content f w q) ∙ is) in
         let tag : (found.0).tag.0 ≡ t = ap (λ (page : Page). page.tag) found.2 ∙ shows.tag in
-        let frame_here : bytes_at pool ≡ with_bytes (bytes_at f.pool) (found.0).tag.0 (replaced (bytes_of f.pool t) at bytes) =
-        frame ∙ ap (λ (u : ℕ). with_bytes (bytes_at f.pool) u (replaced (bytes_of f.pool t) at bytes)) (sym tag) in
-        let pages : ◌≡◌ {A = Page} (record { tag = (found.0).tag.0; bytes = replaced (bytes_of f.pool t) at bytes }) (with_replaced held at bytes) =
+        let frame_here : taken_frames pool ≡ with_key (taken_frames f.pool) (found.0).tag.0 (replaced (frame_bytes f.pool t) at bytes) =
+        frame ∙ ap (λ (u : ℕ). with_key (taken_frames f.pool) u (replaced (frame_bytes f.pool t) at bytes)) (sym tag) in
+        let pages : ◌≡◌ {A = Page} (record { tag = (found.0).tag.0; bytes = replaced (frame_bytes f.pool t) at bytes }) (with_replaced held at bytes) =
         λ i. record { tag = (ap (λ (page : Page). page.tag) found.2) i; bytes = replaced (shown_bytes f t v p held flat shows i) at bytes } in
         ap (page_of_row pool) found.1
-        ∙ (page_of_row-here f.pool pool found.0 (replaced (bytes_of f.pool t) at bytes) frame_here
+        ∙ (page_of_row-here f.pool pool found.0 (replaced (frame_bytes f.pool t) at bytes) frame_here
         ∙ (ap (λ (page : Page). Some page) pages
         ∙ ap (λ b. cond b (Some (with_replaced held at bytes)) (page_of_row f.pool (find_row w q f.rows))) (sym here)))
     | inr there ↦
-        page_of_row-other f.pool pool t (replaced (bytes_of f.pool t) at bytes) frame (find_row w q f.rows) (λ row found same.
+        page_of_row-other f.pool pool t (replaced (frame_bytes f.pool t) at bytes) frame (find_row w q f.rows) (λ row found same.
         let is : (content_of f).page w q ≡ Some (page_from f.pool row) = page-content f w q ∙ (ap (page_of_row f.pool) found ∙ page_of_row-some f.pool row) in
         let one = alone (content_of f) t v p held once shows w q (page_from f.pool row) (record { page = is; tag = same }) in
         let test = and_from (w == v) (q == p) (eq-eqb w v one.0) (eq-eqb q p one.1) in
@@ -75,10 +77,10 @@ module _ (f : Flat) (pool : Pool) (t at : ℕ) (bytes : List ℕ) (flat : IsFlat
       (λ u h. flat.shares u (omega (arith, frames)) ∙ sym (kept u))
       (λ u. ap (λ (m : ℕ → Option (List ℕ)). is_some (m u)) frame ∙ (still u ∙ (taken_viewers f flat u ∙ ap (λ (n : ℕ). nat_lt 0 n) (sym (kept u)))))
     where
-      still : (u : ℕ) → is_some (with_bytes (bytes_at f.pool) t (replaced (bytes_of f.pool t) at bytes) u) ≡ is_some (bytes_at f.pool u)
-      still u = elim (cases_Bool (u == t)) [
+      still : (u : ℕ) → is_some (with_key (taken_frames f.pool) t (replaced (frame_bytes f.pool t) at bytes) u) ≡ is_some (taken_frames f.pool u)
+      still u = elim (cases_eq u t) [
         | inl same ↦
-            ap (λ b. is_some (cond b (Some (replaced (bytes_of f.pool t) at bytes)) (bytes_at f.pool u))) same
-            ∙ sym (ap (λ (k : ℕ). is_some (bytes_at f.pool k)) (eqb-true u t same) ∙ shown_taken f t flat (is_shown (content_of f) t once))
-        | inr other ↦ ap (λ b. is_some (cond b (Some (replaced (bytes_of f.pool t) at bytes)) (bytes_at f.pool u))) other
+            ap is_some (with_key-here (taken_frames f.pool) t (replaced (frame_bytes f.pool t) at bytes) u same)
+            ∙ sym (ap (λ (k : ℕ). is_some (taken_frames f.pool k)) same ∙ shown_taken f t flat (is_shown (content_of f) t once))
+        | inr other ↦ ap is_some (with_key-other (taken_frames f.pool) t (replaced (frame_bytes f.pool t) at bytes) u other)
       ]

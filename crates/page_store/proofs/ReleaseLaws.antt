@@ -4,8 +4,8 @@ use Rattle.std.proofs.Common.{◌≡◌, ◌⊎◌, ℕ, ◌+◌, ◌<◌, ◌�
 use Rattle.std.specs.List.{remove_range, slice_range}
 use Rattle.std.proofs.lemmas.Bool.{cases_eq}
 use Rattle.std.proofs.lemmas.List.Edits.{split_between}
-use Rattle.frame_pool.specs.Pool.{Pool, bytes_at}
-use Rattle.vm_model.specs.Contents.Content.{Page, Content, vmos_of, IsGood}
+use Rattle.frame_pool.specs.Pool.{Pool, taken_frames}
+use Rattle.vm_model.specs.Contents.Content.{Content, vmos_of, IsGood}
 use Rattle.vm_model.specs.Contents.Zeroing.{zeroed}
 use Rattle.vm_model.proofs.ZeroingLaws.{cases_within, frames-zeroed, next-zeroed, count-zeroed, page-zeroed_in, page-zeroed_out, page-zeroed_other, IsGood-zeroed}
 use Rattle.page_store.specs.declared.rows.Row.{Row}
@@ -16,7 +16,7 @@ use Rattle.page_store.specs.Shares.{rows_with, Releases}
 use Rattle.page_store.specs.Flat.{Flat, page_of_row, content_of, IsFlat}
 use Rattle.page_store.proofs.BoundLaws.{find_row-before, find_row-behind, find_row-outside, find_row-right, find_row-middle, find_row-found, sorted_middle}
 use Rattle.page_store.proofs.ShareLaws.{rows_with-append, rows_with-at}
-use Rattle.page_store.proofs.FlatLaws.{same_content, frames-content, next-content, count-content, page-content, page_of_row-none}
+use Rattle.page_store.proofs.FlatLaws.{same_content, frames-content, next-content, count-content, page-content, some_page, page_of_row-none}
 use Rattle.page_store.proofs.ViewLaws.{shares-rows, flat_from_rows}
 
 -- ---- rows that are taken out
@@ -62,14 +62,11 @@ pub record IsReleased (f g : Flat) (v p q from end : ℕ) : Type 0 where
 pub counts_before : (f : Flat) (v p q from end : ℕ) → IsFlat f → AreRowsWithin f.rows v p q from end → (t : ℕ) → rows_with t (slice_range f.rows from end) ≤ get_or f.shares t 0
 counts_before f v p q from end flat are t = omega (arith, shares-rows f flat t, rows_with-released f.rows v p q from end are t)
 
-abbrev some_page : ℕ → Option (List ℕ) → Option Page
-some_page t bytes = Some (record { tag = t; bytes = unwrap_or bytes [] })
-
 -- a page whose frame has its bytes in two pools
-page_kept : (pool other : Pool) (o : Option Row) → ((row : Row) → o ≡ Some row → bytes_at pool row.tag.0 ≡ bytes_at other row.tag.0) → page_of_row pool o ≡ page_of_row other o
+page_kept : (pool other : Pool) (o : Option Row) → ((row : Row) → o ≡ Some row → taken_frames pool row.tag.0 ≡ taken_frames other row.tag.0) → page_of_row pool o ≡ page_of_row other o
 unfolding page_of_row
 page_kept pool other None same = refl
-page_kept pool other (Some row) same = ap (some_page row.tag.0) (same row refl)
+page_kept pool other (Some row) same = ap (λ (o : Option (List ℕ)). some_page row.tag.0 (unwrap_or o [])) (same row refl)
 
 -- a VMO whose pages are zero is still there
 vmos_of-zeroed : (c : Content) (v first end : ℕ) → vmos_of (zeroed c v first end) ≡ vmos_of c

@@ -2,11 +2,13 @@
 use Rattle.std.proofs.Common.{◌≡◌, ◌≢◌, ℕ, zero, suc, ◌+◌, ◌-◌, ◌<◌, ◌≤◌, Bool, cond, ◌==◌, List, [], ◌∷◌, ◌++◌, length, map, get_or, set, take, drop, Option, None, Some, is_some, IsSome, refl, sym, ap, subst, ◌∙◌, inl, inr, arith, length-set, get_or-set_same, get_or-set_other}
 use Rattle.std.specs.Prelude.{nat_lt, MatchOption, unwrap_or}
 use Rattle.std.specs.List.{AllWithin, HoldsAt, slice_range}
-use Rattle.std.proofs.lemmas.Bool.{cases_Bool, cases_eq, cases_lt, eqb-true, eqb-false, eq-eqb, ne_eqb, cond-true, cond-false, lt-ltb}
+use Rattle.std.proofs.lemmas.Bool.{cases_Bool, cases_eq, cases_lt, eqb-true, eqb-false, eq-eqb, ne_eqb, lt-ltb}
 use Rattle.std.proofs.lemmas.Bool.Decides.{nat_tests}
 use Rattle.std.proofs.lemmas.List.{take-append-drop, take-take, take_more, get_or_past, append-nil, append_assoc, map_push, get_or_append_left}
 use Rattle.std.proofs.lemmas.List.Edits.{between_none, between_more, split_between}
-use Rattle.frame_pool.specs.Pool.{Pool, frame_count, bytes_at, without_bytes}
+use Rattle.vm_base.specs.Entries.{without_key}
+use Rattle.vm_base.proofs.EntryLaws.{without_key-here, without_key-other}
+use Rattle.frame_pool.specs.Pool.{Pool, taken_frames}
 use Rattle.page_store.specs.declared.rows.Row.{Row}
 use Rattle.page_store.specs.Shares.{rows_with, row_in, IsFirstWith, Shares, AreCounted, Releases}
 
@@ -205,26 +207,19 @@ Releases-kept rows row old now before pool n done one more = record {
   ];
 }
 
-module _ (m : ℕ → Option (List ℕ)) (t u : ℕ) where
-  pub without_bytes-here : u ≡ t → without_bytes m t u ≡ None
-  without_bytes-here e = cond-true (u == t) None (m u) (eq-eqb u t e)
-
-  pub without_bytes-other : u ≢ t → without_bytes m t u ≡ m u
-  without_bytes-other apart = cond-false (u == t) None (m u) (ne_eqb u t apart)
-
-given_counted : (now : List ℕ) (t : ℕ) (pool after : Pool) → AreCounted now pool → t < length now → bytes_at after ≡ without_bytes (bytes_at pool) t → AreCounted (set now t 0) after
+given_counted : (now : List ℕ) (t : ℕ) (pool after : Pool) → AreCounted now pool → t < length now → taken_frames after ≡ without_key (taken_frames pool) t → AreCounted (set now t 0) after
 given_counted now t pool after counted low given = record {
   taken = λ u. ap (λ (m : ℕ → Option (List ℕ)). is_some (m u)) given ∙ elim (cases_eq u t) [
     | inl same ↦
         let is : get_or (set now t 0) u 0 ≡ 0 = ap (λ (k : ℕ). get_or (set now t 0) k 0) same ∙ get_or-set_same now t 0 0 low in
-        ap is_some (without_bytes-here (bytes_at pool) t u same) ∙ ap (nat_lt 0) (sym is)
+        ap is_some (without_key-here (taken_frames pool) t u same) ∙ ap (nat_lt 0) (sym is)
     | inr apart ↦
-        ap is_some (without_bytes-other (bytes_at pool) t u apart) ∙ (counted.taken u ∙ ap (nat_lt 0) (sym (counted_other now t u 0 apart)))
+        ap is_some (without_key-other (taken_frames pool) t u apart) ∙ (counted.taken u ∙ ap (nat_lt 0) (sym (counted_other now t u 0 apart)))
   ];
 }
 
 -- One row more is released, and its frame is given back.
-pub Releases-given : (rows : List Row) (row : Row) (old now : List ℕ) (before pool after : Pool) → Releases rows old now before pool → get_or now row.tag.0 0 ≡ 1 → frame_count after ≡ frame_count pool → bytes_at after ≡ without_bytes (bytes_at pool) row.tag.0 →
+pub Releases-given : (rows : List Row) (row : Row) (old now : List ℕ) (before pool after : Pool) → Releases rows old now before pool → get_or now row.tag.0 0 ≡ 1 → after.frames ≡ pool.frames → taken_frames after ≡ without_key (taken_frames pool) row.tag.0 →
     Releases (rows ++ row ∷ []) old (set now row.tag.0 0) before after
 Releases-given rows row old now before pool after done one frames given =
     let low = counted_low now row.tag.0 0 one in
@@ -238,7 +233,7 @@ Releases-given rows row old now before pool after done one frames given =
             let is : get_or (set now row.tag.0 0) u 0 ≡ 0 = ap (λ (k : ℕ). get_or (set now row.tag.0 0) k 0) same ∙ get_or-set_same now row.tag.0 0 0 low in absurd (omega arith)
         | inr apart ↦
             let other = counted_other now row.tag.0 u 0 apart in
-            ap (λ (m : ℕ → Option (List ℕ)). m u) given ∙ (without_bytes-other (bytes_at pool) row.tag.0 u apart ∙ done.kept u (omega arith))
+            ap (λ (m : ℕ → Option (List ℕ)). m u) given ∙ (without_key-other (taken_frames pool) row.tag.0 u apart ∙ done.kept u (omega arith))
       ];
     }
 
@@ -248,7 +243,7 @@ Releases-given rows row old now before pool after done one frames given =
 pub record IsNext (rows : List Row) (i : ℕ) (d : Row) (now : List ℕ) (pool : Pool) : Type 0 where
   pub some : 1 ≤ get_or now (get_or rows i d).tag.0 0
   pub low : (get_or rows i d).tag.0 < length now
-  pub taken : IsSome (bytes_at pool (get_or rows i d).tag.0)
+  pub taken : IsSome (taken_frames pool (get_or rows i d).tag.0)
 
 module _ (rows : List Row) (i : ℕ) (d : Row) (old now : List ℕ) (before pool : Pool) (done : Releases (take i rows) old now before pool) (counts : (t : ℕ) → rows_with t rows ≤ get_or old t 0) (h : i < length rows) where
   pub release_next : IsNext rows i d now pool
@@ -272,7 +267,7 @@ module _ (rows : List Row) (i : ℕ) (d : Row) (old now : List ℕ) (before pool
   pub release_kept : less ≢ 0 → Releases (take (i + 1) rows) old (set now (get_or rows i d).tag.0 less) before pool
   release_kept more = rw (take_more rows i d h) (Releases-kept (take i rows) (get_or rows i d) old now before pool less done one_more (omega arith))
 
-  pub release_given : (after : Pool) → less ≡ 0 → frame_count after ≡ frame_count pool → bytes_at after ≡ without_bytes (bytes_at pool) (get_or rows i d).tag.0 → Releases (take (i + 1) rows) old (set now (get_or rows i d).tag.0 less) before after
+  pub release_given : (after : Pool) → less ≡ 0 → after.frames ≡ pool.frames → taken_frames after ≡ without_key (taken_frames pool) (get_or rows i d).tag.0 → Releases (take (i + 1) rows) old (set now (get_or rows i d).tag.0 less) before after
   release_given after none frames given =
       let one : get_or now (get_or rows i d).tag.0 0 ≡ 1 = omega (arith, one_more) in
       let turn = Releases-given (take i rows) (get_or rows i d) old now before pool after done one frames given in

@@ -7,7 +7,7 @@ use Rattle.std.specs.declared.cmp.Ordering.TheVariants.{Greater}
 use Rattle.std.proofs.lemmas.Bool.{cases_Bool, cases_eq, cases_lt}
 use Rattle.std.proofs.lemmas.Bool.Decides.{nat_tests}
 use Rattle.std.proofs.lemmas.List.{length_push, length-map, get_or-map}
-use Rattle.frame_pool.specs.Pool.{Pool, frame_count, bytes_at}
+use Rattle.frame_pool.specs.Pool.{Pool, taken_frames}
 use Rattle.vm_base.specs.declared.limits.TheConstants.{VMO_PAGES}
 use Rattle.vm_model.specs.Contents.Content.{vmos_of, IsGood}
 use Rattle.vm_model.specs.Contents.Sharing.{page_seen, snapshotted}
@@ -142,7 +142,7 @@ module _ (f g : Flat) (v first seen pages from end : ℕ) (flat : IsFlat f) (new
       let c = content_of f in
       let next = next-content f in
       same_content (content_of g) (snapshotted c v first seen pages)
-      (frames-content g ∙ (ap frame_count new.pool ∙ (sym (frames-content f) ∙ sym (frames-snapshotted c v first seen pages))))
+      (frames-content g ∙ (ap (λ (pool : Pool). pool.frames) new.pool ∙ (sym (frames-content f) ∙ sym (frames-snapshotted c v first seen pages))))
       (omega (arith, next-content g, new.next, next-snapshotted c v first seen pages))
       (λ w. count-content g w ∙ (ap (count_in w) new.vmos ∙ (count_in-push f.vmos (new_vmo f pages) (koids_below f (new_vmo f pages) flat refl) w
       ∙ sym (count-snapshotted c v first seen pages w ∙ (ap (λ (n : ℕ). cond (w == n) (Some pages) (c.count w)) next ∙ ap (λ o. cond (w == f.next) (Some pages) o) (count-content f w))))))
@@ -178,7 +178,7 @@ module _ (f g : Flat) (v first seen pages from end : ℕ) (flat : IsFlat f) (new
     taken = λ t.
         let fewer = rows_with-range t f.rows from end (new.are).order in
         let count = (new.shares).counts t in
-        ap (λ (pool : Pool). is_some (bytes_at pool t)) new.pool
+        ap (λ (pool : Pool). is_some (taken_frames pool t)) new.pool
         ∙ ((counted-flat f flat).taken t ∙ (positive_sum (get_or f.shares t 0) (rows_with t (slice_range f.rows from end)) (omega (arith, shares-rows f flat t)) ∙ ap (nat_lt 0) (sym count)));
   }
 
@@ -191,7 +191,7 @@ module _ (f g : Flat) (v first seen pages from end : ℕ) (flat : IsFlat f) (new
       (subst IsAscending (sym new.vmos) (ascending_push f.vmos (new_vmo f pages) flat.ascending (koids_below f (new_vmo f pages) flat refl)))
       (subst IsGood (sym content-snapshot) (IsGood-snapshotted c v first seen pages flat.good few many))
       (omega (arith, same, longer, vmos_of-snapshotted c v first seen pages flat.good, flat.vmos))
-      ((new.shares).size ∙ (flat.counts ∙ sym (ap frame_count new.pool)))
+      ((new.shares).size ∙ (flat.counts ∙ sym (ap (λ (pool : Pool). pool.frames) new.pool)))
       snapshot_counts
       snapshot_counted
 

@@ -6,7 +6,7 @@ use Rattle.std.specs.declared.cmp.Ordering.TheVariants.{Greater}
 use Rattle.std.proofs.lemmas.Bool.{cases_Bool, cases_lt, cases_order, eqb-true, eq-eqb, ne_eqb, and_parts, and_from, and_left, and_right, or_cases, or_left, or_right, false_from_ne_true}
 use Rattle.std.proofs.lemmas.Bool.Decides.{nat_tests}
 use Rattle.std.proofs.lemmas.List.{get_or_past}
-use Rattle.frame_pool.specs.Pool.{frame_count}
+use Rattle.frame_pool.specs.Pool.{}
 use Rattle.vm_base.specs.Search.{count_below}
 use Rattle.vm_model.specs.Contents.Content.{Page, views, vmos_of, IsGood}
 use Rattle.vm_model.specs.Contents.Sharing.{viewers, IsLeastViewer}
@@ -124,7 +124,7 @@ module _ (f : Flat) (sorted : IsSorted f.rows) (good : IsGood (content_of f)) wh
       let low = koid_held (content_of f) row.koid.0 row.page (page_from f.pool row) good (page_of_each f sorted i d h) in
       omega (arith, low, next-content f)
 
-  pub row_tags : All (λ row. row.tag.0 < frame_count f.pool) f.rows
+  pub row_tags : All (λ row. row.tag.0 < f.pool.frames) f.rows
   row_tags i d h =
       let row = get_or f.rows i d in
       let low = good.tags row.koid.0 row.page (page_from f.pool row) (page_of_each f sorted i d h) in
@@ -163,7 +163,7 @@ module _ (f : Flat) (sorted : IsSorted f.rows) (good : IsGood (content_of f)) wh
       ∙ (count_below_same f.next (views (content_of f) t) (shows_in t f.rows) (λ v h. views-rows t v) ∙ count_shows f.next t f.rows row_koids rows_apart)
 
   -- no row has the tag of no frame
-  pub rows_with-past : (t : ℕ) → frame_count f.pool ≤ t → rows_with t f.rows ≡ 0
+  pub rows_with-past : (t : ℕ) → f.pool.frames ≤ t → rows_with t f.rows ≡ 0
   rows_with-past t past = elim (cases_lt 0 (rows_with t f.rows)) [
     | inr none ↦ omega arith
     | inl some ↦
@@ -176,7 +176,7 @@ module _ (f : Flat) (sorted : IsSorted f.rows) (good : IsGood (content_of f)) wh
 
 -- the share counts are those of the rows
 pub shares-rows : (f : Flat) → IsFlat f → (t : ℕ) → get_or f.shares t 0 ≡ rows_with t f.rows
-shares-rows f flat t = elim (cases_lt t (frame_count f.pool)) [
+shares-rows f flat t = elim (cases_lt t f.pool.frames) [
   | inl low ↦ flat.shares t low ∙ viewers-rows f flat.sorted flat.good t
   | inr past ↦ get_or_past f.shares t 0 (omega (arith, flat.counts)) ∙ sym (rows_with-past f flat.sorted flat.good t past)
 ]
@@ -186,7 +186,7 @@ counted-flat f flat = record {
   taken = λ t. flat.taken t ∙ (in_use-viewers (content_of f) t ∙ ap (nat_lt 0) (viewers-rows f flat.sorted flat.good t ∙ sym (shares-rows f flat t)));
 }
 
-pub flat_from_rows : (f : Flat) → IsSorted f.rows → IsAscending f.vmos → IsGood (content_of f) → vmos_of (content_of f) ≡ length f.vmos → length f.shares ≡ frame_count f.pool → ((t : ℕ) → get_or f.shares t 0 ≡ rows_with t f.rows) → AreCounted f.shares f.pool → IsFlat f
+pub flat_from_rows : (f : Flat) → IsSorted f.rows → IsAscending f.vmos → IsGood (content_of f) → vmos_of (content_of f) ≡ length f.vmos → length f.shares ≡ f.pool.frames → ((t : ℕ) → get_or f.shares t 0 ≡ rows_with t f.rows) → AreCounted f.shares f.pool → IsFlat f
 flat_from_rows f sorted ascending good vmos size counts counted = record {
   sorted = sorted;
   ascending = ascending;

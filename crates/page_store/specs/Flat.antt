@@ -1,6 +1,6 @@
 -- The plain store as plain lists, and the content that they stand for.
 use Rattle.std.specs.Prelude.{◌≡◌, ℕ, ◌<◌, List, length, slice_index_or, Option, None, Some, is_some}
-use Rattle.frame_pool.specs.Pool.{Pool, frame_count, bytes_at, bytes_of}
+use Rattle.frame_pool.specs.Pool.{Pool, taken_frames, frame_bytes}
 use Rattle.vm_model.specs.Contents.Content.{Content, Page, in_use, vmos_of, IsGood}
 use Rattle.vm_model.specs.Contents.Sharing.{viewers}
 use Rattle.page_store.specs.declared.rows.Row.{Row}
@@ -21,11 +21,11 @@ pub record Flat : Type 0 where
 -- the page of a row, with the bytes of its frame
 unfoldable pub page_of_row : Pool → Option Row → Option Page
 page_of_row pool None = None
-page_of_row pool (Some row) = Some (record { tag = row.tag.0; bytes = bytes_of pool row.tag.0 })
+page_of_row pool (Some row) = Some (record { tag = row.tag.0; bytes = frame_bytes pool row.tag.0 })
 
 unfoldable pub content_of : Flat → Content
 content_of f = record {
-  frames = frame_count f.pool;
+  frames = f.pool.frames;
   next = f.next;
   count = λ v. count_in v f.vmos;
   page = λ v p. page_of_row f.pool (find_row v p f.rows);
@@ -37,6 +37,6 @@ pub record IsFlat (f : Flat) : Type 0 where
   pub ascending : IsAscending f.vmos
   pub good : IsGood (content_of f)
   pub vmos : vmos_of (content_of f) ≡ length f.vmos
-  pub counts : length f.shares ≡ frame_count f.pool
-  pub shares : (t : ℕ) → t < frame_count f.pool → slice_index_or f.shares t 0 ≡ viewers (content_of f) t
-  pub taken : (t : ℕ) → is_some (bytes_at f.pool t) ≡ in_use (content_of f) t
+  pub counts : length f.shares ≡ f.pool.frames
+  pub shares : (t : ℕ) → t < f.pool.frames → slice_index_or f.shares t 0 ≡ viewers (content_of f) t
+  pub taken : (t : ℕ) → is_some (taken_frames f.pool t) ≡ in_use (content_of f) t

@@ -2,7 +2,7 @@
 -- share counts and to the frames.
 use Rattle.std.specs.Prelude.{◌≡◌, ◌≢◌, ℕ, ◌+◌, ◌-◌, ◌<◌, ◌==◌, nat_lt, cond, List, [], ◌∷◌, length, slice_index_or, is_some}
 use Rattle.std.specs.List.{AllWithin, HoldsAt}
-use Rattle.frame_pool.specs.Pool.{Pool, frame_count, bytes_at}
+use Rattle.frame_pool.specs.Pool.{Pool, taken_frames}
 use Rattle.page_store.specs.declared.rows.Row.{Row}
 
 -- how many rows have the frame t
@@ -27,13 +27,13 @@ pub record Shares (rows : List Row) (old new : List ℕ) : Type 0 where
 
 -- the frames that are taken are those with a share count above 0
 pub record AreCounted (shares : List ℕ) (pool : Pool) : Type 0 where
-  pub taken : (t : ℕ) → is_some (bytes_at pool t) ≡ nat_lt 0 (slice_index_or shares t 0)
+  pub taken : (t : ℕ) → is_some (taken_frames pool t) ≡ nat_lt 0 (slice_index_or shares t 0)
 
 -- Each share count is lower by the number of these rows that have its frame. The frames whose count is 0 now are free, and
 -- the others have the bytes that they had.
 pub record Releases (rows : List Row) (old new : List ℕ) (before after : Pool) : Type 0 where
   pub size : length new ≡ length old
   pub counts : (t : ℕ) → slice_index_or new t 0 + rows_with t rows ≡ slice_index_or old t 0
-  pub frames : frame_count after ≡ frame_count before
+  pub frames : after.frames ≡ before.frames
   pub counted : AreCounted new after
-  pub kept : (t : ℕ) → 0 < slice_index_or new t 0 → bytes_at after t ≡ bytes_at before t
+  pub kept : (t : ℕ) → 0 < slice_index_or new t 0 → taken_frames after t ≡ taken_frames before t

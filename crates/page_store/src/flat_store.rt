@@ -1,10 +1,11 @@
 //! The plain store: one sorted list of the pages that are held, and a share count for each frame.
 
-ghost use Rattle.std.specs.Prelude.{◌≡◌, ℕ, ◌+◌, ◌<◌, ◌≤◌, ◌⊎◌, true, length};
+ghost use Rattle.std.specs.Prelude.{◌≡◌, ℕ, ◌+◌, ◌<◌, ◌≤◌, ◌⊎◌, true, length, IsSome};
 ghost use Rattle.vm_model.specs.Contents.Content.{nothing, pages_of, used, sole};
 ghost use Rattle.vm_model.specs.Contents.Owning.{Owns};
 ghost use Rattle.vm_model.specs.Contents.Zeroing.{zeroed};
-ghost use Rattle.frame_pool.specs.Pool.{frame_count, taken_count, Takes};
+ghost use Rattle.vm_base.specs.Pages.{zeros};
+ghost use Rattle.frame_pool.specs.Pool.{taken_frames, frame_bytes, taken_count, Takes};
 ghost use Rattle.page_store.specs.Rows.{IsRowFor, IsGapFor};
 ghost use Rattle.page_store.specs.Flat.{content_of};
 
@@ -70,7 +71,7 @@ impl FlatStore {
         ensures owns { Owns (content_of self.old) (content_of self.new) v.0 page result.0 }
         ensures spare { self.old.spare ≤ self.new.spare + 1 }
     {
-        let tag = take_free(&mut self.pool);
+        let tag = take_zeros(&mut self.pool);
         // There is room for the row: `reserve` took it.
         let _ = self.rows.insert(at, Row { koid: v, page, tag });
         self.shares[tag.0 as usize] = 1;
@@ -89,8 +90,7 @@ impl FlatStore {
         if self.shares[shown.0 as usize] == 1 {
             return shown;
         }
-        let tag = take_free(&mut self.pool);
-        self.pool.copy(shown, tag);
+        let tag = take_copy(&mut self.pool, shown);
         self.shares[shown.0 as usize] -= 1;
         self.shares[tag.0 as usize] = 1;
         self.rows[at].tag = tag;
@@ -250,11 +250,21 @@ impl PageStore for FlatStore {
     }
 }
 
-/// Takes a free frame, of which there is one.
-fn take_free(pool: &mut FramePool) -> Tag
-    requires { taken_count pool.old < frame_count pool.old }
-    ensures frames { frame_count pool.new ≡ frame_count pool.old }
-    ensures takes { Takes pool.old pool.new result.0 }
+/// Takes a free frame, of which there is one. Its bytes are zeros.
+fn take_zeros(pool: &mut FramePool) -> Tag
+    requires { taken_count pool.old < pool.old.frames }
+    ensures frames { pool.new.frames ≡ pool.old.frames }
+    ensures takes { Takes pool.old pool.new result.0 zeros }
 {
     pool.take().unwrap()
+}
+
+/// Takes a free frame, of which there is one. Its bytes are those of a frame that is taken.
+fn take_copy(pool: &mut FramePool, from: Tag) -> Tag
+    requires free { taken_count pool.old < pool.old.frames }
+    requires from { IsSome (taken_frames pool.old from.0) }
+    ensures frames { pool.new.frames ≡ pool.old.frames }
+    ensures takes { Takes pool.old pool.new result.0 (frame_bytes pool.old from.0) }
+{
+    pool.take_copy(from).unwrap()
 }

@@ -18,7 +18,7 @@ pub loop-row-preserved : goal.loop-row-preserved
 loop-row-preserved c = elim c.if-count-eq0.branch [
   | then-count-eq0 w ↦
       rw w.pool-is (release_given c.args.rows.now c.loop-row.row-index _ _ c.loop-row.shares _ c.loop-row.pool c.loop-row.invariant c.requires.counts c.loop-row-test.true
-      w.give_back.new.self w.if-count-eq0.true w.give_back.ensures.frames w.give_back.ensures.bytes)
+      w.give_back.new.self w.if-count-eq0.true w.give_back.ensures.frames w.give_back.ensures.taken)
   | else-count-eq0 w ↦
       rw w.pool-is (release_kept c.args.rows.now c.loop-row.row-index _ _ c.loop-row.shares _ c.loop-row.pool c.loop-row.invariant c.requires.counts c.loop-row-test.true w.if-count-eq0.false)
 ]

@@ -1,18 +1,18 @@
 use Rattle.std.proofs.Common.{arith}
-use Rattle.frame_pool.proofs.PoolLaws.{taken_parts, IsPool-written, bytes_at-written}
+use Rattle.frame_pool.proofs.PoolLaws.{in_buffer, IsPool-written, taken_frames-written}
 use Rattle.frame_pool.proofs.frame_pool.FramePool.clear.Goals as goal
 
 pub index_mut-requires : goal.index_mut-requires
 index_mut-requires c =
-    let taken = taken_parts _ c.args.tag.0 (rw (← c.self.view_is) at c.requires) in
+    let taken = in_buffer _ c.args.tag.0 (rw (← c.self.view_is) at c.requires) in
     omega (arith, c.self.inside.buffer.ok.0, taken.below)
 
 pub invariant_of-self : goal.invariant_of-self
 invariant_of-self c = record {
-  pool = IsPool-written _ c.args.tag.0 c.blank.new.frame c.self.invariant.pool (rw (← c.self.view_is) at c.requires);
+  pool = IsPool-written _ c.args.tag.0 _ c.self.invariant.pool (rw (← c.self.view_is) at c.requires);
   buffer_room = c.self.invariant.buffer_room;
   idle_room = c.self.invariant.idle_room;
 }
 
-pub returns-clause-bytes : goal.returns-clause-bytes
-returns-clause-bytes c = rw (c.blank.ensures, ← c.self.view_is) (bytes_at-written _ c.args.tag.0 _ (rw (← c.self.view_is) at c.requires))
+pub returns-clause-taken : goal.returns-clause-taken
+returns-clause-taken c = rw (c.blank_frame.ensures, ← c.self.view_is) (taken_frames-written _ c.args.tag.0 _ c.self.invariant.pool (rw (← c.self.view_is) at c.requires))

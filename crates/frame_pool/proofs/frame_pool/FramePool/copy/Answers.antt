@@ -1,15 +1,15 @@
 use Rattle.std.proofs.Common.{arith}
-use Rattle.frame_pool.proofs.PoolLaws.{taken_parts, bytes_of-read, IsPool-written, bytes_at-written}
+use Rattle.frame_pool.proofs.PoolLaws.{in_buffer, frame_bytes-read, IsPool-written, taken_frames-written}
 use Rattle.frame_pool.proofs.frame_pool.FramePool.copy.Goals as goal
 
 pub index-bytes-requires : goal.index-bytes-requires
 index-bytes-requires c =
-    let taken = taken_parts _ c.args.from.0 (rw (← c.self.view_is) at c.requires.from) in
+    let taken = in_buffer _ c.args.from.0 (rw (← c.self.view_is) at c.requires.from) in
     omega (arith, c.self.inside.buffer.ok.0, taken.below)
 
 pub index_mut-requires : goal.index_mut-requires
 index_mut-requires c =
-    let taken = taken_parts _ c.args.to.0 (rw (← c.self.view_is) at c.requires.to) in
+    let taken = in_buffer _ c.args.to.0 (rw (← c.self.view_is) at c.requires.to) in
     omega (arith, c.self.inside.buffer.ok.0, taken.below)
 
 pub invariant_of-self : goal.invariant_of-self
@@ -19,7 +19,7 @@ invariant_of-self c = record {
   idle_room = c.self.invariant.idle_room;
 }
 
-pub returns-clause-bytes : goal.returns-clause-bytes
-returns-clause-bytes c =
-    rw (← c.self.view_is, bytes_of-read _ c.args.from.0 _ (rw (← c.self.view_is) at c.requires.from) c.index-bytes.ensures)
-    (bytes_at-written _ c.args.to.0 _ (rw (← c.self.view_is) at c.requires.to))
+pub returns-clause-taken : goal.returns-clause-taken
+returns-clause-taken c =
+    rw (← c.self.view_is, frame_bytes-read _ c.args.from.0 _ (rw (← c.self.view_is) at c.requires.from) c.index-bytes.ensures)
+    (taken_frames-written _ c.args.to.0 _ c.self.invariant.pool (rw (← c.self.view_is) at c.requires.to))

@@ -1,10 +1,10 @@
 use Rattle.std.proofs.Common.{arith}
-use Rattle.frame_pool.proofs.PoolLaws.{idle_room, IsPool-returned, bytes_at-returned}
+use Rattle.frame_pool.proofs.PoolLaws.{idle_room, IsPool-returned, taken_frames-returned}
 use Rattle.frame_pool.proofs.frame_pool.FramePool.give_back.Goals as goal
 
 pub push_reserved-requires : goal.push_reserved-requires
 push_reserved-requires c =
-    let room = idle_room _ c.args.tag.0 c.self.invariant.pool (rw (← c.self.view_is) at c.requires) in
+    let room = idle_room _ c.args.tag c.self.invariant.pool (rw (← c.self.view_is) at c.requires) in
     omega (arith, c.self.inside.idle.ok.0, c.self.invariant.idle_room, room)
 
 pub invariant_of-self : goal.invariant_of-self
@@ -14,5 +14,5 @@ invariant_of-self c = record {
   idle_room = omega (arith, c.self.invariant.idle_room, c.push_reserved.ensures.capacity);
 }
 
-pub returns-clause-bytes : goal.returns-clause-bytes
-returns-clause-bytes c = rw (c.push_reserved.ensures.items, ← c.self.view_is) (bytes_at-returned _ c.args.tag)
+pub returns-clause-taken : goal.returns-clause-taken
+returns-clause-taken c = rw (c.push_reserved.ensures.items, ← c.self.view_is) (taken_frames-returned _ c.args.tag c.self.invariant.pool (rw (← c.self.view_is) at c.requires))

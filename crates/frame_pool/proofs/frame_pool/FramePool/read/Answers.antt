@@ -1,14 +1,14 @@
 use Rattle.std.proofs.Common.{◌≡◌, ◌+◌, ◌-◌, ℕ, take, drop, length, ap, ◌∙◌, arith}
-use Rattle.frame_pool.proofs.PoolLaws.{taken_parts, bytes_of-read}
+use Rattle.frame_pool.proofs.PoolLaws.{in_buffer, frame_bytes-read}
 use Rattle.frame_pool.proofs.frame_pool.FramePool.read.Goals as goal
 
 pub index-requires : goal.index-requires
 index-requires c =
-    let taken = taken_parts _ c.args.tag.0 (rw (← c.self.view_is) at c.requires.taken) in
+    let taken = in_buffer _ c.args.tag.0 (rw (← c.self.view_is) at c.requires.taken) in
     omega (arith, c.self.inside.buffer.ok.0, taken.below)
 
 pub returns : goal.returns
 returns c =
     let n : c.args.at + length c.args.out.now - c.args.at ≡ length c.args.out.now = omega arith in
-    rw (← c.self.view_is, bytes_of-read _ c.args.tag.0 _ (rw (← c.self.view_is) at c.requires.taken) c.index.ensures)
+    rw (← c.self.view_is, frame_bytes-read _ c.args.tag.0 _ (rw (← c.self.view_is) at c.requires.taken) c.index.ensures)
     (c.copy_from_slice.ensures.after ∙ ap (λ (k : ℕ). take k (drop c.args.at c.index.result.now)) n)

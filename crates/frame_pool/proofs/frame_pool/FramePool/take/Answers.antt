@@ -1,8 +1,6 @@
-use Rattle.std.proofs.Common.{◌≡◌, ◌<◌, List, length, sym, ap, ◌∙◌, arith}
-use Rattle.std.proofs.lemmas.List.{append-nil}
-use Rattle.vm_base.specs.declared.names.Tag.{Tag}
+use Rattle.std.proofs.Common.{◌≢◌, length, arith}
 use Rattle.frame_pool.specs.PoolFields.{pool_of}
-use Rattle.frame_pool.proofs.PoolLaws.{idle_below, IsPool-popped, takes_popped, IsPool-pushed, takes_pushed, all_taken}
+use Rattle.frame_pool.proofs.PoolLaws.{idle_below, pushed, popped, all_taken}
 use Rattle.frame_pool.proofs.frame_pool.FramePool.take.Goals as goal
 
 pub index_mut-requires : goal.index_mut-requires
@@ -12,43 +10,31 @@ index_mut-requires c =
 
 pub invariant_of-self : goal.invariant_of-self
 invariant_of-self c = record {
-  pool = IsPool-popped (pool_of c.self.inside) c.pop.new.self.items c.in-Some.idle _ c.self.invariant.pool (record { is = c.in-Some.ensures.items });
+  pool = (popped (pool_of c.self.inside) c.pop.new.self.items c.in-Some.idle c.self.invariant.pool (record { is = c.in-Some.ensures.items }) _).pool;
   buffer_room = c.self.invariant.buffer_room;
   idle_room = omega (arith, c.self.invariant.idle_room, c.pop.ensures.capacity);
 }
 
 pub returns-in-Some-clause-some : goal.returns-in-Some-clause-some
 returns-in-Some-clause-some c =
-    rw (c.blank.ensures, ← c.self.view_is) (takes_popped (pool_of c.self.inside) c.pop.new.self.items c.in-Some.idle c.self.invariant.pool (record { is = c.in-Some.ensures.items }))
-
--- nothing was popped
-same_idle : (c : goal.Then-next-self) → c.pop.new.self.items ≡ c.self.inside.idle.items
-same_idle c = sym (c.in_default.ensures.items ∙ append-nil c.pop.new.self.items)
+    rw (c.blank_frame.ensures, ← c.self.view_is) (popped (pool_of c.self.inside) c.pop.new.self.items c.in-Some.idle c.self.invariant.pool (record { is = c.in-Some.ensures.items }) _).takes
 
 pub returns-then-next-self-clause-none : goal.returns-then-next-self-clause-none
 returns-then-next-self-clause-none c =
-    let none : length c.self.inside.idle.items ≡ 0 = omega (arith, c.in_default.ensures.cases.0, c.self.inside.idle.ok.0) in
-    let full : length c.self.inside.buffer.items ≡ c.self.inside.limit = omega (arith, c.len-next.ensures, c.if-next-self.true, c.self.inside.buffer.ok.0) in
-    rw (← c.self.view_is)
-    (all_taken (pool_of c.self.inside) c.self.invariant.pool none full, ap (λ (idle : List Tag). record (pool_of c.self.inside) { idle = idle }) (same_idle c))
+    rw (← c.self.view_is) (all_taken (pool_of c.self.inside) c.pop.new.self.items c.self.invariant.pool c.in_default.ensures.items
+    (omega (arith, c.in_default.ensures.cases.0, c.self.inside.idle.ok.0)) (omega (arith, c.len-next.ensures, c.if-next-self.true, c.self.inside.buffer.ok.0)))
 
-popped_nothing : (c : goal.After-push_reserved) → c.pop.new.self.items ≡ c.self.inside.idle.items
-popped_nothing c = sym (c.in_default.ensures.items ∙ append-nil c.pop.new.self.items)
-
-room : (c : goal.After-push_reserved) → length c.self.inside.buffer.items < c.self.inside.limit
-room c =
-    let fits = c.self.invariant.pool.fits in
-    let other = c.if-next-self.false in
-    omega (arith, c.len-next.ensures, c.self.inside.buffer.ok.0)
+not_full : (c : goal.After-push_reserved) → length c.self.inside.buffer.items ≢ c.self.inside.frames
+not_full c = λ full. c.if-next-self.false (omega (arith, c.len-next.ensures, c.self.inside.buffer.ok.0))
 
 pub invariant_of-self-2 : goal.invariant_of-self-2
 invariant_of-self-2 c = record {
-  pool = rw (popped_nothing c, c.push_reserved.ensures.items) (IsPool-pushed (pool_of c.self.inside) _ c.self.invariant.pool (room c));
+  pool = rw c.push_reserved.ensures.items (pushed (pool_of c.self.inside) _ c.self.invariant.pool (not_full c) c.pop.new.self.items c.in_default.ensures.items).pool;
   buffer_room = omega (arith, c.self.invariant.buffer_room, c.push_reserved.ensures.capacity);
   idle_room = omega (arith, c.self.invariant.idle_room, c.pop.ensures.capacity);
 }
 
 pub returns-clause-some : goal.returns-clause-some
 returns-clause-some c =
-    rw (popped_nothing c, c.push_reserved.ensures.items, c.blank_frame.ensures, c.len-next.ensures, c.self.inside.buffer.ok.0, ← c.self.view_is)
-    (takes_pushed (pool_of c.self.inside) c.self.invariant.pool (room c))
+    rw (c.push_reserved.ensures.items, c.blank_frame-2.ensures, c.len-next.ensures, c.self.inside.buffer.ok.0, ← c.self.view_is)
+    (pushed (pool_of c.self.inside) _ c.self.invariant.pool (not_full c) c.pop.new.self.items c.in_default.ensures.items).takes

@@ -15,7 +15,7 @@ invariant_of-self-2 c =
     let none = no_shares _ c.self.invariant.flat empty in
     let made = c.in-Ok-fill.ensures in
     let items = c.resize.ensures.items ∙ cond-true _ _ _ (c.resize.ensures.succeeds (omega (arith, c.in-Ok.ensures.ok))) in
-    record { flat = rw (items, c.reserve_exact.ensures.items) (IsFlat-filled _ _ _ _ empty c.self.invariant.flat made.frames made.bytes (omega (arith, none, c.reserve_exact.ensures.len, c.self.inside.shares.ok.0))) }
+    record { flat = rw (items, c.reserve_exact.ensures.items) (IsFlat-filled _ _ _ _ empty c.self.invariant.flat made.frames made.taken (omega (arith, none, c.reserve_exact.ensures.len, c.self.inside.shares.ok.0))) }
 
 pub returns-clause-ok : goal.returns-clause-ok
 returns-clause-ok c =

@@ -7,8 +7,8 @@ write-requires-clause-taken c = shown_taken _ _ c.self.invariant.flat (is_shown 
 
 pub invariant_of-self : goal.invariant_of-self
 invariant_of-self c = record {
-  flat = IsFlat-overwritten _ _ _ _ _ c.self.invariant.flat (rw (← c.self.view_is) at c.requires.shown) c.write.ensures.frames c.write.ensures.bytes c.requires.range;
+  flat = IsFlat-overwritten _ _ _ _ _ c.self.invariant.flat (rw (← c.self.view_is) at c.requires.shown) c.write.ensures.frames c.write.ensures.taken c.requires.range;
 }
 
 pub returns-clause-bytes : goal.returns-clause-bytes
-returns-clause-bytes c = rw (← c.self.view_is) (overwrites _ _ _ _ _ c.self.invariant.flat (rw (← c.self.view_is) at c.requires.shown) c.write.ensures.frames c.write.ensures.bytes)
+returns-clause-bytes c = rw (← c.self.view_is) (overwrites _ _ _ _ _ c.self.invariant.flat (rw (← c.self.view_is) at c.requires.shown) c.write.ensures.frames c.write.ensures.taken)
