@@ -63,7 +63,7 @@ module _ (offset len : ℕ) (start : offset % PAGE ≡ 0) (whole : len % PAGE �
     pub need-pages : (c : Content) (v : ℕ) → need c v (owned_by_zero c v pinned offset len) ≡ 0
     need-pages c v =
         need-zero c v pinned offset len (offset / PAGE) ((offset + len) / PAGE) touched-pages
-        ∙ count_from-none (takes_frame c v pinned offset len) (offset / PAGE) ((offset + len) / PAGE - offset / PAGE)
+        ∙ count_from-none (takes_frame v pinned offset len c) (offset / PAGE) ((offset + len) / PAGE - offset / PAGE)
         (λ p low less. and_left (is_held c v p && not (is_cleared pinned offset len p)) (not (sole c v p))
         (and_right (is_held c v p) (not (is_cleared pinned offset len p)) (not_from_true (is_cleared pinned offset len p) (is_cleared-pages p low (omega arith)))))
 

@@ -2,19 +2,9 @@
 use Rattle.std.proofs.Common.{◌≡◌, ◌≢◌, ℕ, zero, suc, ◌+◌, ◌-◌, ◌<◌, ◌≤◌, List, [], ◌∷◌, ◌++◌, length, map, refl, sym, ap, ◌∙◌, arith}
 use Rattle.std.specs.List.{range_with_len}
 use Rattle.std.proofs.lemmas.List.FromFn.{length-map-range_with_len, map-range_with_len_more}
-use Rattle.vm_model.specs.Contents.Content.{Content, pages_of, used, IsGood}
-use Rattle.vm_model.specs.Contents.Owning.{need}
+use Rattle.vm_model.specs.Contents.Content.{Content}
 use Rattle.vm_model.specs.Machine.Step.{frame_of}
-use Rattle.vm_model.proofs.OwningLaws.{Owned, need-row, unowned}
-use Rattle.vmo_ops.proofs.RowLaws.{IsReady}
-
--- what a row of pages takes is there
-pub IsReady-row : (c : Content) (v first count end spare : ℕ) → end ≡ first + count → IsGood c → first + count ≤ pages_of c v → need c v (range_with_len first count) ≤ spare
-    → used c + need c v (range_with_len first count) ≤ c.frames → IsReady c v first end spare
-IsReady-row c v first count end spare e good inside room free =
-    let n : end - first ≡ count = omega arith in
-    let counted : need c v (range_with_len first count) ≡ unowned c v first (end - first) = need-row c v first count ∙ ap (unowned c v first) (sym n) in
-    record { good = good; inside = omega arith; room = omega (arith, counted, room); free = omega (arith, counted, free) }
+use Rattle.vm_model.proofs.OwningLaws.{Owned}
 
 -- the frames of n pages of v from one on
 abbrev pub frames_in : Content → ℕ → ℕ → ℕ → List ℕ

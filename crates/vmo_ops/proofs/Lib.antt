@@ -9,12 +9,14 @@ pub mod CloseLaws
 pub mod AliasLaws
 pub mod ReadLaws
 pub mod ChangeLaws
+pub mod CountLaws
 pub mod NeedLaws
 pub mod ResizeLaws
 pub mod RowLaws
+pub mod OwningLaws
+pub mod PartLaws
 pub mod OwnSteps
 pub mod WriteLaws
-pub mod FillLaws
 pub mod ZeroLaws
 pub mod DecommitLaws
 pub mod FrameLaws

@@ -5,7 +5,7 @@ use Rattle.std.specs.List.{range_with_len}
 use Rattle.std.proofs.lemmas.Bool.{and_from, and_parts, or_from, or_parts, not-false, true_from_ne_false, eqb-true, eqb-false, ltb-false}
 use Rattle.vm_base.specs.declared.names.PinName.{PinName}
 use Rattle.vm_base.specs.declared.names.VmoName.{VmoName}
-use Rattle.vm_base.specs.declared.limits.TheConstants.{PAGE}
+use Rattle.vm_base.specs.declared.limits.TheConstants.{PAGE, PIN_PAGES}
 use Rattle.vm_base.specs.declared.refusal.Refusal.{Refusal}
 use Rattle.vm_base.specs.declared.refusal.Refusal.TheVariants.{BadHandle, NameInUse, InvalidArgs, OutOfRange, NoMemory, HostMemory}
 use Rattle.vm_model.specs.declared.command.Command.TheVariants.{VmoPin}
@@ -27,9 +27,9 @@ use Rattle.vmo_ops.proofs.StepRows.{first_of-skip, first_of-hit, Step-refused, S
 use Rattle.vmo_ops.proofs.DecommitLaws.{touched-pages}
 use Rattle.vmo_ops.proofs.FrameLaws.{frames_in}
 
--- a range that may be pinned: whole pages, from 1 to 256 of them
+-- a range that may be pinned: whole pages, from 1 to PIN_PAGES of them
 abbrev pub IsPinRange : ℕ → ℕ → Type 0
-IsPinRange offset len = (offset % PAGE ≡ 0) × (len % PAGE ≡ 0) × (1 ≤ len) × (len ≤ 256 * PAGE)
+IsPinRange offset len = (offset % PAGE ≡ 0) × (len % PAGE ≡ 0) × (1 ≤ len) × (len ≤ PIN_PAGES * PAGE)
 
 module _ (s : State) (pin : PinName) (name : VmoName) (offset len : ℕ) (target : Target) (named : s.names name.0 ≡ Some target) (free : s.pins pin.0 ≡ None) where
   -- the pin, by what its name stands for
@@ -43,7 +43,7 @@ module _ (s : State) (pin : PinName) (name : VmoName) (offset len : ℕ) (target
   range_rows = (nat_lt (size_of s name.0) (offset + len), OutOfRange) ∷ memory_rows
 
   is_odd : Bool
-  is_odd = not (offset % PAGE == 0 && len % PAGE == 0) || (len == 0 || nat_lt (256 * PAGE) len)
+  is_odd = not (offset % PAGE == 0 && len % PAGE == 0) || (len == 0 || nat_lt (PIN_PAGES * PAGE) len)
 
   odd_rows : List (Bool × Refusal)
   odd_rows = (is_odd, InvalidArgs) ∷ range_rows
@@ -61,11 +61,11 @@ module _ (s : State) (pin : PinName) (name : VmoName) (offset len : ℕ) (target
   even_range : is_odd ≡ false → IsPinRange offset len
   unfolding is_odd
   even_range e =
-      let parts = or_parts (not (offset % PAGE == 0 && len % PAGE == 0)) (len == 0 || nat_lt (256 * PAGE) len) e in
+      let parts = or_parts (not (offset % PAGE == 0 && len % PAGE == 0)) (len == 0 || nat_lt (PIN_PAGES * PAGE) len) e in
       let whole = and_parts (offset % PAGE == 0) (len % PAGE == 0) (not-false (offset % PAGE == 0 && len % PAGE == 0) parts.0) in
-      let size = or_parts (len == 0) (nat_lt (256 * PAGE) len) parts.1 in
+      let size = or_parts (len == 0) (nat_lt (PIN_PAGES * PAGE) len) parts.1 in
       let some : len ≢ 0 = eqb-false len 0 size.0 in
-      (eqb-true (offset % PAGE) 0 whole.0, eqb-true (len % PAGE) 0 whole.1, omega arith, ltb-false (256 * PAGE) len size.1)
+      (eqb-true (offset % PAGE) 0 whole.0, eqb-true (len % PAGE) 0 whole.1, omega arith, ltb-false (PIN_PAGES * PAGE) len size.1)
 
   -- a range that may not be pinned
   pub pin_odd : (IsPinRange offset len → ⊥) → Step s (VmoPin pin name offset len) (Refused InvalidArgs) s
@@ -76,9 +76,9 @@ module _ (s : State) (pin : PinName) (name : VmoName) (offset len : ℕ) (target
   module _ (range : IsPinRange offset len) where
     even : is_odd ≡ false
     unfolding is_odd
-    even = or_from (not (offset % PAGE == 0 && len % PAGE == 0)) (len == 0 || nat_lt (256 * PAGE) len)
+    even = or_from (not (offset % PAGE == 0 && len % PAGE == 0)) (len == 0 || nat_lt (PIN_PAGES * PAGE) len)
         (ap not (and_from (offset % PAGE == 0) (len % PAGE == 0) (ap (λ (n : ℕ). n == 0) range.0) (ap (λ (n : ℕ). n == 0) range.1)))
-        (or_from (len == 0) (nat_lt (256 * PAGE) len) (eqb_apart len 0 (omega (arith, range.2))) (test_not_less (256 * PAGE) len range.3))
+        (or_from (len == 0) (nat_lt (PIN_PAGES * PAGE) len) (eqb_apart len 0 (omega (arith, range.2))) (test_not_less (PIN_PAGES * PAGE) len range.3))
 
     range_row : first_of (refusals s (VmoPin pin name offset len)) ≡ first_of range_rows
     unfolding odd_rows

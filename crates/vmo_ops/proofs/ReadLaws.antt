@@ -1,32 +1,58 @@
 -- The steps of a read.
-use Rattle.std.proofs.Common.{◌≡◌, ℕ, ◌+◌, ◌*◌, ◌<◌, ◌≤◌, not, List, [], ◌∷◌, ◌++◌, Some, refl, sym, ap, ◌∙◌}
+use Rattle.std.proofs.Common.{◌≡◌, ℕ, ◌+◌, ◌-◌, ◌*◌, ◌/◌, ◌<◌, ◌≤◌, min, not, List, [], ◌∷◌, ◌++◌, length, take, drop, Some, refl, sym, ap, ◌∙◌, arith}
 use Rattle.std.specs.Prelude.{nat_lt}
 use Rattle.vm_base.specs.declared.names.VmoName.{VmoName}
-use Rattle.vm_base.specs.declared.limits.TheConstants.{PAGE}
+use Rattle.vm_base.specs.declared.limits.TheConstants.{PAGE, DATA_BYTES}
 use Rattle.vm_base.specs.declared.refusal.Refusal.TheVariants.{BadHandle, InvalidArgs, OutOfRange}
 use Rattle.vm_model.specs.declared.command.Command.TheVariants.{VmoRead}
 use Rattle.vm_model.specs.declared.reply.Reply.TheVariants.{Bytes, Refused}
-use Rattle.vm_model.specs.Contents.Content.{Content}
+use Rattle.vm_model.specs.Contents.Content.{Content, shown, IsGood}
 use Rattle.vm_model.specs.declared.names.Target.{Target}
-use Rattle.vm_model.specs.Contents.Writing.{bytes_in}
+use Rattle.vm_model.specs.Contents.Writing.{part_at, bytes_in}
 use Rattle.vm_model.specs.Machine.State.{State, is_open, name_pages, size_of}
 use Rattle.vm_model.specs.Machine.Refusals.{refusals, first_of}
 use Rattle.vm_model.specs.Machine.Step.{Step}
-use Rattle.vm_model.proofs.RangeLaws.{bytes_in-append}
+use Rattle.vm_model.proofs.RangeLaws.{length-bytes_in, bytes_in-nil}
 use Rattle.vmo_ops.specs.Targets.{IsPlaced}
+use Rattle.vmo_ops.proofs.PartLaws.{bytes_in-part}
 use Rattle.vmo_ops.proofs.StepRows.{first_of-skip, first_of-hit, Step-refused, Step-done, open_at, past_at, within_at, spot, test_not_less}
 
--- the bytes so far, and those behind them
-pub bytes_in-more : (c : Content) (v offset done len : ℕ) (old new : List ℕ) → old ≡ bytes_in c v offset done → new ≡ old ++ bytes_in c v (offset + done) len → new ≡ bytes_in c v offset (done + len)
-bytes_in-more c v offset done len old new before now =
-    now ∙ (ap (λ (xs : List ℕ). xs ++ bytes_in c v (offset + done) len) before ∙ sym (bytes_in-append c v offset done len))
+-- ---- a read, page by page
 
-module _ (s : State) (name : VmoName) (offset len : ℕ) (target : Target) (named : s.names name.0 ≡ Some target) (few : len ≤ PAGE) where
+-- nothing is read before the first page
+pub read_start : (c : Content) (v offset len first : ℕ) → first ≡ offset / PAGE → bytes_in c v offset (min (PAGE * first - offset) len) ≡ []
+read_start c v offset len first e = let none : min (PAGE * first - offset) len ≡ 0 = omega (arith, e) in ap (bytes_in c v offset) none ∙ bytes_in-nil c v offset
+
+-- all is read behind the last
+pub read_end : (c : Content) (v offset len end : ℕ) → len ≤ PAGE * end - offset → bytes_in c v offset (min (PAGE * end - offset) len) ≡ bytes_in c v offset len
+read_end c v offset len end h = let all : min (PAGE * end - offset) len ≡ len = omega arith in ap (bytes_in c v offset) all
+
+-- The part of the range that falls into page p
+module _ (c : Content) (v offset len p at from count : ℕ) (last : p * PAGE < offset + len) (start : from ≡ PAGE * p - offset) (stop : from + count ≡ min (PAGE * (p + 1) - offset) len)
+    (bytes : List ℕ) (before : bytes ≡ bytes_in c v offset (min (PAGE * p - offset) len)) where
+  done : min (PAGE * p - offset) len ≡ from
+  done = omega (arith, start)
+
+  -- it has its place behind what was read
+  pub read_fits : length bytes + count ≤ len
+  read_fits = omega (arith, ap length before, length-bytes_in c v offset (min (PAGE * p - offset) len), done, stop)
+
+  -- what the page shows there is added
+  pub read_step : (out new : List ℕ) → IsGood c → at ≡ part_at offset p → at + count ≤ PAGE → offset / PAGE ≤ p → out ≡ take count (drop at (shown c v p)) → new ≡ bytes ++ out
+      → new ≡ bytes_in c v offset (min (PAGE * (p + 1) - offset) len)
+  read_step out new good place fits low shows added =
+      added
+      ∙ ((λ i. (before ∙ ap (bytes_in c v offset) done) i ++ shows i)
+      ∙ (sym (bytes_in-part offset len p from count start stop c v at good place fits low last) ∙ ap (bytes_in c v offset) stop))
+
+-- ---- the steps
+
+module _ (s : State) (name : VmoName) (offset len : ℕ) (target : Target) (named : s.names name.0 ≡ Some target) (few : len ≤ DATA_BYTES) where
   read_rows : first_of (refusals s (VmoRead name offset len)) ≡ first_of ((nat_lt (size_of s name.0) (offset + len), OutOfRange) ∷ [])
   read_rows =
       let range_row = (nat_lt (size_of s name.0) (offset + len), OutOfRange) ∷ [] in
-      first_of-skip (not (is_open s name.0)) BadHandle ((nat_lt PAGE len, InvalidArgs) ∷ range_row) (open_at s name.0 target named)
-      ∙ first_of-skip (nat_lt PAGE len) InvalidArgs range_row (test_not_less PAGE len few)
+      first_of-skip (not (is_open s name.0)) BadHandle ((nat_lt DATA_BYTES len, InvalidArgs) ∷ range_row) (open_at s name.0 target named)
+      ∙ first_of-skip (nat_lt DATA_BYTES len) InvalidArgs range_row (test_not_less DATA_BYTES len few)
 
   -- a range that passes the end
   pub read_past : name_pages s.content target * PAGE < offset + len → Step s (VmoRead name offset len) (Refused OutOfRange) s

@@ -1,6 +1,5 @@
 -- Laws of writing a page.
-use Rattle.std.proofs.Common.{◌≡◌, ℕ, ◌+◌, ◌-◌, ◌*◌, ◌/◌, ◌<◌, ◌≤◌, min, List, length, map, refl, sym, subst, ◌∙◌, arith}
-use Rattle.std.specs.Prelude.{slice_range}
+use Rattle.std.proofs.Common.{◌≡◌, ℕ, ◌/◌, ◌<◌, ◌≤◌, List, length, map, refl, sym, subst, ◌∙◌}
 use Rattle.vm_base.specs.declared.limits.TheConstants.{PAGE}
 use Rattle.vm_model.specs.Contents.Content.{Page, Content, shown, pages_of, hold, IsGood}
 use Rattle.vm_model.specs.Contents.Owning.{Owns}
@@ -8,7 +7,7 @@ use Rattle.vm_model.specs.Contents.Writing.{touched, Piece, piece, part_at, part
 use Rattle.vm_base.specs.Pages.{replaced}
 use Rattle.vm_model.proofs.ContentLaws.{sole_alone, bytes_of-some}
 use Rattle.vm_model.proofs.OwningLaws.{Owned}
-use Rattle.vm_model.proofs.RangeLaws.{part_fits, slice_range-min}
+use Rattle.vm_model.proofs.RangeLaws.{part_fits}
 use Rattle.vm_model.proofs.WritingLaws.{Written, Written-from_WritesPiece}
 use Rattle.page_store.specs.Pages.{IsShownOnce, Overwrites}
 use Rattle.vmo_ops.proofs.RowLaws.{Run}
@@ -41,20 +40,10 @@ WritesPiece-from_parts old mid new v p tag at bytes owned owns overwrites =
     }
 
 -- the piece of a write that falls into page p is written, by its place in the page and its bytes
-pub WritesPiece-same : (old new : Content) (v offset p at : ℕ) (bytes part : List ℕ) → at ≡ offset - p * 4096 → part ≡ slice_range bytes (PAGE * p - offset) (PAGE * (p + 1) - offset)
+pub WritesPiece-same : (old new : Content) (v offset p at : ℕ) (bytes part : List ℕ) → at ≡ part_at offset p → part ≡ part_bytes offset bytes p
     → WritesPiece old (record { koid = v; page = p; at = at; bytes = part }) new → WritesPiece old (piece v offset bytes p) new
-unfolding part_at part_bytes
 WritesPiece-same old new v offset p at bytes part place same writes =
-    let spot : at ≡ offset - PAGE * p = omega arith in
-    subst (λ (q : Piece). WritesPiece old q new) (λ i. record { koid = v; page = p; at = spot i; bytes = same i }) writes
-
--- the part of the bytes that the code takes is the piece's
-pub piece_part : (offset p from until : ℕ) (bytes : List ℕ) → from ≡ p * 4096 - offset → until ≡ min (p * 4096 + 4096 - offset) (length bytes)
-    → slice_range bytes from until ≡ slice_range bytes (PAGE * p - offset) (PAGE * (p + 1) - offset)
-piece_part offset p from until bytes e f =
-    let start : from ≡ PAGE * p - offset = omega arith in
-    let stop : until ≡ min (PAGE * (p + 1) - offset) (length bytes) = omega arith in
-    (λ i. slice_range bytes (start i) (stop i)) ∙ sym (slice_range-min bytes (PAGE * p - offset) (PAGE * (p + 1) - offset))
+    subst (λ (q : Piece). WritesPiece old q new) (λ i. record { koid = v; page = p; at = place i; bytes = same i }) writes
 
 -- a write at this offset, from a content over pages of v to another
 abbrev pub writing : ℕ → ℕ → List ℕ → Run

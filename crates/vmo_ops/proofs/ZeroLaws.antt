@@ -1,8 +1,8 @@
 -- Laws of zeroing a range by its held pages, from one to the next: what it takes, and what it leads to.
-use Rattle.std.proofs.Common.{◌≡◌, ◌≢◌, ℕ, zero, suc, ◌+◌, ◌-◌, ◌*◌, ◌/◌, ◌<◌, ◌≤◌, Bool, true, false, not, cond, ◌&&◌, List, [], ◌∷◌, length, Option, None, ◌⊎◌, inl, inr, refl, sym, ap, subst, ◌∙◌, arith}
+use Rattle.std.proofs.Common.{◌≡◌, ◌≢◌, ℕ, zero, suc, ◌+◌, ◌-◌, ◌*◌, ◌/◌, ◌<◌, ◌≤◌, Bool, true, false, not, cond, ◌&&◌, List, [], ◌∷◌, length, replicate, Option, None, ◌⊎◌, inl, inr, refl, sym, ap, subst, ◌∙◌, arith}
 use Rattle.std.specs.Prelude.{IsSome, is_some}
 use Rattle.std.specs.List.{range_with_len, list_any, filter}
-use Rattle.std.proofs.lemmas.Bool.{cases_Bool, and_from, and_left, or_left, or_right, not_from_false}
+use Rattle.std.proofs.lemmas.Bool.{cases_Bool, both_ways, and_from, and_left, or_left, or_right, not_from_false}
 use Rattle.vm_base.specs.declared.limits.TheConstants.{PAGE}
 use Rattle.vm_base.specs.declared.refusal.Refusal.{Refusal}
 use Rattle.vm_base.specs.declared.refusal.Refusal.TheVariants.{NoMemory, HostMemory}
@@ -10,24 +10,25 @@ use Rattle.vm_model.specs.declared.command.Command.TheVariants.{VmoZero}
 use Rattle.vm_model.specs.declared.reply.Reply.TheVariants.{Done, Refused}
 use Rattle.vm_model.specs.Contents.Content.{Content, is_held, pages_of, used, sole, IsGood}
 use Rattle.vm_model.specs.Contents.Owning.{need}
-use Rattle.vm_model.specs.Contents.Writing.{touched}
-use Rattle.vm_model.specs.Contents.Zeroing.{is_whole, is_cleared, ZeroesPage, Zeroes, owned_by_zero}
+use Rattle.vm_model.specs.Contents.Writing.{touched, piece, WritesPiece}
+use Rattle.vm_model.specs.Contents.Zeroing.{is_cleared, ZeroesPage, Zeroes, owned_by_zero}
 use Rattle.vm_model.specs.declared.names.Target.{Target}
 use Rattle.vm_model.specs.Naming.Pins.{Pin, is_pinned, any_pinned}
 use Rattle.vm_model.specs.Machine.State.{State, target_of, koid_of, place_of}
 use Rattle.vm_model.specs.Machine.Refusals.{change_refusals, first_of}
-use Rattle.vm_base.proofs.EntryLaws.{some_is}
 use Rattle.vm_model.proofs.NamesLaws.{target_of-at}
-use Rattle.vm_base.proofs.SearchLaws.{bit_le, bit-true}
+use Rattle.vm_base.proofs.SearchLaws.{bit-true}
 use Rattle.vm_model.proofs.ContentLaws.{IsOfHeld, IsOfHeld-held}
-use Rattle.vm_model.proofs.OwningLaws.{count_from, count_from-same, count_from-next, count_from-none}
+use Rattle.vm_model.proofs.OwningLaws.{count_from, count_from-same}
+use Rattle.vm_model.proofs.WritingLaws.{IsKept-same}
 use Rattle.vm_model.proofs.PinLaws.{any_pinned_at, none_pinned}
 use Rattle.vm_model.proofs.ZeroesLaws.{ZeroedPage, ZeroedPage-from_ZeroesPage, ZeroesPage-none, Zeroes-none, need-zero}
 use Rattle.vmo_ops.specs.declared.zeroing.ZeroCost.{ZeroCost}
 use Rattle.vmo_ops.specs.Costs.{held_touched}
 use Rattle.vmo_ops.specs.Targets.{IsPlaced, DoesWith}
 use Rattle.vmo_ops.specs.Changes.{IsRefusedBy}
-use Rattle.vmo_ops.proofs.NeedLaws.{count_from-gap}
+use Rattle.vmo_ops.proofs.CountLaws.{IsNextHeld, held_below, count_from-held, AreCounted, AreCounted-start, AreCounted_le, AreCounted-step, AreCounted-end}
+use Rattle.vmo_ops.proofs.RowLaws.{Run, Takes, IsUnderWay, IsUnderWay-start, IsUnderWay-frame, IsUnderWay-step, IsUnderWay-gap}
 use Rattle.vmo_ops.proofs.ChangeLaws.{RefusesChange-named, IsAllowed-free, IsRefusedBy-no_memory, IsRefusedBy-lacks, Step-change_refused, Step-change_done}
 
 -- ---- a page that is cleared
@@ -39,43 +40,27 @@ any_pinned-one pins v p = elim (cases_Bool (is_pinned pins v p)) [
   | inr miss ↦ none_pinned pins v p (p + 1) (λ q low high. let same : q ≡ p = omega arith in ap (is_pinned pins v) same ∙ miss) ∙ sym miss
 ]
 
--- a page that lies wholly in a range is cleared where no pin is found for it
-pub is_cleared-whole : (pins : ℕ → Option Pin) (v offset len p : ℕ) (whole pinned : Bool) → whole ≡ true → whole ≡ is_whole offset len p → pinned ≡ any_pinned pins v p (p + 1)
-    → not pinned ≡ is_cleared (is_pinned pins v) offset len p
-is_cleared-whole pins v offset len p whole pinned lies e f = λ i. (sym lies ∙ e) i && not ((f ∙ any_pinned-one pins v p) i)
-
--- ---- from one held page to the next
-
--- this is the first page of v from `from` on that is held, and it lies before `end`
-abbrev pub IsNextHeld : Content → ℕ → ℕ → ℕ → ℕ → Type 0
-IsNextHeld c v from end page = (from ≤ page) × (page < end) × IsSome (c.page v page) × ((p : ℕ) → from ≤ p → p < page → c.page v p ≡ None)
-
--- a held page lies below the count
-pub held_below : (c : Content) (v p : ℕ) → IsGood c → IsSome (c.page v p) → p < pages_of c v
-held_below c v p good some = let held = some_is (c.page v p) some in good.below v p held.0 held.1
-
-module _ (c : Content) (v : ℕ) (test : ℕ → Bool) (of : IsOfHeld c v test) where
-  -- of a test that zero pages fail, the next held page counts first
-  pub count_from-held : (from end page : ℕ) → IsNextHeld c v from end page → count_from test from (end - from) ≡ cond (test page) 1 0 + count_from test (page + 1) (end - (page + 1))
-  count_from-held from end page next =
-      count_from-gap test from page end next.0 (omega (arith, next.1)) (λ p low less. of.zero_fails p (next.3 p low less)) ∙ count_from-next test page end next.1
-
-  -- and none counts where no page is held
-  pub count_from-zero : (from end : ℕ) → ((p : ℕ) → from ≤ p → p < end → c.page v p ≡ None) → count_from test from (end - from) ≡ 0
-  count_from-zero from end none = count_from-none test from (end - from) (λ p low less. of.zero_fails p (none p low (omega arith)))
+-- a held page that is cut or pinned is zeroed by a write
+pub ZeroesPage-part : (old new : Content) (v : ℕ) (pinned : ℕ → Bool) (offset len p : ℕ) → is_cleared pinned offset len p ≡ false → IsSome (old.page v p) → WritesPiece old (piece v offset (replicate len 0) p) new
+    → ZeroesPage old v pinned offset len p new
+ZeroesPage-part old new v pinned offset len p cut some writes = record {
+  cleared = λ yes_cleared. absurd (both_ways _ cut yes_cleared);
+  held = λ yes_cut yes_held. writes;
+  zero = λ yes_cut free. absurd (both_ways _ free some);
+}
 
 -- zeroing the range takes a frame for the page
-abbrev pub takes_frame : Content → ℕ → (ℕ → Bool) → ℕ → ℕ → ℕ → Bool
-takes_frame c v pinned offset len p = (is_held c v p && not (is_cleared pinned offset len p)) && not (sole c v p)
+abbrev pub takes_frame : ℕ → (ℕ → Bool) → ℕ → ℕ → Takes
+takes_frame v pinned offset len c p = (is_held c v p && not (is_cleared pinned offset len p)) && not (sole c v p)
 
-pub IsOfHeld-takes : (c : Content) (v : ℕ) (pinned : ℕ → Bool) (offset len : ℕ) → IsOfHeld c v (takes_frame c v pinned offset len)
+pub IsOfHeld-takes : (c : Content) (v : ℕ) (pinned : ℕ → Bool) (offset len : ℕ) → IsOfHeld c v (takes_frame v pinned offset len c)
 IsOfHeld-takes c v pinned offset len = record {
   zero_fails = λ p none. and_left (is_held c v p && not (is_cleared pinned offset len p)) (not (sole c v p))
       (and_left (is_held c v p) (not (is_cleared pinned offset len p)) ((IsOfHeld-held c v).zero_fails p none));
 }
 
 -- for a held page, the first part of the test is passed
-takes_frame-held : (c : Content) (v : ℕ) (pinned : ℕ → Bool) (offset len p : ℕ) → IsSome (c.page v p) → takes_frame c v pinned offset len p ≡ not (is_cleared pinned offset len p) && not (sole c v p)
+takes_frame-held : (c : Content) (v : ℕ) (pinned : ℕ → Bool) (offset len p : ℕ) → IsSome (c.page v p) → takes_frame v pinned offset len c p ≡ (not (is_cleared pinned offset len p) && not (sole c v p))
 takes_frame-held c v pinned offset len p some = ap (λ (b : Bool). (b && not (is_cleared pinned offset len p)) && not (sole c v p)) some
 
 -- ---- counting what it takes
@@ -93,42 +78,40 @@ length-passing test first (suc n) = one (test first) (filter test (range_with_le
 pub held_touched-count : (c : Content) (v offset len first end : ℕ) → touched offset len ≡ range_with_len first (end - first) → held_touched c v offset len ≡ count_from (is_held c v) first (end - first)
 held_touched-count c v offset len first end row = ap (λ (ps : List ℕ). length (filter (is_held c v) ps)) row ∙ length-passing (is_held c v) first (end - first)
 
--- what was counted, and what is left to count from a page on, make all that the range takes
-pub record IsCounting (c : Content) (v : ℕ) (pinned : ℕ → Bool) (offset len from end : ℕ) (cost : ZeroCost) : Type 0 where
-  pub bound : from ≤ end
-  pub few : (cost.held ≤ from) × (cost.owned ≤ from)
-  pub held : cost.held + count_from (is_held c v) from (end - from) ≡ held_touched c v offset len
-  pub owned : cost.owned + count_from (takes_frame c v pinned offset len) from (end - from) ≡ need c v (owned_by_zero c v pinned offset len)
+-- what was counted, of the pages from `first` to below `end`
+pub record IsCounting (c : Content) (v : ℕ) (pinned : ℕ → Bool) (offset len first from end : ℕ) (cost : ZeroCost) : Type 0 where
+  pub held : AreCounted c v (is_held c v) (IsOfHeld-held c v) first from end cost.held
+  pub owned : AreCounted c v (takes_frame v pinned offset len c) (IsOfHeld-takes c v pinned offset len) first from end cost.owned
 
-module _ (c : Content) (v : ℕ) (pinned : ℕ → Bool) (offset len : ℕ) where
+module _ (c : Content) (v : ℕ) (pinned : ℕ → Bool) (offset len first : ℕ) where
   -- nothing is counted yet
-  pub IsCounting-start : (first end : ℕ) (cost : ZeroCost) → first ≤ end → touched offset len ≡ range_with_len first (end - first) → cost.held ≡ 0 → cost.owned ≡ 0 → IsCounting c v pinned offset len first end cost
-  IsCounting-start first end cost order row h o = record {
-    bound = order;
-    few = (omega arith, omega arith);
-    held = omega (arith, held_touched-count c v offset len first end row);
-    owned = omega (arith, need-zero c v pinned offset len first end row);
-  }
+  pub IsCounting-start : (end : ℕ) → first ≤ end → IsCounting c v pinned offset len first first end (record { held = 0; owned = 0 })
+  IsCounting-start end order = record { held = AreCounted-start c v _ (IsOfHeld-held c v) first end order; owned = AreCounted-start c v _ (IsOfHeld-takes c v pinned offset len) first end order }
+
+  -- no more is counted than there are pages
+  pub IsCounting_le : (from end : ℕ) (cost : ZeroCost) → IsCounting c v pinned offset len first from end cost → (cost.held ≤ from) × (cost.owned ≤ from)
+  IsCounting_le from end cost counting = (
+    omega (arith, AreCounted_le c v _ (IsOfHeld-held c v) first from end cost.held counting.held),
+    omega (arith, AreCounted_le c v _ (IsOfHeld-takes c v pinned offset len) first from end cost.owned counting.owned),
+  )
 
   -- a held page is counted
-  pub IsCounting-step : (from end page : ℕ) (old new : ZeroCost) (takes : Bool) → IsCounting c v pinned offset len from end old → IsNextHeld c v from end page
-      → takes ≡ (not (is_cleared pinned offset len page) && not (sole c v page)) → new.held ≡ old.held + 1 → new.owned ≡ old.owned + cond takes 1 0 → IsCounting c v pinned offset len (page + 1) end new
+  pub IsCounting-step : (from end page : ℕ) (old new : ZeroCost) (takes : Bool) → IsCounting c v pinned offset len first from end old → IsNextHeld c v from end page
+      → takes ≡ (not (is_cleared pinned offset len page) && not (sole c v page)) → new.held ≡ old.held + 1 → new.owned ≡ old.owned + cond takes 1 0 → IsCounting c v pinned offset len first (page + 1) end new
   IsCounting-step from end page old new takes counting next is h o =
-      let bit : ◌≡◌ {A = ℕ} (cond takes 1 0) (cond (takes_frame c v pinned offset len page) 1 0) =
+      let bit : ◌≡◌ {A = ℕ} (cond takes 1 0) (cond (takes_frame v pinned offset len c page) 1 0) =
       ap (λ (b : Bool). cond b 1 0) (is ∙ sym (takes_frame-held c v pinned offset len page next.2)) in
       record {
-        bound = omega (arith, next.1);
-        few = (omega (arith, counting.few.0, next.0), omega (arith, counting.few.1, next.0, bit, bit_le (takes_frame c v pinned offset len page)));
-        held = omega (arith, counting.held, count_from-held c v (is_held c v) (IsOfHeld-held c v) from end page next, bit-true (is_held c v page) next.2);
-        owned = omega (arith, counting.owned, count_from-held c v (takes_frame c v pinned offset len) (IsOfHeld-takes c v pinned offset len) from end page next, bit);
+        held = AreCounted-step c v _ (IsOfHeld-held c v) first from end old.held counting.held page new.held next (omega (arith, h, bit-true (is_held c v page) next.2));
+        owned = AreCounted-step c v _ (IsOfHeld-takes c v pinned offset len) first from end old.owned counting.owned page new.owned next (omega (arith, o, bit));
       }
 
   -- all is counted
-  pub IsCounting-end : (from end : ℕ) (cost : ZeroCost) → IsCounting c v pinned offset len from end cost → ((p : ℕ) → from ≤ p → p < end → c.page v p ≡ None)
+  pub IsCounting-end : (from end : ℕ) (cost : ZeroCost) → touched offset len ≡ range_with_len first (end - first) → IsCounting c v pinned offset len first from end cost → ((p : ℕ) → from ≤ p → p < end → c.page v p ≡ None)
       → (cost.held ≡ held_touched c v offset len) × (cost.owned ≡ need c v (owned_by_zero c v pinned offset len))
-  IsCounting-end from end cost counting none = (
-    omega (arith, counting.held, count_from-zero c v (is_held c v) (IsOfHeld-held c v) from end none),
-    omega (arith, counting.owned, count_from-zero c v (takes_frame c v pinned offset len) (IsOfHeld-takes c v pinned offset len) from end none),
+  IsCounting-end from end cost row counting none = (
+    AreCounted-end c v _ (IsOfHeld-held c v) first from end cost.held counting.held none ∙ sym (held_touched-count c v offset len first end row),
+    AreCounted-end c v _ (IsOfHeld-takes c v pinned offset len) first from end cost.owned counting.owned none ∙ sym (need-zero c v pinned offset len first end row),
   )
 
 -- a page in the list passes where some are counted
@@ -148,92 +131,91 @@ held_touched-any c v offset len h = filter_any (is_held c v) (touched offset len
 
 -- ---- zeroing page by page
 
--- what zeroing the pages from `from` to below `end` takes is there
-pub record IsReadyToZero (now : Content) (v : ℕ) (pinned : ℕ → Bool) (offset len from end spare : ℕ) : Type 0 where
-  pub good : IsGood now
+-- zeroing what of a range falls into pages of v, from one content to another
+abbrev pub zeroing : ℕ → (ℕ → Bool) → ℕ → ℕ → Run
+zeroing v pinned offset len c ps new = Zeroes c v pinned offset len ps new
+
+-- The pages of v before `from` are zeroed, and those from there to below `end` are left. The frames and the rows that these take are
+-- there.
+pub record IsZeroing (v : ℕ) (pinned : ℕ → Bool) (offset len : ℕ) (old now : Content) (from end spare : ℕ) : Type 0 where
+  pub way : IsUnderWay (zeroing v pinned offset len) (takes_frame v pinned offset len) v old (touched offset len) now from end
   pub vmo : IsSome (now.count v)
-  pub bound : from ≤ end
   pub start : offset / PAGE ≤ from
   pub inside : offset + len ≤ pages_of now v * PAGE
-  pub room : count_from (is_held now v) from (end - from) ≤ spare
-  pub free : used now + count_from (takes_frame now v pinned offset len) from (end - from) ≤ now.frames
+  pub rows : count_from (is_held now v) from (end - from) ≤ spare
 
-module _ (v : ℕ) (pinned : ℕ → Bool) (offset len from end spare page : ℕ) (now : Content) (ready : IsReadyToZero now v pinned offset len from end spare) (next : IsNextHeld now v from end page) where
-  -- there is room for the next held page
-  pub IsReadyToZero-room : 1 ≤ spare
-  IsReadyToZero-room = omega (arith, ready.room, count_from-held now v (is_held now v) (IsOfHeld-held now v) from end page next, bit-true (is_held now v page) next.2)
+module _ (v : ℕ) (pinned : ℕ → Bool) (offset len : ℕ) (old : Content) where
+  -- no page is zeroed yet
+  pub IsZeroing-start : (first end spare : ℕ) → IsGood old → IsSome (old.count v) → offset + len ≤ pages_of old v * PAGE → first ≡ offset / PAGE → first ≤ end → end * PAGE < offset + len + PAGE
+      → touched offset len ≡ range_with_len first (end - first) → held_touched old v offset len ≤ spare → used old + need old v (owned_by_zero old v pinned offset len) ≤ old.frames
+      → IsZeroing v pinned offset len old old first end spare
+  IsZeroing-start first end spare good vmo inside from order last row rows free = record {
+    way = IsUnderWay-start (zeroing v pinned offset len) (takes_frame v pinned offset len) v old (touched offset len) first end good (omega arith) order
+        (omega (arith, free, need-zero old v pinned offset len first end row)) row;
+    vmo = vmo;
+    start = omega arith;
+    inside = inside;
+    rows = omega (arith, rows, held_touched-count old v offset len first end row);
+  }
 
-  -- and a frame, where it takes one
-  pub IsReadyToZero-free : (is_cleared pinned offset len page ≡ true) ⊎ ((sole now v page ≡ true) ⊎ (used now < now.frames))
-  IsReadyToZero-free = elim (cases_Bool (is_cleared pinned offset len page)) [
-    | inl whole ↦ inl whole
-    | inr part ↦ elim (cases_Bool (sole now v page)) [
-      | inl alone ↦ inr (inl alone)
-      | inr shared ↦
-          let takes : takes_frame now v pinned offset len page ≡ true =
-          and_from (is_held now v page && not (is_cleared pinned offset len page)) (not (sole now v page))
-          (and_from (is_held now v page) (not (is_cleared pinned offset len page)) next.2 (not_from_false _ part)) (not_from_false _ shared) in
-          inr (inr (omega (arith, ready.free, count_from-held now v (takes_frame now v pinned offset len) (IsOfHeld-takes now v pinned offset len) from end page next, bit-true (takes_frame now v pinned offset len page) takes)))
-    ]
-  ]
+  module _ (now : Content) (from end spare : ℕ) (way : IsZeroing v pinned offset len old now from end spare) where
+    -- no page that is left is held
+    pub IsZeroing-end : ((p : ℕ) → from ≤ p → p < end → now.page v p ≡ None) → Zeroes old v pinned offset len (touched offset len) now
+    IsZeroing-end none = way.way.onward now (Zeroes-none now v pinned offset len from (end - from) (λ p low less. none p low (omega arith)))
 
-  -- what the pages behind it take is there afterwards
-  pub IsReadyToZero-step : (mid : Content) (left : ℕ) → ZeroesPage now v pinned offset len page mid → spare ≤ left + 1 → IsReadyToZero mid v pinned offset len (page + 1) end left
-  IsReadyToZero-step mid left zeroes cost =
-      let zeroed : ZeroedPage now v pinned offset len page mid =
-      ZeroedPage-from_ZeroesPage now v pinned offset len page mid ready.good (held_below now v page ready.good next.2) (omega (arith, ready.start, next.0)) zeroes in
-      let held : (q : ℕ) → page + 1 ≤ q → is_held mid v q ≡ is_held now v q = λ q low. let apart : q ≢ page = omega arith in ap is_some (zeroed.other_page q apart) in
-      let alone : (q : ℕ) → page + 1 ≤ q → sole mid v q ≡ sole now v q = λ q low. let apart : q ≢ page = omega arith in zeroed.other_sole q apart in
-      let same_held : count_from (is_held mid v) (page + 1) (end - (page + 1)) ≡ count_from (is_held now v) (page + 1) (end - (page + 1)) =
-      count_from-same (is_held mid v) (is_held now v) (page + 1) (end - (page + 1)) (λ q low less. held q low) in
-      let same_takes : count_from (takes_frame mid v pinned offset len) (page + 1) (end - (page + 1)) ≡ count_from (takes_frame now v pinned offset len) (page + 1) (end - (page + 1)) =
-      count_from-same (takes_frame mid v pinned offset len) (takes_frame now v pinned offset len) (page + 1) (end - (page + 1))
-      (λ q low less. λ i. (held q low i && not (is_cleared pinned offset len q)) && not (alone q low i)) in
-      record {
-        good = zeroed.kept.good;
-        vmo = subst (λ (f : ℕ → Option ℕ). IsSome (f v)) (sym zeroed.kept.count) ready.vmo;
-        bound = omega (arith, next.1);
-        start = omega (arith, ready.start, next.0);
-        inside = omega (arith, ready.inside, zeroed.kept.pages v);
-        room = omega (arith, ready.room, cost, same_held, count_from-held now v (is_held now v) (IsOfHeld-held now v) from end page next, bit-true (is_held now v page) next.2);
-        free = omega (arith, ready.free, zeroed.used, zeroed.kept.frames, same_takes, count_from-held now v (takes_frame now v pinned offset len) (IsOfHeld-takes now v pinned offset len) from end page next);
-      }
+    -- the next page that is held
+    module _ (page : ℕ) (next : IsNextHeld now v from end page) where
+      -- there is a row for it
+      pub IsZeroing-row : 1 ≤ spare
+      IsZeroing-row = omega (arith, way.rows, count_from-held now v (is_held now v) (IsOfHeld-held now v) from end page next, bit-true (is_held now v page) next.2)
 
--- over pages that are not held, and then the others
-pub Zeroes-gap : (now last : Content) (v : ℕ) (pinned : ℕ → Bool) (offset len from n m : ℕ) → ((p : ℕ) → from ≤ p → p < from + n → now.page v p ≡ None)
-    → Zeroes now v pinned offset len (range_with_len (from + n) m) last → Zeroes now v pinned offset len (range_with_len from (n + m)) last
-Zeroes-gap now last v pinned offset len from zero m none zeroes =
-    let e : from + zero ≡ from = omega arith in
-    let f : m ≡ zero + m = omega arith in
-    subst (λ (k : ℕ). Zeroes now v pinned offset len (range_with_len from k) last) f (subst (λ (a : ℕ). Zeroes now v pinned offset len (range_with_len a m) last) e zeroes)
-Zeroes-gap now last v pinned offset len from (suc n) m none zeroes =
-    let e : from + suc n ≡ (from + 1) + n = omega arith in
-    let f : suc (n + m) ≡ suc n + m = omega arith in
-    let rest = Zeroes-gap now last v pinned offset len (from + 1) n m (λ p low less. none p (omega arith) (omega arith))
-    (subst (λ (a : ℕ). Zeroes now v pinned offset len (range_with_len a m) last) e zeroes) in
-    subst (λ (k : ℕ). Zeroes now v pinned offset len (range_with_len from k) last) f (now, ZeroesPage-none now v pinned offset len from (none from (omega arith) (omega arith)), rest)
+      -- the pages before it are passed over
+      passed : IsUnderWay (zeroing v pinned offset len) (takes_frame v pinned offset len) v old (touched offset len) now page end
+      passed =
+          let n : from + (page - from) ≡ page = omega (arith, next.0) in
+          subst (λ (p : ℕ). IsUnderWay (zeroing v pinned offset len) (takes_frame v pinned offset len) v old (touched offset len) now p end) n
+          (IsUnderWay-gap (zeroing v pinned offset len) (takes_frame v pinned offset len) v old (touched offset len) now from end (page - from) way.way (omega (arith, next.1))
+          (λ p low less. record {
+            kept = IsKept-same now now way.way.good refl;
+            others = λ q apart. refl;
+            used = omega arith;
+            onward = λ ps last rest. (now, ZeroesPage-none now v pinned offset len p (next.3 p low (omega (arith, next.0))), rest);
+          }))
 
--- whatever the rest of the pages leads to, zeroing the range from the start leads to
-abbrev pub ReachesZeros : Content → Content → ℕ → (ℕ → Bool) → ℕ → ℕ → ℕ → ℕ → Type 0
-ReachesZeros old now v pinned offset len from end = (last : Content) → Zeroes now v pinned offset len (range_with_len from (end - from)) last → Zeroes old v pinned offset len (touched offset len) last
+      -- and a frame, where it takes one
+      pub IsZeroing-frame : (is_cleared pinned offset len page ≡ true) ⊎ ((sole now v page ≡ true) ⊎ (used now < now.frames))
+      IsZeroing-frame = elim (cases_Bool (is_cleared pinned offset len page)) [
+        | inl whole ↦ inl whole
+        | inr part ↦ elim (cases_Bool (sole now v page)) [
+          | inl alone ↦ inr (inl alone)
+          | inr shared ↦
+              let takes : takes_frame v pinned offset len now page ≡ true =
+              and_from (is_held now v page && not (is_cleared pinned offset len page)) (not (sole now v page))
+              (and_from (is_held now v page) (not (is_cleared pinned offset len page)) next.2 (not_from_false _ part)) (not_from_false _ shared) in
+              inr (inr (IsUnderWay-frame (zeroing v pinned offset len) (takes_frame v pinned offset len) v old (touched offset len) now page end passed next.1 takes))
+        ]
+      ]
 
-pub ReachesZeros-start : (c : Content) (v : ℕ) (pinned : ℕ → Bool) (offset len first end : ℕ) → touched offset len ≡ range_with_len first (end - first) → ReachesZeros c c v pinned offset len first end
-ReachesZeros-start c v pinned offset len first end row = λ last zeroes. subst (λ (ps : List ℕ). Zeroes c v pinned offset len ps last) (sym row) zeroes
-
-pub ReachesZeros-step : (old now mid : Content) (v : ℕ) (pinned : ℕ → Bool) (offset len from end page : ℕ) → ReachesZeros old now v pinned offset len from end → IsNextHeld now v from end page
-    → ZeroesPage now v pinned offset len page mid → ReachesZeros old mid v pinned offset len (page + 1) end
-ReachesZeros-step old now mid v pinned offset len from end page reaches next zeroes = λ last rest.
-    let e : suc (end - (page + 1)) ≡ end - page = omega (arith, next.1) in
-    let f : page ≡ from + (page - from) = omega (arith, next.0) in
-    let g : (page - from) + (end - page) ≡ end - from = omega (arith, next.0, next.1) in
-    let here : Zeroes now v pinned offset len (range_with_len page (end - page)) last =
-    subst (λ (n : ℕ). Zeroes now v pinned offset len (range_with_len page n) last) e (mid, zeroes, rest) in
-    let all = Zeroes-gap now last v pinned offset len from (page - from) (end - page) (λ p low less. next.3 p low (omega (arith, next.0)))
-    (subst (λ (a : ℕ). Zeroes now v pinned offset len (range_with_len a (end - page)) last) f here) in
-    reaches last (subst (λ (n : ℕ). Zeroes now v pinned offset len (range_with_len from n) last) g all)
-
-pub ReachesZeros-end : (old now : Content) (v : ℕ) (pinned : ℕ → Bool) (offset len from end : ℕ) → ReachesZeros old now v pinned offset len from end → ((p : ℕ) → from ≤ p → p < end → now.page v p ≡ None) → Zeroes old v pinned offset len (touched offset len) now
-ReachesZeros-end old now v pinned offset len from end reaches none = reaches now (Zeroes-none now v pinned offset len from (end - from) (λ p low less. none p low (omega arith)))
+      -- it is zeroed
+      pub IsZeroing-step : (mid : Content) (left : ℕ) → ZeroesPage now v pinned offset len page mid → spare ≤ left + 1 → IsZeroing v pinned offset len old mid (page + 1) end left
+      IsZeroing-step mid left zeroes cost =
+          let zeroed : ZeroedPage now v pinned offset len page mid =
+          ZeroedPage-from_ZeroesPage now v pinned offset len page mid way.way.good (held_below now v page way.way.good next.2) (omega (arith, way.start, next.0)) zeroes in
+          let held : (q : ℕ) → q ≢ page → is_held mid v q ≡ is_held now v q = λ q apart. ap is_some (zeroed.other_page q apart) in
+          let rest : count_from (is_held mid v) (page + 1) (end - (page + 1)) ≡ count_from (is_held now v) (page + 1) (end - (page + 1)) =
+          count_from-same (is_held mid v) (is_held now v) (page + 1) (end - (page + 1)) (λ q low less. let apart : q ≢ page = omega arith in held q apart) in
+          record {
+            way = IsUnderWay-step (zeroing v pinned offset len) (takes_frame v pinned offset len) v old (touched offset len) now mid page end passed next.1 (record {
+              kept = zeroed.kept;
+              others = λ q apart. λ i. (held q apart i && not (is_cleared pinned offset len q)) && not (zeroed.other_sole q apart i);
+              used = zeroed.used;
+              onward = λ ps last w. (mid, zeroes, w);
+            });
+            vmo = subst (λ (f : ℕ → Option ℕ). IsSome (f v)) (sym zeroed.kept.count) way.vmo;
+            start = omega (arith, way.start, next.0);
+            inside = omega (arith, way.inside, zeroed.kept.pages v);
+            rows = omega (arith, way.rows, cost, rest, count_from-held now v (is_held now v) (IsOfHeld-held now v) from end page next, bit-true (is_held now v page) next.2);
+          }
 
 -- ---- the steps of zeroing a range of a target
 

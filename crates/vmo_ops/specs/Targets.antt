@@ -49,8 +49,8 @@ with_tables s c vmos pins = record (with_vmos s c vmos) { pins = pins_of pins }
 abbrev pub AreTogether : Content → Vmos → Pins → Type 0
 AreTogether c vmos pins = (s : State) × IsGoodState (with_tables s c vmos pins)
 
--- a state is good, and the table counts what keeps each VMO of it
-pub record IsCounted (vmos : Vmos) (s : State) : Type 0 where
+-- a state is good, and the table counts right what keeps each VMO of it
+pub record IsWellCounted (vmos : Vmos) (s : State) : Type 0 where
   pub good : IsGoodState s
   pub counted : CountsKeepers vmos s
 

@@ -15,7 +15,7 @@ ghost use Rattle.vmo_ops.specs.Targets.{reply_of};
 ghost use Rattle.page_store.specs.Names.{IsInside};
 
 use page_store::{PageStore, size_of_name};
-use vm_base::{PageNo, Refusal, VmoName, in_page, page_of, round_up};
+use vm_base::{PAGE, PageNo, Refusal, VmoName, in_page, page_of, round_up};
 use vmo_table::{NameKind, Target, VmoTable};
 
 /// Lets a name stand for a part of what `t` stands for: `bytes` bytes rounded up to whole pages, from
@@ -59,10 +59,10 @@ pub(crate) fn slice<P: PageStore>(
 fn pages_inside<P: PageStore>(store: &P, target: &Target, offset: u64, bytes: u64) -> Option<PageNo>
     requires good { IsGood (P.content store.now) }
     requires inside { IsInside (P.content store.now) target.now }
-    ensures some { IfSome result (λ pages. (offset % 4096 ≡ 0) × (pages ≡ rounded bytes / 4096)
-        × (offset + rounded bytes ≤ name_pages (P.content store.now) target.now * 4096)) }
-    ensures none { IfNone result ((offset % 4096 ≢ 0)
-        ⊎ (name_pages (P.content store.now) target.now * 4096 < offset + rounded bytes)) }
+    ensures some { IfSome result (λ pages. (offset % PAGE ≡ 0) × (pages ≡ rounded bytes / PAGE)
+        × (offset + rounded bytes ≤ name_pages (P.content store.now) target.now * PAGE)) }
+    ensures none { IfNone result ((offset % PAGE ≢ 0)
+        ⊎ (name_pages (P.content store.now) target.now * PAGE < offset + rounded bytes)) }
 {
     if in_page(offset) != 0 {
         return None;

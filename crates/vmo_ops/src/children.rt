@@ -1,7 +1,8 @@
 //! Making a child of a VMO (`zx_vmo_create_child`).
 
-ghost use Rattle.std.specs.Prelude.{◌≡◌, ◌<◌, ◌^◌, None, Some, IfOk};
+ghost use Rattle.std.specs.Prelude.{◌≡◌, ◌<◌, None, Some, IfOk};
 ghost use Rattle.vm_base.specs.declared.names.VmoName.{VmoName};
+ghost use Rattle.vm_base.specs.declared.limits.TheConstants.{KOIDS};
 ghost use Rattle.vm_model.specs.declared.command.Command.{Command};
 ghost use Rattle.vm_model.specs.declared.reply.Reply.{Reply};
 ghost use Rattle.vm_model.specs.Machine.State.{State};
@@ -45,7 +46,7 @@ pub fn create_child<P: PageStore>(
     requires parts { AreTogether (P.content store.old) vmos.old pins.now }
     requires named { IsNamed (names_of vmos.old) t.now }
     requires closed { names_of vmos.old name.0 ≡ None }
-    requires next { (P.content store.old).next < 2 ^ 63 }
+    requires next { (P.content store.old).next < KOIDS }
     ensures step { (s : State) (parent : VmoName) → names_of vmos.old parent.0 ≡ Some t.now →
         Step (with_tables s (P.content store.old) vmos.old pins.now)
         (Command.VmoChild name parent kind offset size resizable no_write)

@@ -7,7 +7,7 @@ ghost use Rattle.vm_model.specs.Contents.Sharing.{without};
 ghost use Rattle.vm_model.specs.Machine.State.{State};
 ghost use Rattle.vm_model.specs.Machine.Step.{Step};
 ghost use Rattle.vmo_table.specs.Table.{names_of, keepers_of, with_vmos};
-ghost use Rattle.vmo_ops.specs.Targets.{IsCounted};
+ghost use Rattle.vmo_ops.specs.Targets.{IsWellCounted};
 
 use page_store::PageStore;
 use vm_base::{Koid, VmoName};
@@ -16,9 +16,9 @@ use vmo_table::VmoTable;
 /// Closes a name that is open. A VMO that nothing keeps any more leaves with its pages, and its children
 /// get its parent. It never wants memory.
 pub fn close<P: PageStore>(store: &mut P, vmos: &mut VmoTable, name: VmoName)
-    requires parts { (s : State) × IsCounted vmos.old (with_vmos s (P.content store.old) vmos.old) }
+    requires parts { (s : State) × IsWellCounted vmos.old (with_vmos s (P.content store.old) vmos.old) }
     requires named { IsSome (names_of vmos.old name.0) }
-    ensures step { (s : State) → IsCounted vmos.old (with_vmos s (P.content store.old) vmos.old) →
+    ensures step { (s : State) → IsWellCounted vmos.old (with_vmos s (P.content store.old) vmos.old) →
         Step (with_vmos s (P.content store.old) vmos.old) (Command.VmoClose name) Reply.Done
         (with_vmos s (P.content store.new) vmos.new) }
     ensures keepers { keepers_of vmos.new ≡ keepers_of vmos.old }

@@ -6,14 +6,14 @@ ghost use Rattle.vm_model.specs.declared.reply.Reply.{Reply};
 ghost use Rattle.vm_model.specs.Contents.Content.{pages_of, used, IsGood};
 ghost use Rattle.vm_model.specs.Contents.Owning.{need, OwnsAll};
 ghost use Rattle.vm_model.specs.Contents.Writing.{touched};
-ghost use Rattle.vmo_ops.specs.Targets.{Does, reply_of};
 ghost use Rattle.page_store.specs.Names.{IsInside};
+ghost use Rattle.vmo_ops.specs.Costs.{HasRows};
+ghost use Rattle.vmo_ops.specs.Targets.{Does, reply_of};
 
-use crate::owning::own_for_write;
 use crate::ranges::touched_pages;
 use crate::ready::ready_to_own;
 use page_store::PageStore;
-use vm_base::{Koid, Refusal};
+use vm_base::{Koid, PAGE, Refusal};
 use vmo_table::Target;
 
 /// Gives each page that a range touches a frame of its own, with the bytes that it shows. The range is
@@ -37,14 +37,14 @@ pub fn commit<P: PageStore>(store: &mut P, t: &Target, offset: u64, len: u64) ->
 // Owns the pages that a range inside the VMO touches, where the room for it is there.
 fn own_pages<P: PageStore>(store: &mut P, v: Koid, offset: u64, len: u64)
     requires good { IsGood (P.content store.old) }
-    requires inside { offset + len ≤ pages_of (P.content store.old) v.0 * 4096 }
-    requires room { need (P.content store.old) v.0 (touched offset len) ≤ P.spare store.old }
+    requires inside { offset + len ≤ pages_of (P.content store.old) v.0 * PAGE }
+    requires room { HasRows (P.content store.old) v.0 (touched offset len) (P.spare store.old) }
     requires free { used (P.content store.old) + need (P.content store.old) v.0 (touched offset len)
         ≤ (P.content store.old).frames }
     ensures { OwnsAll (P.content store.old) v.0 (touched offset len) (P.content store.new) }
 {
     let (first, end) = touched_pages(offset, len);
     for page in first..end {
-        own_for_write(store, v, page);
+        store.own(v, page);
     }
 }

@@ -54,7 +54,7 @@ pub fn decommit<P: PageStore>(
         return Err(Refusal::BadState);
     }
     let cost = cost_to_zero(store, pins, t.koid, at, len);
-    let Ok(()) = reserve_rows(store, cost.held) else {
+    let Ok(()) = reserve_rows(store, cost.held, cost.held) else {
         return Err(Refusal::HostMemory);
     };
     zero_pages(store, pins, t.koid, at, len);

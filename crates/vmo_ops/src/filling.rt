@@ -1,19 +1,20 @@
 //! Filling a range with one byte.
 
-ghost use Rattle.std.specs.Prelude.{◌≡◌, ℕ, ◌+◌, ◌*◌, ◌/◌, ◌<◌, ◌≤◌, ◌⊎◌, true, length, replicate, if◌then◌else◌};
+ghost use Rattle.std.specs.Prelude.{◌≡◌, ℕ, ◌+◌, ◌*◌, ◌<◌, ◌≤◌, ◌⊎◌, true, length, replicate};
 ghost use Rattle.vm_model.specs.declared.command.Command.{Command};
 ghost use Rattle.vm_model.specs.declared.reply.Reply.{Reply};
 ghost use Rattle.vm_model.specs.Contents.Content.{pages_of, sole, used, IsGood};
 ghost use Rattle.vm_model.specs.Contents.Owning.{need};
-ghost use Rattle.vm_model.specs.Contents.Writing.{touched, piece, pieces, WritesPiece, Writes};
-ghost use Rattle.vmo_ops.specs.Targets.{Does, reply_of};
+ghost use Rattle.vm_model.specs.Contents.Writing.{touched, pieces, WritesPiece, Writes};
 ghost use Rattle.page_store.specs.Names.{IsInside};
+ghost use Rattle.vmo_ops.specs.Costs.{HasRows};
+ghost use Rattle.vmo_ops.specs.Targets.{Does, reply_of};
 
-use crate::ranges::touched_pages;
+use crate::ranges::{PagePart, part_in_page, touched_pages};
 use crate::ready::ready_to_own;
 use crate::writing::write_part;
 use page_store::PageStore;
-use vm_base::{Koid, PAGE, PageNo, Refusal};
+use vm_base::{Koid, PAGE, PAGE_BYTES, PageNo, Refusal};
 use vmo_table::Target;
 
 /// Writes one byte at every place of a range: `len` bytes from `offset` bytes into the name on. The
@@ -41,44 +42,37 @@ pub fn fill<P: PageStore>(
 // Fills a range inside the VMO, page by page, where the room for it is there.
 fn fill_pages<P: PageStore>(store: &mut P, v: Koid, offset: u64, len: u64, byte: u8)
     requires good { IsGood (P.content store.old) }
-    requires inside { offset + len ≤ pages_of (P.content store.old) v.0 * 4096 }
-    requires room { need (P.content store.old) v.0 (touched offset len) ≤ P.spare store.old }
+    requires inside { offset + len ≤ pages_of (P.content store.old) v.0 * PAGE }
+    requires room { HasRows (P.content store.old) v.0 (touched offset len) (P.spare store.old) }
     requires free { used (P.content store.old) + need (P.content store.old) v.0 (touched offset len)
         ≤ (P.content store.old).frames }
     ensures { Writes (P.content store.old) (pieces v.0 offset (replicate len byte)) (P.content store.new) }
 {
-    let bytes = [byte; 4096];
+    let bytes = [byte; PAGE_BYTES];
     let (first, end) = touched_pages(offset, len);
     for page in first..end {
-        fill_part(store, v, offset, len, page, &bytes);
+        let part = part_in_page(offset, len, page);
+        fill_part(store, v, page, part, &bytes);
     }
 }
 
-/// Fills what of a range falls into one page that it touches, with bytes of a page that are all the same.
-/// The page is owned first.
+/// Fills a part of a page with bytes of a page that are all the same. The page is owned first.
 pub(crate) fn fill_part<P: PageStore>(
     store: &mut P,
     v: Koid,
-    offset: u64,
-    len: u64,
     page: PageNo,
+    part: PagePart,
     bytes: &[u8],
 )
     requires good { IsGood (P.content store.old) }
     requires page { page < pages_of (P.content store.old) v.0 }
-    requires range { offset + len ≤ pages_of (P.content store.old) v.0 * 4096 }
-    requires first { offset / 4096 ≤ page }
-    requires last { page * 4096 < offset + len }
-    requires whole { length bytes.now ≡ 4096 }
+    requires whole { length bytes.now ≡ PAGE }
+    requires within { part.at + part.len ≤ PAGE }
     requires room { (sole (P.content store.old) v.0 page ≡ true)
         ⊎ ((1 ≤ P.spare store.old) × (used (P.content store.old) < (P.content store.old).frames)) }
-    ensures writes { (byte : ℕ) → bytes.now ≡ replicate 4096 byte →
-        WritesPiece (P.content store.old) (piece v.0 offset (replicate len byte) page) (P.content store.new) }
-    ensures spare { P.spare store.old
-        ≤ P.spare store.new + (if sole (P.content store.old) v.0 page then 0 else 1) }
+    ensures writes { (byte : ℕ) → bytes.now ≡ replicate PAGE byte → WritesPiece (P.content store.old)
+        (record { koid = v.0; page = page; at = part.at; bytes = replicate part.len byte }) (P.content store.new) }
+    ensures spare { P.spare store.old ≤ P.spare store.new + 1 }
 {
-    let start = page * PAGE;
-    let at = offset.saturating_sub(start);
-    let until = (offset + len - start).min(PAGE);
-    write_part(store, v, page, at, &bytes[at as usize..until as usize]);
+    write_part(store, v, page, part.at, &bytes[..part.len as usize]);
 }

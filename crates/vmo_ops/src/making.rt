@@ -1,6 +1,7 @@
 //! Making a VMO (`zx_vmo_create`).
 
-ghost use Rattle.std.specs.Prelude.{◌≡◌, ◌<◌, ◌^◌, None, IfOk};
+ghost use Rattle.std.specs.Prelude.{◌≡◌, ◌<◌, None, IfOk};
+ghost use Rattle.vm_base.specs.declared.limits.TheConstants.{KOIDS};
 ghost use Rattle.vm_model.specs.declared.command.Command.{Command};
 ghost use Rattle.vm_model.specs.declared.reply.Reply.{Reply};
 ghost use Rattle.vm_model.specs.Machine.State.{State};
@@ -24,7 +25,7 @@ pub fn create<P: PageStore>(
 ) -> Result<Koid, Refusal>
     requires parts { AreParts (P.content store.old) vmos.old }
     requires closed { names_of vmos.old name.0 ≡ None }
-    requires next { (P.content store.old).next < 2 ^ 63 }
+    requires next { (P.content store.old).next < KOIDS }
     ensures step { (s : State) → Step (with_vmos s (P.content store.old) vmos.old)
         (Command.VmoCreate name size resizable) (reply_of (λ _. Reply.Done) result)
         (with_vmos s (P.content store.new) vmos.new) }

@@ -1,6 +1,6 @@
 //! Pinning pages, so that they keep their frames (`zx_bti_pin`, `zx_pmt_unpin`).
 
-ghost use Rattle.std.specs.Prelude.{◌≡◌, ◌+◌, ◌%◌, ◌≤◌, ◌↔◌, None, Some, IsTrue, IsSome, map};
+ghost use Rattle.std.specs.Prelude.{◌≡◌, ◌+◌, ◌*◌, ◌%◌, ◌≤◌, ◌↔◌, None, Some, IsTrue, IsSome, map};
 ghost use Rattle.std.specs.List.{range_with_len};
 ghost use Rattle.vm_base.specs.declared.names.VmoName.{VmoName};
 ghost use Rattle.vm_model.specs.declared.command.Command.{Command};
@@ -11,26 +11,27 @@ ghost use Rattle.vm_model.specs.Machine.State.{State};
 ghost use Rattle.vm_model.specs.Machine.Step.{Step, frame_of};
 ghost use Rattle.vmo_table.specs.Table.{names_of, CountsKeepers, IsNamed};
 ghost use Rattle.pin_table.specs.Table.{pins_of};
-ghost use Rattle.vmo_ops.specs.Targets.{IsCounted, with_tables, reply_of};
+ghost use Rattle.vmo_ops.specs.Costs.{HasRows};
+ghost use Rattle.vmo_ops.specs.Targets.{IsWellCounted, with_tables, reply_of};
 
 use crate::closing::drop_gone;
-use crate::owning::{need_of, own_for_write, reserve_rows};
+use crate::owning::{need_of, reserve_rows};
 use crate::ranges::place_in_vmo;
 use page_store::PageStore;
 use pin_table::PinTable;
-use vm_base::{Koid, PAGE, PageNo, PinName, Refusal, in_page, page_of};
+use vm_base::{Koid, PAGE, PIN_PAGES, PageNo, PinName, Refusal, in_page, page_of};
 use vm_model::PinNumbers;
 use vmo_table::{Target, VmoTable};
 
-/// The bytes of the longest pin: 256 pages.
-const PIN_BYTES: u64 = 256 * PAGE;
+/// The bytes of the longest pin.
+const PIN_BYTES: u64 = PIN_PAGES as u64 * PAGE;
 
 /// Pins the pages of a range under a pin's name that is not there: `len` bytes from `offset` bytes into
-/// the name on, both whole pages, from 1 to 256 of them. Each page is owned, and keeps its frame while the
-/// pin is there. Answers the frames in ascending order of the pages. Refusals, in their order:
-/// `InvalidArgs` where `offset` or `len` is not a multiple of the page size, or `len` is 0 or over
-/// 1,048,576, `OutOfRange` where the range passes the name's end, `NoMemory` where the pages that are not
-/// sole are more than the free frames, `HostMemory`.
+/// the name on, both whole pages, from 1 to `PIN_PAGES` of them. Each page is owned, and keeps its frame
+/// while the pin is there. Answers the frames in ascending order of the pages. Refusals, in their order:
+/// `InvalidArgs` where `offset` or `len` is not a multiple of the page size, or `len` is 0 or more than
+/// `PIN_PAGES` pages, `OutOfRange` where the range passes the name's end, `NoMemory` where the pages that
+/// are not sole are more than the free frames, `HostMemory`.
 pub fn pin<P: PageStore>(
     store: &mut P,
     vmos: &mut VmoTable,
@@ -40,7 +41,7 @@ pub fn pin<P: PageStore>(
     offset: u64,
     len: u64,
 ) -> Result<PinNumbers, Refusal>
-    requires parts { (s : State) × IsCounted vmos.old (with_tables s (P.content store.old) vmos.old pins.old) }
+    requires parts { (s : State) × IsWellCounted vmos.old (with_tables s (P.content store.old) vmos.old pins.old) }
     requires named { IsNamed (names_of vmos.old) t.now }
     requires free { pins_of pins.old pin.0 ≡ None }
     ensures step { (s : State) (name : VmoName) → names_of vmos.old name.0 ≡ Some t.now →
@@ -65,7 +66,7 @@ pub fn pin<P: PageStore>(
     let Ok(()) = pins.reserve() else {
         return Err(Refusal::HostMemory);
     };
-    let Ok(()) = reserve_rows(store, need) else {
+    let Ok(()) = reserve_rows(store, need, count) else {
         return Err(Refusal::HostMemory);
     };
     // That a VMO has no more pins than there are names rests on the range of the names.
@@ -76,20 +77,20 @@ pub fn pin<P: PageStore>(
     Ok(numbers)
 }
 
-// Whether a range is one of whole pages, from 1 to 256 of them.
+// Whether a range is one of whole pages, from 1 to `PIN_PAGES` of them.
 fn is_pin_range(offset: u64, len: u64) -> bool
-    ensures { IsTrue result ↔ ((offset % 4096 ≡ 0) × (len % 4096 ≡ 0) × (1 ≤ len) × (len ≤ 1048576)) }
+    ensures { IsTrue result ↔ ((offset % PAGE ≡ 0) × (len % PAGE ≡ 0) × (1 ≤ len) × (len ≤ PIN_PAGES * PAGE)) }
 {
     in_page(offset) == 0 && in_page(len) == 0 && len > 0 && len <= PIN_BYTES
 }
 
-// Owns `count` pages of a VMO, at most 256, from `first` on, where the room for it is there, and answers
-// their frames.
+// Owns `count` pages of a VMO, at most `PIN_PAGES`, from `first` on, where the room for it is there, and
+// answers their frames.
 fn own_frames<P: PageStore>(store: &mut P, v: Koid, first: PageNo, count: u64) -> PinNumbers
     requires good { IsGood (P.content store.old) }
-    requires few { count ≤ 256 }
+    requires few { count ≤ PIN_PAGES }
     requires inside { first + count ≤ pages_of (P.content store.old) v.0 }
-    requires room { need (P.content store.old) v.0 (range_with_len first count) ≤ P.spare store.old }
+    requires room { HasRows (P.content store.old) v.0 (range_with_len first count) (P.spare store.old) }
     requires free { used (P.content store.old) + need (P.content store.old) v.0 (range_with_len first count)
         ≤ (P.content store.old).frames }
     ensures owns { OwnsAll (P.content store.old) v.0 (range_with_len first count) (P.content store.new) }
@@ -97,8 +98,8 @@ fn own_frames<P: PageStore>(store: &mut P, v: Koid, first: PageNo, count: u64) -
 {
     let mut numbers = PinNumbers::new();
     for page in first..first + count {
-        let tag = own_for_write(store, v, page);
-        // There is room: a pin has at most 256 pages.
+        let tag = store.own(v, page);
+        // There is room: a pin has at most `PIN_PAGES` pages.
         let _ = numbers.push(u64::from(tag.0));
     }
     numbers
@@ -107,9 +108,9 @@ fn own_frames<P: PageStore>(store: &mut P, v: Koid, first: PageNo, count: u64) -
 /// Takes a pin away that is there. A VMO that nothing keeps any more leaves with its pages, and its
 /// children get its parent. It never wants memory.
 pub fn unpin<P: PageStore>(store: &mut P, vmos: &mut VmoTable, pins: &mut PinTable, pin: PinName)
-    requires parts { (s : State) × IsCounted vmos.old (with_tables s (P.content store.old) vmos.old pins.old) }
+    requires parts { (s : State) × IsWellCounted vmos.old (with_tables s (P.content store.old) vmos.old pins.old) }
     requires there { IsSome (pins_of pins.old pin.0) }
-    ensures step { (s : State) → IsCounted vmos.old (with_tables s (P.content store.old) vmos.old pins.old) →
+    ensures step { (s : State) → IsWellCounted vmos.old (with_tables s (P.content store.old) vmos.old pins.old) →
         Step (with_tables s (P.content store.old) vmos.old pins.old) (Command.VmoUnpin pin) Reply.Done
         (with_tables s (P.content store.new) vmos.new pins.new) }
     ensures counted { (s : State) → CountsKeepers vmos.old (record s { pins = pins_of pins.old }) →

@@ -1,15 +1,15 @@
 //! Ranges of a name, in bytes from its first byte, and ranges of a VMO.
 
-ghost use Rattle.std.specs.Prelude.{◌≡◌, ◌+◌, ◌-◌, ◌*◌, ◌/◌, ◌<◌, ◌≤◌, ◌↔◌, IsTrue, IfNone, IfSome};
+ghost use Rattle.std.specs.Prelude.{◌≡◌, ◌+◌, ◌-◌, ◌*◌, ◌/◌, ◌<◌, ◌≤◌, ◌↔◌, min, IsTrue, IfNone, IfSome};
 ghost use Rattle.std.specs.List.{range_with_len};
 ghost use Rattle.vm_model.specs.Contents.Content.{IsGood};
+ghost use Rattle.vm_model.specs.Contents.Writing.{touched, part_at};
 ghost use Rattle.vm_model.specs.Machine.State.{name_pages};
-ghost use Rattle.vm_model.specs.Contents.Writing.{touched};
-ghost use Rattle.vmo_ops.specs.Targets.{IsPlaced};
 ghost use Rattle.page_store.specs.Names.{IsInside};
+ghost use Rattle.vmo_ops.specs.Targets.{IsPlaced};
 
 use page_store::{PageStore, size_of_name};
-use vm_base::{PAGE, PageNo, page_of};
+use vm_base::{PAGE, PageNo, VMO_PAGES, page_of};
 use vmo_table::Target;
 
 /// The place in its VMO, in bytes, of a range of a name. `None` exactly where the range does not lie
@@ -23,7 +23,7 @@ pub(crate) fn place_in_vmo<P: PageStore>(
     requires good { IsGood (P.content store.now) }
     requires inside { IsInside (P.content store.now) target.now }
     ensures some { IfSome result (λ at. IsPlaced (P.content store.now) target.now offset len at) }
-    ensures none { IfNone result (name_pages (P.content store.now) target.now * 4096 < offset + len) }
+    ensures none { IfNone result (name_pages (P.content store.now) target.now * PAGE < offset + len) }
 {
     if !is_in_range(store, target, offset, len) {
         return None;
@@ -35,7 +35,7 @@ pub(crate) fn place_in_vmo<P: PageStore>(
 fn is_in_range<P: PageStore>(store: &P, target: &Target, offset: u64, len: u64) -> bool
     requires good { IsGood (P.content store.now) }
     requires inside { IsInside (P.content store.now) target.now }
-    ensures { IsTrue result ↔ (offset + len ≤ name_pages (P.content store.now) target.now * 4096) }
+    ensures { IsTrue result ↔ (offset + len ≤ name_pages (P.content store.now) target.now * PAGE) }
 {
     let bytes = size_of_name(store, target);
     len <= bytes && offset <= bytes - len
@@ -44,10 +44,11 @@ fn is_in_range<P: PageStore>(store: &P, target: &Target, offset: u64, len: u64) 
 /// The first page that holds a byte of the range, and the page behind the last. The two are one
 /// where the range has no byte.
 pub(crate) fn touched_pages(offset: u64, len: u64) -> (PageNo, PageNo)
-    requires { offset + len ≤ 68719476736 }
-    ensures first { result.0 ≡ offset / 4096 }
+    requires { offset + len ≤ VMO_PAGES * PAGE }
+    ensures first { result.0 ≡ offset / PAGE }
     ensures order { result.0 ≤ result.1 }
-    ensures end { result.1 * 4096 < offset + len + 4096 }
+    ensures end { result.1 * PAGE < offset + len + PAGE }
+    ensures all { len ≤ result.1 * PAGE - offset }
     ensures pages { touched offset len ≡ range_with_len result.0 (result.1 - result.0) }
 {
     let first = page_of(offset);
@@ -57,4 +58,33 @@ pub(crate) fn touched_pages(offset: u64, len: u64) -> (PageNo, PageNo)
         page_of(offset + len + (PAGE - 1))
     };
     (first, end)
+}
+
+/// The part of a range of a VMO that falls into one page: `len` bytes, `at` bytes into the page and
+/// `from` bytes into the range.
+#[derive(Clone, Copy)]
+pub(crate) struct PagePart {
+    pub at: u64,
+    pub from: u64,
+    pub len: u64,
+}
+
+/// The part of a range that falls into a page that it touches.
+pub(crate) fn part_in_page(offset: u64, len: u64, page: PageNo) -> PagePart
+    requires range { offset + len ≤ VMO_PAGES * PAGE }
+    requires first { offset / PAGE ≤ page }
+    requires last { page * PAGE < offset + len }
+    ensures at { result.at ≡ part_at offset page }
+    ensures from { result.from ≡ PAGE * page - offset }
+    ensures until { result.from + result.len ≡ min (PAGE * (page + 1) - offset) len }
+    ensures within { result.at + result.len ≤ PAGE }
+{
+    let start = page * PAGE;
+    let at = offset.saturating_sub(start);
+    let from = start.saturating_sub(offset);
+    PagePart {
+        at,
+        from,
+        len: (PAGE - at).min(len - from),
+    }
 }

@@ -7,6 +7,7 @@ ghost use Rattle.vm_model.specs.Contents.Content.{sole, used, IsGood};
 ghost use Rattle.vm_model.specs.Contents.Owning.{need};
 ghost use Rattle.vm_model.specs.Machine.State.{name_pages};
 ghost use Rattle.vm_model.specs.Contents.Writing.{touched};
+ghost use Rattle.vmo_ops.specs.Costs.{HasRows};
 ghost use Rattle.vmo_ops.specs.Targets.{IsPlaced};
 ghost use Rattle.vmo_ops.specs.Changes.{IsRefusedBy, IsAllowed};
 ghost use Rattle.page_store.specs.Names.{IsInside};
@@ -14,7 +15,7 @@ ghost use Rattle.page_store.specs.Names.{IsInside};
 use crate::owning::{need_of, reserve_rows};
 use crate::ranges::{place_in_vmo, touched_pages};
 use page_store::PageStore;
-use vm_base::Refusal;
+use vm_base::{PAGE, Refusal};
 use vmo_table::Target;
 
 /// The place in its VMO, in bytes, of a range of a name that may write. `AccessDenied` where the name
@@ -31,7 +32,7 @@ pub(crate) fn place_to_change<P: PageStore>(
         × IsPlaced (P.content store.now) t.now offset len at) }
     ensures err { IfErr result (λ refusal. ((refusal ≡ AccessDenied) × (t.now.may_write ≡ false))
         ⊎ ((refusal ≡ OutOfRange) × (t.now.may_write ≡ true)
-        × (name_pages (P.content store.now) t.now * 4096 < offset + len))) }
+        × (name_pages (P.content store.now) t.now * PAGE < offset + len))) }
 {
     if !t.may_write {
         return Err(Refusal::AccessDenied);
@@ -54,11 +55,11 @@ pub(crate) fn ready_to_own<P: PageStore>(
     requires inside { IsInside (P.content store.old) t.now }
     ensures same { P.content store.new ≡ P.content store.old }
     ensures err { IfErr result (IsRefusedBy (P.content store.old) t.now offset len
-        (touched (t.now.first * 4096 + offset) len) (λ p. not (sole (P.content store.old) t.now.koid.0 p))) }
+        (touched (t.now.first * PAGE + offset) len) (λ p. not (sole (P.content store.old) t.now.koid.0 p))) }
     ensures allowed { OnOk result (IsAllowed (P.content store.old) t.now offset len
-        (touched (t.now.first * 4096 + offset) len)) }
+        (touched (t.now.first * PAGE + offset) len)) }
     ensures placed { IfOk result (IsPlaced (P.content store.old) t.now offset len) }
-    ensures room { IfOk result (λ at. need (P.content store.old) t.now.koid.0 (touched at len) ≤ P.spare store.new) }
+    ensures room { IfOk result (λ at. HasRows (P.content store.old) t.now.koid.0 (touched at len) (P.spare store.new)) }
     ensures free { IfOk result (λ at. used (P.content store.old)
         + need (P.content store.old) t.now.koid.0 (touched at len) ≤ (P.content store.old).frames) }
 {
@@ -71,7 +72,7 @@ pub(crate) fn ready_to_own<P: PageStore>(
     if need > u64::from(store.free()) {
         return Err(Refusal::NoMemory);
     }
-    let Ok(()) = reserve_rows(store, need) else {
+    let Ok(()) = reserve_rows(store, need, end - first) else {
         return Err(Refusal::HostMemory);
     };
     Ok(at)

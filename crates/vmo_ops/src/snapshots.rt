@@ -1,8 +1,9 @@
 //! Making a snapshot of a VMO (`ZX_VMO_CHILD_SNAPSHOT`).
 
-ghost use Rattle.std.specs.Prelude.{◌≡◌, ◌+◌, ◌*◌, ◌/◌, ◌<◌, ◌≤◌, ◌^◌, ◌⊎◌, None, Some, IfNone, IfSome, IfOk};
+ghost use Rattle.std.specs.Prelude.{◌≡◌, ◌+◌, ◌*◌, ◌/◌, ◌<◌, ◌≤◌, ◌⊎◌, None, Some, IfNone, IfSome, IfOk};
 ghost use Rattle.vm_base.specs.Pages.{rounded};
 ghost use Rattle.vm_base.specs.declared.names.VmoName.{VmoName};
+ghost use Rattle.vm_base.specs.declared.limits.TheConstants.{KOIDS};
 ghost use Rattle.vm_model.specs.declared.command.Command.{Command};
 ghost use Rattle.vm_model.specs.declared.command.ChildKind.TheVariants.{Snapshot};
 ghost use Rattle.vm_model.specs.declared.reply.Reply.{Reply};
@@ -36,7 +37,7 @@ pub(crate) fn snapshot<P: PageStore>(
     requires parts { AreTogether (P.content store.old) vmos.old pins.now }
     requires named { IsNamed (names_of vmos.old) t.now }
     requires closed { names_of vmos.old name.0 ≡ None }
-    requires next { (P.content store.old).next < 2 ^ 63 }
+    requires next { (P.content store.old).next < KOIDS }
     ensures step { (s : State) (parent : VmoName) → names_of vmos.old parent.0 ≡ Some t.now →
         Step (with_tables s (P.content store.old) vmos.old pins.now)
         (Command.VmoChild name parent Snapshot offset size resizable no_write)
@@ -74,8 +75,9 @@ pub(crate) fn snapshot<P: PageStore>(
 // The pages of `size` bytes, where they end at or below the greatest size of a VMO, counted from
 // `offset` on.
 fn pages_within(offset: u64, size: u64) -> Option<PageNo>
-    ensures some { IfSome result (λ pages. (pages ≡ rounded size / 4096) × (offset + rounded size ≤ 68719476736) × (pages ≤ 16777216)) }
-    ensures none { IfNone result (68719476736 < offset + rounded size) }
+    ensures some { IfSome result (λ pages. (pages ≡ rounded size / PAGE)
+        × (offset + rounded size ≤ VMO_PAGES * PAGE) × (pages ≤ VMO_PAGES)) }
+    ensures none { IfNone result (VMO_PAGES * PAGE < offset + rounded size) }
 {
     let limit = (VMO_PAGES * PAGE).checked_sub(offset)?;
     let whole = round_up(size, limit)?;

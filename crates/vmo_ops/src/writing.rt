@@ -1,16 +1,16 @@
 //! Writing bytes to a VMO (`zx_vmo_write`).
 
-ghost use Rattle.std.specs.Prelude.{◌≡◌, ◌+◌, ◌-◌, ◌*◌, ◌/◌, ◌<◌, ◌≤◌, ◌⊎◌, true, length, if◌then◌else◌, slice_range};
+ghost use Rattle.std.specs.Prelude.{◌≡◌, ◌+◌, ◌*◌, ◌<◌, ◌≤◌, ◌⊎◌, true, length};
 ghost use Rattle.vm_model.specs.declared.command.Command.{Command};
 ghost use Rattle.vm_model.specs.declared.reply.Reply.{Reply};
 ghost use Rattle.vm_model.specs.Contents.Content.{pages_of, sole, used, IsGood};
 ghost use Rattle.vm_model.specs.Contents.Owning.{need};
-ghost use Rattle.vm_model.specs.Contents.Writing.{touched, piece, pieces, WritesPiece, Writes};
-ghost use Rattle.vmo_ops.specs.Targets.{Does, reply_of};
+ghost use Rattle.vm_model.specs.Contents.Writing.{touched, pieces, WritesPiece, Writes};
 ghost use Rattle.page_store.specs.Names.{IsInside};
+ghost use Rattle.vmo_ops.specs.Costs.{HasRows};
+ghost use Rattle.vmo_ops.specs.Targets.{Does, reply_of};
 
-use crate::owning::own_for_write;
-use crate::ranges::touched_pages;
+use crate::ranges::{part_in_page, touched_pages};
 use crate::ready::ready_to_own;
 use page_store::PageStore;
 use vm_base::{Koid, PAGE, PageNo, Refusal};
@@ -42,25 +42,24 @@ pub fn write<P: PageStore>(
 // Writes bytes inside the VMO, page by page, where the room for it is there.
 fn write_pages<P: PageStore>(store: &mut P, v: Koid, offset: u64, bytes: &[u8])
     requires good { IsGood (P.content store.old) }
-    requires inside { offset + length bytes.now ≤ pages_of (P.content store.old) v.0 * 4096 }
-    requires room { need (P.content store.old) v.0 (touched offset (length bytes.now))
-        ≤ P.spare store.old }
+    requires inside { offset + length bytes.now ≤ pages_of (P.content store.old) v.0 * PAGE }
+    requires room { HasRows (P.content store.old) v.0 (touched offset (length bytes.now)) (P.spare store.old) }
     requires free { used (P.content store.old)
         + need (P.content store.old) v.0 (touched offset (length bytes.now))
         ≤ (P.content store.old).frames }
     ensures { Writes (P.content store.old) (pieces v.0 offset bytes.now) (P.content store.new) }
 {
-    let (first, end) = touched_pages(offset, bytes.len() as u64);
+    let len = bytes.len() as u64;
+    let (first, end) = touched_pages(offset, len);
     for page in first..end {
-        let start = page * PAGE;
-        let from = start.saturating_sub(offset) as usize;
-        let until = ((start + PAGE - offset) as usize).min(bytes.len());
+        let part = part_in_page(offset, len, page);
+        let until = part.from + part.len;
         write_part(
             store,
             v,
             page,
-            offset.saturating_sub(start),
-            &bytes[from..until],
+            part.at,
+            &bytes[part.from as usize..until as usize],
         );
     }
 }
@@ -69,14 +68,13 @@ fn write_pages<P: PageStore>(store: &mut P, v: Koid, offset: u64, bytes: &[u8])
 pub(crate) fn write_part<P: PageStore>(store: &mut P, v: Koid, page: PageNo, at: u64, bytes: &[u8])
     requires good { IsGood (P.content store.old) }
     requires page { page < pages_of (P.content store.old) v.0 }
-    requires within { at + length bytes.now ≤ 4096 }
+    requires within { at + length bytes.now ≤ PAGE }
     requires room { (sole (P.content store.old) v.0 page ≡ true)
         ⊎ ((1 ≤ P.spare store.old) × (used (P.content store.old) < (P.content store.old).frames)) }
     ensures writes { WritesPiece (P.content store.old)
         (record { koid = v.0; page = page; at = at; bytes = bytes.now }) (P.content store.new) }
-    ensures spare { P.spare store.old
-        ≤ P.spare store.new + (if sole (P.content store.old) v.0 page then 0 else 1) }
+    ensures spare { P.spare store.old ≤ P.spare store.new + 1 }
 {
-    let tag = own_for_write(store, v, page);
+    let tag = store.own(v, page);
     store.write(tag, at, bytes);
 }

@@ -1,13 +1,13 @@
 //! Zeroing a range (`ZX_VMO_OP_ZERO`).
 
-ghost use Rattle.std.specs.Prelude.{◌≡◌, ◌+◌, ◌-◌, ◌*◌, ◌/◌, ◌<◌, ◌≤◌, not, ◌&&◌, true, replicate, IsSome, ◌⊎◌};
+ghost use Rattle.std.specs.Prelude.{◌≡◌, ◌+◌, ◌-◌, ◌*◌, ◌/◌, ◌<◌, ◌≤◌, not, ◌&&◌, ◌==◌, true, IsSome, ◌⊎◌};
 ghost use Rattle.vm_model.specs.declared.command.Command.{Command};
 ghost use Rattle.vm_model.specs.declared.reply.Reply.{Reply};
 ghost use Rattle.vm_model.specs.Contents.Content.{pages_of, sole, used, IsGood};
 ghost use Rattle.vm_model.specs.Contents.Owning.{need};
 ghost use Rattle.vm_model.specs.Contents.Writing.{touched};
 ghost use Rattle.vm_model.specs.Naming.Pins.{is_pinned};
-ghost use Rattle.vm_model.specs.Contents.Zeroing.{is_whole, is_cleared, owned_by_zero, ZeroesPage, Zeroes};
+ghost use Rattle.vm_model.specs.Contents.Zeroing.{is_cleared, owned_by_zero, ZeroesPage, Zeroes};
 ghost use Rattle.pin_table.specs.Table.{pins_of};
 ghost use Rattle.vmo_ops.specs.Targets.{DoesWith, reply_of};
 ghost use Rattle.vmo_ops.specs.Costs.{held_touched};
@@ -16,11 +16,11 @@ ghost use Rattle.page_store.specs.Names.{IsInside};
 use crate::filling::fill_part;
 use crate::held_pages::next_held_below;
 use crate::owning::{is_sole, reserve_rows};
-use crate::ranges::touched_pages;
+use crate::ranges::{PagePart, part_in_page, touched_pages};
 use crate::ready::place_to_change;
 use page_store::PageStore;
 use pin_table::PinTable;
-use vm_base::{Koid, PAGE, PageNo, Refusal};
+use vm_base::{Koid, PAGE, PAGE_BYTES, PageNo, Refusal};
 use vmo_table::Target;
 
 /// Makes the bytes of a range zero: `len` bytes from `offset` bytes into the name on. A page that lies
@@ -49,7 +49,7 @@ pub fn zero<P: PageStore>(
     if cost.owned > u64::from(store.free()) {
         return Err(Refusal::NoMemory);
     }
-    let Ok(()) = reserve_rows(store, cost.held) else {
+    let Ok(()) = reserve_rows(store, cost.held, cost.held) else {
         return Err(Refusal::HostMemory);
     };
     zero_pages(store, pins, t.koid, at, len);
@@ -74,9 +74,10 @@ pub(crate) fn cost_to_zero<P: PageStore>(
 ) -> ZeroCost
     requires good { IsGood (P.content store.now) }
     requires vmo { IsSome ((P.content store.now).count v.0) }
-    requires inside { offset + len ≤ pages_of (P.content store.now) v.0 * 4096 }
+    requires inside { offset + len ≤ pages_of (P.content store.now) v.0 * PAGE }
     ensures held { result.held ≡ held_touched (P.content store.now) v.0 offset len }
-    ensures owned { result.owned ≡ need (P.content store.now) v.0 (owned_by_zero (P.content store.now) v.0 (is_pinned (pins_of pins.now) v.0) offset len) }
+    ensures owned { result.owned ≡ need (P.content store.now) v.0
+        (owned_by_zero (P.content store.now) v.0 (is_pinned (pins_of pins.now) v.0) offset len) }
 {
     let mut cost = ZeroCost { held: 0, owned: 0 };
     let (first, end) = touched_pages(offset, len);
@@ -91,8 +92,8 @@ pub(crate) fn cost_to_zero<P: PageStore>(
     cost
 }
 
-// Whether zeroing a range takes a frame for a page of it that is held: the page does not become zero as a
-// whole, and is not sole.
+// Whether zeroing a range takes a frame for a page that it touches and that is held: the page does not
+// become zero as a whole, and is not sole.
 fn takes_frame<P: PageStore>(
     store: &P,
     pins: &PinTable,
@@ -102,31 +103,22 @@ fn takes_frame<P: PageStore>(
     page: PageNo,
 ) -> bool
     requires good { IsGood (P.content store.now) }
-    requires inside { offset + len ≤ pages_of (P.content store.now) v.0 * PAGE }
-    requires page { page < pages_of (P.content store.now) v.0 }
+    requires range { offset + len ≤ pages_of (P.content store.now) v.0 * PAGE }
+    requires first { offset / PAGE ≤ page }
+    requires last { page * PAGE < offset + len }
     ensures { result ≡ (not (is_cleared (is_pinned (pins_of pins.now) v.0) offset len page)
         && not (sole (P.content store.now) v.0 page)) }
 {
-    !is_cleared_page(pins, v, offset, len, page) && !is_sole(store, v, page)
+    let part = part_in_page(offset, len, page);
+    !is_cleared_page(pins, v, page, part) && !is_sole(store, v, page)
 }
 
-// Whether a page lies wholly in a range.
-fn is_whole_page(offset: u64, len: u64, page: PageNo) -> bool
-    requires range { offset + len ≤ 68719476736 }
-    requires page { page < 16777216 }
-    ensures { result ≡ is_whole offset len page }
+// Whether a page becomes zero as a whole, where this part of a range falls into it: the part is all of the
+// page, and the page is not pinned.
+fn is_cleared_page(pins: &PinTable, v: Koid, page: PageNo, part: PagePart) -> bool
+    ensures { result ≡ (part.len == PAGE && not (is_pinned (pins_of pins.now) v.0 page)) }
 {
-    let start = page * PAGE;
-    offset <= start && start + PAGE <= offset + len
-}
-
-// Whether a page becomes zero as a whole: it lies wholly in a range, and is not pinned.
-fn is_cleared_page(pins: &PinTable, v: Koid, offset: u64, len: u64, page: PageNo) -> bool
-    requires range { offset + len ≤ 68719476736 }
-    requires page { page < 16777216 }
-    ensures { result ≡ is_cleared (is_pinned (pins_of pins.now) v.0) offset len page }
-{
-    is_whole_page(offset, len, page) && !pins.pinned(v, page, 1)
+    part.len == PAGE && !pins.pinned(v, page, 1)
 }
 
 /// Zeroes a range inside the VMO, one held page after another, where the room for it is there.
@@ -139,24 +131,26 @@ pub(crate) fn zero_pages<P: PageStore>(
 )
     requires good { IsGood (P.content store.old) }
     requires vmo { IsSome ((P.content store.old).count v.0) }
-    requires inside { offset + len ≤ pages_of (P.content store.old) v.0 * 4096 }
+    requires inside { offset + len ≤ pages_of (P.content store.old) v.0 * PAGE }
     requires room { held_touched (P.content store.old) v.0 offset len ≤ P.spare store.old }
-    requires free { used (P.content store.old)
-        + need (P.content store.old) v.0 (owned_by_zero (P.content store.old) v.0 (is_pinned (pins_of pins.now) v.0) offset len)
+    requires free { used (P.content store.old) + need (P.content store.old) v.0
+        (owned_by_zero (P.content store.old) v.0 (is_pinned (pins_of pins.now) v.0) offset len)
         ≤ (P.content store.old).frames }
-    ensures { Zeroes (P.content store.old) v.0 (is_pinned (pins_of pins.now) v.0) offset len (touched offset len) (P.content store.new) }
+    ensures { Zeroes (P.content store.old) v.0 (is_pinned (pins_of pins.now) v.0) offset len (touched offset len)
+        (P.content store.new) }
 {
-    let zeros = [0; 4096];
     let (first, end) = touched_pages(offset, len);
     let mut from = first;
     while let Some(page) = next_held_below(store, v, from, end) {
-        zero_part(store, pins, v, offset, len, page, &zeros);
+        zero_part(store, pins, v, offset, len, page);
         from = page + 1;
     }
 }
 
-// Zeroes what of a range falls into one page that it touches and that is held. `zeros` are those of a
-// page.
+// The bytes of a page of zeros.
+static ZEROS: [u8; PAGE_BYTES] = [0; PAGE_BYTES];
+
+// Zeroes what of a range falls into one page that it touches and that is held.
 fn zero_part<P: PageStore>(
     store: &mut P,
     pins: &PinTable,
@@ -164,23 +158,23 @@ fn zero_part<P: PageStore>(
     offset: u64,
     len: u64,
     page: PageNo,
-    zeros: &[u8; 4096],
 )
     requires good { IsGood (P.content store.old) }
     requires held { IsSome ((P.content store.old).page v.0 page) }
-    requires range { offset + len ≤ pages_of (P.content store.old) v.0 * 4096 }
-    requires first { offset / 4096 ≤ page }
-    requires last { page * 4096 < offset + len }
-    requires zeros { zeros.now ≡ replicate 4096 0 }
+    requires range { offset + len ≤ pages_of (P.content store.old) v.0 * PAGE }
+    requires first { offset / PAGE ≤ page }
+    requires last { page * PAGE < offset + len }
     requires room { 1 ≤ P.spare store.old }
-    requires free { (is_cleared (is_pinned (pins_of pins.now) v.0) offset len page ≡ true) ⊎ ((sole (P.content store.old) v.0 page ≡ true)
-        ⊎ (used (P.content store.old) < (P.content store.old).frames)) }
-    ensures zeroes { ZeroesPage (P.content store.old) v.0 (is_pinned (pins_of pins.now) v.0) offset len page (P.content store.new) }
+    requires free { (is_cleared (is_pinned (pins_of pins.now) v.0) offset len page ≡ true)
+        ⊎ ((sole (P.content store.old) v.0 page ≡ true) ⊎ (used (P.content store.old) < (P.content store.old).frames)) }
+    ensures zeroes { ZeroesPage (P.content store.old) v.0 (is_pinned (pins_of pins.now) v.0) offset len page
+        (P.content store.new) }
     ensures spare { P.spare store.old ≤ P.spare store.new + 1 }
 {
-    if is_cleared_page(pins, v, offset, len, page) {
+    let part = part_in_page(offset, len, page);
+    if is_cleared_page(pins, v, page, part) {
         store.zero(v, page);
     } else {
-        fill_part(store, v, offset, len, page, zeros);
+        fill_part(store, v, page, part, &ZEROS);
     }
 }

@@ -9,6 +9,7 @@ use Rattle.vmo_ops.proofs.NameLaws.{named_vmo, named_lineage, named_inside}
 use Rattle.vmo_ops.proofs.DecommitLaws.{need-pages, none_within, decommit_denied, decommit_odd, decommit_kept, decommit_past, decommit_pinned, decommit_lacks, decommit_done}
 use Rattle.vmo_ops.proofs.decommitting.decommit.Goals as goal
 use Rattle.vmo_ops.proofs.decommitting.decommit.Goals.{then-in_page-ne0-via-then-in_page-ne0, then-in_page-ne0-via-else-in_page-ne0+then-in_page-ne0-2}
+use Rattle.vm_base.specs.declared.limits.TheConstants.{PAGE}
 
 pub returns-then-not-t : goal.returns-then-not-t
 returns-then-not-t g c = λ rest name named.
@@ -66,8 +67,8 @@ zero_pages-requires-clause-vmo g c =
 pub zero_pages-requires-clause-free : goal.zero_pages-requires-clause-free
 zero_pages-requires-clause-free g c =
     let d = g.P.PageStore.content c.reserve_rows.new.store in
-    let start : c.in-Some.at % 4096 ≡ 0 = omega (arith, c.in-Some.ensures.some.place) in
-    let whole : c.args.len % 4096 ≡ 0 = omega arith in
+    let start : c.in-Some.at % PAGE ≡ 0 = omega (arith, c.in-Some.ensures.some.place) in
+    let whole : c.args.len % PAGE ≡ 0 = omega arith in
     let pins = pins_of c.args.pins.now in
     let none = need-pages c.in-Some.at c.args.len start whole (is_pinned pins c.args.t.now.koid.0)
     (none_within c.in-Some.at c.args.len start whole pins c.args.t.now.koid.0 _ _ _ c.page_of.ensures c.page_of-2.ensures c.pinned.ensures c.if-pinned.false)

@@ -1,13 +1,15 @@
-use Rattle.std.proofs.Common.{ℕ, Option, sym, subst, arith}
+use Rattle.std.proofs.Common.{◌≡◌, ℕ, ◌+◌, ◌-◌, Option, refl, sym, ap, subst, ◌∙◌, arith}
 use Rattle.std.specs.List.{range_with_len}
 use Rattle.vm_model.specs.Contents.Content.{Content}
-use Rattle.vm_model.specs.Contents.Owning.{OwnsAll}
+use Rattle.vm_model.specs.Contents.Owning.{OwnsAll, need}
 use Rattle.vm_model.specs.Naming.Pins.{Pin}
 use Rattle.vmo_table.specs.Table.{names_of, lineage_in, with_vmos, CountsKeepers}
 use Rattle.vmo_ops.specs.Targets.{with_tables}
 use Rattle.pin_table.specs.Table.{pins_of}
 use Rattle.vmo_ops.proofs.NameLaws.{named_vmo, named_lineage, named_inside}
 use Rattle.vmo_ops.proofs.EntryLaws.{entered}
+use Rattle.vmo_ops.proofs.NeedLaws.{HasRows-row}
+use Rattle.vmo_ops.specs.Costs.{HasRows}
 use Rattle.vmo_ops.proofs.KeeperLaws.{pin_count_le, CountsKeepers-kept}
 use Rattle.vmo_ops.proofs.PinSteps.{pin_odd, pin_past, pin_no_memory, pin_lacks, pin_done}
 use Rattle.vmo_ops.proofs.pinning.pin.Goals as goal
@@ -52,6 +54,15 @@ returns-in_default-reserve_rows-clause-step g c = λ rest name named.
     c.need_of-need.result c.need_of-need.ensures (omega (arith, c.free.ensures, c.from.ensures))
     (with_tables rest (g.P.PageStore.content c.reserve_rows.new.store) c.args.vmos.now c.reserve.new.self)
     (λ i. record (with_vmos rest (c.reserve_rows.ensures.same i) c.args.vmos.now) { pins = c.reserve.ensures.pins i })
+
+pub own_frames-numbers-requires-clause-room : goal.own_frames-numbers-requires-clause-room
+own_frames-numbers-requires-clause-room g c =
+    let n : (c.page_of-first.result + c.page_of-count.result) - c.page_of-first.result ≡ c.page_of-count.result = omega arith in
+    let row : range_with_len c.page_of-first.result c.page_of-count.result ≡ range_with_len c.page_of-first.result ((c.page_of-first.result + c.page_of-count.result) - c.page_of-first.result) =
+    ap (range_with_len c.page_of-first.result) (sym n) in
+    let rows = HasRows-row (g.P.PageStore.content c.args.store.now) c.args.t.now.koid.0 c.page_of-first.result c.page_of-count.result c.need_of-need.result _ _ refl
+    (c.need_of-need.ensures ∙ ap (need (g.P.PageStore.content c.args.store.now) c.args.t.now.koid.0) (sym row)) c.in-Ok-reserve_rows.ensures.room in
+    subst (λ (d : Content). HasRows d c.args.t.now.koid.0 (range_with_len c.page_of-first.result c.page_of-count.result) (g.P.PageStore.spare c.reserve_rows.new.store)) (sym c.reserve_rows.ensures.same) rows
 
 pub add-requires-clause-pages : goal.add-requires-clause-pages
 add-requires-clause-pages g c =

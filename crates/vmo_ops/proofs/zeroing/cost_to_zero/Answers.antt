@@ -1,11 +1,9 @@
 use Rattle.std.proofs.Common.{refl, arith}
-use Rattle.vm_model.specs.Naming.Pins.{is_pinned}
-use Rattle.pin_table.specs.Table.{pins_of}
 use Rattle.vm_base.proofs.SearchLaws.{bit-true, bit-false}
-use Rattle.vmo_ops.proofs.ZeroLaws.{held_below, IsCounting-start, IsCounting-step, IsCounting-end}
+use Rattle.page_store.proofs.NameLaws.{pages_of_le}
+use Rattle.vmo_ops.proofs.ZeroLaws.{IsCounting-start, IsCounting_le, IsCounting-step, IsCounting-end}
 use Rattle.vmo_ops.proofs.zeroing.cost_to_zero.Goals as goal
 use Rattle.vmo_ops.proofs.zeroing.cost_to_zero.Goals.{then-takes_frame, else-takes_frame}
-use Rattle.page_store.proofs.NameLaws.{pages_of_le}
 
 pub touched_pages-first-requires : goal.touched_pages-first-requires
 touched_pages-first-requires g c =
@@ -13,27 +11,30 @@ touched_pages-first-requires g c =
     omega (arith, c.requires.inside)
 
 pub loop-page-init : goal.loop-page-init
-loop-page-init g c =
-    IsCounting-start (g.P.PageStore.content c.args.store.now) c.args.v.0 (is_pinned (pins_of c.args.pins.now) c.args.v.0) c.args.offset c.args.len _ _ _
-    c.touched_pages-first.ensures.order c.touched_pages-first.ensures.pages refl refl
+loop-page-init g c = IsCounting-start _ _ _ _ _ _ _ c.touched_pages-first.ensures.order
 
-pub takes_frame-requires-clause-page : goal.takes_frame-requires-clause-page
-takes_frame-requires-clause-page g c = held_below (g.P.PageStore.content c.args.store.now) c.args.v.0 c.in-Some.page c.requires.good c.in-Some.ensures.some.2
+pub overflow_add-cost : goal.overflow_add-cost
+overflow_add-cost g c =
+    let few = IsCounting_le _ _ _ _ _ _ _ _ _ c.loop-page.invariant in
+    omega (arith, few.0, c.in-Some.ensures.some.0, c.in-Some.ensures.some.1)
+
+pub overflow_add-cost-then-takes_frame : goal.overflow_add-cost-then-takes_frame
+overflow_add-cost-then-takes_frame g c =
+    let few = IsCounting_le _ _ _ _ _ _ _ _ _ c.loop-page.invariant in
+    omega (arith, few.1, c.in-Some.ensures.some.0, c.in-Some.ensures.some.1)
 
 pub loop-page-preserved : goal.loop-page-preserved
 loop-page-preserved g c = elim c.if-takes_frame.branch [
   | then-takes_frame w ↦
-      rw w.cost-is (IsCounting-step _ _ _ _ _ _ _ _ _ _ c.takes_frame.result c.loop-page.invariant c.in-Some.ensures.some c.takes_frame.ensures refl
+      rw w.cost-is (IsCounting-step _ _ _ _ _ _ _ _ _ _ _ c.takes_frame.result c.loop-page.invariant c.in-Some.ensures.some c.takes_frame.ensures refl
       (omega (arith, bit-true c.takes_frame.result w.if-takes_frame.true)))
   | else-takes_frame w ↦
-      rw w.cost-is (IsCounting-step _ _ _ _ _ _ _ _ _ _ c.takes_frame.result c.loop-page.invariant c.in-Some.ensures.some c.takes_frame.ensures refl
+      rw w.cost-is (IsCounting-step _ _ _ _ _ _ _ _ _ _ _ c.takes_frame.result c.loop-page.invariant c.in-Some.ensures.some c.takes_frame.ensures refl
       (omega (arith, bit-false c.takes_frame.result w.if-takes_frame.false)))
 ]
 
 pub returns-clause-held : goal.returns-clause-held
-returns-clause-held g c =
-    (IsCounting-end (g.P.PageStore.content c.args.store.now) c.args.v.0 (is_pinned (pins_of c.args.pins.now) c.args.v.0) c.args.offset c.args.len _ _ _ c.loop-page.invariant c.in_default.ensures.none).0
+returns-clause-held g c = (IsCounting-end _ _ _ _ _ _ _ _ _ c.touched_pages-first.ensures.pages c.loop-page.invariant c.in_default.ensures.none).0
 
 pub returns-clause-owned : goal.returns-clause-owned
-returns-clause-owned g c =
-    (IsCounting-end (g.P.PageStore.content c.args.store.now) c.args.v.0 (is_pinned (pins_of c.args.pins.now) c.args.v.0) c.args.offset c.args.len _ _ _ c.loop-page.invariant c.in_default.ensures.none).1
+returns-clause-owned g c = (IsCounting-end _ _ _ _ _ _ _ _ _ c.touched_pages-first.ensures.pages c.loop-page.invariant c.in_default.ensures.none).1

@@ -1,14 +1,12 @@
 use Rattle.std.proofs.Common.{◌-◌}
 use Rattle.vm_model.specs.Naming.Pins.{is_pinned}
 use Rattle.pin_table.specs.Table.{pins_of}
-use Rattle.vmo_ops.proofs.ZeroLaws.{IsReadyToZero, ReachesZeros}
+use Rattle.vmo_ops.proofs.ZeroLaws.{IsZeroing}
 use Rattle.vmo_ops.proofs.zeroing.zero_pages.Given as goal
 
 abbrev pub invariant-loop-page : goal.invariant-loop-page
-invariant-loop-page g l = record {
-  ready : IsReadyToZero (g.P.PageStore.content l.store) l.v.0 (is_pinned (pins_of l.pins) l.v.0) l.offset l.len l.from l.end (g.P.PageStore.spare l.store);
-  reaches : ReachesZeros (g.P.PageStore.content l.fn.store) (g.P.PageStore.content l.store) l.v.0 (is_pinned (pins_of l.pins) l.v.0) l.offset l.len l.from l.end;
-}
+invariant-loop-page g l =
+    IsZeroing l.v.0 (is_pinned (pins_of l.pins) l.v.0) l.offset l.len (g.P.PageStore.content l.fn.store) (g.P.PageStore.content l.store) l.from l.end (g.P.PageStore.spare l.store)
 
 abbrev pub decreases-loop-page : goal.decreases-loop-page
 decreases-loop-page g l = l.end - l.from
