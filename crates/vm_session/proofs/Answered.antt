@@ -8,6 +8,7 @@ use Rattle.script_io.specs.Faults.{IsCutOff}
 use Rattle.script_io.specs.Reader.{Reader}
 use Rattle.script_io.specs.Fetching.{IsPending, IsFirstLine, Fetches}
 use Rattle.script_io.specs.declared.line_reader.Fetch.TheVariants.{Line, TooLong}
+use Rattle.vm_base.specs.declared.limits.TheConstants.{LINE_BYTES}
 use Rattle.vm_base.specs.declared.refusal.Refusal.TheVariants.{Syntax}
 use Rattle.vm_model.specs.declared.reply.Reply.{Reply}
 use Rattle.vm_model.specs.declared.reply.Reply.TheVariants.{Refused}
@@ -56,9 +57,9 @@ IsAnswered-line old new source_old source_new sink_old sink_new before after pen
 }
 
 -- a line over the limit is outside the grammar
-long_is_outside : (line : List ℕ) → 16384 < length line → Outside ≡ reading line
+long_is_outside : (line : List ℕ) → LINE_BYTES < length line → Outside ≡ reading line
 unfolding reading
-long_is_outside line long = sym (ap (λ t. cond t Outside (reading_of_words (words line))) ((Decides-ltb 16384 (length line)).1 long))
+long_is_outside line long = sym (ap (λ t. cond t Outside (reading_of_words (words line))) ((Decides-ltb LINE_BYTES (length line)).1 long))
 
 pub IsAnswered-long : {T E : Type 0} (old new : Reader) (source_old source_new sink_old sink_new : Option (List ℕ)) (now : State) (pending : List ℕ) (result : Result T E)
     → Fetches old new source_old source_new pending TooLong → IsGoodState now → OnOk result (Appends sink_old sink_new (text (Refused Syntax))) → OnErr result (IsCutOff sink_old sink_new (text (Refused Syntax)))

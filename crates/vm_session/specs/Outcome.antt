@@ -9,6 +9,7 @@ use Rattle.std.specs.declared.alloc.Global.{Global}
 use Rattle.script_io.specs.declared.status.Status.{Status}
 use Rattle.script_io.specs.declared.status.Status.TheVariants.{Done, Usage, HostMemory, ReadFault, WriteFault, ScriptLimit}
 use Rattle.script_io.specs.Faults.{IsCutOff}
+use Rattle.vm_base.specs.declared.limits.TheConstants.{FRAMES}
 use Rattle.vm_model.specs.declared.reply.Reply.{Reply}
 use Rattle.vm_model.specs.Contents.Content.{Content}
 use Rattle.vm_model.specs.Machine.State.{State, IsGoodState, empty_state}
@@ -23,19 +24,19 @@ abbrev pub is_text : List ℕ → List ℕ → Bool
 is_text = pointwise nat_eq
 
 -- at most five digits, and a number from 1 to 65,536
-abbrev pub within_frames : List ℕ → Option ℕ → Option ℕ
-within_frames word o = do
+abbrev pub frames_of_digits : List ℕ → Option ℕ → Option ℕ
+frames_of_digits word o = do
   n ← o
-  if nat_le (length word) 5 && (nat_le 1 n && nat_le n 65536) then Some n else None
+  if nat_le (length word) 5 && (nat_le 1 n && nat_le n FRAMES) then Some n else None
 
 -- a number of frames, which isn't written in hexadecimal
-unfoldable pub frame_count : List ℕ → Option ℕ
-frame_count word = if is_hex word then None else within_frames word (number word)
+unfoldable pub frames_of_word : List ℕ → Option ℕ
+frames_of_word word = if is_hex word then None else frames_of_digits word (number word)
 
 -- `run`, with 1,024 frames, or `run --frames N`
 abbrev pub frames_in : List (List ℕ) → Option ℕ
 frames_in (w ∷ []) = if is_text w (codes "run") then Some 1024 else None
-frames_in (w ∷ f ∷ n ∷ []) = if is_text w (codes "run") && is_text f (codes "--frames") then frame_count n else None
+frames_in (w ∷ f ∷ n ∷ []) = if is_text w (codes "run") && is_text f (codes "--frames") then frames_of_word n else None
 frames_in _ = None
 
 -- how many frames the words ask for, None where they are outside the grammar

@@ -11,23 +11,23 @@ use crate::replies::push_reply;
 use page_store::PageStore;
 use script_io::{Fetch, Lines, Sink, Source, Status};
 use script_text::{Line, read_line};
-use vm_base::{Failed, Refusal};
+use vm_base::{Failed, KOIDS, Refusal, TEXT_ROOM};
 use vm_core::Vm;
 use vm_model::Reply;
 
 /// Answers one line. `Failed` where the sink failed; the line was done all the same.
 fn answer_line<P: PageStore, K: Sink>(
-    vm: &mut Vm,
     store: &mut P,
+    vm: &mut Vm,
     sink: &mut K,
-    line: &[u8],
     buffer: &mut [u8],
+    line: &[u8],
 ) -> Result<(), Failed>
     requires good { IsGoodState (state_of (P.content store.old) vm.old) }
-    requires next { (P.content store.old).next < 2 ^ 63 }
-    requires room { 16384 ≤ length buffer.old }
-    ensures answer { AnswersLine line.now (state_of (P.content store.old) vm.old) (state_of (P.content store.new) vm.new)
-        (K.contents sink.old) (K.contents sink.new) result }
+    requires next { (P.content store.old).next < KOIDS }
+    requires room { TEXT_ROOM ≤ length buffer.old }
+    ensures answer { AnswersLine line.now (state_of (P.content store.old) vm.old)
+        (state_of (P.content store.new) vm.new) (K.contents sink.old) (K.contents sink.new) result }
     ensures good { IsGoodState (state_of (P.content store.new) vm.new) }
     ensures next { (P.content store.new).next ≤ (P.content store.old).next + 1 }
     ensures cause { HasCause (K.faults sink.old) (K.faults sink.new) result }
@@ -45,8 +45,8 @@ fn answer_line<P: PageStore, K: Sink>(
 /// Fetches the next line and answers it. A status where the run ends with it. No call uses up more
 /// than one line, so the replies to a line are pushed before the next line is looked at.
 pub fn answer_next<P: PageStore, S: Source, K: Sink>(
-    vm: &mut Vm,
     store: &mut P,
+    vm: &mut Vm,
     lines: &mut Lines,
     source: &mut S,
     sink: &mut K,
@@ -55,12 +55,15 @@ pub fn answer_next<P: PageStore, S: Source, K: Sink>(
     requires good { IsGoodState (state_of (P.content store.old) vm.old) }
     requires ready { IsReady lines.old (S.remaining source.old) (P.content store.old).next }
     requires limit { lines.old.limit < 2 ^ 63 }
-    requires room { 16384 ≤ length buffer.old }
+    requires room { TEXT_ROOM ≤ length buffer.old }
     ensures served { (frames limit : ℕ) (source_old sink_old : Option (List ℕ))
-        → IsServed frames limit lines.old source_old (S.remaining source.old) sink_old (K.contents sink.old) (state_of (P.content store.old) vm.old)
+        → IsServed frames limit lines.old source_old (S.remaining source.old) sink_old (K.contents sink.old)
+        (state_of (P.content store.old) vm.old)
         → MatchOption result
-        (IsServed frames limit lines.new source_old (S.remaining source.new) sink_old (K.contents sink.new) (state_of (P.content store.new) vm.new))
-        (λ status. EndsAs status frames limit source_old (S.remaining source.new) sink_old (K.contents sink.new) (P.content store.new)) }
+        (IsServed frames limit lines.new source_old (S.remaining source.new) sink_old (K.contents sink.new)
+        (state_of (P.content store.new) vm.new))
+        (λ status. EndsAs status frames limit source_old (S.remaining source.new) sink_old (K.contents sink.new)
+        (P.content store.new)) }
     ensures once { FetchesOnce lines.old lines.new (S.remaining source.old) (S.remaining source.new) }
     ensures good { IsGoodState (state_of (P.content store.new) vm.new) }
     ensures ready { IfNone result (IsReady lines.new (S.remaining source.new) (P.content store.new).next) }
@@ -74,7 +77,7 @@ pub fn answer_next<P: PageStore, S: Source, K: Sink>(
     ensures host_memory { result ≢ Some Status.HostMemory }
 {
     let answered = match lines.next(source) {
-        Fetch::Line => answer_line(vm, store, sink, lines.line(), buffer),
+        Fetch::Line => answer_line(store, vm, sink, buffer, lines.line()),
         Fetch::TooLong => push_reply(sink, &Reply::Refused(Refusal::Syntax), buffer),
         Fetch::End => return Some(Status::Done),
         Fetch::Fault => return Some(Status::ReadFault),

@@ -9,11 +9,8 @@ use crate::answers::answer_next;
 use page_store::PageStore;
 use script_io::{Lines, Sink, Source, Status};
 use std::alloc::Global;
-use vm_base::HostMemory;
+use vm_base::{FRAMES, HostMemory, TEXT_ROOM};
 use vm_core::Vm;
-
-/// The bytes of the buffer through which replies go.
-const REPLY_ROOM: usize = 16_384;
 
 /// Answers the lines of the script that a source gives, one after another, on a machine with
 /// `frames` page frames, from 1 to 65,536. The replies to a line are pushed whole before the next
@@ -32,7 +29,7 @@ pub fn serve<P: PageStore, S: Source, K: Sink>(
     sink: &mut K,
 ) -> Status
     requires empty { P.content store.old ≡ nothing }
-    requires frames { 1 ≤ frames × frames ≤ 65536 }
+    requires frames { 1 ≤ frames × frames ≤ FRAMES }
     requires limit { limit < 2 ^ 63 }
     ensures ends { EndsAs result frames limit (S.remaining source.old) (S.remaining source.new)
         (K.contents sink.old) (K.contents sink.new) (P.content store.new) }
@@ -43,7 +40,7 @@ pub fn serve<P: PageStore, S: Source, K: Sink>(
     let Ok(mut lines) = Lines::new(alloc, limit) else {
         return Status::HostMemory;
     };
-    let Ok(mut buffer) = zeroed(alloc, REPLY_ROOM) else {
+    let Ok(mut buffer) = zeroed(alloc, TEXT_ROOM) else {
         return Status::HostMemory;
     };
     let Ok(()) = store.fill(frames) else {
@@ -52,8 +49,8 @@ pub fn serve<P: PageStore, S: Source, K: Sink>(
     let mut vm = Vm::new(alloc);
     loop {
         let next = answer_next(
-            &mut vm,
             store,
+            &mut vm,
             &mut lines,
             source,
             sink,

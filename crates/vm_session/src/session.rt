@@ -10,9 +10,7 @@ use crate::words::frames_of;
 use page_store::PageStore;
 use script_io::{Sink, Source, Status};
 use std::alloc::Global;
-
-/// The most bytes of a script: 4 GiB.
-const SCRIPT_LIMIT: u64 = 4_294_967_296;
+use vm_base::SCRIPT_BYTES;
 
 /// Runs the script that a source gives, and writes the replies to a sink. `words` are the words of
 /// the command line behind the program's name: `run`, with 1,024 page frames, or `run --frames N`
@@ -35,7 +33,7 @@ pub fn run<P: PageStore, S: Source, K: Sink>(
     // the store contains. `Done` says that what was written is the replies of one legal run over all
     // lines of the script, and that the store contains what the machine has in the end.
     ensures ends { IfSome (frames_of words.now) (λ frames.
-        EndsAs result frames 4294967296 (S.remaining source.old) (S.remaining source.new)
+        EndsAs result frames SCRIPT_BYTES (S.remaining source.old) (S.remaining source.new)
         (K.contents sink.old) (K.contents sink.new) (P.content store.new)) }
 
     // A fault is answered only where the source or the sink failed.
@@ -47,10 +45,11 @@ pub fn run<P: PageStore, S: Source, K: Sink>(
 
     // Other words are refused, and nothing is touched.
     ensures usage { (result ≡ Status.Usage) ↔ (frames_of words.now ≡ None) }
-    ensures untouched { result ≡ Status.Usage → (source.new ≡ source.old) × (sink.new ≡ sink.old) × (store.new ≡ store.old) }
+    ensures untouched { result ≡ Status.Usage → (source.new ≡ source.old) × (sink.new ≡ sink.old)
+        × (store.new ≡ store.old) }
 {
     match frames_of(words) {
-        Some(frames) => serve(alloc, frames, SCRIPT_LIMIT, store, source, sink),
+        Some(frames) => serve(alloc, frames, SCRIPT_BYTES, store, source, sink),
         None => Status::Usage,
     }
 }
