@@ -9,7 +9,7 @@ use Rattle.vm_model.specs.declared.names.Target.{Target}
 use Rattle.vmo_table.specs.Table.{Table as Vmos, names_of, keepers_of, with_vmos, AreParts}
 use Rattle.pin_table.specs.Table.{Table as Pins, pins_of}
 use Rattle.page_store.specs.Names.{IsInside}
-use Rattle.vmo_ops.specs.Targets.{with_tables, AreTogether, IsCounted, Does, DoesWith}
+use Rattle.vmo_ops.specs.Targets.{with_tables, AreTogether, IsWellCounted, Does, DoesWith}
 use Rattle.vmo_ops.proofs.NameLaws.{parts_inside}
 use Rattle.vm_core.specs.Calls.{CountsPins, StepsVmos, Steps}
 
@@ -19,7 +19,7 @@ parts_of c vmos pins together = (with_tables together.0 c vmos pins, together.1)
 
 -- and what keeps each VMO is counted, where the pins are
 pub counted_parts : (c : Content) (vmos : Vmos) (pins : Pins) → AreTogether c vmos pins → CountsPins vmos pins
-    → (s : State) × IsCounted vmos (with_tables s c vmos pins)
+    → (s : State) × IsWellCounted vmos (with_tables s c vmos pins)
 counted_parts c vmos pins together counted =
     (together.0, record { good = together.1; counted = counted (with_tables together.0 c vmos pins) })
 

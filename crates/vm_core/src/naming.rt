@@ -7,7 +7,7 @@ ghost use Rattle.vm_model.specs.declared.command.Command.{Command};
 ghost use Rattle.vm_model.specs.Machine.State.{State};
 ghost use Rattle.vm_model.specs.Machine.Step.{Step};
 ghost use Rattle.vmo_table.specs.Table.{keepers_of, with_vmos, AreParts};
-ghost use Rattle.vmo_ops.specs.Targets.{AreTogether, IsCounted};
+ghost use Rattle.vmo_ops.specs.Targets.{AreTogether, IsWellCounted};
 ghost use Rattle.vm_core.specs.Calls.{Steps, StepsVmos};
 
 use page_store::PageStore;
@@ -77,8 +77,8 @@ pub(crate) fn vmo_create_child<P: PageStore>(
 
 /// Closes a name, where it is open.
 pub(crate) fn vmo_close<P: PageStore>(store: &mut P, vmos: &mut VmoTable, name: VmoName) -> Reply
-    requires { (s : State) × IsCounted vmos.old (with_vmos s (P.content store.old) vmos.old) }
-    ensures step { (s : State) → IsCounted vmos.old (with_vmos s (P.content store.old) vmos.old) →
+    requires { (s : State) × IsWellCounted vmos.old (with_vmos s (P.content store.old) vmos.old) }
+    ensures step { (s : State) → IsWellCounted vmos.old (with_vmos s (P.content store.old) vmos.old) →
         Step (with_vmos s (P.content store.old) vmos.old) (Command.VmoClose name) result
         (with_vmos s (P.content store.new) vmos.new) }
     ensures keepers { keepers_of vmos.new ≡ keepers_of vmos.old }
