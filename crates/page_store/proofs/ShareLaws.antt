@@ -7,7 +7,7 @@ use Rattle.std.proofs.lemmas.Bool.Decides.{nat_tests}
 use Rattle.std.proofs.lemmas.List.{take-append-drop, take-take, take_more, get_or_past, append-nil, append_assoc, map_push, get_or_append_left}
 use Rattle.std.proofs.lemmas.List.Edits.{between_none, between_more, split_between}
 use Rattle.vm_base.specs.Entries.{without_key}
-use Rattle.vm_base.proofs.EntryLaws.{without_key-here, without_key-other}
+use Rattle.vm_base.proofs.EntryLaws.{without_key-same, without_key-other}
 use Rattle.frame_pool.specs.Pool.{Pool, taken_frames}
 use Rattle.page_store.specs.declared.rows.Row.{Row}
 use Rattle.page_store.specs.Shares.{rows_with, row_in, IsFirstWith, Shares, AreCounted, Releases}
@@ -212,7 +212,7 @@ given_counted now t pool after counted low given = record {
   taken = λ u. ap (λ (m : ℕ → Option (List ℕ)). is_some (m u)) given ∙ elim (cases_eq u t) [
     | inl same ↦
         let is : get_or (set now t 0) u 0 ≡ 0 = ap (λ (k : ℕ). get_or (set now t 0) k 0) same ∙ get_or-set_same now t 0 0 low in
-        ap is_some (without_key-here (taken_frames pool) t u same) ∙ ap (nat_lt 0) (sym is)
+        ap is_some (ap (without_key (taken_frames pool) t) same ∙ without_key-same (taken_frames pool) t) ∙ ap (nat_lt 0) (sym is)
     | inr apart ↦
         ap is_some (without_key-other (taken_frames pool) t u apart) ∙ (counted.taken u ∙ ap (nat_lt 0) (sym (counted_other now t u 0 apart)))
   ];
