@@ -11,10 +11,12 @@ abbrev last_glyph : ℕ → ℕ
 last_glyph n = digit_glyph false (n % 16)
 
 onto_last : (k n : ℕ) (acc : List ℕ) → n < 16 → onto (suc k) n acc ≡ last_glyph n ∷ acc
-onto_last k n acc h = ap (λ t. cond t (last_glyph n ∷ acc) (onto k (n / 16) (last_glyph n ∷ acc))) (eq-eqb (n / 16) 0 (omega arith))
+onto_last k n acc h = ap (λ t. cond t (last_glyph n ∷ acc) (onto k (n / 16) (last_glyph n ∷ acc)))
+    (eq-eqb (n / 16) 0 (omega arith))
 
 onto_next : (k n : ℕ) (acc : List ℕ) → 16 ≤ n → onto (suc k) n acc ≡ onto k (n / 16) (last_glyph n ∷ acc)
-onto_next k n acc h = ap (λ t. cond t (last_glyph n ∷ acc) (onto k (n / 16) (last_glyph n ∷ acc))) (ne_eqb (n / 16) 0 (λ e. omega arith))
+onto_next k n acc h = ap (λ t. cond t (last_glyph n ∷ acc) (onto k (n / 16) (last_glyph n ∷ acc)))
+    (ne_eqb (n / 16) 0 (λ e. omega arith))
 
 onto-append : (k n : ℕ) (acc : List ℕ) → onto k n acc ≡ onto k n [] ++ acc
 onto-append zero n acc = refl
@@ -31,7 +33,8 @@ onto_enough zero k n acc p q = onto_last zero n acc (omega arith) ∙ sym (onto_
 onto_enough (suc j) zero n acc p q = onto_last (suc j) n acc (omega arith) ∙ sym (onto_last zero n acc (omega arith))
 onto_enough (suc j) (suc k) n acc p q = ⊎_elim
     (λ l. onto_last (suc j) n acc l ∙ sym (onto_last (suc k) n acc l))
-    (λ l. onto_next (suc j) n acc l ∙ onto_enough j k (n / 16) (last_glyph n ∷ acc) (omega arith) (omega arith) ∙ sym (onto_next (suc k) n acc l))
+    (λ l. onto_next (suc j) n acc l ∙ onto_enough j k (n / 16) (last_glyph n ∷ acc) (omega arith) (omega arith)
+    ∙ sym (onto_next (suc k) n acc l))
     (cases_lt n 16)
 
 onto_digits : (n : ℕ) → onto 64 n [] ≡ digits 16 false n
@@ -39,9 +42,11 @@ unfolding digits
 onto_digits n = refl
 
 -- the digits of a number of at least two digits end in that of its lowest four bits
-pub hex_step : (n : ℕ) → 16 ≤ n → n < 2 ^ 64 → digits 16 false n ≡ digits 16 false (n / 16) ++ digit_glyph false (n % 16) ∷ []
+pub hex_step : (n : ℕ) → 16 ≤ n → n < 2 ^ 64
+    → digits 16 false n ≡ digits 16 false (n / 16) ++ digit_glyph false (n % 16) ∷ []
 hex_step n more fits =
-    sym (onto_digits n) ∙ onto_next 63 n [] more ∙ onto_enough 62 63 (n / 16) (last_glyph n ∷ []) (omega arith) (omega arith)
+    sym (onto_digits n) ∙ onto_next 63 n [] more
+    ∙ onto_enough 62 63 (n / 16) (last_glyph n ∷ []) (omega arith) (omega arith)
     ∙ onto-append 64 (n / 16) (last_glyph n ∷ []) ∙ ap (λ x. x ++ last_glyph n ∷ []) (onto_digits (n / 16))
 
 pub length-hex_step : (n : ℕ) → 16 ≤ n → n < 2 ^ 64 → length (digits 16 false n) ≡ length (digits 16 false (n / 16)) + 1

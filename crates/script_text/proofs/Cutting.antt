@@ -19,21 +19,25 @@ pub words-blank : (b : ℕ) (bs : List ℕ) → is_blank b ≡ true → words (b
 unfolding words
 words-blank b bs e = rw e
 
-pub words-alone : (b : ℕ) (bs : List ℕ) → is_blank b ≡ false → begins_blank bs ≡ true → words (b ∷ bs) ≡ (b ∷ []) ∷ words bs
+pub words-alone : (b : ℕ) (bs : List ℕ) → is_blank b ≡ false → begins_blank bs ≡ true
+    → words (b ∷ bs) ≡ (b ∷ []) ∷ words bs
 unfolding words
 words-alone b bs e f = rw (e, f)
 
-pub words-longer : (b : ℕ) (bs : List ℕ) → is_blank b ≡ false → begins_blank bs ≡ false → words (b ∷ bs) ≡ before_first b (words bs)
+pub words-longer : (b : ℕ) (bs : List ℕ) → is_blank b ≡ false → begins_blank bs ≡ false
+    → words (b ∷ bs) ≡ before_first b (words bs)
 unfolding words
 words-longer b bs e f = rw (e, f)
 
-pub len-solid : (b : ℕ) (bs : List ℕ) → is_blank b ≡ false → position_or_len is_blank (b ∷ bs) ≡ suc (position_or_len is_blank bs)
+pub len-solid : (b : ℕ) (bs : List ℕ) → is_blank b ≡ false
+    → position_or_len is_blank (b ∷ bs) ≡ suc (position_or_len is_blank bs)
 len-solid b bs e = rw e (one-add _)
 
 pub len-blank : (b : ℕ) (bs : List ℕ) → is_blank b ≡ true → position_or_len is_blank (b ∷ bs) ≡ 0
 len-blank b bs e = rw e
 
-pub start-blank : (b : ℕ) (bs : List ℕ) → is_blank b ≡ true → position_or_len is_solid (b ∷ bs) ≡ suc (position_or_len is_solid bs)
+pub start-blank : (b : ℕ) (bs : List ℕ) → is_blank b ≡ true
+    → position_or_len is_solid (b ∷ bs) ≡ suc (position_or_len is_solid bs)
 start-blank b bs e = rw e (one-add _)
 
 pub start-solid : (b : ℕ) (bs : List ℕ) → is_blank b ≡ false → position_or_len is_solid (b ∷ bs) ≡ 0
@@ -50,14 +54,16 @@ words-drop_blanks (b ∷ bs) =
     ] refl
 
 -- the first word of a line that begins with no blank
-pub words-first : (b : ℕ) (bs : List ℕ) → is_blank b ≡ false → words (b ∷ bs) ≡ take (position_or_len is_blank (b ∷ bs)) (b ∷ bs) ∷ words (drop (position_or_len is_blank (b ∷ bs)) (b ∷ bs))
+pub words-first : (b : ℕ) (bs : List ℕ) → is_blank b ≡ false → words (b ∷ bs)
+    ≡ take (position_or_len is_blank (b ∷ bs)) (b ∷ bs) ∷ words (drop (position_or_len is_blank (b ∷ bs)) (b ∷ bs))
 words-first b [] e = rw (len-solid b [] e) (words-alone b [] e refl)
 words-first b (c ∷ cs) e =
     let n = position_or_len is_blank (b ∷ c ∷ cs) in
     let goal : Type 0 = words (b ∷ c ∷ cs) ≡ take n (b ∷ c ∷ cs) ∷ words (drop n (b ∷ c ∷ cs)) in
     elim (is_blank c) as (λ v. is_blank c ≡ v → goal) [
       | true ↦ λ f. rw (len-solid b (c ∷ cs) e, len-blank c cs f) (words-alone b (c ∷ cs) e f)
-      | false ↦ λ f. rw (len-solid b (c ∷ cs) e) (words-longer b (c ∷ cs) e f ∙ ap (before_first b) (words-first c cs f))
+      | false ↦ λ f. rw (len-solid b (c ∷ cs) e)
+          (words-longer b (c ∷ cs) e f ∙ ap (before_first b) (words-first c cs f))
     ] refl
 
 -- a line with no byte of a word
@@ -69,7 +75,8 @@ words-none xs e =
     sym (words-drop_blanks xs) ∙ rw gone refl
 
 -- the byte at which the first word begins
-pub words-start : (xs : List ℕ) (i : ℕ) → position is_solid xs ≡ Some i → (words xs ≡ words (drop i xs)) × (i < length xs) × (is_blank (get_or xs i 0) ≡ false)
+pub words-start : (xs : List ℕ) (i : ℕ) → position is_solid xs ≡ Some i
+    → (words xs ≡ words (drop i xs)) × (i < length xs) × (is_blank (get_or xs i 0) ≡ false)
 words-start xs i e =
     let at = position-Some is_solid xs i 0 e in
     let same : i ≡ position_or_len is_solid xs = grind (arith, nat_tests) in
@@ -86,13 +93,15 @@ pub record IsCut (xs word behind : List ℕ) : Type 0 where
   pub words : words xs ≡ word ∷ words behind
   pub shorter : length behind < length xs
 
-pub IsCut-by_positions : (xs : List ℕ) (i : ℕ) (ys : List ℕ) (n : ℕ) → position is_solid xs ≡ Some i → ys ≡ drop i xs → n ≡ unwrap_or (position is_blank ys) (length ys) → IsCut xs (take n ys) (drop n ys)
+pub IsCut-by_positions : (xs : List ℕ) (i : ℕ) (ys : List ℕ) (n : ℕ) → position is_solid xs ≡ Some i → ys ≡ drop i xs
+    → n ≡ unwrap_or (position is_blank ys) (length ys) → IsCut xs (take n ys) (drop n ys)
 IsCut-by_positions xs i ys n e f g =
     let start = words-start xs i e in
     let b = get_or xs i 0 in
     let bs = drop (suc i) xs in
     let head : ys ≡ b ∷ bs = f ∙ drop-cons xs i 0 start.1 in
-    let len : n ≡ position_or_len is_blank (b ∷ bs) = g ∙ position-or_length is_blank ys ∙ ap (position_or_len is_blank) head in
+    let len : n ≡ position_or_len is_blank (b ∷ bs) = g ∙ position-or_length is_blank ys
+        ∙ ap (position_or_len is_blank) head in
     let first = words-first b bs start.2 in
     let some : 1 ≤ n = rw (len, len-solid b bs start.2) (omega arith) in
     record {

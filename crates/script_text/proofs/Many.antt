@@ -8,6 +8,7 @@ use Rattle.std.proofs.lemmas.Map.Made.{length-le_from_is_member}
 use Rattle.std.proofs.lemmas.Slice.Eq.{bytes_eq-Decides}
 use Rattle.vm_model.specs.declared.command.Command.{Command}
 use Rattle.vm_model.specs.Language.Reading.{command, flagged, are_flags, stands, is_word, vmo, region, number, child_kind, perm, vmo_create, vmo_create_child, vmar_allocate, vmar_map}
+use Rattle.script_text.specs.Shapes.{map_flag_words, region_flag_words}
 
 -- three tests that hold
 three : (a b c : Bool) → (a && not b && c) ≡ true → (a ≡ true) × (b ≡ false) × (c ≡ true)
@@ -19,7 +20,8 @@ three false b c e = absurd cc
 -- a word that stands nowhere differs from each
 apart : (w : List ℕ) (ws : List (List ℕ)) → stands w ws ≡ false → AllByRecursion (λ v. is_word w v ≡ false) ws
 apart w [] e = tt
-apart w (v ∷ vs) e = elim (is_word w v) as (λ b. (b || stands w vs) ≡ false → (b ≡ false) × AllByRecursion (λ v. is_word w v ≡ false) vs) [
+apart w (v ∷ vs) e = elim (is_word w v) as
+    (λ b. (b || stands w vs) ≡ false → (b ≡ false) × AllByRecursion (λ v. is_word w v ≡ false) vs) [
   | true ↦ λ f. absurd cc
   | false ↦ λ f. (refl, apart w vs f)
 ] e
@@ -33,7 +35,8 @@ distinct_flags known (w ∷ ws) e =
     (apart w ws parts.1, distinct_flags known ws parts.2)
 
 -- each flag is known
-known_flags : (known ws : List (List ℕ)) → are_flags known ws ≡ true → (q : List ℕ) → stands q ws ≡ true → stands q known ≡ true
+known_flags : (known ws : List (List ℕ)) → are_flags known ws ≡ true → (q : List ℕ) → stands q ws ≡ true
+    → stands q known ≡ true
 known_flags known [] e q h = absurd cc
 known_flags known (w ∷ ws) e q h =
     let parts = three (stands w known) (stands w ws) (are_flags known ws) e in
@@ -44,11 +47,13 @@ known_flags known (w ∷ ws) e q h =
 
 -- there are no more flags than are known
 few_flags : (known ws : List (List ℕ)) → are_flags known ws ≡ true → length ws ≤ length known
-few_flags known ws e = length-le_from_is_member nat_list_eq_equiv ws known (distinct_flags known ws e) (known_flags known ws e)
+few_flags known ws e = length-le_from_is_member nat_list_eq_equiv ws known (distinct_flags known ws e)
+    (known_flags known ws e)
 
 -- more words than there are flags
 flagged-many : (known ws : List (List ℕ)) (c : Command) → length known < length ws → flagged known ws c ≡ None
-flagged-many known ws c h = elim (are_flags known ws) as (λ b. are_flags known ws ≡ b → (if b then Some c else None) ≡ None) [
+flagged-many known ws c h = elim (are_flags known ws) as
+    (λ b. are_flags known ws ≡ b → (if b then Some c else None) ≡ None) [
   | true ↦ λ e. absurd (omega (arith, few_flags known ws e, h))
   | false ↦ λ e. refl
 ] refl
@@ -63,24 +68,35 @@ row-none : (b : Bool) (x y : Option Command) → x ≡ None → y ≡ None → (
 row-none true x y e f = e
 row-none false x y e f = f
 
-many_for_create : (a b c d e f : List ℕ) (ws : List (List ℕ)) → 4 < length ws → vmo_create (a ∷ b ∷ c ∷ d ∷ e ∷ f ∷ ws) ≡ None
+many_for_create : (a b c d e f : List ℕ) (ws : List (List ℕ)) → 4 < length ws
+    → vmo_create (a ∷ b ∷ c ∷ d ∷ e ∷ f ∷ ws) ≡ None
 many_for_create a b c d e f ws h =
-    after (vmo a) _ (λ _. after (number b) _ (λ _. flagged-many (codes "resizable" ∷ []) (c ∷ d ∷ e ∷ f ∷ ws) _ (omega arith)))
+    after (vmo a) _ (λ _. after (number b) _ (λ _.
+    flagged-many (codes "resizable" ∷ []) (c ∷ d ∷ e ∷ f ∷ ws) _ (omega arith)))
 
-many_for_child : (a b c d e f : List ℕ) (ws : List (List ℕ)) → 4 < length ws → vmo_create_child (a ∷ b ∷ c ∷ d ∷ e ∷ f ∷ ws) ≡ None
+many_for_child : (a b c d e f : List ℕ) (ws : List (List ℕ)) → 4 < length ws
+    → vmo_create_child (a ∷ b ∷ c ∷ d ∷ e ∷ f ∷ ws) ≡ None
 many_for_child a b c d e f ws h =
-    after (vmo a) _ (λ _. after (vmo b) _ (λ _. after (child_kind c) _ (λ _. after (number d) _ (λ _. after (number e) _ (λ _. flagged-many (codes "resizable" ∷ codes "no_write" ∷ []) (f ∷ ws) _ (omega arith))))))
+    after (vmo a) _ (λ _. after (vmo b) _
+        (λ _. after (child_kind c) _ (λ _. after (number d) _ (λ _. after (number e) _ (λ _.
+    flagged-many (codes "resizable" ∷ codes "no_write" ∷ []) (f ∷ ws) _ (omega arith))))))
 
-many_for_allocate : (a b c d e f : List ℕ) (ws : List (List ℕ)) → 4 < length ws → vmar_allocate (a ∷ b ∷ c ∷ d ∷ e ∷ f ∷ ws) ≡ None
+many_for_allocate : (a b c d e f : List ℕ) (ws : List (List ℕ)) → 4 < length ws
+    → vmar_allocate (a ∷ b ∷ c ∷ d ∷ e ∷ f ∷ ws) ≡ None
 many_for_allocate a b c d e f ws h =
-    after (region a) _ (λ _. after (region b) _ (λ _. after (number c) _ (λ _. after (number d) _ (λ _. flagged-many (codes "specific" ∷ codes "upper_limit" ∷ codes "can_read" ∷ codes "can_write" ∷ codes "can_execute" ∷ []) (e ∷ f ∷ ws) _ (omega arith)))))
+    after (region a) _ (λ _. after (region b) _ (λ _. after (number c) _ (λ _. after (number d) _ (λ _.
+    flagged-many region_flag_words (e ∷ f ∷ ws) _ (omega arith)))))
 
-many_for_map : (a b c d e f : List ℕ) (ws : List (List ℕ)) → 4 < length ws → vmar_map (a ∷ b ∷ c ∷ d ∷ e ∷ f ∷ ws) ≡ None
+many_for_map : (a b c d e f : List ℕ) (ws : List (List ℕ)) → 4 < length ws
+    → vmar_map (a ∷ b ∷ c ∷ d ∷ e ∷ f ∷ ws) ≡ None
 many_for_map a b c d e f ws h =
-    after (region a) _ (λ _. after (number b) _ (λ _. after (vmo c) _ (λ _. after (number d) _ (λ _. after (number e) _ (λ _. after (perm f) _ (λ _. flagged-many (codes "specific" ∷ codes "specific_overwrite" ∷ codes "upper_limit" ∷ codes "allow_faults" ∷ []) ws _ h))))))
+    after (region a) _ (λ _. after (number b) _
+        (λ _. after (vmo c) _ (λ _. after (number d) _ (λ _. after (number e) _ (λ _.
+    after (perm f) _ (λ _. flagged-many map_flag_words ws _ h))))))
 
 -- each row of the table, on six arguments and more than four behind them
-command_of_six : (word a b c d e f : List ℕ) (ws : List (List ℕ)) → 4 < length ws → command word (a ∷ b ∷ c ∷ d ∷ e ∷ f ∷ ws) ≡ None
+command_of_six : (word a b c d e f : List ℕ) (ws : List (List ℕ)) → 4 < length ws
+    → command word (a ∷ b ∷ c ∷ d ∷ e ∷ f ∷ ws) ≡ None
 unfolding command
 command_of_six word a b c d e f ws h =
     row-none (is_word word (codes "vmo_create")) _ _ (many_for_create a b c d e f ws h)
@@ -108,7 +124,8 @@ command_of_six word a b c d e f ws h =
     (row-none (is_word word (codes "mem_write")) _ _ refl
     (row-none (is_word word (codes "stat")) _ _ refl refl)))))))))))))))))))))))
 
-pub command_of_many : (word : List ℕ) (arguments : List (List ℕ)) → 10 < length arguments → command word arguments ≡ None
+pub command_of_many : (word : List ℕ) (arguments : List (List ℕ)) → 10 < length arguments
+    → command word arguments ≡ None
 command_of_many word [] h = absurd (omega arith)
 command_of_many word (a ∷ []) h = absurd (omega arith)
 command_of_many word (a ∷ b ∷ []) h = absurd (omega arith)

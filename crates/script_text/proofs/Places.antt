@@ -11,7 +11,8 @@ use Rattle.vm_model.specs.Language.Reading.{words, is_blank, begins_blank, befor
 use Rattle.script_text.specs.Places.{IsWordFrom}
 use Rattle.script_text.proofs.Cutting.{is_solid, words-blank, words-alone, words-longer, words-first, words-start, len-solid, len-blank, start-blank, start-solid, position-or_length}
 
-before_first-append : (a : ℕ) (vs us ws : List (List ℕ)) (w : List ℕ) → vs ≡ w ∷ ws → before_first a (vs ++ us) ≡ before_first a vs ++ us
+before_first-append : (a : ℕ) (vs us ws : List (List ℕ)) (w : List ℕ) → vs ≡ w ∷ ws
+    → before_first a (vs ++ us) ≡ before_first a vs ++ us
 before_first-append a vs us ws w e = rw e refl
 
 -- a line may be cut before a blank
@@ -30,8 +31,11 @@ words-apart (a ∷ c ∷ cs) ys h =
     elim (is_blank a) as (λ v. is_blank a ≡ v → goal) [
       | true ↦ λ e. words-blank a (c ∷ (cs ++ ys)) e ∙ rest ∙ ap (λ v. v ++ words ys) (sym (words-blank a (c ∷ cs) e))
       | false ↦ λ e. elim (is_blank c) as (λ v. is_blank c ≡ v → goal) [
-        | true ↦ λ f. words-alone a (c ∷ (cs ++ ys)) e f ∙ ap (λ v. (a ∷ []) ∷ v) rest ∙ ap (λ v. v ++ words ys) (sym (words-alone a (c ∷ cs) e f))
-        | false ↦ λ f. words-longer a (c ∷ (cs ++ ys)) e f ∙ ap (before_first a) rest ∙ before_first-append a (words (c ∷ cs)) (words ys) _ _ (words-first c cs f) ∙ ap (λ v. v ++ words ys) (sym (words-longer a (c ∷ cs) e f))
+        | true ↦ λ f. words-alone a (c ∷ (cs ++ ys)) e f ∙ ap (λ v. (a ∷ []) ∷ v) rest
+        ∙ ap (λ v. v ++ words ys) (sym (words-alone a (c ∷ cs) e f))
+        | false ↦ λ f. words-longer a (c ∷ (cs ++ ys)) e f ∙ ap (before_first a) rest
+        ∙ before_first-append a (words (c ∷ cs)) (words ys) _ _ (words-first c cs f)
+        ∙ ap (λ v. v ++ words ys) (sym (words-longer a (c ∷ cs) e f))
       ] refl
     ] refl
 
@@ -42,7 +46,8 @@ words-front_blanks [] = refl
 words-front_blanks (b ∷ bs) =
     let goal : Type 0 = words (take (position_or_len is_solid (b ∷ bs)) (b ∷ bs)) ≡ [] in
     elim (is_blank b) as (λ v. is_blank b ≡ v → goal) [
-      | true ↦ λ e. rw (start-blank b bs e) (words-blank b (take (position_or_len is_solid bs) bs) e ∙ words-front_blanks bs)
+      | true ↦ λ e. rw (start-blank b bs e)
+          (words-blank b (take (position_or_len is_solid bs) bs) e ∙ words-front_blanks bs)
       | false ↦ λ e. rw (start-solid b bs e) refl
     ] refl
 
@@ -70,7 +75,9 @@ position-is : (xs : List ℕ) (i : ℕ) → position is_solid xs ≡ Some i → 
 position-is xs i e = grind (arith, nat_tests)
 
 -- the word at a place of a line, by where its first byte stands behind the place and how long it is
-pub IsWordFrom-by_positions : (line : List ℕ) (place i n : ℕ) (ys zs : List ℕ) → place ≤ length line → ys ≡ drop place line → position is_solid ys ≡ Some i → zs ≡ drop i ys → n ≡ unwrap_or (position is_blank zs) (length zs) → IsWordFrom line place (place + i) (place + i + n)
+pub IsWordFrom-by_positions : (line : List ℕ) (place i n : ℕ) (ys zs : List ℕ) → place ≤ length line
+    → ys ≡ drop place line → position is_solid ys ≡ Some i → zs ≡ drop i ys
+    → n ≡ unwrap_or (position is_blank zs) (length zs) → IsWordFrom line place (place + i) (place + i + n)
 IsWordFrom-by_positions line place i n ys zs h front found back len =
     let begun = words-start ys i found in
     let same : i ≡ position_or_len is_solid ys = position-is ys i found in
@@ -81,7 +88,8 @@ IsWordFrom-by_positions line place i n ys zs h front found back len =
     let at_start : drop (place + i) line ≡ zs = sym (drop-drop i place line) ∙ ap (drop i) (sym front) ∙ sym back in
     let at_end : drop (place + i + n) line ≡ drop n zs = sym (drop-drop n (place + i) line) ∙ ap (drop n) at_start in
     let first : words zs ≡ take n zs ∷ words (drop n zs) = rw (long, head) (words-first b bs begun.2) in
-    let solid : n ≡ suc (position_or_len is_blank bs) = long ∙ ap (position_or_len is_blank) head ∙ len-solid b bs begun.2 in
+    let solid : n ≡ suc (position_or_len is_blank bs) = long ∙ ap (position_or_len is_blank) head
+        ∙ len-solid b bs begun.2 in
     let blank : begins_blank (take i (drop place line)) ≡ true = rw (← front, same) (begins_blank-front ys) in
     let none : words (take i (drop place line)) ≡ [] = rw (← front, same) (words-front_blanks ys) in
     let behind : begins_blank (drop (place + i + n) line) ≡ true = rw (at_end, long) (begins_blank-behind zs) in
@@ -94,8 +102,10 @@ IsWordFrom-by_positions line place i n ys zs h front found back len =
       some = omega (arith, solid);
       within = omega (arith, most, long, left, rest, begun.1, h);
       first = rw (width, at_start, at_end) (ap words (sym front) ∙ begun.0 ∙ ap words (sym back) ∙ first);
-      front = ap words (take-add place i line) ∙ words-apart (take place line) (take i (drop place line)) blank ∙ ap (λ v. words (take place line) ++ v) none ∙ append-nil (words (take place line));
-      apart = ap words (sym (take-append-drop (place + i + n) line)) ∙ words-apart (take (place + i + n) line) (drop (place + i + n) line) behind;
+      front = ap words (take-add place i line) ∙ words-apart (take place line) (take i (drop place line)) blank
+      ∙ ap (λ v. words (take place line) ++ v) none ∙ append-nil (words (take place line));
+      apart = ap words (sym (take-append-drop (place + i + n) line))
+      ∙ words-apart (take (place + i + n) line) (drop (place + i + n) line) behind;
     }
 
 -- how far the words are counted
@@ -108,11 +118,15 @@ pub IsPassed-start : (line : List ℕ) (index : ℕ) → IsPassed line index ind
 unfolding words
 IsPassed-start line index = record { within = omega arith; joined = refl; counted = omega arith }
 
-pub IsPassed-next : (line : List ℕ) (index left passed start end : ℕ) → IsPassed line index left passed → IsWordFrom line passed start end → 0 < left → IsPassed line index (left - 1) end
+pub IsPassed-next : (line : List ℕ) (index left passed start end : ℕ) → IsPassed line index left passed
+    → IsWordFrom line passed start end → 0 < left → IsPassed line index (left - 1) end
 IsPassed-next line index left passed start end p w some =
-    let whole : length (words line) ≡ length (words (take passed line)) + length (words (drop passed line)) = ap length p.joined ∙ length-append _ _ in
-    let cut : length (words line) ≡ length (words (take end line)) + length (words (drop end line)) = ap length w.apart ∙ length-append _ _ in
-    let first : length (words (drop passed line)) ≡ length (slice_range line start end ∷ words (drop end line)) = ap length w.first in
+    let whole : length (words line) ≡ length (words (take passed line)) + length (words (drop passed line)) =
+        ap length p.joined ∙ length-append _ _ in
+    let cut : length (words line) ≡ length (words (take end line)) + length (words (drop end line)) = ap length w.apart
+        ∙ length-append _ _ in
+    let first : length (words (drop passed line)) ≡ length (slice_range line start end ∷ words (drop end line)) =
+        ap length w.first in
     record { within = w.within; joined = w.apart; counted = omega arith }
 
 -- the word that was looked for
@@ -121,14 +135,16 @@ pub record IsFound (line : List ℕ) (index start end : ℕ) : Type 0 where
   pub word : slice_get (words line) index ≡ Some (slice_range line start end)
   pub front : words (take start line) ≡ take index (words line)
 
-pub IsPassed-found : (line : List ℕ) (index left passed start end : ℕ) → IsPassed line index left passed → IsWordFrom line passed start end → left ≡ 0 → IsFound line index start end
+pub IsPassed-found : (line : List ℕ) (index left passed start end : ℕ) → IsPassed line index left passed
+    → IsWordFrom line passed start end → left ≡ 0 → IsFound line index start end
 IsPassed-found line index left passed start end p w none =
     let front = words (take passed line) in
     let word = slice_range line start end in
     let behind = words (drop end line) in
     let all : words line ≡ front ++ word ∷ behind = p.joined ∙ ap (λ v. front ++ v) w.first in
     let count : index ≡ length front = omega (arith, p.counted) in
-    let size : length (words line) ≡ length front + length (word ∷ behind) = ap length all ∙ length-append front (word ∷ behind) in
+    let size : length (words line) ≡ length front + length (word ∷ behind) = ap length all
+        ∙ length-append front (word ∷ behind) in
     let at : get_or (words line) index word ≡ word = rw (count, all) (get_or-append_seam front word behind word) in
     record {
       more = omega arith;

@@ -26,15 +26,18 @@ by_word-of_length (row ∷ rows) word arguments =
     let kept = filter (λ (r : Row). length r.0 == length word) rows in
     let rest : by_word rows word arguments ≡ by_word kept word arguments = by_word-of_length rows word arguments in
     elim (length row.0 == length word) as (λ b. (length row.0 == length word) ≡ b
-    → (if is_word word row.0 then row.1 arguments else by_word rows word arguments) ≡ by_word (cond b (row ∷ kept) kept) word arguments) [
+    → (if is_word word row.0 then row.1 arguments else by_word rows word arguments)
+        ≡ by_word (cond b (row ∷ kept) kept) word arguments) [
       | true ↦ λ _. ap (λ o. if is_word word row.0 then row.1 arguments else o) rest
       | false ↦ λ apart. rw (other_word word row.0 (eqb-false _ _ apart)) rest
     ] refl
 
-by_word-none : (rows : List Row) (word : List ℕ) (arguments : List (List ℕ)) → AllByRecursion (λ row. length row.0 ≢ length word) rows
+by_word-none : (rows : List Row) (word : List ℕ) (arguments : List (List ℕ))
+    → AllByRecursion (λ row. length row.0 ≢ length word) rows
     → by_word rows word arguments ≡ None
 by_word-none [] word arguments apart = refl
-by_word-none (row ∷ rows) word arguments apart = rw (other_word word row.0 apart.0) (by_word-none rows word arguments apart.1)
+by_word-none (row ∷ rows) word arguments apart =
+    rw (other_word word row.0 apart.0) (by_word-none rows word arguments apart.1)
 
 pub command_of_length : (len : ℕ) (word : List ℕ) (arguments : List (List ℕ)) → length word ≡ len
     → command word arguments ≡ by_word (rows_of len) word arguments
@@ -43,8 +46,10 @@ command_of_length len word arguments same =
     by_word-of_length commands word arguments ∙ ap (λ n. by_word (rows_of n) word arguments) same
 
 -- no command word has another length
-pub command_of_other_length : (word : List ℕ) (arguments : List (List ℕ)) → 4 ≢ length word → 7 ≢ length word → 8 ≢ length word → 9 ≢ length word
-    → 10 ≢ length word → 11 ≢ length word → 12 ≢ length word → 13 ≢ length word → 16 ≢ length word → command word arguments ≡ None
+pub command_of_other_length : (word : List ℕ) (arguments : List (List ℕ)) → 4 ≢ length word → 7 ≢ length word
+    → 8 ≢ length word → 9 ≢ length word → 10 ≢ length word → 11 ≢ length word → 12 ≢ length word → 13 ≢ length word
+    → 16 ≢ length word → command word arguments ≡ None
 unfolding command
 command_of_other_length word arguments l4 l7 l8 l9 l10 l11 l12 l13 l16 = by_word-none commands word arguments
-    (l10, (l16, (l9, (l8, (l12, (l8, (l9, (l8, (l10, (l12, (l8, (l7, (l9, (l8, (l11, (l13, (l8, (l10, (l12, (l12, (l4, (l8, (l9, (l4, (tt)))))))))))))))))))))))))
+    (l10, (l16, (l9, (l8, (l12, (l8, (l9, (l8, (l10, (l12, (l8, (l7, (l9, (l8,
+    (l11, (l13, (l8, (l10, (l12, (l12, (l4, (l8, (l9, (l4, tt))))))))))))))))))))))))

@@ -36,7 +36,8 @@ region_range _ = None
 
 -- the flags of a region
 abbrev pub region_flag_words : List (List ℕ)
-region_flag_words = codes "specific" ∷ codes "upper_limit" ∷ codes "can_read" ∷ codes "can_write" ∷ codes "can_execute" ∷ []
+region_flag_words =
+    codes "specific" ∷ codes "upper_limit" ∷ codes "can_read" ∷ codes "can_write" ∷ codes "can_execute" ∷ []
 
 -- the flags of a mapping
 abbrev pub map_flag_words : List (List ℕ)
@@ -48,8 +49,12 @@ region_flags ws = record { 0 = bit (stands (codes "specific") ws) 1 + bit (stand
 
 -- what a region allows, by its flags
 abbrev pub region_caps : List (List ℕ) → Perm
-region_caps ws = record { 0 = bit (stands (codes "can_read") ws) 1 + bit (stands (codes "can_write") ws) 2 + bit (stands (codes "can_execute") ws) 4 }
+region_caps ws = record {
+    0 = bit (stands (codes "can_read") ws) 1 + bit (stands (codes "can_write") ws) 2
+        + bit (stands (codes "can_execute") ws) 4 }
 
 -- how a mapping is placed, by its flags
 abbrev pub map_flags : List (List ℕ) → MapFlags
-map_flags ws = record { 0 = bit (stands (codes "specific") ws) 1 + bit (stands (codes "specific_overwrite") ws) 2 + bit (stands (codes "upper_limit") ws) 4 + bit (stands (codes "allow_faults") ws) 8 }
+map_flags ws = record {
+    0 = bit (stands (codes "specific") ws) 1 + bit (stands (codes "specific_overwrite") ws) 2
+        + bit (stands (codes "upper_limit") ws) 4 + bit (stands (codes "allow_faults") ws) 8 }

@@ -10,8 +10,8 @@
 //! commands to `write_command`.
 //!
 //! `words` cuts a line, `fields` and `flags` read its words, `command_words` finds a command by its
-//! word, and `vmo_commands` and `region_commands` have the commands one by one. `writing` spells a command, by `vmo_arguments` and `region_arguments`
-//! for its arguments, and `parts` for their words.
+//! word, and `vmo_commands` and `region_commands` have the commands one by one. `writing` spells a
+//! command, by `vmo_arguments` and `region_arguments` for its arguments, and `parts` for their words.
 #![tactic(auto)]
 
 mod command_words;

@@ -43,7 +43,8 @@ pub fn next_word(line: &[u8]) -> Option<(&[u8], &[u8])>
 
 /// The words of the rest of a line, or `None` where there are more than a command has arguments.
 pub fn arguments(line: &[u8]) -> Option<ArrayVec<&[u8], MOST_ARGUMENTS>>
-    ensures { MatchOption result (MOST_ARGUMENTS < length (words line.now)) (λ v. map (λ w. w.now) v.items ≡ words line.now) }
+    ensures { MatchOption result (MOST_ARGUMENTS < length (words line.now))
+        (λ v. map (λ w. w.now) v.items ≡ words line.now) }
 {
     let mut found = ArrayVec::new();
     let mut rest = line;

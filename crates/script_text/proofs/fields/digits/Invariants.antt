@@ -6,5 +6,6 @@ use Rattle.script_text.proofs.fields.digits.Given as goal
 abbrev pub invariant-loop-byte : goal.invariant-loop-byte
 invariant-loop-byte l = record {
   fits : l.number < 2 ^ 64;
-  rest : digits_from (base_of l.radix) (value_in l.radix) l.number (drop l.byte-index l.word) ≡ digits (base_of l.radix) (value_in l.radix) l.word;
+  rest : digits_from (base_of l.radix) (value_in l.radix) l.number (drop l.byte-index l.word)
+      ≡ digits (base_of l.radix) (value_in l.radix) l.word;
 }
