@@ -101,7 +101,7 @@ IsCut-by_positions xs i ys n e f g =
     let bs = drop (suc i) xs in
     let head : ys ≡ b ∷ bs = f ∙ drop-cons xs i 0 start.1 in
     let len : n ≡ position_or_len is_blank (b ∷ bs) = g ∙ position-or_length is_blank ys
-        ∙ ap (position_or_len is_blank) head in
+    ∙ ap (position_or_len is_blank) head in
     let first = words-first b bs start.2 in
     let some : 1 ≤ n = rw (len, len-solid b bs start.2) (omega arith) in
     record {

@@ -13,7 +13,7 @@ unfolding digits_from
 below-digits_from bound base before value [] b h = grind (arith, nat_tests)
 below-digits_from bound base before value (x ∷ bs) b h =
     elim (value x) as (λ o. below bound (option_and_then (λ d. digits_from base value (before * base + d) bs) o)
-        ≡ None) [
+    ≡ None) [
       | None ↦ refl
       | Some d ↦ below-digits_from bound base (before * base + d) value bs b
           (omega (arith, le-mul_of_pos_right before b))
@@ -32,4 +32,4 @@ pub digits_from-overflow : (bound base before d : ℕ) (value : ℕ → Option �
     → below bound (digits_from base value before (drop i xs)) ≡ None
 digits_from-overflow bound base before d value xs i one h e over =
     rw (digits_from-drop base before value xs i h, e)
-        (below-digits_from bound base (before * base + d) value (drop (i + 1) xs) one over)
+    (below-digits_from bound base (before * base + d) value (drop (i + 1) xs) one over)

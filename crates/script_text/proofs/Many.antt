@@ -22,9 +22,9 @@ apart : (w : List ℕ) (ws : List (List ℕ)) → stands w ws ≡ false → AllB
 apart w [] e = tt
 apart w (v ∷ vs) e = elim (is_word w v) as
     (λ b. (b || stands w vs) ≡ false → (b ≡ false) × AllByRecursion (λ v. is_word w v ≡ false) vs) [
-  | true ↦ λ f. absurd cc
-  | false ↦ λ f. (refl, apart w vs f)
-] e
+      | true ↦ λ f. absurd cc
+      | false ↦ λ f. (refl, apart w vs f)
+    ] e
 
 -- no flag stands twice
 distinct_flags : (known ws : List (List ℕ)) → are_flags known ws ≡ true → IsDistinct (pointwise nat_eq) ws
@@ -54,9 +54,9 @@ few_flags known ws e = length-le_from_is_member nat_list_eq_equiv ws known (dist
 flagged-many : (known ws : List (List ℕ)) (c : Command) → length known < length ws → flagged known ws c ≡ None
 flagged-many known ws c h = elim (are_flags known ws) as
     (λ b. are_flags known ws ≡ b → (if b then Some c else None) ≡ None) [
-  | true ↦ λ e. absurd (omega (arith, few_flags known ws e, h))
-  | false ↦ λ e. refl
-] refl
+      | true ↦ λ e. absurd (omega (arith, few_flags known ws e, h))
+      | false ↦ λ e. refl
+    ] refl
 
 -- a step that fails, whatever was before it
 after : {A : Type 0} (o : Option A) (f : A → Option Command) → ((x : A) → f x ≡ None) → option_and_then f o ≡ None
@@ -78,7 +78,7 @@ many_for_child : (a b c d e f : List ℕ) (ws : List (List ℕ)) → 4 < length 
     → vmo_create_child (a ∷ b ∷ c ∷ d ∷ e ∷ f ∷ ws) ≡ None
 many_for_child a b c d e f ws h =
     after (vmo a) _ (λ _. after (vmo b) _
-        (λ _. after (child_kind c) _ (λ _. after (number d) _ (λ _. after (number e) _ (λ _.
+    (λ _. after (child_kind c) _ (λ _. after (number d) _ (λ _. after (number e) _ (λ _.
     flagged-many (codes "resizable" ∷ codes "no_write" ∷ []) (f ∷ ws) _ (omega arith))))))
 
 many_for_allocate : (a b c d e f : List ℕ) (ws : List (List ℕ)) → 4 < length ws
@@ -91,7 +91,7 @@ many_for_map : (a b c d e f : List ℕ) (ws : List (List ℕ)) → 4 < length ws
     → vmar_map (a ∷ b ∷ c ∷ d ∷ e ∷ f ∷ ws) ≡ None
 many_for_map a b c d e f ws h =
     after (region a) _ (λ _. after (number b) _
-        (λ _. after (vmo c) _ (λ _. after (number d) _ (λ _. after (number e) _ (λ _.
+    (λ _. after (vmo c) _ (λ _. after (number d) _ (λ _. after (number e) _ (λ _.
     after (perm f) _ (λ _. flagged-many map_flag_words ws _ h))))))
 
 -- each row of the table, on six arguments and more than four behind them

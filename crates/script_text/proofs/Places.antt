@@ -32,10 +32,10 @@ words-apart (a ∷ c ∷ cs) ys h =
       | true ↦ λ e. words-blank a (c ∷ (cs ++ ys)) e ∙ rest ∙ ap (λ v. v ++ words ys) (sym (words-blank a (c ∷ cs) e))
       | false ↦ λ e. elim (is_blank c) as (λ v. is_blank c ≡ v → goal) [
         | true ↦ λ f. words-alone a (c ∷ (cs ++ ys)) e f ∙ ap (λ v. (a ∷ []) ∷ v) rest
-        ∙ ap (λ v. v ++ words ys) (sym (words-alone a (c ∷ cs) e f))
+            ∙ ap (λ v. v ++ words ys) (sym (words-alone a (c ∷ cs) e f))
         | false ↦ λ f. words-longer a (c ∷ (cs ++ ys)) e f ∙ ap (before_first a) rest
-        ∙ before_first-append a (words (c ∷ cs)) (words ys) _ _ (words-first c cs f)
-        ∙ ap (λ v. v ++ words ys) (sym (words-longer a (c ∷ cs) e f))
+            ∙ before_first-append a (words (c ∷ cs)) (words ys) _ _ (words-first c cs f)
+            ∙ ap (λ v. v ++ words ys) (sym (words-longer a (c ∷ cs) e f))
       ] refl
     ] refl
 
@@ -89,7 +89,7 @@ IsWordFrom-by_positions line place i n ys zs h front found back len =
     let at_end : drop (place + i + n) line ≡ drop n zs = sym (drop-drop n (place + i) line) ∙ ap (drop n) at_start in
     let first : words zs ≡ take n zs ∷ words (drop n zs) = rw (long, head) (words-first b bs begun.2) in
     let solid : n ≡ suc (position_or_len is_blank bs) = long ∙ ap (position_or_len is_blank) head
-        ∙ len-solid b bs begun.2 in
+    ∙ len-solid b bs begun.2 in
     let blank : begins_blank (take i (drop place line)) ≡ true = rw (← front, same) (begins_blank-front ys) in
     let none : words (take i (drop place line)) ≡ [] = rw (← front, same) (words-front_blanks ys) in
     let behind : begins_blank (drop (place + i + n) line) ≡ true = rw (at_end, long) (begins_blank-behind zs) in
@@ -103,9 +103,9 @@ IsWordFrom-by_positions line place i n ys zs h front found back len =
       within = omega (arith, most, long, left, rest, begun.1, h);
       first = rw (width, at_start, at_end) (ap words (sym front) ∙ begun.0 ∙ ap words (sym back) ∙ first);
       front = ap words (take-add place i line) ∙ words-apart (take place line) (take i (drop place line)) blank
-      ∙ ap (λ v. words (take place line) ++ v) none ∙ append-nil (words (take place line));
+          ∙ ap (λ v. words (take place line) ++ v) none ∙ append-nil (words (take place line));
       apart = ap words (sym (take-append-drop (place + i + n) line))
-      ∙ words-apart (take (place + i + n) line) (drop (place + i + n) line) behind;
+          ∙ words-apart (take (place + i + n) line) (drop (place + i + n) line) behind;
     }
 
 -- how far the words are counted
@@ -122,11 +122,11 @@ pub IsPassed-next : (line : List ℕ) (index left passed start end : ℕ) → Is
     → IsWordFrom line passed start end → 0 < left → IsPassed line index (left - 1) end
 IsPassed-next line index left passed start end p w some =
     let whole : length (words line) ≡ length (words (take passed line)) + length (words (drop passed line)) =
-        ap length p.joined ∙ length-append _ _ in
+    ap length p.joined ∙ length-append _ _ in
     let cut : length (words line) ≡ length (words (take end line)) + length (words (drop end line)) = ap length w.apart
-        ∙ length-append _ _ in
+    ∙ length-append _ _ in
     let first : length (words (drop passed line)) ≡ length (slice_range line start end ∷ words (drop end line)) =
-        ap length w.first in
+    ap length w.first in
     record { within = w.within; joined = w.apart; counted = omega arith }
 
 -- the word that was looked for
@@ -144,7 +144,7 @@ IsPassed-found line index left passed start end p w none =
     let all : words line ≡ front ++ word ∷ behind = p.joined ∙ ap (λ v. front ++ v) w.first in
     let count : index ≡ length front = omega (arith, p.counted) in
     let size : length (words line) ≡ length front + length (word ∷ behind) = ap length all
-        ∙ length-append front (word ∷ behind) in
+    ∙ length-append front (word ∷ behind) in
     let at : get_or (words line) index word ≡ word = rw (count, all) (get_or-append_seam front word behind word) in
     record {
       more = omega arith;

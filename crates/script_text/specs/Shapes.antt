@@ -50,11 +50,13 @@ region_flags ws = record { 0 = bit (stands (codes "specific") ws) 1 + bit (stand
 -- what a region allows, by its flags
 abbrev pub region_caps : List (List ℕ) → Perm
 region_caps ws = record {
-    0 = bit (stands (codes "can_read") ws) 1 + bit (stands (codes "can_write") ws) 2
-        + bit (stands (codes "can_execute") ws) 4 }
+  0 = bit (stands (codes "can_read") ws) 1 + bit (stands (codes "can_write") ws) 2
+      + bit (stands (codes "can_execute") ws) 4;
+}
 
 -- how a mapping is placed, by its flags
 abbrev pub map_flags : List (List ℕ) → MapFlags
 map_flags ws = record {
-    0 = bit (stands (codes "specific") ws) 1 + bit (stands (codes "specific_overwrite") ws) 2
-        + bit (stands (codes "upper_limit") ws) 4 + bit (stands (codes "allow_faults") ws) 8 }
+  0 = bit (stands (codes "specific") ws) 1 + bit (stands (codes "specific_overwrite") ws) 2
+      + bit (stands (codes "upper_limit") ws) 4 + bit (stands (codes "allow_faults") ws) 8;
+}

@@ -16,10 +16,10 @@ returns-clause-written c =
     let upper = (codes "upper_limit", has n 4) ∷ faults in
     let over = (codes "specific_overwrite", has n 2) ∷ upper in
     last_flag third last (codes "allow_faults") c.contains-4.result (has n 8) c.put_flag.ensures.written
-        (c.contains-4.ensures tt)
+    (c.contains-4.ensures tt)
     ∙ after_flag second third (codes "upper_limit") c.contains-3.result (has n 4) faults c.put_flag-at-3.ensures.written
-        (c.contains-3.ensures tt)
+    (c.contains-3.ensures tt)
     ∙ after_flag first second (codes "specific_overwrite") c.contains-2.result (has n 2) upper
-        c.put_flag-at-2.ensures.written (c.contains-2.ensures tt)
+    c.put_flag-at-2.ensures.written (c.contains-2.ensures tt)
     ∙ after_flag start first (codes "specific") c.contains.result (has n 1) over c.put_flag-at.ensures.written
-        (c.contains.ensures tt)
+    (c.contains.ensures tt)

@@ -19,12 +19,12 @@ returns-clause-written c =
     let read = (codes "can_read", has m 1) ∷ write in
     let upper = (codes "upper_limit", has n 4) ∷ read in
     last_flag fourth last (codes "can_execute") c.contains-5.result (has m 4) c.put_flag.ensures.written
-        (c.contains-5.ensures tt)
+    (c.contains-5.ensures tt)
     ∙ after_flag third fourth (codes "can_write") c.contains-4.result (has m 2) execute c.put_flag-at-4.ensures.written
-        (c.contains-4.ensures tt)
+    (c.contains-4.ensures tt)
     ∙ after_flag second third (codes "can_read") c.contains-3.result (has m 1) write c.put_flag-at-3.ensures.written
-        (c.contains-3.ensures tt)
+    (c.contains-3.ensures tt)
     ∙ after_flag first second (codes "upper_limit") c.contains-2.result (has n 4) read c.put_flag-at-2.ensures.written
-        (c.contains-2.ensures tt)
+    (c.contains-2.ensures tt)
     ∙ after_flag start first (codes "specific") c.contains.result (has n 1) upper c.put_flag-at.ensures.written
-        (c.contains.ensures tt)
+    (c.contains.ensures tt)
