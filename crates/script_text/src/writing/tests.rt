@@ -3,7 +3,7 @@ ghost use Rattle.vm_model.specs.Language.Spelling.{has_spelling};
 
 use super::*;
 use std::process::Abort;
-use vm_base::{MapFlags, Perm, PinName, RegionName, VmoName};
+use vm_base::{DATA_BYTES, MapFlags, Perm, PinName, RegionName, VmoName};
 use vm_model::{Bytes4k, ChildKind};
 
 // The command is spelled so.
@@ -16,7 +16,7 @@ fn expect_line(rt: &impl Abort, command: &Command, want: &str)
 }
 
 fn bytes_of(bytes: &[u8]) -> Bytes4k
-    requires { length bytes.now ≤ 4096 }
+    requires { length bytes.now ≤ DATA_BYTES }
 {
     let mut all = Bytes4k::new();
     all.extend_from_slice(bytes);
