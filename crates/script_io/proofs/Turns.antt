@@ -10,11 +10,14 @@ use Rattle.script_io.specs.declared.line_reader.Fetch.{Fetch}
 use Rattle.script_io.specs.declared.line_reader.Fetch.TheVariants.{Fault}
 
 no_feed_front : (xs ys : List ℕ) → HasNoFeed (xs ++ ys) → HasNoFeed xs
-no_feed_front xs ys none = λ k d below is. none k d (simp length-append (omega arith)) (get_or_append_left xs ys d k below ∙ is)
+no_feed_front xs ys none = λ k d below is. none k d (simp length-append (omega arith))
+    (get_or_append_left xs ys d k below ∙ is)
 
 -- a search answers
-pub fetches_found : (answer : Fetch) (old mid new : Reader) (before after : Option (List ℕ)) (pending : List ℕ) (w : Waits old mid before after pending)
-    → new.taken ≡ mid.taken → Looked new after (pending ++ w.part) (Some answer) → Fetches old new before after pending answer
+pub fetches_found : (answer : Fetch) (old mid new : Reader) (before after : Option (List ℕ)) (pending : List ℕ)
+    (w : Waits old mid before after pending)
+    → new.taken ≡ mid.taken → Looked new after (pending ++ w.part) (Some answer)
+    → Fetches old new before after pending answer
 fetches_found answer old mid new before after pending w taken looked = record {
   part = w.part;
   left = looked.0;
@@ -26,8 +29,10 @@ fetches_found answer old mid new before after pending w taken looked = record {
 }
 
 -- a pull fails
-pub fetches_fault : (old mid seen new : Reader) (before between after : Option (List ℕ)) (pending : List ℕ) (w : Waits old mid before between pending)
-    → seen.taken ≡ mid.taken → Looked seen between (pending ++ w.part) None → seen.ended ≡ false → seen.taken ≤ seen.limit
+pub fetches_fault : (old mid seen new : Reader) (before between after : Option (List ℕ)) (pending : List ℕ)
+    (w : Waits old mid before between pending)
+    → seen.taken ≡ mid.taken → Looked seen between (pending ++ w.part) None → seen.ended ≡ false
+    → seen.taken ≤ seen.limit
     → (new ≡ record seen { line = [] }) × Keeps between after → Fetches old new before after pending Fault
 fetches_fault old mid seen new before between after pending w taken looked not_ended within failed = record {
   part = w.part;
@@ -51,11 +56,14 @@ fetches_fault old mid seen new before between after pending w taken looked not_e
 }
 
 -- a pull gives bytes, or finds the end
-pub waits_more : (old mid seen new : Reader) (before between after : Option (List ℕ)) (pending : List ℕ) (n : ℕ) (w : Waits old mid before between pending)
+pub waits_more : (old mid seen new : Reader) (before between after : Option (List ℕ)) (pending : List ℕ) (n : ℕ)
+    (w : Waits old mid before between pending)
     → seen.taken ≡ mid.taken → Looked seen between (pending ++ w.part) None → Grows seen.held new.held between after n
-    → new ≡ record seen { taken = seen.taken + n; held = new.held; line = []; ended = n == 0 } → Waits old new before after pending
+    → new ≡ record seen { taken = seen.taken + n; held = new.held; line = []; ended = n == 0 }
+    → Waits old new before after pending
 waits_more old mid seen new before between after pending n w taken looked grows given =
-    let count : length (w.part ++ grows.part) ≡ length w.part + n = length-append w.part grows.part ∙ ap (λ (k : ℕ). length w.part + k) grows.size in
+    let count : length (w.part ++ grows.part) ≡ length w.part + n = length-append w.part grows.part
+    ∙ ap (λ (k : ℕ). length w.part + k) grows.size in
     let now : new.taken ≡ seen.taken + n = ap (λ (r : Reader). r.taken) given in
     record {
       part = w.part ++ grows.part;

@@ -13,7 +13,8 @@ pub returns-in_default-pull-clause-fetches : goal.returns-in_default-pull-clause
 returns-in_default-pull-clause-fetches g c = λ pending p.
     let w = c.loop-fetch.invariant.waits pending p in
     let none = c.in_default.ensures.none in
-    fetches_fault _ _ c.look.new.self _ _ _ _ pending w c.look.ensures.taken (c.in_default.ensures.looked _ _ w.still) none.0 none.1 c.in_default-pull.ensures.err
+    fetches_fault _ _ c.look.new.self _ _ _ _ pending w c.look.ensures.taken (c.in_default.ensures.looked _ _ w.still)
+    none.0 none.1 c.in_default-pull.ensures.err
 
 pub loop-fetch-preserved : goal.loop-fetch-preserved
 loop-fetch-preserved g c =
@@ -23,7 +24,8 @@ loop-fetch-preserved g c =
     record {
       waits = λ pending p.
           let w = c.loop-fetch.invariant.waits pending p in
-          waits_more _ _ c.look.new.self _ _ _ _ pending c.in-Ok.field-0 w c.look.ensures.taken (c.in_default.ensures.looked _ _ w.still) given.grows given.ok;
+          waits_more _ _ c.look.new.self _ _ _ _ pending c.in-Ok.field-0 w c.look.ensures.taken
+          (c.in_default.ensures.looked _ _ w.still) given.grows given.ok;
       limit = kept ∙ c.look.ensures.limit ∙ c.loop-fetch.invariant.limit;
       line = ap (λ (r : Reader). r.line) given.ok;
       ended = λ was. absurd (false≢true (sym none.0 ∙ c.look.ensures.ended ∙ (c.loop-fetch.invariant.ended was).2));

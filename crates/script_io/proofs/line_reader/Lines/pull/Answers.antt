@@ -10,9 +10,16 @@ invariant_of-self-2 g c =
     let new = c.pull.new.self in
     let held : buffer.seen ++ buffer.fresh ≡ c.args.self.now.held = ap (λ (r : Reader). r.held) c.self.view_is in
     let grown : new.seen ++ new.fresh ≡ (buffer.seen ++ buffer.fresh) ++ given.grows.part =
-    ap (λ (xs : List ℕ). xs ++ new.fresh) given.seen ∙ ap (λ (xs : List ℕ). buffer.seen ++ xs) given.grows.behind ∙ sym (append_assoc buffer.seen buffer.fresh given.grows.part) in
-    let within : c.self.inside.taken ≤ c.self.inside.limit = omega (arith, ap (λ (r : Reader). r.taken) c.self.view_is, ap (λ (r : Reader). r.limit) c.self.view_is, c.requires.within) in
-    let size : length new.fresh ≡ length buffer.fresh + c.in_ok-n.n = ap length given.grows.behind ∙ length-append buffer.fresh given.grows.part ∙ ap (λ (n : ℕ). length buffer.fresh + n) given.grows.size in
+    ap (λ (xs : List ℕ). xs ++ new.fresh) given.seen ∙ ap (λ (xs : List ℕ). buffer.seen ++ xs) given.grows.behind
+    ∙ sym (append_assoc buffer.seen buffer.fresh given.grows.part) in
+    let within : c.self.inside.taken ≤ c.self.inside.limit = omega (
+      arith,
+      ap (λ (r : Reader). r.taken) c.self.view_is,
+      ap (λ (r : Reader). r.limit) c.self.view_is,
+      c.requires.within,
+    ) in
+    let size : length new.fresh ≡ length buffer.fresh + c.in_ok-n.n = ap length given.grows.behind
+    ∙ length-append buffer.fresh given.grows.part ∙ ap (λ (n : ℕ). length buffer.fresh + n) given.grows.size in
     record {
       small = c.self.invariant.small;
       short = omega (arith, ap length given.line);
@@ -20,5 +27,7 @@ invariant_of-self-2 g c =
       all_taken = omega (arith, size, ap length given.seen, c.self.invariant.all_taken);
       long = c.self.invariant.long;
       no_feed = subst HasNoFeed (sym given.seen) c.self.invariant.no_feed;
-      over = λ above. subst HasNoFeedBeforeLast (sym grown) (over_after (buffer.seen ++ buffer.fresh) given.grows.part (subst HasNoFeed (sym held) c.requires.no_feed) (omega (arith, above, within, given.grows.size, given.count, c.max-most.ensures)));
+      over = λ above. subst HasNoFeedBeforeLast (sym grown)
+          (over_after (buffer.seen ++ buffer.fresh) given.grows.part (subst HasNoFeed (sym held) c.requires.no_feed)
+          (omega (arith, above, within, given.grows.size, given.count, c.max-most.ensures)));
     }
