@@ -1,14 +1,13 @@
 //! The contract of a store of pages.
 
-ghost use Rattle.std.specs.Prelude.{◌≡◌, ℕ, ◌+◌, ◌-◌, ◌^◌, ◌<◌, ◌≤◌, ◌⊎◌, true, false, length, IsSome, None, Some, IfSome, IfNone, IfOk, OnOk, OnErr};
-ghost use Rattle.vm_base.specs.Search.{count_below};
+ghost use Rattle.std.specs.Prelude.{◌≡◌, ℕ, ◌+◌, ◌<◌, ◌≤◌, ◌⊎◌, true, length, IsSome, None, Some, IfSome, IfNone, IfOk, OnOk, OnErr};
 ghost use Rattle.vm_model.specs.Contents.Content.{Content, nothing, used, sole, pages_of, created, vmos_of};
 ghost use Rattle.vm_model.specs.Contents.Owning.{Owns};
 ghost use Rattle.vm_model.specs.Contents.Sharing.{viewers, IsLeastViewer, snapshotted, without};
 ghost use Rattle.vm_model.specs.Contents.Zeroing.{zeroed, resized};
 ghost use Rattle.page_store.specs.Pages.{look_at, IsShown, IsShownOnce, AreBytesOf, Overwrites};
 
-use vm_base::{HostMemory, Koid, PageNo, Tag};
+use vm_base::{FRAMES, HostMemory, KOIDS, Koid, PAGE, PageNo, Tag, VMO_PAGES};
 
 /// What a page of a VMO is.
 #[derive(Clone, Copy, Debug, PartialEq, Eq)]
@@ -20,37 +19,42 @@ pub enum Look {
 }
 
 /// A store of VMOs, their pages and the page frames. Clauses speak of what it contains, and of how
-/// many pages may still be owned without asking the host for memory (`spare`).
+/// many pages may be owned or made zero without asking the host for memory (`spare`).
 ///
 /// A call on a koid requires that the store has such a VMO. Pages are counted from the VMO's first.
+/// What a call is not said to change of the content stays as it was. A call that answers `HostMemory`
+/// changes nothing of the content, and lowers `spare` by nothing.
 pub trait PageStore: Drop {
     /// The frames and VMOs that it contains.
     ghost content: { Self → Content };
 
-    /// How many pages may be owned before the next `reserve`.
+    /// How many pages may be owned or made zero without asking the host for memory. `reserve` raises it,
+    /// `own` and `zero` lower it by at most 1, and `write` leaves it as it was. Where they succeed, the
+    /// other calls that change the store promise nothing of it.
     ghost spare: { Self → ℕ };
 
-    /// Takes the memory of all page frames, from 1 to 65,536 of them. All are free. `HostMemory`
-    /// where the host has too little, and then nothing was changed.
+    /// Gives a store that has nothing its page frames, from 1 to `FRAMES` of them. All are free.
+    /// `HostMemory` where the host has too little memory.
     fn fill(&mut self, frames: u32) -> Result<(), HostMemory>
         requires empty { content self.old ≡ nothing }
-        requires frames { (1 ≤ frames) × (frames ≤ 65536) }
+        requires frames { (1 ≤ frames) × (frames ≤ FRAMES) }
         ensures ok { OnOk result (content self.new ≡ record (content self.old) { frames = frames }) }
-        ensures err { OnErr result (content self.new ≡ content self.old) };
+        ensures err { OnErr result (content self.new ≡ content self.old) }
+        ensures kept { OnErr result (spare self.old ≤ spare self.new) };
 
     /// Makes a VMO of `count` zero pages under the next koid, and answers the koid. `HostMemory`
-    /// where the host has too little memory, and then nothing was changed.
+    /// where the host has too little memory.
     fn create(&mut self, count: PageNo) -> Result<Koid, HostMemory>
-        requires count { count ≤ 16777216 }
-        requires next { (content self.old).next < 2 ^ 63 }
+        requires count { count ≤ VMO_PAGES }
+        requires next { (content self.old).next < KOIDS }
         ensures koid { IfOk result (λ v. v.0 ≡ (content self.old).next) }
         ensures ok { OnOk result (content self.new ≡ created (content self.old) count) }
-        ensures err { OnErr result (content self.new ≡ content self.old) };
+        ensures err { OnErr result (content self.new ≡ content self.old) }
+        ensures kept { OnErr result (spare self.old ≤ spare self.new) };
 
     /// Makes a snapshot of a VMO under the next koid, and answers the koid. It has `count` pages. Of
-    /// these the first `seen` are the pages of `of` from `first` on: they show the same frames, and no
-    /// byte is copied. The others are zero. `HostMemory` where the host has too little memory, and
-    /// then nothing was changed.
+    /// these the first `seen` are the pages of `of` from `first` on: they show the same frames, so that
+    /// none is taken. The others are zero. `HostMemory` where the host has too little memory.
     fn snapshot(
         &mut self,
         of: Koid,
@@ -59,18 +63,21 @@ pub trait PageStore: Drop {
         count: PageNo,
     ) -> Result<Koid, HostMemory>
         requires vmo { IsSome ((content self.old).count of.0) }
-        requires count { count ≤ 16777216 }
+        requires count { count ≤ VMO_PAGES }
         requires seen { seen ≤ count }
         requires range { first + seen ≤ pages_of (content self.old) of.0 }
-        requires next { (content self.old).next < 2 ^ 63 }
+        requires next { (content self.old).next < KOIDS }
         ensures koid { IfOk result (λ v. v.0 ≡ (content self.old).next) }
         ensures ok { OnOk result (content self.new ≡ snapshotted (content self.old) of.0 first seen count) }
-        ensures err { OnErr result (content self.new ≡ content self.old) };
+        ensures err { OnErr result (content self.new ≡ content self.old) }
+        ensures kept { OnErr result (spare self.old ≤ spare self.new) };
 
-    /// Makes room for owning `n` pages. `HostMemory` where the host has too little memory.
+    /// Makes room for owning `n` pages, or for making them zero. `HostMemory` where the host has too
+    /// little memory.
     fn reserve(&mut self, n: u64) -> Result<(), HostMemory>
         ensures room { OnOk result (n ≤ spare self.new) }
-        ensures same { content self.new ≡ content self.old };
+        ensures same { content self.new ≡ content self.old }
+        ensures kept { spare self.old ≤ spare self.new };
 
     /// What a page below the count is.
     fn look(&self, v: Koid, page: PageNo) -> Look
@@ -78,7 +85,8 @@ pub trait PageStore: Drop {
         ensures { result ≡ look_at (content self.now) v.0 ((content self.now).page v.0 page) };
 
     /// Makes a page below the count sole, so that it may be written (copy on write), and answers its
-    /// frame. A page that is not sole needs a spare row and a free frame. It takes no memory.
+    /// frame. A page that is sole keeps its frame. Any other needs room (`spare`) and a free frame, and
+    /// shows the same bytes in that frame then.
     fn own(&mut self, v: Koid, page: PageNo) -> Tag
         requires page { page < pages_of (content self.old) v.0 }
         requires room { (sole (content self.old) v.0 page ≡ true)
@@ -87,8 +95,7 @@ pub trait PageStore: Drop {
         ensures spare { spare self.old ≤ spare self.new + 1 };
 
     /// Makes a page below the count zero, as it is in a new VMO. Its frame is free then, unless another
-    /// VMO shows it. It needs a spare row, since a store may have to keep a row that says so. It takes no
-    /// memory.
+    /// VMO shows it. It needs room (`spare`), since a store may have to note that the page is zero.
     fn zero(&mut self, v: Koid, page: PageNo)
         requires page { page < pages_of (content self.old) v.0 }
         requires room { 1 ≤ spare self.old }
@@ -101,10 +108,10 @@ pub trait PageStore: Drop {
         ensures { (content self.now).count v.0 ≡ Some result };
 
     /// Lets a VMO have `count` pages. Those past the new end leave it, and their frames are free then,
-    /// unless another VMO shows them. Those that come in are zero. It takes no memory.
+    /// unless another VMO shows them. Those that come in are zero.
     fn set_count(&mut self, v: Koid, count: PageNo)
         requires vmo { IsSome ((content self.old).count v.0) }
-        requires count { count ≤ 16777216 }
+        requires count { count ≤ VMO_PAGES }
         ensures { content self.new ≡ resized (content self.old) v.0 count };
 
     /// Takes a VMO out of the store with its pages. The frames that no other VMO shows are free then.
@@ -115,13 +122,13 @@ pub trait PageStore: Drop {
     /// Reads bytes of a frame that some page shows, from `at` bytes into the page on.
     fn read(&self, tag: Tag, at: u64, out: &mut [u8])
         requires shown { IsShown (content self.now) tag.0 }
-        requires range { at + length out.old ≤ 4096 }
+        requires range { at + length out.old ≤ PAGE }
         ensures { AreBytesOf (content self.now) tag.0 at out.new };
 
     /// Writes bytes to a frame that exactly one page shows, from `at` bytes into the page on.
     fn write(&mut self, tag: Tag, at: u64, bytes: &[u8])
         requires shown { IsShownOnce (content self.old) tag.0 }
-        requires range { at + length bytes.now ≤ 4096 }
+        requires range { at + length bytes.now ≤ PAGE }
         ensures bytes { Overwrites (content self.old) (content self.new) tag.0 at bytes.now }
         ensures spare { spare self.new ≡ spare self.old };
 
