@@ -18,10 +18,10 @@ use std::alloc::Global;
 use std::marker::Model;
 use vm_base::{HostMemory, Koid, PageNo, Tag};
 
-/// A page store whose held pages are one sorted list. VMOs share page frames: a snapshot adds rows
-/// for the pages that it sees and copies no byte, and a share count for each frame says whether a
-/// page is sole. Looking a page up takes a binary search, owning a page that is zero moves the rows
-/// behind it, and pages that become zero or leave cost their rows and the move of those behind them.
+/// A page store whose held pages are the rows of one sorted list. VMOs share page frames: a snapshot has
+/// rows of its own for the pages that it sees, with the same frames, and the share count of a frame says
+/// how many VMOs show it.
+// A page is looked up by a binary search. A row that comes, and rows that go, move those behind them.
 #[derive(Drop)]
 pub struct FlatStore {
     /// The page frames. A frame is taken while some VMO shows it.
@@ -83,11 +83,13 @@ impl FlatStore {
         requires row { at < length self.old.rows }
         requires room { (v p : ℕ) → IsRowFor self.old.rows v p at → (sole (content_of self.old) v p ≡ true)
             ⊎ (used (content_of self.old) < (content_of self.old).frames) }
-        ensures owns { (v p : ℕ) → IsRowFor self.old.rows v p at → Owns (content_of self.old) (content_of self.new) v p result.0 }
+        ensures owns { (v p : ℕ) → IsRowFor self.old.rows v p at
+            → Owns (content_of self.old) (content_of self.new) v p result.0 }
         ensures spare { self.new.spare ≡ self.old.spare }
     {
         let shown = self.rows[at].tag;
-        if self.shares[shown.0 as usize] == 1 {
+        let viewers = self.shares[shown.0 as usize];
+        if viewers == 1 {
             return shown;
         }
         let tag = take_copy(&mut self.pool, shown);

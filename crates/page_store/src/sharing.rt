@@ -3,7 +3,7 @@
 ghost use Rattle.std.specs.Prelude.{◌≡◌, ℕ, ◌+◌, ◌-◌, ◌^◌, ◌<◌, ◌≤◌, ◌++◌, length, map, slice_range, slice_index_or};
 ghost use Rattle.std.specs.List.{AllWithin};
 ghost use Rattle.std.specs.Vec.{vec_len, vec_capacity};
-ghost use Rattle.page_store.specs.Shares.{rows_with, row_in, IsFirstWith, Shares, AreCounted, Releases};
+ghost use Rattle.page_store.specs.Shares.{rows_with, row_in, IsFirstWith, Shares, AreTakenWhereShared, Releases};
 
 use crate::rows::Row;
 use frame_pool::FramePool;
@@ -24,8 +24,10 @@ pub(crate) fn share_rows(
     requires room { vec_len rows.old + (end - from) ≤ vec_capacity rows.old }
     requires pages { AllWithin (λ row. first ≤ row.page) rows.old.items from end }
     requires tags { AllWithin (λ row. row.tag.0 < length shares.old) rows.old.items from end }
-    requires fits { (t : ℕ) → slice_index_or shares.old t 0 + rows_with t (slice_range rows.old.items from end) < 2 ^ 64 }
-    ensures rows { rows.new.items ≡ rows.old.items ++ map (row_in koid.0 first) (slice_range rows.old.items from end) }
+    requires fits { (t : ℕ) → slice_index_or shares.old t 0
+        + rows_with t (slice_range rows.old.items from end) < 2 ^ 64 }
+    ensures rows { rows.new.items
+        ≡ rows.old.items ++ map (row_in koid.0 first) (slice_range rows.old.items from end) }
     ensures shares { Shares (slice_range rows.old.items from end) shares.old shares.new }
 {
     for at in from..end {
@@ -42,7 +44,7 @@ pub(crate) fn share_rows(
 /// Lowers the share counts of the frames of these rows, and gives those frames back that no VMO
 /// shows any more.
 pub(crate) fn release_rows(rows: &[Row], shares: &mut [u64], pool: &mut FramePool)
-    requires counted { AreCounted shares.old pool.old }
+    requires counted { AreTakenWhereShared shares.old pool.old }
     requires counts { (t : ℕ) → rows_with t rows.now ≤ slice_index_or shares.old t 0 }
     ensures { Releases rows.now shares.old shares.new pool.old pool.new }
 {

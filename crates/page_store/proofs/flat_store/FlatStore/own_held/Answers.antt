@@ -2,16 +2,16 @@ use Rattle.std.proofs.Common.{arith}
 use Rattle.page_store.proofs.FlatOwning.{held_below, share_shown, owns_sole, room_held, held_taken, owned_again, owns_for}
 use Rattle.page_store.proofs.flat_store.FlatStore.own_held.Goals as goal
 
-pub index-requires-2 : goal.index-requires-2
-index-requires-2 c = omega (arith, c.self.inside.shares.ok.0, held_below _ _ _ c.self.invariant.flat (rw (← c.self.view_is) at c.requires.row) c.index.ensures)
+pub index-viewers-requires : goal.index-viewers-requires
+index-viewers-requires c = omega (arith, c.self.inside.shares.ok.0, held_below _ _ _ c.self.invariant.flat (rw (← c.self.view_is) at c.requires.row) c.index.ensures)
 
-pub returns-then-index-eq1-clause-owns : goal.returns-then-index-eq1-clause-owns
-returns-then-index-eq1-clause-owns c =
-    rw (← c.self.view_is) (owns_sole _ _ _ c.self.invariant.flat (rw (← c.self.view_is) at c.requires.row) c.index.ensures _ c.index-2.ensures c.if-index-eq1.true)
+pub returns-then-viewers-eq1-clause-owns : goal.returns-then-viewers-eq1-clause-owns
+returns-then-viewers-eq1-clause-owns c =
+    rw (← c.self.view_is) (owns_sole _ _ _ c.self.invariant.flat (rw (← c.self.view_is) at c.requires.row) c.index.ensures _ c.index-viewers.ensures c.if-viewers-eq1.true)
 
 pub take_copy-tag-requires-clause-free : goal.take_copy-tag-requires-clause-free
 take_copy-tag-requires-clause-free c =
-    room_held _ _ _ c.self.invariant.flat (rw (← c.self.view_is) at c.requires.row) c.index.ensures _ c.index-2.ensures c.if-index-eq1.false (rw (← c.self.view_is) at c.requires.room)
+    room_held _ _ _ c.self.invariant.flat (rw (← c.self.view_is) at c.requires.row) c.index.ensures _ c.index-viewers.ensures c.if-viewers-eq1.false (rw (← c.self.view_is) at c.requires.room)
 
 pub take_copy-tag-requires-clause-from : goal.take_copy-tag-requires-clause-from
 take_copy-tag-requires-clause-from c = held_taken _ _ _ c.self.invariant.flat (rw (← c.self.view_is) at c.requires.row) c.index.ensures
@@ -25,10 +25,10 @@ overflow_sub-index_mut c = share_shown _ _ _ c.self.invariant.flat (rw (← c.se
 pub invariant_of-self : goal.invariant_of-self
 invariant_of-self c = record {
   flat = (owned_again _ _ _ _ _ c.self.invariant.flat (rw (← c.self.view_is) at c.requires.row) c.index.ensures c.take_copy-tag.ensures.frames c.take_copy-tag.ensures.takes
-      _ _ _ c.index_mut-3.ensures.value c.index-2.ensures c.index_mut.ensures.value c.if-index-eq1.false).flat;
+      _ _ _ c.index_mut-3.ensures.value c.index-viewers.ensures c.index_mut.ensures.value c.if-viewers-eq1.false).flat;
 }
 
 pub returns-clause-owns : goal.returns-clause-owns
 returns-clause-owns c =
     rw (← c.self.view_is) (owns_for _ _ _ _ _ c.index.ensures (owned_again _ _ _ _ _ c.self.invariant.flat (rw (← c.self.view_is) at c.requires.row) c.index.ensures
-    c.take_copy-tag.ensures.frames c.take_copy-tag.ensures.takes _ _ _ c.index_mut-3.ensures.value c.index-2.ensures c.index_mut.ensures.value c.if-index-eq1.false))
+    c.take_copy-tag.ensures.frames c.take_copy-tag.ensures.takes _ _ _ c.index_mut-3.ensures.value c.index-viewers.ensures c.index_mut.ensures.value c.if-viewers-eq1.false))

@@ -6,7 +6,7 @@ pub overflow_add-self : goal.overflow_add-self
 overflow_add-self c = omega (arith, rw (← c.self.view_is, next-content) at c.requires.next)
 
 pub invariant_of-self-2 : goal.invariant_of-self-2
-invariant_of-self-2 c = record { flat = rw c.in-Ok.ensures.items (IsFlat-pushed _ _ c.self.invariant.flat refl c.requires.count) }
+invariant_of-self-2 c = record { flat = rw c.in-Ok.ensures.items (IsFlat-pushed _ _ c.self.invariant.flat refl (omega (arith, c.requires.count))) }
 
 pub returns-clause-koid : goal.returns-clause-koid
 returns-clause-koid c = rw (← c.self.view_is) (sym (next-content _))

@@ -4,7 +4,7 @@ use Rattle.std.proofs.lemmas.List.{with_items_is}
 use Rattle.page_store.specs.Flat.{Flat}
 use Rattle.page_store.specs.FlatFields.{flat_of}
 use Rattle.page_store.proofs.FlatLaws.{next-content, end_fits, content_of-spare, IsFlat-spare}
-use Rattle.page_store.proofs.SnapshotLaws.{IsSnapshot, content-snapshot, IsFlat-snapshot, tags_counted, counts_fit}
+use Rattle.page_store.proofs.SnapshotLaws.{IsSnapshot, content-snapshot, IsFlat-snapshot, tags_counted, shares_fit}
 use Rattle.page_store.proofs.flat_store.FlatStorePageStore.snapshot.Goals as goal
 
 pub overflow_add-first : goal.overflow_add-first
@@ -27,7 +27,7 @@ share_rows-requires-clause-tags c =
 
 pub share_rows-requires-clause-fits : goal.share_rows-requires-clause-fits
 share_rows-requires-clause-fits c =
-    rw (c.deref_mut.ensures.value, c.reserve.ensures.items) (counts_fit (flat_of c.self.inside) c.rows_within-from.result.0 c.rows_within-from.result.1 c.self.invariant.flat
+    rw (c.deref_mut.ensures.value, c.reserve.ensures.items) (shares_fit (flat_of c.self.inside) c.rows_within-from.result.0 c.rows_within-from.result.1 c.self.invariant.flat
     c.rows_within-from.ensures.order (rw (← c.self.view_is) at c.requires.next))
 
 -- the lists with the snapshot

@@ -1,13 +1,14 @@
+use Rattle.std.proofs.Common.{arith}
 use Rattle.page_store.proofs.FlatLaws.{shown_taken}
-use Rattle.page_store.proofs.FlatWriting.{is_shown, overwrites, IsFlat-overwritten}
+use Rattle.page_store.proofs.FlatWriting.{IsShown-from_once, overwrites, IsFlat-overwritten}
 use Rattle.page_store.proofs.flat_store.FlatStorePageStore.write.Goals as goal
 
 pub write-requires-clause-taken : goal.write-requires-clause-taken
-write-requires-clause-taken c = shown_taken _ _ c.self.invariant.flat (is_shown _ _ (rw (← c.self.view_is) at c.requires.shown))
+write-requires-clause-taken c = shown_taken _ _ c.self.invariant.flat (IsShown-from_once _ _ (rw (← c.self.view_is) at c.requires.shown))
 
 pub invariant_of-self : goal.invariant_of-self
 invariant_of-self c = record {
-  flat = IsFlat-overwritten _ _ _ _ _ c.self.invariant.flat (rw (← c.self.view_is) at c.requires.shown) c.write.ensures.frames c.write.ensures.taken c.requires.range;
+  flat = IsFlat-overwritten _ _ _ _ _ c.self.invariant.flat (rw (← c.self.view_is) at c.requires.shown) c.write.ensures.frames c.write.ensures.taken (omega (arith, c.requires.range));
 }
 
 pub returns-clause-bytes : goal.returns-clause-bytes
