@@ -29,7 +29,8 @@ bit_taken o taken = bit-true (passes (λ bytes. true) o) (passes-any o ∙ taken
 
 pub taken_count-is : (p : Pool) → taken_count p ≡ count_below p.frames (λ t. is_some (taken_frames p t))
 unfolding entry_count
-taken_count-is p = count_below_same p.frames (λ t. passes (λ bytes. true) (taken_frames p t)) (λ t. is_some (taken_frames p t)) (λ t h. passes-any (taken_frames p t))
+taken_count-is p = count_below_same p.frames (λ t. passes (λ bytes. true) (taken_frames p t))
+    (λ t. is_some (taken_frames p t)) (λ t h. passes-any (taken_frames p t))
 
 module _ (n t : ℕ) (m : ℕ → Option (List ℕ)) (h : t < n) where
   -- a free frame that is taken counts for one more
@@ -53,8 +54,9 @@ or_cond true true c = refl
 or_cond true false c = refl
 or_cond false b c = refl
 
-same_test : (a b : ℕ) → (a == b) ≡ (b == a)
-same_test a b = grind (arith, nat_tests)
+-- a test of two numbers, either way
+pub eqb_flip : (a b : ℕ) → (a == b) ≡ (b == a)
+eqb_flip a b = grind (arith, nat_tests)
 
 cond_id : (b : Bool) → b ≡ cond b true false
 cond_id true = refl
@@ -64,9 +66,10 @@ or_false : (b : Bool) → (b || false) ≡ b
 or_false true = refl
 or_false false = refl
 
-is_idle-push : (tags : List Tag) (tag : Tag) (u : ℕ) → is_idle (tags ++ tag ∷ []) u ≡ cond (u == tag.0) true (is_idle tags u)
+is_idle-push : (tags : List Tag) (tag : Tag) (u : ℕ) →
+    is_idle (tags ++ tag ∷ []) u ≡ cond (u == tag.0) true (is_idle tags u)
 unfolding is_idle
-is_idle-push [] tag u = or_false (tag.0 == u) ∙ (same_test tag.0 u ∙ cond_id (u == tag.0))
+is_idle-push [] tag u = or_false (tag.0 == u) ∙ (eqb_flip tag.0 u ∙ cond_id (u == tag.0))
 is_idle-push (s ∷ tags) tag u =
     ap (λ b. (s.0 == u) || b) (is_idle-push tags tag u) ∙ or_cond (s.0 == u) (u == tag.0) (is_idle tags u)
 
@@ -91,7 +94,8 @@ distinct_more n m (s ∷ tags) h distinct =
     (omega arith, distinct.1, distinct_more n m tags h distinct.2)
 
 -- the last tag of the list was not there before it
-distinct_push : (n : ℕ) (tags : List Tag) (tag : Tag) → AreDistinctBelow n tags → tag.0 < n → is_idle tags tag.0 ≡ false → AreDistinctBelow n (tags ++ tag ∷ [])
+distinct_push : (n : ℕ) (tags : List Tag) (tag : Tag) → AreDistinctBelow n tags → tag.0 < n →
+    is_idle tags tag.0 ≡ false → AreDistinctBelow n (tags ++ tag ∷ [])
 unfolding AreDistinctBelow is_idle
 distinct_push n [] tag distinct h new = (h, refl, tt)
 distinct_push n (s ∷ tags) tag distinct h new =
@@ -116,17 +120,23 @@ distinct_last n [] tag distinct = record { rest = tt; below = distinct.0; new = 
 distinct_last n (s ∷ tags) tag distinct =
     let last = distinct_last n tags tag distinct.2 in
     let parts = last_test (s.0 == tag.0) (is_idle tags s.0) (sym (is_idle-push tags tag s.0) ∙ distinct.1) in
-    record { rest = (distinct.0, parts.1, last.rest); below = last.below; new = or_from (s.0 == tag.0) (is_idle tags tag.0) parts.0 last.new }
+    record {
+      rest = (distinct.0, parts.1, last.rest);
+      below = last.below;
+      new = or_from (s.0 == tag.0) (is_idle tags tag.0) parts.0 last.new;
+    }
 
 -- ---- the buffer
 
-slice_get-push : (xs : List (List ℕ)) (x : List ℕ) (k : ℕ) → slice_get (xs ++ x ∷ []) k ≡ cond (k == length xs) (Some x) (slice_get xs k)
+slice_get-push : (xs : List (List ℕ)) (x : List ℕ) (k : ℕ) →
+    slice_get (xs ++ x ∷ []) k ≡ cond (k == length xs) (Some x) (slice_get xs k)
 slice_get-push [] x zero = refl
 slice_get-push [] x (suc k) = grind (arith, nat_tests)
 slice_get-push (y ∷ ys) x zero = grind (arith, nat_tests)
 slice_get-push (y ∷ ys) x (suc k) = grind (arith, nat_tests, slice_get-push ys x k)
 
-slice_get-set : (xs : List (List ℕ)) (t : ℕ) (x : List ℕ) (k : ℕ) → t < length xs → slice_get (set xs t x) k ≡ cond (k == t) (Some x) (slice_get xs k)
+slice_get-set : (xs : List (List ℕ)) (t : ℕ) (x : List ℕ) (k : ℕ) → t < length xs →
+    slice_get (set xs t x) k ≡ cond (k == t) (Some x) (slice_get xs k)
 slice_get-set [] t x k h = absurd (omega arith)
 slice_get-set (y ∷ ys) zero x zero h = refl
 slice_get-set (y ∷ ys) zero x (suc k) h = grind (arith, nat_tests)
@@ -143,10 +153,13 @@ unfolding taken_frames
 in_buffer p t taken = go (is_idle p.idle t) refl taken where
   go : (b : Bool) → is_idle p.idle t ≡ b → IsSome (cond b None (slice_get p.buffer t)) → IsInBuffer p t
   go true e some = absurd cc
-  go false e some = let frame = some_is (slice_get p.buffer t) some in record { below = slice_get_within p.buffer t frame.0 frame.1; not_idle = e }
+  go false e some =
+      let frame = some_is (slice_get p.buffer t) some in
+      record { below = slice_get_within p.buffer t frame.0 frame.1; not_idle = e }
 
 -- what a read of the buffer gives
-pub frame_bytes-read : (p : Pool) (t : ℕ) (frame : List ℕ) → IsSome (taken_frames p t) → frame ≡ get_or p.buffer t frame → frame_bytes p t ≡ frame
+pub frame_bytes-read : (p : Pool) (t : ℕ) (frame : List ℕ) → IsSome (taken_frames p t) →
+    frame ≡ get_or p.buffer t frame → frame_bytes p t ≡ frame
 unfolding taken_frames
 frame_bytes-read p t frame taken read =
     let place = in_buffer p t taken in
@@ -155,7 +168,8 @@ frame_bytes-read p t frame taken read =
 
 -- a change at a frame that is not idle shows
 shows_at : (idle : List Tag) (t u : ℕ) (bytes : List ℕ) (o : Option (List ℕ)) → is_idle idle t ≡ false →
-    cond (is_idle idle u) None (cond (u == t) (Some bytes) o) ≡ cond (u == t) (Some bytes) (cond (is_idle idle u) None o)
+    cond (is_idle idle u) None (cond (u == t) (Some bytes) o) ≡ cond (u == t) (Some bytes)
+    (cond (is_idle idle u) None o)
 shows_at idle t u bytes o free = elim (cases_Bool (u == t)) [
   | inl same ↦
       let not_idle : is_idle idle u ≡ false = ap (is_idle idle) (eqb-true u t same) ∙ free in
@@ -172,7 +186,8 @@ no_entry false = refl
 
 past_buffer : (p : Pool) (t : ℕ) → length p.buffer ≤ t → taken_frames p t ≡ None
 unfolding taken_frames
-past_buffer p t past = ap (λ o. cond (is_idle p.idle t) None o) (slice_get_past p.buffer t past) ∙ no_entry (is_idle p.idle t)
+past_buffer p t past = ap (λ o. cond (is_idle p.idle t) None o) (slice_get_past p.buffer t past)
+    ∙ no_entry (is_idle p.idle t)
 
 -- ---- what holds of every pool
 
@@ -227,7 +242,8 @@ module _ (p : Pool) (bytes : List ℕ) (pool : IsPool p) (full : length p.buffer
   taken_frames-pushed : taken_frames pushed_pool ≡ with_key (taken_frames p) (length p.buffer) bytes
   unfolding taken_frames with_key
   taken_frames-pushed = λ i u. (ap (λ o. cond (is_idle p.idle u) None o) (slice_get-push p.buffer bytes u)
-      ∙ shows_at p.idle (length p.buffer) u bytes (slice_get p.buffer u) (is_idle-past (length p.buffer) p.idle (length p.buffer) pool.idle (omega arith))) i
+      ∙ shows_at p.idle (length p.buffer) u bytes (slice_get p.buffer u)
+      (is_idle-past (length p.buffer) p.idle (length p.buffer) pool.idle (omega arith))) i
 
   has_pushed : HasTaken p pushed_pool (length p.buffer) bytes
   has_pushed =
@@ -235,18 +251,23 @@ module _ (p : Pool) (bytes : List ℕ) (pool : IsPool p) (full : length p.buffer
       let longer = length_push p.buffer bytes in
       let room : length p.buffer < p.frames = omega (arith, pool.fits) in
       record {
-        pool = pool_from pushed_pool (with_key (taken_frames p) (length p.buffer) bytes) taken_frames-pushed pool.bound (omega arith)
+        pool = pool_from pushed_pool (with_key (taken_frames p) (length p.buffer) bytes) taken_frames-pushed pool.bound
+            (omega arith)
             (distinct_more (length p.buffer) (length pushed_pool.buffer) p.idle (omega arith) pool.idle)
             (omega (arith, pool.counted, count_taken-new p.frames (length p.buffer) (taken_frames p) room bytes free));
         takes = record { below = room; was_free = free; taken = taken_frames-pushed };
       }
 
-  pub pushed : (tags : List Tag) → p.idle ≡ tags ++ [] → HasTaken p (record p { buffer = p.buffer ++ bytes ∷ []; idle = tags }) (length p.buffer) bytes
-  pushed tags none = subst (λ (idle : List Tag). HasTaken p (record p { buffer = p.buffer ++ bytes ∷ []; idle = idle }) (length p.buffer) bytes) (none ∙ append-nil tags) has_pushed
+  pub pushed : (tags : List Tag) → p.idle ≡ tags ++ [] →
+      HasTaken p (record p { buffer = p.buffer ++ bytes ∷ []; idle = tags }) (length p.buffer) bytes
+  pushed tags none = subst (λ (idle : List Tag). HasTaken p (record p { buffer = p.buffer ++ bytes ∷ []; idle = idle })
+      (length p.buffer) bytes) (none ∙ append-nil tags) has_pushed
 
 -- where no frame is idle and all are in the buffer, all are taken
-pub all_taken : (p : Pool) (tags : List Tag) → IsPool p → p.idle ≡ tags ++ [] → length p.idle ≡ 0 → length p.buffer ≡ p.frames → (taken_count p ≡ p.frames) × (record p { idle = tags } ≡ p)
-all_taken p tags pool none idle full = (omega (arith, pool.counted), ap (λ (idle : List Tag). record p { idle = idle }) (sym (none ∙ append-nil tags)))
+pub all_taken : (p : Pool) (tags : List Tag) → IsPool p → p.idle ≡ tags ++ [] → length p.idle ≡ 0 →
+    length p.buffer ≡ p.frames → (taken_count p ≡ p.frames) × (record p { idle = tags } ≡ p)
+all_taken p tags pool none idle full =
+    (omega (arith, pool.counted), ap (λ (idle : List Tag). record p { idle = idle }) (sym (none ∙ append-nil tags)))
 
 -- the last idle frame
 pub record EndsWith (idle tags : List Tag) (tag : Tag) : Type 0 where
@@ -259,7 +280,8 @@ last_word false b x o = refl
 
 module _ (p : Pool) (tags : List Tag) (tag : Tag) (pool : IsPool p) (ends : EndsWith p.idle tags tag) where
   last_idle : IsLast (length p.buffer) tags tag
-  last_idle = distinct_last (length p.buffer) tags tag (subst (λ (idle : List Tag). AreDistinctBelow (length p.buffer) idle) ends.is pool.idle)
+  last_idle = distinct_last (length p.buffer) tags tag
+      (subst (λ (idle : List Tag). AreDistinctBelow (length p.buffer) idle) ends.is pool.idle)
 
   pub idle_below : tag.0 < length p.buffer
   idle_below = last_idle.below
@@ -278,9 +300,11 @@ module _ (p : Pool) (tags : List Tag) (tag : Tag) (pool : IsPool p) (ends : Ends
 
   taken_frames-popped : (bytes : List ℕ) → taken_frames (popped_pool bytes) ≡ with_key (taken_frames p) tag.0 bytes
   unfolding taken_frames with_key
-  taken_frames-popped bytes = λ i u. (ap (λ o. cond (is_idle tags u) None o) (slice_get-set p.buffer tag.0 bytes u last_idle.below)
+  taken_frames-popped bytes = λ i u.
+      (ap (λ o. cond (is_idle tags u) None o) (slice_get-set p.buffer tag.0 bytes u last_idle.below)
       ∙ (shows_at tags tag.0 u bytes (slice_get p.buffer u) last_idle.new
-      ∙ sym (ap (λ b. cond (u == tag.0) (Some bytes) (cond b None (slice_get p.buffer u))) (idle_at u) ∙ last_word (u == tag.0) (is_idle tags u) (Some bytes) (slice_get p.buffer u)))) i
+      ∙ sym (ap (λ b. cond (u == tag.0) (Some bytes) (cond b None (slice_get p.buffer u))) (idle_at u)
+      ∙ last_word (u == tag.0) (is_idle tags u) (Some bytes) (slice_get p.buffer u)))) i
 
   pub popped : (bytes : List ℕ) → HasTaken p (popped_pool bytes) tag.0 bytes
   popped bytes =
@@ -288,7 +312,8 @@ module _ (p : Pool) (tags : List Tag) (tag : Tag) (pool : IsPool p) (ends : Ends
       let same = length-set p.buffer tag.0 bytes in
       let shorter : length p.idle ≡ length tags + 1 = ap length ends.is ∙ length_push tags tag in
       record {
-        pool = pool_from (popped_pool bytes) (with_key (taken_frames p) tag.0 bytes) (taken_frames-popped bytes) pool.bound (omega (arith, pool.fits))
+        pool = pool_from (popped_pool bytes) (with_key (taken_frames p) tag.0 bytes)
+            (taken_frames-popped bytes) pool.bound (omega (arith, pool.fits))
             (distinct_more (length p.buffer) (length (popped_pool bytes).buffer) tags (omega arith) last_idle.rest)
             (omega (arith, pool.counted, count_taken-new p.frames tag.0 (taken_frames p) low bytes idle_free));
         takes = record { below = low; was_free = idle_free; taken = taken_frames-popped bytes };
@@ -339,9 +364,15 @@ module _ (p : Pool) (t : ℕ) (bytes : List ℕ) (pool : IsPool p) (taken : IsSo
   pub IsPool-written : IsPool written_pool
   IsPool-written =
       let same = length-set p.buffer t bytes in
-      pool_from written_pool (with_key (taken_frames p) t bytes) taken_frames-written pool.bound (omega (arith, pool.fits))
+      pool_from written_pool (with_key (taken_frames p) t bytes) taken_frames-written pool.bound
+      (omega (arith, pool.fits))
       (distinct_more (length p.buffer) (length written_pool.buffer) p.idle (omega arith) pool.idle)
-      (omega (arith, pool.counted, count_taken-again p.frames t (taken_frames p) (taken_below p t pool taken) bytes taken))
+      (omega (
+        arith,
+        pool.counted,
+        count_taken-again p.frames t (taken_frames p)
+            (taken_below p t pool taken) bytes taken,
+      ))
 
 -- how many frames are free
 pub free_frames : (p : Pool) → IsPool p → p.frames - length p.buffer + length p.idle + taken_count p ≡ p.frames
@@ -350,14 +381,10 @@ free_frames p pool = omega (arith, pool.counted, pool.fits)
 -- ---- for callers
 
 module _ (old new : Pool) (t : ℕ) (bytes : List ℕ) (takes : Takes old new t bytes) where
-  -- a frame that was taken just now is taken
-  pub takes_taken : IsSome (taken_frames new t)
-  takes_taken = ap (λ (m : ℕ → Option (List ℕ)). is_some (m t)) takes.taken ∙ ap is_some (with_key-same (taken_frames old) t bytes)
-
-  -- and so is what was taken before
-  pub takes_keeps : (u : ℕ) → IsSome (taken_frames old u) → IsSome (taken_frames new u)
-  takes_keeps u taken = ap (λ (m : ℕ → Option (List ℕ)). is_some (m u)) takes.taken ∙ with_key-stays (taken_frames old) t bytes u taken
-
   -- the new frame is another than those before
   pub takes_apart : (u : ℕ) → IsSome (taken_frames old u) → u ≢ t
-  takes_apart u taken same = absurd (let free = takes.was_free in let some : is_some (taken_frames old t) ≡ true = ap (λ (k : ℕ). is_some (taken_frames old k)) (sym same) ∙ taken in cc)
+  takes_apart u taken same =
+      let free = takes.was_free in
+      let some : is_some (taken_frames old t) ≡ true =
+      ap (λ (k : ℕ). is_some (taken_frames old k)) (sym same) ∙ taken in
+      absurd cc

@@ -1,5 +1,5 @@
--- The pool of page frames as plain lists, and what it is to its callers: a number of frames, and a map from the tags of those
--- that are taken to their bytes.
+-- The pool of page frames as plain lists, and what it is to its callers: a number of frames, and a map from the tags of
+-- those that are taken to their bytes.
 use Rattle.std.specs.Prelude.{◌≡◌, ℕ, ◌+◌, ◌<◌, ◌≤◌, Bool, true, false, ◌||◌, ◌==◌, List, [], ◌∷◌, length, slice_get, if◌then◌else◌, Option, None, unwrap_or}
 use Rattle.vm_base.specs.declared.limits.TheConstants.{FRAMES}
 use Rattle.vm_base.specs.declared.names.Tag.{Tag}

@@ -9,7 +9,7 @@ use Rattle.std.proofs.lemmas.List.{length-take-le, get_or-take, get_or-drop, len
 use Rattle.std.proofs.lemmas.List.Edits.{length-between, get_or-between, split_between}
 use Rattle.page_store.specs.declared.rows.Row.{Row}
 use Rattle.page_store.specs.Rows.{row_cmp, find_row, AllBehind, IsSorted, IsRowFor, IsBoundFor, IsWithin, AreRowsWithin}
-use Rattle.page_store.proofs.RowLaws.{page_cmp, cmp_itself, sorted_at, sorted_nil, find_row-at}
+use Rattle.page_store.proofs.RowLaws.{page_cmp, cmp_itself, sorted_split, sorted_join, sorted_at, sorted_nil, find_row-at}
 
 -- ---- bounds
 
@@ -21,9 +21,6 @@ cmp_behind_same v p w q x y e f less = grind (arith, nat_tests)
 
 cmp_equal : (o : Ordering) → o ≡ Equal → o ≢ Less
 cmp_equal o e f = cc
-
-cmp_greater : (o : Ordering) → o ≡ Greater → o ≢ Less
-cmp_greater o e f = cc
 
 -- a row that is there is its page's bound
 pub bound_at_row : (rows : List Row) → IsSorted rows → (v p i : ℕ) → IsRowFor rows v p i → IsBoundFor rows v p i
@@ -151,14 +148,6 @@ find_row-each rows s i d h =
     }) d
 
 -- ---- the order of parts
-
-pub sorted_split : (row : Row) (rows : List Row) → IsSorted (row ∷ rows) → AllBehind row.koid.0 row.page rows × IsSorted rows
-unfolding IsSorted
-sorted_split row rows s = s
-
-pub sorted_join : (row : Row) (rows : List Row) → AllBehind row.koid.0 row.page rows → IsSorted rows → IsSorted (row ∷ rows)
-unfolding IsSorted
-sorted_join row rows behind s = (behind, s)
 
 behind_append : (v p : ℕ) (xs ys : List Row) → AllBehind v p xs → AllBehind v p ys → AllBehind v p (xs ++ ys)
 behind_append v p [] ys left right = right

@@ -1,4 +1,5 @@
--- The plain store without a VMO whose pages were released: which content its lists stand for, and that they stay a plain store.
+-- The plain store without a VMO whose pages were released: which content its lists stand for, and that they stay a
+-- plain store.
 use Rattle.std.proofs.Common.{◌≡◌, ℕ, ◌+◌, ◌≤◌, not, cond, ◌==◌, List, length, get_or, Option, None, IsSome, is_some, refl, sym, ap, subst, ◌∙◌, inl, inr, arith}
 use Rattle.std.specs.List.{remove}
 use Rattle.std.proofs.lemmas.Bool.{cases_eq, cases_lt}

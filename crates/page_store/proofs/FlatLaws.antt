@@ -1,4 +1,5 @@
--- Which content the lists of a plain store stand for, when they are a plain store, and what its pages, frames and counts are.
+-- Which content the lists of a plain store stand for, when they are a plain store, and what its pages, frames and
+-- counts are.
 use Rattle.std.proofs.Common.{◌≡◌, ℕ, ◌+◌, ◌^◌, ◌<◌, ◌≤◌, true, false, cond, ◌==◌, List, [], ◌∷◌, ◌++◌, length, get_or, take, drop, replicate, Option, None, Some, unwrap_or, refl, sym, ap, subst, ◌∙◌, arith}
 use Rattle.std.specs.Prelude.{IsSome, IfSome, is_some, nat_lt}
 use Rattle.std.proofs.lemmas.Bool.Decides.{nat_tests}
@@ -115,8 +116,8 @@ used_taken f flat =
     ∙ (count_below_same f.pool.frames (in_use (content_of f)) (λ t. is_some (taken_frames f.pool t)) (λ t h. sym (flat.taken t)) ∙ sym (taken_count-is f.pool))
 
 -- and the others are free
-pub free_frames : (f : Flat) (n : ℕ) → IsFlat f → n + taken_count f.pool ≡ f.pool.frames → n + used (content_of f) ≡ (content_of f).frames
-free_frames f n flat e = omega (arith, used_taken f flat, frames-content f)
+pub free_unused : (f : Flat) (n : ℕ) → IsFlat f → n + taken_count f.pool ≡ f.pool.frames → n + used (content_of f) ≡ (content_of f).frames
+free_unused f n flat e = omega (arith, used_taken f flat, frames-content f)
 
 pub IsFlat-spare : (f : Flat) (s : ℕ) → IsFlat f → IsFlat (record f { spare = s })
 IsFlat-spare f s flat = flat_from (record f { spare = s }) (content_of f) (content_of-spare f s) flat.sorted flat.ascending flat.good flat.vmos flat.counts flat.shares (taken_viewers f flat)
@@ -162,18 +163,18 @@ pub no_shares : (f : Flat) → IsFlat f → content_of f ≡ nothing → length 
 no_shares f flat e = flat.counts ∙ no_frames f e
 
 -- counts that were made where there were none
-record AreZeros (xs : List ℕ) (n : ℕ) : Type 0 where
+record AreZeroCounts (xs : List ℕ) (n : ℕ) : Type 0 where
   long : length xs ≡ n
   each : (t : ℕ) → t < n → get_or xs t 0 ≡ 0
 
-resized : (xs : List ℕ) (n m : ℕ) → length xs ≡ 0 → m ≡ n → AreZeros (take n xs ++ replicate m 0) n
-resized [] n m none same =
+zero_counts : (xs : List ℕ) (n m : ℕ) → length xs ≡ 0 → m ≡ n → AreZeroCounts (take n xs ++ replicate m 0) n
+zero_counts [] n m none same =
     let is : ◌≡◌ {A = List ℕ} (take n [] ++ replicate m 0) (replicate n 0) = ap (λ (ys : List ℕ). ys ++ replicate m 0) (take-nil {A = ℕ} n) ∙ ap (λ (k : ℕ). replicate {A = ℕ} k 0) same in
     record {
       long = ap length is ∙ length-replicate {A = ℕ} n 0;
       each = λ t h. ap (λ (ys : List ℕ). get_or ys t 0) is ∙ get_or-replicate n t 0 0 h;
     }
-resized (x ∷ xs) n m none same = absurd (omega arith)
+zero_counts (x ∷ xs) n m none same = absurd (omega arith)
 
 -- it gets its frames
 module _ (f : Flat) (pool : Pool) (shares : List ℕ) (empty : content_of f ≡ nothing) where
@@ -187,9 +188,9 @@ module _ (f : Flat) (pool : Pool) (shares : List ℕ) (empty : content_of f ≡ 
 pub IsFlat-filled : (f : Flat) (pool : Pool) (n m : ℕ) → content_of f ≡ nothing → IsFlat f → pool.frames ≡ n → ((t : ℕ) → taken_frames pool t ≡ None) → m ≡ n → IsFlat (record f { pool = pool; shares = take n f.shares ++ replicate m 0 })
 IsFlat-filled f pool n m empty flat frames free same =
     let g : Flat = record f { pool = pool; shares = take n f.shares ++ replicate m 0 } in
-    let zeros = resized f.shares n m (no_shares f flat empty) same in
+    let none = zero_counts f.shares n m (no_shares f flat empty) same in
     IsFlat-nothing g (content_of-filled f pool (take n f.shares ++ replicate m 0) empty ∙ ap (λ (c : Content). record c { frames = pool.frames }) empty) flat.sorted flat.ascending
-    (sym flat.vmos ∙ (ap vmos_of (empty ∙ nothing-frames) ∙ vmos_of-nothing 0)) (zeros.long ∙ sym frames) (λ t h. zeros.each t (omega arith)) free
+    (sym flat.vmos ∙ (ap vmos_of (empty ∙ nothing-frames) ∙ vmos_of-nothing 0)) (none.long ∙ sym frames) (λ t h. none.each t (omega arith)) free
 
 -- ---- a new VMO
 
@@ -222,16 +223,16 @@ pub pages_read : (f : Flat) (v i : ℕ) (vmo : Vmo) → IsFlat f → IsVmoFor f.
 pages_read f v i vmo flat at read = pages_of-at (content_of f) v vmo.count (count_read f v i vmo flat at read)
 
 -- no VMO has too many pages
-pages_le : (c : Content) (v : ℕ) → IsGood c → pages_of c v ≤ VMO_PAGES
+pages_of_le : (c : Content) (v : ℕ) → IsGood c → pages_of c v ≤ VMO_PAGES
 unfolding pages_of
-pages_le c v good = go (c.count v) refl where
+pages_of_le c v good = go (c.count v) refl where
   go : (o : Option ℕ) → c.count v ≡ o → unwrap_or o 0 ≤ VMO_PAGES
   go None e = omega arith
   go (Some n) e = good.counts v n e
 
 -- so the end of a range of pages is a number of the machine
 pub end_fits : (f : Flat) (v first seen : ℕ) → IsFlat f → first + seen ≤ pages_of (content_of f) v → first + seen < 2 ^ 64
-end_fits f v first seen flat h = omega (arith, pages_le (content_of f) v flat.good)
+end_fits f v first seen flat h = omega (arith, pages_of_le (content_of f) v flat.good)
 
 -- ---- held pages
 
@@ -255,8 +256,8 @@ pub record IsFrameOf (f : Flat) (held : Page) : Type 0 where
 some_viewers : (n m : ℕ) → m ≡ n → true ≡ nat_lt 0 n → 1 ≤ m
 some_viewers n m same e = grind (arith, nat_tests)
 
-pub frame_of : (f : Flat) (v p : ℕ) (held : Page) → IsFlat f → (content_of f).page v p ≡ Some held → IsFrameOf f held
-frame_of f v p held flat e =
+pub IsFrameOf-held : (f : Flat) (v p : ℕ) (held : Page) → IsFlat f → (content_of f).page v p ≡ Some held → IsFrameOf f held
+IsFrameOf-held f v p held flat e =
     let low : held.tag < f.pool.frames = subst (λ (n : ℕ). held.tag < n) (frames-content f) (flat.good.tags v p held e) in
     let used_here : is_some (taken_frames f.pool held.tag) ≡ true = flat.taken held.tag ∙ in_use_at (content_of f) v p held flat.good e in
     let found = page_of_row_found f.pool (find_row v p f.rows) held (sym (page-content f v p) ∙ e) in
@@ -271,7 +272,7 @@ frame_of f v p held flat e =
 -- a held page is sole where one VMO shows its frame
 pub sole_share : (f : Flat) (v p : ℕ) (held : Page) → IsFlat f → (content_of f).page v p ≡ Some held → is_sole_page (content_of f) v (Some held) ≡ (get_or f.shares held.tag 0 == 1)
 sole_share f v p held flat e =
-    sole-viewers (content_of f) v p held flat.good e ∙ ap (λ (n : ℕ). n == 1) (sym (frame_of f v p held flat e).share)
+    sole-viewers (content_of f) v p held flat.good e ∙ ap (λ (n : ℕ). n == 1) (sym (IsFrameOf-held f v p held flat e).share)
 
 -- what is read at the place of a row
 module _ (f : Flat) (v p i : ℕ) (row : Row) (flat : IsFlat f) (at : IsRowFor f.rows v p i) (read : row ≡ get_or f.rows i row) where
@@ -279,7 +280,7 @@ module _ (f : Flat) (v p i : ℕ) (row : Row) (flat : IsFlat f) (at : IsRowFor f
   page_read = page_at_row f v p i row flat at ∙ ap (λ (r : Row). Some (page_from f.pool r)) (sym read)
 
   pub share_below : row.tag.0 < length f.shares
-  share_below = let low = (frame_of f v p (page_from f.pool row) flat page_read).below in let e = flat.counts in omega arith
+  share_below = let low = (IsFrameOf-held f v p (page_from f.pool row) flat page_read).below in let e = flat.counts in omega arith
 
   -- its share count says whether it is sole
   pub look_row : (n : ℕ) → n ≡ get_or f.shares row.tag.0 n → look.Held row.tag (n == 1) ≡ look_at (content_of f) v ((content_of f).page v p)
@@ -291,7 +292,7 @@ module _ (f : Flat) (v p i : ℕ) (row : Row) (flat : IsFlat f) (at : IsRowFor f
   -- and is how many VMOs show it
   pub viewers_row : (n : ℕ) → n ≡ get_or f.shares row.tag.0 n → IfSome ((content_of f).page v p) (λ held. n ≡ viewers (content_of f) held.tag)
   viewers_row n share = subst (λ (o : Option Page). IfSome o (λ held. n ≡ viewers (content_of f) held.tag)) (sym page_read)
-      (get_or_read f.shares row.tag.0 n share_below share 0 ∙ (frame_of f v p (page_from f.pool row) flat page_read).share)
+      (get_or_read f.shares row.tag.0 n share_below share 0 ∙ (IsFrameOf-held f v p (page_from f.pool row) flat page_read).share)
 
 pub viewers_gap : (f : Flat) (v p i : ℕ) → IsGapFor f.rows v p i → IfSome ((content_of f).page v p) (λ held. 0 ≡ viewers (content_of f) held.tag)
 viewers_gap f v p i gap = subst (λ (o : Option Page). IfSome o (λ held. 0 ≡ viewers (content_of f) held.tag)) (sym (page_in_gap f v p i gap)) tt
@@ -302,13 +303,13 @@ look_gap f v p i gap = ap (look_at (content_of f) v) (sym (page_in_gap f v p i g
 -- the frame of a page that is shown is taken
 pub shown_taken : (f : Flat) (t : ℕ) → IsFlat f → IsShown (content_of f) t → IsSome (taken_frames f.pool t)
 shown_taken f t flat shown =
-    subst (λ (u : ℕ). IsSome (taken_frames f.pool u)) shown.shows.tag (frame_of f shown.v shown.p shown.held flat shown.shows.page).taken
+    subst (λ (u : ℕ). IsSome (taken_frames f.pool u)) shown.shows.tag (IsFrameOf-held f shown.v shown.p shown.held flat shown.shows.page).taken
 
 -- and has the bytes of the page
 pub shown_bytes : (f : Flat) (t v p : ℕ) (held : Page) → IsFlat f → ShowsTag (content_of f) t v p held → frame_bytes f.pool t ≡ held.bytes
-shown_bytes f t v p held flat shows = ap (λ (u : ℕ). frame_bytes f.pool u) (sym shows.tag) ∙ sym (frame_of f v p held flat shows.page).bytes
+shown_bytes f t v p held flat shows = ap (λ (u : ℕ). frame_bytes f.pool u) (sym shows.tag) ∙ sym (IsFrameOf-held f v p held flat shows.page).bytes
 
 -- bytes that were read from its frame
-pub bytes_read : (f : Flat) (t at n : ℕ) (bytes : List ℕ) (v p : ℕ) (held : Page) → IsFlat f → ShowsTag (content_of f) t v p held → length bytes ≡ n → bytes ≡ take n (drop at (frame_bytes f.pool t)) → bytes ≡ take (length bytes) (drop at held.bytes)
-bytes_read f t at n bytes v p held flat shows long e =
+pub AreBytesOf-read : (f : Flat) (t at n : ℕ) (bytes : List ℕ) (v p : ℕ) (held : Page) → IsFlat f → ShowsTag (content_of f) t v p held → length bytes ≡ n → bytes ≡ take n (drop at (frame_bytes f.pool t)) → bytes ≡ take (length bytes) (drop at held.bytes)
+AreBytesOf-read f t at n bytes v p held flat shows long e =
     e ∙ (ap (λ (m : ℕ). take m (drop at (frame_bytes f.pool t))) (sym long) ∙ ap (λ (bs : List ℕ). take (length bytes) (drop at bs)) (shown_bytes f t v p held flat shows))

@@ -24,7 +24,8 @@ use Rattle.page_store.specs.Vmos.{count_in, IsAscending}
 use Rattle.page_store.specs.Flat.{Flat, page_of_row, content_of, IsFlat}
 use Rattle.vm_model.proofs.SharingLaws.{viewers-hold_zero, viewers-hold_fresh}
 use Rattle.page_store.proofs.RowLaws.{IsRowAgain, page_cmp, cmp_itself, cmp_same, find_row-insert, sorted_insert, find_row-set, sorted_set}
-use Rattle.page_store.proofs.FlatLaws.{same_content, frames-content, page-content, page_from, some_page, page_of_row-some, page_of_row-none, flat_from, taken_viewers, free_viewers, free_in_use, used_taken, page_at_row, page_in_gap, frame_of, sole_share, share_below}
+use Rattle.page_store.proofs.ShareLaws.{one_at, none_at}
+use Rattle.page_store.proofs.FlatLaws.{same_content, frames-content, page-content, page_from, some_page, page_of_row-some, page_of_row-none, flat_from, taken_viewers, free_viewers, free_in_use, used_taken, page_at_row, page_in_gap, IsFrameOf-held, sole_share, share_below}
 
 -- there is a free frame where one is not used
 pub room_free : (f : Flat) → IsFlat f → used (content_of f) < (content_of f).frames → taken_count f.pool < f.pool.frames
@@ -70,8 +71,8 @@ pub record HoldsRow (f g : Flat) (row : Row) (bytes : List ℕ) : Type 0 where
   pub rows : (w q : ℕ) → find_row w q g.rows ≡ cond ((w == row.koid.0) && (q == row.page)) (Some row) (find_row w q f.rows)
   pub page : row.page < pages_of (content_of f) row.koid.0
 
--- the share counts of new are those of old, but for one more of the frame t, and one less of another frame, of which there
--- are two
+-- the share counts of new are those of old, but for one more of the frame t, and one less of another frame, of which
+-- there are two
 pub record AreShares (old new : ℕ → ℕ) (t : ℕ) (leaves : ℕ → Bool) : Type 0 where
   pub is : (u : ℕ) → new u + cond (leaves u) 1 0 ≡ old u + cond (u == t) 1 0
   pub stays : (u : ℕ) → leaves u ≡ true → 2 ≤ old u
@@ -96,7 +97,7 @@ module _ (f g : Flat) (row : Row) (bytes : List ℕ) (flat : IsFlat f) (is : Hol
   -- the frame of a row that was there is another
   frame_apart : (w q : ℕ) (other : Row) → find_row w q f.rows ≡ Some other → other.tag.0 ≢ row.tag.0
   frame_apart w q other e same =
-      let held = frame_of f w q (page_from f.pool other) flat (page-content f w q ∙ (ap (page_of_row f.pool) e ∙ page_of_row-some f.pool other)) in
+      let held = IsFrameOf-held f w q (page_from f.pool other) flat (page-content f w q ∙ (ap (page_of_row f.pool) e ∙ page_of_row-some f.pool other)) in
       let there : is_some (taken_frames f.pool row.tag.0) ≡ true = subst (λ (u : ℕ). IsSome (taken_frames f.pool u)) same held.taken in
       let free : is_some (taken_frames f.pool row.tag.0) ≡ false = ap is_some is.was_free in
       let clash : ◌≡◌ {A = Bool} true false = sym there ∙ free in absurd cc
@@ -140,12 +141,6 @@ module _ (f g : Flat) (row : Row) (bytes : List ℕ) (flat : IsFlat f) (is : Hol
 
 -- ---- share counts
 
-bit_here : (u t : ℕ) → u ≡ t → ◌≡◌ {A = ℕ} (cond (u == t) 1 0) 1
-bit_here u t same = ap (λ (b : Bool). cond {A = ℕ} b 1 0) (eq-eqb u t same)
-
-bit_off : (u t : ℕ) → u ≢ t → ◌≡◌ {A = ℕ} (cond (u == t) 1 0) 0
-bit_off u t apart = ap (λ (b : Bool). cond {A = ℕ} b 1 0) (ne_eqb u t apart)
-
 -- the frame t, which was free, is shown once
 shares_zero : (n : ℕ) (shares : List ℕ) (old new : ℕ → ℕ) (t : ℕ) → ((u : ℕ) → new u ≡ old u + cond (u == t) 1 0) → old t ≡ 0 → n ≤ length shares → ((u : ℕ) → u < n → get_or shares u 0 ≡ old u) →
     (u : ℕ) → u < n → get_or (set shares t 1) u 0 ≡ new u
@@ -153,13 +148,13 @@ shares_zero n shares old new t is none long each u h = elim (cases_eq u t) [
   | inl same ↦
       let here : get_or (set shares t 1) u 0 ≡ 1 = ap (λ (k : ℕ). get_or (set shares k 1) u 0) (sym same) ∙ get_or-set_same shares u 1 0 (omega arith) in
       let was : old u ≡ 0 = ap old same ∙ none in
-      let one = bit_here u t same in
+      let one = one_at u t same in
       let now = is u in
       omega arith
   | inr apart ↦
       let there = get_or-set_other shares t u 1 0 apart in
       let was = each u h in
-      let off = bit_off u t apart in
+      let off = none_at u t apart in
       let now = is u in
       omega arith
 ]
@@ -173,25 +168,25 @@ shares_held n shares old new s t is distinct none long each u h = elim (cases_eq
       let here : get_or (set (set shares s (get_or shares s 0 - 1)) t 1) u 0 ≡ 1 =
       ap (λ (k : ℕ). get_or (set (set shares s (get_or shares s 0 - 1)) k 1) u 0) (sym same) ∙ get_or-set_same (set shares s (get_or shares s 0 - 1)) u 1 0 (omega arith) in
       let was : old u ≡ 0 = ap old same ∙ none in
-      let one = bit_here u t same in
-      let off = bit_off u s (λ e. distinct (sym e ∙ same)) in
+      let one = one_at u t same in
+      let off = none_at u s (λ e. distinct (sym e ∙ same)) in
       let now = is u in
       omega arith
   | inr apart ↦
       let first = get_or-set_other (set shares s (get_or shares s 0 - 1)) t u 1 0 apart in
-      let none_here = bit_off u t apart in
+      let none_here = none_at u t apart in
       let now = is u in
       elim (cases_eq u s) [
         | inl same ↦
             let second : get_or (set shares s (get_or shares s 0 - 1)) u 0 ≡ get_or shares u 0 - 1 =
             ap (λ (k : ℕ). get_or (set shares k (get_or shares k 0 - 1)) u 0) (sym same) ∙ get_or-set_same shares u (get_or shares u 0 - 1) 0 (omega arith) in
             let was = each u h in
-            let one = bit_here u s same in
+            let one = one_at u s same in
             omega arith
         | inr other ↦
             let second = get_or-set_other shares s u (get_or shares s 0 - 1) 0 other in
             let was = each u h in
-            let off = bit_off u s other in
+            let off = none_at u s other in
             omega arith
       ]
 ]
@@ -271,7 +266,7 @@ module _ (f : Flat) (i : ℕ) (row : Row) (flat : IsFlat f) (h : i < length f.ro
   share_is n share = get_or_read f.shares row.tag.0 n held_below share 0
 
   pub share_shown : (n : ℕ) → n ≡ get_or f.shares row.tag.0 n → 1 ≤ n
-  share_shown n share = let one = (frame_of f row.koid.0 row.page (page_from f.pool row) flat page_at).shown in let e = share_is n share in omega arith
+  share_shown n share = let one = (IsFrameOf-held f row.koid.0 row.page (page_from f.pool row) flat page_at).shown in let e = share_is n share in omega arith
 
   sole_is : (n : ℕ) → n ≡ get_or f.shares row.tag.0 n → sole (content_of f) row.koid.0 row.page ≡ (n == 1)
   sole_is n share = ap (is_sole_page (content_of f) row.koid.0) page_at
@@ -300,7 +295,7 @@ module _ (f : Flat) (i : ℕ) (row : Row) (flat : IsFlat f) (h : i < length f.ro
 
   -- its frame is taken
   pub held_taken : IsSome (taken_frames f.pool row.tag.0)
-  held_taken = (frame_of f row.koid.0 row.page (page_from f.pool row) flat page_at).taken
+  held_taken = (IsFrameOf-held f row.koid.0 row.page (page_from f.pool row) flat page_at).taken
 
 abbrev pub moved : Row → ℕ → Row
 moved row t = record row { tag = record { 0 = t } }
@@ -345,7 +340,7 @@ module _ (f : Flat) (pool : Pool) (row : Row) (i t : ℕ) (flat : IsFlat f) (h :
 
   owned_held : get_or f.shares row.tag.0 0 ≢ 1 → IsOwned f moved_flat row.koid.0 row.page t
   owned_held shared =
-      let frame = frame_of f row.koid.0 row.page held_before flat held_is in
+      let frame = IsFrameOf-held f row.koid.0 row.page held_before flat held_is in
       record {
         flat = IsFlat-held f moved_flat (moved row t) (frame_bytes f.pool row.tag.0) flat holds_held (λ u. u == row.tag.0)
             (record { is = held_viewers; stays = λ u e. subst (λ (k : ℕ). 2 ≤ viewers (content_of f) k) (sym (eqb-true u row.tag.0 e)) (let a = frame.share in let b = frame.shown in omega arith) })

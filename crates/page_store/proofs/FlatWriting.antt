@@ -17,12 +17,12 @@ use Rattle.page_store.specs.Flat.{Flat, page_of_row, content_of, IsFlat}
 use Rattle.page_store.proofs.FlatLaws.{same_content, page-content, page_from, page_of_row-some, page_of_row_found, flat_from, taken_viewers, shown_taken, shown_bytes}
 use Rattle.page_store.proofs.FlatOwning.{page_of_row-other, page_of_row-here, vmos_of-hold}
 
-pub is_shown : (c : Content) (t : ℕ) → IsShownOnce c t → IsShown c t
-is_shown c t once = record { v = once.v; p = once.p; held = once.held; shows = once.shows.shows }
+pub IsShown-from_once : (c : Content) (t : ℕ) → IsShownOnce c t → IsShown c t
+IsShown-from_once c t once = record { v = once.v; p = once.p; held = once.held; shows = once.shows.shows }
 
 -- whichever page shows the frame, no other does
-alone : (c : Content) (t v p : ℕ) (held : Page) → IsShownOnce c t → ShowsTag c t v p held → (w q : ℕ) (other : Page) → ShowsTag c t w q other → (w ≡ v) × (q ≡ p)
-alone c t v p held once shows w q other others =
+shows_alone : (c : Content) (t v p : ℕ) (held : Page) → IsShownOnce c t → ShowsTag c t v p held → (w q : ℕ) (other : Page) → ShowsTag c t w q other → (w ≡ v) × (q ≡ p)
+shows_alone c t v p held once shows w q other others =
     let here = once.shows.alone v p held shows in
     let there = once.shows.alone w q other others in
     (there.0 ∙ sym here.0, there.1 ∙ sym here.1)
@@ -52,7 +52,7 @@ module _ (f : Flat) (pool : Pool) (t at : ℕ) (bytes : List ℕ) (flat : IsFlat
     | inr there ↦
         page_of_row-other f.pool pool t (replaced (frame_bytes f.pool t) at bytes) frame (find_row w q f.rows) (λ row found same.
         let is : (content_of f).page w q ≡ Some (page_from f.pool row) = page-content f w q ∙ (ap (page_of_row f.pool) found ∙ page_of_row-some f.pool row) in
-        let one = alone (content_of f) t v p held once shows w q (page_from f.pool row) (record { page = is; tag = same }) in
+        let one = shows_alone (content_of f) t v p held once shows w q (page_from f.pool row) (record { page = is; tag = same }) in
         let test = and_from (w == v) (q == p) (eq-eqb w v one.0) (eq-eqb q p one.1) in
         let clash : ◌≡◌ {A = Bool} true false = sym test ∙ there in absurd cc)
         ∙ ap (λ b. cond b (Some (with_replaced held at bytes)) (page_of_row f.pool (find_row w q f.rows))) (sym there)
@@ -81,6 +81,6 @@ module _ (f : Flat) (pool : Pool) (t at : ℕ) (bytes : List ℕ) (flat : IsFlat
       still u = elim (cases_eq u t) [
         | inl same ↦
             ap is_some (with_key-here (taken_frames f.pool) t (replaced (frame_bytes f.pool t) at bytes) u same)
-            ∙ sym (ap (λ (k : ℕ). is_some (taken_frames f.pool k)) same ∙ shown_taken f t flat (is_shown (content_of f) t once))
+            ∙ sym (ap (λ (k : ℕ). is_some (taken_frames f.pool k)) same ∙ shown_taken f t flat (IsShown-from_once (content_of f) t once))
         | inr other ↦ ap is_some (with_key-other (taken_frames f.pool) t (replaced (frame_bytes f.pool t) at bytes) u other)
       ]

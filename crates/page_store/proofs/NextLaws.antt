@@ -32,7 +32,7 @@ no_vmo_behind : (v p w q : ℕ) → page_cmp v p w q ≡ Greater → v ≤ w
 no_vmo_behind v p w q e = grind (arith, nat_tests)
 
 -- the page is the first of v that is held, from page `from` on
-pub record IsNext (c : Content) (v from page : ℕ) : Type 0 where
+pub record IsFirstHeld (c : Content) (v from page : ℕ) : Type 0 where
   pub order : from ≤ page
   pub held : IsSome (c.page v page)
   pub gap : (p : ℕ) → from ≤ p → p < page → c.page v p ≡ None
@@ -59,7 +59,7 @@ module _ (f : Flat) (v from i : ℕ) (flat : IsFlat f) (bound : IsBoundFor f.row
     go (Some held) e = let row = row_of_page f v p held e in absurd (apart held.tag row.0 row.1)
 
   -- the row at the bound, where it is of the VMO
-  pub next_row : (first row : Row) → i < length f.rows → first ≡ get_or f.rows i first → first.koid.0 ≡ v → row ≡ get_or f.rows i row → IsNext (content_of f) v from row.page
+  pub next_row : (first row : Row) → i < length f.rows → first ≡ get_or f.rows i first → first.koid.0 ≡ v → row ≡ get_or f.rows i row → IsFirstHeld (content_of f) v from row.page
   next_row first row h seen koid read =
       let at = get_or f.rows i row in
       let at_koid : at.koid.0 ≡ v = ap (λ (r : Row). r.koid.0) (get_or_default f.rows i row first h ∙ sym seen) ∙ koid in

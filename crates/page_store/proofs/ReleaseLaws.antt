@@ -1,5 +1,5 @@
--- The plain store without the rows of a range of pages, whose frames were released: which content its lists stand for, and that
--- they stay a plain store.
+-- The plain store without the rows of a range of pages, whose frames were released: which content its lists stand
+-- for, and that they stay a plain store.
 use Rattle.std.proofs.Common.{◌≡◌, ◌⊎◌, ℕ, ◌+◌, ◌<◌, ◌≤◌, List, [], ◌++◌, length, get_or, take, drop, Option, None, Some, unwrap_or, refl, sym, ap, subst, ◌∙◌, inl, inr, arith}
 use Rattle.std.specs.List.{remove_range, slice_range}
 use Rattle.std.proofs.lemmas.Bool.{cases_eq}
@@ -50,7 +50,8 @@ pub record HasReleased (f g : Flat) (v p q : ℕ) : Type 0 where
   pub content : content_of g ≡ zeroed (content_of f) v p q
   pub vmos : g.vmos ≡ f.vmos
 
--- g is f without the rows from one place to another, those of the pages of v from page p to below q, whose frames were released
+-- g is f without the rows from one place to another, those of the pages of v from page p to below q, whose frames
+-- were released
 pub record IsReleased (f g : Flat) (v p q from end : ℕ) : Type 0 where
   pub are : AreRowsWithin f.rows v p q from end
   pub next : g.next ≡ f.next

@@ -1,5 +1,5 @@
--- The plain store with another page count for a VMO, whose pages past it were released: which content its lists stand for, and
--- that they stay a plain store.
+-- The plain store with another page count for a VMO, whose pages past it were released: which content its lists stand
+-- for, and that they stay a plain store.
 use Rattle.std.proofs.Common.{◌≡◌, ℕ, ◌+◌, ◌-◌, ◌<◌, ◌≤◌, cond, ◌==◌, List, length, set, Some, IsSome, refl, sym, ap, subst, ◌∙◌, arith, length-set}
 use Rattle.vm_base.specs.declared.limits.TheConstants.{VMO_PAGES}
 use Rattle.vm_model.specs.Contents.Content.{Content, pages_of, vmos_of, IsGood}

@@ -7,6 +7,7 @@ use Rattle.std.specs.declared.cmp.Ordering.TheVariants.{Less, Equal, Greater}
 use Rattle.std.specs.Ordering.{nat_cmp, ordering_then, ordering_index}
 use Rattle.std.proofs.lemmas.Bool.{cases_order, and_from}
 use Rattle.std.proofs.lemmas.Bool.Decides.{nat_tests, Decides-eqb}
+use Rattle.frame_pool.proofs.PoolLaws.{eqb_flip}
 use Rattle.page_store.specs.declared.rows.Row.{Row}
 use Rattle.page_store.specs.Rows.{row_cmp, find_row, AllBehind, IsSorted, IsRowFor, IsGapFor}
 
@@ -62,13 +63,13 @@ pub behind_from : (v p : ℕ) (rows : List Row) → ((i : ℕ) (d : Row) → i <
 behind_from v p [] each = tt
 behind_from v p (row ∷ rows) each = (each 0 row (omega arith), behind_from v p rows (λ i d h. each (suc i) d (omega arith)))
 
-sorted_parts : (row : Row) (rows : List Row) → IsSorted (row ∷ rows) → AllBehind row.koid.0 row.page rows × IsSorted rows
+pub sorted_split : (row : Row) (rows : List Row) → IsSorted (row ∷ rows) → AllBehind row.koid.0 row.page rows × IsSorted rows
 unfolding IsSorted
-sorted_parts row rows s = s
+sorted_split row rows s = s
 
-sorted_from : (row : Row) (rows : List Row) → AllBehind row.koid.0 row.page rows → IsSorted rows → IsSorted (row ∷ rows)
+pub sorted_join : (row : Row) (rows : List Row) → AllBehind row.koid.0 row.page rows → IsSorted rows → IsSorted (row ∷ rows)
 unfolding IsSorted
-sorted_from row rows b s = (b, s)
+sorted_join row rows b s = (b, s)
 
 pub sorted_nil : IsSorted []
 unfolding IsSorted
@@ -78,9 +79,9 @@ sorted_nil = tt
 pub sorted_at : (rows : List Row) → IsSorted rows → (i j : ℕ) (d : Row) → i < j → j < length rows → row_cmp (get_or rows i d).koid.0 (get_or rows i d).page (get_or rows j d) ≡ Greater
 sorted_at [] s i j d l h = absurd (omega arith)
 sorted_at (row ∷ rows) s zero zero d l h = absurd (omega arith)
-sorted_at (row ∷ rows) s zero (suc j) d l h = behind_at row.koid.0 row.page rows (sorted_parts row rows s).0 j d (omega arith)
+sorted_at (row ∷ rows) s zero (suc j) d l h = behind_at row.koid.0 row.page rows (sorted_split row rows s).0 j d (omega arith)
 sorted_at (row ∷ rows) s (suc i) zero d l h = absurd (omega arith)
-sorted_at (row ∷ rows) s (suc i) (suc j) d l h = sorted_at rows (sorted_parts row rows s).1 i j d (omega arith) (omega arith)
+sorted_at (row ∷ rows) s (suc i) (suc j) d l h = sorted_at rows (sorted_split row rows s).1 i j d (omega arith) (omega arith)
 
 -- numbers that do not fall from an element to a later one
 pub rises_from : {X : Type 0} (f : X → ℕ) (xs : List X) → ((i j : ℕ) (d : X) → i < j → j < length xs → f (get_or xs i d) ≤ f (get_or xs j d)) → IsNonDecreasingBy f xs
@@ -104,10 +105,10 @@ find_row-at (row ∷ rows) s v p (suc i) at d =
     let h = at.in_range in
     let same = cmp_same v p (get_or rows i d).koid.0 (get_or rows i d).page (at.is d) in
     let behind : page_cmp row.koid.0 row.page (get_or rows i d).koid.0 (get_or rows i d).page ≡ Greater =
-    behind_at row.koid.0 row.page rows (sorted_parts row rows s).0 i d (omega arith) in
+    behind_at row.koid.0 row.page rows (sorted_split row rows s).0 i d (omega arith) in
     let apart : ((row.koid.0 == v) && (row.page == p)) ≡ false = grind (arith, nat_tests) in
     find_row-skip v p row rows apart
-    ∙ find_row-at rows (sorted_parts row rows s).1 v p i (record { in_range = omega arith; is = at.is }) d
+    ∙ find_row-at rows (sorted_split row rows s).1 v p i (record { in_range = omega arith; is = at.is }) d
 
 -- where no row is the page's, none is found
 pub find_row-none : (rows : List Row) (v p : ℕ) → ((k : ℕ) → k < length rows → (d : Row) → ((row_cmp v p (get_or rows k d) ≡ Less) ⊎ (row_cmp v p (get_or rows k d) ≡ Greater))) → find_row v p rows ≡ None
@@ -126,11 +127,8 @@ find_row-gap rows v p i gap = find_row-none rows v p (λ k h d. elim (cases_orde
 ])
 
 -- a new row in the gap is found at its page, and at every other page what was found
-swapped : (a b : ℕ) → (a == b) ≡ (b == a)
-swapped a b = grind (arith, nat_tests)
-
 swapped_row : (w q : ℕ) (row : Row) → ((row.koid.0 == w) && (row.page == q)) ≡ ((w == row.koid.0) && (q == row.page))
-swapped_row w q row = ap (λ b. b && (row.page == q)) (swapped row.koid.0 w) ∙ ap (λ b. (w == row.koid.0) && b) (swapped row.page q)
+swapped_row w q row = ap (λ b. b && (row.page == q)) (eqb_flip row.koid.0 w) ∙ ap (λ b. (w == row.koid.0) && b) (eqb_flip row.page q)
 
 -- the order of two tests that do not both pass
 pub swap_cond : {X : Type 0} (a b : Bool) (x y z : X) → (a ≡ true → b ≡ true → ⊥) → cond a x (cond b y z) ≡ cond b y (cond a x z)
@@ -167,13 +165,13 @@ behind_insert v p [] (suc i) row all here = (here, tt)
 behind_insert v p (first ∷ rows) (suc i) row all here = (all.0, behind_insert v p rows i row all.1 here)
 
 pub sorted_insert : (rows : List Row) (i : ℕ) (row : Row) → IsSorted rows → IsGapFor rows row.koid.0 row.page i → IsSorted (insert rows i row)
-sorted_insert rows zero row s gap = sorted_from row rows (behind_from row.koid.0 row.page rows (λ k d h. gap.behind k d (omega arith) h)) s
+sorted_insert rows zero row s gap = sorted_join row rows (behind_from row.koid.0 row.page rows (λ k d h. gap.behind k d (omega arith) h)) s
 sorted_insert [] (suc i) row s gap = absurd (let h = gap.in_range in omega arith)
 sorted_insert (first ∷ rows) (suc i) row s gap =
     let h = gap.in_range in
-    sorted_from first (insert rows i row)
-    (behind_insert first.koid.0 first.page rows i row (sorted_parts first rows s).0 (cmp_flip row.koid.0 row.page first.koid.0 first.page (gap.before 0 first (omega arith) (omega arith))))
-    (sorted_insert rows i row (sorted_parts first rows s).1 (record {
+    sorted_join first (insert rows i row)
+    (behind_insert first.koid.0 first.page rows i row (sorted_split first rows s).0 (cmp_flip row.koid.0 row.page first.koid.0 first.page (gap.before 0 first (omega arith) (omega arith))))
+    (sorted_insert rows i row (sorted_split first rows s).1 (record {
       in_range = omega arith;
       before = λ k d l m. gap.before (suc k) d (omega arith) (omega arith);
       behind = λ k d l m. gap.behind (suc k) d (omega arith) (omega arith);
@@ -197,12 +195,12 @@ behind_set v p (first ∷ rows) (suc i) row all again =
 pub sorted_set : (rows : List Row) (i : ℕ) (row : Row) → IsSorted rows → IsRowAgain rows i row → IsSorted (set rows i row)
 sorted_set [] i row s again = sorted_nil
 sorted_set (first ∷ rows) zero row s again =
-    let parts = sorted_parts first rows s in
-    sorted_from row rows (subst (λ (w : ℕ). AllBehind w row.page rows) (again.koid first) (subst (λ (q : ℕ). AllBehind first.koid.0 q rows) (again.page first) parts.0)) parts.1
+    let parts = sorted_split first rows s in
+    sorted_join row rows (subst (λ (w : ℕ). AllBehind w row.page rows) (again.koid first) (subst (λ (q : ℕ). AllBehind first.koid.0 q rows) (again.page first) parts.0)) parts.1
 sorted_set (first ∷ rows) (suc i) row s again =
-    let parts = sorted_parts first rows s in
+    let parts = sorted_split first rows s in
     let rest : IsRowAgain rows i row = record { in_range = let h = again.in_range in omega arith; koid = again.koid; page = again.page } in
-    sorted_from first (set rows i row) (behind_set first.koid.0 first.page rows i row parts.0 rest) (sorted_set rows i row parts.1 rest)
+    sorted_join first (set rows i row) (behind_set first.koid.0 first.page rows i row parts.0 rest) (sorted_set rows i row parts.1 rest)
 
 -- it is found at its page, and at every other page what was found
 pub find_row-set : (rows : List Row) (i : ℕ) (row : Row) → IsSorted rows → IsRowAgain rows i row → (w q : ℕ) →
@@ -219,22 +217,22 @@ find_row-set (first ∷ rows) zero row s again w q =
 find_row-set (first ∷ rows) (suc i) row s again w q =
     let rest : IsRowAgain rows i row = record { in_range = let h = again.in_range in omega arith; koid = again.koid; page = again.page } in
     let behind : page_cmp first.koid.0 first.page (get_or rows i first).koid.0 (get_or rows i first).page ≡ Greater =
-    behind_at first.koid.0 first.page rows (sorted_parts first rows s).0 i first rest.in_range in
+    behind_at first.koid.0 first.page rows (sorted_split first rows s).0 i first rest.in_range in
     let koid = again.koid first in
     let page = again.page first in
     find_row-cons w q first (set rows i row)
-    ∙ (ap (λ o. cond ((first.koid.0 == w) && (first.page == q)) (Some first) o) (find_row-set rows i row (sorted_parts first rows s).1 rest w q)
+    ∙ (ap (λ o. cond ((first.koid.0 == w) && (first.page == q)) (Some first) o) (find_row-set rows i row (sorted_split first rows s).1 rest w q)
     ∙ (swap_cond ((first.koid.0 == w) && (first.page == q)) ((w == row.koid.0) && (q == row.page)) (Some first) (Some row) (find_row w q rows)
     (λ here there. grind (arith, nat_tests))
     ∙ ap (λ o. cond ((w == row.koid.0) && (q == row.page)) (Some row) o) (sym (find_row-cons w q first rows))))
 
 -- ---- what a binary search answers
 
-pub record IsFound (rows : List Row) (v p : ℕ) (r : Result ℕ ℕ) : Type 0 where
+pub record IsRowFound (rows : List Row) (v p : ℕ) (r : Result ℕ ℕ) : Type 0 where
   pub found : IfOk r (IsRowFor rows v p)
   pub absent : IfErr r (IsGapFor rows v p)
 
-pub searched : (rows : List Row) → IsSorted rows → (v p : ℕ) (r : Result ℕ ℕ) → IsSearchInRange r (length rows) → IsBinarySearchResult (row_cmp v p) rows r → IsFound rows v p r
+pub searched : (rows : List Row) → IsSorted rows → (v p : ℕ) (r : Result ℕ ℕ) → IsSearchInRange r (length rows) → IsBinarySearchResult (row_cmp v p) rows r → IsRowFound rows v p r
 searched rows s v p (Ok i) h at = record { found = record { in_range = h; is = at }; absent = tt }
 searched rows s v p (Err i) h parted =
     let parts = parted (comparisons_rise rows s v p) in

@@ -10,12 +10,9 @@ use Rattle.vm_base.specs.Entries.{without_key}
 use Rattle.vm_base.proofs.EntryLaws.{without_key-same, without_key-other}
 use Rattle.frame_pool.specs.Pool.{Pool, taken_frames}
 use Rattle.page_store.specs.declared.rows.Row.{Row}
-use Rattle.page_store.specs.Shares.{rows_with, row_in, IsFirstWith, Shares, AreCounted, Releases}
+use Rattle.page_store.specs.Shares.{rows_with, row_in, IsFirstWith, Shares, AreTakenWhereShared, Releases}
 
 -- ---- how many rows have a frame
-
-bit : Bool → ℕ
-bit b = cond b 1 0
 
 pub rows_with-nil : (t : ℕ) → rows_with t [] ≡ 0
 unfolding rows_with
@@ -37,10 +34,11 @@ rows_with-map t koid first [] = refl
 rows_with-map t koid first (row ∷ rows) =
     omega (arith, rows_with-cons t (row_in koid first row) (map (row_in koid first) rows), rows_with-cons t row rows, rows_with-map t koid first rows)
 
-one_at : (a b : ℕ) → a ≡ b → ◌≡◌ {A = ℕ} (cond (a == b) 1 0) 1
+-- the bit of a test of two numbers
+pub one_at : (a b : ℕ) → a ≡ b → ◌≡◌ {A = ℕ} (cond (a == b) 1 0) 1
 one_at a b e = ap (λ (x : Bool). cond {A = ℕ} x 1 0) (eq-eqb a b e)
 
-none_at : (a b : ℕ) → a ≢ b → ◌≡◌ {A = ℕ} (cond (a == b) 1 0) 0
+pub none_at : (a b : ℕ) → a ≢ b → ◌≡◌ {A = ℕ} (cond (a == b) 1 0) 0
 none_at a b apart = ap (λ (x : Bool). cond {A = ℕ} x 1 0) (ne_eqb a b apart)
 
 -- a row that has the frame counts
@@ -144,7 +142,7 @@ added_none all rows koid first i = rw (between_none rows i) (sym (append-nil all
 
 -- ---- given back
 
-pub Releases-nil : (shares : List ℕ) (pool : Pool) → AreCounted shares pool → Releases [] shares shares pool pool
+pub Releases-nil : (shares : List ℕ) (pool : Pool) → AreTakenWhereShared shares pool → Releases [] shares shares pool pool
 Releases-nil shares pool counted = record {
   size = refl;
   counts = λ t. omega (arith, rows_with-nil t);
@@ -182,7 +180,7 @@ counted_other now t u n apart = get_or-set_other now t u n 0 apart
 test_above : (a b : ℕ) → 0 < a → 0 < b → nat_lt 0 a ≡ nat_lt 0 b
 test_above a b h k = grind (arith, nat_tests)
 
-still_counted : (now : List ℕ) (t n : ℕ) (pool : Pool) → AreCounted now pool → get_or now t 0 ≡ n + 1 → 0 < n → AreCounted (set now t n) pool
+still_counted : (now : List ℕ) (t n : ℕ) (pool : Pool) → AreTakenWhereShared now pool → get_or now t 0 ≡ n + 1 → 0 < n → AreTakenWhereShared (set now t n) pool
 still_counted now t n pool counted one more = record {
   taken = λ u. counted.taken u ∙ elim (cases_eq u t) [
     | inl same ↦
@@ -207,7 +205,7 @@ Releases-kept rows row old now before pool n done one more = record {
   ];
 }
 
-given_counted : (now : List ℕ) (t : ℕ) (pool after : Pool) → AreCounted now pool → t < length now → taken_frames after ≡ without_key (taken_frames pool) t → AreCounted (set now t 0) after
+given_counted : (now : List ℕ) (t : ℕ) (pool after : Pool) → AreTakenWhereShared now pool → t < length now → taken_frames after ≡ without_key (taken_frames pool) t → AreTakenWhereShared (set now t 0) after
 given_counted now t pool after counted low given = record {
   taken = λ u. ap (λ (m : ℕ → Option (List ℕ)). is_some (m u)) given ∙ elim (cases_eq u t) [
     | inl same ↦
@@ -240,13 +238,13 @@ Releases-given rows row old now before pool after done one frames given =
 -- ---- one turn of the release
 
 -- what holds before a turn, of the next row
-pub record IsNext (rows : List Row) (i : ℕ) (d : Row) (now : List ℕ) (pool : Pool) : Type 0 where
+pub record CanRelease (rows : List Row) (i : ℕ) (d : Row) (now : List ℕ) (pool : Pool) : Type 0 where
   pub some : 1 ≤ get_or now (get_or rows i d).tag.0 0
   pub low : (get_or rows i d).tag.0 < length now
   pub taken : IsSome (taken_frames pool (get_or rows i d).tag.0)
 
 module _ (rows : List Row) (i : ℕ) (d : Row) (old now : List ℕ) (before pool : Pool) (done : Releases (take i rows) old now before pool) (counts : (t : ℕ) → rows_with t rows ≤ get_or old t 0) (h : i < length rows) where
-  pub release_next : IsNext rows i d now pool
+  pub release_next : CanRelease rows i d now pool
   release_next =
       let t = (get_or rows i d).tag.0 in
       let some : 1 ≤ get_or now t 0 = omega (arith, counts t, done.counts t, rows_with-take t rows i d h refl) in

@@ -8,7 +8,7 @@ use Rattle.std.proofs.lemmas.Bool.{cases_Bool, cases_eq, cases_lt}
 use Rattle.std.proofs.lemmas.Bool.Decides.{nat_tests}
 use Rattle.std.proofs.lemmas.List.{length_push, length-map, get_or-map}
 use Rattle.frame_pool.specs.Pool.{Pool, taken_frames}
-use Rattle.vm_base.specs.declared.limits.TheConstants.{VMO_PAGES}
+use Rattle.vm_base.specs.declared.limits.TheConstants.{VMO_PAGES, KOIDS}
 use Rattle.vm_model.specs.Contents.Content.{vmos_of, IsGood}
 use Rattle.vm_model.specs.Contents.Sharing.{page_seen, snapshotted}
 use Rattle.vm_model.proofs.SharingLaws.{viewers_le, frames-snapshotted, next-snapshotted, count-snapshotted, page-snapshotted_new, page-snapshotted_other, page_seen-in, page_seen-out, IsGood-snapshotted, vmos_of-snapshotted}
@@ -16,10 +16,10 @@ use Rattle.page_store.specs.declared.rows.Row.{Row}
 use Rattle.page_store.specs.declared.vmos.Vmo.{Vmo}
 use Rattle.page_store.specs.Rows.{find_row, AllBehind, IsSorted, AreRowsWithin}
 use Rattle.page_store.specs.Vmos.{count_in, IsAscending}
-use Rattle.page_store.specs.Shares.{rows_with, row_in, Shares, AreCounted}
+use Rattle.page_store.specs.Shares.{rows_with, row_in, Shares, AreTakenWhereShared}
 use Rattle.page_store.specs.Flat.{Flat, page_of_row, content_of, IsFlat}
-use Rattle.page_store.proofs.RowLaws.{page_cmp}
-use Rattle.page_store.proofs.BoundLaws.{sorted_append, sorted_split, sorted_join, sorted_range, find_row-other, find_row-left, find_row-right, find_row-range, find_row-outside, range_within}
+use Rattle.page_store.proofs.RowLaws.{page_cmp, sorted_split, sorted_join}
+use Rattle.page_store.proofs.BoundLaws.{sorted_append, sorted_range, find_row-other, find_row-left, find_row-right, find_row-range, find_row-outside, range_within}
 use Rattle.page_store.proofs.ShareLaws.{rows_with-append, rows_with-map, rows_with-range}
 use Rattle.page_store.proofs.VmoLaws.{ascending_push, count_in-push}
 use Rattle.page_store.proofs.FlatLaws.{same_content, frames-content, next-content, count-content, page-content, page_of_row-none, koids_below}
@@ -173,7 +173,7 @@ module _ (f g : Flat) (v first seen pages from end : ℕ) (flat : IsFlat f) (new
       )
 
   -- no frame is taken or given back
-  snapshot_counted : AreCounted g.shares g.pool
+  snapshot_counted : AreTakenWhereShared g.shares g.pool
   snapshot_counted = record {
     taken = λ t.
         let fewer = rows_with-range t f.rows from end (new.are).order in
@@ -202,5 +202,5 @@ pub tags_counted : (f : Flat) (from end : ℕ) → IsFlat f → end ≤ length f
 tags_counted f from end flat range k d l h = omega (arith, flat.counts, row_tags f flat.sorted flat.good k d (omega arith))
 
 -- which may rise
-pub counts_fit : (f : Flat) (from end : ℕ) → IsFlat f → from ≤ end → (content_of f).next < 2 ^ 63 → (t : ℕ) → get_or f.shares t 0 + rows_with t (slice_range f.rows from end) < 2 ^ 64
-counts_fit f from end flat order low t = omega (arith, shares-rows f flat t, viewers-rows f flat.sorted flat.good t, viewers_le (content_of f) t, rows_with-range t f.rows from end order)
+pub shares_fit : (f : Flat) (from end : ℕ) → IsFlat f → from ≤ end → (content_of f).next < KOIDS → (t : ℕ) → get_or f.shares t 0 + rows_with t (slice_range f.rows from end) < 2 ^ 64
+shares_fit f from end flat order low t = omega (arith, shares-rows f flat t, viewers-rows f flat.sorted flat.good t, viewers_le (content_of f) t, rows_with-range t f.rows from end order)

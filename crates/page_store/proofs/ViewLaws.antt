@@ -1,7 +1,9 @@
--- How many VMOs show a frame of the plain store: as many as there are rows with it. So the store's invariant follows from its lists.
+-- How many VMOs show a frame of the plain store: as many as there are rows with it. So the store's invariant follows
+-- from its lists.
 use Rattle.std.proofs.Common.{◌≡◌, ◌≢◌, ℕ, zero, suc, ◌<◌, ◌≤◌, Bool, true, false, cond, ◌&&◌, ◌||◌, ◌==◌, List, [], ◌∷◌, length, get_or, Some, refl, sym, ap, ◌∙◌, inl, inr, arith}
 use Rattle.std.specs.Prelude.{nat_lt}
 use Rattle.std.specs.List.{All}
+use Rattle.std.specs.Cmp.{both_ways}
 use Rattle.std.specs.declared.cmp.Ordering.TheVariants.{Greater}
 use Rattle.std.proofs.lemmas.Bool.{cases_Bool, cases_lt, cases_order, eqb-true, eq-eqb, ne_eqb, and_parts, and_from, and_left, and_right, or_cases, or_left, or_right, false_from_ne_true}
 use Rattle.std.proofs.lemmas.Bool.Decides.{nat_tests}
@@ -16,7 +18,7 @@ use Rattle.vm_model.proofs.SharingLaws.{views_held, koid_held, in_use-viewers}
 use Rattle.page_store.specs.declared.rows.Row.{Row}
 use Rattle.page_store.specs.Rows.{find_row, IsSorted}
 use Rattle.page_store.specs.Vmos.{IsAscending}
-use Rattle.page_store.specs.Shares.{rows_with, AreCounted, IsFirstWith}
+use Rattle.page_store.specs.Shares.{rows_with, AreTakenWhereShared, IsFirstWith}
 use Rattle.page_store.specs.Pages.{IsShown}
 use Rattle.page_store.specs.Flat.{Flat, page_of_row, content_of, IsFlat}
 use Rattle.page_store.proofs.RowLaws.{page_cmp, sorted_at}
@@ -109,10 +111,6 @@ count_shows n t (row ∷ rows) low apart =
 
 -- ---- the viewers of a frame
 
-tests_same : (a b : Bool) → (a ≡ true → b ≡ true) → (b ≡ true → a ≡ true) → a ≡ b
-tests_same true b there back = sym (there refl)
-tests_same false b there back = sym (false_from_ne_true b (λ e. let none : ◌≡◌ {A = Bool} false true = back e in absurd cc))
-
 same_page_cmp : (v p w q : ℕ) → v ≡ w → p ≡ q → page_cmp v p w q ≡ Greater → ⊥
 same_page_cmp v p w q e f h = grind (arith, nat_tests)
 
@@ -143,7 +141,7 @@ module _ (f : Flat) (sorted : IsSorted f.rows) (good : IsGood (content_of f)) wh
 
   -- a VMO shows the frames of its rows
   pub views-rows : (t v : ℕ) → views (content_of f) t v ≡ shows_in t f.rows v
-  views-rows t v = tests_same (views (content_of f) t v) (shows_in t f.rows v)
+  views-rows t v = both_ways (views (content_of f) t v) (shows_in t f.rows v)
       (λ shows.
       let page = views_found (content_of f) t v shows in
       let row = row_of_page f v page.0 page.1 page.3 in
@@ -181,12 +179,12 @@ shares-rows f flat t = elim (cases_lt t f.pool.frames) [
   | inr past ↦ get_or_past f.shares t 0 (omega (arith, flat.counts)) ∙ sym (rows_with-past f flat.sorted flat.good t past)
 ]
 
-pub counted-flat : (f : Flat) → IsFlat f → AreCounted f.shares f.pool
+pub counted-flat : (f : Flat) → IsFlat f → AreTakenWhereShared f.shares f.pool
 counted-flat f flat = record {
   taken = λ t. flat.taken t ∙ (in_use-viewers (content_of f) t ∙ ap (nat_lt 0) (viewers-rows f flat.sorted flat.good t ∙ sym (shares-rows f flat t)));
 }
 
-pub flat_from_rows : (f : Flat) → IsSorted f.rows → IsAscending f.vmos → IsGood (content_of f) → vmos_of (content_of f) ≡ length f.vmos → length f.shares ≡ f.pool.frames → ((t : ℕ) → get_or f.shares t 0 ≡ rows_with t f.rows) → AreCounted f.shares f.pool → IsFlat f
+pub flat_from_rows : (f : Flat) → IsSorted f.rows → IsAscending f.vmos → IsGood (content_of f) → vmos_of (content_of f) ≡ length f.vmos → length f.shares ≡ f.pool.frames → ((t : ℕ) → get_or f.shares t 0 ≡ rows_with t f.rows) → AreTakenWhereShared f.shares f.pool → IsFlat f
 flat_from_rows f sorted ascending good vmos size counts counted = record {
   sorted = sorted;
   ascending = ascending;

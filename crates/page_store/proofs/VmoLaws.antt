@@ -8,23 +8,24 @@ use Rattle.std.specs.Ordering.{nat_cmp, ordering_index}
 use Rattle.std.proofs.lemmas.Bool.{cases_order, cases_eq, eqb-true, ne_eqb, eq-eqb, not_from_true, not_from_false, cond-true, cond-false}
 use Rattle.std.proofs.lemmas.Bool.Decides.{nat_tests}
 use Rattle.std.proofs.lemmas.List.{get_or_default}
+use Rattle.frame_pool.proofs.PoolLaws.{eqb_flip}
 use Rattle.page_store.specs.declared.vmos.Vmo.{Vmo}
 use Rattle.page_store.specs.Vmos.{count_in, AllAbove, IsAscending, IsVmoFor}
 use Rattle.page_store.proofs.RowLaws.{rises_from, swap_cond}
 
 -- ---- numbers in order
 
-cmp_equal : (a b : ℕ) → nat_cmp a b ≡ Equal → a ≡ b
-cmp_equal a b e = grind (arith, nat_tests)
+koid_equal : (a b : ℕ) → nat_cmp a b ≡ Equal → a ≡ b
+koid_equal a b e = grind (arith, nat_tests)
 
-cmp_less : (a b : ℕ) → nat_cmp a b ≡ Less → a ≢ b
-cmp_less a b e same = grind (arith, nat_tests)
+koid_less : (a b : ℕ) → nat_cmp a b ≡ Less → a ≢ b
+koid_less a b e same = grind (arith, nat_tests)
 
-cmp_greater : (a b : ℕ) → nat_cmp a b ≡ Greater → a ≢ b
-cmp_greater a b e same = grind (arith, nat_tests)
+koid_greater : (a b : ℕ) → nat_cmp a b ≡ Greater → a ≢ b
+koid_greater a b e same = grind (arith, nat_tests)
 
-cmp_rises : (v a b : ℕ) → a < b → ordering_index (nat_cmp a v) ≤ ordering_index (nat_cmp b v)
-cmp_rises v a b h = grind (arith, nat_tests)
+koid_rises : (v a b : ℕ) → a < b → ordering_index (nat_cmp a v) ≤ ordering_index (nat_cmp b v)
+koid_rises v a b h = grind (arith, nat_tests)
 
 -- ---- VMOs in a list
 
@@ -94,14 +95,14 @@ pub record IsFoundVmo (vmos : List Vmo) (v : ℕ) (r : Result ℕ ℕ) : Type 0 
 -- a koid that is in the list is found
 pub searched_vmo : (vmos : List Vmo) → IsAscending vmos → (v : ℕ) → IsSome (count_in v vmos) → (r : Result ℕ ℕ) → IsSearchInRange r (length vmos) → IsBinarySearchResult (λ (vmo : Vmo). nat_cmp vmo.koid.0 v) vmos r →
     IsFoundVmo vmos v r
-searched_vmo vmos s v some (Ok i) h at = record { found = record { in_range = h; is = λ d. cmp_equal (get_or vmos i d).koid.0 v (at d) }; absent = tt }
+searched_vmo vmos s v some (Ok i) h at = record { found = record { in_range = h; is = λ d. koid_equal (get_or vmos i d).koid.0 v (at d) }; absent = tt }
 searched_vmo vmos s v some (Err i) h parted =
-    let parts = parted (rises_from (λ (vmo : Vmo). ordering_index (nat_cmp vmo.koid.0 v)) vmos (λ a b d l m. cmp_rises v (get_or vmos a d).koid.0 (get_or vmos b d).koid.0 (ascending_at vmos s a b d l m))) in
+    let parts = parted (rises_from (λ (vmo : Vmo). ordering_index (nat_cmp vmo.koid.0 v)) vmos (λ a b d l m. koid_rises v (get_or vmos a d).koid.0 (get_or vmos b d).koid.0 (ascending_at vmos s a b d l m))) in
     let none : count_in v vmos ≡ None = count_in-none vmos v (λ k d l. elim (cases_order k i) [
-      | inl same ↦ cmp_greater (get_or vmos k d).koid.0 v (parts.1 k d (omega arith) l)
+      | inl same ↦ koid_greater (get_or vmos k d).koid.0 v (parts.1 k d (omega arith) l)
       | inr other ↦ elim other [
-        | inl less ↦ cmp_less (get_or vmos k d).koid.0 v (parts.0 k d (omega arith) less)
-        | inr more ↦ cmp_greater (get_or vmos k d).koid.0 v (parts.1 k d (omega arith) l)
+        | inl less ↦ koid_less (get_or vmos k d).koid.0 v (parts.0 k d (omega arith) less)
+        | inr more ↦ koid_greater (get_or vmos k d).koid.0 v (parts.1 k d (omega arith) l)
       ]
     ]) in
     absurd (let clash : is_some (count_in v vmos) ≡ false = ap is_some none in cc)
@@ -123,12 +124,9 @@ ascending_push (first ∷ vmos) vmo s below =
     ascending_from first (vmos ++ vmo ∷ []) (above_push first.koid.0 vmos vmo (ascending_parts first vmos s).0 (below 0 first (omega arith)))
     (ascending_push vmos vmo (ascending_parts first vmos s).1 (λ i d h. below (suc i) d (omega arith)))
 
-same_test : (a b : ℕ) → (a == b) ≡ (b == a)
-same_test a b = grind (arith, nat_tests)
-
 pub count_in-push : (vmos : List Vmo) (vmo : Vmo) → AllBelow vmos vmo.koid.0 → (v : ℕ) → count_in v (vmos ++ vmo ∷ []) ≡ cond (v == vmo.koid.0) (Some vmo.count) (count_in v vmos)
 count_in-push [] vmo below v =
-    count_in-cons v vmo [] ∙ ap (λ b. cond b (Some vmo.count) (count_in v [])) (same_test vmo.koid.0 v)
+    count_in-cons v vmo [] ∙ ap (λ b. cond b (Some vmo.count) (count_in v [])) (eqb_flip vmo.koid.0 v)
 count_in-push (first ∷ vmos) vmo below v =
     count_in-cons v first (vmos ++ vmo ∷ [])
     ∙ (ap (λ o. cond (first.koid.0 == v) (Some first.count) o) (count_in-push vmos vmo (λ i d h. below (suc i) d (omega arith)) v)

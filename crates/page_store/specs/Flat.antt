@@ -8,8 +8,8 @@ use Rattle.page_store.specs.declared.vmos.Vmo.{Vmo}
 use Rattle.page_store.specs.Rows.{find_row, IsSorted}
 use Rattle.page_store.specs.Vmos.{count_in, IsAscending}
 
--- the page frames, the next koid, the VMOs, the rows of the held pages, the share counts by tag, and the rows that may be
--- added without asking for memory
+-- the page frames, the next koid, the VMOs, the rows of the held pages, the share counts by tag, and the rows that
+-- may be added without asking for memory
 pub record Flat : Type 0 where
   pub pool : Pool
   pub next : ℕ

@@ -36,9 +36,11 @@ pub record IsShownOnce (c : Content) (t : ℕ) : Type 0 where
 
 -- these are bytes of the frame t, from this place in the page on
 abbrev pub AreBytesOf : Content → ℕ → ℕ → List ℕ → Type 0
-AreBytesOf c t at bytes = (v p : ℕ) (held : Page) → ShowsTag c t v p held → bytes ≡ take (length bytes) (drop at held.bytes)
+AreBytesOf c t at bytes = (v p : ℕ) (held : Page) → ShowsTag c t v p held →
+    bytes ≡ take (length bytes) (drop at held.bytes)
 
 -- the one page that has the frame t has these bytes from this place on, and all else is as it was
 abbrev pub Overwrites : Content → Content → ℕ → ℕ → List ℕ → Type 0
 Overwrites old new t at bytes =
-    (v p : ℕ) (held : Page) → ShowsTag old t v p held → new ≡ hold old v p (record held { bytes = replaced held.bytes at bytes })
+    (v p : ℕ) (held : Page) → ShowsTag old t v p held →
+    new ≡ hold old v p (record held { bytes = replaced held.bytes at bytes })

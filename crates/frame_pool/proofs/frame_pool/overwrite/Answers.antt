@@ -7,5 +7,8 @@ use Rattle.frame_pool.proofs.frame_pool.overwrite.Goals as goal
 pub returns : goal.returns
 unfolding replaced
 returns c =
-    put_mid-paste c.args.at _ c.args.frame.now _ c.args.bytes.now (length c.args.bytes.now) c.copy_from_slice.ensures.after (omega arith) (omega arith)
-    ∙ ap (λ (bs : List ℕ). take c.args.at c.args.frame.now ++ bs ++ drop (c.args.at + length c.args.bytes.now) c.args.frame.now) (take_all (length c.args.bytes.now) c.args.bytes.now (omega arith))
+    put_mid-paste c.args.at _ c.args.frame.now _ c.args.bytes.now
+    (length c.args.bytes.now) c.copy_from_slice.ensures.after (omega arith) (omega arith)
+    ∙ ap (λ (bs : List ℕ). take c.args.at c.args.frame.now ++ bs ++ drop
+    (c.args.at + length c.args.bytes.now) c.args.frame.now)
+    (take_all (length c.args.bytes.now) c.args.bytes.now (omega arith))

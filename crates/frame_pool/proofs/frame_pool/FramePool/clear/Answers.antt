@@ -15,4 +15,5 @@ invariant_of-self c = record {
 }
 
 pub returns-clause-taken : goal.returns-clause-taken
-returns-clause-taken c = rw (c.blank_frame.ensures, ← c.self.view_is) (taken_frames-written _ c.args.tag.0 _ c.self.invariant.pool (rw (← c.self.view_is) at c.requires))
+returns-clause-taken c = rw (c.blank_frame.ensures, ← c.self.view_is)
+    (taken_frames-written _ c.args.tag.0 _ c.self.invariant.pool (rw (← c.self.view_is) at c.requires))

@@ -21,5 +21,9 @@ invariant_of-self c = record {
 
 pub returns-clause-taken : goal.returns-clause-taken
 returns-clause-taken c =
-    rw (← c.self.view_is, frame_bytes-read _ c.args.from.0 _ (rw (← c.self.view_is) at c.requires.from) c.index-bytes.ensures)
+    rw (
+      ← c.self.view_is,
+      frame_bytes-read _ c.args.from.0 _
+          (rw (← c.self.view_is) at c.requires.from) c.index-bytes.ensures,
+    )
     (taken_frames-written _ c.args.to.0 _ c.self.invariant.pool (rw (← c.self.view_is) at c.requires.to))

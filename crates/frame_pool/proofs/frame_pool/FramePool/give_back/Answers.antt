@@ -9,10 +9,12 @@ push_reserved-requires c =
 
 pub invariant_of-self : goal.invariant_of-self
 invariant_of-self c = record {
-  pool = rw c.push_reserved.ensures.items (IsPool-returned _ c.args.tag c.self.invariant.pool (rw (← c.self.view_is) at c.requires));
+  pool = rw c.push_reserved.ensures.items
+      (IsPool-returned _ c.args.tag c.self.invariant.pool (rw (← c.self.view_is) at c.requires));
   buffer_room = c.self.invariant.buffer_room;
   idle_room = omega (arith, c.self.invariant.idle_room, c.push_reserved.ensures.capacity);
 }
 
 pub returns-clause-taken : goal.returns-clause-taken
-returns-clause-taken c = rw (c.push_reserved.ensures.items, ← c.self.view_is) (taken_frames-returned _ c.args.tag c.self.invariant.pool (rw (← c.self.view_is) at c.requires))
+returns-clause-taken c = rw (c.push_reserved.ensures.items, ← c.self.view_is)
+    (taken_frames-returned _ c.args.tag c.self.invariant.pool (rw (← c.self.view_is) at c.requires))

@@ -16,5 +16,10 @@ invariant_of-self c = record {
 
 pub returns-clause-taken : goal.returns-clause-taken
 returns-clause-taken c =
-    rw (c.overwrite.ensures, ← c.self.view_is, frame_bytes-read _ c.args.tag.0 _ (rw (← c.self.view_is) at c.requires.taken) c.index_mut.ensures.value)
+    rw (
+      c.overwrite.ensures,
+      ← c.self.view_is,
+      frame_bytes-read _ c.args.tag.0 _
+          (rw (← c.self.view_is) at c.requires.taken) c.index_mut.ensures.value,
+    )
     (taken_frames-written _ c.args.tag.0 _ c.self.invariant.pool (rw (← c.self.view_is) at c.requires.taken))
