@@ -1,12 +1,12 @@
 -- What owning the pages of a range takes.
-use Rattle.std.proofs.Common.{◌≡◌, ℕ, ◌-◌, ◌<◌, ◌≤◌, true, not, List, length, ◌⊎◌, sym, ap, ◌∙◌, inl, inr, arith}
-use Rattle.std.specs.List.{range_with_len, list_any}
+use Rattle.std.proofs.Common.{◌≡◌, ℕ, ◌-◌, ◌≤◌, List, length, ◌⊎◌, sym, ap, ◌∙◌, inl, inr, arith}
+use Rattle.std.specs.List.{range_with_len}
 use Rattle.std.proofs.lemmas.List.FromFn.{length-range_with_len}
 use Rattle.vm_model.specs.Contents.Content.{Content, sole}
 use Rattle.vm_model.specs.Contents.Owning.{need}
 use Rattle.vm_model.specs.Contents.Writing.{touched}
 use Rattle.vm_model.proofs.ContentLaws.{IsOfHeld, sole-zero}
-use Rattle.vm_model.proofs.OwningLaws.{count_from, unowned-sole, unowned-any, need-row}
+use Rattle.vm_model.proofs.OwningLaws.{count_from, unowned-sole, need-row}
 use Rattle.vmo_ops.specs.Costs.{HasRows}
 
 -- no zero page is sole
@@ -24,10 +24,6 @@ module _ (c : Content) (v at place len first end n : ℕ) (e : at ≡ place) (ro
 
   pub need-at : need c v (touched place len) ≡ n
   need-at = ap (need c v) pages_at ∙ sym counted
-
-  -- where it takes a frame, a page of them is not sole
-  pub need-any : 0 < n → list_any (λ p. not (sole c v p)) (touched place len) ≡ true
-  need-any h = ap (list_any (λ p. not (sole c v p))) pages_at ∙ unowned-any c v first (end - first) (omega (arith, h, counted, need-row c v first (end - first)))
 
 -- rows that are there for the pages in a row, where some of them are not sole
 pub HasRows-row : (c : Content) (v first count n spare : ℕ) (ps : List ℕ) → ps ≡ range_with_len first count → n ≡ need c v ps → (n ≡ 0) ⊎ (count ≤ spare) → HasRows c v ps spare

@@ -56,33 +56,33 @@ pub(crate) fn slice<P: PageStore>(
 }
 
 // The pages of `bytes` bytes, where `offset` is a whole number of pages and they end inside the name.
-fn pages_inside<P: PageStore>(store: &P, target: &Target, offset: u64, bytes: u64) -> Option<PageNo>
+fn pages_inside<P: PageStore>(store: &P, t: &Target, offset: u64, bytes: u64) -> Option<PageNo>
     requires good { IsGood (P.content store.now) }
-    requires inside { IsInside (P.content store.now) target.now }
+    requires inside { IsInside (P.content store.now) t.now }
     ensures some { IfSome result (λ pages. (offset % PAGE ≡ 0) × (pages ≡ rounded bytes / PAGE)
-        × (offset + rounded bytes ≤ name_pages (P.content store.now) target.now * PAGE)) }
+        × (offset + rounded bytes ≤ name_pages (P.content store.now) t.now * PAGE)) }
     ensures none { IfNone result ((offset % PAGE ≢ 0)
-        ⊎ (name_pages (P.content store.now) target.now * PAGE < offset + rounded bytes)) }
+        ⊎ (name_pages (P.content store.now) t.now * PAGE < offset + rounded bytes)) }
 {
     if in_page(offset) != 0 {
         return None;
     }
-    let limit = size_of_name(store, target).checked_sub(offset)?;
+    let limit = size_of_name(store, t).checked_sub(offset)?;
     let whole = round_up(bytes, limit)?;
     Some(page_of(whole))
 }
 
 // What a slice of so many pages stands for, from the name's page `start` on.
-fn slice_target(target: &Target, start: PageNo, pages: PageNo, no_write: bool) -> Target
-    requires { target.now.first + start < 2 ^ 64 }
-    ensures { result ≡ slice_of target.now start pages no_write }
+fn slice_target(t: &Target, start: PageNo, pages: PageNo, no_write: bool) -> Target
+    requires { t.now.first + start < 2 ^ 64 }
+    ensures { result ≡ slice_of t.now start pages no_write }
 {
     Target {
-        koid: target.koid,
-        first: target.first + start,
+        koid: t.koid,
+        first: t.first + start,
         limit: Some(pages),
         kind: NameKind::Slice,
-        may_write: target.may_write && !no_write,
+        may_write: t.may_write && !no_write,
         may_resize: false,
     }
 }
@@ -141,15 +141,15 @@ fn is_slice(kind: NameKind) -> bool
 }
 
 // What a reference stands for: all of the VMO of the name.
-fn reference_target(target: &Target, resizable: bool, no_write: bool) -> Target
-    ensures { result ≡ reference_of target.now resizable no_write }
+fn reference_target(t: &Target, resizable: bool, no_write: bool) -> Target
+    ensures { result ≡ reference_of t.now resizable no_write }
 {
     Target {
-        koid: target.koid,
+        koid: t.koid,
         first: 0,
         limit: None,
         kind: NameKind::Reference,
-        may_write: target.may_write && !no_write,
+        may_write: t.may_write && !no_write,
         may_resize: resizable,
     }
 }

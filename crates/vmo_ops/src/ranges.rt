@@ -16,28 +16,28 @@ use vmo_table::Target;
 /// inside the name.
 pub(crate) fn place_in_vmo<P: PageStore>(
     store: &P,
-    target: &Target,
+    t: &Target,
     offset: u64,
     len: u64,
 ) -> Option<u64>
     requires good { IsGood (P.content store.now) }
-    requires inside { IsInside (P.content store.now) target.now }
-    ensures some { IfSome result (λ at. IsPlaced (P.content store.now) target.now offset len at) }
-    ensures none { IfNone result (name_pages (P.content store.now) target.now * PAGE < offset + len) }
+    requires inside { IsInside (P.content store.now) t.now }
+    ensures some { IfSome result (λ at. IsPlaced (P.content store.now) t.now offset len at) }
+    ensures none { IfNone result (name_pages (P.content store.now) t.now * PAGE < offset + len) }
 {
-    if !is_in_range(store, target, offset, len) {
+    if !is_in_range(store, t, offset, len) {
         return None;
     }
-    Some(target.first * PAGE + offset)
+    Some(t.first * PAGE + offset)
 }
 
 // Whether the range lies inside the name. An offset and a length whose sum passes 2^64 do not.
-fn is_in_range<P: PageStore>(store: &P, target: &Target, offset: u64, len: u64) -> bool
+fn is_in_range<P: PageStore>(store: &P, t: &Target, offset: u64, len: u64) -> bool
     requires good { IsGood (P.content store.now) }
-    requires inside { IsInside (P.content store.now) target.now }
-    ensures { IsTrue result ↔ (offset + len ≤ name_pages (P.content store.now) target.now * PAGE) }
+    requires inside { IsInside (P.content store.now) t.now }
+    ensures { IsTrue result ↔ (offset + len ≤ name_pages (P.content store.now) t.now * PAGE) }
 {
-    let bytes = size_of_name(store, target);
+    let bytes = size_of_name(store, t);
     len <= bytes && offset <= bytes - len
 }
 

@@ -88,20 +88,20 @@ fn pages_within(offset: u64, size: u64) -> Option<PageNo>
 // most `pages` from the name's page `start` on. Where it sees none, the first is 0.
 fn seen_part<P: PageStore>(
     store: &P,
-    target: &Target,
+    t: &Target,
     start: PageNo,
     pages: PageNo,
 ) -> (PageNo, PageNo)
     requires good { IsGood (P.content store.now) }
-    requires inside { IsInside (P.content store.now) target.now }
-    ensures seen { result.1 ≡ seen_pages (P.content store.now) target.now start pages }
-    ensures first { (result.0 ≡ target.now.first + start) ⊎ (result.1 ≡ 0) }
-    ensures inside { result.0 + result.1 ≤ pages_of (P.content store.now) target.now.koid.0 }
+    requires inside { IsInside (P.content store.now) t.now }
+    ensures seen { result.1 ≡ seen_pages (P.content store.now) t.now start pages }
+    ensures first { (result.0 ≡ t.now.first + start) ⊎ (result.1 ≡ 0) }
+    ensures inside { result.0 + result.1 ≤ pages_of (P.content store.now) t.now.koid.0 }
     ensures few { result.1 ≤ pages }
 {
-    let have = pages_of_name(store, target);
+    let have = pages_of_name(store, t);
     if have <= start {
         return (0, 0);
     }
-    (target.first + start, pages.min(have - start))
+    (t.first + start, pages.min(have - start))
 }

@@ -1,5 +1,4 @@
 use Rattle.pin_table.specs.Table.{pins_of}
-use Rattle.vmo_ops.specs.Targets.{with_tables}
 use Rattle.vmo_ops.proofs.NameLaws.{named_lineage}
 use Rattle.vmo_ops.proofs.children.create_child.Goals as goal
 
@@ -7,8 +6,7 @@ pub slice-requires-clause-parts : goal.slice-requires-clause-parts
 slice-requires-clause-parts g c = (record c.requires.parts.0 { pins = pins_of c.args.pins.now }, c.requires.parts.1)
 
 pub reference-requires-clause-vmo : goal.reference-requires-clause-vmo
-reference-requires-clause-vmo g c =
-    named_lineage (with_tables c.requires.parts.0 (g.P.PageStore.content c.args.store.now) c.args.vmos.now c.args.pins.now) c.args.t.now c.requires.parts.1 c.requires.named
+reference-requires-clause-vmo g c = named_lineage _ _ c.requires.parts.1 c.requires.named
 
 pub returns-in-Ok-clause-step : goal.returns-in-Ok-clause-step
 returns-in-Ok-clause-step g c = λ rest parent named. rw c.in-Snapshot.is (c.in-Ok.ensures.step rest parent named)

@@ -17,31 +17,29 @@ use Rattle.page_store.proofs.NameLaws.{pages_of_le}
 
 pub returns-then-not-is_pin_range-clause-step : goal.returns-then-not-is_pin_range-clause-step
 returns-then-not-is_pin_range-clause-step g c = λ rest name named.
-    pin_odd (with_tables rest (g.P.PageStore.content c.args.store.now) c.args.vmos.now c.args.pins.now) c.args.pin name c.args.offset c.args.len c.args.t.now named c.requires.free
+    pin_odd _ _ name _ _ _ named c.requires.free
     (λ range. absurd (let yes_range = c.is_pin_range.ensures.1 range in let not_range = c.if-not-is_pin_range.true in cc))
 
 pub place_in_vmo-requires-clause-inside : goal.place_in_vmo-requires-clause-inside
-place_in_vmo-requires-clause-inside g c =
-    named_inside (with_tables c.requires.parts.0 (g.P.PageStore.content c.args.store.now) c.args.vmos.now c.args.pins.now) c.args.t.now c.requires.parts.1.good c.requires.named
+place_in_vmo-requires-clause-inside g c = named_inside _ _ c.requires.parts.1.good c.requires.named
 
 pub returns-in_default-clause-step : goal.returns-in_default-clause-step
 returns-in_default-clause-step g c = λ rest name named.
-    pin_past (with_tables rest (g.P.PageStore.content c.args.store.now) c.args.vmos.now c.args.pins.now) c.args.pin name c.args.offset c.args.len c.args.t.now named c.requires.free
+    pin_past _ _ name _ _ _ named c.requires.free
     (c.is_pin_range.ensures.0 c.if-not-is_pin_range.false) c.in_default.ensures.none
 
 pub need_of-need-requires-clause-vmo : goal.need_of-need-requires-clause-vmo
-need_of-need-requires-clause-vmo g c =
-    named_vmo (with_tables c.requires.parts.0 (g.P.PageStore.content c.args.store.now) c.args.vmos.now c.args.pins.now) c.args.t.now c.requires.parts.1.good c.requires.named
+need_of-need-requires-clause-vmo g c = named_vmo _ _ c.requires.parts.1.good c.requires.named
 
 pub returns-then-need-from-clause-step : goal.returns-then-need-from-clause-step
 returns-then-need-from-clause-step g c = λ rest name named.
-    pin_no_memory (with_tables rest (g.P.PageStore.content c.args.store.now) c.args.vmos.now c.args.pins.now) c.args.pin name c.args.offset c.args.len c.args.t.now named c.requires.free
+    pin_no_memory _ _ name _ _ _ named c.requires.free
     (c.is_pin_range.ensures.0 c.if-not-is_pin_range.false) c.in-Some.at c.page_of-first.result c.page_of-count.result c.in-Some.ensures.some c.page_of-first.ensures c.page_of-count.ensures
     c.need_of-need.result c.need_of-need.ensures (omega (arith, c.free.ensures, c.from.ensures))
 
 pub returns-in_default-reserve-clause-step : goal.returns-in_default-reserve-clause-step
 returns-in_default-reserve-clause-step g c = λ rest name named.
-    pin_lacks (with_tables rest (g.P.PageStore.content c.args.store.now) c.args.vmos.now c.args.pins.now) c.args.pin name c.args.offset c.args.len c.args.t.now named c.requires.free
+    pin_lacks _ _ name _ _ _ named c.requires.free
     (c.is_pin_range.ensures.0 c.if-not-is_pin_range.false) c.in-Some.at c.page_of-first.result c.page_of-count.result c.in-Some.ensures.some c.page_of-first.ensures c.page_of-count.ensures
     c.need_of-need.result c.need_of-need.ensures (omega (arith, c.free.ensures, c.from.ensures))
     (with_tables rest (g.P.PageStore.content c.args.store.now) c.args.vmos.now c.reserve.new.self)
@@ -49,7 +47,7 @@ returns-in_default-reserve-clause-step g c = λ rest name named.
 
 pub returns-in_default-reserve_rows-clause-step : goal.returns-in_default-reserve_rows-clause-step
 returns-in_default-reserve_rows-clause-step g c = λ rest name named.
-    pin_lacks (with_tables rest (g.P.PageStore.content c.args.store.now) c.args.vmos.now c.args.pins.now) c.args.pin name c.args.offset c.args.len c.args.t.now named c.requires.free
+    pin_lacks _ _ name _ _ _ named c.requires.free
     (c.is_pin_range.ensures.0 c.if-not-is_pin_range.false) c.in-Some.at c.page_of-first.result c.page_of-count.result c.in-Some.ensures.some c.page_of-first.ensures c.page_of-count.ensures
     c.need_of-need.result c.need_of-need.ensures (omega (arith, c.free.ensures, c.from.ensures))
     (with_tables rest (g.P.PageStore.content c.reserve_rows.new.store) c.args.vmos.now c.reserve.new.self)
@@ -70,8 +68,7 @@ add-requires-clause-pages g c =
     omega (arith, c.in-Some.ensures.some.inside)
 
 pub keep-requires-clause-koid : goal.keep-requires-clause-koid
-keep-requires-clause-koid g c =
-    named_lineage (with_tables c.requires.parts.0 (g.P.PageStore.content c.args.store.now) c.args.vmos.now c.args.pins.now) c.args.t.now c.requires.parts.1.good c.requires.named
+keep-requires-clause-koid g c = named_lineage _ _ c.requires.parts.1.good c.requires.named
 
 pub keep-requires-clause-few : goal.keep-requires-clause-few
 keep-requires-clause-few g c = omega (arith, c.requires.parts.1.counted c.args.t.now.koid.0, pin_count_le (pins_of c.args.pins.now) c.args.t.now.koid.0)
@@ -81,7 +78,7 @@ returns-clause-step g c = λ rest name named.
     let first = c.page_of-first.result in
     let count = c.page_of-count.result in
     let new = g.P.PageStore.content c.own_frames-numbers.new.store in
-    pin_done (with_tables rest (g.P.PageStore.content c.args.store.now) c.args.vmos.now c.args.pins.now) c.args.pin name c.args.offset c.args.len c.args.t.now named c.requires.free
+    pin_done _ _ name _ _ _ named c.requires.free
     (c.is_pin_range.ensures.0 c.if-not-is_pin_range.false) c.in-Some.at c.page_of-first.result c.page_of-count.result c.in-Some.ensures.some c.page_of-first.ensures c.page_of-count.ensures
     c.need_of-need.result c.need_of-need.ensures (omega (arith, c.free.ensures, c.from.ensures))
     c.own_frames-numbers.result new (names_of c.keep.new.self) (lineage_in c.keep.new.self) (pins_of c.add.new.self)

@@ -4,11 +4,11 @@ use Rattle.page_store.proofs.NameLaws.{name_few}
 
 pub overflow_mul-result : goal.overflow_mul-result
 overflow_mul-result g c =
-    let few = name_few (g.P.PageStore.content c.args.store.now) c.args.target.now c.requires.good c.requires.inside in
+    let few = name_few (g.P.PageStore.content c.args.store.now) c.args.t.now c.requires.good c.requires.inside in
     omega arith
 
 pub overflow_add-result : goal.overflow_add-result
 overflow_add-result g c =
-    let few = name_few (g.P.PageStore.content c.args.store.now) c.args.target.now c.requires.good c.requires.inside in
+    let few = name_few (g.P.PageStore.content c.args.store.now) c.args.t.now c.requires.good c.requires.inside in
     let within = c.is_in_range.ensures.0 c.if-not-is_in_range.false in
     omega arith

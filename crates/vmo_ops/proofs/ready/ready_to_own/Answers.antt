@@ -1,7 +1,8 @@
 use Rattle.std.proofs.Common.{◌*◌, ◌+◌, sym, ap, ◌∙◌, arith}
 use Rattle.vm_model.specs.Contents.Owning.{need}
 use Rattle.vmo_ops.proofs.ChangeLaws.{IsRefusedBy-place, IsRefusedBy-no_memory, IsRefusedBy-lacks, IsAllowed-free}
-use Rattle.vmo_ops.proofs.NeedLaws.{need-any, need-at, HasRows-row}
+use Rattle.vmo_ops.proofs.NeedLaws.{need-at, HasRows-row}
+use Rattle.vm_model.proofs.RangeLaws.{need-any}
 use Rattle.vmo_ops.proofs.ready.ready_to_own.Goals as goal
 use Rattle.page_store.proofs.NameLaws.{pages_of_le}
 use Rattle.vm_base.specs.declared.limits.TheConstants.{PAGE}
@@ -30,7 +31,7 @@ returns-in_default-clause-err g c =
     let row = c.touched_pages-first.ensures.pages in
     let counted = need-at d c.args.t.now.koid.0 c.in-Ok.at place c.args.len _ _ _ ok.1.place row c.need_of-need.ensures in
     IsRefusedBy-lacks _ _ _ _ _ _ ok.0 ok.1.range (omega (arith, counted, c.free.ensures, c.from.ensures))
-    (need-any d c.args.t.now.koid.0 c.in-Ok.at place c.args.len _ _ _ ok.1.place row c.need_of-need.ensures c.in_default.ensures.err)
+    (need-any d c.args.t.now.koid.0 place c.args.len (omega (arith, counted, c.in_default.ensures.err)))
 
 pub returns-clause-allowed : goal.returns-clause-allowed
 returns-clause-allowed g c =

@@ -4,5 +4,5 @@ use Rattle.page_store.proofs.NameLaws.{name_few}
 
 pub overflow_add-result : goal.overflow_add-result
 overflow_add-result g c =
-    let few = name_few (g.P.PageStore.content c.args.store.now) c.args.target.now c.requires.good c.requires.inside in
+    let few = name_few (g.P.PageStore.content c.args.store.now) c.args.t.now c.requires.good c.requires.inside in
     omega arith
