@@ -1,12 +1,13 @@
--- Laws of what a VMO holds: what each test says of a page, and that the least koid that shows a frame is charged for it.
+-- Laws of what a VMO holds: what each test says of a page, and that the least koid that shows a frame is charged for
+-- it.
 use Rattle.std.proofs.Common.{◌≡◌, ◌≢◌, ℕ, Bool, true, false, not, ◌&&◌, ◌==◌, None, Some, refl, sym, ap, ◌∙◌, inl, inr, arith}
 use Rattle.std.specs.Prelude.{is_some}
 use Rattle.std.proofs.lemmas.Bool.{cases_order, both_ways, not_from_true, not_from_false}
 use Rattle.vm_base.specs.Search.{any_below}
+use Rattle.vm_base.proofs.SearchLaws.{any_below_at, none_below, eqb_same, eqb_apart}
 use Rattle.vm_model.specs.Contents.Content.{Page, Content, is_held, views, sole, IsGood}
 use Rattle.vm_model.specs.Contents.Sharing.{IsLeastViewer}
 use Rattle.vm_model.specs.Machine.Attribution.{is_shared, is_charged_page, is_charged}
-use Rattle.vm_base.proofs.SearchLaws.{any_below_at, none_below, eqb_same, eqb_apart}
 use Rattle.vm_model.proofs.ContentLaws.{IsOfHeld, is_held-zero, sole-zero}
 use Rattle.vm_model.proofs.SharingLaws.{views_held}
 
@@ -26,20 +27,23 @@ pub is_charged_page-zero : (c : Content) (v : ℕ) → is_charged_page c v None 
 unfolding is_charged_page
 is_charged_page-zero c v = refl
 
-pub is_charged_page-some : (c : Content) (v : ℕ) (held : Page) → is_charged_page c v (Some held) ≡ not (any_below v (views c held.tag))
+pub is_charged_page-some : (c : Content) (v : ℕ) (held : Page)
+    → is_charged_page c v (Some held) ≡ not (any_below v (views c held.tag))
 unfolding is_charged_page
 is_charged_page-some c v held = refl
 
 pub is_charged-zero : (c : Content) (v p : ℕ) → c.page v p ≡ None → is_charged c v p ≡ false
 is_charged-zero c v p zero = ap (is_charged_page c v) zero ∙ is_charged_page-zero c v
 
-pub is_charged-at : (c : Content) (v p : ℕ) (held : Page) → c.page v p ≡ Some held → is_charged c v p ≡ is_charged_page c v (Some held)
+pub is_charged-at : (c : Content) (v p : ℕ) (held : Page) → c.page v p ≡ Some held
+    → is_charged c v p ≡ is_charged_page c v (Some held)
 is_charged-at c v p held e = ap (is_charged_page c v) e
 
 -- ---- who is charged
 
 -- a VMO that shows a frame is charged for it exactly where its koid is the least that does
-pub is_charged_page-least : (c : Content) (v p w : ℕ) (held : Page) → IsGood c → c.page v p ≡ Some held → IsLeastViewer c held.tag w → is_charged_page c v (Some held) ≡ (w == v)
+pub is_charged_page-least : (c : Content) (v p w : ℕ) (held : Page) → IsGood c → c.page v p ≡ Some held
+    → IsLeastViewer c held.tag w → is_charged_page c v (Some held) ≡ (w == v)
 is_charged_page-least c v p w held good e least =
     let shows : ℕ → Bool = views c held.tag in
     is_charged_page-some c v held
@@ -57,8 +61,10 @@ is_charged_page-least c v p w held good e least =
     ]
 
 -- the same of a page
-pub is_charged-least : (c : Content) (v p w : ℕ) (held : Page) → IsGood c → c.page v p ≡ Some held → IsLeastViewer c held.tag w → is_charged c v p ≡ (w == v)
-is_charged-least c v p w held good e least = is_charged-at c v p held e ∙ is_charged_page-least c v p w held good e least
+pub is_charged-least : (c : Content) (v p w : ℕ) (held : Page) → IsGood c → c.page v p ≡ Some held
+    → IsLeastViewer c held.tag w → is_charged c v p ≡ (w == v)
+is_charged-least c v p w held good e least =
+    is_charged-at c v p held e ∙ is_charged_page-least c v p w held good e least
 
 -- ---- tests of held pages
 

@@ -6,17 +6,17 @@ use Rattle.std.proofs.lemmas.Bool.{not_from_false, false_from_ne_true}
 use Rattle.vm_base.specs.declared.names.Tag.{Tag}
 use Rattle.vm_base.specs.declared.limits.TheConstants.{VMO_PAGES}
 use Rattle.vm_base.specs.Search.{count_below}
+use Rattle.vm_base.proofs.SearchLaws.{none_below, count_below_le, count_below-suc, count_below-zero, count_below_gap, bit_same}
 use Rattle.vm_model.specs.Contents.Content.{Page, Content, is_held, pages_of, views, is_sole_page, sole, IsGood}
 use Rattle.vm_model.specs.Contents.Sharing.{IsLeastViewer}
 use Rattle.vm_model.specs.Machine.Attribution.{is_shared, is_charged}
-use Rattle.vm_base.proofs.SearchLaws.{none_below, count_below_le, count_below-suc, count_below-zero, count_below_gap, bit_same}
 use Rattle.vm_model.proofs.ContentLaws.{count_from_page, views_found, sole_alone}
 use Rattle.vm_model.proofs.ContentLaws.{IsOfHeld, IsOfHeld-held}
-use Rattle.attribution.proofs.AttributionLaws.{is_held-some, is_shared-some, is_charged-at, is_charged_page-some, is_charged-least, IsOfHeld-sole, IsOfHeld-shared, IsOfHeld-charged}
 use Rattle.page_store.specs.declared.page_store.Look.TheVariants as look
 use Rattle.page_store.specs.Pages.{look_at, IsShown}
 use Rattle.attribution.specs.declared.counts.Counts.{Counts}
 use Rattle.attribution.specs.Counts.{AreCounts}
+use Rattle.attribution.proofs.AttributionLaws.{is_held-some, is_shared-some, is_charged-at, is_charged_page-some, is_charged-least, IsOfHeld-sole, IsOfHeld-shared, IsOfHeld-charged}
 
 -- ---- a test as a number
 
@@ -38,14 +38,21 @@ pub record IsHeldSo (c : Content) (v p : ℕ) (tag : Tag) (alone : Bool) : Type 
   pub sharing : sole c v p ≡ alone
 
 -- so it looks
-pub looks_held : (c : Content) (v p : ℕ) (tag : Tag) (alone : Bool) → look.Held tag alone ≡ look_at c v (c.page v p) → IsHeldSo c v p tag alone
+pub looks_held : (c : Content) (v p : ℕ) (tag : Tag) (alone : Bool) → look.Held tag alone ≡ look_at c v (c.page v p)
+    → IsHeldSo c v p tag alone
 looks_held c v p tag alone e = go (c.page v p) refl e where
   go : (o : Option Page) → c.page v p ≡ o → look.Held tag alone ≡ look_at c v o → IsHeldSo c v p tag alone
   go None page looks = absurd cc
   go (Some held) page looks =
       let same : tag ≡ record { 0 = held.tag } = cc in
       let is_alone : is_sole_page c v (Some held) ≡ alone = cc in
-      record { held = held; page = page; frame = ap (λ (t : Tag). t.0) (sym same); sharing = ap (is_sole_page c v) page ∙ is_alone }
+      record {
+        held = held;
+        page = page;
+        frame = ap (λ (t : Tag). t.0) (sym same);
+        sharing = ap (is_sole_page c v)
+            page ∙ is_alone;
+      }
 
 module _ (c : Content) (v p : ℕ) (tag : Tag) (alone : Bool) (good : IsGood c) (is : IsHeldSo c v p tag alone) where
   pub is_shown : IsShown c tag.0
@@ -56,7 +63,8 @@ module _ (c : Content) (v p : ℕ) (tag : Tag) (alone : Bool) (good : IsGood c) 
   charged-sole yes_alone =
       is_charged-at c v p is.held is.page
       ∙ (is_charged_page-some c v is.held
-      ∙ not_from_false _ (none_below v (views c (is.held).tag) (λ w h. false_from_ne_true (views c (is.held).tag w) (λ shows.
+      ∙ not_from_false _ (none_below v (views c (is.held).tag)
+      (λ w h. false_from_ne_true (views c (is.held).tag w) (λ shows.
       let found = views_found c (is.held).tag w shows in
       let same = sole_alone c v p w found.0 is.held found.1 good (is.sharing ∙ yes_alone) is.page found.3 found.4 in
       let koid : w ≡ v = same.0 in
@@ -64,13 +72,20 @@ module _ (c : Content) (v p : ℕ) (tag : Tag) (alone : Bool) (good : IsGood c) 
 
   -- a VMO is charged for a page where its koid is the least that shows the frame
   pub charged-least : (w : ℕ) → IsLeastViewer c tag.0 w → is_charged c v p ≡ (w == v)
-  charged-least w least = is_charged-least c v p w is.held good is.page (subst (λ (t : ℕ). IsLeastViewer c t w) (sym is.frame) least)
+  charged-least w least =
+      is_charged-least c v p w is.held good is.page (subst (λ (t : ℕ). IsLeastViewer c t w) (sym is.frame) least)
 
 -- ---- counts
 
 -- no page is counted
 pub AreCounts-none : (c : Content) (v : ℕ) → AreCounts c v 0 (record { held = 0; sole = 0; shared = 0; charged = 0 })
-AreCounts-none c v = record { held = sym (count_below-zero _); alone = sym (count_below-zero _); shared = sym (count_below-zero _); charged = sym (count_below-zero _) }
+AreCounts-none c v =
+    record {
+      held = sym (count_below-zero _);
+      alone = sym (count_below-zero _);
+      shared = sym (count_below-zero _);
+      charged = sym (count_below-zero _);
+    }
 
 -- no more pages are counted than there are
 pub record AreFew (n : ℕ) (counts : Counts) : Type 0 where
@@ -97,11 +112,13 @@ page_room c v p good some = go (c.page v p) refl some where
   go None e is = absurd cc
   go (Some held) e is = let h = good.below v p held e in (h, pages_few c v p good h)
 
-pub counts_room : (c : Content) (v p : ℕ) (counts : Counts) → IsGood c → IsSome (c.page v p) → AreCounts c v p counts → AreFew VMO_PAGES counts
+pub counts_room : (c : Content) (v p : ℕ) (counts : Counts) → IsGood c → IsSome (c.page v p) → AreCounts c v p counts
+    → AreFew VMO_PAGES counts
 counts_room c v p counts good some are = counts_few c v p VMO_PAGES counts are (page_room c v p good some).1
 
 -- zero pages leave the counts
-pub AreCounts-gap : (c : Content) (v m n : ℕ) (counts : Counts) → m ≤ n → ((p : ℕ) → m ≤ p → p < n → c.page v p ≡ None) → AreCounts c v m counts → AreCounts c v n counts
+pub AreCounts-gap : (c : Content) (v m n : ℕ) (counts : Counts) → m ≤ n → ((p : ℕ) → m ≤ p → p < n → c.page v p ≡ None)
+    → AreCounts c v m counts → AreCounts c v n counts
 AreCounts-gap c v m n counts h zero are = record {
   held = are.held ∙ same (is_held c v) (IsOfHeld-held c v);
   alone = are.alone ∙ same (sole c v) (IsOfHeld-sole c v);
@@ -112,11 +129,44 @@ AreCounts-gap c v m n counts h zero are = record {
   same test of = sym (count_below_gap m n test h (λ k low high. of.zero_fails k (zero k low high)))
 
 -- a held page
-pub AreCounts-page : (c : Content) (v p : ℕ) (tag : Tag) (alone charged : Bool) (old new : Counts) → IsHeldSo c v p tag alone → charged ≡ is_charged c v p → AreCounts c v p old →
-    new.held ≡ old.held + 1 → new.sole ≡ old.sole + bool_byte alone → new.shared ≡ old.shared + bool_byte (not alone) → new.charged ≡ old.charged + bool_byte charged → AreCounts c v (p + 1) new
+pub AreCounts-page : (c : Content) (v p : ℕ) (tag : Tag) (alone charged : Bool) (old new : Counts)
+    → IsHeldSo c v p tag alone → charged ≡ is_charged c v p → AreCounts c v p old →
+    new.held ≡ old.held + 1 → new.sole ≡ old.sole + bool_byte alone → new.shared ≡ old.shared + bool_byte (not alone)
+    → new.charged ≡ old.charged + bool_byte charged → AreCounts c v (p + 1) new
 AreCounts-page c v p tag alone charged old new is charge are h s r g = record {
-  held = omega (arith, h, are.held, count_below-suc p (is_held c v), bit_same (is_held c v p) true (is_held-some c v p is.held is.page));
-  alone = omega (arith, s, byte_bit alone, are.alone, count_below-suc p (sole c v), bit_same (sole c v p) alone is.sharing);
-  shared = omega (arith, r, byte_bit (not alone), are.shared, count_below-suc p (is_shared c v), bit_same (is_shared c v p) (not alone) (is_shared-some c v p is.held is.page ∙ ap not is.sharing));
-  charged = omega (arith, g, byte_bit charged, are.charged, count_below-suc p (is_charged c v), bit_same charged (is_charged c v p) charge);
+  held = omega (
+    arith,
+    h,
+    are.held,
+    count_below-suc p (is_held c v),
+    bit_same (is_held c v p) true
+        (is_held-some c v p is.held is.page),
+  );
+  alone = omega (
+    arith,
+    s,
+    byte_bit alone,
+    are.alone,
+    count_below-suc p (sole c v),
+    bit_same (sole c v p)
+        alone is.sharing,
+  );
+  shared = omega (
+    arith,
+    r,
+    byte_bit (not alone),
+    are.shared,
+    count_below-suc p (is_shared c v),
+    bit_same
+        (is_shared c v p) (not alone) (is_shared-some c v p is.held is.page ∙ ap not is.sharing),
+  );
+  charged = omega (
+    arith,
+    g,
+    byte_bit charged,
+    are.charged,
+    count_below-suc p (is_charged c v),
+    bit_same charged
+        (is_charged c v p) charge,
+  );
 }

@@ -16,12 +16,16 @@ pages_of_le c v good = go (c.count v) (good.counts v) where
   go (Some n) each = each n refl
 
 -- what a name of a good state stands for lies inside its VMO
-pub IsInside-good : (s : State) (n : ℕ) (target : Target) → IsGoodState s → s.names n ≡ Some target → IsInside s.content target
-IsInside-good s n target good e = let fine = (good.names n target e).1 in record { vmo = fine.vmo; pages = go fine target.limit refl } where
-  go : IsGoodName s target → (o : Option ℕ) → target.limit ≡ o → target.first + unwrap_or o (pages_of s.content target.koid.0) ≤ pages_of s.content target.koid.0
+pub IsInside-good : (s : State) (n : ℕ) (target : Target) → IsGoodState s → s.names n ≡ Some target
+    → IsInside s.content target
+IsInside-good s n target good e =
+    let fine = (good.names n target e).1 in record { vmo = fine.vmo; pages = go fine target.limit refl } where
+  go : IsGoodName s target → (o : Option ℕ) → target.limit ≡ o
+      → target.first + unwrap_or o (pages_of s.content target.koid.0) ≤ pages_of s.content target.koid.0
   go fine None f = omega (arith, fine.whole f)
   go fine (Some m) f = (fine.part m f).2
 
 -- what a name stands for ends at or below the greatest size of a VMO
-pub name_few : (c : Content) (target : Target) → IsGood c → IsInside c target → target.first + name_pages c target ≤ VMO_PAGES
+pub name_few : (c : Content) (target : Target) → IsGood c → IsInside c target
+    → target.first + name_pages c target ≤ VMO_PAGES
 name_few c target good inside = omega (arith, inside.pages, pages_of_le c target.koid.0 good)

@@ -1,14 +1,15 @@
 -- Counting the pages in a row that pass a test, from one held page to the next, where no zero page passes.
 use Rattle.std.proofs.Common.{◌≡◌, ℕ, ◌+◌, ◌-◌, ◌<◌, ◌≤◌, Bool, cond, None, arith}
 use Rattle.std.specs.Prelude.{IsSome}
-use Rattle.vm_model.specs.Contents.Content.{Content, pages_of, IsGood}
 use Rattle.vm_base.proofs.EntryLaws.{some_is}
+use Rattle.vm_model.specs.Contents.Content.{Content, pages_of, IsGood}
 use Rattle.vm_model.proofs.ContentLaws.{IsOfHeld}
 use Rattle.vm_model.proofs.OwningLaws.{count_from, count_from_le, count_from-split, count_from-none, count_from-next}
 
 -- this is the first page of v from `from` on that is held, and it lies before `end`
 abbrev pub IsNextHeld : Content → ℕ → ℕ → ℕ → ℕ → Type 0
-IsNextHeld c v from end page = (from ≤ page) × (page < end) × IsSome (c.page v page) × ((p : ℕ) → from ≤ p → p < page → c.page v p ≡ None)
+IsNextHeld c v from end page =
+    (from ≤ page) × (page < end) × IsSome (c.page v page) × ((p : ℕ) → from ≤ p → p < page → c.page v p ≡ None)
 
 -- a held page lies below the count
 pub held_below : (c : Content) (v p : ℕ) → IsGood c → IsSome (c.page v p) → p < pages_of c v
@@ -16,14 +17,24 @@ held_below c v p good some = let held = some_is (c.page v p) some in good.below 
 
 module _ (c : Content) (v : ℕ) (test : ℕ → Bool) (of : IsOfHeld c v test) where
   -- the next held page counts first
-  pub count_from-held : (from end page : ℕ) → IsNextHeld c v from end page → count_from test from (end - from) ≡ cond (test page) 1 0 + count_from test (page + 1) (end - (page + 1))
+  pub count_from-held : (from end page : ℕ) → IsNextHeld c v from end page
+      → count_from test from (end - from) ≡ cond (test page) 1 0 + count_from test (page + 1) (end - (page + 1))
   count_from-held from end page next =
-      let skipped = count_from-none test from (page - from) (λ p low less. of.zero_fails p (next.3 p low (omega arith))) in
-      omega (arith, count_from-split test from page end next.0 (omega (arith, next.1)), skipped, count_from-next test page end next.1)
+      let skipped =
+      count_from-none test from (page - from) (λ p low less. of.zero_fails p (next.3 p low (omega arith))) in
+      omega (
+        arith,
+        count_from-split test from page end next.0 (omega (arith, next.1)),
+        skipped,
+        count_from-next test
+            page end next.1,
+      )
 
   -- and none counts where no page is held
-  pub count_from-zero : (from end : ℕ) → ((p : ℕ) → from ≤ p → p < end → c.page v p ≡ None) → count_from test from (end - from) ≡ 0
-  count_from-zero from end none = count_from-none test from (end - from) (λ p low less. of.zero_fails p (none p low (omega arith)))
+  pub count_from-zero : (from end : ℕ) → ((p : ℕ) → from ≤ p → p < end → c.page v p ≡ None)
+      → count_from test from (end - from) ≡ 0
+  count_from-zero from end none =
+      count_from-none test from (end - from) (λ p low less. of.zero_fails p (none p low (omega arith)))
 
   -- The pages before `from` are counted, of those from `first` to below `end`.
   pub record AreCounted (first from end n : ℕ) : Type 0 where
@@ -42,7 +53,8 @@ module _ (c : Content) (v : ℕ) (test : ℕ → Bool) (of : IsOfHeld c v test) 
         omega (arith, so_far.counted, before, count_from_le test first (from - first), so_far.low)
 
     -- one held page more
-    pub AreCounted-step : (page m : ℕ) → IsNextHeld c v from end page → m ≡ n + cond (test page) 1 0 → AreCounted first (page + 1) end m
+    pub AreCounted-step : (page m : ℕ) → IsNextHeld c v from end page → m ≡ n + cond (test page) 1 0
+        → AreCounted first (page + 1) end m
     AreCounted-step page m next more = record {
       low = omega (arith, so_far.low, next.0);
       high = omega (arith, next.1);

@@ -15,18 +15,24 @@ pub record AreFrames (c : Content) (v first p : ℕ) (numbers : List ℕ) : Type
   pub are : numbers ≡ frames_in c v first (p - first)
 
 pub AreFrames-start : (c : Content) (v first : ℕ) (numbers : List ℕ) → numbers ≡ [] → AreFrames c v first first numbers
-AreFrames-start c v first numbers e = let none : first - first ≡ 0 = omega arith in record { are = e ∙ sym (ap (frames_in c v first) none) }
+AreFrames-start c v first numbers e =
+    let none : first - first ≡ 0 = omega arith in record { are = e ∙ sym (ap (frames_in c v first) none) }
 
 -- there are as many as pages
-pub AreFrames-length : (c : Content) (v first p : ℕ) (numbers : List ℕ) → AreFrames c v first p numbers → length numbers ≡ p - first
-AreFrames-length c v first p numbers frames = ap length frames.are ∙ length-map-range_with_len (λ q. frame_of (c.page v q)) first (p - first)
+pub AreFrames-length : (c : Content) (v first p : ℕ) (numbers : List ℕ) → AreFrames c v first p numbers
+    → length numbers ≡ p - first
+AreFrames-length c v first p numbers frames =
+    ap length frames.are ∙ length-map-range_with_len (λ q. frame_of (c.page v q)) first (p - first)
 
 -- pages in a row that stay have the same frames
-frames_in-same : (c d : Content) (v first n : ℕ) → ((p : ℕ) → first ≤ p → p < first + n → c.page v p ≡ d.page v p) → frames_in c v first n ≡ frames_in d v first n
+frames_in-same : (c d : Content) (v first n : ℕ) → ((p : ℕ) → first ≤ p → p < first + n → c.page v p ≡ d.page v p)
+    → frames_in c v first n ≡ frames_in d v first n
 frames_in-same c d v first zero same = refl
 frames_in-same c d v first (suc n) same =
-    let head : frame_of (c.page v first) ≡ frame_of (d.page v first) = ap frame_of (same first (omega arith) (omega arith)) in
-    let tail : frames_in c v (first + 1) n ≡ frames_in d v (first + 1) n = frames_in-same c d v (first + 1) n (λ p low high. same p (omega arith) (omega arith)) in
+    let head : frame_of (c.page v first) ≡ frame_of (d.page v first) =
+    ap frame_of (same first (omega arith) (omega arith)) in
+    let tail : frames_in c v (first + 1) n ≡ frames_in d v (first + 1) n =
+    frames_in-same c d v (first + 1) n (λ p low high. same p (omega arith) (omega arith)) in
     λ i. head i ∷ tail i
 
 -- a page that was owned has the frame that was answered
@@ -35,18 +41,24 @@ unfolding frame_of
 frame_of-owned old new v p tag owned = ap frame_of owned.held
 
 -- the next page is owned, and the frames of those before stay
-pub AreFrames-step : (now mid : Content) (v first p tag number : ℕ) (numbers more : List ℕ) → first ≤ p → Owned now mid v p tag → AreFrames now v first p numbers → number ≡ tag → more ≡ numbers ++ number ∷ [] → AreFrames mid v first (p + 1) more
+pub AreFrames-step : (now mid : Content) (v first p tag number : ℕ) (numbers more : List ℕ) → first ≤ p
+    → Owned now mid v p tag → AreFrames now v first p numbers → number ≡ tag → more ≡ numbers ++ number ∷ []
+    → AreFrames mid v first (p + 1) more
 AreFrames-step now mid v first p tag number numbers more h owned frames same added =
     let n : (p + 1) - first ≡ (p - first) + 1 = omega arith in
     let kept : frames_in now v first (p - first) ≡ frames_in mid v first (p - first) =
-    frames_in-same now mid v first (p - first) (λ q low high. let apart : q ≢ p = omega arith in sym (owned.other_page q apart)) in
+    frames_in-same now mid v first (p - first) (λ q low high. let apart : q ≢ p = omega arith
+    in sym (owned.other_page q apart)) in
     let last : number ≡ frame_of (mid.page v p) = same ∙ sym (frame_of-owned now mid v p tag owned) in
     record {
       are = added
           ∙ ((λ i. (frames.are ∙ kept) i ++ last i ∷ [])
-          ∙ (sym (map-range_with_len_more (λ q. frame_of (mid.page v q)) first (p - first) p (omega arith)) ∙ sym (ap (frames_in mid v first) n)));
+          ∙ (sym (map-range_with_len_more (λ q. frame_of (mid.page v q)) first (p - first) p (omega arith))
+          ∙ sym (ap (frames_in mid v first) n)));
     }
 
 -- no page is left
-pub AreFrames-end : (c : Content) (v first count p : ℕ) (numbers : List ℕ) → p ≡ first + count → AreFrames c v first p numbers → numbers ≡ frames_in c v first count
-AreFrames-end c v first count p numbers e frames = let n : p - first ≡ count = omega arith in frames.are ∙ ap (frames_in c v first) n
+pub AreFrames-end : (c : Content) (v first count p : ℕ) (numbers : List ℕ) → p ≡ first + count
+    → AreFrames c v first p numbers → numbers ≡ frames_in c v first count
+AreFrames-end c v first count p numbers e frames =
+    let n : p - first ≡ count = omega arith in frames.are ∙ ap (frames_in c v first) n

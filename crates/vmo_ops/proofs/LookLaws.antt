@@ -3,8 +3,8 @@ use Rattle.std.proofs.Common.{◌≡◌, ℕ, Bool, Option, None, Some, refl, sy
 use Rattle.std.proofs.lemmas.List.{take-replicate, drop-replicate}
 use Rattle.vm_base.specs.declared.limits.TheConstants.{PAGE}
 use Rattle.vm_base.specs.declared.names.Tag.{Tag}
-use Rattle.vm_model.specs.Contents.Content.{Page, Content, is_sole_page}
 use Rattle.vm_base.specs.Pages.{zeros}
+use Rattle.vm_model.specs.Contents.Content.{Page, Content, is_sole_page}
 use Rattle.page_store.specs.declared.page_store.Look.TheVariants as look
 use Rattle.page_store.specs.Pages.{look_at}
 
@@ -12,7 +12,8 @@ pub zero_look : (c : Content) (v : ℕ) (o : Option Page) → look.Zero ≡ look
 zero_look c v None e = refl
 zero_look c v (Some held) e = absurd cc
 
-pub held_look : (c : Content) (v : ℕ) (o : Option Page) (tag : Tag) (alone : Bool) → look.Held tag alone ≡ look_at c v o → (held : Page) × (o ≡ Some held) × (held.tag ≡ tag.0) × (is_sole_page c v o ≡ alone)
+pub held_look : (c : Content) (v : ℕ) (o : Option Page) (tag : Tag) (alone : Bool) → look.Held tag alone ≡ look_at c v o
+    → (held : Page) × (o ≡ Some held) × (held.tag ≡ tag.0) × (is_sole_page c v o ≡ alone)
 held_look c v None tag alone e = absurd cc
 held_look c v (Some held) tag alone e =
     let same : tag ≡ record { 0 = held.tag } = cc in

@@ -3,17 +3,19 @@ use Rattle.std.specs.Prelude.{IsSome}
 use Rattle.vm_model.specs.Contents.Content.{Content}
 use Rattle.vm_model.specs.declared.names.Target.{Target}
 use Rattle.vm_model.specs.Machine.State.{State, IsGoodState}
-use Rattle.vmo_table.specs.Table.{Table, names_of, with_vmos, IsNamed, AreParts}
-use Rattle.page_store.proofs.NameLaws.{IsInside-good}
 use Rattle.vm_model.proofs.LeavingLaws.{name_vmo, name_lineage}
+use Rattle.page_store.proofs.NameLaws.{IsInside-good}
 use Rattle.page_store.specs.Names.{IsInside}
+use Rattle.vmo_table.specs.Table.{Table, names_of, with_vmos, IsNamed, AreParts}
 
 -- its VMO is in the store
-pub named_vmo : (s : State) (target : Target) → IsGoodState s → IsNamed s.names target → IsSome (s.content.count target.koid.0)
+pub named_vmo : (s : State) (target : Target) → IsGoodState s → IsNamed s.names target
+    → IsSome (s.content.count target.koid.0)
 named_vmo s target good named = name_vmo s named.0 target good named.1
 
 -- and in the table
-pub named_lineage : (s : State) (target : Target) → IsGoodState s → IsNamed s.names target → IsSome (s.lineage target.koid.0)
+pub named_lineage : (s : State) (target : Target) → IsGoodState s → IsNamed s.names target
+    → IsSome (s.lineage target.koid.0)
 named_lineage s target good named = name_lineage s named.0 target good named.1
 
 -- and lies inside its VMO
@@ -22,5 +24,6 @@ named_inside s target good named = IsInside-good s named.0 target good named.1
 
 -- ---- a content and a table that are parts of a good state
 
-pub parts_inside : (c : Content) (t : Table) (target : Target) → AreParts c t → IsNamed (names_of t) target → IsInside c target
+pub parts_inside : (c : Content) (t : Table) (target : Target) → AreParts c t → IsNamed (names_of t) target
+    → IsInside c target
 parts_inside c t target parts named = named_inside (with_vmos parts.0 c t) target parts.1 named

@@ -20,22 +20,30 @@ pub need-count : (c : Content) (v first n : ℕ) → need c v (range_with_len fi
 unfolding unowned
 need-count c v first n = need-row c v first n
 
--- The pages of v before `from` are owned, and those from there to below `end` are left. The frames and the rows that these take
--- are there.
-pub record IsOwning (run : Run) (v : ℕ) (old : Content) (all : List ℕ) (now : Content) (from end spare : ℕ) : Type 0 where
+-- The pages of v before `from` are owned, and those from there to below `end` are left. The frames and the rows that
+-- these take are there.
+pub record IsOwning (run : Run) (v : ℕ) (old : Content) (all : List ℕ) (now : Content) (from end spare : ℕ)
+    : Type 0 where
   pub way : IsUnderWay run (is_unowned v) v old all now from end
   pub rows : (count_from (is_unowned v now) from (end - from) ≡ 0) ⊎ (end - from ≤ spare)
 
 module _ (run : Run) (v : ℕ) (old : Content) (all : List ℕ) where
   -- no page is owned yet
-  pub IsOwning-start : (first end spare : ℕ) → IsGood old → end ≤ pages_of old v → first ≤ end → all ≡ range_with_len first (end - first) → HasRows old v all spare → used old + need old v all ≤ old.frames
+  pub IsOwning-start : (first end spare : ℕ) → IsGood old → end ≤ pages_of old v → first ≤ end
+      → all ≡ range_with_len first (end - first) → HasRows old v all spare → used old + need old v all ≤ old.frames
       → IsOwning run v old all old first end spare
   IsOwning-start first end spare good inside bound row rows free =
-      let counted : need old v all ≡ count_from (is_unowned v old) first (end - first) = ap (need old v) row ∙ need-count old v first (end - first) in
+      let counted : need old v all ≡ count_from (is_unowned v old) first (end - first) =
+      ap (need old v) row ∙ need-count old v first (end - first) in
       let many : length all ≡ end - first = ap length row ∙ length-range_with_len first (end - first) in
       record {
-        way = IsUnderWay-start run (is_unowned v) v old all first end good inside bound (omega (arith, counted, free)) row;
-        rows = elim rows [ inl none ↦ inl (omega (arith, counted, none)) | inr enough ↦ inr (omega (arith, many, enough)) ];
+        way = IsUnderWay-start run (is_unowned v) v old all first end good inside bound
+            (omega (arith, counted, free)) row;
+        rows = elim rows [
+          | inl none ↦ inl (omega (arith, counted, none))
+          | inr enough
+              ↦ inr (omega (arith, many, enough))
+        ];
       }
 
   module _ (now : Content) (from end spare : ℕ) (owning : IsOwning run v old all now from end spare) where
@@ -56,7 +64,13 @@ module _ (run : Run) (v : ℕ) (old : Content) (all : List ℕ) where
             let takes : is_unowned v now from ≡ true = ap not shared in
             inr (
               elim owning.rows [
-                | inl none ↦ absurd (omega (arith, none, count_from-next (is_unowned v now) from end h, bit-true (is_unowned v now from) takes))
+                | inl none ↦ absurd (omega (
+                  arith,
+                  none,
+                  count_from-next (is_unowned v now) from end h,
+                  bit-true
+                      (is_unowned v now from) takes,
+                ))
                 | inr enough ↦ omega arith
               ],
               IsUnderWay-frame run (is_unowned v) v old all now from end owning.way h takes,
@@ -64,11 +78,14 @@ module _ (run : Run) (v : ℕ) (old : Content) (all : List ℕ) where
       ]
 
       -- it is owned, and more may be done to it
-      pub IsOwning-step : (mid : Content) (left : ℕ) → Written now v from mid → spare ≤ left + 1 → ((ps : List ℕ) (last : Content) → run mid ps last → run now (from ∷ ps) last)
+      pub IsOwning-step : (mid : Content) (left : ℕ) → Written now v from mid → spare ≤ left + 1
+          → ((ps : List ℕ) (last : Content) → run mid ps last → run now (from ∷ ps) last)
           → IsOwning run v old all mid (from + 1) end left
       IsOwning-step mid left written cost onward =
-          let rest : count_from (is_unowned v mid) (from + 1) (end - (from + 1)) ≡ count_from (is_unowned v now) (from + 1) (end - (from + 1)) =
-          count_from-same (is_unowned v mid) (is_unowned v now) (from + 1) (end - (from + 1)) (λ q low less. let apart : q ≢ from = omega arith in ap not (written.other_sole q apart)) in
+          let rest : count_from (is_unowned v mid) (from + 1) (end - (from + 1)) ≡ count_from (is_unowned v now)
+          (from + 1) (end - (from + 1)) =
+          count_from-same (is_unowned v mid) (is_unowned v now) (from + 1) (end - (from + 1))
+          (λ q low less. let apart : q ≢ from = omega arith in ap not (written.other_sole q apart)) in
           record {
             way = IsUnderWay-step run (is_unowned v) v old all now mid from end owning.way h (record {
               kept = written.kept;
@@ -86,11 +103,19 @@ module _ (run : Run) (v : ℕ) (old : Content) (all : List ℕ) where
             more false m n e = omega arith
 
 -- a page that was owned is one that was written, for all that a loop asks
-pub Written-from_Owns : (old new : Content) (v p tag : ℕ) → IsGood old → p < pages_of old v → Owns old new v p tag → Written old v p new
+pub Written-from_Owns : (old new : Content) (v p tag : ℕ) → IsGood old → p < pages_of old v → Owns old new v p tag
+    → Written old v p new
 Written-from_Owns old new v p tag good below owns =
     let owned = Owned-from_Owns old new v p tag good below owns in
     record {
-      kept = record { good = owned.good; frames = owned.frames; next = owned.next; count = owned.count; pages = owned.pages };
+      kept = record {
+        good = owned.good;
+        frames = owned.frames;
+        next = owned.next;
+        count = owned.count;
+        pages =
+            owned.pages;
+      };
       alone = owned.alone;
       other_page = owned.other_page;
       other_sole = owned.other_sole;

@@ -1,9 +1,9 @@
--- Laws of a loop that does something to pages of a VMO in a row, one page after another: that the frames which the rest takes are
--- there, and what the loop leads to.
+-- Laws of a loop that does something to pages of a VMO in a row, one page after another: that the frames which the rest
+-- takes are there, and what the loop leads to.
 use Rattle.std.proofs.Common.{◌≡◌, ◌≢◌, ℕ, zero, suc, ◌+◌, ◌-◌, ◌<◌, ◌≤◌, Bool, true, cond, List, [], ◌∷◌, sym, subst, arith}
 use Rattle.std.specs.List.{range_with_len}
-use Rattle.vm_model.specs.Contents.Content.{Content, pages_of, used, IsGood}
 use Rattle.vm_base.proofs.SearchLaws.{bit-true}
+use Rattle.vm_model.specs.Contents.Content.{Content, pages_of, used, IsGood}
 use Rattle.vm_model.proofs.OwningLaws.{count_from, count_from-same, count_from-next}
 use Rattle.vm_model.proofs.WritingLaws.{IsKept}
 
@@ -15,9 +15,10 @@ Run = Content → List ℕ → Content → Type 0
 abbrev pub Takes : Type 0
 Takes = Content → ℕ → Bool
 
--- The pages of v before `from` are done, and those from there to below `end` are left. The frames that these take are free, and
--- whatever doing these leads to, doing all pages from the old content on leads to.
-pub record IsUnderWay (run : Run) (takes : Takes) (v : ℕ) (old : Content) (all : List ℕ) (now : Content) (from end : ℕ) : Type 0 where
+-- The pages of v before `from` are done, and those from there to below `end` are left. The frames that these take are
+-- free, and whatever doing these leads to, doing all pages from the old content on leads to.
+pub record IsUnderWay (run : Run) (takes : Takes) (v : ℕ) (old : Content) (all : List ℕ) (now : Content) (from end : ℕ)
+    : Type 0 where
   pub good : IsGood now
   pub inside : end ≤ pages_of now v
   pub bound : from ≤ end
@@ -33,7 +34,8 @@ pub record IsDone (run : Run) (takes : Takes) (now : Content) (p : ℕ) (mid : C
 
 module _ (run : Run) (takes : Takes) (v : ℕ) (old : Content) (all : List ℕ) where
   -- no page is done yet
-  pub IsUnderWay-start : (first end : ℕ) → IsGood old → end ≤ pages_of old v → first ≤ end → used old + count_from (takes old) first (end - first) ≤ old.frames
+  pub IsUnderWay-start : (first end : ℕ) → IsGood old → end ≤ pages_of old v → first ≤ end
+      → used old + count_from (takes old) first (end - first) ≤ old.frames
       → all ≡ range_with_len first (end - first) → IsUnderWay run takes v old all old first end
   IsUnderWay-start first end good inside bound free row = record {
     good = good;
@@ -44,33 +46,42 @@ module _ (run : Run) (takes : Takes) (v : ℕ) (old : Content) (all : List ℕ) 
   }
 
   -- no page is left
-  pub IsUnderWay-end : (now : Content) (from end : ℕ) → IsUnderWay run takes v old all now from end → end ≤ from → run now [] now → run old all now
+  pub IsUnderWay-end : (now : Content) (from end : ℕ) → IsUnderWay run takes v old all now from end → end ≤ from
+      → run now [] now → run old all now
   IsUnderWay-end now from end way h stop =
       let e : 0 ≡ end - from = omega arith in
       way.onward now (subst (λ (n : ℕ). run now (range_with_len from n) now) e stop)
 
   -- a frame is free for the next page, where it takes one
-  pub IsUnderWay-frame : (now : Content) (from end : ℕ) → IsUnderWay run takes v old all now from end → from < end → takes now from ≡ true → used now < now.frames
-  IsUnderWay-frame now from end way h hit = omega (arith, way.free, count_from-next (takes now) from end h, bit-true (takes now from) hit)
+  pub IsUnderWay-frame : (now : Content) (from end : ℕ) → IsUnderWay run takes v old all now from end → from < end
+      → takes now from ≡ true → used now < now.frames
+  IsUnderWay-frame now from end way h hit =
+      omega (arith, way.free, count_from-next (takes now) from end h, bit-true (takes now from) hit)
 
   -- the next page is done
-  pub IsUnderWay-step : (now mid : Content) (from end : ℕ) → IsUnderWay run takes v old all now from end → from < end → IsDone run takes now from mid → IsUnderWay run takes v old all mid (from + 1) end
+  pub IsUnderWay-step : (now mid : Content) (from end : ℕ) → IsUnderWay run takes v old all now from end → from < end
+      → IsDone run takes now from mid → IsUnderWay run takes v old all mid (from + 1) end
   IsUnderWay-step now mid from end way h done =
-      let rest : count_from (takes mid) (from + 1) (end - (from + 1)) ≡ count_from (takes now) (from + 1) (end - (from + 1)) =
-      count_from-same (takes mid) (takes now) (from + 1) (end - (from + 1)) (λ q low less. let apart : q ≢ from = omega arith in done.others q apart) in
+      let rest : count_from (takes mid) (from + 1) (end - (from + 1)) ≡ count_from (takes now) (from + 1)
+      (end - (from + 1)) =
+      count_from-same (takes mid) (takes now) (from + 1) (end - (from + 1))
+      (λ q low less. let apart : q ≢ from = omega arith in done.others q apart) in
       let e : suc (end - (from + 1)) ≡ end - from = omega arith in
       record {
         good = done.kept.good;
         inside = omega (arith, done.kept.pages v, way.inside);
         bound = omega arith;
         free = omega (arith, way.free, count_from-next (takes now) from end h, rest, done.used, done.kept.frames);
-        onward = λ last w. way.onward last (subst (λ (n : ℕ). run now (range_with_len from n) last) e (done.onward (range_with_len (from + 1) (end - (from + 1))) last w));
+        onward = λ last w. way.onward last (subst (λ (n : ℕ). run now (range_with_len from n) last) e
+            (done.onward (range_with_len (from + 1) (end - (from + 1))) last w));
       }
 
   -- pages to which nothing has to be done are passed over
-  pub IsUnderWay-gap : (now : Content) (from end n : ℕ) → IsUnderWay run takes v old all now from end → from + n ≤ end → ((p : ℕ) → from ≤ p → p < from + n → IsDone run takes now p now)
+  pub IsUnderWay-gap : (now : Content) (from end n : ℕ) → IsUnderWay run takes v old all now from end → from + n ≤ end
+      → ((p : ℕ) → from ≤ p → p < from + n → IsDone run takes now p now)
       → IsUnderWay run takes v old all now (from + n) end
-  IsUnderWay-gap now from end zero way h none = let e : from ≡ from + zero = omega arith in subst (λ (a : ℕ). IsUnderWay run takes v old all now a end) e way
+  IsUnderWay-gap now from end zero way h none =
+      let e : from ≡ from + zero = omega arith in subst (λ (a : ℕ). IsUnderWay run takes v old all now a end) e way
   IsUnderWay-gap now from end (suc n) way h none =
       let e : (from + 1) + n ≡ from + suc n = omega arith in
       let next = IsUnderWay-step now now from end way (omega arith) (none from (omega arith) (omega arith)) in

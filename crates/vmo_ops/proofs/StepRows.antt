@@ -16,28 +16,35 @@ use Rattle.vm_model.proofs.NamesLaws.{target_of-at}
 
 -- ---- rows
 
-pub first_of-skip : (condition : Bool) (refusal : Refusal) (rest : List (Bool × Refusal)) → condition ≡ false → first_of ((condition, refusal) ∷ rest) ≡ first_of rest
+pub first_of-skip : (condition : Bool) (refusal : Refusal) (rest : List (Bool × Refusal)) → condition ≡ false
+    → first_of ((condition, refusal) ∷ rest) ≡ first_of rest
 first_of-skip condition refusal rest e = ap (λ b. cond b (Some refusal) (first_of rest)) e
 
-pub first_of-hit : (condition : Bool) (refusal : Refusal) (rest : List (Bool × Refusal)) → condition ≡ true → first_of ((condition, refusal) ∷ rest) ≡ Some refusal
+pub first_of-hit : (condition : Bool) (refusal : Refusal) (rest : List (Bool × Refusal)) → condition ≡ true
+    → first_of ((condition, refusal) ∷ rest) ≡ Some refusal
 first_of-hit condition refusal rest e = ap (λ b. cond b (Some refusal) (first_of rest)) e
 
 -- ---- steps
 
-pub Step-refused : (s : State) (command : Command) (refusal : Refusal) → first_of (refusals s command) ≡ Some refusal → Step s command (Refused refusal) s
+pub Step-refused : (s : State) (command : Command) (refusal : Refusal) → first_of (refusals s command) ≡ Some refusal
+    → Step s command (Refused refusal) s
 Step-refused s command refusal e = record {
-  outcome = subst (λ (o : Option Refusal). StepAfter o s command (Refused refusal) s) (sym e) (record { answer = refl; same = refl });
+  outcome = subst (λ (o : Option Refusal). StepAfter o s command (Refused refusal) s) (sym e)
+      (record { answer = refl; same = refl });
 }
 
-pub Step-done : (old : State) (command : Command) (reply : Reply) (new : State) → first_of (refusals old command) ≡ None → Effect old command reply new → Step old command reply new
+pub Step-done : (old : State) (command : Command) (reply : Reply) (new : State) → first_of (refusals old command) ≡ None
+    → Effect old command reply new → Step old command reply new
 Step-done old command reply new e effect = record {
   outcome = subst (λ (o : Option Refusal). StepAfter o old command reply new) (sym e) (inl effect);
 }
 
 -- the host lacks memory, and nothing has changed
-pub Step-lacks : (s t : State) (command : Command) → first_of (refusals s command) ≡ None → may_lack_memory s command ≡ true → t ≡ s → Step s command (Refused HostMemory) t
+pub Step-lacks : (s t : State) (command : Command) → first_of (refusals s command) ≡ None
+    → may_lack_memory s command ≡ true → t ≡ s → Step s command (Refused HostMemory) t
 Step-lacks s t command e lacks same = record {
-  outcome = subst (λ (o : Option Refusal). StepAfter o s command (Refused HostMemory) t) (sym e) (inr (record { answer = refl; same = same }, lacks));
+  outcome = subst (λ (o : Option Refusal). StepAfter o s command (Refused HostMemory) t) (sym e)
+      (inr (record { answer = refl; same = same }, lacks));
 }
 
 -- ---- tests of numbers
@@ -64,5 +71,8 @@ module _ (s : State) (n : ℕ) (target : Target) (named : s.names n ≡ Some tar
   within_at end h = ap (λ (m : ℕ). nat_lt m end) size_of-at ∙ test_not_less (name_pages s.content target * PAGE) end h
 
   -- what is said of the koid of the name and of a place in its VMO
-  pub spot : {A : Type 0} (offset at : ℕ) → at ≡ target.first * PAGE + offset → (f : ℕ → ℕ → A) → f (koid_of s n) (place_of s n offset) ≡ f target.koid.0 at
-  spot {A} offset at e f = ap (λ (t : Target). f t.koid.0 (t.first * PAGE + offset)) (target_of-at s n target named) ∙ ap (f target.koid.0) (sym e)
+  pub spot : {A : Type 0} (offset at : ℕ) → at ≡ target.first * PAGE + offset → (f : ℕ → ℕ → A)
+      → f (koid_of s n) (place_of s n offset) ≡ f target.koid.0 at
+  spot {A} offset at e f =
+      ap (λ (t : Target). f t.koid.0 (t.first * PAGE + offset)) (target_of-at s n target named)
+      ∙ ap (f target.koid.0) (sym e)

@@ -1,10 +1,10 @@
 -- Laws of writing a page.
 use Rattle.std.proofs.Common.{◌≡◌, ℕ, ◌/◌, ◌<◌, ◌≤◌, List, length, map, refl, sym, subst, ◌∙◌}
 use Rattle.vm_base.specs.declared.limits.TheConstants.{PAGE}
+use Rattle.vm_base.specs.Pages.{replaced}
 use Rattle.vm_model.specs.Contents.Content.{Page, Content, shown, pages_of, hold, IsGood}
 use Rattle.vm_model.specs.Contents.Owning.{Owns}
 use Rattle.vm_model.specs.Contents.Writing.{touched, Piece, piece, part_at, part_bytes, pieces, WritesPiece, Writes}
-use Rattle.vm_base.specs.Pages.{replaced}
 use Rattle.vm_model.proofs.ContentLaws.{sole_alone, bytes_of-some}
 use Rattle.vm_model.proofs.OwningLaws.{Owned}
 use Rattle.vm_model.proofs.RangeLaws.{part_fits}
@@ -22,12 +22,14 @@ IsShownOnce-owned old new v p tag owned =
       held = held;
       shows = record {
         shows = record { page = owned.held; tag = refl };
-        alone = λ w q other shows. sole_alone new v p w q held other owned.good owned.alone owned.held shows.page shows.tag;
+        alone = λ w q other shows. sole_alone new v p w q held other owned.good owned.alone owned.held
+            shows.page shows.tag;
       };
     }
 
 -- a page that was owned and whose bytes were then overwritten
-pub WritesPiece-from_parts : (old mid new : Content) (v p tag at : ℕ) (bytes : List ℕ) → Owned old mid v p tag → Owns old mid v p tag → Overwrites mid new tag at bytes
+pub WritesPiece-from_parts : (old mid new : Content) (v p tag at : ℕ) (bytes : List ℕ) → Owned old mid v p tag
+    → Owns old mid v p tag → Overwrites mid new tag at bytes
     → WritesPiece old (record { koid = v; page = p; at = at; bytes = bytes }) new
 WritesPiece-from_parts old mid new v p tag at bytes owned owns overwrites =
     let held : Page = record { tag = tag; bytes = shown old v p } in
@@ -36,25 +38,37 @@ WritesPiece-from_parts old mid new v p tag at bytes owned owns overwrites =
       tag = tag;
       owned = mid;
       owns = owns;
-      bytes = overwrites v p held (record { page = owned.held; tag = refl }) ∙ λ i. hold mid v p (record { tag = tag; bytes = replaced (same i) at bytes });
+      bytes = overwrites v p held (record { page = owned.held; tag = refl })
+          ∙ λ i. hold mid v p (record { tag = tag; bytes = replaced (same i) at bytes });
     }
 
 -- the piece of a write that falls into page p is written, by its place in the page and its bytes
-pub WritesPiece-same : (old new : Content) (v offset p at : ℕ) (bytes part : List ℕ) → at ≡ part_at offset p → part ≡ part_bytes offset bytes p
-    → WritesPiece old (record { koid = v; page = p; at = at; bytes = part }) new → WritesPiece old (piece v offset bytes p) new
+pub WritesPiece-same : (old new : Content) (v offset p at : ℕ) (bytes part : List ℕ) → at ≡ part_at offset p
+    → part ≡ part_bytes offset bytes p
+    → WritesPiece old (record { koid = v; page = p; at = at; bytes = part }) new
+    → WritesPiece old (piece v offset bytes p) new
 WritesPiece-same old new v offset p at bytes part place same writes =
-    subst (λ (q : Piece). WritesPiece old q new) (λ i. record { koid = v; page = p; at = place i; bytes = same i }) writes
+    subst (λ (q : Piece). WritesPiece old q new) (λ i. record {
+      koid = v;
+      page = p;
+      at = place i;
+      bytes =
+          same i;
+    }) writes
 
 -- a write at this offset, from a content over pages of v to another
 abbrev pub writing : ℕ → ℕ → List ℕ → Run
 writing v offset bytes c ps new = Writes c (map (piece v offset bytes) ps) new
 
 -- a piece of a write was written
-pub Written-from_piece : (old new : Content) (v offset p : ℕ) (bytes : List ℕ) → IsGood old → p < pages_of old v → offset / PAGE ≤ p → WritesPiece old (piece v offset bytes p) new → Written old v p new
+pub Written-from_piece : (old new : Content) (v offset p : ℕ) (bytes : List ℕ) → IsGood old → p < pages_of old v
+    → offset / PAGE ≤ p → WritesPiece old (piece v offset bytes p) new → Written old v p new
 Written-from_piece old new v offset p bytes good below from writes =
     Written-from_WritesPiece old (piece v offset bytes p) new good below (part_fits offset bytes p from) writes
 
 -- where all pages that a range touches are written, all pieces are
-pub Writes-touched : (v offset len : ℕ) (bytes : List ℕ) (old new : Content) → length bytes ≡ len → writing v offset bytes old (touched offset len) new → Writes old (pieces v offset bytes) new
+pub Writes-touched : (v offset len : ℕ) (bytes : List ℕ) (old new : Content) → length bytes ≡ len
+    → writing v offset bytes old (touched offset len) new → Writes old (pieces v offset bytes) new
 unfolding pieces
-Writes-touched v offset len bytes old new size writes = subst (λ (n : ℕ). writing v offset bytes old (touched offset n) new) (sym size) writes
+Writes-touched v offset len bytes old new size writes =
+    subst (λ (n : ℕ). writing v offset bytes old (touched offset n) new) (sym size) writes

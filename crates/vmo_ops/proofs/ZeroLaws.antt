@@ -6,6 +6,7 @@ use Rattle.std.proofs.lemmas.Bool.{cases_Bool, both_ways, and_from, and_left, or
 use Rattle.vm_base.specs.declared.limits.TheConstants.{PAGE}
 use Rattle.vm_base.specs.declared.refusal.Refusal.{Refusal}
 use Rattle.vm_base.specs.declared.refusal.Refusal.TheVariants.{NoMemory, HostMemory}
+use Rattle.vm_base.proofs.SearchLaws.{bit-true}
 use Rattle.vm_model.specs.declared.command.Command.TheVariants.{VmoZero}
 use Rattle.vm_model.specs.declared.reply.Reply.TheVariants.{Done, Refused}
 use Rattle.vm_model.specs.Contents.Content.{Content, is_held, pages_of, used, sole, IsGood}
@@ -17,7 +18,6 @@ use Rattle.vm_model.specs.Naming.Pins.{Pin, is_pinned, any_pinned}
 use Rattle.vm_model.specs.Machine.State.{State, target_of, koid_of, place_of}
 use Rattle.vm_model.specs.Machine.Refusals.{change_refusals, first_of}
 use Rattle.vm_model.proofs.NamesLaws.{target_of-at}
-use Rattle.vm_base.proofs.SearchLaws.{bit-true}
 use Rattle.vm_model.proofs.ContentLaws.{IsOfHeld, IsOfHeld-held}
 use Rattle.vm_model.proofs.OwningLaws.{count_from, count_from-same}
 use Rattle.vm_model.proofs.WritingLaws.{IsKept-same}
@@ -37,11 +37,14 @@ use Rattle.vmo_ops.proofs.ChangeLaws.{RefusesChange-named, IsAllowed-free, IsRef
 pub any_pinned-one : (pins : ℕ → Option Pin) (v p : ℕ) → any_pinned pins v p (p + 1) ≡ is_pinned pins v p
 any_pinned-one pins v p = elim (cases_Bool (is_pinned pins v p)) [
   | inl hit ↦ any_pinned_at pins v p (p + 1) p (omega arith) (omega arith) hit ∙ sym hit
-  | inr miss ↦ none_pinned pins v p (p + 1) (λ q low high. let same : q ≡ p = omega arith in ap (is_pinned pins v) same ∙ miss) ∙ sym miss
+  | inr miss ↦ none_pinned pins v p (p + 1) (λ q low high. let same : q ≡ p = omega arith in ap (is_pinned pins v) same
+      ∙ miss) ∙ sym miss
 ]
 
 -- a held page that is cut or pinned is zeroed by a write
-pub ZeroesPage-part : (old new : Content) (v : ℕ) (pinned : ℕ → Bool) (offset len p : ℕ) → is_cleared pinned offset len p ≡ false → IsSome (old.page v p) → WritesPiece old (piece v offset (replicate len 0) p) new
+pub ZeroesPage-part : (old new : Content) (v : ℕ) (pinned : ℕ → Bool) (offset len p : ℕ)
+    → is_cleared pinned offset len p ≡ false → IsSome (old.page v p)
+    → WritesPiece old (piece v offset (replicate len 0) p) new
     → ZeroesPage old v pinned offset len p new
 ZeroesPage-part old new v pinned offset len p cut some writes = record {
   cleared = λ yes_cleared. absurd (both_ways _ cut yes_cleared);
@@ -53,65 +56,90 @@ ZeroesPage-part old new v pinned offset len p cut some writes = record {
 abbrev pub takes_frame : ℕ → (ℕ → Bool) → ℕ → ℕ → Takes
 takes_frame v pinned offset len c p = (is_held c v p && not (is_cleared pinned offset len p)) && not (sole c v p)
 
-pub IsOfHeld-takes : (c : Content) (v : ℕ) (pinned : ℕ → Bool) (offset len : ℕ) → IsOfHeld c v (takes_frame v pinned offset len c)
+pub IsOfHeld-takes : (c : Content) (v : ℕ) (pinned : ℕ → Bool) (offset len : ℕ)
+    → IsOfHeld c v (takes_frame v pinned offset len c)
 IsOfHeld-takes c v pinned offset len = record {
   zero_fails = λ p none. and_left (is_held c v p && not (is_cleared pinned offset len p)) (not (sole c v p))
       (and_left (is_held c v p) (not (is_cleared pinned offset len p)) ((IsOfHeld-held c v).zero_fails p none));
 }
 
 -- for a held page, the first part of the test is passed
-takes_frame-held : (c : Content) (v : ℕ) (pinned : ℕ → Bool) (offset len p : ℕ) → IsSome (c.page v p) → takes_frame v pinned offset len c p ≡ (not (is_cleared pinned offset len p) && not (sole c v p))
-takes_frame-held c v pinned offset len p some = ap (λ (b : Bool). (b && not (is_cleared pinned offset len p)) && not (sole c v p)) some
+takes_frame-held : (c : Content) (v : ℕ) (pinned : ℕ → Bool) (offset len p : ℕ) → IsSome (c.page v p)
+    → takes_frame v pinned offset len c p ≡ (not (is_cleared pinned offset len p) && not (sole c v p))
+takes_frame-held c v pinned offset len p some =
+    ap (λ (b : Bool). (b && not (is_cleared pinned offset len p)) && not (sole c v p)) some
 
 -- ---- counting what it takes
 
 -- the pages in a row that pass
-pub length-passing : (test : ℕ → Bool) (first n : ℕ) → length (filter test (range_with_len first n)) ≡ count_from test first n
+pub length-passing : (test : ℕ → Bool) (first n : ℕ) → length (filter test (range_with_len first n)) ≡
+    count_from test first n
 unfolding count_from
 length-passing test first zero = refl
-length-passing test first (suc n) = one (test first) (filter test (range_with_len (first + 1) n)) (length-passing test (first + 1) n) where
-  one : (pass : Bool) (ps : List ℕ) → length ps ≡ count_from test (first + 1) n → length (cond pass (first ∷ ps) ps) ≡ cond pass 1 0 + count_from test (first + 1) n
-  one true ps e = omega (arith, e)
-  one false ps e = omega (arith, e)
+length-passing test first (suc n) =
+    one (test first) (filter test (range_with_len (first + 1) n)) (length-passing test (first + 1) n) where
+      one : (pass : Bool) (ps : List ℕ) → length ps ≡ count_from test (first + 1) n
+          → length (cond pass (first ∷ ps) ps) ≡ cond pass 1 0 + count_from test (first + 1) n
+      one true ps e = omega (arith, e)
+      one false ps e = omega (arith, e)
 
 -- the held pages of a range, counted page by page
-pub held_touched-count : (c : Content) (v offset len first end : ℕ) → touched offset len ≡ range_with_len first (end - first) → held_touched c v offset len ≡ count_from (is_held c v) first (end - first)
-held_touched-count c v offset len first end row = ap (λ (ps : List ℕ). length (filter (is_held c v) ps)) row ∙ length-passing (is_held c v) first (end - first)
+pub held_touched-count : (c : Content) (v offset len first end : ℕ)
+    → touched offset len ≡ range_with_len first (end - first)
+    → held_touched c v offset len ≡ count_from (is_held c v) first (end - first)
+held_touched-count c v offset len first end row =
+    ap (λ (ps : List ℕ). length (filter (is_held c v) ps)) row ∙ length-passing (is_held c v) first (end - first)
 
 -- what was counted, of the pages from `first` to below `end`
-pub record IsCounting (c : Content) (v : ℕ) (pinned : ℕ → Bool) (offset len first from end : ℕ) (cost : ZeroCost) : Type 0 where
+pub record IsCounting (c : Content) (v : ℕ) (pinned : ℕ → Bool) (offset len first from end : ℕ) (cost : ZeroCost)
+    : Type 0 where
   pub held : AreCounted c v (is_held c v) (IsOfHeld-held c v) first from end cost.held
-  pub owned : AreCounted c v (takes_frame v pinned offset len c) (IsOfHeld-takes c v pinned offset len) first from end cost.owned
+  pub owned : AreCounted c v (takes_frame v pinned offset len c) (IsOfHeld-takes c v pinned offset len) first from
+      end cost.owned
 
 module _ (c : Content) (v : ℕ) (pinned : ℕ → Bool) (offset len first : ℕ) where
   -- nothing is counted yet
-  pub IsCounting-start : (end : ℕ) → first ≤ end → IsCounting c v pinned offset len first first end (record { held = 0; owned = 0 })
-  IsCounting-start end order = record { held = AreCounted-start c v _ (IsOfHeld-held c v) first end order; owned = AreCounted-start c v _ (IsOfHeld-takes c v pinned offset len) first end order }
+  pub IsCounting-start : (end : ℕ) → first ≤ end → IsCounting c v pinned offset len first first end
+      (record { held = 0; owned = 0 })
+  IsCounting-start end order =
+      record {
+        held = AreCounted-start c v _ (IsOfHeld-held c v) first end order;
+        owned = AreCounted-start c v _
+            (IsOfHeld-takes c v pinned offset len) first end order;
+      }
 
   -- no more is counted than there are pages
-  pub IsCounting_le : (from end : ℕ) (cost : ZeroCost) → IsCounting c v pinned offset len first from end cost → (cost.held ≤ from) × (cost.owned ≤ from)
+  pub IsCounting_le : (from end : ℕ) (cost : ZeroCost) → IsCounting c v pinned offset len first from end cost
+      → (cost.held ≤ from) × (cost.owned ≤ from)
   IsCounting_le from end cost counting = (
     omega (arith, AreCounted_le c v _ (IsOfHeld-held c v) first from end cost.held counting.held),
     omega (arith, AreCounted_le c v _ (IsOfHeld-takes c v pinned offset len) first from end cost.owned counting.owned),
   )
 
   -- a held page is counted
-  pub IsCounting-step : (from end page : ℕ) (old new : ZeroCost) (takes : Bool) → IsCounting c v pinned offset len first from end old → IsNextHeld c v from end page
-      → takes ≡ (not (is_cleared pinned offset len page) && not (sole c v page)) → new.held ≡ old.held + 1 → new.owned ≡ old.owned + cond takes 1 0 → IsCounting c v pinned offset len first (page + 1) end new
+  pub IsCounting-step : (from end page : ℕ) (old new : ZeroCost) (takes : Bool)
+      → IsCounting c v pinned offset len first from end old → IsNextHeld c v from end page
+      → takes ≡ (not (is_cleared pinned offset len page) && not (sole c v page)) → new.held ≡ old.held + 1
+      → new.owned ≡ old.owned + cond takes 1 0 → IsCounting c v pinned offset len first (page + 1) end new
   IsCounting-step from end page old new takes counting next is h o =
       let bit : ◌≡◌ {A = ℕ} (cond takes 1 0) (cond (takes_frame v pinned offset len c page) 1 0) =
       ap (λ (b : Bool). cond b 1 0) (is ∙ sym (takes_frame-held c v pinned offset len page next.2)) in
       record {
-        held = AreCounted-step c v _ (IsOfHeld-held c v) first from end old.held counting.held page new.held next (omega (arith, h, bit-true (is_held c v page) next.2));
-        owned = AreCounted-step c v _ (IsOfHeld-takes c v pinned offset len) first from end old.owned counting.owned page new.owned next (omega (arith, o, bit));
+        held = AreCounted-step c v _ (IsOfHeld-held c v) first from end old.held counting.held page new.held next
+            (omega (arith, h, bit-true (is_held c v page) next.2));
+        owned = AreCounted-step c v _ (IsOfHeld-takes c v pinned offset len) first from end old.owned counting.owned
+            page new.owned next (omega (arith, o, bit));
       }
 
   -- all is counted
-  pub IsCounting-end : (from end : ℕ) (cost : ZeroCost) → touched offset len ≡ range_with_len first (end - first) → IsCounting c v pinned offset len first from end cost → ((p : ℕ) → from ≤ p → p < end → c.page v p ≡ None)
+  pub IsCounting-end : (from end : ℕ) (cost : ZeroCost) → touched offset len ≡ range_with_len first (end - first)
+      → IsCounting c v pinned offset len first from end cost → ((p : ℕ) → from ≤ p → p < end → c.page v p ≡ None)
       → (cost.held ≡ held_touched c v offset len) × (cost.owned ≡ need c v (owned_by_zero c v pinned offset len))
   IsCounting-end from end cost row counting none = (
-    AreCounted-end c v _ (IsOfHeld-held c v) first from end cost.held counting.held none ∙ sym (held_touched-count c v offset len first end row),
-    AreCounted-end c v _ (IsOfHeld-takes c v pinned offset len) first from end cost.owned counting.owned none ∙ sym (need-zero c v pinned offset len first end row),
+    AreCounted-end c v _ (IsOfHeld-held c v) first from end cost.held counting.held none
+        ∙ sym (held_touched-count c v offset len first end row),
+    AreCounted-end c v _ (IsOfHeld-takes c v pinned offset len) first from end cost.owned counting.owned none
+        ∙ sym (need-zero c v pinned offset len first end row),
   )
 
 -- a page in the list passes where some are counted
@@ -126,7 +154,8 @@ filter_any test (p ∷ ps) h = elim (cases_Bool (test p)) [
 ]
 
 -- the range touches a held page where one is counted
-pub held_touched-any : (c : Content) (v offset len : ℕ) → 0 < held_touched c v offset len → list_any (is_held c v) (touched offset len) ≡ true
+pub held_touched-any : (c : Content) (v offset len : ℕ) → 0 < held_touched c v offset len
+    → list_any (is_held c v) (touched offset len) ≡ true
 held_touched-any c v offset len h = filter_any (is_held c v) (touched offset len) h
 
 -- ---- zeroing page by page
@@ -135,10 +164,12 @@ held_touched-any c v offset len h = filter_any (is_held c v) (touched offset len
 abbrev pub zeroing : ℕ → (ℕ → Bool) → ℕ → ℕ → Run
 zeroing v pinned offset len c ps new = Zeroes c v pinned offset len ps new
 
--- The pages of v before `from` are zeroed, and those from there to below `end` are left. The frames and the rows that these take are
--- there.
-pub record IsZeroing (v : ℕ) (pinned : ℕ → Bool) (offset len : ℕ) (old now : Content) (from end spare : ℕ) : Type 0 where
-  pub way : IsUnderWay (zeroing v pinned offset len) (takes_frame v pinned offset len) v old (touched offset len) now from end
+-- The pages of v before `from` are zeroed, and those from there to below `end` are left. The frames and the rows that
+-- these take are there.
+pub record IsZeroing (v : ℕ) (pinned : ℕ → Bool) (offset len : ℕ) (old now : Content) (from end spare : ℕ)
+    : Type 0 where
+  pub way : IsUnderWay (zeroing v pinned offset len) (takes_frame v pinned offset len) v old
+      (touched offset len) now from end
   pub vmo : IsSome (now.count v)
   pub start : offset / PAGE ≤ from
   pub inside : offset + len ≤ pages_of now v * PAGE
@@ -146,11 +177,15 @@ pub record IsZeroing (v : ℕ) (pinned : ℕ → Bool) (offset len : ℕ) (old n
 
 module _ (v : ℕ) (pinned : ℕ → Bool) (offset len : ℕ) (old : Content) where
   -- no page is zeroed yet
-  pub IsZeroing-start : (first end spare : ℕ) → IsGood old → IsSome (old.count v) → offset + len ≤ pages_of old v * PAGE → first ≡ offset / PAGE → first ≤ end → end * PAGE < offset + len + PAGE
-      → touched offset len ≡ range_with_len first (end - first) → held_touched old v offset len ≤ spare → used old + need old v (owned_by_zero old v pinned offset len) ≤ old.frames
+  pub IsZeroing-start : (first end spare : ℕ) → IsGood old → IsSome (old.count v) → offset + len ≤ pages_of old v * PAGE
+      → first ≡ offset / PAGE → first ≤ end → end * PAGE < offset + len + PAGE
+      → touched offset len ≡ range_with_len first (end - first) → held_touched old v offset len ≤ spare
+      → used old + need old v (owned_by_zero old v pinned offset len) ≤ old.frames
       → IsZeroing v pinned offset len old old first end spare
   IsZeroing-start first end spare good vmo inside from order last row rows free = record {
-    way = IsUnderWay-start (zeroing v pinned offset len) (takes_frame v pinned offset len) v old (touched offset len) first end good (omega arith) order
+    way =
+        IsUnderWay-start (zeroing v pinned offset len) (takes_frame v pinned offset len) v old (touched offset len)
+        first end good (omega arith) order
         (omega (arith, free, need-zero old v pinned offset len first end row)) row;
     vmo = vmo;
     start = omega arith;
@@ -160,30 +195,48 @@ module _ (v : ℕ) (pinned : ℕ → Bool) (offset len : ℕ) (old : Content) wh
 
   module _ (now : Content) (from end spare : ℕ) (way : IsZeroing v pinned offset len old now from end spare) where
     -- no page that is left is held
-    pub IsZeroing-end : ((p : ℕ) → from ≤ p → p < end → now.page v p ≡ None) → Zeroes old v pinned offset len (touched offset len) now
-    IsZeroing-end none = way.way.onward now (Zeroes-none now v pinned offset len from (end - from) (λ p low less. none p low (omega arith)))
+    pub IsZeroing-end : ((p : ℕ) → from ≤ p → p < end → now.page v p ≡ None)
+        → Zeroes old v pinned offset len (touched offset len) now
+    IsZeroing-end none =
+        way.way.onward now (Zeroes-none now v pinned offset len from (end - from)
+        (λ p low less. none p low (omega arith)))
 
     -- the next page that is held
     module _ (page : ℕ) (next : IsNextHeld now v from end page) where
       -- there is a row for it
       pub IsZeroing-row : 1 ≤ spare
-      IsZeroing-row = omega (arith, way.rows, count_from-held now v (is_held now v) (IsOfHeld-held now v) from end page next, bit-true (is_held now v page) next.2)
+      IsZeroing-row =
+          omega (
+            arith,
+            way.rows,
+            count_from-held now v (is_held now v) (IsOfHeld-held now v) from end page next,
+            bit-true (is_held now v page) next.2,
+          )
 
       -- the pages before it are passed over
-      passed : IsUnderWay (zeroing v pinned offset len) (takes_frame v pinned offset len) v old (touched offset len) now page end
+      passed : IsUnderWay (zeroing v pinned offset len) (takes_frame v pinned offset len) v old
+          (touched offset len) now page end
       passed =
           let n : from + (page - from) ≡ page = omega (arith, next.0) in
-          subst (λ (p : ℕ). IsUnderWay (zeroing v pinned offset len) (takes_frame v pinned offset len) v old (touched offset len) now p end) n
-          (IsUnderWay-gap (zeroing v pinned offset len) (takes_frame v pinned offset len) v old (touched offset len) now from end (page - from) way.way (omega (arith, next.1))
+          subst (λ (p : ℕ). IsUnderWay (zeroing v pinned offset len) (takes_frame v pinned offset len) v old
+          (touched offset len) now p end) n
+          (IsUnderWay-gap (zeroing v pinned offset len) (takes_frame v pinned offset len) v old (touched offset len) now
+          from end (page - from) way.way (omega (arith, next.1))
           (λ p low less. record {
             kept = IsKept-same now now way.way.good refl;
             others = λ q apart. refl;
             used = omega arith;
-            onward = λ ps last rest. (now, ZeroesPage-none now v pinned offset len p (next.3 p low (omega (arith, next.0))), rest);
+            onward = λ ps last rest. (
+              now,
+              ZeroesPage-none now v pinned offset len p
+                  (next.3 p low (omega (arith, next.0))),
+              rest,
+            );
           }))
 
       -- and a frame, where it takes one
-      pub IsZeroing-frame : (is_cleared pinned offset len page ≡ true) ⊎ ((sole now v page ≡ true) ⊎ (used now < now.frames))
+      pub IsZeroing-frame : (is_cleared pinned offset len page ≡ true) ⊎
+          ((sole now v page ≡ true) ⊎ (used now < now.frames))
       IsZeroing-frame = elim (cases_Bool (is_cleared pinned offset len page)) [
         | inl whole ↦ inl whole
         | inr part ↦ elim (cases_Bool (sole now v page)) [
@@ -191,30 +244,48 @@ module _ (v : ℕ) (pinned : ℕ → Bool) (offset len : ℕ) (old : Content) wh
           | inr shared ↦
               let takes : takes_frame v pinned offset len now page ≡ true =
               and_from (is_held now v page && not (is_cleared pinned offset len page)) (not (sole now v page))
-              (and_from (is_held now v page) (not (is_cleared pinned offset len page)) next.2 (not_from_false _ part)) (not_from_false _ shared) in
-              inr (inr (IsUnderWay-frame (zeroing v pinned offset len) (takes_frame v pinned offset len) v old (touched offset len) now page end passed next.1 takes))
+              (and_from (is_held now v page) (not (is_cleared pinned offset len page)) next.2 (not_from_false _ part))
+              (not_from_false _ shared) in
+              inr (inr (IsUnderWay-frame (zeroing v pinned offset len) (takes_frame v pinned offset len) v old
+              (touched offset len) now page end passed next.1 takes))
         ]
       ]
 
       -- it is zeroed
-      pub IsZeroing-step : (mid : Content) (left : ℕ) → ZeroesPage now v pinned offset len page mid → spare ≤ left + 1 → IsZeroing v pinned offset len old mid (page + 1) end left
+      pub IsZeroing-step : (mid : Content) (left : ℕ) → ZeroesPage now v pinned offset len page mid → spare ≤ left + 1
+          → IsZeroing v pinned offset len old mid (page + 1) end left
       IsZeroing-step mid left zeroes cost =
           let zeroed : ZeroedPage now v pinned offset len page mid =
-          ZeroedPage-from_ZeroesPage now v pinned offset len page mid way.way.good (held_below now v page way.way.good next.2) (omega (arith, way.start, next.0)) zeroes in
-          let held : (q : ℕ) → q ≢ page → is_held mid v q ≡ is_held now v q = λ q apart. ap is_some (zeroed.other_page q apart) in
-          let rest : count_from (is_held mid v) (page + 1) (end - (page + 1)) ≡ count_from (is_held now v) (page + 1) (end - (page + 1)) =
-          count_from-same (is_held mid v) (is_held now v) (page + 1) (end - (page + 1)) (λ q low less. let apart : q ≢ page = omega arith in held q apart) in
+          ZeroedPage-from_ZeroesPage now v pinned offset len page mid way.way.good
+          (held_below now v page way.way.good next.2) (omega (arith, way.start, next.0)) zeroes in
+          let held : (q : ℕ) → q ≢ page → is_held mid v q ≡ is_held now v q =
+          λ q apart. ap is_some (zeroed.other_page q apart) in
+          let rest : count_from (is_held mid v) (page + 1) (end - (page + 1)) ≡ count_from (is_held now v) (page + 1)
+          (end - (page + 1)) =
+          count_from-same (is_held mid v) (is_held now v) (page + 1) (end - (page + 1))
+          (λ q low less. let apart : q ≢ page = omega arith in held q apart) in
           record {
-            way = IsUnderWay-step (zeroing v pinned offset len) (takes_frame v pinned offset len) v old (touched offset len) now mid page end passed next.1 (record {
-              kept = zeroed.kept;
-              others = λ q apart. λ i. (held q apart i && not (is_cleared pinned offset len q)) && not (zeroed.other_sole q apart i);
-              used = zeroed.used;
-              onward = λ ps last w. (mid, zeroes, w);
-            });
+            way =
+                IsUnderWay-step (zeroing v pinned offset len) (takes_frame v pinned offset len) v old
+                (touched offset len) now mid page end passed next.1 (record {
+                  kept = zeroed.kept;
+                  others = λ q apart. λ i. (held q apart i && not (is_cleared pinned offset len q)) && not
+                      (zeroed.other_sole q apart i);
+                  used = zeroed.used;
+                  onward = λ ps last w. (mid, zeroes, w);
+                });
             vmo = subst (λ (f : ℕ → Option ℕ). IsSome (f v)) (sym zeroed.kept.count) way.vmo;
             start = omega (arith, way.start, next.0);
             inside = omega (arith, way.inside, zeroed.kept.pages v);
-            rows = omega (arith, way.rows, cost, rest, count_from-held now v (is_held now v) (IsOfHeld-held now v) from end page next, bit-true (is_held now v page) next.2);
+            rows = omega (
+              arith,
+              way.rows,
+              cost,
+              rest,
+              count_from-held now v (is_held now v) (IsOfHeld-held now v) from
+                  end page next,
+              bit-true (is_held now v page) next.2,
+            );
           }
 
 -- ---- the steps of zeroing a range of a target
@@ -225,42 +296,64 @@ module _ (old new : Content) (pins : ℕ → Option Pin) (target : Target) (offs
   owned_at v at = owned_by_zero old v (is_pinned pins v) at len
 
   -- it is refused, and nothing has changed
-  pub zero_refused : (refusal : Refusal) → IsRefusedBy old target offset len (owned_by_zero old target.koid.0 (is_pinned pins target.koid.0) (target.first * PAGE + offset) len) (is_held old target.koid.0) refusal → new ≡ old
+  pub zero_refused : (refusal : Refusal) → IsRefusedBy old target offset len
+      (owned_by_zero old target.koid.0 (is_pinned pins target.koid.0) (target.first * PAGE + offset) len)
+      (is_held old target.koid.0) refusal → new ≡ old
       → DoesWith pins (λ name. VmoZero name offset len) target old (Refused refusal) new
   unfolding owned_at
   zero_refused refusal refused same = λ s name named.
       let t : State = record s { content = old; pins = pins } in
-      Step-change_refused t (record s { content = new; pins = pins }) (VmoZero name offset len) name.0 offset len (owned_at (koid_of t name.0) (place_of t name.0 offset)) (is_held old (koid_of t name.0)) refusal refl refl
-      (RefusesChange-named t name.0 target named offset len refusal owned_at (is_held old) (refused (record s { pins = pins }) name.0 named))
+      Step-change_refused t (record s { content = new; pins = pins }) (VmoZero name offset len) name.0 offset len
+      (owned_at (koid_of t name.0) (place_of t name.0 offset)) (is_held old (koid_of t name.0)) refusal refl refl
+      (RefusesChange-named t name.0 target named offset len refusal owned_at (is_held old)
+      (refused (record s { pins = pins }) name.0 named))
       (ap (λ (c : Content). record s { content = c; pins = pins }) same)
 
   -- a name that may write, and the place of the range in the VMO
   module _ (at : ℕ) (may : target.may_write ≡ true) (placed : IsPlaced old target offset len at) where
-    zero_need : need old target.koid.0 (owned_by_zero old target.koid.0 (is_pinned pins target.koid.0) (target.first * PAGE + offset) len) ≡ need old target.koid.0 (owned_by_zero old target.koid.0 (is_pinned pins target.koid.0) at len)
-    zero_need = ap (λ (a : ℕ). need old target.koid.0 (owned_by_zero old target.koid.0 (is_pinned pins target.koid.0) a len)) (sym placed.place)
+    zero_need : need old target.koid.0 (owned_by_zero old target.koid.0 (is_pinned pins target.koid.0)
+        (target.first * PAGE + offset) len) ≡ need old target.koid.0
+        (owned_by_zero old target.koid.0 (is_pinned pins target.koid.0) at len)
+    zero_need =
+        ap (λ (a : ℕ). need old target.koid.0 (owned_by_zero old target.koid.0 (is_pinned pins target.koid.0) a len))
+        (sym placed.place)
 
     -- the machine has too few free frames
-    pub zero_no_memory : old.frames < used old + need old target.koid.0 (owned_by_zero old target.koid.0 (is_pinned pins target.koid.0) at len) → new ≡ old → DoesWith pins (λ name. VmoZero name offset len) target old (Refused NoMemory) new
-    zero_no_memory h same = zero_refused NoMemory (IsRefusedBy-no_memory old target offset len _ (is_held old target.koid.0) may placed.range (omega (arith, h, zero_need))) same
+    pub zero_no_memory : old.frames < used old + need old target.koid.0
+        (owned_by_zero old target.koid.0 (is_pinned pins target.koid.0) at len) → new ≡ old
+        → DoesWith pins (λ name. VmoZero name offset len) target old (Refused NoMemory) new
+    zero_no_memory h same =
+        zero_refused NoMemory (IsRefusedBy-no_memory old target offset len _ (is_held old target.koid.0) may
+        placed.range (omega (arith, h, zero_need))) same
 
-    module _ (free : used old + need old target.koid.0 (owned_by_zero old target.koid.0 (is_pinned pins target.koid.0) at len) ≤ old.frames) where
+    module _ (free : used old + need old target.koid.0 (owned_by_zero old target.koid.0 (is_pinned pins target.koid.0)
+        at len) ≤ old.frames) where
       -- the host has too little memory, and the range touches a held page
-      pub zero_lacks : 0 < held_touched old target.koid.0 at len → new ≡ old → DoesWith pins (λ name. VmoZero name offset len) target old (Refused HostMemory) new
+      pub zero_lacks : 0 < held_touched old target.koid.0 at len → new ≡ old
+          → DoesWith pins (λ name. VmoZero name offset len) target old (Refused HostMemory) new
       zero_lacks h same =
-          zero_refused HostMemory (IsRefusedBy-lacks old target offset len _ (is_held old target.koid.0) may placed.range (omega (arith, free, zero_need))
-          (ap (λ (a : ℕ). list_any (is_held old target.koid.0) (touched a len)) (sym placed.place) ∙ held_touched-any old target.koid.0 at len h)) same
+          zero_refused HostMemory (IsRefusedBy-lacks old target offset len _ (is_held old target.koid.0) may
+          placed.range (omega (arith, free, zero_need))
+          (ap (λ (a : ℕ). list_any (is_held old target.koid.0) (touched a len)) (sym placed.place)
+          ∙ held_touched-any old target.koid.0 at len h)) same
 
       -- the range is zeroed
-      pub zero_done : Zeroes old target.koid.0 (is_pinned pins target.koid.0) at len (touched at len) new → DoesWith pins (λ name. VmoZero name offset len) target old Done new
+      pub zero_done : Zeroes old target.koid.0 (is_pinned pins target.koid.0) at len (touched at len) new
+          → DoesWith pins (λ name. VmoZero name offset len) target old Done new
       unfolding owned_at
       zero_done zeroes = λ s name named.
           let t : State = record s { content = old; pins = pins } in
           let stands : target_of t name.0 ≡ target = target_of-at t name.0 target named in
-          Step-change_done t (record s { content = new; pins = pins }) (VmoZero name offset len) name.0 offset len (owned_at (koid_of t name.0) (place_of t name.0 offset)) refl
-          (subst (λ (u : Target). first_of (change_refusals t name.0 offset len (owned_at u.koid.0 (u.first * PAGE + offset))) ≡ None) (sym stands)
-          (IsAllowed-free old target offset len (owned_at target.koid.0 (target.first * PAGE + offset)) may placed.range (omega (arith, free, zero_need)) (record s { pins = pins }) name.0 named)) (
+          Step-change_done t (record s { content = new; pins = pins }) (VmoZero name offset len) name.0 offset len
+          (owned_at (koid_of t name.0) (place_of t name.0 offset)) refl
+          (subst (λ (u : Target). first_of (change_refusals t name.0 offset len
+          (owned_at u.koid.0 (u.first * PAGE + offset))) ≡ None) (sym stands)
+          (IsAllowed-free old target offset len (owned_at target.koid.0 (target.first * PAGE + offset)) may placed.range
+          (omega (arith, free, zero_need)) (record s { pins = pins }) name.0 named)) (
             refl,
             refl,
-            subst (λ (u : Target). Zeroes old u.koid.0 (is_pinned pins u.koid.0) (u.first * PAGE + offset) len (touched (u.first * PAGE + offset) len) new) (sym stands)
-                (subst (λ (a : ℕ). Zeroes old target.koid.0 (is_pinned pins target.koid.0) a len (touched a len) new) placed.place zeroes),
+            subst (λ (u : Target). Zeroes old u.koid.0 (is_pinned pins u.koid.0) (u.first * PAGE + offset) len
+                (touched (u.first * PAGE + offset) len) new) (sym stands)
+                (subst (λ (a : ℕ). Zeroes old target.koid.0 (is_pinned pins target.koid.0) a len (touched a len) new)
+                placed.place zeroes),
           )

@@ -9,7 +9,7 @@ use Rattle.vm_model.specs.Contents.Writing.{touched}
 abbrev pub held_touched : Content → ℕ → ℕ → ℕ → ℕ
 held_touched c v offset len = length (filter (is_held c v) (touched offset len))
 
--- Of so many spare rows owning these pages of v may take what it takes: none where each is sole, and else one for each page.
--- Owning a sole page may take a row too, where others are owned with it.
+-- Of so many spare rows owning these pages of v may take what it takes: none where each is sole, and else one for each
+-- page. Owning a sole page may take a row too, where others are owned with it.
 abbrev pub HasRows : Content → ℕ → List ℕ → ℕ → Type 0
 HasRows c v ps spare = (need c v ps ≡ 0) ⊎ (length ps ≤ spare)

@@ -29,11 +29,12 @@ abbrev pub reply_of : {A : Type 0} → (A → Reply) → Result A Refusal → Re
 reply_of done (Ok a) = done a
 reply_of done (Err refusal) = Refused refusal
 
--- A name that stands for the target gives the command: from the old content to the new it is a step of the machine with this reply,
--- whichever name it is and whatever else the state has.
+-- A name that stands for the target gives the command: from the old content to the new it is a step of the machine with
+-- this reply, whichever name it is and whatever else the state has.
 abbrev pub Does : (VmoName → Command) → Target → Content → Reply → Content → Type 0
 Does command target old reply new =
-    (s : State) (name : VmoName) → s.names name.0 ≡ Some target → Step (record s { content = old }) (command name) reply (record s { content = new })
+    (s : State) (name : VmoName) → s.names name.0 ≡ Some target
+    → Step (record s { content = old }) (command name) reply (record s { content = new })
 
 -- the same beside these pins
 abbrev pub DoesWith : (ℕ → Option Pin) → (VmoName → Command) → Target → Content → Reply → Content → Type 0

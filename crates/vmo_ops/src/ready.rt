@@ -7,10 +7,10 @@ ghost use Rattle.vm_model.specs.Contents.Content.{sole, used, IsGood};
 ghost use Rattle.vm_model.specs.Contents.Owning.{need};
 ghost use Rattle.vm_model.specs.Machine.State.{name_pages};
 ghost use Rattle.vm_model.specs.Contents.Writing.{touched};
+ghost use Rattle.page_store.specs.Names.{IsInside};
 ghost use Rattle.vmo_ops.specs.Costs.{HasRows};
 ghost use Rattle.vmo_ops.specs.Targets.{IsPlaced};
 ghost use Rattle.vmo_ops.specs.Changes.{IsRefusedBy, IsAllowed};
-ghost use Rattle.page_store.specs.Names.{IsInside};
 
 use crate::owning::{need_of, reserve_rows};
 use crate::ranges::{place_in_vmo, touched_pages};

@@ -4,9 +4,9 @@ ghost use Rattle.std.specs.Prelude.{◌≡◌};
 ghost use Rattle.vm_model.specs.declared.command.Command.{Command};
 ghost use Rattle.vm_model.specs.declared.reply.Reply.{Reply};
 ghost use Rattle.vm_model.specs.Contents.Content.{IsGood};
+ghost use Rattle.page_store.specs.Names.{IsInside};
 ghost use Rattle.pin_table.specs.Table.{pins_of};
 ghost use Rattle.vmo_ops.specs.Targets.{DoesWith, reply_of};
-ghost use Rattle.page_store.specs.Names.{IsInside};
 
 use page_store::PageStore;
 use pin_table::PinTable;

@@ -10,10 +10,10 @@ ghost use Rattle.vm_model.specs.declared.reply.Reply.{Reply};
 ghost use Rattle.vm_model.specs.Contents.Content.{pages_of, IsGood};
 ghost use Rattle.vm_model.specs.Machine.State.{State};
 ghost use Rattle.vm_model.specs.Machine.Step.{Step, seen_pages};
+ghost use Rattle.page_store.specs.Names.{IsInside};
 ghost use Rattle.vmo_table.specs.Table.{names_of, keepers_of, IsNamed};
 ghost use Rattle.pin_table.specs.Table.{pins_of};
 ghost use Rattle.vmo_ops.specs.Targets.{AreTogether, with_tables, reply_of};
-ghost use Rattle.page_store.specs.Names.{IsInside};
 
 use page_store::{PageStore, pages_of_name};
 use pin_table::PinTable;
@@ -86,12 +86,7 @@ fn pages_within(offset: u64, size: u64) -> Option<PageNo>
 
 // The first page in its VMO, and how many there are, of the pages that a snapshot sees of a name: at
 // most `pages` from the name's page `start` on. Where it sees none, the first is 0.
-fn seen_part<P: PageStore>(
-    store: &P,
-    t: &Target,
-    start: PageNo,
-    pages: PageNo,
-) -> (PageNo, PageNo)
+fn seen_part<P: PageStore>(store: &P, t: &Target, start: PageNo, pages: PageNo) -> (PageNo, PageNo)
     requires good { IsGood (P.content store.now) }
     requires inside { IsInside (P.content store.now) t.now }
     ensures seen { result.1 ≡ seen_pages (P.content store.now) t.now start pages }

@@ -8,10 +8,10 @@ ghost use Rattle.vm_model.specs.Contents.Owning.{need};
 ghost use Rattle.vm_model.specs.Contents.Writing.{touched};
 ghost use Rattle.vm_model.specs.Naming.Pins.{is_pinned};
 ghost use Rattle.vm_model.specs.Contents.Zeroing.{is_cleared, owned_by_zero, ZeroesPage, Zeroes};
+ghost use Rattle.page_store.specs.Names.{IsInside};
 ghost use Rattle.pin_table.specs.Table.{pins_of};
 ghost use Rattle.vmo_ops.specs.Targets.{DoesWith, reply_of};
 ghost use Rattle.vmo_ops.specs.Costs.{held_touched};
-ghost use Rattle.page_store.specs.Names.{IsInside};
 
 use crate::filling::fill_part;
 use crate::held_pages::next_held_below;

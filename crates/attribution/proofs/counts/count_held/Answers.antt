@@ -16,4 +16,5 @@ overflow_add-from g c =
 
 pub returns : goal.returns
 returns g c =
-    AreCounts-gap _ _ _ _ _ c.loop-page.invariant.bound (λ p low h. c.in_default.ensures.none p low) c.loop-page.invariant.counts
+    AreCounts-gap _ _ _ _ _ c.loop-page.invariant.bound (λ p low h. c.in_default.ensures.none p low)
+    c.loop-page.invariant.counts

@@ -8,4 +8,5 @@ pub returns-in-None : goal.returns-in-None
 returns-in-None g c =
     let d = g.P.PageStore.content c.args.store.now in
     let v = c.args.t.now.koid.0 in
-    sym (ap (λ (o : Option ℕ). unwrap_or o (pages_of d v)) c.in-None.is ∙ pages_of-at d v c.count.result c.count.ensures)
+    sym (ap (λ (o : Option ℕ). unwrap_or o (pages_of d v)) c.in-None.is
+    ∙ pages_of-at d v c.count.result c.count.ensures)

@@ -13,7 +13,8 @@ touched_pages-first-requires g c =
 
 pub loop-page-init : goal.loop-page-init
 loop-page-init g c =
-    IsOwning-start _ c.args.v.0 _ _ _ _ _ c.requires.good (omega (arith, c.touched_pages-first.ensures.end)) c.touched_pages-first.ensures.order c.touched_pages-first.ensures.pages c.requires.room c.requires.free
+    IsOwning-start _ c.args.v.0 _ _ _ _ _ c.requires.good (omega (arith, c.touched_pages-first.ensures.end))
+    c.touched_pages-first.ensures.order c.touched_pages-first.ensures.pages c.requires.room c.requires.free
 
 pub part_in_page-part-requires-clause-range : goal.part_in_page-part-requires-clause-range
 part_in_page-part-requires-clause-range g c =
@@ -30,12 +31,19 @@ loop-page-preserved g c =
     let page = c.loop-page.page in
     let part = c.part_in_page-part in
     let owning = c.loop-page.invariant in
-    let writes = WritesPiece-same now mid c.args.v.0 c.args.offset page part.result.at (replicate c.args.len c.args.byte) _ part.ensures.at
-    (part_bytes-replicate c.args.offset c.args.len page part.result.from part.result.len part.ensures.from part.ensures.until c.args.byte) (c.fill_part.ensures.writes c.args.byte refl) in
-    let written = Written-from_piece now mid c.args.v.0 c.args.offset page (replicate c.args.len c.args.byte) owning.way.good (omega (arith, owning.way.inside)) (omega arith) writes in
-    IsOwning-step _ _ _ _ _ _ _ _ owning c.loop-page-test.true mid _ written c.fill_part.ensures.spare (λ ps last w. (mid, writes, w))
+    let writes =
+    WritesPiece-same now mid c.args.v.0 c.args.offset page part.result.at (replicate c.args.len c.args.byte) _
+    part.ensures.at
+    (part_bytes-replicate c.args.offset c.args.len page part.result.from part.result.len part.ensures.from
+    part.ensures.until c.args.byte) (c.fill_part.ensures.writes c.args.byte refl) in
+    let written =
+    Written-from_piece now mid c.args.v.0 c.args.offset page (replicate c.args.len c.args.byte) owning.way.good
+    (omega (arith, owning.way.inside)) (omega arith) writes in
+    IsOwning-step _ _ _ _ _ _ _ _ owning c.loop-page-test.true mid _ written c.fill_part.ensures.spare
+    (λ ps last w. (mid, writes, w))
 
 pub returns : goal.returns
 returns g c =
-    Writes-touched c.args.v.0 c.args.offset c.args.len (replicate c.args.len c.args.byte) _ _ (length-replicate c.args.len c.args.byte)
+    Writes-touched c.args.v.0 c.args.offset c.args.len (replicate c.args.len c.args.byte) _ _
+    (length-replicate c.args.len c.args.byte)
     (IsOwning-end _ _ _ _ _ _ _ _ c.loop-page.invariant (omega arith) refl)

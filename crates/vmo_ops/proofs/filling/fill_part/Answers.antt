@@ -6,5 +6,8 @@ use Rattle.vmo_ops.proofs.filling.fill_part.Goals as goal
 
 pub returns-clause-writes : goal.returns-clause-writes
 returns-clause-writes g c = λ byte same.
-    subst (λ (bytes : List ℕ). WritesPiece (g.P.PageStore.content c.args.store.now) (record { koid = c.args.v.0; page = c.args.page; at = c.args.part.at; bytes = bytes }) (g.P.PageStore.content c.write_part.new.store))
-    (ap (take c.args.part.len) same ∙ take-replicate c.args.part.len PAGE byte (omega (arith, c.requires.within))) c.write_part.ensures.writes
+    subst (λ (bytes : List ℕ). WritesPiece (g.P.PageStore.content c.args.store.now)
+    (record { koid = c.args.v.0; page = c.args.page; at = c.args.part.at; bytes = bytes })
+    (g.P.PageStore.content c.write_part.new.store))
+    (ap (take c.args.part.len) same ∙ take-replicate c.args.part.len PAGE byte (omega (arith, c.requires.within)))
+    c.write_part.ensures.writes

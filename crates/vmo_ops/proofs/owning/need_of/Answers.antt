@@ -6,7 +6,9 @@ use Rattle.vmo_ops.proofs.owning.need_of.Goals as goal
 use Rattle.vmo_ops.proofs.owning.need_of.Goals.{then-is_sole, else-is_sole}
 
 pub loop-page-init : goal.loop-page-init
-loop-page-init g c = AreCounted-start _ _ _ (IsOfHeld-sole (g.P.PageStore.content c.args.store.now) c.args.v.0) c.args.first c.args.end c.requires.order
+loop-page-init g c =
+    AreCounted-start _ _ _ (IsOfHeld-sole (g.P.PageStore.content c.args.store.now) c.args.v.0) c.args.first c.args.end
+    c.requires.order
 
 pub overflow_add-alone : goal.overflow_add-alone
 overflow_add-alone g c =
@@ -16,9 +18,11 @@ overflow_add-alone g c =
 pub loop-page-preserved : goal.loop-page-preserved
 loop-page-preserved g c = elim c.if-is_sole.branch [
   | then-is_sole w ↦
-      rw w.alone-is (AreCounted-step _ _ _ _ _ _ _ _ c.loop-page.invariant c.in-Some.page _ c.in-Some.ensures.some (omega (arith, bit-true _ (sym c.is_sole.ensures ∙ w.if-is_sole.true))))
+      rw w.alone-is (AreCounted-step _ _ _ _ _ _ _ _ c.loop-page.invariant c.in-Some.page _ c.in-Some.ensures.some
+      (omega (arith, bit-true _ (sym c.is_sole.ensures ∙ w.if-is_sole.true))))
   | else-is_sole w ↦
-      rw w.alone-is (AreCounted-step _ _ _ _ _ _ _ _ c.loop-page.invariant c.in-Some.page _ c.in-Some.ensures.some (omega (arith, bit-false _ (sym c.is_sole.ensures ∙ w.if-is_sole.false))))
+      rw w.alone-is (AreCounted-step _ _ _ _ _ _ _ _ c.loop-page.invariant c.in-Some.page _ c.in-Some.ensures.some
+      (omega (arith, bit-false _ (sym c.is_sole.ensures ∙ w.if-is_sole.false))))
 ]
 
 pub overflow_sub-result-2 : goal.overflow_sub-result-2

@@ -16,8 +16,10 @@ pub loop-page-init : goal.loop-page-init
 loop-page-init g c =
     let n : (c.args.first + c.args.count) - c.args.first ≡ c.args.count = omega arith in
     record {
-      owning = IsOwning-start _ c.args.v.0 _ _ _ _ _ c.requires.good c.requires.inside (omega arith) (ap (range_with_len c.args.first) (sym n)) c.requires.room c.requires.free;
-      frames = AreFrames-start (g.P.PageStore.content c.args.store.now) c.args.v.0 c.args.first c.new-numbers.result c.new-numbers.ensures;
+      owning = IsOwning-start _ c.args.v.0 _ _ _ _ _ c.requires.good c.requires.inside (omega arith)
+          (ap (range_with_len c.args.first) (sym n)) c.requires.room c.requires.free;
+      frames = AreFrames-start (g.P.PageStore.content c.args.store.now) c.args.v.0 c.args.first c.new-numbers.result
+          c.new-numbers.ensures;
     }
 
 pub own-tag-requires-clause-page : goal.own-tag-requires-clause-page
@@ -37,10 +39,15 @@ loop-page-preserved g c =
     let owns = c.own-tag.ensures.owns in
     let below = IsOwning-below _ _ _ _ _ _ _ _ owning c.loop-page-test.true in
     let frames = c.loop-page.invariant.frames in
-    let room : length c.loop-page.numbers < PIN_PAGES = omega (arith, AreFrames-length now v c.args.first page c.loop-page.numbers frames) in
+    let room : length c.loop-page.numbers < PIN_PAGES =
+    omega (arith, AreFrames-length now v c.args.first page c.loop-page.numbers frames) in
     record {
-      owning = IsOwning-step _ _ _ _ _ _ _ _ owning c.loop-page-test.true mid _ (Written-from_Owns now mid v page tag owning.way.good below owns) c.own-tag.ensures.spare (λ ps last w. (mid, tag, owns, w));
-      frames = AreFrames-step now mid v c.args.first page tag c.from.result c.loop-page.numbers c.push.new.self c.loop-page.auto.page (Owned-from_Owns now mid v page tag owning.way.good below owns) frames c.from.ensures (c.push.ensures.added room);
+      owning = IsOwning-step _ _ _ _ _ _ _ _ owning c.loop-page-test.true mid _
+          (Written-from_Owns now mid v page tag owning.way.good below owns) c.own-tag.ensures.spare
+          (λ ps last w. (mid, tag, owns, w));
+      frames = AreFrames-step now mid v c.args.first page tag c.from.result c.loop-page.numbers c.push.new.self
+          c.loop-page.auto.page (Owned-from_Owns now mid v page tag owning.way.good below owns) frames c.from.ensures
+          (c.push.ensures.added room);
     }
 
 pub returns-clause-owns : goal.returns-clause-owns
@@ -48,4 +55,5 @@ returns-clause-owns g c = IsOwning-end _ _ _ _ _ _ _ _ c.loop-page.invariant.own
 
 pub returns-clause-frames : goal.returns-clause-frames
 returns-clause-frames g c =
-    AreFrames-end (g.P.PageStore.content c.loop-page.store) c.args.v.0 c.args.first c.args.count c.loop-page.page c.loop-page.numbers (omega arith) c.loop-page.invariant.frames
+    AreFrames-end (g.P.PageStore.content c.loop-page.store) c.args.v.0 c.args.first c.args.count c.loop-page.page
+    c.loop-page.numbers (omega arith) c.loop-page.invariant.frames

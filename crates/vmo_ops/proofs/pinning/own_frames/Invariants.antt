@@ -6,6 +6,7 @@ use Rattle.vmo_ops.proofs.pinning.own_frames.Given as goal
 
 abbrev pub invariant-loop-page : goal.invariant-loop-page
 invariant-loop-page g l = record {
-  owning : IsOwning (owning_pages l.v.0) l.v.0 (g.P.PageStore.content l.initial.store) (range_with_len l.first l.count) (g.P.PageStore.content l.store) l.page (l.first + l.count) (g.P.PageStore.spare l.store);
+  owning : IsOwning (owning_pages l.v.0) l.v.0 (g.P.PageStore.content l.initial.store) (range_with_len l.first l.count)
+      (g.P.PageStore.content l.store) l.page (l.first + l.count) (g.P.PageStore.spare l.store);
   frames : AreFrames (g.P.PageStore.content l.store) l.v.0 l.first l.page l.numbers;
 }

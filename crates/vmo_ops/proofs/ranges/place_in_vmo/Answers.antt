@@ -1,6 +1,6 @@
 use Rattle.std.proofs.Common.{arith}
-use Rattle.vmo_ops.proofs.ranges.place_in_vmo.Goals as goal
 use Rattle.page_store.proofs.NameLaws.{name_few}
+use Rattle.vmo_ops.proofs.ranges.place_in_vmo.Goals as goal
 
 pub overflow_mul-result : goal.overflow_mul-result
 overflow_mul-result g c =

@@ -1,6 +1,6 @@
 use Rattle.std.proofs.Common.{arith}
-use Rattle.vmo_ops.proofs.snapshots.seen_part.Goals as goal
 use Rattle.page_store.proofs.NameLaws.{name_few}
+use Rattle.vmo_ops.proofs.snapshots.seen_part.Goals as goal
 
 pub overflow_add-result : goal.overflow_add-result
 overflow_add-result g c =

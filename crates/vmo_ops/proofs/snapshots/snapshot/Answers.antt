@@ -34,7 +34,12 @@ returns-in_default-snapshot-clause-step g c = λ rest parent named.
     snapshot_lacks _ _ parent _ _ _ _ _ named (ap is_some c.requires.closed)
     (args_fine _ _ _ _ c.in_page.ensures c.if-in_page-ne0.false c.if-no_write.either) c.in-Some.ensures.some.1
     _ (pinned_whole _ _ _ _ c.requires.parts.1 c.count.ensures c.pinned.ensures) c.if-pinned.false
-    t (λ i. record s { content = c.in_default-snapshot.ensures.err i; names = c.reserve.ensures.names i; lineage = c.reserve.ensures.lineage i })
+    t (λ i. record s {
+      content = c.in_default-snapshot.ensures.err i;
+      names = c.reserve.ensures.names i;
+      lineage =
+          c.reserve.ensures.lineage i;
+    })
 
 pub seen_part-first-requires-clause-inside : goal.seen_part-first-requires-clause-inside
 seen_part-first-requires-clause-inside g c = named_inside _ _ c.requires.parts.1 c.requires.named
@@ -53,6 +58,9 @@ returns-clause-step g c = λ rest parent named.
     snapshot_done _ _ parent _ _ _ _ _ named (ap is_some c.requires.closed)
     (args_fine _ _ _ _ c.in_page.ensures c.if-in_page-ne0.false c.if-no_write.either) c.in-Some.ensures.some.1
     _ (pinned_whole _ _ _ _ c.requires.parts.1 c.count.ensures c.pinned.ensures) c.if-pinned.false
-    (g.P.PageStore.content c.snapshot.new.self) (names_of c.enter.new.self) (lineage_in c.enter.new.self) c.in-Ok-snapshot.koid.0 c.page_of.result c.seen_part-first.result.0 c.seen_part-first.result.1 c.in-Some.pages
-    c.in-Ok-snapshot.ensures.koid c.page_of.ensures c.in-Some.ensures.some.0 part.seen part.first c.in-Ok-snapshot.ensures.ok
-    (entered _ _ _ _ _ c.reserve.ensures.names c.enter.ensures.names) (entered _ _ _ _ _ c.reserve.ensures.lineage c.enter.ensures.lineage)
+    (g.P.PageStore.content c.snapshot.new.self) (names_of c.enter.new.self) (lineage_in c.enter.new.self)
+    c.in-Ok-snapshot.koid.0 c.page_of.result c.seen_part-first.result.0 c.seen_part-first.result.1 c.in-Some.pages
+    c.in-Ok-snapshot.ensures.koid c.page_of.ensures c.in-Some.ensures.some.0 part.seen part.first
+    c.in-Ok-snapshot.ensures.ok
+    (entered _ _ _ _ _ c.reserve.ensures.names c.enter.ensures.names)
+    (entered _ _ _ _ _ c.reserve.ensures.lineage c.enter.ensures.lineage)

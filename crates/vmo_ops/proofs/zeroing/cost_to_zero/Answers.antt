@@ -26,15 +26,21 @@ overflow_add-cost-then-takes_frame g c =
 pub loop-page-preserved : goal.loop-page-preserved
 loop-page-preserved g c = elim c.if-takes_frame.branch [
   | then-takes_frame w ↦
-      rw w.cost-is (IsCounting-step _ _ _ _ _ _ _ _ _ _ _ c.takes_frame.result c.loop-page.invariant c.in-Some.ensures.some c.takes_frame.ensures refl
+      rw w.cost-is (IsCounting-step _ _ _ _ _ _ _ _ _ _ _ c.takes_frame.result c.loop-page.invariant
+      c.in-Some.ensures.some c.takes_frame.ensures refl
       (omega (arith, bit-true c.takes_frame.result w.if-takes_frame.true)))
   | else-takes_frame w ↦
-      rw w.cost-is (IsCounting-step _ _ _ _ _ _ _ _ _ _ _ c.takes_frame.result c.loop-page.invariant c.in-Some.ensures.some c.takes_frame.ensures refl
+      rw w.cost-is (IsCounting-step _ _ _ _ _ _ _ _ _ _ _ c.takes_frame.result c.loop-page.invariant
+      c.in-Some.ensures.some c.takes_frame.ensures refl
       (omega (arith, bit-false c.takes_frame.result w.if-takes_frame.false)))
 ]
 
 pub returns-clause-held : goal.returns-clause-held
-returns-clause-held g c = (IsCounting-end _ _ _ _ _ _ _ _ _ c.touched_pages-first.ensures.pages c.loop-page.invariant c.in_default.ensures.none).0
+returns-clause-held g c =
+    (IsCounting-end _ _ _ _ _ _ _ _ _ c.touched_pages-first.ensures.pages c.loop-page.invariant
+    c.in_default.ensures.none).0
 
 pub returns-clause-owned : goal.returns-clause-owned
-returns-clause-owned g c = (IsCounting-end _ _ _ _ _ _ _ _ _ c.touched_pages-first.ensures.pages c.loop-page.invariant c.in_default.ensures.none).1
+returns-clause-owned g c =
+    (IsCounting-end _ _ _ _ _ _ _ _ _ c.touched_pages-first.ensures.pages c.loop-page.invariant
+    c.in_default.ensures.none).1

@@ -11,16 +11,21 @@ touched_pages-first-requires g c =
 pub loop-page-init : goal.loop-page-init
 loop-page-init g c =
     let touched = c.touched_pages-first.ensures in
-    IsZeroing-start _ _ _ _ _ _ _ _ c.requires.good c.requires.vmo c.requires.inside touched.first touched.order touched.end touched.pages c.requires.room c.requires.free
+    IsZeroing-start _ _ _ _ _ _ _ _ c.requires.good c.requires.vmo c.requires.inside touched.first touched.order
+    touched.end touched.pages c.requires.room c.requires.free
 
 pub zero_part-requires-clause-room : goal.zero_part-requires-clause-room
-zero_part-requires-clause-room g c = IsZeroing-row _ _ _ _ _ _ _ _ _ c.loop-page.invariant c.in-Some.page c.in-Some.ensures.some
+zero_part-requires-clause-room g c =
+    IsZeroing-row _ _ _ _ _ _ _ _ _ c.loop-page.invariant c.in-Some.page c.in-Some.ensures.some
 
 pub zero_part-requires-clause-free : goal.zero_part-requires-clause-free
-zero_part-requires-clause-free g c = IsZeroing-frame _ _ _ _ _ _ _ _ _ c.loop-page.invariant c.in-Some.page c.in-Some.ensures.some
+zero_part-requires-clause-free g c =
+    IsZeroing-frame _ _ _ _ _ _ _ _ _ c.loop-page.invariant c.in-Some.page c.in-Some.ensures.some
 
 pub loop-page-preserved : goal.loop-page-preserved
-loop-page-preserved g c = IsZeroing-step _ _ _ _ _ _ _ _ _ c.loop-page.invariant c.in-Some.page c.in-Some.ensures.some _ _ c.zero_part.ensures.zeroes c.zero_part.ensures.spare
+loop-page-preserved g c =
+    IsZeroing-step _ _ _ _ _ _ _ _ _ c.loop-page.invariant c.in-Some.page c.in-Some.ensures.some _ _
+    c.zero_part.ensures.zeroes c.zero_part.ensures.spare
 
 pub returns : goal.returns
 returns g c = IsZeroing-end _ _ _ _ _ _ _ _ _ c.loop-page.invariant c.in_default.ensures.none
