@@ -16,10 +16,4 @@ pub use serving::serve;
 pub use session::run;
 
 #[cfg(test)]
-mod family_tests;
-#[cfg(test)]
-mod pin_tests;
-#[cfg(test)]
-mod range_tests;
-#[cfg(test)]
 mod tests;
