@@ -1,5 +1,5 @@
--- How a run ends, over the bytes that a source gave, the bytes that a sink took, and what a store contains. What a source
--- has left and what a sink took are known where these tell them.
+-- How a run ends, over the bytes that a source gave, the bytes that a sink took, and what a store contains. What a
+-- source has left and what a sink took are known where these tell them.
 use Rattle.std.specs.Prelude.{◌≡◌, ℕ, ◌+◌, ◌<◌, ◌≤◌, ◌⊎◌, ◌&&◌, nat_le, Bool, List, [], ◌∷◌, ◌++◌, length, take, map, codes, nat_eq, if◌then◌else◌, Option, None, Some, Result, slice_get, MatchResult}
 use Rattle.std.specs.Cmp.Lexicographic.{pointwise}
 use Rattle.std.specs.Io.KnownBytes.{Appends, Consumes, IsAtEnd}
@@ -47,17 +47,20 @@ frames_of words = frames_in (map string_bytes words)
 
 -- a call that may fail writing: the sink took all of these bytes, or a part of them
 abbrev pub Writes : {T E : Type 0} → Result T E → Option (List ℕ) → Option (List ℕ) → List ℕ → Type 0
-Writes result sink_old sink_new out = MatchResult result (λ _. Appends sink_old sink_new out) (λ _. IsCutOff sink_old sink_new out)
+Writes result sink_old sink_new out =
+    MatchResult result (λ _. Appends sink_old sink_new out) (λ _. IsCutOff sink_old sink_new out)
 
 -- from old, the line was answered, and its replies were written
-pub record AnswersLine {T E : Type 0} (line : List ℕ) (old new : State) (sink_old sink_new : Option (List ℕ)) (result : Result T E) : Type 0 where
+pub record AnswersLine {T E : Type 0} (line : List ℕ) (old new : State) (sink_old sink_new : Option (List ℕ))
+    (result : Result T E) : Type 0 where
   pub replies : List Reply
   pub gives : Gives line old replies new
   pub written : Writes result sink_old sink_new (texts replies)
 
 -- The lines were answered as on a machine with this many frames, their replies were written, and the store has what the
 -- machine has in the end, which is a good state.
-pub record AnswersAll (frames : ℕ) (lines : List (List ℕ)) (sink_old sink_new : Option (List ℕ)) (content : Content) : Type 0 where
+pub record AnswersAll (frames : ℕ) (lines : List (List ℕ)) (sink_old sink_new : Option (List ℕ))
+    (content : Content) : Type 0 where
   pub out : List ℕ
   pub last : State
   pub legal : Legal frames lines out last
@@ -67,7 +70,8 @@ pub record AnswersAll (frames : ℕ) (lines : List (List ℕ)) (sink_old sink_ne
 
 -- Some of the lines were answered and their replies written. One line more was done, and only a part of its replies was
 -- written. The store has what the machine has then, which is a good state.
-pub record AnswersPart (frames : ℕ) (lines : List (List ℕ)) (sink_old sink_new : Option (List ℕ)) (content : Content) : Type 0 where
+pub record AnswersPart (frames : ℕ) (lines : List (List ℕ)) (sink_old sink_new : Option (List ℕ))
+    (content : Content) : Type 0 where
   pub answered : ℕ
   pub line : List ℕ
   pub next : slice_get lines answered ≡ Some line
@@ -85,10 +89,11 @@ pub record AnswersPart (frames : ℕ) (lines : List (List ℕ)) (sink_old sink_n
   pub written : Appends sink_old sink_new (texts before ++ part)
   pub store : content ≡ last.content
 
--- ---- how a run ends. Each form speaks of the script that the source gave in the call.
+-- ---- how a run ends. Each form speaks of the script that the source gave in the call
 
 -- the script was given to its end, within the limit, and every line was answered
-pub record Completes (frames limit : ℕ) (source_old source_new sink_old sink_new : Option (List ℕ)) (content : Content) : Type 0 where
+pub record Completes (frames limit : ℕ) (source_old source_new sink_old sink_new : Option (List ℕ))
+    (content : Content) : Type 0 where
   pub script : List ℕ
   pub given : Consumes source_old source_new script
   pub ended : IsAtEnd source_new
@@ -96,14 +101,16 @@ pub record Completes (frames limit : ℕ) (source_old source_new sink_old sink_n
   pub answers : AnswersAll frames (lines_of script) sink_old sink_new content
 
 -- reading failed within the limit, and every whole line that was given was answered
-pub record StopsReading (frames limit : ℕ) (source_old source_new sink_old sink_new : Option (List ℕ)) (content : Content) : Type 0 where
+pub record StopsReading (frames limit : ℕ) (source_old source_new sink_old sink_new : Option (List ℕ))
+    (content : Content) : Type 0 where
   pub script : List ℕ
   pub given : Consumes source_old source_new script
   pub short : length script ≤ limit
   pub answers : AnswersAll frames (whole_lines script) sink_old sink_new content
 
 -- one byte over the limit was given, and the lines whose line feed lies within the limit were answered
-pub record ReachesLimit (frames limit : ℕ) (source_old source_new sink_old sink_new : Option (List ℕ)) (content : Content) : Type 0 where
+pub record ReachesLimit (frames limit : ℕ) (source_old source_new sink_old sink_new : Option (List ℕ))
+    (content : Content) : Type 0 where
   pub script : List ℕ
   pub given : Consumes source_old source_new script
   pub long : length script ≡ limit + 1
@@ -111,7 +118,8 @@ pub record ReachesLimit (frames limit : ℕ) (source_old source_new sink_old sin
 
 -- Writing failed, and the lines up to one were done. Its line feed lies within the limit, or it is the last piece of a
 -- script within the limit.
-pub record BreaksOff (frames limit : ℕ) (source_old source_new sink_old sink_new : Option (List ℕ)) (content : Content) : Type 0 where
+pub record BreaksOff (frames limit : ℕ) (source_old source_new sink_old sink_new : Option (List ℕ))
+    (content : Content) : Type 0 where
   pub script : List ℕ
   pub given : Consumes source_old source_new script
   pub at_most : length script ≤ limit + 1
@@ -125,10 +133,16 @@ pub record NothingDone (source_old source_new sink_old sink_new : Option (List �
   pub store : HasNoVmo content
 
 -- what each status says
-abbrev pub EndsAs : Status → ℕ → ℕ → Option (List ℕ) → Option (List ℕ) → Option (List ℕ) → Option (List ℕ) → Content → Type 0
-EndsAs Done frames limit source_old source_new sink_old sink_new content = Completes frames limit source_old source_new sink_old sink_new content
-EndsAs ReadFault frames limit source_old source_new sink_old sink_new content = StopsReading frames limit source_old source_new sink_old sink_new content
-EndsAs ScriptLimit frames limit source_old source_new sink_old sink_new content = ReachesLimit frames limit source_old source_new sink_old sink_new content
-EndsAs WriteFault frames limit source_old source_new sink_old sink_new content = BreaksOff frames limit source_old source_new sink_old sink_new content
-EndsAs HostMemory frames limit source_old source_new sink_old sink_new content = NothingDone source_old source_new sink_old sink_new content
+abbrev pub EndsAs : Status → ℕ → ℕ → Option (List ℕ) → Option (List ℕ) → Option (List ℕ) → Option (List ℕ)
+    → Content → Type 0
+EndsAs Done frames limit source_old source_new sink_old sink_new content =
+    Completes frames limit source_old source_new sink_old sink_new content
+EndsAs ReadFault frames limit source_old source_new sink_old sink_new content =
+    StopsReading frames limit source_old source_new sink_old sink_new content
+EndsAs ScriptLimit frames limit source_old source_new sink_old sink_new content =
+    ReachesLimit frames limit source_old source_new sink_old sink_new content
+EndsAs WriteFault frames limit source_old source_new sink_old sink_new content =
+    BreaksOff frames limit source_old source_new sink_old sink_new content
+EndsAs HostMemory frames limit source_old source_new sink_old sink_new content =
+    NothingDone source_old source_new sink_old sink_new content
 EndsAs Usage frames limit source_old source_new sink_old sink_new content = ⊥

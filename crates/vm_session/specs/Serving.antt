@@ -22,7 +22,8 @@ pub record AreAll (reader : Reader) (bytes pending : List ℕ) (lines : List (Li
 
 -- The source gave a script: bytes whose lines were answered, and bytes that are pending in the reader. The replies were
 -- written, and the machine is in a good state.
-pub record IsServed (frames limit : ℕ) (reader : Reader) (source_old source_now sink_old sink_now : Option (List ℕ)) (now : State) : Type 0 where
+pub record IsServed (frames limit : ℕ) (reader : Reader) (source_old source_now sink_old sink_now : Option (List ℕ))
+    (now : State) : Type 0 where
   pub front : List ℕ
   pub pending : List ℕ
   pub lines : List (List ℕ)
@@ -47,8 +48,8 @@ pub record IsReady (reader : Reader) (remaining : Option (List ℕ)) (next : ℕ
 abbrev pub bytes_left : Reader → ℕ
 bytes_left reader = (reader.limit + 1 - reader.taken) + (reader.dropped + length reader.held)
 
--- From old, whatever was pending, one fetch led to new. A call that says this uses up one line at most, and so its replies
--- are written before the next line is looked at.
+-- From old, whatever was pending, one fetch led to new. A call that says this uses up one line at most, and so its
+-- replies are written before the next line is looked at.
 abbrev pub FetchesOnce : Reader → Reader → Option (List ℕ) → Option (List ℕ) → Type 0
 FetchesOnce old new source_old source_new = (pending : List ℕ) → IsPending old source_old pending
     → (answer : Fetch) × Fetches old new source_old source_new pending answer
