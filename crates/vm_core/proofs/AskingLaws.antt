@@ -13,10 +13,10 @@ use Rattle.vm_model.specs.Machine.Attribution.{info_at}
 use Rattle.vm_model.proofs.NamesLaws.{target_of-at}
 use Rattle.vmo_table.specs.Table.{Table as Vmos, names_of, with_vmos}
 use Rattle.vmo_ops.proofs.StepRows.{first_of-skip, Step-done, open_at, size_of-at}
-
 use Rattle.vm_core.specs.Calls.{StepsVmos}
 
-module _ {c : Content} (vmos : Vmos) (name : VmoName) (target : Target) (named : Some target ≡ names_of vmos name.0) where
+module _ {c : Content} (vmos : Vmos) (name : VmoName) (target : Target)
+    (named : Some target ≡ names_of vmos name.0) where
   -- the size of what the name stands for is answered
   pub size_named : (size : ℕ) → size ≡ name_pages c target * PAGE → StepsVmos c vmos (VmoSize name) (Number size) c vmos
   size_named size e = record {

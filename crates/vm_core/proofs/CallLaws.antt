@@ -21,11 +21,12 @@ parts_of c vmos pins together = (with_tables together.0 c vmos pins, together.1)
 pub counted_parts : (c : Content) (vmos : Vmos) (pins : Pins) → AreTogether c vmos pins → CountsPins vmos pins
     → (s : State) × IsWellCounted vmos (with_tables s c vmos pins)
 counted_parts c vmos pins together counted =
-    (together.0, record { good = together.1; counted = counted (with_tables together.0 c vmos pins) })
+    (together.0, record { good = together.1; counted = counted.each (with_tables together.0 c vmos pins) })
 
 -- keepers that did not change count the same pins
-pub counts_same : (old new : Vmos) (pins : Pins) → keepers_of new ≡ keepers_of old → CountsPins old pins → CountsPins new pins
-counts_same old new pins same counted = λ s v. ap (λ (f : ℕ → ℕ). f v) same ∙ counted s v
+pub counts_same : {old new : Vmos} {pins : Pins} → keepers_of new ≡ keepers_of old → CountsPins old pins
+    → CountsPins new pins
+counts_same same counted = record { each = λ s v. ap (λ (f : ℕ → ℕ). f v) same ∙ counted.each s v }
 
 -- what a name stands for lies inside its VMO
 pub inside_named : {c : Content} (vmos : Vmos) (name : VmoName) {target : Target}

@@ -59,5 +59,6 @@ state_of-filled frames new old vm bare filled e =
 -- in a table of VMOs without keepers no pin is counted
 pub counts_none : (vmos : Vmos) (pins : Pins) → ((v : ℕ) → keepers_of vmos v ≡ 0) → ((n : ℕ) → pins_of pins n ≡ None)
     → CountsPins vmos pins
-counts_none vmos pins none empty = λ s v.
-    none v ∙ sym (entry_count-empty NAMES (λ (pin : Pin). pin.koid == v) (pins_of pins) empty)
+counts_none vmos pins none empty = record {
+  each = λ s v. none v ∙ sym (entry_count-empty NAMES (λ (pin : Pin). pin.koid == v) (pins_of pins) empty);
+}

@@ -1,5 +1,5 @@
--- What the handlers of commands promise of the content of their store and of the tables that they are given, as they begin
--- and as they end. What else the machine has is that of any state s.
+-- What the handlers of commands promise of the content of their store and of the tables that they are given, as they
+-- begin and as they end. What else the machine has is that of any state s.
 use Rattle.vm_model.specs.declared.command.Command.{Command}
 use Rattle.vm_model.specs.declared.reply.Reply.{Reply}
 use Rattle.vm_model.specs.Contents.Content.{Content}
@@ -10,8 +10,8 @@ use Rattle.pin_table.specs.Table.{Table as Pins, pins_of}
 use Rattle.vmo_ops.specs.Targets.{with_tables}
 
 -- the table of VMOs counts what keeps each VMO: the pins of the other table
-abbrev pub CountsPins : Vmos → Pins → Type 0
-CountsPins vmos pins = (s : State) → CountsKeepers vmos (record s { pins = pins_of pins })
+pub record CountsPins (vmos : Vmos) (pins : Pins) : Type 0 where
+  pub each : (s : State) → CountsKeepers vmos (record s { pins = pins_of pins })
 
 -- a store and a table of VMOs do a step of the machine, whatever else it has
 pub record StepsVmos (old : Content) (vmos_old : Vmos) (command : Command) (reply : Reply)

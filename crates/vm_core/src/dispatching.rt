@@ -17,7 +17,7 @@ use vm_model::{Command, Reply};
 use vmo_table::VmoTable;
 
 /// Does a command by its handler. One that is not built yet is answered `Unbuilt`.
-#[tactic(auto, using(crate::proofs::CallLaws::steps_beside))]
+#[tactic(auto, using(crate::proofs::CallLaws::steps_beside, crate::proofs::CallLaws::counts_same))]
 pub(crate) fn dispatch<P: PageStore>(
     store: &mut P,
     vmos: &mut VmoTable,

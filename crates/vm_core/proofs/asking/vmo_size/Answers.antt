@@ -6,4 +6,5 @@ pub size_of_name-requires-clause-inside : goal.size_of_name-requires-clause-insi
 size_of_name-requires-clause-inside g c = inside_named c.args.vmos.now c.args.name c.requires c.in-Some.ensures
 
 pub returns-in-Some : goal.returns-in-Some
-returns-in-Some g c = size_named c.args.vmos.now c.args.name _ c.in-Some.ensures c.size_of_name.result c.size_of_name.ensures
+returns-in-Some g c =
+    size_named c.args.vmos.now c.args.name _ c.in-Some.ensures c.size_of_name.result c.size_of_name.ensures

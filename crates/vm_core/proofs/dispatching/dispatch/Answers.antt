@@ -1,12 +1,12 @@
 use Rattle.vmo_ops.specs.Targets.{with_tables}
-use Rattle.vm_core.proofs.CallLaws.{parts_of, counted_parts, counts_same}
+use Rattle.vm_core.proofs.CallLaws.{parts_of, counted_parts}
 use Rattle.vm_core.proofs.dispatching.dispatch.Goals as goal
 
 pub returns-in-VmoClose-clause-step : goal.returns-in-VmoClose-clause-step
 returns-in-VmoClose-clause-step g c = rw c.in-VmoClose.is (record {
   step = λ s good.
       let machine = with_tables s (g.P.PageStore.content c.args.store.now) c.args.vmos.now c.args.pins.now in
-      c.vmo_close.ensures.step machine (record { good = good; counted = c.requires.counted machine });
+      c.vmo_close.ensures.step machine (record { good = good; counted = c.requires.counted.each machine });
 })
 
 pub vmo_create-requires-clause-parts : goal.vmo_create-requires-clause-parts
@@ -34,12 +34,3 @@ pub vmo_close-requires : goal.vmo_close-requires
 vmo_close-requires g c =
     let counted = counted_parts _ c.args.vmos.now c.args.pins.now c.requires.good c.requires.counted in
     (with_tables counted.0 (g.P.PageStore.content c.args.store.now) c.args.vmos.now c.args.pins.now, counted.1)
-
-pub returns-in-VmoCreate-clause-counted : goal.returns-in-VmoCreate-clause-counted
-returns-in-VmoCreate-clause-counted g c = counts_same c.args.vmos.now c.vmo_create.new.vmos c.args.pins.now c.vmo_create.ensures.keepers c.requires.counted
-
-pub returns-in-VmoChild-clause-counted : goal.returns-in-VmoChild-clause-counted
-returns-in-VmoChild-clause-counted g c = counts_same c.args.vmos.now c.vmo_create_child.new.vmos c.args.pins.now c.vmo_create_child.ensures.keepers c.requires.counted
-
-pub returns-in-VmoClose-clause-counted : goal.returns-in-VmoClose-clause-counted
-returns-in-VmoClose-clause-counted g c = counts_same c.args.vmos.now c.vmo_close.new.vmos c.args.pins.now c.vmo_close.ensures.keepers c.requires.counted

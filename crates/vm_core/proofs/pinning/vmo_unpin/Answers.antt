@@ -9,8 +9,8 @@ pub returns-clause-step : goal.returns-clause-step
 returns-clause-step g c = record {
   step = λ s good.
       let machine = with_tables s (g.P.PageStore.content c.args.store.now) c.args.vmos.now c.args.pins.now in
-      c.unpin.ensures.step s (record { good = good; counted = c.requires.counted machine });
+      c.unpin.ensures.step s (record { good = good; counted = c.requires.counted.each machine });
 }
 
 pub returns-clause-counted : goal.returns-clause-counted
-returns-clause-counted g c = λ s. c.unpin.ensures.counted s (c.requires.counted s)
+returns-clause-counted g c = record { each = λ s. c.unpin.ensures.counted s (c.requires.counted.each s) }

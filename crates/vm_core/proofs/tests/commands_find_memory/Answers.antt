@@ -1,7 +1,6 @@
 use Rattle.std.proofs.Common.{sym, ap, subst, arith}
 use Rattle.vm_model.specs.Machine.State.{State, IsGoodState}
 use Rattle.vm_model.proofs.StepLaws.{IsGoodState-empty, next-empty}
-use Rattle.page_store.specs.Flat.{content_of}
 use Rattle.vm_core.proofs.StartLaws.{state_of-filled}
 use Rattle.vm_core.proofs.tests.commands_find_memory.Goals as goal
 

@@ -1,6 +1,5 @@
 use Rattle.std.proofs.Common.{sym, subst, ◌∙◌}
 use Rattle.vm_model.specs.Machine.State.{IsGoodState}
-use Rattle.pin_table.specs.Table.{pins_of}
 use Rattle.vm_core.specs.Vm.{Parts}
 use Rattle.vm_core.proofs.StartLaws.{counts_none, state_of-bare, IsGoodState-bare, bare_state-first}
 use Rattle.vm_core.proofs.vm.Vm.new.Goals as goal
