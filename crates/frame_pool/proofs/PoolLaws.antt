@@ -9,7 +9,7 @@ use Rattle.vm_base.specs.declared.names.Tag.{Tag}
 use Rattle.vm_base.specs.Entries.{with_key, without_key, passes, entry_count}
 use Rattle.vm_base.specs.Search.{count_below}
 use Rattle.vm_base.proofs.SearchLaws.{count_below_same, bit-true}
-use Rattle.vm_base.proofs.EntryLaws.{some_is, with_key-same, with_key-other, with_key-stays, entry_count-empty, entry_count-change, entry_count-with_key, entry_count-without_key}
+use Rattle.vm_base.proofs.EntryLaws.{some_is, with_key-other, with_key-stays, entry_count-empty, entry_count-change, entry_count-with_key, entry_count-without_key}
 use Rattle.frame_pool.specs.Pool.{Pool, is_idle, taken_frames, frame_bytes, taken_count, Takes, AreDistinctBelow, IsPool}
 
 -- ---- how many frames are taken
