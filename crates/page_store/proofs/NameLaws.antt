@@ -20,10 +20,10 @@ pub IsInside-good : (s : State) (n : ℕ) (target : Target) → IsGoodState s �
     → IsInside s.content target
 IsInside-good s n target good e =
     let fine = (good.names n target e).1 in record { vmo = fine.vmo; pages = go fine target.limit refl } where
-  go : IsGoodName s target → (o : Option ℕ) → target.limit ≡ o
-      → target.first + unwrap_or o (pages_of s.content target.koid.0) ≤ pages_of s.content target.koid.0
-  go fine None f = omega (arith, fine.whole f)
-  go fine (Some m) f = (fine.part m f).2
+      go : IsGoodName s target → (o : Option ℕ) → target.limit ≡ o
+          → target.first + unwrap_or o (pages_of s.content target.koid.0) ≤ pages_of s.content target.koid.0
+      go fine None f = omega (arith, fine.whole f)
+      go fine (Some m) f = (fine.part m f).2
 
 -- what a name stands for ends at or below the greatest size of a VMO
 pub name_few : (c : Content) (target : Target) → IsGood c → IsInside c target
