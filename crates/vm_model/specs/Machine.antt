@@ -2,4 +2,5 @@ pub mod State
 pub mod Leaving
 pub mod Attribution
 pub mod Refusals
+pub mod Lent
 pub mod Step

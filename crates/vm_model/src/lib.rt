@@ -9,16 +9,22 @@
 //! layers above may use all of it.
 #![tactic(auto)]
 
+mod answer;
 mod bytes;
+mod call;
 mod command;
 pub mod laws;
+mod lent;
 mod names;
 mod numbers;
 mod reply;
 mod runs;
 
+pub use answer::Answer;
 pub use bytes::Bytes4k;
+pub use call::Call;
 pub use command::{ChildKind, Command};
+pub use lent::{LentBytes, LentNumbers};
 pub use names::{NameKind, Origin, Target};
 pub use numbers::PinNumbers;
 pub use reply::{Info, Reply, Stat};

@@ -1,6 +1,6 @@
 //! The frames of pinned pages.
 
-ghost use Rattle.std.specs.Prelude.{◌≡◌, ◌≤◌, ◌<◌, ◌↔◌, [], ◌∷◌, ◌++◌, length, IsTrue};
+ghost use Rattle.std.specs.Prelude.{◌≡◌, ◌+◌, ◌≤◌, ◌<◌, ◌↔◌, [], ◌∷◌, ◌++◌, length, IsTrue};
 
 use arrayvec::ArrayVec;
 use std::marker::Model;
@@ -49,5 +49,13 @@ impl PinNumbers {
         ensures full { length self.old ≡ PIN_PAGES → self.new ≡ self.old }
     {
         self.numbers.try_push(number).is_ok()
+    }
+
+    /// Adds numbers at the end, for which there is room.
+    pub fn extend_from_slice(&mut self, numbers: &[u64])
+        requires { length self.old + length numbers.now ≤ PIN_PAGES }
+        ensures { self.new ≡ self.old ++ numbers.now }
+    {
+        self.numbers.try_extend_from_slice(numbers).unwrap();
     }
 }
