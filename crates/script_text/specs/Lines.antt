@@ -1,6 +1,8 @@
--- What the answer of `read_line` says.
-use Rattle.std.specs.Prelude.{Result, Ok, Err}
+-- What the answers of `read_line` and `read_call` say.
+use Rattle.std.specs.Prelude.{Option, None, Some, Result, Ok, Err}
 use Rattle.vm_model.specs.Language.Reading.{Reading, Blank, Order, Outside}
+use Rattle.vm_model.specs.Machine.Lent.{command_of}
+use Rattle.vm_model.specs.declared.call.Call.{Call}
 use Rattle.script_text.specs.declared.reading.Line.{Line}
 use Rattle.script_text.specs.declared.reading.Line.TheVariants.{Blank as BlankLine, Order as OrderLine}
 use Rattle.script_text.specs.declared.reading.SyntaxFault.{SyntaxFault}
@@ -10,3 +12,9 @@ abbrev pub reading_of : Result Line SyntaxFault → Reading
 reading_of (Ok BlankLine) = Blank
 reading_of (Ok (OrderLine command)) = Order command
 reading_of (Err fault) = Outside
+
+-- the same of an answer whose data stands elsewhere
+abbrev pub reading_of_call : Result (Option Call) SyntaxFault → Reading
+reading_of_call (Ok None) = Blank
+reading_of_call (Ok (Some call)) = Order (command_of call)
+reading_of_call (Err fault) = Outside

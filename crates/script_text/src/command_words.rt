@@ -1,8 +1,9 @@
 //! From a command word to the reader of its arguments. The word is compared with those of its own
 //! length alone.
 
-ghost use Rattle.std.specs.Prelude.{◌≡◌, map};
+ghost use Rattle.std.specs.Prelude.{◌≡◌, ◌≤◌, length, map, option_map};
 ghost use Rattle.vm_model.specs.Language.Reading.{by_word, command};
+ghost use Rattle.vm_model.specs.Machine.Lent.{command_of};
 ghost use Rattle.script_text.specs.Rows.{rows_of};
 
 use crate::region_commands::{
@@ -13,29 +14,31 @@ use crate::vmo_commands::{
     vmo_close, vmo_commit, vmo_create, vmo_create_child, vmo_decommit, vmo_fill, vmo_info, vmo_pin,
     vmo_read, vmo_set_size, vmo_size, vmo_unpin, vmo_write, vmo_zero,
 };
-use vm_model::Command;
+use vm_base::DATA_BYTES;
+use vm_model::Call;
 
-/// The command of this word and these arguments, or `None` where there is none.
-pub fn command(word: &[u8], arguments: &[&[u8]]) -> Option<Command>
-    ensures { result ≡ command word.now (map (λ a. a.now) arguments.now) }
+/// The command of this word and these arguments, or `None` where there is none. Byte data is lent from `room`.
+pub fn call<'a>(word: &[u8], arguments: &[&[u8]], room: &'a mut [u8]) -> Option<Call<'a>>
+    requires { DATA_BYTES ≤ length room.old }
+    ensures { option_map command_of result ≡ command word.now (map (λ a. a.now) arguments.now) }
 {
     match word.len() {
-        4 => command_of_four(word, arguments),
-        7 => command_of_seven(word, arguments),
-        8 => command_of_eight(word, arguments),
-        9 => command_of_nine(word, arguments),
-        10 => command_of_ten(word, arguments),
-        11 => command_of_eleven(word, arguments),
-        12 => command_of_twelve(word, arguments),
-        13 => command_of_thirteen(word, arguments),
-        16 => command_of_sixteen(word, arguments),
+        4 => call_of_four(word, arguments),
+        7 => call_of_seven(word, arguments),
+        8 => call_of_eight(word, arguments),
+        9 => call_of_nine(word, arguments, room),
+        10 => call_of_ten(word, arguments),
+        11 => call_of_eleven(word, arguments),
+        12 => call_of_twelve(word, arguments),
+        13 => call_of_thirteen(word, arguments),
+        16 => call_of_sixteen(word, arguments),
         _ => None,
     }
 }
 
 /// The command of a word of four bytes.
-fn command_of_four(word: &[u8], arguments: &[&[u8]]) -> Option<Command>
-    ensures { result ≡ by_word (rows_of 4) word.now (map (λ a. a.now) arguments.now) }
+fn call_of_four(word: &[u8], arguments: &[&[u8]]) -> Option<Call<'static>>
+    ensures { option_map command_of result ≡ by_word (rows_of 4) word.now (map (λ a. a.now) arguments.now) }
 {
     if word == b"maps".as_slice() {
         maps(arguments)
@@ -47,8 +50,8 @@ fn command_of_four(word: &[u8], arguments: &[&[u8]]) -> Option<Command>
 }
 
 /// The command of a word of seven bytes.
-fn command_of_seven(word: &[u8], arguments: &[&[u8]]) -> Option<Command>
-    ensures { result ≡ by_word (rows_of 7) word.now (map (λ a. a.now) arguments.now) }
+fn call_of_seven(word: &[u8], arguments: &[&[u8]]) -> Option<Call<'static>>
+    ensures { option_map command_of result ≡ by_word (rows_of 7) word.now (map (λ a. a.now) arguments.now) }
 {
     if word == b"vmo_pin".as_slice() {
         vmo_pin(arguments)
@@ -58,8 +61,8 @@ fn command_of_seven(word: &[u8], arguments: &[&[u8]]) -> Option<Command>
 }
 
 /// The command of a word of eight bytes.
-fn command_of_eight(word: &[u8], arguments: &[&[u8]]) -> Option<Command>
-    ensures { result ≡ by_word (rows_of 8) word.now (map (λ a. a.now) arguments.now) }
+fn call_of_eight(word: &[u8], arguments: &[&[u8]]) -> Option<Call<'static>>
+    ensures { option_map command_of result ≡ by_word (rows_of 8) word.now (map (λ a. a.now) arguments.now) }
 {
     if word == b"vmo_size".as_slice() {
         vmo_size(arguments)
@@ -81,25 +84,26 @@ fn command_of_eight(word: &[u8], arguments: &[&[u8]]) -> Option<Command>
 }
 
 /// The command of a word of nine bytes.
-fn command_of_nine(word: &[u8], arguments: &[&[u8]]) -> Option<Command>
-    ensures { result ≡ by_word (rows_of 9) word.now (map (λ a. a.now) arguments.now) }
+fn call_of_nine<'a>(word: &[u8], arguments: &[&[u8]], room: &'a mut [u8]) -> Option<Call<'a>>
+    requires { DATA_BYTES ≤ length room.old }
+    ensures { option_map command_of result ≡ by_word (rows_of 9) word.now (map (λ a. a.now) arguments.now) }
 {
     if word == b"vmo_close".as_slice() {
         vmo_close(arguments)
     } else if word == b"vmo_write".as_slice() {
-        vmo_write(arguments)
+        vmo_write(arguments, room)
     } else if word == b"vmo_unpin".as_slice() {
         vmo_unpin(arguments)
     } else if word == b"mem_write".as_slice() {
-        mem_write(arguments)
+        mem_write(arguments, room)
     } else {
         None
     }
 }
 
 /// The command of a word of ten bytes.
-fn command_of_ten(word: &[u8], arguments: &[&[u8]]) -> Option<Command>
-    ensures { result ≡ by_word (rows_of 10) word.now (map (λ a. a.now) arguments.now) }
+fn call_of_ten(word: &[u8], arguments: &[&[u8]]) -> Option<Call<'static>>
+    ensures { option_map command_of result ≡ by_word (rows_of 10) word.now (map (λ a. a.now) arguments.now) }
 {
     if word == b"vmo_create".as_slice() {
         vmo_create(arguments)
@@ -113,8 +117,8 @@ fn command_of_ten(word: &[u8], arguments: &[&[u8]]) -> Option<Command>
 }
 
 /// The command of a word of eleven bytes.
-fn command_of_eleven(word: &[u8], arguments: &[&[u8]]) -> Option<Command>
-    ensures { result ≡ by_word (rows_of 11) word.now (map (λ a. a.now) arguments.now) }
+fn call_of_eleven(word: &[u8], arguments: &[&[u8]]) -> Option<Call<'static>>
+    ensures { option_map command_of result ≡ by_word (rows_of 11) word.now (map (λ a. a.now) arguments.now) }
 {
     if word == b"root_create".as_slice() {
         root_create(arguments)
@@ -124,8 +128,8 @@ fn command_of_eleven(word: &[u8], arguments: &[&[u8]]) -> Option<Command>
 }
 
 /// The command of a word of twelve bytes.
-fn command_of_twelve(word: &[u8], arguments: &[&[u8]]) -> Option<Command>
-    ensures { result ≡ by_word (rows_of 12) word.now (map (λ a. a.now) arguments.now) }
+fn call_of_twelve(word: &[u8], arguments: &[&[u8]]) -> Option<Call<'static>>
+    ensures { option_map command_of result ≡ by_word (rows_of 12) word.now (map (λ a. a.now) arguments.now) }
 {
     if word == b"vmo_set_size".as_slice() {
         vmo_set_size(arguments)
@@ -141,8 +145,8 @@ fn command_of_twelve(word: &[u8], arguments: &[&[u8]]) -> Option<Command>
 }
 
 /// The command of a word of thirteen bytes.
-fn command_of_thirteen(word: &[u8], arguments: &[&[u8]]) -> Option<Command>
-    ensures { result ≡ by_word (rows_of 13) word.now (map (λ a. a.now) arguments.now) }
+fn call_of_thirteen(word: &[u8], arguments: &[&[u8]]) -> Option<Call<'static>>
+    ensures { option_map command_of result ≡ by_word (rows_of 13) word.now (map (λ a. a.now) arguments.now) }
 {
     if word == b"vmar_allocate".as_slice() {
         vmar_allocate(arguments)
@@ -152,8 +156,8 @@ fn command_of_thirteen(word: &[u8], arguments: &[&[u8]]) -> Option<Command>
 }
 
 /// The command of a word of sixteen bytes.
-fn command_of_sixteen(word: &[u8], arguments: &[&[u8]]) -> Option<Command>
-    ensures { result ≡ by_word (rows_of 16) word.now (map (λ a. a.now) arguments.now) }
+fn call_of_sixteen(word: &[u8], arguments: &[&[u8]]) -> Option<Call<'static>>
+    ensures { option_map command_of result ≡ by_word (rows_of 16) word.now (map (λ a. a.now) arguments.now) }
 {
     if word == b"vmo_create_child".as_slice() {
         vmo_create_child(arguments)

@@ -1,11 +1,11 @@
 //! How the fields of a command are spelled: numbers, names, byte data and permissions.
 
-ghost use Rattle.std.specs.Prelude.{◌≡◌, ◌^◌};
+ghost use Rattle.std.specs.Prelude.{◌≡◌, ◌≤◌, ◌^◌, length};
 ghost use Rattle.vm_model.specs.Language.Reading.{below, digits, number, byte, name_behind, vmo, region, pin, byte_data, perm, child_kind};
 ghost use Rattle.script_text.specs.Radixes.{base_of, value_in};
 
 use vm_base::{DATA_BYTES, Perm, PinName, RegionName, VmoName};
-use vm_model::{Bytes4k, ChildKind};
+use vm_model::{Bytes4k, ChildKind, LentBytes};
 
 /// The most digits of byte data, two for each byte.
 const MOST_DIGITS: usize = 2 * DATA_BYTES;
@@ -124,22 +124,29 @@ pub fn pin(word: &[u8]) -> Option<PinName>
 
 /// Byte data: `-` for no bytes, or two hexadecimal digits of either case for each of 1 to `DATA_BYTES`
 /// bytes. `None` where it is spelled otherwise.
-#[tactic(auto, unfolding(vm_model::specs::Language::Reading::byte_data))]
 pub fn byte_data(word: &[u8]) -> Option<Bytes4k>
     ensures { result ≡ byte_data word.now }
 {
+    let mut room = [0; DATA_BYTES];
+    Some(byte_data_into(word, &mut room)?.to_bytes())
+}
+
+/// Byte data as `byte_data` reads it, decoded to the front of `room`, which has at least `DATA_BYTES` bytes, and
+/// lent from there.
+#[tactic(auto, unfolding(vm_model::specs::Language::Reading::byte_data))]
+pub fn byte_data_into<'a>(word: &[u8], room: &'a mut [u8]) -> Option<LentBytes<'a>>
+    requires { DATA_BYTES ≤ length room.old }
+    ensures { result ≡ byte_data word.now }
+{
     if word == b"-".as_slice() {
-        return Some(Bytes4k::new());
+        return Some(LentBytes::new(&[]));
     }
     if word.is_empty() || word.len() > MOST_DIGITS {
         return None;
     }
-    let mut room = [0; DATA_BYTES];
     let (decoded, _) = room.split_at_mut(word.len() / 2);
     hex::decode_to_slice(word, decoded).ok()?;
-    let mut bytes = Bytes4k::new();
-    bytes.extend_from_slice(decoded);
-    Some(bytes)
+    Some(LentBytes::new(decoded))
 }
 
 /// What an access may do: the letters of reading, writing and executing that are allowed, in this

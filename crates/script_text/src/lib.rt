@@ -26,8 +26,8 @@ mod vmo_commands;
 mod words;
 mod writing;
 
-pub use fields::{byte_data, number, perm, pin, region, vmo};
-pub use reading::{Line, SyntaxFault, read_line};
+pub use fields::{byte_data, byte_data_into, number, perm, pin, region, vmo};
+pub use reading::{Line, SyntaxFault, read_call, read_line};
 pub use words::word_at;
 pub use writing::write_command;
 

@@ -1,14 +1,15 @@
 //! The commands of address regions and of the whole machine, from their arguments.
 
-ghost use Rattle.std.specs.Prelude.{◌≡◌, map};
+ghost use Rattle.std.specs.Prelude.{◌≡◌, ◌≤◌, length, map, option_map};
 ghost use Rattle.vm_model.specs.Language.Reading.{are_flags, of_region, of_region_range, vmar_allocate, vmar_map, vmar_protect, mem_write, stat};
 ghost use Rattle.vm_model.specs.declared.command.Command.TheVariants.{RootCreate, VmarUnmap, VmarDestroy, Maps, MemRead};
+ghost use Rattle.vm_model.specs.Machine.Lent.{command_of};
 ghost use Rattle.script_text.specs.Shapes.{map_flag_words, map_flags, one_region, region_caps, region_flag_words, region_flags, region_range};
 
-use crate::fields::{byte_data, number, perm, region, vmo};
+use crate::fields::{byte_data_into, number, perm, region, vmo};
 use crate::flags::{are_flags, bit, stands};
-use vm_base::{MapFlags, Perm, RegionName};
-use vm_model::Command;
+use vm_base::{DATA_BYTES, MapFlags, Perm, RegionName};
+use vm_model::Call;
 
 /// The one argument of a command of a region.
 fn one_region(arguments: &[&[u8]]) -> Option<RegionName>
@@ -32,16 +33,16 @@ fn region_range(arguments: &[&[u8]]) -> Option<(RegionName, u64, u64)>
 
 /// `root_create REGION`
 #[tactic(auto, using(crate::proofs::ShapeLaws::of_region_by_one))]
-pub fn root_create(arguments: &[&[u8]]) -> Option<Command>
-    ensures { result ≡ of_region RootCreate (map (λ a. a.now) arguments.now) }
+pub fn root_create(arguments: &[&[u8]]) -> Option<Call<'static>>
+    ensures { option_map command_of result ≡ of_region RootCreate (map (λ a. a.now) arguments.now) }
 {
     let region = one_region(arguments)?;
-    Some(Command::RootCreate { region })
+    Some(Call::RootCreate { region })
 }
 
 /// `vmar_allocate REGION PARENT OFFSET LEN [specific] [upper_limit] [can_read] [can_write] [can_execute]`
-pub fn vmar_allocate(arguments: &[&[u8]]) -> Option<Command>
-    ensures { result ≡ vmar_allocate (map (λ a. a.now) arguments.now) }
+pub fn vmar_allocate(arguments: &[&[u8]]) -> Option<Call<'static>>
+    ensures { option_map command_of result ≡ vmar_allocate (map (λ a. a.now) arguments.now) }
 {
     let [name, parent, offset, len, flags @ ..] = arguments else {
         return None;
@@ -53,7 +54,7 @@ pub fn vmar_allocate(arguments: &[&[u8]]) -> Option<Command>
     if !are_region_flags(flags) {
         return None;
     }
-    Some(Command::VmarAllocate {
+    Some(Call::VmarAllocate {
         region: name,
         parent,
         offset,
@@ -96,8 +97,8 @@ fn region_caps(flags: &[&[u8]]) -> Perm
 }
 
 /// `vmar_map REGION OFFSET VMO VMO_OFFSET LEN PERM [specific] [specific_overwrite] [upper_limit] [allow_faults]`
-pub fn vmar_map(arguments: &[&[u8]]) -> Option<Command>
-    ensures { result ≡ vmar_map (map (λ a. a.now) arguments.now) }
+pub fn vmar_map(arguments: &[&[u8]]) -> Option<Call<'static>>
+    ensures { option_map command_of result ≡ vmar_map (map (λ a. a.now) arguments.now) }
 {
     let [name, offset, source, vmo_offset, len, allowed, flags @ ..] = arguments else {
         return None;
@@ -111,7 +112,7 @@ pub fn vmar_map(arguments: &[&[u8]]) -> Option<Command>
     if !are_map_flags(flags) {
         return None;
     }
-    Some(Command::VmarMap {
+    Some(Call::VmarMap {
         region: name,
         offset,
         name: source,
@@ -149,21 +150,21 @@ fn map_flags(flags: &[&[u8]]) -> MapFlags
 
 /// `vmar_unmap REGION ADDR LEN`
 #[tactic(auto, using(crate::proofs::ShapeLaws::of_region_range_by_range))]
-pub fn vmar_unmap(arguments: &[&[u8]]) -> Option<Command>
-    ensures { result ≡ of_region_range VmarUnmap (map (λ a. a.now) arguments.now) }
+pub fn vmar_unmap(arguments: &[&[u8]]) -> Option<Call<'static>>
+    ensures { option_map command_of result ≡ of_region_range VmarUnmap (map (λ a. a.now) arguments.now) }
 {
     let (region, addr, len) = region_range(arguments)?;
-    Some(Command::VmarUnmap { region, addr, len })
+    Some(Call::VmarUnmap { region, addr, len })
 }
 
 /// `vmar_protect REGION ADDR LEN PERM`
-pub fn vmar_protect(arguments: &[&[u8]]) -> Option<Command>
-    ensures { result ≡ vmar_protect (map (λ a. a.now) arguments.now) }
+pub fn vmar_protect(arguments: &[&[u8]]) -> Option<Call<'static>>
+    ensures { option_map command_of result ≡ vmar_protect (map (λ a. a.now) arguments.now) }
 {
     let [name, addr, len, allowed] = arguments else {
         return None;
     };
-    Some(Command::VmarProtect {
+    Some(Call::VmarProtect {
         region: region(name)?,
         addr: number(addr)?,
         len: number(len)?,
@@ -173,51 +174,52 @@ pub fn vmar_protect(arguments: &[&[u8]]) -> Option<Command>
 
 /// `vmar_destroy REGION`
 #[tactic(auto, using(crate::proofs::ShapeLaws::of_region_by_one))]
-pub fn vmar_destroy(arguments: &[&[u8]]) -> Option<Command>
-    ensures { result ≡ of_region VmarDestroy (map (λ a. a.now) arguments.now) }
+pub fn vmar_destroy(arguments: &[&[u8]]) -> Option<Call<'static>>
+    ensures { option_map command_of result ≡ of_region VmarDestroy (map (λ a. a.now) arguments.now) }
 {
     let region = one_region(arguments)?;
-    Some(Command::VmarDestroy { region })
+    Some(Call::VmarDestroy { region })
 }
 
 /// `maps REGION`
 #[tactic(auto, using(crate::proofs::ShapeLaws::of_region_by_one))]
-pub fn maps(arguments: &[&[u8]]) -> Option<Command>
-    ensures { result ≡ of_region Maps (map (λ a. a.now) arguments.now) }
+pub fn maps(arguments: &[&[u8]]) -> Option<Call<'static>>
+    ensures { option_map command_of result ≡ of_region Maps (map (λ a. a.now) arguments.now) }
 {
     let region = one_region(arguments)?;
-    Some(Command::Maps { region })
+    Some(Call::Maps { region })
 }
 
 /// `mem_read REGION ADDR LEN`
 #[tactic(auto, using(crate::proofs::ShapeLaws::of_region_range_by_range))]
-pub fn mem_read(arguments: &[&[u8]]) -> Option<Command>
-    ensures { result ≡ of_region_range MemRead (map (λ a. a.now) arguments.now) }
+pub fn mem_read(arguments: &[&[u8]]) -> Option<Call<'static>>
+    ensures { option_map command_of result ≡ of_region_range MemRead (map (λ a. a.now) arguments.now) }
 {
     let (region, addr, len) = region_range(arguments)?;
-    Some(Command::MemRead { region, addr, len })
+    Some(Call::MemRead { region, addr, len })
 }
 
 /// `mem_write REGION ADDR DATA`
-pub fn mem_write(arguments: &[&[u8]]) -> Option<Command>
-    ensures { result ≡ mem_write (map (λ a. a.now) arguments.now) }
+pub fn mem_write<'a>(arguments: &[&[u8]], room: &'a mut [u8]) -> Option<Call<'a>>
+    requires { DATA_BYTES ≤ length room.old }
+    ensures { option_map command_of result ≡ mem_write (map (λ a. a.now) arguments.now) }
 {
     let [name, addr, data] = arguments else {
         return None;
     };
-    Some(Command::MemWrite {
+    Some(Call::MemWrite {
         region: region(name)?,
         addr: number(addr)?,
-        bytes: byte_data(data)?,
+        bytes: byte_data_into(data, room)?,
     })
 }
 
 /// `stat`
-pub fn stat(arguments: &[&[u8]]) -> Option<Command>
-    ensures { result ≡ stat (map (λ a. a.now) arguments.now) }
+pub fn stat(arguments: &[&[u8]]) -> Option<Call<'static>>
+    ensures { option_map command_of result ≡ stat (map (λ a. a.now) arguments.now) }
 {
     if !arguments.is_empty() {
         return None;
     }
-    Some(Command::Stat)
+    Some(Call::Stat)
 }

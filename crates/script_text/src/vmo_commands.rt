@@ -1,14 +1,15 @@
 //! The commands of VMOs, from their arguments.
 
-ghost use Rattle.std.specs.Prelude.{◌≡◌, map};
+ghost use Rattle.std.specs.Prelude.{◌≡◌, ◌≤◌, length, map, option_map};
 ghost use Rattle.vm_model.specs.Language.Reading.{of_vmo, of_vmo_range, vmo_create, vmo_create_child, vmo_set_size, vmo_write, vmo_fill, vmo_pin, vmo_unpin};
 ghost use Rattle.vm_model.specs.declared.command.Command.TheVariants.{VmoClose, VmoSize, VmoRead, VmoCommit, VmoDecommit, VmoZero, VmoInfo};
+ghost use Rattle.vm_model.specs.Machine.Lent.{command_of};
 ghost use Rattle.script_text.specs.Shapes.{one_vmo, vmo_range};
 
-use crate::fields::{byte, byte_data, child_kind, number, pin, vmo};
+use crate::fields::{byte, byte_data_into, child_kind, number, pin, vmo};
 use crate::flags::{are_flags, stands};
-use vm_base::VmoName;
-use vm_model::Command;
+use vm_base::{DATA_BYTES, VmoName};
+use vm_model::Call;
 
 /// The one argument of a command of a VMO.
 fn one_vmo(arguments: &[&[u8]]) -> Option<VmoName>
@@ -31,8 +32,8 @@ fn vmo_range(arguments: &[&[u8]]) -> Option<(VmoName, u64, u64)>
 }
 
 /// `vmo_create VMO SIZE [resizable]`
-pub fn vmo_create(arguments: &[&[u8]]) -> Option<Command>
-    ensures { result ≡ vmo_create (map (λ a. a.now) arguments.now) }
+pub fn vmo_create(arguments: &[&[u8]]) -> Option<Call<'static>>
+    ensures { option_map command_of result ≡ vmo_create (map (λ a. a.now) arguments.now) }
 {
     let [name, size, flags @ ..] = arguments else {
         return None;
@@ -42,7 +43,7 @@ pub fn vmo_create(arguments: &[&[u8]]) -> Option<Command>
     if !are_flags(&[b"resizable".as_slice()], flags) {
         return None;
     }
-    Some(Command::VmoCreate {
+    Some(Call::VmoCreate {
         name,
         size,
         resizable: stands(b"resizable", flags),
@@ -50,8 +51,8 @@ pub fn vmo_create(arguments: &[&[u8]]) -> Option<Command>
 }
 
 /// `vmo_create_child VMO PARENT KIND OFFSET SIZE [resizable] [no_write]`
-pub fn vmo_create_child(arguments: &[&[u8]]) -> Option<Command>
-    ensures { result ≡ vmo_create_child (map (λ a. a.now) arguments.now) }
+pub fn vmo_create_child(arguments: &[&[u8]]) -> Option<Call<'static>>
+    ensures { option_map command_of result ≡ vmo_create_child (map (λ a. a.now) arguments.now) }
 {
     let [name, parent, kind, offset, size, flags @ ..] = arguments else {
         return None;
@@ -64,7 +65,7 @@ pub fn vmo_create_child(arguments: &[&[u8]]) -> Option<Command>
     if !are_flags(&[b"resizable".as_slice(), b"no_write".as_slice()], flags) {
         return None;
     }
-    Some(Command::VmoChild {
+    Some(Call::VmoChild {
         name,
         parent,
         kind,
@@ -77,30 +78,30 @@ pub fn vmo_create_child(arguments: &[&[u8]]) -> Option<Command>
 
 /// `vmo_close VMO`
 #[tactic(auto, using(crate::proofs::ShapeLaws::of_vmo_by_one))]
-pub fn vmo_close(arguments: &[&[u8]]) -> Option<Command>
-    ensures { result ≡ of_vmo VmoClose (map (λ a. a.now) arguments.now) }
+pub fn vmo_close(arguments: &[&[u8]]) -> Option<Call<'static>>
+    ensures { option_map command_of result ≡ of_vmo VmoClose (map (λ a. a.now) arguments.now) }
 {
     let name = one_vmo(arguments)?;
-    Some(Command::VmoClose { name })
+    Some(Call::VmoClose { name })
 }
 
 /// `vmo_size VMO`
 #[tactic(auto, using(crate::proofs::ShapeLaws::of_vmo_by_one))]
-pub fn vmo_size(arguments: &[&[u8]]) -> Option<Command>
-    ensures { result ≡ of_vmo VmoSize (map (λ a. a.now) arguments.now) }
+pub fn vmo_size(arguments: &[&[u8]]) -> Option<Call<'static>>
+    ensures { option_map command_of result ≡ of_vmo VmoSize (map (λ a. a.now) arguments.now) }
 {
     let name = one_vmo(arguments)?;
-    Some(Command::VmoSize { name })
+    Some(Call::VmoSize { name })
 }
 
 /// `vmo_set_size VMO SIZE`
-pub fn vmo_set_size(arguments: &[&[u8]]) -> Option<Command>
-    ensures { result ≡ vmo_set_size (map (λ a. a.now) arguments.now) }
+pub fn vmo_set_size(arguments: &[&[u8]]) -> Option<Call<'static>>
+    ensures { option_map command_of result ≡ vmo_set_size (map (λ a. a.now) arguments.now) }
 {
     let [name, size] = arguments else {
         return None;
     };
-    Some(Command::VmoSetSize {
+    Some(Call::VmoSetSize {
         name: vmo(name)?,
         size: number(size)?,
     })
@@ -108,35 +109,36 @@ pub fn vmo_set_size(arguments: &[&[u8]]) -> Option<Command>
 
 /// `vmo_read VMO OFFSET LEN`
 #[tactic(auto, using(crate::proofs::ShapeLaws::of_vmo_range_by_range))]
-pub fn vmo_read(arguments: &[&[u8]]) -> Option<Command>
-    ensures { result ≡ of_vmo_range VmoRead (map (λ a. a.now) arguments.now) }
+pub fn vmo_read(arguments: &[&[u8]]) -> Option<Call<'static>>
+    ensures { option_map command_of result ≡ of_vmo_range VmoRead (map (λ a. a.now) arguments.now) }
 {
     let (name, offset, len) = vmo_range(arguments)?;
-    Some(Command::VmoRead { name, offset, len })
+    Some(Call::VmoRead { name, offset, len })
 }
 
 /// `vmo_write VMO OFFSET DATA`
-pub fn vmo_write(arguments: &[&[u8]]) -> Option<Command>
-    ensures { result ≡ vmo_write (map (λ a. a.now) arguments.now) }
+pub fn vmo_write<'a>(arguments: &[&[u8]], room: &'a mut [u8]) -> Option<Call<'a>>
+    requires { DATA_BYTES ≤ length room.old }
+    ensures { option_map command_of result ≡ vmo_write (map (λ a. a.now) arguments.now) }
 {
     let [name, offset, data] = arguments else {
         return None;
     };
-    Some(Command::VmoWrite {
+    Some(Call::VmoWrite {
         name: vmo(name)?,
         offset: number(offset)?,
-        bytes: byte_data(data)?,
+        bytes: byte_data_into(data, room)?,
     })
 }
 
 /// `vmo_fill VMO OFFSET LEN BYTE`
-pub fn vmo_fill(arguments: &[&[u8]]) -> Option<Command>
-    ensures { result ≡ vmo_fill (map (λ a. a.now) arguments.now) }
+pub fn vmo_fill(arguments: &[&[u8]]) -> Option<Call<'static>>
+    ensures { option_map command_of result ≡ vmo_fill (map (λ a. a.now) arguments.now) }
 {
     let [name, offset, len, value] = arguments else {
         return None;
     };
-    Some(Command::VmoFill {
+    Some(Call::VmoFill {
         name: vmo(name)?,
         offset: number(offset)?,
         len: number(len)?,
@@ -146,39 +148,39 @@ pub fn vmo_fill(arguments: &[&[u8]]) -> Option<Command>
 
 /// `vmo_commit VMO OFFSET LEN`
 #[tactic(auto, using(crate::proofs::ShapeLaws::of_vmo_range_by_range))]
-pub fn vmo_commit(arguments: &[&[u8]]) -> Option<Command>
-    ensures { result ≡ of_vmo_range VmoCommit (map (λ a. a.now) arguments.now) }
+pub fn vmo_commit(arguments: &[&[u8]]) -> Option<Call<'static>>
+    ensures { option_map command_of result ≡ of_vmo_range VmoCommit (map (λ a. a.now) arguments.now) }
 {
     let (name, offset, len) = vmo_range(arguments)?;
-    Some(Command::VmoCommit { name, offset, len })
+    Some(Call::VmoCommit { name, offset, len })
 }
 
 /// `vmo_decommit VMO OFFSET LEN`
 #[tactic(auto, using(crate::proofs::ShapeLaws::of_vmo_range_by_range))]
-pub fn vmo_decommit(arguments: &[&[u8]]) -> Option<Command>
-    ensures { result ≡ of_vmo_range VmoDecommit (map (λ a. a.now) arguments.now) }
+pub fn vmo_decommit(arguments: &[&[u8]]) -> Option<Call<'static>>
+    ensures { option_map command_of result ≡ of_vmo_range VmoDecommit (map (λ a. a.now) arguments.now) }
 {
     let (name, offset, len) = vmo_range(arguments)?;
-    Some(Command::VmoDecommit { name, offset, len })
+    Some(Call::VmoDecommit { name, offset, len })
 }
 
 /// `vmo_zero VMO OFFSET LEN`
 #[tactic(auto, using(crate::proofs::ShapeLaws::of_vmo_range_by_range))]
-pub fn vmo_zero(arguments: &[&[u8]]) -> Option<Command>
-    ensures { result ≡ of_vmo_range VmoZero (map (λ a. a.now) arguments.now) }
+pub fn vmo_zero(arguments: &[&[u8]]) -> Option<Call<'static>>
+    ensures { option_map command_of result ≡ of_vmo_range VmoZero (map (λ a. a.now) arguments.now) }
 {
     let (name, offset, len) = vmo_range(arguments)?;
-    Some(Command::VmoZero { name, offset, len })
+    Some(Call::VmoZero { name, offset, len })
 }
 
 /// `vmo_pin PIN VMO OFFSET LEN`
-pub fn vmo_pin(arguments: &[&[u8]]) -> Option<Command>
-    ensures { result ≡ vmo_pin (map (λ a. a.now) arguments.now) }
+pub fn vmo_pin(arguments: &[&[u8]]) -> Option<Call<'static>>
+    ensures { option_map command_of result ≡ vmo_pin (map (λ a. a.now) arguments.now) }
 {
     let [token, name, offset, len] = arguments else {
         return None;
     };
-    Some(Command::VmoPin {
+    Some(Call::VmoPin {
         pin: pin(token)?,
         name: vmo(name)?,
         offset: number(offset)?,
@@ -187,20 +189,20 @@ pub fn vmo_pin(arguments: &[&[u8]]) -> Option<Command>
 }
 
 /// `vmo_unpin PIN`
-pub fn vmo_unpin(arguments: &[&[u8]]) -> Option<Command>
-    ensures { result ≡ vmo_unpin (map (λ a. a.now) arguments.now) }
+pub fn vmo_unpin(arguments: &[&[u8]]) -> Option<Call<'static>>
+    ensures { option_map command_of result ≡ vmo_unpin (map (λ a. a.now) arguments.now) }
 {
     let [token] = arguments else {
         return None;
     };
-    Some(Command::VmoUnpin { pin: pin(token)? })
+    Some(Call::VmoUnpin { pin: pin(token)? })
 }
 
 /// `vmo_info VMO`
 #[tactic(auto, using(crate::proofs::ShapeLaws::of_vmo_by_one))]
-pub fn vmo_info(arguments: &[&[u8]]) -> Option<Command>
-    ensures { result ≡ of_vmo VmoInfo (map (λ a. a.now) arguments.now) }
+pub fn vmo_info(arguments: &[&[u8]]) -> Option<Call<'static>>
+    ensures { option_map command_of result ≡ of_vmo VmoInfo (map (λ a. a.now) arguments.now) }
 {
     let name = one_vmo(arguments)?;
-    Some(Command::VmoInfo { name })
+    Some(Call::VmoInfo { name })
 }
