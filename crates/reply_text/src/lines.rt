@@ -1,22 +1,29 @@
 //! Which lines a reply has.
 
-ghost use Rattle.std.specs.Prelude.{◌≡◌, ◌+◌, ◌*◌, ◌<◌, ◌≤◌, [], ◌∷◌, ◌++◌, length, take, drop, map, codes, slice_get};
+ghost use Rattle.std.specs.Prelude.{◌≡◌, ◌+◌, ◌*◌, ◌<◌, ◌≤◌, [], ◌∷◌, ◌++◌, length, take, drop, map, codes, slice_get, MatchResult};
 ghost use Rattle.vm_model.specs.Language.Text.{reply_lines, run_line, refusal_name};
+ghost use Rattle.vm_model.specs.Machine.Lent.{reply_for};
+ghost use Rattle.vm_model.specs.declared.reply.Reply.{Reply};
 
 use crate::parts::{put_access, put_address, put_field, put_info, put_numbers, put_run, put_stat};
 use vm_base::{Refusal, TEXT_BYTES, TEXT_ROOM};
-use vm_model::{Reply, Run};
+use vm_model::{Answer, Reply, Run};
 use word_text::{put, put_data, put_number};
 
 /// How many lines a reply has.
+#[tactic(auto, unfolding(vm_model::specs::Language::Text::reply_lines))]
 pub fn line_count(reply: &Reply) -> u64
     ensures { result ≡ length (reply_lines reply.now) }
 {
-    runs_of(reply).len() as u64 + 1
+    match lend(reply) {
+        Ok(answer) => answer_line_count(&answer),
+        Err(runs) => runs.len() as u64 + 1,
+    }
 }
 
 /// Writes line `index` of a reply, counted from 0, with its line feed to the front of `out`, and
 /// answers its length in bytes. The rest of `out` is left open.
+#[tactic(auto, unfolding(vm_model::specs::Language::Text::reply_lines))]
 pub fn write_line(reply: &Reply, index: u64, out: &mut [u8]) -> usize
     requires index { index < length (reply_lines reply.now) }
     requires room { TEXT_ROOM ≤ length out.old }
@@ -24,57 +31,103 @@ pub fn write_line(reply: &Reply, index: u64, out: &mut [u8]) -> usize
     ensures len { result ≤ length out.new }
     ensures short { result < TEXT_BYTES }
 {
+    match lend(reply) {
+        Ok(answer) => write_answer_line(&answer, index, out),
+        Err(runs) if index > 0 => put_run(&runs[index as usize - 1], out, 0),
+        // The first line of runs is that of their number.
+        Err(runs) => write_answer_line(&Answer::Number(runs.len() as u64), 0, out),
+    }
+}
+
+/// A reply as an answer, or the runs that it owns, which no answer borrows.
+fn lend(reply: &Reply) -> Result<Answer<'_>, &[Run]>
+    ensures { MatchResult result (λ answer. reply_for answer ≡ reply.now)
+        (λ runs. reply.now ≡ Reply.Runs runs.now) }
+{
+    Ok(match reply {
+        Reply::Done => Answer::Done,
+        Reply::Number(number) => Answer::Number(*number),
+        Reply::Bytes(bytes) => Answer::Bytes(bytes.lend()),
+        Reply::Pins(numbers) => Answer::Pins(numbers.lend()),
+        Reply::Address(address) => Answer::Address(*address),
+        Reply::Access { faults, bytes } => Answer::Access {
+            faults: *faults,
+            bytes: bytes.lend(),
+        },
+        Reply::Faults(faults) => Answer::Faults(*faults),
+        Reply::Info(info) => Answer::Info(*info),
+        Reply::Runs(runs) => return Err(runs.as_slice()),
+        Reply::Stat(stat) => Answer::Stat(*stat),
+        Reply::Refused(refusal) => Answer::Refused(*refusal),
+        Reply::Unbuilt => Answer::Unbuilt,
+    })
+}
+
+/// How many lines an answer has.
+pub fn answer_line_count(answer: &Answer<'_>) -> u64
+    ensures { result ≡ length (reply_lines (reply_for answer.now)) }
+{
+    runs_of(answer).len() as u64 + 1
+}
+
+/// Writes line `index` of an answer, as `write_line` does that of a reply.
+pub fn write_answer_line(answer: &Answer<'_>, index: u64, out: &mut [u8]) -> usize
+    requires index { index < length (reply_lines (reply_for answer.now)) }
+    requires room { TEXT_ROOM ≤ length out.old }
+    ensures line { slice_get (reply_lines (reply_for answer.now)) index ≡ Some (take result out.new) }
+    ensures len { result ≤ length out.new }
+    ensures short { result < TEXT_BYTES }
+{
     if index == 0 {
-        let end = put_first_line(reply, out);
+        let end = put_first_line(answer, out);
         return put(b"\n", out, end);
     }
-    let runs = runs_of(reply);
-    put_run(&runs[index as usize - 1], out, 0)
+    put_run(&runs_of(answer)[index as usize - 1], out, 0)
 }
 
-/// The runs of a reply, each of which has a line behind the first. Only `Runs` has any.
+/// The runs of an answer, each of which has a line behind the first. Only `Runs` has any.
 #[tactic(auto, unfolding(vm_model::specs::Language::Text::reply_lines))]
-fn runs_of(reply: &Reply) -> &[Run]
-    ensures count { length (reply_lines reply.now) ≡ length result.now + 1 }
-    ensures lines { drop 1 (reply_lines reply.now) ≡ map run_line result.now }
+fn runs_of<'b>(answer: &'b Answer<'_>) -> &'b [Run]
+    ensures count { length (reply_lines (reply_for answer.now)) ≡ length result.now + 1 }
+    ensures lines { drop 1 (reply_lines (reply_for answer.now)) ≡ map run_line result.now }
 {
-    match reply {
-        Reply::Runs(runs) => runs.as_slice(),
-        Reply::Done
-        | Reply::Number(_)
-        | Reply::Bytes(_)
-        | Reply::Pins(_)
-        | Reply::Address(_)
-        | Reply::Access { .. }
-        | Reply::Faults(_)
-        | Reply::Info(_)
-        | Reply::Stat(_)
-        | Reply::Refused(_)
-        | Reply::Unbuilt => &[],
+    match answer {
+        Answer::Runs(runs) => runs.as_slice(),
+        Answer::Done
+        | Answer::Number(_)
+        | Answer::Bytes(_)
+        | Answer::Pins(_)
+        | Answer::Address(_)
+        | Answer::Access { .. }
+        | Answer::Faults(_)
+        | Answer::Info(_)
+        | Answer::Stat(_)
+        | Answer::Refused(_)
+        | Answer::Unbuilt => &[],
     }
 }
 
-/// Writes the first line of a reply, without its line feed, and answers where it ends.
+/// Writes the first line of an answer, without its line feed, and answers where it ends.
 #[tactic(auto, unfolding(vm_model::specs::Language::Text::reply_lines))]
-fn put_first_line(reply: &Reply, out: &mut [u8]) -> usize
+fn put_first_line(answer: &Answer<'_>, out: &mut [u8]) -> usize
     requires { TEXT_ROOM ≤ length out.old }
-    ensures line { slice_get (reply_lines reply.now) 0 ≡ Some (take result out.new ++ codes "\n") }
+    ensures line { slice_get (reply_lines (reply_for answer.now)) 0 ≡ Some (take result out.new ++ codes "\n") }
     ensures short { result + 1 < TEXT_BYTES }
 {
     let ok = put(b"OK", out, 0);
-    match reply {
-        Reply::Done => ok,
-        Reply::Number(number) => put_number(*number, out, ok),
-        Reply::Bytes(bytes) => put_data(bytes.as_slice(), out, ok),
-        Reply::Pins(numbers) => put_numbers(numbers.as_slice(), out, ok),
-        Reply::Address(address) => put_address(*address, out, ok),
-        Reply::Access { faults, bytes } => put_access(*faults, bytes.as_slice(), out, ok),
-        Reply::Faults(faults) => put_field(b"faults", *faults, out, ok),
-        Reply::Info(info) => put_info(info, out, ok),
-        Reply::Runs(runs) => put_number(runs.as_slice().len() as u64, out, ok),
-        Reply::Stat(stat) => put_stat(stat, out, ok),
-        Reply::Refused(refusal) => put(name_of(*refusal), out, 0),
-        Reply::Unbuilt => put(b"UNBUILT", out, 0),
+    match answer {
+        Answer::Done => ok,
+        Answer::Number(number) => put_number(*number, out, ok),
+        Answer::Bytes(bytes) => put_data(bytes.as_slice(), out, ok),
+        Answer::Pins(numbers) => put_numbers(numbers.as_slice(), out, ok),
+        Answer::Address(address) => put_address(*address, out, ok),
+        Answer::Access { faults, bytes } => put_access(*faults, bytes.as_slice(), out, ok),
+        Answer::Faults(faults) => put_field(b"faults", *faults, out, ok),
+        Answer::Info(info) => put_info(info, out, ok),
+        Answer::Runs(runs) => put_number(runs.as_slice().len() as u64, out, ok),
+        Answer::Stat(stat) => put_stat(stat, out, ok),
+        Answer::Refused(refusal) => put(name_of(*refusal), out, 0),
+        Answer::Unbuilt => put(b"UNBUILT", out, 0),
     }
 }
 
