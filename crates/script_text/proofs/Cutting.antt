@@ -1,11 +1,13 @@
 -- Cutting the first word off a line.
 use Rattle.std.proofs.Common.{◌≡◌, ℕ, suc, ◌<◌, ◌≤◌, Bool, true, false, not, List, [], ◌∷◌, length, take, drop, get_or, refl, sym, ◌∙◌, ap, arith, drop-cons, length-drop, position, unwrap_or, one-add}
-use Rattle.std.specs.Prelude.{Some, None}
+use Rattle.std.specs.Prelude.{Option, Some, None}
 use Rattle.std.specs.List.{position_or_len}
 use Rattle.std.proofs.lemmas.Bool.Decides.{nat_tests}
 use Rattle.std.proofs.lemmas.List.Quantifiers.{position-Some}
 use Rattle.std.proofs.lemmas.List.{drop_all}
-use Rattle.std.proofs.lemmas.List.Sums.{prefix_len-le-length}
+use Rattle.std.proofs.lemmas.Bool.{false_from_ne_true}
+use Rattle.std.proofs.lemmas.List.Sums.{position_or_len_is}
+use Rattle.memchr.specs.Find.{IsFirstByte, is_byte3}
 use Rattle.vm_model.specs.Language.Reading.{words, is_blank, begins_blank, before_first}
 
 -- a byte of a word
@@ -82,11 +84,15 @@ words-start xs i e =
     let same : i ≡ position_or_len is_solid xs = grind (arith, nat_tests) in
     (rw same (sym (words-drop_blanks xs)), at.0, solid_blank (get_or xs i 0) at.1)
 
--- where the first blank stands, or the length
-pub position-or_length : (p : ℕ → Bool) (xs : List ℕ) → unwrap_or (position p xs) (length xs) ≡ position_or_len p xs
-position-or_length p xs =
-    let most = prefix_len-le-length (λ x. not (p x)) xs in
-    grind (arith, nat_tests)
+-- the answer of a search for a blank, as a length
+pub len_by_search : (xs : List ℕ) (r : Option ℕ) → IsFirstByte (is_byte3 32 9 13) xs r
+    → unwrap_or r (length xs) ≡ position_or_len is_blank xs
+len_by_search xs None nowhere =
+    sym (position_or_len_is is_blank xs (length xs) 0 (omega arith)
+    (λ k l. false_from_ne_true _ (nowhere k (omega arith) l)) (λ l. absurd (omega arith)))
+len_by_search xs (Some n) found =
+    sym (position_or_len_is is_blank xs n 0 (omega arith)
+    (λ k l. false_from_ne_true _ (found.0.before k (omega arith) l)) (λ _. found.1))
 
 -- a line is cut into its first word and the rest
 pub record IsCut (xs word behind : List ℕ) : Type 0 where
@@ -94,14 +100,13 @@ pub record IsCut (xs word behind : List ℕ) : Type 0 where
   pub shorter : length behind < length xs
 
 pub IsCut-by_positions : (xs : List ℕ) (i : ℕ) (ys : List ℕ) (n : ℕ) → position is_solid xs ≡ Some i → ys ≡ drop i xs
-    → n ≡ unwrap_or (position is_blank ys) (length ys) → IsCut xs (take n ys) (drop n ys)
+    → n ≡ position_or_len is_blank ys → IsCut xs (take n ys) (drop n ys)
 IsCut-by_positions xs i ys n e f g =
     let start = words-start xs i e in
     let b = get_or xs i 0 in
     let bs = drop (suc i) xs in
     let head : ys ≡ b ∷ bs = f ∙ drop-cons xs i 0 start.1 in
-    let len : n ≡ position_or_len is_blank (b ∷ bs) = g ∙ position-or_length is_blank ys
-    ∙ ap (position_or_len is_blank) head in
+    let len : n ≡ position_or_len is_blank (b ∷ bs) = g ∙ ap (position_or_len is_blank) head in
     let first = words-first b bs start.2 in
     let some : 1 ≤ n = rw (len, len-solid b bs start.2) (omega arith) in
     record {

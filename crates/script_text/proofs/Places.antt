@@ -1,5 +1,5 @@
 -- Going from word to word along a line.
-use Rattle.std.proofs.Common.{◌≡◌, ℕ, suc, ◌+◌, ◌-◌, ◌<◌, ◌≤◌, true, false, not, List, [], ◌∷◌, ◌++◌, length, take, drop, get_or, refl, sym, ◌∙◌, ap, arith, drop-cons, length-drop, position, unwrap_or, length-append}
+use Rattle.std.proofs.Common.{◌≡◌, ℕ, suc, ◌+◌, ◌-◌, ◌<◌, ◌≤◌, true, false, not, List, [], ◌∷◌, ◌++◌, length, take, drop, get_or, refl, sym, ◌∙◌, ap, arith, drop-cons, length-drop, position, length-append}
 use Rattle.std.specs.Prelude.{Some, slice_get, slice_range}
 use Rattle.std.specs.List.{position_or_len}
 use Rattle.std.proofs.lemmas.Bool.Decides.{nat_tests}
@@ -9,7 +9,7 @@ use Rattle.std.proofs.lemmas.Option.{slice_get-get_or}
 use Rattle.std.proofs.Math.Seq.{take-add, get_or-append_seam, take-append_seam}
 use Rattle.vm_model.specs.Language.Reading.{words, is_blank, begins_blank, before_first}
 use Rattle.script_text.specs.Places.{IsWordFrom}
-use Rattle.script_text.proofs.Cutting.{is_solid, words-blank, words-alone, words-longer, words-first, words-start, len-solid, len-blank, start-blank, start-solid, position-or_length}
+use Rattle.script_text.proofs.Cutting.{is_solid, words-blank, words-alone, words-longer, words-first, words-start, len-solid, len-blank, start-blank, start-solid}
 
 before_first-append : (a : ℕ) (vs us ws : List (List ℕ)) (w : List ℕ) → vs ≡ w ∷ ws
     → before_first a (vs ++ us) ≡ before_first a vs ++ us
@@ -77,22 +77,21 @@ position-is xs i e = grind (arith, nat_tests)
 -- the word at a place of a line, by where its first byte stands behind the place and how long it is
 pub IsWordFrom-by_positions : (line : List ℕ) (place i n : ℕ) (ys zs : List ℕ) → place ≤ length line
     → ys ≡ drop place line → position is_solid ys ≡ Some i → zs ≡ drop i ys
-    → n ≡ unwrap_or (position is_blank zs) (length zs) → IsWordFrom line place (place + i) (place + i + n)
+    → n ≡ position_or_len is_blank zs → IsWordFrom line place (place + i) (place + i + n)
 IsWordFrom-by_positions line place i n ys zs h front found back len =
     let begun = words-start ys i found in
     let same : i ≡ position_or_len is_solid ys = position-is ys i found in
     let b = get_or ys i 0 in
     let bs = drop (suc i) ys in
     let head : zs ≡ b ∷ bs = back ∙ drop-cons ys i 0 begun.1 in
-    let long : n ≡ position_or_len is_blank zs = len ∙ position-or_length is_blank zs in
     let at_start : drop (place + i) line ≡ zs = sym (drop-drop i place line) ∙ ap (drop i) (sym front) ∙ sym back in
     let at_end : drop (place + i + n) line ≡ drop n zs = sym (drop-drop n (place + i) line) ∙ ap (drop n) at_start in
-    let first : words zs ≡ take n zs ∷ words (drop n zs) = rw (long, head) (words-first b bs begun.2) in
-    let solid : n ≡ suc (position_or_len is_blank bs) = long ∙ ap (position_or_len is_blank) head
+    let first : words zs ≡ take n zs ∷ words (drop n zs) = rw (len, head) (words-first b bs begun.2) in
+    let solid : n ≡ suc (position_or_len is_blank bs) = len ∙ ap (position_or_len is_blank) head
     ∙ len-solid b bs begun.2 in
     let blank : begins_blank (take i (drop place line)) ≡ true = rw (← front, same) (begins_blank-front ys) in
     let none : words (take i (drop place line)) ≡ [] = rw (← front, same) (words-front_blanks ys) in
-    let behind : begins_blank (drop (place + i + n) line) ≡ true = rw (at_end, long) (begins_blank-behind zs) in
+    let behind : begins_blank (drop (place + i + n) line) ≡ true = rw (at_end, len) (begins_blank-behind zs) in
     let width : place + i + n - (place + i) ≡ n = omega arith in
     let most : position_or_len is_blank zs ≤ length zs = prefix_len-le-length (λ x. not (is_blank x)) zs in
     let left : length ys ≡ length line - place = ap length front ∙ length-drop place line in
@@ -100,7 +99,7 @@ IsWordFrom-by_positions line place i n ys zs h front found back len =
     record {
       behind = omega arith;
       some = omega (arith, solid);
-      within = omega (arith, most, long, left, rest, begun.1, h);
+      within = omega (arith, most, len, left, rest, begun.1, h);
       first = rw (width, at_start, at_end) (ap words (sym front) ∙ begun.0 ∙ ap words (sym back) ∙ first);
       front = ap words (take-add place i line) ∙ words-apart (take place line) (take i (drop place line)) blank
           ∙ ap (λ v. words (take place line) ++ v) none ∙ append-nil (words (take place line));

@@ -6,9 +6,13 @@ ghost use Rattle.vm_model.specs.Machine.Lent.{command_of};
 ghost use Rattle.script_text.specs.Lines.{reading_of, reading_of_call};
 
 use crate::command_words::call;
-use crate::words::{arguments, next_word};
+use crate::words::next_word;
+use arrayvec::ArrayVec;
 use vm_base::{DATA_BYTES, LINE_BYTES};
 use vm_model::{Call, Command};
+
+/// The most arguments that a command has.
+const MOST_ARGUMENTS: usize = 10;
 
 /// The line is outside the grammar.
 #[derive(Clone, Copy, Debug, PartialEq, Eq)]
@@ -71,6 +75,14 @@ fn order<'a>(word: &[u8], rest: &[u8], room: &'a mut [u8]) -> Option<Call<'a>>
     requires { DATA_BYTES ≤ length room.old }
     ensures { option_map command_of result ≡ command word.now (words rest.now) }
 {
-    let arguments = arguments(rest)?;
+    let mut arguments: ArrayVec<&[u8], MOST_ARGUMENTS> = ArrayVec::new();
+    let mut rest = rest;
+    while let Some((argument, behind)) = next_word(rest) {
+        if arguments.is_full() {
+            return None;
+        }
+        arguments.push(argument);
+        rest = behind;
+    }
     call(word, arguments.as_slice(), room)
 }

@@ -1,14 +1,12 @@
 //! The words of a line: the longest runs of bytes that are not blank.
 
-ghost use Rattle.std.specs.Prelude.{◌≡◌, ◌<◌, ◌≤◌, ◌↔◌, [], ◌∷◌, length, map, take, drop, not, position, slice_get, slice_range, MatchOption, IfSome, IsNone};
+ghost use Rattle.std.specs.Prelude.{◌≡◌, ◌<◌, ◌≤◌, ◌↔◌, [], ◌∷◌, length, take, drop, not, position};
+ghost use Rattle.std.specs.Prelude.{slice_get, slice_range, MatchOption, IfSome, IsNone};
+ghost use Rattle.std.specs.List.{position_or_len};
 ghost use Rattle.vm_model.specs.Language.Reading.{words, is_blank};
 ghost use Rattle.script_text.specs.Places.{IsWordFrom};
-ghost use Rattle.script_text.specs.declared.words.TheConstants.{MOST_ARGUMENTS};
 
-use arrayvec::ArrayVec;
-
-/// The most arguments that a command has.
-pub const MOST_ARGUMENTS: usize = 10;
+use memchr::memchr3;
 
 /// A space, a tab or a carriage return.
 fn is_blank(byte: u8) -> bool
@@ -24,11 +22,13 @@ fn word_start(line: &[u8]) -> Option<usize>
     line.iter().position(|byte| !is_blank(*byte))
 }
 
-/// Where the first blank of a line stands.
-fn first_blank(line: &[u8]) -> Option<usize>
-    ensures { result ≡ position is_blank line.now }
+/// How many bytes stand before the first blank of a line.
+#[tactic(auto, using(crate::proofs::Cutting::len_by_search))]
+fn word_len(line: &[u8]) -> usize
+    ensures len { result ≡ position_or_len is_blank line.now }
+    ensures at_most { result ≤ length line.now }
 {
-    line.iter().position(|byte| is_blank(*byte))
+    memchr3(b' ', b'\t', b'\r', line).unwrap_or(line.len())
 }
 
 /// The first word of a line and what stands behind it, or `None` where the line has no word.
@@ -37,25 +37,7 @@ pub fn next_word(line: &[u8]) -> Option<(&[u8], &[u8])>
     ensures shorter { IfSome result (λ r. length r.1.now < length line.now) }
 {
     let (_, line) = line.split_at(word_start(line)?);
-    let end = first_blank(line).unwrap_or(line.len());
-    Some(line.split_at(end))
-}
-
-/// The words of the rest of a line, or `None` where there are more than a command has arguments.
-pub fn arguments(line: &[u8]) -> Option<ArrayVec<&[u8], MOST_ARGUMENTS>>
-    ensures { MatchOption result (MOST_ARGUMENTS < length (words line.now))
-        (λ v. map (λ w. w.now) v.items ≡ words line.now) }
-{
-    let mut found = ArrayVec::new();
-    let mut rest = line;
-    while let Some((word, behind)) = next_word(rest) {
-        if found.is_full() {
-            return None;
-        }
-        found.push(word);
-        rest = behind;
-    }
-    Some(found)
+    Some(line.split_at(word_len(line)))
 }
 
 /// The first word at or behind a place of a line: where it begins, and the place behind its last
@@ -67,9 +49,8 @@ fn word_from(line: &[u8], place: usize) -> Option<(usize, usize)>
     let (_, rest) = line.split_at(place);
     let before = word_start(rest)?;
     let (_, rest) = rest.split_at(before);
-    let len = first_blank(rest).unwrap_or(rest.len());
     let start = place + before;
-    Some((start, start + len))
+    Some((start, start + word_len(rest)))
 }
 
 /// Where a word of a line stands, the words counted from 0: the place of its first byte and the place

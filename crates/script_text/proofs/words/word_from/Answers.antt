@@ -1,4 +1,4 @@
-use Rattle.std.proofs.Common.{sym, ◌∙◌, ap, length, unwrap_or}
+use Rattle.std.proofs.Common.{sym, ◌∙◌, ap}
 use Rattle.vm_model.specs.Language.Reading.{words}
 use Rattle.script_text.proofs.Cutting.{words-none}
 use Rattle.script_text.proofs.Places.{IsWordFrom-by_positions}
@@ -12,7 +12,6 @@ returns-in_err-before c =
 
 pub returns : goal.returns
 returns c =
-    IsWordFrom-by_positions c.args.line.now c.args.place c.in_ok-before.before c.unwrap_or-len.result
+    IsWordFrom-by_positions c.args.line.now c.args.place c.in_ok-before.before c.word_len.result
     c.split_at.result.1.now c.split_at-2.result.1.now c.requires c.split_at.ensures.back
-    (sym c.word_start.ensures ∙ c.in_ok-before.was) c.split_at-2.ensures.back
-    (c.unwrap_or-len.ensures ∙ ap (λ o. unwrap_or o (length c.split_at-2.result.1.now)) c.first_blank.ensures)
+    (sym c.word_start.ensures ∙ c.in_ok-before.was) c.split_at-2.ensures.back c.word_len.ensures.len
