@@ -1,7 +1,10 @@
 -- Laws of owning pages in a row and answering their frames.
-use Rattle.std.proofs.Common.{◌≡◌, ◌≢◌, ℕ, zero, suc, ◌+◌, ◌-◌, ◌<◌, ◌≤◌, List, [], ◌∷◌, ◌++◌, length, map, refl, sym, ap, ◌∙◌, arith}
+use Rattle.std.proofs.Common.{◌≡◌, ◌≢◌, ℕ, zero, suc, ◌+◌, ◌-◌, ◌<◌, ◌≤◌, List, [], ◌∷◌, ◌++◌, length, map, take, refl, sym, ap, ◌∙◌, arith}
 use Rattle.std.specs.List.{range_with_len}
-use Rattle.std.proofs.lemmas.List.FromFn.{length-map-range_with_len, map-range_with_len_more}
+use Rattle.std.proofs.Math.ListN.{set}
+use Rattle.std.proofs.lemmas.Grind.{take-set_at}
+use Rattle.std.proofs.lemmas.List.{take_all}
+use Rattle.std.proofs.lemmas.List.FromFn.{map-range_with_len_more}
 use Rattle.vm_model.specs.Contents.Content.{Content}
 use Rattle.vm_model.specs.Machine.Step.{frame_of}
 use Rattle.vm_model.proofs.OwningLaws.{Owned}
@@ -10,19 +13,14 @@ use Rattle.vm_model.proofs.OwningLaws.{Owned}
 abbrev pub frames_in : Content → ℕ → ℕ → ℕ → List ℕ
 frames_in c v first n = map (λ p. frame_of (c.page v p)) (range_with_len first n)
 
--- these are the frames of the pages from first to below p
+-- of these numbers the first are the frames of the pages from first to below p
 pub record AreFrames (c : Content) (v first p : ℕ) (numbers : List ℕ) : Type 0 where
-  pub are : numbers ≡ frames_in c v first (p - first)
+  pub are : take (p - first) numbers ≡ frames_in c v first (p - first)
 
-pub AreFrames-start : (c : Content) (v first : ℕ) (numbers : List ℕ) → numbers ≡ [] → AreFrames c v first first numbers
-AreFrames-start c v first numbers e =
-    let none : first - first ≡ 0 = omega arith in record { are = e ∙ sym (ap (frames_in c v first) none) }
-
--- there are as many as pages
-pub AreFrames-length : (c : Content) (v first p : ℕ) (numbers : List ℕ) → AreFrames c v first p numbers
-    → length numbers ≡ p - first
-AreFrames-length c v first p numbers frames =
-    ap length frames.are ∙ length-map-range_with_len (λ q. frame_of (c.page v q)) first (p - first)
+pub AreFrames-start : (c : Content) (v first : ℕ) (numbers : List ℕ) → AreFrames c v first first numbers
+AreFrames-start c v first numbers =
+    let none : first - first ≡ 0 = omega arith in
+    record { are = ap (λ n. take n numbers) none ∙ sym (ap (frames_in c v first) none) }
 
 -- pages in a row that stay have the same frames
 frames_in-same : (c d : Content) (v first n : ℕ) → ((p : ℕ) → first ≤ p → p < first + n → c.page v p ≡ d.page v p)
@@ -41,24 +39,25 @@ unfolding frame_of
 frame_of-owned old new v p tag owned = ap frame_of owned.held
 
 -- the next page is owned, and the frames of those before stay
-pub AreFrames-step : (now mid : Content) (v first p tag number : ℕ) (numbers more : List ℕ) → first ≤ p
-    → Owned now mid v p tag → AreFrames now v first p numbers → number ≡ tag → more ≡ numbers ++ number ∷ []
-    → AreFrames mid v first (p + 1) more
-AreFrames-step now mid v first p tag number numbers more h owned frames same added =
+pub AreFrames-step : (now mid : Content) (v first p tag number : ℕ) (numbers : List ℕ) → first ≤ p
+    → p - first < length numbers → Owned now mid v p tag → number ≡ tag → AreFrames now v first p numbers
+    → AreFrames mid v first (p + 1) (set numbers (p - first) number)
+AreFrames-step now mid v first p tag number numbers h room owned same frames =
     let n : (p + 1) - first ≡ (p - first) + 1 = omega arith in
     let kept : frames_in now v first (p - first) ≡ frames_in mid v first (p - first) =
     frames_in-same now mid v first (p - first) (λ q low high. let apart : q ≢ p = omega arith
     in sym (owned.other_page q apart)) in
     let last : number ≡ frame_of (mid.page v p) = same ∙ sym (frame_of-owned now mid v p tag owned) in
     record {
-      are = added
+      are = take-set_at numbers (p - first) ((p + 1) - first) number n room
           ∙ ((λ i. (frames.are ∙ kept) i ++ last i ∷ [])
           ∙ (sym (map-range_with_len_more (λ q. frame_of (mid.page v q)) first (p - first) p (omega arith))
           ∙ sym (ap (frames_in mid v first) n)));
     }
 
 -- no page is left
-pub AreFrames-end : (c : Content) (v first count p : ℕ) (numbers : List ℕ) → p ≡ first + count
-    → AreFrames c v first p numbers → numbers ≡ frames_in c v first count
-AreFrames-end c v first count p numbers e frames =
-    let n : p - first ≡ count = omega arith in frames.are ∙ ap (frames_in c v first) n
+pub AreFrames-end : {c : Content} {v first count p : ℕ} {numbers : List ℕ} → length numbers ≡ count
+    → p ≡ first + count → AreFrames c v first p numbers → numbers ≡ frames_in c v first count
+AreFrames-end {c} {v} {first} {count} {p} {numbers} size e frames =
+    let n : p - first ≡ count = omega arith in
+    sym (take_all count numbers (omega (arith, size))) ∙ rw n at frames.are

@@ -1,6 +1,9 @@
 -- The steps of a read.
-use Rattle.std.proofs.Common.{◌≡◌, ℕ, ◌+◌, ◌-◌, ◌*◌, ◌/◌, ◌<◌, ◌≤◌, min, not, List, [], ◌∷◌, ◌++◌, length, take, drop, Some, refl, sym, ap, ◌∙◌, arith}
-use Rattle.std.specs.Prelude.{nat_lt}
+use Rattle.std.proofs.Common.{◌≡◌, ℕ, ◌+◌, ◌-◌, ◌*◌, ◌/◌, ◌<◌, ◌≤◌, min, not, List, [], ◌∷◌, ◌++◌, length, take, drop, length-drop, Some, refl, sym, ap, ◌∙◌, arith}
+use Rattle.std.specs.Prelude.{nat_lt, slice_range}
+use Rattle.std.proofs.lemmas.List.{take_all, length-take}
+use Rattle.std.proofs.lemmas.Slice.{take-put_mid}
+use borrow.Rule.Slice.PartMut.{put_mid}
 use Rattle.vm_base.specs.declared.names.VmoName.{VmoName}
 use Rattle.vm_base.specs.declared.limits.TheConstants.{PAGE, DATA_BYTES}
 use Rattle.vm_base.specs.declared.refusal.Refusal.TheVariants.{BadHandle, InvalidArgs, OutOfRange}
@@ -12,46 +15,53 @@ use Rattle.vm_model.specs.Contents.Writing.{part_at, bytes_in}
 use Rattle.vm_model.specs.Machine.State.{State, is_open, name_pages, size_of}
 use Rattle.vm_model.specs.Machine.Refusals.{refusals, first_of}
 use Rattle.vm_model.specs.Machine.Step.{Step}
-use Rattle.vm_model.proofs.RangeLaws.{length-bytes_in, bytes_in-nil}
+use Rattle.vm_model.proofs.RangeLaws.{bytes_in-nil}
 use Rattle.vmo_ops.specs.Targets.{IsPlaced}
 use Rattle.vmo_ops.proofs.PartLaws.{bytes_in-part}
 use Rattle.vmo_ops.proofs.StepRows.{first_of-skip, first_of-hit, Step-refused, Step-done, open_at, past_at, within_at, spot, test_not_less}
 
 -- ---- a read, page by page
 
--- nothing is read before the first page
-pub read_start : (c : Content) (v offset len first : ℕ) → first ≡ offset / PAGE
-    → bytes_in c v offset (min (PAGE * first - offset) len) ≡ []
-read_start c v offset len first e =
-    let none : min (PAGE * first - offset) len ≡ 0 =
-    omega (arith, e) in ap (bytes_in c v offset) none ∙ bytes_in-nil c v offset
+-- how many bytes of a range lie before page p
+abbrev before : ℕ → ℕ → ℕ → ℕ
+before offset len p = min (PAGE * p - offset) len
 
--- all is read behind the last
-pub read_end : (c : Content) (v offset len end : ℕ) → len ≤ PAGE * end - offset
-    → bytes_in c v offset (min (PAGE * end - offset) len) ≡ bytes_in c v offset len
-read_end c v offset len end h =
-    let all : min (PAGE * end - offset) len ≡ len = omega arith in ap (bytes_in c v offset) all
+-- of the bytes of a range, in their room, those before page p are read
+pub record IsReadTo (c : Content) (v offset len p : ℕ) (out : List ℕ) : Type 0 where
+  pub bytes : take (before offset len p) out ≡ bytes_in c v offset (before offset len p)
 
--- The part of the range that falls into page p
-module _ (c : Content) (v offset len p at from count : ℕ) (last : p * PAGE < offset + len)
-    (start : from ≡ PAGE * p - offset) (stop : from + count ≡ min (PAGE * (p + 1) - offset) len)
-    (bytes : List ℕ) (before : bytes ≡ bytes_in c v offset (min (PAGE * p - offset) len)) where
-  done : min (PAGE * p - offset) len ≡ from
-  done = omega (arith, start)
+-- nothing lies before the first page
+pub read_start : (c : Content) (v offset first : ℕ) (out : List ℕ) → first ≡ offset / PAGE
+    → IsReadTo c v offset (length out) first out
+read_start c v offset first out e =
+    let none : before offset (length out) first ≡ 0 = omega (arith, e) in record {
+      bytes = ap (λ n. take n out) none ∙ sym (ap (bytes_in c v offset) none ∙ bytes_in-nil c v offset);
+    }
 
-  -- it has its place behind what was read
-  pub read_fits : length bytes + count ≤ len
-  read_fits = omega (arith, ap length before, length-bytes_in c v offset (min (PAGE * p - offset) len), done, stop)
+-- all lies before the end
+pub read_end : {c : Content} {v offset len end : ℕ} {out : List ℕ} → length out ≡ len → len ≤ PAGE * end - offset
+    → IsReadTo c v offset len end out → out ≡ bytes_in c v offset len
+read_end {c} {v} {offset} {len} {end} {out} size h read =
+    let all : before offset len end ≡ len = omega arith in
+    sym (take_all len out (omega (arith, size))) ∙ rw all at read.bytes
 
-  -- what the page shows there is added
-  pub read_step : (out new : List ℕ) → IsGood c → at ≡ part_at offset p → at + count ≤ PAGE → offset / PAGE ≤ p
-      → out ≡ take count (drop at (shown c v p)) → new ≡ bytes ++ out
-      → new ≡ bytes_in c v offset (min (PAGE * (p + 1) - offset) len)
-  read_step out new good place fits low shows added =
-      added
-      ∙ ((λ i. (before ∙ ap (bytes_in c v offset) done) i ++ shows i)
-      ∙ (sym (bytes_in-part offset len p from count start stop c v at good place fits low last)
-      ∙ ap (bytes_in c v offset) stop))
+-- the part of the range that falls into page p is read to its place
+pub read_step : {c : Content} {v offset len p at : ℕ} {out : List ℕ} (from count : ℕ) (new : List ℕ) → IsGood c
+    → offset / PAGE ≤ p → p * PAGE < offset + len → at ≡ part_at offset p → from ≡ PAGE * p - offset
+    → from + count ≡ before offset len (p + 1) → at + count ≤ PAGE → length out ≡ len
+    → length new ≡ length (slice_range out from (from + count))
+    → new ≡ take (length (slice_range out from (from + count))) (drop at (shown c v p)) → IsReadTo c v offset len p out
+    → IsReadTo c v offset len (p + 1) (put_mid from ((from + count) - from) out new)
+read_step {c} {v} {offset} {len} {p} {at} {out} from count new good low last place start stop fits all size shows read =
+    let here : before offset len p ≡ from = omega (arith, start) in
+    let n : length (slice_range out from (from + count)) ≡ count =
+    omega (arith, stop, all, length-take ((from + count) - from) (drop from out), length-drop from out) in
+    record {
+      bytes = rw (← stop) (
+          take-put_mid from _ out new (from + count) (omega (arith, n, size)) (omega (arith, stop, all))
+          ∙ ((λ i. (rw here at read.bytes) i ++ (shows ∙ ap (λ m. take m (drop at (shown c v p))) n) i)
+          ∙ sym (bytes_in-part offset len p from count start stop c v at good place fits low last)));
+    }
 
 -- ---- the steps
 

@@ -1,6 +1,6 @@
 //! Pinning pages, so that they keep their frames (`zx_bti_pin`, `zx_pmt_unpin`).
 
-ghost use Rattle.std.specs.Prelude.{◌≡◌, ◌+◌, ◌*◌, ◌%◌, ◌≤◌, ◌↔◌, None, Some, IsTrue, IsSome, map};
+ghost use Rattle.std.specs.Prelude.{◌≡◌, ◌+◌, ◌*◌, ◌%◌, ◌≤◌, ◌↔◌, None, Some, IsTrue, IsSome, length, map};
 ghost use Rattle.std.specs.List.{range_with_len};
 ghost use Rattle.vm_base.specs.declared.names.VmoName.{VmoName};
 ghost use Rattle.vm_model.specs.declared.command.Command.{Command};
@@ -20,7 +20,7 @@ use crate::ranges::place_in_vmo;
 use page_store::PageStore;
 use pin_table::PinTable;
 use vm_base::{Koid, PAGE, PIN_PAGES, PageNo, PinName, Refusal, in_page, page_of};
-use vm_model::PinNumbers;
+use vm_model::{LentNumbers, PinNumbers};
 use vmo_table::{Target, VmoTable};
 
 /// The bytes of the longest pin.
@@ -51,6 +51,35 @@ pub fn pin<P: PageStore>(
     ensures counted { (s : State) → CountsKeepers vmos.old (record s { pins = pins_of pins.old }) →
         CountsKeepers vmos.new (record s { pins = pins_of pins.new }) }
 {
+    let mut room = [0; PIN_PAGES];
+    match pin_into(store, vmos, pins, pin, t, offset, len, &mut room) {
+        Ok(numbers) => Ok(numbers.to_numbers()),
+        Err(refusal) => Err(refusal),
+    }
+}
+
+/// Pins as `pin` does, with room for at least `PIN_PAGES` numbers, and lends the frames' numbers there.
+pub fn pin_into<'a, P: PageStore>(
+    store: &mut P,
+    vmos: &mut VmoTable,
+    pins: &mut PinTable,
+    pin: PinName,
+    t: &Target,
+    offset: u64,
+    len: u64,
+    room: &'a mut [u64],
+) -> Result<LentNumbers<'a>, Refusal>
+    requires parts { (s : State) × IsWellCounted vmos.old (with_tables s (P.content store.old) vmos.old pins.old) }
+    requires named { IsNamed (names_of vmos.old) t.now }
+    requires free { pins_of pins.old pin.0 ≡ None }
+    requires room { PIN_PAGES ≤ length room.old }
+    ensures step { (s : State) (name : VmoName) → names_of vmos.old name.0 ≡ Some t.now →
+        Step (with_tables s (P.content store.old) vmos.old pins.old) (Command.VmoPin pin name offset len)
+        (reply_of (λ numbers. Reply.Pins numbers) result)
+        (with_tables s (P.content store.new) vmos.new pins.new) }
+    ensures counted { (s : State) → CountsKeepers vmos.old (record s { pins = pins_of pins.old }) →
+        CountsKeepers vmos.new (record s { pins = pins_of pins.new }) }
+{
     if !is_pin_range(offset, len) {
         return Err(Refusal::InvalidArgs);
     }
@@ -71,10 +100,11 @@ pub fn pin<P: PageStore>(
     };
     // That a VMO has no more pins than there are names rests on the range of the names.
     prove!(pin.0 <= u32::MAX);
-    let numbers = own_frames(store, t.koid, first, count);
+    let numbers = &mut room[..count as usize];
+    own_frames(store, t.koid, first, numbers);
     pins.add(pin, t.koid, first, count);
     vmos.keep(t.koid, 1);
-    Ok(numbers)
+    Ok(LentNumbers::new(numbers))
 }
 
 // Whether a range is one of whole pages, from 1 to `PIN_PAGES` of them.
@@ -84,25 +114,22 @@ fn is_pin_range(offset: u64, len: u64) -> bool
     in_page(offset) == 0 && in_page(len) == 0 && len > 0 && len <= PIN_BYTES
 }
 
-// Owns `count` pages of a VMO, at most `PIN_PAGES`, from `first` on, where the room for it is there, and
-// answers their frames.
-fn own_frames<P: PageStore>(store: &mut P, v: Koid, first: PageNo, count: u64) -> PinNumbers
+// Owns pages of a VMO from `first` on, as many as numbers, where the room for it is there, and puts their frames'
+// numbers there.
+fn own_frames<P: PageStore>(store: &mut P, v: Koid, first: PageNo, numbers: &mut [u64])
     requires good { IsGood (P.content store.old) }
-    requires few { count ≤ PIN_PAGES }
-    requires inside { first + count ≤ pages_of (P.content store.old) v.0 }
-    requires room { HasRows (P.content store.old) v.0 (range_with_len first count) (P.spare store.old) }
-    requires free { used (P.content store.old) + need (P.content store.old) v.0 (range_with_len first count)
-        ≤ (P.content store.old).frames }
-    ensures owns { OwnsAll (P.content store.old) v.0 (range_with_len first count) (P.content store.new) }
-    ensures frames { result ≡ map (λ p. frame_of ((P.content store.new).page v.0 p)) (range_with_len first count) }
+    requires inside { first + length numbers.old ≤ pages_of (P.content store.old) v.0 }
+    requires room { HasRows (P.content store.old) v.0 (range_with_len first (length numbers.old)) (P.spare store.old) }
+    requires free { used (P.content store.old) + need (P.content store.old) v.0
+        (range_with_len first (length numbers.old)) ≤ (P.content store.old).frames }
+    ensures owns { OwnsAll (P.content store.old) v.0 (range_with_len first (length numbers.old)) (P.content store.new) }
+    ensures frames { numbers.new ≡ map (λ p. frame_of ((P.content store.new).page v.0 p))
+        (range_with_len first (length numbers.old)) }
 {
-    let mut numbers = PinNumbers::new();
-    for page in first..first + count {
+    for page in first..first + numbers.len() as u64 {
         let tag = store.own(v, page);
-        // There is room: a pin has at most `PIN_PAGES` pages.
-        let _ = numbers.push(u64::from(tag.0));
+        numbers[(page - first) as usize] = u64::from(tag.0);
     }
-    numbers
 }
 
 /// Takes a pin away that is there. A VMO that nothing keeps any more leaves with its pages, and its

@@ -10,8 +10,8 @@ ghost use Rattle.vmo_ops.specs.Targets.{Does, reply_of};
 
 use crate::ranges::{part_in_page, place_in_vmo, touched_pages};
 use page_store::{Look, PageStore};
-use vm_base::{DATA_BYTES, Koid, PAGE, PAGE_BYTES, PageNo, Refusal};
-use vm_model::Bytes4k;
+use vm_base::{DATA_BYTES, Koid, PAGE, PageNo, Refusal};
+use vm_model::{Bytes4k, LentBytes};
 use vmo_table::Target;
 
 /// Reads `len` bytes, at most `DATA_BYTES`, from `offset` bytes into the name on. Refusals, in their order:
@@ -23,32 +23,57 @@ pub fn read<P: PageStore>(store: &P, t: &Target, offset: u64, len: u64) -> Resul
     ensures { Does (λ name. Command.VmoRead name offset len) t.now (P.content store.now)
         (reply_of (λ bytes. Reply.Bytes bytes) result) (P.content store.now) }
 {
+    let mut room = [0; DATA_BYTES];
+    match read_into(store, t, offset, len, &mut room) {
+        Ok(bytes) => Ok(bytes.to_bytes()),
+        Err(refusal) => Err(refusal),
+    }
+}
+
+/// Reads as `read` does, into room for at least `DATA_BYTES` bytes, and lends those of it that were read.
+pub fn read_into<'a, P: PageStore>(
+    store: &P,
+    t: &Target,
+    offset: u64,
+    len: u64,
+    room: &'a mut [u8],
+) -> Result<LentBytes<'a>, Refusal>
+    requires good { IsGood (P.content store.now) }
+    requires inside { IsInside (P.content store.now) t.now }
+    requires room { DATA_BYTES ≤ length room.old }
+    ensures { Does (λ name. Command.VmoRead name offset len) t.now (P.content store.now)
+        (reply_of (λ bytes. Reply.Bytes bytes) result) (P.content store.now) }
+{
     if len > DATA_BYTES as u64 {
         return Err(Refusal::InvalidArgs);
     }
     let Some(at) = place_in_vmo(store, t, offset, len) else {
         return Err(Refusal::OutOfRange);
     };
-    Ok(bytes_of_range(store, t.koid, at, len))
+    let out = &mut room[..len as usize];
+    read_pages(store, t.koid, at, out);
+    Ok(LentBytes::new(out))
 }
 
-// The bytes of a range inside the VMO, page by page.
-fn bytes_of_range<P: PageStore>(store: &P, v: Koid, offset: u64, len: u64) -> Bytes4k
+// Reads the bytes of a range inside the VMO, page by page.
+fn read_pages<P: PageStore>(store: &P, v: Koid, offset: u64, out: &mut [u8])
     requires good { IsGood (P.content store.now) }
-    requires inside { offset + len ≤ pages_of (P.content store.now) v.0 * PAGE }
-    requires few { len ≤ DATA_BYTES }
-    ensures { result ≡ bytes_in (P.content store.now) v.0 offset len }
+    requires inside { offset + length out.old ≤ pages_of (P.content store.now) v.0 * PAGE }
+    ensures { out.new ≡ bytes_in (P.content store.now) v.0 offset (length out.old) }
 {
-    let mut bytes = Bytes4k::new();
-    let mut buffer = [0; PAGE_BYTES];
+    let len = out.len() as u64;
     let (first, end) = touched_pages(offset, len);
     for page in first..end {
         let part = part_in_page(offset, len, page);
-        let out = &mut buffer[..part.len as usize];
-        read_page(store, v, page, part.at, out);
-        bytes.extend_from_slice(out);
+        let until = part.from + part.len;
+        read_page(
+            store,
+            v,
+            page,
+            part.at,
+            &mut out[part.from as usize..until as usize],
+        );
     }
-    bytes
 }
 
 // Reads what a page shows, from `at` bytes into the page on.

@@ -1,25 +1,24 @@
-use Rattle.std.proofs.Common.{◌≡◌, ◌+◌, ◌-◌, ◌<◌, length, refl, sym, ap, arith}
+use Rattle.std.proofs.Common.{◌≡◌, ◌+◌, ◌-◌, length, refl, sym, ap, arith}
 use Rattle.std.specs.List.{range_with_len}
-use Rattle.vm_base.specs.declared.limits.TheConstants.{PIN_PAGES}
 use Rattle.vm_model.proofs.OwningLaws.{Owned-from_Owns}
 use Rattle.page_store.proofs.NameLaws.{pages_of_le}
 use Rattle.vmo_ops.proofs.OwningLaws.{Written-from_Owns, IsOwning-start, IsOwning-below, IsOwning-room, IsOwning-step, IsOwning-end}
-use Rattle.vmo_ops.proofs.FrameLaws.{AreFrames-start, AreFrames-length, AreFrames-step, AreFrames-end}
+use Rattle.vmo_ops.proofs.FrameLaws.{AreFrames-start, AreFrames-step, AreFrames-end}
 use Rattle.vmo_ops.proofs.pinning.own_frames.Goals as goal
 
 pub overflow_add-page-end : goal.overflow_add-page-end
 overflow_add-page-end g c =
     let few = pages_of_le (g.P.PageStore.content c.args.store.now) c.args.v.0 c.requires.good in
-    omega arith
+    omega (arith, c.requires.inside)
 
 pub loop-page-init : goal.loop-page-init
 loop-page-init g c =
-    let n : (c.args.first + c.args.count) - c.args.first ≡ c.args.count = omega arith in
+    let count = length c.args.numbers.now in
+    let n : (c.args.first + count) - c.args.first ≡ count = omega arith in
     record {
       owning = IsOwning-start _ c.args.v.0 _ _ _ _ _ c.requires.good c.requires.inside (omega arith)
           (ap (range_with_len c.args.first) (sym n)) c.requires.room c.requires.free;
-      frames = AreFrames-start (g.P.PageStore.content c.args.store.now) c.args.v.0 c.args.first c.new-numbers.result
-          c.new-numbers.ensures;
+      frames = AreFrames-start _ c.args.v.0 c.args.first c.args.numbers.now;
     }
 
 pub own-tag-requires-clause-page : goal.own-tag-requires-clause-page
@@ -38,22 +37,17 @@ loop-page-preserved g c =
     let owning = c.loop-page.invariant.owning in
     let owns = c.own-tag.ensures.owns in
     let below = IsOwning-below _ _ _ _ _ _ _ _ owning c.loop-page-test.true in
-    let frames = c.loop-page.invariant.frames in
-    let room : length c.loop-page.numbers < PIN_PAGES =
-    omega (arith, AreFrames-length now v c.args.first page c.loop-page.numbers frames) in
     record {
       owning = IsOwning-step _ _ _ _ _ _ _ _ owning c.loop-page-test.true mid _
           (Written-from_Owns now mid v page tag owning.way.good below owns) c.own-tag.ensures.spare
           (λ ps last w. (mid, tag, owns, w));
-      frames = AreFrames-step now mid v c.args.first page tag c.from.result c.loop-page.numbers c.push.new.self
-          c.loop-page.auto.page (Owned-from_Owns now mid v page tag owning.way.good below owns) frames c.from.ensures
-          (c.push.ensures.added room);
+      frames = AreFrames-step now mid v c.args.first page tag c.from.result c.loop-page.numbers c.loop-page.auto.page
+          (omega arith) (Owned-from_Owns now mid v page tag owning.way.good below owns) c.from.ensures
+          c.loop-page.invariant.frames;
     }
 
 pub returns-clause-owns : goal.returns-clause-owns
 returns-clause-owns g c = IsOwning-end _ _ _ _ _ _ _ _ c.loop-page.invariant.owning c.loop-page-test.false refl
 
 pub returns-clause-frames : goal.returns-clause-frames
-returns-clause-frames g c =
-    AreFrames-end (g.P.PageStore.content c.loop-page.store) c.args.v.0 c.args.first c.args.count c.loop-page.page
-    c.loop-page.numbers (omega arith) c.loop-page.invariant.frames
+returns-clause-frames g c = AreFrames-end c.loop-page.auto.numbers (omega arith) c.loop-page.invariant.frames
