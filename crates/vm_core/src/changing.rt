@@ -5,6 +5,7 @@
 ghost use Rattle.std.specs.Prelude.{◌≡◌};
 ghost use Rattle.vm_model.specs.declared.command.Command.{Command};
 ghost use Rattle.vm_model.specs.declared.reply.Reply.{Reply};
+ghost use Rattle.vm_model.specs.Machine.Lent.{reply_for};
 ghost use Rattle.vmo_table.specs.Table.{AreParts};
 ghost use Rattle.vmo_ops.specs.Targets.{AreTogether, reply_of};
 ghost use Rattle.vm_core.specs.Calls.{Steps, StepsVmos};
@@ -12,7 +13,7 @@ ghost use Rattle.vm_core.specs.Calls.{Steps, StepsVmos};
 use page_store::PageStore;
 use pin_table::PinTable;
 use vm_base::{Refusal, VmoName};
-use vm_model::Reply;
+use vm_model::Answer;
 use vmo_table::VmoTable;
 
 /// Writes bytes from `offset` bytes into the name on.
@@ -22,14 +23,14 @@ pub(crate) fn vmo_write<P: PageStore>(
     name: VmoName,
     offset: u64,
     bytes: &[u8],
-) -> Reply
+) -> Answer<'static>
     requires { AreParts (P.content store.old) vmos.now }
-    ensures { StepsVmos (P.content store.old) vmos.now (Command.VmoWrite name offset bytes.now) result
+    ensures { StepsVmos (P.content store.old) vmos.now (Command.VmoWrite name offset bytes.now) (reply_for result)
         (P.content store.new) vmos.now }
 {
     match vmos.resolve(name) {
         Some(target) => done(vmo_ops::write(store, &target, offset, bytes)),
-        None => Reply::Refused(Refusal::BadHandle),
+        None => Answer::Refused(Refusal::BadHandle),
     }
 }
 
@@ -41,14 +42,14 @@ pub(crate) fn vmo_fill<P: PageStore>(
     offset: u64,
     len: u64,
     byte: u8,
-) -> Reply
+) -> Answer<'static>
     requires { AreParts (P.content store.old) vmos.now }
-    ensures { StepsVmos (P.content store.old) vmos.now (Command.VmoFill name offset len byte) result
+    ensures { StepsVmos (P.content store.old) vmos.now (Command.VmoFill name offset len byte) (reply_for result)
         (P.content store.new) vmos.now }
 {
     match vmos.resolve(name) {
         Some(target) => done(vmo_ops::fill(store, &target, offset, len, byte)),
-        None => Reply::Refused(Refusal::BadHandle),
+        None => Answer::Refused(Refusal::BadHandle),
     }
 }
 
@@ -59,14 +60,14 @@ pub(crate) fn vmo_commit<P: PageStore>(
     name: VmoName,
     offset: u64,
     len: u64,
-) -> Reply
+) -> Answer<'static>
     requires { AreParts (P.content store.old) vmos.now }
-    ensures { StepsVmos (P.content store.old) vmos.now (Command.VmoCommit name offset len) result
+    ensures { StepsVmos (P.content store.old) vmos.now (Command.VmoCommit name offset len) (reply_for result)
         (P.content store.new) vmos.now }
 {
     match vmos.resolve(name) {
         Some(target) => done(vmo_ops::commit(store, &target, offset, len)),
-        None => Reply::Refused(Refusal::BadHandle),
+        None => Answer::Refused(Refusal::BadHandle),
     }
 }
 
@@ -78,14 +79,14 @@ pub(crate) fn vmo_zero<P: PageStore>(
     name: VmoName,
     offset: u64,
     len: u64,
-) -> Reply
+) -> Answer<'static>
     requires { AreTogether (P.content store.old) vmos.now pins.now }
-    ensures { Steps (P.content store.old) vmos.now pins.now (Command.VmoZero name offset len) result
+    ensures { Steps (P.content store.old) vmos.now pins.now (Command.VmoZero name offset len) (reply_for result)
         (P.content store.new) vmos.now pins.now }
 {
     match vmos.resolve(name) {
         Some(target) => done(vmo_ops::zero(store, pins, &target, offset, len)),
-        None => Reply::Refused(Refusal::BadHandle),
+        None => Answer::Refused(Refusal::BadHandle),
     }
 }
 
@@ -97,14 +98,14 @@ pub(crate) fn vmo_decommit<P: PageStore>(
     name: VmoName,
     offset: u64,
     len: u64,
-) -> Reply
+) -> Answer<'static>
     requires { AreTogether (P.content store.old) vmos.now pins.now }
-    ensures { Steps (P.content store.old) vmos.now pins.now (Command.VmoDecommit name offset len) result
+    ensures { Steps (P.content store.old) vmos.now pins.now (Command.VmoDecommit name offset len) (reply_for result)
         (P.content store.new) vmos.now pins.now }
 {
     match vmos.resolve(name) {
         Some(target) => done(vmo_ops::decommit(store, vmos, pins, &target, offset, len)),
-        None => Reply::Refused(Refusal::BadHandle),
+        None => Answer::Refused(Refusal::BadHandle),
     }
 }
 
@@ -115,23 +116,23 @@ pub(crate) fn vmo_set_size<P: PageStore>(
     pins: &PinTable,
     name: VmoName,
     size: u64,
-) -> Reply
+) -> Answer<'static>
     requires { AreTogether (P.content store.old) vmos.now pins.now }
-    ensures { Steps (P.content store.old) vmos.now pins.now (Command.VmoSetSize name size) result
+    ensures { Steps (P.content store.old) vmos.now pins.now (Command.VmoSetSize name size) (reply_for result)
         (P.content store.new) vmos.now pins.now }
 {
     match vmos.resolve(name) {
         Some(target) => done(vmo_ops::resize(store, pins, &target, size)),
-        None => Reply::Refused(Refusal::BadHandle),
+        None => Answer::Refused(Refusal::BadHandle),
     }
 }
 
-// The reply to a command that is done, or why it is refused.
-fn done(answer: Result<(), Refusal>) -> Reply
-    ensures { result ≡ reply_of (λ _. Reply.Done) answer }
+// The answer to a command that is done, or why it is refused.
+fn done(outcome: Result<(), Refusal>) -> Answer<'static>
+    ensures { reply_for result ≡ reply_of (λ _. Reply.Done) outcome }
 {
-    match answer {
-        Ok(()) => Reply::Done,
-        Err(refusal) => Reply::Refused(refusal),
+    match outcome {
+        Ok(()) => Answer::Done,
+        Err(refusal) => Answer::Refused(refusal),
     }
 }

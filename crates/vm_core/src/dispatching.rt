@@ -1,7 +1,8 @@
 //! Which handler does a command.
 
-ghost use Rattle.std.specs.Prelude.{◌<◌};
-ghost use Rattle.vm_base.specs.declared.limits.TheConstants.{KOIDS};
+ghost use Rattle.std.specs.Prelude.{◌<◌, ◌≤◌, length};
+ghost use Rattle.vm_base.specs.declared.limits.TheConstants.{DATA_BYTES, KOIDS, PIN_PAGES};
+ghost use Rattle.vm_model.specs.Machine.Lent.{command_of, reply_for};
 ghost use Rattle.vm_model.proofs.StepLaws.{GivesName};
 ghost use Rattle.vmo_ops.specs.Targets.{AreTogether};
 ghost use Rattle.vm_core.specs.Calls.{CountsPins, Steps};
@@ -13,32 +14,37 @@ use crate::pinning::{vmo_pin, vmo_unpin};
 use attribution::stat;
 use page_store::PageStore;
 use pin_table::PinTable;
-use vm_model::{Command, Reply};
+use vm_model::{Answer, Call};
 use vmo_table::VmoTable;
 
-/// Does a command by its handler. One that is not built yet is answered `Unbuilt`.
+/// Does a command by its handler, with room for the bytes and for the numbers that it may answer. One that is not
+/// built yet is answered `Unbuilt`.
 #[tactic(auto, using(crate::proofs::CallLaws::steps_beside, crate::proofs::CallLaws::counts_same))]
-pub(crate) fn dispatch<P: PageStore>(
+pub(crate) fn dispatch<'a, P: PageStore>(
     store: &mut P,
     vmos: &mut VmoTable,
     pins: &mut PinTable,
-    command: &Command,
-) -> Reply
+    call: &Call<'_>,
+    bytes: &'a mut [u8],
+    numbers: &'a mut [u64],
+) -> Answer<'a>
     requires good { AreTogether (P.content store.old) vmos.old pins.old }
     requires counted { CountsPins vmos.old pins.old }
     requires next { (P.content store.old).next < KOIDS }
-    ensures step { Steps (P.content store.old) vmos.old pins.old command.now result
+    requires bytes { DATA_BYTES ≤ length bytes.old }
+    requires numbers { PIN_PAGES ≤ length numbers.old }
+    ensures step { Steps (P.content store.old) vmos.old pins.old (command_of call.now) (reply_for result)
         (P.content store.new) vmos.new pins.new }
     ensures counted { CountsPins vmos.new pins.new }
-    ensures name { GivesName command.now }
+    ensures name { GivesName (command_of call.now) }
 {
-    match command {
-        Command::VmoCreate {
+    match call {
+        Call::VmoCreate {
             name,
             size,
             resizable,
         } => vmo_create(store, vmos, *name, *size, *resizable),
-        Command::VmoChild {
+        Call::VmoChild {
             name,
             parent,
             kind,
@@ -49,35 +55,35 @@ pub(crate) fn dispatch<P: PageStore>(
         } => vmo_create_child(
             store, vmos, pins, *name, *parent, *kind, *offset, *size, *resizable, *no_write,
         ),
-        Command::VmoClose { name } => vmo_close(store, vmos, *name),
-        Command::VmoRead { name, offset, len } => vmo_read(store, vmos, *name, *offset, *len),
-        Command::VmoWrite {
+        Call::VmoClose { name } => vmo_close(store, vmos, *name),
+        Call::VmoRead { name, offset, len } => vmo_read(store, vmos, *name, *offset, *len, bytes),
+        Call::VmoWrite {
             name,
             offset,
-            bytes,
-        } => vmo_write(store, vmos, *name, *offset, bytes.as_slice()),
-        Command::VmoFill {
+            bytes: written,
+        } => vmo_write(store, vmos, *name, *offset, written.as_slice()),
+        Call::VmoFill {
             name,
             offset,
             len,
             byte,
         } => vmo_fill(store, vmos, *name, *offset, *len, *byte),
-        Command::VmoCommit { name, offset, len } => vmo_commit(store, vmos, *name, *offset, *len),
-        Command::VmoZero { name, offset, len } => vmo_zero(store, vmos, pins, *name, *offset, *len),
-        Command::VmoDecommit { name, offset, len } => vmo_decommit(
+        Call::VmoCommit { name, offset, len } => vmo_commit(store, vmos, *name, *offset, *len),
+        Call::VmoZero { name, offset, len } => vmo_zero(store, vmos, pins, *name, *offset, *len),
+        Call::VmoDecommit { name, offset, len } => vmo_decommit(
             store, vmos, pins, *name, *offset, *len,
         ),
-        Command::VmoSetSize { name, size } => vmo_set_size(store, vmos, pins, *name, *size),
-        Command::VmoPin {
+        Call::VmoSetSize { name, size } => vmo_set_size(store, vmos, pins, *name, *size),
+        Call::VmoPin {
             pin,
             name,
             offset,
             len,
-        } => vmo_pin(store, vmos, pins, *pin, *name, *offset, *len),
-        Command::VmoUnpin { pin } => vmo_unpin(store, vmos, pins, *pin),
-        Command::VmoSize { name } => vmo_size(store, vmos, *name),
-        Command::VmoInfo { name } => vmo_info(store, vmos, *name),
-        Command::Stat => Reply::Stat(stat(store)),
-        _ => Reply::Unbuilt,
+        } => vmo_pin(store, vmos, pins, *pin, *name, *offset, *len, numbers),
+        Call::VmoUnpin { pin } => vmo_unpin(store, vmos, pins, *pin),
+        Call::VmoSize { name } => vmo_size(store, vmos, *name),
+        Call::VmoInfo { name } => vmo_info(store, vmos, *name),
+        Call::Stat => Answer::Stat(stat(store)),
+        _ => Answer::Unbuilt,
     }
 }

@@ -4,6 +4,7 @@
 ghost use Rattle.std.specs.Prelude.{◌≡◌, ◌<◌};
 ghost use Rattle.vm_base.specs.declared.limits.TheConstants.{KOIDS, NAMES};
 ghost use Rattle.vm_model.specs.declared.command.Command.{Command};
+ghost use Rattle.vm_model.specs.Machine.Lent.{reply_for};
 ghost use Rattle.vm_model.specs.Machine.State.{State};
 ghost use Rattle.vm_model.specs.Machine.Step.{Step};
 ghost use Rattle.vmo_table.specs.Table.{keepers_of, with_vmos, AreParts};
@@ -13,7 +14,7 @@ ghost use Rattle.vm_core.specs.Calls.{Steps, StepsVmos};
 use page_store::PageStore;
 use pin_table::PinTable;
 use vm_base::{Refusal, VmoName};
-use vm_model::{ChildKind, Reply};
+use vm_model::{Answer, ChildKind};
 use vmo_table::VmoTable;
 
 /// Makes a VMO, where the name is not open.
@@ -23,20 +24,20 @@ pub(crate) fn vmo_create<P: PageStore>(
     name: VmoName,
     size: u64,
     resizable: bool,
-) -> Reply
+) -> Answer<'static>
     requires parts { AreParts (P.content store.old) vmos.old }
     requires next { (P.content store.old).next < KOIDS }
-    ensures step { StepsVmos (P.content store.old) vmos.old (Command.VmoCreate name size resizable) result
+    ensures step { StepsVmos (P.content store.old) vmos.old (Command.VmoCreate name size resizable) (reply_for result)
         (P.content store.new) vmos.new }
     ensures keepers { keepers_of vmos.new ≡ keepers_of vmos.old }
     ensures name { name.0 < NAMES }
 {
     if vmos.resolve(name).is_some() {
-        return Reply::Refused(Refusal::NameInUse);
+        return Answer::Refused(Refusal::NameInUse);
     }
     match vmo_ops::create(store, vmos, name, size, resizable) {
-        Ok(_) => Reply::Done,
-        Err(refusal) => Reply::Refused(refusal),
+        Ok(_) => Answer::Done,
+        Err(refusal) => Answer::Refused(refusal),
     }
 }
 
@@ -52,40 +53,44 @@ pub(crate) fn vmo_create_child<P: PageStore>(
     size: u64,
     resizable: bool,
     no_write: bool,
-) -> Reply
+) -> Answer<'static>
     requires good { AreTogether (P.content store.old) vmos.old pins.now }
     requires next { (P.content store.old).next < KOIDS }
     ensures step { Steps (P.content store.old) vmos.old pins.now
-        (Command.VmoChild name parent kind offset size resizable no_write) result
+        (Command.VmoChild name parent kind offset size resizable no_write) (reply_for result)
         (P.content store.new) vmos.new pins.now }
     ensures keepers { keepers_of vmos.new ≡ keepers_of vmos.old }
     ensures name { name.0 < NAMES }
 {
     let Some(target) = vmos.resolve(parent) else {
-        return Reply::Refused(Refusal::BadHandle);
+        return Answer::Refused(Refusal::BadHandle);
     };
     if vmos.resolve(name).is_some() {
-        return Reply::Refused(Refusal::NameInUse);
+        return Answer::Refused(Refusal::NameInUse);
     }
     match vmo_ops::create_child(
         store, vmos, pins, name, &target, kind, offset, size, resizable, no_write,
     ) {
-        Ok(_) => Reply::Done,
-        Err(refusal) => Reply::Refused(refusal),
+        Ok(_) => Answer::Done,
+        Err(refusal) => Answer::Refused(refusal),
     }
 }
 
 /// Closes a name, where it is open.
-pub(crate) fn vmo_close<P: PageStore>(store: &mut P, vmos: &mut VmoTable, name: VmoName) -> Reply
+pub(crate) fn vmo_close<P: PageStore>(
+    store: &mut P,
+    vmos: &mut VmoTable,
+    name: VmoName,
+) -> Answer<'static>
     requires { (s : State) × IsWellCounted vmos.old (with_vmos s (P.content store.old) vmos.old) }
     ensures step { (s : State) → IsWellCounted vmos.old (with_vmos s (P.content store.old) vmos.old) →
-        Step (with_vmos s (P.content store.old) vmos.old) (Command.VmoClose name) result
+        Step (with_vmos s (P.content store.old) vmos.old) (Command.VmoClose name) (reply_for result)
         (with_vmos s (P.content store.new) vmos.new) }
     ensures keepers { keepers_of vmos.new ≡ keepers_of vmos.old }
 {
     if vmos.resolve(name).is_none() {
-        return Reply::Refused(Refusal::BadHandle);
+        return Answer::Refused(Refusal::BadHandle);
     }
     vmo_ops::close(store, vmos, name);
-    Reply::Done
+    Answer::Done
 }

@@ -1,20 +1,22 @@
 //! The commands that pin pages and let them go: `vmo_pin`, `vmo_unpin`. The clause `pin` hands up the range of
 //! the pin's number, which the caller has behind a reference.
 
-ghost use Rattle.std.specs.Prelude.{◌<◌};
-ghost use Rattle.vm_base.specs.declared.limits.TheConstants.{NAMES};
+ghost use Rattle.std.specs.Prelude.{◌<◌, ◌≤◌, length};
+ghost use Rattle.vm_base.specs.declared.limits.TheConstants.{NAMES, PIN_PAGES};
 ghost use Rattle.vm_model.specs.declared.command.Command.{Command};
+ghost use Rattle.vm_model.specs.Machine.Lent.{reply_for};
 ghost use Rattle.vmo_ops.specs.Targets.{AreTogether};
 ghost use Rattle.vm_core.specs.Calls.{CountsPins, Steps};
 
 use page_store::PageStore;
 use pin_table::PinTable;
 use vm_base::{PinName, Refusal, VmoName};
-use vm_model::Reply;
+use vm_model::Answer;
 use vmo_table::VmoTable;
 
-/// Pins the pages of a range, where the name is open and the pin is not there.
-pub(crate) fn vmo_pin<P: PageStore>(
+/// Pins the pages of a range, where the name is open and the pin is not there, with room for the numbers of
+/// `PIN_PAGES` frames.
+pub(crate) fn vmo_pin<'a, P: PageStore>(
     store: &mut P,
     vmos: &mut VmoTable,
     pins: &mut PinTable,
@@ -22,23 +24,25 @@ pub(crate) fn vmo_pin<P: PageStore>(
     name: VmoName,
     offset: u64,
     len: u64,
-) -> Reply
+    room: &'a mut [u64],
+) -> Answer<'a>
     requires good { AreTogether (P.content store.old) vmos.old pins.old }
     requires counted { CountsPins vmos.old pins.old }
-    ensures step { Steps (P.content store.old) vmos.old pins.old (Command.VmoPin pin name offset len) result
-        (P.content store.new) vmos.new pins.new }
+    requires room { PIN_PAGES ≤ length room.old }
+    ensures step { Steps (P.content store.old) vmos.old pins.old (Command.VmoPin pin name offset len)
+        (reply_for result) (P.content store.new) vmos.new pins.new }
     ensures counted { CountsPins vmos.new pins.new }
     ensures pin { pin.0 < NAMES }
 {
     let Some(target) = vmos.resolve(name) else {
-        return Reply::Refused(Refusal::BadHandle);
+        return Answer::Refused(Refusal::BadHandle);
     };
     if pins.get(pin).is_some() {
-        return Reply::Refused(Refusal::NameInUse);
+        return Answer::Refused(Refusal::NameInUse);
     }
-    match vmo_ops::pin(store, vmos, pins, pin, &target, offset, len) {
-        Ok(numbers) => Reply::Pins(numbers),
-        Err(refusal) => Reply::Refused(refusal),
+    match vmo_ops::pin_into(store, vmos, pins, pin, &target, offset, len, room) {
+        Ok(numbers) => Answer::Pins(numbers),
+        Err(refusal) => Answer::Refused(refusal),
     }
 }
 
@@ -48,16 +52,17 @@ pub(crate) fn vmo_unpin<P: PageStore>(
     vmos: &mut VmoTable,
     pins: &mut PinTable,
     pin: PinName,
-) -> Reply
+) -> Answer<'static>
     requires good { AreTogether (P.content store.old) vmos.old pins.old }
     requires counted { CountsPins vmos.old pins.old }
-    ensures step { Steps (P.content store.old) vmos.old pins.old (Command.VmoUnpin pin) result
+    ensures step { Steps (P.content store.old) vmos.old pins.old (Command.VmoUnpin pin)
+        (reply_for result)
         (P.content store.new) vmos.new pins.new }
     ensures counted { CountsPins vmos.new pins.new }
 {
     if pins.get(pin).is_none() {
-        return Reply::Refused(Refusal::BadHandle);
+        return Answer::Refused(Refusal::BadHandle);
     }
     vmo_ops::unpin(store, vmos, pins, pin);
-    Reply::Done
+    Answer::Done
 }

@@ -1,14 +1,16 @@
 //! The machine, and its step.
 
-ghost use Rattle.std.specs.Prelude.{◌≡◌, ◌+◌, ◌<◌, ◌≤◌};
-ghost use Rattle.vm_base.specs.declared.limits.TheConstants.{KOIDS};
+ghost use Rattle.std.specs.Prelude.{◌≡◌, ◌+◌, ◌<◌, ◌≤◌, length};
+ghost use Rattle.vm_base.specs.declared.limits.TheConstants.{DATA_BYTES, KOIDS, PIN_PAGES};
+ghost use Rattle.vm_model.specs.Machine.Lent.{command_of, reply_for};
 
 use crate::dispatching::dispatch;
 use page_store::PageStore;
 use pin_table::PinTable;
 use std::alloc::Global;
 use std::marker::Model;
-use vm_model::{Command, Reply};
+use vm_base::{DATA_BYTES, PIN_PAGES};
+use vm_model::{Answer, Call, Command, Reply};
 use vmo_table::VmoTable;
 
 /// The names, VMOs and pins of the machine, over a store of pages. One `step` is one event.
@@ -62,6 +64,30 @@ impl Vm {
         ensures good { IsGoodState (state_of (P.content store.new) self.new) }
         ensures next { (P.content store.new).next ≤ (P.content store.old).next + 1 }
     {
-        dispatch(store, &mut self.vmos, &mut self.pins, command)
+        let mut bytes = [0; DATA_BYTES];
+        let mut numbers = [0; PIN_PAGES];
+        self.answer(store, &command.lend(), &mut bytes, &mut numbers)
+            .into_reply()
+    }
+
+    /// The event of `step` for a command whose bytes are lent. The answer lends what was read of `bytes`, which
+    /// has room for `DATA_BYTES` bytes, and the frames of pinned pages of `numbers`, which has room for `PIN_PAGES`.
+    pub fn answer<'a, P: PageStore>(
+        &mut self,
+        store: &mut P,
+        call: &Call<'_>,
+        bytes: &'a mut [u8],
+        numbers: &'a mut [u64],
+    ) -> Answer<'a>
+        requires good { IsGoodState (state_of (P.content store.old) self.old) }
+        requires next { (P.content store.old).next < KOIDS }
+        requires bytes { DATA_BYTES ≤ length bytes.old }
+        requires numbers { PIN_PAGES ≤ length numbers.old }
+        ensures step { Step (state_of (P.content store.old) self.old) (command_of call.now) (reply_for result)
+            (state_of (P.content store.new) self.new) }
+        ensures good { IsGoodState (state_of (P.content store.new) self.new) }
+        ensures next { (P.content store.new).next ≤ (P.content store.old).next + 1 }
+    {
+        dispatch(store, &mut self.vmos, &mut self.pins, call, bytes, numbers)
     }
 }

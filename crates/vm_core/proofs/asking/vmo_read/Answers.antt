@@ -3,8 +3,8 @@ use Rattle.vm_model.specs.declared.command.Command.TheVariants.{VmoRead}
 use Rattle.vm_core.proofs.CallLaws.{inside_named, steps_named}
 use Rattle.vm_core.proofs.asking.vmo_read.Goals as goal
 
-pub read-requires-clause-inside : goal.read-requires-clause-inside
-read-requires-clause-inside g c = inside_named c.args.vmos.now c.args.name c.requires c.in-Some.ensures
+pub read_into-requires-clause-inside : goal.read_into-requires-clause-inside
+read_into-requires-clause-inside g c = inside_named c.args.vmos.now c.args.name c.requires.parts c.in-Some.ensures
 
 pub returns-in-Ok : goal.returns-in-Ok
 returns-in-Ok g c =

@@ -12,8 +12,8 @@ returns-in-VmoClose-clause-step g c = rw c.in-VmoClose.is (record {
 pub vmo_create-requires-clause-parts : goal.vmo_create-requires-clause-parts
 vmo_create-requires-clause-parts g c = parts_of _ c.args.vmos.now c.args.pins.now c.requires.good
 
-pub vmo_read-requires : goal.vmo_read-requires
-vmo_read-requires g c = parts_of _ c.args.vmos.now c.args.pins.now c.requires.good
+pub vmo_read-requires-clause-parts : goal.vmo_read-requires-clause-parts
+vmo_read-requires-clause-parts g c = parts_of _ c.args.vmos.now c.args.pins.now c.requires.good
 
 pub vmo_write-requires : goal.vmo_write-requires
 vmo_write-requires g c = parts_of _ c.args.vmos.now c.args.pins.now c.requires.good

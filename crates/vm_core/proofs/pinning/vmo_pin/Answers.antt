@@ -2,8 +2,8 @@ use Rattle.std.proofs.Common.{sym}
 use Rattle.vm_core.proofs.CallLaws.{counted_parts}
 use Rattle.vm_core.proofs.pinning.vmo_pin.Goals as goal
 
-pub pin-requires-clause-parts : goal.pin-requires-clause-parts
-pin-requires-clause-parts g c = counted_parts _ c.args.vmos.now c.args.pins.now c.requires.good c.requires.counted
+pub pin_into-requires-clause-parts : goal.pin_into-requires-clause-parts
+pin_into-requires-clause-parts g c = counted_parts _ c.args.vmos.now c.args.pins.now c.requires.good c.requires.counted
 
 pub returns-in-Ok-clause-step : goal.returns-in-Ok-clause-step
 returns-in-Ok-clause-step g c =

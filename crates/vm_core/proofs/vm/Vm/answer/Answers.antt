@@ -1,6 +1,6 @@
 use Rattle.vm_model.proofs.StepLaws.{Step-keeps}
 use Rattle.vm_core.specs.Vm.{bare_state}
-use Rattle.vm_core.proofs.vm.Vm.step.Goals as goal
+use Rattle.vm_core.proofs.vm.Vm.answer.Goals as goal
 
 pub dispatch-requires-clause-good : goal.dispatch-requires-clause-good
 dispatch-requires-clause-good g c =
