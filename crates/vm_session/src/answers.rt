@@ -1,44 +1,44 @@
 //! Answering the lines of a script, one after another.
 
-ghost use Rattle.std.specs.Prelude.{◌≡◌, ◌+◌, ◌^◌, ◌<◌, ◌≤◌, ℕ, Option, List, length, IfNone, Some, MatchOption, ◌≢◌};
+ghost use Rattle.std.specs.Prelude.{◌≡◌, ◌+◌, ◌^◌, ◌<◌, ◌≤◌, ℕ, Option, List, IfNone, Some, MatchOption, ◌≢◌};
 ghost use Rattle.script_io.specs.Faults.{HasCause, HasFailed};
 ghost use Rattle.vm_model.specs.Machine.State.{IsGoodState};
 ghost use Rattle.vm_core.specs.Vm.{state_of};
 ghost use Rattle.vm_session.specs.Outcome.{AnswersLine, EndsAs};
 ghost use Rattle.vm_session.specs.Serving.{IsServed, IsReady, FetchesOnce, bytes_left};
 
-use crate::replies::push_reply;
+use crate::replies::push_answer;
+use crate::rooms::Rooms;
 use page_store::PageStore;
 use script_io::{Fetch, Lines, Sink, Source, Status};
-use script_text::{Line, read_line};
-use vm_base::{Failed, KOIDS, Refusal, TEXT_ROOM};
+use script_text::read_call;
+use vm_base::{Failed, KOIDS, Refusal};
 use vm_core::Vm;
-use vm_model::Reply;
+use vm_model::Answer;
 
 /// Answers one line. `Failed` where the sink failed; the line was done all the same.
 fn answer_line<P: PageStore, K: Sink>(
     store: &mut P,
     vm: &mut Vm,
     sink: &mut K,
-    buffer: &mut [u8],
+    rooms: &mut Rooms,
     line: &[u8],
 ) -> Result<(), Failed>
     requires good { IsGoodState (state_of (P.content store.old) vm.old) }
     requires next { (P.content store.old).next < KOIDS }
-    requires room { TEXT_ROOM ≤ length buffer.old }
     ensures answer { AnswersLine line.now (state_of (P.content store.old) vm.old)
         (state_of (P.content store.new) vm.new) (K.contents sink.old) (K.contents sink.new) result }
     ensures good { IsGoodState (state_of (P.content store.new) vm.new) }
     ensures next { (P.content store.new).next ≤ (P.content store.old).next + 1 }
     ensures cause { HasCause (K.faults sink.old) (K.faults sink.new) result }
 {
-    match read_line(line) {
-        Ok(Line::Blank) => Ok(()),
-        Ok(Line::Order(command)) => {
-            let reply = vm.step(store, &command);
-            push_reply(sink, &reply, buffer)
+    match read_call(line, &mut rooms.written) {
+        Ok(None) => Ok(()),
+        Ok(Some(call)) => {
+            let answer = vm.answer(store, &call, &mut rooms.read, &mut rooms.pinned);
+            push_answer(sink, &answer, &mut rooms.reply)
         }
-        Err(_) => push_reply(sink, &Reply::Refused(Refusal::Syntax), buffer),
+        Err(_) => push_answer(sink, &Answer::Refused(Refusal::Syntax), &mut rooms.reply),
     }
 }
 
@@ -50,12 +50,11 @@ pub fn answer_next<P: PageStore, S: Source, K: Sink>(
     lines: &mut Lines,
     source: &mut S,
     sink: &mut K,
-    buffer: &mut [u8],
+    rooms: &mut Rooms,
 ) -> Option<Status>
     requires good { IsGoodState (state_of (P.content store.old) vm.old) }
     requires ready { IsReady lines.old (S.remaining source.old) (P.content store.old).next }
     requires limit { lines.old.limit < 2 ^ 63 }
-    requires room { TEXT_ROOM ≤ length buffer.old }
     ensures served { (frames limit : ℕ) (source_old sink_old : Option (List ℕ))
         → IsServed frames limit lines.old source_old (S.remaining source.old) sink_old (K.contents sink.old)
         (state_of (P.content store.old) vm.old)
@@ -69,7 +68,6 @@ pub fn answer_next<P: PageStore, S: Source, K: Sink>(
     ensures ready { IfNone result (IsReady lines.new (S.remaining source.new) (P.content store.new).next) }
     ensures limit { lines.new.limit ≡ lines.old.limit }
     ensures falls { IfNone result (bytes_left lines.new < bytes_left lines.old) }
-    ensures room { length buffer.new ≡ length buffer.old }
     ensures read_later { S.faults source.old ≤ S.faults source.new }
     ensures write_later { K.faults sink.old ≤ K.faults sink.new }
     ensures read_cause { result ≡ Some Status.ReadFault → HasFailed (S.faults source.old) (S.faults source.new) }
@@ -77,8 +75,8 @@ pub fn answer_next<P: PageStore, S: Source, K: Sink>(
     ensures host_memory { result ≢ Some Status.HostMemory }
 {
     let answered = match lines.next(source) {
-        Fetch::Line => answer_line(store, vm, sink, buffer, lines.line()),
-        Fetch::TooLong => push_reply(sink, &Reply::Refused(Refusal::Syntax), buffer),
+        Fetch::Line => answer_line(store, vm, sink, rooms, lines.line()),
+        Fetch::TooLong => push_answer(sink, &Answer::Refused(Refusal::Syntax), &mut rooms.reply),
         Fetch::End => return Some(Status::Done),
         Fetch::Fault => return Some(Status::ReadFault),
         Fetch::Limit => return Some(Status::ScriptLimit),

@@ -7,6 +7,7 @@
 
 mod answers;
 mod replies;
+mod rooms;
 mod serving;
 mod session;
 mod words;

@@ -4,26 +4,27 @@ ghost use Rattle.std.specs.Prelude.{◌≡◌, ◌≤◌, length, OnOk, OnErr};
 ghost use Rattle.std.specs.Io.KnownBytes.{Appends};
 ghost use Rattle.script_io.specs.Faults.{HasCause, IsCutOff};
 ghost use Rattle.vm_model.specs.Language.Text.{text};
+ghost use Rattle.vm_model.specs.Machine.Lent.{reply_for};
 
-use reply_text::{line_count, write_line};
+use reply_text::{answer_line_count, write_answer_line};
 use script_io::{Sink, push_all};
 use vm_base::{Failed, TEXT_ROOM};
-use vm_model::Reply;
+use vm_model::Answer;
 
-/// Pushes the text of a reply, line by line, through a buffer of at least `TEXT_ROOM` bytes. `Failed`
+/// Pushes the text of an answer, line by line, through a buffer of at least `TEXT_ROOM` bytes. `Failed`
 /// where the sink failed, and then it took a front part of the text.
-pub(crate) fn push_reply<K: Sink>(
+pub(crate) fn push_answer<K: Sink>(
     sink: &mut K,
-    reply: &Reply,
+    answer: &Answer<'_>,
     buffer: &mut [u8],
 ) -> Result<(), Failed>
     requires { TEXT_ROOM ≤ length buffer.old }
-    ensures ok { OnOk result (Appends (K.contents sink.old) (K.contents sink.new) (text reply.now)) }
-    ensures err { OnErr result (IsCutOff (K.contents sink.old) (K.contents sink.new) (text reply.now)) }
+    ensures ok { OnOk result (Appends (K.contents sink.old) (K.contents sink.new) (text (reply_for answer.now))) }
+    ensures err { OnErr result (IsCutOff (K.contents sink.old) (K.contents sink.new) (text (reply_for answer.now))) }
     ensures cause { HasCause (K.faults sink.old) (K.faults sink.new) result }
 {
-    for index in 0..line_count(reply) {
-        let len = write_line(reply, index, buffer);
+    for index in 0..answer_line_count(answer) {
+        let len = write_answer_line(answer, index, buffer);
         push_all(sink, &buffer[..len])?;
     }
     Ok(())

@@ -1,15 +1,16 @@
 //! Serving a script line by line.
 
-ghost use Rattle.std.specs.Prelude.{◌≡◌, ◌+◌, ◌^◌, ◌<◌, ◌≤◌, length, IfOk};
+ghost use Rattle.std.specs.Prelude.{◌≡◌, ◌+◌, ◌^◌, ◌<◌, ◌≤◌};
 ghost use Rattle.script_io.specs.Faults.{HasFailed};
 ghost use Rattle.vm_model.specs.Contents.Content.{nothing};
 ghost use Rattle.vm_session.specs.Outcome.{EndsAs};
 
 use crate::answers::answer_next;
+use crate::rooms::Rooms;
 use page_store::PageStore;
 use script_io::{Lines, Sink, Source, Status};
 use std::alloc::Global;
-use vm_base::{FRAMES, HostMemory, TEXT_ROOM};
+use vm_base::FRAMES;
 use vm_core::Vm;
 
 /// Answers the lines of the script that a source gives, one after another, on a machine with
@@ -40,31 +41,15 @@ pub fn serve<P: PageStore, S: Source, K: Sink>(
     let Ok(mut lines) = Lines::new(alloc, limit) else {
         return Status::HostMemory;
     };
-    let Ok(mut buffer) = zeroed(alloc, TEXT_ROOM) else {
-        return Status::HostMemory;
-    };
     let Ok(()) = store.fill(frames) else {
         return Status::HostMemory;
     };
     let mut vm = Vm::new(alloc);
+    let mut rooms = Rooms::new();
     loop {
-        let next = answer_next(
-            store,
-            &mut vm,
-            &mut lines,
-            source,
-            sink,
-            buffer.as_mut_slice(),
-        );
+        let next = answer_next(store, &mut vm, &mut lines, source, sink, &mut rooms);
         if let Some(status) = next {
             return status;
         }
     }
-}
-
-/// A buffer of this many zeros.
-fn zeroed(alloc: Global, len: usize) -> Result<Vec<u8>, HostMemory>
-    ensures { IfOk result (λ buffer. length buffer.items ≡ len) }
-{
-    vec![in alloc; 0; len].map_err(|_| HostMemory)
 }

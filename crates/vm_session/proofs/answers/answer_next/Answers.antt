@@ -35,7 +35,7 @@ returns-in-Ok-clause-served g c = elim c.match-next.branch [
       rw w.sink-is (rw w.store-is (rw w.vm-is (IsServed-answered frames limit c.args.lines.now c.next.new.self source_old _ _ sink_old _ _ _ _ line.result c.in-Ok.field-0 (sym w.answered-is ∙ c.in-Ok.is) s
       (IsAnswered-line _ _ _ _ _ _ _ _ s.pending w.line.result.now line.result (w.in-Line.ensures.fetches s.pending s.still) w.line.ensures.bytes line.ensures.answer line.ensures.good line.ensures.next) w.in-Line.ensures.limit (λ e. (w.in-Line.ensures.ended e).1))))
   | in-TooLong w ↦ λ frames limit source_old sink_old s.
-      let push = w.push_reply-answered in
+      let push = w.push_answer-answered in
       rw w.sink-is (rw w.store-is (rw w.vm-is (IsServed-answered frames limit c.args.lines.now c.next.new.self source_old _ _ sink_old _ _ _ _ push.result c.in-Ok.field-0 (sym w.answered-is ∙ c.in-Ok.is) s
       (IsAnswered-long _ _ _ _ _ _ _ s.pending push.result (w.in-TooLong.ensures.fetches s.pending s.still) c.requires.good push.ensures.ok push.ensures.err) w.in-TooLong.ensures.limit (λ e. (w.in-TooLong.ensures.ended e).1))))
 ]
@@ -49,7 +49,7 @@ returns-in-Ok-clause-ready g c =
           rw w.store-is (IsReady-answered c.args.lines.now c.next.new.self _ _ _ _ _ _ line.result ready
           (IsAnswered-line _ _ _ _ _ _ _ _ ready.pending w.line.result.now line.result (w.in-Line.ensures.fetches ready.pending ready.still) w.line.ensures.bytes line.ensures.answer line.ensures.good line.ensures.next))
       | in-TooLong w ↦
-          let push = w.push_reply-answered in
+          let push = w.push_answer-answered in
           let now = (state_of (g.P.PageStore.content c.args.store.now) c.args.vm.now) in
           rw w.store-is (IsReady-answered c.args.lines.now c.next.new.self _ _ _ _ now now push.result ready
           (IsAnswered-long _ _ _ _ _ _ now ready.pending push.result (w.in-TooLong.ensures.fetches ready.pending ready.still) c.requires.good push.ensures.ok push.ensures.err))
@@ -64,7 +64,7 @@ returns-in-Ok-clause-falls g c =
           bytes_left-answered c.args.lines.now c.next.new.self _ _ _ _ _ _ line.result ready
           (IsAnswered-line _ _ _ _ _ _ _ _ ready.pending w.line.result.now line.result (w.in-Line.ensures.fetches ready.pending ready.still) w.line.ensures.bytes line.ensures.answer line.ensures.good line.ensures.next) w.in-Line.ensures.limit
       | in-TooLong w ↦
-          let push = w.push_reply-answered in
+          let push = w.push_answer-answered in
           let now = (state_of (g.P.PageStore.content c.args.store.now) c.args.vm.now) in
           bytes_left-answered c.args.lines.now c.next.new.self _ _ _ _ now now push.result ready
           (IsAnswered-long _ _ _ _ _ _ now ready.pending push.result (w.in-TooLong.ensures.fetches ready.pending ready.still) c.requires.good push.ensures.ok push.ensures.err) w.in-TooLong.ensures.limit
@@ -77,7 +77,7 @@ returns-in-Err-clause-served g c = elim c.match-next.branch [
       rw w.sink-is (rw w.store-is (BreaksOff-answered frames limit c.args.lines.now c.next.new.self source_old _ _ sink_old _ _ _ _ line.result c.in-Err.field-0 (sym w.answered-is ∙ c.in-Err.is) s
       (IsAnswered-line _ _ _ _ _ _ _ _ s.pending w.line.result.now line.result (w.in-Line.ensures.fetches s.pending s.still) w.line.ensures.bytes line.ensures.answer line.ensures.good line.ensures.next) w.in-Line.ensures.limit (λ e. (w.in-Line.ensures.ended e).1)))
   | in-TooLong w ↦ λ frames limit source_old sink_old s.
-      let push = w.push_reply-answered in
+      let push = w.push_answer-answered in
       rw w.sink-is (rw w.store-is (BreaksOff-answered frames limit c.args.lines.now c.next.new.self source_old _ _ sink_old _ _ _ _ push.result c.in-Err.field-0 (sym w.answered-is ∙ c.in-Err.is) s
       (IsAnswered-long _ _ _ _ _ _ _ s.pending push.result (w.in-TooLong.ensures.fetches s.pending s.still) c.requires.good push.ensures.ok push.ensures.err) w.in-TooLong.ensures.limit (λ e. (w.in-TooLong.ensures.ended e).1)))
 ]

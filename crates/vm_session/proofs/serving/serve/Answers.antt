@@ -1,14 +1,10 @@
 use Rattle.std.proofs.Common.{◌∙◌, refl, ap, arith}
-use Rattle.std.proofs.lemmas.Grind.{common_steps}
 use Rattle.vm_core.proofs.StartLaws.{state_of-filled}
 use Rattle.vm_session.proofs.Beginning.{NothingDone-yet, IsServed-fresh, IsReady-fresh}
 use Rattle.vm_session.proofs.serving.serve.Goals as goal
 
 pub returns-in_default-clause-ends : goal.returns-in_default-clause-ends
 returns-in_default-clause-ends g c = NothingDone-yet _ _ _ _ refl c.requires.empty
-
-pub returns-in_default-zeroed-clause-ends : goal.returns-in_default-zeroed-clause-ends
-returns-in_default-zeroed-clause-ends g c = NothingDone-yet _ _ _ _ refl c.requires.empty
 
 pub returns-in_default-fill-clause-ends : goal.returns-in_default-fill-clause-ends
 returns-in_default-fill-clause-ends g c = NothingDone-yet _ _ _ _ c.in_default-fill.ensures.err c.requires.empty
@@ -20,7 +16,6 @@ loop-status-init g c =
       served = IsServed-fresh c.args.frames c.args.limit _ _ _ _ c.in-Ok.ensures empty;
       ready = IsReady-fresh c.args.frames c.args.limit _ _ _ c.in-Ok.ensures empty;
       limit = ap (λ r. r.limit) c.in-Ok.ensures;
-      room = c.in-Ok-zeroed.ensures;
       read_later = omega arith;
       write_later = omega arith;
     }
@@ -30,7 +25,6 @@ loop-status-preserved g c = record {
   served = c.in_default-next.ensures.served c.args.frames c.args.limit _ _ c.loop-status.invariant.served;
   ready = c.in_default-next.ensures.ready;
   limit = c.in_default-next.ensures.limit ∙ c.loop-status.invariant.limit;
-  room = grind (arith, common_steps, c.loop-status.invariant.room, c.in_default-next.ensures.room, c.as_mut_slice.ensures.len, c.as_mut_slice.ensures.value, c.loop-status.buffer.ok);
   read_later = omega (arith, c.loop-status.invariant.read_later, c.in_default-next.ensures.read_later);
   write_later = omega (arith, c.loop-status.invariant.write_later, c.in_default-next.ensures.write_later);
 }

@@ -1,5 +1,4 @@
-use Rattle.std.proofs.Common.{◌≡◌, ◌≤◌, length}
-use Rattle.vm_base.specs.declared.limits.TheConstants.{TEXT_ROOM}
+use Rattle.std.proofs.Common.{◌≡◌, ◌≤◌}
 use Rattle.vm_core.specs.Vm.{state_of}
 use Rattle.vm_session.specs.Serving.{IsServed, IsReady, bytes_left}
 use Rattle.vm_session.proofs.serving.serve.Given as goal
@@ -11,7 +10,6 @@ invariant-loop-status g l =
       served : IsServed l.fn.frames l.fn.limit l.lines (g.S.Source.remaining l.fn.source) (g.S.Source.remaining l.source) (g.K.Sink.contents l.fn.sink) (g.K.Sink.contents l.sink) state;
       ready : IsReady l.lines (g.S.Source.remaining l.source) (g.P.PageStore.content l.store).next;
       limit : l.lines.limit ≡ l.fn.limit;
-      room : length l.buffer.items ≡ TEXT_ROOM;
       read_later : g.S.Source.faults l.fn.source ≤ g.S.Source.faults l.source;
       write_later : g.K.Sink.faults l.fn.sink ≤ g.K.Sink.faults l.sink;
     }

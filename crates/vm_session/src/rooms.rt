@@ -1,0 +1,29 @@
+//! Where the data of a line stands while the line is answered.
+
+use vm_base::{DATA_BYTES, PIN_PAGES, TEXT_ROOM};
+
+/// Room for the data of one line, made once for a whole script, so that no command and no reply moves
+/// its own. Each line overwrites what it uses.
+#[derive(Drop)]
+pub(crate) struct Rooms {
+    /// The bytes that a command writes.
+    pub(crate) written: [u8; DATA_BYTES],
+    /// The bytes that a command reads.
+    pub(crate) read: [u8; DATA_BYTES],
+    /// The frames of the pages that a command pins.
+    pub(crate) pinned: [u64; PIN_PAGES],
+    /// A line of a reply.
+    pub(crate) reply: [u8; TEXT_ROOM],
+}
+
+impl Rooms {
+    /// Rooms with zeros in them.
+    pub(crate) fn new() -> Rooms {
+        Rooms {
+            written: [0; DATA_BYTES],
+            read: [0; DATA_BYTES],
+            pinned: [0; PIN_PAGES],
+            reply: [0; TEXT_ROOM],
+        }
+    }
+}
