@@ -122,7 +122,7 @@ fn put_first_line(answer: &Answer<'_>, out: &mut [u8]) -> usize
         Answer::Pins(numbers) => put_numbers(numbers.as_slice(), out, ok),
         Answer::Address(address) => put_address(*address, out, ok),
         Answer::Access { faults, bytes } => put_access(*faults, bytes.as_slice(), out, ok),
-        Answer::Faults(faults) => put_field(b"faults", *faults, out, ok),
+        Answer::Faults(faults) => put_field(b" faults=", *faults, out, ok),
         Answer::Info(info) => put_info(info, out, ok),
         Answer::Runs(runs) => put_number(runs.as_slice().len() as u64, out, ok),
         Answer::Stat(stat) => put_stat(stat, out, ok),

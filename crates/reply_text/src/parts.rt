@@ -23,15 +23,13 @@ pub fn put_numbers(numbers: &[u64], out: &mut [u8], at: usize) -> usize
     end
 }
 
-/// Writes a number with its name behind a space, as ` free=7`.
-pub fn put_field(name: &[u8], number: u64, out: &mut [u8], at: usize) -> usize
-    requires { at + length name.now + 22 ≤ length out.old }
-    ensures written { take result out.new ≡ take at out.old ++ field name.now number }
-    ensures end { result ≤ at + length name.now + 22 }
+/// Writes a number behind its label, as ` free=7`.
+pub fn put_field(label: &[u8], number: u64, out: &mut [u8], at: usize) -> usize
+    requires { at + length label.now + 20 ≤ length out.old }
+    ensures written { take result out.new ≡ take at out.old ++ (label.now ++ decimal number) }
+    ensures end { result ≤ at + length label.now + 20 }
 {
-    let at = put(b" ", out, at);
-    let at = put(name, out, at);
-    let at = put(b"=", out, at);
+    let at = put(label, out, at);
     put_decimal(number, out, at)
 }
 
@@ -42,7 +40,7 @@ pub fn put_access(faults: u64, bytes: &[u8], out: &mut [u8], at: usize) -> usize
         ≡ take at out.old ++ field (codes "faults") faults ++ codes " " ++ data_text bytes.now }
     ensures end { result ≤ at + 30 + 2 * length bytes.now }
 {
-    let at = put_field(b"faults", faults, out, at);
+    let at = put_field(b" faults=", faults, out, at);
     put_data(bytes, out, at)
 }
 
@@ -63,13 +61,13 @@ pub fn put_info(info: &Info, out: &mut [u8], at: usize) -> usize
     ensures written { take result out.new ≡ take at out.old ++ info_text info.now }
     ensures end { result ≤ at + 200 }
 {
-    let at = put_field(b"koid", info.koid.0, out, at);
-    let at = put_field(b"size", info.size, out, at);
-    let at = put_field(b"held", info.held, out, at);
-    let at = put_field(b"private", info.private_pages, out, at);
-    let at = put_field(b"shared", info.shared_pages, out, at);
-    let at = put_field(b"charged", info.charged, out, at);
-    put_field(b"children", info.children, out, at)
+    let at = put_field(b" koid=", info.koid.0, out, at);
+    let at = put_field(b" size=", info.size, out, at);
+    let at = put_field(b" held=", info.held, out, at);
+    let at = put_field(b" private=", info.private_pages, out, at);
+    let at = put_field(b" shared=", info.shared_pages, out, at);
+    let at = put_field(b" charged=", info.charged, out, at);
+    put_field(b" children=", info.children, out, at)
 }
 
 /// Writes the machine's frames and VMOs.
@@ -78,10 +76,10 @@ pub fn put_stat(stat: &Stat, out: &mut [u8], at: usize) -> usize
     ensures written { take result out.new ≡ take at out.old ++ stat_text stat.now }
     ensures end { result ≤ at + 110 }
 {
-    let at = put_field(b"frames", stat.frames as u64, out, at);
-    let at = put_field(b"used", stat.used as u64, out, at);
-    let at = put_field(b"free", stat.free as u64, out, at);
-    put_field(b"vmos", stat.vmos, out, at)
+    let at = put_field(b" frames=", stat.frames as u64, out, at);
+    let at = put_field(b" used=", stat.used as u64, out, at);
+    let at = put_field(b" free=", stat.free as u64, out, at);
+    put_field(b" vmos=", stat.vmos, out, at)
 }
 
 /// Writes the line of a run, with its line feed.
@@ -94,10 +92,9 @@ pub fn put_run(run: &Run, out: &mut [u8], at: usize) -> usize
     let at = put_address(run.addr, out, at);
     let at = put_number(run.len, out, at);
     let at = put_perm(run.perm, out, at);
-    let at = put_field(b"vmo", run.koid.0, out, at);
-    let at = put_field(b"offset", run.offset, out, at);
-    let at = put(b" region=r", out, at);
-    let at = put_decimal(run.region.0 as u64, out, at);
+    let at = put_field(b" vmo=", run.koid.0, out, at);
+    let at = put_field(b" offset=", run.offset, out, at);
+    let at = put_field(b" region=r", run.region.0 as u64, out, at);
     put(b"\n", out, at)
 }
 
