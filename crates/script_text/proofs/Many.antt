@@ -1,5 +1,6 @@
 -- More arguments than any command has: its flags are words of a list, each at most once, and so no more than the list.
-use Rattle.std.proofs.Common.{◌≡◌, ℕ, ◌<◌, ◌≤◌, Bool, true, false, ◌&&◌, ◌||◌, not, List, [], ◌∷◌, length, refl, ◌∙◌, ap, arith}
+use Rattle.std.proofs.Common.{◌≡◌, ℕ, ◌<◌, ◌≤◌, Bool, true, false, ◌&&◌, ◌||◌, not, List, [], ◌∷◌, length, refl, ◌∙◌}
+use Rattle.std.proofs.Common.{ap, arith}
 use Rattle.std.specs.Prelude.{Option, Some, None, option_and_then, codes, nat_eq, if◌then◌else◌}
 use Rattle.std.specs.List.{IsDistinct, AllByRecursion}
 use Rattle.std.specs.Cmp.Lexicographic.{pointwise}
@@ -7,7 +8,8 @@ use Rattle.std.proofs.lemmas.Cmp.{nat_list_eq_equiv}
 use Rattle.std.proofs.lemmas.Map.Made.{length-le_from_is_member}
 use Rattle.std.proofs.lemmas.Slice.Eq.{bytes_eq-Decides}
 use Rattle.vm_model.specs.declared.command.Command.{Command}
-use Rattle.vm_model.specs.Language.Reading.{command, flagged, are_flags, stands, is_word, vmo, region, number, child_kind, perm, vmo_create, vmo_create_child, vmar_allocate, vmar_map}
+use Rattle.vm_model.specs.Language.Reading.{command, flagged, are_flags, stands, is_word, vmo, region, number}
+use Rattle.vm_model.specs.Language.Reading.{child_kind, perm, vmo_create, vmo_create_child, vmar_allocate, vmar_map}
 use Rattle.script_text.specs.Shapes.{map_flag_words, region_flag_words}
 
 -- three tests that hold

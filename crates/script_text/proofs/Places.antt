@@ -1,5 +1,7 @@
 -- Going from word to word along a line.
-use Rattle.std.proofs.Common.{◌≡◌, ℕ, suc, ◌+◌, ◌-◌, ◌<◌, ◌≤◌, true, false, not, List, [], ◌∷◌, ◌++◌, length, take, drop, get_or, refl, sym, ◌∙◌, ap, arith, drop-cons, length-drop, position, length-append}
+use Rattle.std.proofs.Common.{◌≡◌, ℕ, suc, ◌+◌, ◌-◌, ◌<◌, ◌≤◌, true, false, not, List, [], ◌∷◌, ◌++◌, length, take}
+use Rattle.std.proofs.Common.{drop, get_or, refl, sym, ◌∙◌, ap, arith, drop-cons, length-drop, position}
+use Rattle.std.proofs.Common.{length-append}
 use Rattle.std.specs.Prelude.{Some, slice_get, slice_range}
 use Rattle.std.specs.List.{position_or_len}
 use Rattle.std.proofs.lemmas.Bool.Decides.{nat_tests}
@@ -9,7 +11,8 @@ use Rattle.std.proofs.lemmas.Option.{slice_get-get_or}
 use Rattle.std.proofs.Math.Seq.{take-add, get_or-append_seam, take-append_seam}
 use Rattle.vm_model.specs.Language.Reading.{words, is_blank, begins_blank, before_first}
 use Rattle.script_text.specs.Places.{IsWordFrom}
-use Rattle.script_text.proofs.Cutting.{is_solid, words-blank, words-alone, words-longer, words-first, words-start, len-solid, len-blank, start-blank, start-solid}
+use Rattle.script_text.proofs.Cutting.{is_solid, words-blank, words-alone, words-longer, words-first, words-start}
+use Rattle.script_text.proofs.Cutting.{len-solid, len-blank, start-blank, start-solid}
 
 before_first-append : (a : ℕ) (vs us ws : List (List ℕ)) (w : List ℕ) → vs ≡ w ∷ ws
     → before_first a (vs ++ us) ≡ before_first a vs ++ us

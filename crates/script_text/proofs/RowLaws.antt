@@ -1,5 +1,6 @@
 -- A command word is looked for among those of its length.
-use Rattle.std.proofs.Common.{◌≡◌, ◌≢◌, ℕ, true, false, List, [], ◌∷◌, length, refl, sym, ◌∙◌, ap, filter, cond, Bool, ◌||◌}
+use Rattle.std.proofs.Common.{◌≡◌, ◌≢◌, ℕ, true, false, List, [], ◌∷◌, length, refl, sym, ◌∙◌, ap, filter, cond}
+use Rattle.std.proofs.Common.{Bool, ◌||◌}
 use Rattle.std.specs.Prelude.{Option, None, ◌==◌, if◌then◌else◌}
 use Rattle.std.specs.List.{list_any}
 use Rattle.std.proofs.lemmas.Bool.{eqb-false, ne_eqb}

@@ -1,6 +1,9 @@
 -- What a command is about, by which its arguments are written.
 use Rattle.vm_model.specs.declared.command.Command.{Command}
-use Rattle.vm_model.specs.declared.command.Command.TheVariants.{VmoCreate, VmoChild, VmoClose, VmoSize, VmoSetSize, VmoInfo, RootCreate, VmarAllocate, VmarMap, VmarUnmap, VmarProtect, VmarDestroy, Maps, MemRead, MemWrite, Stat}
+use Rattle.vm_model.specs.declared.command.Command.TheVariants.{VmoCreate, VmoChild, VmoClose, VmoSize, VmoSetSize}
+use Rattle.vm_model.specs.declared.command.Command.TheVariants.{VmoInfo, RootCreate, VmarAllocate, VmarMap}
+use Rattle.vm_model.specs.declared.command.Command.TheVariants.{VmarUnmap, VmarProtect, VmarDestroy, Maps, MemRead}
+use Rattle.vm_model.specs.declared.command.Command.TheVariants.{MemWrite, Stat}
 
 pub data Subject : Type 0 where
   -- a VMO as a whole

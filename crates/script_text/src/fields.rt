@@ -1,7 +1,8 @@
 //! How the fields of a command are spelled: numbers, names, byte data and permissions.
 
 ghost use Rattle.std.specs.Prelude.{◌≡◌, ◌≤◌, ◌^◌, length};
-ghost use Rattle.vm_model.specs.Language.Reading.{below, digits, number, byte, name_behind, vmo, region, pin, byte_data, perm, child_kind};
+ghost use Rattle.vm_model.specs.Language.Reading.{below, digits, number, byte, name_behind, vmo, region, pin};
+ghost use Rattle.vm_model.specs.Language.Reading.{byte_data, perm, child_kind};
 ghost use Rattle.script_text.specs.Radixes.{base_of, value_in};
 
 use vm_base::{DATA_BYTES, Perm, PinName, RegionName, VmoName};

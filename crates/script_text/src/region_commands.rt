@@ -1,10 +1,13 @@
 //! The commands of address regions and of the whole machine, from their arguments.
 
 ghost use Rattle.std.specs.Prelude.{◌≡◌, ◌≤◌, length, map, option_map};
-ghost use Rattle.vm_model.specs.Language.Reading.{are_flags, of_region, of_region_range, vmar_allocate, vmar_map, vmar_protect, mem_write, stat};
-ghost use Rattle.vm_model.specs.declared.command.Command.TheVariants.{RootCreate, VmarUnmap, VmarDestroy, Maps, MemRead};
+ghost use Rattle.vm_model.specs.Language.Reading.{are_flags, of_region, of_region_range, vmar_allocate, vmar_map};
+ghost use Rattle.vm_model.specs.Language.Reading.{vmar_protect, mem_write, stat};
+ghost use Rattle.vm_model.specs.declared.command.Command.TheVariants.{RootCreate, VmarUnmap, VmarDestroy, Maps};
+ghost use Rattle.vm_model.specs.declared.command.Command.TheVariants.{MemRead};
 ghost use Rattle.vm_model.specs.Machine.Lent.{command_of};
-ghost use Rattle.script_text.specs.Shapes.{map_flag_words, map_flags, one_region, region_caps, region_flag_words, region_flags, region_range};
+ghost use Rattle.script_text.specs.Shapes.{map_flag_words, map_flags, one_region, region_caps, region_flag_words};
+ghost use Rattle.script_text.specs.Shapes.{region_flags, region_range};
 
 use crate::fields::{byte_data_into, number, perm, region, vmo};
 use crate::flags::{are_flags, bit, stands};

@@ -1,7 +1,8 @@
 //! How the arguments of the commands of VMOs are written.
 
 ghost use Rattle.std.specs.Prelude.{◌≡◌, ◌+◌, ◌≤◌, [], ◌∷◌, ◌++◌, length, take, drop, codes, decimal};
-ghost use Rattle.vm_model.specs.Language.Spelling.{Has32, Has64, HasRanges, command_words, kind_word, set_flags, vmo_word};
+ghost use Rattle.vm_model.specs.Language.Spelling.{Has32, Has64, HasRanges, command_words, kind_word, set_flags};
+ghost use Rattle.vm_model.specs.Language.Spelling.{vmo_word};
 ghost use Rattle.script_text.specs.Subjects.{subject_of, OfPages, OfVmo};
 ghost use Rattle.script_text.specs.Spaced.{spaced};
 

@@ -1,8 +1,10 @@
 //! The commands of VMOs, from their arguments.
 
 ghost use Rattle.std.specs.Prelude.{◌≡◌, ◌≤◌, length, map, option_map};
-ghost use Rattle.vm_model.specs.Language.Reading.{of_vmo, of_vmo_range, vmo_create, vmo_create_child, vmo_set_size, vmo_write, vmo_fill, vmo_pin, vmo_unpin};
-ghost use Rattle.vm_model.specs.declared.command.Command.TheVariants.{VmoClose, VmoSize, VmoRead, VmoCommit, VmoDecommit, VmoZero, VmoInfo};
+ghost use Rattle.vm_model.specs.Language.Reading.{of_vmo, of_vmo_range, vmo_create, vmo_create_child, vmo_set_size};
+ghost use Rattle.vm_model.specs.Language.Reading.{vmo_write, vmo_fill, vmo_pin, vmo_unpin};
+ghost use Rattle.vm_model.specs.declared.command.Command.TheVariants.{VmoClose, VmoSize, VmoRead, VmoCommit};
+ghost use Rattle.vm_model.specs.declared.command.Command.TheVariants.{VmoDecommit, VmoZero, VmoInfo};
 ghost use Rattle.vm_model.specs.Machine.Lent.{command_of};
 ghost use Rattle.script_text.specs.Shapes.{one_vmo, vmo_range};
 

@@ -9,5 +9,6 @@ returns-in_err-word_start-clause-words c =
 pub returns : goal.returns
 returns c =
     let cut = IsCut-by_positions c.args.line.now c.in_ok-word_start.field-0 c.split_at.result.1.now
-    c.word_len.result (sym c.word_start.ensures ∙ c.in_ok-word_start.was) c.split_at.ensures.back c.word_len.ensures.len in
+    c.word_len.result (sym c.word_start.ensures ∙ c.in_ok-word_start.was) c.split_at.ensures.back
+    c.word_len.ensures.len in
     rw (c.split_at-2.ensures.front, c.split_at-2.ensures.back) record { words = cut.words; shorter = cut.shorter }

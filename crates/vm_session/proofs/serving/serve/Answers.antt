@@ -11,7 +11,8 @@ returns-in_default-fill-clause-ends g c = NothingDone-yet _ _ _ _ c.in_default-f
 
 pub loop-status-init : goal.loop-status-init
 loop-status-init g c =
-    let empty = state_of-filled c.args.frames _ _ c.new-vm.result c.new-vm.ensures.bare c.in-Ok-fill.ensures.ok c.requires.empty in
+    let empty = state_of-filled c.args.frames _ _ c.new-vm.result c.new-vm.ensures.bare c.in-Ok-fill.ensures.ok
+    c.requires.empty in
     record {
       served = IsServed-fresh c.args.frames c.args.limit _ _ _ _ c.in-Ok.ensures empty;
       ready = IsReady-fresh c.args.frames c.args.limit _ _ _ c.in-Ok.ensures empty;

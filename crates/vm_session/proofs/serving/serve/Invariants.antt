@@ -7,7 +7,8 @@ abbrev pub invariant-loop-status : goal.invariant-loop-status
 invariant-loop-status g l =
     let state = state_of (g.P.PageStore.content l.store) l.vm in
     record {
-      served : IsServed l.fn.frames l.fn.limit l.lines (g.S.Source.remaining l.fn.source) (g.S.Source.remaining l.source) (g.K.Sink.contents l.fn.sink) (g.K.Sink.contents l.sink) state;
+      served : IsServed l.fn.frames l.fn.limit l.lines (g.S.Source.remaining l.fn.source)
+          (g.S.Source.remaining l.source) (g.K.Sink.contents l.fn.sink) (g.K.Sink.contents l.sink) state;
       ready : IsReady l.lines (g.S.Source.remaining l.source) (g.P.PageStore.content l.store).next;
       limit : l.lines.limit ≡ l.fn.limit;
       read_later : g.S.Source.faults l.fn.source ≤ g.S.Source.faults l.source;
