@@ -14,14 +14,14 @@ use Rattle.vmo_ops.proofs.NameLaws.{parts_inside}
 use Rattle.vm_core.specs.Calls.{CountsPins, StepsVmos, Steps}
 
 -- a store and a table of VMOs are parts of what they are parts of together with the pins
-pub parts_of : (c : Content) (vmos : Vmos) (pins : Pins) → AreTogether c vmos pins → AreParts c vmos
-parts_of c vmos pins together = (with_tables together.0 c vmos pins, together.1)
+pub parts_of : {c : Content} {vmos : Vmos} {pins : Pins} → AreTogether c vmos pins → AreParts c vmos
+parts_of {c} {vmos} {pins} together = record { rest = with_tables together.rest c vmos pins; good = together.good }
 
 -- and what keeps each VMO is counted, where the pins are
 pub counted_parts : (c : Content) (vmos : Vmos) (pins : Pins) → AreTogether c vmos pins → CountsPins vmos pins
     → (s : State) × IsWellCounted vmos (with_tables s c vmos pins)
 counted_parts c vmos pins together counted =
-    (together.0, record { good = together.1; counted = counted.each (with_tables together.0 c vmos pins) })
+    (together.rest, record { good = together.good; counted = counted.each (with_tables together.rest c vmos pins) })
 
 -- keepers that did not change count the same pins
 pub counts_same : {old new : Vmos} {pins : Pins} → keepers_of new ≡ keepers_of old → CountsPins old pins

@@ -4,6 +4,7 @@ ghost use Rattle.std.specs.Prelude.{◌<◌, ◌≤◌, length};
 ghost use Rattle.vm_base.specs.declared.limits.TheConstants.{DATA_BYTES, KOIDS, PIN_PAGES};
 ghost use Rattle.vm_model.specs.Machine.Lent.{command_of, reply_for};
 ghost use Rattle.vm_model.proofs.StepLaws.{GivesName};
+ghost use Rattle.vmo_table.specs.Table.{AreParts};
 ghost use Rattle.vmo_ops.specs.Targets.{AreTogether};
 ghost use Rattle.vm_core.specs.Calls.{CountsPins, Steps};
 
@@ -28,6 +29,7 @@ pub(crate) fn dispatch<'a, P: PageStore>(
     bytes: &'a mut [u8],
     numbers: &'a mut [u64],
 ) -> Answer<'a>
+    requires parts { AreParts (P.content store.old) vmos.old }
     requires good { AreTogether (P.content store.old) vmos.old pins.old }
     requires counted { CountsPins vmos.old pins.old }
     requires next { (P.content store.old).next < KOIDS }

@@ -26,4 +26,4 @@ named_inside s target good named = IsInside-good s named.0 target good named.1
 
 pub parts_inside : (c : Content) (t : Table) (target : Target) → AreParts c t → IsNamed (names_of t) target
     → IsInside c target
-parts_inside c t target parts named = named_inside (with_vmos parts.0 c t) target parts.1 named
+parts_inside c t target parts named = named_inside (with_vmos parts.rest c t) target parts.good named

@@ -47,8 +47,9 @@ abbrev pub with_tables : State → Content → Vmos → Pins → State
 with_tables s c vmos pins = record (with_vmos s c vmos) { pins = pins_of pins }
 
 -- the content of a store and the two tables are parts of one good state
-abbrev pub AreTogether : Content → Vmos → Pins → Type 0
-AreTogether c vmos pins = (s : State) × IsGoodState (with_tables s c vmos pins)
+pub record AreTogether (c : Content) (vmos : Vmos) (pins : Pins) : Type 0 where
+  pub rest : State
+  pub good : IsGoodState (with_tables rest c vmos pins)
 
 -- a state is good, and the table counts right what keeps each VMO of it
 pub record IsWellCounted (vmos : Vmos) (s : State) : Type 0 where

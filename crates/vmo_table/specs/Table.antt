@@ -43,8 +43,9 @@ abbrev pub with_vmos : State → Content → Table → State
 with_vmos s c t = record s { content = c; names = names_of t; lineage = lineage_in t }
 
 -- the content of a store and a table are parts of one good state
-abbrev pub AreParts : Content → Table → Type 0
-AreParts c t = (s : State) × IsGoodState (with_vmos s c t)
+pub record AreParts (c : Content) (t : Table) : Type 0 where
+  pub rest : State
+  pub good : IsGoodState (with_vmos rest c t)
 
 -- some name stands for this
 abbrev pub IsNamed : (ℕ → Option Target) → Target → Type 0

@@ -5,7 +5,7 @@ use Rattle.vm_core.proofs.changing.vmo_set_size.Goals as goal
 
 pub resize-requires-clause-inside : goal.resize-requires-clause-inside
 resize-requires-clause-inside g c =
-    inside_named c.args.vmos.now c.args.name (parts_of _ c.args.vmos.now c.args.pins.now c.requires) c.in-Some.ensures
+    inside_named c.args.vmos.now c.args.name (parts_of c.requires) c.in-Some.ensures
 
 pub returns-in-Some : goal.returns-in-Some
 returns-in-Some g c =

@@ -5,7 +5,7 @@ use Rattle.vm_core.proofs.changing.vmo_zero.Goals as goal
 
 pub zero-requires-clause-inside : goal.zero-requires-clause-inside
 zero-requires-clause-inside g c =
-    inside_named c.args.vmos.now c.args.name (parts_of _ c.args.vmos.now c.args.pins.now c.requires) c.in-Some.ensures
+    inside_named c.args.vmos.now c.args.name (parts_of c.requires) c.in-Some.ensures
 
 pub returns-in-Some : goal.returns-in-Some
 returns-in-Some g c =

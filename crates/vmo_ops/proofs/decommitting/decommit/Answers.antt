@@ -25,37 +25,37 @@ returns-then-in_page-ne0 g c = λ rest name named.
     ])
 
 pub may_decommit-requires : goal.may_decommit-requires
-may_decommit-requires g c = named_lineage _ _ c.requires.parts.1 c.requires.named
+may_decommit-requires g c = named_lineage _ _ c.requires.parts.good c.requires.named
 
 pub returns-then-not-may_decommit : goal.returns-then-not-may_decommit
 returns-then-not-may_decommit g c = λ rest name named.
     decommit_kept _ name _ _ _ named c.if-not-t.false
-    (omega arith) (omega arith) (named_lineage _ _ c.requires.parts.1 c.requires.named) c.may_decommit.result
+    (omega arith) (omega arith) (named_lineage _ _ c.requires.parts.good c.requires.named) c.may_decommit.result
     c.may_decommit.ensures c.if-not-may_decommit.true
 
 pub place_in_vmo-requires-clause-inside : goal.place_in_vmo-requires-clause-inside
-place_in_vmo-requires-clause-inside g c = named_inside _ _ c.requires.parts.1 c.requires.named
+place_in_vmo-requires-clause-inside g c = named_inside _ _ c.requires.parts.good c.requires.named
 
 pub returns-in_default : goal.returns-in_default
 returns-in_default g c = λ rest name named.
     decommit_past _ name _ _ _ named c.if-not-t.false
-    (omega arith) (omega arith) (named_lineage _ _ c.requires.parts.1 c.requires.named) c.may_decommit.result
+    (omega arith) (omega arith) (named_lineage _ _ c.requires.parts.good c.requires.named) c.may_decommit.result
     c.may_decommit.ensures c.if-not-may_decommit.false c.in_default.ensures.none
 
 pub returns-then-pinned : goal.returns-then-pinned
 returns-then-pinned g c = λ rest name named.
     decommit_pinned _ name _ _ _ named c.if-not-t.false
-    (omega arith) (omega arith) (named_lineage _ _ c.requires.parts.1 c.requires.named) c.may_decommit.result
+    (omega arith) (omega arith) (named_lineage _ _ c.requires.parts.good c.requires.named) c.may_decommit.result
     c.may_decommit.ensures c.if-not-may_decommit.false c.in-Some.at c.in-Some.ensures.some
     _ _ c.page_of.ensures c.page_of-2.ensures _ c.pinned.ensures c.if-pinned.true
 
 pub cost_to_zero-cost-requires-clause-vmo : goal.cost_to_zero-cost-requires-clause-vmo
-cost_to_zero-cost-requires-clause-vmo g c = named_vmo _ _ c.requires.parts.1 c.requires.named
+cost_to_zero-cost-requires-clause-vmo g c = named_vmo _ _ c.requires.parts.good c.requires.named
 
 pub returns-in_default-reserve_rows : goal.returns-in_default-reserve_rows
 returns-in_default-reserve_rows g c = λ rest name named.
     decommit_lacks _ name _ _ _ named c.if-not-t.false
-    (omega arith) (omega arith) (named_lineage _ _ c.requires.parts.1 c.requires.named) c.may_decommit.result
+    (omega arith) (omega arith) (named_lineage _ _ c.requires.parts.good c.requires.named) c.may_decommit.result
     c.may_decommit.ensures c.if-not-may_decommit.false c.in-Some.at c.in-Some.ensures.some
     _ _ c.page_of.ensures c.page_of-2.ensures _ c.pinned.ensures c.if-pinned.false _
     (ap (λ (d : Content). with_tables rest d c.args.vmos.now c.args.pins.now) c.reserve_rows.ensures.same)
@@ -64,7 +64,7 @@ returns-in_default-reserve_rows g c = λ rest name named.
 pub zero_pages-requires-clause-vmo : goal.zero_pages-requires-clause-vmo
 zero_pages-requires-clause-vmo g c =
     subst (λ (d : Content). IsSome (d.count c.args.t.now.koid.0)) (sym c.reserve_rows.ensures.same)
-    (named_vmo _ _ c.requires.parts.1 c.requires.named)
+    (named_vmo _ _ c.requires.parts.good c.requires.named)
 
 pub zero_pages-requires-clause-free : goal.zero_pages-requires-clause-free
 zero_pages-requires-clause-free g c =
@@ -81,7 +81,7 @@ zero_pages-requires-clause-free g c =
 pub returns : goal.returns
 returns g c = λ rest name named.
     decommit_done _ name _ _ _ named c.if-not-t.false
-    (omega arith) (omega arith) (named_lineage _ _ c.requires.parts.1 c.requires.named) c.may_decommit.result
+    (omega arith) (omega arith) (named_lineage _ _ c.requires.parts.good c.requires.named) c.may_decommit.result
     c.may_decommit.ensures c.if-not-may_decommit.false c.in-Some.at c.in-Some.ensures.some
     _ _ c.page_of.ensures c.page_of-2.ensures _ c.pinned.ensures c.if-pinned.false
     (g.P.PageStore.content c.reserve_rows.new.store) (g.P.PageStore.content c.zero_pages.new.store)

@@ -1,10 +1,16 @@
 use Rattle.vm_model.proofs.StepLaws.{Step-keeps}
 use Rattle.vm_core.specs.Vm.{bare_state}
+use Rattle.vm_core.proofs.CallLaws.{parts_of}
 use Rattle.vm_core.proofs.vm.Vm.answer.Goals as goal
 
 pub dispatch-requires-clause-good : goal.dispatch-requires-clause-good
-dispatch-requires-clause-good g c =
-    (bare_state (g.P.PageStore.content c.args.store.now), rw (← c.self.view_is) at c.requires.good)
+dispatch-requires-clause-good g c = record {
+  rest = bare_state (g.P.PageStore.content c.args.store.now);
+  good = rw (← c.self.view_is) at c.requires.good;
+}
+
+pub dispatch-requires-clause-parts : goal.dispatch-requires-clause-parts
+dispatch-requires-clause-parts g c = parts_of (dispatch-requires-clause-good g c)
 
 pub returns-clause-step : goal.returns-clause-step
 returns-clause-step g c =
