@@ -2,8 +2,8 @@
 
 ghost use Rattle.std.specs.Prelude.{◌<◌, ◌≤◌, length};
 ghost use Rattle.vm_base.specs.declared.limits.TheConstants.{DATA_BYTES, KOIDS, PIN_PAGES};
+ghost use Rattle.vm_model.specs.Machine.Given.{GivesName};
 ghost use Rattle.vm_model.specs.Machine.Lent.{command_of, reply_for};
-ghost use Rattle.vm_model.proofs.StepLaws.{GivesName};
 ghost use Rattle.vmo_table.specs.Table.{AreParts};
 ghost use Rattle.vmo_ops.specs.Targets.{AreTogether};
 ghost use Rattle.vm_core.specs.Calls.{CountsPins, Steps};

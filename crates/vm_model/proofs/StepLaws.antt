@@ -5,7 +5,7 @@ use Rattle.std.specs.List.{AllByRecursion}
 use Rattle.std.proofs.lemmas.Bool.{ltb-false, eqb-true, eqb-false, not-false, and_cases, and_parts, or_parts, both_ways}
 use Rattle.std.proofs.lemmas.List.{length-replicate}
 use Rattle.vm_base.specs.Pages.{rounded}
-use Rattle.vm_base.specs.declared.limits.TheConstants.{PAGE, VMO_PAGES, NAMES, PIN_PAGES}
+use Rattle.vm_base.specs.declared.limits.TheConstants.{PAGE, VMO_PAGES, PIN_PAGES}
 use Rattle.vm_base.specs.declared.refusal.Refusal.{Refusal}
 use Rattle.vm_model.specs.declared.command.Command.{Command}
 use Rattle.vm_model.specs.declared.command.Command.TheVariants.{VmoCreate, VmoChild, VmoClose, VmoSetSize, VmoRead, VmoWrite, VmoFill, VmoCommit, VmoDecommit, VmoZero, VmoPin, VmoUnpin}
@@ -19,6 +19,7 @@ use Rattle.vm_model.specs.Naming.Pins.{is_pinned}
 use Rattle.vm_model.specs.Machine.State.{State, empty_state, is_open, target_of, koid_of, name_pages, size_of, place_of, IsGoodName, IsGoodState}
 use Rattle.vm_model.specs.Machine.Refusals.{lacks_frames, change_refusals, refusals, first_of}
 use Rattle.vm_model.specs.Language.Spelling.{HasRanges}
+use Rattle.vm_model.specs.Machine.Given.{GivesName}
 use Rattle.vm_model.specs.Machine.Step.{slice_of, reference_of, Effect, StepAfter, Step}
 use Rattle.vm_model.proofs.ContentLaws.{IsGood-nothing}
 use Rattle.vm_base.proofs.EntryLaws.{some_is, none_is}
@@ -27,14 +28,7 @@ use Rattle.vm_model.proofs.LeavingLaws.{name_vmo}
 use Rattle.vm_model.proofs.KeepLaws.{Keeps-same, slice_good, reference_good, snapshot_keeps, alias_keeps, close_keeps, unpin_keeps, write_keeps, commit_keeps, zero_range_keeps, zero_keeps, pin_keeps, resize_keeps}
 pub use Rattle.vm_model.proofs.KeepLaws.{Keeps, lineage_below, create_keeps, kept_keeps}
 
--- the name that a command gives, if any, is one that there is
-abbrev pub GivesName : Command → Type 0
-GivesName (VmoCreate name size resizable) = name.0 < NAMES
-GivesName (VmoChild name parent kind offset size resizable no_write) = name.0 < NAMES
-GivesName (VmoPin pin name offset len) = pin.0 < NAMES
-GivesName _ = Unit {0}
-
--- so it is where the fields of the command are within their types
+-- the name that a command gives is one that there is, where the fields of the command are within their types
 pub GivesName-from : (command : Command) → HasRanges command → GivesName command
 GivesName-from (VmoCreate name size resizable) h = h.0
 GivesName-from (VmoChild name parent kind offset size resizable no_write) h = h.0

@@ -3,4 +3,5 @@ pub mod Leaving
 pub mod Attribution
 pub mod Refusals
 pub mod Lent
+pub mod Given
 pub mod Step
