@@ -44,7 +44,7 @@ pub commit_owns : (offset len : ℕ) → OwnsRange (λ name. VmoCommit name offs
 commit_owns offset len =
     record { rows = λ s name. refl; lacks = λ s name. refl; effect = λ s name new w. (refl, refl, w) }
 
-module _ (command : VmoName → Command) (offset len : ℕ) (run : Content → ℕ → ℕ → Content → Type 0)
+module _ {command : VmoName → Command} {offset len : ℕ} {run : Content → ℕ → ℕ → Content → Type 0}
     (owns : OwnsRange command offset len run) (target : Target) (old new : Content) where
   -- the command is refused, and nothing has changed
   pub own_refused : (refusal : Refusal) → IsRefusedBy old target offset len (touched (target.first * PAGE + offset) len)
@@ -54,10 +54,11 @@ module _ (command : VmoName → Command) (offset len : ℕ) (run : Content → �
       (λ c v p. not (sole c v p)) refusal owns.lacks refused same
 
   -- it does what it does, at the range's place in the VMO
-  pub own_done : (at : ℕ) → IsAllowed old target offset len (touched (target.first * PAGE + offset) len)
-      → IsPlaced old target offset len at → run old target.koid.0 at new → Does command target old Done new
-  own_done at allowed placed done =
+  pub own_done : (at : ℕ) (ready : Content) → IsAllowed old target offset len (touched (target.first * PAGE + offset) len)
+      → IsPlaced old target offset len at → ready ≡ old → run ready target.koid.0 at new → Does command target old Done new
+  own_done at ready allowed placed same done =
       Does-change_done command target old new offset len (λ c v a. touched a len) owns.rows allowed
       (λ s name named. let t = record s { content = old } in owns.effect t name new
       (subst (λ (u : Target). run old u.koid.0 (u.first * PAGE + offset) new) (sym (target_of-at t name.0 target named))
-      (subst (λ (a : ℕ). run old target.koid.0 a new) placed.place done)))
+      (subst (λ (a : ℕ). run old target.koid.0 a new) placed.place
+      (subst (λ (c : Content). run c target.koid.0 at new) same done))))

@@ -1,6 +1,6 @@
 //! Filling a range with one byte.
 
-ghost use Rattle.std.specs.Prelude.{◌≡◌, ℕ, ◌+◌, ◌*◌, ◌<◌, ◌≤◌, ◌⊎◌, true, length, replicate};
+ghost use Rattle.std.specs.Prelude.{◌≡◌, ℕ, ◌+◌, ◌*◌, ◌<◌, ◌≤◌, ◌⊎◌, true, min, length, replicate};
 ghost use Rattle.vm_model.specs.declared.command.Command.{Command};
 ghost use Rattle.vm_model.specs.declared.reply.Reply.{Reply};
 ghost use Rattle.vm_model.specs.Contents.Content.{pages_of, sole, used, IsGood};
@@ -16,6 +16,9 @@ use crate::writing::write_part;
 use page_store::PageStore;
 use vm_base::{Koid, PAGE, PAGE_BYTES, PageNo, Refusal};
 use vmo_table::Target;
+
+/// The most bytes of a fill that is done from a short buffer.
+const SHORT_FILL: usize = 64;
 
 /// Writes one byte at every place of a range: `len` bytes from `offset` bytes into the name on. The
 /// refusals are those of a write of these bytes, in the same order.
@@ -35,20 +38,28 @@ pub fn fill<P: PageStore>(
         Ok(at) => at,
         Err(refusal) => return Err(refusal),
     };
-    fill_pages(store, t.koid, at, len, byte);
+    if len <= SHORT_FILL as u64 {
+        fill_pages::<P, SHORT_FILL>(store, t.koid, at, len, byte);
+    } else {
+        fill_pages::<P, PAGE_BYTES>(store, t.koid, at, len, byte);
+    }
     Ok(())
 }
 
-// Fills a range inside the VMO, page by page, where the room for it is there.
-fn fill_pages<P: PageStore>(store: &mut P, v: Koid, offset: u64, len: u64, byte: u8)
+// Fills a range inside the VMO, page by page, where the room for it is there, from a buffer of `N` bytes. It is not
+// inlined, since a function writes all of its locals, and a short fill is not to pay for a page.
+#[inline(never)]
+fn fill_pages<P: PageStore, const N: usize>(store: &mut P, v: Koid, offset: u64, len: u64, byte: u8)
     requires good { IsGood (P.content store.old) }
     requires inside { offset + len ≤ pages_of (P.content store.old) v.0 * PAGE }
+    requires buffer { min len PAGE ≤ N }
+    requires at_most_a_page { N ≤ PAGE }
     requires room { HasRows (P.content store.old) v.0 (touched offset len) (P.spare store.old) }
     requires free { used (P.content store.old) + need (P.content store.old) v.0 (touched offset len)
         ≤ (P.content store.old).frames }
     ensures { Writes (P.content store.old) (pieces v.0 offset (replicate len byte)) (P.content store.new) }
 {
-    let bytes = [byte; PAGE_BYTES];
+    let bytes = [byte; N];
     let (first, end) = touched_pages(offset, len);
     for page in first..end {
         let part = part_in_page(offset, len, page);
@@ -56,7 +67,7 @@ fn fill_pages<P: PageStore>(store: &mut P, v: Koid, offset: u64, len: u64, byte:
     }
 }
 
-/// Fills a part of a page with bytes of a page that are all the same. The page is owned first.
+/// Fills a part of a page with bytes that are all the same, at least as many as the part has. The page is owned first.
 pub(crate) fn fill_part<P: PageStore>(
     store: &mut P,
     v: Koid,
@@ -66,11 +77,11 @@ pub(crate) fn fill_part<P: PageStore>(
 )
     requires good { IsGood (P.content store.old) }
     requires page { page < pages_of (P.content store.old) v.0 }
-    requires whole { length bytes.now ≡ PAGE }
+    requires enough { part.len ≤ length bytes.now }
     requires within { part.at + part.len ≤ PAGE }
     requires room { (sole (P.content store.old) v.0 page ≡ true)
         ⊎ ((1 ≤ P.spare store.old) × (used (P.content store.old) < (P.content store.old).frames)) }
-    ensures writes { (byte : ℕ) → bytes.now ≡ replicate PAGE byte → WritesPiece (P.content store.old)
+    ensures writes { (n byte : ℕ) → bytes.now ≡ replicate n byte → WritesPiece (P.content store.old)
         (record { koid = v.0; page = page; at = part.at; bytes = replicate part.len byte }) (P.content store.new) }
     ensures spare { P.spare store.old ≤ P.spare store.new + 1 }
 {

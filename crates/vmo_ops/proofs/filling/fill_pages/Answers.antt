@@ -35,7 +35,7 @@ loop-page-preserved g c =
     WritesPiece-same now mid c.args.v.0 c.args.offset page part.result.at (replicate c.args.len c.args.byte) _
     part.ensures.at
     (part_bytes-replicate c.args.offset c.args.len page part.result.from part.result.len part.ensures.from
-    part.ensures.until c.args.byte) (c.fill_part.ensures.writes c.args.byte refl) in
+    part.ensures.until c.args.byte) (c.fill_part.ensures.writes _ c.args.byte refl) in
     let written =
     Written-from_piece now mid c.args.v.0 c.args.offset page (replicate c.args.len c.args.byte) owning.way.good
     (omega (arith, owning.way.inside)) (omega arith) writes in

@@ -1,4 +1,5 @@
 use Rattle.std.proofs.Common.{◌≡◌, Bool, false, not, ◌&&◌, replicate, refl, sym, ap, ◌∙◌, arith}
+use Rattle.vm_base.specs.declared.limits.TheConstants.{PAGE}
 use Rattle.vm_model.specs.Contents.Zeroing.{is_cleared}
 use Rattle.vm_model.specs.Naming.Pins.{is_pinned}
 use Rattle.page_store.proofs.NameLaws.{pages_of_le}
@@ -28,4 +29,4 @@ returns-else-is_cleared_page-clause-zeroes g c =
     (WritesPiece-same d (g.P.PageStore.content c.fill_part.new.store) c.args.v.0 c.args.offset c.args.page
     part.result.at (replicate c.args.len 0) _ part.ensures.at
     (part_bytes-replicate c.args.offset c.args.len c.args.page part.result.from part.result.len part.ensures.from
-    part.ensures.until 0) (c.fill_part.ensures.writes 0 refl))
+    part.ensures.until 0) (c.fill_part.ensures.writes PAGE 0 refl))
