@@ -59,6 +59,7 @@ pub fn pin<P: PageStore>(
 }
 
 /// Pins as `pin` does, with room for at least `PIN_PAGES` numbers, and lends the frames' numbers there.
+#[tactic(auto, using(page_store::proofs::NameLaws::pages_of_le))]
 pub fn pin_into<'a, P: PageStore>(
     store: &mut P,
     vmos: &mut VmoTable,
@@ -116,6 +117,7 @@ fn is_pin_range(offset: u64, len: u64) -> bool
 
 // Owns pages of a VMO from `first` on, as many as numbers, where the room for it is there, and puts their frames'
 // numbers there.
+#[tactic(auto, using(page_store::proofs::NameLaws::pages_of_le))]
 fn own_frames<P: PageStore>(store: &mut P, v: Koid, first: PageNo, numbers: &mut [u64])
     requires good { IsGood (P.content store.old) }
     requires inside { first + length numbers.old ≤ pages_of (P.content store.old) v.0 }

@@ -1,12 +1,6 @@
 use Rattle.std.proofs.Common.{refl, arith}
-use Rattle.page_store.proofs.NameLaws.{pages_of_le}
 use Rattle.vmo_ops.proofs.OwningLaws.{Written-from_Owns, IsOwning-start, IsOwning-room, IsOwning-step, IsOwning-end}
 use Rattle.vmo_ops.proofs.committing.own_pages.Goals as goal
-
-pub touched_pages-first-requires : goal.touched_pages-first-requires
-touched_pages-first-requires g c =
-    let few = pages_of_le (g.P.PageStore.content c.args.store.now) c.args.v.0 c.requires.good in
-    omega arith
 
 pub loop-page-init : goal.loop-page-init
 loop-page-init g c =

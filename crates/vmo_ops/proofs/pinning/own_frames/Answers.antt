@@ -1,15 +1,9 @@
 use Rattle.std.proofs.Common.{◌≡◌, ◌+◌, ◌-◌, length, refl, sym, ap, arith}
 use Rattle.std.specs.List.{range_with_len}
 use Rattle.vm_model.proofs.OwningLaws.{Owned-from_Owns}
-use Rattle.page_store.proofs.NameLaws.{pages_of_le}
 use Rattle.vmo_ops.proofs.OwningLaws.{Written-from_Owns, IsOwning-start, IsOwning-below, IsOwning-room, IsOwning-step, IsOwning-end}
 use Rattle.vmo_ops.proofs.FrameLaws.{AreFrames-start, AreFrames-step, AreFrames-end}
 use Rattle.vmo_ops.proofs.pinning.own_frames.Goals as goal
-
-pub overflow_add-page-end : goal.overflow_add-page-end
-overflow_add-page-end g c =
-    let few = pages_of_le (g.P.PageStore.content c.args.store.now) c.args.v.0 c.requires.good in
-    omega (arith, c.requires.inside)
 
 pub loop-page-init : goal.loop-page-init
 loop-page-init g c =

@@ -4,7 +4,6 @@ use Rattle.std.proofs.lemmas.List.{length-take}
 use Rattle.vm_model.specs.Contents.Content.{Content}
 use Rattle.vm_model.specs.Contents.Owning.{OwnsAll, need}
 use Rattle.vm_model.specs.Naming.Pins.{Pin}
-use Rattle.page_store.proofs.NameLaws.{pages_of_le}
 use Rattle.vmo_table.specs.Table.{names_of, lineage_in, with_vmos, CountsKeepers}
 use Rattle.pin_table.specs.Table.{pins_of}
 use Rattle.vmo_ops.specs.Targets.{with_tables}
@@ -77,12 +76,6 @@ own_frames-requires-clause-room g c =
     (HasRows-row old c.args.t.now.koid.0 first count c.need_of-need.result _ _ row
     (c.need_of-need.ensures ∙ ap (need old c.args.t.now.koid.0) (ap (range_with_len first) n ∙ sym row))
     c.in-Ok-reserve_rows.ensures.room)
-
-pub add-requires-clause-pages : goal.add-requires-clause-pages
-add-requires-clause-pages g c =
-    let few =
-    pages_of_le (g.P.PageStore.content c.args.store.now) c.args.t.now.koid.0 c.requires.parts.1.good.content in
-    omega (arith, c.in-Some.ensures.some.inside)
 
 pub keep-requires-clause-koid : goal.keep-requires-clause-koid
 keep-requires-clause-koid g c = named_lineage _ _ c.requires.parts.1.good c.requires.named

@@ -1,20 +1,9 @@
 use Rattle.std.proofs.Common.{arith}
-use Rattle.page_store.proofs.NameLaws.{pages_of_le}
 use Rattle.vmo_ops.proofs.ReadLaws.{read_start, read_step, read_end}
 use Rattle.vmo_ops.proofs.reading.read_pages.Goals as goal
 
-pub touched_pages-first-requires : goal.touched_pages-first-requires
-touched_pages-first-requires g c =
-    let few = pages_of_le (g.P.PageStore.content c.args.store.now) c.args.v.0 c.requires.good in
-    omega (arith, c.requires.inside)
-
 pub loop-page-init : goal.loop-page-init
 loop-page-init g c = read_start _ c.args.v.0 c.args.offset _ c.args.out.now c.touched_pages-first.ensures.first
-
-pub part_in_page-part-requires-clause-range : goal.part_in_page-part-requires-clause-range
-part_in_page-part-requires-clause-range g c =
-    let few = pages_of_le (g.P.PageStore.content c.args.store.now) c.args.v.0 c.requires.good in
-    omega (arith, c.requires.inside)
 
 pub loop-page-preserved : goal.loop-page-preserved
 loop-page-preserved g c =

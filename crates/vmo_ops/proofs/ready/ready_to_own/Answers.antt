@@ -2,18 +2,12 @@ use Rattle.std.proofs.Common.{◌*◌, ◌+◌, sym, ap, ◌∙◌, arith}
 use Rattle.vm_base.specs.declared.limits.TheConstants.{PAGE}
 use Rattle.vm_model.specs.Contents.Owning.{need}
 use Rattle.vm_model.proofs.RangeLaws.{need-any}
-use Rattle.page_store.proofs.NameLaws.{pages_of_le}
 use Rattle.vmo_ops.proofs.ChangeLaws.{IsRefusedBy-place, IsRefusedBy-no_memory, IsRefusedBy-lacks, IsAllowed-free}
 use Rattle.vmo_ops.proofs.NeedLaws.{need-at, HasRows-row}
 use Rattle.vmo_ops.proofs.ready.ready_to_own.Goals as goal
 
 pub returns-in-Err-clause-err : goal.returns-in-Err-clause-err
 returns-in-Err-clause-err g c = IsRefusedBy-place _ _ _ _ _ _ c.in-Err.refusal c.in-Err.ensures.err
-
-pub touched_pages-first-requires : goal.touched_pages-first-requires
-touched_pages-first-requires g c =
-    let few = pages_of_le (g.P.PageStore.content c.args.store.now) c.args.t.now.koid.0 c.requires.good in
-    omega (arith, c.in-Ok.ensures.ok.1.inside)
 
 pub returns-then-need-from-clause-err : goal.returns-then-need-from-clause-err
 returns-then-need-from-clause-err g c =

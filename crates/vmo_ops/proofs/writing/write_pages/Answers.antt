@@ -1,25 +1,14 @@
 use Rattle.std.proofs.Common.{length, refl, arith}
 use Rattle.vm_model.specs.Contents.Writing.{pieces}
-use Rattle.page_store.proofs.NameLaws.{pages_of_le}
 use Rattle.vmo_ops.proofs.OwningLaws.{IsOwning-start, IsOwning-room, IsOwning-step, IsOwning-end}
 use Rattle.vmo_ops.proofs.PartLaws.{part_bytes-slice}
 use Rattle.vmo_ops.proofs.WriteLaws.{WritesPiece-same, Written-from_piece}
 use Rattle.vmo_ops.proofs.writing.write_pages.Goals as goal
 
-pub touched_pages-first-requires : goal.touched_pages-first-requires
-touched_pages-first-requires g c =
-    let few = pages_of_le (g.P.PageStore.content c.args.store.now) c.args.v.0 c.requires.good in
-    omega arith
-
 pub loop-page-init : goal.loop-page-init
 loop-page-init g c =
     IsOwning-start _ c.args.v.0 _ _ _ _ _ c.requires.good (omega (arith, c.touched_pages-first.ensures.end))
     c.touched_pages-first.ensures.order c.touched_pages-first.ensures.pages c.requires.room c.requires.free
-
-pub part_in_page-part-requires-clause-range : goal.part_in_page-part-requires-clause-range
-part_in_page-part-requires-clause-range g c =
-    let few = pages_of_le (g.P.PageStore.content c.args.store.now) c.args.v.0 c.requires.good in
-    omega (arith, c.requires.inside)
 
 pub write_part-requires-clause-room : goal.write_part-requires-clause-room
 write_part-requires-clause-room g c = IsOwning-room _ _ _ _ _ _ _ _ c.loop-page.invariant c.loop-page-test.true

@@ -1,14 +1,8 @@
 use Rattle.std.proofs.Common.{refl, arith}
 use Rattle.vm_base.proofs.SearchLaws.{bit-true, bit-false}
-use Rattle.page_store.proofs.NameLaws.{pages_of_le}
 use Rattle.vmo_ops.proofs.ZeroLaws.{IsCounting-start, IsCounting_le, IsCounting-step, IsCounting-end}
 use Rattle.vmo_ops.proofs.zeroing.cost_to_zero.Goals as goal
 use Rattle.vmo_ops.proofs.zeroing.cost_to_zero.Goals.{then-takes_frame, else-takes_frame}
-
-pub touched_pages-first-requires : goal.touched_pages-first-requires
-touched_pages-first-requires g c =
-    let few = pages_of_le (g.P.PageStore.content c.args.store.now) c.args.v.0 c.requires.good in
-    omega (arith, c.requires.inside)
 
 pub loop-page-init : goal.loop-page-init
 loop-page-init g c = IsCounting-start _ _ _ _ _ _ _ c.touched_pages-first.ensures.order

@@ -1,18 +1,12 @@
-use Rattle.std.proofs.Common.{◌≡◌, Bool, false, not, ◌&&◌, replicate, refl, sym, ap, ◌∙◌, arith}
+use Rattle.std.proofs.Common.{◌≡◌, Bool, false, not, ◌&&◌, replicate, refl, sym, ap, ◌∙◌}
 use Rattle.vm_base.specs.declared.limits.TheConstants.{PAGE}
 use Rattle.vm_model.specs.Contents.Zeroing.{is_cleared}
 use Rattle.vm_model.specs.Naming.Pins.{is_pinned}
-use Rattle.page_store.proofs.NameLaws.{pages_of_le}
 use Rattle.pin_table.specs.Table.{pins_of}
 use Rattle.vmo_ops.proofs.PartLaws.{part_bytes-replicate, is_whole-part}
 use Rattle.vmo_ops.proofs.WriteLaws.{WritesPiece-same}
 use Rattle.vmo_ops.proofs.ZeroLaws.{ZeroesPage-part}
 use Rattle.vmo_ops.proofs.zeroing.zero_part.Goals as goal
-
-pub part_in_page-part-requires-clause-range : goal.part_in_page-part-requires-clause-range
-part_in_page-part-requires-clause-range g c =
-    let few = pages_of_le (g.P.PageStore.content c.args.store.now) c.args.v.0 c.requires.good in
-    omega (arith, c.requires.range)
 
 pub returns-else-is_cleared_page-clause-zeroes : goal.returns-else-is_cleared_page-clause-zeroes
 returns-else-is_cleared_page-clause-zeroes g c =
