@@ -54,8 +54,10 @@ module _ {command : VmoName → Command} {offset len : ℕ} {run : Content → �
       (λ c v p. not (sole c v p)) refusal owns.lacks refused same
 
   -- it does what it does, at the range's place in the VMO
-  pub own_done : (at : ℕ) (ready : Content) → IsAllowed old target offset len (touched (target.first * PAGE + offset) len)
-      → IsPlaced old target offset len at → ready ≡ old → run ready target.koid.0 at new → Does command target old Done new
+  pub own_done : (at : ℕ) (ready : Content)
+      → IsAllowed old target offset len (touched (target.first * PAGE + offset) len)
+      → IsPlaced old target offset len at → ready ≡ old → run ready target.koid.0 at new
+      → Does command target old Done new
   own_done at ready allowed placed same done =
       Does-change_done command target old new offset len (λ c v a. touched a len) owns.rows allowed
       (λ s name named. let t = record s { content = old } in owns.effect t name new

@@ -1,7 +1,8 @@
 use Rattle.std.proofs.Common.{◌≡◌, ◌+◌, ◌-◌, length, refl, sym, ap, arith}
 use Rattle.std.specs.List.{range_with_len}
 use Rattle.vm_model.proofs.OwningLaws.{Owned-from_Owns}
-use Rattle.vmo_ops.proofs.OwningLaws.{Written-from_Owns, IsOwning-start, IsOwning-below, IsOwning-room, IsOwning-step, IsOwning-end}
+use Rattle.vmo_ops.proofs.OwningLaws.{Written-from_Owns, IsOwning-start, IsOwning-below, IsOwning-room}
+use Rattle.vmo_ops.proofs.OwningLaws.{IsOwning-step, IsOwning-end}
 use Rattle.vmo_ops.proofs.FrameLaws.{AreFrames-start, AreFrames-step, AreFrames-end}
 use Rattle.vmo_ops.proofs.pinning.own_frames.Goals as goal
 

@@ -8,8 +8,8 @@ loop-page-init g c = read_start _ c.args.v.0 c.args.offset _ c.args.out.now c.to
 pub loop-page-preserved : goal.loop-page-preserved
 loop-page-preserved g c =
     let part = c.part_in_page-part in
-    read_step part.result.from part.result.len c.read_page.new.out c.requires.good (omega arith) (omega (arith, c.touched_pages-first.ensures.end))
-    part.ensures.at part.ensures.from part.ensures.until part.ensures.within c.loop-page.auto.out c.read_page.auto.out
+    read_step part.result.from part.result.len c.read_page.new.out c.requires.good (omega arith)
+    (omega (arith, c.touched_pages-first.ensures.end)) part.ensures.at part.ensures.from part.ensures.until part.ensures.within c.loop-page.auto.out c.read_page.auto.out
     c.read_page.ensures c.loop-page.invariant
 
 pub returns : goal.returns
