@@ -7,3 +7,5 @@ pub mod TreeLaws
 pub mod RowLaws
 pub mod Costs
 pub mod Views
+pub mod GapLaws
+pub mod GapTrees

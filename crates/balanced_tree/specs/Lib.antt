@@ -2,3 +2,6 @@ pub mod Row
 pub mod Rows
 pub mod Tree
 pub mod Standing
+pub mod Extents
+pub mod Gaps
+pub mod GapSearch

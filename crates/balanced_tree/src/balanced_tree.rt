@@ -1,11 +1,15 @@
 //! The balanced tree as its callers see it.
 
 ghost use Rattle.std.specs.Prelude.{◌≡◌, ℕ, ◌+◌, ◌-◌, ◌^◌, ◌<◌, ◌≤◌, [], length, IsNone, IsSome, Some, OnOk};
+ghost use Rattle.std.specs.Option.{MatchOption};
+ghost use Rattle.balanced_tree.specs.Gaps.{AreApart, HasNoGap, IsFirstGap};
 ghost use Rattle.balanced_tree.specs.Row.{plain};
 ghost use Rattle.balanced_tree.specs.Rows.{row_at, row_from, with_row, without_rank, IsRising};
 
 use crate::children::link_to;
 use crate::descent::find_below;
+use crate::extent_row::ExtentRow;
+use crate::gaps::gap_below;
 use crate::insertion::insert_below;
 use crate::removal::remove_below;
 use crate::row_slab::RowSlab;
@@ -180,7 +184,52 @@ impl<R: TreeRow> BalancedTree<R> {
     }
 }
 
+impl<R: ExtentRow> BalancedTree<R> {
+    /// The lowest rank from `from` on at which `size` ranks are free and end at the limit or before. None where there
+    /// is no such rank.
+    pub fn first_gap_counted<L: Ledger>(
+        &self,
+        from: u128,
+        size: u128,
+        limit: u128,
+        steps: &mut Steps<L>,
+    ) -> Option<u128>
+        requires { AreApart R.functions R.extents self.now.rows }
+        ensures gap { MatchOption result (HasNoGap R.functions R.extents self.now.rows from size limit)
+            (IsFirstGap R.functions R.extents self.now.rows from size limit) }
+        ensures cost { 2 ^ (steps.new - steps.old) ≤ (length self.now.rows + 1) ^ 8 }
+    {
+        gap_below(&self.rows, self.root, from, size, limit, steps)
+    }
+
+    /// The lowest rank from `from` on at which `size` ranks are free and end at the limit or before. None where there
+    /// is no such rank.
+    pub fn first_gap(&self, from: u128, size: u128, limit: u128) -> Option<u128>
+        requires { AreApart R.functions R.extents self.now.rows }
+        ensures { MatchOption result (HasNoGap R.functions R.extents self.now.rows from size limit)
+            (IsFirstGap R.functions R.extents self.now.rows from size limit) }
+    {
+        first_gap_with::<R, Brand>(self, from, size, limit, Blank::new(1))
+    }
+}
+
 // The counted calls over a ledger that is thrown away.
+
+fn first_gap_with<R: ExtentRow, L: Ledger>(
+    tree: &BalancedTree<R>,
+    from: u128,
+    size: u128,
+    limit: u128,
+    blank: Blank,
+) -> Option<u128>
+    requires ledger { (blank.name ≡ L.name) × (blank.parts ≡ L.parts) × (0 < blank.parts) }
+    requires apart { AreApart R.functions R.extents tree.now.rows }
+    ensures { MatchOption result (HasNoGap R.functions R.extents tree.now.rows from size limit)
+        (IsFirstGap R.functions R.extents tree.now.rows from size limit) }
+{
+    let mut steps = Steps::<L>::new(blank);
+    tree.first_gap_counted(from, size, limit, &mut steps)
+}
 
 fn find_with<R: TreeRow, L: Ledger>(tree: &BalancedTree<R>, rank: u128, blank: Blank) -> Option<R>
     requires ledger { (blank.name ≡ L.name) × (blank.parts ≡ L.parts) × (0 < blank.parts) }

@@ -8,16 +8,21 @@
 mod balanced_tree;
 mod children;
 mod descent;
+mod extent_row;
+mod gaps;
 mod insertion;
 mod removal;
 mod rotation;
 mod row_slab;
+mod spans;
 mod steps;
 mod tree_row;
 
 pub use balanced_tree::BalancedTree;
 pub use children::{Child, link_to};
+pub use extent_row::ExtentRow;
 pub use row_slab::RowSlab;
+pub use spans::{Span, span_over};
 pub use steps::Steps;
 pub use tree_row::TreeRow;
 
