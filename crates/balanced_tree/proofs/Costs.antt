@@ -43,8 +43,14 @@ module _ {R : Type 0} (f : Functions R) where
         | inr more ↦ (let up = pow_mono {i = 129} {j = height t} more in let bound = height-rows t h in let wide = pow-le-pow_left {n = length (rows_of f t) + 1} {m = 2 ^ 64} (omega arith) 2 in absurd (omega arith))
       ]
 
-  pub look_cost : (t : Tree R) (before after : ℕ) → IsBalanced t → after ≤ before + height t → 2 ^ (after - before) ≤ (length (rows_of f t) + 1) ^ 2
-  look_cost t before after h steps = let up = pow_mono {i = after - before} {j = height t} (omega arith) in let bound = height-rows t h in omega arith
+  -- so many steps for each row from top to bottom
+  pub look_cost : (t : Tree R) (each before after : ℕ) → IsBalanced t → after ≤ before + each * height t → 2 ^ (after - before) ≤ (length (rows_of f t) + 1) ^ (2 * each)
+  look_cost t each before after h steps =
+      let up = pow_mono {i = after - before} {j = height t * each} (omega arith) in
+      let wide = pow-le-pow_left {n = 2 ^ height t} {m = (length (rows_of f t) + 1) ^ 2} (height-rows t h) each in
+      let e1 = pow-times 2 (height t) each in
+      let e2 = pow-times (length (rows_of f t) + 1) 2 each in
+      omega arith
 
   -- ten steps for each row from top to bottom, and one more
   pub change_cost : (t : Tree R) (before after : ℕ) → IsBalanced t → after ≤ before + 10 * height t + 1 → 2 ^ (after - before) ≤ (length (rows_of f t) + 2) ^ 32

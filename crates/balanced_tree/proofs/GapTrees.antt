@@ -1,12 +1,12 @@
 -- The search for a gap in a tree: what the stored spans say, and how many steps it takes.
-use Rattle.std.proofs.Common.{◌≡◌, ◌⊎◌, inl, inr, ℕ, ◌+◌, ◌-◌, ◌*◌, ◌<◌, ◌≤◌, min, max, cond, leb, ◌∷◌, ◌++◌, Option, None, Some, refl, sym, ap, ◌∙◌, subst, arith}
+use Rattle.std.proofs.Common.{◌≡◌, ◌⊎◌, inl, inr, ℕ, ◌+◌, ◌-◌, ◌<◌, ◌≤◌, min, max, cond, leb, ◌∷◌, ◌++◌, Option, None, Some, refl, sym, ap, ◌∙◌, subst, arith}
 use Rattle.std.specs.Option.{MatchOption}
 use Rattle.std.proofs.lemmas.Bool.{cases_lt}
 use Rattle.std.proofs.lemmas.Option.{MatchOption-at_none}
 use Rattle.slab.specs.Slab.{Slab, get}
 use Rattle.balanced_tree.specs.declared.spans.Span.{Span}
 use Rattle.balanced_tree.specs.Row.{Functions, AreLawful, plain}
-use Rattle.balanced_tree.specs.Extents.{Extents, AreSpanned, lowest_over, highest_over, span_over, span_in}
+use Rattle.balanced_tree.specs.Extents.{Extents, AreSpanned, highest_over, span_over, span_in}
 use Rattle.balanced_tree.specs.Gaps.{ApartWithin, IsFree, HasNoGap, IsFirstGap}
 use Rattle.balanced_tree.specs.GapSearch.{span_of, HasSearched}
 use Rattle.balanced_tree.specs.Tree.{Tree, Leaf, Node, height, child_of, rows_of}

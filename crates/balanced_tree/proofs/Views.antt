@@ -93,8 +93,8 @@ module _ {R : Type 0} (f : Functions R) (laws : AreLawful f) where
   pub has_rank-IsTree : {s : Slab R} {root : Option ℕ} (n : ℕ) → (h : IsTree f s root) → has_rank f n h.tree ≡ is_some (row_at f n (rows_in f s root).rows)
   has_rank-IsTree n h = has_rank-row_at f laws n 0 (2 ^ 128) h.tree h.standing.ordered ∙ ap (λ u. is_some (row_at f n u)) (sym (rows_in-standing h.standing))
 
-  pub look_cost-IsTree : {s : Slab R} {root : Option ℕ} (before after : ℕ) → (h : IsTree f s root) → after ≤ before + height h.tree → 2 ^ (after - before) ≤ (length (rows_in f s root).rows + 1) ^ 2
-  look_cost-IsTree before after h steps = subst (λ u. 2 ^ (after - before) ≤ (length u + 1) ^ 2) (sym (rows_in-standing h.standing)) (look_cost f h.tree before after h.balanced steps)
+  pub look_cost-IsTree : {s : Slab R} {root : Option ℕ} (each before after : ℕ) → (h : IsTree f s root) → after ≤ before + each * height h.tree → 2 ^ (after - before) ≤ (length (rows_in f s root).rows + 1) ^ (2 * each)
+  look_cost-IsTree each before after h steps = subst (λ u. 2 ^ (after - before) ≤ (length u + 1) ^ (2 * each)) (sym (rows_in-standing h.standing)) (look_cost f h.tree each before after h.balanced steps)
 
   pub change_cost-IsTree : {s : Slab R} {root : Option ℕ} (before after : ℕ) → (h : IsTree f s root) → after ≤ before + 10 * height h.tree + 1 → 2 ^ (after - before) ≤ (length (rows_in f s root).rows + 2) ^ 32
   change_cost-IsTree before after h steps = subst (λ u. 2 ^ (after - before) ≤ (length u + 2) ^ 32) (sym (rows_in-standing h.standing)) (change_cost f h.tree before after h.balanced steps)

@@ -1,6 +1,5 @@
-use Rattle.std.proofs.Common.{◌≡◌, ℕ, ◌+◌, ◌≤◌, ◌<◌, sym, ap, ◌∙◌, subst, min, max, Option, None, Some, arith}
+use Rattle.std.proofs.Common.{◌+◌, sym, ap, ◌∙◌, min, max, arith}
 use Rattle.balanced_tree.specs.Row.{plain}
-use Rattle.balanced_tree.specs.GapSearch.{HasSearched}
 use Rattle.balanced_tree.proofs.Nodes.{node_of, standing-at, lower-left, lower-right, Stands-left, Stands-right}
 use Rattle.balanced_tree.proofs.GapTrees.{extent_node, searched-passed, searched-left, searched-both}
 use Rattle.balanced_tree.proofs.gaps.+gap_below.Goals as goal

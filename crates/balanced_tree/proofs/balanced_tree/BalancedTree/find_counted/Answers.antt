@@ -1,4 +1,4 @@
-use Rattle.std.proofs.Common.{◌+◌, ◌-◌, ◌^◌, ◌≤◌, length, ap, subst, sym, ◌∙◌}
+use Rattle.std.proofs.Common.{arith, ◌+◌, ◌-◌, ◌^◌, ◌≤◌, length, ap, subst, sym, ◌∙◌}
 use Rattle.balanced_tree.specs.Rows.{row_at}
 use Rattle.balanced_tree.proofs.Views.{find-nothing, find-same, find-other, look_cost-IsTree}
 use Rattle.balanced_tree.proofs.balanced_tree.BalancedTree.find_counted.Goals as goal
@@ -15,7 +15,7 @@ returns-in_err-row-clause-cost g c =
     let f = g.R.TreeRow.functions in
     let law = g.met.R.TreeRow.lawful in
     let h = c.self.invariant in
-    subst (λ v. 2 ^ (c.find_below.new.steps - c.args.steps.now) ≤ (length v.rows + 1) ^ 2) c.self.view_is (look_cost-IsTree f law _ _ h (c.find_below.ensures.steps h.tree 0 (2 ^ 128) h.standing))
+    subst (λ v. 2 ^ (c.find_below.new.steps - c.args.steps.now) ≤ (length v.rows + 1) ^ 2) c.self.view_is (look_cost-IsTree f law 1 _ _ h (omega (arith, c.find_below.ensures.steps h.tree 0 (2 ^ 128) h.standing)))
 
 pub returns-then-rank-clause-row : goal.returns-then-rank-clause-row
 returns-then-rank-clause-row g c =
@@ -29,7 +29,7 @@ returns-then-rank-clause-cost g c =
     let f = g.R.TreeRow.functions in
     let law = g.met.R.TreeRow.lawful in
     let h = c.self.invariant in
-    subst (λ v. 2 ^ (c.find_below.new.steps - c.args.steps.now) ≤ (length v.rows + 1) ^ 2) c.self.view_is (look_cost-IsTree f law _ _ h (c.find_below.ensures.steps h.tree 0 (2 ^ 128) h.standing))
+    subst (λ v. 2 ^ (c.find_below.new.steps - c.args.steps.now) ≤ (length v.rows + 1) ^ 2) c.self.view_is (look_cost-IsTree f law 1 _ _ h (omega (arith, c.find_below.ensures.steps h.tree 0 (2 ^ 128) h.standing)))
 
 pub returns-else-rank-clause-row : goal.returns-else-rank-clause-row
 returns-else-rank-clause-row g c =
@@ -43,4 +43,4 @@ returns-else-rank-clause-cost g c =
     let f = g.R.TreeRow.functions in
     let law = g.met.R.TreeRow.lawful in
     let h = c.self.invariant in
-    subst (λ v. 2 ^ (c.find_below.new.steps - c.args.steps.now) ≤ (length v.rows + 1) ^ 2) c.self.view_is (look_cost-IsTree f law _ _ h (c.find_below.ensures.steps h.tree 0 (2 ^ 128) h.standing))
+    subst (λ v. 2 ^ (c.find_below.new.steps - c.args.steps.now) ≤ (length v.rows + 1) ^ 2) c.self.view_is (look_cost-IsTree f law 1 _ _ h (omega (arith, c.find_below.ensures.steps h.tree 0 (2 ^ 128) h.standing)))

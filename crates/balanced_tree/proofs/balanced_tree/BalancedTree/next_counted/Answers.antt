@@ -1,4 +1,4 @@
-use Rattle.std.proofs.Common.{◌+◌, ◌-◌, ◌^◌, ◌≤◌, length, ap, subst, ◌∙◌}
+use Rattle.std.proofs.Common.{arith, ◌+◌, ◌-◌, ◌^◌, ◌≤◌, length, ap, subst, ◌∙◌}
 use Rattle.balanced_tree.specs.Rows.{row_from}
 use Rattle.balanced_tree.proofs.Views.{row_from-IsTree, look_cost-IsTree}
 use Rattle.balanced_tree.proofs.balanced_tree.BalancedTree.next_counted.Goals as goal
@@ -15,4 +15,4 @@ returns-clause-cost g c =
     let f = g.R.TreeRow.functions in
     let law = g.met.R.TreeRow.lawful in
     let h = c.self.invariant in
-    subst (λ v. 2 ^ (c.find_below.new.steps - c.args.steps.now) ≤ (length v.rows + 1) ^ 2) c.self.view_is (look_cost-IsTree f law _ _ h (c.find_below.ensures.steps h.tree 0 (2 ^ 128) h.standing))
+    subst (λ v. 2 ^ (c.find_below.new.steps - c.args.steps.now) ≤ (length v.rows + 1) ^ 2) c.self.view_is (look_cost-IsTree f law 1 _ _ h (omega (arith, c.find_below.ensures.steps h.tree 0 (2 ^ 128) h.standing)))
