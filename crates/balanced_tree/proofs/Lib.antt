@@ -9,3 +9,4 @@ pub mod Costs
 pub mod Views
 pub mod GapLaws
 pub mod GapTrees
+pub mod ApartLaws
