@@ -23,7 +23,11 @@ fn fits(from: u128, size: u128, limit: u128) -> bool
 fn if_fits(from: u128, size: u128, limit: u128) -> Option<u128>
     ensures { result ≡ (if nat_le (from + size) limit then Some from else None) }
 {
-    if fits(from, size, limit) { Some(from) } else { None }
+    if fits(from, size, limit) {
+        Some(from)
+    } else {
+        None
+    }
 }
 
 /// Whether no gap of this size from `from` on lies before or between extents of this span: they all end before `from`,

@@ -3,6 +3,8 @@
 ghost use Rattle.std.specs.Prelude.{◌≡◌, ◌<◌};
 ghost use Rattle.balanced_tree.specs.Row.{height_in};
 
+mod gaps;
+
 use crate::{BalancedTree, Child, Steps, TreeRow, link_to};
 use std::marker::Brand;
 use std::sync::ledger::{Blank, Ledger};
