@@ -185,8 +185,8 @@ impl<R: TreeRow> BalancedTree<R> {
 }
 
 impl<R: ExtentRow> BalancedTree<R> {
-    /// The lowest rank from `from` on at which `size` ranks are free and end at the limit or before. None where there
-    /// is no such rank.
+    /// The lowest rank from `from` on at which `size` ranks lie in no extent and end at the limit or before. None where
+    /// there is no such rank.
     pub fn first_gap_counted<L: Ledger>(
         &self,
         from: u128,
@@ -202,8 +202,8 @@ impl<R: ExtentRow> BalancedTree<R> {
         gap_below(&self.rows, self.root, from, size, limit, steps)
     }
 
-    /// The lowest rank from `from` on at which `size` ranks are free and end at the limit or before. None where there
-    /// is no such rank.
+    /// The lowest rank from `from` on at which `size` ranks lie in no extent and end at the limit or before. None where
+    /// there is no such rank.
     pub fn first_gap(&self, from: u128, size: u128, limit: u128) -> Option<u128>
         requires { AreApart R.functions R.extents self.now.rows }
         ensures { MatchOption result (HasNoGap R.functions R.extents self.now.rows from size limit)

@@ -1,6 +1,7 @@
 //! The search for a gap between extents.
 
-ghost use Rattle.std.specs.Prelude.{◌≡◌, ◌⊎◌, ◌↔◌, ℕ, ◌+◌, ◌<◌, ◌≤◌, if◌then◌else◌, nat_le, IsTrue, Some, None};
+ghost use Rattle.std.specs.Prelude.{◌≡◌, ◌⊎◌, ◌↔◌, ℕ, ◌+◌, ◌<◌, ◌≤◌, IsTrue};
+ghost use Rattle.std.specs.Prelude.{if◌then◌else◌, nat_le, Some, None};
 ghost use Rattle.balanced_tree.specs.Gaps.{ApartWithin};
 ghost use Rattle.balanced_tree.specs.GapSearch.{HasSearched};
 ghost use Rattle.balanced_tree.specs.Standing.{IsStanding, Stands};

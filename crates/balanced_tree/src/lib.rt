@@ -2,7 +2,8 @@
 //! callers see the list of the rows by rising rank, and room for more.
 //!
 //! It stands on `slab` alone. A row type implements `TreeRow`: it names the rank of a row, and holds the links and
-//! the height that the tree stores in it. `Steps` counts the rows that a call looks at, puts, adds or takes.
+//! the height that the tree stores in it. A row type that stands for extents implements `ExtentRow` too, and the tree
+//! then finds the first gap of a size between them. `Steps` counts the rows that a call looks at, puts, adds or takes.
 #![tactic(auto)]
 
 mod balanced_tree;
