@@ -13,7 +13,7 @@ module _ {R : Type 0} (f : Functions R) (e : Extents R) where
 
   pub ApartWithin-lower : (a low high : ℕ) (xs : List R) → a ≤ low → ApartWithin f e low high xs → ApartWithin f e a high xs
   ApartWithin-lower a low high [] less h = omega arith
-  ApartWithin-lower a low high (x ∷ xs) less h = let h0 = h.0 in (omega arith, h.1, h.2)
+  ApartWithin-lower a low high (x ∷ xs) less h = (omega arith, h.1, h.2)
 
   -- extents on both sides of an extent
   pub record IsApartAt (low high : ℕ) (xs : List R) (y : R) (ys : List R) : Type 0 where
@@ -36,7 +36,7 @@ module _ {R : Type 0} (f : Functions R) (e : Extents R) where
   pub IsFree-ahead : (low high size p : ℕ) (xs : List R) → ApartWithin f e low high xs → p + size ≤ low → IsFree f e xs size p
   IsFree-ahead low high size p [] h less = tt
   IsFree-ahead low high size p (x ∷ xs) h less =
-      let h0 = h.0 in let h1 = h.1 in (inl (omega arith), IsFree-ahead (e.end x) high size p xs h.2 (omega arith))
+      (inl (omega arith), IsFree-ahead (e.end x) high size p xs h.2 (omega arith))
 
   pub IsFree-behind : (low high size p : ℕ) (xs : List R) → ApartWithin f e low high xs → high ≤ p → IsFree f e xs size p
   IsFree-behind low high size p [] h more = tt
@@ -75,19 +75,17 @@ module _ {R : Type 0} (f : Functions R) (e : Extents R) where
   HasNoGap-gap a d size [] h none =
       elim (cases_lt (d - a) size) [ inl less ↦ less | inr more ↦ absurd (none a (omega arith) (omega arith) tt) ]
   HasNoGap-gap a d size (x ∷ xs) h none =
-      let h0 = h.0 in let h1 = h.1 in let h2 = h.2 in
-      let to = ApartWithin-bounds (e.end x) d xs h2 in
-      let rest = HasNoGap-gap (e.end x) d size xs h2 (λ p from below free. none p (omega arith) below (inr from, free)) in
+      let to = ApartWithin-bounds (e.end x) d xs h.2 in
+      let rest = HasNoGap-gap (e.end x) d size xs h.2 (λ p from below free. none p (omega arith) below (inr from, free)) in
       elim (cases_lt (f.rank x - a) size) [
         | inl less ↦ omega arith
-        | inr more ↦ absurd (none a (omega arith) (omega arith) (inl (omega arith), IsFree-ahead (e.end x) d size a xs h2 (omega arith)))
+        | inr more ↦ absurd (none a (omega arith) (omega arith) (inl (omega arith), IsFree-ahead (e.end x) d size a xs h.2 (omega arith)))
       ]
 
   -- the search on both sides of an extent
   module _ {low high from : ℕ} (size limit : ℕ) {xs ys : List R} {y : R} (h : IsApartAt low high xs y ys) where
     pub IsFirstGap-left : {p : ℕ} → IsFirstGap f e xs from size (min limit (f.rank y)) p → IsFirstGap f e (xs ++ y ∷ ys) from size limit p
     IsFirstGap-left {p} g =
-        let past = g.not_past in let here = h.here in
         record {
           not_before = g.not_before;
           not_past = omega arith;
@@ -104,10 +102,9 @@ module _ {R : Type 0} (f : Functions R) (e : Extents R) where
     pub searched-right : (result : Option ℕ) → HasNoGap f e xs from size (min limit (f.rank y)) → MatchOption result (HasNoGap f e ys (max from (e.end y)) size limit) (IsFirstGap f e ys (max from (e.end y)) size limit) → MatchOption result (HasNoGap f e (xs ++ y ∷ ys) from size limit) (IsFirstGap f e (xs ++ y ∷ ys) from size limit)
     searched-right None none g = λ q a b free. let at = at_right none q a b free in g q at.0 b at.1
     searched-right (Some p) none g =
-        let start = g.not_before in let past = g.not_past in let here = h.here in
         record {
           not_before = omega arith;
-          not_past = past;
+          not_past = g.not_past;
           free = IsFree-join size p xs (y ∷ ys) (IsFree-behind low (f.rank y) size p xs h.left (omega arith)) (inr (omega arith), g.free);
           first = λ q a b free. let at = at_right none q a (omega arith) free in g.first q at.0 b at.1;
         }

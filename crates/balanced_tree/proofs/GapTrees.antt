@@ -48,9 +48,7 @@ module _ {R : Type 0} (f : Functions R) (e : Extents R) (laws : AreLawful f) (sp
   ends_at low high d Leaf from to h = record { apart = from; below = to }
   ends_at low high d (Node l p x r) from to h =
       let at = ApartWithin-split f e low high (rows_of f l) (plain f x) (rows_of f r) h in
-      let same = end-plain x in
-      let right = at.right in
-      let rest = ends_at (e.end (plain f x)) high (e.end x) r (omega arith) (omega (arith, ApartWithin-bounds f e _ high (rows_of f r) right)) right in
+      let rest = ends_at (e.end (plain f x)) high (e.end x) r (omega (arith, end-plain x)) (omega (arith, end-plain x, ApartWithin-bounds f e _ high (rows_of f r) at.right)) at.right in
       record {
         apart = ApartWithin-join f e low (highest_over (e.end x) (span_of f e r)) (rows_of f l) (plain f x) (rows_of f r) (record { left = at.left; here = at.here; right = rest.apart });
         below = rest.below;
@@ -107,8 +105,8 @@ module _ {R : Type 0} (f : Functions R) (e : Extents R) (laws : AreLawful f) (sp
 
     pub searched-passed : {result : Option ℕ} {before after : ℕ} → from + size ≤ limit → Passed span from size → result ≡ cond (leb (max from span.highest + size) limit) (Some (max from span.highest)) None → after ≡ before + 1 → HasSearched f e t low high from size limit result before after
     searched-passed {result} fits passed is step =
-        let lower = n.left_lower in
-        let least : (q : ℕ) → from ≤ q → IsFree f e (rows_of f t) size q → max from span.highest ≤ q = λ q a free. (let gap = IsFree-gap f e q (q + size) size q (rows_of f t) free (omega arith) (omega arith) in elim passed [ inl behind ↦ omega arith | inr small ↦ omega (arith, gap-is q (q + size), gap, small.0, small.1) ]) in
+        let least : (q : ℕ) → from ≤ q → IsFree f e (rows_of f t) size q → max from span.highest ≤ q =
+            λ q a free. (let gap = IsFree-gap f e q (q + size) size q (rows_of f t) free (omega arith) (omega arith) in omega (arith, gap-is q (q + size))) in
         record {
           gap = searched-start f e from (max from span.highest) size limit (rows_of f t) (omega arith) (IsFree-behind f e low _ size _ (rows_of f t) highest.apart (omega (arith, highest-is))) least result is;
           steps = omega arith;
@@ -126,8 +124,6 @@ module _ {R : Type 0} (f : Functions R) (e : Extents R) (laws : AreLawful f) (sp
 
       pub searched-left : {stop p before middle after : ℕ} → middle ≡ before + 1 → stop ≡ min limit (f.rank here) → HasSearched f e l low (f.rank (plain f here)) from size stop (Some p) middle after → HasSearched f e t low high from size limit (Some p) before after
       searched-left {stop} {p} step stops h =
-          let lower = n.left_lower in
-          let steps = h.steps in
           record {
             gap = rw n.rows (IsFirstGap-left f e size limit n.apart (subst (λ m. IsFirstGap f e (rows_of f l) from size m p) (stops ∙ ap (min limit) (sym n.rank_same)) h.gap));
             steps = omega arith;
@@ -147,27 +143,25 @@ module _ {R : Type 0} (f : Functions R) (e : Extents R) (laws : AreLawful f) (sp
 
       pub searched-both : {stop start : ℕ} {result : Option ℕ} {before middle next after : ℕ} → middle ≡ before + 1 → stop ≡ min limit (f.rank here) → HasSearched f e l low (f.rank (plain f here)) from size stop None middle next → start ≡ max from (e.end here) → HasSearched f e r (e.end (plain f here)) high start size limit result next after → HasSearched f e t low high from size limit result before after
       searched-both {stop} {start} {result} step stops h starts k =
-          let lower = n.left_lower in let lower_right = n.right_lower in let rank = n.rank_same in let end = n.end_same in let here_apart = n.apart.here in
           let to = ApartWithin-bounds f e _ high (rows_of f r) n.apart.right in
           let begin = ApartWithin-bounds f e low _ (rows_of f l) n.apart.left in
           let gap : MatchOption result (HasNoGap f e (rows_of f t) from size limit) (IsFirstGap f e (rows_of f t) from size limit) = rw n.rows (searched-right f e size limit n.apart result (subst (HasNoGap f e (rows_of f l) from size) (stops ∙ ap (min limit) (sym n.rank_same)) h.gap) (subst (λ m. MatchOption result (HasNoGap f e (rows_of f r) m size limit) (IsFirstGap f e (rows_of f r) m size limit)) (starts ∙ ap (max from) (sym n.end_same)) k.gap)) in
-          let left_none = h.none refl in let left_ahead = h.none_ahead refl in
           record {
             gap = gap;
             steps = elim (cases_lt limit (f.rank here)) [
               | inl ends ↦ omega (arith, h.steps, k.over (omega arith))
               | inr goes_on ↦ elim (cases_lt (e.end here) from) [
                 | inl past ↦ omega (arith, h.behind (omega arith), k.steps)
-                | inr before_end ↦ omega (arith, left_none (omega arith), k.ahead (omega arith))
+                | inr before_end ↦ omega (arith, h.none refl (omega arith), k.ahead (omega arith))
               ]
             ];
             ahead = λ g. elim (cases_lt limit (f.rank here)) [
               | inl ends ↦ omega (arith, h.ahead g, k.over (omega arith))
-              | inr goes_on ↦ omega (arith, left_ahead g (omega arith), k.ahead (omega arith))
+              | inr goes_on ↦ omega (arith, h.none_ahead refl g (omega arith), k.ahead (omega arith))
             ];
             none = λ is a. elim (cases_lt (e.end here) from) [
               | inl past ↦ omega (arith, h.behind (omega arith), k.none is a)
-              | inr before_end ↦ omega (arith, left_none (omega arith), k.none_ahead is (omega arith) a)
+              | inr before_end ↦ omega (arith, h.none refl (omega arith), k.none_ahead is (omega arith) a)
             ];
             none_ahead = λ is g a. absurd (none_within g a (MatchOption-at_none _ _ is gap));
             behind = λ g. absurd (starts_below g);
