@@ -44,4 +44,5 @@ module _ {R : Type 0} where
 -- a row over two children has the end that it had, and the span over theirs
 pub record AreSpanned {R : Type 0} (f : Functions R) (e : Extents R) : Type 0 where
   pub end_kept : (x : R) (l r : Option (Child R)) → e.end (f.linked x l r) ≡ e.end x
-  pub span_set : (x : R) (l r : Option (Child R)) → e.span (f.linked x l r) ≡ span_over (f.rank x) (e.end x) (span_in e.span l) (span_in e.span r)
+  pub span_set : (x : R) (l r : Option (Child R)) → e.span (f.linked x l r)
+      ≡ span_over (f.rank x) (e.end x) (span_in e.span l) (span_in e.span r)
