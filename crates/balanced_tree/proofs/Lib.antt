@@ -10,3 +10,4 @@ pub mod Views
 pub mod GapLaws
 pub mod GapTrees
 pub mod ApartLaws
+pub mod ListLaws
