@@ -1,0 +1,22 @@
+-- The order of the rows, by list and then by page, and what the tree knows of a row.
+use Rattle.std.specs.Prelude.{ℕ, ◌+◌, ◌*◌, ◌^◌, None}
+use Rattle.balanced_tree.specs.Row.{Functions, link_of, height_over}
+use Rattle.page_list.specs.declared.row.Row.{Row}
+use Rattle.page_list.specs.declared.row.Slot.{Slot}
+
+-- the place of page p of list l among all rows. Page numbers are below 2^64
+abbrev pub rank_of : ℕ → ℕ → ℕ
+rank_of l p = l * 2 ^ 64 + p
+
+abbrev pub row_functions : Functions Row
+row_functions = record {
+  rank = λ x. rank_of x.list.0 x.page;
+  left = λ x. x.left;
+  right = λ x. x.right;
+  height = λ x. x.height;
+  linked = λ x l r. record x { left = link_of l; right = link_of r; height = height_over (λ y. y.height) l r };
+}
+
+-- the row of page p of list l with no children
+abbrev pub row_of : ℕ → ℕ → Slot → Row
+row_of l p slot = record { list = record { 0 = l }; page = p; slot = slot; left = None; right = None; height = 0 }

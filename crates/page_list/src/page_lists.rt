@@ -1,0 +1,225 @@
+//! The table of all page lists.
+
+ghost use Rattle.std.specs.Prelude.{◌≡◌, ◌≢◌, ◌⊎◌, ◌+◌, ◌-◌, ◌^◌, ◌≤◌, ◌<◌, None, Some, Bool, OnOk, IsSome, IfSome};
+ghost use Rattle.vm_base.specs.declared.names.Tag.{Tag};
+ghost use Rattle.page_list.specs.declared.row.Slot.{Slot};
+ghost use Rattle.page_list.specs.Lists.{slots_of, row_count, with_slot, page_in, IsNext};
+
+use crate::row::{ListId, Row, Slot, rank_of};
+use balanced_tree::{BalancedTree, Steps};
+use std::alloc::Global;
+use std::marker::Model;
+use std::sync::ledger::Ledger;
+use vm_base::{HostMemory, PageNo};
+
+/// Rows, each under a list and a page. Contracts see which slot each page of each list has (`slots_of`), the number of
+/// the rows (`row_count`), and `spare`, how many more fit. No call but `reserve` asks the host for memory.
+///
+/// A step of a counted call is one row that is looked at, put, added or taken. The other calls do the same and count
+/// nothing.
+#[derive(Drop)]
+pub struct PageLists {
+    tree: BalancedTree<Row>,
+}
+
+impl Model for PageLists {
+    ghost use Rattle.balanced_tree.specs.Rows.{Rows};
+    ghost use Rattle.page_list.specs.declared.row.Row.{Row};
+
+    ghost Value = { Rows Row };
+
+    ghost view = { λ l. l.tree };
+}
+
+impl PageLists {
+    /// No rows, and no room.
+    pub fn new(alloc: Global) -> PageLists
+        ensures slots { slots_of result ≡ λ l p. None }
+        ensures count { row_count result ≡ 0 }
+        ensures spare { result.spare ≡ 0 }
+    {
+        PageLists {
+            tree: BalancedTree::new(alloc),
+        }
+    }
+
+    /// Makes room for `n` rows more. `HostMemory` where the host has too little memory. The rows stay as they are on
+    /// both answers, and no room is lost.
+    pub fn reserve(&mut self, n: u64) -> Result<(), HostMemory>
+        ensures room { OnOk result (n ≤ self.new.spare) }
+        ensures rows { self.new.rows ≡ self.old.rows }
+        ensures spare { self.old.spare ≤ self.new.spare }
+    {
+        match self.tree.reserve(n as usize) {
+            Ok(()) => Ok(()),
+            Err(_) => Err(HostMemory),
+        }
+    }
+
+    /// How many rows there are.
+    pub fn rows(&self) -> u64
+        ensures { result ≡ row_count self.now }
+    {
+        self.tree.len() as u64
+    }
+
+    /// How many more rows fit with no memory from the host.
+    pub fn spare(&self) -> u64
+        ensures { result ≡ self.now.spare }
+    {
+        self.tree.spare() as u64
+    }
+
+    /// The slot of a page of a list. `None` exactly where it has no row.
+    pub fn find(&self, list: ListId, page: PageNo) -> Option<Slot>
+        ensures { result ≡ slots_of self.now list.0 page }
+    {
+        let row = self.tree.find(rank_of(list, page))?;
+        Some(row.slot)
+    }
+
+    /// Adds a row to a page of a list that has none.
+    pub fn insert(&mut self, list: ListId, page: PageNo, slot: Slot)
+        requires absent { slots_of self.old list.0 page ≡ None }
+        requires room { 1 ≤ self.old.spare }
+        ensures slots { slots_of self.new ≡ with_slot (slots_of self.old) list.0 page (Some slot) }
+        ensures count { row_count self.new ≡ row_count self.old + 1 }
+        ensures spare { self.new.spare + 1 ≡ self.old.spare }
+    {
+        let _rising = self.tree.len();
+        self.tree.insert(Row::new(list, page, slot));
+    }
+
+    /// Takes the row of a page of a list out, and answers its slot.
+    pub fn remove(&mut self, list: ListId, page: PageNo) -> Slot
+        requires { IsSome (slots_of self.old list.0 page) }
+        ensures slot { slots_of self.old list.0 page ≡ Some result }
+        ensures slots { slots_of self.new ≡ with_slot (slots_of self.old) list.0 page None }
+        ensures count { row_count self.new + 1 ≡ row_count self.old }
+        ensures spare { self.new.spare ≡ self.old.spare + 1 }
+    {
+        let _rising = self.tree.len();
+        self.tree.remove(rank_of(list, page)).slot
+    }
+
+    /// Sets both bits of the row of a page of a list, which has a frame.
+    pub fn set_bits(&mut self, list: ListId, page: PageNo, left: bool, right: bool)
+        requires { (tag : Tag) × (l r : Bool) × (slots_of self.old list.0 page ≡ Some (Slot.Frame tag l r)) }
+        ensures slots { (tag : Tag) (l r : Bool) → slots_of self.old list.0 page ≡ Some (Slot.Frame tag l r) →
+            slots_of self.new ≡ with_slot (slots_of self.old) list.0 page (Some (Slot.Frame tag left right)) }
+        ensures count { row_count self.new ≡ row_count self.old }
+        ensures spare { self.new.spare ≡ self.old.spare }
+    {
+        if let Some(Slot::Frame { tag, .. }) = self.find(list, page) {
+            self.replace(list, page, Slot::Frame { tag, left, right });
+        }
+    }
+
+    /// Gives a page of a list that has a row another slot.
+    fn replace(&mut self, list: ListId, page: PageNo, slot: Slot)
+        requires { IsSome (slots_of self.old list.0 page) }
+        ensures slots { slots_of self.new ≡ with_slot (slots_of self.old) list.0 page (Some slot) }
+        ensures count { row_count self.new ≡ row_count self.old }
+        ensures spare { self.new.spare ≡ self.old.spare }
+    {
+        let _rising = self.tree.len();
+        self.tree.replace(Row::new(list, page, slot));
+    }
+
+    /// The least page of a list from `from` on that has a row. `None` exactly where there is none.
+    pub fn next(&self, list: ListId, from: PageNo) -> Option<PageNo>
+        ensures { IsNext (slots_of self.now list.0) from result }
+    {
+        let _rising = self.tree.len();
+        page_in(list, self.tree.next(rank_of(list, from)))
+    }
+
+    /// Moves the row of a page of a list to a page of a list that has none.
+    pub fn move_row(&mut self, list: ListId, page: PageNo, to_list: ListId, to_page: PageNo)
+        requires from { IsSome (slots_of self.old list.0 page) }
+        requires to { slots_of self.old to_list.0 to_page ≡ None }
+        ensures slots { slots_of self.new ≡ with_slot (with_slot (slots_of self.old) list.0 page None)
+            to_list.0 to_page (slots_of self.old list.0 page) }
+        ensures count { row_count self.new ≡ row_count self.old }
+        ensures spare { self.new.spare ≡ self.old.spare }
+    {
+        let slot = self.remove(list, page);
+        self.insert(to_list, to_page, slot);
+    }
+
+    /// Does what `find` does, and counts its steps.
+    pub fn find_counted<L: Ledger>(
+        &self,
+        list: ListId,
+        page: PageNo,
+        steps: &mut Steps<L>,
+    ) -> Option<Slot>
+        ensures slot { result ≡ slots_of self.now list.0 page }
+        ensures cost { 2 ^ (steps.new - steps.old) ≤ (row_count self.now + 1) ^ 2 }
+    {
+        let row = self.tree.find_counted(rank_of(list, page), steps)?;
+        Some(row.slot)
+    }
+
+    /// Does what `next` does, and counts its steps.
+    pub fn next_counted<L: Ledger>(
+        &self,
+        list: ListId,
+        from: PageNo,
+        steps: &mut Steps<L>,
+    ) -> Option<PageNo>
+        ensures page { IsNext (slots_of self.now list.0) from result }
+        ensures cost { 2 ^ (steps.new - steps.old) ≤ (row_count self.now + 1) ^ 2 }
+    {
+        let _rising = self.tree.len();
+        page_in(list, self.tree.next_counted(rank_of(list, from), steps))
+    }
+
+    /// Does what `insert` does, and counts its steps.
+    pub fn insert_counted<L: Ledger>(
+        &mut self,
+        list: ListId,
+        page: PageNo,
+        slot: Slot,
+        steps: &mut Steps<L>,
+    )
+        requires absent { slots_of self.old list.0 page ≡ None }
+        requires room { 1 ≤ self.old.spare }
+        ensures slots { slots_of self.new ≡ with_slot (slots_of self.old) list.0 page (Some slot) }
+        ensures count { row_count self.new ≡ row_count self.old + 1 }
+        ensures spare { self.new.spare + 1 ≡ self.old.spare }
+        ensures cost { 2 ^ (steps.new - steps.old) ≤ (row_count self.old + 2) ^ 32 }
+    {
+        let _rising = self.tree.len();
+        self.tree.insert_counted(Row::new(list, page, slot), steps);
+    }
+
+    /// Does what `remove` does, and counts its steps.
+    pub fn remove_counted<L: Ledger>(
+        &mut self,
+        list: ListId,
+        page: PageNo,
+        steps: &mut Steps<L>,
+    ) -> Slot
+        requires { IsSome (slots_of self.old list.0 page) }
+        ensures slot { slots_of self.old list.0 page ≡ Some result }
+        ensures slots { slots_of self.new ≡ with_slot (slots_of self.old) list.0 page None }
+        ensures count { row_count self.new + 1 ≡ row_count self.old }
+        ensures spare { self.new.spare ≡ self.old.spare + 1 }
+        ensures cost { 2 ^ (steps.new - steps.old) ≤ (row_count self.old + 2) ^ 32 }
+    {
+        let _rising = self.tree.len();
+        self.tree.remove_counted(rank_of(list, page), steps).slot
+    }
+}
+
+/// The page of the row that follows, if it is of this list.
+fn page_in(list: ListId, next: Option<Row>) -> Option<PageNo>
+    ensures page { result ≡ page_in list.0 next }
+    ensures fits { IfSome next (λ row. row.page < 2 ^ 64) }
+{
+    match next {
+        Some(row) if row.list == list => Some(row.page),
+        _ => None,
+    }
+}

@@ -1,0 +1,119 @@
+//! A row of the table: a page of a list, and its slot.
+
+ghost use Rattle.std.specs.Prelude.{◌≡◌};
+ghost use Rattle.balanced_tree.specs.Row.{height_in};
+ghost use Rattle.page_list.specs.Order.{rank_of, row_of};
+
+use balanced_tree::{Child, TreeRow, link_to};
+use vm_base::{PageNo, Tag};
+
+/// How far apart the ranks of one page in two lists that follow each other are.
+const PAGES_OF_A_LIST: u128 = 1 << 64;
+
+/// The number of a list of pages.
+#[derive(Clone, Copy, Debug, PartialEq, Eq)]
+pub struct ListId(pub u64);
+
+/// What a row says of its page.
+#[derive(Clone, Copy, Debug, PartialEq, Eq)]
+pub enum Slot {
+    /// The page has this frame. In the list of a node with two children in a tree of copies, `left` and `right` say
+    /// that no VMO on that side sees the row; in another list both are false.
+    Frame { tag: Tag, left: bool, right: bool },
+    /// The page is zero, whatever a list behind this one has for it.
+    Zero,
+}
+
+/// A row as it stands in the tree: under a list and a page a slot, the links to the two children, and the height.
+#[derive(Clone, Copy, Debug)]
+pub struct Row {
+    pub list: ListId,
+    pub page: PageNo,
+    pub slot: Slot,
+    pub left: Option<usize>,
+    pub right: Option<usize>,
+    pub height: u32,
+}
+
+/// Rows under their places, each look, change, addition and removal one step.
+pub type RowSlab = balanced_tree::RowSlab<Row>;
+
+impl Row {
+    /// The row of a page with no children.
+    pub(crate) fn new(list: ListId, page: PageNo, slot: Slot) -> Row
+        ensures { result ≡ row_of list.0 page slot }
+    {
+        Row {
+            list,
+            page,
+            slot,
+            left: None,
+            right: None,
+            height: 0,
+        }
+    }
+}
+
+/// The place of a page in the order of all rows: by list, and then by page.
+pub(crate) fn rank_of(list: ListId, page: PageNo) -> u128
+    ensures { result ≡ rank_of list.0 page }
+{
+    u128::from(list.0) * PAGES_OF_A_LIST + u128::from(page)
+}
+
+fn height_of(child: Option<Child<Row>>) -> u32
+    ensures { result ≡ height_in (λ x. x.height) child }
+{
+    match child {
+        None => 0,
+        Some(child) => child.row.height,
+    }
+}
+
+impl TreeRow for Row {
+    ghost use Rattle.std.specs.Prelude.{refl};
+    ghost use Rattle.balanced_tree.specs.Row.{link_of, height_over};
+    ghost use Rattle.page_list.specs.Order.{row_functions};
+
+    ghost functions = { row_functions };
+
+    fn rank(self) -> u128 {
+        rank_of(self.list, self.page)
+    }
+
+    fn left(self) -> Option<usize> {
+        self.left
+    }
+
+    fn right(self) -> Option<usize> {
+        self.right
+    }
+
+    fn height(self) -> u32 {
+        self.height
+    }
+
+    fn linked(self, left: Option<Child<Row>>, right: Option<Child<Row>>) -> Row
+        ensures { result ≡ record self {
+          left = link_of left;
+          right = link_of right;
+          height = height_over (λ y. y.height) left right;
+        } }
+    {
+        let height = height_of(left).max(height_of(right)).saturating_add(1);
+        Row {
+            left: link_to(left),
+            right: link_to(right),
+            height,
+            ..self
+        }
+    }
+
+    ghost lawful = { record {
+      rank_kept = λ x l r. refl;
+      left_set = λ x l r. refl;
+      right_set = λ x l r. refl;
+      height_set = λ x l r. refl;
+      forgets = λ x a b l r. refl;
+    } };
+}
