@@ -1,35 +1,30 @@
 -- The entries count the pins, as pins come and go, and say which pages are pinned.
-use Rattle.std.proofs.Common.{◌≡◌, ◌≢◌, ℕ, ◌+◌, ◌<◌, ◌≤◌, Bool, true, false, ◌&&◌, ◌==◌, List, [], length, get_or, Option, None, Some, is_some, refl, sym, ap, subst, ◌∙◌, inl, inr, arith}
-use Rattle.std.specs.declared.cmp.Ordering.TheVariants.{Less, Greater}
-use Rattle.std.proofs.lemmas.Bool.{cases_Bool, cases_eq, cases_order, and_parts, lt-ltb, le-ltb, eqb-true}
-use Rattle.std.proofs.lemmas.Bool.Decides.{nat_tests}
-use Rattle.std.proofs.lemmas.List.{get_or_read}
+use Rattle.std.proofs.Common.{◌≡◌, ℕ, ◌+◌, ◌<◌, ◌≤◌, Bool, true, false, ltb, List, [], Option, None, Some, is_some, refl, sym, ap, subst, ◌∙◌, inl, inr, arith}
+use Rattle.std.proofs.lemmas.Bool.{cases_eq, lt-ltb, le-ltb, cases_lt}
 use Rattle.vm_base.specs.declared.limits.TheConstants.{PAGES_END, NAMES}
 use Rattle.vm_base.specs.Entries.{with_key, without_key}
-use Rattle.vm_model.specs.Contents.Zeroing.{is_within}
 use Rattle.vm_model.specs.Naming.Pins.{Pin, covers, is_pinned, any_pinned}
 use Rattle.vm_base.specs.Entries.{passes, entry_count}
 use Rattle.vm_base.proofs.SearchLaws.{bit_same}
 use Rattle.vm_base.proofs.EntryLaws.{passes-some, any_entry-count, entry_count_le, entry_count_hit, entry_count-empty, entry_count-with_key, entry_count-without_key, with_key-other, with_key-cases, without_key-other, without_key-some}
-use Rattle.vm_model.proofs.ZeroingLaws.{is_within-parts}
 use Rattle.vm_model.proofs.PinLaws.{covers_at, any_pinned_at, none_pinned}
 use Rattle.pin_table.specs.declared.pages.PinnedPage.{PinnedPage}
-use Rattle.pin_table.specs.Pages.{is_entry, pins_at, AreKept, IsBoundFor, AddsPin}
+use Rattle.pin_table.specs.Pages.{page_functions, pins_at, AreKept, AddsPin}
+use Rattle.pin_table.specs.Table.{IsNextPinned}
 use Rattle.pin_table.specs.TableFields.{AreCounted}
-use Rattle.pin_table.proofs.OrderLaws.{page_cmp}
-use Rattle.pin_table.proofs.PinnedLaws.{entry_pinned, pins_at-entry, pins_at-none}
+use Rattle.pin_table.proofs.PageLaws.{IsNextRow, pins-none}
+use Rattle.balanced_tree.specs.Rows.{row_at}
 
 -- ---- no pins
 
 pub AreCounted-empty : (pins : ℕ → Option Pin) (entries : List PinnedPage) → ((n : ℕ) → pins n ≡ None) → entries ≡ [] → AreCounted pins entries
 AreCounted-empty pins entries none empty =
-    let long : length entries ≡ 0 = ap (λ (es : List PinnedPage). length es) empty in
     record {
       names_below = λ n some. absurd (let gone : false ≡ true = sym (ap is_some (none n)) ∙ some in cc);
       ends = λ n pin e. absurd (let gone = none n in cc);
-      kept = record { sorted = λ i j d l h. absurd (omega arith); pinned = λ k d h. absurd (omega arith) };
+      kept = record { pinned = λ n row e. absurd (let gone = ap (λ rows. row_at page_functions n rows) empty in cc) };
       counted = λ v p.
-          pins_at-none entries v p (λ k d h. absurd (omega arith))
+          pins-none entries v p empty
           ∙ sym (entry_count-empty NAMES (covers v p) pins none);
     }
 
@@ -92,53 +87,21 @@ module _ (pins : ℕ → Option Pin) (entries : List PinnedPage) (counted : AreC
   unpinned_at : (v p : ℕ) → pins_at v p entries ≡ 0 → is_pinned pins v p ≡ false
   unpinned_at v p none = any_entry-count NAMES (covers v p) pins ∙ le-ltb 0 (entry_count NAMES (covers v p) pins) (omega (arith, counted.counted v p))
 
--- an entry before the bound of the first page is that of none of the pages
-entry_before : (v first p w q : ℕ) → page_cmp v first w q ≡ Less → first ≤ p → ((w == v) && (q == p)) ≡ false
-entry_before v first p w q less low = grind (arith, nat_tests)
+  pub next_pinned-is : (v from : ℕ) (answer : Option ℕ) → IsNextRow entries v from answer → IsNextPinned (is_pinned pins v) from answer
+  next_pinned-is v from answer next = record {
+    none = λ e p h. unpinned_at v p (next.none e p h);
+    least = λ p e. let is = next.least p e in (is.0, pinned_at v p is.1, λ q g h. unpinned_at v q (is.2 q g h));
+  }
 
--- nor is the entry at the bound, where it is not among them
-entry_at : (v first end p w q : ℕ) → ((w == v) && is_within first end q) ≡ false → first ≤ p → p < end → ((w == v) && (q == p)) ≡ false
-entry_at v first end p w q out low high = grind (arith, nat_tests)
+-- whether a page of a range is pinned, by the next that is
+pub pinned-none : (pins : ℕ → Option Pin) (v first end : ℕ) → IsNextPinned (is_pinned pins v) first None → false ≡ any_pinned pins v first end
+pinned-none pins v first end next = sym (none_pinned pins v first end (λ p low high. next.none refl p low))
 
--- nor one behind it
-entry_behind : (v first end p w q x y : ℕ) → page_cmp v first w q ≢ Less → ((w == v) && is_within first end q) ≡ false → page_cmp w q x y ≡ Greater → first ≤ p → p < end → ((x == v) && (y == p)) ≡ false
-entry_behind v first end p w q x y bound out behind low high = grind (arith, nat_tests)
-
-module _ (pins : ℕ → Option Pin) (entries : List PinnedPage) (counted : AreCounted pins entries) (v first end i : ℕ) (bound : IsBoundFor entries v first i) where
-  -- where no entry stands at the bound, no page is pinned
-  pub pinned_past : length entries ≤ i → any_pinned pins v first end ≡ false
-  pinned_past past = none_pinned pins v first end (λ p low high.
-      unpinned_at pins entries counted v p (pins_at-none entries v p (λ k d h.
-      entry_before v first p (get_or entries k d).koid.0 (get_or entries k d).page (bound.before k d (omega arith) (omega arith)) low)))
-
-  module _ (x : PinnedPage) (h : i < length entries) (read : x ≡ get_or entries i x) where
-    -- the entry there is that of a page among them
-    pinned_here : ((x.koid.0 == v) && is_within first end x.page) ≡ true → any_pinned pins v first end ≡ true
-    pinned_here e =
-        let both = and_parts (x.koid.0 == v) (is_within first end x.page) e in
-        let within = is_within-parts first end x.page both.1 in
-        let some = entry_pinned entries i x counted.kept h read in
-        let most = pins_at-entry entries v x.page i x h read (eqb-true x.koid.0 v both.0) refl in
-        any_pinned_at pins v first end x.page within.0 within.1 (pinned_at pins entries counted v x.page (omega arith))
-
-    -- or that of none
-    pinned_nowhere : ((x.koid.0 == v) && is_within first end x.page) ≡ false → any_pinned pins v first end ≡ false
-    pinned_nowhere out = none_pinned pins v first end (λ p low high.
-        unpinned_at pins entries counted v p (pins_at-none entries v p (λ k d l. elim (cases_order k i) [
-          | inl same ↦
-              let at : get_or entries k d ≡ x = ap (λ (j : ℕ). get_or entries j d) same ∙ sym (get_or_read entries i x h read d) in
-              ap (λ (e : PinnedPage). is_entry v p e) at ∙ entry_at v first end p x.koid.0 x.page out low high
-          | inr other ↦ elim other [
-            | inl less ↦ entry_before v first p (get_or entries k d).koid.0 (get_or entries k d).page (bound.before k d (omega arith) less) low
-            | inr more ↦ entry_behind v first end p x.koid.0 x.page (get_or entries k d).koid.0 (get_or entries k d).page
-                (λ less. bound.behind i x (omega arith) h (ap (λ (e : PinnedPage). page_cmp v first e.koid.0 e.page) (sym read) ∙ less)) out
-                (ap (λ (e : PinnedPage). page_cmp e.koid.0 e.page (get_or entries k d).koid.0 (get_or entries k d).page) (get_or_read entries i x h read d) ∙ counted.kept.sorted i k d more l) low high
-          ]
-        ])))
-
-    -- so it says whether a page is pinned
-    pub pinned_next : (b : Bool) → b ≡ ((x.koid.0 == v) && is_within first end x.page) → b ≡ any_pinned pins v first end
-    pinned_next b e = elim (cases_Bool ((x.koid.0 == v) && is_within first end x.page)) [
-      | inl hit ↦ e ∙ (hit ∙ sym (pinned_here hit))
-      | inr miss ↦ e ∙ (miss ∙ sym (pinned_nowhere miss))
+pub pinned-some : (pins : ℕ → Option Pin) (v first end p : ℕ) (b : Bool) → IsNextPinned (is_pinned pins v) first (Some p) →
+    b ≡ ltb p end → b ≡ any_pinned pins v first end
+pinned-some pins v first end p b next e =
+    let is = next.least p refl in
+    elim (cases_lt p end) [
+      | inl here ↦ e ∙ (lt-ltb p end here ∙ sym (any_pinned_at pins v first end p is.0 here is.1))
+      | inr past ↦ e ∙ (le-ltb p end past ∙ sym (none_pinned pins v first end (λ q low high. is.2 q low (omega arith))))
     ]

@@ -1,4 +1,3 @@
-pub mod OrderLaws
-pub mod PinnedLaws
+pub mod PageLaws
 pub mod CountedLaws
 pub mod EntryLaws

@@ -1,93 +1,130 @@
-//! The pages that are pinned, in the order of koids and page numbers.
+//! The pages that are pinned, as rows of a balanced tree in the order of koids and page numbers.
 
-ghost use Rattle.std.specs.Prelude.{◌≡◌, ℕ, ◌+◌, ◌<◌, ◌≤◌, ◌&&◌, ◌==◌, IfOk, IfErr};
-ghost use Rattle.std.specs.Vec.{vec_len, vec_capacity};
-ghost use Rattle.vm_base.specs.declared.limits.TheConstants.{NAMES};
-ghost use Rattle.vm_model.specs.Contents.Zeroing.{is_within};
-ghost use Rattle.pin_table.specs.Pages.{entry_cmp, pins_at, IsSorted, AreKept, IsEntryFor, IsGapFor, IsBoundFor, AddsPin};
+ghost use Rattle.std.specs.Prelude.{◌≡◌, ℕ, ◌+◌, ◌^◌, ◌<◌, ◌≤◌, IfSome};
+ghost use Rattle.balanced_tree.specs.Row.{height_in};
+ghost use Rattle.vm_base.specs.declared.limits.TheConstants.{PAGES_END, NAMES};
+ghost use Rattle.pin_table.specs.Pages.{rank_of, page_with, pins_at, page_in, AreKept, AddsPin};
 
-use std::cmp::Ordering;
+use balanced_tree::{BalancedTree, Child, TreeRow, link_to};
 use vm_base::{Koid, PAGES_END, PageNo};
 
-/// A page that some pin covers, and how many pins do.
+/// How far apart the ranks of one page number of two VMOs are whose koids follow each other.
+const PAGES_OF_A_VMO: u128 = 1 << 64;
+
+/// A page that some pin covers, and how many pins do, with what the tree keeps of a row.
 #[derive(Clone, Copy, Debug)]
 pub(crate) struct PinnedPage {
     pub koid: Koid,
     pub page: PageNo,
     pub pins: u64,
+    pub left: Option<usize>,
+    pub right: Option<usize>,
+    pub height: u32,
 }
 
 impl PinnedPage {
-    /// How this page stands to another: by koid, and then by page number.
-    fn compare(&self, koid: Koid, page: PageNo) -> Ordering
-        ensures { result ≡ entry_cmp koid.0 page self.now }
+    /// A page with this number of pins.
+    fn new(koid: Koid, page: PageNo, pins: u64) -> PinnedPage
+        ensures { result ≡ page_with koid.0 page pins }
     {
-        self.koid.0.cmp(&koid.0).then(self.page.cmp(&page))
-    }
-
-    /// Whether this is one of `count` pages of a VMO from `first` on. `first + count` may pass 2^64.
-    pub fn is_among(&self, koid: Koid, first: PageNo, count: u64) -> bool
-        ensures { result ≡ ((self.now.koid.0 == koid.0) && is_within first (first + count) self.now.page) }
-    {
-        self.koid == koid && first <= self.page && self.page - first < count
-    }
-}
-
-/// Where the entry of a page stands, or else where it would stand.
-fn find(pages: &[PinnedPage], koid: Koid, page: PageNo) -> Result<usize, usize>
-    requires { IsSorted pages.now }
-    ensures found { IfOk result (IsEntryFor pages.now koid.0 page) }
-    ensures absent { IfErr result (IsGapFor pages.now koid.0 page) }
-{
-    pages.binary_search_by(|entry| entry.compare(koid, page))
-}
-
-/// Where the first entry stands that is not before a page.
-pub(crate) fn lower_bound(pages: &[PinnedPage], koid: Koid, page: PageNo) -> usize
-    requires { IsSorted pages.now }
-    ensures { IsBoundFor pages.now koid.0 page result }
-{
-    match find(pages, koid, page) {
-        Ok(at) => at,
-        Err(at) => at,
-    }
-}
-
-/// Counts a pin more for a page. There is room for its entry.
-fn pin_page(pages: &mut Vec<PinnedPage>, koid: Koid, page: PageNo)
-    requires kept { AreKept pages.old.items }
-    requires few { pins_at koid.0 page pages.old.items ≤ NAMES }
-    requires room { vec_len pages.old < vec_capacity pages.old }
-    ensures kept { AreKept pages.new.items }
-    ensures pin { AddsPin pages.old.items pages.new.items koid.0 page (page + 1) }
-    ensures len { vec_len pages.new ≤ vec_len pages.old + 1 }
-    ensures capacity { vec_capacity pages.new ≡ vec_capacity pages.old }
-{
-    match find(pages, koid, page) {
-        Ok(at) => pages[at].pins += 1,
-        Err(at) => {
-            // It succeeds, since there is room.
-            let _ = pages.insert(
-                at,
-                PinnedPage {
-                    koid,
-                    page,
-                    pins: 1,
-                },
-            );
+        PinnedPage {
+            koid,
+            page,
+            pins,
+            left: None,
+            right: None,
+            height: 0,
         }
     }
 }
 
-/// Counts a pin more for each of `count` pages of a VMO from `first` on. There is room for their
-/// entries.
-pub(crate) fn pin_pages(pages: &mut Vec<PinnedPage>, koid: Koid, first: PageNo, count: u64)
-    requires kept { AreKept pages.old.items }
-    requires few { (p : ℕ) → pins_at koid.0 p pages.old.items ≤ NAMES }
+/// The place of a page in the order of all pinned pages.
+pub(crate) fn rank_of(koid: Koid, page: PageNo) -> u128
+    ensures { result ≡ rank_of koid.0 page }
+{
+    u128::from(koid.0) * PAGES_OF_A_VMO + u128::from(page)
+}
+
+fn height_of(child: Option<Child<PinnedPage>>) -> u32
+    ensures { result ≡ height_in (λ x. x.height) child }
+{
+    match child {
+        None => 0,
+        Some(child) => child.row.height,
+    }
+}
+
+impl TreeRow for PinnedPage {
+    ghost use Rattle.std.specs.Prelude.{refl};
+    ghost use Rattle.balanced_tree.specs.Row.{link_of, height_over};
+    ghost use Rattle.pin_table.specs.Pages.{page_functions};
+
+    ghost functions = { page_functions };
+
+    fn rank(self) -> u128 {
+        rank_of(self.koid, self.page)
+    }
+
+    fn left(self) -> Option<usize> {
+        self.left
+    }
+
+    fn right(self) -> Option<usize> {
+        self.right
+    }
+
+    fn height(self) -> u32 {
+        self.height
+    }
+
+    fn linked(self, left: Option<Child<PinnedPage>>, right: Option<Child<PinnedPage>>) -> PinnedPage
+        ensures { result ≡ record self {
+          left = link_of left;
+          right = link_of right;
+          height = height_over (λ y. y.height) left right;
+        } }
+    {
+        let height = height_of(left).max(height_of(right)).saturating_add(1);
+        PinnedPage {
+            left: link_to(left),
+            right: link_to(right),
+            height,
+            ..self
+        }
+    }
+
+    ghost lawful = { record {
+      rank_kept = λ x l r. refl;
+      left_set = λ x l r. refl;
+      right_set = λ x l r. refl;
+      height_set = λ x l r. refl;
+      forgets = λ x a b l r. refl;
+    } };
+}
+
+/// Counts a pin more for a page. There is room for its row.
+fn pin_page(pages: &mut BalancedTree<PinnedPage>, koid: Koid, page: PageNo)
+    requires kept { AreKept pages.old.rows }
+    requires few { pins_at koid.0 page pages.old.rows ≤ NAMES }
+    requires room { 1 ≤ pages.old.spare }
+    ensures kept { AreKept pages.new.rows }
+    ensures pin { AddsPin pages.old.rows pages.new.rows koid.0 page (page + 1) }
+    ensures spare { pages.old.spare ≤ pages.new.spare + 1 }
+{
+    match pages.find(rank_of(koid, page)) {
+        Some(row) => pages.replace(PinnedPage::new(koid, page, row.pins + 1)),
+        None => pages.insert(PinnedPage::new(koid, page, 1)),
+    }
+}
+
+/// Counts a pin more for each of `count` pages of a VMO from `first` on. There is room for their rows.
+pub(crate) fn pin_pages(pages: &mut BalancedTree<PinnedPage>, koid: Koid, first: PageNo, count: u64)
+    requires kept { AreKept pages.old.rows }
+    requires few { (p : ℕ) → pins_at koid.0 p pages.old.rows ≤ NAMES }
     requires end { first + count ≤ PAGES_END }
-    requires room { vec_len pages.old + count ≤ vec_capacity pages.old }
-    ensures kept { AreKept pages.new.items }
-    ensures pin { AddsPin pages.old.items pages.new.items koid.0 first (first + count) }
+    requires room { count ≤ pages.old.spare }
+    ensures kept { AreKept pages.new.rows }
+    ensures pin { AddsPin pages.old.rows pages.new.rows koid.0 first (first + count) }
 {
     for page in first..first + count {
         pin_page(pages, koid, page);
@@ -95,31 +132,46 @@ pub(crate) fn pin_pages(pages: &mut Vec<PinnedPage>, koid: Koid, first: PageNo, 
 }
 
 /// Counts a pin less for a page that has one.
-fn unpin_page(pages: &mut Vec<PinnedPage>, koid: Koid, page: PageNo)
-    requires kept { AreKept pages.old.items }
-    requires pinned { 1 ≤ pins_at koid.0 page pages.old.items }
-    ensures kept { AreKept pages.new.items }
-    ensures pin { AddsPin pages.new.items pages.old.items koid.0 page (page + 1) }
+fn unpin_page(pages: &mut BalancedTree<PinnedPage>, koid: Koid, page: PageNo)
+    requires kept { AreKept pages.old.rows }
+    requires pinned { 1 ≤ pins_at koid.0 page pages.old.rows }
+    ensures kept { AreKept pages.new.rows }
+    ensures pin { AddsPin pages.new.rows pages.old.rows koid.0 page (page + 1) }
 {
-    let Ok(at) = find(pages, koid, page) else {
-        return;
-    };
-    if pages[at].pins > 1 {
-        pages[at].pins -= 1;
-    } else {
-        pages.remove(at);
+    match pages.find(rank_of(koid, page)) {
+        Some(row) if row.pins > 1 => pages.replace(PinnedPage::new(koid, page, row.pins - 1)),
+        Some(_) => {
+            pages.remove(rank_of(koid, page));
+        }
+        None => {}
     }
 }
 
 /// Counts a pin less for each of `count` pages of a VMO from `first` on, which have one.
-pub(crate) fn unpin_pages(pages: &mut Vec<PinnedPage>, koid: Koid, first: PageNo, count: u64)
-    requires kept { AreKept pages.old.items }
-    requires pinned { (p : ℕ) → first ≤ p → p < first + count → 1 ≤ pins_at koid.0 p pages.old.items }
+pub(crate) fn unpin_pages(
+    pages: &mut BalancedTree<PinnedPage>,
+    koid: Koid,
+    first: PageNo,
+    count: u64,
+)
+    requires kept { AreKept pages.old.rows }
+    requires pinned { (p : ℕ) → first ≤ p → p < first + count → 1 ≤ pins_at koid.0 p pages.old.rows }
     requires end { first + count ≤ PAGES_END }
-    ensures kept { AreKept pages.new.items }
-    ensures pin { AddsPin pages.new.items pages.old.items koid.0 first (first + count) }
+    ensures kept { AreKept pages.new.rows }
+    ensures pin { AddsPin pages.new.rows pages.old.rows koid.0 first (first + count) }
 {
     for page in first..first + count {
         unpin_page(pages, koid, page);
+    }
+}
+
+/// The page of the row that follows, if it is of this VMO.
+pub(crate) fn page_in(koid: Koid, next: Option<PinnedPage>) -> Option<PageNo>
+    ensures page { result ≡ page_in koid.0 next }
+    ensures fits { IfSome next (λ row. row.page < 2 ^ 64) }
+{
+    match next {
+        Some(row) if row.koid == koid => Some(row.page),
+        _ => None,
     }
 }

@@ -3,10 +3,11 @@
 ghost use Rattle.std.specs.Prelude.{◌≡◌, ℕ, ◌+◌, ◌≤◌, None, Some, IsSome, OnOk};
 ghost use Rattle.std.specs.Option.{option_map};
 ghost use Rattle.vm_base.specs.Entries.{with_key, without_key};
-ghost use Rattle.vm_model.specs.Naming.Pins.{any_pinned};
-ghost use Rattle.pin_table.specs.Table.{pin_of, pins_of, room_of};
+ghost use Rattle.vm_model.specs.Naming.Pins.{any_pinned, is_pinned};
+ghost use Rattle.pin_table.specs.Table.{pin_of, pins_of, room_of, IsNextPinned};
 
-use crate::pages::{PinnedPage, lower_bound, pin_pages, unpin_pages};
+use crate::pages::{PinnedPage, page_in, pin_pages, rank_of, unpin_pages};
+use balanced_tree::BalancedTree;
 use std::alloc::Global;
 use std::collections::HashMap;
 use std::marker::Model;
@@ -25,9 +26,8 @@ struct Pin {
 #[derive(Drop)]
 pub struct PinTable {
     pins: HashMap<PinName, Pin>,
-    /// The pages that are pinned, each with the number of pins that cover it, by koid and then by page
-    /// number.
-    pages: Vec<PinnedPage>,
+    /// The pages that are pinned, each with the number of pins that cover it.
+    pages: BalancedTree<PinnedPage>,
 }
 
 impl Model for PinTable {
@@ -49,7 +49,7 @@ impl PinTable {
     {
         PinTable {
             pins: HashMap::new(alloc),
-            pages: Vec::new(alloc),
+            pages: BalancedTree::new(alloc),
         }
     }
 
@@ -105,13 +105,21 @@ impl PinTable {
         (held.koid, held.first, held.count)
     }
 
-    /// Whether some page of a VMO is pinned, of `count` pages from `first` on. It takes one binary search.
+    /// The least pinned page of a VMO from `from` on. `None` exactly where there is none.
+    pub fn next_pinned(&self, koid: Koid, from: PageNo) -> Option<PageNo>
+        ensures { IsNextPinned (is_pinned (pins_of self.now) koid.0) from result }
+    {
+        let _rising = self.pages.len();
+        page_in(koid, self.pages.next(rank_of(koid, from)))
+    }
+
+    /// Whether some page of a VMO is pinned, of `count` pages from `first` on. It takes one look-up.
+    /// `first + count` may pass 2^64.
     pub fn pinned(&self, koid: Koid, first: PageNo, count: u64) -> bool
         ensures { result ≡ any_pinned (pins_of self.now) koid.0 first (first + count) }
     {
-        let at = lower_bound(&self.pages, koid, first);
-        match self.pages.get(at) {
-            Some(next) => next.is_among(koid, first, count),
+        match self.next_pinned(koid, first) {
+            Some(page) => page - first < count,
             None => false,
         }
     }

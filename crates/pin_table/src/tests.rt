@@ -12,6 +12,8 @@ fn room_for_pins_is_found(rt: HostRuntime) -> Result<(), Fail> {
     table.add(PinName(0), Koid(1), PAGES_END - count, count);
     assert!(rt; table.pinned(Koid(1), PAGES_END - 1, 1));
     assert!(rt; !table.pinned(Koid(1), 0, PAGES_END - count));
+    assert_eq!(rt; table.next_pinned(Koid(1), 0), Some(PAGES_END - count));
+    assert_eq!(rt; table.next_pinned(Koid(0), 0), None);
     table.reserve()?;
     assert_eq!(rt; table.get(PinName(u32::MAX)), None);
     table.add(PinName(u32::MAX), Koid(u64::MAX), 0, 1);

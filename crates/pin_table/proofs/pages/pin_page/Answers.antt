@@ -1,32 +1,30 @@
-use Rattle.std.proofs.Common.{◌≡◌, ◌∙◌, refl, arith}
-use Rattle.std.specs.List.{insert}
-use Rattle.std.proofs.lemmas.Bool.{cond-true}
-use Rattle.pin_table.specs.Pages.{IsEntryFor, IsGapFor}
-use Rattle.pin_table.proofs.PinnedLaws.{entry_is, pins_at-entry, adds_raised, adds_inserted, kept_inserted}
+use Rattle.std.proofs.Common.{◌+◌, sym, ◌∙◌, arith}
+use Rattle.pin_table.proofs.PageLaws.{IsPut, put-row, kept-put, adds-one, pins-found, pins-absent}
 use Rattle.pin_table.proofs.pages.pin_page.Goals as goal
 
-found : (c : goal.After-index_mut) → IsEntryFor c.args.pages.now.items c.args.koid.0 c.args.page c.in-Ok.at
-found c = rw c.deref.ensures.value at c.in-Ok.ensures.found
+pub overflow_add-row : goal.overflow_add-row
+overflow_add-row c =
+    let is = pins-found _ c.args.koid.0 c.args.page _ c.in-Some.row c.ranges.page.fits c.rank_of.ensures (sym c.find.ensures ∙ c.in-Some.is) in
+    omega (arith, c.requires.few)
 
-pub overflow_add-index_mut : goal.overflow_add-index_mut
-overflow_add-index_mut c =
-    let at = found c in
-    let is = entry_is _ _ _ _ _ at c.index_mut.ensures.value in
-    omega (arith, pins_at-entry _ _ _ _ _ at.in_range c.index_mut.ensures.value is.0 is.1)
+put : (c : goal.After-replace) → IsPut c.args.pages.now.rows c.replace.new.self.rows c.args.koid.0 c.args.page (c.in-Some.row.pins + 1)
+put c = put-row _ _ _ _ _ c.new.result c.ranges.page.fits (omega arith) c.new.ensures c.replace.ensures.rows
 
-pub returns-in-Ok-clause-pin : goal.returns-in-Ok-clause-pin
-returns-in-Ok-clause-pin c =
-    adds_raised _ _ _ _ c.index_mut.result.now _ (record { at = rw c.deref.ensures.value at c.in-Ok.ensures.found; read = c.index_mut.ensures.value; koid = refl; page = refl }) refl
+pub returns-in-Some-clause-kept : goal.returns-in-Some-clause-kept
+returns-in-Some-clause-kept c = kept-put _ _ _ _ _ (put c) c.requires.kept
 
--- the entry had room
-entries_are : (c : goal.After-insert) → c.insert.new.self.items ≡ insert c.args.pages.now.items c.in-Err.at (record { koid = c.args.koid; page = c.args.page; pins = 1 })
-entries_are c = c.insert.ensures.items ∙ cond-true _ _ _ (c.insert.ensures.succeeds (omega arith))
+pub returns-in-Some-clause-pin : goal.returns-in-Some-clause-pin
+returns-in-Some-clause-pin c =
+    let is = pins-found _ c.args.koid.0 c.args.page _ c.in-Some.row c.ranges.page.fits c.rank_of.ensures (sym c.find.ensures ∙ c.in-Some.is) in
+    adds-one _ _ _ _ _ (put c) (omega arith)
 
-gap : (c : goal.After-insert) → IsGapFor c.args.pages.now.items c.args.koid.0 c.args.page c.in-Err.at
-gap c = rw c.deref.ensures.value at c.in-Err.ensures.absent
+fresh : (c : goal.After-insert) → IsPut c.args.pages.now.rows c.insert.new.self.rows c.args.koid.0 c.args.page 1
+fresh c = put-row _ _ _ _ _ c.new-in-None.result c.ranges.page.fits (omega arith) c.new-in-None.ensures c.insert.ensures.rows
 
-pub returns-in-Err-clause-kept : goal.returns-in-Err-clause-kept
-returns-in-Err-clause-kept c = rw (entries_are c) (kept_inserted _ _ _ c.requires.kept (gap c) (omega arith))
+pub returns-in-None-clause-kept : goal.returns-in-None-clause-kept
+returns-in-None-clause-kept c = kept-put _ _ _ _ _ (fresh c) c.requires.kept
 
-pub returns-in-Err-clause-pin : goal.returns-in-Err-clause-pin
-returns-in-Err-clause-pin c = rw (entries_are c) (adds_inserted _ _ c.args.koid _)
+pub returns-in-None-clause-pin : goal.returns-in-None-clause-pin
+returns-in-None-clause-pin c =
+    let none = pins-absent _ c.args.koid.0 c.args.page _ c.ranges.page.fits c.rank_of.ensures (sym c.find.ensures ∙ c.in-None.is) in
+    adds-one _ _ _ _ _ (fresh c) (omega arith)

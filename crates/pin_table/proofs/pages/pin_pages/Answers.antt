@@ -6,4 +6,4 @@ use Rattle.pin_table.proofs.pages.pin_pages.Goals as goal
 pub returns-clause-pin : goal.returns-clause-pin
 returns-clause-pin c =
     let last : c.loop-page.page ≡ c.args.first + c.args.count = omega arith in
-    subst (λ (end : ℕ). AddsPin c.args.pages.now.items c.loop-page.pages.items c.args.koid.0 c.args.first end) last c.loop-page.invariant.pin
+    subst (λ (end : ℕ). AddsPin c.args.pages.now.rows c.loop-page.pages.rows c.args.koid.0 c.args.first end) last c.loop-page.invariant.pin

@@ -1,21 +1,30 @@
-use Rattle.std.proofs.Common.{refl, arith}
-use Rattle.pin_table.proofs.PinnedLaws.{entry_pinned, pins_at-gap, adds_lowered, adds_removed}
+use Rattle.std.proofs.Common.{◌-◌, sym, ◌∙◌, arith}
+use Rattle.pin_table.proofs.PageLaws.{IsPut, put-row, put-none, kept-put, adds-one-back, pins-found, pins-absent}
 use Rattle.pin_table.proofs.pages.unpin_page.Goals as goal
 
--- a page that has a pin has an entry
-pub returns-in_default-clause-pin : goal.returns-in_default-clause-pin
-returns-in_default-clause-pin c =
-    let none = pins_at-gap c.args.pages.now.items c.args.koid.0 c.args.page c.in_default.field-0 (rw c.deref.ensures.value at c.in_default.ensures.absent) in
-    absurd (omega (arith, none))
+put : (c : goal.After-replace) → IsPut c.args.pages.now.rows c.replace.new.self.rows c.args.koid.0 c.args.page (c.in-Some.row.pins - 1)
+put c = put-row _ _ _ _ _ c.new.result c.ranges.page.fits (omega arith) c.new.ensures c.replace.ensures.rows
 
-pub returns-then-index-gt1-clause-pin : goal.returns-then-index-gt1-clause-pin
-returns-then-index-gt1-clause-pin c =
-    let at = rw c.deref.ensures.value at c.in-Ok.ensures.found in
-    let pinned = entry_pinned _ _ _ c.requires.kept at.in_range c.index_mut.ensures.value in
-    adds_lowered _ _ _ _ c.index_mut.result.now _ (record { at = at; read = c.index_mut.ensures.value; koid = refl; page = refl }) (omega (arith, pinned))
+pub returns-in-Some-clause-kept : goal.returns-in-Some-clause-kept
+returns-in-Some-clause-kept c = kept-put _ _ _ _ _ (put c) c.requires.kept
 
-pub returns-else-index-gt1-clause-pin : goal.returns-else-index-gt1-clause-pin
-returns-else-index-gt1-clause-pin c =
-    let at = rw c.deref.ensures.value at c.in-Ok.ensures.found in
-    let pinned = entry_pinned _ _ _ c.requires.kept at.in_range c.index.ensures in
-    rw c.remove.ensures.items (adds_removed _ _ _ _ _ at c.index.ensures (omega (arith, pinned)))
+pub returns-in-Some-clause-pin : goal.returns-in-Some-clause-pin
+returns-in-Some-clause-pin c =
+    let is = pins-found _ c.args.koid.0 c.args.page _ c.in-Some.row c.ranges.page.fits c.rank_of.ensures (sym c.find.ensures ∙ c.in-Some.is) in
+    adds-one-back _ _ _ _ _ (put c) (omega arith)
+
+gone : (c : goal.After-remove) → IsPut c.args.pages.now.rows c.remove.new.self.rows c.args.koid.0 c.args.page 0
+gone c = put-none _ _ _ _ _ c.ranges.page.fits c.rank_of-in-Some-2.ensures c.remove.ensures.rows
+
+pub returns-in-Some-2-clause-kept : goal.returns-in-Some-2-clause-kept
+returns-in-Some-2-clause-kept c = kept-put _ _ _ _ _ (gone c) c.requires.kept
+
+pub returns-in-Some-2-clause-pin : goal.returns-in-Some-2-clause-pin
+returns-in-Some-2-clause-pin c =
+    let is = pins-found _ c.args.koid.0 c.args.page _ c.in-Some.row c.ranges.page.fits c.rank_of.ensures (sym c.find.ensures ∙ c.in-Some.is) in
+    adds-one-back _ _ _ _ _ (gone c) (omega (arith, c.requires.pinned, c.if-row-gt1.false))
+
+pub returns-in-None-clause-pin : goal.returns-in-None-clause-pin
+returns-in-None-clause-pin c =
+    let none = pins-absent _ c.args.koid.0 c.args.page _ c.ranges.page.fits c.rank_of.ensures (sym c.find.ensures ∙ c.in-None.is) in
+    absurd (omega (arith, c.requires.pinned))

@@ -4,6 +4,6 @@ use Rattle.pin_table.proofs.pages.unpin_pages.Given as goal
 -- the pages up to here have a pin less
 abbrev pub invariant-loop-page : goal.invariant-loop-page
 invariant-loop-page l = record {
-  kept : AreKept l.pages.items;
-  pin : AddsPin l.pages.items l.initial.pages.items l.koid.0 l.first l.page;
+  kept : AreKept l.pages.rows;
+  pin : AddsPin l.pages.rows l.initial.pages.rows l.koid.0 l.first l.page;
 }

@@ -19,7 +19,7 @@ added c =
 pub invariant_of-self : goal.invariant_of-self
 invariant_of-self c =
     let free = ap (λ (t : Table). pins_of t c.args.pin.0) c.self.view_is ∙ c.requires.pin in
-    let more = AreCounted-added _ _ c.self.invariant.pages c.args.pin.0 (record { koid = c.args.koid.0; first = c.args.first; count = c.args.count }) c.pin_pages.new.pages.items
+    let more = AreCounted-added _ _ c.self.invariant.pages c.args.pin.0 (record { koid = c.args.koid.0; first = c.args.first; count = c.args.count }) c.pin_pages.new.pages.rows
     (omega arith) free c.requires.pages c.pin_pages.ensures.kept c.pin_pages.ensures.pin in
     record { pages = AreCounted-same _ _ _ _ (added c) refl more }
 

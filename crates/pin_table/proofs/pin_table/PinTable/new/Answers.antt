@@ -4,7 +4,7 @@ use Rattle.pin_table.proofs.CountedLaws.{AreCounted-empty}
 use Rattle.pin_table.proofs.pin_table.PinTable.new.Goals as goal
 
 pub invariant_of-result : goal.invariant_of-result
-invariant_of-result c = record { pages = AreCounted-empty (pins_in c.new.result.entries) c.new-2.result.items (pins_in-empty c.new.result.entries c.new.ensures.empty) c.new-2.ensures.items }
+invariant_of-result c = record { pages = AreCounted-empty (pins_in c.new.result.entries) c.new-2.result.rows (pins_in-empty c.new.result.entries c.new.ensures.empty) c.new-2.ensures.rows }
 
 pub returns : goal.returns
 returns c = pins_in-empty c.new.result.entries c.new.ensures.empty

@@ -20,7 +20,7 @@ pub invariant_of-self : goal.invariant_of-self
 invariant_of-self c =
     let found = pins_in_found c.self.inside.pins.entries c.args.pin.0 c.index-held.result.now c.index-held.ensures in
     let taken = pins_in-taken c.self.inside.pins.entries c.remove-removed.new.self.entries c.args.pin.0 c.remove-removed.ensures.updates.0 in
-    let removed = AreCounted-removed _ _ c.self.invariant.pages c.args.pin.0 (pin_of_held c.index-held.result.now) c.unpin_pages.new.pages.items found c.unpin_pages.ensures.kept c.unpin_pages.ensures.pin in
+    let removed = AreCounted-removed _ _ c.self.invariant.pages c.args.pin.0 (pin_of_held c.index-held.result.now) c.unpin_pages.new.pages.rows found c.unpin_pages.ensures.kept c.unpin_pages.ensures.pin in
     record { pages = AreCounted-same _ _ _ _ taken refl removed }
 
 pub returns-clause-pins : goal.returns-clause-pins
