@@ -81,24 +81,17 @@ removed-at old new l p h e k q = elim (cases_lt q (2 ^ 64)) [
 
 -- What the calls say of the table as it was seen, `old`, and as it was inside, `was`. The rank n is that of page p of list l.
 module _ (was old : Rows Row) (seen : was ≡ old) (l p n : ℕ) (few : p < 2 ^ 64) (rank : n ≡ rank_of l p) where
-  pub slot-found : (row : Row) → row_at row_functions n was.rows ≡ Some row → slots_of old l p ≡ Some row.slot
-  slot-found row e =
+  pub slot-seen : slots_of old l p ≡ option_map (λ (row : Row). row.slot) (row_at row_functions n was.rows)
+  slot-seen =
       ap (λ t. slots_of t l p) (sym seen) ∙ (slots-at was l p few
-      ∙ ap (option_map (λ (row : Row). row.slot)) (ap (λ m. row_at row_functions m was.rows) (sym rank) ∙ e))
+      ∙ ap (λ m. option_map (λ (row : Row). row.slot) (row_at row_functions m was.rows)) (sym rank))
 
-  pub slot-absent : row_at row_functions n was.rows ≡ None → slots_of old l p ≡ None
-  slot-absent e =
-      ap (λ t. slots_of t l p) (sym seen) ∙ (slots-at was l p few
-      ∙ ap (option_map (λ (row : Row). row.slot)) (ap (λ m. row_at row_functions m was.rows) (sym rank) ∙ e))
+  pub slot-found : (row : Row) → row_at row_functions n was.rows ≡ Some row → slots_of old l p ≡ Some row.slot
+  slot-found row e = slot-seen ∙ ap (option_map (λ (row : Row). row.slot)) e
 
   pub row-absent : slots_of old l p ≡ None → row_at row_functions n was.rows ≡ None
-  row-absent e = none _ (slot-absent-by ∙ e)
+  row-absent e = none (row_at row_functions n was.rows) (sym slot-seen ∙ e)
     where
-      slot-absent-by : option_map (λ (row : Row). row.slot) (row_at row_functions n was.rows) ≡ slots_of old l p
-      slot-absent-by =
-          ap (λ m. option_map (λ (row : Row). row.slot) (row_at row_functions m was.rows)) rank
-          ∙ (sym (slots-at was l p few) ∙ ap (λ t. slots_of t l p) seen)
-
       none : (o : Option Row) → option_map (λ (row : Row). row.slot) o ≡ None → o ≡ None
       none None e = refl
       none (Some row) e = absurd (cc)
@@ -107,7 +100,7 @@ module _ (was old : Rows Row) (seen : was ≡ old) (l p n : ℕ) (few : p < 2 ^ 
   row-there e = some (row_at row_functions n was.rows) refl
     where
       some : (o : Option Row) → row_at row_functions n was.rows ≡ o → IsSome o
-      some None is = subst IsSome (slot-absent is) e
+      some None is = subst IsSome (slot-seen ∙ ap (option_map (λ (row : Row). row.slot)) is) e
       some (Some row) is = refl
 
   module _ (new : Rows Row) where

@@ -1,6 +1,7 @@
 //! The table of all page lists.
 
 ghost use Rattle.std.specs.Prelude.{◌≡◌, ◌≢◌, ◌⊎◌, ◌+◌, ◌-◌, ◌^◌, ◌≤◌, ◌<◌, None, Some, Bool, OnOk, IsSome, IfSome};
+ghost use Rattle.std.specs.Option.{option_map};
 ghost use Rattle.vm_base.specs.declared.names.Tag.{Tag};
 ghost use Rattle.page_list.specs.declared.row.Slot.{Slot};
 ghost use Rattle.page_list.specs.Lists.{slots_of, row_count, with_slot, page_in, IsNext};
@@ -74,8 +75,7 @@ impl PageLists {
     pub fn find(&self, list: ListId, page: PageNo) -> Option<Slot>
         ensures { result ≡ slots_of self.now list.0 page }
     {
-        let row = self.tree.find(rank_of(list, page))?;
-        Some(row.slot)
+        slot_in(self.tree.find(rank_of(list, page)))
     }
 
     /// Adds a row to a page of a list that has none.
@@ -157,8 +157,7 @@ impl PageLists {
         ensures slot { result ≡ slots_of self.now list.0 page }
         ensures cost { 2 ^ (steps.new - steps.old) ≤ (row_count self.now + 1) ^ 2 }
     {
-        let row = self.tree.find_counted(rank_of(list, page), steps)?;
-        Some(row.slot)
+        slot_in(self.tree.find_counted(rank_of(list, page), steps))
     }
 
     /// Does what `next` does, and counts its steps.
@@ -211,6 +210,13 @@ impl PageLists {
         let _rising = self.tree.len();
         self.tree.remove_counted(rank_of(list, page), steps).slot
     }
+}
+
+/// The slot of a row, if there is one.
+fn slot_in(row: Option<Row>) -> Option<Slot>
+    ensures { result ≡ option_map (λ row. row.slot) row }
+{
+    Some(row?.slot)
 }
 
 /// The page of the row that follows, if it is of this list.
