@@ -32,9 +32,12 @@ module _ {R : Type 0} (f : Functions R) (e : Extents R) where
   pub ApartWithin-join : (low high : ℕ) (xs : List R) (y : R) (ys : List R) → IsApartAt low high xs y ys
       → ApartWithin f e low high (xs ++ y ∷ ys)
   ApartWithin-join low high [] y ys h = (h.left, h.here, h.right)
-  ApartWithin-join low high (x ∷ xs) y ys h =
-      (h.left.0, h.left.1, ApartWithin-join (e.end x) high xs y ys
-        (record { left = h.left.2; here = h.here; right = h.right }))
+  ApartWithin-join low high (x ∷ xs) y ys h = (
+    h.left.0,
+    h.left.1,
+    ApartWithin-join (e.end x) high xs y ys
+        (record { left = h.left.2; here = h.here; right = h.right }),
+  )
 
   -- a place before all extents, and one behind them
   pub IsFree-ahead : (low high size p : ℕ) (xs : List R) → ApartWithin f e low high xs → p + size ≤ low
@@ -87,7 +90,7 @@ module _ {R : Type 0} (f : Functions R) (e : Extents R) where
   HasNoGap-gap a d size (x ∷ xs) h none =
       let to = ApartWithin-bounds (e.end x) d xs h.2 in
       let rest = HasNoGap-gap (e.end x) d size xs h.2 (λ p from below free. none p (omega arith) below (inr from, free))
-          in
+      in
       elim (cases_lt (f.rank x - a) size) [
         | inl less ↦ omega arith
         | inr more ↦ absurd (none a (omega arith) (omega arith)
@@ -102,8 +105,11 @@ module _ {R : Type 0} (f : Functions R) (e : Extents R) where
         record {
           not_before = g.not_before;
           not_past = omega arith;
-          free = IsFree-join size p xs (y ∷ ys) g.free (inl (omega arith), IsFree-ahead (e.end y) high size p ys h.right
-            (omega arith));
+          free = IsFree-join size p xs (y ∷ ys) g.free (
+            inl (omega arith),
+            IsFree-ahead (e.end y) high size p ys h.right
+                (omega arith),
+          );
           first = λ q a b free. g.first q a b (IsFree-left size q xs (y ∷ ys) free);
         }
 
@@ -112,8 +118,11 @@ module _ {R : Type 0} (f : Functions R) (e : Extents R) where
         → IsFree f e (xs ++ y ∷ ys) size q → (max from (e.end y) ≤ q) × IsFree f e ys size q
     at_right none q a b free =
         let parts = IsFree-right size q xs (y ∷ ys) free in
-        elim parts.0 [ inl before ↦ absurd (none q a (omega arith) (IsFree-left size q xs (y ∷ ys) free)) | inr behind ↦
-          (omega arith, parts.1) ]
+        elim parts.0 [
+          | inl before ↦ absurd (none q a (omega arith) (IsFree-left size q xs (y ∷ ys) free))
+          | inr behind ↦
+              (omega arith, parts.1)
+        ]
 
     pub searched-right : (result : Option ℕ) → HasNoGap f e xs from size (min limit (f.rank y))
         → MatchOption result (HasNoGap f e ys (max from (e.end y)) size limit)
@@ -126,7 +135,7 @@ module _ {R : Type 0} (f : Functions R) (e : Extents R) where
           not_before = omega arith;
           not_past = g.not_past;
           free = IsFree-join size p xs (y ∷ ys) (IsFree-behind low (f.rank y) size p xs h.left (omega arith))
-            (inr (omega arith), g.free);
+              (inr (omega arith), g.free);
           first = λ q a b free. let at = at_right none q a (omega arith) free in g.first q at.0 b at.1;
         }
 
@@ -138,7 +147,11 @@ module _ {R : Type 0} (f : Functions R) (e : Extents R) where
   searched-start from start size limit xs below free least result is =
       subst (λ o. MatchOption o (HasNoGap f e xs from size limit) (IsFirstGap f e xs from size limit)) (sym is)
       (cond_both (leb (start + size) limit) (Some start) None
-        (λ o. MatchOption o (HasNoGap f e xs from size limit) (IsFirstGap f e xs from size limit))
-      (λ fits. record { not_before = below; not_past = leb-true (start + size) limit fits; free = free;
-        first = λ q a b g. absurd (omega (arith, least q a g)) })
+      (λ o. MatchOption o (HasNoGap f e xs from size limit) (IsFirstGap f e xs from size limit))
+      (λ fits. record {
+        not_before = below;
+        not_past = leb-true (start + size) limit fits;
+        free = free;
+        first = λ q a b g. absurd (omega (arith, least q a g));
+      })
       (λ not. λ q a b g. absurd (omega (arith, least q a g, leb-false (start + size) limit not))))

@@ -39,7 +39,7 @@ module _ {R : Type 0} (f : Functions R) (e : Extents R) (laws : AreLawful f) (sp
   gap_within-rows a d (Node l p x r) =
       gap_within-append f e a d (rows_of f l) (plain f x) (rows_of f r)
       ∙ rw (rank-plain x, end-plain x, gap_within-rows a (f.rank x) l, gap_within-rows (e.end x) d r)
-        (gap_by-over a d (f.rank x) (e.end x) (span_of f e l) (span_of f e r))
+      (gap_by-over a d (f.rank x) (e.end x) (span_of f e l) (span_of f e r))
 
   -- the extents of a tree end at its highest end
   pub record EndsAt (low high d : ℕ) (t : Tree R) : Type 0 where
@@ -52,10 +52,10 @@ module _ {R : Type 0} (f : Functions R) (e : Extents R) (laws : AreLawful f) (sp
   ends_at low high d (Node l p x r) from to h =
       let at = ApartWithin-split f e low high (rows_of f l) (plain f x) (rows_of f r) h in
       let rest = ends_at (e.end (plain f x)) high (e.end x) r (omega (arith, end-plain x))
-          (omega (arith, end-plain x, ApartWithin-bounds f e _ high (rows_of f r) at.right)) at.right in
+      (omega (arith, end-plain x, ApartWithin-bounds f e _ high (rows_of f r) at.right)) at.right in
       record {
         apart = ApartWithin-join f e low (highest_over (e.end x) (span_of f e r)) (rows_of f l) (plain f x)
-          (rows_of f r) (record { left = at.left; here = at.here; right = rest.apart });
+            (rows_of f r) (record { left = at.left; here = at.here; right = rest.apart });
         below = rest.below;
       }
 
@@ -69,7 +69,7 @@ module _ {R : Type 0} (f : Functions R) (e : Extents R) (laws : AreLawful f) (sp
       → get s p ≡ Some here → span_of f e t ≡ Some (e.span here)
   span-standing {s} {p} {here} {t} h at =
       sym (span_in-child_of t) ∙ ap (span_in e.span) (sym (child_at-place_of f s t h.spelled) ∙ ap (child_at s) h.is_at
-        ∙ ap (child_under p) at)
+      ∙ ap (child_under p) at)
 
   -- the extents of a node: those of its parts, and its own between them
   pub record IsExtentNode (t l : Tree R) (here : R) (span : Span) (r : Tree R) (low high : ℕ) : Type 0 where
@@ -87,7 +87,7 @@ module _ {R : Type 0} (f : Functions R) (e : Extents R) (laws : AreLawful f) (sp
       → span ≡ e.span here → IsExtentNode t n.left here span n.right low high
   extent_node {s} {at} {p} {here} {span} {t} {low} {high} {a} {b} h is n apart spanned =
       let rows : rows_of f t ≡ rows_of f n.left ++ plain f here ∷ rows_of f n.right = ap (rows_of f) n.is
-          ∙ ap (λ x. rows_of f n.left ++ x ∷ rows_of f n.right) (sym (n.same.linked None None)) in
+      ∙ ap (λ x. rows_of f n.left ++ x ∷ rows_of f n.right) (sym (n.same.linked None None)) in
       record {
         rows = rows;
         spanned = span-standing (subst (λ q. IsStanding f s q t a b) is h) n.at ∙ ap Some (sym spanned);
@@ -104,7 +104,7 @@ module _ {R : Type 0} (f : Functions R) (e : Extents R) (laws : AreLawful f) (sp
   Passed span from size = (span.highest ≤ from) ⊎ ((span.gap < size) × (span.lowest < from + size))
 
   module _ {t l r : Tree R} {here : R} {span : Span} {low high : ℕ} (n : IsExtentNode t l here span r low high)
-    (from size limit : ℕ) where
+      (from size limit : ℕ) where
     highest : EndsAt low high high t
     highest = ends_at low high high t (ApartWithin-bounds f e low high (rows_of f t) n.within) (omega arith) n.within
 
@@ -119,11 +119,11 @@ module _ {R : Type 0} (f : Functions R) (e : Extents R) (laws : AreLawful f) (sp
         → after ≡ before + 1 → HasSearched f e t low high from size limit result before after
     searched-passed {result} fits passed is step =
         let least : (q : ℕ) → from ≤ q → IsFree f e (rows_of f t) size q → max from span.highest ≤ q =
-            λ q a free. (let gap = IsFree-gap f e q (q + size) size q (rows_of f t) free (omega arith) (omega arith) in
-              omega (arith, gap-is q (q + size))) in
+        λ q a free. (let gap = IsFree-gap f e q (q + size) size q (rows_of f t) free (omega arith) (omega arith) in
+        omega (arith, gap-is q (q + size))) in
         record {
           gap = searched-start f e from (max from span.highest) size limit (rows_of f t) (omega arith)
-            (IsFree-behind f e low _ size _ (rows_of f t) highest.apart (omega (arith, highest-is))) least result is;
+              (IsFree-behind f e low _ size _ (rows_of f t) highest.apart (omega (arith, highest-is))) least result is;
           steps = omega arith;
           ahead = λ h. omega arith;
           none = λ h g. omega arith;
@@ -143,8 +143,8 @@ module _ {R : Type 0} (f : Functions R) (e : Extents R) (laws : AreLawful f) (sp
       searched-left {stop} {p} step stops h =
           record {
             gap = rw n.rows (IsFirstGap-left f e size limit n.apart
-              (subst (λ m. IsFirstGap f e (rows_of f l) from size m p) (stops ∙ ap (min limit) (sym n.rank_same))
-              h.gap));
+                (subst (λ m. IsFirstGap f e (rows_of f l) from size m p) (stops ∙ ap (min limit) (sym n.rank_same))
+                h.gap));
             steps = omega arith;
             ahead = λ g. omega (arith, h.ahead g);
             none = λ g k. cc;
@@ -157,8 +157,8 @@ module _ {R : Type 0} (f : Functions R) (e : Extents R) (laws : AreLawful f) (sp
       none_within : from ≤ low → high ≤ limit → HasNoGap f e (rows_of f t) from size limit → ⊥
       none_within g k none =
           let gap = HasNoGap-gap f e from high size (rows_of f t)
-              (ApartWithin-lower f e from low high (rows_of f t) g n.within) (λ q a b free. none q a (omega arith) free)
-              in
+          (ApartWithin-lower f e from low high (rows_of f t) g n.within) (λ q a b free. none q a (omega arith) free)
+          in
           let is = gap-is from high in
           stays (inr (omega arith, omega arith))
 
@@ -170,11 +170,11 @@ module _ {R : Type 0} (f : Functions R) (e : Extents R) (laws : AreLawful f) (sp
           let to = ApartWithin-bounds f e _ high (rows_of f r) n.apart.right in
           let begin = ApartWithin-bounds f e low _ (rows_of f l) n.apart.left in
           let gap : MatchOption result (HasNoGap f e (rows_of f t) from size limit)
-              (IsFirstGap f e (rows_of f t) from size limit) = rw n.rows
-              (searched-right f e size limit n.apart result
-              (subst (HasNoGap f e (rows_of f l) from size) (stops ∙ ap (min limit) (sym n.rank_same)) h.gap)
-              (subst (λ m. MatchOption result (HasNoGap f e (rows_of f r) m size limit)
-              (IsFirstGap f e (rows_of f r) m size limit)) (starts ∙ ap (max from) (sym n.end_same)) k.gap)) in
+          (IsFirstGap f e (rows_of f t) from size limit) = rw n.rows
+          (searched-right f e size limit n.apart result
+          (subst (HasNoGap f e (rows_of f l) from size) (stops ∙ ap (min limit) (sym n.rank_same)) h.gap)
+          (subst (λ m. MatchOption result (HasNoGap f e (rows_of f r) m size limit)
+          (IsFirstGap f e (rows_of f r) m size limit)) (starts ∙ ap (max from) (sym n.end_same)) k.gap)) in
           record {
             gap = gap;
             steps = elim (cases_lt limit (f.rank here)) [

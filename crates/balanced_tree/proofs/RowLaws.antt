@@ -7,7 +7,7 @@ use Rattle.std.proofs.lemmas.List.{append_assoc, append-nil}
 use Rattle.std.proofs.lemmas.List.Elements.{filter-append}
 use Rattle.std.proofs.lemmas.List.Folds.{find-append}
 use Rattle.balanced_tree.specs.Row.{Functions, AreLawful, plain}
-use Rattle.balanced_tree.specs.Rows.{row_at, row_from, with_row, without_rank, RisesWithin}
+use Rattle.balanced_tree.specs.Rows.{if_at, row_at, row_from, with_row, without_rank, RisesWithin}
 use Rattle.balanced_tree.specs.Tree.{Tree, Leaf, Node, is_leaf, rows_of, IsOrdered, has_rank, found, inserted, least, without_least, without_root, removed}
 use Rattle.balanced_tree.proofs.TreeLaws.{rows-balanced}
 use Rattle.balanced_tree.proofs.Insertions.{inserted-left, inserted-right, inserted-here, insert-leaf_tree}
@@ -151,27 +151,22 @@ module _ {R : Type 0} (f : Functions R) where
         ∙ ap (λ o. option_or o (row_at f n (y ∷ ys))) (find-none (λ m. eqb m n) low (f.rank y) xs left (λ m g e. ne_eqb m n (λ q. absurd (omega arith))))
         ∙ cond-true (eqb (f.rank y) n) (Some y) (row_at f n ys) (eq-eqb (f.rank y) n (sym h))
 
-  -- a row, if it has this rank
-  abbrev pub if_at : ℕ → Option R → Option R
-  if_at n None = None
-  if_at n (Some x) = cond (eqb (f.rank x) n) (Some x) None
-
   -- the row of a rank is the first from this rank on, if that has it
-  pub row_at-row_from : (n low high : ℕ) (xs : List R) → RisesWithin f low high xs → row_at f n xs ≡ if_at n (row_from f n xs)
+  pub row_at-row_from : (n low high : ℕ) (xs : List R) → RisesWithin f low high xs → row_at f n xs ≡ if_at f n (row_from f n xs)
   row_at-row_from n low high [] h = refl
   row_at-row_from n low high (y ∷ ys) h =
       elim (cases_order n (f.rank y)) [
         | inl same ↦
             cond-true (eqb (f.rank y) n) (Some y) (row_at f n ys) (eq-eqb (f.rank y) n (sym same))
-            ∙ sym (ap (if_at n) (cond-true (leb n (f.rank y)) (Some y) (row_from f n ys) (le-leb n (f.rank y) (omega arith))) ∙ cond-true (eqb (f.rank y) n) (Some y) None (eq-eqb (f.rank y) n (sym same)))
+            ∙ sym (ap (if_at f n) (cond-true (leb n (f.rank y)) (Some y) (row_from f n ys) (le-leb n (f.rank y) (omega arith))) ∙ cond-true (eqb (f.rank y) n) (Some y) None (eq-eqb (f.rank y) n (sym same)))
         | inr (inl less) ↦
             cond-false (eqb (f.rank y) n) (Some y) (row_at f n ys) (ne_eqb (f.rank y) n (λ q. absurd (omega arith)))
             ∙ find-none (λ m. eqb m n) (f.rank y + 1) high ys h.1 (λ m g e. ne_eqb m n (λ q. absurd (omega arith)))
-            ∙ sym (ap (if_at n) (cond-true (leb n (f.rank y)) (Some y) (row_from f n ys) (le-leb n (f.rank y) (omega arith))) ∙ cond-false (eqb (f.rank y) n) (Some y) None (ne_eqb (f.rank y) n (λ q. absurd (omega arith))))
+            ∙ sym (ap (if_at f n) (cond-true (leb n (f.rank y)) (Some y) (row_from f n ys) (le-leb n (f.rank y) (omega arith))) ∙ cond-false (eqb (f.rank y) n) (Some y) None (ne_eqb (f.rank y) n (λ q. absurd (omega arith))))
         | inr (inr more) ↦
             cond-false (eqb (f.rank y) n) (Some y) (row_at f n ys) (ne_eqb (f.rank y) n (λ q. absurd (omega arith)))
             ∙ row_at-row_from n (f.rank y + 1) high ys h.1
-            ∙ sym (ap (if_at n) (cond-false (leb n (f.rank y)) (Some y) (row_from f n ys) (lt-leb n (f.rank y) more)))
+            ∙ sym (ap (if_at f n) (cond-false (leb n (f.rank y)) (Some y) (row_from f n ys) (lt-leb n (f.rank y) more)))
       ]
 
   module _ (laws : AreLawful f) where

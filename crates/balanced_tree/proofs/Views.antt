@@ -1,17 +1,16 @@
 -- The rows that a slab and a link show are those of the tree that stands there.
 use Rattle.std.proofs.Common.{◌≡◌, inl, ℕ, zero, suc, ◌+◌, ◌-◌, ◌*◌, ◌<◌, ◌≤◌, ◌^◌, Bool, true, false, cond, [], ◌∷◌, ◌++◌, length, Option, None, Some, is_some, IsSome, IsNone, eqb, slice_index_or, count_by, refl, sym, ap, ◌∙◌, subst, arith}
 use Rattle.std.specs.Option.{option_or}
-use Rattle.std.proofs.lemmas.Bool.{cond-true, cond-false, eq-eqb, ne_eqb}
 use Rattle.slab.specs.Slab.{Slab, slab_len}
 use Rattle.balanced_tree.specs.declared.children.Child.{Child}
 use Rattle.balanced_tree.specs.Row.{Functions, AreLawful, plain, link_of}
-use Rattle.balanced_tree.specs.Rows.{row_at, row_from, with_row, without_rank, IsRising}
+use Rattle.balanced_tree.specs.Rows.{if_at, row_at, row_from, with_row, without_rank, IsRising}
 use Rattle.balanced_tree.specs.Tree.{Tree, Leaf, Node, place_of, height, child_of, rows_of, has_rank, found, inserted, removed}
 use Rattle.balanced_tree.specs.Standing.{Spells, IsStanding, Stands, StandsFor, HasInserted, HasRemoved, height_at, rows_round, rows_down, rows_in, IsTree}
 use Rattle.balanced_tree.proofs.Spelling.{link_of-child_of, child_at-place_of}
 use Rattle.balanced_tree.proofs.Nodes.{height_at-standing}
 use Rattle.balanced_tree.proofs.TreeLaws.{IsGrown, IsShrunk, grown-inserted, shrunk-removed}
-use Rattle.balanced_tree.proofs.RowLaws.{rises-rows, rows-inserted, rows-removed, found-row_from, has_rank-row_at, length-inserted, length-removed, if_at, row_at-row_from}
+use Rattle.balanced_tree.proofs.RowLaws.{rises-rows, rows-inserted, rows-removed, found-row_from, has_rank-row_at, length-inserted, length-removed, row_at-row_from}
 use Rattle.balanced_tree.proofs.Costs.{height-short, look_cost, change_cost}
 
 module _ {R : Type 0} (f : Functions R) (laws : AreLawful f) where
@@ -158,17 +157,8 @@ module _ {R : Type 0} (f : Functions R) (laws : AreLawful f) where
 
   -- what a look-up by rank answers, from what the way down finds
   module _ {s : Slab R} {root : Option ℕ} (n : ℕ) (o : Option R) (h : IsTree f s root) (is : o ≡ found f n None h.tree) where
-    at_found : row_at f n (rows_in f s root).rows ≡ if_at f n o
+    pub at_found : row_at f n (rows_in f s root).rows ≡ if_at f n o
     at_found = row_at-IsTree n h ∙ ap (if_at f n) (sym is)
-
-    pub find-nothing : o ≡ None → None ≡ row_at f n (rows_in f s root).rows
-    find-nothing e = sym (at_found ∙ ap (if_at f n) e)
-
-    pub find-same : (x : R) → o ≡ Some x → f.rank x ≡ n → Some x ≡ row_at f n (rows_in f s root).rows
-    find-same x e same = sym (at_found ∙ ap (if_at f n) e ∙ cond-true (eqb (f.rank x) n) (Some x) None (eq-eqb (f.rank x) n same))
-
-    pub find-other : (x : R) → o ≡ Some x → (f.rank x ≡ n → ⊥) → None ≡ row_at f n (rows_in f s root).rows
-    find-other x e other = sym (at_found ∙ ap (if_at f n) e ∙ cond-false (eqb (f.rank x) n) (Some x) None (ne_eqb (f.rank x) n other))
 
     -- where there is a row of the rank, the way down finds it
     pub find-present : IsSome (row_at f n (rows_in f s root).rows) → row_at f n (rows_in f s root).rows ≡ o

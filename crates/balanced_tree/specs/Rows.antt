@@ -1,5 +1,5 @@
 -- A tree as its callers see it: its rows by rising rank, each with no children, and the room for more.
-use Rattle.std.specs.Prelude.{ℕ, ◌+◌, ◌^◌, ◌≤◌, not, ◌==◌, nat_lt, nat_le, List, [], ◌∷◌, ◌++◌, filter, find, Option, refl}
+use Rattle.std.specs.Prelude.{ℕ, ◌+◌, ◌^◌, ◌≤◌, not, ◌==◌, nat_lt, nat_le, List, [], ◌∷◌, ◌++◌, filter, find, cond, Option, None, Some, refl}
 use Rattle.std.specs.Coded.{Coded, code_by, coded×, coded_ℕ, coded_list}
 use Rattle.balanced_tree.specs.Row.{Functions}
 
@@ -22,6 +22,11 @@ module _ {R : Type 0} (f : Functions R) where
   -- the row of this rank
   abbrev pub row_at : ℕ → List R → Option R
   row_at n rows = find (λ x. f.rank x == n) rows
+
+  -- the row, if it has this rank
+  abbrev pub if_at : ℕ → Option R → Option R
+  if_at n None = None
+  if_at n (Some x) = cond (f.rank x == n) (Some x) None
 
   -- the first row of this rank or a higher one
   abbrev pub row_from : ℕ → List R → Option R

@@ -4,7 +4,7 @@ ghost use Rattle.std.specs.Prelude.{◌≡◌, ℕ, ◌+◌, ◌-◌, ◌^◌, �
 ghost use Rattle.std.specs.Option.{MatchOption};
 ghost use Rattle.balanced_tree.specs.Gaps.{AreApart, HasNoGap, IsFirstGap};
 ghost use Rattle.balanced_tree.specs.Row.{plain};
-ghost use Rattle.balanced_tree.specs.Rows.{row_at, row_from, with_row, without_rank, IsRising};
+ghost use Rattle.balanced_tree.specs.Rows.{if_at, row_at, row_from, with_row, without_rank, IsRising};
 
 use crate::children::link_to;
 use crate::descent::find_below;
@@ -87,8 +87,8 @@ impl<R: TreeRow> BalancedTree<R> {
         ensures row { result ≡ row_at R.functions rank self.now.rows }
         ensures cost { 2 ^ (steps.new - steps.old) ≤ (length self.now.rows + 1) ^ 2 }
     {
-        let row = find_below(&self.rows, self.root, rank, None, steps)?;
-        if row.rank() == rank { Some(row) } else { None }
+        let row = find_below(&self.rows, self.root, rank, None, steps);
+        if_of_rank(row, rank)
     }
 
     /// The first row of this rank or a higher one.
@@ -211,6 +211,14 @@ impl<R: ExtentRow> BalancedTree<R> {
     {
         first_gap_with::<R, Brand>(self, from, size, limit, Blank::new(1))
     }
+}
+
+/// The row, if it has this rank.
+fn if_of_rank<R: TreeRow>(row: Option<R>, rank: u128) -> Option<R>
+    ensures { result ≡ if_at R.functions rank row }
+{
+    let row = row?;
+    if row.rank() == rank { Some(row) } else { None }
 }
 
 // The counted calls over a ledger that is thrown away.

@@ -21,4 +21,4 @@ returns-clause-cost g c =
     let rows = sym (rows_in-standing f law h.standing) ∙ ap (λ v. v.rows) c.self.view_is in
     let done = c.gap_below.ensures h.tree 0 (2 ^ 128) 0 (2 ^ 128) h.standing (rw rows c.requires) in
     subst (λ v. 2 ^ (c.gap_below.new.steps - c.args.steps.now) ≤ (length v.rows + 1) ^ 8) c.self.view_is
-      (look_cost-IsTree f law 4 _ _ h done.steps)
+    (look_cost-IsTree f law 4 _ _ h done.steps)

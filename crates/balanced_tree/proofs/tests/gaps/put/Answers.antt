@@ -13,4 +13,4 @@ returns-in-Some c =
     let is : ◌≡◌ {A = ℕ} c.in-Some.field-0 (c.args.list * 2 ^ 64 + c.args.first) = omega arith in
     let free = subst (IsFree row.functions extent.extents c.args.tree.now.rows c.from.result) is gap.free in
     rw c.insert.ensures.rows (AreApart-with_row row.functions extent.extents _ c.from.result
-      (omega arith) c.args.tree.now.rows c.requires free (omega arith))
+    (omega arith) c.args.tree.now.rows c.requires free (omega arith))
