@@ -186,7 +186,7 @@ impl<R: TreeRow> BalancedTree<R> {
 
 impl<R: ExtentRow> BalancedTree<R> {
     /// The lowest rank from `from` on at which `size` ranks lie in no extent and end at the limit or before. None where
-    /// there is no such rank.
+    /// there is no such rank. A size of 0 has no place inside an extent either.
     pub fn first_gap_counted<L: Ledger>(
         &self,
         from: u128,
@@ -203,7 +203,7 @@ impl<R: ExtentRow> BalancedTree<R> {
     }
 
     /// The lowest rank from `from` on at which `size` ranks lie in no extent and end at the limit or before. None where
-    /// there is no such rank.
+    /// there is no such rank. A size of 0 has no place inside an extent either.
     pub fn first_gap(&self, from: u128, size: u128, limit: u128) -> Option<u128>
         requires { AreApart R.functions R.extents self.now.rows }
         ensures { MatchOption result (HasNoGap R.functions R.extents self.now.rows from size limit)
