@@ -13,7 +13,7 @@ use Rattle.vm_model.specs.Machine.Attribution.{is_shared, is_charged}
 use Rattle.vm_model.proofs.ContentLaws.{count_from_page, views_found, sole_alone}
 use Rattle.vm_model.proofs.ContentLaws.{IsOfHeld, IsOfHeld-held}
 use Rattle.page_store.specs.declared.page_store.Look.TheVariants as look
-use Rattle.page_store.specs.Pages.{look_at, IsShown}
+use Rattle.page_store.specs.Pages.{look_at}
 use Rattle.attribution.specs.declared.counts.Counts.{Counts}
 use Rattle.attribution.specs.Counts.{AreCounts}
 use Rattle.attribution.proofs.AttributionLaws.{is_held-some, is_shared-some, is_charged-at, is_charged_page-some, is_charged-least, IsOfHeld-sole, IsOfHeld-shared, IsOfHeld-charged}
@@ -55,9 +55,6 @@ looks_held c v p tag alone e = go (c.page v p) refl e where
       }
 
 module _ (c : Content) (v p : ℕ) (tag : Tag) (alone : Bool) (good : IsGood c) (is : IsHeldSo c v p tag alone) where
-  pub is_shown : IsShown c tag.0
-  is_shown = record { v = v; p = p; held = is.held; shows = record { page = is.page; tag = is.frame } }
-
   -- a VMO is charged for its sole pages
   pub charged-sole : alone ≡ true → is_charged c v p ≡ true
   charged-sole yes_alone =

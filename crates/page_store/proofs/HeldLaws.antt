@@ -3,9 +3,7 @@ use Rattle.std.proofs.Common.{◌≡◌, ◌≢◌, ℕ, ◌+◌, ◌<◌, ◌�
 use Rattle.std.specs.Prelude.{unwrap_or, IsSome, is_some}
 use Rattle.vm_base.specs.declared.limits.TheConstants.{VMO_PAGES}
 use Rattle.vm_model.specs.Contents.Content.{Content, pages_of, created, IsGood}
-use Rattle.vm_model.specs.Contents.Sharing.{snapshotted}
 use Rattle.vm_model.proofs.ContentLaws.{pages_of-at, count_from_page, IsGood-created, next-created, count-created_new, count-created_other}
-use Rattle.vm_model.proofs.SharingLaws.{IsGood-snapshotted, next-snapshotted, pages_of-snapshotted_new, pages_of-snapshotted_other}
 
 -- a VMO that has pages is there
 pub is_there : (c : Content) (v p : ℕ) → p < pages_of c v → IsSome (c.count v)
@@ -25,12 +23,4 @@ created_grows old new n good few made = subst (λ (c : Content). AddsVmo old c n
   next = next-created old n;
   pages = pages_of-at (created old n) old.next n (count-created_new old n);
   kept = λ w h. let apart : w ≢ old.next = omega arith in ap (λ o. unwrap_or o 0) (count-created_other old n w apart);
-})
-
-pub snapshotted_grows : (old new : Content) (v first seen n : ℕ) → IsGood old → seen ≤ n → n ≤ VMO_PAGES → new ≡ snapshotted old v first seen n → AddsVmo old new n
-snapshotted_grows old new v first seen n good few most made = subst (λ (c : Content). AddsVmo old c n) (sym made) (record {
-  good = IsGood-snapshotted old v first seen n good few most;
-  next = next-snapshotted old v first seen n;
-  pages = pages_of-snapshotted_new old v first seen n;
-  kept = λ w h. let apart : w ≢ old.next = omega arith in pages_of-snapshotted_other old v first seen n w apart;
 })

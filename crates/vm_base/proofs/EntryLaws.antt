@@ -2,6 +2,7 @@
 -- and how many entries do.
 use Rattle.std.proofs.Common.{◌≡◌, ◌≢◌, ℕ, ◌+◌, ◌<◌, ◌≤◌, Bool, true, false, cond, Option, None, Some, ◌⊎◌, refl, sym, ap, ◌∙◌, inl, inr, arith}
 use Rattle.std.specs.Prelude.{IsSome, is_some, nat_lt}
+use Rattle.std.specs.Cmp.{both_ways}
 use Rattle.std.proofs.lemmas.Bool.{cases_Bool, cases_eq, false_from_ne_true}
 use Rattle.vm_base.specs.Entries.{with_key, without_key, passes, any_entry, entry_count}
 use Rattle.vm_base.proofs.SearchLaws.{eqb_same, eqb_apart, any_below_found, any_below_at, any_below-count, count_below_le, count_below_same, count_below_none, count_below_hit, count_below_change, bit_same, bit-false}
@@ -145,15 +146,6 @@ pub entry_count-same : {A B : Type 0} (bound : ℕ) (test : A → Bool) (map : �
 unfolding entry_count
 entry_count-same bound test map other_test other each = count_below_same bound (λ k. passes test (map k)) (λ k. passes other_test (other k)) each
 
--- two maps, of one outcome where what is found in the one is found in the other
-pub any_entry_either : {A B : Type 0} (bound : ℕ) (test : A → Bool) (map : ℕ → Option A) (other_test : B → Bool) (other : ℕ → Option B) →
-    (any_entry bound test map ≡ true → any_entry bound other_test other ≡ true) → (any_entry bound other_test other ≡ true → any_entry bound test map ≡ true) →
-    any_entry bound test map ≡ any_entry bound other_test other
-any_entry_either bound test map other_test other there back = elim (cases_Bool (any_entry bound test map)) [
-  | inl hit ↦ hit ∙ sym (there hit)
-  | inr miss ↦ miss ∙ sym (false_from_ne_true (any_entry bound other_test other) (λ e. absurd (let hit = back e in cc)))
-]
-
 -- ---- how many entries pass
 
 -- where maps differ at one key at most, the counts differ by its bits
@@ -191,7 +183,7 @@ any_entry-without_key_was bound test map k e =
 -- an entry that fails may go
 pub any_entry-without_key_other : {A : Type 0} (bound : ℕ) (test : A → Bool) (map : ℕ → Option A) (k : ℕ) (a : A) → map k ≡ Some a → test a ≡ false →
     any_entry bound test (without_key map k) ≡ any_entry bound test map
-any_entry-without_key_other {A} bound test map k a e miss = any_entry_either bound test (without_key map k) test map
+any_entry-without_key_other {A} bound test map k a e miss = both_ways (any_entry bound test (without_key map k)) (any_entry bound test map)
     (λ h. any_entry-without_key_was bound test map k h)
     (λ h.
     let found = any_entry_found bound test map h in

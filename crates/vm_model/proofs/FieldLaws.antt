@@ -14,6 +14,7 @@ use Rattle.vm_base.specs.declared.names.VmoName.{VmoName}
 use Rattle.vm_base.specs.declared.names.RegionName.{RegionName}
 use Rattle.vm_base.specs.declared.names.PinName.{PinName}
 use Rattle.vm_base.specs.declared.flags.Perm.{Perm}
+use Rattle.vm_base.specs.declared.limits.TheConstants.{DATA_BYTES}
 use Rattle.vm_model.specs.declared.command.ChildKind.{ChildKind}
 use Rattle.vm_model.specs.declared.command.ChildKind.TheVariants.{Snapshot, Slice, Reference}
 use Rattle.vm_model.specs.Language.Reading.{is_blank, digit, digits_from, digits, below, is_hex, number, has_leading_zero, name_behind, vmo, region, pin, byte_data, byte, perm, child_kind, is_word}
@@ -148,14 +149,14 @@ is_word-longer [] c h = absurd (omega arith)
 is_word-longer (a ∷ []) c h = absurd (omega arith)
 is_word-longer (a ∷ b ∷ bs) c h = elim (nat_eq a c) as (λ v. (v && false) ≡ false) [ true ↦ refl | false ↦ refl ]
 
-pub byte_data-data_text : (bytes : List ℕ) → length bytes ≤ 4096 → IsBytes bytes → byte_data (data_text bytes) ≡ Some bytes
+pub byte_data-data_text : (bytes : List ℕ) → length bytes ≤ DATA_BYTES → IsBytes bytes → byte_data (data_text bytes) ≡ Some bytes
 unfolding byte_data
 byte_data-data_text [] few all = refl
 byte_data-data_text (b ∷ bs) few all =
     let len = length-encode_with lower_digits (b ∷ bs) in
     let longer = is_word-longer (encode_lower (b ∷ bs)) 45 (omega arith) in
     let some : nat_lt 0 (length (encode_lower (b ∷ bs))) ≡ true = lt-ltb _ _ (omega arith) in
-    let fit : nat_le (length (encode_lower (b ∷ bs))) 8192 ≡ true = le-leb _ _ (omega arith) in
+    let fit : nat_le (length (encode_lower (b ∷ bs))) (2 * DATA_BYTES) ≡ true = le-leb _ _ (omega arith) in
     rw (longer, some, fit, decode_of-encode_lower (b ∷ bs) all) refl
 
 pub data_word : (bytes : List ℕ) → IsBytes bytes → is_one_word (data_text bytes) ≡ true
@@ -164,7 +165,7 @@ data_word (b ∷ bs) all =
     let len = length-encode_with lower_digits (b ∷ bs) in
     is_one_word-solid (encode_lower (b ∷ bs)) (omega arith) (is_solid-encode_lower (b ∷ bs) all)
 
-pub length-data_text : (bytes : List ℕ) → length bytes ≤ 4096 → length (data_text bytes) ≤ 8192
+pub length-data_text : (bytes : List ℕ) → length bytes ≤ DATA_BYTES → length (data_text bytes) ≤ 2 * DATA_BYTES
 length-data_text [] few = omega arith
 length-data_text (b ∷ bs) few = omega (arith, length-encode_with lower_digits (b ∷ bs))
 

@@ -150,22 +150,9 @@ count_from-not test first (suc n) = omega (arith, bits (test first), count_from-
 unfoldable pub unowned : Content → ℕ → ℕ → ℕ → ℕ
 unowned c v first n = count_from (λ p. not (sole c v p)) first n
 
--- it looks at those pages alone
-pub unowned-same : (c d : Content) (v first n : ℕ) → ((p : ℕ) → first ≤ p → sole c v p ≡ sole d v p) → unowned c v first n ≡ unowned d v first n
-unfolding unowned
-unowned-same c d v first n each = count_from-same (λ p. not (sole c v p)) (λ p. not (sole d v p)) first n (λ p h less. ap not (each p h))
-
 pub unowned_le : (c : Content) (v first n : ℕ) → unowned c v first n ≤ n
 unfolding unowned
 unowned_le c v first n = count_from_le (λ p. not (sole c v p)) first n
-
--- the first page counted, and the rest
-pub unowned-next : (c : Content) (v p end : ℕ) → p < end → unowned c v p (end - p) ≡ cond (sole c v p) 0 1 + unowned c v (p + 1) (end - (p + 1))
-unfolding unowned
-unowned-next c v p end h = omega (arith, bits (sole c v p), count_from-next (λ q. not (sole c v q)) p end h) where
-  bits : (b : Bool) → ◌≡◌ {A = ℕ} (cond (not b) 1 0) (cond b 0 1)
-  bits true = refl
-  bits false = refl
 
 -- a page is sole or counted
 pub unowned-sole : (c : Content) (v first n : ℕ) → unowned c v first n + count_from (sole c v) first n ≡ n

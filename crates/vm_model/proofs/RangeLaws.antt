@@ -23,7 +23,7 @@ pub touched-nil : (offset : ℕ) → touched offset 0 ≡ []
 unfolding touched
 touched-nil offset = refl
 
-pub touched_end-is : (offset len : ℕ) → touched_end offset len ≡ (offset + len + 4095) / 4096
+pub touched_end-is : (offset len : ℕ) → touched_end offset len ≡ (offset + len + (PAGE - 1)) / PAGE
 unfolding touched_end
 touched_end-is offset len = refl
 

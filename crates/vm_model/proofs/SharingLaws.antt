@@ -1,6 +1,7 @@
 -- Laws of sharing: how many VMOs show a frame, what a snapshot and a VMO that leaves change, and that contents stay good.
 use Rattle.std.proofs.Common.{◌≡◌, ◌≢◌, ℕ, ◌+◌, ◌<◌, ◌≤◌, Bool, true, false, not, cond, ◌&&◌, ◌==◌, Option, None, Some, ◌⊎◌, refl, sym, ap, subst, ◌∙◌, inl, inr, arith}
 use Rattle.std.specs.Prelude.{nat_lt, unwrap_or, IsSome, is_some}
+use Rattle.std.specs.Cmp.{both_ways}
 use Rattle.std.proofs.lemmas.Bool.{cases_Bool, cases_eq, cases_lt, and_left, not_from_true, not_from_false, false_from_ne_true, lt-ltb, le-ltb}
 use Rattle.std.proofs.lemmas.Bool.Decides.{nat_tests}
 use Rattle.vm_base.specs.declared.limits.TheConstants.{VMO_PAGES}
@@ -9,11 +10,6 @@ use Rattle.vm_model.specs.Contents.Content.{Page, Content, nothing, pages_of, ha
 use Rattle.vm_model.specs.Contents.Sharing.{viewers, page_seen, snapshotted, only, without}
 use Rattle.vm_base.proofs.SearchLaws.{any_below_same, any_below-count, count_below_same, count_below_le, count_below_none, count_below-suc, count_below_change, count_below-bound, bit_same, bit-true, bit-false, eqb_same, eqb_apart}
 use Rattle.vm_model.proofs.ContentLaws.{pages_of-at, next-hold, count-hold, pages_of-hold, page-hold_here, page-hold_other_page, page-hold_other_vmo, page-hold_cases, page-hold_parts, page-nothing, next-created, page-created, count-created_other, views_found, views_at, koid_below, not_in_use, is_sole_page-some, IsGood-part}
-
--- two tests of one outcome, where each passes if the other does
-tests_same : (a b : Bool) → (a ≡ true → b ≡ true) → (b ≡ true → a ≡ true) → a ≡ b
-tests_same true b there back = sym (there refl)
-tests_same false b there back = sym (false_from_ne_true b (λ e. let none : ◌≡◌ {A = Bool} false true = back e in absurd cc))
 
 -- a page that is zero is not held
 zero_not_held : (o : Option Page) (held : Page) → o ≡ None → o ≡ Some held → ⊥
@@ -128,7 +124,7 @@ views-hold_here c v p held t h tag =
 
 -- a frame that the page neither had nor has is shown by its VMO as before
 pub views-hold_other : (c : Content) (v p : ℕ) (held : Page) (t : ℕ) → IsGood c → held.tag ≢ t → ((old : Page) → c.page v p ≡ Some old → old.tag ≢ t) → views (hold c v p held) t v ≡ views c t v
-views-hold_other c v p held t good apart was = tests_same (views (hold c v p held) t v) (views c t v)
+views-hold_other c v p held t good apart was = both_ways (views (hold c v p held) t v) (views c t v)
     (λ shows.
     let page = views_found (hold c v p held) t v shows in
     elim (page-hold_cases c v p held v page.0 page.1 page.3) [
@@ -443,9 +439,6 @@ module _ (c : Content) (v : ℕ) where
 
   pub page-without_other : (w p : ℕ) → w ≢ v → (without c v).page w p ≡ c.page w p
   page-without_other w p apart = page-only_stays c (λ w. not (w == v)) w p (stays_elsewhere w apart)
-
-  pub pages_of-without_other : (w : ℕ) → w ≢ v → pages_of (without c v) w ≡ pages_of c w
-  pages_of-without_other w apart = pages_of-only_stays c (λ w. not (w == v)) w (stays_elsewhere w apart)
 
 -- a VMO's koid is below the next
 pub koid_some : (c : Content) (v : ℕ) → IsGood c → IsSome (c.count v) → v < c.next

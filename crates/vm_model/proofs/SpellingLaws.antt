@@ -1,5 +1,5 @@
 -- What is spelled canonically is read back as the same command.
-use Rattle.std.proofs.Common.{◌≡◌, ℕ, ◌+◌, ◌^◌, ◌<◌, ◌≤◌, ◌==◌, inl, inr, Bool, true, false, not, ◌&&◌, ◌||◌, List, [], ◌∷◌, length, Some, refl, arith}
+use Rattle.std.proofs.Common.{◌≡◌, ℕ, ◌+◌, ◌*◌, ◌^◌, ◌<◌, ◌≤◌, ◌==◌, inl, inr, Bool, true, false, not, ◌&&◌, ◌||◌, List, [], ◌∷◌, length, Some, refl, arith}
 use Rattle.std.specs.Prelude.{codes, decimal, bit_and, nat_lt, nat_le}
 use Rattle.std.specs.List.{join_with_byte}
 use Rattle.std.proofs.lemmas.Nat.{and_le_r}
@@ -17,7 +17,7 @@ use Rattle.vm_model.specs.Language.Text.{data_text, perm_text}
 use Rattle.vm_model.specs.Language.Spelling.{has, set_flags, vmo_word, region_word, pin_word, kind_word, command_words, spelling, has_spelling, IsData, HasRanges}
 use Rattle.vm_model.proofs.WordLaws.{is_one_word, are_words, words-join, spaced_length, length-join}
 use Rattle.vm_model.proofs.FieldLaws.{number-decimal, byte-decimal, decimal_word, length-decimal, name_word, vmo-vmo_word, region-region_word, pin-pin_word, byte_data-data_text, data_word, length-data_text, child_kind-kind_word, kind_is_word, length-kind_word, perm-perm_text, perm_word, length-perm_text, IsBytes-from_All}
-use Rattle.vm_base.specs.declared.limits.TheConstants.{LINE_BYTES}
+use Rattle.vm_base.specs.declared.limits.TheConstants.{DATA_BYTES, LINE_BYTES}
 
 -- ---- arguments, of which each is one word, and few bytes with their spaces
 
@@ -50,8 +50,8 @@ region_field name h rest = name_field 114 name.0 h refl rest
 pin_field : (name : PinName) {limit : ℕ} {ws : List (List ℕ)} → name.0 < 2 ^ 32 → Fields limit ws → Fields (22 + limit) (pin_word name ∷ ws)
 pin_field name h rest = name_field 112 name.0 h refl rest
 
-data_field : (bytes : List ℕ) {limit : ℕ} {ws : List (List ℕ)} → IsData bytes → Fields limit ws → Fields (8193 + limit) (data_text bytes ∷ ws)
-data_field bytes h rest = field 8192 (data_text bytes) (data_word bytes (IsBytes-from_All bytes h.1)) (length-data_text bytes h.0) rest
+data_field : (bytes : List ℕ) {limit : ℕ} {ws : List (List ℕ)} → IsData bytes → Fields limit ws → Fields (1 + 2 * DATA_BYTES + limit) (data_text bytes ∷ ws)
+data_field bytes h rest = field (2 * DATA_BYTES) (data_text bytes) (data_word bytes (IsBytes-from_All bytes h.1)) (length-data_text bytes h.0) rest
 
 kind_field : (kind : ChildKind) {limit : ℕ} {ws : List (List ℕ)} → Fields limit ws → Fields (10 + limit) (kind_word kind ∷ ws)
 kind_field kind rest = field 9 (kind_word kind) (kind_is_word kind) (length-kind_word kind) rest

@@ -57,7 +57,7 @@ pub record IsGoodName (s : State) (target : Target) : Type 0 where
   pub part : (n : ℕ) → target.limit ≡ Some n → (target.kind ≡ Slice) × ((lineage_of s target.koid.0).resizable ≡ false) × (target.first + n ≤ pages_of s.content target.koid.0)
   pub resize : target.may_resize ≡ true → (lineage_of s target.koid.0).resizable ≡ true
 
--- What holds of every pin: it is of a VMO, and its pages, from 1 to 256, lie inside the VMO and are sole.
+-- What holds of every pin: it is of a VMO, and its pages, from 1 to PIN_PAGES, lie inside the VMO and are sole.
 pub record IsGoodPin (s : State) (pin : Pin) : Type 0 where
   pub vmo : IsSome (s.content.count pin.koid)
   pub few : (1 ≤ pin.count) × (pin.count ≤ PIN_PAGES)
