@@ -3,29 +3,28 @@ use Rattle.std.proofs.Common.{◌≡◌, ◌≢◌, ◌⊎◌, ℕ, ◌+◌, ◌
 use Rattle.std.specs.Prelude.{IsSome, is_some, nat_lt, unwrap_or}
 use Rattle.std.specs.List.{insert}
 use Rattle.std.specs.declared.cmp.Ordering.TheVariants.{Equal}
-use Rattle.std.proofs.lemmas.Bool.{cases_eq, ne_eqb, eq-eqb, eqb-true}
+use Rattle.std.proofs.lemmas.Bool.{cases_eq, ne_eqb, eq-eqb, eqb-true, both_ways}
 use Rattle.std.proofs.lemmas.Bool.Decides.{nat_tests}
 use Rattle.std.proofs.lemmas.List.{get_or_read, get_or-set_same, get_or-set_other}
 use Rattle.vm_base.specs.declared.limits.TheConstants.{PAGE}
 use Rattle.vm_base.specs.Entries.{with_key}
 use Rattle.frame_pool.specs.Pool.{Pool, taken_frames, frame_bytes, taken_count, Takes}
-use Rattle.frame_pool.proofs.PoolLaws.{takes_apart}
+use Rattle.frame_pool.proofs.PoolLaws.{takes_apart, eqb_flip}
 use Rattle.vm_base.proofs.EntryLaws.{with_key-same, with_key-other}
-use Rattle.vm_model.specs.Contents.Content.{Page, Content, shown, pages_of, views, in_use, used, vmos_of, is_sole_page, sole, hold, IsGood}
+use Rattle.vm_model.specs.Contents.Content.{Page, shown, pages_of, in_use, used, is_sole_page, sole, hold, IsGood}
 use Rattle.vm_base.specs.Pages.{zeros}
-use Rattle.vm_model.specs.Contents.Sharing.{viewers}
 use Rattle.vm_model.specs.Contents.Owning.{Owns}
-use Rattle.vm_base.proofs.SearchLaws.{any_below_none}
-use Rattle.vm_model.proofs.ContentLaws.{koid_below, sole-zero, IsGood-hold_new, bytes_of-none, bytes_of-some}
+use Rattle.vm_model.proofs.ContentLaws.{sole-zero, IsGood-hold_new, bytes_of-none, bytes_of-some}
 use Rattle.vm_base.proofs.PageLaws.{length-zeros}
 use Rattle.page_store.specs.declared.rows.Row.{Row}
 use Rattle.page_store.specs.Rows.{find_row, IsSorted, IsRowFor, IsGapFor}
 use Rattle.page_store.specs.Vmos.{count_in, IsAscending}
 use Rattle.page_store.specs.Flat.{Flat, page_of_row, content_of, IsFlat}
-use Rattle.vm_model.proofs.SharingLaws.{viewers-hold_zero, viewers-hold_fresh}
+use Rattle.page_store.specs.Shares.{rows_with}
 use Rattle.page_store.proofs.RowLaws.{IsRowAgain, page_cmp, cmp_itself, cmp_same, find_row-insert, sorted_insert, find_row-set, sorted_set}
-use Rattle.page_store.proofs.ShareLaws.{one_at, none_at}
-use Rattle.page_store.proofs.FlatLaws.{same_content, frames-content, page-content, page_from, some_page, page_of_row-some, page_of_row-none, flat_from, taken_viewers, free_viewers, free_in_use, used_taken, page_at_row, page_in_gap, IsFrameOf-held, sole_share, share_below}
+use Rattle.page_store.proofs.ShareLaws.{one_at, none_at, rows_with-insert, rows_with-set}
+use Rattle.page_store.proofs.FlatLaws.{same_content, frames-content, page-content, page_from, some_page, page_of_row-some, page_of_row-none, page_at_row, page_in_gap}
+use Rattle.page_store.proofs.FlatFrames.{free_in_use, used_taken, IsFrameOf-held, sole_share, share_below}
 
 -- there is a free frame where one is not used
 pub room_free : (f : Flat) → IsFlat f → used (content_of f) < (content_of f).frames → taken_count f.pool < f.pool.frames
@@ -51,10 +50,6 @@ page_of_row-other old new t bytes e (Some row) apart =
 pub page_of_row-here : (old new : Pool) (row : Row) (bytes : List ℕ) → taken_frames new ≡ with_key (taken_frames old) row.tag.0 bytes → page_of_row new (Some row) ≡ some_page row.tag.0 bytes
 page_of_row-here old new row bytes e = page_of_row-some new row ∙ ap (λ (bs : List ℕ). some_page row.tag.0 bs) (frame_bytes-with old new row.tag.0 bytes e)
 
-pub vmos_of-hold : (c : Content) (v p : ℕ) (held : Page) → vmos_of (hold c v p held) ≡ vmos_of c
-unfolding vmos_of hold
-vmos_of-hold c v p held = refl
-
 -- ---- a store with a new row, or with another frame in a row
 
 -- g is f, but the page of the row has its frame, which was free, with these bytes
@@ -71,11 +66,12 @@ pub record HoldsRow (f g : Flat) (row : Row) (bytes : List ℕ) : Type 0 where
   pub rows : (w q : ℕ) → find_row w q g.rows ≡ cond ((w == row.koid.0) && (q == row.page)) (Some row) (find_row w q f.rows)
   pub page : row.page < pages_of (content_of f) row.koid.0
 
--- the share counts of new are those of old, but for one more of the frame t, and one less of another frame, of which
--- there are two
-pub record AreShares (old new : ℕ → ℕ) (t : ℕ) (leaves : ℕ → Bool) : Type 0 where
-  pub is : (u : ℕ) → new u + cond (leaves u) 1 0 ≡ old u + cond (u == t) 1 0
-  pub stays : (u : ℕ) → leaves u ≡ true → 2 ≤ old u
+-- the share counts of g are those of f, and so are the rows, but for one more of the frame t, and one less of another
+-- frame, of which there are two
+pub record AreShares (f g : Flat) (t : ℕ) (leaves : ℕ → Bool) : Type 0 where
+  pub is : (u : ℕ) → get_or g.shares u 0 + cond (leaves u) 1 0 ≡ get_or f.shares u 0 + cond (t == u) 1 0
+  pub rows : (u : ℕ) → rows_with u g.rows + cond (leaves u) 1 0 ≡ rows_with u f.rows + cond (t == u) 1 0
+  pub stays : (u : ℕ) → leaves u ≡ true → 2 ≤ get_or f.shares u 0
 
 taken_again : (n m : ℕ) (there leaves : Bool) → m + cond leaves 1 0 ≡ n + cond there 1 0 → (leaves ≡ true → 2 ≤ n) → cond there true (nat_lt 0 n) ≡ nat_lt 0 m
 taken_again n m true true e h = let low = h refl in grind (arith, nat_tests)
@@ -83,9 +79,9 @@ taken_again n m true false e h = grind (arith, nat_tests)
 taken_again n m false true e h = let low = h refl in grind (arith, nat_tests)
 taken_again n m false false e h = grind (arith, nat_tests)
 
-is_some-with_key : (m : ℕ → Option (List ℕ)) (t : ℕ) (bytes : List ℕ) (u : ℕ) → is_some (with_key m t bytes u) ≡ cond (u == t) true (is_some (m u))
+is_some-with_key : (m : ℕ → Option (List ℕ)) (t : ℕ) (bytes : List ℕ) (u : ℕ) → is_some (with_key m t bytes u) ≡ cond (t == u) true (is_some (m u))
 unfolding with_key
-is_some-with_key m t bytes u = go (u == t) (m u) where
+is_some-with_key m t bytes u = go (u == t) (m u) ∙ ap (λ b. cond b true (is_some (m u))) (eqb_flip u t) where
   go : (b : Bool) (o : Option (List ℕ)) → is_some (cond b (Some bytes) o) ≡ cond b true (is_some o)
   go true o = refl
   go false o = refl
@@ -98,9 +94,8 @@ module _ (f g : Flat) (row : Row) (bytes : List ℕ) (flat : IsFlat f) (is : Hol
   frame_apart : (w q : ℕ) (other : Row) → find_row w q f.rows ≡ Some other → other.tag.0 ≢ row.tag.0
   frame_apart w q other e same =
       let held = IsFrameOf-held f w q (page_from f.pool other) flat (page-content f w q ∙ (ap (page_of_row f.pool) e ∙ page_of_row-some f.pool other)) in
-      let there : is_some (taken_frames f.pool row.tag.0) ≡ true = subst (λ (u : ℕ). IsSome (taken_frames f.pool u)) same held.taken in
-      let free : is_some (taken_frames f.pool row.tag.0) ≡ false = ap is_some is.was_free in
-      let clash : ◌≡◌ {A = Bool} true false = sym there ∙ free in absurd cc
+      let there = subst (λ (u : ℕ). IsSome (taken_frames f.pool u)) same held.taken in
+      absurd (both_ways (is_some (taken_frames f.pool row.tag.0)) (ap is_some is.was_free) there)
 
   page_held : (w q : ℕ) → page_of_row g.pool (find_row w q g.rows) ≡ cond ((w == row.koid.0) && (q == row.page)) (Some new_page) (page_of_row f.pool (find_row w q f.rows))
   page_held w q = ap (page_of_row g.pool) (is.rows w q) ∙ go ((w == row.koid.0) && (q == row.page)) where
@@ -118,78 +113,60 @@ module _ (f g : Flat) (row : Row) (bytes : List ℕ) (flat : IsFlat f) (is : Hol
   frame_below : row.tag.0 < (content_of f).frames
   frame_below = let e = frames-content f in let low = is.below in omega arith
 
-  pub IsFlat-held : (leaves : ℕ → Bool) → AreShares (viewers (content_of f)) (viewers (hold (content_of f) row.koid.0 row.page new_page)) row.tag.0 leaves →
-      ((t : ℕ) → t < f.pool.frames → get_or g.shares t 0 ≡ viewers (hold (content_of f) row.koid.0 row.page new_page) t) → IsFlat g
-  IsFlat-held leaves are shares =
-      let d = hold (content_of f) row.koid.0 row.page new_page in
-      flat_from g d content_of-held is.sorted (subst IsAscending (sym is.vmos) flat.ascending)
-      (IsGood-hold_new (content_of f) row.koid.0 row.page new_page flat.good is.page frame_below was_unused is.whole)
-      (vmos_of-hold (content_of f) row.koid.0 row.page new_page ∙ (flat.vmos ∙ sym (ap length is.vmos)))
-      (is.counts ∙ (flat.counts ∙ sym is.frames))
-      (λ t h. shares t (omega (arith, is.frames)))
-      (λ t. ap (λ (m : ℕ → Option (List ℕ)). is_some (m t)) is.frame
-      ∙ (is_some-with_key (taken_frames f.pool) row.tag.0 bytes t
-      ∙ (ap (λ b. cond (t == row.tag.0) true b) (taken_viewers f flat t)
-      ∙ taken_again (viewers (content_of f) t) (viewers d t) (t == row.tag.0) (leaves t) (are.is t) (are.stays t))))
+  pub IsFlat-held : (leaves : ℕ → Bool) → AreShares f g row.tag.0 leaves → IsFlat g
+  IsFlat-held leaves are = record {
+    sorted = is.sorted;
+    ascending = subst IsAscending (sym is.vmos) flat.ascending;
+    good = subst IsGood (sym content_of-held) (IsGood-hold_new (content_of f) row.koid.0 row.page new_page flat.good is.page frame_below was_unused is.whole);
+    counts = is.counts ∙ (flat.counts ∙ sym is.frames);
+    shares = λ u. omega (arith, are.is u, are.rows u, flat.shares u);
+    counted = record {
+      taken = λ u. ap (λ (m : ℕ → Option (List ℕ)). is_some (m u)) is.frame
+          ∙ (is_some-with_key (taken_frames f.pool) row.tag.0 bytes u
+          ∙ (ap (λ b. cond (row.tag.0 == u) true b) (flat.counted.taken u)
+          ∙ taken_again (get_or f.shares u 0) (get_or g.shares u 0) (row.tag.0 == u) (leaves u) (are.is u) (are.stays u)));
+    };
+  }
 
   -- so the page was owned
   pub owns_new : sole (content_of f) row.koid.0 row.page ≡ false → bytes ≡ shown (content_of f) row.koid.0 row.page → Owns (content_of f) (content_of g) row.koid.0 row.page row.tag.0
   owns_new shared same = record {
-    stays = λ alone. absurd (let clash : ◌≡◌ {A = Bool} true false = sym alone ∙ shared in cc);
+    stays = λ alone. absurd (both_ways (sole (content_of f) row.koid.0 row.page) shared alone);
     copies = λ _. (frame_below, was_unused, content_of-held ∙ ap (λ (bs : List ℕ). hold (content_of f) row.koid.0 row.page (record { tag = row.tag.0; bytes = bs })) same);
   }
 
 -- ---- share counts
 
+no_share : (n : ℕ) → nat_lt 0 n ≡ false → n ≡ 0
+no_share n e = grind (arith, nat_tests)
+
+-- a free frame is not shared
+free_share : (f : Flat) (t : ℕ) → IsFlat f → taken_frames f.pool t ≡ None → get_or f.shares t 0 ≡ 0
+free_share f t flat free = no_share (get_or f.shares t 0) (sym (flat.counted.taken t) ∙ ap is_some free)
+
 -- the frame t, which was free, is shown once
-shares_zero : (n : ℕ) (shares : List ℕ) (old new : ℕ → ℕ) (t : ℕ) → ((u : ℕ) → new u ≡ old u + cond (u == t) 1 0) → old t ≡ 0 → n ≤ length shares → ((u : ℕ) → u < n → get_or shares u 0 ≡ old u) →
-    (u : ℕ) → u < n → get_or (set shares t 1) u 0 ≡ new u
-shares_zero n shares old new t is none long each u h = elim (cases_eq u t) [
+shares_zero : (shares : List ℕ) (t : ℕ) → get_or shares t 0 ≡ 0 → t < length shares → (u : ℕ) → get_or (set shares t 1) u 0 ≡ get_or shares u 0 + cond (t == u) 1 0
+shares_zero shares t none low u = elim (cases_eq u t) [
   | inl same ↦
-      let here : get_or (set shares t 1) u 0 ≡ 1 = ap (λ (k : ℕ). get_or (set shares k 1) u 0) (sym same) ∙ get_or-set_same shares u 1 0 (omega arith) in
-      let was : old u ≡ 0 = ap old same ∙ none in
-      let one = one_at u t same in
-      let now = is u in
-      omega arith
-  | inr apart ↦
-      let there = get_or-set_other shares t u 1 0 apart in
-      let was = each u h in
-      let off = none_at u t apart in
-      let now = is u in
-      omega arith
+      let here : get_or (set shares t 1) u 0 ≡ 1 = ap (λ (k : ℕ). get_or (set shares t 1) k 0) same ∙ get_or-set_same shares t 1 0 low in
+      let was : get_or shares u 0 ≡ 0 = ap (λ (k : ℕ). get_or shares k 0) same ∙ none in
+      omega (arith, one_at t u (sym same))
+  | inr apart ↦ omega (arith, get_or-set_other shares t u 1 0 apart, none_at t u (λ e. apart (sym e)))
 ]
 
 -- and the frame s, which had two viewers, once less
-shares_held : (n : ℕ) (shares : List ℕ) (old new : ℕ → ℕ) (s t : ℕ) → ((u : ℕ) → new u + cond (u == s) 1 0 ≡ old u + cond (u == t) 1 0) → s ≢ t → old t ≡ 0 → n ≤ length shares → ((u : ℕ) → u < n → get_or shares u 0 ≡ old u) →
-    (u : ℕ) → u < n → get_or (set (set shares s (get_or shares s 0 - 1)) t 1) u 0 ≡ new u
-shares_held n shares old new s t is distinct none long each u h = elim (cases_eq u t) [
-  | inl same ↦
-      let longer = length-set shares s (get_or shares s 0 - 1) in
-      let here : get_or (set (set shares s (get_or shares s 0 - 1)) t 1) u 0 ≡ 1 =
-      ap (λ (k : ℕ). get_or (set (set shares s (get_or shares s 0 - 1)) k 1) u 0) (sym same) ∙ get_or-set_same (set shares s (get_or shares s 0 - 1)) u 1 0 (omega arith) in
-      let was : old u ≡ 0 = ap old same ∙ none in
-      let one = one_at u t same in
-      let off = none_at u s (λ e. distinct (sym e ∙ same)) in
-      let now = is u in
-      omega arith
-  | inr apart ↦
-      let first = get_or-set_other (set shares s (get_or shares s 0 - 1)) t u 1 0 apart in
-      let none_here = none_at u t apart in
-      let now = is u in
-      elim (cases_eq u s) [
-        | inl same ↦
-            let second : get_or (set shares s (get_or shares s 0 - 1)) u 0 ≡ get_or shares u 0 - 1 =
-            ap (λ (k : ℕ). get_or (set shares k (get_or shares k 0 - 1)) u 0) (sym same) ∙ get_or-set_same shares u (get_or shares u 0 - 1) 0 (omega arith) in
-            let was = each u h in
-            let one = one_at u s same in
-            omega arith
-        | inr other ↦
-            let second = get_or-set_other shares s u (get_or shares s 0 - 1) 0 other in
-            let was = each u h in
-            let off = none_at u s other in
-            omega arith
-      ]
-]
+shares_held : (shares : List ℕ) (s t : ℕ) → s ≢ t → get_or shares t 0 ≡ 0 → t < length shares → s < length shares → 1 ≤ get_or shares s 0 →
+    (u : ℕ) → get_or (set (set shares s (get_or shares s 0 - 1)) t 1) u 0 + cond (s == u) 1 0 ≡ get_or shares u 0 + cond (t == u) 1 0
+shares_held shares s t distinct none low below some u =
+    let fewer = set shares s (get_or shares s 0 - 1) in
+    let size = length-set shares s (get_or shares s 0 - 1) in
+    let more = shares_zero fewer t (get_or-set_other shares s t _ 0 (λ e. distinct (sym e)) ∙ none) (omega arith) u in
+    elim (cases_eq u s) [
+      | inl same ↦
+          let here : get_or fewer u 0 ≡ get_or shares s 0 - 1 = ap (λ (k : ℕ). get_or fewer k 0) same ∙ get_or-set_same shares s _ 0 below in
+          omega (arith, ap (λ (k : ℕ). get_or shares k 0) same, one_at s u (sym same))
+      | inr apart ↦ omega (arith, get_or-set_other shares s u (get_or shares s 0 - 1) 0 apart, none_at s u (λ e. apart (sym e)))
+    ]
 
 -- g is a plain store, and owning page p of v leads from f to it
 pub record IsOwned (f g : Flat) (v p t : ℕ) : Type 0 where
@@ -200,13 +177,8 @@ pub record IsOwned (f g : Flat) (v p t : ℕ) : Type 0 where
 
 -- there is a frame for it, since a page with no row is not sole
 pub own_room : (f : Flat) (v p i : ℕ) → IsGapFor f.rows v p i → (sole (content_of f) v p ≡ true) ⊎ ((1 ≤ f.spare) × (used (content_of f) < (content_of f).frames)) → (1 ≤ f.spare) × (used (content_of f) < (content_of f).frames)
-own_room f v p i gap (inl alone) = absurd (let clash : ◌≡◌ {A = Bool} true false = sym alone ∙ sole-zero (content_of f) v p (page_in_gap f v p i gap) in cc)
+own_room f v p i gap (inl alone) = absurd (both_ways (sole (content_of f) v p) (sole-zero (content_of f) v p (page_in_gap f v p i gap)) alone)
 own_room f v p i gap (inr room) = room
-
--- no VMO shows a frame that is not in use
-views_unused : (c : Content) (t v p : ℕ) → IsGood c → p < pages_of c v → in_use c t ≡ false → views c t v ≡ false
-unfolding in_use
-views_unused c t v p good h e = any_below_none c.next v (views c t) e (koid_below c v p good h)
 
 abbrev pub zero_owned : Flat → Pool → Row → ℕ → ℕ → Flat
 zero_owned f pool row i s = record f { pool = pool; rows = insert f.rows i row; shares = set f.shares row.tag.0 1; spare = s }
@@ -230,15 +202,13 @@ module _ (f : Flat) (pool : Pool) (row : Row) (i s : ℕ) (flat : IsFlat f) (gap
   zero_before : (content_of f).page row.koid.0 row.page ≡ None
   zero_before = page_in_gap f row.koid.0 row.page i gap
 
-  zero_viewers : (u : ℕ) → viewers (hold (content_of f) row.koid.0 row.page (record { tag = row.tag.0; bytes = zeros })) u ≡ viewers (content_of f) u + cond (u == row.tag.0) 1 0
-  zero_viewers = viewers-hold_zero (content_of f) row.koid.0 row.page (record { tag = row.tag.0; bytes = zeros }) flat.good h zero_before
-      (views_unused (content_of f) row.tag.0 row.koid.0 row.page flat.good h (free_in_use f row.tag.0 flat takes.was_free))
-
   pub owned_zero : IsOwned f (zero_owned f pool row i s) row.koid.0 row.page row.tag.0
   owned_zero = record {
-    flat = IsFlat-held f (zero_owned f pool row i s) row zeros flat holds_zero (λ u. false)
-        (record { is = λ u. let now = zero_viewers u in omega arith; stays = λ u e. absurd cc })
-        (shares_zero f.pool.frames f.shares (viewers (content_of f)) _ row.tag.0 zero_viewers (free_viewers f row.tag.0 flat takes.was_free) (let e = flat.counts in omega arith) flat.shares);
+    flat = IsFlat-held f (zero_owned f pool row i s) row zeros flat holds_zero (λ u. false) (record {
+      is = λ u. omega (arith, shares_zero f.shares row.tag.0 (free_share f row.tag.0 flat takes.was_free) (omega (arith, takes.below, flat.counts)) u);
+      rows = λ u. omega (arith, rows_with-insert u f.rows i row);
+      stays = λ u e. absurd cc;
+    });
     owns = owns_new f (zero_owned f pool row i s) row zeros flat holds_zero (sole-zero (content_of f) row.koid.0 row.page zero_before)
         (sym (bytes_of-none ((content_of f).page row.koid.0 row.page) zero_before));
   }
@@ -282,14 +252,14 @@ module _ (f : Flat) (i : ℕ) (row : Row) (flat : IsFlat f) (h : i < length f.ro
       ap (λ (u : ℕ). sole (content_of f) u p) (sym same.0) ∙ (ap (λ (r : ℕ). sole (content_of f) row.koid.0 r) (sym same.1) ∙ (sole_is n share ∙ eq-eqb n 1 one)) in
       record {
         stays = λ _. (refl, λ other g. let clash : ◌≡◌ {A = Option Page} (Some (page_from f.pool row)) (Some other) = sym is ∙ g in cc);
-        copies = λ shared. absurd (let clash : ◌≡◌ {A = Bool} true false = sym alone ∙ shared in cc);
+        copies = λ shared. absurd (both_ways (sole (content_of f) v p) shared alone);
       }
 
   -- and else there is a free frame
   pub room_held : (n : ℕ) → n ≡ get_or f.shares row.tag.0 n → n ≢ 1 → ((v p : ℕ) → IsRowFor f.rows v p i → (sole (content_of f) v p ≡ true) ⊎ (used (content_of f) < (content_of f).frames)) →
       taken_count f.pool < f.pool.frames
   room_held n share shared room = elim (room row.koid.0 row.page (row_for f.rows i row h read)) [
-    | inl alone ↦ absurd (let clash : ◌≡◌ {A = Bool} true false = sym alone ∙ (sole_is n share ∙ ne_eqb n 1 shared) in cc)
+    | inl alone ↦ absurd (both_ways (sole (content_of f) row.koid.0 row.page) (sole_is n share ∙ ne_eqb n 1 shared) alone)
     | inr free ↦ room_free f flat free
   ]
 
@@ -335,16 +305,16 @@ module _ (f : Flat) (pool : Pool) (row : Row) (i t : ℕ) (flat : IsFlat f) (h :
         page = flat.good.below row.koid.0 row.page held_before held_is;
       }
 
-  held_viewers : (u : ℕ) → viewers (hold (content_of f) row.koid.0 row.page (record { tag = t; bytes = frame_bytes f.pool row.tag.0 })) u + cond (u == row.tag.0) 1 0 ≡ viewers (content_of f) u + cond (u == t) 1 0
-  held_viewers = viewers-hold_fresh (content_of f) row.koid.0 row.page held_before (record { tag = t; bytes = frame_bytes f.pool row.tag.0 }) flat.good held_is (free_in_use f t flat takes.was_free)
-
   owned_held : get_or f.shares row.tag.0 0 ≢ 1 → IsOwned f moved_flat row.koid.0 row.page t
   owned_held shared =
       let frame = IsFrameOf-held f row.koid.0 row.page held_before flat held_is in
+      let apart = takes_apart f.pool pool t (frame_bytes f.pool row.tag.0) takes row.tag.0 frame.taken in
       record {
-        flat = IsFlat-held f moved_flat (moved row t) (frame_bytes f.pool row.tag.0) flat holds_held (λ u. u == row.tag.0)
-            (record { is = held_viewers; stays = λ u e. subst (λ (k : ℕ). 2 ≤ viewers (content_of f) k) (sym (eqb-true u row.tag.0 e)) (let a = frame.share in let b = frame.shown in omega arith) })
-            (shares_held f.pool.frames f.shares (viewers (content_of f)) _ row.tag.0 t held_viewers (takes_apart f.pool pool t (frame_bytes f.pool row.tag.0) takes row.tag.0 (held_taken f i row flat h read)) (free_viewers f t flat takes.was_free) (let e = flat.counts in omega arith) flat.shares);
+        flat = IsFlat-held f moved_flat (moved row t) (frame_bytes f.pool row.tag.0) flat holds_held (λ u. row.tag.0 == u) (record {
+          is = shares_held f.shares row.tag.0 t apart (free_share f t flat takes.was_free) (omega (arith, takes.below, flat.counts)) (held_below f i row flat h read) frame.shown;
+          rows = λ u. rows_with-set u f.rows i row (moved row t) h read;
+          stays = λ u e. subst (λ (k : ℕ). 2 ≤ get_or f.shares k 0) (eqb-true row.tag.0 u e) (omega (arith, frame.shown));
+        });
         owns = owns_new f moved_flat (moved row t) (frame_bytes f.pool row.tag.0) flat holds_held
             (ap (is_sole_page (content_of f) row.koid.0) held_is ∙ (sole_share f row.koid.0 row.page held_before flat held_is ∙ ne_eqb (get_or f.shares row.tag.0 0) 1 shared))
             (sym (bytes_of-some ((content_of f).page row.koid.0 row.page) held_before held_is));

@@ -1,21 +1,21 @@
 -- Bytes written to a frame that one page of the plain store shows.
-use Rattle.std.proofs.Common.{◌≡◌, ℕ, ◌+◌, ◌≤◌, Bool, true, false, cond, ◌&&◌, ◌==◌, List, length, Option, Some, refl, sym, ap, ◌∙◌, inl, inr, arith}
-use Rattle.std.specs.Prelude.{is_some, nat_lt}
+use Rattle.std.proofs.Common.{◌≡◌, ℕ, ◌+◌, ◌≤◌, Bool, true, false, cond, ◌&&◌, ◌==◌, List, length, Option, Some, refl, sym, ap, subst, ◌∙◌, inl, inr, arith}
+use Rattle.std.specs.Prelude.{is_some}
 use Rattle.std.proofs.lemmas.Bool.{cases_Bool, cases_eq, and_parts, and_from, eqb-true, eq-eqb}
 use Rattle.vm_base.specs.declared.limits.TheConstants.{PAGE}
 use Rattle.vm_base.specs.Entries.{with_key}
 use Rattle.frame_pool.specs.Pool.{Pool, taken_frames, frame_bytes}
-use Rattle.vm_model.specs.Contents.Content.{Page, Content, hold}
+use Rattle.vm_model.specs.Contents.Content.{Page, Content, hold, IsGood}
 use Rattle.vm_base.specs.Pages.{replaced}
 use Rattle.vm_model.proofs.ContentLaws.{sole_from, IsGood-hold_bytes}
 use Rattle.vm_base.proofs.EntryLaws.{with_key-here, with_key-other}
 use Rattle.vm_base.proofs.PageLaws.{length-replaced}
-use Rattle.vm_model.proofs.SharingLaws.{viewers-hold_bytes}
 use Rattle.page_store.specs.Rows.{find_row}
 use Rattle.page_store.specs.Pages.{ShowsTag, IsShown, IsShownOnce, Overwrites}
 use Rattle.page_store.specs.Flat.{Flat, page_of_row, content_of, IsFlat}
-use Rattle.page_store.proofs.FlatLaws.{same_content, page-content, page_from, page_of_row-some, page_of_row_found, flat_from, taken_viewers, shown_taken, shown_bytes}
-use Rattle.page_store.proofs.FlatOwning.{page_of_row-other, page_of_row-here, vmos_of-hold}
+use Rattle.page_store.proofs.FlatLaws.{same_content, page-content, page_from, page_of_row-some, page_of_row_found}
+use Rattle.page_store.proofs.FlatFrames.{shown_taken, shown_bytes}
+use Rattle.page_store.proofs.FlatOwning.{page_of_row-other, page_of_row-here}
 
 pub IsShown-from_once : (c : Content) (t : ℕ) → IsShownOnce c t → IsShown c t
 IsShown-from_once c t once = record { v = once.v; p = once.p; held = once.held; shows = once.shows.shows }
@@ -70,12 +70,14 @@ module _ (f : Flat) (pool : Pool) (t at : ℕ) (bytes : List ℕ) (flat : IsFlat
       let old_length : length held.bytes ≡ PAGE = flat.good.whole once.v once.p once.held shows.page in
       let whole : length other.bytes ≡ PAGE = length-replaced held.bytes at bytes (omega arith) ∙ old_length in
       let sole_before = sole_from (content_of f) once.v once.p once.held shows.page (λ w q third apart g same. apart (once.shows.alone w q third (record { page = g; tag = same ∙ shows.tag })).0) in
-      let kept = viewers-hold_bytes (content_of f) once.v once.p once.held (with_replaced once.held at bytes) flat.good shows.page refl in
-      flat_from (record f { pool = pool }) (hold (content_of f) once.v once.p (with_replaced once.held at bytes)) (overwrites once.v once.p once.held shows) flat.sorted flat.ascending
-      (IsGood-hold_bytes (content_of f) once.v once.p once.held (with_replaced once.held at bytes) flat.good sole_before shows.page refl whole)
-      (vmos_of-hold (content_of f) once.v once.p (with_replaced once.held at bytes) ∙ flat.vmos) (flat.counts ∙ sym frames)
-      (λ u h. flat.shares u (omega (arith, frames)) ∙ sym (kept u))
-      (λ u. ap (λ (m : ℕ → Option (List ℕ)). is_some (m u)) frame ∙ (still u ∙ (taken_viewers f flat u ∙ ap (λ (n : ℕ). nat_lt 0 n) (sym (kept u)))))
+      record {
+        sorted = flat.sorted;
+        ascending = flat.ascending;
+        good = subst IsGood (sym (overwrites once.v once.p once.held shows)) (IsGood-hold_bytes (content_of f) once.v once.p held other flat.good sole_before shows.page refl whole);
+        counts = flat.counts ∙ sym frames;
+        shares = flat.shares;
+        counted = record { taken = λ u. ap (λ (m : ℕ → Option (List ℕ)). is_some (m u)) frame ∙ (still u ∙ flat.counted.taken u) };
+      }
     where
       still : (u : ℕ) → is_some (with_key (taken_frames f.pool) t (replaced (frame_bytes f.pool t) at bytes) u) ≡ is_some (taken_frames f.pool u)
       still u = elim (cases_eq u t) [

@@ -1,9 +1,10 @@
 -- What a new VMO does to a content: it stays good, and what becomes of page counts and of the next koid.
-use Rattle.std.proofs.Common.{◌≡◌, ◌≢◌, ℕ, ◌+◌, ◌<◌, ◌≤◌, sym, ap, subst, arith}
-use Rattle.std.specs.Prelude.{unwrap_or, IsSome, is_some}
+use Rattle.std.proofs.Common.{◌≡◌, ℕ, ◌+◌, ◌<◌, ◌≤◌, refl, sym, ap, subst, arith}
+use Rattle.std.specs.Prelude.{IsSome, is_some}
 use Rattle.vm_base.specs.declared.limits.TheConstants.{VMO_PAGES}
 use Rattle.vm_model.specs.Contents.Content.{Content, pages_of, created, IsGood}
-use Rattle.vm_model.proofs.ContentLaws.{pages_of-at, count_from_page, IsGood-created, next-created, count-created_new, count-created_other}
+use Rattle.vm_model.proofs.ContentLaws.{pages_of-at, pages_of-same, count_from_page, IsGood-created}
+use Rattle.vm_base.proofs.EntryLaws.{with_key-same, with_key-other}
 
 -- a VMO that has pages is there
 pub is_there : (c : Content) (v p : ℕ) → p < pages_of c v → IsSome (c.count v)
@@ -17,10 +18,10 @@ pub record AddsVmo (old new : Content) (n : ℕ) : Type 0 where
   pub kept : (w : ℕ) → w < old.next → pages_of new w ≡ pages_of old w
 
 pub created_grows : (old new : Content) (n : ℕ) → IsGood old → n ≤ VMO_PAGES → new ≡ created old n → AddsVmo old new n
-unfolding pages_of
+unfolding created
 created_grows old new n good few made = subst (λ (c : Content). AddsVmo old c n) (sym made) (record {
   good = IsGood-created old n good few;
-  next = next-created old n;
-  pages = pages_of-at (created old n) old.next n (count-created_new old n);
-  kept = λ w h. let apart : w ≢ old.next = omega arith in ap (λ o. unwrap_or o 0) (count-created_other old n w apart);
+  next = refl;
+  pages = pages_of-at (created old n) old.next n (with_key-same old.count old.next n);
+  kept = λ w h. pages_of-same (created old n) old w (with_key-other old.count old.next n w (omega arith));
 })

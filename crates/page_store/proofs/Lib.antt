@@ -4,6 +4,7 @@ pub mod BoundLaws
 pub mod VmoLaws
 pub mod HeldLaws
 pub mod FlatLaws
+pub mod FlatFrames
 pub mod FlatOwning
 pub mod FlatWriting
 pub mod ShareLaws

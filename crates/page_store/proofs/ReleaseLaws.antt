@@ -1,15 +1,13 @@
 -- The plain store without the rows of a range of pages, whose frames were released: which content its lists stand
 -- for, and that they stay a plain store.
-use Rattle.std.proofs.Common.{◌≡◌, ◌⊎◌, ℕ, ◌+◌, ◌<◌, ◌≤◌, List, [], ◌++◌, length, get_or, take, drop, Option, None, Some, unwrap_or, refl, sym, ap, subst, ◌∙◌, inl, inr, arith}
+use Rattle.std.proofs.Common.{◌≡◌, ◌⊎◌, ℕ, ◌+◌, ◌<◌, ◌≤◌, List, [], ◌++◌, get_or, take, drop, Option, None, Some, unwrap_or, refl, sym, ap, subst, ◌∙◌, inl, inr, arith}
 use Rattle.std.specs.List.{remove_range, slice_range}
-use Rattle.std.proofs.lemmas.Bool.{cases_eq}
 use Rattle.std.proofs.lemmas.List.Edits.{split_between}
 use Rattle.frame_pool.specs.Pool.{Pool, taken_frames}
-use Rattle.vm_model.specs.Contents.Content.{Content, vmos_of, IsGood}
+use Rattle.vm_model.specs.Contents.Content.{IsGood}
 use Rattle.vm_model.specs.Contents.Zeroing.{zeroed}
-use Rattle.vm_model.proofs.ZeroingLaws.{cases_within, frames-zeroed, next-zeroed, count-zeroed, page-zeroed_in, page-zeroed_out, page-zeroed_other, IsGood-zeroed}
+use Rattle.vm_model.proofs.ZeroingLaws.{cases_zeroed, page-zeroed_in, page-zeroed_out, IsGood-zeroed}
 use Rattle.page_store.specs.declared.rows.Row.{Row}
-use Rattle.page_store.specs.declared.vmos.Vmo.{Vmo}
 use Rattle.page_store.specs.Rows.{find_row, IsSorted, AreRowsWithin}
 use Rattle.page_store.specs.Vmos.{count_in, IsAscending}
 use Rattle.page_store.specs.Shares.{rows_with, Releases}
@@ -17,7 +15,6 @@ use Rattle.page_store.specs.Flat.{Flat, page_of_row, content_of, IsFlat}
 use Rattle.page_store.proofs.BoundLaws.{find_row-before, find_row-behind, find_row-outside, find_row-right, find_row-middle, find_row-found, sorted_middle}
 use Rattle.page_store.proofs.ShareLaws.{rows_with-append, rows_with-at}
 use Rattle.page_store.proofs.FlatLaws.{same_content, frames-content, next-content, count-content, page-content, some_page, page_of_row-none}
-use Rattle.page_store.proofs.ViewLaws.{shares-rows, flat_from_rows}
 
 -- ---- rows that are taken out
 
@@ -61,7 +58,7 @@ pub record IsReleased (f g : Flat) (v p q from end : ℕ) : Type 0 where
 
 -- before they are released, the counts are those of all rows
 pub counts_before : (f : Flat) (v p q from end : ℕ) → IsFlat f → AreRowsWithin f.rows v p q from end → (t : ℕ) → rows_with t (slice_range f.rows from end) ≤ get_or f.shares t 0
-counts_before f v p q from end flat are t = omega (arith, shares-rows f flat t, rows_with-released f.rows v p q from end are t)
+counts_before f v p q from end flat are t = omega (arith, flat.shares t, rows_with-released f.rows v p q from end are t)
 
 -- a page whose frame has its bytes in two pools
 page_kept : (pool other : Pool) (o : Option Row) → ((row : Row) → o ≡ Some row → taken_frames pool row.tag.0 ≡ taken_frames other row.tag.0) → page_of_row pool o ≡ page_of_row other o
@@ -69,16 +66,11 @@ unfolding page_of_row
 page_kept pool other None same = refl
 page_kept pool other (Some row) same = ap (λ (o : Option (List ℕ)). some_page row.tag.0 (unwrap_or o [])) (same row refl)
 
--- a VMO whose pages are zero is still there
-vmos_of-zeroed : (c : Content) (v first end : ℕ) → vmos_of (zeroed c v first end) ≡ vmos_of c
-unfolding vmos_of zeroed
-vmos_of-zeroed c v first end = refl
-
 module _ (f g : Flat) (v p q from end : ℕ) (flat : IsFlat f) (gone : IsReleased f g v p q from end) where
   released_counts : (t : ℕ) → get_or g.shares t 0 ≡ rows_with t g.rows
   released_counts t =
       let rows : rows_with t g.rows ≡ rows_with t (remove_range f.rows from end) = ap (rows_with t) gone.rows in
-      omega (arith, rows, rows_with-released f.rows v p q from end gone.are t, (gone.released).counts t, shares-rows f flat t)
+      omega (arith, rows, rows_with-released f.rows v p q from end gone.are t, (gone.released).counts t, flat.shares t)
 
   -- the pages that stay keep their bytes
   released_page : (w x : ℕ) → page_of_row g.pool (find_row w x g.rows) ≡ page_of_row f.pool (find_row w x g.rows)
@@ -94,30 +86,27 @@ module _ (f g : Flat) (v p q from end : ℕ) (flat : IsFlat f) (gone : IsRelease
   page_in x low high =
       page-content g v x ∙ (ap (page_of_row g.pool) (ap (find_row v x) gone.rows ∙ find_row-released f.rows v p q from end gone.are x low high) ∙ page_of_row-none g.pool)
 
-  page_here : (x : ℕ) → (content_of g).page v x ≡ (zeroed (content_of f) v p q).page v x
-  page_here x = elim (cases_within p q x) [
-    | inl inside ↦ page_in x inside.0 inside.1 ∙ sym (page-zeroed_in (content_of f) v p q x inside.0 inside.1)
-    | inr outside ↦ page_out v x (λ same. outside) ∙ sym (page-zeroed_out (content_of f) v p q x outside)
-  ]
-
   pub content-released : content_of g ≡ zeroed (content_of f) v p q
+  unfolding zeroed
   content-released =
       let c = content_of f in
       same_content (content_of g) (zeroed c v p q)
-      (frames-content g ∙ ((gone.released).frames ∙ (sym (frames-content f) ∙ sym (frames-zeroed c v p q))))
-      (next-content g ∙ (gone.next ∙ (sym (next-content f) ∙ sym (next-zeroed c v p q))))
-      (λ w. count-content g w ∙ (ap (count_in w) gone.vmos ∙ (sym (count-content f w) ∙ sym (ap (λ (count : ℕ → Option ℕ). count w) (count-zeroed c v p q)))))
-      (λ w x. elim (cases_eq w v) [
-        | inl same ↦ ap (λ (u : ℕ). (content_of g).page u x) same ∙ (page_here x ∙ ap (λ (u : ℕ). (zeroed c v p q).page u x) (sym same))
-        | inr apart ↦ page_out w x (λ same. absurd (apart same)) ∙ sym (page-zeroed_other c v p q w x apart)
+      (frames-content g ∙ ((gone.released).frames ∙ sym (frames-content f)))
+      (next-content g ∙ (gone.next ∙ sym (next-content f)))
+      (λ w. count-content g w ∙ (ap (count_in w) gone.vmos ∙ sym (count-content f w)))
+      (λ w x. elim (cases_zeroed v p q w x) [
+        | inl inside ↦
+            ap (λ (u : ℕ). (content_of g).page u x) inside.0
+            ∙ (page_in x inside.1 inside.2 ∙ sym (page-zeroed_in c v p q w x inside.0 inside.1 inside.2))
+        | inr out ↦ page_out w x out ∙ sym (page-zeroed_out c v p q w x out)
       ])
 
   pub IsFlat-released : IsFlat g
-  IsFlat-released = flat_from_rows g
-      (subst IsSorted (sym gone.rows) (sorted_released f.rows v p q from end gone.are flat.sorted))
-      (subst IsAscending (sym gone.vmos) flat.ascending)
-      (subst IsGood (sym content-released) (IsGood-zeroed (content_of f) v p q flat.good))
-      (ap vmos_of content-released ∙ (vmos_of-zeroed (content_of f) v p q ∙ (flat.vmos ∙ ap (λ (vmos : List Vmo). length vmos) (sym gone.vmos))))
-      ((gone.released).size ∙ (flat.counts ∙ sym (gone.released).frames))
-      released_counts
-      (gone.released).counted
+  IsFlat-released = record {
+    sorted = subst IsSorted (sym gone.rows) (sorted_released f.rows v p q from end gone.are flat.sorted);
+    ascending = subst IsAscending (sym gone.vmos) flat.ascending;
+    good = subst IsGood (sym content-released) (IsGood-zeroed (content_of f) v p q flat.good);
+    counts = (gone.released).size ∙ (flat.counts ∙ sym (gone.released).frames);
+    shares = released_counts;
+    counted = (gone.released).counted;
+  }

@@ -1,17 +1,16 @@
 -- The plain store with another page count for a VMO, whose pages past it were released: which content its lists stand
 -- for, and that they stay a plain store.
-use Rattle.std.proofs.Common.{◌≡◌, ℕ, ◌+◌, ◌-◌, ◌<◌, ◌≤◌, cond, ◌==◌, List, length, set, Some, IsSome, refl, sym, ap, subst, ◌∙◌, arith, length-set}
+use Rattle.std.proofs.Common.{◌≡◌, ℕ, ◌+◌, ◌-◌, ◌<◌, ◌≤◌, cond, ◌==◌, List, set, Some, IsSome, refl, sym, ap, subst, ◌∙◌, arith}
 use Rattle.vm_base.specs.declared.limits.TheConstants.{VMO_PAGES}
-use Rattle.vm_model.specs.Contents.Content.{Content, pages_of, vmos_of, IsGood}
+use Rattle.vm_model.specs.Contents.Content.{Content, pages_of, IsGood}
 use Rattle.vm_base.specs.Entries.{with_key}
 use Rattle.vm_model.specs.Contents.Zeroing.{zeroed, resized}
-use Rattle.vm_model.proofs.ZeroingLaws.{zeroed-none, IsGood-resized, vmos_of-resized}
+use Rattle.vm_model.proofs.ZeroingLaws.{zeroed-none, IsGood-resized}
 use Rattle.page_store.specs.declared.vmos.Vmo.{Vmo}
 use Rattle.page_store.specs.Vmos.{count_in, IsVmoFor}
 use Rattle.page_store.specs.Flat.{Flat, content_of, IsFlat}
 use Rattle.page_store.proofs.VmoLaws.{IsVmoAgain, ascending_set, count_in-set}
 use Rattle.page_store.proofs.FlatLaws.{same_content}
-use Rattle.page_store.proofs.ViewLaws.{shares-rows, counted-flat, flat_from_rows}
 use Rattle.page_store.proofs.ReleaseLaws.{HasReleased}
 
 -- ---- the pages past the new end
@@ -52,11 +51,11 @@ module _ (old f : Flat) (v at : ℕ) (vmo : Vmo) (was : IsFlat old) (flat : IsFl
   content-relisted = recounted ∙ (ap (λ (c : Content). record c { count = with_key c.count v vmo.count }) released.content ∙ resized_from (content_of old) v vmo.count)
 
   pub IsFlat-relisted : IsSome ((content_of old).count v) → vmo.count ≤ VMO_PAGES → IsFlat (relisted f at vmo)
-  IsFlat-relisted some few =
-      let c = content_of old in
-      flat_from_rows (relisted f at vmo) flat.sorted (ascending_set f.vmos at vmo flat.ascending again)
-      (subst IsGood (sym content-relisted) (IsGood-resized c v vmo.count was.good some few))
-      (ap vmos_of content-relisted
-      ∙ (vmos_of-resized c v vmo.count some
-      ∙ (was.vmos ∙ (ap (λ (vmos : List Vmo). length vmos) (sym released.vmos) ∙ sym (length-set f.vmos at vmo)))))
-      flat.counts (shares-rows f flat) (record { taken = (counted-flat f flat).taken })
+  IsFlat-relisted some few = record {
+    sorted = flat.sorted;
+    ascending = ascending_set f.vmos at vmo flat.ascending again;
+    good = subst IsGood (sym content-relisted) (IsGood-resized (content_of old) v vmo.count was.good some few);
+    counts = flat.counts;
+    shares = flat.shares;
+    counted = flat.counted;
+  }

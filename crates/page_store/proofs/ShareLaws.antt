@@ -1,7 +1,7 @@
 -- How many rows show a frame, and what becomes of the share counts and of the frames, row by row.
 use Rattle.std.proofs.Common.{◌≡◌, ◌≢◌, ℕ, zero, suc, ◌+◌, ◌-◌, ◌<◌, ◌≤◌, Bool, cond, ◌==◌, List, [], ◌∷◌, ◌++◌, length, map, get_or, set, take, drop, Option, None, Some, is_some, IsSome, refl, sym, ap, subst, ◌∙◌, inl, inr, arith, length-set, get_or-set_same, get_or-set_other}
 use Rattle.std.specs.Prelude.{nat_lt, MatchOption, unwrap_or}
-use Rattle.std.specs.List.{AllWithin, HoldsAt, slice_range}
+use Rattle.std.specs.List.{AllWithin, HoldsAt, slice_range, insert}
 use Rattle.std.proofs.lemmas.Bool.{cases_Bool, cases_eq, cases_lt, eqb-true, eqb-false, eq-eqb, ne_eqb, lt-ltb}
 use Rattle.std.proofs.lemmas.Bool.Decides.{nat_tests}
 use Rattle.std.proofs.lemmas.List.{take-append-drop, take-take, take_more, get_or_past, append-nil, append_assoc, map_push, get_or_append_left}
@@ -40,6 +40,23 @@ one_at a b e = ap (λ (x : Bool). cond {A = ℕ} x 1 0) (eq-eqb a b e)
 
 pub none_at : (a b : ℕ) → a ≢ b → ◌≡◌ {A = ℕ} (cond (a == b) 1 0) 0
 none_at a b apart = ap (λ (x : Bool). cond {A = ℕ} x 1 0) (ne_eqb a b apart)
+
+-- one row more
+pub rows_with-insert : (t : ℕ) (rows : List Row) (i : ℕ) (row : Row) → rows_with t (insert rows i row) ≡ rows_with t rows + cond (row.tag.0 == t) 1 0
+rows_with-insert t rows zero row = omega (arith, rows_with-cons t row rows)
+rows_with-insert t [] (suc i) row = omega (arith, rows_with-cons t row [], rows_with-nil t)
+rows_with-insert t (first ∷ rows) (suc i) row =
+    omega (arith, rows_with-cons t first (insert rows i row), rows_with-cons t first rows, rows_with-insert t rows i row)
+
+-- another row in place of one
+pub rows_with-set : (t : ℕ) (rows : List Row) (i : ℕ) (old row : Row) → i < length rows → old ≡ get_or rows i old
+    → rows_with t (set rows i row) + cond (old.tag.0 == t) 1 0 ≡ rows_with t rows + cond (row.tag.0 == t) 1 0
+rows_with-set t [] i old row h read = absurd (omega arith)
+rows_with-set t (first ∷ rows) zero old row h read =
+    let bit : ◌≡◌ {A = ℕ} (cond (old.tag.0 == t) 1 0) (cond (first.tag.0 == t) 1 0) = ap (λ (r : Row). cond {A = ℕ} (r.tag.0 == t) 1 0) read in
+    omega (arith, rows_with-cons t row rows, rows_with-cons t first rows, bit)
+rows_with-set t (first ∷ rows) (suc i) old row h read =
+    omega (arith, rows_with-cons t first (set rows i row), rows_with-cons t first rows, rows_with-set t rows i old row (omega arith) read)
 
 -- a row that has the frame counts
 pub rows_with-at : (t : ℕ) (rows : List Row) (i : ℕ) (d : Row) → i < length rows → (get_or rows i d).tag.0 ≡ t → 0 < rows_with t rows

@@ -6,12 +6,13 @@ use Rattle.std.specs.Option.{option_map}
 use Rattle.std.specs.declared.cmp.Ordering.TheVariants.{Greater}
 use Rattle.std.proofs.lemmas.Bool.{cases_Bool, cases_eq, cases_lt}
 use Rattle.std.proofs.lemmas.Bool.Decides.{nat_tests}
-use Rattle.std.proofs.lemmas.List.{length_push, length-map, get_or-map}
+use Rattle.std.proofs.lemmas.List.{length-map, get_or-map}
 use Rattle.frame_pool.specs.Pool.{Pool, taken_frames}
 use Rattle.vm_base.specs.declared.limits.TheConstants.{VMO_PAGES, KOIDS}
-use Rattle.vm_model.specs.Contents.Content.{vmos_of, IsGood}
+use Rattle.vm_model.specs.Contents.Content.{IsGood}
 use Rattle.vm_model.specs.Contents.Sharing.{page_seen, snapshotted}
-use Rattle.vm_model.proofs.SharingLaws.{viewers_le, frames-snapshotted, next-snapshotted, count-snapshotted, page-snapshotted_new, page-snapshotted_other, page_seen-in, page_seen-out, IsGood-snapshotted, vmos_of-snapshotted}
+use Rattle.vm_base.specs.Entries.{with_key}
+use Rattle.vm_model.proofs.SharingLaws.{page-snapshotted_new, page-snapshotted_other, page_seen-in, page_seen-out, IsGood-snapshotted}
 use Rattle.page_store.specs.declared.rows.Row.{Row}
 use Rattle.page_store.specs.declared.vmos.Vmo.{Vmo}
 use Rattle.page_store.specs.Rows.{find_row, AllBehind, IsSorted, AreRowsWithin}
@@ -23,7 +24,7 @@ use Rattle.page_store.proofs.BoundLaws.{sorted_append, sorted_range, find_row-ot
 use Rattle.page_store.proofs.ShareLaws.{rows_with-append, rows_with-map, rows_with-range}
 use Rattle.page_store.proofs.VmoLaws.{ascending_push, count_in-push}
 use Rattle.page_store.proofs.FlatLaws.{same_content, frames-content, next-content, count-content, page-content, page_of_row-none, koids_below}
-use Rattle.page_store.proofs.ViewLaws.{row_koids, row_tags, viewers-rows, shares-rows, counted-flat, flat_from_rows}
+use Rattle.page_store.proofs.ViewLaws.{viewers_le, row_koids, row_tags, viewers-rows}
 
 -- ---- the rows of a snapshot
 
@@ -138,14 +139,15 @@ module _ (f g : Flat) (v first seen pages from end : ℕ) (flat : IsFlat f) (new
       ∙ (ap (λ (pool : Pool). page_of_row pool (find_row w p f.rows)) new.pool ∙ sym (page-content f w p))
 
   pub content-snapshot : content_of g ≡ snapshotted (content_of f) v first seen pages
+  unfolding snapshotted with_key
   content-snapshot =
       let c = content_of f in
       let next = next-content f in
       same_content (content_of g) (snapshotted c v first seen pages)
-      (frames-content g ∙ (ap (λ (pool : Pool). pool.frames) new.pool ∙ (sym (frames-content f) ∙ sym (frames-snapshotted c v first seen pages))))
-      (omega (arith, next-content g, new.next, next-snapshotted c v first seen pages))
+      (frames-content g ∙ (ap (λ (pool : Pool). pool.frames) new.pool ∙ sym (frames-content f)))
+      (omega (arith, next-content g, new.next))
       (λ w. count-content g w ∙ (ap (count_in w) new.vmos ∙ (count_in-push f.vmos (new_vmo f pages) (koids_below f (new_vmo f pages) flat refl) w
-      ∙ sym (count-snapshotted c v first seen pages w ∙ (ap (λ (n : ℕ). cond (w == n) (Some pages) (c.count w)) next ∙ ap (λ o. cond (w == f.next) (Some pages) o) (count-content f w))))))
+      ∙ sym (ap (λ (n : ℕ). cond (w == n) (Some pages) (c.count w)) next ∙ ap (λ o. cond (w == f.next) (Some pages) o) (count-content f w)))))
       (λ w p. page-content g w p ∙ elim (cases_eq w f.next) [
         | inl same ↦
             ap (λ (u : ℕ). page_of_row g.pool (find_row u p g.rows)) same
@@ -163,14 +165,8 @@ module _ (f g : Flat) (v first seen pages from end : ℕ) (flat : IsFlat f) (new
   snapshot_counts : (t : ℕ) → get_or g.shares t 0 ≡ rows_with t g.rows
   snapshot_counts t =
       let rows : rows_with t g.rows ≡ rows_with t (f.rows ++ map (row_in f.next first) (slice_range f.rows from end)) = ap (rows_with t) new.rows in
-      omega (
-        arith,
-        rows,
-        rows_with-append t f.rows (map (row_in f.next first) (slice_range f.rows from end)),
-        rows_with-map t f.next first (slice_range f.rows from end),
-        (new.shares).counts t,
-        shares-rows f flat t,
-      )
+      let all = rows_with-append t f.rows (map (row_in f.next first) (slice_range f.rows from end)) in
+      omega (arith, rows, all, rows_with-map t f.next first (slice_range f.rows from end), (new.shares).counts t, flat.shares t)
 
   -- no frame is taken or given back
   snapshot_counted : AreTakenWhereShared g.shares g.pool
@@ -179,21 +175,20 @@ module _ (f g : Flat) (v first seen pages from end : ℕ) (flat : IsFlat f) (new
         let fewer = rows_with-range t f.rows from end (new.are).order in
         let count = (new.shares).counts t in
         ap (λ (pool : Pool). is_some (taken_frames pool t)) new.pool
-        ∙ ((counted-flat f flat).taken t ∙ (positive_sum (get_or f.shares t 0) (rows_with t (slice_range f.rows from end)) (omega (arith, shares-rows f flat t)) ∙ ap (nat_lt 0) (sym count)));
+        ∙ (flat.counted.taken t ∙ (positive_sum (get_or f.shares t 0) (rows_with t (slice_range f.rows from end)) (omega (arith, flat.shares t)) ∙ ap (nat_lt 0) (sym count)));
   }
 
   pub IsFlat-snapshot : seen ≤ pages → pages ≤ VMO_PAGES → IsFlat g
   IsFlat-snapshot few many =
-      let c = content_of f in
-      let same : vmos_of (content_of g) ≡ vmos_of (snapshotted c v first seen pages) = ap vmos_of content-snapshot in
-      let longer : length g.vmos ≡ length f.vmos + 1 = ap (λ (vmos : List Vmo). length vmos) new.vmos ∙ length_push f.vmos (new_vmo f pages) in
-      flat_from_rows g snapshot_sorted
-      (subst IsAscending (sym new.vmos) (ascending_push f.vmos (new_vmo f pages) flat.ascending (koids_below f (new_vmo f pages) flat refl)))
-      (subst IsGood (sym content-snapshot) (IsGood-snapshotted c v first seen pages flat.good few many))
-      (omega (arith, same, longer, vmos_of-snapshotted c v first seen pages flat.good, flat.vmos))
-      ((new.shares).size ∙ (flat.counts ∙ sym (ap (λ (pool : Pool). pool.frames) new.pool)))
-      snapshot_counts
-      snapshot_counted
+      let koids = koids_below f (new_vmo f pages) flat refl in
+      record {
+        sorted = snapshot_sorted;
+        ascending = subst IsAscending (sym new.vmos) (ascending_push f.vmos (new_vmo f pages) flat.ascending koids);
+        good = subst IsGood (sym content-snapshot) (IsGood-snapshotted (content_of f) v first seen pages flat.good few many);
+        counts = (new.shares).size ∙ (flat.counts ∙ sym (ap (λ (pool : Pool). pool.frames) new.pool));
+        shares = snapshot_counts;
+        counted = snapshot_counted;
+      }
 
 -- ---- what the numbers leave room for
 
@@ -203,4 +198,4 @@ tags_counted f from end flat range k d l h = omega (arith, flat.counts, row_tags
 
 -- which may rise
 pub shares_fit : (f : Flat) (from end : ℕ) → IsFlat f → from ≤ end → (content_of f).next < KOIDS → (t : ℕ) → get_or f.shares t 0 + rows_with t (slice_range f.rows from end) < 2 ^ 64
-shares_fit f from end flat order low t = omega (arith, shares-rows f flat t, viewers-rows f flat.sorted flat.good t, viewers_le (content_of f) t, rows_with-range t f.rows from end order)
+shares_fit f from end flat order low t = omega (arith, flat.shares t, viewers-rows f flat.sorted flat.good t, viewers_le (content_of f) t, rows_with-range t f.rows from end order)

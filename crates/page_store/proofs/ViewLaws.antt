@@ -1,30 +1,56 @@
 -- How many VMOs show a frame of the plain store: as many as there are rows with it. So the store's invariant follows
 -- from its lists.
-use Rattle.std.proofs.Common.{◌≡◌, ◌≢◌, ℕ, zero, suc, ◌<◌, ◌≤◌, Bool, true, false, cond, ◌&&◌, ◌||◌, ◌==◌, List, [], ◌∷◌, length, get_or, Some, refl, sym, ap, ◌∙◌, inl, inr, arith}
-use Rattle.std.specs.Prelude.{nat_lt}
+use Rattle.std.proofs.Common.{◌≡◌, ◌≢◌, ℕ, zero, suc, ◌+◌, ◌<◌, ◌≤◌, Bool, true, false, not, cond, ◌&&◌, ◌||◌, ◌==◌, List, [], ◌∷◌, length, get_or, Some, refl, sym, ap, ◌∙◌, inl, inr, arith}
+use Rattle.std.specs.Prelude.{nat_lt, is_some}
 use Rattle.std.specs.List.{All}
 use Rattle.std.specs.Cmp.{both_ways}
 use Rattle.std.specs.declared.cmp.Ordering.TheVariants.{Greater}
-use Rattle.std.proofs.lemmas.Bool.{cases_Bool, cases_lt, cases_order, eqb-true, eq-eqb, ne_eqb, and_parts, and_from, and_left, and_right, or_cases, or_left, or_right, false_from_ne_true}
+use Rattle.std.proofs.lemmas.Bool.{cases_Bool, cases_order, eqb-true, eq-eqb, ne_eqb, and_parts, and_from, and_left, and_right, or_cases, or_left, or_right, false_from_ne_true}
 use Rattle.std.proofs.lemmas.Bool.Decides.{nat_tests}
-use Rattle.std.proofs.lemmas.List.{get_or_past}
-use Rattle.frame_pool.specs.Pool.{}
+use Rattle.frame_pool.specs.Pool.{taken_frames}
 use Rattle.vm_base.specs.Search.{count_below}
-use Rattle.vm_model.specs.Contents.Content.{Page, views, vmos_of, IsGood}
+use Rattle.vm_model.specs.Contents.Content.{Page, Content, views, in_use, vmos_of, seen_elsewhere, is_sole_page, IsGood}
 use Rattle.vm_model.specs.Contents.Sharing.{viewers, IsLeastViewer}
-use Rattle.vm_base.proofs.SearchLaws.{count_below_same, count_below_none, count_below_one_more}
+use Rattle.vm_base.proofs.SearchLaws.{any_below-count, count_below_same, count_below_none, count_below_one_more, count_below_le, count_below_change, bit-true, bit-false, eqb_same, eqb_apart}
 use Rattle.vm_model.proofs.ContentLaws.{views_found}
-use Rattle.vm_model.proofs.SharingLaws.{views_held, koid_held, in_use-viewers}
+use Rattle.vm_model.proofs.SharingLaws.{views_held, koid_held}
 use Rattle.page_store.specs.declared.rows.Row.{Row}
 use Rattle.page_store.specs.Rows.{find_row, IsSorted}
-use Rattle.page_store.specs.Vmos.{IsAscending}
-use Rattle.page_store.specs.Shares.{rows_with, AreTakenWhereShared, IsFirstWith}
+use Rattle.page_store.specs.Shares.{rows_with, IsFirstWith}
 use Rattle.page_store.specs.Pages.{IsShown}
 use Rattle.page_store.specs.Flat.{Flat, page_of_row, content_of, IsFlat}
 use Rattle.page_store.proofs.RowLaws.{page_cmp, sorted_at}
 use Rattle.page_store.proofs.FlatLaws.{frames-content, next-content, page-content, page_from, page_of_row-some, page_of_row_found}
 use Rattle.page_store.proofs.BoundLaws.{find_row-found, find_row-each}
-use Rattle.page_store.proofs.ShareLaws.{rows_with-nil, rows_with-cons, rows_with-found, rows_with-at, some_row}
+use Rattle.page_store.proofs.ShareLaws.{rows_with-nil, rows_with-cons, rows_with-at, some_row}
+use Rattle.page_store.proofs.VmoLaws.{below_from_counts, count_vmos}
+
+-- ---- how many VMOs show a frame
+
+-- a frame is in use where some VMO shows it
+pub in_use-viewers : (c : Content) (t : ℕ) → in_use c t ≡ nat_lt 0 (viewers c t)
+unfolding in_use viewers
+in_use-viewers c t = any_below-count c.next (views c t)
+
+-- no more VMOs show a frame than there are koids
+pub viewers_le : (c : Content) (t : ℕ) → viewers c t ≤ c.next
+unfolding viewers
+viewers_le c t = count_below_le c.next (views c t)
+
+-- a held page is sole where one VMO shows its frame
+pub sole-viewers : (c : Content) (v p : ℕ) (held : Page) → IsGood c → c.page v p ≡ Some held → is_sole_page c v (Some held) ≡ (viewers c held.tag == 1)
+unfolding is_sole_page seen_elsewhere viewers
+sole-viewers c v p held good e =
+    let other : ℕ → Bool = λ w. not (w == v) && views c held.tag w in
+    let shows = views_held c held.tag v p held good e refl in
+    let off : other v ≡ false = and_left (not (v == v)) (views c held.tag v) (ap not (eqb_same v)) in
+    let change = count_below_change c.next v (views c held.tag) other (koid_held c v p held good e) (λ w h apart.
+    ap (λ b. not b && views c held.tag w) (eqb_apart w v apart)) in
+    let more : count_below c.next (views c held.tag) ≡ count_below c.next other + 1 =
+    omega (arith, change, bit-true (views c held.tag v) shows, bit-false (other v) off) in
+    ap not (any_below-count c.next other) ∙ go (count_below c.next other) _ more where
+      go : (m n : ℕ) → n ≡ m + 1 → not (nat_lt 0 m) ≡ (n == 1)
+      go m n e = grind (arith, nat_tests)
 
 -- ---- rows and pages
 
@@ -160,40 +186,20 @@ module _ (f : Flat) (sorted : IsSorted f.rows) (good : IsGood (content_of f)) wh
       ap (λ (n : ℕ). count_below n (views (content_of f) t)) (next-content f)
       ∙ (count_below_same f.next (views (content_of f) t) (shows_in t f.rows) (λ v h. views-rows t v) ∙ count_shows f.next t f.rows row_koids rows_apart)
 
-  -- no row has the tag of no frame
-  pub rows_with-past : (t : ℕ) → f.pool.frames ≤ t → rows_with t f.rows ≡ 0
-  rows_with-past t past = elim (cases_lt 0 (rows_with t f.rows)) [
-    | inr none ↦ omega arith
-    | inl some ↦
-        let found = rows_with-found t f.rows some in
-        let d = some_row f.rows found.0 found.1 in
-        absurd (let low = row_tags found.0 d found.1 in omega (arith, low, found.2 d))
-  ]
+-- ---- what the lists of a plain store say of its content
 
--- ---- a plain store, from its lists
+-- a frame's share count is how many VMOs show it
+pub share_viewers : (f : Flat) → IsFlat f → (t : ℕ) → get_or f.shares t 0 ≡ viewers (content_of f) t
+share_viewers f flat t = flat.shares t ∙ sym (viewers-rows f flat.sorted flat.good t)
 
--- the share counts are those of the rows
-pub shares-rows : (f : Flat) → IsFlat f → (t : ℕ) → get_or f.shares t 0 ≡ rows_with t f.rows
-shares-rows f flat t = elim (cases_lt t f.pool.frames) [
-  | inl low ↦ flat.shares t low ∙ viewers-rows f flat.sorted flat.good t
-  | inr past ↦ get_or_past f.shares t 0 (omega (arith, flat.counts)) ∙ sym (rows_with-past f flat.sorted flat.good t past)
-]
+-- a frame is taken where some VMO shows it
+pub taken_in_use : (f : Flat) → IsFlat f → (t : ℕ) → is_some (taken_frames f.pool t) ≡ in_use (content_of f) t
+taken_in_use f flat t = flat.counted.taken t ∙ (ap (nat_lt 0) (share_viewers f flat t) ∙ sym (in_use-viewers (content_of f) t))
 
-pub counted-flat : (f : Flat) → IsFlat f → AreTakenWhereShared f.shares f.pool
-counted-flat f flat = record {
-  taken = λ t. flat.taken t ∙ (in_use-viewers (content_of f) t ∙ ap (nat_lt 0) (viewers-rows f flat.sorted flat.good t ∙ sym (shares-rows f flat t)));
-}
-
-pub flat_from_rows : (f : Flat) → IsSorted f.rows → IsAscending f.vmos → IsGood (content_of f) → vmos_of (content_of f) ≡ length f.vmos → length f.shares ≡ f.pool.frames → ((t : ℕ) → get_or f.shares t 0 ≡ rows_with t f.rows) → AreTakenWhereShared f.shares f.pool → IsFlat f
-flat_from_rows f sorted ascending good vmos size counts counted = record {
-  sorted = sorted;
-  ascending = ascending;
-  good = good;
-  vmos = vmos;
-  counts = size;
-  shares = λ t h. counts t ∙ sym (viewers-rows f sorted good t);
-  taken = λ t. counted.taken t ∙ (ap (nat_lt 0) (counts t ∙ sym (viewers-rows f sorted good t)) ∙ sym (in_use-viewers (content_of f) t));
-}
+-- there are as many VMOs as the list has
+pub vmos_of-content : (f : Flat) → IsFlat f → vmos_of (content_of f) ≡ length f.vmos
+unfolding vmos_of content_of
+vmos_of-content f flat = count_vmos f.next f.vmos flat.ascending (below_from_counts f.vmos f.next flat.ascending (λ w n e. (flat.good.koids w n e).1))
 
 -- ---- the least viewer
 

@@ -9,6 +9,8 @@ use Rattle.std.proofs.lemmas.Bool.{cases_order, cases_eq, eqb-true, ne_eqb, eq-e
 use Rattle.std.proofs.lemmas.Bool.Decides.{nat_tests}
 use Rattle.std.proofs.lemmas.List.{get_or_default}
 use Rattle.frame_pool.proofs.PoolLaws.{eqb_flip}
+use Rattle.vm_base.specs.Search.{count_below}
+use Rattle.vm_base.proofs.SearchLaws.{count_below_none, count_below_one_more}
 use Rattle.page_store.specs.declared.vmos.Vmo.{Vmo}
 use Rattle.page_store.specs.Vmos.{count_in, AllAbove, IsAscending, IsVmoFor}
 use Rattle.page_store.proofs.RowLaws.{rises_from, swap_cond}
@@ -144,6 +146,17 @@ count_in-here v vmo vmos same = count_in-cons v vmo vmos ∙ cond-true (vmo.koid
 
 count_in-above : (v : ℕ) (vmos : List Vmo) → AllAbove v vmos → count_in v vmos ≡ None
 count_in-above v vmos above = count_in-none vmos v (λ k d h same. let up = above_at v vmos above k d h in absurd (omega arith))
+
+-- as many koids below n have a count as there are VMOs
+pub count_vmos : (n : ℕ) (vmos : List Vmo) → IsAscending vmos → AllBelow vmos n → count_below n (λ v. is_some (count_in v vmos)) ≡ length vmos
+count_vmos n [] rises below = count_below_none n _ (λ v h. ap is_some (count_in-nil v))
+count_vmos n (vmo ∷ vmos) rises below =
+    let parts = ascending_parts vmo vmos rises in
+    let rest = count_vmos n vmos parts.1 (λ i d h. below (suc i) d (omega arith)) in
+    let more = count_below_one_more n vmo.koid.0 (λ v. is_some (count_in v vmos)) (λ v. is_some (count_in v (vmo ∷ vmos)))
+    (below 0 vmo (omega arith)) (ap is_some (count_in-above vmo.koid.0 vmos parts.0)) (ap is_some (count_in-here vmo.koid.0 vmo vmos refl))
+    (λ v apart. ap is_some (count_in-skip v vmo vmos (λ e. apart (sym e)))) in
+    omega (arith, more, rest)
 
 above_remove : (v : ℕ) (vmos : List Vmo) (i : ℕ) → AllAbove v vmos → AllAbove v (remove vmos i)
 above_remove v [] zero above = tt

@@ -1,12 +1,12 @@
 -- The plain store as plain lists, and the content that they stand for.
-use Rattle.std.specs.Prelude.{◌≡◌, ℕ, ◌<◌, List, length, slice_index_or, Option, None, Some, is_some}
-use Rattle.frame_pool.specs.Pool.{Pool, taken_frames, frame_bytes}
-use Rattle.vm_model.specs.Contents.Content.{Content, Page, in_use, vmos_of, IsGood}
-use Rattle.vm_model.specs.Contents.Sharing.{viewers}
+use Rattle.std.specs.Prelude.{◌≡◌, ℕ, List, length, slice_index_or, Option, None, Some}
+use Rattle.frame_pool.specs.Pool.{Pool, frame_bytes}
+use Rattle.vm_model.specs.Contents.Content.{Content, Page, IsGood}
 use Rattle.page_store.specs.declared.rows.Row.{Row}
 use Rattle.page_store.specs.declared.vmos.Vmo.{Vmo}
 use Rattle.page_store.specs.Rows.{find_row, IsSorted}
 use Rattle.page_store.specs.Vmos.{count_in, IsAscending}
+use Rattle.page_store.specs.Shares.{rows_with, AreTakenWhereShared}
 
 -- the page frames, the next koid, the VMOs, the rows of the held pages, the share counts by tag, and the rows that
 -- may be added without asking for memory
@@ -31,12 +31,11 @@ content_of f = record {
   page = λ v p. page_of_row f.pool (find_row v p f.rows);
 }
 
--- What holds of every plain store: a frame is taken where some VMO shows it, and its share count is how many do.
+-- What holds of every plain store: the share count of a frame is how many rows have it, and the frames with a row are taken.
 pub record IsFlat (f : Flat) : Type 0 where
   pub sorted : IsSorted f.rows
   pub ascending : IsAscending f.vmos
   pub good : IsGood (content_of f)
-  pub vmos : vmos_of (content_of f) ≡ length f.vmos
   pub counts : length f.shares ≡ f.pool.frames
-  pub shares : (t : ℕ) → t < f.pool.frames → slice_index_or f.shares t 0 ≡ viewers (content_of f) t
-  pub taken : (t : ℕ) → is_some (taken_frames f.pool t) ≡ in_use (content_of f) t
+  pub shares : (t : ℕ) → slice_index_or f.shares t 0 ≡ rows_with t f.rows
+  pub counted : AreTakenWhereShared f.shares f.pool

@@ -1,44 +1,57 @@
--- Laws of owning pages one after another: contents stay good, and nothing changes but pages.
-use Rattle.std.proofs.Common.{ℕ, zero, suc, ◌+◌, ◌-◌, ◌*◌, ◌/◌, ◌<◌, ◌≤◌, List, [], ◌∷◌, sym, subst, arith}
-use Rattle.std.specs.List.{All, range_with_len}
-use Rattle.std.proofs.lemmas.List.Elements.{All-nil, All-cons, All-head, All-tail, All-weaker}
+-- Laws of owning pages one after another: contents stay good, nothing changes but pages, and the pages are sole then.
+use Rattle.std.proofs.Common.{◌≡◌, ℕ, zero, suc, ◌+◌, ◌-◌, ◌*◌, ◌/◌, ◌%◌, ◌<◌, ◌≤◌, Bool, true, List, refl, ap, subst, ◌∙◌, inl, inr, arith}
+use Rattle.std.specs.List.{range_with_len}
+use Rattle.std.proofs.lemmas.Bool.{cases_eq}
 use Rattle.vm_base.specs.declared.limits.TheConstants.{PAGE}
-use Rattle.vm_model.specs.Contents.Content.{Content, pages_of, IsGood}
+use Rattle.vm_model.specs.Contents.Content.{Content, pages_of, sole, IsGood}
 use Rattle.vm_model.specs.Contents.Owning.{Owns, OwnsAll}
 use Rattle.vm_model.specs.Contents.Writing.{touched, touched_end}
 use Rattle.vm_model.proofs.OwningLaws.{Owned-from_Owns}
-use Rattle.vm_model.proofs.RangeLaws.{touched-row, touched-nil, touched_end_le, touched_below}
-use Rattle.vm_model.proofs.WritingLaws.{IsKept, IsKept-same, IsKept-trans}
+use Rattle.vm_model.proofs.RangeLaws.{touched-row, touched_end-is, touched_end_le, touched_below}
+use Rattle.vm_model.proofs.WritingLaws.{KeepsPages, row_keeps, touched_keeps}
 
--- a row of numbers lies below what its end does not pass
-pub All-row_below : (pages first n : ℕ) → first + n ≤ pages → All (λ p. p < pages) (range_with_len first n)
-All-row_below pages first zero h = All-nil (λ p. p < pages)
-All-row_below pages first (suc n) h =
-    All-cons (λ p. p < pages) first (range_with_len (first + 1) n) (omega arith) (All-row_below pages (first + 1) n (omega arith))
-
--- the pages that a range inside the VMO touches lie below its end
-pub touched-below : (offset len pages : ℕ) → offset + len ≤ pages * PAGE → All (λ p. p < pages) (touched offset len)
-touched-below offset zero pages h = subst (All (λ p. p < pages)) (sym (touched-nil offset)) (All-nil (λ p. p < pages))
-touched-below offset (suc len) pages h =
-    let some : 0 < suc len = omega arith in
-    subst (All (λ p. p < pages)) (sym (touched-row offset (suc len) some))
-    (All-row_below pages (offset / PAGE) (touched_end offset (suc len) - offset / PAGE)
-    (omega (arith, touched_end_le offset (suc len) pages h, touched_below offset (suc len) some)))
+-- page p of v is owned
+abbrev OwnsPage : ℕ → Content → ℕ → Content → Type 0
+OwnsPage v old p new = (tag : ℕ) × Owns old new v p tag
 
 -- a page below the count
-pub Owns-keeps : (old new : Content) (v p tag : ℕ) → IsGood old → p < pages_of old v → Owns old new v p tag → IsKept old new
-Owns-keeps old new v p tag good h owns =
-    let owned = Owned-from_Owns old new v p tag good h owns in
-    record { good = owned.good; frames = owned.frames; next = owned.next; count = owned.count; pages = owned.pages }
-
--- pages below the count
-pub OwnsAll-keeps : (v : ℕ) (ps : List ℕ) (old new : Content) → IsGood old → All (λ p. p < pages_of old v) ps → OwnsAll old v ps new → IsKept old new
-OwnsAll-keeps v [] old new good below owns = IsKept-same old new good owns
-OwnsAll-keeps v (p ∷ ps) old new good below owns =
-    let step = Owns-keeps old owns.0 v p owns.1 good (All-head (λ q. q < pages_of old v) p ps below) owns.2 in
-    let rest = All-weaker (λ q. q < pages_of old v) (λ q. q < pages_of owns.0 v) (λ q l. omega (arith, l, step.pages v)) ps (All-tail (λ q. q < pages_of old v) p ps below) in
-    IsKept-trans old owns.0 new step (OwnsAll-keeps v ps owns.0 new step.good rest owns.3)
+Owns-keeps : (test : ℕ → ℕ → Bool) (v lowest : ℕ) (old new : Content) (p : ℕ) → IsGood old → p < pages_of old v → lowest ≤ p → OwnsPage v old p new
+    → KeepsPages test old new
+Owns-keeps test v lowest old new p good h low owns =
+    let owned = Owned-from_Owns old new v p owns.0 good h owns.1 in
+    record {
+      kept = record { good = owned.good; frames = owned.frames; next = owned.next; count = owned.count; pages = owned.pages };
+      alone = λ w q passes was. owned.keeps w q was;
+    }
 
 -- all pages of a range inside the VMO
-pub OwnsAll-keeps_all : (v offset len : ℕ) (old new : Content) → IsGood old → offset + len ≤ pages_of old v * PAGE → OwnsAll old v (touched offset len) new → IsKept old new
-OwnsAll-keeps_all v offset len old new good h owns = OwnsAll-keeps v (touched offset len) old new good (touched-below offset len (pages_of old v) h) owns
+pub OwnsAll-keeps : (test : ℕ → ℕ → Bool) (v offset len : ℕ) (old new : Content) → IsGood old → offset + len ≤ pages_of old v * PAGE
+    → OwnsAll old v (touched offset len) new → KeepsPages test old new
+OwnsAll-keeps test v offset len old new good h owns =
+    touched_keeps test v 0 (OwnsPage v) (λ a ps b. OwnsAll a v ps b) (λ a b e. e) (λ a b p ps all. (all.0, (all.1, all.2), all.3)) (Owns-keeps test v 0)
+    offset len old new good (omega arith) h owns
+
+-- each of the pages in a row is sole then
+OwnsAll-alone : (v first n : ℕ) (old new : Content) → IsGood old → first + n ≤ pages_of old v → OwnsAll old v (range_with_len first n) new
+    → (p : ℕ) → first ≤ p → p < first + n → sole new v p ≡ true
+OwnsAll-alone v first zero old new good h owns p from less = absurd (omega arith)
+OwnsAll-alone v first (suc n) old new good h owns p from less =
+    let owned = Owned-from_Owns old owns.0 v first owns.1 good (omega arith) owns.2 in
+    let room : (first + 1) + n ≤ pages_of owns.0 v = omega (arith, owned.pages v) in
+    let every : ℕ → ℕ → Bool = λ w q. true in
+    let rest = row_keeps every v 0 (OwnsPage v) (λ a ps b. OwnsAll a v ps b) (λ a b e. e) (λ a b q ps all. (all.0, (all.1, all.2), all.3))
+    (Owns-keeps every v 0) (first + 1) n owns.0 new owned.good (omega arith) room owns.3 in
+    elim (cases_eq p first) [
+      | inl same ↦ ap (sole new v) same ∙ rest.alone v first refl owned.alone
+      | inr apart ↦ OwnsAll-alone v (first + 1) n owns.0 new owned.good room owns.3 p (omega arith) (omega arith)
+    ]
+
+-- so is each page of a range of whole pages inside the VMO
+pub OwnsAll-alone_pages : (v offset len : ℕ) (old new : Content) → IsGood old → offset + len ≤ pages_of old v * PAGE
+    → OwnsAll old v (touched offset len) new → (p : ℕ) → offset % PAGE ≡ 0 → len % PAGE ≡ 0 → offset / PAGE ≤ p → p < offset / PAGE + len / PAGE
+    → sole new v p ≡ true
+OwnsAll-alone_pages v offset len old new good h owns p begins whole from less =
+    let some : 0 < len = omega arith in
+    OwnsAll-alone v (offset / PAGE) (touched_end offset len - offset / PAGE) old new good
+    (omega (arith, touched_end_le offset len (pages_of old v) h, touched_below offset len some))
+    (subst (λ (ps : List ℕ). OwnsAll old v ps new) (touched-row offset len some) owns) p from (omega (arith, touched_end-is offset len))

@@ -18,9 +18,9 @@ use Rattle.vm_model.specs.Machine.State.{State, empty_state, is_open, target_of,
 use Rattle.vm_model.specs.Machine.Refusals.{lacks_frames, refusals, first_of}
 use Rattle.vm_model.specs.Machine.Step.{with_vmo, Effect, StepAfter, Step}
 use Rattle.vm_model.specs.Scripts.Run.{GivesAs, Gives, Run, lines_of}
-use Rattle.vm_model.proofs.ContentLaws.{page-hold_here, page-hold_other_page, bytes_of-none, bytes_of-some, in_use_found, sole-zero, used-nothing, used-created, IsGood-nothing, IsGood-created}
+use Rattle.vm_model.proofs.ContentLaws.{page-hold_here, page-hold_other, bytes_of-none, bytes_of-some, in_use_found, sole-zero, used_none, IsGood-nothing, IsGood-created}
 use Rattle.vm_model.proofs.OwningLaws.{Owned-from_Owns, need-row, unowned, unowned_le}
-use Rattle.vm_model.proofs.WritingLaws.{Writes-keeps_all}
+use Rattle.vm_model.proofs.WritingLaws.{Writes-keeps}
 use Rattle.vm_model.proofs.NamesLaws.{target_of-same}
 use Rattle.vm_model.specs.declared.names.Origin.TheVariants.{Created}
 use Rattle.vm_model.specs.declared.command.Command.{Command}
@@ -106,7 +106,7 @@ unfolding target_of with_key empty_state nothing
 made-target = refl
 
 made-pages : pages_of made.content 1 ≡ 2
-unfolding pages_of created empty_state nothing
+unfolding pages_of created empty_state nothing with_key
 made-pages = refl
 
 made-open : is_open made 1 ≡ true
@@ -122,8 +122,7 @@ unfolding empty_state
 made-good = IsGood-created start.content 2 (IsGood-nothing 1024) (omega arith)
 
 made-used : used made.content ≡ 0
-unfolding empty_state
-made-used = used-created start.content 2 (IsGood-nothing 1024) (omega arith) ∙ used-nothing 1024
+made-used = used_none made.content made-page
 
 made-frames : made.content.frames ≡ 1024
 unfolding created empty_state
@@ -186,12 +185,12 @@ IsWritten-from_effect reply s effect =
     let is : s.content ≡ hold piece_.owned 1 0 page = w.2 ∙ piece_.bytes in
     let other : ◌≢◌ {A = ℕ} 1 0 = omega arith in
     let inside : 4094 + 2 ≤ pages_of made.content 1 * PAGE = omega (arith, made-pages) in
-    let kept = Writes-keeps_all 1 4094 marks made.content s.content made-good inside whole in
+    let kept = (Writes-keeps (λ w q. true) 1 4094 marks made.content s.content made-good inside whole).kept in
     record {
       names = ap (λ (t : State). t.names) effect.1;
       pages = kept.pages 1 ∙ made-pages;
       first = ap (λ (c : Content). shown c 1 0) is ∙ (bytes_of-some ((hold piece_.owned 1 0 page).page 1 0) page (page-hold_here piece_.owned 1 0 page) ∙ ap (λ (xs : List ℕ). replaced xs 4094 marks) was);
-      second = ap (λ (c : Content). shown c 1 1) is ∙ bytes_of-none ((hold piece_.owned 1 0 page).page 1 1) (page-hold_other_page piece_.owned 1 0 page 1 1 other ∙ (owned.other_page 1 other ∙ made-page 1 1));
+      second = ap (λ (c : Content). shown c 1 1) is ∙ bytes_of-none ((hold piece_.owned 1 0 page).page 1 1) (page-hold_other piece_.owned 1 0 page 1 1 (λ same. other) ∙ (owned.other_page 1 other ∙ made-page 1 1));
     }
 
 -- the values at the end of the first page and at the front of the second

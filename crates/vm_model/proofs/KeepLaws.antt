@@ -5,7 +5,7 @@ use Rattle.std.proofs.lemmas.Bool.{cases_eq, cases_lt, both_ways}
 use Rattle.std.proofs.Math.Nat.{min-le_left}
 use Rattle.vm_base.specs.declared.limits.TheConstants.{PAGE, VMO_PAGES, NAMES, PIN_PAGES}
 use Rattle.vm_model.specs.declared.names.Origin.TheVariants.{Created, Snapshot}
-use Rattle.vm_model.specs.Contents.Content.{Content, created, pages_of, sole, IsGood}
+use Rattle.vm_model.specs.Contents.Content.{Content, created, pages_of, IsGood}
 use Rattle.vm_model.specs.Contents.Owning.{OwnsAll}
 use Rattle.vm_model.specs.Contents.Sharing.{snapshotted}
 use Rattle.vm_model.specs.Contents.Writing.{touched, pieces, Writes}
@@ -17,13 +17,13 @@ use Rattle.vm_model.specs.Naming.Pins.{Pin, has_pin, is_pinned, any_pinned}
 use Rattle.vm_model.specs.Machine.State.{State, is_open, is_live, target_of, lineage_of, name_pages, IsGoodName, IsGoodPin, IsGoodState}
 use Rattle.vm_model.specs.Machine.Leaving.{pruned}
 use Rattle.vm_model.specs.Machine.Step.{with_vmo, seen_pages, with_snapshot, slice_of, reference_of, with_alias, ChangesContent}
-use Rattle.vm_model.proofs.ContentLaws.{count-created_new, count-created_other, next-created, frames-created, IsGood-created, sole_held}
-use Rattle.vm_model.proofs.SharingLaws.{count-snapshotted_new, count-snapshotted_other, next-snapshotted, frames-snapshotted, IsGood-snapshotted, koid_some}
-use Rattle.vm_model.proofs.ZeroingLaws.{cases_within, frames-resized, next-resized, count-resized_here, count-resized_other, pages_of-resized_here, IsGood-resized}
-use Rattle.vm_model.proofs.WritingLaws.{IsKept, Writes-keeps_all}
-use Rattle.vm_model.proofs.CommitLaws.{OwnsAll-keeps_all}
-use Rattle.vm_model.proofs.ZeroesLaws.{zeroed-keeps, Zeroes-keeps_all}
-use Rattle.vm_model.proofs.SoleLaws.{KeepsSole, KeepsSole-Writes_all, KeepsSole-OwnsAll_all, KeepsSole-Zeroes, OwnsAll-alone_pages, sole-created_kept, sole-snapshotted_kept, sole-zeroed_kept, sole-resized_kept}
+use Rattle.vm_model.proofs.ContentLaws.{pages_of-at, IsGood-created, sole_held}
+use Rattle.vm_model.proofs.SharingLaws.{IsGood-snapshotted, koid_some}
+use Rattle.vm_model.proofs.ZeroingLaws.{cases_zeroed, count-resized_here, count-resized_other, IsGood-resized}
+use Rattle.vm_model.proofs.WritingLaws.{KeepsPages, Writes-keeps}
+use Rattle.vm_model.proofs.CommitLaws.{OwnsAll-keeps, OwnsAll-alone_pages}
+use Rattle.vm_model.proofs.ZeroesLaws.{zeroed-keeps, Zeroes-keeps}
+use Rattle.vm_model.proofs.SoleLaws.{KeepsSole, sole-created_kept, sole-snapshotted_kept, sole-zeroed_kept, sole-resized_kept}
 use Rattle.vm_base.proofs.EntryLaws.{with_key-same, with_key-other, with_key-cases, any_entry-with_key_kept, any_entry-with_key_new}
 use Rattle.vm_model.proofs.NamesLaws.{names-open, lineage_of-at, lineage_of-same}
 use Rattle.vm_model.proofs.PinLaws.{is_pinned_of, is_pinned-has_pin, any_pinned_at}
@@ -62,15 +62,7 @@ IsGoodName-kept old new target count lineage good =
 
 -- ---- what keeps pins good
 
--- each page that is pinned and sole is sole afterwards
-pub record KeepsPinned (pins : ℕ → Option Pin) (old new : Content) : Type 0 where
-  pub keeps : (w q : ℕ) → is_pinned pins w q ≡ true → sole old w q ≡ true → sole new w q ≡ true
-
--- it is, where each sole page stays so
-pub KeepsPinned-from : (pins : ℕ → Option Pin) (old new : Content) → KeepsSole old new → KeepsPinned pins old new
-KeepsPinned-from pins old new all = record { keeps = λ w q pinned alone. all.keeps w q alone }
-
-module _ (old new : State) (good : IsGoodState old) (kept : KeepsPinned old.pins old.content new.content) where
+module _ (old new : State) (good : IsGoodState old) (kept : KeepsSole (is_pinned old.pins) old.content new.content) where
   -- a pin stays good where its pages are still pages of its VMO
   pub IsGoodPin-inside : (n : ℕ) (pin : Pin) → old.pins n ≡ Some pin → IsSome (new.content.count pin.koid) → pin.first + pin.count ≤ pages_of new.content pin.koid → (n < NAMES) × IsGoodPin new pin
   IsGoodPin-inside n pin e vmo inside =
@@ -80,7 +72,7 @@ module _ (old new : State) (good : IsGoodState old) (kept : KeepsPinned old.pins
           vmo = vmo;
           few = was.1.few;
           inside = inside;
-          alone = λ p low high. kept.keeps pin.koid p (is_pinned_of old.pins n p pin was.0 e low high) (was.1.alone p low high);
+          alone = λ p low high. kept pin.koid p (is_pinned_of old.pins n p pin was.0 e low high) (was.1.alone p low high);
         },
       )
 
@@ -97,7 +89,7 @@ module _ (old new : State) (good : IsGoodState old) (kept : KeepsPinned old.pins
 -- A name that is not open, given to a VMO that is new. The parent of the VMO, where it has one, is a VMO
 pub enter_keeps : (old : State) (c : Content) (name pages : ℕ) (may_write : Bool) (l : Lineage) → IsGoodState old → name < NAMES → is_open old name ≡ false
     → IsGood c → c.count old.content.next ≡ Some pages → ((v : ℕ) → v ≢ old.content.next → c.count v ≡ old.content.count v)
-    → c.next ≡ old.content.next + 1 → c.frames ≡ old.content.frames → KeepsPinned old.pins old.content c → ((p : ℕ) → l.parent ≡ Some p → IsSome (old.lineage p))
+    → c.next ≡ old.content.next + 1 → c.frames ≡ old.content.frames → KeepsSole (is_pinned old.pins) old.content c → ((p : ℕ) → l.parent ≡ Some p → IsSome (old.lineage p))
     → Keeps old (record old { content = c; names = with_key old.names name (owner old.content.next may_write l.resizable); lineage = with_key old.lineage old.content.next l })
 enter_keeps old c name pages may_write l good h closed fine new_count other_count next frames pinned parent =
     let koid = old.content.next in
@@ -153,12 +145,12 @@ enter_keeps old c name pages may_write l good h closed fine new_count other_coun
 
 -- a new VMO, under a name that is not open
 pub create_keeps : (old : State) (name pages : ℕ) (resizable : Bool) → IsGoodState old → name < NAMES → is_open old name ≡ false → pages ≤ VMO_PAGES → Keeps old (with_vmo old name pages resizable)
-unfolding with_vmo
+unfolding with_vmo created
 create_keeps old name pages resizable good h closed few =
     let c = old.content in
     enter_keeps old (created c pages) name pages true (record { resizable = resizable; origin = Created; parent = None }) good h closed
-    (IsGood-created c pages good.content few) (count-created_new c pages) (λ v apart. count-created_other c pages v apart) (next-created c pages) (frames-created c pages)
-    (record { keeps = λ w q pinned alone. sole-created_kept c pages w q good.content alone }) (λ p e. absurd cc)
+    (IsGood-created c pages good.content few) (with_key-same c.count c.next pages) (λ v apart. with_key-other c.count c.next pages v apart) refl refl
+    (λ w q pinned alone. sole-created_kept c pages w q good.content alone) (λ p e. absurd cc)
 
 -- a snapshot sees no more pages than it has
 pub seen_le : (c : Content) (target : Target) (start pages : ℕ) → seen_pages c target start pages ≤ pages
@@ -166,7 +158,7 @@ seen_le c target start pages = min-le_left pages (name_pages c target - start)
 
 -- a snapshot of what a name stands for, under a name that is not open. No pin is of the VMO of which it is one
 pub snapshot_keeps : (old : State) (name : ℕ) (target : Target) (start pages : ℕ) (resizable no_write : Bool) → IsGoodState old → name < NAMES → is_open old name ≡ false → IsSome (old.content.count target.koid.0) → has_pin old.pins target.koid.0 ≡ false → pages ≤ VMO_PAGES → Keeps old (with_snapshot old name target start pages resizable no_write)
-unfolding with_snapshot
+unfolding with_snapshot snapshotted with_key
 snapshot_keeps old name target start pages resizable no_write good h closed vmo free few =
     let c = old.content in
     let first = target.first + start in
@@ -176,9 +168,8 @@ snapshot_keeps old name target start pages resizable no_write good h closed vmo 
     both_ways (has_pin old.pins target.koid.0) free (ap (has_pin old.pins) (sym same) ∙ is_pinned-has_pin old.pins w q pinned) in
     enter_keeps old (snapshotted c target.koid.0 first seen pages) name pages (not no_write) l good h closed
     (IsGood-snapshotted c target.koid.0 first seen pages good.content (seen_le c target start pages) few)
-    (count-snapshotted_new c target.koid.0 first seen pages) (λ v apart. count-snapshotted_other c target.koid.0 first seen pages v apart)
-    (next-snapshotted c target.koid.0 first seen pages) (frames-snapshotted c target.koid.0 first seen pages)
-    (record { keeps = λ w q pinned alone. sole-snapshotted_kept c target.koid.0 first seen pages w q good.content (elsewhere w q pinned) alone })
+    (with_key-same c.count c.next pages) (λ v apart. with_key-other c.count c.next pages v apart) refl refl
+    (λ w q pinned alone. sole-snapshotted_kept c target.koid.0 first seen pages w q good.content (elsewhere w q pinned) alone)
     (λ p e. let is : target.koid.0 ≡ p = cc in subst (λ (v : ℕ). IsSome (old.lineage v)) is (lineage_at old target.koid.0 good vmo))
 
 -- ---- a name more
@@ -198,7 +189,7 @@ alias_keeps old name target good h closed fine =
         known = good.known;
         live = λ v e. live_kept old state v (λ named. any_entry-with_key_kept NAMES (is_of v) old.names name target closed named) (λ has. has) (good.live v e);
         parents = good.parents;
-        pins = λ n pin e. IsGoodPin-kept old state good (record { keeps = λ w q pinned alone. alone }) n pin e refl;
+        pins = λ n pin e. IsGoodPin-kept old state good (λ w q pinned alone. alone) n pin e refl;
       };
       next = omega arith;
       frames = refl;
@@ -248,8 +239,8 @@ unpin_keeps old name pin good there = loose_keeps old (unpinned old name) pin.ko
 -- ---- other pages of the same VMOs
 
 -- a content with the same VMOs, under the same names
-pub kept_keeps : (old new : State) → IsGoodState old → new.names ≡ old.names → new.lineage ≡ old.lineage → new.pins ≡ old.pins → IsKept old.content new.content → KeepsPinned old.pins old.content new.content → Keeps old new
-kept_keeps old new good names lineage pins kept pinned = record {
+pub kept_keeps : (old new : State) → IsGoodState old → new.names ≡ old.names → new.lineage ≡ old.lineage → new.pins ≡ old.pins → KeepsPages (is_pinned old.pins) old.content new.content → Keeps old new
+kept_keeps old new good names lineage pins keeps = let kept = keeps.kept in record {
   good = record {
     content = kept.good;
     names = λ n target e. let was = good.names n target (ap (λ (f : ℕ → Option Target). f n) (sym names) ∙ e) in (was.0, IsGoodName-kept old new target kept.count lineage was.1);
@@ -260,49 +251,42 @@ kept_keeps old new good names lineage pins kept pinned = record {
     parents = λ v p l e f.
         let was = good.parents v p l (ap (λ (g : ℕ → Option Lineage). g v) (sym lineage) ∙ e) f in
         (was.0, ap (λ (g : ℕ → Option Lineage). is_some (g p)) lineage ∙ was.1);
-    pins = λ n pin e. IsGoodPin-kept old new good pinned n pin (ap (λ (f : ℕ → Option Pin). f n) (sym pins) ∙ e) (ap (λ (f : ℕ → Option ℕ). f pin.koid) kept.count);
+    pins = λ n pin e. IsGoodPin-kept old new good keeps.alone n pin (ap (λ (f : ℕ → Option Pin). f n) (sym pins) ∙ e) (ap (λ (f : ℕ → Option ℕ). f pin.koid) kept.count);
   };
   next = omega (arith, kept.next);
   frames = kept.frames;
 }
 
 -- the same, where nothing but the content changes
-pub change_keeps : (old new : State) → IsGoodState old → ChangesContent old new → IsKept old.content new.content → KeepsPinned old.pins old.content new.content → Keeps old new
-change_keeps old new good change kept pinned =
-    kept_keeps old new good (ap (λ (s : State). s.names) change) (ap (λ (s : State). s.lineage) change) (ap (λ (s : State). s.pins) change) kept pinned
+pub change_keeps : (old new : State) → IsGoodState old → ChangesContent old new → KeepsPages (is_pinned old.pins) old.content new.content → Keeps old new
+change_keeps old new good change keeps =
+    kept_keeps old new good (ap (λ (s : State). s.names) change) (ap (λ (s : State). s.lineage) change) (ap (λ (s : State). s.pins) change) keeps
 
 -- pages written inside a VMO
 pub write_keeps : (old new : State) (v offset : ℕ) (bytes : List ℕ) → IsGoodState old → offset + length bytes ≤ pages_of old.content v * PAGE → ChangesContent old new → Writes old.content (pieces v offset bytes) new.content → Keeps old new
 write_keeps old new v offset bytes good h change writes =
-    change_keeps old new good change (Writes-keeps_all v offset bytes old.content new.content good.content h writes)
-    (KeepsPinned-from old.pins old.content new.content (KeepsSole-Writes_all v offset bytes old.content new.content good.content h writes))
+    change_keeps old new good change (Writes-keeps (is_pinned old.pins) v offset bytes old.content new.content good.content h writes)
 
 -- pages owned inside a VMO
 pub commit_keeps : (old new : State) (v offset len : ℕ) → IsGoodState old → offset + len ≤ pages_of old.content v * PAGE → ChangesContent old new → OwnsAll old.content v (touched offset len) new.content → Keeps old new
 commit_keeps old new v offset len good h change owns =
-    change_keeps old new good change (OwnsAll-keeps_all v offset len old.content new.content good.content h owns)
-    (KeepsPinned-from old.pins old.content new.content (KeepsSole-OwnsAll_all v offset len old.content new.content good.content h owns))
+    change_keeps old new good change (OwnsAll-keeps (is_pinned old.pins) v offset len old.content new.content good.content h owns)
 
 -- a range zeroed inside a VMO, of which no pinned page becomes zero as a whole
 pub zero_range_keeps : (old new : State) (v offset len : ℕ) → IsGoodState old → offset + len ≤ pages_of old.content v * PAGE → ChangesContent old new → Zeroes old.content v (is_pinned old.pins v) offset len (touched offset len) new.content → Keeps old new
 zero_range_keeps old new v offset len good h change zeroes =
-    change_keeps old new good change (Zeroes-keeps_all v (is_pinned old.pins v) offset len old.content new.content good.content h zeroes) (record {
-      keeps = λ w q pinned alone.
-          KeepsSole-Zeroes v (is_pinned old.pins v) offset len old.content new.content good.content h zeroes w q alone
-          (λ same. ap (λ (u : ℕ). is_pinned old.pins u q) (sym same) ∙ pinned);
-    })
+    change_keeps old new good change (Zeroes-keeps (is_pinned old.pins) v offset len old.content new.content good.content h zeroes)
 
 -- pages that become zero, none of them pinned
 pub zero_keeps : (old : State) (v first end : ℕ) → IsGoodState old → any_pinned old.pins v first end ≡ false → Keeps old (record old { content = zeroed old.content v first end })
 zero_keeps old v first end good free =
-    change_keeps old (record old { content = zeroed old.content v first end }) good refl (zeroed-keeps old.content v first end good.content) (record {
-      keeps = λ w q pinned alone. sole-zeroed_kept old.content v first end w q good.content alone (elim (cases_eq w v) [
-        | inr apart ↦ inl apart
-        | inl same ↦ elim (cases_within first end q) [
-          | inr outside ↦ inr outside
-          | inl inside ↦
-              absurd (both_ways (any_pinned old.pins v first end) free (any_pinned_at old.pins v first end q inside.0 inside.1 (ap (λ (u : ℕ). is_pinned old.pins u q) (sym same) ∙ pinned)))
-        ]
+    change_keeps old (record old { content = zeroed old.content v first end }) good refl (record {
+      kept = zeroed-keeps old.content v first end good.content;
+      alone = λ w q pinned alone. sole-zeroed_kept old.content v first end w q good.content alone (elim (cases_zeroed v first end w q) [
+        | inr out ↦ out
+        | inl inside ↦
+            let here = ap (λ (u : ℕ). is_pinned old.pins u q) (sym inside.0) ∙ pinned in
+            absurd (both_ways (any_pinned old.pins v first end) free (any_pinned_at old.pins v first end q inside.1 inside.2 here))
       ]);
     })
 
@@ -333,7 +317,7 @@ pub pin_keeps : (old new : State) (n v offset len : ℕ) → IsGoodState old →
 pin_keeps old new n v offset len good h free vmo begins whole some few inside is owns =
     let pin : Pin = record { koid = v; first = offset / PAGE; count = len / PAGE } in
     let owned : State = record old { content = new.content } in
-    let kept = OwnsAll-keeps_all v offset len old.content new.content good.content inside owns in
+    let kept = (OwnsAll-keeps (is_pinned old.pins) v offset len old.content new.content good.content inside owns).kept in
     let then_good = (commit_keeps old owned v offset len good inside refl owns).good in
     let fine : IsGoodPin owned pin = record {
       vmo = ap (λ (f : ℕ → Option ℕ). is_some (f v)) kept.count ∙ vmo;
@@ -362,6 +346,7 @@ pinned_below s v pages p good free inside pinned = elim (cases_lt p pages) [
 
 -- So a VMO of which a name may change its size takes any size that a VMO can have, where no page past the new end is pinned
 pub resize_keeps : (old : State) (name : ℕ) (target : Target) (pages : ℕ) → IsGoodState old → old.names name ≡ Some target → target.may_resize ≡ true → pages ≤ VMO_PAGES → any_pinned old.pins target.koid.0 pages (pages_of old.content target.koid.0) ≡ false → Keeps old (record old { content = resized old.content target.koid.0 pages })
+unfolding resized zeroed
 resize_keeps old name target pages good open_name may few free =
     let c = old.content in
     let v = target.koid.0 in
@@ -370,12 +355,10 @@ resize_keeps old name target pages good open_name may few free =
     let counted : IsSome (state.content.count v) = ap is_some (count-resized_here c v pages) in
     let lineage : (w : ℕ) → (lineage_of state w).resizable ≡ (lineage_of old w).resizable = λ w. ap (λ (l : Lineage). l.resizable) (lineage_of-same state old w refl) in
     let below : (q : ℕ) → q < pages_of c v → is_pinned old.pins v q ≡ true → q < pages = λ q inside pinned. pinned_below old v pages q good free inside pinned in
-    let kept : KeepsPinned old.pins c state.content = record {
-      keeps = λ w q pinned alone.
-          let held = sole_held c w q alone in
-          sole-resized_kept c v pages w q good.content
-          (λ same. below q (subst (λ (u : ℕ). q < pages_of c u) same (good.content.below w q held.0 held.1)) (ap (λ (u : ℕ). is_pinned old.pins u q) (sym same) ∙ pinned)) alone;
-    } in
+    let kept : KeepsSole (is_pinned old.pins) c state.content = λ w q pinned alone.
+    let held = sole_held c w q alone in
+    sole-resized_kept c v pages w q good.content
+    (λ same. below q (subst (λ (u : ℕ). q < pages_of c u) same (good.content.below w q held.0 held.1)) (ap (λ (u : ℕ). is_pinned old.pins u q) (sym same) ∙ pinned)) alone in
     record {
       good = record {
         content = IsGood-resized c v pages good.content fine.vmo few;
@@ -412,9 +395,9 @@ resize_keeps old name target pages good open_name may few free =
               subst (λ (u : ℕ). is_pinned old.pins u last ≡ true) same (is_pinned_of old.pins n last pin was.0 e (omega (arith, was.1.few.0)) (omega (arith, was.1.few.0))) in
               let room = below last inside pinned in
               IsGoodPin-inside old state good kept n pin e (subst (λ (w : ℕ). IsSome (state.content.count w)) (sym same) counted)
-              (omega (arith, was.1.few.0, room, ap (pages_of state.content) same, pages_of-resized_here c v pages))
+              (omega (arith, was.1.few.0, room, ap (pages_of state.content) same, pages_of-at state.content v pages (count-resized_here c v pages)))
         ];
       };
-      next = omega (arith, next-resized c v pages);
-      frames = frames-resized c v pages;
+      next = omega arith;
+      frames = refl;
     }

@@ -17,7 +17,7 @@ use Rattle.vm_model.specs.Machine.Leaving.{first_live, lineage_left, pruned}
 use Rattle.vm_base.proofs.SearchLaws.{eqb_apart}
 use Rattle.vm_base.proofs.EntryLaws.{without_key-some, some_is, none_is, any_entry_none, any_entry-without_key_other}
 use Rattle.vm_model.proofs.NamesLaws.{lineage_of-at, lineage-known, lineage_of-same, parent_without-none, parent_without-same, parent_without-other, left_by, lineage_without-same, lineage_without-other, lineage_without-at, lineage_without-some, is_some-lineage_without}
-use Rattle.vm_model.proofs.SharingLaws.{IsGood-only, frames-only, next-only, count-without_here, count-without_other}
+use Rattle.vm_model.proofs.SharingLaws.{IsGood-only, count-without_here, count-without_other}
 use Rattle.vm_model.proofs.SoleLaws.{sole-only_kept}
 use Rattle.vm_model.proofs.LiveLaws.{is_live_none, is_live-same}
 
@@ -410,9 +410,9 @@ Loosens-unpinned s n pin good e = record {
 -- ---- what a state without the VMOs that left has as before
 
 pub next-pruned : (s : State) → (pruned s).content.next ≡ s.content.next
-unfolding pruned
-next-pruned s = next-only s.content (is_live s)
+unfolding pruned only
+next-pruned s = refl
 
 pub frames-pruned : (s : State) → (pruned s).content.frames ≡ s.content.frames
-unfolding pruned
-frames-pruned s = frames-only s.content (is_live s)
+unfolding pruned only
+frames-pruned s = refl

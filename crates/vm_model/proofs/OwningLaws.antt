@@ -6,7 +6,8 @@ use Rattle.vm_base.specs.declared.limits.TheConstants.{PAGE}
 use Rattle.vm_model.specs.Contents.Content.{Page, Content, shown, pages_of, used, sole, hold, IsGood}
 use Rattle.vm_model.specs.Contents.Owning.{Owns, pages_at, need_from, need}
 use Rattle.vm_base.proofs.SearchLaws.{bit_le, bit_same, bit-false}
-use Rattle.vm_model.proofs.ContentLaws.{frames-hold, next-hold, count-hold, pages_of-hold, page-hold_here, page-hold_other_page, page-hold_other_vmo, sole_held, sole-hold_new, sole-hold_elsewhere, IsGood-hold_new, used-hold_new, bytes_of-some, bytes_of-none}
+use Rattle.vm_model.proofs.ContentLaws.{page-hold_here, page-hold_other, sole_held, sole-hold_new, sole-hold_elsewhere, IsGood-hold_new, used-hold_new, bytes_of-some, bytes_of-none}
+use Rattle.vm_model.proofs.SoleLaws.{sole-hold_keeps}
 use Rattle.vm_base.proofs.PageLaws.{length-zeros}
 
 -- the bytes that a page of a good content shows are a page
@@ -29,18 +30,17 @@ pub record Owned (old new : Content) (v p tag : ℕ) : Type 0 where
   pub other_vmo : (w q : ℕ) → w ≢ v → new.page w q ≡ old.page w q
   pub other_sole : (q : ℕ) → q ≢ p → sole new v q ≡ sole old v q
   pub used : used new ≡ cond (sole old v p) (used old) (used old + 1)
+  pub keeps : (w q : ℕ) → sole old w q ≡ true → sole new w q ≡ true
 
 pub Owned-from_Owns : (old new : Content) (v p tag : ℕ) → IsGood old → p < pages_of old v → Owns old new v p tag → Owned old new v p tag
+unfolding hold pages_of
 Owned-from_Owns old new v p tag good h owns = elim (cases_Bool (sole old v p)) [
   | inl alone ↦
       let stays = owns.stays alone in
       let held = sole_held old v p alone in
-      let whole : old.page v p ≡ Some (record { tag = tag; bytes = shown old v p }) =
-      held.1 ∙ ap (λ (page : Page). Some page) (λ i. record { tag = sym (stays.1 held.0 held.1) i; bytes = sym (bytes_of-some (old.page v p) held.0 held.1) i }) in
-      let counted : used old ≡ cond (sole old v p) (used old) (used old + 1) = ap (λ b. cond b (used old) (used old + 1)) (sym alone) in
       subst (λ (c : Content). Owned old c v p tag) (sym stays.0) (record {
         good = good;
-        held = whole;
+        held = held.1 ∙ (λ i. Some (record { tag = sym (stays.1 held.0 held.1) i; bytes = sym (bytes_of-some (old.page v p) held.0 held.1) i }));
         alone = alone;
         frames = refl;
         next = refl;
@@ -49,25 +49,26 @@ Owned-from_Owns old new v p tag good h owns = elim (cases_Bool (sole old v p)) [
         other_page = λ q apart. refl;
         other_vmo = λ w q apart. refl;
         other_sole = λ q apart. refl;
-        used = counted;
+        used = ap (λ b. cond b (used old) (used old + 1)) (sym alone);
+        keeps = λ w q was. was;
       })
   | inr shared ↦
       let copies = owns.copies shared in
       let page : Page = record { tag = tag; bytes = shown old v p } in
-      let counted : used (hold old v p page) ≡ cond (sole old v p) (used old) (used old + 1) =
-      used-hold_new old v p page good h shared copies.0 copies.1 (length-shown old v p good) ∙ ap (λ b. cond b (used old) (used old + 1)) (sym shared) in
+      let whole = length-shown old v p good in
       subst (λ (c : Content). Owned old c v p tag) (sym copies.2) (record {
-        good = IsGood-hold_new old v p page good h copies.0 copies.1 (length-shown old v p good);
+        good = IsGood-hold_new old v p page good h copies.0 copies.1 whole;
         held = page-hold_here old v p page;
         alone = sole-hold_new old v p page good copies.1;
-        frames = frames-hold old v p page;
-        next = next-hold old v p page;
-        count = count-hold old v p page;
-        pages = pages_of-hold old v p page;
-        other_page = λ q apart. page-hold_other_page old v p page v q apart;
-        other_vmo = λ w q apart. page-hold_other_vmo old v p page w q apart;
+        frames = refl;
+        next = refl;
+        count = refl;
+        pages = λ w. refl;
+        other_page = λ q apart. page-hold_other old v p page v q (λ vmo. apart);
+        other_vmo = λ w q apart. page-hold_other old v p page w q (λ vmo here. apart vmo);
         other_sole = λ q apart. sole-hold_elsewhere old v p q page apart;
-        used = counted;
+        used = used-hold_new old v p page good h shared copies.0 copies.1 whole ∙ ap (λ b. cond b (used old) (used old + 1)) (sym shared);
+        keeps = λ w q was. sole-hold_keeps old v p page w q good (inl copies.1) was;
       })
 ]
 

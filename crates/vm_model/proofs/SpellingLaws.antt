@@ -207,101 +207,11 @@ region_range make name addr len h = (
 abbrev IsReadBack : Command → Type 0
 IsReadBack c = reading (spelling c) ≡ Order c
 
-VmoCreate-read : (name : VmoName) (size : ℕ) (resizable : Bool) → HasRanges (VmoCreate name size resizable) → IsReadBack (VmoCreate name size resizable)
-unfolding command_words command
-VmoCreate-read name size resizable h =
-    reading-spelling (VmoCreate name size resizable) (codes "vmo_create") refl
-    (vmo_field name h.0 (number_field size h.1 (size_flags-fields resizable))) (omega arith) refl
-    (rw (vmo-vmo_word name h.0, number-decimal size h.1) (size_flags-read name size resizable))
-
-VmoChild-read : (name parent : VmoName) (kind : ChildKind) (offset size : ℕ) (resizable no_write : Bool)
-    → HasRanges (VmoChild name parent kind offset size resizable no_write) → IsReadBack (VmoChild name parent kind offset size resizable no_write)
-unfolding command_words command
-VmoChild-read name parent kind offset size resizable no_write h =
-    reading-spelling (VmoChild name parent kind offset size resizable no_write) (codes "vmo_create_child") refl
-    (vmo_field name h.0 (vmo_field parent h.1 (kind_field kind (number_field offset h.2 (number_field size h.3 (child_flags-fields resizable no_write)))))) (omega arith) refl
-    (rw (vmo-vmo_word name h.0, vmo-vmo_word parent h.1, child_kind-kind_word kind, number-decimal offset h.2, number-decimal size h.3)
-    (child_flags-read name parent kind offset size resizable no_write))
-
-VmoClose-read : (name : VmoName) → name.0 < 2 ^ 32 → IsReadBack (VmoClose name)
-unfolding command_words command
-VmoClose-read name h = let r = vmo_only VmoClose name h in reading-spelling (VmoClose name) (codes "vmo_close") refl r.0 (omega arith) refl r.1
-
-VmoSize-read : (name : VmoName) → name.0 < 2 ^ 32 → IsReadBack (VmoSize name)
-unfolding command_words command
-VmoSize-read name h = let r = vmo_only VmoSize name h in reading-spelling (VmoSize name) (codes "vmo_size") refl r.0 (omega arith) refl r.1
-
-VmoSetSize-read : (name : VmoName) (size : ℕ) → HasRanges (VmoSetSize name size) → IsReadBack (VmoSetSize name size)
-unfolding command_words command
-VmoSetSize-read name size h =
-    reading-spelling (VmoSetSize name size) (codes "vmo_set_size") refl (vmo_field name h.0 (number_field size h.1 no_field)) (omega arith) refl
-    (rw (vmo-vmo_word name h.0, number-decimal size h.1) refl)
-
-VmoRead-read : (name : VmoName) (offset len : ℕ) → HasRanges (VmoRead name offset len) → IsReadBack (VmoRead name offset len)
-unfolding command_words command
-VmoRead-read name offset len h = let r = vmo_range VmoRead name offset len h in reading-spelling (VmoRead name offset len) (codes "vmo_read") refl r.0 (omega arith) refl r.1
-
-VmoWrite-read : (name : VmoName) (offset : ℕ) (bytes : List ℕ) → HasRanges (VmoWrite name offset bytes) → IsReadBack (VmoWrite name offset bytes)
-unfolding command_words command
-VmoWrite-read name offset bytes h =
-    reading-spelling (VmoWrite name offset bytes) (codes "vmo_write") refl
-    (vmo_field name h.0 (number_field offset h.1 (data_field bytes h.2 no_field))) (omega arith) refl
-    (rw (vmo-vmo_word name h.0, number-decimal offset h.1, byte_data-data_text bytes h.2.0 (IsBytes-from_All bytes h.2.1)) refl)
-
-VmoFill-read : (name : VmoName) (offset len value : ℕ) → HasRanges (VmoFill name offset len value) → IsReadBack (VmoFill name offset len value)
-unfolding command_words command
-VmoFill-read name offset len value h =
-    reading-spelling (VmoFill name offset len value) (codes "vmo_fill") refl
-    (vmo_field name h.0 (number_field offset h.1 (number_field len h.2 (number_field value (omega arith) no_field)))) (omega arith) refl
-    (rw (vmo-vmo_word name h.0, number-decimal offset h.1, number-decimal len h.2, byte-decimal value h.3) refl)
-
-VmoCommit-read : (name : VmoName) (offset len : ℕ) → HasRanges (VmoCommit name offset len) → IsReadBack (VmoCommit name offset len)
-unfolding command_words command
-VmoCommit-read name offset len h = let r = vmo_range VmoCommit name offset len h in reading-spelling (VmoCommit name offset len) (codes "vmo_commit") refl r.0 (omega arith) refl r.1
-
-VmoDecommit-read : (name : VmoName) (offset len : ℕ) → HasRanges (VmoDecommit name offset len) → IsReadBack (VmoDecommit name offset len)
-unfolding command_words command
-VmoDecommit-read name offset len h = let r = vmo_range VmoDecommit name offset len h in reading-spelling (VmoDecommit name offset len) (codes "vmo_decommit") refl r.0 (omega arith) refl r.1
-
-VmoZero-read : (name : VmoName) (offset len : ℕ) → HasRanges (VmoZero name offset len) → IsReadBack (VmoZero name offset len)
-unfolding command_words command
-VmoZero-read name offset len h = let r = vmo_range VmoZero name offset len h in reading-spelling (VmoZero name offset len) (codes "vmo_zero") refl r.0 (omega arith) refl r.1
-
-VmoPin-read : (token : PinName) (name : VmoName) (offset len : ℕ) → HasRanges (VmoPin token name offset len) → IsReadBack (VmoPin token name offset len)
-unfolding command_words command
-VmoPin-read token name offset len h =
-    reading-spelling (VmoPin token name offset len) (codes "vmo_pin") refl
-    (pin_field token h.0 (vmo_field name h.1 (number_field offset h.2 (number_field len h.3 no_field)))) (omega arith) refl
-    (rw (pin-pin_word token h.0, vmo-vmo_word name h.1, number-decimal offset h.2, number-decimal len h.3) refl)
-
-VmoUnpin-read : (token : PinName) → token.0 < 2 ^ 32 → IsReadBack (VmoUnpin token)
-unfolding command_words command
-VmoUnpin-read token h =
-    reading-spelling (VmoUnpin token) (codes "vmo_unpin") refl (pin_field token h no_field) (omega arith) refl (rw (pin-pin_word token h) refl)
-
-VmoInfo-read : (name : VmoName) → name.0 < 2 ^ 32 → IsReadBack (VmoInfo name)
-unfolding command_words command
-VmoInfo-read name h = let r = vmo_only VmoInfo name h in reading-spelling (VmoInfo name) (codes "vmo_info") refl r.0 (omega arith) refl r.1
-
-RootCreate-read : (region : RegionName) → region.0 < 2 ^ 32 → IsReadBack (RootCreate region)
-unfolding command_words command
-RootCreate-read region h = let r = region_only RootCreate region h in reading-spelling (RootCreate region) (codes "root_create") refl r.0 (omega arith) refl r.1
-
 vmar_allocate-words : (region parent : RegionName) (offset len : ℕ) (flags : MapFlags) (caps : Perm) (ws : List (List ℕ))
     → HasRanges (VmarAllocate region parent offset len flags caps) → are_flags known_region_flags ws ≡ true → place_bits ws ≡ flags.0 → right_bits ws ≡ caps.0
     → vmar_allocate (region_word region ∷ region_word parent ∷ decimal offset ∷ decimal len ∷ ws) ≡ Some (VmarAllocate region parent offset len flags caps)
 vmar_allocate-words region parent offset len flags caps ws h known place right =
     rw (region-region_word region h.0, region-region_word parent h.1, number-decimal offset h.2, number-decimal len h.3, known, place, right) refl
-
-VmarAllocate-read : (region parent : RegionName) (offset len : ℕ) (flags : MapFlags) (caps : Perm)
-    → HasRanges (VmarAllocate region parent offset len flags caps) → has_spelling (VmarAllocate region parent offset len flags caps) ≡ true → IsReadBack (VmarAllocate region parent offset len flags caps)
-unfolding command_words command has_spelling
-VmarAllocate-read region parent offset len flags caps h spelled =
-    let parts = and_parts (flags.0 == bit_and flags.0 5) (nat_lt caps.0 8) spelled in
-    let sets = region_flags-spell flags.0 caps.0 (eqb-true flags.0 (bit_and flags.0 5) parts.0) (ltb-true caps.0 8 parts.1) in
-    reading-spelling (VmarAllocate region parent offset len flags caps) (codes "vmar_allocate") refl
-    (region_field region h.0 (region_field parent h.1 (number_field offset h.2 (number_field len h.3 sets.0.fields)))) (omega arith) refl
-    (vmar_allocate-words region parent offset len flags caps (region_flags flags.0 caps.0) h sets.0.flags sets.0.bits sets.1.bits)
 
 vmar_map-words : (region : RegionName) (offset : ℕ) (name : VmoName) (vmo_offset len : ℕ) (allowed : Perm) (flags : MapFlags) (ws : List (List ℕ))
     → HasRanges (VmarMap region offset name vmo_offset len allowed flags) → allowed.0 < 8 → are_flags known_map_flags ws ≡ true → map_bits ws ≡ flags.0
@@ -309,75 +219,67 @@ vmar_map-words : (region : RegionName) (offset : ℕ) (name : VmoName) (vmo_offs
 vmar_map-words region offset name vmo_offset len allowed flags ws h rights known bits =
     rw (region-region_word region h.0, number-decimal offset h.1, vmo-vmo_word name h.2, number-decimal vmo_offset h.3, number-decimal len h.4, perm-perm_text allowed rights, known, bits) refl
 
-VmarMap-read : (region : RegionName) (offset : ℕ) (name : VmoName) (vmo_offset len : ℕ) (allowed : Perm) (flags : MapFlags)
-    → HasRanges (VmarMap region offset name vmo_offset len allowed flags) → has_spelling (VmarMap region offset name vmo_offset len allowed flags) ≡ true → IsReadBack (VmarMap region offset name vmo_offset len allowed flags)
-unfolding command_words command has_spelling
-VmarMap-read region offset name vmo_offset len allowed flags h spelled =
-    let parts = and_parts (nat_lt allowed.0 8) (nat_lt flags.0 16) spelled in
-    let rights = ltb-true allowed.0 8 parts.0 in
-    let set = map_flags-spell flags.0 (ltb-true flags.0 16 parts.1) in
-    reading-spelling (VmarMap region offset name vmo_offset len allowed flags) (codes "vmar_map") refl
-    (region_field region h.0 (number_field offset h.1 (vmo_field name h.2 (number_field vmo_offset h.3 (number_field len h.4 (perm_field allowed.0 rights set.fields)))))) (omega arith) refl
-    (vmar_map-words region offset name vmo_offset len allowed flags (map_flags flags.0) h rights set.flags set.bits)
-
-VmarUnmap-read : (region : RegionName) (addr len : ℕ) → HasRanges (VmarUnmap region addr len) → IsReadBack (VmarUnmap region addr len)
-unfolding command_words command
-VmarUnmap-read region addr len h = let r = region_range VmarUnmap region addr len h in reading-spelling (VmarUnmap region addr len) (codes "vmar_unmap") refl r.0 (omega arith) refl r.1
-
-VmarProtect-read : (region : RegionName) (addr len : ℕ) (allowed : Perm) → HasRanges (VmarProtect region addr len allowed) → has_spelling (VmarProtect region addr len allowed) ≡ true → IsReadBack (VmarProtect region addr len allowed)
-unfolding command_words command has_spelling
-VmarProtect-read region addr len allowed h spelled =
-    let rights = ltb-true allowed.0 8 spelled in
-    reading-spelling (VmarProtect region addr len allowed) (codes "vmar_protect") refl
-    (region_field region h.0 (number_field addr h.1 (number_field len h.2 (perm_field allowed.0 rights no_field)))) (omega arith) refl
-    (rw (region-region_word region h.0, number-decimal addr h.1, number-decimal len h.2, perm-perm_text allowed rights) refl)
-
-VmarDestroy-read : (region : RegionName) → region.0 < 2 ^ 32 → IsReadBack (VmarDestroy region)
-unfolding command_words command
-VmarDestroy-read region h = let r = region_only VmarDestroy region h in reading-spelling (VmarDestroy region) (codes "vmar_destroy") refl r.0 (omega arith) refl r.1
-
-Maps-read : (region : RegionName) → region.0 < 2 ^ 32 → IsReadBack (Maps region)
-unfolding command_words command
-Maps-read region h = let r = region_only Maps region h in reading-spelling (Maps region) (codes "maps") refl r.0 (omega arith) refl r.1
-
-MemRead-read : (region : RegionName) (addr len : ℕ) → HasRanges (MemRead region addr len) → IsReadBack (MemRead region addr len)
-unfolding command_words command
-MemRead-read region addr len h = let r = region_range MemRead region addr len h in reading-spelling (MemRead region addr len) (codes "mem_read") refl r.0 (omega arith) refl r.1
-
-MemWrite-read : (region : RegionName) (addr : ℕ) (bytes : List ℕ) → HasRanges (MemWrite region addr bytes) → IsReadBack (MemWrite region addr bytes)
-unfolding command_words command
-MemWrite-read region addr bytes h =
-    reading-spelling (MemWrite region addr bytes) (codes "mem_write") refl
-    (region_field region h.0 (number_field addr h.1 (data_field bytes h.2 no_field))) (omega arith) refl
-    (rw (region-region_word region h.0, number-decimal addr h.1, byte_data-data_text bytes h.2.0 (IsBytes-from_All bytes h.2.1)) refl)
-
-Stat-read : IsReadBack Stat
-unfolding command_words command
-Stat-read = reading-spelling Stat (codes "stat") refl no_field (omega arith) refl refl
-
 -- what is spelled canonically is read back as the same command
 pub spelling-read : (c : Command) → HasRanges c → has_spelling c ≡ true → IsReadBack c
-spelling-read (VmoCreate name size resizable) h s = VmoCreate-read name size resizable h
-spelling-read (VmoChild name parent kind offset size resizable no_write) h s = VmoChild-read name parent kind offset size resizable no_write h
-spelling-read (VmoClose name) h s = VmoClose-read name h
-spelling-read (VmoSize name) h s = VmoSize-read name h
-spelling-read (VmoSetSize name size) h s = VmoSetSize-read name size h
-spelling-read (VmoRead name offset len) h s = VmoRead-read name offset len h
-spelling-read (VmoWrite name offset bytes) h s = VmoWrite-read name offset bytes h
-spelling-read (VmoFill name offset len value) h s = VmoFill-read name offset len value h
-spelling-read (VmoCommit name offset len) h s = VmoCommit-read name offset len h
-spelling-read (VmoDecommit name offset len) h s = VmoDecommit-read name offset len h
-spelling-read (VmoZero name offset len) h s = VmoZero-read name offset len h
-spelling-read (VmoPin token name offset len) h s = VmoPin-read token name offset len h
-spelling-read (VmoUnpin token) h s = VmoUnpin-read token h
-spelling-read (VmoInfo name) h s = VmoInfo-read name h
-spelling-read (RootCreate region) h s = RootCreate-read region h
-spelling-read (VmarAllocate region parent offset len flags caps) h s = VmarAllocate-read region parent offset len flags caps h s
-spelling-read (VmarMap region offset name vmo_offset len allowed flags) h s = VmarMap-read region offset name vmo_offset len allowed flags h s
-spelling-read (VmarUnmap region addr len) h s = VmarUnmap-read region addr len h
-spelling-read (VmarProtect region addr len allowed) h s = VmarProtect-read region addr len allowed h s
-spelling-read (VmarDestroy region) h s = VmarDestroy-read region h
-spelling-read (Maps region) h s = Maps-read region h
-spelling-read (MemRead region addr len) h s = MemRead-read region addr len h
-spelling-read (MemWrite region addr bytes) h s = MemWrite-read region addr bytes h
-spelling-read Stat h s = Stat-read
+unfolding command_words command has_spelling
+spelling-read (VmoCreate name size resizable) h s =
+    reading-spelling _ (codes "vmo_create") refl
+    (vmo_field name h.0 (number_field size h.1 (size_flags-fields resizable))) (omega arith) refl
+    (rw (vmo-vmo_word name h.0, number-decimal size h.1) (size_flags-read name size resizable))
+spelling-read (VmoChild name parent kind offset size resizable no_write) h s =
+    reading-spelling _ (codes "vmo_create_child") refl
+    (vmo_field name h.0 (vmo_field parent h.1 (kind_field kind (number_field offset h.2 (number_field size h.3 (child_flags-fields resizable no_write)))))) (omega arith) refl
+    (rw (vmo-vmo_word name h.0, vmo-vmo_word parent h.1, child_kind-kind_word kind, number-decimal offset h.2, number-decimal size h.3)
+    (child_flags-read name parent kind offset size resizable no_write))
+spelling-read (VmoClose name) h s = let r = vmo_only VmoClose name h in reading-spelling _ (codes "vmo_close") refl r.0 (omega arith) refl r.1
+spelling-read (VmoSize name) h s = let r = vmo_only VmoSize name h in reading-spelling _ (codes "vmo_size") refl r.0 (omega arith) refl r.1
+spelling-read (VmoSetSize name size) h s =
+    reading-spelling _ (codes "vmo_set_size") refl (vmo_field name h.0 (number_field size h.1 no_field)) (omega arith) refl
+    (rw (vmo-vmo_word name h.0, number-decimal size h.1) refl)
+spelling-read (VmoRead name offset len) h s = let r = vmo_range VmoRead name offset len h in reading-spelling _ (codes "vmo_read") refl r.0 (omega arith) refl r.1
+spelling-read (VmoWrite name offset bytes) h s =
+    reading-spelling _ (codes "vmo_write") refl
+    (vmo_field name h.0 (number_field offset h.1 (data_field bytes h.2 no_field))) (omega arith) refl
+    (rw (vmo-vmo_word name h.0, number-decimal offset h.1, byte_data-data_text bytes h.2.0 (IsBytes-from_All bytes h.2.1)) refl)
+spelling-read (VmoFill name offset len value) h s =
+    reading-spelling _ (codes "vmo_fill") refl
+    (vmo_field name h.0 (number_field offset h.1 (number_field len h.2 (number_field value (omega arith) no_field)))) (omega arith) refl
+    (rw (vmo-vmo_word name h.0, number-decimal offset h.1, number-decimal len h.2, byte-decimal value h.3) refl)
+spelling-read (VmoCommit name offset len) h s = let r = vmo_range VmoCommit name offset len h in reading-spelling _ (codes "vmo_commit") refl r.0 (omega arith) refl r.1
+spelling-read (VmoDecommit name offset len) h s = let r = vmo_range VmoDecommit name offset len h in reading-spelling _ (codes "vmo_decommit") refl r.0 (omega arith) refl r.1
+spelling-read (VmoZero name offset len) h s = let r = vmo_range VmoZero name offset len h in reading-spelling _ (codes "vmo_zero") refl r.0 (omega arith) refl r.1
+spelling-read (VmoPin token name offset len) h s =
+    reading-spelling _ (codes "vmo_pin") refl
+    (pin_field token h.0 (vmo_field name h.1 (number_field offset h.2 (number_field len h.3 no_field)))) (omega arith) refl
+    (rw (pin-pin_word token h.0, vmo-vmo_word name h.1, number-decimal offset h.2, number-decimal len h.3) refl)
+spelling-read (VmoUnpin token) h s =
+    reading-spelling _ (codes "vmo_unpin") refl (pin_field token h no_field) (omega arith) refl (rw (pin-pin_word token h) refl)
+spelling-read (VmoInfo name) h s = let r = vmo_only VmoInfo name h in reading-spelling _ (codes "vmo_info") refl r.0 (omega arith) refl r.1
+spelling-read (RootCreate region) h s = let r = region_only RootCreate region h in reading-spelling _ (codes "root_create") refl r.0 (omega arith) refl r.1
+spelling-read (VmarAllocate region parent offset len flags caps) h s =
+    let parts = and_parts (flags.0 == bit_and flags.0 5) (nat_lt caps.0 8) s in
+    let sets = region_flags-spell flags.0 caps.0 (eqb-true flags.0 (bit_and flags.0 5) parts.0) (ltb-true caps.0 8 parts.1) in
+    reading-spelling _ (codes "vmar_allocate") refl
+    (region_field region h.0 (region_field parent h.1 (number_field offset h.2 (number_field len h.3 sets.0.fields)))) (omega arith) refl
+    (vmar_allocate-words region parent offset len flags caps (region_flags flags.0 caps.0) h sets.0.flags sets.0.bits sets.1.bits)
+spelling-read (VmarMap region offset name vmo_offset len allowed flags) h s =
+    let parts = and_parts (nat_lt allowed.0 8) (nat_lt flags.0 16) s in
+    let rights = ltb-true allowed.0 8 parts.0 in
+    let set = map_flags-spell flags.0 (ltb-true flags.0 16 parts.1) in
+    reading-spelling _ (codes "vmar_map") refl
+    (region_field region h.0 (number_field offset h.1 (vmo_field name h.2 (number_field vmo_offset h.3 (number_field len h.4 (perm_field allowed.0 rights set.fields)))))) (omega arith) refl
+    (vmar_map-words region offset name vmo_offset len allowed flags (map_flags flags.0) h rights set.flags set.bits)
+spelling-read (VmarUnmap region addr len) h s = let r = region_range VmarUnmap region addr len h in reading-spelling _ (codes "vmar_unmap") refl r.0 (omega arith) refl r.1
+spelling-read (VmarProtect region addr len allowed) h s =
+    let rights = ltb-true allowed.0 8 s in
+    reading-spelling _ (codes "vmar_protect") refl
+    (region_field region h.0 (number_field addr h.1 (number_field len h.2 (perm_field allowed.0 rights no_field)))) (omega arith) refl
+    (rw (region-region_word region h.0, number-decimal addr h.1, number-decimal len h.2, perm-perm_text allowed rights) refl)
+spelling-read (VmarDestroy region) h s = let r = region_only VmarDestroy region h in reading-spelling _ (codes "vmar_destroy") refl r.0 (omega arith) refl r.1
+spelling-read (Maps region) h s = let r = region_only Maps region h in reading-spelling _ (codes "maps") refl r.0 (omega arith) refl r.1
+spelling-read (MemRead region addr len) h s = let r = region_range MemRead region addr len h in reading-spelling _ (codes "mem_read") refl r.0 (omega arith) refl r.1
+spelling-read (MemWrite region addr bytes) h s =
+    reading-spelling _ (codes "mem_write") refl
+    (region_field region h.0 (number_field addr h.1 (data_field bytes h.2 no_field))) (omega arith) refl
+    (rw (region-region_word region h.0, number-decimal addr h.1, byte_data-data_text bytes h.2.0 (IsBytes-from_All bytes h.2.1)) refl)
+spelling-read Stat h s = reading-spelling _ (codes "stat") refl no_field (omega arith) refl refl

@@ -1,12 +1,13 @@
--- Laws of writes: they keep contents good, and change nothing but pages.
-use Rattle.std.proofs.Common.{◌≡◌, ◌≢◌, ℕ, zero, suc, ◌+◌, ◌-◌, ◌*◌, ◌/◌, ◌<◌, ◌≤◌, true, cond, List, [], length, map, refl, sym, ap, subst, ◌∙◌, arith}
+-- Laws of pages that change one after another, as by a write: contents stay good, nothing changes but pages, and sole pages stay so.
+use Rattle.std.proofs.Common.{◌≡◌, ◌≢◌, ℕ, zero, suc, ◌+◌, ◌-◌, ◌*◌, ◌/◌, ◌<◌, ◌≤◌, Bool, true, cond, List, [], ◌∷◌, length, map, refl, sym, subst, ◌∙◌, inr, arith}
 use Rattle.std.specs.List.{range_with_len}
 use Rattle.vm_base.specs.declared.limits.TheConstants.{PAGE}
 use Rattle.vm_model.specs.Contents.Content.{Page, Content, shown, pages_of, used, sole, hold, IsGood}
 use Rattle.vm_base.specs.Pages.{replaced}
 use Rattle.vm_model.specs.Contents.Writing.{Piece, piece, pieces, touched, touched_end, WritesPiece, Writes}
-use Rattle.vm_model.proofs.ContentLaws.{frames-hold, next-hold, count-hold, pages_of-hold, page-hold_other_page, IsGood-hold_bytes, sole-hold_kept, sole-hold_elsewhere, used-hold_kept}
-use Rattle.vm_model.proofs.OwningLaws.{Owned-from_Owns, length-shown}
+use Rattle.vm_model.proofs.ContentLaws.{page-hold_other, IsGood-hold_bytes, sole-hold_kept, sole-hold_elsewhere, used-hold_kept}
+use Rattle.vm_model.proofs.SoleLaws.{KeepsSole, sole-hold_keeps}
+use Rattle.vm_model.proofs.OwningLaws.{Owned, Owned-from_Owns, length-shown}
 use Rattle.vm_base.proofs.PageLaws.{length-replaced}
 use Rattle.vm_model.proofs.RangeLaws.{part_fits, touched-row, touched-nil, touched_end_le, touched_below}
 
@@ -31,25 +32,46 @@ IsKept-trans a b c p q = record {
   pages = λ w. q.pages w ∙ p.pages w;
 }
 
--- a piece that lies in its page, below the count
-pub WritesPiece-keeps : (old : Content) (part : Piece) (new : Content) → IsGood old → part.page < pages_of old part.koid → part.at + length part.bytes ≤ PAGE → WritesPiece old part new → IsKept old new
-WritesPiece-keeps old part new good h fits w =
-    let owned = Owned-from_Owns old w.owned part.koid part.page w.tag good h w.owns in
-    let held : Page = record { tag = w.tag; bytes = shown old part.koid part.page } in
-    let page : Page = record { tag = w.tag; bytes = replaced (shown w.owned part.koid part.page) part.at part.bytes } in
-    let whole : length page.bytes ≡ PAGE =
-    length-replaced (shown w.owned part.koid part.page) part.at part.bytes (subst (λ (n : ℕ). part.at + length part.bytes ≤ n) (sym (length-shown w.owned part.koid part.page owned.good)) fits)
-    ∙ length-shown w.owned part.koid part.page owned.good in
-    let kept : IsKept old (hold w.owned part.koid part.page page) = record {
-      good = IsGood-hold_bytes w.owned part.koid part.page held page owned.good owned.alone owned.held refl whole;
-      frames = frames-hold w.owned part.koid part.page page ∙ owned.frames;
-      next = next-hold w.owned part.koid part.page page ∙ owned.next;
-      count = count-hold w.owned part.koid part.page page ∙ owned.count;
-      pages = λ u. pages_of-hold w.owned part.koid part.page page u ∙ owned.pages u;
-    } in
-    subst (IsKept old) (sym w.bytes) kept
+-- the same, and each sole page that passes stays so
+pub record KeepsPages (test : ℕ → ℕ → Bool) (old new : Content) : Type 0 where
+  pub kept : IsKept old new
+  pub alone : KeepsSole test old new
 
--- the same, and which pages are sole afterwards, how many frames are used, and that the other pages stay
+pub KeepsPages-same : (test : ℕ → ℕ → Bool) (old new : Content) → IsGood old → new ≡ old → KeepsPages test old new
+KeepsPages-same test old new good e = subst (KeepsPages test old) (sym e) (record { kept = IsKept-same old old good refl; alone = λ w q passes was. was })
+
+-- ---- pages of a VMO that change one after another
+
+module _ (test : ℕ → ℕ → Bool) (v lowest : ℕ) (Change : Content → ℕ → Content → Type 0) (Changes : Content → List ℕ → Content → Type 0)
+    (none : (old new : Content) → Changes old [] new → new ≡ old)
+    (more : (old new : Content) (p : ℕ) (ps : List ℕ) → Changes old (p ∷ ps) new → (mid : Content) × Change old p mid × Changes mid ps new)
+    (keeps : (old new : Content) (p : ℕ) → IsGood old → p < pages_of old v → lowest ≤ p → Change old p new → KeepsPages test old new) where
+  -- pages in a row below the count
+  pub row_keeps : (first n : ℕ) (old new : Content) → IsGood old → lowest ≤ first → first + n ≤ pages_of old v
+      → Changes old (range_with_len first n) new → KeepsPages test old new
+  row_keeps first zero old new good low h changes = KeepsPages-same test old new good (none old new changes)
+  row_keeps first (suc n) old new good low h changes =
+      let parts = more old new first (range_with_len (first + 1) n) changes in
+      let step = keeps old parts.0 first good (omega arith) low parts.1 in
+      let rest = row_keeps (first + 1) n parts.0 new step.kept.good (omega arith) (omega (arith, step.kept.pages v)) parts.2 in
+      record {
+        kept = IsKept-trans old parts.0 new step.kept rest.kept;
+        alone = λ w q passes was. rest.alone w q passes (step.alone w q passes was);
+      }
+
+  -- all pages of a range inside the VMO
+  pub touched_keeps : (offset len : ℕ) (old new : Content) → IsGood old → lowest ≤ offset / PAGE → offset + len ≤ pages_of old v * PAGE
+      → Changes old (touched offset len) new → KeepsPages test old new
+  touched_keeps offset zero old new good low h changes =
+      KeepsPages-same test old new good (none old new (subst (λ (ps : List ℕ). Changes old ps new) (touched-nil offset) changes))
+  touched_keeps offset (suc len) old new good low h changes =
+      row_keeps (offset / PAGE) (touched_end offset (suc len) - offset / PAGE) old new good low
+      (omega (arith, touched_end_le offset (suc len) (pages_of old v) h, touched_below offset (suc len) (omega arith)))
+      (subst (λ (ps : List ℕ). Changes old ps new) (touched-row offset (suc len) (omega arith)) changes)
+
+-- ---- pieces that are written
+
+-- what writing a piece keeps, which page is sole afterwards, how many frames are used, and that the other pages stay
 pub record Written (old : Content) (v p : ℕ) (new : Content) : Type 0 where
   pub kept : IsKept old new
   pub alone : sole new v p ≡ true
@@ -57,41 +79,48 @@ pub record Written (old : Content) (v p : ℕ) (new : Content) : Type 0 where
   pub other_sole : (q : ℕ) → q ≢ p → sole new v q ≡ sole old v q
   pub used : used new ≡ cond (sole old v p) (used old) (used old + 1)
 
-pub Written-from_WritesPiece : (old : Content) (part : Piece) (new : Content) → IsGood old → part.page < pages_of old part.koid → part.at + length part.bytes ≤ PAGE → WritesPiece old part new → Written old part.koid part.page new
-Written-from_WritesPiece old part new good h fits w =
-    let owned = Owned-from_Owns old w.owned part.koid part.page w.tag good h w.owns in
-    let held : Page = record { tag = w.tag; bytes = shown old part.koid part.page } in
-    let page : Page = record { tag = w.tag; bytes = replaced (shown w.owned part.koid part.page) part.at part.bytes } in
-    let whole : length page.bytes ≡ PAGE =
-    length-replaced (shown w.owned part.koid part.page) part.at part.bytes (subst (λ (n : ℕ). part.at + length part.bytes ≤ n) (sym (length-shown w.owned part.koid part.page owned.good)) fits)
-    ∙ length-shown w.owned part.koid part.page owned.good in
-    let kept : IsKept old new = WritesPiece-keeps old part new good h fits w in
-    record {
-      kept = kept;
-      alone = subst (λ (c : Content). sole c part.koid part.page ≡ true) (sym w.bytes) (sole-hold_kept w.owned part.koid part.page held page owned.good owned.alone owned.held refl);
-      other_page = λ q apart. ap (λ (c : Content). c.page part.koid q) w.bytes ∙ (page-hold_other_page w.owned part.koid part.page page part.koid q apart ∙ owned.other_page q apart);
-      other_sole = λ q apart. subst (λ (c : Content). sole c part.koid q ≡ sole old part.koid q) (sym w.bytes) (sole-hold_elsewhere w.owned part.koid part.page q page apart ∙ owned.other_sole q apart);
-      used = ap used w.bytes ∙ (used-hold_kept w.owned part.koid part.page held page owned.good owned.alone owned.held refl whole ∙ owned.used);
-    }
+-- a piece that lies in its page, below the count
+module _ (old : Content) (part : Piece) (new : Content) (good : IsGood old) (h : part.page < pages_of old part.koid)
+    (fits : part.at + length part.bytes ≤ PAGE) (w : WritesPiece old part new) where
+  owned : Owned old w.owned part.koid part.page w.tag
+  owned = Owned-from_Owns old w.owned part.koid part.page w.tag good h w.owns
 
--- pieces in a row of pages below the count
-pub Writes-keeps : (v offset : ℕ) (bytes : List ℕ) (first n : ℕ) (old new : Content) → IsGood old → offset / PAGE ≤ first → first + n ≤ pages_of old v → Writes old (map (piece v offset bytes) (range_with_len first n)) new → IsKept old new
-Writes-keeps v offset bytes first zero old new good from h w = IsKept-same old new good w
-Writes-keeps v offset bytes first (suc n) old new good from h w =
-    let step = WritesPiece-keeps old (piece v offset bytes first) w.0 good (omega (arith, h)) (part_fits offset bytes first from) w.1 in
-    IsKept-trans old w.0 new step (Writes-keeps v offset bytes (first + 1) n w.0 new step.good (omega arith) (omega (arith, step.pages v)) w.2)
+  pub Written-from_WritesPiece : Written old part.koid part.page new
+  unfolding hold pages_of
+  Written-from_WritesPiece =
+      let v = part.koid in
+      let p = part.page in
+      let held : Page = record { tag = w.tag; bytes = shown old v p } in
+      let page : Page = record { tag = w.tag; bytes = replaced (shown w.owned v p) part.at part.bytes } in
+      let size = length-shown w.owned v p owned.good in
+      let whole : length page.bytes ≡ PAGE = length-replaced (shown w.owned v p) part.at part.bytes (omega (arith, fits, size)) ∙ size in
+      subst (Written old v p) (sym w.bytes) (record {
+        kept = record {
+          good = IsGood-hold_bytes w.owned v p held page owned.good owned.alone owned.held refl whole;
+          frames = owned.frames;
+          next = owned.next;
+          count = owned.count;
+          pages = owned.pages;
+        };
+        alone = sole-hold_kept w.owned v p held page owned.good owned.alone owned.held refl;
+        other_page = λ q apart. page-hold_other w.owned v p page v q (λ vmo. apart) ∙ owned.other_page q apart;
+        other_sole = λ q apart. sole-hold_elsewhere w.owned v p q page apart ∙ owned.other_sole q apart;
+        used = used-hold_kept w.owned v p held page owned.good owned.alone owned.held refl whole ∙ owned.used;
+      })
+
+  pub WritesPiece-keeps : (test : ℕ → ℕ → Bool) → KeepsPages test old new
+  WritesPiece-keeps test = record {
+    kept = (Written-from_WritesPiece).kept;
+    alone = λ u q passes was. subst (λ (c : Content). sole c u q ≡ true) (sym w.bytes)
+        (sole-hold_keeps w.owned part.koid part.page _ u q owned.good (inr (_, owned.held, refl)) (owned.keeps u q was));
+  }
 
 -- a whole write inside the VMO
-pub Writes-keeps_all : (v offset : ℕ) (bytes : List ℕ) (old new : Content) → IsGood old → offset + length bytes ≤ pages_of old v * PAGE → Writes old (pieces v offset bytes) new → IsKept old new
+pub Writes-keeps : (test : ℕ → ℕ → Bool) (v offset : ℕ) (bytes : List ℕ) (old new : Content) → IsGood old
+    → offset + length bytes ≤ pages_of old v * PAGE → Writes old (pieces v offset bytes) new → KeepsPages test old new
 unfolding pieces
-Writes-keeps_all v offset bytes old new good h w = go (length bytes) refl where
-  go : (n : ℕ) → length bytes ≡ n → IsKept old new
-  go zero e =
-      let none : touched offset (length bytes) ≡ [] = ap (touched offset) e ∙ touched-nil offset in
-      Writes-keeps v offset bytes (offset / PAGE) 0 old new good (omega arith) (omega (arith, e, h)) (subst (λ (ps : List ℕ). Writes old (map (piece v offset bytes) ps) new) none w)
-  go (suc n) e =
-      let some : 0 < length bytes = omega (arith, e) in
-      let row = touched-row offset (length bytes) some in
-      Writes-keeps v offset bytes (offset / PAGE) (touched_end offset (length bytes) - offset / PAGE) old new good (omega arith)
-      (omega (arith, touched_end_le offset (length bytes) (pages_of old v) h, touched_below offset (length bytes) some))
-      (subst (λ (ps : List ℕ). Writes old (map (piece v offset bytes) ps) new) row w)
+Writes-keeps test v offset bytes old new good h w =
+    touched_keeps test v (offset / PAGE) (λ a p b. WritesPiece a (piece v offset bytes p) b) (λ a ps b. Writes a (map (piece v offset bytes) ps) b)
+    (λ a b e. e) (λ a b p ps writes. writes)
+    (λ a b p fine low from writes. WritesPiece-keeps a (piece v offset bytes p) b fine low (part_fits offset bytes p from) writes test)
+    offset (length bytes) old new good (omega arith) h w

@@ -2,28 +2,25 @@
 use Rattle.std.proofs.Common.{◌≡◌, ◌≢◌, ℕ, zero, suc, ◌+◌, ◌-◌, ◌*◌, ◌/◌, ◌<◌, ◌≤◌, Bool, true, false, not, cond, ◌&&◌, List, replicate, None, ◌⊎◌, refl, sym, ap, subst, ◌∙◌, inl, inr, arith}
 use Rattle.std.specs.Prelude.{is_some}
 use Rattle.std.specs.List.{range_with_len, filter}
-use Rattle.std.proofs.lemmas.Bool.{cases_Bool, cases_lt, both_ways}
+use Rattle.std.proofs.lemmas.Bool.{cases_Bool, cases_lt, both_ways, and_parts, not-true}
 use Rattle.vm_base.specs.declared.limits.TheConstants.{PAGE}
 use Rattle.vm_model.specs.Contents.Content.{Content, is_held, pages_of, used, sole, IsGood}
 use Rattle.vm_model.specs.Contents.Owning.{need}
-use Rattle.vm_model.specs.Contents.Writing.{touched, touched_end, piece, WritesPiece}
-use Rattle.vm_model.specs.Contents.Zeroing.{zeroed, is_cleared, ZeroesPage, Zeroes, owned_by_zero}
+use Rattle.vm_model.specs.Contents.Writing.{touched, piece, WritesPiece}
+use Rattle.vm_model.specs.Contents.Zeroing.{zeroed, is_whole, is_cleared, ZeroesPage, Zeroes, owned_by_zero}
 use Rattle.vm_model.proofs.OwningLaws.{count_from, need-filter}
-use Rattle.vm_model.proofs.ZeroingLaws.{frames-zeroed, next-zeroed, count-zeroed, pages_of-zeroed, page-zeroed_out, sole-zeroed_out, IsGood-zeroed, used-zeroed_le, zeroed-none}
-use Rattle.vm_model.proofs.RangeLaws.{part_fits, touched-row, touched-nil, touched_end_le, touched_below}
-use Rattle.vm_model.proofs.WritingLaws.{IsKept, IsKept-same, IsKept-trans, Written, Written-from_WritesPiece}
+use Rattle.vm_model.proofs.ZeroingLaws.{page-zeroed_out, sole-zeroed_out, IsGood-zeroed, used-zeroed_le, zeroed-none}
+use Rattle.vm_model.proofs.RangeLaws.{part_fits}
+use Rattle.vm_model.proofs.SoleLaws.{sole-zeroed_kept}
+use Rattle.vm_model.proofs.WritingLaws.{IsKept, IsKept-same, Written, Written-from_WritesPiece, KeepsPages, WritesPiece-keeps, touched_keeps}
 
 -- ---- one page
 
 -- pages that become zero
 pub zeroed-keeps : (c : Content) (v first end : ℕ) → IsGood c → IsKept c (zeroed c v first end)
-zeroed-keeps c v first end good = record {
-  good = IsGood-zeroed c v first end good;
-  frames = frames-zeroed c v first end;
-  next = next-zeroed c v first end;
-  count = count-zeroed c v first end;
-  pages = λ w. pages_of-zeroed c v first end w;
-}
+unfolding zeroed pages_of
+zeroed-keeps c v first end good =
+    record { good = IsGood-zeroed c v first end good; frames = refl; next = refl; count = refl; pages = λ w. refl }
 
 -- what zeroing one page gives: the other pages are as they were, and a frame more is used only where it was copied
 pub record ZeroedPage (old : Content) (v : ℕ) (pinned : ℕ → Bool) (offset len p : ℕ) (new : Content) : Type 0 where
@@ -41,9 +38,9 @@ module _ (old : Content) (v : ℕ) (pinned : ℕ → Bool) (offset len p : ℕ) 
   cleared_page : new ≡ zeroed old v p (p + 1) → ZeroedPage old v pinned offset len p new
   cleared_page is = subst (ZeroedPage old v pinned offset len p) (sym is) (record {
     kept = zeroed-keeps old v p (p + 1) good;
-    other_page = λ q apart. page-zeroed_out old v p (p + 1) q (beside p q apart);
+    other_page = λ q apart. page-zeroed_out old v p (p + 1) v q (λ same. beside p q apart);
     other_sole = λ q apart. sole-zeroed_out old v p (p + 1) q (beside p q apart);
-    used = omega (arith, used-zeroed_le old v p (p + 1));
+    used = omega (arith, used-zeroed_le old v p (p + 1) good);
   })
 
   -- another page that is held, written with zeros
@@ -82,28 +79,31 @@ module _ (old : Content) (v : ℕ) (pinned : ℕ → Bool) (offset len p : ℕ) 
     ]
   ]
 
-  -- contents stay good
-  pub ZeroesPage-keeps : p < pages_of old v → offset / PAGE ≤ p → ZeroesPage old v pinned offset len p new → IsKept old new
-  ZeroesPage-keeps h from zeroes = (ZeroedPage-from_ZeroesPage h from zeroes).kept
-
--- ---- pages in a row
-
--- pages in a row below the count
-pub Zeroes-keeps : (v : ℕ) (pinned : ℕ → Bool) (offset len first n : ℕ) (old new : Content) → IsGood old → offset / PAGE ≤ first → first + n ≤ pages_of old v → Zeroes old v pinned offset len (range_with_len first n) new → IsKept old new
-Zeroes-keeps v pinned offset len first zero old new good from h zeroes = IsKept-same old new good zeroes
-Zeroes-keeps v pinned offset len first (suc n) old new good from h zeroes =
-    let step = ZeroesPage-keeps old v pinned offset len first zeroes.0 good (omega arith) from zeroes.1 in
-    IsKept-trans old zeroes.0 new step (Zeroes-keeps v pinned offset len (first + 1) n zeroes.0 new step.good (omega arith) (omega (arith, step.pages v)) zeroes.2)
+-- one page below the count: a sole page stays so, but for a page of the VMO that is not pinned
+ZeroesPage-keeps : (pins : ℕ → ℕ → Bool) (v offset len : ℕ) (old new : Content) (p : ℕ) → IsGood old → p < pages_of old v → offset / PAGE ≤ p
+    → ZeroesPage old v (pins v) offset len p new → KeepsPages pins old new
+ZeroesPage-keeps pins v offset len old new p good h from zeroes = record {
+  kept = (ZeroedPage-from_ZeroesPage old v (pins v) offset len p new good h from zeroes).kept;
+  alone = λ w q pinned was. elim (cases_Bool (is_cleared (pins v) offset len p)) [
+    | inl cleared ↦
+        let free = not-true (pins v p) (and_parts (is_whole offset len p) (not (pins v p)) cleared).1 in
+        subst (λ (c : Content). sole c w q ≡ true) (sym (zeroes.cleared cleared)) (sole-zeroed_kept old v p (p + 1) w q good was (λ same.
+        beside p q (λ page. both_ways (pins v p) free (let vmo = same in let place = page in cc))))
+    | inr part ↦ elim (cases_Bool (is_held old v p)) [
+      | inl held ↦
+          let piece_fits = part_fits offset (replicate len 0) p from in
+          (WritesPiece-keeps old (piece v offset (replicate len 0) p) new good h piece_fits (zeroes.held part held) pins).alone w q pinned was
+      | inr free ↦ subst (λ (c : Content). sole c w q ≡ true) (sym (zeroes.zero part free)) was
+    ]
+  ];
+}
 
 -- all pages of a range inside the VMO
-pub Zeroes-keeps_all : (v : ℕ) (pinned : ℕ → Bool) (offset len : ℕ) (old new : Content) → IsGood old → offset + len ≤ pages_of old v * PAGE → Zeroes old v pinned offset len (touched offset len) new → IsKept old new
-Zeroes-keeps_all v pinned offset zero old new good h zeroes =
-    IsKept-same old new good (subst (λ (ps : List ℕ). Zeroes old v pinned offset zero ps new) (touched-nil offset) zeroes)
-Zeroes-keeps_all v pinned offset (suc len) old new good h zeroes =
-    let some : 0 < suc len = omega arith in
-    Zeroes-keeps v pinned offset (suc len) (offset / PAGE) (touched_end offset (suc len) - offset / PAGE) old new good (omega arith)
-    (omega (arith, touched_end_le offset (suc len) (pages_of old v) h, touched_below offset (suc len) some))
-    (subst (λ (ps : List ℕ). Zeroes old v pinned offset (suc len) ps new) (touched-row offset (suc len) some) zeroes)
+pub Zeroes-keeps : (pins : ℕ → ℕ → Bool) (v offset len : ℕ) (old new : Content) → IsGood old → offset + len ≤ pages_of old v * PAGE
+    → Zeroes old v (pins v) offset len (touched offset len) new → KeepsPages pins old new
+Zeroes-keeps pins v offset len old new good h zeroes =
+    touched_keeps pins v (offset / PAGE) (λ a p b. ZeroesPage a v (pins v) offset len p b) (λ a ps b. Zeroes a v (pins v) offset len ps b)
+    (λ a b e. e) (λ a b p ps all. all) (ZeroesPage-keeps pins v offset len) offset len old new good (omega arith) h zeroes
 
 -- ---- where no page is held
 

@@ -3,6 +3,7 @@ use Rattle.std.specs.Prelude.{◌≡◌, ℕ, ◌+◌, ◌<◌, ◌≤◌, Bool,
 use Rattle.vm_base.specs.declared.limits.TheConstants.{PAGE, VMO_PAGES}
 use Rattle.vm_base.specs.Search.{any_below, count_below}
 use Rattle.vm_base.specs.Pages.{zeros}
+use Rattle.vm_base.specs.Entries.{with_key}
 
 -- a page that is held: the number of its frame, and the frame's bytes
 pub record Page : Type 0 where
@@ -77,7 +78,7 @@ hold c v p held = record c { page = λ w q. if (w == v) && (q == p) then Some he
 
 -- c with a new VMO of this many zero pages, under the next koid
 unfoldable pub created : Content → ℕ → Content
-created c pages = record c { next = c.next + 1; count = λ v. if v == c.next then Some pages else c.count v }
+created c pages = record c { next = c.next + 1; count = with_key c.count c.next pages }
 
 -- What holds of every content that the machine comes to.
 pub record IsGood (c : Content) : Type 0 where

@@ -4,7 +4,6 @@ use Rattle.std.proofs.lemmas.List.{with_items_is}
 use Rattle.page_store.specs.Flat.{Flat}
 use Rattle.page_store.specs.FlatFields.{flat_of}
 use Rattle.page_store.proofs.FlatLaws.{end_fits}
-use Rattle.page_store.proofs.ViewLaws.{counted-flat}
 use Rattle.page_store.proofs.ReleaseLaws.{counts_before, IsReleased, content-released, IsFlat-released}
 use Rattle.page_store.proofs.flat_store.FlatStore.release_pages.Goals as goal
 
@@ -12,7 +11,7 @@ pub overflow_add-first : goal.overflow_add-first
 overflow_add-first c = omega (arith, end_fits (flat_of c.self.inside) c.args.v.0 c.args.first c.args.count c.self.invariant.flat (rw (← c.self.view_is) at c.requires))
 
 pub release_rows-requires-clause-counted : goal.release_rows-requires-clause-counted
-release_rows-requires-clause-counted c = rw c.deref_mut.ensures.value (counted-flat (flat_of c.self.inside) c.self.invariant.flat)
+release_rows-requires-clause-counted c = rw c.deref_mut.ensures.value c.self.invariant.flat.counted
 
 pub release_rows-requires-clause-counts : goal.release_rows-requires-clause-counts
 release_rows-requires-clause-counts c =

@@ -1,5 +1,5 @@
 use Rattle.std.proofs.Common.{arith}
-use Rattle.page_store.proofs.FlatLaws.{shown_taken, AreBytesOf-read}
+use Rattle.page_store.proofs.FlatFrames.{shown_taken, AreBytesOf-read}
 use Rattle.page_store.proofs.flat_store.FlatStorePageStore.read.Goals as goal
 
 pub read-requires-clause-taken : goal.read-requires-clause-taken

@@ -1,5 +1,5 @@
 use Rattle.std.proofs.Common.{arith}
-use Rattle.page_store.proofs.FlatLaws.{share_below, viewers_row, viewers_gap}
+use Rattle.page_store.proofs.FlatFrames.{share_below, viewers_row, viewers_gap}
 use Rattle.page_store.proofs.flat_store.FlatStorePageStore.viewers.Goals as goal
 
 pub index-requires-in-Ok : goal.index-requires-in-Ok

@@ -1,5 +1,5 @@
 use Rattle.std.proofs.Common.{arith}
-use Rattle.page_store.proofs.FlatLaws.{shown_taken}
+use Rattle.page_store.proofs.FlatFrames.{shown_taken}
 use Rattle.page_store.proofs.FlatWriting.{IsShown-from_once, overwrites, IsFlat-overwritten}
 use Rattle.page_store.proofs.flat_store.FlatStorePageStore.write.Goals as goal
 
