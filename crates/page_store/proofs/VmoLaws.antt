@@ -171,11 +171,6 @@ ascending_remove (vmo ∷ vmos) zero rises = (ascending_parts vmo vmos rises).1
 ascending_remove (vmo ∷ vmos) (suc i) rises =
     let parts = ascending_parts vmo vmos rises in ascending_from vmo (remove vmos i) (above_remove vmo.koid.0 vmos i parts.0) (ascending_remove vmos i parts.1)
 
-pub length-remove : (vmos : List Vmo) (i : ℕ) → i < length vmos → length (remove vmos i) + 1 ≡ length vmos
-length-remove [] i h = absurd (omega arith)
-length-remove (vmo ∷ vmos) zero h = omega arith
-length-remove (vmo ∷ vmos) (suc i) h = omega (arith, length-remove vmos i (omega arith))
-
 -- the others keep their page counts
 pub count_in-remove : (vmos : List Vmo) (i v : ℕ) → IsAscending vmos → i < length vmos → ((d : Vmo) → (get_or vmos i d).koid.0 ≡ v) → (w : ℕ) → count_in w (remove vmos i) ≡ cond (not (w == v)) (count_in w vmos) None
 count_in-remove [] i v rises h at w = absurd (omega arith)

@@ -1,7 +1,7 @@
 -- Laws of searching and counting below a bound.
 use Rattle.std.proofs.Common.{◌≡◌, ◌≢◌, ℕ, zero, suc, ◌+◌, ◌<◌, ◌≤◌, Bool, true, false, cond, ◌||◌, ◌⊎◌, refl, sym, ap, ◌∙◌, inl, inr, arith, ◌==◌}
 use Rattle.std.specs.Prelude.{nat_lt}
-use Rattle.std.proofs.lemmas.Bool.{cases_order, cases_eq, cases_Bool, or_cases, or_parts, or_from, or_left, or_right, lt-ltb, false_from_ne_true}
+use Rattle.std.proofs.lemmas.Bool.{cases_order, cases_eq, cases_Bool, or_cases, or_from, or_left, or_right, lt-ltb, false_from_ne_true}
 use Rattle.vm_base.specs.Search.{any_below, count_below}
 use Rattle.std.proofs.lemmas.Bool.Decides.{Decides-eqb}
 
@@ -41,15 +41,6 @@ any_below_at zero k p h e = absurd (omega arith)
 any_below_at (suc n) k p h e = elim (below_next k n h) [
   | inl same ↦ or_left (p n) (any_below n p) (ap p (sym same) ∙ e)
   | inr less ↦ or_right (p n) (any_below n p) (any_below_at n k p less e)
-]
-
--- where nothing was found, nothing passes
-pub any_below_none : (n k : ℕ) (p : ℕ → Bool) → any_below n p ≡ false → k < n → p k ≡ false
-unfolding any_below
-any_below_none zero k p e h = absurd (omega arith)
-any_below_none (suc n) k p e h = elim (below_next k n h) [
-  | inl same ↦ ap p same ∙ (or_parts (p n) (any_below n p) e).0
-  | inr less ↦ any_below_none n k p (or_parts (p n) (any_below n p) e).1 less
 ]
 
 -- where nothing passes, nothing is found

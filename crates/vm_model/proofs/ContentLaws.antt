@@ -10,7 +10,7 @@ use Rattle.vm_base.specs.Entries.{with_key}
 use Rattle.vm_model.specs.Contents.Content.{Page, Content, nothing, bytes_of, is_held, pages_of, has_tag, views, in_use, used, seen_elsewhere, is_sole_page, sole, hold, created, IsGood}
 use Rattle.vm_base.specs.Pages.{zeros}
 use Rattle.vm_base.proofs.EntryLaws.{with_key-other, with_key-cases}
-use Rattle.vm_base.proofs.SearchLaws.{any_below_found, any_below_at, any_below_same, count_below_same, count_below_le, count_below_one_more, count_below_none, eqb_same, eqb_apart, eqb_is}
+use Rattle.vm_base.proofs.SearchLaws.{any_below_found, any_below_at, any_below_same, count_below_same, count_below_one_more, count_below_none, eqb_same, eqb_apart, eqb_is}
 
 -- ---- what the words say of options
 
@@ -377,10 +377,6 @@ IsGood-nothing frames = record {
 }
 
 -- ---- how many frames are used
-
-pub used_le : (c : Content) → used c ≤ c.frames
-unfolding used
-used_le c = count_below_le c.frames (in_use c)
 
 -- no frame is used where no page is held
 pub used_none : (c : Content) → ((v p : ℕ) → c.page v p ≡ None) → used c ≡ 0

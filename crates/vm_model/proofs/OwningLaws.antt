@@ -1,11 +1,11 @@
 -- Laws of owning pages: what stays, how many frames it takes, and that contents stay good.
 use Rattle.std.proofs.Common.{◌≡◌, ◌≢◌, ℕ, zero, suc, ◌+◌, ◌-◌, ◌<◌, ◌≤◌, Bool, true, false, not, cond, ◌&&◌, List, ◌∷◌, length, Option, None, Some, refl, sym, ap, subst, ◌∙◌, inl, inr, arith}
-use Rattle.std.specs.List.{range_with_len, list_any, filter}
-use Rattle.std.proofs.lemmas.Bool.{cases_Bool, or_left, or_right}
+use Rattle.std.specs.List.{range_with_len, filter}
+use Rattle.std.proofs.lemmas.Bool.{cases_Bool}
 use Rattle.vm_base.specs.declared.limits.TheConstants.{PAGE}
 use Rattle.vm_model.specs.Contents.Content.{Page, Content, shown, pages_of, used, sole, hold, IsGood}
 use Rattle.vm_model.specs.Contents.Owning.{Owns, pages_at, need_from, need}
-use Rattle.vm_base.proofs.SearchLaws.{bit_le, bit_same, bit-false}
+use Rattle.vm_base.proofs.SearchLaws.{bit_le, bit_same}
 use Rattle.vm_model.proofs.ContentLaws.{page-hold_here, page-hold_other, sole_held, sole-hold_new, sole-hold_elsewhere, IsGood-hold_new, used-hold_new, bytes_of-some, bytes_of-none}
 use Rattle.vm_model.proofs.SoleLaws.{sole-hold_keeps}
 use Rattle.vm_base.proofs.PageLaws.{length-zeros}
@@ -92,59 +92,6 @@ unfolding count_from
 count_from_le test first zero = omega arith
 count_from_le test first (suc n) = omega (arith, bit_le (test first), count_from_le test (first + 1) n)
 
--- the first page counted, and the rest
-pub count_from-next : (test : ℕ → Bool) (p end : ℕ) → p < end → count_from test p (end - p) ≡ cond (test p) 1 0 + count_from test (p + 1) (end - (p + 1))
-unfolding count_from
-count_from-next test p end h = let e : end - p ≡ suc (end - (p + 1)) = omega arith in ap (count_from test p) e
-
--- where no page passes, none counts
-pub count_from-none : (test : ℕ → Bool) (first n : ℕ) → ((p : ℕ) → first ≤ p → p < first + n → test p ≡ false) → count_from test first n ≡ 0
-unfolding count_from
-count_from-none test first zero none = refl
-count_from-none test first (suc n) none =
-    omega (arith, bit-false (test first) (none first (omega arith) (omega arith)), count_from-none test (first + 1) n (λ p h less. none p (omega arith) (omega arith)))
-
--- two rows, one behind the other
-pub count_from-append : (test : ℕ → Bool) (first n m : ℕ) → count_from test first (n + m) ≡ count_from test first n + count_from test (first + n) m
-unfolding count_from
-count_from-append test first zero m =
-    let e : zero + m ≡ m = omega arith in
-    let f : count_from test first m ≡ count_from test (first + zero) m = let same : first ≡ first + zero = omega arith in ap (λ (q : ℕ). count_from test q m) same in
-    ap (count_from test first) e ∙ omega (arith, f)
-count_from-append test first (suc n) m =
-    let e : suc n + m ≡ suc (n + m) = omega arith in
-    let f : (first + 1) + n ≡ first + suc n = omega arith in
-    let rest = count_from-append test (first + 1) n m in
-    let place : count_from test ((first + 1) + n) m ≡ count_from test (first + suc n) m = ap (λ (q : ℕ). count_from test q m) f in
-    ap (count_from test first) e ∙ omega (arith, rest, place)
-
--- a row cut in two
-pub count_from-split : (test : ℕ → Bool) (first mid end : ℕ) → first ≤ mid → mid ≤ end → count_from test first (end - first) ≡ count_from test first (mid - first) + count_from test mid (end - mid)
-count_from-split test first mid end h less =
-    let e : end - first ≡ (mid - first) + (end - mid) = omega arith in
-    let f : first + (mid - first) ≡ mid = omega arith in
-    ap (count_from test first) e
-    ∙ (count_from-append test first (mid - first) (end - mid) ∙ ap (λ (q : ℕ). count_from test first (mid - first) + count_from test q (end - mid)) f)
-
--- where one counts, some page passes
-pub count_from-any : (test : ℕ → Bool) (first n : ℕ) → 0 < count_from test first n → list_any test (range_with_len first n) ≡ true
-unfolding count_from
-count_from-any test first zero h = absurd (omega arith)
-count_from-any test first (suc n) h = elim (cases_Bool (test first)) [
-  | inl hit ↦ or_left (test first) (list_any test (range_with_len (first + 1) n)) hit
-  | inr miss ↦
-      or_right (test first) (list_any test (range_with_len (first + 1) n)) (count_from-any test (first + 1) n (omega (arith, h, bit-false (test first) miss)))
-]
-
--- the pages that pass and those that do not
-pub count_from-not : (test : ℕ → Bool) (first n : ℕ) → count_from (λ p. not (test p)) first n + count_from test first n ≡ n
-unfolding count_from
-count_from-not test first zero = refl
-count_from-not test first (suc n) = omega (arith, bits (test first), count_from-not test (first + 1) n) where
-  bits : (b : Bool) → ◌≡◌ {A = ℕ} (cond (not b) 1 0 + cond b 1 0) 1
-  bits true = refl
-  bits false = refl
-
 -- ---- need
 
 -- how many of n pages from one on are not sole
@@ -154,11 +101,6 @@ unowned c v first n = count_from (λ p. not (sole c v p)) first n
 pub unowned_le : (c : Content) (v first n : ℕ) → unowned c v first n ≤ n
 unfolding unowned
 unowned_le c v first n = count_from_le (λ p. not (sole c v p)) first n
-
--- a page is sole or counted
-pub unowned-sole : (c : Content) (v first n : ℕ) → unowned c v first n + count_from (sole c v) first n ≡ n
-unfolding unowned
-unowned-sole c v first n = count_from-not (sole c v) first n
 
 -- the need of those pages in a row that pass is the number of them that are not sole
 pub need_from-filter : (fresh : ℕ) (c : Content) (v first n : ℕ) (test : ℕ → Bool) → need_from fresh c (pages_at v (filter test (range_with_len first n))) ≡ count_from (λ p. test p && not (sole c v p)) first n
@@ -190,8 +132,3 @@ need-row c v first n = sym (ap (need c v) (filter_all first n)) ∙ need-filter 
   filter_all : (a m : ℕ) → filter (λ p. true) (range_with_len a m) ≡ range_with_len a m
   filter_all a zero = refl
   filter_all a (suc m) = ap (λ (ps : List ℕ). a ∷ ps) (filter_all (a + 1) m)
-
--- some page in a row is not sole where one is counted
-pub unowned-any : (c : Content) (v first n : ℕ) → 0 < unowned c v first n → list_any (λ p. not (sole c v p)) (range_with_len first n) ≡ true
-unfolding unowned
-unowned-any c v first n h = count_from-any (λ p. not (sole c v p)) first n h

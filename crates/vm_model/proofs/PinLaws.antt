@@ -1,10 +1,10 @@
 -- Laws of pins: the pages that a pin covers, and which pages of a row are pinned.
-use Rattle.std.proofs.Common.{◌≡◌, ℕ, ◌+◌, ◌<◌, ◌≤◌, true, false, ◌&&◌, ◌==◌, Option, Some, refl, inl, inr, arith}
+use Rattle.std.proofs.Common.{◌≡◌, ℕ, ◌+◌, ◌<◌, ◌≤◌, true, false, ◌&&◌, ◌==◌, Option, Some, refl, inl, inr}
 use Rattle.std.specs.Prelude.{nat_le}
 use Rattle.std.proofs.lemmas.Bool.{cases_Bool, and_parts, and_from, and_left, and_right, leb-true, le-leb}
 use Rattle.std.proofs.lemmas.Bool.Decides.{Decides-eqb}
 use Rattle.vm_base.specs.declared.limits.TheConstants.{NAMES}
-use Rattle.vm_base.proofs.SearchLaws.{any_below_found, any_below_at, none_below, eqb_is}
+use Rattle.vm_base.proofs.SearchLaws.{any_below_at, none_below, eqb_is}
 use Rattle.vm_base.proofs.EntryLaws.{any_entry_at, any_entry_found}
 use Rattle.vm_model.specs.Contents.Zeroing.{is_within}
 use Rattle.vm_model.specs.Naming.Pins.{Pin, has_pin, covers, is_pinned, any_pinned}
@@ -36,25 +36,10 @@ is_pinned-has_pin pins v p e =
 
 -- ---- pages in a row
 
--- a page among them that is pinned
-pub any_pinned_found : (pins : ℕ → Option Pin) (v first end : ℕ) → any_pinned pins v first end ≡ true → (p : ℕ) × (first ≤ p) × (p < end) × (is_pinned pins v p ≡ true)
-unfolding any_pinned
-any_pinned_found pins v first end e =
-    let found = any_below_found end (λ p. nat_le first p && is_pinned pins v p) e in
-    let both = and_parts (nat_le first found.0) (is_pinned pins v found.0) found.2 in
-    (found.0, leb-true first found.0 both.0, found.1, both.1)
-
 pub any_pinned_at : (pins : ℕ → Option Pin) (v first end p : ℕ) → first ≤ p → p < end → is_pinned pins v p ≡ true → any_pinned pins v first end ≡ true
 unfolding any_pinned
 any_pinned_at pins v first end p low high e =
     any_below_at end p (λ q. nat_le first q && is_pinned pins v q) high (and_from (nat_le first p) (is_pinned pins v p) (le-leb first p low) e)
-
--- no page among them is pinned
-pub any_pinned_none : (pins : ℕ → Option Pin) (v first end p : ℕ) → any_pinned pins v first end ≡ false → first ≤ p → p < end → is_pinned pins v p ≡ false
-any_pinned_none pins v first end p e low high = elim (cases_Bool (is_pinned pins v p)) [
-  | inl hit ↦ absurd (let some_page = any_pinned_at pins v first end p low high hit in cc)
-  | inr miss ↦ miss
-]
 
 pub none_pinned : (pins : ℕ → Option Pin) (v first end : ℕ) → ((p : ℕ) → first ≤ p → p < end → is_pinned pins v p ≡ false) → any_pinned pins v first end ≡ false
 unfolding any_pinned
@@ -62,7 +47,3 @@ none_pinned pins v first end each = none_below end (λ p. nat_le first p && is_p
   | inl low ↦ and_right (nat_le first p) (is_pinned pins v p) (each p (leb-true first p low) h)
   | inr below ↦ and_left (nat_le first p) (is_pinned pins v p) below
 ])
-
--- no pages, none pinned
-pub any_pinned-empty : (pins : ℕ → Option Pin) (v first end : ℕ) → end ≤ first → any_pinned pins v first end ≡ false
-any_pinned-empty pins v first end h = none_pinned pins v first end (λ p low high. absurd (omega arith))

@@ -1,20 +1,15 @@
 -- Laws of sharing: who shows a frame, what a snapshot and a VMO that leaves change, and that contents stay good.
 use Rattle.std.proofs.Common.{◌≡◌, ◌≢◌, ℕ, ◌+◌, ◌<◌, ◌≤◌, Bool, true, false, not, cond, ◌==◌, Option, None, Some, ◌⊎◌, refl, sym, ap, ◌∙◌, inl, inr, arith}
 use Rattle.std.specs.Prelude.{unwrap_or, IsSome, is_some}
-use Rattle.std.proofs.lemmas.Bool.{cases_eq, cases_lt, false_from_ne_true, lt-ltb, le-ltb}
+use Rattle.std.proofs.lemmas.Bool.{cases_eq, cases_lt, lt-ltb, le-ltb}
 use Rattle.vm_base.specs.declared.limits.TheConstants.{VMO_PAGES}
 use Rattle.vm_base.specs.Entries.{with_key}
 use Rattle.vm_model.specs.Contents.Content.{Page, Content, pages_of, views, IsGood}
 use Rattle.vm_model.specs.Contents.Sharing.{page_seen, snapshotted, only, without}
 use Rattle.vm_base.proofs.SearchLaws.{eqb_same, eqb_apart}
-use Rattle.vm_model.proofs.ContentLaws.{zero_not_held, views_found, views_at, koid_below, own_pages, IsGood-part, counts_more}
+use Rattle.vm_model.proofs.ContentLaws.{zero_not_held, views_at, koid_below, own_pages, IsGood-part, counts_more}
 
 -- ---- which VMOs show a frame
-
--- a VMO none of whose pages has the frame does not show it
-pub views_none : (c : Content) (t v : ℕ) → ((p : ℕ) (held : Page) → c.page v p ≡ Some held → held.tag ≢ t) → views c t v ≡ false
-views_none c t v none = false_from_ne_true (views c t v) (λ shows.
-    let page = views_found c t v shows in none page.0 page.1 page.3 page.4)
 
 -- a VMO shows the frames of its held pages
 pub views_held : (c : Content) (t v p : ℕ) (held : Page) → IsGood c → c.page v p ≡ Some held → held.tag ≡ t → views c t v ≡ true
@@ -23,10 +18,6 @@ views_held c t v p held good e tag = views_at c t v p held (good.below v p held 
 -- the koid of a page that is held
 pub koid_held : (c : Content) (v p : ℕ) (held : Page) → IsGood c → c.page v p ≡ Some held → v < c.next
 koid_held c v p held good e = koid_below c v p good (good.below v p held e)
-
--- no page is held under the next koid
-pub page_next : (c : Content) (p : ℕ) (held : Page) → IsGood c → c.page c.next p ≡ Some held → ⊥
-page_next c p held good e = let h = koid_held c c.next p held good e in absurd (omega arith)
 
 -- ---- a snapshot
 

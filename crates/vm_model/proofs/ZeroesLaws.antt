@@ -1,15 +1,11 @@
 -- Laws of zeroing a range page by page: contents stay good, nothing changes but pages, and how many frames it takes.
-use Rattle.std.proofs.Common.{◌≡◌, ◌≢◌, ℕ, zero, suc, ◌+◌, ◌-◌, ◌*◌, ◌/◌, ◌<◌, ◌≤◌, Bool, true, false, not, cond, ◌&&◌, List, replicate, None, ◌⊎◌, refl, sym, ap, subst, ◌∙◌, inl, inr, arith}
-use Rattle.std.specs.Prelude.{is_some}
-use Rattle.std.specs.List.{range_with_len, filter}
+use Rattle.std.proofs.Common.{◌≡◌, ◌≢◌, ℕ, zero, ◌+◌, ◌-◌, ◌*◌, ◌/◌, ◌<◌, ◌≤◌, Bool, true, false, not, cond, ◌&&◌, replicate, ◌⊎◌, refl, sym, subst, inl, inr, arith}
 use Rattle.std.proofs.lemmas.Bool.{cases_Bool, cases_lt, both_ways, and_parts, not-true}
 use Rattle.vm_base.specs.declared.limits.TheConstants.{PAGE}
 use Rattle.vm_model.specs.Contents.Content.{Content, is_held, pages_of, used, sole, IsGood}
-use Rattle.vm_model.specs.Contents.Owning.{need}
 use Rattle.vm_model.specs.Contents.Writing.{touched, piece, WritesPiece}
-use Rattle.vm_model.specs.Contents.Zeroing.{zeroed, is_whole, is_cleared, ZeroesPage, Zeroes, owned_by_zero}
-use Rattle.vm_model.proofs.OwningLaws.{count_from, need-filter}
-use Rattle.vm_model.proofs.ZeroingLaws.{page-zeroed_out, sole-zeroed_out, IsGood-zeroed, used-zeroed_le, zeroed-none}
+use Rattle.vm_model.specs.Contents.Zeroing.{zeroed, is_whole, is_cleared, ZeroesPage, Zeroes}
+use Rattle.vm_model.proofs.ZeroingLaws.{page-zeroed_out, sole-zeroed_out, IsGood-zeroed, used-zeroed_le}
 use Rattle.vm_model.proofs.RangeLaws.{part_fits}
 use Rattle.vm_model.proofs.SoleLaws.{sole-zeroed_kept}
 use Rattle.vm_model.proofs.WritingLaws.{IsKept, IsKept-same, Written, Written-from_WritesPiece, KeepsPages, WritesPiece-keeps, touched_keeps}
@@ -107,25 +103,4 @@ Zeroes-keeps pins v offset len old new good h zeroes =
 
 -- ---- where no page is held
 
--- a page that is zero stays so
-pub ZeroesPage-none : (c : Content) (v : ℕ) (pinned : ℕ → Bool) (offset len p : ℕ) → c.page v p ≡ None → ZeroesPage c v pinned offset len p c
-ZeroesPage-none c v pinned offset len p none = record {
-  cleared = λ cleared. sym (zeroed-none c v p (p + 1) (λ q h less. let same : q ≡ p = omega arith in ap (c.page v) same ∙ none));
-  held = λ part held. absurd (both_ways (is_held c v p) (ap is_some none) held);
-  zero = λ part free. refl;
-}
-
--- where the pages in a row are zero, nothing changes
-pub Zeroes-none : (c : Content) (v : ℕ) (pinned : ℕ → Bool) (offset len first n : ℕ) → ((p : ℕ) → first ≤ p → p < first + n → c.page v p ≡ None) → Zeroes c v pinned offset len (range_with_len first n) c
-Zeroes-none c v pinned offset len first zero none = refl
-Zeroes-none c v pinned offset len first (suc n) none =
-    (c, ZeroesPage-none c v pinned offset len first (none first (omega arith) (omega arith)), Zeroes-none c v pinned offset len (first + 1) n (λ p h less. none p (omega arith) (omega arith)))
-
 -- ---- how many frames it takes
-
--- the pages that zeroing a range owns, counted page by page
-pub need-zero : (c : Content) (v : ℕ) (pinned : ℕ → Bool) (offset len first end : ℕ) → touched offset len ≡ range_with_len first (end - first)
-    → need c v (owned_by_zero c v pinned offset len) ≡ count_from (λ p. (is_held c v p && not (is_cleared pinned offset len p)) && not (sole c v p)) first (end - first)
-need-zero c v pinned offset len first end row =
-    ap (λ (ps : List ℕ). need c v (filter (λ p. is_held c v p && not (is_cleared pinned offset len p)) ps)) row
-    ∙ need-filter c v first (end - first) (λ p. is_held c v p && not (is_cleared pinned offset len p))

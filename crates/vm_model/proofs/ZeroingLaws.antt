@@ -110,28 +110,6 @@ zeroed-none c v first end none = λ i. record c { page = λ w p. each w p i } wh
     | inr out ↦ page-zeroed_out c v first end w p out
   ]
 
--- an empty range changes nothing
-pub zeroed-empty : (c : Content) (v p : ℕ) → zeroed c v p p ≡ c
-zeroed-empty c v p = zeroed-none c v p p (λ q h l. absurd (omega arith))
-
--- a range and the one behind it together
-pub zeroed-more : (c : Content) (v first mid end : ℕ) → first ≤ mid → mid ≤ end → zeroed (zeroed c v first mid) v mid end ≡ zeroed c v first end
-unfolding zeroed
-zeroed-more c v first mid end h l = λ i. record c { page = λ w p. each w p i } where
-  each : (w p : ℕ) → (zeroed (zeroed c v first mid) v mid end).page w p ≡ (zeroed c v first end).page w p
-  each w p = elim (cases_zeroed v first end w p) [
-    | inl inside ↦ elim (cases_lt p mid) [
-      | inl before ↦
-          page-zeroed_out (zeroed c v first mid) v mid end w p (λ same. inl before)
-          ∙ page-zeroed_in c v first mid w p inside.0 inside.1 before
-      | inr behind ↦ page-zeroed_in (zeroed c v first mid) v mid end w p inside.0 behind inside.2
-    ] ∙ sym (page-zeroed_in c v first end w p inside.0 inside.1 inside.2)
-    | inr out ↦
-        page-zeroed_out (zeroed c v first mid) v mid end w p (λ same. elim (out same) [ inl low ↦ inl (omega arith) | inr high ↦ inr high ])
-        ∙ (page-zeroed_out c v first mid w p (λ same. elim (out same) [ inl low ↦ inl low | inr high ↦ inr (omega arith) ])
-        ∙ sym (page-zeroed_out c v first end w p out))
-  ]
-
 -- ---- another size
 
 -- no page is held past the end

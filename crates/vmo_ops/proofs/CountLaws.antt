@@ -4,7 +4,8 @@ use Rattle.std.specs.Prelude.{IsSome}
 use Rattle.vm_base.proofs.EntryLaws.{some_is}
 use Rattle.vm_model.specs.Contents.Content.{Content, pages_of, IsGood}
 use Rattle.vm_model.proofs.ContentLaws.{IsOfHeld}
-use Rattle.vm_model.proofs.OwningLaws.{count_from, count_from_le, count_from-split, count_from-none, count_from-next}
+use Rattle.vm_model.proofs.OwningLaws.{count_from, count_from_le}
+use Rattle.vmo_ops.proofs.ModelLaws.{count_from-split, count_from-none, count_from-next}
 
 -- this is the first page of v from `from` on that is held, and it lies before `end`
 abbrev pub IsNextHeld : Content → ℕ → ℕ → ℕ → ℕ → Type 0

@@ -22,11 +22,8 @@ use Rattle.vm_model.specs.Machine.State.{State, is_open, target_of, koid_of, nam
 use Rattle.vm_model.specs.Machine.Refusals.{refusals, first_of}
 use Rattle.vm_model.specs.Machine.Step.{Step}
 use Rattle.vm_model.proofs.NamesLaws.{target_of-at, lineage-known}
-use Rattle.vm_model.proofs.OwningLaws.{count_from-none}
 use Rattle.vm_model.proofs.RangeLaws.{touched-row, touched-nil, touched_end-is}
-use Rattle.vm_model.proofs.ZeroingLaws.{zeroed-empty, zeroed-more}
-use Rattle.vm_model.proofs.PinLaws.{any_pinned_none}
-use Rattle.vm_model.proofs.ZeroesLaws.{need-zero}
+use Rattle.vmo_ops.proofs.ModelLaws.{count_from-none, zeroed-empty, zeroed-more, any_pinned_none, need-zero}
 use Rattle.vmo_ops.specs.Targets.{IsPlaced}
 use Rattle.vmo_ops.specs.Costs.{held_touched}
 use Rattle.vmo_ops.proofs.StepRows.{first_of-skip, first_of-hit, Step-refused, Step-done, Step-lacks, open_at, past_at, within_at, spot}

@@ -1,3 +1,4 @@
+pub mod ModelLaws
 pub mod StepRows
 pub mod NameLaws
 pub mod LookLaws

@@ -6,7 +6,8 @@ use Rattle.vm_model.specs.Contents.Content.{Content, sole}
 use Rattle.vm_model.specs.Contents.Owning.{need}
 use Rattle.vm_model.specs.Contents.Writing.{touched}
 use Rattle.vm_model.proofs.ContentLaws.{IsOfHeld, sole-zero}
-use Rattle.vm_model.proofs.OwningLaws.{count_from, unowned-sole, need-row}
+use Rattle.vm_model.proofs.OwningLaws.{count_from, need-row}
+use Rattle.vmo_ops.proofs.ModelLaws.{unowned-sole}
 use Rattle.vmo_ops.specs.Costs.{HasRows}
 
 -- no zero page is sole

@@ -6,8 +6,9 @@ use Rattle.std.proofs.lemmas.List.FromFn.{length-range_with_len}
 use Rattle.vm_base.proofs.SearchLaws.{bit-true}
 use Rattle.vm_model.specs.Contents.Content.{Content, pages_of, used, sole, IsGood}
 use Rattle.vm_model.specs.Contents.Owning.{Owns, OwnsAll, need}
-use Rattle.vm_model.proofs.OwningLaws.{Owned-from_Owns, count_from, count_from-same, count_from-next, unowned, need-row}
+use Rattle.vm_model.proofs.OwningLaws.{Owned-from_Owns, count_from, count_from-same, unowned, need-row}
 use Rattle.vm_model.proofs.WritingLaws.{Written}
+use Rattle.vmo_ops.proofs.ModelLaws.{count_from-next}
 use Rattle.vmo_ops.specs.Costs.{HasRows}
 use Rattle.vmo_ops.proofs.RowLaws.{Run, Takes, IsUnderWay, IsUnderWay-start, IsUnderWay-end, IsUnderWay-frame, IsUnderWay-step}
 

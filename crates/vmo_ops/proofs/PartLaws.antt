@@ -8,7 +8,7 @@ use Rattle.vm_base.specs.declared.limits.TheConstants.{PAGE}
 use Rattle.vm_model.specs.Contents.Content.{Content, shown, IsGood}
 use Rattle.vm_model.specs.Contents.Writing.{part_at, part_bytes, bytes_in}
 use Rattle.vm_model.specs.Contents.Zeroing.{is_whole}
-use Rattle.vm_model.proofs.RangeLaws.{slice_range-min, bytes_in-more}
+use Rattle.vmo_ops.proofs.ModelLaws.{slice_range-min, bytes_in-more}
 
 -- a part of equal bytes
 slice_range-replicate : (n byte i j : ℕ) → j ≤ n → slice_range (replicate n byte) i j ≡ replicate (j - i) byte

@@ -8,7 +8,8 @@ use Rattle.vm_model.specs.Contents.Content.{Content, pages_of}
 use Rattle.vm_model.specs.Naming.Pins.{Pin, has_pin, is_pinned, any_pinned}
 use Rattle.vm_model.specs.Machine.State.{State, IsGoodState}
 use Rattle.vm_model.proofs.ContentLaws.{pages_of-at}
-use Rattle.vm_model.proofs.PinLaws.{is_pinned_of, is_pinned-has_pin, any_pinned_found, any_pinned_at, any_pinned-empty}
+use Rattle.vm_model.proofs.PinLaws.{is_pinned_of, is_pinned-has_pin, any_pinned_at}
+use Rattle.vmo_ops.proofs.ModelLaws.{any_pinned_found, any_pinned-empty}
 
 -- ---- all pages of a VMO
 

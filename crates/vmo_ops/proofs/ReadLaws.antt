@@ -16,7 +16,7 @@ use Rattle.vm_model.specs.Contents.Writing.{part_at, bytes_in}
 use Rattle.vm_model.specs.Machine.State.{State, is_open, name_pages, size_of}
 use Rattle.vm_model.specs.Machine.Refusals.{refusals, first_of}
 use Rattle.vm_model.specs.Machine.Step.{Step}
-use Rattle.vm_model.proofs.RangeLaws.{bytes_in-nil}
+use Rattle.vmo_ops.proofs.ModelLaws.{bytes_in-nil}
 use Rattle.vmo_ops.specs.Targets.{IsPlaced}
 use Rattle.vmo_ops.proofs.PartLaws.{bytes_in-part}
 use Rattle.vmo_ops.proofs.StepRows.{first_of-skip, first_of-hit, Step-refused, Step-done}

@@ -4,8 +4,9 @@ use Rattle.std.proofs.Common.{◌≡◌, ◌≢◌, ℕ, zero, suc, ◌+◌, ◌
 use Rattle.std.specs.List.{range_with_len}
 use Rattle.vm_base.proofs.SearchLaws.{bit-true}
 use Rattle.vm_model.specs.Contents.Content.{Content, pages_of, used, IsGood}
-use Rattle.vm_model.proofs.OwningLaws.{count_from, count_from-same, count_from-next}
+use Rattle.vm_model.proofs.OwningLaws.{count_from, count_from-same}
 use Rattle.vm_model.proofs.WritingLaws.{IsKept}
+use Rattle.vmo_ops.proofs.ModelLaws.{count_from-next}
 
 -- what doing something to pages may lead to, from one content to another
 abbrev pub Run : Type 1

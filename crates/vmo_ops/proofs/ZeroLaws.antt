@@ -22,7 +22,8 @@ use Rattle.vm_model.proofs.ContentLaws.{IsOfHeld, IsOfHeld-held}
 use Rattle.vm_model.proofs.OwningLaws.{count_from, count_from-same}
 use Rattle.vm_model.proofs.WritingLaws.{IsKept-same}
 use Rattle.vm_model.proofs.PinLaws.{any_pinned_at, none_pinned}
-use Rattle.vm_model.proofs.ZeroesLaws.{ZeroedPage, ZeroedPage-from_ZeroesPage, ZeroesPage-none, Zeroes-none, need-zero}
+use Rattle.vm_model.proofs.ZeroesLaws.{ZeroedPage, ZeroedPage-from_ZeroesPage}
+use Rattle.vmo_ops.proofs.ModelLaws.{ZeroesPage-none, Zeroes-none, need-zero}
 use Rattle.vmo_ops.specs.declared.zeroing.ZeroCost.{ZeroCost}
 use Rattle.vmo_ops.specs.Costs.{held_touched}
 use Rattle.vmo_ops.specs.Targets.{IsPlaced, DoesWith}

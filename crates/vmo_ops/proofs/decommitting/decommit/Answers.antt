@@ -3,8 +3,8 @@ use Rattle.std.specs.Prelude.{IsSome}
 use Rattle.vm_base.specs.declared.limits.TheConstants.{PAGE}
 use Rattle.vm_model.specs.Contents.Content.{Content}
 use Rattle.vm_model.specs.Naming.Pins.{is_pinned}
-use Rattle.vm_model.proofs.ContentLaws.{used_le}
 use Rattle.pin_table.specs.Table.{pins_of}
+use Rattle.vmo_ops.proofs.ModelLaws.{used_le}
 use Rattle.vmo_ops.specs.Targets.{with_tables}
 use Rattle.vmo_ops.proofs.NameLaws.{named_vmo, named_lineage, named_inside}
 use Rattle.vmo_ops.proofs.DecommitLaws.{need-pages, none_within, decommit_denied, decommit_odd, decommit_kept, decommit_past, decommit_pinned, decommit_lacks, decommit_done}

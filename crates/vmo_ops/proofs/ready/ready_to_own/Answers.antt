@@ -1,7 +1,7 @@
 use Rattle.std.proofs.Common.{◌*◌, ◌+◌, sym, ap, ◌∙◌, arith}
 use Rattle.vm_base.specs.declared.limits.TheConstants.{PAGE}
 use Rattle.vm_model.specs.Contents.Owning.{need}
-use Rattle.vm_model.proofs.RangeLaws.{need-any}
+use Rattle.vmo_ops.proofs.ModelLaws.{need-any}
 use Rattle.vmo_ops.proofs.ChangeLaws.{IsRefusedBy-place, IsRefusedBy-no_memory, IsRefusedBy-lacks, IsAllowed-free}
 use Rattle.vmo_ops.proofs.NeedLaws.{need-at, HasRows-row}
 use Rattle.vmo_ops.proofs.ready.ready_to_own.Goals as goal
