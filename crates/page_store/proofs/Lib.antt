@@ -2,7 +2,6 @@ pub mod NameLaws
 pub mod RowLaws
 pub mod BoundLaws
 pub mod VmoLaws
-pub mod HeldLaws
 pub mod FlatLaws
 pub mod FlatFrames
 pub mod FlatOwning
