@@ -1,5 +1,5 @@
 -- Where the rows of a VMO and of a range of its pages stand, and what is found in a part of the rows.
-use Rattle.std.proofs.Common.{◌≡◌, ◌≢◌, ◌⊎◌, ℕ, zero, suc, ◌+◌, ◌<◌, ◌≤◌, false, cond, ◌&&◌, ◌==◌, List, [], ◌∷◌, ◌++◌, length, get_or, take, drop, Option, None, Some, refl, sym, ap, subst, ◌∙◌, inl, inr, arith}
+use Rattle.std.proofs.Common.{◌≡◌, ◌≢◌, ◌⊎◌, ℕ, zero, suc, ◌+◌, ◌<◌, ◌≤◌, Bool, true, false, cond, ◌&&◌, ◌==◌, List, [], ◌∷◌, ◌++◌, length, get_or, take, drop, Option, None, Some, refl, sym, ap, subst, ◌∙◌, inl, inr, arith}
 use Rattle.std.specs.List.{All, AllWithin, slice_range}
 use Rattle.std.specs.declared.cmp.Ordering.{Ordering}
 use Rattle.std.specs.declared.cmp.Ordering.TheVariants.{Less, Equal, Greater}
@@ -88,13 +88,10 @@ row_or (Some row) other = Some row
 find_row-append : (v p : ℕ) (xs ys : List Row) → find_row v p (xs ++ ys) ≡ row_or (find_row v p xs) (find_row v p ys)
 unfolding find_row row_or
 find_row-append v p [] ys = refl
-find_row-append v p (row ∷ rows) ys = elim (cases_Bool ((row.koid.0 == v) && (row.page == p))) [
-  | inl here ↦
-      ap (λ b. cond b (Some row) (find_row v p (rows ++ ys))) here ∙ sym (ap (λ b. row_or (cond b (Some row) (find_row v p rows)) (find_row v p ys)) here)
-  | inr there ↦
-      ap (λ b. cond b (Some row) (find_row v p (rows ++ ys))) there
-      ∙ (find_row-append v p rows ys ∙ sym (ap (λ b. row_or (cond b (Some row) (find_row v p rows)) (find_row v p ys)) there))
-]
+find_row-append v p (row ∷ rows) ys = go ((row.koid.0 == v) && (row.page == p)) (find_row v p (rows ++ ys)) (find_row-append v p rows ys) where
+  go : (b : Bool) (o : Option Row) → o ≡ row_or (find_row v p rows) (find_row v p ys) → cond b (Some row) o ≡ row_or (cond b (Some row) (find_row v p rows)) (find_row v p ys)
+  go true o rest = refl
+  go false o rest = rest
 
 pub find_row-right : (v p : ℕ) (xs ys : List Row) → find_row v p xs ≡ None → find_row v p (xs ++ ys) ≡ find_row v p ys
 unfolding row_or

@@ -99,8 +99,8 @@ comparisons_rise rows s v p = rises_from (λ row. ordering_index (row_cmp v p ro
 pub find_row-at : (rows : List Row) → IsSorted rows → (v p i : ℕ) → IsRowFor rows v p i → (d : Row) → find_row v p rows ≡ Some (get_or rows i d)
 find_row-at [] s v p i at d = absurd (let h = at.in_range in omega arith)
 find_row-at (row ∷ rows) s v p zero at d =
-    let same = cmp_same v p row.koid.0 row.page (at.is d) in
-    find_row-here v p row rows (and_from (row.koid.0 == v) (row.page == p) ((Decides-eqb row.koid.0 v).1 same.0) ((Decides-eqb row.page p).1 same.1))
+    let same = at.is d in
+    find_row-here v p row rows (grind (arith, nat_tests))
 find_row-at (row ∷ rows) s v p (suc i) at d =
     let h = at.in_range in
     let same = cmp_same v p (get_or rows i d).koid.0 (get_or rows i d).page (at.is d) in
@@ -114,10 +114,7 @@ find_row-at (row ∷ rows) s v p (suc i) at d =
 pub find_row-none : (rows : List Row) (v p : ℕ) → ((k : ℕ) → k < length rows → (d : Row) → ((row_cmp v p (get_or rows k d) ≡ Less) ⊎ (row_cmp v p (get_or rows k d) ≡ Greater))) → find_row v p rows ≡ None
 find_row-none [] v p each = find_row-nil v p
 find_row-none (row ∷ rows) v p each =
-    let apart : ((row.koid.0 == v) && (row.page == p)) ≡ false = elim (each 0 (omega arith) row) [
-      | inl less ↦ cmp_apart_less v p row.koid.0 row.page less
-      | inr greater ↦ cmp_apart_greater v p row.koid.0 row.page greater
-    ] in
+    let apart : ((row.koid.0 == v) && (row.page == p)) ≡ false = let here = each 0 (omega arith) row in grind (arith, nat_tests) in
     find_row-skip v p row rows apart ∙ find_row-none rows v p (λ k h d. each (suc k) (omega arith) d)
 
 pub find_row-gap : (rows : List Row) (v p i : ℕ) → IsGapFor rows v p i → find_row v p rows ≡ None
@@ -144,19 +141,14 @@ once false x y z = refl
 pub find_row-insert : (rows : List Row) (i : ℕ) (row : Row) → AllWithin (λ other. row_cmp row.koid.0 row.page other ≡ Less) rows 0 i → (w q : ℕ) →
     find_row w q (insert rows i row) ≡ cond ((w == row.koid.0) && (q == row.page)) (Some row) (find_row w q rows)
 find_row-insert rows zero row before w q =
-    find_row-cons w q row rows
-    ∙ ap (λ b. cond b (Some row) (find_row w q rows)) (swapped_row w q row)
+    rw (find_row-cons w q row rows) (grind (arith, nat_tests))
 find_row-insert [] (suc i) row before w q =
     find_row-cons w q row []
     ∙ ap (λ b. cond b (Some row) (find_row w q [])) (swapped_row w q row)
 find_row-insert (first ∷ rows) (suc i) row before w q =
     let rest = find_row-insert rows i row (λ k d l h. before (suc k) d (omega arith) (omega arith)) w q in
     let less : page_cmp row.koid.0 row.page first.koid.0 first.page ≡ Less = before 0 first (omega arith) (omega arith) in
-    find_row-cons w q first (insert rows i row)
-    ∙ (ap (λ o. cond ((first.koid.0 == w) && (first.page == q)) (Some first) o) rest
-    ∙ (swap_cond ((first.koid.0 == w) && (first.page == q)) ((w == row.koid.0) && (q == row.page)) (Some first) (Some row) (find_row w q rows)
-    (λ here there. grind (arith, nat_tests))
-    ∙ ap (λ o. cond ((w == row.koid.0) && (q == row.page)) (Some row) o) (sym (find_row-cons w q first rows))))
+    rw (find_row-cons w q first (insert rows i row), find_row-cons w q first rows, rest) (grind (arith, nat_tests))
 
 -- and the rows stay sorted
 behind_insert : (v p : ℕ) (rows : List Row) (i : ℕ) (row : Row) → AllBehind v p rows → row_cmp v p row ≡ Greater → AllBehind v p (insert rows i row)
@@ -207,24 +199,17 @@ pub find_row-set : (rows : List Row) (i : ℕ) (row : Row) → IsSorted rows →
     find_row w q (set rows i row) ≡ cond ((w == row.koid.0) && (q == row.page)) (Some row) (find_row w q rows)
 find_row-set [] i row s again w q = absurd (let h = again.in_range in omega arith)
 find_row-set (first ∷ rows) zero row s again w q =
-    let same = swapped_row w q row in
-    let was : ((first.koid.0 == w) && (first.page == q)) ≡ ((w == row.koid.0) && (q == row.page)) =
-    ap (λ (u : ℕ). (u == w) && (first.page == q)) (again.koid first) ∙ (ap (λ (r : ℕ). (row.koid.0 == w) && (r == q)) (again.page first) ∙ same) in
-    find_row-cons w q row rows
-    ∙ (ap (λ b. cond b (Some row) (find_row w q rows)) same
-    ∙ (once ((w == row.koid.0) && (q == row.page)) (Some row) (Some first) (find_row w q rows)
-    ∙ ap (λ o. cond ((w == row.koid.0) && (q == row.page)) (Some row) o) (sym (find_row-cons w q first rows ∙ ap (λ b. cond b (Some first) (find_row w q rows)) was))))
+    let koid = again.koid first in
+    let page = again.page first in
+    rw (find_row-cons w q row rows, find_row-cons w q first rows) (grind (arith, nat_tests))
 find_row-set (first ∷ rows) (suc i) row s again w q =
     let rest : IsRowAgain rows i row = record { in_range = let h = again.in_range in omega arith; koid = again.koid; page = again.page } in
     let behind : page_cmp first.koid.0 first.page (get_or rows i first).koid.0 (get_or rows i first).page ≡ Greater =
     behind_at first.koid.0 first.page rows (sorted_split first rows s).0 i first rest.in_range in
     let koid = again.koid first in
     let page = again.page first in
-    find_row-cons w q first (set rows i row)
-    ∙ (ap (λ o. cond ((first.koid.0 == w) && (first.page == q)) (Some first) o) (find_row-set rows i row (sorted_split first rows s).1 rest w q)
-    ∙ (swap_cond ((first.koid.0 == w) && (first.page == q)) ((w == row.koid.0) && (q == row.page)) (Some first) (Some row) (find_row w q rows)
-    (λ here there. grind (arith, nat_tests))
-    ∙ ap (λ o. cond ((w == row.koid.0) && (q == row.page)) (Some row) o) (sym (find_row-cons w q first rows))))
+    let other = find_row-set rows i row (sorted_split first rows s).1 rest w q in
+    rw (find_row-cons w q first (set rows i row), find_row-cons w q first rows, other) (grind (arith, nat_tests))
 
 -- ---- what a binary search answers
 

@@ -1,5 +1,5 @@
 -- The plain store with a snapshot: which content its lists stand for, and that they stay a plain store.
-use Rattle.std.proofs.Common.{◌≡◌, ◌≢◌, ℕ, suc, ◌+◌, ◌-◌, ◌^◌, ◌<◌, ◌≤◌, cond, ◌&&◌, ◌==◌, List, [], ◌∷◌, ◌++◌, length, map, get_or, Option, None, Some, is_some, refl, sym, ap, subst, ◌∙◌, inl, inr, arith}
+use Rattle.std.proofs.Common.{◌≡◌, ◌≢◌, ℕ, suc, ◌+◌, ◌-◌, ◌^◌, ◌<◌, ◌≤◌, Bool, true, false, cond, ◌&&◌, ◌==◌, List, [], ◌∷◌, ◌++◌, length, map, get_or, Option, None, Some, is_some, refl, sym, ap, subst, ◌∙◌, inl, inr, arith}
 use Rattle.std.specs.Prelude.{nat_lt}
 use Rattle.std.specs.List.{All, AllWithin, slice_range}
 use Rattle.std.specs.Option.{option_map}
@@ -43,14 +43,12 @@ find_row-moved koid v first p (row ∷ rows) from =
     let here = from 0 row (omega arith) in
     let rest = find_row-moved koid v first p rows (λ k d h. from (suc k) d (omega arith)) in
     let test = shift_test koid v first p row.koid.0 row.page here.0 here.1 in
-    ap (λ b. cond b (Some (row_in koid first row)) (find_row koid p (map (row_in koid first) rows))) test ∙ elim (cases_Bool ((row.koid.0 == v) && (row.page == (first + p)))) [
-      | inl found ↦
-          ap (λ b. cond b (Some (row_in koid first row)) (find_row koid p (map (row_in koid first) rows))) found
-          ∙ sym (ap (λ b. option_map (row_in koid first) (cond b (Some row) (find_row v (first + p) rows))) found)
-      | inr missed ↦
-          ap (λ b. cond b (Some (row_in koid first row)) (find_row koid p (map (row_in koid first) rows))) missed
-          ∙ (rest ∙ sym (ap (λ b. option_map (row_in koid first) (cond b (Some row) (find_row v (first + p) rows))) missed))
-    ]
+    ap (λ b. cond b (Some (row_in koid first row)) (find_row koid p (map (row_in koid first) rows))) test
+    ∙ go ((row.koid.0 == v) && (row.page == (first + p))) (find_row koid p (map (row_in koid first) rows)) rest where
+      go : (b : Bool) (o : Option Row) → o ≡ option_map (row_in koid first) (find_row v (first + p) rows)
+          → cond b (Some (row_in koid first row)) o ≡ option_map (row_in koid first) (cond b (Some row) (find_row v (first + p) rows))
+      go true o rest = refl
+      go false o rest = rest
 
 -- it has the frame of that page
 page_moved : (pool : Pool) (koid first : ℕ) (o : Option Row) → page_of_row pool (option_map (row_in koid first) o) ≡ page_of_row pool o

@@ -71,22 +71,20 @@ ascending_at (vmo ∷ vmos) s (suc i) (suc j) d l h = ascending_at vmos (ascendi
 -- the VMO that stands at the koid's place is found
 pub count_in-at : (vmos : List Vmo) → IsAscending vmos → (v i : ℕ) → IsVmoFor vmos v i → (d : Vmo) → count_in v vmos ≡ Some (get_or vmos i d).count
 count_in-at [] s v i at d = absurd (let h = at.in_range in omega arith)
-count_in-at (vmo ∷ vmos) s v zero at d = count_in-cons v vmo vmos ∙ ap (λ b. cond b (Some vmo.count) (count_in v vmos)) (eq-eqb vmo.koid.0 v (at.is d))
+count_in-at (vmo ∷ vmos) s v zero at d = let same = at.is d in rw (count_in-cons v vmo vmos) (grind (arith, nat_tests))
 count_in-at (vmo ∷ vmos) s v (suc i) at d =
     let h = at.in_range in
     let same : (get_or vmos i d).koid.0 ≡ v = at.is d in
     let above = above_at vmo.koid.0 vmos (ascending_parts vmo vmos s).0 i d (omega arith) in
-    count_in-cons v vmo vmos
-    ∙ (ap (λ b. cond b (Some vmo.count) (count_in v vmos)) (ne_eqb vmo.koid.0 v (λ e. omega arith))
-    ∙ count_in-at vmos (ascending_parts vmo vmos s).1 v i (record { in_range = omega arith; is = at.is }) d)
+    let rest = count_in-at vmos (ascending_parts vmo vmos s).1 v i (record { in_range = omega arith; is = at.is }) d in
+    rw (count_in-cons v vmo vmos, rest) (grind (arith, nat_tests))
 
 -- where no VMO has the koid, none is found
 count_in-none : (vmos : List Vmo) (v : ℕ) → ((k : ℕ) (d : Vmo) → k < length vmos → (get_or vmos k d).koid.0 ≢ v) → count_in v vmos ≡ None
 count_in-none [] v each = count_in-nil v
 count_in-none (vmo ∷ vmos) v each =
-    count_in-cons v vmo vmos
-    ∙ (ap (λ b. cond b (Some vmo.count) (count_in v vmos)) (ne_eqb vmo.koid.0 v (each 0 vmo (omega arith)))
-    ∙ count_in-none vmos v (λ k d h. each (suc k) d (omega arith)))
+    let apart = each 0 vmo (omega arith) in
+    rw (count_in-cons v vmo vmos, count_in-none vmos v (λ k d h. each (suc k) d (omega arith))) (grind (arith, nat_tests))
 
 -- ---- what a binary search answers
 
@@ -127,14 +125,11 @@ ascending_push (first ∷ vmos) vmo s below =
     (ascending_push vmos vmo (ascending_parts first vmos s).1 (λ i d h. below (suc i) d (omega arith)))
 
 pub count_in-push : (vmos : List Vmo) (vmo : Vmo) → AllBelow vmos vmo.koid.0 → (v : ℕ) → count_in v (vmos ++ vmo ∷ []) ≡ cond (v == vmo.koid.0) (Some vmo.count) (count_in v vmos)
-count_in-push [] vmo below v =
-    count_in-cons v vmo [] ∙ ap (λ b. cond b (Some vmo.count) (count_in v [])) (eqb_flip vmo.koid.0 v)
+count_in-push [] vmo below v = rw (count_in-cons v vmo []) (grind (arith, nat_tests))
 count_in-push (first ∷ vmos) vmo below v =
-    count_in-cons v first (vmos ++ vmo ∷ [])
-    ∙ (ap (λ o. cond (first.koid.0 == v) (Some first.count) o) (count_in-push vmos vmo (λ i d h. below (suc i) d (omega arith)) v)
-    ∙ (swap_cond (first.koid.0 == v) (v == vmo.koid.0) (Some first.count) (Some vmo.count) (count_in v vmos)
-    (λ here there. let low = below 0 first (omega arith) in let a = eqb-true first.koid.0 v here in let b = eqb-true v vmo.koid.0 there in omega arith)
-    ∙ ap (λ o. cond (v == vmo.koid.0) (Some vmo.count) o) (sym (count_in-cons v first vmos))))
+    let low = below 0 first (omega arith) in
+    let rest = count_in-push vmos vmo (λ i d h. below (suc i) d (omega arith)) v in
+    rw (count_in-cons v first (vmos ++ vmo ∷ []), count_in-cons v first vmos, rest) (grind (arith, nat_tests))
 
 -- ---- a VMO leaves
 
@@ -174,27 +169,16 @@ ascending_remove (vmo ∷ vmos) (suc i) rises =
 -- the others keep their page counts
 pub count_in-remove : (vmos : List Vmo) (i v : ℕ) → IsAscending vmos → i < length vmos → ((d : Vmo) → (get_or vmos i d).koid.0 ≡ v) → (w : ℕ) → count_in w (remove vmos i) ≡ cond (not (w == v)) (count_in w vmos) None
 count_in-remove [] i v rises h at w = absurd (omega arith)
-count_in-remove (vmo ∷ vmos) zero v rises h at w = elim (cases_eq w v) [
-  | inl same ↦
-      let none : count_in w vmos ≡ None = ap (λ (k : ℕ). count_in k vmos) (same ∙ sym (at vmo)) ∙ count_in-above vmo.koid.0 vmos (ascending_parts vmo vmos rises).0 in
-      none ∙ sym (cond-false (not (w == v)) (count_in w (vmo ∷ vmos)) None (not_from_true (w == v) (eq-eqb w v same)))
-  | inr apart ↦
-      let koid = at vmo in
-      sym (count_in-skip w vmo vmos (λ e. apart (sym e ∙ koid))) ∙ sym (cond-true (not (w == v)) (count_in w (vmo ∷ vmos)) None (not_from_false (w == v) (ne_eqb w v apart)))
-]
+count_in-remove (vmo ∷ vmos) zero v rises h at w =
+    let koid = at vmo in
+    let none : count_in v vmos ≡ None = ap (λ (k : ℕ). count_in k vmos) (sym koid) ∙ count_in-above vmo.koid.0 vmos (ascending_parts vmo vmos rises).0 in
+    rw (count_in-cons w vmo vmos) (grind (arith, nat_tests))
 count_in-remove (vmo ∷ vmos) (suc i) v rises h at w =
     let parts = ascending_parts vmo vmos rises in
     let up = above_at vmo.koid.0 vmos parts.0 i vmo (omega arith) in
     let is = at vmo in
     let rest = count_in-remove vmos i v parts.1 (omega arith) at w in
-    elim (cases_eq vmo.koid.0 w) [
-      | inl here ↦
-          count_in-here w vmo (remove vmos i) here
-          ∙ (sym (count_in-here w vmo vmos here) ∙ sym (cond-true (not (w == v)) (count_in w (vmo ∷ vmos)) None (not_from_false (w == v) (ne_eqb w v (omega arith)))))
-      | inr there ↦
-          count_in-skip w vmo (remove vmos i) there
-          ∙ (rest ∙ ap (λ o. cond (not (w == v)) o None) (sym (count_in-skip w vmo vmos there)))
-    ]
+    rw (count_in-cons w vmo (remove vmos i), count_in-cons w vmo vmos, rest) (grind (arith, nat_tests))
 
 -- ---- a VMO with another page count
 
@@ -223,23 +207,13 @@ ascending_set (first ∷ vmos) (suc i) vmo rises again =
 -- it has its new count, and the others keep theirs
 pub count_in-set : (vmos : List Vmo) (i : ℕ) (vmo : Vmo) → IsAscending vmos → IsVmoAgain vmos i vmo → (w : ℕ) → count_in w (set vmos i vmo) ≡ cond (w == vmo.koid.0) (Some vmo.count) (count_in w vmos)
 count_in-set [] i vmo rises again w = absurd (let h = again.in_range in omega arith)
-count_in-set (first ∷ vmos) zero vmo rises again w = elim (cases_eq w vmo.koid.0) [
-  | inl same ↦ count_in-here w vmo vmos (sym same) ∙ sym (cond-true (w == vmo.koid.0) (Some vmo.count) (count_in w (first ∷ vmos)) (eq-eqb w vmo.koid.0 same))
-  | inr apart ↦
-      count_in-skip w vmo vmos (λ e. apart (sym e))
-      ∙ (sym (count_in-skip w first vmos (λ e. apart (sym e ∙ again.koid first))) ∙ sym (cond-false (w == vmo.koid.0) (Some vmo.count) (count_in w (first ∷ vmos)) (ne_eqb w vmo.koid.0 apart)))
-]
+count_in-set (first ∷ vmos) zero vmo rises again w =
+    let koid = again.koid first in
+    rw (count_in-cons w vmo vmos, count_in-cons w first vmos) (grind (arith, nat_tests))
 count_in-set (first ∷ vmos) (suc i) vmo rises again w =
     let parts = ascending_parts first vmos rises in
     let rest = again_behind first vmos i vmo again in
-    elim (cases_eq first.koid.0 w) [
-      | inl here ↦
-          let up = above_at first.koid.0 vmos parts.0 i vmo rest.in_range in
-          let koid = again.koid vmo in
-          let apart : w ≢ vmo.koid.0 = omega arith in
-          count_in-here w first (set vmos i vmo) here
-          ∙ (sym (count_in-here w first vmos here) ∙ sym (cond-false (w == vmo.koid.0) (Some vmo.count) (count_in w (first ∷ vmos)) (ne_eqb w vmo.koid.0 apart)))
-      | inr there ↦
-          count_in-skip w first (set vmos i vmo) there
-          ∙ (count_in-set vmos i vmo parts.1 rest w ∙ ap (λ o. cond (w == vmo.koid.0) (Some vmo.count) o) (sym (count_in-skip w first vmos there)))
-    ]
+    let up = above_at first.koid.0 vmos parts.0 i vmo rest.in_range in
+    let koid = again.koid vmo in
+    let others = count_in-set vmos i vmo parts.1 rest w in
+    rw (count_in-cons w first (set vmos i vmo), count_in-cons w first vmos, others) (grind (arith, nat_tests))
