@@ -1,6 +1,6 @@
 -- What becomes of the frames that are taken and of their bytes, and of how many are taken.
-use Rattle.std.proofs.Common.{◌≡◌, ◌≢◌, ℕ, zero, suc, ◌+◌, ◌-◌, ◌<◌, ◌≤◌, Bool, true, false, cond, ◌||◌, ◌==◌, List, [], ◌∷◌, ◌++◌, length, get_or, set, slice_get, Option, None, Some, IsSome, is_some, unwrap_or, refl, sym, ap, subst, ◌∙◌, inl, inr, arith, length-set}
-use Rattle.std.proofs.lemmas.Bool.{cases_Bool, or_parts, or_from, eqb-true, ne_eqb, eq-eqb}
+use Rattle.std.proofs.Common.{◌≡◌, ◌≢◌, ℕ, zero, suc, ◌+◌, ◌-◌, ◌<◌, ◌≤◌, Bool, true, false, cond, ◌==◌, List, [], ◌∷◌, ◌++◌, length, get_or, set, slice_get, Option, None, Some, IsSome, is_some, unwrap_or, refl, sym, ap, subst, ◌∙◌, arith, length-set}
+use Rattle.std.proofs.lemmas.Bool.{or_parts, or_from, ne_eqb, eq-eqb}
 use Rattle.std.proofs.lemmas.Bool.Decides.{nat_tests}
 use Rattle.std.proofs.lemmas.List.{length_push, append-nil}
 use Rattle.std.proofs.lemmas.Option.{slice_get-get_or, slice_get_past, slice_get_within}
@@ -49,29 +49,15 @@ module _ (n t : ℕ) (m : ℕ → Option (List ℕ)) (h : t < n) where
 
 -- ---- tags in the list of idle ones
 
-or_cond : (a b c : Bool) → (a || cond b true c) ≡ cond b true (a || c)
-or_cond true true c = refl
-or_cond true false c = refl
-or_cond false b c = refl
-
 -- a test of two numbers, either way
 pub eqb_flip : (a b : ℕ) → (a == b) ≡ (b == a)
 eqb_flip a b = grind (arith, nat_tests)
 
-cond_id : (b : Bool) → b ≡ cond b true false
-cond_id true = refl
-cond_id false = refl
-
-or_false : (b : Bool) → (b || false) ≡ b
-or_false true = refl
-or_false false = refl
-
 is_idle-push : (tags : List Tag) (tag : Tag) (u : ℕ) →
     is_idle (tags ++ tag ∷ []) u ≡ cond (u == tag.0) true (is_idle tags u)
 unfolding is_idle
-is_idle-push [] tag u = or_false (tag.0 == u) ∙ (eqb_flip tag.0 u ∙ cond_id (u == tag.0))
-is_idle-push (s ∷ tags) tag u =
-    ap (λ b. (s.0 == u) || b) (is_idle-push tags tag u) ∙ or_cond (s.0 == u) (u == tag.0) (is_idle tags u)
+is_idle-push [] tag u = grind (arith, nat_tests)
+is_idle-push (s ∷ tags) tag u = let rest = is_idle-push tags tag u in rw rest (grind (arith, nat_tests))
 
 -- a tag past the bound is not idle
 is_idle-past : (n : ℕ) (tags : List Tag) (u : ℕ) → AreDistinctBelow n tags → n ≤ u → is_idle tags u ≡ false
@@ -170,15 +156,7 @@ frame_bytes-read p t frame taken read =
 shows_at : (idle : List Tag) (t u : ℕ) (bytes : List ℕ) (o : Option (List ℕ)) → is_idle idle t ≡ false →
     cond (is_idle idle u) None (cond (u == t) (Some bytes) o) ≡ cond (u == t) (Some bytes)
     (cond (is_idle idle u) None o)
-shows_at idle t u bytes o free = elim (cases_Bool (u == t)) [
-  | inl same ↦
-      let not_idle : is_idle idle u ≡ false = ap (is_idle idle) (eqb-true u t same) ∙ free in
-      ap (λ b. cond b None (cond (u == t) (Some bytes) o)) not_idle
-      ∙ ap (λ o'. cond (u == t) (Some bytes) o') (sym (ap (λ b. cond b None o) not_idle))
-  | inr other ↦
-      ap (λ b. cond (is_idle idle u) None (cond b (Some bytes) o)) other
-      ∙ sym (ap (λ b. cond b (Some bytes) (cond (is_idle idle u) None o)) other)
-]
+shows_at idle t u bytes o free = grind (arith, nat_tests)
 
 no_entry : (b : Bool) → cond {A = Option (List ℕ)} b None None ≡ None
 no_entry true = refl

@@ -3,9 +3,9 @@ use Rattle.std.proofs.Common.{◌≡◌, ◌≢◌, ◌⊎◌, ℕ, ◌+◌, ◌
 use Rattle.std.specs.Prelude.{IsSome, is_some, nat_lt, unwrap_or}
 use Rattle.std.specs.List.{insert}
 use Rattle.std.specs.declared.cmp.Ordering.TheVariants.{Equal}
-use Rattle.std.proofs.lemmas.Bool.{cases_eq, ne_eqb, eq-eqb, eqb-true, both_ways}
+use Rattle.std.proofs.lemmas.Bool.{ne_eqb, eq-eqb, eqb-true, both_ways}
 use Rattle.std.proofs.lemmas.Bool.Decides.{nat_tests}
-use Rattle.std.proofs.lemmas.List.{get_or_read, get_or-set_same, get_or-set_other}
+use Rattle.std.proofs.lemmas.List.{get_or_read}
 use Rattle.vm_base.specs.declared.limits.TheConstants.{PAGE}
 use Rattle.vm_base.specs.Entries.{with_key}
 use Rattle.frame_pool.specs.Pool.{Pool, taken_frames, frame_bytes, taken_count, Takes}
@@ -22,7 +22,7 @@ use Rattle.page_store.specs.Vmos.{count_in, IsAscending}
 use Rattle.page_store.specs.Flat.{Flat, page_of_row, content_of, IsFlat}
 use Rattle.page_store.specs.Shares.{rows_with}
 use Rattle.page_store.proofs.RowLaws.{IsRowAgain, page_cmp, cmp_itself, cmp_same, find_row-insert, sorted_insert, find_row-set, sorted_set}
-use Rattle.page_store.proofs.ShareLaws.{one_at, none_at, rows_with-insert, rows_with-set}
+use Rattle.page_store.proofs.ShareLaws.{set_at, rows_with-insert, rows_with-set}
 use Rattle.page_store.proofs.FlatLaws.{same_content, frames-content, page-content, page_from, some_page, page_of_row-some, page_of_row-none, page_at_row, page_in_gap}
 use Rattle.page_store.proofs.FlatFrames.{free_in_use, used_taken, IsFrameOf-held, sole_share, share_below}
 
@@ -146,27 +146,16 @@ free_share f t flat free = no_share (get_or f.shares t 0) (sym (flat.counted.tak
 
 -- the frame t, which was free, is shown once
 shares_zero : (shares : List ℕ) (t : ℕ) → get_or shares t 0 ≡ 0 → t < length shares → (u : ℕ) → get_or (set shares t 1) u 0 ≡ get_or shares u 0 + cond (t == u) 1 0
-shares_zero shares t none low u = elim (cases_eq u t) [
-  | inl same ↦
-      let here : get_or (set shares t 1) u 0 ≡ 1 = ap (λ (k : ℕ). get_or (set shares t 1) k 0) same ∙ get_or-set_same shares t 1 0 low in
-      let was : get_or shares u 0 ≡ 0 = ap (λ (k : ℕ). get_or shares k 0) same ∙ none in
-      omega (arith, one_at t u (sym same))
-  | inr apart ↦ omega (arith, get_or-set_other shares t u 1 0 apart, none_at t u (λ e. apart (sym e)))
-]
+shares_zero shares t none low u = let at = set_at shares t 1 u low in grind (arith, nat_tests)
 
 -- and the frame s, which had two viewers, once less
 shares_held : (shares : List ℕ) (s t : ℕ) → s ≢ t → get_or shares t 0 ≡ 0 → t < length shares → s < length shares → 1 ≤ get_or shares s 0 →
     (u : ℕ) → get_or (set (set shares s (get_or shares s 0 - 1)) t 1) u 0 + cond (s == u) 1 0 ≡ get_or shares u 0 + cond (t == u) 1 0
 shares_held shares s t distinct none low below some u =
-    let fewer = set shares s (get_or shares s 0 - 1) in
     let size = length-set shares s (get_or shares s 0 - 1) in
-    let more = shares_zero fewer t (get_or-set_other shares s t _ 0 (λ e. distinct (sym e)) ∙ none) (omega arith) u in
-    elim (cases_eq u s) [
-      | inl same ↦
-          let here : get_or fewer u 0 ≡ get_or shares s 0 - 1 = ap (λ (k : ℕ). get_or fewer k 0) same ∙ get_or-set_same shares s _ 0 below in
-          omega (arith, ap (λ (k : ℕ). get_or shares k 0) same, one_at s u (sym same))
-      | inr apart ↦ omega (arith, get_or-set_other shares s u (get_or shares s 0 - 1) 0 apart, none_at s u (λ e. apart (sym e)))
-    ]
+    let less = set_at shares s (get_or shares s 0 - 1) u below in
+    let more = set_at (set shares s (get_or shares s 0 - 1)) t 1 u (omega arith) in
+    grind (arith, nat_tests)
 
 -- g is a plain store, and owning page p of v leads from f to it
 pub record IsOwned (f g : Flat) (v p t : ℕ) : Type 0 where

@@ -1,12 +1,12 @@
 -- What is found in sorted rows, and what a new row changes.
-use Rattle.std.proofs.Common.{◌≡◌, ◌⊎◌, ℕ, zero, suc, ◌<◌, ◌≤◌, Bool, true, false, cond, ◌&&◌, ◌==◌, List, [], ◌∷◌, length, get_or, set, None, Some, Result, Ok, Err, IfOk, IfErr, refl, sym, ap, subst, ◌∙◌, inl, inr, arith}
+use Rattle.std.proofs.Common.{◌≡◌, ◌⊎◌, ℕ, zero, suc, ◌<◌, ◌≤◌, true, false, cond, ◌&&◌, ◌==◌, List, [], ◌∷◌, length, get_or, set, None, Some, Result, Ok, Err, IfOk, IfErr, refl, sym, ap, subst, ◌∙◌, inl, inr, arith}
 use Rattle.std.specs.List.{insert, AllWithin}
 use Rattle.std.specs.List.Sorted.{IsNonDecreasingBy, IsSearchInRange, IsBinarySearchResult}
 use Rattle.std.specs.declared.cmp.Ordering.{Ordering}
 use Rattle.std.specs.declared.cmp.Ordering.TheVariants.{Less, Equal, Greater}
 use Rattle.std.specs.Ordering.{nat_cmp, ordering_then, ordering_index}
-use Rattle.std.proofs.lemmas.Bool.{cases_order, and_from}
-use Rattle.std.proofs.lemmas.Bool.Decides.{nat_tests, Decides-eqb}
+use Rattle.std.proofs.lemmas.Bool.{cases_order}
+use Rattle.std.proofs.lemmas.Bool.Decides.{nat_tests}
 use Rattle.frame_pool.proofs.PoolLaws.{eqb_flip}
 use Rattle.page_store.specs.declared.rows.Row.{Row}
 use Rattle.page_store.specs.Rows.{row_cmp, find_row, AllBehind, IsSorted, IsRowFor, IsGapFor}
@@ -123,21 +123,10 @@ find_row-gap rows v p i gap = find_row-none rows v p (λ k h d. elim (cases_orde
   | inr other ↦ elim other [ inl less ↦ inl (gap.before k d (omega arith) less) | inr more ↦ inr (gap.behind k d (omega arith) h) ]
 ])
 
--- a new row in the gap is found at its page, and at every other page what was found
 swapped_row : (w q : ℕ) (row : Row) → ((row.koid.0 == w) && (row.page == q)) ≡ ((w == row.koid.0) && (q == row.page))
 swapped_row w q row = ap (λ b. b && (row.page == q)) (eqb_flip row.koid.0 w) ∙ ap (λ b. (w == row.koid.0) && b) (eqb_flip row.page q)
 
--- the order of two tests that do not both pass
-pub swap_cond : {X : Type 0} (a b : Bool) (x y z : X) → (a ≡ true → b ≡ true → ⊥) → cond a x (cond b y z) ≡ cond b y (cond a x z)
-swap_cond true true x y z apart = absurd (apart refl refl)
-swap_cond true false x y z apart = refl
-swap_cond false b x y z apart = refl
-
--- a test that was made already
-once : {X : Type 0} (b : Bool) (x y z : X) → cond b x z ≡ cond b x (cond b y z)
-once true x y z = refl
-once false x y z = refl
-
+-- a new row in the gap is found at its page, and at every other page what was found
 pub find_row-insert : (rows : List Row) (i : ℕ) (row : Row) → AllWithin (λ other. row_cmp row.koid.0 row.page other ≡ Less) rows 0 i → (w q : ℕ) →
     find_row w q (insert rows i row) ≡ cond ((w == row.koid.0) && (q == row.page)) (Some row) (find_row w q rows)
 find_row-insert rows zero row before w q =

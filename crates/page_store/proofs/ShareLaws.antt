@@ -2,7 +2,7 @@
 use Rattle.std.proofs.Common.{◌≡◌, ◌≢◌, ℕ, zero, suc, ◌+◌, ◌-◌, ◌<◌, ◌≤◌, Bool, cond, ◌==◌, List, [], ◌∷◌, ◌++◌, length, map, get_or, set, take, drop, Option, None, Some, is_some, IsSome, refl, sym, ap, subst, ◌∙◌, inl, inr, arith, length-set, get_or-set_same, get_or-set_other}
 use Rattle.std.specs.Prelude.{nat_lt, MatchOption, unwrap_or}
 use Rattle.std.specs.List.{AllWithin, HoldsAt, slice_range, insert}
-use Rattle.std.proofs.lemmas.Bool.{cases_Bool, cases_eq, cases_lt, eqb-true, eqb-false, eq-eqb, ne_eqb, lt-ltb}
+use Rattle.std.proofs.lemmas.Bool.{cases_Bool, cases_eq, cases_lt, eqb-true, eqb-false, eq-eqb, ne_eqb, lt-ltb, cond-true, cond-false}
 use Rattle.std.proofs.lemmas.Bool.Decides.{nat_tests}
 use Rattle.std.proofs.lemmas.List.{take-append-drop, take-take, take_more, get_or_past, append-nil, append_assoc, map_push, get_or_append_left}
 use Rattle.std.proofs.lemmas.List.Edits.{between_none, between_more, split_between}
@@ -101,6 +101,13 @@ rows_with-found t (row ∷ rows) h = elim (cases_Bool (row.tag.0 == t)) [
 
 -- ---- shared once more
 
+-- a list of counts where one is set
+pub set_at : (xs : List ℕ) (i n t : ℕ) → i < length xs → get_or (set xs i n) t 0 ≡ cond (i == t) n (get_or xs t 0)
+set_at xs i n t h = elim (cases_eq t i) [
+  | inl same ↦ ap (λ (k : ℕ). get_or (set xs i n) k 0) same ∙ (get_or-set_same xs i n 0 h ∙ sym (cond-true (i == t) n (get_or xs t 0) (eq-eqb i t (sym same))))
+  | inr apart ↦ get_or-set_other xs i t n 0 apart ∙ sym (cond-false (i == t) n (get_or xs t 0) (ne_eqb i t (λ e. apart (sym e))))
+]
+
 pub Shares-nil : (shares : List ℕ) → Shares [] shares shares
 Shares-nil shares = record { size = refl; counts = λ t. omega (arith, rows_with-nil t) }
 
@@ -110,18 +117,8 @@ Shares-more rows row old now shares low = record {
   counts = λ t.
       let was = shares.counts t in
       let more = rows_with-push t rows row in
-      elim (cases_Bool (row.tag.0 == t)) [
-        | inl here ↦
-            let same = eqb-true row.tag.0 t here in
-            let set_now : get_or (set now row.tag.0 (get_or now row.tag.0 0 + 1)) t 0 ≡ get_or now row.tag.0 0 + 1 =
-            ap (λ (k : ℕ). get_or (set now row.tag.0 (get_or now row.tag.0 0 + 1)) k 0) (sym same) ∙ get_or-set_same now row.tag.0 _ 0 (omega (arith, shares.size)) in
-            let is : get_or now row.tag.0 0 ≡ get_or now t 0 = ap (λ (k : ℕ). get_or now k 0) same in
-            omega (arith, one_at row.tag.0 t same)
-        | inr there ↦
-            let apart = eqb-false row.tag.0 t there in
-            let kept : get_or (set now row.tag.0 (get_or now row.tag.0 0 + 1)) t 0 ≡ get_or now t 0 = get_or-set_other now row.tag.0 t _ 0 (λ e. apart (sym e)) in
-            omega (arith, none_at row.tag.0 t apart)
-      ];
+      let at = set_at now row.tag.0 (get_or now row.tag.0 0 + 1) t (omega (arith, shares.size)) in
+      grind (arith, nat_tests);
 }
 
 -- a row that was read among those before the new ones
@@ -174,39 +171,17 @@ released_count : (rows : List Row) (row : Row) (old now : List ℕ) (n : ℕ) �
 released_count rows row old now n counts one low t =
     let was = counts t in
     let more = rows_with-push t rows row in
-    elim (cases_Bool (row.tag.0 == t)) [
-      | inl here ↦
-          let same = eqb-true row.tag.0 t here in
-          let set_now : get_or (set now row.tag.0 n) t 0 ≡ n = ap (λ (k : ℕ). get_or (set now row.tag.0 n) k 0) (sym same) ∙ get_or-set_same now row.tag.0 n 0 low in
-          let is : get_or now row.tag.0 0 ≡ get_or now t 0 = ap (λ (k : ℕ). get_or now k 0) same in
-          omega (arith, one_at row.tag.0 t same)
-      | inr there ↦
-          let apart = eqb-false row.tag.0 t there in
-          let kept : get_or (set now row.tag.0 n) t 0 ≡ get_or now t 0 = get_or-set_other now row.tag.0 t n 0 (λ e. apart (sym e)) in
-          omega (arith, none_at row.tag.0 t apart)
-    ]
+    let at = set_at now row.tag.0 n t low in
+    grind (arith, nat_tests)
 
 -- a count above 0 belongs to a frame
 counted_low : (shares : List ℕ) (t n : ℕ) → get_or shares t 0 ≡ n + 1 → t < length shares
 counted_low shares t n e = elim (cases_lt t (length shares)) [ inl low ↦ low | inr past ↦ absurd (omega (arith, get_or_past shares t 0 past)) ]
 
 -- the frame of the row is shown by other rows too
-counted_other : (now : List ℕ) (t u n : ℕ) → u ≢ t → get_or (set now t n) u 0 ≡ get_or now u 0
-counted_other now t u n apart = get_or-set_other now t u n 0 apart
-
-test_above : (a b : ℕ) → 0 < a → 0 < b → nat_lt 0 a ≡ nat_lt 0 b
-test_above a b h k = grind (arith, nat_tests)
-
 still_counted : (now : List ℕ) (t n : ℕ) (pool : Pool) → AreTakenWhereShared now pool → get_or now t 0 ≡ n + 1 → 0 < n → AreTakenWhereShared (set now t n) pool
 still_counted now t n pool counted one more = record {
-  taken = λ u. counted.taken u ∙ elim (cases_eq u t) [
-    | inl same ↦
-        let low = counted_low now t n one in
-        let is : get_or (set now t n) u 0 ≡ n = ap (λ (k : ℕ). get_or (set now t n) k 0) same ∙ get_or-set_same now t n 0 low in
-        let was : get_or now u 0 ≡ n + 1 = ap (λ (k : ℕ). get_or now k 0) same ∙ one in
-        test_above (get_or now u 0) (get_or (set now t n) u 0) (omega arith) (omega arith)
-    | inr apart ↦ ap (nat_lt 0) (sym (counted_other now t u n apart))
-  ];
+  taken = λ u. counted.taken u ∙ (let at = set_at now t n u (counted_low now t n one) in grind (arith, nat_tests));
 }
 
 -- One row more is released, and its frame stays.
@@ -216,10 +191,7 @@ Releases-kept rows row old now before pool n done one more = record {
   counts = released_count rows row old now n done.counts one (counted_low now row.tag.0 n one);
   frames = done.frames;
   counted = still_counted now row.tag.0 n pool done.counted one more;
-  kept = λ u h. elim (cases_eq u row.tag.0) [
-    | inl same ↦ let was : get_or now u 0 ≡ n + 1 = ap (λ (k : ℕ). get_or now k 0) same ∙ one in done.kept u (omega arith)
-    | inr apart ↦ let other = counted_other now row.tag.0 u n apart in done.kept u (omega arith)
-  ];
+  kept = λ u h. done.kept u (let at = set_at now row.tag.0 n u (counted_low now row.tag.0 n one) in grind (arith, nat_tests));
 }
 
 given_counted : (now : List ℕ) (t : ℕ) (pool after : Pool) → AreTakenWhereShared now pool → t < length now → taken_frames after ≡ without_key (taken_frames pool) t → AreTakenWhereShared (set now t 0) after
@@ -229,7 +201,7 @@ given_counted now t pool after counted low given = record {
         let is : get_or (set now t 0) u 0 ≡ 0 = ap (λ (k : ℕ). get_or (set now t 0) k 0) same ∙ get_or-set_same now t 0 0 low in
         ap is_some (ap (without_key (taken_frames pool) t) same ∙ without_key-same (taken_frames pool) t) ∙ ap (nat_lt 0) (sym is)
     | inr apart ↦
-        ap is_some (without_key-other (taken_frames pool) t u apart) ∙ (counted.taken u ∙ ap (nat_lt 0) (sym (counted_other now t u 0 apart)))
+        ap is_some (without_key-other (taken_frames pool) t u apart) ∙ (counted.taken u ∙ ap (nat_lt 0) (sym (get_or-set_other now t u 0 0 apart)))
   ];
 }
 
@@ -243,13 +215,11 @@ Releases-given rows row old now before pool after done one frames given =
       counts = released_count rows row old now 0 done.counts one low;
       frames = frames ∙ done.frames;
       counted = given_counted now row.tag.0 pool after done.counted low given;
-      kept = λ u h. elim (cases_eq u row.tag.0) [
-        | inl same ↦
-            let is : get_or (set now row.tag.0 0) u 0 ≡ 0 = ap (λ (k : ℕ). get_or (set now row.tag.0 0) k 0) same ∙ get_or-set_same now row.tag.0 0 0 low in absurd (omega arith)
-        | inr apart ↦
-            let other = counted_other now row.tag.0 u 0 apart in
-            ap (λ (m : ℕ → Option (List ℕ)). m u) given ∙ (without_key-other (taken_frames pool) row.tag.0 u apart ∙ done.kept u (omega arith))
-      ];
+      kept = λ u h.
+          let at = set_at now row.tag.0 0 u low in
+          let apart : u ≢ row.tag.0 = λ same. grind (arith, nat_tests) in
+          ap (λ (m : ℕ → Option (List ℕ)). m u) given
+          ∙ (without_key-other (taken_frames pool) row.tag.0 u apart ∙ done.kept u (omega (arith, h, get_or-set_other now row.tag.0 u 0 0 apart)));
     }
 
 -- ---- one turn of the release

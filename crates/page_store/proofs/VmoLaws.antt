@@ -5,15 +5,14 @@ use Rattle.std.specs.List.{remove}
 use Rattle.std.specs.List.Sorted.{IsSearchInRange, IsBinarySearchResult}
 use Rattle.std.specs.declared.cmp.Ordering.TheVariants.{Less, Equal, Greater}
 use Rattle.std.specs.Ordering.{nat_cmp, ordering_index}
-use Rattle.std.proofs.lemmas.Bool.{cases_order, cases_eq, eqb-true, ne_eqb, eq-eqb, not_from_true, not_from_false, cond-true, cond-false}
+use Rattle.std.proofs.lemmas.Bool.{cases_order, ne_eqb, eq-eqb, cond-true, cond-false}
 use Rattle.std.proofs.lemmas.Bool.Decides.{nat_tests}
 use Rattle.std.proofs.lemmas.List.{get_or_default}
-use Rattle.frame_pool.proofs.PoolLaws.{eqb_flip}
 use Rattle.vm_base.specs.Search.{count_below}
 use Rattle.vm_base.proofs.SearchLaws.{count_below_none, count_below_one_more}
 use Rattle.page_store.specs.declared.vmos.Vmo.{Vmo}
 use Rattle.page_store.specs.Vmos.{count_in, AllAbove, IsAscending, IsVmoFor}
-use Rattle.page_store.proofs.RowLaws.{rises_from, swap_cond}
+use Rattle.page_store.proofs.RowLaws.{rises_from}
 
 -- ---- numbers in order
 

@@ -187,27 +187,23 @@ length-kind_word Snapshot = omega arith
 length-kind_word Slice = omega arith
 length-kind_word Reference = omega arith
 
--- the numbers below 8
-eight_cases : (P : ℕ → Type 0) → P 0 → P 1 → P 2 → P 3 → P 4 → P 5 → P 6 → P 7 → (n : ℕ) → n < 8 → P n
-eight_cases P a b c d e f g h zero lt = a
-eight_cases P a b c d e f g h (suc zero) lt = b
-eight_cases P a b c d e f g h (suc (suc zero)) lt = c
-eight_cases P a b c d e f g h (suc (suc (suc zero))) lt = d
-eight_cases P a b c d e f g h (suc (suc (suc (suc zero)))) lt = e
-eight_cases P a b c d e f g h (suc (suc (suc (suc (suc zero))))) lt = f
-eight_cases P a b c d e f g h (suc (suc (suc (suc (suc (suc zero)))))) lt = g
-eight_cases P a b c d e f g h (suc (suc (suc (suc (suc (suc (suc zero))))))) lt = h
-eight_cases P a b c d e f g h (suc (suc (suc (suc (suc (suc (suc (suc n)))))))) lt = absurd (omega arith)
-
 perm-perm_text_of : (n : ℕ) → n < 8 → perm (perm_text n) ≡ Some (record { 0 = n })
 unfolding perm
-perm-perm_text_of n h = eight_cases (λ k. perm (perm_text k) ≡ Some (record { 0 = k })) refl refl refl refl refl refl refl refl n h
+perm-perm_text_of zero h = refl
+perm-perm_text_of (suc zero) h = refl
+perm-perm_text_of (suc (suc zero)) h = refl
+perm-perm_text_of (suc (suc (suc zero))) h = refl
+perm-perm_text_of (suc (suc (suc (suc zero)))) h = refl
+perm-perm_text_of (suc (suc (suc (suc (suc zero))))) h = refl
+perm-perm_text_of (suc (suc (suc (suc (suc (suc zero)))))) h = refl
+perm-perm_text_of (suc (suc (suc (suc (suc (suc (suc zero))))))) h = refl
+perm-perm_text_of (suc (suc (suc (suc (suc (suc (suc (suc n)))))))) h = absurd (omega arith)
 
 pub perm-perm_text : (allowed : Perm) → allowed.0 < 8 → perm (perm_text allowed.0) ≡ Some allowed
 perm-perm_text allowed h = perm-perm_text_of allowed.0 h
 
 pub perm_word : (n : ℕ) → n < 8 → is_one_word (perm_text n) ≡ true
-perm_word n h = eight_cases (λ k. is_one_word (perm_text k) ≡ true) refl refl refl refl refl refl refl refl n h
+perm_word n h = agree_below_at (λ k. is_one_word (perm_text k)) (λ k. true) 8 n refl h
 
 pub length-perm_text : (n : ℕ) → n < 8 → nat_le (length (perm_text n)) 4 ≡ true
-length-perm_text n h = eight_cases (λ k. nat_le (length (perm_text k)) 4 ≡ true) refl refl refl refl refl refl refl refl n h
+length-perm_text n h = agree_below_at (λ k. nat_le (length (perm_text k)) 4) (λ k. true) 8 n refl h

@@ -3,7 +3,7 @@
 use Rattle.std.proofs.Common.{◌≡◌, ◌≢◌, ℕ, zero, suc, ◌<◌, Bool, true, false, not, cond, ◌==◌, Option, None, Some, ◌⊎◌, refl, sym, ap, subst, ◌∙◌, inl, inr, arith}
 use Rattle.std.specs.Prelude.{unwrap_or, IsSome, is_some}
 use Rattle.std.specs.Option.{option_map}
-use Rattle.std.proofs.lemmas.Bool.{cases_Bool, cases_eq, not_from_true, not_from_false}
+use Rattle.std.proofs.lemmas.Bool.{cases_Bool, cases_eq, not_from_true, not_from_false, false_from_ne_true, both_ways, eqb-false}
 use Rattle.std.proofs.lemmas.Bool.Decides.{Decides-eqb}
 use Rattle.vm_model.specs.Contents.Content.{Page, Content, pages_of, sole, IsGood}
 use Rattle.vm_model.specs.Contents.Sharing.{only, without}
@@ -45,14 +45,12 @@ pin_vmo s n pin good e = (good.pins n pin e).1.vmo
 pub pin_lineage : (s : State) (n : ℕ) (pin : Pin) → IsGoodState s → s.pins n ≡ Some pin → IsSome (s.lineage pin.koid)
 pin_lineage s n pin good e = lineage_at s pin.koid good (pin_vmo s n pin good e)
 
--- a koid that is not live is no VMO
+-- a koid that is not live is no VMO, where each VMO is live
+gone : (s : State) (v : ℕ) → (IsSome (s.content.count v) → is_live s v ≡ true) → is_live s v ≡ false → s.content.count v ≡ None
+gone s v live off = none_is (s.content.count v) (false_from_ne_true (is_some (s.content.count v)) (λ there. both_ways (is_live s v) off (live there)))
+
 pub count_none : (s : State) (v : ℕ) → IsGoodState s → is_live s v ≡ false → s.content.count v ≡ None
-count_none s v good off = none_is (s.content.count v) (elim (cases_Bool (is_some (s.content.count v))) [
-  | inl there ↦
-      let live = good.live v (lineage_at s v good there) in
-      let clash : ◌≡◌ {A = Bool} true false = sym live ∙ off in absurd cc
-  | inr none ↦ none
-])
+count_none s v good off = gone s v (λ there. good.live v (lineage_at s v good there)) off
 
 -- a koid without a count has no pages
 pub page_none : (c : Content) (v p : ℕ) → IsGood c → c.count v ≡ None → c.page v p ≡ None
@@ -87,10 +85,6 @@ IsGoodPin-same s t pin count kept good = record {
   alone = λ p low high. kept p (good.alone p low high);
 }
 
--- a koid that is not v
-koid_apart : (koid v : ℕ) → (koid == v) ≡ false → koid ≢ v
-koid_apart koid v off same = absurd (let on = (Decides-eqb koid v).1 same in cc)
-
 -- ---- the first that is live
 
 pub first_live-none : (steps : ℕ) (s : State) → first_live steps s None ≡ None
@@ -115,14 +109,14 @@ first_live-next (suc steps) s p h off next =
 
 -- ---- VMOs that stay
 
+-- nothing, whether it stays or not
+lineage_rest : {A : Type 0} (b : Bool) (o : Option A) → o ≡ None → cond b o None ≡ None
+lineage_rest true o e = e
+lineage_rest false o e = refl
+
 cond_alike : {A : Type 0} (b d : Bool) (o : Option A) → (b ≡ d) ⊎ (o ≡ None) → cond b o None ≡ cond d o None
 cond_alike {A} b d o (inl same) = ap (λ (a : Bool). cond {A = Option A} a o None) same
-cond_alike {A} b d o (inr none) = ap (λ (a : Option A). cond {A = Option A} b a None) none ∙ (go b d ∙ sym (ap (λ (a : Option A). cond {A = Option A} d a None) none)) where
-  go : (b d : Bool) → cond {A = Option A} b None None ≡ cond {A = Option A} d None None
-  go true true = refl
-  go true false = refl
-  go false true = refl
-  go false false = refl
+cond_alike {A} b d o (inr none) = lineage_rest b o none ∙ sym (lineage_rest d o none)
 
 -- it makes no difference whether a koid without a VMO stays
 pub only-alike : (c : Content) (stays keeps : ℕ → Bool) → IsGood c → ((v : ℕ) → (stays v ≡ keeps v) ⊎ (c.count v ≡ None)) → only c stays ≡ only c keeps
@@ -140,11 +134,6 @@ only-alike c stays keeps good each = λ i. record {
 pub only-all : (c : Content) → only c (λ v. true) ≡ c
 unfolding only
 only-all c = refl
-
--- nothing, whether it stays or not
-lineage_rest : {A : Type 0} (b : Bool) (o : Option A) → o ≡ None → cond b o None ≡ None
-lineage_rest true o e = e
-lineage_rest false o e = refl
 
 pub lineage_left-is : (s : State) (v : ℕ) (l : Lineage) (parent : Option ℕ) → first_live v s l.parent ≡ parent → lineage_left s v l ≡ record l { parent = parent }
 unfolding lineage_left
@@ -198,15 +187,6 @@ module _ (t : State) (v : ℕ) (good : IsLoose t v) where
     pins = good.pins;
   }
 
-  -- a koid other than the VMO's that is not live is no VMO
-  count_gone : (w : ℕ) → w ≢ v → is_live t w ≡ false → t.content.count w ≡ None
-  count_gone w apart off = none_is (t.content.count w) (elim (cases_Bool (is_some (t.content.count w))) [
-    | inl there ↦
-        let live = good.live w apart (good.known w ∙ there) in
-        let clash : ◌≡◌ {A = Bool} true false = sym live ∙ off in absurd cc
-    | inr none ↦ none
-  ])
-
   -- the parent of the VMO is an older VMO, and another
   parent_older : (p : ℕ) → (lineage_of t v).parent ≡ Some p → (p < v) × IsSome (t.lineage p)
   parent_older p e = good.parents v p (lineage_of t v) (lineage-known t v good.vmo) e
@@ -214,13 +194,13 @@ module _ (t : State) (v : ℕ) (good : IsLoose t v) where
   -- a VMO that is not live leaves, and it alone. Its children get its parent
   pub pruned-left : is_live t v ≡ false → pruned t ≡ left_vmo t v
   unfolding pruned
-  pruned-left gone = λ i. record t { content = same i; lineage = λ w. each w i } where
+  pruned-left left = λ i. record t { content = same i; lineage = λ w. each w i } where
     same : only t.content (is_live t) ≡ without t.content v
     same = only-alike t.content (is_live t) (λ w. not (w == v)) good.content (λ w. elim (cases_eq w v) [
-      | inl vmo ↦ inl (ap (is_live t) vmo ∙ (gone ∙ sym (not_from_true (w == v) ((Decides-eqb w v).1 vmo))))
+      | inl vmo ↦ inl (ap (is_live t) vmo ∙ (left ∙ sym (not_from_true (w == v) ((Decides-eqb w v).1 vmo))))
       | inr apart ↦ elim (cases_Bool (is_live t w)) [
         | inl live ↦ inl (live ∙ sym (not_from_false (w == v) (eqb_apart w v apart)))
-        | inr off ↦ inr (count_gone w apart off)
+        | inr off ↦ inr (gone t w (λ there. good.live w apart (good.known w ∙ there)) off)
       ]
     ])
 
@@ -235,7 +215,7 @@ module _ (t : State) (v : ℕ) (good : IsLoose t v) where
               let above = parent_older q (ap (λ (u : ℕ). (lineage_of t u).parent) (sym vmo) ∙ g) in
               let apart : q ≢ v = omega (arith, above.0) in
               (omega (arith, above.0, vmo), good.live q apart above.1) in
-              first_live-next w t p older.0 (ap (is_live t) vmo ∙ gone) next
+              first_live-next w t p older.0 (ap (is_live t) vmo ∙ left) next
               ∙ (ap (λ (u : ℕ). (lineage_of t u).parent) vmo
               ∙ sym (ap (λ (q : ℕ). parent_without v (lineage_of t v).parent (Some q)) vmo ∙ parent_without-same v (lineage_of t v).parent))
           | inr apart ↦
@@ -252,7 +232,7 @@ module _ (t : State) (v : ℕ) (good : IsLoose t v) where
     each : (w : ℕ) → cond (is_live t w) (option_map (lineage_left t w) (t.lineage w)) None ≡ lineage_without t.lineage v (lineage_of t v).parent w
     each w = elim (cases_eq w v) [
       | inl vmo ↦
-          ap (λ (b : Bool). cond {A = Option Lineage} b (option_map (lineage_left t w) (t.lineage w)) None) (ap (is_live t) vmo ∙ gone)
+          ap (λ (b : Bool). cond {A = Option Lineage} b (option_map (lineage_left t w) (t.lineage w)) None) (ap (is_live t) vmo ∙ left)
           ∙ sym (ap (lineage_without t.lineage v (lineage_of t v).parent) vmo ∙ lineage_without-same t.lineage v (lineage_of t v).parent)
       | inr apart ↦ kept w apart (t.lineage w) refl ∙ sym (lineage_without-other t.lineage v (lineage_of t v).parent w apart)
     ]
@@ -279,7 +259,7 @@ module _ (t : State) (v : ℕ) (good : IsLoose t v) where
     content = IsGood-only t.content (λ w. not (w == v)) good.content;
     names = λ m target e.
         let fine = good.names m target e in
-        (fine.0, name_left target (koid_apart target.koid.0 v (any_entry_none NAMES (is_of v) t.names m target off.0 fine.0 e)) fine.1);
+        (fine.0, name_left target (eqb-false target.koid.0 v (any_entry_none NAMES (is_of v) t.names m target off.0 fine.0 e)) fine.1);
     known = λ w. elim (cases_eq w v) [
       | inl vmo ↦
           ap (λ (u : ℕ). is_some (lineage_without t.lineage v (lineage_of t v).parent u)) vmo
@@ -297,7 +277,7 @@ module _ (t : State) (v : ℕ) (good : IsLoose t v) where
         parent w p old.0 old.2 old.0.parent refl (sym (ap (λ (k : Lineage). k.parent) old.3) ∙ f);
     pins = λ m pin e.
         let fine = good.pins m pin e in
-        (fine.0, pin_left pin (koid_apart pin.koid v (any_entry_none NAMES (λ (p : Pin). p.koid == v) t.pins m pin off.1 fine.0 e)) fine.1);
+        (fine.0, pin_left pin (eqb-false pin.koid v (any_entry_none NAMES (λ (p : Pin). p.koid == v) t.pins m pin off.1 fine.0 e)) fine.1);
   } where
     -- neither a name nor a pin is of the VMO
     off : (is_named t.names v ≡ false) × (has_pin t.pins v ≡ false)
