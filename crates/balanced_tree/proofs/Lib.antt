@@ -11,3 +11,4 @@ pub mod GapLaws
 pub mod GapTrees
 pub mod ApartLaws
 pub mod ListLaws
+pub mod PairLaws

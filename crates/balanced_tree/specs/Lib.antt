@@ -1,5 +1,6 @@
 pub mod Row
 pub mod Rows
+pub mod Pairs
 pub mod Tree
 pub mod Standing
 pub mod Extents
