@@ -25,7 +25,7 @@ none-kept map a b k q e = elim (cases_Bool ((k == a) && (q == b))) [
   | inr there ↦ cond-false _ _ _ there ∙ e
 ]
 
-module _ {R V : Type 0} (f : Functions R) (first second : R → ℕ) (value : R → V) (pairs : ArePairs f first second value) where
+module _ {R V : Type 0} {f : Functions R} {first second : R → ℕ} {value : R → V} (pairs : ArePairs f first second value) where
   value-at : (rows : List R) (a b : ℕ) → b < 2 ^ 64 → value_at f value rows a b ≡ option_map value (row_at f (pair_rank a b) rows)
   unfolding value_at
   value-at rows a b h = cond-true _ _ _ (lt-ltb b (2 ^ 64) h)

@@ -3,7 +3,8 @@
 //!
 //! It stands on `slab` alone. A row type implements `TreeRow`: it names the rank of a row, and holds the links and
 //! the height that the tree stores in it. A row type that stands for extents implements `ExtentRow` too, and the tree
-//! then finds the first gap of a size between them. `Steps` counts the rows that a call looks at, puts, adds or takes.
+//! then finds the first gap of a size between them. A row type whose key is a pair of numbers has `pair_rank` for its
+//! rank, and the laws on pairs (`PairLaws`). `Steps` counts the rows that a call looks at, puts, adds or takes.
 #![tactic(auto)]
 
 mod balanced_tree;
@@ -12,6 +13,7 @@ mod descent;
 mod extent_row;
 mod gaps;
 mod insertion;
+mod pairs;
 mod removal;
 mod rotation;
 mod row_slab;
@@ -22,6 +24,7 @@ mod tree_row;
 pub use balanced_tree::BalancedTree;
 pub use children::{Child, link_to};
 pub use extent_row::ExtentRow;
+pub use pairs::pair_rank;
 pub use row_slab::RowSlab;
 pub use spans::{Span, span_over};
 pub use steps::Steps;

@@ -4,10 +4,12 @@ ghost use Rattle.std.specs.Prelude.{◌≡◌, ◌≢◌, ◌⊎◌, ◌+◌, �
 ghost use Rattle.std.specs.Option.{option_map};
 ghost use Rattle.vm_base.specs.declared.names.Tag.{Tag};
 ghost use Rattle.page_list.specs.declared.row.Slot.{Slot};
-ghost use Rattle.page_list.specs.Lists.{slots_of, row_count, with_slot, page_in, IsNext};
+ghost use Rattle.balanced_tree.specs.Pairs.{with_pair, IsNext};
+ghost use Rattle.page_list.specs.Order.{slot_of};
+ghost use Rattle.page_list.specs.Lists.{slots_of, row_count, page_in};
 
-use crate::row::{ListId, Row, Slot, rank_of};
-use balanced_tree::{BalancedTree, Steps};
+use crate::row::{ListId, Row, Slot};
+use balanced_tree::{BalancedTree, Steps, pair_rank};
 use std::alloc::Global;
 use std::marker::Model;
 use std::sync::ledger::Ledger;
@@ -75,14 +77,14 @@ impl PageLists {
     pub fn find(&self, list: ListId, page: PageNo) -> Option<Slot>
         ensures { result ≡ slots_of self.now list.0 page }
     {
-        slot_in(self.tree.find(rank_of(list, page)))
+        slot_in(self.tree.find(pair_rank(list.0, page)))
     }
 
     /// Adds a row to a page of a list that has none.
     pub fn insert(&mut self, list: ListId, page: PageNo, slot: Slot)
         requires absent { slots_of self.old list.0 page ≡ None }
         requires room { 1 ≤ self.old.spare }
-        ensures slots { slots_of self.new ≡ with_slot (slots_of self.old) list.0 page (Some slot) }
+        ensures slots { slots_of self.new ≡ with_pair (slots_of self.old) list.0 page (Some slot) }
         ensures count { row_count self.new ≡ row_count self.old + 1 }
         ensures spare { self.new.spare + 1 ≡ self.old.spare }
     {
@@ -94,19 +96,19 @@ impl PageLists {
     pub fn remove(&mut self, list: ListId, page: PageNo) -> Slot
         requires { IsSome (slots_of self.old list.0 page) }
         ensures slot { slots_of self.old list.0 page ≡ Some result }
-        ensures slots { slots_of self.new ≡ with_slot (slots_of self.old) list.0 page None }
+        ensures slots { slots_of self.new ≡ with_pair (slots_of self.old) list.0 page None }
         ensures count { row_count self.new + 1 ≡ row_count self.old }
         ensures spare { self.new.spare ≡ self.old.spare + 1 }
     {
         let _rising = self.tree.len();
-        self.tree.remove(rank_of(list, page)).slot
+        self.tree.remove(pair_rank(list.0, page)).slot
     }
 
     /// Sets both bits of the row of a page of a list, which has a frame.
     pub fn set_bits(&mut self, list: ListId, page: PageNo, left: bool, right: bool)
         requires { (tag : Tag) × (l r : Bool) × (slots_of self.old list.0 page ≡ Some (Slot.Frame tag l r)) }
         ensures slots { (tag : Tag) (l r : Bool) → slots_of self.old list.0 page ≡ Some (Slot.Frame tag l r) →
-            slots_of self.new ≡ with_slot (slots_of self.old) list.0 page (Some (Slot.Frame tag left right)) }
+            slots_of self.new ≡ with_pair (slots_of self.old) list.0 page (Some (Slot.Frame tag left right)) }
         ensures count { row_count self.new ≡ row_count self.old }
         ensures spare { self.new.spare ≡ self.old.spare }
     {
@@ -118,7 +120,7 @@ impl PageLists {
     /// Gives a page of a list that has a row another slot.
     fn replace(&mut self, list: ListId, page: PageNo, slot: Slot)
         requires { IsSome (slots_of self.old list.0 page) }
-        ensures slots { slots_of self.new ≡ with_slot (slots_of self.old) list.0 page (Some slot) }
+        ensures slots { slots_of self.new ≡ with_pair (slots_of self.old) list.0 page (Some slot) }
         ensures count { row_count self.new ≡ row_count self.old }
         ensures spare { self.new.spare ≡ self.old.spare }
     {
@@ -131,14 +133,14 @@ impl PageLists {
         ensures { IsNext (slots_of self.now list.0) from result }
     {
         let _rising = self.tree.len();
-        page_in(list, self.tree.next(rank_of(list, from)))
+        page_in(list, self.tree.next(pair_rank(list.0, from)))
     }
 
     /// Moves the row of a page of a list to a page of a list that has none.
     pub fn move_row(&mut self, list: ListId, page: PageNo, to_list: ListId, to_page: PageNo)
         requires from { IsSome (slots_of self.old list.0 page) }
         requires to { slots_of self.old to_list.0 to_page ≡ None }
-        ensures slots { slots_of self.new ≡ with_slot (with_slot (slots_of self.old) list.0 page None)
+        ensures slots { slots_of self.new ≡ with_pair (with_pair (slots_of self.old) list.0 page None)
             to_list.0 to_page (slots_of self.old list.0 page) }
         ensures count { row_count self.new ≡ row_count self.old }
         ensures spare { self.new.spare ≡ self.old.spare }
@@ -157,7 +159,7 @@ impl PageLists {
         ensures slot { result ≡ slots_of self.now list.0 page }
         ensures cost { 2 ^ (steps.new - steps.old) ≤ (row_count self.now + 1) ^ 2 }
     {
-        slot_in(self.tree.find_counted(rank_of(list, page), steps))
+        slot_in(self.tree.find_counted(pair_rank(list.0, page), steps))
     }
 
     /// Does what `next` does, and counts its steps.
@@ -171,7 +173,7 @@ impl PageLists {
         ensures cost { 2 ^ (steps.new - steps.old) ≤ (row_count self.now + 1) ^ 2 }
     {
         let _rising = self.tree.len();
-        page_in(list, self.tree.next_counted(rank_of(list, from), steps))
+        page_in(list, self.tree.next_counted(pair_rank(list.0, from), steps))
     }
 
     /// Does what `insert` does, and counts its steps.
@@ -184,7 +186,7 @@ impl PageLists {
     )
         requires absent { slots_of self.old list.0 page ≡ None }
         requires room { 1 ≤ self.old.spare }
-        ensures slots { slots_of self.new ≡ with_slot (slots_of self.old) list.0 page (Some slot) }
+        ensures slots { slots_of self.new ≡ with_pair (slots_of self.old) list.0 page (Some slot) }
         ensures count { row_count self.new ≡ row_count self.old + 1 }
         ensures spare { self.new.spare + 1 ≡ self.old.spare }
         ensures cost { 2 ^ (steps.new - steps.old) ≤ (row_count self.old + 2) ^ 32 }
@@ -202,19 +204,21 @@ impl PageLists {
     ) -> Slot
         requires { IsSome (slots_of self.old list.0 page) }
         ensures slot { slots_of self.old list.0 page ≡ Some result }
-        ensures slots { slots_of self.new ≡ with_slot (slots_of self.old) list.0 page None }
+        ensures slots { slots_of self.new ≡ with_pair (slots_of self.old) list.0 page None }
         ensures count { row_count self.new + 1 ≡ row_count self.old }
         ensures spare { self.new.spare ≡ self.old.spare + 1 }
         ensures cost { 2 ^ (steps.new - steps.old) ≤ (row_count self.old + 2) ^ 32 }
     {
         let _rising = self.tree.len();
-        self.tree.remove_counted(rank_of(list, page), steps).slot
+        self.tree
+            .remove_counted(pair_rank(list.0, page), steps)
+            .slot
     }
 }
 
 /// The slot of a row, if there is one.
 fn slot_in(row: Option<Row>) -> Option<Slot>
-    ensures { result ≡ option_map (λ row. row.slot) row }
+    ensures { result ≡ option_map slot_of row }
 {
     Some(row?.slot)
 }

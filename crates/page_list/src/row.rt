@@ -2,13 +2,10 @@
 
 ghost use Rattle.std.specs.Prelude.{◌≡◌};
 ghost use Rattle.balanced_tree.specs.Row.{height_in};
-ghost use Rattle.page_list.specs.Order.{rank_of, row_of};
+ghost use Rattle.page_list.specs.Order.{row_of};
 
-use balanced_tree::{Child, TreeRow, link_to};
+use balanced_tree::{Child, TreeRow, link_to, pair_rank};
 use vm_base::{PageNo, Tag};
-
-/// How far apart the ranks of one page in two lists that follow each other are.
-const PAGES_OF_A_LIST: u128 = 1 << 64;
 
 /// The number of a list of pages.
 #[derive(Clone, Copy, Debug, PartialEq, Eq)]
@@ -54,13 +51,6 @@ impl Row {
     }
 }
 
-/// The place of a page in the order of all rows: by list, and then by page.
-pub(crate) fn rank_of(list: ListId, page: PageNo) -> u128
-    ensures { result ≡ rank_of list.0 page }
-{
-    u128::from(list.0) * PAGES_OF_A_LIST + u128::from(page)
-}
-
 fn height_of(child: Option<Child<Row>>) -> u32
     ensures { result ≡ height_in (λ x. x.height) child }
 {
@@ -78,7 +68,7 @@ impl TreeRow for Row {
     ghost functions = { row_functions };
 
     fn rank(self) -> u128 {
-        rank_of(self.list, self.page)
+        pair_rank(self.list.0, self.page)
     }
 
     fn left(self) -> Option<usize> {

@@ -9,22 +9,25 @@ use Rattle.vm_base.proofs.SearchLaws.{bit_same}
 use Rattle.vm_base.proofs.EntryLaws.{passes-some, any_entry-count, entry_count_le, entry_count_hit, entry_count-empty, entry_count-with_key, entry_count-without_key, with_key-other, with_key-cases, without_key-other, without_key-some}
 use Rattle.vm_model.proofs.PinLaws.{covers_at, any_pinned_at, none_pinned}
 use Rattle.pin_table.specs.declared.pages.PinnedPage.{PinnedPage}
-use Rattle.pin_table.specs.Pages.{page_functions, pins_at, AreKept, AddsPin}
+use Rattle.pin_table.specs.Pages.{row_pins, pins_at, AreKept, AddsPin}
 use Rattle.pin_table.specs.Table.{IsNextPinned}
 use Rattle.pin_table.specs.TableFields.{AreCounted}
-use Rattle.pin_table.proofs.PageLaws.{IsNextRow, pins-none}
-use Rattle.balanced_tree.specs.Rows.{row_at}
+use Rattle.pin_table.proofs.PageLaws.{page_pairs}
+use Rattle.balanced_tree.specs.Pairs.{IsNext}
+use Rattle.balanced_tree.proofs.PairLaws.{values-none}
+use Rattle.std.specs.Prelude.{unwrap_or, IsSome}
 
 -- ---- no pins
 
 pub AreCounted-empty : (pins : ℕ → Option Pin) (entries : List PinnedPage) → ((n : ℕ) → pins n ≡ None) → entries ≡ [] → AreCounted pins entries
 AreCounted-empty pins entries none empty =
+    let none_at : (v p : ℕ) → row_pins entries v p ≡ None = λ v p. ap (λ m. m v p) (values-none page_pairs entries empty) in
     record {
       names_below = λ n some. absurd (let gone : false ≡ true = sym (ap is_some (none n)) ∙ some in cc);
       ends = λ n pin e. absurd (let gone = none n in cc);
-      kept = record { pinned = λ n row e. absurd (let gone = ap (λ rows. row_at page_functions n rows) empty in cc) };
+      kept = record { pinned = λ v p n e. absurd (let gone = none_at v p in cc) };
       counted = λ v p.
-          pins-none entries v p empty
+          ap (λ o. unwrap_or o 0) (none_at v p)
           ∙ sym (entry_count-empty NAMES (covers v p) pins none);
     }
 
@@ -87,11 +90,17 @@ module _ (pins : ℕ → Option Pin) (entries : List PinnedPage) (counted : AreC
   unpinned_at : (v p : ℕ) → pins_at v p entries ≡ 0 → is_pinned pins v p ≡ false
   unpinned_at v p none = any_entry-count NAMES (covers v p) pins ∙ le-ltb 0 (entry_count NAMES (covers v p) pins) (omega (arith, counted.counted v p))
 
-  pub next_pinned-is : (v from : ℕ) (answer : Option ℕ) → IsNextRow entries v from answer → IsNextPinned (is_pinned pins v) from answer
+  pub next_pinned-is : (v from : ℕ) (answer : Option ℕ) → IsNext (row_pins entries v) from answer → IsNextPinned (is_pinned pins v) from answer
   next_pinned-is v from answer next = record {
-    none = λ e p h. unpinned_at v p (next.none e p h);
-    least = λ p e. let is = next.least p e in (is.0, pinned_at v p is.1, λ q g h. unpinned_at v q (is.2 q g h));
+    none = λ e p h. unpinned_at v p (ap (λ o. unwrap_or o 0) (next.none e p h));
+    least = λ p e.
+        let is = next.least p e in
+        (is.0, pinned_at v p (some p (row_pins entries v p) refl is.1), λ q g h. unpinned_at v q (ap (λ o. unwrap_or o 0) (is.2 q g h)));
   }
+    where
+      some : (p : ℕ) (o : Option ℕ) → row_pins entries v p ≡ o → IsSome o → 1 ≤ unwrap_or o 0
+      some p None e there = absurd (cc)
+      some p (Some n) e there = counted.kept.pinned v p n e
 
 -- whether a page of a range is pinned, by the next that is
 pub pinned-none : (pins : ℕ → Option Pin) (v first end : ℕ) → IsNextPinned (is_pinned pins v) first None → false ≡ any_pinned pins v first end

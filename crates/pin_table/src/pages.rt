@@ -3,13 +3,10 @@
 ghost use Rattle.std.specs.Prelude.{◌≡◌, ℕ, ◌+◌, ◌^◌, ◌<◌, ◌≤◌, IfSome};
 ghost use Rattle.balanced_tree.specs.Row.{height_in};
 ghost use Rattle.vm_base.specs.declared.limits.TheConstants.{PAGES_END, NAMES};
-ghost use Rattle.pin_table.specs.Pages.{rank_of, page_with, pins_at, page_in, AreKept, AddsPin};
+ghost use Rattle.pin_table.specs.Pages.{page_with, pins_at, page_in, AreKept, AddsPin};
 
-use balanced_tree::{BalancedTree, Child, TreeRow, link_to};
+use balanced_tree::{BalancedTree, Child, TreeRow, link_to, pair_rank};
 use vm_base::{Koid, PAGES_END, PageNo};
-
-/// How far apart the ranks of one page number of two VMOs are whose koids follow each other.
-const PAGES_OF_A_VMO: u128 = 1 << 64;
 
 /// A page that some pin covers, and how many pins do, with what the tree keeps of a row.
 #[derive(Clone, Copy, Debug)]
@@ -38,13 +35,6 @@ impl PinnedPage {
     }
 }
 
-/// The place of a page in the order of all pinned pages.
-pub(crate) fn rank_of(koid: Koid, page: PageNo) -> u128
-    ensures { result ≡ rank_of koid.0 page }
-{
-    u128::from(koid.0) * PAGES_OF_A_VMO + u128::from(page)
-}
-
 fn height_of(child: Option<Child<PinnedPage>>) -> u32
     ensures { result ≡ height_in (λ x. x.height) child }
 {
@@ -62,7 +52,7 @@ impl TreeRow for PinnedPage {
     ghost functions = { page_functions };
 
     fn rank(self) -> u128 {
-        rank_of(self.koid, self.page)
+        pair_rank(self.koid.0, self.page)
     }
 
     fn left(self) -> Option<usize> {
@@ -111,7 +101,7 @@ fn pin_page(pages: &mut BalancedTree<PinnedPage>, koid: Koid, page: PageNo)
     ensures pin { AddsPin pages.old.rows pages.new.rows koid.0 page (page + 1) }
     ensures spare { pages.old.spare ≤ pages.new.spare + 1 }
 {
-    match pages.find(rank_of(koid, page)) {
+    match pages.find(pair_rank(koid.0, page)) {
         Some(row) => pages.replace(PinnedPage::new(koid, page, row.pins + 1)),
         None => pages.insert(PinnedPage::new(koid, page, 1)),
     }
@@ -138,10 +128,10 @@ fn unpin_page(pages: &mut BalancedTree<PinnedPage>, koid: Koid, page: PageNo)
     ensures kept { AreKept pages.new.rows }
     ensures pin { AddsPin pages.new.rows pages.old.rows koid.0 page (page + 1) }
 {
-    match pages.find(rank_of(koid, page)) {
+    match pages.find(pair_rank(koid.0, page)) {
         Some(row) if row.pins > 1 => pages.replace(PinnedPage::new(koid, page, row.pins - 1)),
         Some(_) => {
-            pages.remove(rank_of(koid, page));
+            pages.remove(pair_rank(koid.0, page));
         }
         None => {}
     }

@@ -6,8 +6,8 @@ ghost use Rattle.vm_base.specs.Entries.{with_key, without_key};
 ghost use Rattle.vm_model.specs.Naming.Pins.{any_pinned, is_pinned};
 ghost use Rattle.pin_table.specs.Table.{pin_of, pins_of, room_of, IsNextPinned};
 
-use crate::pages::{PinnedPage, page_in, pin_pages, rank_of, unpin_pages};
-use balanced_tree::BalancedTree;
+use crate::pages::{PinnedPage, page_in, pin_pages, unpin_pages};
+use balanced_tree::{BalancedTree, pair_rank};
 use std::alloc::Global;
 use std::collections::HashMap;
 use std::marker::Model;
@@ -110,7 +110,7 @@ impl PinTable {
         ensures { IsNextPinned (is_pinned (pins_of self.now) koid.0) from result }
     {
         let _rising = self.pages.len();
-        page_in(koid, self.pages.next(rank_of(koid, from)))
+        page_in(koid, self.pages.next(pair_rank(koid.0, from)))
     }
 
     /// Whether some page of a VMO is pinned, of `count` pages from `first` on. It takes one look-up.

@@ -1,17 +1,20 @@
-use Rattle.page_list.proofs.SlotLaws.{slots-inserted, count-inserted, no-row}
-use Rattle.std.proofs.Common.{refl}
+use Rattle.std.proofs.Common.{Some, ap, ◌∙◌, refl}
+use Rattle.balanced_tree.specs.Pairs.{with_pair}
+use Rattle.balanced_tree.proofs.PairLaws.{values-put, length-inserted}
+use Rattle.page_list.specs.Order.{row_functions, slot_of}
+use Rattle.page_list.specs.Lists.{slots_of}
+use Rattle.page_list.proofs.SlotLaws.{row_pairs, seen_rows, no-row}
 use Rattle.page_list.proofs.page_lists.PageLists.insert.Goals as goal
 
 pub insert-requires-clause-absent : goal.insert-requires-clause-absent
-insert-requires-clause-absent c =
-    no-row _ _ c.self.view_is c.args.list.0 c.args.page c.ranges.page.fits c.args.slot c.new.result c.new.ensures c.requires.absent
+insert-requires-clause-absent c = no-row _ _ c.self.view_is c.args.list.0 c.args.page c.ranges.page.fits c.args.slot c.new.result c.new.ensures c.requires.absent
 
 pub returns-clause-slots : goal.returns-clause-slots
 returns-clause-slots c =
-    slots-inserted _ _ c.self.view_is c.args.list.0 c.args.page _ c.ranges.page.fits refl c.insert.new.self c.args.slot c.new.result
-    c.new.ensures c.insert.ensures.rows
+    values-put row_pairs _ _ (seen_rows c.self.view_is) c.args.list.0 c.args.page _ c.ranges.page.fits refl c.insert.new.self.rows c.new.result (ap row_functions.rank c.new.ensures) c.insert.ensures.rows
+    ∙ ap (λ slot. with_pair (slots_of c.args.self.now) c.args.list.0 c.args.page (Some slot)) (ap slot_of c.new.ensures)
 
 pub returns-clause-count : goal.returns-clause-count
 returns-clause-count c =
-    count-inserted _ _ c.self.view_is c.args.list.0 c.args.page _ c.ranges.page.fits refl c.insert.new.self c.len-rising.ensures.rising
-    c.args.slot c.new.result c.new.ensures c.insert.ensures.rows c.requires.absent
+    length-inserted row_pairs _ _ (seen_rows c.self.view_is) c.args.list.0 c.args.page _ c.ranges.page.fits refl c.insert.new.self.rows c.len-rising.ensures.rising c.new.result (ap row_functions.rank c.new.ensures)
+    c.insert.ensures.rows c.requires.absent

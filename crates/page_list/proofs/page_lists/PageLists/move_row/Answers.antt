@@ -1,5 +1,5 @@
 use Rattle.std.proofs.Common.{ap, ◌∙◌}
-use Rattle.page_list.proofs.SlotLaws.{none-kept}
+use Rattle.balanced_tree.proofs.PairLaws.{none-kept}
 use Rattle.page_list.specs.Lists.{slots_of}
 use Rattle.page_list.proofs.page_lists.PageLists.move_row.Goals as goal
 

@@ -1,5 +1,6 @@
-use Rattle.page_list.proofs.SlotLaws.{slots-none}
+use Rattle.balanced_tree.proofs.PairLaws.{values-none}
+use Rattle.page_list.proofs.SlotLaws.{row_pairs}
 use Rattle.page_list.proofs.page_lists.PageLists.new.Goals as goal
 
 pub returns-clause-slots : goal.returns-clause-slots
-returns-clause-slots c = slots-none c.new.result c.new.ensures.rows
+returns-clause-slots c = values-none row_pairs c.new.result.rows c.new.ensures.rows

@@ -1,0 +1,14 @@
+//! Ranks of pairs of numbers.
+
+ghost use Rattle.std.specs.Prelude.{◌≡◌};
+ghost use Rattle.balanced_tree.specs.Pairs.{pair_rank};
+
+/// How far apart the ranks of two pairs are whose first numbers follow each other and whose second are the same.
+const SECONDS: u128 = 1 << 64;
+
+/// The rank of a pair: by its first number, and then by its second.
+pub fn pair_rank(first: u64, second: u64) -> u128
+    ensures { result ≡ pair_rank first second }
+{
+    u128::from(first) * SECONDS + u128::from(second)
+}
