@@ -128,164 +128,65 @@ pub enum Call<'a> {
     Stat,
 }
 
+/// A value of the one type, as the value of the other with the same fields. The bytes are made by this call.
+macro_rules! same_fields {
+    ($value:expr, $from:ident, $to:ident, $bytes:ident) => {
+        match $value {
+            $from::VmoCreate { name, size, resizable } => $to::VmoCreate {
+                name: *name, size: *size, resizable: *resizable,
+            },
+            $from::VmoChild { name, parent, kind, offset, size, resizable, no_write } => $to::VmoChild {
+                name: *name, parent: *parent, kind: *kind, offset: *offset, size: *size,
+                resizable: *resizable, no_write: *no_write,
+            },
+            $from::VmoClose { name } => $to::VmoClose { name: *name },
+            $from::VmoSize { name } => $to::VmoSize { name: *name },
+            $from::VmoSetSize { name, size } => $to::VmoSetSize { name: *name, size: *size },
+            $from::VmoRead { name, offset, len } => $to::VmoRead { name: *name, offset: *offset, len: *len },
+            $from::VmoWrite { name, offset, bytes } => $to::VmoWrite {
+                name: *name, offset: *offset, bytes: bytes.$bytes(),
+            },
+            $from::VmoFill { name, offset, len, byte } => $to::VmoFill {
+                name: *name, offset: *offset, len: *len, byte: *byte,
+            },
+            $from::VmoCommit { name, offset, len } => $to::VmoCommit { name: *name, offset: *offset, len: *len },
+            $from::VmoDecommit { name, offset, len } => $to::VmoDecommit { name: *name, offset: *offset, len: *len },
+            $from::VmoZero { name, offset, len } => $to::VmoZero { name: *name, offset: *offset, len: *len },
+            $from::VmoPin { pin, name, offset, len } => $to::VmoPin {
+                pin: *pin, name: *name, offset: *offset, len: *len,
+            },
+            $from::VmoUnpin { pin } => $to::VmoUnpin { pin: *pin },
+            $from::VmoInfo { name } => $to::VmoInfo { name: *name },
+            $from::RootCreate { region } => $to::RootCreate { region: *region },
+            $from::VmarAllocate { region, parent, offset, len, flags, caps } => $to::VmarAllocate {
+                region: *region, parent: *parent, offset: *offset, len: *len, flags: *flags,
+                caps: *caps,
+            },
+            $from::VmarMap { region, offset, name, vmo_offset, len, perm, flags } => $to::VmarMap {
+                region: *region, offset: *offset, name: *name, vmo_offset: *vmo_offset, len: *len,
+                perm: *perm, flags: *flags,
+            },
+            $from::VmarUnmap { region, addr, len } => $to::VmarUnmap { region: *region, addr: *addr, len: *len },
+            $from::VmarProtect { region, addr, len, perm } => $to::VmarProtect {
+                region: *region, addr: *addr, len: *len, perm: *perm,
+            },
+            $from::VmarDestroy { region } => $to::VmarDestroy { region: *region },
+            $from::Maps { region } => $to::Maps { region: *region },
+            $from::MemRead { region, addr, len } => $to::MemRead { region: *region, addr: *addr, len: *len },
+            $from::MemWrite { region, addr, bytes } => $to::MemWrite {
+                region: *region, addr: *addr, bytes: bytes.$bytes(),
+            },
+            $from::Stat => $to::Stat,
+        }
+    };
+}
+
 impl<'a> Call<'a> {
     /// The command, with bytes of its own.
     pub fn to_command(&self) -> Command
         ensures { result ≡ command_of self.now }
     {
-        match self {
-            Call::VmoCreate {
-                name,
-                size,
-                resizable,
-            } => Command::VmoCreate {
-                name: *name,
-                size: *size,
-                resizable: *resizable,
-            },
-            Call::VmoChild {
-                name,
-                parent,
-                kind,
-                offset,
-                size,
-                resizable,
-                no_write,
-            } => Command::VmoChild {
-                name: *name,
-                parent: *parent,
-                kind: *kind,
-                offset: *offset,
-                size: *size,
-                resizable: *resizable,
-                no_write: *no_write,
-            },
-            Call::VmoClose { name } => Command::VmoClose { name: *name },
-            Call::VmoSize { name } => Command::VmoSize { name: *name },
-            Call::VmoSetSize { name, size } => Command::VmoSetSize {
-                name: *name,
-                size: *size,
-            },
-            Call::VmoRead { name, offset, len } => Command::VmoRead {
-                name: *name,
-                offset: *offset,
-                len: *len,
-            },
-            Call::VmoWrite {
-                name,
-                offset,
-                bytes,
-            } => Command::VmoWrite {
-                name: *name,
-                offset: *offset,
-                bytes: bytes.to_bytes(),
-            },
-            Call::VmoFill {
-                name,
-                offset,
-                len,
-                byte,
-            } => Command::VmoFill {
-                name: *name,
-                offset: *offset,
-                len: *len,
-                byte: *byte,
-            },
-            Call::VmoCommit { name, offset, len } => Command::VmoCommit {
-                name: *name,
-                offset: *offset,
-                len: *len,
-            },
-            Call::VmoDecommit { name, offset, len } => Command::VmoDecommit {
-                name: *name,
-                offset: *offset,
-                len: *len,
-            },
-            Call::VmoZero { name, offset, len } => Command::VmoZero {
-                name: *name,
-                offset: *offset,
-                len: *len,
-            },
-            Call::VmoPin {
-                pin,
-                name,
-                offset,
-                len,
-            } => Command::VmoPin {
-                pin: *pin,
-                name: *name,
-                offset: *offset,
-                len: *len,
-            },
-            Call::VmoUnpin { pin } => Command::VmoUnpin { pin: *pin },
-            Call::VmoInfo { name } => Command::VmoInfo { name: *name },
-            Call::RootCreate { region } => Command::RootCreate { region: *region },
-            Call::VmarAllocate {
-                region,
-                parent,
-                offset,
-                len,
-                flags,
-                caps,
-            } => Command::VmarAllocate {
-                region: *region,
-                parent: *parent,
-                offset: *offset,
-                len: *len,
-                flags: *flags,
-                caps: *caps,
-            },
-            Call::VmarMap {
-                region,
-                offset,
-                name,
-                vmo_offset,
-                len,
-                perm,
-                flags,
-            } => Command::VmarMap {
-                region: *region,
-                offset: *offset,
-                name: *name,
-                vmo_offset: *vmo_offset,
-                len: *len,
-                perm: *perm,
-                flags: *flags,
-            },
-            Call::VmarUnmap { region, addr, len } => Command::VmarUnmap {
-                region: *region,
-                addr: *addr,
-                len: *len,
-            },
-            Call::VmarProtect {
-                region,
-                addr,
-                len,
-                perm,
-            } => Command::VmarProtect {
-                region: *region,
-                addr: *addr,
-                len: *len,
-                perm: *perm,
-            },
-            Call::VmarDestroy { region } => Command::VmarDestroy { region: *region },
-            Call::Maps { region } => Command::Maps { region: *region },
-            Call::MemRead { region, addr, len } => Command::MemRead {
-                region: *region,
-                addr: *addr,
-                len: *len,
-            },
-            Call::MemWrite {
-                region,
-                addr,
-                bytes,
-            } => Command::MemWrite {
-                region: *region,
-                addr: *addr,
-                bytes: bytes.to_bytes(),
-            },
-            Call::Stat => Command::Stat,
-        }
+        same_fields!(self, Call, Command, to_bytes)
     }
 }
 
@@ -294,158 +195,6 @@ impl Command {
     pub fn lend(&self) -> Call<'_>
         ensures { command_of result ≡ self.now }
     {
-        match self {
-            Command::VmoCreate {
-                name,
-                size,
-                resizable,
-            } => Call::VmoCreate {
-                name: *name,
-                size: *size,
-                resizable: *resizable,
-            },
-            Command::VmoChild {
-                name,
-                parent,
-                kind,
-                offset,
-                size,
-                resizable,
-                no_write,
-            } => Call::VmoChild {
-                name: *name,
-                parent: *parent,
-                kind: *kind,
-                offset: *offset,
-                size: *size,
-                resizable: *resizable,
-                no_write: *no_write,
-            },
-            Command::VmoClose { name } => Call::VmoClose { name: *name },
-            Command::VmoSize { name } => Call::VmoSize { name: *name },
-            Command::VmoSetSize { name, size } => Call::VmoSetSize {
-                name: *name,
-                size: *size,
-            },
-            Command::VmoRead { name, offset, len } => Call::VmoRead {
-                name: *name,
-                offset: *offset,
-                len: *len,
-            },
-            Command::VmoWrite {
-                name,
-                offset,
-                bytes,
-            } => Call::VmoWrite {
-                name: *name,
-                offset: *offset,
-                bytes: bytes.lend(),
-            },
-            Command::VmoFill {
-                name,
-                offset,
-                len,
-                byte,
-            } => Call::VmoFill {
-                name: *name,
-                offset: *offset,
-                len: *len,
-                byte: *byte,
-            },
-            Command::VmoCommit { name, offset, len } => Call::VmoCommit {
-                name: *name,
-                offset: *offset,
-                len: *len,
-            },
-            Command::VmoDecommit { name, offset, len } => Call::VmoDecommit {
-                name: *name,
-                offset: *offset,
-                len: *len,
-            },
-            Command::VmoZero { name, offset, len } => Call::VmoZero {
-                name: *name,
-                offset: *offset,
-                len: *len,
-            },
-            Command::VmoPin {
-                pin,
-                name,
-                offset,
-                len,
-            } => Call::VmoPin {
-                pin: *pin,
-                name: *name,
-                offset: *offset,
-                len: *len,
-            },
-            Command::VmoUnpin { pin } => Call::VmoUnpin { pin: *pin },
-            Command::VmoInfo { name } => Call::VmoInfo { name: *name },
-            Command::RootCreate { region } => Call::RootCreate { region: *region },
-            Command::VmarAllocate {
-                region,
-                parent,
-                offset,
-                len,
-                flags,
-                caps,
-            } => Call::VmarAllocate {
-                region: *region,
-                parent: *parent,
-                offset: *offset,
-                len: *len,
-                flags: *flags,
-                caps: *caps,
-            },
-            Command::VmarMap {
-                region,
-                offset,
-                name,
-                vmo_offset,
-                len,
-                perm,
-                flags,
-            } => Call::VmarMap {
-                region: *region,
-                offset: *offset,
-                name: *name,
-                vmo_offset: *vmo_offset,
-                len: *len,
-                perm: *perm,
-                flags: *flags,
-            },
-            Command::VmarUnmap { region, addr, len } => Call::VmarUnmap {
-                region: *region,
-                addr: *addr,
-                len: *len,
-            },
-            Command::VmarProtect {
-                region,
-                addr,
-                len,
-                perm,
-            } => Call::VmarProtect {
-                region: *region,
-                addr: *addr,
-                len: *len,
-                perm: *perm,
-            },
-            Command::VmarDestroy { region } => Call::VmarDestroy { region: *region },
-            Command::Maps { region } => Call::Maps { region: *region },
-            Command::MemRead { region, addr, len } => Call::MemRead {
-                region: *region,
-                addr: *addr,
-                len: *len,
-            },
-            Command::MemWrite {
-                region,
-                addr,
-                bytes,
-            } => Call::MemWrite {
-                region: *region,
-                addr: *addr,
-                bytes: bytes.lend(),
-            },
-            Command::Stat => Call::Stat,
-        }
+        same_fields!(self, Command, Call, lend)
     }
 }
