@@ -1,9 +1,8 @@
 -- What the entries of the two maps are as maps from numbers, after a call of the library.
-use Rattle.std.proofs.Common.{◌≡◌, ℕ, ◌==◌, Bool, true, false, not, cond, List, [], ◌∷◌, Option, None, Some, IsSome, is_some, Result, Ok, Err, refl, sym, ap, subst, ◌∙◌, inl, inr, ◌≢◌, ◌+◌, ◌^◌, ◌≤◌, length, arith}
+use Rattle.std.proofs.Common.{◌≡◌, ℕ, ◌==◌, Bool, true, false, cond, List, [], ◌∷◌, Option, None, Some, IsSome, is_some, Result, Ok, Err, refl, sym, ap, ◌∙◌, inl, inr, ◌≢◌, ◌+◌, ◌^◌, ◌≤◌, length, arith}
 use Rattle.std.specs.Option.{option_map}
 use Rattle.std.specs.Prelude.{IsOk, OnOk}
 use Rattle.std.specs.Map.{lookup}
-use Rattle.std.specs.Map.Calls.{RetainsPairs}
 use Rattle.std.proofs.lemmas.Bool.{cases_eq, eq-eqb, ne_eqb, cond-true, cond-false, cases_lt}
 use Rattle.std.proofs.lemmas.Bool.Decides.{nat_tests}
 use Rattle.vm_base.specs.declared.names.Koid.{Koid}
@@ -91,13 +90,13 @@ adopted-absent entries k gone come none = λ i v. at v i
     ]
 
 -- a VMO that is not the parent of any
-not_child : (v : ℕ) (parent o : Option Koid) → is_parent v (option_map koid_number o) ≡ false →
+pub not_child : (v : ℕ) (parent o : Option Koid) → is_parent v (option_map koid_number o) ≡ false →
     koid_after v parent o ≡ o
 unfolding koid_after passes
 not_child v parent None h = refl
 not_child v parent (Some p) h = cond-false (p.0 == v) parent (Some p) h
 
-stays_as_is : (v : ℕ) (parent : Option Koid) (o : Option Vmo) →
+pub stays_as_is : (v : ℕ) (parent : Option Koid) (o : Option Vmo) →
     passes (has_parent v) (option_map lineage_of_vmo o) ≡ false → o ≡ option_map (vmo_after v parent) o
 stays_as_is v parent None h = refl
 stays_as_is v parent (Some vmo) h =
@@ -117,49 +116,6 @@ vmos_in-removed old new k parent childless each = λ i v. (vmos_in-is new v ∙ 
           ∙ (stays_as_is k parent (vmos_in old v) (ap (passes (has_parent k)) (sym (lineages-is (vmos_in old) v)) ∙ childless v)
           ∙ sym (without-other (vmos_in old) k parent v (λ e. apart (sym e)))))
     ]
-
--- one entry of a pass over the table
-one_retained : (k : ℕ) (parent : Option Koid) (q : ℕ) (vmo : Vmo) (u : ℕ) (key : Koid) (rest es : List (Koid × Vmo)) →
-    key.0 ≡ q → vmo_at rest u ≡ cond (u == k) None (option_map (vmo_after k parent) (vmo_at es u)) →
-    vmo_at (cond (not (q == k)) ((key, vmo_after k parent vmo) ∷ rest) rest) u ≡ cond (u == k) None (option_map (vmo_after k parent) (cond (u == q) (Some vmo) (vmo_at es u)))
-one_retained k parent q vmo u key rest es is before = elim (cases_eq q k) [
-  | inl same ↦ ap (λ b. vmo_at (cond (not b) ((key, vmo_after k parent vmo) ∷ rest) rest) u) (eq-eqb q k same) ∙ (before ∙ elim (cases_eq u k) [
-    | inl gone ↦ cond-true (u == k) None (option_map (vmo_after k parent) (vmo_at es u)) (eq-eqb u k gone) ∙ sym (cond-true (u == k) None (option_map (vmo_after k parent) (cond (u == q) (Some vmo) (vmo_at es u))) (eq-eqb u k gone))
-    | inr other ↦ ap (λ (o : Option Vmo). cond (u == k) None (option_map (vmo_after k parent) o)) (sym (cond-false (u == q) (Some vmo) (vmo_at es u) (ne_eqb u q (λ e. other (e ∙ same)))))
-  ])
-  | inr apart ↦ ap (λ b. vmo_at (cond (not b) ((key, vmo_after k parent vmo) ∷ rest) rest) u) (ne_eqb q k apart) ∙ (ap (λ (x : ℕ). cond (u == x) (Some (vmo_after k parent vmo)) (vmo_at rest u)) is ∙ elim (cases_eq u q) [
-    | inl here ↦ cond-true (u == q) (Some (vmo_after k parent vmo)) (vmo_at rest u) (eq-eqb u q here)
-        ∙ (ap (λ (o : Option Vmo). option_map (vmo_after k parent) o) (sym (cond-true (u == q) (Some vmo) (vmo_at es u) (eq-eqb u q here)))
-        ∙ sym (cond-false (u == k) None (option_map (vmo_after k parent) (cond (u == q) (Some vmo) (vmo_at es u))) (ne_eqb u k (λ e. apart (sym here ∙ e)))))
-    | inr other ↦ cond-false (u == q) (Some (vmo_after k parent vmo)) (vmo_at rest u) (ne_eqb u q other)
-        ∙ (before ∙ ap (λ (o : Option Vmo). cond (u == k) None (option_map (vmo_after k parent) o)) (sym (cond-false (u == q) (Some vmo) (vmo_at es u) (ne_eqb u q other))))
-  ])
-]
-
--- a VMO with children was taken out in a pass over the table
-retained : {F : Type 0} (T : F → Koid → Vmo → Bool → Vmo → F → Type 0) (k : ℕ) (parent : Option Koid) (f : F) →
-    ((q : Koid) (v : Vmo) (b : Bool) (w : Vmo) (g : F) → T f q v b w g →
-    (b ≡ not (q.0 == k)) × (w ≡ vmo_after k parent v) × (g ≡ f)) →
-    (es kept : List (Koid × Vmo)) → RetainsPairs T f es kept → (u : ℕ) →
-    vmo_at kept u ≡ cond (u == k) None (option_map (vmo_after k parent) (vmo_at es u))
-retained T k parent f each [] kept h u = ap (λ (es : List (Koid × Vmo)). vmo_at es u) h ∙ none (u == k)
-  where
-    none : (b : Bool) → None ≡ cond {A = Option Vmo} b None None
-    none true = refl
-    none false = refl
-retained T k parent f each (e ∷ es) kept h u =
-    let call = each e.0 e.1 h.0 h.1 h.2 h.4 in
-    let rest = retained T k parent f each es h.3 (subst (λ g. RetainsPairs T g es h.3) call.2 h.5) u in
-    let kept_is = h.6 ∙ (ap (λ (b : Bool). cond b ((e.0, h.1) ∷ h.3) h.3) call.0 ∙ ap (λ (w : Vmo). cond (not (e.0.0 == k)) ((e.0, w) ∷ h.3) h.3) call.1) in
-    ap (λ (es2 : List (Koid × Vmo)). vmo_at es2 u) kept_is ∙ one_retained k parent e.0.0 e.1 u e.0 h.3 es refl rest
-
-pub vmos_in-retained : {F : Type 0} (T : F → Koid → Vmo → Bool → Vmo → F →
-    Type 0) (k : ℕ) (parent : Option Koid) (f : F) →
-    ((q : Koid) (v : Vmo) (b : Bool) (w : Vmo) (g : F) → T f q v b w g →
-    (b ≡ not (q.0 == k)) × (w ≡ vmo_after k parent v) × (g ≡ f)) →
-    (es kept : List (Koid × Vmo)) → RetainsPairs T f es kept → vmos_in kept ≡ vmos_without (vmos_in es) k parent
-unfolding vmos_in vmos_without
-vmos_in-retained T k parent f each es kept h = λ i u. retained T k parent f each es kept h u i
 
 -- ---- the map of names
 

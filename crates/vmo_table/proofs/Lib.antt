@@ -1,3 +1,4 @@
+pub mod ChildLaws
 pub mod RelatedLaws
 pub mod NamedLaws
 pub mod VmosLaws
@@ -6,4 +7,5 @@ pub mod EnteredLaws
 pub mod WrittenLaws
 pub mod SettledLaws
 pub mod EntryLaws
+pub mod MovedLaws
 pub mod TableLaws

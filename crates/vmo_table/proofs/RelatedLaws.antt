@@ -69,15 +69,6 @@ child_count-unknown names lineage u related none =
     let there : is_some (lineage u) ≡ true = related.parents w u l e (is_parent_found u l.parent hit) in
     cc)))
 
--- where no children count, no VMO is a child
-pub no_child : (names : ℕ → Option Target) (lineage : ℕ → Option Lineage) (u : ℕ) → AreRelated names lineage →
-    child_count lineage u ≡ 0 → (w : ℕ) → passes (has_parent u) (lineage w) ≡ false
-no_child names lineage u related none w = false_from_ne_true (passes (has_parent u) (lineage w)) (λ hit. absurd (
-    let found = passes_found (has_parent u) (lineage w) hit in
-    let below = related.koids_below w (ap is_some found.1) in
-    let counts = child_counts lineage w found.0 u below found.1 found.2 in
-    omega arith))
-
 -- ---- a VMO that leaves
 
 -- all others are left
@@ -285,7 +276,7 @@ parent_after v own (Some q) p e = elim (cases_eq q v) [
 ]
 
 -- a VMO is not its own parent
-not_own_parent : (lineage : ℕ → Option Lineage) (v : ℕ) (l : Lineage) → ∥ Ranking lineage ∥₁ → lineage v ≡ Some l →
+pub not_own_parent : (lineage : ℕ → Option Lineage) (v : ℕ) (l : Lineage) → ∥ Ranking lineage ∥₁ → lineage v ≡ Some l →
     l.parent ≡ Some v → ⊥
 not_own_parent lineage v l ranked was own = not_there ranked (λ r. let below = r.falls v v l was own in omega arith)
 

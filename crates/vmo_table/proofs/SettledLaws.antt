@@ -1,19 +1,21 @@
 -- What stays true of the table where a VMO is settled: it is written, or it leaves.
 use Rattle.std.proofs.Common.{◌≡◌, ◌≢◌, ℕ, ◌+◌, ◌-◌, ◌^◌, ◌<◌, ◌≤◌, ◌||◌, Bool, true, false, cond, nat_lt, Option, None, Some, is_some, sym, ap, subst, ◌∙◌, ◌⊎◌, inl, inr, arith, refl}
 use Rattle.std.specs.Option.{option_map}
-use Rattle.std.proofs.lemmas.Bool.{cases_Bool, lt-ltb, le-ltb, cond-true, cond-false}
+use Rattle.std.proofs.lemmas.Bool.{cases_Bool, false_from_ne_true, lt-ltb, le-ltb, cond-true, cond-false}
 use Rattle.std.proofs.Math.Bool.{or-true}
 use Rattle.vm_base.specs.declared.names.Koid.{Koid}
 use Rattle.vm_base.specs.declared.limits.TheConstants.{NAMES}
-use Rattle.vm_base.specs.Entries.{passes}
-use Rattle.vm_base.proofs.EntryLaws.{any_entry-count}
+use Rattle.vm_base.proofs.EntryLaws.{any_entry-count, passes-some}
 use Rattle.vm_model.specs.declared.names.Target.{Target}
 use Rattle.vm_model.specs.Naming.Names.{Lineage, is_named, is_parent, has_parent, child_count, lineage_without, is_of}
 use Rattle.vmo_table.specs.declared.vmos.Vmo.{Vmo}
 use Rattle.vmo_table.specs.Vmos.{koid_number, lineage_of_vmo, lineages, adopted, vmos_without, is_kept, settled, vmo_count, keepers_in}
+use Rattle.balanced_tree.specs.Rows.{Rows}
+use Rattle.vmo_table.specs.declared.child_rows.ChildRow.{ChildRow}
+use Rattle.vmo_table.specs.ChildRows.{AreChildren, MayLeave}
 use Rattle.vmo_table.specs.Table.{parent_of, Settles}
 use Rattle.vmo_table.specs.TableFields.{AreRelated, HasNames, AreConsistent}
-use Rattle.vmo_table.proofs.RelatedLaws.{is_parent_found, child_counts, no_child, child_count-left, child_count-left_other, AreRelated-left, is_named-unknown, left_absent}
+use Rattle.vmo_table.proofs.RelatedLaws.{is_parent_found, child_counts, not_own_parent, child_count-left, child_count-left_other, AreRelated-left, is_named-unknown, left_absent}
 use Rattle.vmo_table.proofs.NamedLaws.{HasNames-kept}
 use Rattle.vmo_table.proofs.VmosLaws.{lineages_found, lineages-adopted, adopted_cases, lineages-without, without_cases, settled-kept, settled-free, free_counts, left_children_le, lineages-is}
 use Rattle.vmo_table.proofs.WrittenLaws.{IsWritten, lineages-is_written, own_children, AreConsistent-written}
@@ -41,8 +43,13 @@ module _ (names : ℕ → Option Target) (vmos : ℕ → Option Vmo) (k : ℕ) (
   named_by : is_named names k ≡ nat_lt 0 new.names
   named_by = any_entry-count NAMES (is_of k) names ∙ ap (nat_lt 0) (sym is.here.named)
 
-  pub childless : new.children ≡ 0 → (w : ℕ) → passes (has_parent k) (lineages vmos w) ≡ false
-  childless none = no_child names (lineages vmos) k is.related (sym (own_children names vmos k old new is) ∙ none)
+  pub may_leave : (t : Rows ChildRow) → AreChildren t (lineages vmos) → MayLeave vmos t k new.parent
+  may_leave t kept = record {
+    rows = kept;
+    own = λ p. kept.is p k ∙ passes-some (has_parent p) (lineages vmos k) (lineage_of_vmo new) was;
+    apart = false_from_ne_true (is_parent k above) (λ own. absurd (
+        not_own_parent (lineages vmos) k (lineage_of_vmo new) is.related.ranked was (is_parent_found k above own)));
+  }
 
   left_related : is_kept new ≡ false → AreRelated names left
   left_related free =

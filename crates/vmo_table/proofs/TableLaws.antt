@@ -1,16 +1,21 @@
 -- From what a caller says of the table to its fields.
-use Rattle.std.proofs.Common.{◌≡◌, ℕ, ◌+◌, ◌<◌, ◌≤◌, ◌==◌, ◌&&◌, Bool, Option, None, Some, IsSome, min, sym, ap, subst, ◌∙◌, arith, length, ◌^◌}
+use Rattle.std.proofs.Common.{◌≡◌, ℕ, ◌+◌, ◌<◌, ◌≤◌, ◌==◌, ◌&&◌, Bool, [], Option, None, Some, IsSome, min, sym, ap, subst, ◌∙◌, arith, length, ◌^◌}
 use Rattle.std.specs.Prelude.{IfSome}
 use Rattle.std.specs.Option.{option_map}
 use Rattle.std.specs.HashMap.{spare}
 use Rattle.std.proofs.lemmas.Option.{same_Some}
 use Rattle.vm_base.specs.declared.names.Koid.{Koid}
-use Rattle.vm_base.specs.Entries.{with_key, without_key}
+use Rattle.vm_base.specs.Entries.{with_key, without_key, passes}
+use Rattle.vm_base.proofs.EntryLaws.{passes-none}
+use Rattle.balanced_tree.specs.Rows.{Rows}
 use Rattle.vm_base.specs.declared.limits.TheConstants.{NAMES}
 use Rattle.vm_model.specs.declared.names.NameKind.TheVariants.{Owner}
 use Rattle.vm_model.specs.declared.names.Target.{Target}
-use Rattle.vm_model.specs.Naming.Names.{Lineage, child_count, is_created, children, may_decommit}
+use Rattle.vm_model.specs.Naming.Names.{Lineage, has_parent, child_count, is_created, children, may_decommit}
 use Rattle.vmo_table.specs.declared.vmos.Vmo.{Vmo}
+use Rattle.vmo_table.specs.declared.child_rows.ChildRow.{ChildRow}
+use Rattle.vmo_table.specs.ChildRows.{AreChildren}
+use Rattle.vmo_table.proofs.ChildLaws.{under-none, under-same}
 use Rattle.vmo_table.specs.declared.vmo_table.VmoTable.TheInside.{Inside}
 use Rattle.vmo_table.specs.Vmos.{koid_number, vmos_in, lineage_of_vmo, lineages, keepers_in, more_names, fewer_names}
 use Rattle.vmo_table.specs.Table.{Table, names_in, names_of, lineage_in, keepers_of, room_of, Settles, Closes}
@@ -19,15 +24,15 @@ use Rattle.vmo_table.proofs.VmosLaws.{lineages-none, children_le}
 use Rattle.vmo_table.proofs.EntryLaws.{vmo_at, target_at, vmos_in-is, names_in_found, vmo_there, lineage_at, target_there, vmo_count_le}
 use Rattle.vmo_table.proofs.NamedLaws.{names_fit}
 use Rattle.vmo_table.proofs.KeepersLaws.{keepers_found, keepers_none}
-use Rattle.vmo_table.proofs.EnteredLaws.{Enters}
+use Rattle.vmo_table.proofs.EnteredLaws.{Enters, AreConsistent-same}
 use Rattle.vmo_table.proofs.WrittenLaws.{IsWritten, IsAliased, IsWritten-aliased, IsOpenIn, IsWritten-closed, with_keepers, IsWritten-keepers}
 use Rattle.vmo_table.proofs.SettledLaws.{settles_absent}
 
--- both maps have room
-pub rooms : (a : Inside) (now : Table) → table_of a ≡ now → 1 ≤ room_of now → (0 < spare a.names) × (0 < spare a.vmos)
+-- both maps and the tree have room
+pub rooms : (a : Inside) (now : Table) → table_of a ≡ now → 1 ≤ room_of now → (0 < spare a.names) × (0 < spare a.vmos) × (0 < a.child_rows.spare)
 rooms a now view room =
-    let is : min (spare a.names) (spare a.vmos) ≡ now.room = ap (λ (t : Table). t.room) view in
-    (omega arith, omega arith)
+    let is : min (min (spare a.names) (spare a.vmos)) a.child_rows.spare ≡ now.room = ap (λ (t : Table). t.room) view in
+    (omega arith, omega arith, omega arith)
 
 parent_at : (o : Option Koid) (Q : ℕ → Type 0) → IfSome o (λ p. Q p.0) → (p : ℕ) → option_map koid_number o ≡ Some p →
     Q p
@@ -126,6 +131,29 @@ open_in a name t vmo table found there = record {
   consistent = table.consistent;
   name = names_in_found a.names.entries name t found;
   found = vmos_in-is a.vmos.entries t.koid.0 ∙ there;
+}
+
+-- ---- the rows of children
+
+-- are those of no VMO, where there is none
+pub AreChildren-empty : (t : Rows ChildRow) (lineage : ℕ → Option Lineage) → t.rows ≡ [] → ((v : ℕ) → lineage v ≡ None) →
+    AreChildren t lineage
+AreChildren-empty t lineage none no_vmo =
+    record { is = λ p v. under-none t p v none ∙ sym (passes-none (has_parent p) (lineage v) (no_vmo v)) }
+
+-- stay, where rows and lineages do
+pub AreChildren-same : (a : Inside) (rows : Rows ChildRow) (lineage : ℕ → Option Lineage) → IsTable a →
+    rows.rows ≡ a.child_rows.rows → lineage ≡ lineages (vmos_in a.vmos.entries) → AreChildren rows lineage
+AreChildren-same a rows lineage table e same = record {
+  is = λ p v. under-same a.child_rows rows p v e ∙ (table.children.is p v ∙ ap (λ (l : ℕ → Option Lineage). passes (has_parent p) (l v)) (sym same));
+}
+
+-- so the table stays one where only room comes
+pub IsTable-same : (a b : Inside) → IsTable a → names_in b.names.entries ≡ names_in a.names.entries →
+    vmos_in b.vmos.entries ≡ vmos_in a.vmos.entries → b.child_rows.rows ≡ a.child_rows.rows → IsTable b
+IsTable-same a b table names vmos rows = record {
+  consistent = AreConsistent-same _ _ _ _ names vmos table.consistent;
+  children = AreChildren-same a b.child_rows _ table rows (ap lineages vmos);
 }
 
 -- ---- a VMO is written

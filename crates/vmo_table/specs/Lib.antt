@@ -1,3 +1,4 @@
 pub mod Vmos
+pub mod ChildRows
 pub mod Table
 pub mod TableFields

@@ -9,13 +9,14 @@ use Rattle.vm_model.specs.Naming.Names.{Lineage, is_of, names_as, child_count}
 use Rattle.vmo_table.specs.declared.vmos.Vmo.{Vmo}
 use Rattle.vmo_table.specs.declared.vmo_table.VmoTable.TheInside.{Inside}
 use Rattle.vmo_table.specs.Vmos.{vmos_in, lineages}
+use Rattle.vmo_table.specs.ChildRows.{AreChildren}
 use Rattle.vmo_table.specs.Table.{Table, names_in}
 
 abbrev pub table_of : Inside → Table
 table_of a = record {
   names = a.names.entries;
   vmos = a.vmos.entries;
-  room = min (spare a.names) (spare a.vmos);
+  room = min (min (spare a.names) (spare a.vmos)) a.child_rows.spare;
 }
 
 -- how many names stand for the VMO v
@@ -53,3 +54,4 @@ pub record AreConsistent (names : ℕ → Option Target) (vmos : ℕ → Option 
 
 pub record IsTable (a : Inside) : Type 0 where
   pub consistent : AreConsistent (names_in a.names.entries) (vmos_in a.vmos.entries)
+  pub children : AreChildren a.child_rows (lineages (vmos_in a.vmos.entries))

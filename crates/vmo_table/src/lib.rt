@@ -8,6 +8,7 @@
 //! `VmoTable::new`, and takes room by `VmoTable::reserve` before it enters a name.
 #![tactic(auto)]
 
+mod child_rows;
 mod vmo_table;
 mod vmos;
 

@@ -7,7 +7,9 @@ ghost use Rattle.vm_model.specs.Naming.Names.{owner, children, may_decommit};
 ghost use Rattle.vmo_table.specs.Vmos.{koid_number};
 ghost use Rattle.vmo_table.specs.Table.{names_of, lineage_in, keepers_of, room_of, Settles, Closes};
 
+use crate::child_rows::{ChildRows, add_child};
 use crate::vmos::{Vmo, count_children, settle, write_back};
+use balanced_tree::BalancedTree;
 use std::alloc::Global;
 use std::collections::HashMap;
 use std::marker::Model;
@@ -19,6 +21,7 @@ use vm_model::{NameKind, Origin, Target};
 pub struct VmoTable {
     names: HashMap<VmoName, Target>,
     vmos: HashMap<Koid, Vmo>,
+    child_rows: ChildRows,
 }
 
 impl Model for VmoTable {
@@ -43,6 +46,7 @@ impl VmoTable {
         VmoTable {
             names: HashMap::new(alloc),
             vmos: HashMap::new(alloc),
+            child_rows: BalancedTree::new(alloc),
         }
     }
 
@@ -57,6 +61,9 @@ impl VmoTable {
             return Err(HostMemory);
         };
         let Ok(()) = self.vmos.reserve(1) else {
+            return Err(HostMemory);
+        };
+        let Ok(()) = self.child_rows.reserve(1) else {
             return Err(HostMemory);
         };
         Ok(())
@@ -107,6 +114,7 @@ impl VmoTable {
         // Both succeed, since there is room.
         let _named = self.names.insert(name, target);
         let _kept = self.vmos.insert(koid, vmo);
+        add_child(&mut self.child_rows, parent, koid);
         count_children(&mut self.vmos, parent, 0, 1);
     }
 
@@ -147,7 +155,8 @@ impl VmoTable {
         let target = self.names[&name];
         let vmo = self.vmos[&target.koid];
         let _closed = self.names.remove(&name);
-        settle(&mut self.vmos, target.koid, vmo.take_name(target.kind))
+        let left = vmo.take_name(target.kind);
+        settle(&mut self.vmos, &mut self.child_rows, target.koid, left)
     }
 
     /// Lets `n` further keepers keep a VMO of the table: pins, or pages that are mapped.
@@ -183,7 +192,7 @@ impl VmoTable {
             keepers: vmo.keepers - u128::from(n),
             ..vmo
         };
-        settle(&mut self.vmos, koid, left)
+        settle(&mut self.vmos, &mut self.child_rows, koid, left)
     }
 
     /// Whether a VMO of the table may change its size.

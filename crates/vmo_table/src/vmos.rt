@@ -1,14 +1,16 @@
 //! The VMOs of the table, each with how many names and children it has.
 
-ghost use Rattle.std.specs.Prelude.{◌≡◌, ℕ, ◌+◌, ◌-◌, ◌<◌, ◌≤◌, ◌^◌, if◌then◌else◌, false, true, None, Some};
+ghost use Rattle.std.specs.Prelude.{◌≡◌, ℕ, ◌+◌, ◌-◌, ◌<◌, ◌≤◌, ◌^◌, if◌then◌else◌, false, true, None, Some, IsSome};
 ghost use Rattle.std.specs.Option.{option_map};
-ghost use Rattle.vm_base.specs.Entries.{with_key, passes};
+ghost use Rattle.vm_base.specs.Entries.{with_key};
 ghost use Rattle.vm_base.specs.declared.limits.TheConstants.{NAMES};
-ghost use Rattle.vm_model.specs.Naming.Names.{is_parent, has_parent};
-ghost use Rattle.vmo_table.specs.Vmos.{koid_number, vmos_in, lineages, kind_bit, more_names, fewer_names};
-ghost use Rattle.vmo_table.specs.Vmos.{adopted, koid_after, vmos_without, vmo_count, is_kept, settled};
+ghost use Rattle.vm_model.specs.Naming.Names.{is_parent, child_count};
+ghost use Rattle.vmo_table.specs.Vmos.{koid_number, vmos_in, lineage_of_vmo, lineages, kind_bit};
+ghost use Rattle.vmo_table.specs.Vmos.{more_names, fewer_names, adopted, vmos_without, vmo_count, is_kept, settled};
+ghost use Rattle.vmo_table.specs.ChildRows.{is_under, AreChildren, MayLeave};
 ghost use Rattle.vmo_table.specs.declared.vmos.Vmo.{Vmo};
 
+use crate::child_rows::{ChildRows, add_child, first_child, remove_child};
 use std::collections::HashMap;
 use vm_base::Koid;
 use vm_model::{NameKind, Origin};
@@ -106,40 +108,84 @@ pub(crate) fn count_children(
     }
 }
 
-/// The parent of a VMO after the VMO `gone` left, whose own parent is `parent`.
-fn parent_after(gone: Koid, parent: Option<Koid>, old: Option<Koid>) -> Option<Koid>
-    ensures { result ≡ koid_after gone.0 parent old }
+/// Gives the children of a VMO that leaves its own parent, one after another.
+fn move_children(
+    vmos: &mut HashMap<Koid, Vmo>,
+    rows: &mut ChildRows,
+    koid: Koid,
+    parent: Option<Koid>,
+)
+    requires { MayLeave (vmos_in vmos.old.entries) rows.old koid.0 parent }
+    ensures leaves { MayLeave (vmos_in vmos.new.entries) rows.new koid.0 parent }
+    ensures childless { (v : ℕ) → is_under rows.new koid.0 v ≡ false }
+    ensures same { vmos_without (vmos_in vmos.new.entries) koid.0 parent
+        ≡ vmos_without (vmos_in vmos.old.entries) koid.0 parent }
 {
-    if old == Some(gone) { parent } else { old }
+    while let Some(child) = first_child(rows, koid) {
+        move_child(vmos, rows, koid, child, parent);
+    }
 }
 
-/// Takes a VMO out, whose children get its parent. Only a VMO that has children costs a pass over
-/// the table.
-fn take_out(vmos: &mut HashMap<Koid, Vmo>, koid: Koid, parent: Option<Koid>, children: u64)
-    requires { children ≡ 0 → (w : ℕ) → passes (has_parent koid.0) (lineages (vmos_in vmos.old.entries) w) ≡ false }
-    ensures { vmos_in vmos.new.entries ≡ vmos_without (vmos_in vmos.old.entries) koid.0 parent }
+/// Gives a child of a VMO that leaves the parent of that VMO.
+fn move_child(
+    vmos: &mut HashMap<Koid, Vmo>,
+    rows: &mut ChildRows,
+    koid: Koid,
+    child: Koid,
+    parent: Option<Koid>,
+)
+    requires leaves { MayLeave (vmos_in vmos.old.entries) rows.old koid.0 parent }
+    requires child { is_under rows.old koid.0 child.0 ≡ true }
+    ensures leaves { MayLeave (vmos_in vmos.new.entries) rows.new koid.0 parent }
+    ensures same { vmos_without (vmos_in vmos.new.entries) koid.0 parent
+        ≡ vmos_without (vmos_in vmos.old.entries) koid.0 parent }
+    ensures fewer { child_count (lineages (vmos_in vmos.new.entries)) koid.0
+        < child_count (lineages (vmos_in vmos.old.entries)) koid.0 }
 {
-    if children == 0 {
-        let _removed = vmos.remove(&koid);
-        return;
+    remove_child(rows, Some(koid), child);
+    add_child(rows, parent, child);
+    set_parent(vmos, child, parent);
+}
+
+/// Writes the parent of a VMO of the table.
+fn set_parent(vmos: &mut HashMap<Koid, Vmo>, koid: Koid, parent: Option<Koid>)
+    requires { IsSome (vmos_in vmos.old.entries koid.0) }
+    ensures { (vmo : Vmo) → vmos_in vmos.old.entries koid.0 ≡ Some vmo →
+        vmos_in vmos.new.entries ≡ with_key (vmos_in vmos.old.entries) koid.0 (record vmo { parent = parent }) }
+{
+    if let Some(vmo) = vmos.get_mut(&koid) {
+        vmo.parent = parent;
     }
-    vmos.retain(|other, vmo| {
-        vmo.parent = parent_after(koid, parent, vmo.parent);
-        *other != koid
-    });
+}
+
+/// Takes a VMO out, whose children get its parent.
+fn take_out(vmos: &mut HashMap<Koid, Vmo>, rows: &mut ChildRows, koid: Koid, parent: Option<Koid>)
+    requires { MayLeave (vmos_in vmos.old.entries) rows.old koid.0 parent }
+    ensures vmos { vmos_in vmos.new.entries ≡ vmos_without (vmos_in vmos.old.entries) koid.0 parent }
+    ensures rows { AreChildren rows.new (lineages (vmos_in vmos.new.entries)) }
+{
+    move_children(vmos, rows, koid, parent);
+    remove_child(rows, parent, koid);
+    let _removed = vmos.remove(&koid);
 }
 
 /// Writes another value to a VMO of the table, where a name or a keeper keeps it still. Else the VMO
 /// leaves, its children get its parent, and its koid is the answer.
-pub(crate) fn settle(vmos: &mut HashMap<Koid, Vmo>, koid: Koid, vmo: Vmo) -> Option<Koid>
-    requires found { (old : Vmo) × (vmos_in vmos.old.entries koid.0 ≡ Some old) }
-    requires childless { vmo.children ≡ 0 → (w : ℕ) →
-        passes (has_parent koid.0) (lineages (vmos_in vmos.old.entries) w) ≡ false }
+pub(crate) fn settle(
+    vmos: &mut HashMap<Koid, Vmo>,
+    rows: &mut ChildRows,
+    koid: Koid,
+    vmo: Vmo,
+) -> Option<Koid>
+    requires found { (old : Vmo) × (vmos_in vmos.old.entries koid.0 ≡ Some old)
+        × (lineage_of_vmo vmo ≡ lineage_of_vmo old) }
+    requires leaves { MayLeave (vmos_in vmos.old.entries) rows.old koid.0 vmo.parent }
     requires fits { is_kept vmo ≡ false → (v : ℕ) (above : Vmo) →
         is_parent v (option_map koid_number vmo.parent) ≡ true →
         vmos_without (vmos_in vmos.old.entries) koid.0 vmo.parent v ≡ Some above →
         (1 ≤ above.children) × (above.children - 1 + vmo.children ≤ vmo_count (vmos_in vmos.old.entries)) }
     ensures vmos { vmos_in vmos.new.entries ≡ settled (vmos_in vmos.old.entries) koid.0 vmo }
+    ensures rows { AreChildren rows.new (lineages (vmos_in vmos.new.entries)) }
     ensures answer { result ≡ (if is_kept vmo then None else Some koid) }
 {
     if vmo.is_kept() {
@@ -148,7 +194,7 @@ pub(crate) fn settle(vmos: &mut HashMap<Koid, Vmo>, koid: Koid, vmo: Vmo) -> Opt
     }
     // A VMO has no more children than the map has VMOs.
     prove!(vmos.len() < usize::MAX);
-    take_out(vmos, koid, vmo.parent, vmo.children);
+    take_out(vmos, rows, koid, vmo.parent);
     count_children(vmos, vmo.parent, 1, vmo.children);
     Some(koid)
 }

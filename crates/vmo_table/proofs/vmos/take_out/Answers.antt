@@ -1,13 +1,24 @@
-use Rattle.std.proofs.Common.{rules}
-use Rattle.vmo_table.proofs.EntryLaws.{vmos_in-removed, vmos_in-retained}
+use Rattle.std.proofs.Common.{sym, subst, ◌∙◌, ℕ, Option}
+use Rattle.vmo_table.specs.declared.vmos.Vmo.{Vmo}
+use Rattle.vmo_table.specs.Vmos.{lineages}
+use Rattle.vmo_table.specs.ChildRows.{AreChildren}
+use Rattle.vmo_table.proofs.EntryLaws.{vmos_in-removed}
+use Rattle.vmo_table.proofs.MovedLaws.{own_row, no_children, AreChildren-left}
 use Rattle.vmo_table.proofs.vmos.take_out.Goals as goal
 
-pub returns-then-children-eq0 : goal.returns-then-children-eq0
-returns-then-children-eq0 c =
-    vmos_in-removed c.args.vmos.now.entries c.remove-removed.new.self.entries c.args.koid.0 c.args.parent
-    (c.requires c.if-children-eq0.true) c.remove-removed.ensures.updates.0
+pub remove_child-requires : goal.remove_child-requires
+remove_child-requires c = own_row _ _ _ _ c.move_children.ensures.leaves
 
-pub returns : goal.returns
-returns c =
-    vmos_in-retained _ c.args.koid.0 c.args.parent _ (λ q v b w g called. search rules)
-    c.args.vmos.now.entries c.retain.new.self.entries c.retain.ensures.filtered
+pub returns-clause-vmos : goal.returns-clause-vmos
+returns-clause-vmos c =
+    let leaves = c.move_children.ensures.leaves in
+    vmos_in-removed _ _ c.args.koid.0 c.args.parent (no_children _ _ _ _ leaves c.move_children.ensures.childless) c.remove-removed.ensures.updates.0
+    ∙ c.move_children.ensures.same
+
+pub returns-clause-rows : goal.returns-clause-rows
+returns-clause-rows c =
+    let leaves = c.move_children.ensures.leaves in
+    let childless = c.move_children.ensures.childless in
+    subst (λ (m : ℕ → Option Vmo). AreChildren c.remove_child.new.rows (lineages m))
+    (sym (vmos_in-removed _ _ c.args.koid.0 c.args.parent (no_children _ _ _ _ leaves childless) c.remove-removed.ensures.updates.0))
+    (AreChildren-left _ _ _ _ leaves childless c.remove_child.new.rows c.remove_child.ensures.change)

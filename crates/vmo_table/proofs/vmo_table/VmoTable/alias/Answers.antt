@@ -1,4 +1,4 @@
-use Rattle.std.proofs.Common.{sym, ap, ◌∙◌, arith}
+use Rattle.std.proofs.Common.{refl, sym, ap, ◌∙◌, arith}
 use Rattle.vm_base.specs.Entries.{with_key}
 use Rattle.vmo_table.specs.declared.vmos.Vmo.{Vmo}
 use Rattle.vmo_table.specs.Vmos.{lineages, keepers_in}
@@ -7,7 +7,7 @@ use Rattle.vmo_table.proofs.EntryLaws.{names_in-put, from_ok}
 use Rattle.vmo_table.proofs.KeepersLaws.{keepers-same}
 use Rattle.vmo_table.proofs.EnteredLaws.{AreConsistent-same}
 use Rattle.vmo_table.proofs.WrittenLaws.{may_name, lineages-is_written, AreConsistent-written}
-use Rattle.vmo_table.proofs.TableLaws.{rooms, known_there, aliases, aliasing, keepers_kept}
+use Rattle.vmo_table.proofs.TableLaws.{AreChildren-same, rooms, known_there, aliases, aliasing, keepers_kept}
 use Rattle.vmo_table.proofs.vmo_table.VmoTable.alias.Goals as goal
 
 pub returns-clause-names : goal.returns-clause-names
@@ -48,4 +48,4 @@ invariant_of-self c =
     let room = rooms c.self.inside c.args.self.now c.self.view_is c.requires.room in
     let named = names_in-put c.self.inside.names.entries c.insert-named.new.self.entries c.args.name.0 c.args.target
     (from_ok c.insert-named.result (c.insert-named.ensures.succeeds room.0) c.insert-named.ensures.updates).0 in
-    record { consistent = AreConsistent-same _ _ _ _ named c.write_back.ensures (AreConsistent-written _ _ _ _ _ written) }
+    record { consistent = AreConsistent-same _ _ _ _ named c.write_back.ensures (AreConsistent-written _ _ _ _ _ written); children = AreChildren-same c.self.inside _ _ c.self.invariant refl (ap lineages c.write_back.ensures ∙ lineages-is_written _ _ _ _ _ written) }

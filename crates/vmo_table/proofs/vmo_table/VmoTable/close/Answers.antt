@@ -7,7 +7,7 @@ use Rattle.vmo_table.proofs.EntryLaws.{names_in-taken}
 use Rattle.vmo_table.proofs.KeepersLaws.{keepers-settled, keepers-same}
 use Rattle.vmo_table.proofs.EnteredLaws.{AreConsistent-same}
 use Rattle.vmo_table.proofs.WrittenLaws.{name_counted}
-use Rattle.vmo_table.proofs.SettledLaws.{childless, left_fits, AreConsistent-settled, settles}
+use Rattle.vmo_table.proofs.SettledLaws.{may_leave, left_fits, AreConsistent-settled, settles}
 use Rattle.vmo_table.proofs.TableLaws.{open_there, named_there, open_in, closing, keepers_kept, keepers_known, settles_same, closes_now}
 use Rattle.vmo_table.proofs.vmo_table.VmoTable.close.Goals as goal
 
@@ -17,22 +17,22 @@ index-requires c = open_there c.self.inside c.args.self.now c.args.name.0 c.self
 pub index-vmo-requires : goal.index-vmo-requires
 index-vmo-requires c = named_there c.self.inside c.args.name.0 c.index.result.now c.self.invariant c.index.ensures
 
-pub take_name-requires : goal.take_name-requires
-take_name-requires c =
+pub take_name-left-requires : goal.take_name-left-requires
+take_name-left-requires c =
     let open_ = open_in c.self.inside c.args.name.0 c.index.result.now c.index-vmo.result.now c.self.invariant c.index.ensures c.index-vmo.ensures in
     let fit = name_counted _ _ _ _ _ open_ in
     record { names = fit.0; slices = fit.1; references = fit.2 }
 
 pub settle-requires : goal.settle-requires
 settle-requires c =
-    let written = closing c.self.inside c.args.name.0 c.index.result.now c.index-vmo.result.now c.take_name.result c.self.invariant c.index.ensures c.index-vmo.ensures c.take_name.ensures in
-    record { found = (c.index-vmo.result.now, written.found); childless = childless _ _ _ _ _ written; fits = left_fits _ _ _ _ _ written }
+    let written = closing c.self.inside c.args.name.0 c.index.result.now c.index-vmo.result.now c.take_name-left.result c.self.invariant c.index.ensures c.index-vmo.ensures c.take_name-left.ensures in
+    record { found = (c.index-vmo.result.now, written.found, written.lineage); leaves = may_leave _ _ _ _ _ written c.self.inside.child_rows c.self.invariant.children; fits = left_fits _ _ _ _ _ written }
 
 pub invariant_of-self : goal.invariant_of-self
 invariant_of-self c =
-    let written = closing c.self.inside c.args.name.0 c.index.result.now c.index-vmo.result.now c.take_name.result c.self.invariant c.index.ensures c.index-vmo.ensures c.take_name.ensures in
+    let written = closing c.self.inside c.args.name.0 c.index.result.now c.index-vmo.result.now c.take_name-left.result c.self.invariant c.index.ensures c.index-vmo.ensures c.take_name-left.ensures in
     let names = names_in-taken c.self.inside.names.entries c.remove-closed.new.self.entries c.args.name.0 c.remove-closed.ensures.updates.0 in
-    record { consistent = AreConsistent-same _ _ _ _ names c.settle.ensures.vmos (AreConsistent-settled _ _ _ _ _ written) }
+    record { consistent = AreConsistent-same _ _ _ _ names c.settle.ensures.vmos (AreConsistent-settled _ _ _ _ _ written); children = c.settle.ensures.rows }
 
 pub returns-clause-names : goal.returns-clause-names
 returns-clause-names c =
@@ -42,14 +42,14 @@ returns-clause-names c =
 pub returns-clause-keepers : goal.returns-clause-keepers
 returns-clause-keepers c =
     let koid = c.index.result.now.koid.0 in
-    let same = keepers_kept c.self.inside koid c.index-vmo.result.now c.index-vmo.ensures ∙ sym (ap (λ (x : Vmo). x.keepers) c.take_name.ensures) in
-    ap keepers_in c.settle.ensures.vmos ∙ (keepers-settled _ koid c.take_name.result ∙ (keepers-same _ koid c.take_name.result same ∙ ap keepers_of c.self.view_is))
+    let same = keepers_kept c.self.inside koid c.index-vmo.result.now c.index-vmo.ensures ∙ sym (ap (λ (x : Vmo). x.keepers) c.take_name-left.ensures) in
+    ap keepers_in c.settle.ensures.vmos ∙ (keepers-settled _ koid c.take_name-left.result ∙ (keepers-same _ koid c.take_name-left.result same ∙ ap keepers_of c.self.view_is))
 
 pub returns-clause-vmo : goal.returns-clause-vmo
 returns-clause-vmo c =
     let koid = c.index.result.now.koid.0 in
-    let written = closing c.self.inside c.args.name.0 c.index.result.now c.index-vmo.result.now c.take_name.result c.self.invariant c.index.ensures c.index-vmo.ensures c.take_name.ensures in
+    let written = closing c.self.inside c.args.name.0 c.index.result.now c.index-vmo.result.now c.take_name-left.result c.self.invariant c.index.ensures c.index-vmo.ensures c.take_name-left.ensures in
     let names = names_in-taken c.self.inside.names.entries c.remove-closed.new.self.entries c.args.name.0 c.remove-closed.ensures.updates.0 in
-    let keepers = keepers_known c.self.inside c.args.self.now koid c.index-vmo.result.now c.self.view_is c.index-vmo.ensures ∙ sym (ap (λ (x : Vmo). x.keepers) c.take_name.ensures) in
+    let keepers = keepers_known c.self.inside c.args.self.now koid c.index-vmo.result.now c.self.view_is c.index-vmo.ensures ∙ sym (ap (λ (x : Vmo). x.keepers) c.take_name-left.ensures) in
     closes_now c.self.inside c.args.self.now c.args.name.0 c.index.result.now _ _ c.settle.result c.self.view_is c.index.ensures
     (settles_same c.self.inside c.args.self.now _ _ _ _ koid _ _ c.settle.result c.self.view_is names keepers (ap lineages c.settle.ensures.vmos) (settles _ _ _ _ _ written c.settle.result c.settle.ensures.answer))

@@ -1,4 +1,4 @@
-use Rattle.std.proofs.Common.{ℕ, Bool, Option, None, refl, sym, ap, ◌∙◌, arith}
+use Rattle.std.proofs.Common.{ℕ, Bool, Option, None, refl, sym, ap, subst, ◌∙◌, arith}
 use Rattle.std.specs.Option.{option_map}
 use Rattle.vm_base.specs.declared.names.Koid.{Koid}
 use Rattle.vm_base.specs.Entries.{with_key}
@@ -13,6 +13,8 @@ use Rattle.vmo_table.proofs.KeepersLaws.{keepers-same, keepers-adopted}
 use Rattle.vmo_table.proofs.EnteredLaws.{AreConsistent-entered, AreConsistent-same, entered_fits}
 use Rattle.vmo_table.proofs.VmosLaws.{lineages-adopted, lineages-with_key}
 use Rattle.vmo_table.proofs.TableLaws.{rooms, enters, keepers_unknown}
+use Rattle.vmo_table.specs.ChildRows.{AreChildren}
+use Rattle.vmo_table.proofs.MovedLaws.{AreChildren-entered, free_koid}
 use Rattle.vmo_table.proofs.vmo_table.VmoTable.enter.Goals as goal
 
 abbrev target : Koid → Bool → Bool → Target
@@ -67,4 +69,16 @@ invariant_of-self c =
     let entering = enters c.self.inside c.args.self.now c.args.name.0 to new c.self.view_is c.self.invariant
     c.requires.name c.requires.koid c.requires.parent (omega arith) (omega arith) (omega arith) refl refl refl refl refl in
     let counted = ap (λ (m : ℕ → Option Vmo). adopted m (option_map koid_number c.args.parent) 0 1) kept in
-    record { consistent = AreConsistent-same _ _ _ _ named (c.count_children.ensures ∙ counted) (AreConsistent-entered _ _ _ _ _ entering) }
+    record {
+      consistent = AreConsistent-same _ _ _ _ named (c.count_children.ensures ∙ counted) (AreConsistent-entered _ _ _ _ _ entering);
+      children =
+          subst (AreChildren c.add_child.new.rows)
+          (sym (ap lineages c.count_children.ensures ∙ (lineages-adopted _ _ 0 1 ∙ (ap lineages kept ∙ lineages-with_key _ _ new))))
+          (AreChildren-entered c.self.inside.child_rows c.add_child.new.rows _ c.args.koid.0 (lineage_of_vmo new) c.self.invariant.children entering.koid_free c.add_child.ensures);
+    }
+
+pub add_child-requires : goal.add_child-requires
+add_child-requires c = record {
+  absent = free_koid c.self.inside.child_rows _ c.args.koid.0 c.self.invariant.children (ap (λ (x : Table). lineage_in x c.args.koid.0) c.self.view_is ∙ c.requires.koid) c.args.parent;
+  room = (rooms c.self.inside c.args.self.now c.self.view_is c.requires.room).2;
+}

@@ -6,7 +6,7 @@ use Rattle.vmo_table.proofs.EntryLaws.{vmos_in-is}
 use Rattle.vmo_table.proofs.KeepersLaws.{keepers-more}
 use Rattle.vmo_table.proofs.EnteredLaws.{AreConsistent-same}
 use Rattle.vmo_table.proofs.WrittenLaws.{with_keepers, lineages-is_written, AreConsistent-written}
-use Rattle.vmo_table.proofs.TableLaws.{known_there, keeping, keepers_kept, keepers_known}
+use Rattle.vmo_table.proofs.TableLaws.{AreChildren-same, known_there, keeping, keepers_kept, keepers_known}
 use Rattle.vmo_table.proofs.vmo_table.VmoTable.keep.Goals as goal
 
 pub index-vmo-requires : goal.index-vmo-requires
@@ -25,7 +25,7 @@ pub invariant_of-self : goal.invariant_of-self
 invariant_of-self c =
     let vmo = c.index-vmo.result.now in
     let written = keeping c.self.inside c.args.koid.0 vmo (vmo.keepers + c.from.result) c.self.invariant c.index-vmo.ensures in
-    record { consistent = AreConsistent-same _ _ _ _ refl c.write_back.ensures (AreConsistent-written _ _ _ _ _ written) }
+    record { consistent = AreConsistent-same _ _ _ _ refl c.write_back.ensures (AreConsistent-written _ _ _ _ _ written); children = AreChildren-same c.self.inside _ _ c.self.invariant refl (ap lineages c.write_back.ensures ∙ lineages-is_written _ _ _ _ _ written) }
 
 pub returns-clause-lineage : goal.returns-clause-lineage
 returns-clause-lineage c =

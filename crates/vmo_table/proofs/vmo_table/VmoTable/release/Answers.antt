@@ -5,7 +5,7 @@ use Rattle.vmo_table.specs.Table.{Table, names_of, keepers_of}
 use Rattle.vmo_table.proofs.KeepersLaws.{keepers-less, keepers-here, keepers-settled}
 use Rattle.vmo_table.proofs.EnteredLaws.{AreConsistent-same}
 use Rattle.vmo_table.proofs.WrittenLaws.{with_keepers}
-use Rattle.vmo_table.proofs.SettledLaws.{childless, left_fits, AreConsistent-settled, settles}
+use Rattle.vmo_table.proofs.SettledLaws.{may_leave, left_fits, AreConsistent-settled, settles}
 use Rattle.vmo_table.proofs.TableLaws.{keeping, keepers_kept, keepers_known, settles_same, keepers_absent, settles_now_absent}
 use Rattle.vmo_table.proofs.vmo_table.VmoTable.release.Goals as goal
 
@@ -34,13 +34,13 @@ pub settle-requires : goal.settle-requires
 settle-requires c =
     let vmo = c.in-Some.vmo in
     let written = keeping c.self.inside c.args.koid.0 vmo (vmo.keepers - c.from.result) c.self.invariant (sym (c.copied.ensures ∙ c.get.ensures.value) ∙ c.in-Some.is) in
-    record { found = (vmo, written.found); childless = childless _ _ _ _ _ written; fits = left_fits _ _ _ _ _ written }
+    record { found = (vmo, written.found, written.lineage); leaves = may_leave _ _ _ _ _ written c.self.inside.child_rows c.self.invariant.children; fits = left_fits _ _ _ _ _ written }
 
 pub invariant_of-self : goal.invariant_of-self
 invariant_of-self c =
     let vmo = c.in-Some.vmo in
     let written = keeping c.self.inside c.args.koid.0 vmo (vmo.keepers - c.from.result) c.self.invariant (sym (c.copied.ensures ∙ c.get.ensures.value) ∙ c.in-Some.is) in
-    record { consistent = AreConsistent-same _ _ _ _ refl c.settle.ensures.vmos (AreConsistent-settled _ _ _ _ _ written) }
+    record { consistent = AreConsistent-same _ _ _ _ refl c.settle.ensures.vmos (AreConsistent-settled _ _ _ _ _ written); children = c.settle.ensures.rows }
 
 pub returns-clause-keepers : goal.returns-clause-keepers
 returns-clause-keepers c = λ v.
