@@ -4,7 +4,8 @@
 //! its parent.
 //!
 //! It stands on `vm_model`, in whose words its contracts speak: a map from names (`names_of`), a map
-//! from koids (`lineage_in`), and a count for each koid (`keepers_of`). The layer above makes a table by
+//! from koids (`lineage_in`), and a count for each koid (`keepers_of`). It also stands on
+//! `balanced_tree`, in which it keeps the children of each VMO. The layer above makes a table by
 //! `VmoTable::new`, and takes room by `VmoTable::reserve` before it enters a name.
 #![tactic(auto)]
 
