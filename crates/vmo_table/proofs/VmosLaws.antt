@@ -34,16 +34,15 @@ is_some-lineages vmos v = ap is_some (lineages-is vmos v) ∙ of (vmos v)
 pub lineages-none : (vmos : ℕ → Option Vmo) (v : ℕ) → lineages vmos v ≡ None → vmos v ≡ None
 lineages-none vmos v e = none_is (vmos v) (sym (is_some-lineages vmos v) ∙ ap is_some e)
 
+-- a function of a choice, at each of the two
+map-if : {A B : Type 0} (f : A → B) (b : Bool) (x y : Option A) → option_map f (cond b x y) ≡ cond b (option_map f x) (option_map f y)
+map-if f true x y = refl
+map-if f false x y = refl
+
 pub lineages-with_key : (vmos : ℕ → Option Vmo) (k : ℕ) (vmo : Vmo) →
     lineages (with_key vmos k vmo) ≡ with_key (lineages vmos) k (lineage_of_vmo vmo)
-lineages-with_key vmos k vmo = λ i w. at w i
-  where
-    at : (w : ℕ) → lineages (with_key vmos k vmo) w ≡ with_key (lineages vmos) k (lineage_of_vmo vmo) w
-    at w = elim (cases_eq w k) [
-      | inl same ↦ lineages_found (with_key vmos k vmo) w vmo (with_key-here vmos k vmo w same) ∙ sym (with_key-here (lineages vmos) k (lineage_of_vmo vmo) w same)
-      | inr apart ↦ lineages-is (with_key vmos k vmo) w ∙ (ap (option_map lineage_of_vmo) (with_key-other vmos k vmo w apart)
-          ∙ (sym (lineages-is vmos w) ∙ sym (with_key-other (lineages vmos) k (lineage_of_vmo vmo) w apart)))
-    ]
+unfolding lineages with_key
+lineages-with_key vmos k vmo = λ i w. map-if lineage_of_vmo (w == k) (Some vmo) (vmos w) i
 
 -- no more VMOs have a parent than there are
 child_count_le : (vmos : ℕ → Option Vmo) (lineage : ℕ → Option Lineage) (u : ℕ) → ((w : ℕ) → IsSome (lineage w) →
@@ -68,12 +67,14 @@ left_children_le vmos v parent u = child_count_le vmos (lineage_without (lineage
 -- another count of names changes no lineage
 pub lineages-written : (vmos : ℕ → Option Vmo) (k : ℕ) (old new : Vmo) → vmos k ≡ Some old →
     lineage_of_vmo new ≡ lineage_of_vmo old → lineages (with_key vmos k new) ≡ lineages vmos
-lineages-written vmos k old new was same_lineage = λ i w. at w i
+lineages-written vmos k old new was same_lineage =
+    lineages-with_key vmos k new ∙ (λ i w. at w i)
   where
-    at : (w : ℕ) → lineages (with_key vmos k new) w ≡ lineages vmos w
+    at : (w : ℕ) → with_key (lineages vmos) k (lineage_of_vmo new) w ≡ lineages vmos w
     at w = elim (cases_eq w k) [
-      | inl same ↦ lineages_found (with_key vmos k new) w new (with_key-here vmos k new w same) ∙ (ap (λ (l : Lineage). Some l) same_lineage ∙ sym (lineages_found vmos w old (ap vmos same ∙ was)))
-      | inr apart ↦ lineages-is (with_key vmos k new) w ∙ (ap (option_map lineage_of_vmo) (with_key-other vmos k new w apart) ∙ sym (lineages-is vmos w))
+      | inl same ↦ with_key-here (lineages vmos) k (lineage_of_vmo new) w same
+          ∙ (ap (λ (l : Lineage). Some l) same_lineage ∙ sym (lineages_found vmos w old (ap vmos same ∙ was)))
+      | inr apart ↦ with_key-other (lineages vmos) k (lineage_of_vmo new) w apart
     ]
 
 -- nor do other counts of children
@@ -144,16 +145,9 @@ without-other vmos v parent w apart =
 
 pub lineages-without : (vmos : ℕ → Option Vmo) (v : ℕ) (parent : Option Koid) →
     lineages (vmos_without vmos v parent) ≡ lineage_without (lineages vmos) v (option_map koid_number parent)
-lineages-without vmos v parent = λ i w. at w i
-  where
-    at : (w : ℕ) →
-        lineages (vmos_without vmos v parent) w ≡ lineage_without (lineages vmos) v (option_map koid_number parent) w
-    at w = elim (cases_eq w v) [
-      | inl same ↦ lineages-is (vmos_without vmos v parent) w ∙ (ap (option_map lineage_of_vmo) (without-here vmos v parent w same) ∙ sym (left-here (lineages vmos) v (option_map koid_number parent) w same))
-      | inr apart ↦ lineages-is (vmos_without vmos v parent) w ∙ (ap (option_map lineage_of_vmo) (without-other vmos v parent w apart)
-          ∙ (lineage-after v parent (vmos w) ∙ (ap (option_map (left_by v (option_map koid_number parent))) (sym (lineages-is vmos w))
-          ∙ sym (lineage_without-other (lineages vmos) v (option_map koid_number parent) w apart))))
-    ]
+unfolding lineages vmos_without lineage_without
+lineages-without vmos v parent = λ i w. (map-if lineage_of_vmo (w == v) None (option_map (vmo_after v parent) (vmos w))
+    ∙ ap (cond (w == v) None) (lineage-after v parent (vmos w))) i
 
 -- a VMO that is left keeps its counts
 pub without_cases : (vmos : ℕ → Option Vmo) (v : ℕ) (parent : Option Koid) (w : ℕ) (new : Vmo) →
