@@ -3,6 +3,7 @@ use Rattle.std.proofs.Common.{◌≡◌, ℕ, ◌==◌, Bool, true, false, cond,
 use Rattle.std.specs.Option.{option_map}
 use Rattle.std.specs.Prelude.{IsOk, OnOk}
 use Rattle.std.specs.Map.{lookup}
+use Rattle.std.proofs.lemmas.Grind.{common_steps}
 use Rattle.std.proofs.lemmas.Bool.{cases_eq, eq-eqb, ne_eqb, cond-true, cond-false, cases_lt}
 use Rattle.std.proofs.lemmas.Bool.Decides.{nat_tests}
 use Rattle.vm_base.specs.declared.names.Koid.{Koid}
@@ -65,10 +66,7 @@ vmos_in-adopted old new k vmo gone come found each = λ i v. (each (record { 0 =
   where
     at : (v : ℕ) →
         cond (k == v) (Some (with_children gone come vmo)) (vmo_at old v) ≡ cond (k == v) (option_map (with_children gone come) (vmo_at old v)) (vmo_at old v)
-    at v = elim (cases_eq k v) [
-      | inl same ↦ ap (λ (o : Option Vmo). cond (k == v) o (vmo_at old v)) (ap (option_map (with_children gone come)) (sym found ∙ ap (vmo_at old) same))
-      | inr apart ↦ cond-false (k == v) (Some (with_children gone come vmo)) (vmo_at old v) (ne_eqb k v apart) ∙ sym (cond-false (k == v) (option_map (with_children gone come) (vmo_at old v)) (vmo_at old v) (ne_eqb k v apart))
-    ]
+    at v = grind (arith, common_steps)
 
 -- no VMO, no change
 pub adopted-nobody : (vmos : ℕ → Option Vmo) (gone come : ℕ) → vmos ≡ adopted vmos None gone come
@@ -82,12 +80,7 @@ adopted-absent entries k gone come none = λ i v. at v i
   where
     at : (v : ℕ) →
         vmo_at entries v ≡ cond (k == v) (option_map (with_children gone come) (vmo_at entries v)) (vmo_at entries v)
-    at v = elim (cases_eq k v) [
-      | inl same ↦
-          let gone_too : vmo_at entries v ≡ None = ap (vmo_at entries) (sym same) ∙ none in
-          gone_too ∙ (sym (ap (option_map (with_children gone come)) gone_too) ∙ sym (cond-true (k == v) (option_map (with_children gone come) (vmo_at entries v)) (vmo_at entries v) (eq-eqb k v same)))
-      | inr apart ↦ sym (cond-false (k == v) (option_map (with_children gone come) (vmo_at entries v)) (vmo_at entries v) (ne_eqb k v apart))
-    ]
+    at v = grind (arith, common_steps)
 
 -- a VMO that is not the parent of any
 pub not_child : (v : ℕ) (parent o : Option Koid) → is_parent v (option_map koid_number o) ≡ false →

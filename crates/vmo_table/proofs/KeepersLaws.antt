@@ -2,7 +2,8 @@
 use Rattle.std.proofs.Common.{◌≡◌, ◌≢◌, ℕ, ◌+◌, ◌==◌, Bool, true, false, cond, Option, None, Some, refl, sym, ap, ◌∙◌, inl, inr, arith}
 use Rattle.std.specs.Prelude.{unwrap_or}
 use Rattle.std.specs.Option.{option_map}
-use Rattle.std.proofs.lemmas.Bool.{cases_Bool, cases_eq, eq-eqb, ne_eqb, cond-true, cond-false}
+use Rattle.std.proofs.lemmas.Grind.{common_steps}
+use Rattle.std.proofs.lemmas.Bool.{cases_Bool, cases_eq}
 use Rattle.vm_base.specs.declared.names.Koid.{Koid}
 use Rattle.vm_base.specs.Entries.{with_key}
 use Rattle.vm_base.proofs.EntryLaws.{with_key-here, with_key-other}
@@ -41,39 +42,23 @@ keepers-other vmos k new v apart =
 -- with the keepers that there were, which are none for a VMO that is new
 pub keepers-same : (vmos : ℕ → Option Vmo) (k : ℕ) (new : Vmo) → keepers_in vmos k ≡ new.keepers →
     keepers_in (with_key vmos k new) ≡ keepers_in vmos
+unfolding keepers_in with_key
 keepers-same vmos k new same = λ i v. at v i
   where
-    at : (v : ℕ) → keepers_in (with_key vmos k new) v ≡ keepers_in vmos v
-    at v = elim (cases_eq v k) [
-      | inl here ↦ keepers-here vmos k new v here ∙ (sym same ∙ ap (keepers_in vmos) (sym here))
-      | inr apart ↦ keepers-other vmos k new v apart
-    ]
+    at : (v : ℕ) → keepers_at (cond (v == k) (Some new) (vmos v)) ≡ keepers_at (vmos v)
+    at v = grind (arith, common_steps)
 
 -- with some more
 pub keepers-more : (vmos : ℕ → Option Vmo) (k : ℕ) (new : Vmo) (n : ℕ) → new.keepers ≡ keepers_in vmos k + n →
     (v : ℕ) → keepers_in (with_key vmos k new) v ≡ keepers_in vmos v + cond (v == k) n 0
-keepers-more vmos k new n more v = elim (cases_eq v k) [
-  | inl here ↦ keepers-here vmos k new v here ∙ (more ∙ (ap (λ (w : ℕ). keepers_in vmos w + n) (sym here) ∙ ap (λ (m : ℕ). keepers_in vmos v + m) (sym (cond-true (v == k) n 0 (eq-eqb v k here)))))
-  | inr apart ↦
-      let none = cond-false (v == k) n 0 (ne_eqb v k apart) in
-      let same = keepers-other vmos k new v apart in
-      omega arith
-]
+unfolding keepers_in with_key
+keepers-more vmos k new n more v = grind (arith, common_steps)
 
 -- with some less
 pub keepers-less : (vmos : ℕ → Option Vmo) (k : ℕ) (new : Vmo) (n : ℕ) → new.keepers + n ≡ keepers_in vmos k →
     (v : ℕ) → keepers_in (with_key vmos k new) v + cond (v == k) n 0 ≡ keepers_in vmos v
-keepers-less vmos k new n less v = elim (cases_eq v k) [
-  | inl here ↦
-      let all = cond-true (v == k) n 0 (eq-eqb v k here) in
-      let is = keepers-here vmos k new v here in
-      let was = ap (keepers_in vmos) here in
-      omega arith
-  | inr apart ↦
-      let none = cond-false (v == k) n 0 (ne_eqb v k apart) in
-      let same = keepers-other vmos k new v apart in
-      omega arith
-]
+unfolding keepers_in with_key
+keepers-less vmos k new n less v = grind (arith, common_steps)
 
 -- ---- a VMO leaves, or counts of children change
 

@@ -8,10 +8,9 @@ use Rattle.vm_base.specs.Entries.{with_key, passes, entry_count}
 use Rattle.vm_base.proofs.EntryLaws.{with_key-here, with_key-other, some_is, passes_found, passes-some, none_is}
 use Rattle.vm_base.proofs.SearchLaws.{count_below_less}
 use Rattle.vm_model.specs.Naming.Names.{Lineage, is_parent, parent_without, lineage_without, has_parent, child_count}
-use Rattle.vm_model.proofs.NamesLaws.{left_by, lineage_without-other, lineage_without-some}
+use Rattle.vm_model.proofs.NamesLaws.{left_by, lineage_without-some}
 use Rattle.vmo_table.specs.declared.vmos.Vmo.{Vmo}
 use Rattle.vmo_table.specs.Vmos.{koid_number, lineage_of_vmo, lineages, with_children, adopted, koid_after, vmos_without, is_kept, settled, vmo_count}
-use Rattle.vmo_table.proofs.RelatedLaws.{left-here}
 use Rattle.vmo_table.proofs.NamedLaws.{KeepsNames}
 
 pub lineages-is : (vmos : ℕ → Option Vmo) (v : ℕ) → lineages vmos v ≡ option_map lineage_of_vmo (vmos v)
