@@ -1,6 +1,7 @@
 -- A VMO leaves: its children are moved one after another, and its own row goes.
-use Rattle.std.proofs.Common.{◌≡◌, ◌≢◌, ℕ, ◌<◌, ◌^◌, Bool, true, false, ◌&&◌, ◌==◌, cond, Option, None, Some, IsSome, IfSome, is_some, refl, sym, ap, subst, ◌∙◌, inl, inr, arith}
+use Rattle.std.proofs.Common.{◌≡◌, ◌≢◌, ℕ, ◌<◌, ◌^◌, Bool, true, false, ◌==◌, cond, Option, None, Some, IsSome, IfSome, is_some, refl, sym, ap, subst, ◌∙◌, inl, inr, arith}
 use Rattle.std.specs.Option.{option_map}
+use Rattle.std.proofs.lemmas.Grind.{common_steps}
 use Rattle.std.proofs.lemmas.Bool.{cases_eq, eq-eqb, ne_eqb, cond-true, cond-false}
 use Rattle.balanced_tree.specs.Rows.{Rows}
 use Rattle.vm_base.specs.declared.names.Koid.{Koid}
@@ -27,43 +28,14 @@ AreChildren-with_key t new lineage k l kept each = record {
   ];
 }
 
--- what a change says of the VMO that it is about, and of all others
-change-here : (old new : Rows ChildRow) (parent : Option ℕ) (k : ℕ) (b : Bool) → IsChange old new parent k b →
-    (q w : ℕ) → w ≡ k → is_under new q w ≡ cond (is_parent q parent) b (is_under old q w)
-change-here old new parent k b change q w here =
-    change q w ∙ (ap (λ c. cond (is_parent q parent && c) b (is_under old q w)) (eq-eqb w k here) ∙ of (is_parent q parent))
-  where
-    of : (c : Bool) → cond (c && true) b (is_under old q w) ≡ cond c b (is_under old q w)
-    of true = refl
-    of false = refl
-
-change-other : (old new : Rows ChildRow) (parent : Option ℕ) (k : ℕ) (b : Bool) → IsChange old new parent k b →
-    (q w : ℕ) → w ≢ k → is_under new q w ≡ is_under old q w
-change-other old new parent k b change q w apart =
-    change q w ∙ (ap (λ c. cond (is_parent q parent && c) b (is_under old q w)) (ne_eqb w k apart) ∙ of (is_parent q parent))
-  where
-    of : (c : Bool) → cond (c && false) b (is_under old q w) ≡ is_under old q w
-    of true = refl
-    of false = refl
-
--- a row that comes where there was none, and one that goes from where it was
-came : (b u : Bool) → u ≡ false → cond b true u ≡ b
-came true u e = refl
-came false u e = e
-
-went : (b u : Bool) → u ≡ b → cond b false u ≡ false
-went true u e = refl
-went false u e = e
-
 -- a VMO that is new gets a row under its parent
 pub AreChildren-entered : (t new : Rows ChildRow) (lineage : ℕ → Option Lineage) (k : ℕ) (l : Lineage) → AreChildren t lineage →
     lineage k ≡ None → IsChange t new l.parent k true → AreChildren new (with_key lineage k l)
-AreChildren-entered t new lineage k l kept free change = AreChildren-with_key t new lineage k l kept (λ q w. elim (cases_eq w k) [
-  | inl here ↦
-      let none = kept.is q w ∙ passes-none (has_parent q) (lineage w) (ap lineage here ∙ free) in
-      change-here t new l.parent k true change q w here ∙ (came (is_parent q l.parent) _ none ∙ sym (cond-true _ _ _ (eq-eqb w k here)))
-  | inr apart ↦ change-other t new l.parent k true change q w apart ∙ sym (cond-false _ _ _ (ne_eqb w k apart))
-])
+AreChildren-entered t new lineage k l kept free change =
+    AreChildren-with_key t new lineage k l kept (λ q w. at q w (kept.is q k ∙ passes-none (has_parent q) (lineage k) free))
+  where
+    at : (q w : ℕ) → is_under t q k ≡ false → is_under new q w ≡ cond (w == k) (is_parent q l.parent) (is_under t q w)
+    at q w none = grind (arith, common_steps, change q w)
 
 pub free_koid : (t : Rows ChildRow) (lineage : ℕ → Option Lineage) (k : ℕ) → AreChildren t lineage → lineage k ≡ None →
     (parent : Option Koid) → IfSome parent (λ p. is_under t p.0 k ≡ false)
@@ -108,12 +80,12 @@ module _ (vmos : ℕ → Option Vmo) (t : Rows ChildRow) (k : ℕ) (parent : Opt
           leaves.rows.is q child
           ∙ (passes-some (has_parent q) (lineages vmos child) (lineage_of_vmo vmo) (lineages_found vmos child vmo found) ∙ ap (is_parent q) its_parent)
 
-      nowhere : (q w : ℕ) → w ≡ child → is_under mid q w ≡ false
-      nowhere q w here = change-here t mid (Some k) child false gone q w here ∙ went (is_parent q (Some k)) _ (ap (is_under t q) here ∙ its_row q)
+      nowhere : (q : ℕ) → is_under mid q child ≡ false
+      nowhere q = grind (arith, common_steps, gone q child, its_row q)
 
       pub may_add : (o : Option Koid) → IfSome o (λ p. is_under mid p.0 child ≡ false)
       may_add None = tt
-      may_add (Some p) = nowhere p.0 child refl
+      may_add (Some p) = nowhere p.0
 
       module _ (new : Rows ChildRow) (come : IsChange mid new above child true) where
         abbrev moved : ℕ → Option Vmo
@@ -123,11 +95,7 @@ module _ (vmos : ℕ → Option Vmo) (t : Rows ChildRow) (k : ℕ) (parent : Opt
         lineages-moved = lineages-with_key vmos child (record vmo { parent = parent })
 
         rows-moved : (q w : ℕ) → is_under new q w ≡ cond (w == child) (is_parent q above) (is_under t q w)
-        rows-moved q w = elim (cases_eq w child) [
-          | inl here ↦ change-here mid new above child true come q w here ∙ (came (is_parent q above) _ (nowhere q w here) ∙ sym (cond-true _ _ _ (eq-eqb w child here)))
-          | inr apart ↦ change-other mid new above child true come q w apart
-              ∙ (change-other t mid (Some k) child false gone q w apart ∙ sym (cond-false _ _ _ (ne_eqb w child apart)))
-        ]
+        rows-moved q w = grind (arith, common_steps, gone q w, come q w, nowhere q)
 
         pub MayLeave-moved : MayLeave moved new k parent
         MayLeave-moved = record {
@@ -175,15 +143,16 @@ module _ (vmos : ℕ → Option Vmo) (t : Rows ChildRow) (k : ℕ) (parent : Opt
     pub AreChildren-left : (new : Rows ChildRow) → IsChange t new above k false → AreChildren new (lineages (vmos_without vmos k parent))
     AreChildren-left new change = record {
       is = λ p v. elim (cases_eq v k) [
-        | inl here ↦
-            change-here t new above k false change p v here
-            ∙ (went (is_parent p above) _ (ap (is_under t p) here ∙ leaves.own p)
-            ∙ sym (passes-none (has_parent p) (lineages (vmos_without vmos k parent) v)
-            (lineages-is (vmos_without vmos k parent) v ∙ ap (option_map lineage_of_vmo) (without-here vmos k parent v here))))
-        | inr apart ↦
-            change-other t new above k false change p v apart
-            ∙ (leaves.rows.is p v ∙ ap (passes (has_parent p)) (lineages-is vmos v
+        | inl here ↦ gone p v here ∙ sym (passes-none (has_parent p) (lineages (vmos_without vmos k parent) v)
+            (lineages-is (vmos_without vmos k parent) v ∙ ap (option_map lineage_of_vmo) (without-here vmos k parent v here)))
+        | inr apart ↦ kept p v apart ∙ (leaves.rows.is p v ∙ ap (passes (has_parent p)) (lineages-is vmos v
             ∙ (ap (option_map lineage_of_vmo) (stays_as_is k parent (vmos v) (ap (passes (has_parent k)) (sym (lineages-is vmos v)) ∙ no_children v)
             ∙ sym (without-other vmos k parent v apart)) ∙ sym (lineages-is (vmos_without vmos k parent) v))))
       ];
     }
+      where
+        gone : (p v : ℕ) → v ≡ k → is_under new p v ≡ false
+        gone p v here = grind (arith, common_steps, change p v, leaves.own p)
+
+        kept : (p v : ℕ) → v ≢ k → is_under new p v ≡ is_under t p v
+        kept p v apart = grind (arith, common_steps, change p v)

@@ -3,7 +3,7 @@ use Rattle.std.proofs.Common.{◌≡◌, ◌≢◌, ℕ, ◌+◌, ◌<◌, ◌==
 use Rattle.std.specs.Option.{option_map}
 use Rattle.std.proofs.lemmas.Bool.{cases_eq, eq-eqb, ne_eqb, eqb-true, false_from_ne_true, cond-true, cond-false}
 use Rattle.std.proofs.lemmas.Option.{same_Some}
-use Rattle.std.proofs.lemmas.Grind.{not_there}
+use Rattle.std.proofs.lemmas.Grind.{common_steps, not_there}
 use Rattle.std.proofs.Math.Logic.{∥∥₁_map}
 use Rattle.vm_base.specs.Entries.{with_key, without_key, passes, entry_count}
 use Rattle.vm_base.specs.declared.limits.TheConstants.{NAMES}
@@ -110,11 +110,7 @@ left_absent names lineage v parent related none = λ i w. at w i
 after_other : (u v : ℕ) (parent o : Option ℕ) → u ≢ v → is_parent u parent ≡ false →
     is_parent u (parent_without v parent o) ≡ is_parent u o
 unfolding passes parent_without
-after_other u v parent None apart other = refl
-after_other u v parent (Some p) apart other = elim (cases_eq p v) [
-  | inl same ↦ ap (λ b. is_parent u (cond b parent (Some p))) (eq-eqb p v same) ∙ (other ∙ sym (ne_eqb p u (λ e. apart (sym e ∙ same))))
-  | inr else_ ↦ ap (λ b. is_parent u (cond b parent (Some p))) (ne_eqb p v else_)
-]
+after_other u v parent o apart other = grind (arith, common_steps)
 
 has_parent-mapped : (u : ℕ) (f : Lineage → Lineage) (o : Option Lineage) → ((l : Lineage) →
     is_parent u (f l).parent ≡ is_parent u l.parent) → passes (has_parent u) (option_map f o) ≡ passes (has_parent u) o
@@ -134,20 +130,7 @@ child_count-left_other lineage v l u was apart other =
 after_parent : (u v : ℕ) (o : Option ℕ) → u ≢ v →
     ◌≡◌ {A = ℕ} (cond (is_parent u (parent_without v (Some u) o)) 1 0) (cond (is_parent u o) 1 0 + cond (is_parent v o) 1 0)
 unfolding passes parent_without
-after_parent u v None apart = refl
-after_parent u v (Some p) apart = elim (cases_eq p v) [
-  | inl same ↦
-      let is : ◌≡◌ {A = ℕ} (cond (is_parent u (cond (p == v) (Some u) (Some p))) 1 0) 1 =
-      ap (λ b. cond {A = ℕ} (is_parent u (cond b (Some u) (Some p))) 1 0) (eq-eqb p v same) ∙ ap (λ b. cond {A = ℕ} b 1 0) (eq-eqb u u refl) in
-      let one : ◌≡◌ {A = ℕ} (cond (p == u) 1 0) 0 = ap (λ b. cond {A = ℕ} b 1 0) (ne_eqb p u (λ e. apart (sym e ∙ same))) in
-      let two : ◌≡◌ {A = ℕ} (cond (p == v) 1 0) 1 = ap (λ b. cond {A = ℕ} b 1 0) (eq-eqb p v same) in
-      omega arith
-  | inr else_ ↦
-      let is : ◌≡◌ {A = ℕ} (cond (is_parent u (cond (p == v) (Some u) (Some p))) 1 0) (cond (p == u) 1 0) =
-      ap (λ b. cond {A = ℕ} (is_parent u (cond b (Some u) (Some p))) 1 0) (ne_eqb p v else_) in
-      let two : ◌≡◌ {A = ℕ} (cond (p == v) 1 0) 0 = ap (λ b. cond {A = ℕ} b 1 0) (ne_eqb p v else_) in
-      omega arith
-]
+after_parent u v o apart = grind (arith, common_steps)
 
 has_parent-gained : (u v : ℕ) (o : Option Lineage) → u ≢ v →
     ◌≡◌ {A = ℕ} (cond (passes (has_parent u) (option_map (left_by v (Some u)) o)) 1 0) (cond (passes (has_parent u) o) 1 0 + cond (passes (has_parent v) o) 1 0)

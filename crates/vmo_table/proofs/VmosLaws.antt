@@ -1,11 +1,12 @@
 -- Laws of the VMOs of the table as a map from koids.
-use Rattle.std.proofs.Common.{◌≡◌, ◌≢◌, ℕ, ◌+◌, ◌-◌, ◌≤◌, ◌==◌, Bool, true, false, cond, nat_lt, Option, None, Some, refl, sym, ap, subst, ◌∙◌, inl, inr, ◌^◌, IsSome, is_some}
+use Rattle.std.proofs.Common.{◌≡◌, ◌≢◌, ℕ, ◌+◌, ◌-◌, ◌≤◌, ◌==◌, Bool, true, false, cond, nat_lt, Option, None, Some, refl, sym, ap, subst, ◌∙◌, inl, inr, ◌^◌, IsSome, is_some, arith}
 use Rattle.std.specs.Option.{option_map}
+use Rattle.std.proofs.lemmas.Grind.{common_steps}
 use Rattle.std.proofs.lemmas.Bool.{cases_eq, eq-eqb, ne_eqb, cond-true, cond-false, or_parts, ltb-false}
 use Rattle.std.proofs.lemmas.Option.{same_Some}
 use Rattle.vm_base.specs.declared.names.Koid.{Koid}
 use Rattle.vm_base.specs.Entries.{with_key, passes, entry_count}
-use Rattle.vm_base.proofs.EntryLaws.{with_key-here, with_key-other, some_is, passes_found, passes-some, none_is}
+use Rattle.vm_base.proofs.EntryLaws.{some_is, passes_found, passes-some, none_is}
 use Rattle.vm_base.proofs.SearchLaws.{count_below_less}
 use Rattle.vm_model.specs.Naming.Names.{Lineage, is_parent, parent_without, lineage_without, has_parent, child_count}
 use Rattle.vm_model.proofs.NamesLaws.{left_by, lineage_without-some}
@@ -66,15 +67,11 @@ left_children_le vmos v parent u = child_count_le vmos (lineage_without (lineage
 -- another count of names changes no lineage
 pub lineages-written : (vmos : ℕ → Option Vmo) (k : ℕ) (old new : Vmo) → vmos k ≡ Some old →
     lineage_of_vmo new ≡ lineage_of_vmo old → lineages (with_key vmos k new) ≡ lineages vmos
-lineages-written vmos k old new was same_lineage =
-    lineages-with_key vmos k new ∙ (λ i w. at w i)
+unfolding lineages with_key
+lineages-written vmos k old new was same_lineage = λ i w. at w i
   where
-    at : (w : ℕ) → with_key (lineages vmos) k (lineage_of_vmo new) w ≡ lineages vmos w
-    at w = elim (cases_eq w k) [
-      | inl same ↦ with_key-here (lineages vmos) k (lineage_of_vmo new) w same
-          ∙ (ap (λ (l : Lineage). Some l) same_lineage ∙ sym (lineages_found vmos w old (ap vmos same ∙ was)))
-      | inr apart ↦ with_key-other (lineages vmos) k (lineage_of_vmo new) w apart
-    ]
+    at : (w : ℕ) → option_map lineage_of_vmo (cond (w == k) (Some new) (vmos w)) ≡ option_map lineage_of_vmo (vmos w)
+    at w = grind (arith, common_steps)
 
 -- nor do other counts of children
 pub lineages-adopted : (vmos : ℕ → Option Vmo) (parent : Option ℕ) (gone come : ℕ) →
