@@ -9,16 +9,14 @@ use Rattle.vmo_table.proofs.vmos.take_out.Goals as goal
 pub remove_child-requires : goal.remove_child-requires
 remove_child-requires c = own_row _ _ _ _ c.move_children.ensures.leaves
 
-pub returns-clause-vmos : goal.returns-clause-vmos
-returns-clause-vmos c =
-    let leaves = c.move_children.ensures.leaves in
-    vmos_in-removed _ _ c.args.koid.0 c.args.parent (no_children _ _ _ _ leaves c.move_children.ensures.childless) c.remove-removed.ensures.updates.0
-    ∙ c.move_children.ensures.same
-
-pub returns-clause-rows : goal.returns-clause-rows
-returns-clause-rows c =
+pub returns : goal.returns
+returns c =
     let leaves = c.move_children.ensures.leaves in
     let childless = c.move_children.ensures.childless in
-    subst (λ (m : ℕ → Option Vmo). AreChildren c.remove_child.new.rows (lineages m))
-    (sym (vmos_in-removed _ _ c.args.koid.0 c.args.parent (no_children _ _ _ _ leaves childless) c.remove-removed.ensures.updates.0))
-    (AreChildren-left _ _ _ _ leaves childless c.remove_child.new.rows c.remove_child.ensures.change)
+    let removed = vmos_in-removed _ _ c.args.koid.0 c.args.parent (no_children _ _ _ _ leaves childless)
+    c.remove-removed.ensures.updates.0 in
+    record {
+      vmos = removed ∙ c.move_children.ensures.same;
+      rows = subst (λ (m : ℕ → Option Vmo). AreChildren c.remove_child.new.rows (lineages m)) (sym removed)
+          (AreChildren-left _ _ _ _ leaves childless c.remove_child.new.rows c.remove_child.ensures.change);
+    }
