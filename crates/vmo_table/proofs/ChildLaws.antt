@@ -1,5 +1,6 @@
 -- The rows of children, as rows come and go.
-use Rattle.std.proofs.Common.{◌≡◌, ◌≢◌, inl, inr, ℕ, ◌<◌, ◌≤◌, ◌^◌, Bool, true, false, not, ◌&&◌, ◌==◌, nat_lt, cond, eqb}
+use Rattle.std.proofs.Common.{◌≡◌, ◌≢◌, inl, inr, ℕ, ◌<◌, ◌≤◌, ◌^◌, Bool, true, false, not, ◌&&◌, ◌==◌}
+use Rattle.std.proofs.Common.{nat_lt, cond, eqb}
 use Rattle.std.proofs.Common.{[], Option, None, Some, IsSome, IfSome, is_some, refl, sym, ap, ◌∙◌, subst, arith}
 use Rattle.std.specs.Option.{IsNone}
 use Rattle.std.proofs.lemmas.Bool.{cond-true, lt-ltb, le-ltb, cases_lt, eq-eqb, eqb-true}
@@ -13,7 +14,8 @@ use Rattle.vm_model.specs.Naming.Names.{is_parent}
 use Rattle.vmo_table.specs.declared.child_rows.ChildRow.{ChildRow}
 use Rattle.vmo_table.specs.ChildRows.{rank_of, row_functions, row_of, is_under, child_in, IsChange}
 
-under-at : (t : Rows ChildRow) (p v : ℕ) → v < 2 ^ 64 → is_under t p v ≡ is_some (row_at row_functions (rank_of p v) t.rows)
+under-at : (t : Rows ChildRow) (p v : ℕ) → v < 2 ^ 64 →
+    is_under t p v ≡ is_some (row_at row_functions (rank_of p v) t.rows)
 unfolding is_under
 under-at t p v h = ap (λ b. b && is_some (row_at row_functions (rank_of p v) t.rows)) (lt-ltb v (2 ^ 64) h)
 
@@ -61,7 +63,8 @@ change old new p v b few each q w = elim (cases_lt w (2 ^ 64)) [
 pub changed-added : (old new : Rows ChildRow) (p v : ℕ) (row : ChildRow) → v < 2 ^ 64 → row ≡ row_of p v →
     new.rows ≡ with_row row_functions (plain row_functions row) old.rows → IsChange old new (Some p) v true
 changed-added old new p v row few is e = change old new p v true few (λ q w g.
-    ap (λ rows. is_some (row_at row_functions (rank_of q w) rows)) (e ∙ ap (λ r. with_row row_functions (plain row_functions r) old.rows) is)
+    ap (λ rows. is_some (row_at row_functions (rank_of q w) rows))
+    (e ∙ ap (λ r. with_row row_functions (plain row_functions r) old.rows) is)
     ∙ (ap is_some (row_at-with_row row_functions (rank_of q w) (plain row_functions (row_of p v)) old.rows)
     ∙ (some_if _ (plain row_functions (row_of p v)) (row_at row_functions (rank_of q w) old.rows)
     ∙ ap (λ b. cond b true (is_some (row_at row_functions (rank_of q w) old.rows))) (ranks p v q w few g))))
@@ -69,18 +72,22 @@ changed-added old new p v row few is e = change old new p v true few (λ q w g.
 pub changed-removed : (old new : Rows ChildRow) (p v n : ℕ) → v < 2 ^ 64 → n ≡ rank_of p v →
     new.rows ≡ without_rank row_functions n old.rows → IsChange old new (Some p) v false
 changed-removed old new p v n few is e = change old new p v false few (λ q w g.
-    ap (λ rows. is_some (row_at row_functions (rank_of q w) rows)) (e ∙ ap (λ m. without_rank row_functions m old.rows) is)
+    ap (λ rows. is_some (row_at row_functions (rank_of q w) rows))
+    (e ∙ ap (λ m. without_rank row_functions m old.rows) is)
     ∙ (ap is_some (row_at-without_rank row_functions (rank_of q w) (rank_of p v) old.rows)
     ∙ (none_if _ (row_at row_functions (rank_of q w) old.rows)
     ∙ ap (λ b. cond b false (is_some (row_at row_functions (rank_of q w) old.rows))) (grind (arith, common_steps)))))
 
 pub changed-not : (t : Rows ChildRow) (parent : Option ℕ) (v : ℕ) (b : Bool) → parent ≡ None → IsChange t t parent v b
 unfolding passes
-changed-not t parent v b none q w = ap (λ (o : Option ℕ). cond (is_parent q o && (w == v)) b (is_under t q w)) (sym none)
+changed-not t parent v b none q w =
+    ap (λ (o : Option ℕ). cond (is_parent q o && (w == v)) b (is_under t q w)) (sym none)
 
 pub no_row : (t : Rows ChildRow) (p v : ℕ) (row : ChildRow) → v < 2 ^ 64 → row ≡ row_of p v → is_under t p v ≡ false →
     IsNone (row_at row_functions (row_functions.rank row) t.rows)
-no_row t p v row few is none = subst (λ r. IsNone (row_at row_functions (row_functions.rank r) t.rows)) (sym is) (of _ (sym (under-at t p v few) ∙ none))
+no_row t p v row few is none =
+    subst (λ r. IsNone (row_at row_functions (row_functions.rank r) t.rows)) (sym is)
+    (of _ (sym (under-at t p v few) ∙ none))
   where
     of : (o : Option ChildRow) → is_some o ≡ false → IsNone o
     of None e = refl
@@ -91,6 +98,10 @@ pub row_there : (t : Rows ChildRow) (p v n : ℕ) → n ≡ rank_of p v → is_u
 row_there t p v n is some =
     subst (λ m. IsSome (row_at row_functions m t.rows)) (sym is) (sym (under-at t p v (under-below t p v some)) ∙ some)
 
+-- what is said of a parent, where it is there
+pub at_parent : (Q : Koid → Type 0) (o : Option Koid) (p : Koid) → o ≡ Some p → IfSome o Q → Q p
+at_parent Q o p is h = subst (λ (x : Option Koid). IfSome x Q) is h
+
 -- what is found from the first place of a parent on
 module _ (t : Rows ChildRow) (p n : ℕ) (is : n ≡ rank_of p 0) (rising : IsRising row_functions t.rows) where
   pub first-none : (next : Option ChildRow) → next ≡ row_from row_functions n t.rows →
@@ -100,12 +111,13 @@ module _ (t : Rows ChildRow) (p n : ℕ) (is : n ≡ rank_of p 0) (rising : IsRi
     | inr past ↦ under-past t p v past
   ]
     where
-      behind : (row : ChildRow) → row.child.0 < 2 ^ 64 → n ≤ rank_of row.parent.0 row.child.0 → row.parent.0 ≢ p → v < 2 ^ 64 →
-          rank_of p v < rank_of row.parent.0 row.child.0
+      behind : (row : ChildRow) → row.child.0 < 2 ^ 64 → n ≤ rank_of row.parent.0 row.child.0 → row.parent.0 ≢ p →
+          v < 2 ^ 64 → rank_of p v < rank_of row.parent.0 row.child.0
       behind row fits from apart few = omega arith
 
-      of : (next : Option ChildRow) → next ≡ row_from row_functions n t.rows → IfSome next (λ (row : ChildRow). row.child.0 < 2 ^ 64) →
-          child_in p next ≡ None → v < 2 ^ 64 → row_at row_functions (rank_of p v) t.rows ≡ None
+      of : (next : Option ChildRow) → next ≡ row_from row_functions n t.rows →
+          IfSome next (λ (row : ChildRow). row.child.0 < 2 ^ 64) → child_in p next ≡ None → v < 2 ^ 64 →
+          row_at row_functions (rank_of p v) t.rows ≡ None
       of None e fits none few = row_from-none row_functions n (rank_of p v) t.rows (sym e) (omega arith)
       of (Some row) e fits none few =
           let first = row_from-some row_functions n 0 (2 ^ 128) row t.rows rising (sym e) in
@@ -114,14 +126,17 @@ module _ (t : Rows ChildRow) (p n : ℕ) (is : n ≡ rank_of p 0) (rising : IsRi
           first.least (rank_of p v) (omega arith) (behind row fits first.from apart few)
 
   pub first-some : (next : Option ChildRow) (child : Koid) → next ≡ row_from row_functions n t.rows →
-      IfSome next (λ (row : ChildRow). row.child.0 < 2 ^ 64) → child_in p next ≡ Some child → is_under t p child.0 ≡ true
+      IfSome next (λ (row : ChildRow). row.child.0 < 2 ^ 64) → child_in p next ≡ Some child →
+      is_under t p child.0 ≡ true
   first-some None child e fits found = absurd (cc)
   first-some (Some row) child e fits found =
       let first = row_from-some row_functions n 0 (2 ^ 128) row t.rows rising (sym e) in
       let here : (row.parent.0 ≡ p) × (row.child ≡ child) = of (row.parent.0 == p) refl found in
       subst (λ (k : Koid). is_under t p k.0 ≡ true) here.1
-      (subst (λ q. is_under t q row.child.0 ≡ true) here.0 (under-at t row.parent.0 row.child.0 fits ∙ ap is_some first.is))
+      (subst (λ q. is_under t q row.child.0 ≡ true) here.0
+      (under-at t row.parent.0 row.child.0 fits ∙ ap is_some first.is))
     where
-      of : (b : Bool) → (row.parent.0 == p) ≡ b → cond b (Some row.child) None ≡ Some child → (row.parent.0 ≡ p) × (row.child ≡ child)
+      of : (b : Bool) → (row.parent.0 == p) ≡ b → cond b (Some row.child) None ≡ Some child →
+          (row.parent.0 ≡ p) × (row.child ≡ child)
       of true e h = (eqb-true row.parent.0 p e, cc)
       of false e h = absurd (cc)

@@ -89,7 +89,8 @@ module _ (vmos : ℕ → Option Vmo) (t : Rows ChildRow) (k : ℕ) (parent : Opt
 
     module _ (mid : Rows ChildRow) (gone : IsChange t mid (Some k) child false)
         (vmo : Vmo) (found : vmos child ≡ Some vmo) where
-      passes-its : (q : ℕ) → passes (has_parent q) (lineages vmos child) ≡ is_parent q (option_map koid_number vmo.parent)
+      passes-its : (q : ℕ) →
+          passes (has_parent q) (lineages vmos child) ≡ is_parent q (option_map koid_number vmo.parent)
       passes-its q = passes-some (has_parent q) (lineages vmos child) _ (lineages_found vmos child vmo found)
 
       its_parent : option_map koid_number vmo.parent ≡ Some k

@@ -1,21 +1,24 @@
-use Rattle.std.proofs.Common.{ap, sym, subst, Option, arith}
-use Rattle.std.specs.Prelude.{IfSome, ◌≡◌, false, true}
+use Rattle.std.proofs.Common.{◌≡◌, true, false, Option, ap, sym, subst, arith}
 use Rattle.std.specs.Option.{option_map}
 use Rattle.vm_base.specs.declared.names.Koid.{Koid}
 use Rattle.vmo_table.specs.Vmos.{koid_number}
 use Rattle.vmo_table.specs.ChildRows.{is_under, IsChange}
-use Rattle.vmo_table.proofs.ChildLaws.{no_row, changed-added, changed-not}
+use Rattle.vmo_table.proofs.ChildLaws.{at_parent, no_row, changed-added, changed-not}
 use Rattle.vmo_table.proofs.child_rows.add_child.Goals as goal
 
 pub insert-requires-clause-absent : goal.insert-requires-clause-absent
 insert-requires-clause-absent c =
-    no_row c.args.rows.now c.in-Some.parent.0 c.args.child.0 c.new.result (omega arith) c.new.ensures
-    (subst (λ (o : Option Koid). IfSome o (λ p. is_under c.args.rows.now p.0 c.args.child.0 ≡ false)) c.in-Some.is c.requires.absent)
+    let child = c.args.child.0 in
+    no_row c.args.rows.now c.in-Some.parent.0 child c.new.result (omega arith) c.new.ensures
+    (at_parent (λ p. is_under c.args.rows.now p.0 child ≡ false) _ c.in-Some.parent c.in-Some.is c.requires.absent)
 
 pub returns-in-Some : goal.returns-in-Some
 returns-in-Some c =
-    subst (λ (o : Option Koid). IsChange c.args.rows.now c.insert.new.self (option_map koid_number o) c.args.child.0 true) (sym c.in-Some.is)
-    (changed-added c.args.rows.now c.insert.new.self c.in-Some.parent.0 c.args.child.0 c.new.result (omega arith) c.new.ensures c.insert.ensures.rows)
+    let child = c.args.child.0 in
+    subst (λ (o : Option Koid). IsChange c.args.rows.now c.insert.new.self (option_map koid_number o) child true)
+    (sym c.in-Some.is)
+    (changed-added _ _ c.in-Some.parent.0 child c.new.result (omega arith) c.new.ensures c.insert.ensures.rows)
 
 pub returns-in_default : goal.returns-in_default
-returns-in_default c = changed-not c.args.rows.now _ c.args.child.0 true (ap (option_map koid_number) c.in_default.is)
+returns-in_default c =
+    changed-not c.args.rows.now _ c.args.child.0 true (ap (option_map koid_number) c.in_default.is)

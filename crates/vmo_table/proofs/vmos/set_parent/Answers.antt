@@ -12,7 +12,8 @@ returns-in-Some c = λ vmo is.
     let found = sym c.in-Some.ensures.value in
     let written : Vmo = record c.in-Some.vmo.now { parent = c.args.parent } in
     let same = same_Some c.in-Some.vmo.now vmo (sym (vmos_in-is entries c.args.koid.0 ∙ found) ∙ is) in
-    vmos_in-put entries (c.get_mut.follows.lender written).entries c.args.koid.0 written ((c.get_mut.follows.holds written).3 (ap is_some found)).0
+    vmos_in-put entries (c.get_mut.follows.lender written).entries c.args.koid.0 written
+    ((c.get_mut.follows.holds written).3 (ap is_some found)).0
     ∙ ap (λ (x : Vmo). with_key (vmos_in entries) c.args.koid.0 (record x { parent = c.args.parent })) same
 
 pub returns-in_default : goal.returns-in_default
