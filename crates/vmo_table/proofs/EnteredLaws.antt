@@ -1,7 +1,8 @@
 -- What stays true of the table as VMOs are entered.
-use Rattle.std.proofs.Common.{◌≡◌, ℕ, ◌+◌, ◌-◌, ◌^◌, ◌<◌, ◌≤◌, true, false, cond, Option, None, Some, IsSome, sym, ap, subst, ◌∙◌, inl, inr, arith, Bool, is_some}
+use Rattle.std.proofs.Common.{refl, ◌≡◌, ℕ, ◌+◌, ◌-◌, ◌^◌, ◌<◌, ◌≤◌, true, false, cond, Option, None, Some, IsSome, sym, ap, subst, ◌∙◌, inl, inr, arith, Bool, is_some}
 use Rattle.std.specs.Option.{option_map}
-use Rattle.std.proofs.lemmas.Bool.{cases_Bool, cond-true, cond-false}
+use Rattle.std.proofs.lemmas.Grind.{common_steps}
+use Rattle.std.proofs.lemmas.Bool.{cases_Bool, cond-false}
 use Rattle.vm_base.specs.Entries.{with_key}
 use Rattle.vm_base.specs.declared.limits.TheConstants.{NAMES}
 use Rattle.vm_base.proofs.EntryLaws.{with_key-cases, entry_count-with_key}
@@ -79,14 +80,8 @@ module _ (names : ℕ → Option Target) (vmos : ℕ → Option Vmo) (n : ℕ) (
       cond (is_parent v own) (old.children - 0 + 1) old.children ≡ child_count after v
   entered_children v old e =
       let counted = enters.consistent.counted.children v old e in
-      elim (cases_Bool (is_parent v own)) [
-        | inl hit ↦
-            let more = entered v true hit in
-            cond-true (is_parent v own) (old.children - 0 + 1) old.children hit ∙ omega arith
-        | inr miss ↦
-            let same = entered v false miss in
-            cond-false (is_parent v own) (old.children - 0 + 1) old.children miss ∙ omega arith
-      ]
+      let more = entered v (is_parent v own) refl in
+      grind (arith, common_steps, counted, more)
 
   pub entered_fits : (v : ℕ) (old : Vmo) → is_parent v own ≡ true → put v ≡ Some old →
       (0 ≤ old.children) × (old.children - 0 + 1 < 2 ^ 64)

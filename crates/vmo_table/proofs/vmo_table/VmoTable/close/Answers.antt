@@ -34,22 +34,22 @@ invariant_of-self c =
     let names = names_in-taken c.self.inside.names.entries c.remove-closed.new.self.entries c.args.name.0 c.remove-closed.ensures.updates.0 in
     record { consistent = AreConsistent-same _ _ _ _ names c.settle.ensures.vmos (AreConsistent-settled _ _ _ _ _ written); children = c.settle.ensures.rows }
 
-pub returns-clause-names : goal.returns-clause-names
-returns-clause-names c =
-    names_in-taken c.self.inside.names.entries c.remove-closed.new.self.entries c.args.name.0 c.remove-closed.ensures.updates.0
-    ∙ ap (λ (m : Table). without_key (names_of m) c.args.name.0) c.self.view_is
-
-pub returns-clause-keepers : goal.returns-clause-keepers
-returns-clause-keepers c =
+pub returns : goal.returns
+returns c =
     let koid = c.index.result.now.koid.0 in
-    let same = keepers_kept c.self.inside koid c.index-vmo.result.now c.index-vmo.ensures ∙ sym (ap (λ (x : Vmo). x.keepers) c.take_name-left.ensures) in
-    ap keepers_in c.settle.ensures.vmos ∙ (keepers-settled _ koid c.take_name-left.result ∙ (keepers-same _ koid c.take_name-left.result same ∙ ap keepers_of c.self.view_is))
-
-pub returns-clause-vmo : goal.returns-clause-vmo
-returns-clause-vmo c =
-    let koid = c.index.result.now.koid.0 in
-    let written = closing c.self.inside c.args.name.0 c.index.result.now c.index-vmo.result.now c.take_name-left.result c.self.invariant c.index.ensures c.index-vmo.ensures c.take_name-left.ensures in
-    let names = names_in-taken c.self.inside.names.entries c.remove-closed.new.self.entries c.args.name.0 c.remove-closed.ensures.updates.0 in
-    let keepers = keepers_known c.self.inside c.args.self.now koid c.index-vmo.result.now c.self.view_is c.index-vmo.ensures ∙ sym (ap (λ (x : Vmo). x.keepers) c.take_name-left.ensures) in
-    closes_now c.self.inside c.args.self.now c.args.name.0 c.index.result.now _ _ c.settle.result c.self.view_is c.index.ensures
-    (settles_same c.self.inside c.args.self.now _ _ _ _ koid _ _ c.settle.result c.self.view_is names keepers (ap lineages c.settle.ensures.vmos) (settles _ _ _ _ _ written c.settle.result c.settle.ensures.answer))
+    let left = c.take_name-left.result in
+    let written = closing c.self.inside c.args.name.0 c.index.result.now c.index-vmo.result.now left c.self.invariant
+    c.index.ensures c.index-vmo.ensures c.take_name-left.ensures in
+    let taken = names_in-taken _ c.remove-closed.new.self.entries c.args.name.0 c.remove-closed.ensures.updates.0 in
+    let same = sym (ap (λ (x : Vmo). x.keepers) c.take_name-left.ensures) in
+    let was = keepers_kept c.self.inside koid c.index-vmo.result.now c.index-vmo.ensures ∙ same in
+    let known = keepers_known c.self.inside _ koid c.index-vmo.result.now c.self.view_is c.index-vmo.ensures ∙ same in
+    record {
+      names = taken ∙ ap (λ (m : Table). without_key (names_of m) c.args.name.0) c.self.view_is;
+      keepers = ap keepers_in c.settle.ensures.vmos
+          ∙ (keepers-settled _ koid left ∙ (keepers-same _ koid left was ∙ ap keepers_of c.self.view_is));
+      vmo = closes_now c.self.inside c.args.self.now c.args.name.0 c.index.result.now _ _ c.settle.result
+          c.self.view_is c.index.ensures
+          (settles_same c.self.inside c.args.self.now _ _ _ _ koid _ _ c.settle.result c.self.view_is taken known
+          (ap lineages c.settle.ensures.vmos) (settles _ _ _ _ _ written c.settle.result c.settle.ensures.answer));
+    }

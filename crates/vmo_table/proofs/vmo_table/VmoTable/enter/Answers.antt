@@ -25,30 +25,25 @@ abbrev vmo : Bool → Origin → Option Koid → Vmo
 vmo resizable origin parent =
     record { resizable = resizable; origin = origin; parent = parent; names = 1; slices = 0; references = 0; children = 0; keepers = 0 }
 
-pub returns-clause-names : goal.returns-clause-names
-returns-clause-names c =
-    let to = target c.args.koid c.args.may_write c.args.resizable in
-    let room = rooms c.self.inside c.args.self.now c.self.view_is c.requires.room in
-    let named = from_ok c.insert-named.result (c.insert-named.ensures.succeeds room.0) c.insert-named.ensures.updates in
-    names_in-put c.self.inside.names.entries c.insert-named.new.self.entries c.args.name.0 to named.0
-    ∙ ap (λ (m : Table). with_key (names_of m) c.args.name.0 to) c.self.view_is
-
-pub returns-clause-lineage : goal.returns-clause-lineage
-returns-clause-lineage c =
+pub returns : goal.returns
+returns c =
     let new = vmo c.args.resizable c.args.origin c.args.parent in
     let to = target c.args.koid c.args.may_write c.args.resizable in
     let room = rooms c.self.inside c.args.self.now c.self.view_is c.requires.room in
-    let kept = vmos_in-put c.self.inside.vmos.entries c.insert-kept.new.self.entries c.args.koid.0 new (from_ok c.insert-kept.result (c.insert-kept.ensures.succeeds room.1) c.insert-kept.ensures.updates).0 in
-    ap lineages c.count_children.ensures ∙ (lineages-adopted _ _ 0 1 ∙ (ap lineages kept ∙ (lineages-with_key _ _ new
-    ∙ ap (λ (m : Table). with_key (lineage_in m) c.args.koid.0 (lineage_of_vmo new)) c.self.view_is)))
-
-pub returns-clause-keepers : goal.returns-clause-keepers
-returns-clause-keepers c =
-    let new = vmo c.args.resizable c.args.origin c.args.parent in
-    let room = rooms c.self.inside c.args.self.now c.self.view_is c.requires.room in
-    let kept = vmos_in-put c.self.inside.vmos.entries c.insert-kept.new.self.entries c.args.koid.0 new (from_ok c.insert-kept.result (c.insert-kept.ensures.succeeds room.1) c.insert-kept.ensures.updates).0 in
+    let named = from_ok _ (c.insert-named.ensures.succeeds room.0) c.insert-named.ensures.updates in
+    let put = from_ok _ (c.insert-kept.ensures.succeeds room.1) c.insert-kept.ensures.updates in
+    let kept = vmos_in-put _ c.insert-kept.new.self.entries c.args.koid.0 new put.0 in
     let free = keepers_unknown c.self.inside c.args.self.now c.args.koid.0 c.self.view_is c.requires.koid in
-    ap keepers_in c.count_children.ensures ∙ (keepers-adopted _ _ 0 1 ∙ (ap keepers_in kept ∙ (keepers-same _ c.args.koid.0 new free ∙ ap keepers_of c.self.view_is)))
+    record {
+      names = names_in-put _ c.insert-named.new.self.entries c.args.name.0 to named.0
+          ∙ ap (λ (m : Table). with_key (names_of m) c.args.name.0 to) c.self.view_is;
+      lineage = ap lineages c.count_children.ensures
+          ∙ (lineages-adopted _ _ 0 1 ∙ (ap lineages kept ∙ (lineages-with_key _ _ new
+          ∙ ap (λ (m : Table). with_key (lineage_in m) c.args.koid.0 (lineage_of_vmo new)) c.self.view_is)));
+      keepers = ap keepers_in c.count_children.ensures
+          ∙ (keepers-adopted _ _ 0 1 ∙ (ap keepers_in kept
+          ∙ (keepers-same _ c.args.koid.0 new free ∙ ap keepers_of c.self.view_is)));
+    }
 
 pub count_children-requires : goal.count_children-requires
 count_children-requires c = λ v old hit e.
