@@ -4,7 +4,7 @@ use Rattle.std.specs.Option.{option_map}
 use Rattle.std.specs.Prelude.{IsOk, OnOk}
 use Rattle.std.specs.Map.{lookup}
 use Rattle.std.proofs.lemmas.Grind.{common_steps}
-use Rattle.std.proofs.lemmas.Bool.{cases_eq, eq-eqb, ne_eqb, cond-true, cond-false, cases_lt}
+use Rattle.std.proofs.lemmas.Bool.{ne_eqb, cond-false, cases_lt}
 use Rattle.std.proofs.lemmas.Bool.Decides.{nat_tests}
 use Rattle.vm_base.specs.declared.names.Koid.{Koid}
 use Rattle.vm_base.specs.declared.names.VmoName.{VmoName}
@@ -16,7 +16,7 @@ use Rattle.vm_model.specs.Naming.Names.{is_parent, has_parent}
 use Rattle.vmo_table.specs.declared.vmos.Vmo.{Vmo}
 use Rattle.vmo_table.specs.Vmos.{koid_number, vmos_in, lineage_of_vmo, lineages, with_children, adopted, koid_after, vmos_without, vmo_count}
 use Rattle.vmo_table.specs.Table.{names_in}
-use Rattle.vmo_table.proofs.VmosLaws.{lineages-is, without-here, without-other, vmo_after, is_some-lineages}
+use Rattle.vmo_table.proofs.VmosLaws.{lineages-is, vmo_after, is_some-lineages}
 
 -- an entry of the map of VMOs
 abbrev pub vmo_at : List (Koid × Vmo) → ℕ → Option Vmo
@@ -100,15 +100,12 @@ pub vmos_in-removed : (old new : List (Koid × Vmo)) (k : ℕ) (parent : Option 
     passes (has_parent k) (lineages (vmos_in old) w) ≡ false) →
     ((q : Koid) → vmo_at new q.0 ≡ cond (k == q.0) None (vmo_at old q.0)) →
     vmos_in new ≡ vmos_without (vmos_in old) k parent
-vmos_in-removed old new k parent childless each = λ i v. (vmos_in-is new v ∙ (each (record { 0 = v }) ∙ at v)) i
+unfolding vmos_in vmos_without lineages
+vmos_in-removed old new k parent childless each = λ i v. (each (record { 0 = v }) ∙ at v (stays_as_is k parent (vmo_at old v) (childless v))) i
   where
-    at : (v : ℕ) → cond (k == v) None (vmo_at old v) ≡ vmos_without (vmos_in old) k parent v
-    at v = elim (cases_eq k v) [
-      | inl same ↦ cond-true (k == v) None (vmo_at old v) (eq-eqb k v same) ∙ sym (without-here (vmos_in old) k parent v (sym same))
-      | inr apart ↦ cond-false (k == v) None (vmo_at old v) (ne_eqb k v apart) ∙ (sym (vmos_in-is old v)
-          ∙ (stays_as_is k parent (vmos_in old v) (ap (passes (has_parent k)) (sym (lineages-is (vmos_in old) v)) ∙ childless v)
-          ∙ sym (without-other (vmos_in old) k parent v (λ e. apart (sym e)))))
-    ]
+    at : (v : ℕ) → vmo_at old v ≡ option_map (vmo_after k parent) (vmo_at old v) →
+        cond (k == v) None (vmo_at old v) ≡ cond (v == k) None (option_map (vmo_after k parent) (vmo_at old v))
+    at v same = grind (arith, common_steps)
 
 -- ---- the map of names
 

@@ -1,16 +1,15 @@
 -- How many keepers each VMO has, as VMOs are written, come and leave.
-use Rattle.std.proofs.Common.{◌≡◌, ◌≢◌, ℕ, ◌+◌, ◌==◌, Bool, true, false, cond, Option, None, Some, refl, sym, ap, ◌∙◌, inl, inr, arith}
+use Rattle.std.proofs.Common.{◌≡◌, ◌≢◌, ℕ, ◌+◌, ◌≤◌, ◌==◌, Bool, true, false, cond, Option, None, Some, refl, sym, ap, ◌∙◌, inl, inr, arith}
 use Rattle.std.specs.Prelude.{unwrap_or}
 use Rattle.std.specs.Option.{option_map}
 use Rattle.std.proofs.lemmas.Grind.{common_steps}
-use Rattle.std.proofs.lemmas.Bool.{cases_Bool, cases_eq}
-use Rattle.vm_base.specs.declared.names.Koid.{Koid}
+use Rattle.std.proofs.lemmas.Bool.{cases_Bool}
 use Rattle.vm_base.specs.Entries.{with_key}
 use Rattle.vm_base.proofs.EntryLaws.{with_key-here, with_key-other}
 use Rattle.vm_model.specs.Naming.Names.{is_parent}
 use Rattle.vmo_table.specs.declared.vmos.Vmo.{Vmo}
 use Rattle.vmo_table.specs.Vmos.{koid_number, keepers_in, with_children, adopted, vmos_without, is_kept, settled}
-use Rattle.vmo_table.proofs.VmosLaws.{vmo_after, without-here, without-other, settled-kept, settled-free, free_counts}
+use Rattle.vmo_table.proofs.VmosLaws.{vmo_after, settled-kept, settled-free, free_counts}
 
 -- the keepers of a VMO that may be there
 abbrev keepers_at : Option Vmo → ℕ
@@ -72,33 +71,23 @@ keepers-adopted vmos parent gone come = λ i v. of (is_parent v parent) (vmos v)
     of true (Some vmo) = refl
     of false o = refl
 
-keepers-gone : (vmos : ℕ → Option Vmo) (k : ℕ) (parent : Option Koid) (v : ℕ) → v ≡ k →
-    keepers_in (vmos_without vmos k parent) v ≡ 0
-keepers-gone vmos k parent v same = keepers_none (vmos_without vmos k parent) v (without-here vmos k parent v same)
-
-keepers-left : (vmos : ℕ → Option Vmo) (k : ℕ) (parent : Option Koid) (v : ℕ) → v ≢ k →
-    keepers_in (vmos_without vmos k parent) v ≡ keepers_in vmos v
-keepers-left vmos k parent v apart =
-    keepers_in-is (vmos_without vmos k parent) v ∙ (ap keepers_at (without-other vmos k parent v apart) ∙ (of (vmos v) ∙ sym (keepers_in-is vmos v)))
-  where
-    of : (o : Option Vmo) → keepers_at (option_map (vmo_after k parent) o) ≡ keepers_at o
-    of None = refl
-    of (Some vmo) = refl
-
 -- a VMO that is settled has the keepers of its new value, whether it leaves or not
 pub keepers-settled : (vmos : ℕ → Option Vmo) (k : ℕ) (new : Vmo) →
     keepers_in (settled vmos k new) ≡ keepers_in (with_key vmos k new)
+unfolding keepers_in vmos_without with_key
 keepers-settled vmos k new = elim (cases_Bool (is_kept new)) [
   | inl held ↦ ap keepers_in (settled-kept vmos k new held)
   | inr free ↦ ap keepers_in (settled-free vmos k new free) ∙ (keepers-adopted (vmos_without vmos k new.parent) (option_map koid_number new.parent) 1 new.children ∙ λ i v. at free v i)
 ]
   where
-    no_keepers : is_kept new ≡ false → 0 ≡ new.keepers
-    no_keepers free = let none = (free_counts new free).1 in omega arith
+    after : (o : Option Vmo) → keepers_at (option_map (vmo_after k new.parent) o) ≡ keepers_at o
+    after None = refl
+    after (Some vmo) = refl
+
+    one : (v : ℕ) → new.keepers ≤ 0 →
+        keepers_at (cond (v == k) None (option_map (vmo_after k new.parent) (vmos v))) ≡ keepers_at (cond (v == k) (Some new) (vmos v))
+    one v none = grind (arith, common_steps, after (vmos v))
 
     at : is_kept new ≡ false → (v : ℕ) →
         keepers_in (vmos_without vmos k new.parent) v ≡ keepers_in (with_key vmos k new) v
-    at free v = elim (cases_eq v k) [
-      | inl here ↦ keepers-gone vmos k new.parent v here ∙ (no_keepers free ∙ sym (keepers-here vmos k new v here))
-      | inr apart ↦ keepers-left vmos k new.parent v apart ∙ sym (keepers-other vmos k new v apart)
-    ]
+    at free v = one v (free_counts new free).1
