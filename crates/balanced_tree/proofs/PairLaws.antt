@@ -30,7 +30,7 @@ module _ {R V : Type 0} {f : Functions R} {first second : R → ℕ} {value : R 
   unfolding value_at
   value-at rows a b h = cond-true _ _ _ (lt-ltb b (2 ^ 64) h)
 
-  value-past : (rows : List R) (a b : ℕ) → 2 ^ 64 ≤ b → value_at f value rows a b ≡ None
+  pub value-past : (rows : List R) (a b : ℕ) → 2 ^ 64 ≤ b → value_at f value rows a b ≡ None
   unfolding value_at
   value-past rows a b h = cond-false _ _ _ (le-ltb b (2 ^ 64) h)
 

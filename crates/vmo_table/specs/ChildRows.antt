@@ -1,8 +1,9 @@
 -- The children of each VMO as rows of a tree, by parent and then by child.
-use Rattle.std.specs.Prelude.{◌≡◌, ℕ, ◌+◌, ◌*◌, ◌^◌, Bool, false, ◌&&◌, ◌==◌, nat_lt, if◌then◌else◌, Option, None, Some, is_some}
+use Rattle.std.specs.Prelude.{◌≡◌, ℕ, Bool, false, ◌&&◌, ◌==◌, if◌then◌else◌, Option, None, is_some}
 use Rattle.std.specs.Option.{option_map}
 use Rattle.balanced_tree.specs.Row.{Functions, link_of, height_over}
-use Rattle.balanced_tree.specs.Rows.{Rows, row_at}
+use Rattle.balanced_tree.specs.Rows.{Rows}
+use Rattle.balanced_tree.specs.Pairs.{pair_rank, value_at}
 use Rattle.vm_base.specs.Entries.{passes}
 use Rattle.vm_base.specs.declared.names.Koid.{Koid}
 use Rattle.vm_model.specs.Naming.Names.{Lineage, is_parent, has_parent}
@@ -10,13 +11,9 @@ use Rattle.vmo_table.specs.declared.child_rows.ChildRow.{ChildRow}
 use Rattle.vmo_table.specs.declared.vmos.Vmo.{Vmo}
 use Rattle.vmo_table.specs.Vmos.{koid_number, lineages}
 
--- the place of the child v of p among all rows. Koids are below 2^64
-abbrev pub rank_of : ℕ → ℕ → ℕ
-rank_of p v = p * 2 ^ 64 + v
-
 abbrev pub row_functions : Functions ChildRow
 row_functions = record {
-  rank = λ x. rank_of x.parent.0 x.child.0;
+  rank = λ x. pair_rank x.parent.0 x.child.0;
   left = λ x. x.left;
   right = λ x. x.right;
   height = λ x. x.height;
@@ -28,14 +25,15 @@ abbrev pub row_of : ℕ → ℕ → ChildRow
 row_of p v =
     record { parent = record { 0 = p }; child = record { 0 = v }; left = None; right = None; height = 0 }
 
+abbrev pub parent_in : ChildRow → ℕ
+parent_in row = row.parent.0
+
+abbrev pub child_in : ChildRow → ℕ
+child_in row = row.child.0
+
 -- v has a row under p
 unfoldable pub is_under : Rows ChildRow → ℕ → ℕ → Bool
-is_under t p v = nat_lt v (2 ^ 64) && is_some (row_at row_functions (rank_of p v) t.rows)
-
--- the child of the row that follows a place in the order, where it is under p
-abbrev pub child_in : ℕ → Option ChildRow → Option Koid
-child_in p None = None
-child_in p (Some row) = if row.parent.0 == p then Some row.child else None
+is_under t p v = is_some (value_at row_functions child_in t.rows p v)
 
 -- whether v has a row under this parent is said anew; all other rows stay
 abbrev pub IsChange : Rows ChildRow → Rows ChildRow → Option ℕ → ℕ → Bool → Type 0

@@ -4,14 +4,12 @@ ghost use Rattle.std.specs.Prelude.{◌≡◌, ℕ, ◌+◌, ◌^◌, ◌<◌, �
 ghost use Rattle.std.specs.Option.{option_map};
 ghost use Rattle.vm_base.specs.declared.names.Koid.{Koid};
 ghost use Rattle.balanced_tree.specs.Row.{height_in};
-ghost use Rattle.vmo_table.specs.ChildRows.{rank_of, row_of, is_under, child_in, IsChange};
+ghost use Rattle.balanced_tree.specs.Pairs.{second_in};
+ghost use Rattle.vmo_table.specs.ChildRows.{row_of, parent_in, child_in, is_under, IsChange};
 ghost use Rattle.vmo_table.specs.Vmos.{koid_number};
 
-use balanced_tree::{BalancedTree, Child, TreeRow, link_to};
+use balanced_tree::{BalancedTree, Child, TreeRow, link_to, pair_rank};
 use vm_base::Koid;
-
-/// How far apart the ranks of one child under two parents that follow each other are.
-const KOIDS_OF_A_PARENT: u128 = 1 << 64;
 
 /// A row as it stands in the tree: a parent and a child of it, the links, and the height.
 #[derive(Clone, Copy, Debug)]
@@ -41,13 +39,6 @@ impl ChildRow {
     }
 }
 
-/// The place of a child in the order of all rows.
-fn rank_of(parent: Koid, child: Koid) -> u128
-    ensures { result ≡ rank_of parent.0 child.0 }
-{
-    u128::from(parent.0) * KOIDS_OF_A_PARENT + u128::from(child.0)
-}
-
 fn height_of(child: Option<Child<ChildRow>>) -> u32
     ensures { result ≡ height_in (λ x. x.height) child }
 {
@@ -65,7 +56,7 @@ impl TreeRow for ChildRow {
     ghost functions = { row_functions };
 
     fn rank(self) -> u128 {
-        rank_of(self.parent, self.child)
+        pair_rank(self.parent.0, self.child.0)
     }
 
     fn left(self) -> Option<usize> {
@@ -123,7 +114,7 @@ pub(crate) fn remove_child(rows: &mut ChildRows, parent: Option<Koid>, child: Ko
     ensures spare { IfSome parent (λ p. rows.new.spare ≡ rows.old.spare + 1) }
 {
     if let Some(parent) = parent {
-        rows.remove(rank_of(parent, child));
+        rows.remove(pair_rank(parent.0, child.0));
     }
 }
 
@@ -133,12 +124,12 @@ pub(crate) fn first_child(rows: &ChildRows, parent: Koid) -> Option<Koid>
     ensures some { (child : Koid) → result ≡ Some child → is_under rows.now parent.0 child.0 ≡ true }
 {
     let _rising = rows.len();
-    child_in(parent, rows.next(rank_of(parent, Koid(0))))
+    child_under(parent, rows.next(pair_rank(parent.0, 0)))
 }
 
 /// The child of the row that follows, if it is under this parent.
-fn child_in(parent: Koid, next: Option<ChildRow>) -> Option<Koid>
-    ensures child { result ≡ child_in parent.0 next }
+fn child_under(parent: Koid, next: Option<ChildRow>) -> Option<Koid>
+    ensures child { option_map koid_number result ≡ second_in parent_in child_in parent.0 next }
     ensures fits { IfSome next (λ row. row.child.0 < 2 ^ 64) }
 {
     match next {

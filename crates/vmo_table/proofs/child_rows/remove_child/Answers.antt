@@ -8,7 +8,7 @@ use Rattle.vmo_table.proofs.child_rows.remove_child.Goals as goal
 
 pub remove-requires : goal.remove-requires
 remove-requires c =
-    row_there c.args.rows.now c.in-Some.parent.0 c.args.child.0 _ c.rank_of.ensures
+    row_there c.args.rows.now c.in-Some.parent.0 c.args.child.0 _ c.pair_rank.ensures
     (at_parent (λ p. is_under c.args.rows.now p.0 c.args.child.0 ≡ true) _ c.in-Some.parent c.in-Some.is c.requires)
 
 pub returns-in-Some-clause-change : goal.returns-in-Some-clause-change
@@ -19,7 +19,7 @@ returns-in-Some-clause-change c =
     subst (λ (o : Option Koid). IsChange old c.remove.new.self (option_map koid_number o) child false)
     (sym c.in-Some.is)
     (changed-removed old _ c.in-Some.parent.0 child _ (under-below old c.in-Some.parent.0 child there)
-    c.rank_of.ensures c.remove.ensures.rows)
+    c.pair_rank.ensures c.remove.ensures.rows)
 
 pub returns-in_default-clause-change : goal.returns-in_default-clause-change
 returns-in_default-clause-change c =
