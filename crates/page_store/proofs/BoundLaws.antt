@@ -7,9 +7,11 @@ use Rattle.std.proofs.lemmas.Bool.{cases_Bool, cases_order, cases_lt, and_parts,
 use Rattle.std.proofs.lemmas.Bool.Decides.{nat_tests}
 use Rattle.std.proofs.lemmas.List.{length-take-le, get_or-take, get_or-drop, length-drop, get_or_default}
 use Rattle.std.proofs.lemmas.List.Edits.{length-between, get_or-between, split_between}
+use Rattle.std.proofs.lemmas.List.Elements.{All-append}
+use Rattle.std.proofs.lemmas.List.Kept.{AllPairs-cons}
 use Rattle.page_store.specs.declared.rows.Row.{Row}
-use Rattle.page_store.specs.Rows.{row_cmp, find_row, AllBehind, IsSorted, IsRowFor, IsBoundFor, IsWithin, AreRowsWithin}
-use Rattle.page_store.proofs.RowLaws.{page_cmp, cmp_itself, sorted_split, sorted_join, sorted_at, sorted_nil, find_row-at}
+use Rattle.page_store.specs.Rows.{row_cmp, find_row, IsBefore, IsSorted, IsRowFor, IsBoundFor, IsWithin, AreRowsWithin}
+use Rattle.page_store.proofs.RowLaws.{page_cmp, cmp_itself, sorted_rest, find_row-at}
 
 -- ---- bounds
 
@@ -27,11 +29,11 @@ pub bound_at_row : (rows : List Row) → IsSorted rows → (v p i : ℕ) → IsR
 bound_at_row rows s v p i at = let h = at.in_range in record {
   in_range = omega arith;
   before = λ k d l m.
-      cmp_before_same v p (get_or rows k d).koid.0 (get_or rows k d).page (get_or rows i d).koid.0 (get_or rows i d).page (at.is d) (sorted_at rows s k i d m h);
+      cmp_before_same v p (get_or rows k d).koid.0 (get_or rows k d).page (get_or rows i d).koid.0 (get_or rows i d).page (at.is d) (s.rise k i d m h);
   behind = λ k d l m. elim (cases_order i k) [
     | inl same ↦ cmp_equal (row_cmp v p (get_or rows k d)) (ap (λ (j : ℕ). row_cmp v p (get_or rows j d)) (sym same) ∙ at.is d)
     | inr other ↦ elim other [
-      | inl less ↦ cmp_behind_same v p (get_or rows k d).koid.0 (get_or rows k d).page (get_or rows i d).koid.0 (get_or rows i d).page (at.is d) (sorted_at rows s i k d less m)
+      | inl less ↦ cmp_behind_same v p (get_or rows k d).koid.0 (get_or rows k d).page (get_or rows i d).koid.0 (get_or rows i d).page (at.is d) (s.rise i k d less m)
       | inr more ↦ absurd (omega arith)
     ]
   ];
@@ -146,51 +148,18 @@ find_row-each rows s i d h =
 
 -- ---- the order of parts
 
-behind_append : (v p : ℕ) (xs ys : List Row) → AllBehind v p xs → AllBehind v p ys → AllBehind v p (xs ++ ys)
-behind_append v p [] ys left right = right
-behind_append v p (row ∷ rows) ys left right = (left.0, behind_append v p rows ys left.1 right)
+-- two parts are sorted where each row of the one is before each of the other
+pub sorted_append : (xs ys : List Row) → IsSorted xs → IsSorted ys → ((i j : ℕ) (d : Row) → i < length xs → j < length ys → IsBefore (get_or xs i d) (get_or ys j d))
+    → IsSorted (xs ++ ys)
+sorted_append [] ys left right across = right
+sorted_append (row ∷ rows) ys left right across =
+    let rest = sorted_append rows ys (sorted_rest row rows left) right (λ i j d l h. across (suc i) j d (omega arith) h) in
+    let here = All-append (IsBefore row) rows ys (λ k d h. left.rise 0 (suc k) d (omega arith) (omega arith)) (λ k d h. across 0 k d (omega arith) h) in
+    record { rise = AllPairs-cons IsBefore row (rows ++ ys) here rest.rise }
 
-behind_parts : (v p : ℕ) (xs ys : List Row) → AllBehind v p (xs ++ ys) → AllBehind v p xs × AllBehind v p ys
-behind_parts v p [] ys all = (tt, all)
-behind_parts v p (row ∷ rows) ys all = let rest = behind_parts v p rows ys all.1 in ((all.0, rest.0), rest.1)
-
--- two parts of sorted rows
-pub record AreSorted (xs ys : List Row) : Type 0 where
-  pub left : IsSorted xs
-  pub right : IsSorted ys
-  pub across : All (λ row. AllBehind row.koid.0 row.page ys) xs
-
-pub sorted_append : (xs ys : List Row) → AreSorted xs ys → IsSorted (xs ++ ys)
-sorted_append [] ys parts = parts.right
-sorted_append (row ∷ rows) ys parts =
-    let first = sorted_split row rows parts.left in
-    sorted_join row (rows ++ ys) (behind_append row.koid.0 row.page rows ys first.0 (parts.across 0 row (omega arith)))
-    (sorted_append rows ys (record { left = first.1; right = parts.right; across = λ k d h. parts.across (suc k) d (omega arith) }))
-
-pub sorted_apart : (xs ys : List Row) → IsSorted (xs ++ ys) → AreSorted xs ys
-sorted_apart [] ys s = record { left = sorted_nil; right = s; across = λ k d h. absurd (omega arith) }
-sorted_apart (row ∷ rows) ys s =
-    let first = sorted_split row (rows ++ ys) s in
-    let behind = behind_parts row.koid.0 row.page rows ys first.0 in
-    let rest = sorted_apart rows ys first.1 in
-    record {
-      left = sorted_join row rows behind.0 rest.left;
-      right = rest.right;
-      across = go behind.1 rest.across;
-    } where
-      go : AllBehind row.koid.0 row.page ys → All (λ r. AllBehind r.koid.0 r.page ys) rows → All (λ r. AllBehind r.koid.0 r.page ys) (row ∷ rows)
-      go here there zero d h = here
-      go here there (suc k) d h = there k d (omega arith)
-
--- a part in the middle may go
-pub sorted_middle : (xs ys zs : List Row) → IsSorted (xs ++ (ys ++ zs)) → IsSorted (xs ++ zs)
-sorted_middle xs ys zs s =
-    let outer = sorted_apart xs (ys ++ zs) s in
-    sorted_append xs zs (record {
-      left = outer.left;
-      right = (sorted_apart ys zs outer.right).right;
-      across = λ k d h. (behind_parts (get_or xs k d).koid.0 (get_or xs k d).page ys zs (outer.across k d h)).1;
-    })
+-- rows that stand one behind another in sorted rows
+pub sorted_part : (rows part : List Row) (n : ℕ) → IsSorted rows → n + length part ≤ length rows → ((k : ℕ) (d : Row) → k < length part → get_or part k d ≡ get_or rows (n + k) d) → IsSorted part
+sorted_part rows part n s few is = record { rise = λ i j d l h. rw (is i d (omega arith), is j d h) (s.rise (n + i) (n + j) d (omega arith) (omega arith)) }
 
 -- ---- the three parts that two bounds make
 
@@ -207,10 +176,19 @@ part_within P rows i j each le k d h =
     let low : i + k < j = omega (arith, length-between rows i j le) in
     subst P (sym (get_or-between rows i j k d low)) (each (i + k) d (omega arith) low)
 
-pub sorted_range : (rows : List Row) (i j : ℕ) → IsSorted rows → i ≤ j → IsSorted (slice_range rows i j)
-sorted_range rows i j s le =
-    let outer = sorted_apart (take i rows) (slice_range rows i j ++ drop j rows) (subst IsSorted (split_between rows i j le) s) in
-    (sorted_apart (slice_range rows i j) (drop j rows) outer.right).left
+pub sorted_range : (rows : List Row) (i j : ℕ) → IsSorted rows → i ≤ j → j ≤ length rows → IsSorted (slice_range rows i j)
+sorted_range rows i j s le range =
+    let size = length-between rows i j range in
+    sorted_part rows (slice_range rows i j) i s (omega arith) (λ k d h. get_or-between rows i j k d (omega arith))
+
+-- rows without those of a range
+pub sorted_without : (rows : List Row) (i j : ℕ) → IsSorted rows → i ≤ j → j ≤ length rows → IsSorted (take i rows ++ drop j rows)
+sorted_without rows i j s le range =
+    let before = length-take-le i rows (omega arith) in
+    let behind = length-drop j rows in
+    sorted_append (take i rows) (drop j rows) (sorted_part rows (take i rows) 0 s (omega arith) (λ k d h. get_or-take i rows k d (omega arith) ∙ ap (λ (m : ℕ). get_or rows m d) (omega arith)))
+    (sorted_part rows (drop j rows) j s (omega arith) (λ k d h. get_or-drop j rows k d))
+    (λ a b d l h. rw (get_or-take i rows a d (omega arith), get_or-drop j rows b d) (s.rise a (j + b) d (omega arith) (omega arith)))
 
 -- ---- what is found among the rows of a range
 

@@ -58,7 +58,7 @@ module _ (old f : Flat) (v at : ℕ) (vmo : Vmo) (was : IsFlat old) (flat : IsFl
   pub IsFlat-unlisted : IsFlat (unlisted f at)
   IsFlat-unlisted = record {
     sorted = flat.sorted;
-    ascending = ascending_remove f.vmos at flat.ascending;
+    ascending = ascending_remove f.vmos at place_now.in_range flat.ascending;
     good = subst IsGood (sym content-unlisted) (IsGood-only (content_of old) (λ w. not (w == v)) was.good);
     counts = flat.counts;
     shares = flat.shares;

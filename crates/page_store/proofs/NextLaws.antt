@@ -9,7 +9,7 @@ use Rattle.vm_model.specs.Contents.Content.{Page, Content}
 use Rattle.page_store.specs.declared.rows.Row.{Row}
 use Rattle.page_store.specs.Rows.{IsBoundFor}
 use Rattle.page_store.specs.Flat.{Flat, content_of, IsFlat}
-use Rattle.page_store.proofs.RowLaws.{page_cmp, sorted_at}
+use Rattle.page_store.proofs.RowLaws.{page_cmp}
 use Rattle.page_store.proofs.FlatLaws.{page_from}
 use Rattle.page_store.proofs.ShareLaws.{some_row}
 use Rattle.page_store.proofs.ViewLaws.{IsRowOf, row_of_page, page_of_each}
@@ -74,7 +74,7 @@ module _ (f : Flat) (v from i : ℕ) (flat : IsFlat f) (bound : IsBoundFor f.row
             let page : (get_or f.rows j row).page ≡ p = is.page row in
             elim (cases_lt i j) [
               | inl less ↦
-                  let later = later_in_vmo at.koid.0 at.page (get_or f.rows j row).koid.0 (get_or f.rows j row).page (sorted_at f.rows flat.sorted i j row less is.in_range) (at_koid ∙ sym (is.koid row)) in
+                  let later = later_in_vmo at.koid.0 at.page (get_or f.rows j row).koid.0 (get_or f.rows j row).page (flat.sorted.rise i j row less is.in_range) (at_koid ∙ sym (is.koid row)) in
                   omega arith
               | inr le ↦
                   let same : j ≡ i = omega arith in
@@ -95,7 +95,7 @@ module _ (f : Flat) (v from i : ℕ) (flat : IsFlat f) (bound : IsBoundFor f.row
       let koid : (get_or f.rows j d).koid.0 ≡ v = is.koid d in
       apart d h (elim (cases_lt i j) [
         | inl less ↦
-            let below = no_vmo_behind at.koid.0 at.page (get_or f.rows j d).koid.0 (get_or f.rows j d).page (sorted_at f.rows flat.sorted i j d less range) in
+            let below = no_vmo_behind at.koid.0 at.page (get_or f.rows j d).koid.0 (get_or f.rows j d).page (flat.sorted.rise i j d less range) in
             omega arith
         | inr le ↦
             let same : i ≡ j = omega arith in

@@ -12,7 +12,7 @@ use Rattle.page_store.specs.Rows.{find_row, IsSorted, AreRowsWithin}
 use Rattle.page_store.specs.Vmos.{count_in, IsAscending}
 use Rattle.page_store.specs.Shares.{rows_with, Releases}
 use Rattle.page_store.specs.Flat.{Flat, page_of_row, content_of, IsFlat}
-use Rattle.page_store.proofs.BoundLaws.{find_row-before, find_row-behind, find_row-outside, find_row-right, find_row-middle, find_row-found, sorted_middle}
+use Rattle.page_store.proofs.BoundLaws.{find_row-before, find_row-behind, find_row-outside, find_row-right, find_row-middle, find_row-found, sorted_without}
 use Rattle.page_store.proofs.ShareLaws.{rows_with-append, rows_with-at}
 use Rattle.page_store.proofs.FlatLaws.{same_content, frames-content, next-content, count-content, page-content, some_page, page_of_row-none}
 
@@ -31,9 +31,6 @@ module _ (rows : List Row) (v p q from end : ℕ) (are : AreRowsWithin rows v p 
   pub find_row-stays : (w x : ℕ) → (w ≡ v → (x < p) ⊎ (q ≤ x)) → find_row w x (remove_range rows from end) ≡ find_row w x rows
   find_row-stays w x out =
       find_row-middle w x (take from rows) (slice_range rows from end) (drop end rows) (find_row-outside rows v p q from end are w x out) ∙ ap (find_row w x) (sym parts)
-
-  pub sorted_released : IsSorted rows → IsSorted (remove_range rows from end)
-  sorted_released sorted = sorted_middle (take from rows) (slice_range rows from end) (drop end rows) (subst IsSorted parts sorted)
 
   pub rows_with-released : (t : ℕ) → rows_with t (remove_range rows from end) + rows_with t (slice_range rows from end) ≡ rows_with t rows
   rows_with-released t =
@@ -103,7 +100,7 @@ module _ (f g : Flat) (v p q from end : ℕ) (flat : IsFlat f) (gone : IsRelease
 
   pub IsFlat-released : IsFlat g
   IsFlat-released = record {
-    sorted = subst IsSorted (sym gone.rows) (sorted_released f.rows v p q from end gone.are flat.sorted);
+    sorted = subst IsSorted (sym gone.rows) (sorted_without f.rows from end flat.sorted gone.are.order gone.are.range);
     ascending = subst IsAscending (sym gone.vmos) flat.ascending;
     good = subst IsGood (sym content-released) (IsGood-zeroed (content_of f) v p q flat.good);
     counts = (gone.released).size ∙ (flat.counts ∙ sym (gone.released).frames);

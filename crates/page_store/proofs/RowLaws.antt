@@ -1,15 +1,17 @@
 -- What is found in sorted rows, and what a new row changes.
-use Rattle.std.proofs.Common.{◌≡◌, ◌⊎◌, ℕ, zero, suc, ◌<◌, ◌≤◌, true, false, cond, ◌&&◌, ◌==◌, List, [], ◌∷◌, length, get_or, set, None, Some, Result, Ok, Err, IfOk, IfErr, refl, sym, ap, subst, ◌∙◌, inl, inr, arith}
-use Rattle.std.specs.List.{insert, AllWithin}
+use Rattle.std.proofs.Common.{◌≡◌, ◌⊎◌, ℕ, zero, suc, ◌<◌, ◌≤◌, true, false, cond, ◌&&◌, ◌==◌, List, [], ◌∷◌, length, get_or, set, None, Some, Result, Ok, Err, IfOk, IfErr, refl, sym, ap, subst, ◌∙◌, inl, inr, arith, length-set, get_or-set_same, get_or-set_other}
+use Rattle.std.specs.List.{insert, All, AllWithin}
 use Rattle.std.specs.List.Sorted.{IsNonDecreasingBy, IsSearchInRange, IsBinarySearchResult}
 use Rattle.std.specs.declared.cmp.Ordering.{Ordering}
 use Rattle.std.specs.declared.cmp.Ordering.TheVariants.{Less, Equal, Greater}
 use Rattle.std.specs.Ordering.{nat_cmp, ordering_then, ordering_index}
-use Rattle.std.proofs.lemmas.Bool.{cases_order}
+use Rattle.std.proofs.lemmas.Bool.{cases_order, cases_eq}
 use Rattle.std.proofs.lemmas.Bool.Decides.{nat_tests}
+use Rattle.std.proofs.lemmas.List.Elements.{All-cons}
+use Rattle.std.proofs.lemmas.List.Kept.{AllPairs-cons}
 use Rattle.frame_pool.proofs.PoolLaws.{eqb_flip}
 use Rattle.page_store.specs.declared.rows.Row.{Row}
-use Rattle.page_store.specs.Rows.{row_cmp, find_row, AllBehind, IsSorted, IsRowFor, IsGapFor}
+use Rattle.page_store.specs.Rows.{row_cmp, find_row, IsBefore, IsSorted, IsRowFor, IsGapFor}
 
 -- ---- the order of pages, over numbers
 
@@ -54,34 +56,20 @@ find_row-cons : (v p : ℕ) (row : Row) (rows : List Row) → find_row v p (row 
 unfolding find_row
 find_row-cons v p row rows = refl
 
-pub behind_at : (v p : ℕ) (rows : List Row) → AllBehind v p rows → (i : ℕ) (d : Row) → i < length rows → row_cmp v p (get_or rows i d) ≡ Greater
-behind_at v p [] all i d h = absurd (omega arith)
-behind_at v p (row ∷ rows) all zero d h = all.0
-behind_at v p (row ∷ rows) all (suc i) d h = behind_at v p rows all.1 i d (omega arith)
-
-pub behind_from : (v p : ℕ) (rows : List Row) → ((i : ℕ) (d : Row) → i < length rows → row_cmp v p (get_or rows i d) ≡ Greater) → AllBehind v p rows
-behind_from v p [] each = tt
-behind_from v p (row ∷ rows) each = (each 0 row (omega arith), behind_from v p rows (λ i d h. each (suc i) d (omega arith)))
-
-pub sorted_split : (row : Row) (rows : List Row) → IsSorted (row ∷ rows) → AllBehind row.koid.0 row.page rows × IsSorted rows
-unfolding IsSorted
-sorted_split row rows s = s
-
-pub sorted_join : (row : Row) (rows : List Row) → AllBehind row.koid.0 row.page rows → IsSorted rows → IsSorted (row ∷ rows)
-unfolding IsSorted
-sorted_join row rows b s = (b, s)
+-- the rows behind the first are sorted too
+pub sorted_rest : (row : Row) (rows : List Row) → IsSorted (row ∷ rows) → IsSorted rows
+sorted_rest row rows s = record { rise = λ i j d l h. s.rise (suc i) (suc j) d (omega arith) (omega arith) }
 
 pub sorted_nil : IsSorted []
-unfolding IsSorted
-sorted_nil = tt
+sorted_nil = record { rise = λ i j d l h. absurd (omega arith) }
 
--- a row is before a later one
-pub sorted_at : (rows : List Row) → IsSorted rows → (i j : ℕ) (d : Row) → i < j → j < length rows → row_cmp (get_or rows i d).koid.0 (get_or rows i d).page (get_or rows j d) ≡ Greater
-sorted_at [] s i j d l h = absurd (omega arith)
-sorted_at (row ∷ rows) s zero zero d l h = absurd (omega arith)
-sorted_at (row ∷ rows) s zero (suc j) d l h = behind_at row.koid.0 row.page rows (sorted_split row rows s).0 j d (omega arith)
-sorted_at (row ∷ rows) s (suc i) zero d l h = absurd (omega arith)
-sorted_at (row ∷ rows) s (suc i) (suc j) d l h = sorted_at rows (sorted_split row rows s).1 i j d (omega arith) (omega arith)
+-- a field of each element, where one is set that has it as the one before
+pub set_field : {X : Type 0} (f : X → ℕ) (xs : List X) (i : ℕ) (x : X) (k : ℕ) (d : X) → i < length xs → f (get_or xs i d) ≡ f x
+    → f (get_or (set xs i x) k d) ≡ f (get_or xs k d)
+set_field f xs i x k d h same = elim (cases_eq k i) [
+  | inl here ↦ rw here (ap f (get_or-set_same xs i x d h) ∙ sym same)
+  | inr apart ↦ ap f (get_or-set_other xs i k x d apart)
+]
 
 -- numbers that do not fall from an element to a later one
 pub rises_from : {X : Type 0} (f : X → ℕ) (xs : List X) → ((i j : ℕ) (d : X) → i < j → j < length xs → f (get_or xs i d) ≤ f (get_or xs j d)) → IsNonDecreasingBy f xs
@@ -93,7 +81,7 @@ rises_from f xs later i j d le h = elim (cases_order i j) [
 -- so a binary search may be made
 pub comparisons_rise : (rows : List Row) → IsSorted rows → (v p : ℕ) → IsNonDecreasingBy (λ row. ordering_index (row_cmp v p row)) rows
 comparisons_rise rows s v p = rises_from (λ row. ordering_index (row_cmp v p row)) rows (λ i j d less h.
-    cmp_rises v p (get_or rows i d).koid.0 (get_or rows i d).page (get_or rows j d).koid.0 (get_or rows j d).page (sorted_at rows s i j d less h))
+    cmp_rises v p (get_or rows i d).koid.0 (get_or rows i d).page (get_or rows j d).koid.0 (get_or rows j d).page (s.rise i j d less h))
 
 -- the row that stands at the page's place is found
 pub find_row-at : (rows : List Row) → IsSorted rows → (v p i : ℕ) → IsRowFor rows v p i → (d : Row) → find_row v p rows ≡ Some (get_or rows i d)
@@ -105,10 +93,10 @@ find_row-at (row ∷ rows) s v p (suc i) at d =
     let h = at.in_range in
     let same = cmp_same v p (get_or rows i d).koid.0 (get_or rows i d).page (at.is d) in
     let behind : page_cmp row.koid.0 row.page (get_or rows i d).koid.0 (get_or rows i d).page ≡ Greater =
-    behind_at row.koid.0 row.page rows (sorted_split row rows s).0 i d (omega arith) in
+    s.rise 0 (suc i) d (omega arith) h in
     let apart : ((row.koid.0 == v) && (row.page == p)) ≡ false = grind (arith, nat_tests) in
     find_row-skip v p row rows apart
-    ∙ find_row-at rows (sorted_split row rows s).1 v p i (record { in_range = omega arith; is = at.is }) d
+    ∙ find_row-at rows (sorted_rest row rows s) v p i (record { in_range = omega arith; is = at.is }) d
 
 -- where no row is the page's, none is found
 pub find_row-none : (rows : List Row) (v p : ℕ) → ((k : ℕ) → k < length rows → (d : Row) → ((row_cmp v p (get_or rows k d) ≡ Less) ⊎ (row_cmp v p (get_or rows k d) ≡ Greater))) → find_row v p rows ≡ None
@@ -139,24 +127,24 @@ find_row-insert (first ∷ rows) (suc i) row before w q =
     let less : page_cmp row.koid.0 row.page first.koid.0 first.page ≡ Less = before 0 first (omega arith) (omega arith) in
     rw (find_row-cons w q first (insert rows i row), find_row-cons w q first rows, rest) (grind (arith, nat_tests))
 
--- and the rows stay sorted
-behind_insert : (v p : ℕ) (rows : List Row) (i : ℕ) (row : Row) → AllBehind v p rows → row_cmp v p row ≡ Greater → AllBehind v p (insert rows i row)
-behind_insert v p rows zero row all here = (here, all)
-behind_insert v p [] (suc i) row all here = (here, tt)
-behind_insert v p (first ∷ rows) (suc i) row all here = (all.0, behind_insert v p rows i row all.1 here)
+all_insert : {X : Type 0} (P : X → Type 0) (xs : List X) (i : ℕ) (x : X) → All P xs → P x → All P (insert xs i x)
+all_insert P xs zero x all here = All-cons P x xs here all
+all_insert P [] (suc i) x all here = All-cons P x [] here all
+all_insert P (y ∷ ys) (suc i) x all here = All-cons P y (insert ys i x) (all 0 y (omega arith)) (all_insert P ys i x (λ k d h. all (suc k) d (omega arith)) here)
 
+-- and the rows stay sorted
 pub sorted_insert : (rows : List Row) (i : ℕ) (row : Row) → IsSorted rows → IsGapFor rows row.koid.0 row.page i → IsSorted (insert rows i row)
-sorted_insert rows zero row s gap = sorted_join row rows (behind_from row.koid.0 row.page rows (λ k d h. gap.behind k d (omega arith) h)) s
+sorted_insert rows zero row s gap = record { rise = AllPairs-cons IsBefore row rows (λ k d h. gap.behind k d (omega arith) h) s.rise }
 sorted_insert [] (suc i) row s gap = absurd (let h = gap.in_range in omega arith)
 sorted_insert (first ∷ rows) (suc i) row s gap =
     let h = gap.in_range in
-    sorted_join first (insert rows i row)
-    (behind_insert first.koid.0 first.page rows i row (sorted_split first rows s).0 (cmp_flip row.koid.0 row.page first.koid.0 first.page (gap.before 0 first (omega arith) (omega arith))))
-    (sorted_insert rows i row (sorted_split first rows s).1 (record {
+    let rest = sorted_insert rows i row (sorted_rest first rows s) (record {
       in_range = omega arith;
       before = λ k d l m. gap.before (suc k) d (omega arith) (omega arith);
       behind = λ k d l m. gap.behind (suc k) d (omega arith) (omega arith);
-    }))
+    }) in
+    let here = cmp_flip row.koid.0 row.page first.koid.0 first.page (gap.before 0 first (omega arith) (omega arith)) in
+    record { rise = AllPairs-cons IsBefore first (insert rows i row) (all_insert (IsBefore first) rows i row (λ k d l. s.rise 0 (suc k) d (omega arith) (omega arith)) here) rest.rise }
 
 -- ---- a row with another frame
 
@@ -166,22 +154,14 @@ pub record IsRowAgain (rows : List Row) (i : ℕ) (row : Row) : Type 0 where
   pub koid : (d : Row) → (get_or rows i d).koid.0 ≡ row.koid.0
   pub page : (d : Row) → (get_or rows i d).page ≡ row.page
 
-behind_set : (v p : ℕ) (rows : List Row) (i : ℕ) (row : Row) → AllBehind v p rows → IsRowAgain rows i row → AllBehind v p (set rows i row)
-behind_set v p [] i row all again = tt
-behind_set v p (first ∷ rows) zero row all again =
-    (ap (λ (w : ℕ). page_cmp v p w row.page) (sym (again.koid first)) ∙ (ap (λ (q : ℕ). page_cmp v p first.koid.0 q) (sym (again.page first)) ∙ all.0), all.1)
-behind_set v p (first ∷ rows) (suc i) row all again =
-    (all.0, behind_set v p rows i row all.1 (record { in_range = let h = again.in_range in omega arith; koid = again.koid; page = again.page }))
-
 pub sorted_set : (rows : List Row) (i : ℕ) (row : Row) → IsSorted rows → IsRowAgain rows i row → IsSorted (set rows i row)
-sorted_set [] i row s again = sorted_nil
-sorted_set (first ∷ rows) zero row s again =
-    let parts = sorted_split first rows s in
-    sorted_join row rows (subst (λ (w : ℕ). AllBehind w row.page rows) (again.koid first) (subst (λ (q : ℕ). AllBehind first.koid.0 q rows) (again.page first) parts.0)) parts.1
-sorted_set (first ∷ rows) (suc i) row s again =
-    let parts = sorted_split first rows s in
-    let rest : IsRowAgain rows i row = record { in_range = let h = again.in_range in omega arith; koid = again.koid; page = again.page } in
-    sorted_join first (set rows i row) (behind_set first.koid.0 first.page rows i row parts.0 rest) (sorted_set rows i row parts.1 rest)
+sorted_set rows i row s again = record {
+  rise = λ a b d l h. rw (koid-set a d, page-set a d, koid-set b d, page-set b d) (s.rise a b d l (omega (arith, length-set rows i row)));
+} where
+  koid-set : (k : ℕ) (d : Row) → (get_or (set rows i row) k d).koid.0 ≡ (get_or rows k d).koid.0
+  koid-set k d = set_field (λ r. r.koid.0) rows i row k d again.in_range (again.koid d)
+  page-set : (k : ℕ) (d : Row) → (get_or (set rows i row) k d).page ≡ (get_or rows k d).page
+  page-set k d = set_field (λ r. r.page) rows i row k d again.in_range (again.page d)
 
 -- it is found at its page, and at every other page what was found
 pub find_row-set : (rows : List Row) (i : ℕ) (row : Row) → IsSorted rows → IsRowAgain rows i row → (w q : ℕ) →
@@ -192,12 +172,11 @@ find_row-set (first ∷ rows) zero row s again w q =
     let page = again.page first in
     rw (find_row-cons w q row rows, find_row-cons w q first rows) (grind (arith, nat_tests))
 find_row-set (first ∷ rows) (suc i) row s again w q =
-    let rest : IsRowAgain rows i row = record { in_range = let h = again.in_range in omega arith; koid = again.koid; page = again.page } in
-    let behind : page_cmp first.koid.0 first.page (get_or rows i first).koid.0 (get_or rows i first).page ≡ Greater =
-    behind_at first.koid.0 first.page rows (sorted_split first rows s).0 i first rest.in_range in
+    let h = again.in_range in
+    let behind : page_cmp first.koid.0 first.page (get_or rows i first).koid.0 (get_or rows i first).page ≡ Greater = s.rise 0 (suc i) first (omega arith) h in
     let koid = again.koid first in
     let page = again.page first in
-    let other = find_row-set rows i row (sorted_split first rows s).1 rest w q in
+    let other = find_row-set rows i row (sorted_rest first rows s) (record { in_range = omega arith; koid = again.koid; page = again.page }) w q in
     rw (find_row-cons w q first (set rows i row), find_row-cons w q first rows, other) (grind (arith, nat_tests))
 
 -- ---- what a binary search answers

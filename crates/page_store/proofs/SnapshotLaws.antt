@@ -15,11 +15,11 @@ use Rattle.vm_base.specs.Entries.{with_key}
 use Rattle.vm_model.proofs.SharingLaws.{page-snapshotted_new, page-snapshotted_other, page_seen-in, page_seen-out, IsGood-snapshotted}
 use Rattle.page_store.specs.declared.rows.Row.{Row}
 use Rattle.page_store.specs.declared.vmos.Vmo.{Vmo}
-use Rattle.page_store.specs.Rows.{find_row, AllBehind, IsSorted, AreRowsWithin}
+use Rattle.page_store.specs.Rows.{find_row, IsSorted, AreRowsWithin}
 use Rattle.page_store.specs.Vmos.{count_in, IsAscending}
 use Rattle.page_store.specs.Shares.{rows_with, row_in, Shares, AreTakenWhereShared}
 use Rattle.page_store.specs.Flat.{Flat, page_of_row, content_of, IsFlat}
-use Rattle.page_store.proofs.RowLaws.{page_cmp, sorted_split, sorted_join}
+use Rattle.page_store.proofs.RowLaws.{page_cmp}
 use Rattle.page_store.proofs.BoundLaws.{sorted_append, sorted_range, find_row-other, find_row-left, find_row-right, find_row-range, find_row-outside, range_within}
 use Rattle.page_store.proofs.ShareLaws.{rows_with-append, rows_with-map, rows_with-range}
 use Rattle.page_store.proofs.VmoLaws.{ascending_push, count_in-push}
@@ -65,28 +65,19 @@ find_row-elsewhere koid first w p rows apart = find_row-other w p (map (row_in k
 cmp_moved : (koid v first w q x y : ℕ) → w ≡ v → first ≤ q → x ≡ v → first ≤ y → page_cmp w q x y ≡ Greater → page_cmp koid (q - first) koid (y - first) ≡ Greater
 cmp_moved koid v first w q x y e h f l behind = grind (arith, nat_tests)
 
-behind_moved : (koid v first : ℕ) (row : Row) (rows : List Row) → row.koid.0 ≡ v → first ≤ row.page → AreFrom v first rows → AllBehind row.koid.0 row.page rows → AllBehind koid (row.page - first) (map (row_in koid first) rows)
-behind_moved koid v first row [] e h from all = tt
-behind_moved koid v first row (other ∷ rows) e h from all =
-    let here = from 0 other (omega arith) in
-    (cmp_moved koid v first row.koid.0 row.page other.koid.0 other.page e h here.0 here.1 all.0, behind_moved koid v first row rows e h (λ k d l. from (suc k) d (omega arith)) all.1)
-
 -- the new rows are sorted
 sorted_moved : (koid v first : ℕ) (rows : List Row) → AreFrom v first rows → IsSorted rows → IsSorted (map (row_in koid first) rows)
-sorted_moved koid v first [] from s = s
-sorted_moved koid v first (row ∷ rows) from s =
-    let here = from 0 row (omega arith) in
-    let rest : AreFrom v first rows = λ k d h. from (suc k) d (omega arith) in
-    let parts = sorted_split row rows s in
-    sorted_join (row_in koid first row) (map (row_in koid first) rows) (behind_moved koid v first row rows here.0 here.1 rest parts.0) (sorted_moved koid v first rows rest parts.1)
+sorted_moved koid v first rows from s = record {
+  rise = λ i j d l h.
+      let same = length-map rows (row_in koid first) in
+      let a = from i d (omega arith) in
+      let b = from j d (omega arith) in
+      rw (get_or-map (row_in koid first) rows i d d (omega arith), get_or-map (row_in koid first) rows j d d (omega arith))
+      (cmp_moved koid v first (get_or rows i d).koid.0 (get_or rows i d).page (get_or rows j d).koid.0 (get_or rows j d).page a.0 a.1 b.0 b.1 (s.rise i j d l (omega arith)));
+}
 
 cmp_new : (v p koid q : ℕ) → v < koid → page_cmp v p koid q ≡ Greater
 cmp_new v p koid q h = grind (arith, nat_tests)
-
--- and behind those of earlier VMOs
-behind_new : (v p koid first : ℕ) (rows : List Row) → v < koid → AllBehind v p (map (row_in koid first) rows)
-behind_new v p koid first [] h = tt
-behind_new v p koid first (row ∷ rows) h = (cmp_new v p koid (row.page - first) h, behind_new v p koid first rows h)
 
 -- ---- the store with a snapshot
 
@@ -154,11 +145,12 @@ module _ (f g : Flat) (v first seen pages from end : ℕ) (flat : IsFlat f) (new
       ])
 
   snapshot_sorted : IsSorted g.rows
-  snapshot_sorted = subst IsSorted (sym new.rows) (sorted_append f.rows (map (row_in f.next first) (slice_range f.rows from end)) (record {
-    left = flat.sorted;
-    right = sorted_moved f.next v first (slice_range f.rows from end) seen_from (sorted_range f.rows from end flat.sorted (new.are).order);
-    across = λ k d h. behind_new (get_or f.rows k d).koid.0 (get_or f.rows k d).page f.next first (slice_range f.rows from end) (row_koids f flat.sorted flat.good k d h);
-  }))
+  snapshot_sorted =
+      let seen_rows = slice_range f.rows from end in
+      subst IsSorted (sym new.rows) (sorted_append f.rows (map (row_in f.next first) seen_rows) flat.sorted
+      (sorted_moved f.next v first seen_rows seen_from (sorted_range f.rows from end flat.sorted (new.are).order (new.are).range))
+      (λ i j d l h. rw (get_or-map (row_in f.next first) seen_rows j d d (omega (arith, length-map seen_rows (row_in f.next first))))
+      (cmp_new (get_or f.rows i d).koid.0 (get_or f.rows i d).page f.next ((get_or seen_rows j d).page - first) (row_koids f flat.sorted flat.good i d l))))
 
   snapshot_counts : (t : ℕ) → get_or g.shares t 0 ≡ rows_with t g.rows
   snapshot_counts t =

@@ -19,7 +19,7 @@ use Rattle.page_store.specs.Rows.{find_row, IsSorted}
 use Rattle.page_store.specs.Shares.{rows_with, IsFirstWith}
 use Rattle.page_store.specs.Pages.{IsShown}
 use Rattle.page_store.specs.Flat.{Flat, page_of_row, content_of, IsFlat}
-use Rattle.page_store.proofs.RowLaws.{page_cmp, sorted_at}
+use Rattle.page_store.proofs.RowLaws.{page_cmp}
 use Rattle.page_store.proofs.FlatLaws.{frames-content, next-content, page-content, page_from, page_of_row-some, page_of_row_found}
 use Rattle.page_store.proofs.BoundLaws.{find_row-found, find_row-each}
 use Rattle.page_store.proofs.ShareLaws.{rows_with-nil, rows_with-cons, rows_with-at, some_row}
@@ -162,7 +162,7 @@ module _ (f : Flat) (sorted : IsSorted f.rows) (good : IsGood (content_of f)) wh
         let there : (content_of f).page first.koid.0 last.page ≡ Some (page_from f.pool last) = ap (λ (v : ℕ). (content_of f).page v last.page) koid ∙ page_of_each f sorted j d h in
         let page : first.page ≡ last.page =
         good.apart first.koid.0 first.page last.page (page_from f.pool first) (page_from f.pool last) (page_of_each f sorted i d (omega arith)) there tag in
-        same_page_cmp first.koid.0 first.page last.koid.0 last.page koid page (sorted_at f.rows sorted i j d l h);
+        same_page_cmp first.koid.0 first.page last.koid.0 last.page koid page (sorted.rise i j d l h);
   }
 
   -- a VMO shows the frames of its rows
@@ -228,7 +228,7 @@ least_row f t i row flat first read = record {
         | inr other ↦ elim other [
           | inl less ↦ first.before found.0 row (omega arith) less (found.3 row)
           | inr more ↦
-              let le = cmp_koids (get_or f.rows i row).koid.0 (get_or f.rows i row).page (get_or f.rows found.0 row).koid.0 (get_or f.rows found.0 row).page (sorted_at f.rows flat.sorted i found.0 row more found.1) in
+              let le = cmp_koids (get_or f.rows i row).koid.0 (get_or f.rows i row).page (get_or f.rows found.0 row).koid.0 (get_or f.rows found.0 row).page (flat.sorted.rise i found.0 row more found.1) in
               absurd (omega arith)
         ]
       ]);

@@ -1,5 +1,5 @@
 -- What is found in the list of VMOs, and what a VMO changes that is added at its end, or leaves.
-use Rattle.std.proofs.Common.{◌≡◌, ◌≢◌, ℕ, zero, suc, ◌<◌, ◌≤◌, false, not, cond, ◌==◌, List, [], ◌∷◌, ◌++◌, length, get_or, set, None, Some, Result, Ok, Err, IfOk, IfErr, refl, sym, ap, subst, ◌∙◌, inl, inr, arith}
+use Rattle.std.proofs.Common.{◌≡◌, ◌≢◌, ℕ, zero, suc, ◌<◌, ◌≤◌, false, not, cond, ◌==◌, List, [], ◌∷◌, ◌++◌, length, get_or, set, None, Some, Result, Ok, Err, IfOk, IfErr, refl, sym, ap, subst, ◌∙◌, inl, inr, arith, length-set}
 use Rattle.std.specs.Prelude.{IsSome, is_some}
 use Rattle.std.specs.List.{remove}
 use Rattle.std.specs.List.Sorted.{IsSearchInRange, IsBinarySearchResult}
@@ -8,11 +8,12 @@ use Rattle.std.specs.Ordering.{nat_cmp, ordering_index}
 use Rattle.std.proofs.lemmas.Bool.{cases_order, ne_eqb, eq-eqb, cond-true, cond-false}
 use Rattle.std.proofs.lemmas.Bool.Decides.{nat_tests}
 use Rattle.std.proofs.lemmas.List.{get_or_default}
+use Rattle.std.proofs.lemmas.List.Quantifiers.{all_pairs_push, all_pairs_remove}
 use Rattle.vm_base.specs.Search.{count_below}
 use Rattle.vm_base.proofs.SearchLaws.{count_below_none, count_below_one_more}
 use Rattle.page_store.specs.declared.vmos.Vmo.{Vmo}
-use Rattle.page_store.specs.Vmos.{count_in, AllAbove, IsAscending, IsVmoFor}
-use Rattle.page_store.proofs.RowLaws.{rises_from}
+use Rattle.page_store.specs.Vmos.{count_in, IsOlder, IsAscending, IsVmoFor}
+use Rattle.page_store.proofs.RowLaws.{rises_from, set_field}
 
 -- ---- numbers in order
 
@@ -38,34 +39,12 @@ pub count_in-cons : (v : ℕ) (vmo : Vmo) (vmos : List Vmo) → count_in v (vmo 
 unfolding count_in
 count_in-cons v vmo vmos = refl
 
-above_at : (v : ℕ) (vmos : List Vmo) → AllAbove v vmos → (i : ℕ) (d : Vmo) → i < length vmos → v < (get_or vmos i d).koid.0
-above_at v [] all i d h = absurd (omega arith)
-above_at v (vmo ∷ vmos) all zero d h = all.0
-above_at v (vmo ∷ vmos) all (suc i) d h = above_at v vmos all.1 i d (omega arith)
-
-above_push : (v : ℕ) (vmos : List Vmo) (vmo : Vmo) → AllAbove v vmos → v < vmo.koid.0 → AllAbove v (vmos ++ vmo ∷ [])
-above_push v [] vmo all h = (h, tt)
-above_push v (first ∷ vmos) vmo all h = (all.0, above_push v vmos vmo all.1 h)
-
-pub ascending_parts : (vmo : Vmo) (vmos : List Vmo) → IsAscending (vmo ∷ vmos) → AllAbove vmo.koid.0 vmos × IsAscending vmos
-unfolding IsAscending
-ascending_parts vmo vmos s = s
-
-pub ascending_from : (vmo : Vmo) (vmos : List Vmo) → AllAbove vmo.koid.0 vmos → IsAscending vmos → IsAscending (vmo ∷ vmos)
-unfolding IsAscending
-ascending_from vmo vmos above s = (above, s)
+-- the koids behind the first rise too
+pub ascending_rest : (vmo : Vmo) (vmos : List Vmo) → IsAscending (vmo ∷ vmos) → IsAscending vmos
+ascending_rest vmo vmos s = record { rise = λ i j d l h. s.rise (suc i) (suc j) d (omega arith) (omega arith) }
 
 pub ascending_nil : IsAscending []
-unfolding IsAscending
-ascending_nil = tt
-
--- a VMO has a lower koid than a later one
-pub ascending_at : (vmos : List Vmo) → IsAscending vmos → (i j : ℕ) (d : Vmo) → i < j → j < length vmos → (get_or vmos i d).koid.0 < (get_or vmos j d).koid.0
-ascending_at [] s i j d l h = absurd (omega arith)
-ascending_at (vmo ∷ vmos) s zero zero d l h = absurd (omega arith)
-ascending_at (vmo ∷ vmos) s zero (suc j) d l h = above_at vmo.koid.0 vmos (ascending_parts vmo vmos s).0 j d (omega arith)
-ascending_at (vmo ∷ vmos) s (suc i) zero d l h = absurd (omega arith)
-ascending_at (vmo ∷ vmos) s (suc i) (suc j) d l h = ascending_at vmos (ascending_parts vmo vmos s).1 i j d (omega arith) (omega arith)
+ascending_nil = record { rise = λ i j d l h. absurd (omega arith) }
 
 -- the VMO that stands at the koid's place is found
 pub count_in-at : (vmos : List Vmo) → IsAscending vmos → (v i : ℕ) → IsVmoFor vmos v i → (d : Vmo) → count_in v vmos ≡ Some (get_or vmos i d).count
@@ -74,8 +53,8 @@ count_in-at (vmo ∷ vmos) s v zero at d = let same = at.is d in rw (count_in-co
 count_in-at (vmo ∷ vmos) s v (suc i) at d =
     let h = at.in_range in
     let same : (get_or vmos i d).koid.0 ≡ v = at.is d in
-    let above = above_at vmo.koid.0 vmos (ascending_parts vmo vmos s).0 i d (omega arith) in
-    let rest = count_in-at vmos (ascending_parts vmo vmos s).1 v i (record { in_range = omega arith; is = at.is }) d in
+    let above : vmo.koid.0 < (get_or vmos i d).koid.0 = s.rise 0 (suc i) d (omega arith) h in
+    let rest = count_in-at vmos (ascending_rest vmo vmos s) v i (record { in_range = omega arith; is = at.is }) d in
     rw (count_in-cons v vmo vmos, rest) (grind (arith, nat_tests))
 
 -- where no VMO has the koid, none is found
@@ -96,7 +75,7 @@ pub searched_vmo : (vmos : List Vmo) → IsAscending vmos → (v : ℕ) → IsSo
     IsFoundVmo vmos v r
 searched_vmo vmos s v some (Ok i) h at = record { found = record { in_range = h; is = λ d. koid_equal (get_or vmos i d).koid.0 v (at d) }; absent = tt }
 searched_vmo vmos s v some (Err i) h parted =
-    let parts = parted (rises_from (λ (vmo : Vmo). ordering_index (nat_cmp vmo.koid.0 v)) vmos (λ a b d l m. koid_rises v (get_or vmos a d).koid.0 (get_or vmos b d).koid.0 (ascending_at vmos s a b d l m))) in
+    let parts = parted (rises_from (λ (vmo : Vmo). ordering_index (nat_cmp vmo.koid.0 v)) vmos (λ a b d l m. koid_rises v (get_or vmos a d).koid.0 (get_or vmos b d).koid.0 (s.rise a b d l m))) in
     let none : count_in v vmos ≡ None = count_in-none vmos v (λ k d l. elim (cases_order k i) [
       | inl same ↦ koid_greater (get_or vmos k d).koid.0 v (parts.1 k d (omega arith) l)
       | inr other ↦ elim other [
@@ -118,10 +97,7 @@ below_from_counts vmos v s each i d h =
     each (get_or vmos i d).koid.0 (get_or vmos i d).count (count_in-at vmos s (get_or vmos i d).koid.0 i (record { in_range = h; is = λ e. ap (λ (vmo : Vmo). vmo.koid.0) (get_or_default vmos i e d h) }) d)
 
 pub ascending_push : (vmos : List Vmo) (vmo : Vmo) → IsAscending vmos → AllBelow vmos vmo.koid.0 → IsAscending (vmos ++ vmo ∷ [])
-ascending_push [] vmo s below = ascending_from vmo [] tt ascending_nil
-ascending_push (first ∷ vmos) vmo s below =
-    ascending_from first (vmos ++ vmo ∷ []) (above_push first.koid.0 vmos vmo (ascending_parts first vmos s).0 (below 0 first (omega arith)))
-    (ascending_push vmos vmo (ascending_parts first vmos s).1 (λ i d h. below (suc i) d (omega arith)))
+ascending_push vmos vmo s below = record { rise = all_pairs_push IsOlder vmos vmo s.rise below }
 
 pub count_in-push : (vmos : List Vmo) (vmo : Vmo) → AllBelow vmos vmo.koid.0 → (v : ℕ) → count_in v (vmos ++ vmo ∷ []) ≡ cond (v == vmo.koid.0) (Some vmo.count) (count_in v vmos)
 count_in-push [] vmo below v = rw (count_in-cons v vmo []) (grind (arith, nat_tests))
@@ -138,45 +114,34 @@ count_in-skip v vmo vmos apart = count_in-cons v vmo vmos ∙ cond-false (vmo.ko
 count_in-here : (v : ℕ) (vmo : Vmo) (vmos : List Vmo) → vmo.koid.0 ≡ v → count_in v (vmo ∷ vmos) ≡ Some vmo.count
 count_in-here v vmo vmos same = count_in-cons v vmo vmos ∙ cond-true (vmo.koid.0 == v) (Some vmo.count) (count_in v vmos) (eq-eqb vmo.koid.0 v same)
 
-count_in-above : (v : ℕ) (vmos : List Vmo) → AllAbove v vmos → count_in v vmos ≡ None
-count_in-above v vmos above = count_in-none vmos v (λ k d h same. let up = above_at v vmos above k d h in absurd (omega arith))
+-- the first koid has no other count
+count_in-behind : (vmo : Vmo) (vmos : List Vmo) → IsAscending (vmo ∷ vmos) → count_in vmo.koid.0 vmos ≡ None
+count_in-behind vmo vmos s = count_in-none vmos vmo.koid.0 (λ k d h same. let up : vmo.koid.0 < (get_or vmos k d).koid.0 = s.rise 0 (suc k) d (omega arith) (omega arith) in absurd (omega arith))
 
 -- as many koids below n have a count as there are VMOs
 pub count_vmos : (n : ℕ) (vmos : List Vmo) → IsAscending vmos → AllBelow vmos n → count_below n (λ v. is_some (count_in v vmos)) ≡ length vmos
 count_vmos n [] rises below = count_below_none n _ (λ v h. ap is_some (count_in-nil v))
 count_vmos n (vmo ∷ vmos) rises below =
-    let parts = ascending_parts vmo vmos rises in
-    let rest = count_vmos n vmos parts.1 (λ i d h. below (suc i) d (omega arith)) in
+    let rest = count_vmos n vmos (ascending_rest vmo vmos rises) (λ i d h. below (suc i) d (omega arith)) in
     let more = count_below_one_more n vmo.koid.0 (λ v. is_some (count_in v vmos)) (λ v. is_some (count_in v (vmo ∷ vmos)))
-    (below 0 vmo (omega arith)) (ap is_some (count_in-above vmo.koid.0 vmos parts.0)) (ap is_some (count_in-here vmo.koid.0 vmo vmos refl))
+    (below 0 vmo (omega arith)) (ap is_some (count_in-behind vmo vmos rises)) (ap is_some (count_in-here vmo.koid.0 vmo vmos refl))
     (λ v apart. ap is_some (count_in-skip v vmo vmos (λ e. apart (sym e)))) in
     omega (arith, more, rest)
 
-above_remove : (v : ℕ) (vmos : List Vmo) (i : ℕ) → AllAbove v vmos → AllAbove v (remove vmos i)
-above_remove v [] zero above = tt
-above_remove v [] (suc i) above = tt
-above_remove v (vmo ∷ vmos) zero above = above.1
-above_remove v (vmo ∷ vmos) (suc i) above = (above.0, above_remove v vmos i above.1)
-
-pub ascending_remove : (vmos : List Vmo) (i : ℕ) → IsAscending vmos → IsAscending (remove vmos i)
-ascending_remove [] zero rises = ascending_nil
-ascending_remove [] (suc i) rises = ascending_nil
-ascending_remove (vmo ∷ vmos) zero rises = (ascending_parts vmo vmos rises).1
-ascending_remove (vmo ∷ vmos) (suc i) rises =
-    let parts = ascending_parts vmo vmos rises in ascending_from vmo (remove vmos i) (above_remove vmo.koid.0 vmos i parts.0) (ascending_remove vmos i parts.1)
+pub ascending_remove : (vmos : List Vmo) (i : ℕ) → i < length vmos → IsAscending vmos → IsAscending (remove vmos i)
+ascending_remove vmos i h s = record { rise = all_pairs_remove IsOlder vmos i h s.rise }
 
 -- the others keep their page counts
 pub count_in-remove : (vmos : List Vmo) (i v : ℕ) → IsAscending vmos → i < length vmos → ((d : Vmo) → (get_or vmos i d).koid.0 ≡ v) → (w : ℕ) → count_in w (remove vmos i) ≡ cond (not (w == v)) (count_in w vmos) None
 count_in-remove [] i v rises h at w = absurd (omega arith)
 count_in-remove (vmo ∷ vmos) zero v rises h at w =
     let koid = at vmo in
-    let none : count_in v vmos ≡ None = ap (λ (k : ℕ). count_in k vmos) (sym koid) ∙ count_in-above vmo.koid.0 vmos (ascending_parts vmo vmos rises).0 in
+    let none : count_in v vmos ≡ None = ap (λ (k : ℕ). count_in k vmos) (sym koid) ∙ count_in-behind vmo vmos rises in
     rw (count_in-cons w vmo vmos) (grind (arith, nat_tests))
 count_in-remove (vmo ∷ vmos) (suc i) v rises h at w =
-    let parts = ascending_parts vmo vmos rises in
-    let up = above_at vmo.koid.0 vmos parts.0 i vmo (omega arith) in
+    let up : vmo.koid.0 < (get_or vmos i vmo).koid.0 = rises.rise 0 (suc i) vmo (omega arith) h in
     let is = at vmo in
-    let rest = count_in-remove vmos i v parts.1 (omega arith) at w in
+    let rest = count_in-remove vmos i v (ascending_rest vmo vmos rises) (omega arith) at w in
     rw (count_in-cons w vmo (remove vmos i), count_in-cons w vmo vmos, rest) (grind (arith, nat_tests))
 
 -- ---- a VMO with another page count
@@ -186,22 +151,10 @@ pub record IsVmoAgain (vmos : List Vmo) (i : ℕ) (vmo : Vmo) : Type 0 where
   pub in_range : i < length vmos
   pub koid : (d : Vmo) → (get_or vmos i d).koid.0 ≡ vmo.koid.0
 
-again_behind : (first : Vmo) (vmos : List Vmo) (i : ℕ) (vmo : Vmo) → IsVmoAgain (first ∷ vmos) (suc i) vmo → IsVmoAgain vmos i vmo
-again_behind first vmos i vmo again = record { in_range = let h = again.in_range in omega arith; koid = again.koid }
-
-above_set : (v : ℕ) (vmos : List Vmo) (i : ℕ) (vmo : Vmo) → AllAbove v vmos → IsVmoAgain vmos i vmo → AllAbove v (set vmos i vmo)
-above_set v [] i vmo above again = tt
-above_set v (first ∷ vmos) zero vmo above again = (omega (arith, again.koid first, above.0), above.1)
-above_set v (first ∷ vmos) (suc i) vmo above again = (above.0, above_set v vmos i vmo above.1 (again_behind first vmos i vmo again))
-
 pub ascending_set : (vmos : List Vmo) (i : ℕ) (vmo : Vmo) → IsAscending vmos → IsVmoAgain vmos i vmo → IsAscending (set vmos i vmo)
-ascending_set [] i vmo rises again = ascending_nil
-ascending_set (first ∷ vmos) zero vmo rises again =
-    let parts = ascending_parts first vmos rises in ascending_from vmo vmos (subst (λ (k : ℕ). AllAbove k vmos) (again.koid first) parts.0) parts.1
-ascending_set (first ∷ vmos) (suc i) vmo rises again =
-    let parts = ascending_parts first vmos rises in
-    let rest = again_behind first vmos i vmo again in
-    ascending_from first (set vmos i vmo) (above_set first.koid.0 vmos i vmo parts.0 rest) (ascending_set vmos i vmo parts.1 rest)
+ascending_set vmos i vmo s again = record { rise = λ a b d l h. rw (koid-set a d, koid-set b d) (s.rise a b d l (omega (arith, length-set vmos i vmo))) } where
+  koid-set : (k : ℕ) (d : Vmo) → (get_or (set vmos i vmo) k d).koid.0 ≡ (get_or vmos k d).koid.0
+  koid-set k d = set_field (λ one. one.koid.0) vmos i vmo k d again.in_range (again.koid d)
 
 -- it has its new count, and the others keep theirs
 pub count_in-set : (vmos : List Vmo) (i : ℕ) (vmo : Vmo) → IsAscending vmos → IsVmoAgain vmos i vmo → (w : ℕ) → count_in w (set vmos i vmo) ≡ cond (w == vmo.koid.0) (Some vmo.count) (count_in w vmos)
@@ -210,9 +163,7 @@ count_in-set (first ∷ vmos) zero vmo rises again w =
     let koid = again.koid first in
     rw (count_in-cons w vmo vmos, count_in-cons w first vmos) (grind (arith, nat_tests))
 count_in-set (first ∷ vmos) (suc i) vmo rises again w =
-    let parts = ascending_parts first vmos rises in
-    let rest = again_behind first vmos i vmo again in
-    let up = above_at first.koid.0 vmos parts.0 i vmo rest.in_range in
+    let up : first.koid.0 < (get_or vmos i vmo).koid.0 = rises.rise 0 (suc i) vmo (omega arith) again.in_range in
     let koid = again.koid vmo in
-    let others = count_in-set vmos i vmo parts.1 rest w in
+    let others = count_in-set vmos i vmo (ascending_rest first vmos rises) (record { in_range = let h = again.in_range in omega arith; koid = again.koid }) w in
     rw (count_in-cons w first (set vmos i vmo), count_in-cons w first vmos, others) (grind (arith, nat_tests))

@@ -1,6 +1,6 @@
 -- Rows of held pages in the order of koids and page numbers.
 use Rattle.std.specs.Prelude.{◌≡◌, ◌≢◌, ℕ, ◌<◌, ◌≤◌, ◌==◌, ◌&&◌, List, [], ◌∷◌, length, if◌then◌else◌, Option, None, Some}
-use Rattle.std.specs.List.{AllWithin, HoldsAt}
+use Rattle.std.specs.List.{AllPairs, AllWithin, HoldsAt}
 use Rattle.std.specs.declared.cmp.Ordering.{Ordering}
 use Rattle.std.specs.declared.cmp.Ordering.TheVariants.{Less, Equal, Greater}
 use Rattle.std.specs.Ordering.{nat_cmp, ordering_then}
@@ -15,15 +15,13 @@ unfoldable pub find_row : ℕ → ℕ → List Row → Option Row
 find_row v p [] = None
 find_row v p (row ∷ rows) = if (row.koid.0 == v) && (row.page == p) then Some row else find_row v p rows
 
--- every row is behind page p of v
-abbrev pub AllBehind : ℕ → ℕ → List Row → Type 0
-AllBehind v p [] = Unit {0}
-AllBehind v p (row ∷ rows) = (row_cmp v p row ≡ Greater) × AllBehind v p rows
+-- the row is before a later one
+abbrev pub IsBefore : Row → Row → Type 0
+IsBefore row later = row_cmp row.koid.0 row.page later ≡ Greater
 
 -- each row is before those that follow it
-unfoldable pub IsSorted : List Row → Type 0
-IsSorted [] = Unit {0}
-IsSorted (row ∷ rows) = AllBehind row.koid.0 row.page rows × IsSorted rows
+pub record IsSorted (rows : List Row) : Type 0 where
+  pub rise : AllPairs IsBefore rows
 
 -- the row of page p of v stands at i
 pub record IsRowFor (rows : List Row) (v p i : ℕ) : Type 0 where
