@@ -46,7 +46,6 @@ module _ (old f : Flat) (v at : ℕ) (vmo : Vmo) (was : IsFlat old) (flat : IsFl
   place_now = subst (λ (vmos : List Vmo). IsVmoFor vmos v at) (sym released.vmos) place
 
   uncounted : content_of (unlisted f at) ≡ record (content_of f) { count = λ w. cond (not (w == v)) ((content_of f).count w) None }
-  unfolding content_of
   uncounted = same_content _ _ refl refl (count_in-remove f.vmos at v flat.ascending place_now.in_range place_now.is) (λ w p. refl)
 
   pub content-unlisted : content_of (unlisted f at) ≡ without (content_of old) v

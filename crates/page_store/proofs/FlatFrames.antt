@@ -15,7 +15,7 @@ use Rattle.page_store.specs.declared.page_store.Look.TheVariants as look
 use Rattle.page_store.specs.Rows.{find_row, IsRowFor, IsGapFor}
 use Rattle.page_store.specs.Pages.{look_at, ShowsTag, IsShown}
 use Rattle.page_store.specs.Flat.{Flat, content_of, IsFlat}
-use Rattle.page_store.proofs.FlatLaws.{frames-content, page-content, page_from, page_of_row_found, page_at_row, page_in_gap}
+use Rattle.page_store.proofs.FlatLaws.{page_from, page_of_row_found, page_at_row, page_in_gap}
 use Rattle.page_store.proofs.ViewLaws.{sole-viewers, share_viewers, taken_in_use}
 
 -- no VMO shows a free frame
@@ -26,12 +26,11 @@ free_in_use f t flat free = sym (taken_in_use f flat t) ∙ ap is_some free
 pub used_taken : (f : Flat) → IsFlat f → used (content_of f) ≡ taken_count f.pool
 unfolding used
 used_taken f flat =
-    ap (λ (n : ℕ). count_below n (in_use (content_of f))) (frames-content f)
-    ∙ (count_below_same f.pool.frames (in_use (content_of f)) (λ t. is_some (taken_frames f.pool t)) (λ t h. sym (taken_in_use f flat t)) ∙ sym (taken_count-is f.pool))
+    count_below_same f.pool.frames (in_use (content_of f)) (λ t. is_some (taken_frames f.pool t)) (λ t h. sym (taken_in_use f flat t)) ∙ sym (taken_count-is f.pool)
 
 -- and the others are free
 pub free_unused : (f : Flat) (n : ℕ) → IsFlat f → n + taken_count f.pool ≡ f.pool.frames → n + used (content_of f) ≡ (content_of f).frames
-free_unused f n flat e = omega (arith, used_taken f flat, frames-content f)
+free_unused f n flat e = omega (arith, used_taken f flat)
 
 -- ---- frames that pages show
 
@@ -48,11 +47,10 @@ some_share n e = grind (arith, nat_tests)
 
 pub IsFrameOf-held : (f : Flat) (v p : ℕ) (held : Page) → IsFlat f → (content_of f).page v p ≡ Some held → IsFrameOf f held
 IsFrameOf-held f v p held flat e =
-    let low : held.tag < f.pool.frames = subst (λ (n : ℕ). held.tag < n) (frames-content f) (flat.good.tags v p held e) in
     let taken = taken_in_use f flat held.tag ∙ in_use_at (content_of f) held.tag v p held flat.good e refl in
-    let found = page_of_row_found f.pool (find_row v p f.rows) held (sym (page-content f v p) ∙ e) in
+    let found = page_of_row_found f.pool (find_row v p f.rows) held e in
     record {
-      below = low;
+      below = flat.good.tags v p held e;
       taken = taken;
       bytes = ap (λ (page : Page). page.bytes) (sym found.2) ∙ ap (λ (page : Page). frame_bytes f.pool page.tag) found.2;
       share = share_viewers f flat held.tag;

@@ -24,30 +24,6 @@ use Rattle.page_store.proofs.VmoLaws.{AllBelow, count_in-nil, count_in-at, count
 pub same_content : (c d : Content) → c.frames ≡ d.frames → c.next ≡ d.next → ((v : ℕ) → c.count v ≡ d.count v) → ((v p : ℕ) → c.page v p ≡ d.page v p) → c ≡ d
 same_content c d frames next count page = λ i. record { frames = frames i; next = next i; count = λ v. count v i; page = λ v p. page v p i }
 
--- ---- what the fields of the content are
-
-module _ (f : Flat) where
-  pub frames-content : (content_of f).frames ≡ f.pool.frames
-  unfolding content_of
-  frames-content = refl
-
-  pub next-content : (content_of f).next ≡ f.next
-  unfolding content_of
-  next-content = refl
-
-  pub count-content : (v : ℕ) → (content_of f).count v ≡ count_in v f.vmos
-  unfolding content_of
-  count-content v = refl
-
-  pub page-content : (v p : ℕ) → (content_of f).page v p ≡ page_of_row f.pool (find_row v p f.rows)
-  unfolding content_of
-  page-content v p = refl
-
--- the spare rows are no part of the content
-pub content_of-spare : (f : Flat) (s : ℕ) → content_of (record f { spare = s }) ≡ content_of f
-unfolding content_of
-content_of-spare f s = refl
-
 -- the page of a row
 abbrev pub page_from : Pool → Row → Page
 page_from pool row = record { tag = row.tag.0; bytes = frame_bytes pool row.tag.0 }
@@ -56,28 +32,17 @@ page_from pool row = record { tag = row.tag.0; bytes = frame_bytes pool row.tag.
 abbrev pub some_page : ℕ → List ℕ → Option Page
 some_page t bytes = Some (record { tag = t; bytes = bytes })
 
-pub page_of_row-some : (pool : Pool) (row : Row) → page_of_row pool (Some row) ≡ Some (page_from pool row)
-unfolding page_of_row
-page_of_row-some pool row = refl
-
-pub page_of_row-none : (pool : Pool) → page_of_row pool None ≡ None
-unfolding page_of_row
-page_of_row-none pool = refl
-
 -- a held page is a row's
 pub page_of_row_found : (pool : Pool) (o : Option Row) (held : Page) → page_of_row pool o ≡ Some held → (row : Row) × (o ≡ Some row) × (page_from pool row ≡ held)
-unfolding page_of_row
 page_of_row_found pool None held e = absurd cc
 page_of_row_found pool (Some row) held e = (row, refl, cc)
 
 -- where no page is held, there is no row
 pub page_of_row_free : (pool : Pool) (o : Option Row) → page_of_row pool o ≡ None → o ≡ None
-unfolding page_of_row
 page_of_row_free pool None e = refl
 page_of_row_free pool (Some row) e = absurd cc
 
 pub IsFlat-spare : (f : Flat) (s : ℕ) → IsFlat f → IsFlat (record f { spare = s })
-unfolding content_of
 IsFlat-spare f s flat =
     record { sorted = flat.sorted; ascending = flat.ascending; good = flat.good; counts = flat.counts; shares = flat.shares; counted = flat.counted }
 
@@ -101,23 +66,21 @@ abbrev pub empty_flat : Pool → ℕ → Flat
 empty_flat pool s = record { pool = pool; next = 1; vmos = []; rows = []; shares = []; spare = s }
 
 pub content_of-empty : (pool : Pool) (s : ℕ) → content_of (empty_flat pool s) ≡ nothing_of pool
-unfolding content_of nothing
-content_of-empty pool s = same_content _ _ refl refl count_in-nil (λ v p. ap (page_of_row pool) (find_row-nil v p) ∙ page_of_row-none pool)
+unfolding nothing
+content_of-empty pool s = same_content _ _ refl refl count_in-nil (λ v p. ap (page_of_row pool) (find_row-nil v p))
 
 pub IsFlat-empty : (pool : Pool) (s : ℕ) → pool.frames ≡ 0 → ((t : ℕ) → taken_frames pool t ≡ None) → IsFlat (empty_flat pool s)
 IsFlat-empty pool s none free =
     IsFlat-nothing (empty_flat pool s) (content_of-empty pool s) sorted_nil ascending_nil (sym none) (λ t. get_or_past [] t 0 (omega arith)) rows_with-nil free
 
-pub nothing-frames : nothing ≡ record nothing { frames = 0 }
-unfolding nothing
-nothing-frames = refl
-
 pub content_of-none : (pool : Pool) (s : ℕ) → pool.frames ≡ 0 → content_of (empty_flat pool s) ≡ nothing
-content_of-none pool s none = content_of-empty pool s ∙ (ap (λ (n : ℕ). record nothing { frames = n }) none ∙ sym nothing-frames)
+unfolding nothing
+content_of-none pool s none = content_of-empty pool s ∙ ap (λ (n : ℕ). record nothing { frames = n }) none
 
 -- a store with no VMO has no frames and no VMO
 pub no_frames : (f : Flat) → content_of f ≡ nothing → f.pool.frames ≡ 0
-no_frames f e = sym (frames-content f) ∙ ap (λ (c : Content). c.frames) (e ∙ nothing-frames)
+unfolding nothing
+no_frames f e = ap (λ (c : Content). c.frames) e
 
 pub no_shares : (f : Flat) → IsFlat f → content_of f ≡ nothing → length f.shares ≡ 0
 no_shares f flat e = flat.counts ∙ no_frames f e
@@ -134,20 +97,19 @@ all_zero n t = elim (cases_lt t n) [
 ]
 
 -- it gets its frames
-module _ (f : Flat) (pool : Pool) (shares : List ℕ) (empty : content_of f ≡ nothing) where
+module _ (f : Flat) (pool : Pool) (empty : content_of f ≡ nothing) where
   page_empty : (v p : ℕ) → find_row v p f.rows ≡ None
   unfolding nothing
-  page_empty v p = page_of_row_free f.pool (find_row v p f.rows) (sym (page-content f v p) ∙ ap (λ (c : Content). c.page v p) empty)
+  page_empty v p = page_of_row_free f.pool (find_row v p f.rows) (ap (λ (c : Content). c.page v p) empty)
 
-  pub content_of-filled : content_of (record f { pool = pool; shares = shares }) ≡ record (content_of f) { frames = pool.frames }
-  unfolding content_of
-  content_of-filled = same_content _ _ refl refl (λ v. refl) (λ v p. ap (page_of_row pool) (page_empty v p) ∙ (page_of_row-none pool ∙ sym (ap (page_of_row f.pool) (page_empty v p) ∙ page_of_row-none f.pool)))
+  pub content_of-filled : content_of (record f { pool = pool }) ≡ record (content_of f) { frames = pool.frames }
+  content_of-filled = same_content _ _ refl refl (λ v. refl) (λ v p. ap (page_of_row pool) (page_empty v p) ∙ sym (ap (page_of_row f.pool) (page_empty v p)))
 
 pub IsFlat-filled : (f : Flat) (pool : Pool) (n m : ℕ) → content_of f ≡ nothing → IsFlat f → pool.frames ≡ n → ((t : ℕ) → taken_frames pool t ≡ None) → m ≡ n → IsFlat (record f { pool = pool; shares = take n f.shares ++ replicate m 0 })
 IsFlat-filled f pool n m empty flat frames free same =
     let g : Flat = record f { pool = pool; shares = take n f.shares ++ replicate m 0 } in
     let none = zero_counts f.shares n m (no_shares f flat empty) same in
-    IsFlat-nothing g (content_of-filled f pool (take n f.shares ++ replicate m 0) empty ∙ ap (λ (c : Content). record c { frames = pool.frames }) empty)
+    IsFlat-nothing g (content_of-filled f pool empty ∙ ap (λ (c : Content). record c { frames = pool.frames }) empty)
     flat.sorted flat.ascending (ap length none ∙ (length-replicate {A = ℕ} n 0 ∙ sym frames)) (λ t. ap (λ (xs : List ℕ). get_or xs t 0) none ∙ all_zero n t)
     (λ t. sym (flat.shares t) ∙ get_or_past f.shares t 0 (omega (arith, no_shares f flat empty))) free
 
@@ -155,10 +117,10 @@ IsFlat-filled f pool n m empty flat frames free same =
 
 module _ (f : Flat) (vmo : Vmo) (flat : IsFlat f) (koid : vmo.koid.0 ≡ f.next) where
   pub koids_below : AllBelow f.vmos vmo.koid.0
-  koids_below = below_from_counts f.vmos vmo.koid.0 flat.ascending (λ w n e. let low = (flat.good.koids w n (count-content f w ∙ e)).1 in let next = next-content f in omega arith)
+  koids_below = below_from_counts f.vmos vmo.koid.0 flat.ascending (λ w n e. let low = (flat.good.koids w n e).1 in omega arith)
 
   pub content_of-pushed : content_of (record f { next = f.next + 1; vmos = f.vmos ++ vmo ∷ [] }) ≡ created (content_of f) vmo.count
-  unfolding content_of created with_key
+  unfolding created with_key
   content_of-pushed = same_content _ _ refl refl (λ v. count_in-push f.vmos vmo koids_below v ∙ ap (λ (n : ℕ). cond (v == n) (Some vmo.count) (count_in v f.vmos)) koid) (λ v p. refl)
 
   pub IsFlat-pushed : vmo.count ≤ VMO_PAGES → IsFlat (record f { next = f.next + 1; vmos = f.vmos ++ vmo ∷ [] })
@@ -173,12 +135,8 @@ module _ (f : Flat) (vmo : Vmo) (flat : IsFlat f) (koid : vmo.koid.0 ≡ f.next)
 
 -- ---- how many pages a VMO has
 
--- the page count of a VMO that is in the list
-pub count_there : (f : Flat) (v : ℕ) → IsSome ((content_of f).count v) → IsSome (count_in v f.vmos)
-count_there f v some = subst IsSome (count-content f v) some
-
 pub count_read : (f : Flat) (v i : ℕ) (vmo : Vmo) → IsFlat f → IsVmoFor f.vmos v i → vmo ≡ get_or f.vmos i vmo → (content_of f).count v ≡ Some vmo.count
-count_read f v i vmo flat at read = count-content f v ∙ (count_in-at f.vmos flat.ascending v i at vmo ∙ ap (λ (d : Vmo). Some d.count) (sym read))
+count_read f v i vmo flat at read = count_in-at f.vmos flat.ascending v i at vmo ∙ ap (λ (d : Vmo). Some d.count) (sym read)
 
 pub pages_read : (f : Flat) (v i : ℕ) (vmo : Vmo) → IsFlat f → IsVmoFor f.vmos v i → vmo ≡ get_or f.vmos i vmo → pages_of (content_of f) v ≡ vmo.count
 pages_read f v i vmo flat at read = pages_of-at (content_of f) v vmo.count (count_read f v i vmo flat at read)
@@ -199,9 +157,8 @@ end_fits f v first seen flat h = omega (arith, pages_of_le (content_of f) v flat
 
 -- the page at the place of its row
 pub page_at_row : (f : Flat) (v p i : ℕ) (d : Row) → IsFlat f → IsRowFor f.rows v p i → (content_of f).page v p ≡ Some (page_from f.pool (get_or f.rows i d))
-page_at_row f v p i d flat at =
-    page-content f v p ∙ (ap (page_of_row f.pool) (find_row-at f.rows flat.sorted v p i at d) ∙ page_of_row-some f.pool (get_or f.rows i d))
+page_at_row f v p i d flat at = ap (page_of_row f.pool) (find_row-at f.rows flat.sorted v p i at d)
 
 -- no page is held where there is no row
 pub page_in_gap : (f : Flat) (v p i : ℕ) → IsGapFor f.rows v p i → (content_of f).page v p ≡ None
-page_in_gap f v p i gap = page-content f v p ∙ (ap (page_of_row f.pool) (find_row-gap f.rows v p i gap) ∙ page_of_row-none f.pool)
+page_in_gap f v p i gap = ap (page_of_row f.pool) (find_row-gap f.rows v p i gap)

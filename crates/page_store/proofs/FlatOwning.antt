@@ -23,12 +23,12 @@ use Rattle.page_store.specs.Flat.{Flat, page_of_row, content_of, IsFlat}
 use Rattle.page_store.specs.Shares.{rows_with}
 use Rattle.page_store.proofs.RowLaws.{IsRowAgain, page_cmp, cmp_itself, cmp_same, find_row-insert, sorted_insert, find_row-set, sorted_set}
 use Rattle.page_store.proofs.ShareLaws.{set_at, rows_with-insert, rows_with-set}
-use Rattle.page_store.proofs.FlatLaws.{same_content, frames-content, page-content, page_from, some_page, page_of_row-some, page_of_row-none, page_at_row, page_in_gap}
+use Rattle.page_store.proofs.FlatLaws.{same_content, page_from, some_page, page_at_row, page_in_gap}
 use Rattle.page_store.proofs.FlatFrames.{free_in_use, used_taken, IsFrameOf-held, sole_share, share_below}
 
 -- there is a free frame where one is not used
 pub room_free : (f : Flat) → IsFlat f → used (content_of f) < (content_of f).frames → taken_count f.pool < f.pool.frames
-room_free f flat room = let a = used_taken f flat in let b = frames-content f in omega arith
+room_free f flat room = omega (arith, used_taken f flat)
 
 -- ---- the pages of rows, where one frame gets bytes
 
@@ -41,14 +41,11 @@ frame_bytes-with_other old new t u bytes e apart =
 
 -- the page of another frame is as it was
 pub page_of_row-other : (old new : Pool) (t : ℕ) (bytes : List ℕ) → taken_frames new ≡ with_key (taken_frames old) t bytes → (o : Option Row) → ((row : Row) → o ≡ Some row → row.tag.0 ≢ t) → page_of_row new o ≡ page_of_row old o
-page_of_row-other old new t bytes e None apart = page_of_row-none new ∙ sym (page_of_row-none old)
-page_of_row-other old new t bytes e (Some row) apart =
-    page_of_row-some new row
-    ∙ (ap (λ (bs : List ℕ). some_page row.tag.0 bs) (frame_bytes-with_other old new t row.tag.0 bytes e (apart row refl))
-    ∙ sym (page_of_row-some old row))
+page_of_row-other old new t bytes e None apart = refl
+page_of_row-other old new t bytes e (Some row) apart = ap (some_page row.tag.0) (frame_bytes-with_other old new t row.tag.0 bytes e (apart row refl))
 
 pub page_of_row-here : (old new : Pool) (row : Row) (bytes : List ℕ) → taken_frames new ≡ with_key (taken_frames old) row.tag.0 bytes → page_of_row new (Some row) ≡ some_page row.tag.0 bytes
-page_of_row-here old new row bytes e = page_of_row-some new row ∙ ap (λ (bs : List ℕ). some_page row.tag.0 bs) (frame_bytes-with old new row.tag.0 bytes e)
+page_of_row-here old new row bytes e = ap (some_page row.tag.0) (frame_bytes-with old new row.tag.0 bytes e)
 
 -- ---- a store with a new row, or with another frame in a row
 
@@ -93,7 +90,7 @@ module _ (f g : Flat) (row : Row) (bytes : List ℕ) (flat : IsFlat f) (is : Hol
   -- the frame of a row that was there is another
   frame_apart : (w q : ℕ) (other : Row) → find_row w q f.rows ≡ Some other → other.tag.0 ≢ row.tag.0
   frame_apart w q other e same =
-      let held = IsFrameOf-held f w q (page_from f.pool other) flat (page-content f w q ∙ (ap (page_of_row f.pool) e ∙ page_of_row-some f.pool other)) in
+      let held = IsFrameOf-held f w q (page_from f.pool other) flat (ap (page_of_row f.pool) e) in
       let there = subst (λ (u : ℕ). IsSome (taken_frames f.pool u)) same held.taken in
       absurd (both_ways (is_some (taken_frames f.pool row.tag.0)) (ap is_some is.was_free) there)
 
@@ -104,20 +101,17 @@ module _ (f g : Flat) (row : Row) (bytes : List ℕ) (flat : IsFlat f) (is : Hol
     go false = page_of_row-other f.pool g.pool row.tag.0 bytes is.frame (find_row w q f.rows) (frame_apart w q)
 
   pub content_of-held : content_of g ≡ hold (content_of f) row.koid.0 row.page new_page
-  unfolding content_of hold
+  unfolding hold
   content_of-held = same_content _ _ is.frames is.next (λ w. ap (count_in w) is.vmos) page_held
 
   was_unused : in_use (content_of f) row.tag.0 ≡ false
   was_unused = free_in_use f row.tag.0 flat is.was_free
 
-  frame_below : row.tag.0 < (content_of f).frames
-  frame_below = let e = frames-content f in let low = is.below in omega arith
-
   pub IsFlat-held : (leaves : ℕ → Bool) → AreShares f g row.tag.0 leaves → IsFlat g
   IsFlat-held leaves are = record {
     sorted = is.sorted;
     ascending = subst IsAscending (sym is.vmos) flat.ascending;
-    good = subst IsGood (sym content_of-held) (IsGood-hold_new (content_of f) row.koid.0 row.page new_page flat.good is.page frame_below was_unused is.whole);
+    good = subst IsGood (sym content_of-held) (IsGood-hold_new (content_of f) row.koid.0 row.page new_page flat.good is.page is.below was_unused is.whole);
     counts = is.counts ∙ (flat.counts ∙ sym is.frames);
     shares = λ u. omega (arith, are.is u, are.rows u, flat.shares u);
     counted = record {
@@ -132,7 +126,7 @@ module _ (f g : Flat) (row : Row) (bytes : List ℕ) (flat : IsFlat f) (is : Hol
   pub owns_new : sole (content_of f) row.koid.0 row.page ≡ false → bytes ≡ shown (content_of f) row.koid.0 row.page → Owns (content_of f) (content_of g) row.koid.0 row.page row.tag.0
   owns_new shared same = record {
     stays = λ alone. absurd (both_ways (sole (content_of f) row.koid.0 row.page) shared alone);
-    copies = λ _. (frame_below, was_unused, content_of-held ∙ ap (λ (bs : List ℕ). hold (content_of f) row.koid.0 row.page (record { tag = row.tag.0; bytes = bs })) same);
+    copies = λ _. (is.below, was_unused, content_of-held ∙ ap (λ (bs : List ℕ). hold (content_of f) row.koid.0 row.page (record { tag = row.tag.0; bytes = bs })) same);
   }
 
 -- ---- share counts

@@ -13,7 +13,7 @@ use Rattle.vm_base.proofs.PageLaws.{length-replaced}
 use Rattle.page_store.specs.Rows.{find_row}
 use Rattle.page_store.specs.Pages.{ShowsTag, IsShown, IsShownOnce, Overwrites}
 use Rattle.page_store.specs.Flat.{Flat, page_of_row, content_of, IsFlat}
-use Rattle.page_store.proofs.FlatLaws.{same_content, page-content, page_from, page_of_row-some, page_of_row_found}
+use Rattle.page_store.proofs.FlatLaws.{same_content, page_from, page_of_row_found}
 use Rattle.page_store.proofs.FlatFrames.{shown_taken, shown_bytes}
 use Rattle.page_store.proofs.FlatOwning.{page_of_row-other, page_of_row-here}
 
@@ -39,7 +39,7 @@ module _ (f : Flat) (pool : Pool) (t at : ℕ) (bytes : List ℕ) (flat : IsFlat
         let both = and_parts (w == v) (q == p) here in
         let is : (content_of f).page w q ≡ Some held =
         ap (λ (u : ℕ). (content_of f).page u q) (eqb-true w v both.0) ∙ (ap (λ (r : ℕ). (content_of f).page v r) (eqb-true q p both.1) ∙ shows.page) in
-        let found = page_of_row_found f.pool (find_row w q f.rows) held (sym (page-content f w q) ∙ is) in
+        let found = page_of_row_found f.pool (find_row w q f.rows) held is in
         let tag : (found.0).tag.0 ≡ t = ap (λ (page : Page). page.tag) found.2 ∙ shows.tag in
         let frame_here : taken_frames pool ≡ with_key (taken_frames f.pool) (found.0).tag.0 (replaced (frame_bytes f.pool t) at bytes) =
         frame ∙ ap (λ (u : ℕ). with_key (taken_frames f.pool) u (replaced (frame_bytes f.pool t) at bytes)) (sym tag) in
@@ -51,7 +51,7 @@ module _ (f : Flat) (pool : Pool) (t at : ℕ) (bytes : List ℕ) (flat : IsFlat
         ∙ ap (λ b. cond b (Some (with_replaced held at bytes)) (page_of_row f.pool (find_row w q f.rows))) (sym here)))
     | inr there ↦
         page_of_row-other f.pool pool t (replaced (frame_bytes f.pool t) at bytes) frame (find_row w q f.rows) (λ row found same.
-        let is : (content_of f).page w q ≡ Some (page_from f.pool row) = page-content f w q ∙ (ap (page_of_row f.pool) found ∙ page_of_row-some f.pool row) in
+        let is : (content_of f).page w q ≡ Some (page_from f.pool row) = ap (page_of_row f.pool) found in
         let one = shows_alone (content_of f) t v p held once shows w q (page_from f.pool row) (record { page = is; tag = same }) in
         let test = and_from (w == v) (q == p) (eq-eqb w v one.0) (eq-eqb q p one.1) in
         let clash : ◌≡◌ {A = Bool} true false = sym test ∙ there in absurd cc)
@@ -59,7 +59,7 @@ module _ (f : Flat) (pool : Pool) (t at : ℕ) (bytes : List ℕ) (flat : IsFlat
   ]
 
   pub overwrites : Overwrites (content_of f) (content_of (record f { pool = pool })) t at bytes
-  unfolding content_of hold
+  unfolding hold
   overwrites v p held shows = same_content _ _ frames refl (λ w. refl) (page_written v p held shows)
 
   pub IsFlat-overwritten : at + length bytes ≤ PAGE → IsFlat (record f { pool = pool })

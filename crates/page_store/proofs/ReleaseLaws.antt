@@ -14,7 +14,7 @@ use Rattle.page_store.specs.Shares.{rows_with, Releases}
 use Rattle.page_store.specs.Flat.{Flat, page_of_row, content_of, IsFlat}
 use Rattle.page_store.proofs.BoundLaws.{find_row-before, find_row-behind, find_row-outside, find_row-right, find_row-middle, find_row-found, sorted_without}
 use Rattle.page_store.proofs.ShareLaws.{rows_with-append, rows_with-at}
-use Rattle.page_store.proofs.FlatLaws.{same_content, frames-content, next-content, count-content, page-content, some_page, page_of_row-none}
+use Rattle.page_store.proofs.FlatLaws.{same_content, some_page}
 
 -- ---- rows that are taken out
 
@@ -59,7 +59,6 @@ counts_before f v p q from end flat are t = omega (arith, flat.shares t, rows_wi
 
 -- a page whose frame has its bytes in two pools
 page_kept : (pool other : Pool) (o : Option Row) → ((row : Row) → o ≡ Some row → taken_frames pool row.tag.0 ≡ taken_frames other row.tag.0) → page_of_row pool o ≡ page_of_row other o
-unfolding page_of_row
 page_kept pool other None same = refl
 page_kept pool other (Some row) same = ap (λ (o : Option (List ℕ)). some_page row.tag.0 (unwrap_or o [])) (same row refl)
 
@@ -77,20 +76,17 @@ module _ (f g : Flat) (v p q from end : ℕ) (flat : IsFlat f) (gone : IsRelease
 
   page_out : (w x : ℕ) → (w ≡ v → (x < p) ⊎ (q ≤ x)) → (content_of g).page w x ≡ (content_of f).page w x
   page_out w x out =
-      page-content g w x ∙ (released_page w x ∙ (ap (page_of_row f.pool) (ap (find_row w x) gone.rows ∙ find_row-stays f.rows v p q from end gone.are w x out) ∙ sym (page-content f w x)))
+      released_page w x ∙ ap (page_of_row f.pool) (ap (find_row w x) gone.rows ∙ find_row-stays f.rows v p q from end gone.are w x out)
 
   page_in : (x : ℕ) → p ≤ x → x < q → (content_of g).page v x ≡ None
-  page_in x low high =
-      page-content g v x ∙ (ap (page_of_row g.pool) (ap (find_row v x) gone.rows ∙ find_row-released f.rows v p q from end gone.are x low high) ∙ page_of_row-none g.pool)
+  page_in x low high = ap (page_of_row g.pool) (ap (find_row v x) gone.rows ∙ find_row-released f.rows v p q from end gone.are x low high)
 
   pub content-released : content_of g ≡ zeroed (content_of f) v p q
   unfolding zeroed
   content-released =
       let c = content_of f in
       same_content (content_of g) (zeroed c v p q)
-      (frames-content g ∙ ((gone.released).frames ∙ sym (frames-content f)))
-      (next-content g ∙ (gone.next ∙ sym (next-content f)))
-      (λ w. count-content g w ∙ (ap (count_in w) gone.vmos ∙ sym (count-content f w)))
+      (gone.released).frames gone.next (λ w. ap (count_in w) gone.vmos)
       (λ w x. elim (cases_zeroed v p q w x) [
         | inl inside ↦
             ap (λ (u : ℕ). (content_of g).page u x) inside.0

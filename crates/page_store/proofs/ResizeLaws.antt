@@ -44,7 +44,7 @@ module _ (old f : Flat) (v at : ℕ) (vmo : Vmo) (was : IsFlat old) (flat : IsFl
       record { in_range = now.in_range; koid = λ d. now.is d ∙ sym koid }
 
   recounted : content_of (relisted f at vmo) ≡ record (content_of f) { count = with_key (content_of f).count v vmo.count }
-  unfolding content_of with_key
+  unfolding with_key
   recounted = same_content _ _ refl refl (λ w. count_in-set f.vmos at vmo flat.ascending again w ∙ ap (λ (k : ℕ). cond (w == k) (Some vmo.count) (count_in w f.vmos)) koid) (λ w p. refl)
 
   pub content-relisted : content_of (relisted f at vmo) ≡ resized (content_of old) v vmo.count

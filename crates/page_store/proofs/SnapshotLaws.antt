@@ -23,7 +23,7 @@ use Rattle.page_store.proofs.RowLaws.{page_cmp}
 use Rattle.page_store.proofs.BoundLaws.{sorted_append, sorted_range, find_row-other, find_row-left, find_row-right, find_row-range, find_row-outside, range_within}
 use Rattle.page_store.proofs.ShareLaws.{rows_with-append, rows_with-map, rows_with-range}
 use Rattle.page_store.proofs.VmoLaws.{ascending_push, count_in-push}
-use Rattle.page_store.proofs.FlatLaws.{same_content, frames-content, next-content, count-content, page-content, page_of_row-none, koids_below}
+use Rattle.page_store.proofs.FlatLaws.{same_content, koids_below}
 use Rattle.page_store.proofs.ViewLaws.{viewers_le, row_koids, row_tags, viewers-rows}
 
 -- ---- the rows of a snapshot
@@ -52,7 +52,6 @@ find_row-moved koid v first p (row ∷ rows) from =
 
 -- it has the frame of that page
 page_moved : (pool : Pool) (koid first : ℕ) (o : Option Row) → page_of_row pool (option_map (row_in koid first) o) ≡ page_of_row pool o
-unfolding page_of_row
 page_moved pool koid first None = refl
 page_moved pool koid first (Some row) = refl
 
@@ -115,33 +114,30 @@ module _ (f g : Flat) (v first seen pages from end : ℕ) (flat : IsFlat f) (new
       ∙ (ap (λ (pool : Pool). page_of_row pool (find_row v (first + p) (slice_range f.rows from end))) new.pool ∙ elim (cases_lt p seen) [
         | inl low ↦
             ap (page_of_row f.pool) (find_row-range f.rows v first (first + seen) from end new.are (first + p) (omega arith) (omega arith))
-            ∙ (sym (page-content f v (first + p)) ∙ sym (page_seen-in (content_of f) v first seen p low))
+            ∙ sym (page_seen-in (content_of f) v first seen p low)
         | inr past ↦
             ap (page_of_row f.pool) (find_row-outside f.rows v first (first + seen) from end new.are v (first + p) (λ _. inr (omega arith)))
-            ∙ (page_of_row-none f.pool ∙ sym (page_seen-out (content_of f) v first seen p past))
+            ∙ sym (page_seen-out (content_of f) v first seen p past)
       ]))
 
   -- a page of another VMO
   page_old : (w p : ℕ) → w ≢ f.next → page_of_row g.pool (find_row w p g.rows) ≡ (content_of f).page w p
   page_old w p apart =
       ap (page_of_row g.pool) (ap (find_row w p) new.rows ∙ find_row-left w p f.rows (map (row_in f.next first) (slice_range f.rows from end)) (find_row-elsewhere f.next first w p (slice_range f.rows from end) apart))
-      ∙ (ap (λ (pool : Pool). page_of_row pool (find_row w p f.rows)) new.pool ∙ sym (page-content f w p))
+      ∙ ap (λ (pool : Pool). page_of_row pool (find_row w p f.rows)) new.pool
 
   pub content-snapshot : content_of g ≡ snapshotted (content_of f) v first seen pages
   unfolding snapshotted with_key
   content-snapshot =
       let c = content_of f in
-      let next = next-content f in
       same_content (content_of g) (snapshotted c v first seen pages)
-      (frames-content g ∙ (ap (λ (pool : Pool). pool.frames) new.pool ∙ sym (frames-content f)))
-      (omega (arith, next-content g, new.next))
-      (λ w. count-content g w ∙ (ap (count_in w) new.vmos ∙ (count_in-push f.vmos (new_vmo f pages) (koids_below f (new_vmo f pages) flat refl) w
-      ∙ sym (ap (λ (n : ℕ). cond (w == n) (Some pages) (c.count w)) next ∙ ap (λ o. cond (w == f.next) (Some pages) o) (count-content f w)))))
-      (λ w p. page-content g w p ∙ elim (cases_eq w f.next) [
+      (ap (λ (pool : Pool). pool.frames) new.pool) new.next
+      (λ w. ap (count_in w) new.vmos ∙ count_in-push f.vmos (new_vmo f pages) (koids_below f (new_vmo f pages) flat refl) w)
+      (λ w p. elim (cases_eq w f.next) [
         | inl same ↦
             ap (λ (u : ℕ). page_of_row g.pool (find_row u p g.rows)) same
-            ∙ (page_new p ∙ sym (ap (λ (u : ℕ). (snapshotted c v first seen pages).page u p) (same ∙ sym next) ∙ page-snapshotted_new c v first seen pages p))
-        | inr apart ↦ page_old w p apart ∙ sym (page-snapshotted_other c v first seen pages w p (λ e. apart (e ∙ next)))
+            ∙ (page_new p ∙ sym (ap (λ (u : ℕ). (snapshotted c v first seen pages).page u p) same ∙ page-snapshotted_new c v first seen pages p))
+        | inr apart ↦ page_old w p apart ∙ sym (page-snapshotted_other c v first seen pages w p apart)
       ])
 
   snapshot_sorted : IsSorted g.rows

@@ -20,7 +20,7 @@ use Rattle.page_store.specs.Shares.{rows_with, IsFirstWith}
 use Rattle.page_store.specs.Pages.{IsShown}
 use Rattle.page_store.specs.Flat.{Flat, page_of_row, content_of, IsFlat}
 use Rattle.page_store.proofs.RowLaws.{page_cmp}
-use Rattle.page_store.proofs.FlatLaws.{frames-content, next-content, page-content, page_from, page_of_row-some, page_of_row_found}
+use Rattle.page_store.proofs.FlatLaws.{page_from, page_of_row_found}
 use Rattle.page_store.proofs.BoundLaws.{find_row-found, find_row-each}
 use Rattle.page_store.proofs.ShareLaws.{rows_with-nil, rows_with-cons, rows_with-at, some_row}
 use Rattle.page_store.proofs.VmoLaws.{below_from_counts, count_vmos}
@@ -64,7 +64,7 @@ pub record IsRowOf (rows : List Row) (v p t i : ℕ) : Type 0 where
 -- each page that is held has a row, and each row is such a page
 pub row_of_page : (f : Flat) (v p : ℕ) (held : Page) → (content_of f).page v p ≡ Some held → (i : ℕ) × IsRowOf f.rows v p held.tag i
 row_of_page f v p held e =
-    let row = page_of_row_found f.pool (find_row v p f.rows) held (sym (page-content f v p) ∙ e) in
+    let row = page_of_row_found f.pool (find_row v p f.rows) held e in
     let at = find_row-found v p f.rows row.0 row.1 in (
       at.0,
       record {
@@ -77,8 +77,7 @@ row_of_page f v p held e =
 
 pub page_of_each : (f : Flat) → IsSorted f.rows → (i : ℕ) (d : Row) → i < length f.rows → (content_of f).page (get_or f.rows i d).koid.0 (get_or f.rows i d).page ≡ Some (page_from f.pool (get_or f.rows i d))
 page_of_each f sorted i d h =
-    page-content f (get_or f.rows i d).koid.0 (get_or f.rows i d).page
-    ∙ (ap (page_of_row f.pool) (find_row-each f.rows sorted i d h) ∙ page_of_row-some f.pool (get_or f.rows i d))
+    ap (page_of_row f.pool) (find_row-each f.rows sorted i d h)
 
 -- ---- which VMOs have a row with a frame
 
@@ -145,14 +144,12 @@ module _ (f : Flat) (sorted : IsSorted f.rows) (good : IsGood (content_of f)) wh
   pub row_koids : All (λ row. row.koid.0 < f.next) f.rows
   row_koids i d h =
       let row = get_or f.rows i d in
-      let low = koid_held (content_of f) row.koid.0 row.page (page_from f.pool row) good (page_of_each f sorted i d h) in
-      omega (arith, low, next-content f)
+      koid_held (content_of f) row.koid.0 row.page (page_from f.pool row) good (page_of_each f sorted i d h)
 
   pub row_tags : All (λ row. row.tag.0 < f.pool.frames) f.rows
   row_tags i d h =
       let row = get_or f.rows i d in
-      let low = good.tags row.koid.0 row.page (page_from f.pool row) (page_of_each f sorted i d h) in
-      omega (arith, low, frames-content f)
+      good.tags row.koid.0 row.page (page_from f.pool row) (page_of_each f sorted i d h)
 
   rows_apart : AreApart f.rows
   rows_apart = record {
@@ -183,8 +180,7 @@ module _ (f : Flat) (sorted : IsSorted f.rows) (good : IsGood (content_of f)) wh
   pub viewers-rows : (t : ℕ) → viewers (content_of f) t ≡ rows_with t f.rows
   unfolding viewers
   viewers-rows t =
-      ap (λ (n : ℕ). count_below n (views (content_of f) t)) (next-content f)
-      ∙ (count_below_same f.next (views (content_of f) t) (shows_in t f.rows) (λ v h. views-rows t v) ∙ count_shows f.next t f.rows row_koids rows_apart)
+      count_below_same f.next (views (content_of f) t) (shows_in t f.rows) (λ v h. views-rows t v) ∙ count_shows f.next t f.rows row_koids rows_apart
 
 -- ---- what the lists of a plain store say of its content
 
@@ -198,7 +194,7 @@ taken_in_use f flat t = flat.counted.taken t ∙ (ap (nat_lt 0) (share_viewers f
 
 -- there are as many VMOs as the list has
 pub vmos_of-content : (f : Flat) → IsFlat f → vmos_of (content_of f) ≡ length f.vmos
-unfolding vmos_of content_of
+unfolding vmos_of
 vmos_of-content f flat = count_vmos f.next f.vmos flat.ascending (below_from_counts f.vmos f.next flat.ascending (λ w n e. (flat.good.koids w n e).1))
 
 -- ---- the least viewer

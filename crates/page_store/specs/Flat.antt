@@ -19,11 +19,11 @@ pub record Flat : Type 0 where
   pub spare : ℕ
 
 -- the page of a row, with the bytes of its frame
-unfoldable pub page_of_row : Pool → Option Row → Option Page
+abbrev pub page_of_row : Pool → Option Row → Option Page
 page_of_row pool None = None
 page_of_row pool (Some row) = Some (record { tag = row.tag.0; bytes = frame_bytes pool row.tag.0 })
 
-unfoldable pub content_of : Flat → Content
+abbrev pub content_of : Flat → Content
 content_of f = record {
   frames = f.pool.frames;
   next = f.next;

@@ -1,12 +1,12 @@
 use Rattle.std.proofs.Common.{◌+◌, arith}
 use Rattle.page_store.specs.FlatFields.{flat_of}
-use Rattle.page_store.proofs.FlatLaws.{count_there, pages_read}
+use Rattle.page_store.proofs.FlatLaws.{pages_read}
 use Rattle.page_store.proofs.ReleaseLaws.{HasReleased}
 use Rattle.page_store.proofs.DropLaws.{content-unlisted, IsFlat-unlisted}
 use Rattle.page_store.proofs.flat_store.FlatStorePageStore.drop_vmo.Goals as goal
 
 pub find_vmo-at-requires-clause-there : goal.find_vmo-at-requires-clause-there
-find_vmo-at-requires-clause-there c = rw c.deref.ensures.value (count_there (flat_of c.self.inside) c.args.v.0 (rw (← c.self.view_is) at c.requires))
+find_vmo-at-requires-clause-there c = rw c.deref.ensures.value (rw (← c.self.view_is) at c.requires)
 
 pub release_pages-requires : goal.release_pages-requires
 release_pages-requires c =

@@ -6,7 +6,7 @@ use Rattle.page_store.proofs.FlatLaws.{no_frames, no_shares, IsFlat-filled, cont
 use Rattle.page_store.proofs.flat_store.FlatStorePageStore.fill.Goals as goal
 
 pub fill-requires-clause-empty : goal.fill-requires-clause-empty
-fill-requires-clause-empty c = no_frames _ (rw (← c.self.view_is) at c.requires.empty)
+fill-requires-clause-empty c = no_frames (flat_of c.self.inside) (rw (← c.self.view_is) at c.requires.empty)
 
 -- the store was empty, and the counts had room
 pub invariant_of-self-2 : goal.invariant_of-self-2
@@ -19,5 +19,5 @@ invariant_of-self-2 c =
 
 pub returns-clause-ok : goal.returns-clause-ok
 returns-clause-ok c =
-    rw (← c.self.view_is) (content_of-filled _ _ _ (rw (← c.self.view_is) at c.requires.empty)
+    rw (← c.self.view_is) (content_of-filled (flat_of c.self.inside) _ (rw (← c.self.view_is) at c.requires.empty)
     ∙ ap (λ (n : ℕ). record (content_of (flat_of c.self.inside)) { frames = n }) c.in-Ok-fill.ensures.frames)

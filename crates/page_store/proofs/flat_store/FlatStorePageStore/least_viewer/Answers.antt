@@ -4,7 +4,7 @@ use Rattle.page_store.proofs.ViewLaws.{rows_with-shown, least_row}
 use Rattle.page_store.proofs.flat_store.FlatStorePageStore.least_viewer.Goals as goal
 
 pub first_with-requires : goal.first_with-requires
-first_with-requires c = rw c.deref.ensures.value (rows_with-shown (flat_of c.self.inside) c.args.tag.0 (rw c.self.view_is c.requires))
+first_with-requires c = rw c.deref.ensures.value (rows_with-shown (flat_of c.self.inside) c.args.tag.0 (rw (← c.self.view_is) at c.requires))
 
 pub index-requires : goal.index-requires
 index-requires c = omega (arith, c.deref.ensures.len, c.first_with.ensures.in_range)

@@ -4,14 +4,14 @@ use Rattle.page_store.specs.declared.vmos.Vmo.{Vmo}
 use Rattle.page_store.specs.Vmos.{IsVmoFor}
 use Rattle.page_store.specs.Flat.{content_of}
 use Rattle.page_store.specs.FlatFields.{flat_of}
-use Rattle.page_store.proofs.FlatLaws.{count_there, pages_read}
+use Rattle.page_store.proofs.FlatLaws.{pages_read}
 use Rattle.page_store.proofs.ReleaseLaws.{HasReleased}
 use Rattle.page_store.proofs.ResizeLaws.{shrunk, grown, content-relisted, IsFlat-relisted}
 use Rattle.page_store.proofs.flat_store.FlatStorePageStore.set_count.Goals as goal
 use Rattle.page_store.proofs.flat_store.FlatStorePageStore.set_count.Goals.{then-count-old, else-count-old}
 
 pub find_vmo-at-requires-clause-there : goal.find_vmo-at-requires-clause-there
-find_vmo-at-requires-clause-there c = rw c.deref.ensures.value (count_there (flat_of c.self.inside) c.args.v.0 (rw (← c.self.view_is) at c.requires.vmo))
+find_vmo-at-requires-clause-there c = rw c.deref.ensures.value (rw (← c.self.view_is) at c.requires.vmo)
 
 pub release_pages-requires : goal.release_pages-requires
 release_pages-requires c =

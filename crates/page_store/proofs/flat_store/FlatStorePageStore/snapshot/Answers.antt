@@ -3,7 +3,7 @@ use Rattle.std.specs.Vec.{with_items}
 use Rattle.std.proofs.lemmas.List.{with_items_is}
 use Rattle.page_store.specs.Flat.{Flat}
 use Rattle.page_store.specs.FlatFields.{flat_of}
-use Rattle.page_store.proofs.FlatLaws.{next-content, end_fits, content_of-spare, IsFlat-spare}
+use Rattle.page_store.proofs.FlatLaws.{end_fits, IsFlat-spare}
 use Rattle.page_store.proofs.SnapshotLaws.{IsSnapshot, content-snapshot, IsFlat-snapshot, tags_counted, shares_fit}
 use Rattle.page_store.proofs.flat_store.FlatStorePageStore.snapshot.Goals as goal
 
@@ -15,10 +15,10 @@ pub invariant_of-self-in_default-push : goal.invariant_of-self-in_default-push
 invariant_of-self-in_default-push c = record { flat = rw (c.in_default-push.ensures.items, c.reserve.ensures.items) (IsFlat-spare (flat_of c.self.inside) _ c.self.invariant.flat) }
 
 pub returns-in_default-push-clause-err : goal.returns-in_default-push-clause-err
-returns-in_default-push-clause-err c = rw (c.in_default-push.ensures.items, c.reserve.ensures.items, ← c.self.view_is) (content_of-spare (flat_of c.self.inside) _)
+returns-in_default-push-clause-err c = rw (c.in_default-push.ensures.items, c.reserve.ensures.items, ← c.self.view_is) refl
 
 pub overflow_add-self : goal.overflow_add-self
-overflow_add-self c = omega (arith, rw (← c.self.view_is, next-content) at c.requires.next)
+overflow_add-self c = omega (arith, rw (← c.self.view_is) at c.requires.next)
 
 pub share_rows-requires-clause-tags : goal.share_rows-requires-clause-tags
 share_rows-requires-clause-tags c =
@@ -55,7 +55,7 @@ pub invariant_of-self-2 : goal.invariant_of-self-2
 invariant_of-self-2 c = record { flat = IsFlat-snapshot (flat_of c.self.inside) (after c) _ _ _ _ _ _ c.self.invariant.flat (new c) c.requires.seen c.requires.count }
 
 pub returns-clause-koid : goal.returns-clause-koid
-returns-clause-koid c = rw (← c.self.view_is) (sym (next-content (flat_of c.self.inside)))
+returns-clause-koid c = rw (← c.self.view_is)
 
 pub returns-clause-ok : goal.returns-clause-ok
 returns-clause-ok c = rw (← c.self.view_is) (content-snapshot (flat_of c.self.inside) (after c) _ _ _ _ _ _ c.self.invariant.flat (new c))
