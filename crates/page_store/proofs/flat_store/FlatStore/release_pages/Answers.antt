@@ -10,9 +10,6 @@ use Rattle.page_store.proofs.flat_store.FlatStore.release_pages.Goals as goal
 pub overflow_add-first : goal.overflow_add-first
 overflow_add-first c = omega (arith, end_fits (flat_of c.self.inside) c.args.v.0 c.args.first c.args.count c.self.invariant.flat (rw (← c.self.view_is) at c.requires))
 
-pub release_rows-requires-clause-counted : goal.release_rows-requires-clause-counted
-release_rows-requires-clause-counted c = rw c.deref_mut.ensures.value c.self.invariant.flat.counted
-
 pub release_rows-requires-clause-counts : goal.release_rows-requires-clause-counts
 release_rows-requires-clause-counts c =
     rw (c.deref_mut.ensures.value, c.deref-2.ensures.value) (counts_before (flat_of c.self.inside) _ _ _ _ _ c.self.invariant.flat (rw c.deref.ensures.value at c.rows_within-from.ensures))

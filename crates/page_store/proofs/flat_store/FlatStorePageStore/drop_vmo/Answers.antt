@@ -5,9 +5,6 @@ use Rattle.page_store.proofs.ReleaseLaws.{HasReleased}
 use Rattle.page_store.proofs.DropLaws.{content-unlisted, IsFlat-unlisted}
 use Rattle.page_store.proofs.flat_store.FlatStorePageStore.drop_vmo.Goals as goal
 
-pub find_vmo-at-requires-clause-there : goal.find_vmo-at-requires-clause-there
-find_vmo-at-requires-clause-there c = rw c.deref.ensures.value (rw (← c.self.view_is) at c.requires)
-
 pub release_pages-requires : goal.release_pages-requires
 release_pages-requires c =
     rw (← c.self.view_is) (let pages = pages_read (flat_of c.self.inside) c.args.v.0 _ _ c.self.invariant.flat (rw c.deref.ensures.value at c.find_vmo-at.ensures) c.index.ensures in omega arith)

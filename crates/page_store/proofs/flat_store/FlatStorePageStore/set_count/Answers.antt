@@ -10,9 +10,6 @@ use Rattle.page_store.proofs.ResizeLaws.{shrunk, grown, content-relisted, IsFlat
 use Rattle.page_store.proofs.flat_store.FlatStorePageStore.set_count.Goals as goal
 use Rattle.page_store.proofs.flat_store.FlatStorePageStore.set_count.Goals.{then-count-old, else-count-old}
 
-pub find_vmo-at-requires-clause-there : goal.find_vmo-at-requires-clause-there
-find_vmo-at-requires-clause-there c = rw c.deref.ensures.value (rw (← c.self.view_is) at c.requires.vmo)
-
 pub release_pages-requires : goal.release_pages-requires
 release_pages-requires c =
     rw (← c.self.view_is) (let pages = pages_read (flat_of c.self.inside) c.args.v.0 _ _ c.self.invariant.flat (rw c.deref.ensures.value at c.find_vmo-at.ensures) c.index.ensures in omega arith)

@@ -10,16 +10,6 @@ use Rattle.page_store.proofs.flat_store.FlatStorePageStore.snapshot.Goals as goa
 pub overflow_add-first : goal.overflow_add-first
 overflow_add-first c = omega (arith, end_fits (flat_of c.self.inside) c.args.of.0 c.args.first c.args.seen c.self.invariant.flat (rw (← c.self.view_is) at c.requires.range))
 
--- no room for the VMO
-pub invariant_of-self-in_default-push : goal.invariant_of-self-in_default-push
-invariant_of-self-in_default-push c = record { flat = rw (c.in_default-push.ensures.items, c.reserve.ensures.items) (IsFlat-spare (flat_of c.self.inside) _ c.self.invariant.flat) }
-
-pub returns-in_default-push-clause-err : goal.returns-in_default-push-clause-err
-returns-in_default-push-clause-err c = rw (c.in_default-push.ensures.items, c.reserve.ensures.items, ← c.self.view_is) refl
-
-pub overflow_add-self : goal.overflow_add-self
-overflow_add-self c = omega (arith, rw (← c.self.view_is) at c.requires.next)
-
 pub share_rows-requires-clause-tags : goal.share_rows-requires-clause-tags
 share_rows-requires-clause-tags c =
     rw (c.deref_mut.ensures.value, c.reserve.ensures.items) (tags_counted (flat_of c.self.inside) c.rows_within-from.result.0 c.rows_within-from.result.1 c.self.invariant.flat
@@ -53,9 +43,6 @@ new c = record {
 
 pub invariant_of-self-2 : goal.invariant_of-self-2
 invariant_of-self-2 c = record { flat = IsFlat-snapshot (flat_of c.self.inside) (after c) _ _ _ _ _ _ c.self.invariant.flat (new c) c.requires.seen c.requires.count }
-
-pub returns-clause-koid : goal.returns-clause-koid
-returns-clause-koid c = rw (← c.self.view_is)
 
 pub returns-clause-ok : goal.returns-clause-ok
 returns-clause-ok c = rw (← c.self.view_is) (content-snapshot (flat_of c.self.inside) (after c) _ _ _ _ _ _ c.self.invariant.flat (new c))
