@@ -46,6 +46,11 @@ pub IsFlat-spare : (f : Flat) (s : ℕ) → IsFlat f → IsFlat (record f { spar
 IsFlat-spare f s flat =
     record { sorted = flat.sorted; ascending = flat.ascending; good = flat.good; counts = flat.counts; shares = flat.shares; counted = flat.counted }
 
+-- other VMOs are in the list, and the rest stays
+pub IsFlat-vmos : (f : Flat) (n : ℕ) (vmos : List Vmo) (c : Content) → IsFlat f → IsAscending vmos → content_of (record f { next = n; vmos = vmos }) ≡ c → IsGood c → IsFlat (record f { next = n; vmos = vmos })
+IsFlat-vmos f n vmos c flat rises same good =
+    record { sorted = flat.sorted; ascending = rises; good = subst IsGood (sym same) good; counts = flat.counts; shares = flat.shares; counted = flat.counted }
+
 -- ---- a store with no VMO
 
 abbrev pub nothing_of : Pool → Content
@@ -124,14 +129,8 @@ module _ (f : Flat) (vmo : Vmo) (flat : IsFlat f) (koid : vmo.koid.0 ≡ f.next)
   content_of-pushed = same_content _ _ refl refl (λ v. count_in-push f.vmos vmo koids_below v ∙ ap (λ (n : ℕ). cond (v == n) (Some vmo.count) (count_in v f.vmos)) koid) (λ v p. refl)
 
   pub IsFlat-pushed : vmo.count ≤ VMO_PAGES → IsFlat (record f { next = f.next + 1; vmos = f.vmos ++ vmo ∷ [] })
-  IsFlat-pushed few = record {
-    sorted = flat.sorted;
-    ascending = ascending_push f.vmos vmo flat.ascending koids_below;
-    good = subst IsGood (sym content_of-pushed) (IsGood-created (content_of f) vmo.count flat.good few);
-    counts = flat.counts;
-    shares = flat.shares;
-    counted = flat.counted;
-  }
+  IsFlat-pushed few = IsFlat-vmos f (f.next + 1) (f.vmos ++ vmo ∷ []) (created (content_of f) vmo.count) flat
+      (ascending_push f.vmos vmo flat.ascending koids_below) content_of-pushed (IsGood-created (content_of f) vmo.count flat.good few)
 
 -- ---- how many pages a VMO has
 

@@ -9,7 +9,5 @@ pub mod FlatWriting
 pub mod ShareLaws
 pub mod ViewLaws
 pub mod ReleaseLaws
-pub mod DropLaws
-pub mod ResizeLaws
 pub mod SnapshotLaws
 pub mod NextLaws

@@ -1,20 +1,27 @@
--- The plain store without the rows of a range of pages, whose frames were released: which content its lists stand
--- for, and that they stay a plain store.
-use Rattle.std.proofs.Common.{◌≡◌, ◌⊎◌, ℕ, ◌+◌, ◌<◌, ◌≤◌, List, [], ◌++◌, get_or, take, drop, Option, None, Some, unwrap_or, refl, sym, ap, subst, ◌∙◌, inl, inr, arith}
-use Rattle.std.specs.List.{remove_range, slice_range}
+-- The plain store without the rows of a range of pages, whose frames were released, and then with another page count
+-- for the VMO, or without it: which content its lists stand for, and that they stay a plain store.
+use Rattle.std.proofs.Common.{◌≡◌, ◌⊎◌, ℕ, ◌+◌, ◌<◌, ◌≤◌, min, not, ◌==◌, List, [], ◌++◌, get_or, set, take, drop, Option, None, Some, IsSome, unwrap_or, refl, sym, ap, subst, ◌∙◌, inl, inr, arith}
+use Rattle.std.specs.List.{remove, remove_range, slice_range}
+use Rattle.std.proofs.lemmas.Bool.Decides.{nat_tests}
 use Rattle.std.proofs.lemmas.List.Edits.{split_between}
 use Rattle.frame_pool.specs.Pool.{Pool, taken_frames}
-use Rattle.vm_model.specs.Contents.Content.{IsGood}
-use Rattle.vm_model.specs.Contents.Zeroing.{zeroed}
-use Rattle.vm_model.proofs.ZeroingLaws.{cases_zeroed, page-zeroed_in, page-zeroed_out, IsGood-zeroed}
+use Rattle.vm_base.specs.declared.limits.TheConstants.{VMO_PAGES}
+use Rattle.vm_base.specs.Entries.{with_key}
+use Rattle.vm_model.specs.Contents.Content.{Content, pages_of, IsGood}
+use Rattle.vm_model.specs.Contents.Sharing.{only, without}
+use Rattle.vm_model.specs.Contents.Zeroing.{zeroed, resized}
+use Rattle.vm_model.proofs.ZeroingLaws.{cases_zeroed, page-zeroed_in, page-zeroed_out, page_past, IsGood-zeroed, IsGood-resized}
+use Rattle.vm_model.proofs.SharingLaws.{IsGood-only}
 use Rattle.page_store.specs.declared.rows.Row.{Row}
+use Rattle.page_store.specs.declared.vmos.Vmo.{Vmo}
 use Rattle.page_store.specs.Rows.{find_row, IsSorted, AreRowsWithin}
-use Rattle.page_store.specs.Vmos.{count_in, IsAscending}
+use Rattle.page_store.specs.Vmos.{count_in, IsAscending, IsVmoFor}
 use Rattle.page_store.specs.Shares.{rows_with, Releases}
 use Rattle.page_store.specs.Flat.{Flat, page_of_row, content_of, IsFlat}
 use Rattle.page_store.proofs.BoundLaws.{find_row-before, find_row-behind, find_row-outside, find_row-right, find_row-middle, find_row-found, sorted_without}
 use Rattle.page_store.proofs.ShareLaws.{rows_with-append, rows_with-at}
-use Rattle.page_store.proofs.FlatLaws.{same_content, some_page}
+use Rattle.page_store.proofs.VmoLaws.{ascending_set, ascending_remove, count_in-set, count_in-remove}
+use Rattle.page_store.proofs.FlatLaws.{same_content, some_page, IsFlat-vmos, pages_read}
 
 -- ---- rows that are taken out
 
@@ -103,3 +110,58 @@ module _ (f g : Flat) (v p q from end : ℕ) (flat : IsFlat f) (gone : IsRelease
     shares = released_counts;
     counted = (gone.released).counted;
   }
+
+-- ---- another page count
+
+-- a range that ends where the VMO does begins at any page past its end, or there
+pub HasReleased-past : (f g : Flat) (v first n m : ℕ) → n + m ≡ pages_of (content_of f) v → n ≡ min first (n + m) → HasReleased f g v n (n + m) → HasReleased f g v first (pages_of (content_of f) v)
+unfolding zeroed
+HasReleased-past f g v first n m end low released = record {
+  content = released.content ∙ same_content _ _ refl refl (λ w. refl) (λ w x. let page = (content_of f).page w x in grind (arith, nat_tests));
+  vmos = released.vmos;
+}
+
+module _ (old f : Flat) (v at n : ℕ) (vmo : Vmo) (was : IsFlat old) (flat : IsFlat f) (place : IsVmoFor old.vmos v at) (read : vmo ≡ get_or f.vmos at vmo) (released : HasReleased old f v n (pages_of (content_of old) v)) where
+  abbrev recounted : List Vmo
+  recounted = set f.vmos at (record vmo { count = n })
+
+  now : IsVmoFor f.vmos v at
+  now = subst (λ (vmos : List Vmo). IsVmoFor vmos v at) (sym released.vmos) place
+
+  koid : vmo.koid.0 ≡ v
+  koid = ap (λ (one : Vmo). one.koid.0) read ∙ now.is vmo
+
+  again : IsVmoFor f.vmos vmo.koid.0 at
+  again = record { in_range = now.in_range; is = λ d. now.is d ∙ sym koid }
+
+  pub content-relisted : content_of (record f { vmos = recounted }) ≡ resized (content_of old) v n
+  unfolding resized zeroed with_key
+  content-relisted = same_content _ _ (ap (λ (c : Content). c.frames) released.content) (ap (λ (c : Content). c.next) released.content)
+      (λ w. rw (count_in-set f.vmos at (record vmo { count = n }) flat.ascending again w, koid, released.vmos)) (λ w x. ap (λ (c : Content). c.page w x) released.content)
+
+  pub IsFlat-relisted : IsSome ((content_of old).count v) → n ≤ VMO_PAGES → IsFlat (record f { vmos = recounted })
+  IsFlat-relisted some few = IsFlat-vmos f f.next recounted (resized (content_of old) v n) flat
+      (ascending_set f.vmos at (record vmo { count = n }) flat.ascending again) content-relisted (IsGood-resized (content_of old) v n was.good some few)
+
+-- ---- a VMO leaves
+
+module _ (old f : Flat) (v at : ℕ) (vmo : Vmo) (was : IsFlat old) (flat : IsFlat f) (place : IsVmoFor old.vmos v at) (read : vmo ≡ get_or old.vmos at vmo) (released : HasReleased old f v 0 (0 + vmo.count)) where
+  still : IsVmoFor f.vmos v at
+  still = subst (λ (vmos : List Vmo). IsVmoFor vmos v at) (sym released.vmos) place
+
+  -- all its pages are zero
+  page_left : (w x : ℕ) → (zeroed (content_of old) v 0 (0 + vmo.count)).page w x ≡ (without (content_of old) v).page w x
+  unfolding zeroed only
+  page_left w x =
+      let past = page_past (content_of old) w x was.good in
+      let count = pages_read old v at vmo was place read in
+      grind (arith, nat_tests)
+
+  pub content-unlisted : content_of (record f { vmos = remove f.vmos at }) ≡ without (content_of old) v
+  unfolding zeroed only
+  content-unlisted = same_content _ _ (ap (λ (c : Content). c.frames) released.content) (ap (λ (c : Content). c.next) released.content)
+      (λ w. rw (count_in-remove f.vmos at v flat.ascending still.in_range still.is w, released.vmos)) (λ w x. ap (λ (c : Content). c.page w x) released.content ∙ page_left w x)
+
+  pub IsFlat-unlisted : IsFlat (record f { vmos = remove f.vmos at })
+  IsFlat-unlisted = IsFlat-vmos f f.next (remove f.vmos at) (without (content_of old) v) flat
+      (ascending_remove f.vmos at still.in_range flat.ascending) content-unlisted (IsGood-only (content_of old) (λ w. not (w == v)) was.good)

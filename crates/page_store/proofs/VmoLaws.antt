@@ -146,24 +146,19 @@ count_in-remove (vmo ∷ vmos) (suc i) v rises h at w =
 
 -- ---- a VMO with another page count
 
--- the VMO at a place is put in again
-pub record IsVmoAgain (vmos : List Vmo) (i : ℕ) (vmo : Vmo) : Type 0 where
-  pub in_range : i < length vmos
-  pub koid : (d : Vmo) → (get_or vmos i d).koid.0 ≡ vmo.koid.0
-
-pub ascending_set : (vmos : List Vmo) (i : ℕ) (vmo : Vmo) → IsAscending vmos → IsVmoAgain vmos i vmo → IsAscending (set vmos i vmo)
+pub ascending_set : (vmos : List Vmo) (i : ℕ) (vmo : Vmo) → IsAscending vmos → IsVmoFor vmos vmo.koid.0 i → IsAscending (set vmos i vmo)
 ascending_set vmos i vmo s again = record { rise = λ a b d l h. rw (koid-set a d, koid-set b d) (s.rise a b d l (omega (arith, length-set vmos i vmo))) } where
   koid-set : (k : ℕ) (d : Vmo) → (get_or (set vmos i vmo) k d).koid.0 ≡ (get_or vmos k d).koid.0
-  koid-set k d = set_field (λ one. one.koid.0) vmos i vmo k d again.in_range (again.koid d)
+  koid-set k d = set_field (λ one. one.koid.0) vmos i vmo k d again.in_range (again.is d)
 
 -- it has its new count, and the others keep theirs
-pub count_in-set : (vmos : List Vmo) (i : ℕ) (vmo : Vmo) → IsAscending vmos → IsVmoAgain vmos i vmo → (w : ℕ) → count_in w (set vmos i vmo) ≡ cond (w == vmo.koid.0) (Some vmo.count) (count_in w vmos)
+pub count_in-set : (vmos : List Vmo) (i : ℕ) (vmo : Vmo) → IsAscending vmos → IsVmoFor vmos vmo.koid.0 i → (w : ℕ) → count_in w (set vmos i vmo) ≡ cond (w == vmo.koid.0) (Some vmo.count) (count_in w vmos)
 count_in-set [] i vmo rises again w = absurd (let h = again.in_range in omega arith)
 count_in-set (first ∷ vmos) zero vmo rises again w =
-    let koid = again.koid first in
+    let koid = again.is first in
     rw (count_in-cons w vmo vmos, count_in-cons w first vmos) (grind (arith, nat_tests))
 count_in-set (first ∷ vmos) (suc i) vmo rises again w =
     let up : first.koid.0 < (get_or vmos i vmo).koid.0 = rises.rise 0 (suc i) vmo (omega arith) again.in_range in
-    let koid = again.koid vmo in
-    let others = count_in-set vmos i vmo (ascending_rest first vmos rises) (record { in_range = let h = again.in_range in omega arith; koid = again.koid }) w in
+    let koid = again.is vmo in
+    let others = count_in-set vmos i vmo (ascending_rest first vmos rises) (record { in_range = let h = again.in_range in omega arith; is = again.is }) w in
     rw (count_in-cons w first (set vmos i vmo), count_in-cons w first vmos, others) (grind (arith, nat_tests))

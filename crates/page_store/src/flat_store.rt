@@ -198,9 +198,9 @@ impl PageStore for FlatStore {
     fn set_count(&mut self, v: Koid, count: PageNo) {
         let at = find_vmo(&self.vmos, v);
         let old = self.vmos[at].count;
-        if count < old {
-            self.release_pages(v, count, old - count);
-        }
+        // Where the VMO grows, no page leaves it.
+        let kept = count.min(old);
+        self.release_pages(v, kept, old - kept);
         self.vmos[at].count = count;
     }
 

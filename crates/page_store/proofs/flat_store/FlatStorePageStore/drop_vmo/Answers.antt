@@ -1,8 +1,7 @@
 use Rattle.std.proofs.Common.{◌+◌, arith}
 use Rattle.page_store.specs.FlatFields.{flat_of}
 use Rattle.page_store.proofs.FlatLaws.{pages_read}
-use Rattle.page_store.proofs.ReleaseLaws.{HasReleased}
-use Rattle.page_store.proofs.DropLaws.{content-unlisted, IsFlat-unlisted}
+use Rattle.page_store.proofs.ReleaseLaws.{HasReleased, content-unlisted, IsFlat-unlisted}
 use Rattle.page_store.proofs.flat_store.FlatStorePageStore.drop_vmo.Goals as goal
 
 pub release_pages-requires : goal.release_pages-requires
