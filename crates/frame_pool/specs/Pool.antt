@@ -5,7 +5,8 @@ use Rattle.vm_base.specs.declared.limits.TheConstants.{FRAMES}
 use Rattle.vm_base.specs.declared.names.Tag.{Tag}
 use Rattle.vm_base.specs.Entries.{with_key, entry_count}
 
--- the number of frames, the bytes of those that were taken at some time, by tag, and those of them that were given back
+-- the number of frames, the bytes of those that were taken at some time, by tag, and those of them that were given back,
+-- the last one first
 pub record Pool : Type 0 where
   pub frames : ℕ
   pub buffer : List (List ℕ)

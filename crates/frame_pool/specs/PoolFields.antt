@@ -1,5 +1,5 @@
 -- How the fields of the pool are seen, and what holds of them.
-use Rattle.std.specs.Prelude.{◌≤◌}
+use Rattle.std.specs.Prelude.{◌≤◌, reverse}
 use Rattle.std.specs.Vec.{vec_capacity}
 use Rattle.frame_pool.specs.declared.frame_pool.FramePool.TheInside.{Inside}
 use Rattle.frame_pool.specs.Pool.{Pool, IsPool}
@@ -8,7 +8,7 @@ abbrev pub pool_of : Inside → Pool
 pool_of a = record {
   frames = a.frames;
   buffer = a.buffer.items;
-  idle = a.idle.items;
+  idle = reverse a.idle.items;
 }
 
 -- the lists are a pool, and all frames have room in the buffer and in the list of idle ones

@@ -1,11 +1,9 @@
 use Rattle.std.proofs.Common.{◌≡◌, ◌+◌, ◌-◌, ℕ, take, drop, length, ap, ◌∙◌, arith}
-use Rattle.frame_pool.proofs.PoolLaws.{in_buffer, frame_bytes-read}
+use Rattle.frame_pool.proofs.PoolLaws.{in_range, frame_bytes-read}
 use Rattle.frame_pool.proofs.frame_pool.FramePool.read.Goals as goal
 
 pub index-requires : goal.index-requires
-index-requires c =
-    let taken = in_buffer _ c.args.tag.0 (rw (← c.self.view_is) at c.requires.taken) in
-    omega (arith, c.self.inside.buffer.ok.0, taken.below)
+index-requires c = in_range c.self.inside c.args.tag.0 (rw (← c.self.view_is) at c.requires.taken)
 
 pub returns : goal.returns
 returns c =

@@ -1,55 +1,44 @@
-use Rattle.std.proofs.Common.{◌≢◌, length, arith}
+use Rattle.std.proofs.Common.{[], ◌∷◌, ◌++◌, reverse, refl, arith}
 use Rattle.frame_pool.specs.PoolFields.{pool_of}
-use Rattle.frame_pool.proofs.PoolLaws.{idle_below, pushed, popped, all_taken}
+use Rattle.frame_pool.proofs.PoolLaws.{HasTaken, idle_below, pushed, popped, all_taken}
 use Rattle.frame_pool.proofs.frame_pool.FramePool.take.Goals as goal
 
 pub index_mut-requires : goal.index_mut-requires
 index_mut-requires c =
-    let low = idle_below (pool_of c.self.inside) c.pop.new.self.items c.in-Some.idle c.self.invariant.pool
-    (record { is = c.in-Some.ensures.items }) in
-    omega (arith, c.self.inside.buffer.ok.0, low)
+    omega (arith, c.self.inside.buffer.ok.0, idle_below _ _ _ _ c.self.invariant.pool c.in-Some.ensures.items refl)
 
 pub invariant_of-self : goal.invariant_of-self
 invariant_of-self c = record {
-  pool = (popped (pool_of c.self.inside) c.pop.new.self.items c.in-Some.idle c.self.invariant.pool
-      (record { is = c.in-Some.ensures.items }) _).pool;
+  pool = (popped _ _ _ _ c.self.invariant.pool c.in-Some.ensures.items refl _).pool;
   buffer_room = c.self.invariant.buffer_room;
   idle_room = omega (arith, c.self.invariant.idle_room, c.pop.ensures.capacity);
 }
 
 pub returns-in-Some-clause-some : goal.returns-in-Some-clause-some
-returns-in-Some-clause-some c =
-    rw (c.blank_frame.ensures, ← c.self.view_is)
-    (popped (pool_of c.self.inside) c.pop.new.self.items c.in-Some.idle c.self.invariant.pool
-    (record { is = c.in-Some.ensures.items }) _).takes
+returns-in-Some-clause-some c = rw (c.blank_frame.ensures, ← c.self.view_is)
+    (popped _ _ _ _ c.self.invariant.pool c.in-Some.ensures.items refl _).takes
 
 pub returns-then-next-self-clause-none : goal.returns-then-next-self-clause-none
-returns-then-next-self-clause-none c =
-    rw (← c.self.view_is) (all_taken
-    (pool_of c.self.inside) c.pop.new.self.items c.self.invariant.pool c.in_default.ensures.items
+returns-then-next-self-clause-none c = rw (← c.self.view_is) (all_taken (pool_of c.self.inside) _ _
+    c.self.invariant.pool c.in_default.ensures.items refl
     (omega (arith, c.in_default.ensures.cases.0, c.self.inside.idle.ok.0))
     (omega (arith, c.len-next.ensures, c.if-next-self.true, c.self.inside.buffer.ok.0)))
 
-not_full : (c : goal.After-push_reserved) → length c.self.inside.buffer.items ≢ c.self.inside.frames
-not_full c = λ full. c.if-next-self.false (omega (arith, c.len-next.ensures, c.self.inside.buffer.ok.0))
+-- the next frame of the buffer is taken
+fresh : (c : goal.After-push_reserved) → HasTaken (pool_of c.self.inside) (record (pool_of c.self.inside) {
+  buffer = c.self.inside.buffer.items ++ c.blank_frame-2.result ∷ [];
+  idle = reverse c.pop.new.self.items;
+}) c.len-next.result c.blank_frame-2.result
+fresh c = pushed _ _ _ c.self.invariant.pool (omega (arith, c.len-next.ensures, c.self.inside.buffer.ok.0))
+    c.if-next-self.false _ _ c.in_default.ensures.items refl
 
 pub invariant_of-self-2 : goal.invariant_of-self-2
 invariant_of-self-2 c = record {
-  pool = rw c.push_reserved.ensures.items
-      (pushed (pool_of c.self.inside) _ c.self.invariant.pool
-      (not_full c) c.pop.new.self.items c.in_default.ensures.items).pool;
+  pool = rw c.push_reserved.ensures.items (fresh c).pool;
   buffer_room = omega (arith, c.self.invariant.buffer_room, c.push_reserved.ensures.capacity);
   idle_room = omega (arith, c.self.invariant.idle_room, c.pop.ensures.capacity);
 }
 
 pub returns-clause-some : goal.returns-clause-some
 returns-clause-some c =
-    rw (
-      c.push_reserved.ensures.items,
-      c.blank_frame-2.ensures,
-      c.len-next.ensures,
-      c.self.inside.buffer.ok.0,
-      ← c.self.view_is,
-    )
-    (pushed (pool_of c.self.inside) _ c.self.invariant.pool
-    (not_full c) c.pop.new.self.items c.in_default.ensures.items).takes
+    rw (c.push_reserved.ensures.items, ← c.blank_frame-2.ensures, ← c.self.view_is) (fresh c).takes

@@ -1,18 +1,11 @@
-use Rattle.std.proofs.Common.{arith}
-use Rattle.frame_pool.proofs.PoolLaws.{in_buffer, frame_bytes-read, IsPool-written, taken_frames-written}
+use Rattle.frame_pool.proofs.PoolLaws.{in_range, frame_bytes-read, ArePool-written, taken_frames-written}
 use Rattle.frame_pool.proofs.frame_pool.FramePool.write.Goals as goal
 
 pub index_mut-requires : goal.index_mut-requires
-index_mut-requires c =
-    let taken = in_buffer _ c.args.tag.0 (rw (← c.self.view_is) at c.requires.taken) in
-    omega (arith, c.self.inside.buffer.ok.0, taken.below)
+index_mut-requires c = in_range c.self.inside c.args.tag.0 (rw (← c.self.view_is) at c.requires.taken)
 
 pub invariant_of-self : goal.invariant_of-self
-invariant_of-self c = record {
-  pool = IsPool-written _ c.args.tag.0 _ c.self.invariant.pool (rw (← c.self.view_is) at c.requires.taken);
-  buffer_room = c.self.invariant.buffer_room;
-  idle_room = c.self.invariant.idle_room;
-}
+invariant_of-self c = ArePool-written _ c.args.tag.0 _ c.self.invariant (rw (← c.self.view_is) at c.requires.taken)
 
 pub returns-clause-taken : goal.returns-clause-taken
 returns-clause-taken c =
