@@ -11,74 +11,42 @@ use Rattle.std.proofs.lemmas.List.Elements.{All-append}
 use Rattle.std.proofs.lemmas.List.Kept.{AllPairs-cons}
 use Rattle.page_store.specs.declared.rows.Row.{Row}
 use Rattle.page_store.specs.Rows.{row_cmp, find_row, IsBefore, IsSorted, IsRowFor, IsBoundFor, IsWithin, AreRowsWithin}
-use Rattle.page_store.proofs.RowLaws.{page_cmp, cmp_itself, sorted_rest, find_row-at}
+use Rattle.page_store.proofs.RowLaws.{cmp_itself, no_row, sorted_rest, comparisons_rise, find_row-at, find_row-absent}
 
 -- ---- bounds
-
-cmp_before_same : (v p w q x y : ℕ) → page_cmp v p x y ≡ Equal → page_cmp w q x y ≡ Greater → page_cmp v p w q ≡ Less
-cmp_before_same v p w q x y e f = grind (arith, nat_tests)
-
-cmp_behind_same : (v p w q x y : ℕ) → page_cmp v p x y ≡ Equal → page_cmp x y w q ≡ Greater → page_cmp v p w q ≢ Less
-cmp_behind_same v p w q x y e f less = grind (arith, nat_tests)
-
-cmp_equal : (o : Ordering) → o ≡ Equal → o ≢ Less
-cmp_equal o e f = cc
 
 -- a row that is there is its page's bound
 pub bound_at_row : (rows : List Row) → IsSorted rows → (v p i : ℕ) → IsRowFor rows v p i → IsBoundFor rows v p i
 bound_at_row rows s v p i at = let h = at.in_range in record {
   in_range = omega arith;
-  before = λ k d l m.
-      cmp_before_same v p (get_or rows k d).koid.0 (get_or rows k d).page (get_or rows i d).koid.0 (get_or rows i d).page (at.is d) (s.rise k i d m h);
-  behind = λ k d l m. elim (cases_order i k) [
-    | inl same ↦ cmp_equal (row_cmp v p (get_or rows k d)) (ap (λ (j : ℕ). row_cmp v p (get_or rows j d)) (sym same) ∙ at.is d)
-    | inr other ↦ elim other [
-      | inl less ↦ cmp_behind_same v p (get_or rows k d).koid.0 (get_or rows k d).page (get_or rows i d).koid.0 (get_or rows i d).page (at.is d) (s.rise i k d less m)
-      | inr more ↦ absurd (omega arith)
-    ]
-  ];
+  before = λ k d l m. let here = at.is d in let earlier = s.rise k i d m h in grind (arith, nat_tests);
+  behind = λ k d l m less. absurd (let order = rw (at.is d, less) at (comparisons_rise rows s v p i k d l m) in omega arith);
 }
 
 -- ---- the place of two bounds
 
-no_row : Row
-no_row = record { koid = record { 0 = 0 }; page = 0; tag = record { 0 = 0 } }
-
-cmp_between : (v p w q x y : ℕ) → page_cmp v p x y ≡ Less → page_cmp w q x y ≢ Less → page_cmp v p w q ≢ Less → ⊥
-cmp_between v p w q x y e f g = grind (arith, nat_tests)
-
 -- the bound of a page is not behind that of a later page
-pub bounds_order : (rows : List Row) (v p w q i j : ℕ) → IsBoundFor rows v p i → IsBoundFor rows w q j → page_cmp v p w q ≢ Less → i ≤ j
-bounds_order rows v p w q i j first last order = elim (cases_lt j i) [
-  | inr le ↦ le
+bounds_order : (rows : List Row) (v p q i j : ℕ) → IsBoundFor rows v p i → IsBoundFor rows v q j → p ≤ q → i ≤ j
+bounds_order rows v p q i j first last le = elim (cases_lt j i) [
+  | inr order ↦ order
   | inl less ↦
-      let row = get_or rows j no_row in
       let h = first.in_range in
-      absurd (cmp_between v p w q row.koid.0 row.page (first.before j no_row (omega arith) less) (last.behind j no_row (omega arith) (omega arith)) order)
+      let before = first.before j no_row (omega arith) less in
+      let behind = last.behind j no_row (omega arith) (omega arith) in
+      absurd (grind (arith, nat_tests))
 ]
-
-later_page : (v p q : ℕ) → p ≤ q → page_cmp v p v q ≢ Less
-later_page v p q h e = grind (arith, nat_tests)
-
-cmp_within : (v p q w r : ℕ) → page_cmp v p w r ≢ Less → page_cmp v q w r ≡ Less → (w ≡ v) × (p ≤ r) × (r < q)
-cmp_within v p q w r e f = grind (arith, nat_tests)
-
-cmp_before : (v p q w r : ℕ) → page_cmp v p w r ≡ Less → (w ≡ v) × (p ≤ r) × (r < q) → ⊥
-cmp_before v p q w r e f = let a = f.0 in let b = f.1 in grind (arith, nat_tests)
-
-cmp_behind : (v p q w r : ℕ) → page_cmp v q w r ≢ Less → (w ≡ v) × (p ≤ r) × (r < q) → ⊥
-cmp_behind v p q w r e f = let a = f.0 in let b = f.2 in grind (arith, nat_tests)
 
 -- the rows between two bounds of one VMO are those of the pages between
 pub rows_from_bounds : (rows : List Row) (v p q i j : ℕ) → IsBoundFor rows v p i → IsBoundFor rows v q j → p ≤ q → AreRowsWithin rows v p q i j
 rows_from_bounds rows v p q i j first last le =
-    let order = bounds_order rows v p v q i j first last (later_page v p q le) in
+    let order = bounds_order rows v p q i j first last le in
+    let range = last.in_range in
     record {
       order = order;
-      range = last.in_range;
-      before = λ k d l h. cmp_before v p q (get_or rows k d).koid.0 (get_or rows k d).page (first.before k d l h);
-      within = λ k d l h. cmp_within v p q (get_or rows k d).koid.0 (get_or rows k d).page (first.behind k d l (let range = last.in_range in omega arith)) (last.before k d (omega arith) h);
-      behind = λ k d l h. cmp_behind v p q (get_or rows k d).koid.0 (get_or rows k d).page (last.behind k d l h);
+      range = range;
+      before = λ k d l h within. let low = first.before k d l h in let a = within.0 in let b = within.1 in grind (arith, nat_tests);
+      within = λ k d l h. let a = first.behind k d l (omega arith) in let b = last.before k d (omega arith) h in grind (arith, nat_tests);
+      behind = λ k d l h within. let high = last.behind k d l h in let a = within.0 in let b = within.2 in grind (arith, nat_tests);
     }
 
 -- ---- what is found in two parts
@@ -110,13 +78,6 @@ find_row-left v p xs ys none = find_row-append v p xs ys ∙ (ap (λ o. row_or (
 pub find_row-middle : (v p : ℕ) (xs ys zs : List Row) → find_row v p ys ≡ None → find_row v p (xs ++ zs) ≡ find_row v p (xs ++ (ys ++ zs))
 find_row-middle v p xs ys zs none =
     find_row-append v p xs zs ∙ (ap (λ o. row_or (find_row v p xs) o) (sym (find_row-right v p ys zs none)) ∙ sym (find_row-append v p xs (ys ++ zs)))
-
--- where no row is the page's, none is found
-pub find_row-absent : (v p : ℕ) (rows : List Row) → All (λ row. ((row.koid.0 == v) && (row.page == p)) ≡ false) rows → find_row v p rows ≡ None
-unfolding find_row
-find_row-absent v p [] each = refl
-find_row-absent v p (row ∷ rows) each =
-    ap (λ b. cond b (Some row) (find_row v p rows)) (each 0 row (omega arith)) ∙ find_row-absent v p rows (λ k d h. each (suc k) d (omega arith))
 
 -- where all rows are of other VMOs, none is found
 pub find_row-other : (v p : ℕ) (rows : List Row) → All (λ row. row.koid.0 ≢ v) rows → find_row v p rows ≡ None

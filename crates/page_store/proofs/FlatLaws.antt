@@ -17,8 +17,8 @@ use Rattle.page_store.specs.Vmos.{count_in, IsAscending, IsVmoFor}
 use Rattle.page_store.specs.Flat.{Flat, page_of_row, content_of, IsFlat}
 use Rattle.page_store.specs.Shares.{rows_with}
 use Rattle.page_store.proofs.ShareLaws.{rows_with-nil}
-use Rattle.page_store.proofs.RowLaws.{find_row-at, find_row-gap, find_row-nil, sorted_nil}
-use Rattle.page_store.proofs.VmoLaws.{AllBelow, count_in-nil, count_in-at, count_in-push, ascending_nil, ascending_push, below_from_counts}
+use Rattle.page_store.proofs.RowLaws.{find_row-at, find_row-gap, sorted_nil}
+use Rattle.page_store.proofs.VmoLaws.{AllBelow, count_in-at, count_in-push, ascending_nil, ascending_push, below_from_counts}
 
 -- two contents that answer alike are equal
 pub same_content : (c d : Content) → c.frames ≡ d.frames → c.next ≡ d.next → ((v : ℕ) → c.count v ≡ d.count v) → ((v p : ℕ) → c.page v p ≡ d.page v p) → c ≡ d
@@ -71,8 +71,8 @@ abbrev pub empty_flat : Pool → ℕ → Flat
 empty_flat pool s = record { pool = pool; next = 1; vmos = []; rows = []; shares = []; spare = s }
 
 pub content_of-empty : (pool : Pool) (s : ℕ) → content_of (empty_flat pool s) ≡ nothing_of pool
-unfolding nothing
-content_of-empty pool s = same_content _ _ refl refl count_in-nil (λ v p. ap (page_of_row pool) (find_row-nil v p))
+unfolding nothing find_row count_in
+content_of-empty pool s = refl
 
 pub IsFlat-empty : (pool : Pool) (s : ℕ) → pool.frames ≡ 0 → ((t : ℕ) → taken_frames pool t ≡ None) → IsFlat (empty_flat pool s)
 IsFlat-empty pool s none free =

@@ -9,7 +9,7 @@ use Rattle.std.proofs.lemmas.List.{get_or_read}
 use Rattle.vm_base.specs.declared.limits.TheConstants.{PAGE}
 use Rattle.vm_base.specs.Entries.{with_key}
 use Rattle.frame_pool.specs.Pool.{Pool, taken_frames, frame_bytes, taken_count, Takes}
-use Rattle.frame_pool.proofs.PoolLaws.{takes_apart, eqb_flip}
+use Rattle.frame_pool.proofs.PoolLaws.{takes_apart}
 use Rattle.vm_base.proofs.EntryLaws.{with_key-same, with_key-other}
 use Rattle.vm_model.specs.Contents.Content.{Page, shown, pages_of, in_use, used, is_sole_page, sole, hold, IsGood}
 use Rattle.vm_base.specs.Pages.{zeros}
@@ -21,7 +21,7 @@ use Rattle.page_store.specs.Rows.{find_row, IsSorted, IsRowFor, IsGapFor}
 use Rattle.page_store.specs.Vmos.{count_in, IsAscending}
 use Rattle.page_store.specs.Flat.{Flat, page_of_row, content_of, IsFlat}
 use Rattle.page_store.specs.Shares.{rows_with}
-use Rattle.page_store.proofs.RowLaws.{IsRowAgain, page_cmp, cmp_itself, cmp_same, find_row-insert, sorted_insert, find_row-set, sorted_set}
+use Rattle.page_store.proofs.RowLaws.{no_row, IsRowAgain, page_cmp, cmp_itself, cmp_same, find_row-insert, sorted_insert, find_row-set, sorted_set}
 use Rattle.page_store.proofs.ShareLaws.{set_at, rows_with-insert, rows_with-set}
 use Rattle.page_store.proofs.FlatLaws.{same_content, page_from, some_page, page_at_row, page_in_gap}
 use Rattle.page_store.proofs.FlatFrames.{free_in_use, used_taken, IsFrameOf-held, sole_share, share_below}
@@ -78,7 +78,7 @@ taken_again n m false false e h = grind (arith, nat_tests)
 
 is_some-with_key : (m : ℕ → Option (List ℕ)) (t : ℕ) (bytes : List ℕ) (u : ℕ) → is_some (with_key m t bytes u) ≡ cond (t == u) true (is_some (m u))
 unfolding with_key
-is_some-with_key m t bytes u = go (u == t) (m u) ∙ ap (λ b. cond b true (is_some (m u))) (eqb_flip u t) where
+is_some-with_key m t bytes u = go (u == t) (m u) ∙ ap (λ b. cond b true (is_some (m u))) (let flip : (u == t) ≡ (t == u) = grind (arith, nat_tests) in flip) where
   go : (b : Bool) (o : Option (List ℕ)) → is_some (cond b (Some bytes) o) ≡ cond b true (is_some o)
   go true o = refl
   go false o = refl
@@ -323,7 +323,6 @@ pub held_room : (f : Flat) (v p i : ℕ) → IsRowFor f.rows v p i → (sole (co
     (w q : ℕ) → IsRowFor f.rows w q i → (sole (content_of f) w q ≡ true) ⊎ (used (content_of f) < (content_of f).frames)
 held_room f v p i at (inr room) w q other = inr room.1
 held_room f v p i at (inl alone) w q other =
-    let some : Row = record { koid = record { 0 = 0 }; page = 0; tag = record { 0 = 0 } } in
-    let here = cmp_same v p (get_or f.rows i some).koid.0 (get_or f.rows i some).page (at.is some) in
-    let there = cmp_same w q (get_or f.rows i some).koid.0 (get_or f.rows i some).page (other.is some) in
+    let here = cmp_same v p (get_or f.rows i no_row).koid.0 (get_or f.rows i no_row).page (at.is no_row) in
+    let there = cmp_same w q (get_or f.rows i no_row).koid.0 (get_or f.rows i no_row).page (other.is no_row) in
     inl (subst (λ (u : ℕ). sole (content_of f) u q ≡ true) (sym here.0 ∙ there.0) (subst (λ (r : ℕ). sole (content_of f) v r ≡ true) (sym here.1 ∙ there.1) alone))

@@ -9,27 +9,9 @@ use Rattle.vm_model.specs.Contents.Content.{Page, Content}
 use Rattle.page_store.specs.declared.rows.Row.{Row}
 use Rattle.page_store.specs.Rows.{IsBoundFor}
 use Rattle.page_store.specs.Flat.{Flat, content_of, IsFlat}
-use Rattle.page_store.proofs.RowLaws.{page_cmp}
+use Rattle.page_store.proofs.RowLaws.{no_row}
 use Rattle.page_store.proofs.FlatLaws.{page_from}
-use Rattle.page_store.proofs.ShareLaws.{some_row}
 use Rattle.page_store.proofs.ViewLaws.{IsRowOf, row_of_page, page_of_each}
-
--- ---- the order of pages
-
-not_behind : (v p w q : ℕ) → page_cmp v p w q ≢ Less → w ≡ v → p ≤ q
-not_behind v p w q e same = grind (arith, nat_tests)
-
-not_before : (v p w q : ℕ) → page_cmp v p w q ≡ Less → w ≡ v → p ≤ q → ⊥
-not_before v p w q e same h = grind (arith, nat_tests)
-
-later_in_vmo : (v p w q : ℕ) → page_cmp v p w q ≡ Greater → v ≡ w → p < q
-later_in_vmo v p w q e same = grind (arith, nat_tests)
-
-no_vmo_between : (v p w q : ℕ) → page_cmp v p w q ≢ Less → v ≤ w
-no_vmo_between v p w q e = grind (arith, nat_tests)
-
-no_vmo_behind : (v p w q : ℕ) → page_cmp v p w q ≡ Greater → v ≤ w
-no_vmo_behind v p w q e = grind (arith, nat_tests)
 
 -- the page is the first of v that is held, from page `from` on
 pub record IsFirstHeld (c : Content) (v from page : ℕ) : Type 0 where
@@ -45,10 +27,10 @@ module _ (f : Flat) (v from i : ℕ) (flat : IsFlat f) (bound : IsBoundFor f.row
   row_past p t j h row = elim (cases_lt j i) [
     | inr le ↦ le
     | inl less ↦
-        let d = some_row f.rows j row.in_range in
-        let at = get_or f.rows j d in
-        let page : at.page ≡ p = row.page d in
-        absurd (not_before v from at.koid.0 at.page (bound.before j d (omega arith) less) (row.koid d) (omega arith))
+        let before = bound.before j no_row (omega arith) less in
+        let koid = row.koid no_row in
+        let page = row.page no_row in
+        absurd (grind (arith, nat_tests))
   ]
 
   -- what holds of no row that is the page's holds of no held page
@@ -67,15 +49,16 @@ module _ (f : Flat) (v from i : ℕ) (flat : IsFlat f) (bound : IsBoundFor f.row
       let there : (content_of f).page v row.page ≡ Some (page_from f.pool at) =
       ap (λ (w : ℕ). (content_of f).page w row.page) (sym at_koid) ∙ (ap (λ (q : ℕ). (content_of f).page at.koid.0 q) (sym at_page) ∙ page_of_each f flat.sorted i row h) in
       record {
-        order = let le = not_behind v from at.koid.0 at.page (bound.behind i row (omega arith) h) at_koid in omega arith;
+        order = let behind = bound.behind i row (omega arith) h in grind (arith, nat_tests);
         held = ap is_some there;
         gap = λ p low high. none_if p (λ t j is.
             let past = row_past p t j low is in
             let page : (get_or f.rows j row).page ≡ p = is.page row in
             elim (cases_lt i j) [
               | inl less ↦
-                  let later = later_in_vmo at.koid.0 at.page (get_or f.rows j row).koid.0 (get_or f.rows j row).page (flat.sorted.rise i j row less is.in_range) (at_koid ∙ sym (is.koid row)) in
-                  omega arith
+                  let later = flat.sorted.rise i j row less is.in_range in
+                  let koid = is.koid row in
+                  grind (arith, nat_tests)
               | inr le ↦
                   let same : j ≡ i = omega arith in
                   let here : (get_or f.rows j row).page ≡ at.page = ap (λ (k : ℕ). (get_or f.rows k row).page) same in
@@ -88,18 +71,12 @@ module _ (f : Flat) (v from i : ℕ) (flat : IsFlat f) (bound : IsBoundFor f.row
   none_past apart p low = none_if p (λ t j is.
       let past = row_past p t j low is in
       let range = is.in_range in
-      let d = some_row f.rows j range in
-      let at = get_or f.rows i d in
       let h : i < length f.rows = omega arith in
-      let above = no_vmo_between v from at.koid.0 at.page (bound.behind i d (omega arith) h) in
-      let koid : (get_or f.rows j d).koid.0 ≡ v = is.koid d in
-      apart d h (elim (cases_lt i j) [
-        | inl less ↦
-            let below = no_vmo_behind at.koid.0 at.page (get_or f.rows j d).koid.0 (get_or f.rows j d).page (flat.sorted.rise i j d less range) in
-            omega arith
-        | inr le ↦
-            let same : i ≡ j = omega arith in
-            ap (λ (k : ℕ). (get_or f.rows k d).koid.0) same ∙ koid
+      let above = bound.behind i no_row (omega arith) h in
+      let koid = is.koid no_row in
+      apart no_row h (elim (cases_lt i j) [
+        | inl less ↦ let below = flat.sorted.rise i j no_row less range in grind (arith, nat_tests)
+        | inr le ↦ let same : i ≡ j = omega arith in ap (λ (k : ℕ). (get_or f.rows k no_row).koid.0) same ∙ koid
       ]))
 
   pub next_past : length f.rows ≤ i → (p : ℕ) → from ≤ p → (content_of f).page v p ≡ None

@@ -5,11 +5,10 @@ use Rattle.std.specs.List.Sorted.{IsNonDecreasingBy, IsSearchInRange, IsBinarySe
 use Rattle.std.specs.declared.cmp.Ordering.{Ordering}
 use Rattle.std.specs.declared.cmp.Ordering.TheVariants.{Less, Equal, Greater}
 use Rattle.std.specs.Ordering.{nat_cmp, ordering_then, ordering_index}
-use Rattle.std.proofs.lemmas.Bool.{cases_order, cases_eq}
+use Rattle.std.proofs.lemmas.Bool.{cases_order, cases_eq, cases_lt}
 use Rattle.std.proofs.lemmas.Bool.Decides.{nat_tests}
 use Rattle.std.proofs.lemmas.List.Elements.{All-cons}
 use Rattle.std.proofs.lemmas.List.Kept.{AllPairs-cons}
-use Rattle.frame_pool.proofs.PoolLaws.{eqb_flip}
 use Rattle.page_store.specs.declared.rows.Row.{Row}
 use Rattle.page_store.specs.Rows.{row_cmp, find_row, IsBefore, IsSorted, IsRowFor, IsGapFor}
 
@@ -24,37 +23,11 @@ cmp_same v p w q e = grind (arith, nat_tests)
 pub cmp_itself : (v p : ℕ) → page_cmp v p v p ≡ Equal
 cmp_itself v p = grind (arith, nat_tests)
 
-pub cmp_apart_less : (v p w q : ℕ) → page_cmp v p w q ≡ Less → ((w == v) && (q == p)) ≡ false
-cmp_apart_less v p w q e = grind (arith, nat_tests)
-
-pub cmp_apart_greater : (v p w q : ℕ) → page_cmp v p w q ≡ Greater → ((w == v) && (q == p)) ≡ false
-cmp_apart_greater v p w q e = grind (arith, nat_tests)
-
-pub cmp_flip : (v p w q : ℕ) → page_cmp v p w q ≡ Less → page_cmp w q v p ≡ Greater
-cmp_flip v p w q e = grind (arith, nat_tests)
-
--- a page that is behind another stands no lower to a third
-pub cmp_rises : (v p w q x y : ℕ) → page_cmp w q x y ≡ Greater → ordering_index (page_cmp v p w q) ≤ ordering_index (page_cmp v p x y)
-cmp_rises v p w q x y e = grind (arith, nat_tests)
-
 -- ---- rows in a list
 
--- a row that is not the page's is passed over
-find_row-skip : (v p : ℕ) (row : Row) (rows : List Row) → ((row.koid.0 == v) && (row.page == p)) ≡ false → find_row v p (row ∷ rows) ≡ find_row v p rows
-unfolding find_row
-find_row-skip v p row rows e = ap (λ b. cond b (Some row) (find_row v p rows)) e
-
-find_row-here : (v p : ℕ) (row : Row) (rows : List Row) → ((row.koid.0 == v) && (row.page == p)) ≡ true → find_row v p (row ∷ rows) ≡ Some row
-unfolding find_row
-find_row-here v p row rows e = ap (λ b. cond b (Some row) (find_row v p rows)) e
-
-pub find_row-nil : (v p : ℕ) → find_row v p [] ≡ None
-unfolding find_row
-find_row-nil v p = refl
-
-find_row-cons : (v p : ℕ) (row : Row) (rows : List Row) → find_row v p (row ∷ rows) ≡ cond ((row.koid.0 == v) && (row.page == p)) (Some row) (find_row v p rows)
-unfolding find_row
-find_row-cons v p row rows = refl
+-- a row to read a list with
+abbrev pub no_row : Row
+no_row = record { koid = record { 0 = 0 }; page = 0; tag = record { 0 = 0 } }
 
 -- the rows behind the first are sorted too
 pub sorted_rest : (row : Row) (rows : List Row) → IsSorted (row ∷ rows) → IsSorted rows
@@ -80,52 +53,42 @@ rises_from f xs later i j d le h = elim (cases_order i j) [
 
 -- so a binary search may be made
 pub comparisons_rise : (rows : List Row) → IsSorted rows → (v p : ℕ) → IsNonDecreasingBy (λ row. ordering_index (row_cmp v p row)) rows
-comparisons_rise rows s v p = rises_from (λ row. ordering_index (row_cmp v p row)) rows (λ i j d less h.
-    cmp_rises v p (get_or rows i d).koid.0 (get_or rows i d).page (get_or rows j d).koid.0 (get_or rows j d).page (s.rise i j d less h))
+comparisons_rise rows s v p = rises_from (λ row. ordering_index (row_cmp v p row)) rows (λ i j d less h. let later = s.rise i j d less h in grind (arith, nat_tests))
 
 -- the row that stands at the page's place is found
 pub find_row-at : (rows : List Row) → IsSorted rows → (v p i : ℕ) → IsRowFor rows v p i → (d : Row) → find_row v p rows ≡ Some (get_or rows i d)
+unfolding find_row
 find_row-at [] s v p i at d = absurd (let h = at.in_range in omega arith)
-find_row-at (row ∷ rows) s v p zero at d =
-    let same = at.is d in
-    find_row-here v p row rows (grind (arith, nat_tests))
+find_row-at (row ∷ rows) s v p zero at d = let same = at.is d in grind (arith, nat_tests)
 find_row-at (row ∷ rows) s v p (suc i) at d =
     let h = at.in_range in
     let same = cmp_same v p (get_or rows i d).koid.0 (get_or rows i d).page (at.is d) in
-    let behind : page_cmp row.koid.0 row.page (get_or rows i d).koid.0 (get_or rows i d).page ≡ Greater =
-    s.rise 0 (suc i) d (omega arith) h in
-    let apart : ((row.koid.0 == v) && (row.page == p)) ≡ false = grind (arith, nat_tests) in
-    find_row-skip v p row rows apart
-    ∙ find_row-at rows (sorted_rest row rows s) v p i (record { in_range = omega arith; is = at.is }) d
+    let behind : page_cmp row.koid.0 row.page (get_or rows i d).koid.0 (get_or rows i d).page ≡ Greater = s.rise 0 (suc i) d (omega arith) h in
+    rw (find_row-at rows (sorted_rest row rows s) v p i (record { in_range = omega arith; is = at.is }) d) (grind (arith, nat_tests))
 
 -- where no row is the page's, none is found
-pub find_row-none : (rows : List Row) (v p : ℕ) → ((k : ℕ) → k < length rows → (d : Row) → ((row_cmp v p (get_or rows k d) ≡ Less) ⊎ (row_cmp v p (get_or rows k d) ≡ Greater))) → find_row v p rows ≡ None
-find_row-none [] v p each = find_row-nil v p
-find_row-none (row ∷ rows) v p each =
-    let apart : ((row.koid.0 == v) && (row.page == p)) ≡ false = let here = each 0 (omega arith) row in grind (arith, nat_tests) in
-    find_row-skip v p row rows apart ∙ find_row-none rows v p (λ k h d. each (suc k) (omega arith) d)
+pub find_row-absent : (v p : ℕ) (rows : List Row) → All (λ row. ((row.koid.0 == v) && (row.page == p)) ≡ false) rows → find_row v p rows ≡ None
+unfolding find_row
+find_row-absent v p [] each = refl
+find_row-absent v p (row ∷ rows) each =
+    ap (λ b. cond b (Some row) (find_row v p rows)) (each 0 row (omega arith)) ∙ find_row-absent v p rows (λ k d h. each (suc k) d (omega arith))
 
 pub find_row-gap : (rows : List Row) (v p i : ℕ) → IsGapFor rows v p i → find_row v p rows ≡ None
-find_row-gap rows v p i gap = find_row-none rows v p (λ k h d. elim (cases_order k i) [
-  | inl same ↦ inr (gap.behind k d (omega arith) h)
-  | inr other ↦ elim other [ inl less ↦ inl (gap.before k d (omega arith) less) | inr more ↦ inr (gap.behind k d (omega arith) h) ]
+find_row-gap rows v p i gap = find_row-absent v p rows (λ k d h. elim (cases_lt k i) [
+  | inl low ↦ let less = gap.before k d (omega arith) low in grind (arith, nat_tests)
+  | inr le ↦ let more = gap.behind k d le h in grind (arith, nat_tests)
 ])
-
-swapped_row : (w q : ℕ) (row : Row) → ((row.koid.0 == w) && (row.page == q)) ≡ ((w == row.koid.0) && (q == row.page))
-swapped_row w q row = ap (λ b. b && (row.page == q)) (eqb_flip row.koid.0 w) ∙ ap (λ b. (w == row.koid.0) && b) (eqb_flip row.page q)
 
 -- a new row in the gap is found at its page, and at every other page what was found
 pub find_row-insert : (rows : List Row) (i : ℕ) (row : Row) → AllWithin (λ other. row_cmp row.koid.0 row.page other ≡ Less) rows 0 i → (w q : ℕ) →
     find_row w q (insert rows i row) ≡ cond ((w == row.koid.0) && (q == row.page)) (Some row) (find_row w q rows)
-find_row-insert rows zero row before w q =
-    rw (find_row-cons w q row rows) (grind (arith, nat_tests))
-find_row-insert [] (suc i) row before w q =
-    find_row-cons w q row []
-    ∙ ap (λ b. cond b (Some row) (find_row w q [])) (swapped_row w q row)
+unfolding find_row
+find_row-insert rows zero row before w q = grind (arith, nat_tests)
+find_row-insert [] (suc i) row before w q = grind (arith, nat_tests)
 find_row-insert (first ∷ rows) (suc i) row before w q =
     let rest = find_row-insert rows i row (λ k d l h. before (suc k) d (omega arith) (omega arith)) w q in
     let less : page_cmp row.koid.0 row.page first.koid.0 first.page ≡ Less = before 0 first (omega arith) (omega arith) in
-    rw (find_row-cons w q first (insert rows i row), find_row-cons w q first rows, rest) (grind (arith, nat_tests))
+    rw rest (grind (arith, nat_tests))
 
 all_insert : {X : Type 0} (P : X → Type 0) (xs : List X) (i : ℕ) (x : X) → All P xs → P x → All P (insert xs i x)
 all_insert P xs zero x all here = All-cons P x xs here all
@@ -143,7 +106,7 @@ sorted_insert (first ∷ rows) (suc i) row s gap =
       before = λ k d l m. gap.before (suc k) d (omega arith) (omega arith);
       behind = λ k d l m. gap.behind (suc k) d (omega arith) (omega arith);
     }) in
-    let here = cmp_flip row.koid.0 row.page first.koid.0 first.page (gap.before 0 first (omega arith) (omega arith)) in
+    let here : IsBefore first row = let less = gap.before 0 first (omega arith) (omega arith) in grind (arith, nat_tests) in
     record { rise = AllPairs-cons IsBefore first (insert rows i row) (all_insert (IsBefore first) rows i row (λ k d l. s.rise 0 (suc k) d (omega arith) (omega arith)) here) rest.rise }
 
 -- ---- a row with another frame
@@ -166,18 +129,19 @@ sorted_set rows i row s again = record {
 -- it is found at its page, and at every other page what was found
 pub find_row-set : (rows : List Row) (i : ℕ) (row : Row) → IsSorted rows → IsRowAgain rows i row → (w q : ℕ) →
     find_row w q (set rows i row) ≡ cond ((w == row.koid.0) && (q == row.page)) (Some row) (find_row w q rows)
+unfolding find_row
 find_row-set [] i row s again w q = absurd (let h = again.in_range in omega arith)
 find_row-set (first ∷ rows) zero row s again w q =
     let koid = again.koid first in
     let page = again.page first in
-    rw (find_row-cons w q row rows, find_row-cons w q first rows) (grind (arith, nat_tests))
+    grind (arith, nat_tests)
 find_row-set (first ∷ rows) (suc i) row s again w q =
     let h = again.in_range in
     let behind : page_cmp first.koid.0 first.page (get_or rows i first).koid.0 (get_or rows i first).page ≡ Greater = s.rise 0 (suc i) first (omega arith) h in
     let koid = again.koid first in
     let page = again.page first in
     let other = find_row-set rows i row (sorted_rest first rows s) (record { in_range = omega arith; koid = again.koid; page = again.page }) w q in
-    rw (find_row-cons w q first (set rows i row), find_row-cons w q first rows, other) (grind (arith, nat_tests))
+    rw other (grind (arith, nat_tests))
 
 -- ---- what a binary search answers
 

@@ -10,6 +10,7 @@ use Rattle.vm_base.specs.Entries.{without_key}
 use Rattle.vm_base.proofs.EntryLaws.{without_key-same, without_key-other}
 use Rattle.frame_pool.specs.Pool.{Pool, taken_frames}
 use Rattle.page_store.specs.declared.rows.Row.{Row}
+use Rattle.page_store.proofs.RowLaws.{no_row}
 use Rattle.page_store.specs.Shares.{rows_with, row_in, IsFirstWith, Shares, AreTakenWhereShared, Releases}
 
 -- ---- how many rows have a frame
@@ -83,11 +84,6 @@ pub rows_with-range : (t : ℕ) (rows : List Row) (from end : ℕ) → from ≤ 
 rows_with-range t rows from end le =
     let all : rows_with t rows ≡ rows_with t (take from rows ++ (slice_range rows from end ++ drop end rows)) = ap (rows_with t) (split_between rows from end le) in
     omega (arith, all, rows_with-append t (take from rows) (slice_range rows from end ++ drop end rows), rows_with-append t (slice_range rows from end) (drop end rows))
-
--- a row of a list that has one
-pub some_row : (rows : List Row) (i : ℕ) → i < length rows → Row
-some_row [] i h = absurd (omega arith)
-some_row (row ∷ rows) i h = row
 
 -- where one counts, there is one
 pub rows_with-found : (t : ℕ) (rows : List Row) → 0 < rows_with t rows → (i : ℕ) × (i < length rows) × ((d : Row) → (get_or rows i d).tag.0 ≡ t)
@@ -262,5 +258,5 @@ module _ (rows : List Row) (i : ℕ) (d : Row) (old now : List ℕ) (before pool
 
 pub first_with_is : (t : ℕ) (rows : List Row) (r : Option ℕ) → 0 < rows_with t rows → MatchOption r (AllWithin (λ row. row.tag.0 ≢ t) rows 0 (length rows)) (λ i. (i < length rows) × HoldsAt (λ row. row.tag.0 ≡ t) rows i × AllWithin (λ row. row.tag.0 ≢ t) rows 0 i) →
     IsFirstWith rows t (unwrap_or r 0)
-first_with_is t rows None h none = let found = rows_with-found t rows h in let d = some_row rows found.0 found.1 in absurd (none found.0 d (omega arith) found.1 (found.2 d))
+first_with_is t rows None h none = let found = rows_with-found t rows h in absurd (none found.0 no_row (omega arith) found.1 (found.2 no_row))
 first_with_is t rows (Some i) h at = record { in_range = at.0; is = at.1; before = at.2 }

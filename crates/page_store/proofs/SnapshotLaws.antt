@@ -19,7 +19,6 @@ use Rattle.page_store.specs.Rows.{find_row, IsSorted, AreRowsWithin}
 use Rattle.page_store.specs.Vmos.{count_in, IsAscending}
 use Rattle.page_store.specs.Shares.{rows_with, row_in, Shares, AreTakenWhereShared}
 use Rattle.page_store.specs.Flat.{Flat, page_of_row, content_of, IsFlat}
-use Rattle.page_store.proofs.RowLaws.{page_cmp}
 use Rattle.page_store.proofs.BoundLaws.{sorted_append, sorted_range, find_row-other, find_row-left, find_row-right, find_row-range, find_row-outside, range_within}
 use Rattle.page_store.proofs.ShareLaws.{rows_with-append, rows_with-map, rows_with-range}
 use Rattle.page_store.proofs.VmoLaws.{ascending_push, count_in-push}
@@ -61,9 +60,6 @@ find_row-elsewhere koid first w p rows apart = find_row-other w p (map (row_in k
     let is : (get_or (map (row_in koid first) rows) k d).koid.0 ≡ koid = ap (λ (r : Row). r.koid.0) (get_or-map (row_in koid first) rows k d d (omega (arith, length-map rows (row_in koid first)))) in
     apart (sym same ∙ is))
 
-cmp_moved : (koid v first w q x y : ℕ) → w ≡ v → first ≤ q → x ≡ v → first ≤ y → page_cmp w q x y ≡ Greater → page_cmp koid (q - first) koid (y - first) ≡ Greater
-cmp_moved koid v first w q x y e h f l behind = grind (arith, nat_tests)
-
 -- the new rows are sorted
 sorted_moved : (koid v first : ℕ) (rows : List Row) → AreFrom v first rows → IsSorted rows → IsSorted (map (row_in koid first) rows)
 sorted_moved koid v first rows from s = record {
@@ -72,11 +68,8 @@ sorted_moved koid v first rows from s = record {
       let a = from i d (omega arith) in
       let b = from j d (omega arith) in
       rw (get_or-map (row_in koid first) rows i d d (omega arith), get_or-map (row_in koid first) rows j d d (omega arith))
-      (cmp_moved koid v first (get_or rows i d).koid.0 (get_or rows i d).page (get_or rows j d).koid.0 (get_or rows j d).page a.0 a.1 b.0 b.1 (s.rise i j d l (omega arith)));
+      (let later = s.rise i j d l (omega arith) in grind (arith, nat_tests));
 }
-
-cmp_new : (v p koid q : ℕ) → v < koid → page_cmp v p koid q ≡ Greater
-cmp_new v p koid q h = grind (arith, nat_tests)
 
 -- ---- the store with a snapshot
 
@@ -146,7 +139,7 @@ module _ (f g : Flat) (v first seen pages from end : ℕ) (flat : IsFlat f) (new
       subst IsSorted (sym new.rows) (sorted_append f.rows (map (row_in f.next first) seen_rows) flat.sorted
       (sorted_moved f.next v first seen_rows seen_from (sorted_range f.rows from end flat.sorted (new.are).order (new.are).range))
       (λ i j d l h. rw (get_or-map (row_in f.next first) seen_rows j d d (omega (arith, length-map seen_rows (row_in f.next first))))
-      (cmp_new (get_or f.rows i d).koid.0 (get_or f.rows i d).page f.next ((get_or seen_rows j d).page - first) (row_koids f flat.sorted flat.good i d l))))
+      (let low = row_koids f flat.sorted flat.good i d l in grind (arith, nat_tests))))
 
   snapshot_counts : (t : ℕ) → get_or g.shares t 0 ≡ rows_with t g.rows
   snapshot_counts t =

@@ -5,7 +5,7 @@ use Rattle.std.specs.Prelude.{nat_lt, is_some}
 use Rattle.std.specs.List.{All}
 use Rattle.std.specs.Cmp.{both_ways}
 use Rattle.std.specs.declared.cmp.Ordering.TheVariants.{Greater}
-use Rattle.std.proofs.lemmas.Bool.{cases_Bool, cases_order, eqb-true, eq-eqb, ne_eqb, and_parts, and_from, and_left, and_right, or_cases, or_left, or_right, false_from_ne_true}
+use Rattle.std.proofs.lemmas.Bool.{cases_Bool, cases_lt, eqb-true, eq-eqb, ne_eqb, and_parts, and_from, and_left, and_right, or_cases, or_left, or_right, false_from_ne_true}
 use Rattle.std.proofs.lemmas.Bool.Decides.{nat_tests}
 use Rattle.frame_pool.specs.Pool.{taken_frames}
 use Rattle.vm_base.specs.Search.{count_below}
@@ -19,10 +19,10 @@ use Rattle.page_store.specs.Rows.{find_row, IsSorted}
 use Rattle.page_store.specs.Shares.{rows_with, IsFirstWith}
 use Rattle.page_store.specs.Pages.{IsShown}
 use Rattle.page_store.specs.Flat.{Flat, page_of_row, content_of, IsFlat}
-use Rattle.page_store.proofs.RowLaws.{page_cmp}
+use Rattle.page_store.proofs.RowLaws.{no_row}
 use Rattle.page_store.proofs.FlatLaws.{page_from, page_of_row_found}
 use Rattle.page_store.proofs.BoundLaws.{find_row-found, find_row-each}
-use Rattle.page_store.proofs.ShareLaws.{rows_with-nil, rows_with-cons, rows_with-at, some_row}
+use Rattle.page_store.proofs.ShareLaws.{rows_with-nil, rows_with-cons, rows_with-at}
 use Rattle.page_store.proofs.VmoLaws.{below_from_counts, count_vmos}
 
 -- ---- how many VMOs show a frame
@@ -136,9 +136,6 @@ count_shows n t (row ∷ rows) low apart =
 
 -- ---- the viewers of a frame
 
-same_page_cmp : (v p w q : ℕ) → v ≡ w → p ≡ q → page_cmp v p w q ≡ Greater → ⊥
-same_page_cmp v p w q e f h = grind (arith, nat_tests)
-
 module _ (f : Flat) (sorted : IsSorted f.rows) (good : IsGood (content_of f)) where
   -- the koids of the rows are below the next, and their tags below the number of frames
   pub row_koids : All (λ row. row.koid.0 < f.next) f.rows
@@ -159,7 +156,8 @@ module _ (f : Flat) (sorted : IsSorted f.rows) (good : IsGood (content_of f)) wh
         let there : (content_of f).page first.koid.0 last.page ≡ Some (page_from f.pool last) = ap (λ (v : ℕ). (content_of f).page v last.page) koid ∙ page_of_each f sorted j d h in
         let page : first.page ≡ last.page =
         good.apart first.koid.0 first.page last.page (page_from f.pool first) (page_from f.pool last) (page_of_each f sorted i d (omega arith)) there tag in
-        same_page_cmp first.koid.0 first.page last.koid.0 last.page koid page (sorted.rise i j d l h);
+        let later = sorted.rise i j d l h in
+        grind (arith, nat_tests);
   }
 
   -- a VMO shows the frames of its rows
@@ -168,14 +166,12 @@ module _ (f : Flat) (sorted : IsSorted f.rows) (good : IsGood (content_of f)) wh
       (λ shows.
       let page = views_found (content_of f) t v shows in
       let row = row_of_page f v page.0 page.1 page.3 in
-      let d = some_row f.rows row.0 (row.1).in_range in
-      shows_in-at t v f.rows row.0 d (row.1).in_range ((row.1).koid d) ((row.1).tag d ∙ page.4))
+      shows_in-at t v f.rows row.0 no_row (row.1).in_range ((row.1).koid no_row) ((row.1).tag no_row ∙ page.4))
       (λ shows.
       let found = shows_in-found t v f.rows shows in
-      let d = some_row f.rows found.0 found.1 in
-      let row = get_or f.rows found.0 d in
-      let at : (content_of f).page v row.page ≡ Some (page_from f.pool row) = ap (λ (w : ℕ). (content_of f).page w row.page) (sym (found.2 d)) ∙ page_of_each f sorted found.0 d found.1 in
-      views_held (content_of f) t v row.page (page_from f.pool row) good at (found.3 d))
+      let row = get_or f.rows found.0 no_row in
+      let at : (content_of f).page v row.page ≡ Some (page_from f.pool row) = ap (λ (w : ℕ). (content_of f).page w row.page) (sym (found.2 no_row)) ∙ page_of_each f sorted found.0 no_row found.1 in
+      views_held (content_of f) t v row.page (page_from f.pool row) good at (found.3 no_row))
 
   pub viewers-rows : (t : ℕ) → viewers (content_of f) t ≡ rows_with t f.rows
   unfolding viewers
@@ -203,11 +199,7 @@ vmos_of-content f flat = count_vmos f.next f.vmos flat.ascending (below_from_cou
 pub rows_with-shown : (f : Flat) (t : ℕ) → IsShown (content_of f) t → 0 < rows_with t f.rows
 rows_with-shown f t shown =
     let at = row_of_page f shown.v shown.p shown.held (shown.shows).page in
-    let d = some_row f.rows at.0 (at.1).in_range in
-    rows_with-at t f.rows at.0 d (at.1).in_range ((at.1).tag d ∙ (shown.shows).tag)
-
-cmp_koids : (v p w q : ℕ) → page_cmp v p w q ≡ Greater → v ≤ w
-cmp_koids v p w q e = grind (arith, nat_tests)
+    rows_with-at t f.rows at.0 no_row (at.1).in_range ((at.1).tag no_row ∙ (shown.shows).tag)
 
 -- the first row with it is the least viewer's
 pub least_row : (f : Flat) (t i : ℕ) (row : Row) → IsFlat f → IsFirstWith f.rows t i → row ≡ get_or f.rows i row → IsLeastViewer (content_of f) t row.koid.0
@@ -219,13 +211,11 @@ least_row f t i row flat first read = record {
       let found = shows_in-found t w f.rows shows in
       let koid = found.2 row in
       let mine : row.koid.0 ≡ (get_or f.rows i row).koid.0 = ap (λ (r : Row). r.koid.0) read in
-      elim (cases_order found.0 i) [
-        | inl same ↦ let is : (get_or f.rows found.0 row).koid.0 ≡ (get_or f.rows i row).koid.0 = ap (λ (k : ℕ). (get_or f.rows k row).koid.0) same in absurd (omega arith)
-        | inr other ↦ elim other [
-          | inl less ↦ first.before found.0 row (omega arith) less (found.3 row)
-          | inr more ↦
-              let le = cmp_koids (get_or f.rows i row).koid.0 (get_or f.rows i row).page (get_or f.rows found.0 row).koid.0 (get_or f.rows found.0 row).page (flat.sorted.rise i found.0 row more found.1) in
-              absurd (omega arith)
+      elim (cases_lt found.0 i) [
+        | inl less ↦ first.before found.0 row (omega arith) less (found.3 row)
+        | inr le ↦ elim (cases_lt i found.0) [
+          | inl more ↦ let later = flat.sorted.rise i found.0 row more found.1 in absurd (grind (arith, nat_tests))
+          | inr ge ↦ let same : found.0 ≡ i = omega arith in absurd (let is = ap (λ (k : ℕ). (get_or f.rows k row).koid.0) same in omega arith)
         ]
       ]);
 }

@@ -5,7 +5,7 @@ use Rattle.std.specs.List.{remove}
 use Rattle.std.specs.List.Sorted.{IsSearchInRange, IsBinarySearchResult}
 use Rattle.std.specs.declared.cmp.Ordering.TheVariants.{Less, Equal, Greater}
 use Rattle.std.specs.Ordering.{nat_cmp, ordering_index}
-use Rattle.std.proofs.lemmas.Bool.{cases_order, ne_eqb, eq-eqb, cond-true, cond-false}
+use Rattle.std.proofs.lemmas.Bool.{cases_lt}
 use Rattle.std.proofs.lemmas.Bool.Decides.{nat_tests}
 use Rattle.std.proofs.lemmas.List.{get_or_default}
 use Rattle.std.proofs.lemmas.List.Quantifiers.{all_pairs_push, all_pairs_remove}
@@ -15,29 +15,7 @@ use Rattle.page_store.specs.declared.vmos.Vmo.{Vmo}
 use Rattle.page_store.specs.Vmos.{count_in, IsOlder, IsAscending, IsVmoFor}
 use Rattle.page_store.proofs.RowLaws.{rises_from, set_field}
 
--- ---- numbers in order
-
-koid_equal : (a b : ℕ) → nat_cmp a b ≡ Equal → a ≡ b
-koid_equal a b e = grind (arith, nat_tests)
-
-koid_less : (a b : ℕ) → nat_cmp a b ≡ Less → a ≢ b
-koid_less a b e same = grind (arith, nat_tests)
-
-koid_greater : (a b : ℕ) → nat_cmp a b ≡ Greater → a ≢ b
-koid_greater a b e same = grind (arith, nat_tests)
-
-koid_rises : (v a b : ℕ) → a < b → ordering_index (nat_cmp a v) ≤ ordering_index (nat_cmp b v)
-koid_rises v a b h = grind (arith, nat_tests)
-
 -- ---- VMOs in a list
-
-pub count_in-nil : (v : ℕ) → count_in v [] ≡ None
-unfolding count_in
-count_in-nil v = refl
-
-pub count_in-cons : (v : ℕ) (vmo : Vmo) (vmos : List Vmo) → count_in v (vmo ∷ vmos) ≡ cond (vmo.koid.0 == v) (Some vmo.count) (count_in v vmos)
-unfolding count_in
-count_in-cons v vmo vmos = refl
 
 -- the koids behind the first rise too
 pub ascending_rest : (vmo : Vmo) (vmos : List Vmo) → IsAscending (vmo ∷ vmos) → IsAscending vmos
@@ -48,21 +26,23 @@ ascending_nil = record { rise = λ i j d l h. absurd (omega arith) }
 
 -- the VMO that stands at the koid's place is found
 pub count_in-at : (vmos : List Vmo) → IsAscending vmos → (v i : ℕ) → IsVmoFor vmos v i → (d : Vmo) → count_in v vmos ≡ Some (get_or vmos i d).count
+unfolding count_in
 count_in-at [] s v i at d = absurd (let h = at.in_range in omega arith)
-count_in-at (vmo ∷ vmos) s v zero at d = let same = at.is d in rw (count_in-cons v vmo vmos) (grind (arith, nat_tests))
+count_in-at (vmo ∷ vmos) s v zero at d = let same = at.is d in grind (arith, nat_tests)
 count_in-at (vmo ∷ vmos) s v (suc i) at d =
     let h = at.in_range in
     let same : (get_or vmos i d).koid.0 ≡ v = at.is d in
     let above : vmo.koid.0 < (get_or vmos i d).koid.0 = s.rise 0 (suc i) d (omega arith) h in
     let rest = count_in-at vmos (ascending_rest vmo vmos s) v i (record { in_range = omega arith; is = at.is }) d in
-    rw (count_in-cons v vmo vmos, rest) (grind (arith, nat_tests))
+    rw rest (grind (arith, nat_tests))
 
 -- where no VMO has the koid, none is found
 count_in-none : (vmos : List Vmo) (v : ℕ) → ((k : ℕ) (d : Vmo) → k < length vmos → (get_or vmos k d).koid.0 ≢ v) → count_in v vmos ≡ None
-count_in-none [] v each = count_in-nil v
+unfolding count_in
+count_in-none [] v each = refl
 count_in-none (vmo ∷ vmos) v each =
     let apart = each 0 vmo (omega arith) in
-    rw (count_in-cons v vmo vmos, count_in-none vmos v (λ k d h. each (suc k) d (omega arith))) (grind (arith, nat_tests))
+    rw (count_in-none vmos v (λ k d h. each (suc k) d (omega arith))) (grind (arith, nat_tests))
 
 -- ---- what a binary search answers
 
@@ -73,15 +53,12 @@ pub record IsFoundVmo (vmos : List Vmo) (v : ℕ) (r : Result ℕ ℕ) : Type 0 
 -- a koid that is in the list is found
 pub searched_vmo : (vmos : List Vmo) → IsAscending vmos → (v : ℕ) → IsSome (count_in v vmos) → (r : Result ℕ ℕ) → IsSearchInRange r (length vmos) → IsBinarySearchResult (λ (vmo : Vmo). nat_cmp vmo.koid.0 v) vmos r →
     IsFoundVmo vmos v r
-searched_vmo vmos s v some (Ok i) h at = record { found = record { in_range = h; is = λ d. koid_equal (get_or vmos i d).koid.0 v (at d) }; absent = tt }
+searched_vmo vmos s v some (Ok i) h at = record { found = record { in_range = h; is = λ d. let same = at d in grind (arith, nat_tests) }; absent = tt }
 searched_vmo vmos s v some (Err i) h parted =
-    let parts = parted (rises_from (λ (vmo : Vmo). ordering_index (nat_cmp vmo.koid.0 v)) vmos (λ a b d l m. koid_rises v (get_or vmos a d).koid.0 (get_or vmos b d).koid.0 (s.rise a b d l m))) in
-    let none : count_in v vmos ≡ None = count_in-none vmos v (λ k d l. elim (cases_order k i) [
-      | inl same ↦ koid_greater (get_or vmos k d).koid.0 v (parts.1 k d (omega arith) l)
-      | inr other ↦ elim other [
-        | inl less ↦ koid_less (get_or vmos k d).koid.0 v (parts.0 k d (omega arith) less)
-        | inr more ↦ koid_greater (get_or vmos k d).koid.0 v (parts.1 k d (omega arith) l)
-      ]
+    let rises = rises_from (λ (vmo : Vmo). ordering_index (nat_cmp vmo.koid.0 v)) vmos (λ a b d l m. let older = s.rise a b d l m in grind (arith, nat_tests)) in
+    let none : count_in v vmos ≡ None = count_in-none vmos v (λ k d l same. elim (cases_lt k i) [
+      | inl low ↦ let less = (parted rises).0 k d (omega arith) low in grind (arith, nat_tests)
+      | inr le ↦ let more = (parted rises).1 k d le l in grind (arith, nat_tests)
     ]) in
     absurd (let clash : is_some (count_in v vmos) ≡ false = ap is_some none in cc)
 
@@ -100,19 +77,14 @@ pub ascending_push : (vmos : List Vmo) (vmo : Vmo) → IsAscending vmos → AllB
 ascending_push vmos vmo s below = record { rise = all_pairs_push IsOlder vmos vmo s.rise below }
 
 pub count_in-push : (vmos : List Vmo) (vmo : Vmo) → AllBelow vmos vmo.koid.0 → (v : ℕ) → count_in v (vmos ++ vmo ∷ []) ≡ cond (v == vmo.koid.0) (Some vmo.count) (count_in v vmos)
-count_in-push [] vmo below v = rw (count_in-cons v vmo []) (grind (arith, nat_tests))
+unfolding count_in
+count_in-push [] vmo below v = grind (arith, nat_tests)
 count_in-push (first ∷ vmos) vmo below v =
     let low = below 0 first (omega arith) in
     let rest = count_in-push vmos vmo (λ i d h. below (suc i) d (omega arith)) v in
-    rw (count_in-cons v first (vmos ++ vmo ∷ []), count_in-cons v first vmos, rest) (grind (arith, nat_tests))
+    rw rest (grind (arith, nat_tests))
 
 -- ---- a VMO leaves
-
-count_in-skip : (v : ℕ) (vmo : Vmo) (vmos : List Vmo) → vmo.koid.0 ≢ v → count_in v (vmo ∷ vmos) ≡ count_in v vmos
-count_in-skip v vmo vmos apart = count_in-cons v vmo vmos ∙ cond-false (vmo.koid.0 == v) (Some vmo.count) (count_in v vmos) (ne_eqb vmo.koid.0 v apart)
-
-count_in-here : (v : ℕ) (vmo : Vmo) (vmos : List Vmo) → vmo.koid.0 ≡ v → count_in v (vmo ∷ vmos) ≡ Some vmo.count
-count_in-here v vmo vmos same = count_in-cons v vmo vmos ∙ cond-true (vmo.koid.0 == v) (Some vmo.count) (count_in v vmos) (eq-eqb vmo.koid.0 v same)
 
 -- the first koid has no other count
 count_in-behind : (vmo : Vmo) (vmos : List Vmo) → IsAscending (vmo ∷ vmos) → count_in vmo.koid.0 vmos ≡ None
@@ -120,12 +92,12 @@ count_in-behind vmo vmos s = count_in-none vmos vmo.koid.0 (λ k d h same. let u
 
 -- as many koids below n have a count as there are VMOs
 pub count_vmos : (n : ℕ) (vmos : List Vmo) → IsAscending vmos → AllBelow vmos n → count_below n (λ v. is_some (count_in v vmos)) ≡ length vmos
-count_vmos n [] rises below = count_below_none n _ (λ v h. ap is_some (count_in-nil v))
+unfolding count_in
+count_vmos n [] rises below = count_below_none n _ (λ v h. refl)
 count_vmos n (vmo ∷ vmos) rises below =
     let rest = count_vmos n vmos (ascending_rest vmo vmos rises) (λ i d h. below (suc i) d (omega arith)) in
     let more = count_below_one_more n vmo.koid.0 (λ v. is_some (count_in v vmos)) (λ v. is_some (count_in v (vmo ∷ vmos)))
-    (below 0 vmo (omega arith)) (ap is_some (count_in-behind vmo vmos rises)) (ap is_some (count_in-here vmo.koid.0 vmo vmos refl))
-    (λ v apart. ap is_some (count_in-skip v vmo vmos (λ e. apart (sym e)))) in
+    (below 0 vmo (omega arith)) (ap is_some (count_in-behind vmo vmos rises)) (grind (arith, nat_tests)) (λ v apart. grind (arith, nat_tests)) in
     omega (arith, more, rest)
 
 pub ascending_remove : (vmos : List Vmo) (i : ℕ) → i < length vmos → IsAscending vmos → IsAscending (remove vmos i)
@@ -133,16 +105,17 @@ ascending_remove vmos i h s = record { rise = all_pairs_remove IsOlder vmos i h 
 
 -- the others keep their page counts
 pub count_in-remove : (vmos : List Vmo) (i v : ℕ) → IsAscending vmos → i < length vmos → ((d : Vmo) → (get_or vmos i d).koid.0 ≡ v) → (w : ℕ) → count_in w (remove vmos i) ≡ cond (not (w == v)) (count_in w vmos) None
+unfolding count_in
 count_in-remove [] i v rises h at w = absurd (omega arith)
 count_in-remove (vmo ∷ vmos) zero v rises h at w =
     let koid = at vmo in
     let none : count_in v vmos ≡ None = ap (λ (k : ℕ). count_in k vmos) (sym koid) ∙ count_in-behind vmo vmos rises in
-    rw (count_in-cons w vmo vmos) (grind (arith, nat_tests))
+    grind (arith, nat_tests)
 count_in-remove (vmo ∷ vmos) (suc i) v rises h at w =
     let up : vmo.koid.0 < (get_or vmos i vmo).koid.0 = rises.rise 0 (suc i) vmo (omega arith) h in
     let is = at vmo in
     let rest = count_in-remove vmos i v (ascending_rest vmo vmos rises) (omega arith) at w in
-    rw (count_in-cons w vmo (remove vmos i), count_in-cons w vmo vmos, rest) (grind (arith, nat_tests))
+    rw rest (grind (arith, nat_tests))
 
 -- ---- a VMO with another page count
 
@@ -153,12 +126,13 @@ ascending_set vmos i vmo s again = record { rise = λ a b d l h. rw (koid-set a 
 
 -- it has its new count, and the others keep theirs
 pub count_in-set : (vmos : List Vmo) (i : ℕ) (vmo : Vmo) → IsAscending vmos → IsVmoFor vmos vmo.koid.0 i → (w : ℕ) → count_in w (set vmos i vmo) ≡ cond (w == vmo.koid.0) (Some vmo.count) (count_in w vmos)
+unfolding count_in
 count_in-set [] i vmo rises again w = absurd (let h = again.in_range in omega arith)
 count_in-set (first ∷ vmos) zero vmo rises again w =
     let koid = again.is first in
-    rw (count_in-cons w vmo vmos, count_in-cons w first vmos) (grind (arith, nat_tests))
+    grind (arith, nat_tests)
 count_in-set (first ∷ vmos) (suc i) vmo rises again w =
     let up : first.koid.0 < (get_or vmos i vmo).koid.0 = rises.rise 0 (suc i) vmo (omega arith) again.in_range in
     let koid = again.is vmo in
     let others = count_in-set vmos i vmo (ascending_rest first vmos rises) (record { in_range = let h = again.in_range in omega arith; is = again.is }) w in
-    rw (count_in-cons w first (set vmos i vmo), count_in-cons w first vmos, others) (grind (arith, nat_tests))
+    rw others (grind (arith, nat_tests))
