@@ -7,7 +7,7 @@ use Rattle.frame_pool.specs.Pool.{taken_frames, frame_bytes, taken_count}
 use Rattle.frame_pool.proofs.PoolLaws.{taken_count-is}
 use Rattle.vm_base.specs.Search.{count_below}
 use Rattle.vm_base.proofs.SearchLaws.{count_below_same}
-use Rattle.vm_model.specs.Contents.Content.{Page, in_use, used, is_sole_page}
+use Rattle.vm_model.specs.Contents.Content.{Page, in_use, used, sole, is_sole_page}
 use Rattle.vm_model.specs.Contents.Sharing.{viewers}
 use Rattle.vm_model.proofs.ContentLaws.{in_use_at}
 use Rattle.page_store.specs.declared.rows.Row.{Row}
@@ -42,9 +42,6 @@ pub record IsFrameOf (f : Flat) (held : Page) : Type 0 where
   pub share : get_or f.shares held.tag 0 ≡ viewers (content_of f) held.tag
   pub shown : 1 ≤ get_or f.shares held.tag 0
 
-some_share : (n : ℕ) → nat_lt 0 n ≡ true → 1 ≤ n
-some_share n e = grind (arith, nat_tests)
-
 pub IsFrameOf-held : (f : Flat) (v p : ℕ) (held : Page) → IsFlat f → (content_of f).page v p ≡ Some held → IsFrameOf f held
 IsFrameOf-held f v p held flat e =
     let taken = taken_in_use f flat held.tag ∙ in_use_at (content_of f) held.tag v p held flat.good e refl in
@@ -54,7 +51,7 @@ IsFrameOf-held f v p held flat e =
       taken = taken;
       bytes = ap (λ (page : Page). page.bytes) (sym found.2) ∙ ap (λ (page : Page). frame_bytes f.pool page.tag) found.2;
       share = share_viewers f flat held.tag;
-      shown = some_share (get_or f.shares held.tag 0) (sym (flat.counted.taken held.tag) ∙ taken);
+      shown = let some = sym (flat.counted.taken held.tag) ∙ taken in grind (arith, nat_tests);
     }
 
 -- a held page is sole where one VMO shows its frame
@@ -64,23 +61,30 @@ sole_share f v p held flat e =
 
 -- what is read at the place of a row
 module _ (f : Flat) (v p i : ℕ) (row : Row) (flat : IsFlat f) (at : IsRowFor f.rows v p i) (read : row ≡ get_or f.rows i row) where
-  page_read : (content_of f).page v p ≡ Some (page_from f.pool row)
+  pub page_read : (content_of f).page v p ≡ Some (page_from f.pool row)
   page_read = page_at_row f v p i row flat at ∙ ap (λ (r : Row). Some (page_from f.pool r)) (sym read)
 
+  pub frame_read : IsFrameOf f (page_from f.pool row)
+  frame_read = IsFrameOf-held f v p (page_from f.pool row) flat page_read
+
   pub share_below : row.tag.0 < length f.shares
-  share_below = let low = (IsFrameOf-held f v p (page_from f.pool row) flat page_read).below in let e = flat.counts in omega arith
+  share_below = omega (arith, frame_read.below, flat.counts)
+
+  pub share_is : (n : ℕ) → n ≡ get_or f.shares row.tag.0 n → n ≡ get_or f.shares row.tag.0 0
+  share_is n share = get_or_read f.shares row.tag.0 n share_below share 0
 
   -- its share count says whether it is sole
+  pub sole_is : (n : ℕ) → n ≡ get_or f.shares row.tag.0 n → sole (content_of f) v p ≡ (n == 1)
+  sole_is n share =
+      ap (is_sole_page (content_of f) v) page_read
+      ∙ (sole_share f v p (page_from f.pool row) flat page_read ∙ ap (λ (m : ℕ). m == 1) (sym (share_is n share)))
+
   pub look_row : (n : ℕ) → n ≡ get_or f.shares row.tag.0 n → look.Held row.tag (n == 1) ≡ look_at (content_of f) v ((content_of f).page v p)
-  look_row n share =
-      let same : n ≡ get_or f.shares row.tag.0 0 = get_or_read f.shares row.tag.0 n share_below share 0 in
-      ap (λ (m : ℕ). look.Held row.tag (m == 1)) same
-      ∙ (ap (look.Held row.tag) (sym (sole_share f v p (page_from f.pool row) flat page_read)) ∙ ap (look_at (content_of f) v) (sym page_read))
+  look_row n share = ap (look.Held row.tag) (sym (sole_is n share) ∙ ap (is_sole_page (content_of f) v) page_read) ∙ ap (look_at (content_of f) v) (sym page_read)
 
   -- and is how many VMOs show it
   pub viewers_row : (n : ℕ) → n ≡ get_or f.shares row.tag.0 n → IfSome ((content_of f).page v p) (λ held. n ≡ viewers (content_of f) held.tag)
-  viewers_row n share = subst (λ (o : Option Page). IfSome o (λ held. n ≡ viewers (content_of f) held.tag)) (sym page_read)
-      (get_or_read f.shares row.tag.0 n share_below share 0 ∙ (IsFrameOf-held f v p (page_from f.pool row) flat page_read).share)
+  viewers_row n share = subst (λ (o : Option Page). IfSome o (λ held. n ≡ viewers (content_of f) held.tag)) (sym page_read) (share_is n share ∙ frame_read.share)
 
 pub viewers_gap : (f : Flat) (v p i : ℕ) → IsGapFor f.rows v p i → IfSome ((content_of f).page v p) (λ held. 0 ≡ viewers (content_of f) held.tag)
 viewers_gap f v p i gap = subst (λ (o : Option Page). IfSome o (λ held. 0 ≡ viewers (content_of f) held.tag)) (sym (page_in_gap f v p i gap)) tt

@@ -3,7 +3,7 @@ use Rattle.std.proofs.Common.{◌≡◌, ◌≢◌, ◌⊎◌, ℕ, ◌+◌, ◌
 use Rattle.std.specs.Prelude.{IsSome, is_some, nat_lt, unwrap_or}
 use Rattle.std.specs.List.{insert}
 use Rattle.std.specs.declared.cmp.Ordering.TheVariants.{Equal}
-use Rattle.std.proofs.lemmas.Bool.{ne_eqb, eq-eqb, eqb-true, both_ways}
+use Rattle.std.proofs.lemmas.Bool.{ne_eqb, eq-eqb, eqb-true, both_ways, false_from_ne_true}
 use Rattle.std.proofs.lemmas.Bool.Decides.{nat_tests}
 use Rattle.std.proofs.lemmas.List.{get_or_read}
 use Rattle.vm_base.specs.declared.limits.TheConstants.{PAGE}
@@ -11,20 +11,20 @@ use Rattle.vm_base.specs.Entries.{with_key}
 use Rattle.frame_pool.specs.Pool.{Pool, taken_frames, frame_bytes, taken_count, Takes}
 use Rattle.frame_pool.proofs.PoolLaws.{takes_apart}
 use Rattle.vm_base.proofs.EntryLaws.{with_key-same, with_key-other}
-use Rattle.vm_model.specs.Contents.Content.{Page, shown, pages_of, in_use, used, is_sole_page, sole, hold, IsGood}
+use Rattle.vm_model.specs.Contents.Content.{Page, shown, has_tag, pages_of, in_use, used, is_sole_page, sole, hold, IsGood}
 use Rattle.vm_base.specs.Pages.{zeros}
 use Rattle.vm_model.specs.Contents.Owning.{Owns}
-use Rattle.vm_model.proofs.ContentLaws.{sole-zero, IsGood-hold_new, bytes_of-none, bytes_of-some}
+use Rattle.vm_model.proofs.ContentLaws.{has_tag_held, not_in_use, sole-zero, IsGood-hold_new, bytes_of-none, bytes_of-some}
 use Rattle.vm_base.proofs.PageLaws.{length-zeros}
 use Rattle.page_store.specs.declared.rows.Row.{Row}
 use Rattle.page_store.specs.Rows.{find_row, IsSorted, IsRowFor, IsGapFor}
 use Rattle.page_store.specs.Vmos.{count_in, IsAscending}
 use Rattle.page_store.specs.Flat.{Flat, page_of_row, content_of, IsFlat}
 use Rattle.page_store.specs.Shares.{rows_with}
-use Rattle.page_store.proofs.RowLaws.{no_row, IsRowAgain, page_cmp, cmp_itself, cmp_same, find_row-insert, sorted_insert, find_row-set, sorted_set}
+use Rattle.page_store.proofs.RowLaws.{no_row, page_cmp, cmp_itself, cmp_same, find_row-insert, sorted_insert, find_row-set, sorted_set}
 use Rattle.page_store.proofs.ShareLaws.{set_at, rows_with-insert, rows_with-set}
 use Rattle.page_store.proofs.FlatLaws.{same_content, page_from, some_page, page_at_row, page_in_gap}
-use Rattle.page_store.proofs.FlatFrames.{free_in_use, used_taken, IsFrameOf-held, sole_share, share_below}
+use Rattle.page_store.proofs.FlatFrames.{free_in_use, used_taken, IsFrameOf, sole_share, page_read, frame_read, share_is, sole_is}
 
 -- there is a free frame where one is not used
 pub room_free : (f : Flat) → IsFlat f → used (content_of f) < (content_of f).frames → taken_count f.pool < f.pool.frames
@@ -32,20 +32,11 @@ room_free f flat room = omega (arith, used_taken f flat)
 
 -- ---- the pages of rows, where one frame gets bytes
 
-frame_bytes-with : (old new : Pool) (t : ℕ) (bytes : List ℕ) → taken_frames new ≡ with_key (taken_frames old) t bytes → frame_bytes new t ≡ bytes
-frame_bytes-with old new t bytes e = ap (λ (m : ℕ → Option (List ℕ)). unwrap_or (m t) []) e ∙ ap (λ o. unwrap_or o []) (with_key-same (taken_frames old) t bytes)
-
-frame_bytes-with_other : (old new : Pool) (t u : ℕ) (bytes : List ℕ) → taken_frames new ≡ with_key (taken_frames old) t bytes → u ≢ t → frame_bytes new u ≡ frame_bytes old u
-frame_bytes-with_other old new t u bytes e apart =
-    ap (λ (m : ℕ → Option (List ℕ)). unwrap_or (m u) []) e ∙ ap (λ o. unwrap_or o []) (with_key-other (taken_frames old) t bytes u apart)
-
--- the page of another frame is as it was
-pub page_of_row-other : (old new : Pool) (t : ℕ) (bytes : List ℕ) → taken_frames new ≡ with_key (taken_frames old) t bytes → (o : Option Row) → ((row : Row) → o ≡ Some row → row.tag.0 ≢ t) → page_of_row new o ≡ page_of_row old o
-page_of_row-other old new t bytes e None apart = refl
-page_of_row-other old new t bytes e (Some row) apart = ap (some_page row.tag.0) (frame_bytes-with_other old new t row.tag.0 bytes e (apart row refl))
-
-pub page_of_row-here : (old new : Pool) (row : Row) (bytes : List ℕ) → taken_frames new ≡ with_key (taken_frames old) row.tag.0 bytes → page_of_row new (Some row) ≡ some_page row.tag.0 bytes
-page_of_row-here old new row bytes e = ap (some_page row.tag.0) (frame_bytes-with old new row.tag.0 bytes e)
+pub page_of_row-with : (old new : Pool) (t : ℕ) (bytes : List ℕ) → taken_frames new ≡ with_key (taken_frames old) t bytes → (o : Option Row)
+    → page_of_row new o ≡ cond (has_tag t (page_of_row old o)) (some_page t bytes) (page_of_row old o)
+unfolding has_tag with_key
+page_of_row-with old new t bytes e None = refl
+page_of_row-with old new t bytes e (Some row) = rw e (grind (arith, nat_tests))
 
 -- ---- a store with a new row, or with another frame in a row
 
@@ -71,12 +62,10 @@ pub record AreShares (f g : Flat) (t : ℕ) (leaves : ℕ → Bool) : Type 0 whe
   pub stays : (u : ℕ) → leaves u ≡ true → 2 ≤ get_or f.shares u 0
 
 taken_again : (n m : ℕ) (there leaves : Bool) → m + cond leaves 1 0 ≡ n + cond there 1 0 → (leaves ≡ true → 2 ≤ n) → cond there true (nat_lt 0 n) ≡ nat_lt 0 m
-taken_again n m true true e h = let low = h refl in grind (arith, nat_tests)
-taken_again n m true false e h = grind (arith, nat_tests)
-taken_again n m false true e h = let low = h refl in grind (arith, nat_tests)
-taken_again n m false false e h = grind (arith, nat_tests)
+taken_again n m there true e h = let low = h refl in grind (arith, nat_tests)
+taken_again n m there false e h = grind (arith, nat_tests)
 
-is_some-with_key : (m : ℕ → Option (List ℕ)) (t : ℕ) (bytes : List ℕ) (u : ℕ) → is_some (with_key m t bytes u) ≡ cond (t == u) true (is_some (m u))
+pub is_some-with_key : (m : ℕ → Option (List ℕ)) (t : ℕ) (bytes : List ℕ) (u : ℕ) → is_some (with_key m t bytes u) ≡ cond (t == u) true (is_some (m u))
 unfolding with_key
 is_some-with_key m t bytes u = go (u == t) (m u) ∙ ap (λ b. cond b true (is_some (m u))) (let flip : (u == t) ≡ (t == u) = grind (arith, nat_tests) in flip) where
   go : (b : Bool) (o : Option (List ℕ)) → is_some (cond b (Some bytes) o) ≡ cond b true (is_some o)
@@ -87,25 +76,24 @@ module _ (f g : Flat) (row : Row) (bytes : List ℕ) (flat : IsFlat f) (is : Hol
   abbrev new_page : Page
   new_page = record { tag = row.tag.0; bytes = bytes }
 
-  -- the frame of a row that was there is another
-  frame_apart : (w q : ℕ) (other : Row) → find_row w q f.rows ≡ Some other → other.tag.0 ≢ row.tag.0
-  frame_apart w q other e same =
-      let held = IsFrameOf-held f w q (page_from f.pool other) flat (ap (page_of_row f.pool) e) in
-      let there = subst (λ (u : ℕ). IsSome (taken_frames f.pool u)) same held.taken in
-      absurd (both_ways (is_some (taken_frames f.pool row.tag.0)) (ap is_some is.was_free) there)
+  was_unused : in_use (content_of f) row.tag.0 ≡ false
+  was_unused = free_in_use f row.tag.0 flat is.was_free
+
+  -- no page had the frame
+  had_no_page : (w q : ℕ) → has_tag row.tag.0 ((content_of f).page w q) ≡ false
+  had_no_page w q = false_from_ne_true (has_tag row.tag.0 ((content_of f).page w q)) (λ e.
+      let held = has_tag_held row.tag.0 ((content_of f).page w q) e in
+      not_in_use (content_of f) row.tag.0 w q held.0 flat.good was_unused held.1 held.2)
 
   page_held : (w q : ℕ) → page_of_row g.pool (find_row w q g.rows) ≡ cond ((w == row.koid.0) && (q == row.page)) (Some new_page) (page_of_row f.pool (find_row w q f.rows))
   page_held w q = ap (page_of_row g.pool) (is.rows w q) ∙ go ((w == row.koid.0) && (q == row.page)) where
     go : (b : Bool) → page_of_row g.pool (cond b (Some row) (find_row w q f.rows)) ≡ cond b (Some new_page) (page_of_row f.pool (find_row w q f.rows))
-    go true = page_of_row-here f.pool g.pool row bytes is.frame
-    go false = page_of_row-other f.pool g.pool row.tag.0 bytes is.frame (find_row w q f.rows) (frame_apart w q)
+    go true = ap (λ (m : ℕ → Option (List ℕ)). some_page row.tag.0 (unwrap_or (m row.tag.0) [])) is.frame ∙ ap (λ o. some_page row.tag.0 (unwrap_or o [])) (with_key-same (taken_frames f.pool) row.tag.0 bytes)
+    go false = rw (page_of_row-with f.pool g.pool row.tag.0 bytes is.frame (find_row w q f.rows), had_no_page w q)
 
   pub content_of-held : content_of g ≡ hold (content_of f) row.koid.0 row.page new_page
   unfolding hold
   content_of-held = same_content _ _ is.frames is.next (λ w. ap (count_in w) is.vmos) page_held
-
-  was_unused : in_use (content_of f) row.tag.0 ≡ false
-  was_unused = free_in_use f row.tag.0 flat is.was_free
 
   pub IsFlat-held : (leaves : ℕ → Bool) → AreShares f g row.tag.0 leaves → IsFlat g
   IsFlat-held leaves are = record {
@@ -206,49 +194,32 @@ row_for rows i row h read = record { in_range = h; is = λ d. subst (λ (other :
 pub row_is : (rows : List Row) (v p i : ℕ) (row : Row) → IsRowFor rows v p i → row ≡ get_or rows i row → (row.koid.0 ≡ v) × (row.page ≡ p)
 row_is rows v p i row at read = cmp_same v p row.koid.0 row.page (subst (λ (other : Row). page_cmp v p other.koid.0 other.page ≡ Equal) (sym read) (at.is row))
 
+-- where it is sole, it is owned already
+pub owns_sole : (f : Flat) (v p i : ℕ) (row : Row) → IsFlat f → IsRowFor f.rows v p i → row ≡ get_or f.rows i row → (n : ℕ) → n ≡ get_or f.shares row.tag.0 n → n ≡ 1 → Owns (content_of f) (content_of f) v p row.tag.0
+owns_sole f v p i row flat at read n share one =
+    let is = page_read f v p i row flat at read in
+    record {
+      stays = λ _. (refl, λ other g. let clash : ◌≡◌ {A = Option Page} (Some (page_from f.pool row)) (Some other) = sym is ∙ g in cc);
+      copies = λ shared. absurd (both_ways (sole (content_of f) v p) shared (sole_is f v p i row flat at read n share ∙ eq-eqb n 1 one));
+    }
+
 module _ (f : Flat) (i : ℕ) (row : Row) (flat : IsFlat f) (h : i < length f.rows) (read : row ≡ get_or f.rows i row) where
-  -- its page
-  pub page_at : (content_of f).page row.koid.0 row.page ≡ Some (page_from f.pool row)
-  page_at = page_at_row f row.koid.0 row.page i row flat (row_for f.rows i row h read) ∙ ap (λ (r : Row). Some (page_from f.pool r)) (sym read)
+  at_row : IsRowFor f.rows row.koid.0 row.page i
+  at_row = row_for f.rows i row h read
 
-  -- and its share count
-  pub held_below : row.tag.0 < length f.shares
-  held_below = share_below f row.koid.0 row.page i row flat (row_for f.rows i row h read) read
-
-  pub share_is : (n : ℕ) → n ≡ get_or f.shares row.tag.0 n → n ≡ get_or f.shares row.tag.0 0
-  share_is n share = get_or_read f.shares row.tag.0 n held_below share 0
+  pub held_frame : IsFrameOf f (page_from f.pool row)
+  held_frame = frame_read f row.koid.0 row.page i row flat at_row read
 
   pub share_shown : (n : ℕ) → n ≡ get_or f.shares row.tag.0 n → 1 ≤ n
-  share_shown n share = let one = (IsFrameOf-held f row.koid.0 row.page (page_from f.pool row) flat page_at).shown in let e = share_is n share in omega arith
+  share_shown n share = omega (arith, held_frame.shown, share_is f row.koid.0 row.page i row flat at_row read n share)
 
-  sole_is : (n : ℕ) → n ≡ get_or f.shares row.tag.0 n → sole (content_of f) row.koid.0 row.page ≡ (n == 1)
-  sole_is n share = ap (is_sole_page (content_of f) row.koid.0) page_at
-      ∙ (sole_share f row.koid.0 row.page (page_from f.pool row) flat page_at ∙ ap (λ (m : ℕ). m == 1) (sym (share_is n share)))
-
-  -- where it is sole, it is owned already
-  pub owns_sole : (n : ℕ) → n ≡ get_or f.shares row.tag.0 n → n ≡ 1 → (v p : ℕ) → IsRowFor f.rows v p i → Owns (content_of f) (content_of f) v p row.tag.0
-  owns_sole n share one v p at =
-      let same = row_is f.rows v p i row at read in
-      let is : (content_of f).page v p ≡ Some (page_from f.pool row) =
-      ap (λ (u : ℕ). (content_of f).page u p) (sym same.0) ∙ (ap (λ (r : ℕ). (content_of f).page row.koid.0 r) (sym same.1) ∙ page_at) in
-      let alone : sole (content_of f) v p ≡ true =
-      ap (λ (u : ℕ). sole (content_of f) u p) (sym same.0) ∙ (ap (λ (r : ℕ). sole (content_of f) row.koid.0 r) (sym same.1) ∙ (sole_is n share ∙ eq-eqb n 1 one)) in
-      record {
-        stays = λ _. (refl, λ other g. let clash : ◌≡◌ {A = Option Page} (Some (page_from f.pool row)) (Some other) = sym is ∙ g in cc);
-        copies = λ shared. absurd (both_ways (sole (content_of f) v p) shared alone);
-      }
-
-  -- and else there is a free frame
+  -- where it is not sole, there is a free frame
   pub room_held : (n : ℕ) → n ≡ get_or f.shares row.tag.0 n → n ≢ 1 → ((v p : ℕ) → IsRowFor f.rows v p i → (sole (content_of f) v p ≡ true) ⊎ (used (content_of f) < (content_of f).frames)) →
       taken_count f.pool < f.pool.frames
-  room_held n share shared room = elim (room row.koid.0 row.page (row_for f.rows i row h read)) [
-    | inl alone ↦ absurd (both_ways (sole (content_of f) row.koid.0 row.page) (sole_is n share ∙ ne_eqb n 1 shared) alone)
+  room_held n share shared room = elim (room row.koid.0 row.page at_row) [
+    | inl alone ↦ absurd (both_ways (sole (content_of f) row.koid.0 row.page) (sole_is f row.koid.0 row.page i row flat at_row read n share ∙ ne_eqb n 1 shared) alone)
     | inr free ↦ room_free f flat free
   ]
-
-  -- its frame is taken
-  pub held_taken : IsSome (taken_frames f.pool row.tag.0)
-  held_taken = (IsFrameOf-held f row.koid.0 row.page (page_from f.pool row) flat page_at).taken
 
 abbrev pub moved : Row → ℕ → Row
 moved row t = record row { tag = record { 0 = t } }
@@ -258,57 +229,51 @@ held_owned f pool row new i n t = record f { pool = pool; rows = set f.rows i (m
 
 module _ (f : Flat) (pool : Pool) (row : Row) (i t : ℕ) (flat : IsFlat f) (h : i < length f.rows) (read : row ≡ get_or f.rows i row)
     (frames : pool.frames ≡ f.pool.frames) (takes : Takes f.pool pool t (frame_bytes f.pool row.tag.0)) where
-  abbrev held_before : Page
-  held_before = page_from f.pool row
-
   abbrev moved_flat : Flat
   moved_flat = held_owned f pool row row i (get_or f.shares row.tag.0 0) t
 
-  held_is : (content_of f).page row.koid.0 row.page ≡ Some held_before
-  held_is = page_at f i row flat h read
+  there : IsRowFor f.rows row.koid.0 row.page i
+  there = row_for f.rows i row h read
+
+  held_is : (content_of f).page row.koid.0 row.page ≡ Some (page_from f.pool row)
+  held_is = page_read f row.koid.0 row.page i row flat there read
 
   holds_held : HoldsRow f moved_flat (moved row t) (frame_bytes f.pool row.tag.0)
-  holds_held =
-      let again : IsRowAgain f.rows i (moved row t) = record {
-        in_range = h;
-        koid = λ d. ap (λ (r : Row). r.koid.0) (sym (get_or_read f.rows i row h read d));
-        page = λ d. ap (λ (r : Row). r.page) (sym (get_or_read f.rows i row h read d));
-      } in
-      record {
-        frames = frames;
-        next = refl;
-        vmos = refl;
-        counts = length-set (set f.shares row.tag.0 (get_or f.shares row.tag.0 0 - 1)) t 1 ∙ length-set f.shares row.tag.0 (get_or f.shares row.tag.0 0 - 1);
-        below = takes.below;
-        was_free = takes.was_free;
-        frame = takes.taken;
-        whole = flat.good.whole row.koid.0 row.page held_before held_is;
-        sorted = sorted_set f.rows i (moved row t) flat.sorted again;
-        rows = find_row-set f.rows i (moved row t) flat.sorted again;
-        page = flat.good.below row.koid.0 row.page held_before held_is;
-      }
+  holds_held = record {
+    frames = frames;
+    next = refl;
+    vmos = refl;
+    counts = length-set (set f.shares row.tag.0 (get_or f.shares row.tag.0 0 - 1)) t 1 ∙ length-set f.shares row.tag.0 (get_or f.shares row.tag.0 0 - 1);
+    below = takes.below;
+    was_free = takes.was_free;
+    frame = takes.taken;
+    whole = flat.good.whole row.koid.0 row.page (page_from f.pool row) held_is;
+    sorted = sorted_set f.rows i (moved row t) flat.sorted there;
+    rows = find_row-set f.rows i (moved row t) flat.sorted there;
+    page = flat.good.below row.koid.0 row.page (page_from f.pool row) held_is;
+  }
 
   owned_held : get_or f.shares row.tag.0 0 ≢ 1 → IsOwned f moved_flat row.koid.0 row.page t
   owned_held shared =
-      let frame = IsFrameOf-held f row.koid.0 row.page held_before flat held_is in
+      let frame = held_frame f i row flat h read in
       let apart = takes_apart f.pool pool t (frame_bytes f.pool row.tag.0) takes row.tag.0 frame.taken in
       record {
         flat = IsFlat-held f moved_flat (moved row t) (frame_bytes f.pool row.tag.0) flat holds_held (λ u. row.tag.0 == u) (record {
-          is = shares_held f.shares row.tag.0 t apart (free_share f t flat takes.was_free) (omega (arith, takes.below, flat.counts)) (held_below f i row flat h read) frame.shown;
+          is = shares_held f.shares row.tag.0 t apart (free_share f t flat takes.was_free) (omega (arith, takes.below, flat.counts)) (omega (arith, frame.below, flat.counts)) frame.shown;
           rows = λ u. rows_with-set u f.rows i row (moved row t) h read;
           stays = λ u e. subst (λ (k : ℕ). 2 ≤ get_or f.shares k 0) (eqb-true row.tag.0 u e) (omega (arith, frame.shown));
         });
         owns = owns_new f moved_flat (moved row t) (frame_bytes f.pool row.tag.0) flat holds_held
-            (ap (is_sole_page (content_of f) row.koid.0) held_is ∙ (sole_share f row.koid.0 row.page held_before flat held_is ∙ ne_eqb (get_or f.shares row.tag.0 0) 1 shared))
-            (sym (bytes_of-some ((content_of f).page row.koid.0 row.page) held_before held_is));
+            (ap (is_sole_page (content_of f) row.koid.0) held_is ∙ (sole_share f row.koid.0 row.page (page_from f.pool row) flat held_is ∙ ne_eqb (get_or f.shares row.tag.0 0) 1 shared))
+            (sym (bytes_of-some ((content_of f).page row.koid.0 row.page) (page_from f.pool row) held_is));
       }
 
   -- the row and the share count, however often they are read
   pub owned_again : (new : Row) (m n : ℕ) → new ≡ get_or f.rows i new → m ≡ get_or f.shares row.tag.0 m → n ≡ get_or f.shares row.tag.0 n → m ≢ 1 → IsOwned f (held_owned f pool row new i n t) row.koid.0 row.page t
   owned_again new m n read_new share_m share_n shared =
       let same : row ≡ new = get_or_read f.rows i row h read row ∙ sym (get_or_read f.rows i new h read_new row) in
-      let count : get_or f.shares row.tag.0 0 ≡ n = sym (share_is f i row flat h read n share_n) in
-      let old : m ≡ get_or f.shares row.tag.0 0 = share_is f i row flat h read m share_m in
+      let count : get_or f.shares row.tag.0 0 ≡ n = sym (share_is f row.koid.0 row.page i row flat there read n share_n) in
+      let old : m ≡ get_or f.shares row.tag.0 0 = share_is f row.koid.0 row.page i row flat there read m share_m in
       subst (λ (r : Row). IsOwned f (held_owned f pool row r i n t) row.koid.0 row.page t) same
       (subst (λ (k : ℕ). IsOwned f (held_owned f pool row row i k t) row.koid.0 row.page t) count (owned_held (λ e. shared (old ∙ e))))
 

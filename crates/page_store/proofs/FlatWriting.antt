@@ -1,13 +1,15 @@
 -- Bytes written to a frame that one page of the plain store shows.
 use Rattle.std.proofs.Common.{◌≡◌, ℕ, ◌+◌, ◌≤◌, Bool, true, false, cond, ◌&&◌, ◌==◌, List, length, Option, Some, refl, sym, ap, subst, ◌∙◌, inl, inr, arith}
 use Rattle.std.specs.Prelude.{is_some}
+use Rattle.std.specs.Cmp.{both_ways}
+use Rattle.std.proofs.lemmas.Bool.Decides.{nat_tests}
 use Rattle.std.proofs.lemmas.Bool.{cases_Bool, cases_eq, and_parts, and_from, eqb-true, eq-eqb}
 use Rattle.vm_base.specs.declared.limits.TheConstants.{PAGE}
 use Rattle.vm_base.specs.Entries.{with_key}
 use Rattle.frame_pool.specs.Pool.{Pool, taken_frames, frame_bytes}
-use Rattle.vm_model.specs.Contents.Content.{Page, Content, hold, IsGood}
+use Rattle.vm_model.specs.Contents.Content.{Page, Content, has_tag, hold, IsGood}
 use Rattle.vm_base.specs.Pages.{replaced}
-use Rattle.vm_model.proofs.ContentLaws.{sole_from, IsGood-hold_bytes}
+use Rattle.vm_model.proofs.ContentLaws.{has_tag_from, has_tag_held, sole_from, IsGood-hold_bytes}
 use Rattle.vm_base.proofs.EntryLaws.{with_key-here, with_key-other}
 use Rattle.vm_base.proofs.PageLaws.{length-replaced}
 use Rattle.page_store.specs.Rows.{find_row}
@@ -15,7 +17,7 @@ use Rattle.page_store.specs.Pages.{ShowsTag, IsShown, IsShownOnce, Overwrites}
 use Rattle.page_store.specs.Flat.{Flat, page_of_row, content_of, IsFlat}
 use Rattle.page_store.proofs.FlatLaws.{same_content, page_from, page_of_row_found}
 use Rattle.page_store.proofs.FlatFrames.{shown_taken, shown_bytes}
-use Rattle.page_store.proofs.FlatOwning.{page_of_row-other, page_of_row-here}
+use Rattle.page_store.proofs.FlatOwning.{page_of_row-with, is_some-with_key}
 
 pub IsShown-from_once : (c : Content) (t : ℕ) → IsShownOnce c t → IsShown c t
 IsShown-from_once c t once = record { v = once.v; p = once.p; held = once.held; shows = once.shows.shows }
@@ -32,31 +34,22 @@ with_replaced held at bytes = record held { bytes = replaced held.bytes at bytes
 
 module _ (f : Flat) (pool : Pool) (t at : ℕ) (bytes : List ℕ) (flat : IsFlat f) (once : IsShownOnce (content_of f) t) (frames : pool.frames ≡ f.pool.frames)
     (frame : taken_frames pool ≡ with_key (taken_frames f.pool) t (replaced (frame_bytes f.pool t) at bytes)) where
+  -- the page alone has the frame
+  tag_at : (v p : ℕ) (held : Page) → ShowsTag (content_of f) t v p held → (w q : ℕ) → has_tag t ((content_of f).page w q) ≡ ((w == v) && (q == p))
+  tag_at v p held shows w q = both_ways (has_tag t ((content_of f).page w q)) ((w == v) && (q == p))
+      (λ e.
+      let other = has_tag_held t ((content_of f).page w q) e in
+      let one = shows_alone (content_of f) t v p held once shows w q other.0 (record { page = other.1; tag = other.2 }) in
+      and_from (w == v) (q == p) (eq-eqb w v one.0) (eq-eqb q p one.1))
+      (λ e.
+      let both = and_parts (w == v) (q == p) e in
+      has_tag_from t ((content_of f).page w q) held (rw (eqb-true w v both.0, eqb-true q p both.1) shows.page) shows.tag)
+
   page_written : (v p : ℕ) (held : Page) → ShowsTag (content_of f) t v p held → (w q : ℕ) →
       page_of_row pool (find_row w q f.rows) ≡ cond ((w == v) && (q == p)) (Some (with_replaced held at bytes)) (page_of_row f.pool (find_row w q f.rows))
-  page_written v p held shows w q = elim (cases_Bool ((w == v) && (q == p))) [
-    | inl here ↦
-        let both = and_parts (w == v) (q == p) here in
-        let is : (content_of f).page w q ≡ Some held =
-        ap (λ (u : ℕ). (content_of f).page u q) (eqb-true w v both.0) ∙ (ap (λ (r : ℕ). (content_of f).page v r) (eqb-true q p both.1) ∙ shows.page) in
-        let found = page_of_row_found f.pool (find_row w q f.rows) held is in
-        let tag : (found.0).tag.0 ≡ t = ap (λ (page : Page). page.tag) found.2 ∙ shows.tag in
-        let frame_here : taken_frames pool ≡ with_key (taken_frames f.pool) (found.0).tag.0 (replaced (frame_bytes f.pool t) at bytes) =
-        frame ∙ ap (λ (u : ℕ). with_key (taken_frames f.pool) u (replaced (frame_bytes f.pool t) at bytes)) (sym tag) in
-        let pages : ◌≡◌ {A = Page} (record { tag = (found.0).tag.0; bytes = replaced (frame_bytes f.pool t) at bytes }) (with_replaced held at bytes) =
-        λ i. record { tag = (ap (λ (page : Page). page.tag) found.2) i; bytes = replaced (shown_bytes f t v p held flat shows i) at bytes } in
-        ap (page_of_row pool) found.1
-        ∙ (page_of_row-here f.pool pool found.0 (replaced (frame_bytes f.pool t) at bytes) frame_here
-        ∙ (ap (λ (page : Page). Some page) pages
-        ∙ ap (λ b. cond b (Some (with_replaced held at bytes)) (page_of_row f.pool (find_row w q f.rows))) (sym here)))
-    | inr there ↦
-        page_of_row-other f.pool pool t (replaced (frame_bytes f.pool t) at bytes) frame (find_row w q f.rows) (λ row found same.
-        let is : (content_of f).page w q ≡ Some (page_from f.pool row) = ap (page_of_row f.pool) found in
-        let one = shows_alone (content_of f) t v p held once shows w q (page_from f.pool row) (record { page = is; tag = same }) in
-        let test = and_from (w == v) (q == p) (eq-eqb w v one.0) (eq-eqb q p one.1) in
-        let clash : ◌≡◌ {A = Bool} true false = sym test ∙ there in absurd cc)
-        ∙ ap (λ b. cond b (Some (with_replaced held at bytes)) (page_of_row f.pool (find_row w q f.rows))) (sym there)
-  ]
+  page_written v p held shows w q =
+      page_of_row-with f.pool pool t (replaced (frame_bytes f.pool t) at bytes) frame (find_row w q f.rows)
+      ∙ rw (tag_at v p held shows w q, shown_bytes f t v p held flat shows, ← shows.tag)
 
   pub overwrites : Overwrites (content_of f) (content_of (record f { pool = pool })) t at bytes
   unfolding hold
@@ -76,13 +69,10 @@ module _ (f : Flat) (pool : Pool) (t at : ℕ) (bytes : List ℕ) (flat : IsFlat
         good = subst IsGood (sym (overwrites once.v once.p once.held shows)) (IsGood-hold_bytes (content_of f) once.v once.p held other flat.good sole_before shows.page refl whole);
         counts = flat.counts ∙ sym frames;
         shares = flat.shares;
-        counted = record { taken = λ u. ap (λ (m : ℕ → Option (List ℕ)). is_some (m u)) frame ∙ (still u ∙ flat.counted.taken u) };
+        counted = record {
+          taken = λ u.
+              let was = flat.counted.taken u in
+              let here = shown_taken f t flat (IsShown-from_once (content_of f) t once) in
+              rw (frame, is_some-with_key (taken_frames f.pool) t (replaced (frame_bytes f.pool t) at bytes) u) (grind (arith, nat_tests));
+        };
       }
-    where
-      still : (u : ℕ) → is_some (with_key (taken_frames f.pool) t (replaced (frame_bytes f.pool t) at bytes) u) ≡ is_some (taken_frames f.pool u)
-      still u = elim (cases_eq u t) [
-        | inl same ↦
-            ap is_some (with_key-here (taken_frames f.pool) t (replaced (frame_bytes f.pool t) at bytes) u same)
-            ∙ sym (ap (λ (k : ℕ). is_some (taken_frames f.pool k)) same ∙ shown_taken f t flat (IsShown-from_once (content_of f) t once))
-        | inr other ↦ ap is_some (with_key-other (taken_frames f.pool) t (replaced (frame_bytes f.pool t) at bytes) u other)
-      ]

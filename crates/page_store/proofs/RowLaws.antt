@@ -111,36 +111,28 @@ sorted_insert (first ∷ rows) (suc i) row s gap =
 
 -- ---- a row with another frame
 
--- the row at i is for the page of this row
-pub record IsRowAgain (rows : List Row) (i : ℕ) (row : Row) : Type 0 where
-  pub in_range : i < length rows
-  pub koid : (d : Row) → (get_or rows i d).koid.0 ≡ row.koid.0
-  pub page : (d : Row) → (get_or rows i d).page ≡ row.page
-
-pub sorted_set : (rows : List Row) (i : ℕ) (row : Row) → IsSorted rows → IsRowAgain rows i row → IsSorted (set rows i row)
+pub sorted_set : (rows : List Row) (i : ℕ) (row : Row) → IsSorted rows → IsRowFor rows row.koid.0 row.page i → IsSorted (set rows i row)
 sorted_set rows i row s again = record {
   rise = λ a b d l h. rw (koid-set a d, page-set a d, koid-set b d, page-set b d) (s.rise a b d l (omega (arith, length-set rows i row)));
 } where
   koid-set : (k : ℕ) (d : Row) → (get_or (set rows i row) k d).koid.0 ≡ (get_or rows k d).koid.0
-  koid-set k d = set_field (λ r. r.koid.0) rows i row k d again.in_range (again.koid d)
+  koid-set k d = set_field (λ r. r.koid.0) rows i row k d again.in_range (cmp_same row.koid.0 row.page (get_or rows i d).koid.0 (get_or rows i d).page (again.is d)).0
   page-set : (k : ℕ) (d : Row) → (get_or (set rows i row) k d).page ≡ (get_or rows k d).page
-  page-set k d = set_field (λ r. r.page) rows i row k d again.in_range (again.page d)
+  page-set k d = set_field (λ r. r.page) rows i row k d again.in_range (cmp_same row.koid.0 row.page (get_or rows i d).koid.0 (get_or rows i d).page (again.is d)).1
 
 -- it is found at its page, and at every other page what was found
-pub find_row-set : (rows : List Row) (i : ℕ) (row : Row) → IsSorted rows → IsRowAgain rows i row → (w q : ℕ) →
+pub find_row-set : (rows : List Row) (i : ℕ) (row : Row) → IsSorted rows → IsRowFor rows row.koid.0 row.page i → (w q : ℕ) →
     find_row w q (set rows i row) ≡ cond ((w == row.koid.0) && (q == row.page)) (Some row) (find_row w q rows)
 unfolding find_row
 find_row-set [] i row s again w q = absurd (let h = again.in_range in omega arith)
 find_row-set (first ∷ rows) zero row s again w q =
-    let koid = again.koid first in
-    let page = again.page first in
+    let same = again.is first in
     grind (arith, nat_tests)
 find_row-set (first ∷ rows) (suc i) row s again w q =
     let h = again.in_range in
     let behind : page_cmp first.koid.0 first.page (get_or rows i first).koid.0 (get_or rows i first).page ≡ Greater = s.rise 0 (suc i) first (omega arith) h in
-    let koid = again.koid first in
-    let page = again.page first in
-    let other = find_row-set rows i row (sorted_rest first rows s) (record { in_range = omega arith; koid = again.koid; page = again.page }) w q in
+    let same = again.is first in
+    let other = find_row-set rows i row (sorted_rest first rows s) (record { in_range = omega arith; is = again.is }) w q in
     rw other (grind (arith, nat_tests))
 
 -- ---- what a binary search answers
