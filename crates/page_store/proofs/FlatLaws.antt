@@ -16,7 +16,6 @@ use Rattle.page_store.specs.Rows.{find_row, IsSorted, IsRowFor, IsGapFor}
 use Rattle.page_store.specs.Vmos.{count_in, IsAscending, IsVmoFor}
 use Rattle.page_store.specs.Flat.{Flat, page_of_row, content_of, IsFlat}
 use Rattle.page_store.specs.Shares.{rows_with}
-use Rattle.page_store.proofs.ShareLaws.{rows_with-nil}
 use Rattle.page_store.proofs.RowLaws.{find_row-at, find_row-gap, sorted_nil}
 use Rattle.page_store.proofs.VmoLaws.{AllBelow, count_in-at, count_in-push, ascending_nil, ascending_push, below_from_counts}
 
@@ -75,8 +74,9 @@ unfolding nothing find_row count_in
 content_of-empty pool s = refl
 
 pub IsFlat-empty : (pool : Pool) (s : ℕ) → pool.frames ≡ 0 → ((t : ℕ) → taken_frames pool t ≡ None) → IsFlat (empty_flat pool s)
+unfolding rows_with
 IsFlat-empty pool s none free =
-    IsFlat-nothing (empty_flat pool s) (content_of-empty pool s) sorted_nil ascending_nil (sym none) (λ t. get_or_past [] t 0 (omega arith)) rows_with-nil free
+    IsFlat-nothing (empty_flat pool s) (content_of-empty pool s) sorted_nil ascending_nil (sym none) (λ t. get_or_past [] t 0 (omega arith)) (λ t. refl) free
 
 pub content_of-none : (pool : Pool) (s : ℕ) → pool.frames ≡ 0 → content_of (empty_flat pool s) ≡ nothing
 unfolding nothing

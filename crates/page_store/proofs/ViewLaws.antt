@@ -22,7 +22,7 @@ use Rattle.page_store.specs.Flat.{Flat, page_of_row, content_of, IsFlat}
 use Rattle.page_store.proofs.RowLaws.{no_row}
 use Rattle.page_store.proofs.FlatLaws.{page_from, page_of_row_found}
 use Rattle.page_store.proofs.BoundLaws.{find_row-found, find_row-each}
-use Rattle.page_store.proofs.ShareLaws.{rows_with-nil, rows_with-cons, rows_with-at}
+use Rattle.page_store.proofs.ShareLaws.{rows_with-at}
 use Rattle.page_store.proofs.VmoLaws.{below_from_counts, count_vmos}
 
 -- ---- how many VMOs show a frame
@@ -114,14 +114,15 @@ pub record AreApart (rows : List Row) : Type 0 where
 
 -- then as many VMOs have a row with the frame as rows have it
 count_shows : (n t : ℕ) (rows : List Row) → All (λ row. row.koid.0 < n) rows → AreApart rows → count_below n (shows_in t rows) ≡ rows_with t rows
-count_shows n t [] low apart = count_below_none n (shows_in t []) (λ v h. shows_in-nil t v) ∙ sym (rows_with-nil t)
+unfolding rows_with
+count_shows n t [] low apart = count_below_none n (shows_in t []) (λ v h. shows_in-nil t v)
 count_shows n t (row ∷ rows) low apart =
     let rest = count_shows n t rows (λ k d h. low (suc k) d (omega arith)) (record { apart = λ i j d l h. apart.apart (suc i) (suc j) d (omega arith) (omega arith) }) in
     elim (cases_Bool (row.tag.0 == t)) [
       | inr other ↦
           let same = count_below_same n (shows_in t (row ∷ rows)) (shows_in t rows) (λ v h. shows_in-skip t v row rows (and_right (row.koid.0 == v) (row.tag.0 == t) other)) in
           let bit : ◌≡◌ {A = ℕ} (cond (row.tag.0 == t) 1 0) 0 = ap (λ (b : Bool). cond {A = ℕ} b 1 0) other in
-          omega (arith, same, rest, rows_with-cons t row rows, bit)
+          omega (arith, same, rest, bit)
       | inl here ↦
           let tag = eqb-true row.tag.0 t here in
           let miss : shows_in t rows row.koid.0 ≡ false = false_from_ne_true (shows_in t rows row.koid.0) (λ e.
@@ -131,7 +132,7 @@ count_shows n t (row ∷ rows) low apart =
           let more = count_below_one_more n row.koid.0 (shows_in t rows) (shows_in t (row ∷ rows)) (low 0 row (omega arith)) miss hit (λ v other.
           shows_in-skip t v row rows (and_left (row.koid.0 == v) (row.tag.0 == t) (ne_eqb row.koid.0 v (λ e. other (sym e))))) in
           let bit : ◌≡◌ {A = ℕ} (cond (row.tag.0 == t) 1 0) 1 = ap (λ (b : Bool). cond {A = ℕ} b 1 0) here in
-          omega (arith, more, rest, rows_with-cons t row rows, bit)
+          omega (arith, more, rest, bit)
     ]
 
 -- ---- the viewers of a frame
