@@ -1,9 +1,8 @@
 -- Where the rows of a VMO and of a range of its pages stand, and what is found in a part of the rows.
-use Rattle.std.proofs.Common.{◌≡◌, ◌≢◌, ◌⊎◌, ℕ, zero, suc, ◌+◌, ◌<◌, ◌≤◌, Bool, true, false, cond, ◌&&◌, ◌==◌, List, [], ◌∷◌, ◌++◌, length, get_or, take, drop, Option, None, Some, refl, sym, ap, subst, ◌∙◌, inl, inr, arith}
-use Rattle.std.specs.List.{All, AllWithin, slice_range}
-use Rattle.std.specs.declared.cmp.Ordering.{Ordering}
-use Rattle.std.specs.declared.cmp.Ordering.TheVariants.{Less, Equal, Greater}
-use Rattle.std.proofs.lemmas.Bool.{cases_Bool, cases_order, cases_lt, and_parts, and_left, eqb-true, ne_eqb, false_from_ne_true}
+use Rattle.std.proofs.Common.{◌≡◌, ◌≢◌, ◌⊎◌, ℕ, suc, ◌+◌, ◌<◌, ◌≤◌, Bool, true, false, cond, ◌&&◌, ◌==◌, List, [], ◌∷◌, ◌++◌, length, get_or, take, drop, Option, None, Some, refl, sym, ap, subst, ◌∙◌, inl, inr, arith}
+use Rattle.std.specs.List.{All, slice_range}
+use Rattle.std.specs.Option.{option_or}
+use Rattle.std.proofs.lemmas.Bool.{cases_Bool, cases_lt, and_parts, and_left, eqb-true, ne_eqb, false_from_ne_true}
 use Rattle.std.proofs.lemmas.Bool.Decides.{nat_tests}
 use Rattle.std.proofs.lemmas.List.{length-take-le, get_or-take, get_or-drop, length-drop, get_or_default}
 use Rattle.std.proofs.lemmas.List.Edits.{length-between, get_or-between, split_between}
@@ -51,33 +50,27 @@ rows_from_bounds rows v p q i j first last le =
 
 -- ---- what is found in two parts
 
-row_or : Option Row → Option Row → Option Row
-row_or None other = other
-row_or (Some row) other = Some row
-
-find_row-append : (v p : ℕ) (xs ys : List Row) → find_row v p (xs ++ ys) ≡ row_or (find_row v p xs) (find_row v p ys)
-unfolding find_row row_or
+find_row-append : (v p : ℕ) (xs ys : List Row) → find_row v p (xs ++ ys) ≡ option_or (find_row v p xs) (find_row v p ys)
+unfolding find_row
 find_row-append v p [] ys = refl
-find_row-append v p (row ∷ rows) ys = go ((row.koid.0 == v) && (row.page == p)) (find_row v p (rows ++ ys)) (find_row-append v p rows ys) where
-  go : (b : Bool) (o : Option Row) → o ≡ row_or (find_row v p rows) (find_row v p ys) → cond b (Some row) o ≡ row_or (cond b (Some row) (find_row v p rows)) (find_row v p ys)
-  go true o rest = refl
-  go false o rest = rest
+find_row-append v p (row ∷ rows) ys = rw (find_row-append v p rows ys) (go ((row.koid.0 == v) && (row.page == p))) where
+  go : (b : Bool) → cond b (Some row) (option_or (find_row v p rows) (find_row v p ys)) ≡ option_or (cond b (Some row) (find_row v p rows)) (find_row v p ys)
+  go true = refl
+  go false = refl
 
 pub find_row-right : (v p : ℕ) (xs ys : List Row) → find_row v p xs ≡ None → find_row v p (xs ++ ys) ≡ find_row v p ys
-unfolding row_or
-find_row-right v p xs ys none = find_row-append v p xs ys ∙ ap (λ o. row_or o (find_row v p ys)) none
+find_row-right v p xs ys none = find_row-append v p xs ys ∙ ap (λ o. option_or o (find_row v p ys)) none
 
 pub find_row-left : (v p : ℕ) (xs ys : List Row) → find_row v p ys ≡ None → find_row v p (xs ++ ys) ≡ find_row v p xs
-unfolding row_or
-find_row-left v p xs ys none = find_row-append v p xs ys ∙ (ap (λ o. row_or (find_row v p xs) o) none ∙ go (find_row v p xs)) where
-  go : (o : Option Row) → row_or o None ≡ o
+find_row-left v p xs ys none = find_row-append v p xs ys ∙ (ap (λ o. option_or (find_row v p xs) o) none ∙ go (find_row v p xs)) where
+  go : (o : Option Row) → option_or o None ≡ o
   go None = refl
   go (Some row) = refl
 
 -- a part in the middle that does not have the page may go
 pub find_row-middle : (v p : ℕ) (xs ys zs : List Row) → find_row v p ys ≡ None → find_row v p (xs ++ zs) ≡ find_row v p (xs ++ (ys ++ zs))
 find_row-middle v p xs ys zs none =
-    find_row-append v p xs zs ∙ (ap (λ o. row_or (find_row v p xs) o) (sym (find_row-right v p ys zs none)) ∙ sym (find_row-append v p xs (ys ++ zs)))
+    find_row-append v p xs zs ∙ (ap (λ o. option_or (find_row v p xs) o) (sym (find_row-right v p ys zs none)) ∙ sym (find_row-append v p xs (ys ++ zs)))
 
 -- where all rows are of other VMOs, none is found
 pub find_row-other : (v p : ℕ) (rows : List Row) → All (λ row. row.koid.0 ≢ v) rows → find_row v p rows ≡ None
@@ -124,19 +117,6 @@ sorted_part rows part n s few is = record { rise = λ i j d l h. rw (is i d (ome
 
 -- ---- the three parts that two bounds make
 
-part_before : (P : Row → Type 0) (rows : List Row) (i : ℕ) → AllWithin P rows 0 i → i ≤ length rows → All P (take i rows)
-part_before P rows i each le k d h =
-    let low : k < i = omega (arith, length-take-le i rows le) in
-    subst P (sym (get_or-take i rows k d low)) (each k d (omega arith) low)
-
-part_behind : (P : Row → Type 0) (rows : List Row) (i : ℕ) → AllWithin P rows i (length rows) → All P (drop i rows)
-part_behind P rows i each k d h = subst P (sym (get_or-drop i rows k d)) (each (i + k) d (omega arith) (omega (arith, length-drop i rows)))
-
-part_within : (P : Row → Type 0) (rows : List Row) (i j : ℕ) → AllWithin P rows i j → j ≤ length rows → All P (slice_range rows i j)
-part_within P rows i j each le k d h =
-    let low : i + k < j = omega (arith, length-between rows i j le) in
-    subst P (sym (get_or-between rows i j k d low)) (each (i + k) d (omega arith) low)
-
 pub sorted_range : (rows : List Row) (i j : ℕ) → IsSorted rows → i ≤ j → j ≤ length rows → IsSorted (slice_range rows i j)
 sorted_range rows i j s le range =
     let size = length-between rows i j range in
@@ -154,23 +134,18 @@ sorted_without rows i j s le range =
 -- ---- what is found among the rows of a range
 
 not_within : (v p q x : ℕ) (row : Row) → (IsWithin v p q row → ⊥) → p ≤ x → x < q → ((row.koid.0 == v) && (row.page == x)) ≡ false
-not_within v p q x row apart low high = false_from_ne_true ((row.koid.0 == v) && (row.page == x)) (λ e.
-    let both = and_parts (row.koid.0 == v) (row.page == x) e in
-    let page = eqb-true row.page x both.1 in
-    apart (eqb-true row.koid.0 v both.0, omega arith, omega arith))
+not_within v p q x row apart low high = false_from_ne_true ((row.koid.0 == v) && (row.page == x)) (λ e. apart (grind (arith, nat_tests)))
 
 module _ (rows : List Row) (v p q from end : ℕ) (are : AreRowsWithin rows v p q from end) where
-  start_below : from ≤ length rows
-  start_below = let order = are.order in let range = are.range in omega arith
-
   -- a page of the range is found neither before its rows nor behind them
   pub find_row-before : (x : ℕ) → p ≤ x → x < q → find_row v x (take from rows) ≡ None
-  find_row-before x low high = find_row-absent v x (take from rows) (part_before (λ row. ((row.koid.0 == v) && (row.page == x)) ≡ false) rows from
-      (λ k d l h. not_within v p q x (get_or rows k d) (are.before k d l h) low high) start_below)
+  find_row-before x low high = find_row-absent v x (take from rows) (λ k d h.
+      let size = length-take-le from rows (omega (arith, are.order, are.range)) in
+      rw (get_or-take from rows k d (omega arith)) (not_within v p q x (get_or rows k d) (are.before k d (omega arith) (omega arith)) low high))
 
   pub find_row-behind : (x : ℕ) → p ≤ x → x < q → find_row v x (drop end rows) ≡ None
-  find_row-behind x low high = find_row-absent v x (drop end rows) (part_behind (λ row. ((row.koid.0 == v) && (row.page == x)) ≡ false) rows end
-      (λ k d l h. not_within v p q x (get_or rows k d) (are.behind k d l h) low high))
+  find_row-behind x low high = find_row-absent v x (drop end rows) (λ k d h.
+      rw (get_or-drop end rows k d) (not_within v p q x (get_or rows (end + k) d) (are.behind (end + k) d (omega arith) (omega (arith, length-drop end rows))) low high))
 
   -- it is found among them
   pub find_row-range : (x : ℕ) → p ≤ x → x < q → find_row v x (slice_range rows from end) ≡ find_row v x rows
@@ -179,7 +154,9 @@ module _ (rows : List Row) (v p q from end : ℕ) (are : AreRowsWithin rows v p 
       ∙ (sym (find_row-right v x (take from rows) (slice_range rows from end ++ drop end rows) (find_row-before x low high)) ∙ ap (find_row v x) (sym (split_between rows from end are.order)))
 
   pub range_within : All (IsWithin v p q) (slice_range rows from end)
-  range_within = part_within (IsWithin v p q) rows from end are.within are.range
+  range_within k d h =
+      let low : from + k < end = omega (arith, length-between rows from end are.range) in
+      subst (IsWithin v p q) (sym (get_or-between rows from end k d low)) (are.within (from + k) d (omega arith) low)
 
   -- and no other page is
   pub find_row-outside : (w x : ℕ) → (w ≡ v → (x < p) ⊎ (q ≤ x)) → find_row w x (slice_range rows from end) ≡ None
@@ -187,6 +164,5 @@ module _ (rows : List Row) (v p q from end : ℕ) (are : AreRowsWithin rows v p 
       let row = get_or (slice_range rows from end) k d in
       let within = range_within k d h in
       false_from_ne_true ((row.koid.0 == w) && (row.page == x)) (λ e.
-      let both = and_parts (row.koid.0 == w) (row.page == x) e in
-      let page = eqb-true row.page x both.1 in
-      elim (out (sym (eqb-true row.koid.0 w both.0) ∙ within.0)) [ inl before ↦ absurd (omega (arith, within.1)) | inr behind ↦ absurd (omega (arith, within.2)) ]))
+      let same : (w ≡ v) × (x ≡ row.page) = grind (arith, nat_tests) in
+      elim (out same.0) [ inl before ↦ absurd (omega (arith, within.1)) | inr behind ↦ absurd (omega (arith, within.2)) ]))

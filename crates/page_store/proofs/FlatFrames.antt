@@ -1,11 +1,10 @@
 -- The frames of the plain store: which are free, and what is known of those that pages show.
-use Rattle.std.proofs.Common.{◌≡◌, ℕ, ◌+◌, ◌<◌, ◌≤◌, true, false, ◌==◌, List, length, get_or, take, drop, Option, None, Some, refl, sym, ap, subst, ◌∙◌, arith}
-use Rattle.std.specs.Prelude.{IsSome, IfSome, is_some, nat_lt}
+use Rattle.std.proofs.Common.{◌≡◌, ℕ, ◌+◌, ◌<◌, ◌≤◌, false, ◌==◌, List, length, get_or, take, drop, Option, None, Some, refl, sym, ap, subst, ◌∙◌, arith}
+use Rattle.std.specs.Prelude.{IsSome, IfSome, is_some}
 use Rattle.std.proofs.lemmas.Bool.Decides.{nat_tests}
 use Rattle.std.proofs.lemmas.List.{get_or_read}
 use Rattle.frame_pool.specs.Pool.{taken_frames, frame_bytes, taken_count}
 use Rattle.frame_pool.proofs.PoolLaws.{taken_count-is}
-use Rattle.vm_base.specs.Search.{count_below}
 use Rattle.vm_base.proofs.SearchLaws.{count_below_same}
 use Rattle.vm_model.specs.Contents.Content.{Page, in_use, used, sole, is_sole_page}
 use Rattle.vm_model.specs.Contents.Sharing.{viewers}

@@ -1,6 +1,6 @@
 -- A page of the plain store that gets a frame of its own.
 use Rattle.std.proofs.Common.{◌≡◌, ◌≢◌, ◌⊎◌, ℕ, ◌+◌, ◌-◌, ◌<◌, ◌≤◌, Bool, true, false, cond, ◌&&◌, ◌==◌, List, [], length, get_or, set, Option, None, Some, refl, sym, ap, subst, ◌∙◌, inl, inr, arith, length-set}
-use Rattle.std.specs.Prelude.{IsSome, is_some, nat_lt, unwrap_or}
+use Rattle.std.specs.Prelude.{is_some, nat_lt, unwrap_or}
 use Rattle.std.specs.List.{insert}
 use Rattle.std.specs.declared.cmp.Ordering.TheVariants.{Equal}
 use Rattle.std.proofs.lemmas.Bool.{ne_eqb, eq-eqb, eqb-true, both_ways, false_from_ne_true}
@@ -10,7 +10,7 @@ use Rattle.vm_base.specs.declared.limits.TheConstants.{PAGE}
 use Rattle.vm_base.specs.Entries.{with_key}
 use Rattle.frame_pool.specs.Pool.{Pool, taken_frames, frame_bytes, taken_count, Takes}
 use Rattle.frame_pool.proofs.PoolLaws.{takes_apart}
-use Rattle.vm_base.proofs.EntryLaws.{with_key-same, with_key-other}
+use Rattle.vm_base.proofs.EntryLaws.{with_key-same}
 use Rattle.vm_model.specs.Contents.Content.{Page, shown, has_tag, pages_of, in_use, used, is_sole_page, sole, hold, IsGood}
 use Rattle.vm_base.specs.Pages.{zeros}
 use Rattle.vm_model.specs.Contents.Owning.{Owns}
@@ -23,7 +23,7 @@ use Rattle.page_store.specs.Flat.{Flat, page_of_row, content_of, IsFlat}
 use Rattle.page_store.specs.Shares.{rows_with}
 use Rattle.page_store.proofs.RowLaws.{no_row, page_cmp, cmp_itself, cmp_same, find_row-insert, sorted_insert, find_row-set, sorted_set}
 use Rattle.page_store.proofs.ShareLaws.{set_at, rows_with-insert, rows_with-set}
-use Rattle.page_store.proofs.FlatLaws.{same_content, page_from, some_page, page_at_row, page_in_gap}
+use Rattle.page_store.proofs.FlatLaws.{same_content, page_from, some_page, page_in_gap}
 use Rattle.page_store.proofs.FlatFrames.{free_in_use, used_taken, IsFrameOf, sole_share, page_read, frame_read, share_is, sole_is}
 
 -- there is a free frame where one is not used

@@ -1,21 +1,19 @@
 -- Bytes written to a frame that one page of the plain store shows.
-use Rattle.std.proofs.Common.{◌≡◌, ℕ, ◌+◌, ◌≤◌, Bool, true, false, cond, ◌&&◌, ◌==◌, List, length, Option, Some, refl, sym, ap, subst, ◌∙◌, inl, inr, arith}
-use Rattle.std.specs.Prelude.{is_some}
+use Rattle.std.proofs.Common.{◌≡◌, ℕ, ◌+◌, ◌≤◌, cond, ◌&&◌, ◌==◌, List, length, Some, refl, sym, subst, ◌∙◌, arith}
 use Rattle.std.specs.Cmp.{both_ways}
 use Rattle.std.proofs.lemmas.Bool.Decides.{nat_tests}
-use Rattle.std.proofs.lemmas.Bool.{cases_Bool, cases_eq, and_parts, and_from, eqb-true, eq-eqb}
+use Rattle.std.proofs.lemmas.Bool.{and_parts, and_from, eqb-true, eq-eqb}
 use Rattle.vm_base.specs.declared.limits.TheConstants.{PAGE}
 use Rattle.vm_base.specs.Entries.{with_key}
 use Rattle.frame_pool.specs.Pool.{Pool, taken_frames, frame_bytes}
 use Rattle.vm_model.specs.Contents.Content.{Page, Content, has_tag, hold, IsGood}
 use Rattle.vm_base.specs.Pages.{replaced}
 use Rattle.vm_model.proofs.ContentLaws.{has_tag_from, has_tag_held, sole_from, IsGood-hold_bytes}
-use Rattle.vm_base.proofs.EntryLaws.{with_key-here, with_key-other}
 use Rattle.vm_base.proofs.PageLaws.{length-replaced}
 use Rattle.page_store.specs.Rows.{find_row}
 use Rattle.page_store.specs.Pages.{ShowsTag, IsShown, IsShownOnce, Overwrites}
 use Rattle.page_store.specs.Flat.{Flat, page_of_row, content_of, IsFlat}
-use Rattle.page_store.proofs.FlatLaws.{same_content, page_from, page_of_row_found}
+use Rattle.page_store.proofs.FlatLaws.{same_content}
 use Rattle.page_store.proofs.FlatFrames.{shown_taken, shown_bytes}
 use Rattle.page_store.proofs.FlatOwning.{page_of_row-with, is_some-with_key}
 

@@ -1,5 +1,5 @@
 -- What is found in sorted rows, and what a new row changes.
-use Rattle.std.proofs.Common.{◌≡◌, ◌⊎◌, ℕ, zero, suc, ◌<◌, ◌≤◌, true, false, cond, ◌&&◌, ◌==◌, List, [], ◌∷◌, length, get_or, set, None, Some, Result, Ok, Err, IfOk, IfErr, refl, sym, ap, subst, ◌∙◌, inl, inr, arith, length-set, get_or-set_same, get_or-set_other}
+use Rattle.std.proofs.Common.{◌≡◌, ℕ, zero, suc, ◌<◌, ◌≤◌, false, cond, ◌&&◌, ◌==◌, List, [], ◌∷◌, length, get_or, set, None, Some, Result, Ok, Err, IfOk, IfErr, refl, sym, ap, ◌∙◌, inl, inr, arith, length-set, get_or-set_same, get_or-set_other}
 use Rattle.std.specs.List.{insert, All, AllWithin}
 use Rattle.std.specs.List.Sorted.{IsNonDecreasingBy, IsSearchInRange, IsBinarySearchResult}
 use Rattle.std.specs.declared.cmp.Ordering.{Ordering}
@@ -117,6 +117,7 @@ sorted_set rows i row s again = record {
 } where
   koid-set : (k : ℕ) (d : Row) → (get_or (set rows i row) k d).koid.0 ≡ (get_or rows k d).koid.0
   koid-set k d = set_field (λ r. r.koid.0) rows i row k d again.in_range (cmp_same row.koid.0 row.page (get_or rows i d).koid.0 (get_or rows i d).page (again.is d)).0
+
   page-set : (k : ℕ) (d : Row) → (get_or (set rows i row) k d).page ≡ (get_or rows k d).page
   page-set k d = set_field (λ r. r.page) rows i row k d again.in_range (cmp_same row.koid.0 row.page (get_or rows i d).koid.0 (get_or rows i d).page (again.is d)).1
 

@@ -1,13 +1,12 @@
 -- How many rows show a frame, and what becomes of the share counts and of the frames, row by row.
-use Rattle.std.proofs.Common.{◌≡◌, ◌≢◌, ℕ, zero, suc, ◌+◌, ◌-◌, ◌<◌, ◌≤◌, Bool, cond, ◌&&◌, ◌==◌, List, [], ◌∷◌, ◌++◌, length, map, get_or, set, take, drop, Option, None, Some, is_some, IsSome, refl, sym, ap, subst, ◌∙◌, inl, inr, arith, length-set, get_or-set_same, get_or-set_other}
-use Rattle.std.specs.Prelude.{nat_lt, MatchOption, unwrap_or}
+use Rattle.std.proofs.Common.{◌≡◌, ◌≢◌, ℕ, zero, suc, ◌+◌, ◌-◌, ◌<◌, ◌≤◌, cond, ◌&&◌, ◌==◌, List, [], ◌∷◌, ◌++◌, length, map, get_or, set, take, drop, Option, None, Some, IsSome, refl, sym, ap, ◌∙◌, inl, inr, arith, length-set, get_or-set_same, get_or-set_other}
+use Rattle.std.specs.Prelude.{MatchOption, unwrap_or}
 use Rattle.std.specs.List.{All, AllWithin, HoldsAt, slice_range, insert}
-use Rattle.std.proofs.lemmas.Bool.{cases_Bool, cases_eq, cases_lt, eqb-true, eqb-false, eq-eqb, ne_eqb, lt-ltb, cond-true, cond-false}
+use Rattle.std.proofs.lemmas.Bool.{cases_eq, cases_lt, eq-eqb, ne_eqb, lt-ltb, cond-true, cond-false}
 use Rattle.std.proofs.lemmas.Bool.Decides.{nat_tests}
 use Rattle.std.proofs.lemmas.List.{take-append-drop, take-take, take_more, get_or_past, append-nil, append_assoc, map_push, get_or_append_left}
 use Rattle.std.proofs.lemmas.List.Edits.{between_none, between_more, split_between}
 use Rattle.vm_base.specs.Entries.{without_key}
-use Rattle.vm_base.proofs.EntryLaws.{without_key-same, without_key-other}
 use Rattle.frame_pool.specs.Pool.{Pool, taken_frames}
 use Rattle.page_store.specs.declared.rows.Row.{Row}
 use Rattle.vm_base.proofs.SearchLaws.{eqb_same, bit-true, bit-false}

@@ -3,7 +3,6 @@ use Rattle.std.proofs.Common.{◌≡◌, ◌≢◌, ℕ, suc, ◌+◌, ◌-◌, 
 use Rattle.std.specs.Prelude.{nat_lt}
 use Rattle.std.specs.List.{All, AllWithin, slice_range}
 use Rattle.std.specs.Option.{option_map}
-use Rattle.std.specs.declared.cmp.Ordering.TheVariants.{Greater}
 use Rattle.std.proofs.lemmas.Bool.{cases_eq, cases_lt}
 use Rattle.std.proofs.lemmas.Bool.Decides.{nat_tests}
 use Rattle.std.proofs.lemmas.List.{length-map, get_or-map}
@@ -31,23 +30,18 @@ use Rattle.page_store.proofs.ViewLaws.{viewers_le, row_koids, row_tags, viewers-
 abbrev AreFrom : ℕ → ℕ → List Row → Type 0
 AreFrom v first rows = All (λ row. (row.koid.0 ≡ v) × (first ≤ row.page)) rows
 
-shift_test : (koid v first p w q : ℕ) → w ≡ v → first ≤ q → ((koid == koid) && ((q - first) == p)) ≡ ((w == v) && (q == (first + p)))
-shift_test koid v first p w q e h = grind (arith, nat_tests)
-
 -- a page is found among the new rows where the page that it shows is found
 find_row-moved : (koid v first p : ℕ) (rows : List Row) → AreFrom v first rows → find_row koid p (map (row_in koid first) rows) ≡ option_map (row_in koid first) (find_row v (first + p) rows)
 unfolding find_row
 find_row-moved koid v first p [] from = refl
 find_row-moved koid v first p (row ∷ rows) from =
     let here = from 0 row (omega arith) in
-    let rest = find_row-moved koid v first p rows (λ k d h. from (suc k) d (omega arith)) in
-    let test = shift_test koid v first p row.koid.0 row.page here.0 here.1 in
-    ap (λ b. cond b (Some (row_in koid first row)) (find_row koid p (map (row_in koid first) rows))) test
-    ∙ go ((row.koid.0 == v) && (row.page == (first + p))) (find_row koid p (map (row_in koid first) rows)) rest where
-      go : (b : Bool) (o : Option Row) → o ≡ option_map (row_in koid first) (find_row v (first + p) rows)
-          → cond b (Some (row_in koid first row)) o ≡ option_map (row_in koid first) (cond b (Some row) (find_row v (first + p) rows))
-      go true o rest = refl
-      go false o rest = rest
+    let test : ((koid == koid) && ((row.page - first) == p)) ≡ ((row.koid.0 == v) && (row.page == (first + p))) = grind (arith, nat_tests) in
+    rw (find_row-moved koid v first p rows (λ k d h. from (suc k) d (omega arith)), test) (go ((row.koid.0 == v) && (row.page == (first + p)))) where
+      go : (b : Bool) → cond b (Some (row_in koid first row)) (option_map (row_in koid first) (find_row v (first + p) rows))
+          ≡ option_map (row_in koid first) (cond b (Some row) (find_row v (first + p) rows))
+      go true = refl
+      go false = refl
 
 -- it has the frame of that page
 page_moved : (pool : Pool) (koid first : ℕ) (o : Option Row) → page_of_row pool (option_map (row_in koid first) o) ≡ page_of_row pool o

@@ -1,12 +1,13 @@
 -- How many VMOs show a frame of the plain store: as many as there are rows with it. So the store's invariant follows
 -- from its lists.
-use Rattle.std.proofs.Common.{◌≡◌, ◌≢◌, ℕ, zero, suc, ◌+◌, ◌<◌, ◌≤◌, Bool, true, false, not, cond, ◌&&◌, ◌||◌, ◌==◌, List, [], ◌∷◌, length, get_or, Some, refl, sym, ap, ◌∙◌, inl, inr, arith}
+use Rattle.std.proofs.Common.{◌≡◌, ◌≢◌, ℕ, suc, ◌+◌, ◌<◌, ◌≤◌, Bool, true, false, not, ◌&&◌, ◌==◌, List, [], ◌∷◌, length, get_or, Some, refl, sym, ap, ◌∙◌, inl, inr, arith}
 use Rattle.std.specs.Prelude.{nat_lt, is_some}
-use Rattle.std.specs.List.{All}
+use Rattle.std.specs.List.{All, list_any}
 use Rattle.std.specs.Cmp.{both_ways}
-use Rattle.std.specs.declared.cmp.Ordering.TheVariants.{Greater}
-use Rattle.std.proofs.lemmas.Bool.{cases_Bool, cases_lt, eqb-true, eq-eqb, ne_eqb, and_parts, and_from, and_left, and_right, or_cases, or_left, or_right, false_from_ne_true}
+use Rattle.std.proofs.lemmas.Bool.{cases_Bool, cases_lt, eqb-true, and_parts, and_left, false_from_ne_true}
 use Rattle.std.proofs.lemmas.Bool.Decides.{nat_tests}
+use Rattle.std.proofs.lemmas.List.{get_or_default}
+use Rattle.std.proofs.lemmas.List.Folds.{Any-from_list_any, list_any_at}
 use Rattle.frame_pool.specs.Pool.{taken_frames}
 use Rattle.vm_base.specs.Search.{count_below}
 use Rattle.vm_model.specs.Contents.Content.{Page, Content, views, in_use, vmos_of, seen_elsewhere, is_sole_page, IsGood}
@@ -48,9 +49,7 @@ sole-viewers c v p held good e =
     ap (λ b. not b && views c held.tag w) (eqb_apart w v apart)) in
     let more : count_below c.next (views c held.tag) ≡ count_below c.next other + 1 =
     omega (arith, change, bit-true (views c held.tag v) shows, bit-false (other v) off) in
-    ap not (any_below-count c.next other) ∙ go (count_below c.next other) _ more where
-      go : (m n : ℕ) → n ≡ m + 1 → not (nat_lt 0 m) ≡ (n == 1)
-      go m n e = grind (arith, nat_tests)
+    rw (any_below-count c.next other) (grind (arith, nat_tests))
 
 -- ---- rows and pages
 
@@ -82,31 +81,18 @@ page_of_each f sorted i d h =
 -- ---- which VMOs have a row with a frame
 
 -- a row of v has the frame t
-pub shows_in : ℕ → List Row → ℕ → Bool
-shows_in t [] v = false
-shows_in t (row ∷ rows) v = ((row.koid.0 == v) && (row.tag.0 == t)) || shows_in t rows v
+abbrev pub shows_in : ℕ → List Row → ℕ → Bool
+shows_in t rows v = list_any (λ row. (row.koid.0 == v) && (row.tag.0 == t)) rows
 
 pub shows_in-found : (t v : ℕ) (rows : List Row) → shows_in t rows v ≡ true → (i : ℕ) × (i < length rows) × ((d : Row) → (get_or rows i d).koid.0 ≡ v) × ((d : Row) → (get_or rows i d).tag.0 ≡ t)
-unfolding shows_in
-shows_in-found t v [] e = absurd cc
-shows_in-found t v (row ∷ rows) e = elim (or_cases ((row.koid.0 == v) && (row.tag.0 == t)) (shows_in t rows v) e) [
-  | inl here ↦ let both = and_parts (row.koid.0 == v) (row.tag.0 == t) here in (0, omega arith, (λ d. eqb-true row.koid.0 v both.0), (λ d. eqb-true row.tag.0 t both.1))
-  | inr there ↦ let found = shows_in-found t v rows there in (suc found.0, omega (arith, found.1), found.2, found.3)
-]
+shows_in-found t v rows e =
+    let found = Any-from_list_any (λ (row : Row). (row.koid.0 == v) && (row.tag.0 == t)) rows e in
+    let both = and_parts ((found.1).koid.0 == v) ((found.1).tag.0 == t) found.4 in
+    let is = λ (d : Row). get_or_default rows found.0 d found.1 found.2 ∙ found.3 in
+    (found.0, found.2, λ d. ap (λ (r : Row). r.koid.0) (is d) ∙ eqb-true (found.1).koid.0 v both.0, λ d. ap (λ (r : Row). r.tag.0) (is d) ∙ eqb-true (found.1).tag.0 t both.1)
 
 pub shows_in-at : (t v : ℕ) (rows : List Row) (i : ℕ) (d : Row) → i < length rows → (get_or rows i d).koid.0 ≡ v → (get_or rows i d).tag.0 ≡ t → shows_in t rows v ≡ true
-unfolding shows_in
-shows_in-at t v [] i d h koid tag = absurd (omega arith)
-shows_in-at t v (row ∷ rows) zero d h koid tag = or_left _ _ (and_from (row.koid.0 == v) (row.tag.0 == t) (eq-eqb row.koid.0 v koid) (eq-eqb row.tag.0 t tag))
-shows_in-at t v (row ∷ rows) (suc i) d h koid tag = or_right _ _ (shows_in-at t v rows i d (omega arith) koid tag)
-
-shows_in-skip : (t v : ℕ) (row : Row) (rows : List Row) → ((row.koid.0 == v) && (row.tag.0 == t)) ≡ false → shows_in t (row ∷ rows) v ≡ shows_in t rows v
-unfolding shows_in
-shows_in-skip t v row rows e = ap (λ b. b || shows_in t rows v) e
-
-shows_in-nil : (t v : ℕ) → shows_in t [] v ≡ false
-unfolding shows_in
-shows_in-nil t v = refl
+shows_in-at t v rows i d h koid tag = list_any_at (λ row. (row.koid.0 == v) && (row.tag.0 == t)) rows i d h (grind (arith, nat_tests))
 
 -- no two rows of one VMO have one frame
 pub record AreApart (rows : List Row) : Type 0 where
@@ -115,24 +101,19 @@ pub record AreApart (rows : List Row) : Type 0 where
 -- then as many VMOs have a row with the frame as rows have it
 count_shows : (n t : ℕ) (rows : List Row) → All (λ row. row.koid.0 < n) rows → AreApart rows → count_below n (shows_in t rows) ≡ rows_with t rows
 unfolding rows_with
-count_shows n t [] low apart = count_below_none n (shows_in t []) (λ v h. shows_in-nil t v)
+count_shows n t [] low apart = count_below_none n (shows_in t []) (λ v h. refl)
 count_shows n t (row ∷ rows) low apart =
     let rest = count_shows n t rows (λ k d h. low (suc k) d (omega arith)) (record { apart = λ i j d l h. apart.apart (suc i) (suc j) d (omega arith) (omega arith) }) in
     elim (cases_Bool (row.tag.0 == t)) [
       | inr other ↦
-          let same = count_below_same n (shows_in t (row ∷ rows)) (shows_in t rows) (λ v h. shows_in-skip t v row rows (and_right (row.koid.0 == v) (row.tag.0 == t) other)) in
-          let bit : ◌≡◌ {A = ℕ} (cond (row.tag.0 == t) 1 0) 0 = ap (λ (b : Bool). cond {A = ℕ} b 1 0) other in
-          omega (arith, same, rest, bit)
+          let same = count_below_same n (shows_in t (row ∷ rows)) (shows_in t rows) (λ v h. grind (arith, nat_tests)) in
+          omega (arith, same, rest, bit-false (row.tag.0 == t) other)
       | inl here ↦
-          let tag = eqb-true row.tag.0 t here in
           let miss : shows_in t rows row.koid.0 ≡ false = false_from_ne_true (shows_in t rows row.koid.0) (λ e.
           let found = shows_in-found t row.koid.0 rows e in
-          apart.apart 0 (suc found.0) row (omega arith) (omega (arith, found.1)) (sym (found.2 row)) (tag ∙ sym (found.3 row))) in
-          let hit = shows_in-at t row.koid.0 (row ∷ rows) 0 row (omega arith) refl tag in
-          let more = count_below_one_more n row.koid.0 (shows_in t rows) (shows_in t (row ∷ rows)) (low 0 row (omega arith)) miss hit (λ v other.
-          shows_in-skip t v row rows (and_left (row.koid.0 == v) (row.tag.0 == t) (ne_eqb row.koid.0 v (λ e. other (sym e))))) in
-          let bit : ◌≡◌ {A = ℕ} (cond (row.tag.0 == t) 1 0) 1 = ap (λ (b : Bool). cond {A = ℕ} b 1 0) here in
-          omega (arith, more, rest, bit)
+          apart.apart 0 (suc found.0) row (omega arith) (omega (arith, found.1)) (sym (found.2 row)) (eqb-true row.tag.0 t here ∙ sym (found.3 row))) in
+          let more = count_below_one_more n row.koid.0 (shows_in t rows) (shows_in t (row ∷ rows)) (low 0 row (omega arith)) miss (grind (arith, nat_tests)) (λ v other. grind (arith, nat_tests)) in
+          omega (arith, more, rest, bit-true (row.tag.0 == t) here)
     ]
 
 -- ---- the viewers of a frame

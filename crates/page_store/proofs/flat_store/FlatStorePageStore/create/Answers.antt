@@ -1,4 +1,4 @@
-use Rattle.std.proofs.Common.{refl, sym, arith}
+use Rattle.std.proofs.Common.{refl, arith}
 use Rattle.page_store.proofs.FlatLaws.{IsFlat-pushed, content_of-pushed}
 use Rattle.page_store.proofs.flat_store.FlatStorePageStore.create.Goals as goal
 

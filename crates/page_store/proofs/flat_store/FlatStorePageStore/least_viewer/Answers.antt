@@ -1,4 +1,3 @@
-use Rattle.std.proofs.Common.{arith}
 use Rattle.page_store.specs.FlatFields.{flat_of}
 use Rattle.page_store.proofs.ViewLaws.{rows_with-shown, least_row}
 use Rattle.page_store.proofs.flat_store.FlatStorePageStore.least_viewer.Goals as goal

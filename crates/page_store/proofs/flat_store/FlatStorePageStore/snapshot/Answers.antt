@@ -1,9 +1,9 @@
-use Rattle.std.proofs.Common.{◌+◌, refl, sym, arith}
+use Rattle.std.proofs.Common.{◌+◌, refl, arith}
 use Rattle.std.specs.Vec.{with_items}
 use Rattle.std.proofs.lemmas.List.{with_items_is}
 use Rattle.page_store.specs.Flat.{Flat}
 use Rattle.page_store.specs.FlatFields.{flat_of}
-use Rattle.page_store.proofs.FlatLaws.{end_fits, IsFlat-spare}
+use Rattle.page_store.proofs.FlatLaws.{end_fits}
 use Rattle.page_store.proofs.SnapshotLaws.{IsSnapshot, content-snapshot, IsFlat-snapshot, tags_counted, shares_fit}
 use Rattle.page_store.proofs.flat_store.FlatStorePageStore.snapshot.Goals as goal
 
