@@ -16,6 +16,7 @@ use Rattle.page_store.specs.Rows.{find_row, IsSorted, IsRowFor, IsGapFor}
 use Rattle.page_store.specs.Vmos.{count_in, IsAscending, IsVmoFor}
 use Rattle.page_store.specs.Flat.{Flat, page_of_row, content_of, IsFlat}
 use Rattle.page_store.specs.Shares.{rows_with}
+use Rattle.page_store.proofs.NameLaws.{pages_of_le}
 use Rattle.page_store.proofs.RowLaws.{find_row-at, find_row-gap, sorted_nil}
 use Rattle.page_store.proofs.VmoLaws.{AllBelow, count_in-at, count_in-push, ascending_nil, ascending_push, below_from_counts}
 
@@ -36,10 +37,10 @@ pub page_of_row_found : (pool : Pool) (o : Option Row) (held : Page) → page_of
 page_of_row_found pool None held e = absurd cc
 page_of_row_found pool (Some row) held e = (row, refl, cc)
 
--- where no page is held, there is no row
-pub page_of_row_free : (pool : Pool) (o : Option Row) → page_of_row pool o ≡ None → o ≡ None
-page_of_row_free pool None e = refl
-page_of_row_free pool (Some row) e = absurd cc
+-- where no page is held, none is with other frames
+page_of_row_free : (pool other : Pool) (o : Option Row) → page_of_row pool o ≡ None → page_of_row other o ≡ page_of_row pool o
+page_of_row_free pool other None e = refl
+page_of_row_free pool other (Some row) e = absurd cc
 
 pub IsFlat-spare : (f : Flat) (s : ℕ) → IsFlat f → IsFlat (record f { spare = s })
 IsFlat-spare f s flat =
@@ -69,18 +70,14 @@ IsFlat-nothing f e sorted ascending counts zeros none free = record {
 abbrev pub empty_flat : Pool → ℕ → Flat
 empty_flat pool s = record { pool = pool; next = 1; vmos = []; rows = []; shares = []; spare = s }
 
-pub content_of-empty : (pool : Pool) (s : ℕ) → content_of (empty_flat pool s) ≡ nothing_of pool
-unfolding nothing find_row count_in
-content_of-empty pool s = refl
-
 pub IsFlat-empty : (pool : Pool) (s : ℕ) → pool.frames ≡ 0 → ((t : ℕ) → taken_frames pool t ≡ None) → IsFlat (empty_flat pool s)
-unfolding rows_with
+unfolding nothing find_row count_in rows_with
 IsFlat-empty pool s none free =
-    IsFlat-nothing (empty_flat pool s) (content_of-empty pool s) sorted_nil ascending_nil (sym none) (λ t. get_or_past [] t 0 (omega arith)) (λ t. refl) free
+    IsFlat-nothing (empty_flat pool s) refl sorted_nil ascending_nil (sym none) (λ t. get_or_past [] t 0 (omega arith)) (λ t. refl) free
 
 pub content_of-none : (pool : Pool) (s : ℕ) → pool.frames ≡ 0 → content_of (empty_flat pool s) ≡ nothing
-unfolding nothing
-content_of-none pool s none = content_of-empty pool s ∙ ap (λ (n : ℕ). record nothing { frames = n }) none
+unfolding nothing find_row count_in
+content_of-none pool s none = ap (λ (n : ℕ). record nothing { frames = n }) none
 
 -- a store with no VMO has no frames and no VMO
 pub no_frames : (f : Flat) → content_of f ≡ nothing → f.pool.frames ≡ 0
@@ -102,13 +99,9 @@ all_zero n t = elim (cases_lt t n) [
 ]
 
 -- it gets its frames
-module _ (f : Flat) (pool : Pool) (empty : content_of f ≡ nothing) where
-  page_empty : (v p : ℕ) → find_row v p f.rows ≡ None
-  unfolding nothing
-  page_empty v p = page_of_row_free f.pool (find_row v p f.rows) (ap (λ (c : Content). c.page v p) empty)
-
-  pub content_of-filled : content_of (record f { pool = pool }) ≡ record (content_of f) { frames = pool.frames }
-  content_of-filled = same_content _ _ refl refl (λ v. refl) (λ v p. ap (page_of_row pool) (page_empty v p) ∙ sym (ap (page_of_row f.pool) (page_empty v p)))
+pub content_of-filled : (f : Flat) (pool : Pool) → content_of f ≡ nothing → content_of (record f { pool = pool }) ≡ record (content_of f) { frames = pool.frames }
+unfolding nothing
+content_of-filled f pool empty = same_content _ _ refl refl (λ v. refl) (λ v p. page_of_row_free f.pool pool (find_row v p f.rows) (ap (λ (c : Content). c.page v p) empty))
 
 pub IsFlat-filled : (f : Flat) (pool : Pool) (n m : ℕ) → content_of f ≡ nothing → IsFlat f → pool.frames ≡ n → ((t : ℕ) → taken_frames pool t ≡ None) → m ≡ n → IsFlat (record f { pool = pool; shares = take n f.shares ++ replicate m 0 })
 IsFlat-filled f pool n m empty flat frames free same =
@@ -139,14 +132,6 @@ count_read f v i vmo flat at read = count_in-at f.vmos flat.ascending v i at vmo
 
 pub pages_read : (f : Flat) (v i : ℕ) (vmo : Vmo) → IsFlat f → IsVmoFor f.vmos v i → vmo ≡ get_or f.vmos i vmo → pages_of (content_of f) v ≡ vmo.count
 pages_read f v i vmo flat at read = pages_of-at (content_of f) v vmo.count (count_read f v i vmo flat at read)
-
--- no VMO has too many pages
-pages_of_le : (c : Content) (v : ℕ) → IsGood c → pages_of c v ≤ VMO_PAGES
-unfolding pages_of
-pages_of_le c v good = go (c.count v) refl where
-  go : (o : Option ℕ) → c.count v ≡ o → unwrap_or o 0 ≤ VMO_PAGES
-  go None e = omega arith
-  go (Some n) e = good.counts v n e
 
 -- so the end of a range of pages is a number of the machine
 pub end_fits : (f : Flat) (v first seen : ℕ) → IsFlat f → first + seen ≤ pages_of (content_of f) v → first + seen < 2 ^ 64

@@ -42,13 +42,10 @@ page_of_row-with old new t bytes e (Some row) = rw e (grind (arith, nat_tests))
 
 -- g is f, but the page of the row has its frame, which was free, with these bytes
 pub record HoldsRow (f g : Flat) (row : Row) (bytes : List ℕ) : Type 0 where
+  pub rest : g ≡ record f { pool = g.pool; rows = g.rows; shares = g.shares; spare = g.spare }
   pub frames : g.pool.frames ≡ f.pool.frames
-  pub next : g.next ≡ f.next
-  pub vmos : g.vmos ≡ f.vmos
+  pub takes : Takes f.pool g.pool row.tag.0 bytes
   pub counts : length g.shares ≡ length f.shares
-  pub below : row.tag.0 < f.pool.frames
-  pub was_free : taken_frames f.pool row.tag.0 ≡ None
-  pub frame : taken_frames g.pool ≡ with_key (taken_frames f.pool) row.tag.0 bytes
   pub whole : length bytes ≡ PAGE
   pub sorted : IsSorted g.rows
   pub rows : (w q : ℕ) → find_row w q g.rows ≡ cond ((w == row.koid.0) && (q == row.page)) (Some row) (find_row w q f.rows)
@@ -61,23 +58,16 @@ pub record AreShares (f g : Flat) (t : ℕ) (leaves : ℕ → Bool) : Type 0 whe
   pub rows : (u : ℕ) → rows_with u g.rows + cond (leaves u) 1 0 ≡ rows_with u f.rows + cond (t == u) 1 0
   pub stays : (u : ℕ) → leaves u ≡ true → 2 ≤ get_or f.shares u 0
 
-taken_again : (n m : ℕ) (there leaves : Bool) → m + cond leaves 1 0 ≡ n + cond there 1 0 → (leaves ≡ true → 2 ≤ n) → cond there true (nat_lt 0 n) ≡ nat_lt 0 m
-taken_again n m there true e h = let low = h refl in grind (arith, nat_tests)
-taken_again n m there false e h = grind (arith, nat_tests)
-
 pub is_some-with_key : (m : ℕ → Option (List ℕ)) (t : ℕ) (bytes : List ℕ) (u : ℕ) → is_some (with_key m t bytes u) ≡ cond (t == u) true (is_some (m u))
 unfolding with_key
-is_some-with_key m t bytes u = go (u == t) (m u) ∙ ap (λ b. cond b true (is_some (m u))) (let flip : (u == t) ≡ (t == u) = grind (arith, nat_tests) in flip) where
-  go : (b : Bool) (o : Option (List ℕ)) → is_some (cond b (Some bytes) o) ≡ cond b true (is_some o)
-  go true o = refl
-  go false o = refl
+is_some-with_key m t bytes u = grind (arith, nat_tests)
 
 module _ (f g : Flat) (row : Row) (bytes : List ℕ) (flat : IsFlat f) (is : HoldsRow f g row bytes) where
   abbrev new_page : Page
   new_page = record { tag = row.tag.0; bytes = bytes }
 
   was_unused : in_use (content_of f) row.tag.0 ≡ false
-  was_unused = free_in_use f row.tag.0 flat is.was_free
+  was_unused = free_in_use f row.tag.0 flat is.takes.was_free
 
   -- no page had the frame
   had_no_page : (w q : ℕ) → has_tag row.tag.0 ((content_of f).page w q) ≡ false
@@ -88,25 +78,26 @@ module _ (f g : Flat) (row : Row) (bytes : List ℕ) (flat : IsFlat f) (is : Hol
   page_held : (w q : ℕ) → page_of_row g.pool (find_row w q g.rows) ≡ cond ((w == row.koid.0) && (q == row.page)) (Some new_page) (page_of_row f.pool (find_row w q f.rows))
   page_held w q = ap (page_of_row g.pool) (is.rows w q) ∙ go ((w == row.koid.0) && (q == row.page)) where
     go : (b : Bool) → page_of_row g.pool (cond b (Some row) (find_row w q f.rows)) ≡ cond b (Some new_page) (page_of_row f.pool (find_row w q f.rows))
-    go true = ap (λ (m : ℕ → Option (List ℕ)). some_page row.tag.0 (unwrap_or (m row.tag.0) [])) is.frame ∙ ap (λ o. some_page row.tag.0 (unwrap_or o [])) (with_key-same (taken_frames f.pool) row.tag.0 bytes)
-    go false = rw (page_of_row-with f.pool g.pool row.tag.0 bytes is.frame (find_row w q f.rows), had_no_page w q)
+    go true = ap (λ (m : ℕ → Option (List ℕ)). some_page row.tag.0 (unwrap_or (m row.tag.0) [])) is.takes.taken ∙ ap (λ o. some_page row.tag.0 (unwrap_or o [])) (with_key-same (taken_frames f.pool) row.tag.0 bytes)
+    go false = rw (page_of_row-with f.pool g.pool row.tag.0 bytes is.takes.taken (find_row w q f.rows), had_no_page w q)
 
   pub content_of-held : content_of g ≡ hold (content_of f) row.koid.0 row.page new_page
   unfolding hold
-  content_of-held = same_content _ _ is.frames is.next (λ w. ap (count_in w) is.vmos) page_held
+  content_of-held = same_content _ _ is.frames (ap (λ (h : Flat). h.next) is.rest) (λ w. ap (λ (h : Flat). count_in w h.vmos) is.rest) page_held
 
   pub IsFlat-held : (leaves : ℕ → Bool) → AreShares f g row.tag.0 leaves → IsFlat g
   IsFlat-held leaves are = record {
     sorted = is.sorted;
-    ascending = subst IsAscending (sym is.vmos) flat.ascending;
-    good = subst IsGood (sym content_of-held) (IsGood-hold_new (content_of f) row.koid.0 row.page new_page flat.good is.page is.below was_unused is.whole);
+    ascending = subst (λ (h : Flat). IsAscending h.vmos) (sym is.rest) flat.ascending;
+    good = subst IsGood (sym content_of-held) (IsGood-hold_new (content_of f) row.koid.0 row.page new_page flat.good is.page is.takes.below was_unused is.whole);
     counts = is.counts ∙ (flat.counts ∙ sym is.frames);
     shares = λ u. omega (arith, are.is u, are.rows u, flat.shares u);
     counted = record {
-      taken = λ u. ap (λ (m : ℕ → Option (List ℕ)). is_some (m u)) is.frame
-          ∙ (is_some-with_key (taken_frames f.pool) row.tag.0 bytes u
-          ∙ (ap (λ b. cond (row.tag.0 == u) true b) (flat.counted.taken u)
-          ∙ taken_again (get_or f.shares u 0) (get_or g.shares u 0) (row.tag.0 == u) (leaves u) (are.is u) (are.stays u)));
+      taken = λ u.
+          let was = flat.counted.taken u in
+          let count = are.is u in
+          let two = are.stays u in
+          rw (is.takes.taken, is_some-with_key (taken_frames f.pool) row.tag.0 bytes u) (grind (arith, nat_tests));
     };
   }
 
@@ -114,17 +105,14 @@ module _ (f g : Flat) (row : Row) (bytes : List ℕ) (flat : IsFlat f) (is : Hol
   pub owns_new : sole (content_of f) row.koid.0 row.page ≡ false → bytes ≡ shown (content_of f) row.koid.0 row.page → Owns (content_of f) (content_of g) row.koid.0 row.page row.tag.0
   owns_new shared same = record {
     stays = λ alone. absurd (both_ways (sole (content_of f) row.koid.0 row.page) shared alone);
-    copies = λ _. (is.below, was_unused, content_of-held ∙ ap (λ (bs : List ℕ). hold (content_of f) row.koid.0 row.page (record { tag = row.tag.0; bytes = bs })) same);
+    copies = λ _. (is.takes.below, was_unused, content_of-held ∙ ap (λ (bs : List ℕ). hold (content_of f) row.koid.0 row.page (record { tag = row.tag.0; bytes = bs })) same);
   }
 
 -- ---- share counts
 
-no_share : (n : ℕ) → nat_lt 0 n ≡ false → n ≡ 0
-no_share n e = grind (arith, nat_tests)
-
 -- a free frame is not shared
 free_share : (f : Flat) (t : ℕ) → IsFlat f → taken_frames f.pool t ≡ None → get_or f.shares t 0 ≡ 0
-free_share f t flat free = no_share (get_or f.shares t 0) (sym (flat.counted.taken t) ∙ ap is_some free)
+free_share f t flat free = let none = sym (flat.counted.taken t) ∙ ap is_some free in grind (arith, nat_tests)
 
 -- the frame t, which was free, is shown once
 shares_zero : (shares : List ℕ) (t : ℕ) → get_or shares t 0 ≡ 0 → t < length shares → (u : ℕ) → get_or (set shares t 1) u 0 ≡ get_or shares u 0 + cond (t == u) 1 0
@@ -157,13 +145,10 @@ zero_owned f pool row i s = record f { pool = pool; rows = insert f.rows i row; 
 module _ (f : Flat) (pool : Pool) (row : Row) (i s : ℕ) (flat : IsFlat f) (gap : IsGapFor f.rows row.koid.0 row.page i) (h : row.page < pages_of (content_of f) row.koid.0) (frames : pool.frames ≡ f.pool.frames) (takes : Takes f.pool pool row.tag.0 zeros) where
   holds_zero : HoldsRow f (zero_owned f pool row i s) row zeros
   holds_zero = record {
+    rest = refl;
     frames = frames;
-    next = refl;
-    vmos = refl;
+    takes = takes;
     counts = length-set f.shares row.tag.0 1;
-    below = takes.below;
-    was_free = takes.was_free;
-    frame = takes.taken;
     whole = length-zeros;
     sorted = sorted_insert f.rows i row flat.sorted gap;
     rows = find_row-insert f.rows i row gap.before;
@@ -240,13 +225,10 @@ module _ (f : Flat) (pool : Pool) (row : Row) (i t : ℕ) (flat : IsFlat f) (h :
 
   holds_held : HoldsRow f moved_flat (moved row t) (frame_bytes f.pool row.tag.0)
   holds_held = record {
+    rest = refl;
     frames = frames;
-    next = refl;
-    vmos = refl;
+    takes = takes;
     counts = length-set (set f.shares row.tag.0 (get_or f.shares row.tag.0 0 - 1)) t 1 ∙ length-set f.shares row.tag.0 (get_or f.shares row.tag.0 0 - 1);
-    below = takes.below;
-    was_free = takes.was_free;
-    frame = takes.taken;
     whole = flat.good.whole row.koid.0 row.page (page_from f.pool row) held_is;
     sorted = sorted_set f.rows i (moved row t) flat.sorted there;
     rows = find_row-set f.rows i (moved row t) flat.sorted there;

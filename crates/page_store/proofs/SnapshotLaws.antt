@@ -80,9 +80,6 @@ pub record IsSnapshot (f g : Flat) (v first seen pages from end : ℕ) : Type 0 
   pub rows : g.rows ≡ f.rows ++ map (row_in f.next first) (slice_range f.rows from end)
   pub shares : Shares (slice_range f.rows from end) f.shares g.shares
 
-positive_sum : (a b : ℕ) → b ≤ a → nat_lt 0 a ≡ nat_lt 0 (a + b)
-positive_sum a b h = grind (arith, nat_tests)
-
 module _ (f g : Flat) (v first seen pages from end : ℕ) (flat : IsFlat f) (new : IsSnapshot f g v first seen pages from end) where
   seen_from : AreFrom v first (slice_range f.rows from end)
   seen_from k d h = let within = range_within f.rows v first (first + seen) from end new.are k d h in (within.0, within.1)
@@ -120,12 +117,7 @@ module _ (f g : Flat) (v first seen pages from end : ℕ) (flat : IsFlat f) (new
       same_content (content_of g) (snapshotted c v first seen pages)
       (ap (λ (pool : Pool). pool.frames) new.pool) new.next
       (λ w. ap (count_in w) new.vmos ∙ count_in-push f.vmos (new_vmo f pages) (koids_below f (new_vmo f pages) flat refl) w)
-      (λ w p. elim (cases_eq w f.next) [
-        | inl same ↦
-            ap (λ (u : ℕ). page_of_row g.pool (find_row u p g.rows)) same
-            ∙ (page_new p ∙ sym (ap (λ (u : ℕ). (snapshotted c v first seen pages).page u p) same ∙ page-snapshotted_new c v first seen pages p))
-        | inr apart ↦ page_old w p apart ∙ sym (page-snapshotted_other c v first seen pages w p apart)
-      ])
+      (λ w p. let here = page_new p in let other = page_old w p in grind (arith, nat_tests))
 
   snapshot_sorted : IsSorted g.rows
   snapshot_sorted =
@@ -147,8 +139,9 @@ module _ (f g : Flat) (v first seen pages from end : ℕ) (flat : IsFlat f) (new
     taken = λ t.
         let fewer = rows_with-range t f.rows from end (new.are).order in
         let count = (new.shares).counts t in
-        ap (λ (pool : Pool). is_some (taken_frames pool t)) new.pool
-        ∙ (flat.counted.taken t ∙ (positive_sum (get_or f.shares t 0) (rows_with t (slice_range f.rows from end)) (omega (arith, flat.shares t)) ∙ ap (nat_lt 0) (sym count)));
+        let was = flat.counted.taken t in
+        let rows = flat.shares t in
+        rw new.pool (grind (arith, nat_tests));
   }
 
   pub IsFlat-snapshot : seen ≤ pages → pages ≤ VMO_PAGES → IsFlat g
