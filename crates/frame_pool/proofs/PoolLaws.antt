@@ -41,10 +41,6 @@ one_more p t bytes h free = entry_count-with_key p.frames (λ (b : List ℕ). tr
 
 -- ---- tags in the list of idle ones
 
--- a test of two numbers, either way
-pub eqb_flip : (a b : ℕ) → (a == b) ≡ (b == a)
-eqb_flip a b = grind (arith, nat_tests)
-
 -- a tag past the bound is not idle
 is_idle-past : (n : ℕ) (tags : List Tag) (u : ℕ) → AreDistinctBelow n tags → n ≤ u → is_idle tags u ≡ false
 unfolding is_idle AreDistinctBelow
@@ -250,7 +246,8 @@ module _ (p : Pool) (tag : Tag) (pool : IsPool p) (taken : IsSome (taken_frames 
 
   fewer : count_taken p.frames (without_key (taken_frames p) tag.0) + 1 ≡ taken_count p
   fewer =
-      let less = entry_count-without_key p.frames (λ (b : List ℕ). true) (taken_frames p) tag.0 (taken_below p tag.0 pool taken) in
+      let less = entry_count-without_key p.frames (λ (b : List ℕ). true) (taken_frames p) tag.0
+      (taken_below p tag.0 pool taken) in
       omega (arith, less, bit_taken (taken_frames p tag.0) taken)
 
   pub idle_room : length p.idle < p.frames
@@ -283,7 +280,8 @@ module _ (p : Pool) (t : ℕ) (bytes : List ℕ) (pool : IsPool p) (taken : IsSo
   as_many =
       let m = taken_frames p in
       let n = with_key m t bytes in
-      let change = entry_count-change p.frames (λ (b : List ℕ). true) m n t (taken_below p t pool taken) (with_key-other m t bytes) in
+      let change = entry_count-change p.frames (λ (b : List ℕ). true) m n t (taken_below p t pool taken)
+      (with_key-other m t bytes) in
       omega (arith, change, bit_taken (m t) taken, bit_taken (n t) (with_key-stays m t bytes t taken))
 
   pub IsPool-written : IsPool written_pool

@@ -19,7 +19,8 @@ pub bound_at_row : (rows : List Row) → IsSorted rows → (v p i : ℕ) → IsR
 bound_at_row rows s v p i at = let h = at.in_range in record {
   in_range = omega arith;
   before = λ k d l m. let here = at.is d in let earlier = s.rise k i d m h in grind (arith, nat_tests);
-  behind = λ k d l m less. absurd (let order = rw (at.is d, less) at (comparisons_rise rows s v p i k d l m) in omega arith);
+  behind = λ k d l m less. absurd (let order = rw (at.is d, less) at (comparisons_rise rows s v p i k d l m) in
+      omega arith);
 }
 
 -- ---- the place of two bounds
@@ -43,9 +44,12 @@ rows_from_bounds rows v p q i j first last le =
     record {
       order = order;
       range = range;
-      before = λ k d l h within. let low = first.before k d l h in let a = within.0 in let b = within.1 in grind (arith, nat_tests);
-      within = λ k d l h. let a = first.behind k d l (omega arith) in let b = last.before k d (omega arith) h in grind (arith, nat_tests);
-      behind = λ k d l h within. let high = last.behind k d l h in let a = within.0 in let b = within.2 in grind (arith, nat_tests);
+      before = λ k d l h within. let low = first.before k d l h in let a = within.0 in let b = within.1 in
+          grind (arith, nat_tests);
+      within = λ k d l h. let a = first.behind k d l (omega arith) in let b = last.before k d (omega arith) h in
+          grind (arith, nat_tests);
+      behind = λ k d l h within. let high = last.behind k d l h in let a = within.0 in let b = within.2 in
+          grind (arith, nat_tests);
     }
 
 -- ---- what is found in two parts
@@ -54,7 +58,8 @@ find_row-append : (v p : ℕ) (xs ys : List Row) → find_row v p (xs ++ ys) ≡
 unfolding find_row
 find_row-append v p [] ys = refl
 find_row-append v p (row ∷ rows) ys = rw (find_row-append v p rows ys) (go ((row.koid.0 == v) && (row.page == p))) where
-  go : (b : Bool) → cond b (Some row) (option_or (find_row v p rows) (find_row v p ys)) ≡ option_or (cond b (Some row) (find_row v p rows)) (find_row v p ys)
+  go : (b : Bool) → cond b (Some row) (option_or (find_row v p rows) (find_row v p ys))
+      ≡ option_or (cond b (Some row) (find_row v p rows)) (find_row v p ys)
   go true = refl
   go false = refl
 
@@ -62,15 +67,17 @@ pub find_row-right : (v p : ℕ) (xs ys : List Row) → find_row v p xs ≡ None
 find_row-right v p xs ys none = find_row-append v p xs ys ∙ ap (λ o. option_or o (find_row v p ys)) none
 
 pub find_row-left : (v p : ℕ) (xs ys : List Row) → find_row v p ys ≡ None → find_row v p (xs ++ ys) ≡ find_row v p xs
-find_row-left v p xs ys none = find_row-append v p xs ys ∙ (ap (λ o. option_or (find_row v p xs) o) none ∙ go (find_row v p xs)) where
-  go : (o : Option Row) → option_or o None ≡ o
-  go None = refl
-  go (Some row) = refl
+find_row-left v p xs ys none = find_row-append v p xs ys
+    ∙ (ap (λ o. option_or (find_row v p xs) o) none ∙ go (find_row v p xs)) where
+      go : (o : Option Row) → option_or o None ≡ o
+      go None = refl
+      go (Some row) = refl
 
 -- a part in the middle that does not have the page may go
 pub find_row-middle : (v p : ℕ) (xs ys zs : List Row) → find_row v p ys ≡ None → find_row v p (xs ++ zs) ≡ find_row v p (xs ++ (ys ++ zs))
 find_row-middle v p xs ys zs none =
-    find_row-append v p xs zs ∙ (ap (λ o. option_or (find_row v p xs) o) (sym (find_row-right v p ys zs none)) ∙ sym (find_row-append v p xs (ys ++ zs)))
+    find_row-append v p xs zs ∙ (ap (λ o. option_or (find_row v p xs) o) (sym (find_row-right v p ys zs none))
+    ∙ sym (find_row-append v p xs (ys ++ zs)))
 
 -- where all rows are of other VMOs, none is found
 pub find_row-other : (v p : ℕ) (rows : List Row) → All (λ row. row.koid.0 ≢ v) rows → find_row v p rows ≡ None
@@ -103,49 +110,65 @@ find_row-each rows s i d h =
 -- ---- the order of parts
 
 -- two parts are sorted where each row of the one is before each of the other
-pub sorted_append : (xs ys : List Row) → IsSorted xs → IsSorted ys → ((i j : ℕ) (d : Row) → i < length xs → j < length ys → IsBefore (get_or xs i d) (get_or ys j d))
+pub sorted_append : (xs ys : List Row) → IsSorted xs → IsSorted ys →
+    ((i j : ℕ) (d : Row) → i < length xs → j < length ys → IsBefore (get_or xs i d) (get_or ys j d))
     → IsSorted (xs ++ ys)
 sorted_append [] ys left right across = right
 sorted_append (row ∷ rows) ys left right across =
-    let rest = sorted_append rows ys (sorted_rest row rows left) right (λ i j d l h. across (suc i) j d (omega arith) h) in
-    let here = All-append (IsBefore row) rows ys (λ k d h. left.rise 0 (suc k) d (omega arith) (omega arith)) (λ k d h. across 0 k d (omega arith) h) in
+    let rest = sorted_append rows ys (sorted_rest row rows left) right
+    (λ i j d l h. across (suc i) j d (omega arith) h) in
+    let here = All-append (IsBefore row) rows ys (λ k d h. left.rise 0 (suc k) d (omega arith) (omega arith))
+    (λ k d h. across 0 k d (omega arith) h) in
     record { rise = AllPairs-cons IsBefore row (rows ++ ys) here rest.rise }
 
 -- rows that stand one behind another in sorted rows
-pub sorted_part : (rows part : List Row) (n : ℕ) → IsSorted rows → n + length part ≤ length rows → ((k : ℕ) (d : Row) → k < length part → get_or part k d ≡ get_or rows (n + k) d) → IsSorted part
-sorted_part rows part n s few is = record { rise = λ i j d l h. rw (is i d (omega arith), is j d h) (s.rise (n + i) (n + j) d (omega arith) (omega arith)) }
+pub sorted_part : (rows part : List Row) (n : ℕ) → IsSorted rows → n + length part ≤ length rows →
+    ((k : ℕ) (d : Row) → k < length part → get_or part k d ≡ get_or rows (n + k) d) → IsSorted part
+sorted_part rows part n s few is =
+    record {
+      rise = λ i j d l h. rw (is i d (omega arith), is j d h)
+          (s.rise (n + i) (n + j) d (omega arith) (omega arith));
+    }
 
 -- ---- the three parts that two bounds make
 
-pub sorted_range : (rows : List Row) (i j : ℕ) → IsSorted rows → i ≤ j → j ≤ length rows → IsSorted (slice_range rows i j)
+pub sorted_range : (rows : List Row) (i j : ℕ) → IsSorted rows → i ≤ j → j ≤ length rows →
+    IsSorted (slice_range rows i j)
 sorted_range rows i j s le range =
     let size = length-between rows i j range in
     sorted_part rows (slice_range rows i j) i s (omega arith) (λ k d h. get_or-between rows i j k d (omega arith))
 
 -- rows without those of a range
-pub sorted_without : (rows : List Row) (i j : ℕ) → IsSorted rows → i ≤ j → j ≤ length rows → IsSorted (take i rows ++ drop j rows)
+pub sorted_without : (rows : List Row) (i j : ℕ) → IsSorted rows → i ≤ j → j ≤ length rows →
+    IsSorted (take i rows ++ drop j rows)
 sorted_without rows i j s le range =
     let before = length-take-le i rows (omega arith) in
     let behind = length-drop j rows in
-    sorted_append (take i rows) (drop j rows) (sorted_part rows (take i rows) 0 s (omega arith) (λ k d h. get_or-take i rows k d (omega arith) ∙ ap (λ (m : ℕ). get_or rows m d) (omega arith)))
+    sorted_append (take i rows) (drop j rows)
+    (sorted_part rows (take i rows) 0 s (omega arith)
+    (λ k d h. get_or-take i rows k d (omega arith) ∙ ap (λ (m : ℕ). get_or rows m d) (omega arith)))
     (sorted_part rows (drop j rows) j s (omega arith) (λ k d h. get_or-drop j rows k d))
-    (λ a b d l h. rw (get_or-take i rows a d (omega arith), get_or-drop j rows b d) (s.rise a (j + b) d (omega arith) (omega arith)))
+    (λ a b d l h. rw (get_or-take i rows a d (omega arith), get_or-drop j rows b d)
+    (s.rise a (j + b) d (omega arith) (omega arith)))
 
 -- ---- what is found among the rows of a range
 
 not_within : (v p q x : ℕ) (row : Row) → (IsWithin v p q row → ⊥) → p ≤ x → x < q → ((row.koid.0 == v) && (row.page == x)) ≡ false
-not_within v p q x row apart low high = false_from_ne_true ((row.koid.0 == v) && (row.page == x)) (λ e. apart (grind (arith, nat_tests)))
+not_within v p q x row apart low high = false_from_ne_true ((row.koid.0 == v) && (row.page == x))
+    (λ e. apart (grind (arith, nat_tests)))
 
 module _ (rows : List Row) (v p q from end : ℕ) (are : AreRowsWithin rows v p q from end) where
   -- a page of the range is found neither before its rows nor behind them
   pub find_row-before : (x : ℕ) → p ≤ x → x < q → find_row v x (take from rows) ≡ None
   find_row-before x low high = find_row-absent v x (take from rows) (λ k d h.
       let size = length-take-le from rows (omega (arith, are.order, are.range)) in
-      rw (get_or-take from rows k d (omega arith)) (not_within v p q x (get_or rows k d) (are.before k d (omega arith) (omega arith)) low high))
+      rw (get_or-take from rows k d (omega arith))
+      (not_within v p q x (get_or rows k d) (are.before k d (omega arith) (omega arith)) low high))
 
   pub find_row-behind : (x : ℕ) → p ≤ x → x < q → find_row v x (drop end rows) ≡ None
   find_row-behind x low high = find_row-absent v x (drop end rows) (λ k d h.
-      rw (get_or-drop end rows k d) (not_within v p q x (get_or rows (end + k) d) (are.behind (end + k) d (omega arith) (omega (arith, length-drop end rows))) low high))
+      rw (get_or-drop end rows k d) (not_within v p q x (get_or rows (end + k) d)
+      (are.behind (end + k) d (omega arith) (omega (arith, length-drop end rows))) low high))
 
   -- it is found among them
   pub find_row-range : (x : ℕ) → p ≤ x → x < q → find_row v x (slice_range rows from end) ≡ find_row v x rows
@@ -165,4 +188,8 @@ module _ (rows : List Row) (v p q from end : ℕ) (are : AreRowsWithin rows v p 
       let within = range_within k d h in
       false_from_ne_true ((row.koid.0 == w) && (row.page == x)) (λ e.
       let same : (w ≡ v) × (x ≡ row.page) = grind (arith, nat_tests) in
-      elim (out same.0) [ inl before ↦ absurd (omega (arith, within.1)) | inr behind ↦ absurd (omega (arith, within.2)) ]))
+      elim (out same.0) [
+        | inl before ↦ absurd (omega (arith, within.1))
+        | inr behind ↦
+            absurd (omega (arith, within.2))
+      ]))

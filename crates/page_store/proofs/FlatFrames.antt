@@ -25,7 +25,8 @@ free_in_use f t flat free = sym (taken_in_use f flat t) ∙ ap is_some free
 pub used_taken : (f : Flat) → IsFlat f → used (content_of f) ≡ taken_count f.pool
 unfolding used
 used_taken f flat =
-    count_below_same f.pool.frames (in_use (content_of f)) (λ t. is_some (taken_frames f.pool t)) (λ t h. sym (taken_in_use f flat t)) ∙ sym (taken_count-is f.pool)
+    count_below_same f.pool.frames (in_use (content_of f)) (λ t. is_some (taken_frames f.pool t))
+    (λ t h. sym (taken_in_use f flat t)) ∙ sym (taken_count-is f.pool)
 
 -- and the others are free
 pub free_unused : (f : Flat) (n : ℕ) → IsFlat f → n + taken_count f.pool ≡ f.pool.frames → n + used (content_of f) ≡ (content_of f).frames
@@ -79,11 +80,13 @@ module _ (f : Flat) (v p i : ℕ) (row : Row) (flat : IsFlat f) (at : IsRowFor f
       ∙ (sole_share f v p (page_from f.pool row) flat page_read ∙ ap (λ (m : ℕ). m == 1) (sym (share_is n share)))
 
   pub look_row : (n : ℕ) → n ≡ get_or f.shares row.tag.0 n → look.Held row.tag (n == 1) ≡ look_at (content_of f) v ((content_of f).page v p)
-  look_row n share = ap (look.Held row.tag) (sym (sole_is n share) ∙ ap (is_sole_page (content_of f) v) page_read) ∙ ap (look_at (content_of f) v) (sym page_read)
+  look_row n share = ap (look.Held row.tag) (sym (sole_is n share) ∙ ap (is_sole_page (content_of f) v) page_read)
+      ∙ ap (look_at (content_of f) v) (sym page_read)
 
   -- and is how many VMOs show it
   pub viewers_row : (n : ℕ) → n ≡ get_or f.shares row.tag.0 n → IfSome ((content_of f).page v p) (λ held. n ≡ viewers (content_of f) held.tag)
-  viewers_row n share = subst (λ (o : Option Page). IfSome o (λ held. n ≡ viewers (content_of f) held.tag)) (sym page_read) (share_is n share ∙ frame_read.share)
+  viewers_row n share = subst (λ (o : Option Page). IfSome o (λ held. n ≡ viewers (content_of f) held.tag))
+      (sym page_read) (share_is n share ∙ frame_read.share)
 
 pub viewers_gap : (f : Flat) (v p i : ℕ) → IsGapFor f.rows v p i → IfSome ((content_of f).page v p) (λ held. 0 ≡ viewers (content_of f) held.tag)
 viewers_gap f v p i gap = subst (λ (o : Option Page). IfSome o (λ held. 0 ≡ viewers (content_of f) held.tag)) (sym (page_in_gap f v p i gap)) tt

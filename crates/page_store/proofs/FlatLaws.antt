@@ -38,18 +38,23 @@ page_of_row_found pool None held e = absurd cc
 page_of_row_found pool (Some row) held e = (row, refl, cc)
 
 -- where no page is held, none is with other frames
-page_of_row_free : (pool other : Pool) (o : Option Row) → page_of_row pool o ≡ None → page_of_row other o ≡ page_of_row pool o
+page_of_row_free : (pool other : Pool) (o : Option Row) → page_of_row pool o ≡ None →
+    page_of_row other o ≡ page_of_row pool o
 page_of_row_free pool other None e = refl
 page_of_row_free pool other (Some row) e = absurd cc
 
-pub IsFlat-spare : (f : Flat) (s : ℕ) → IsFlat f → IsFlat (record f { spare = s })
-IsFlat-spare f s flat =
-    record { sorted = flat.sorted; ascending = flat.ascending; good = flat.good; counts = flat.counts; shares = flat.shares; counted = flat.counted }
-
 -- other VMOs are in the list, and the rest stays
-pub IsFlat-vmos : (f : Flat) (n : ℕ) (vmos : List Vmo) (c : Content) → IsFlat f → IsAscending vmos → content_of (record f { next = n; vmos = vmos }) ≡ c → IsGood c → IsFlat (record f { next = n; vmos = vmos })
+pub IsFlat-vmos : (f : Flat) (n : ℕ) (vmos : List Vmo) (c : Content) → IsFlat f → IsAscending vmos →
+    content_of (record f { next = n; vmos = vmos }) ≡ c → IsGood c → IsFlat (record f { next = n; vmos = vmos })
 IsFlat-vmos f n vmos c flat rises same good =
-    record { sorted = flat.sorted; ascending = rises; good = subst IsGood (sym same) good; counts = flat.counts; shares = flat.shares; counted = flat.counted }
+    record {
+      sorted = flat.sorted;
+      ascending = rises;
+      good = subst IsGood (sym same) good;
+      counts = flat.counts;
+      shares = flat.shares;
+      counted = flat.counted;
+    }
 
 -- ---- a store with no VMO
 
@@ -73,7 +78,8 @@ empty_flat pool s = record { pool = pool; next = 1; vmos = []; rows = []; shares
 pub IsFlat-empty : (pool : Pool) (s : ℕ) → pool.frames ≡ 0 → ((t : ℕ) → taken_frames pool t ≡ None) → IsFlat (empty_flat pool s)
 unfolding nothing find_row count_in rows_with
 IsFlat-empty pool s none free =
-    IsFlat-nothing (empty_flat pool s) refl sorted_nil ascending_nil (sym none) (λ t. get_or_past [] t 0 (omega arith)) (λ t. refl) free
+    IsFlat-nothing (empty_flat pool s) refl sorted_nil ascending_nil (sym none)
+    (λ t. get_or_past [] t 0 (omega arith)) (λ t. refl) free
 
 pub content_of-none : (pool : Pool) (s : ℕ) → pool.frames ≡ 0 → content_of (empty_flat pool s) ≡ nothing
 unfolding nothing find_row count_in
@@ -99,9 +105,11 @@ all_zero n t = elim (cases_lt t n) [
 ]
 
 -- it gets its frames
-pub content_of-filled : (f : Flat) (pool : Pool) → content_of f ≡ nothing → content_of (record f { pool = pool }) ≡ record (content_of f) { frames = pool.frames }
+pub content_of-filled : (f : Flat) (pool : Pool) → content_of f ≡ nothing →
+    content_of (record f { pool = pool }) ≡ record (content_of f) { frames = pool.frames }
 unfolding nothing
-content_of-filled f pool empty = same_content _ _ refl refl (λ v. refl) (λ v p. page_of_row_free f.pool pool (find_row v p f.rows) (ap (λ (c : Content). c.page v p) empty))
+content_of-filled f pool empty = same_content _ _ refl refl (λ v. refl)
+    (λ v p. page_of_row_free f.pool pool (find_row v p f.rows) (ap (λ (c : Content). c.page v p) empty))
 
 pub IsFlat-filled : (f : Flat) (pool : Pool) (n m : ℕ) → content_of f ≡ nothing → IsFlat f → pool.frames ≡ n → ((t : ℕ) → taken_frames pool t ≡ None) → m ≡ n → IsFlat (record f { pool = pool; shares = take n f.shares ++ replicate m 0 })
 IsFlat-filled f pool n m empty flat frames free same =
@@ -115,7 +123,8 @@ IsFlat-filled f pool n m empty flat frames free same =
 
 module _ (f : Flat) (vmo : Vmo) (flat : IsFlat f) (koid : vmo.koid.0 ≡ f.next) where
   pub koids_below : AllBelow f.vmos vmo.koid.0
-  koids_below = below_from_counts f.vmos vmo.koid.0 flat.ascending (λ w n e. let low = (flat.good.koids w n e).1 in omega arith)
+  koids_below = below_from_counts f.vmos vmo.koid.0 flat.ascending (λ w n e. let low = (flat.good.koids w n e).1 in
+      omega arith)
 
   pub content_of-pushed : content_of (record f { next = f.next + 1; vmos = f.vmos ++ vmo ∷ [] }) ≡ created (content_of f) vmo.count
   unfolding created with_key
@@ -123,12 +132,14 @@ module _ (f : Flat) (vmo : Vmo) (flat : IsFlat f) (koid : vmo.koid.0 ≡ f.next)
 
   pub IsFlat-pushed : vmo.count ≤ VMO_PAGES → IsFlat (record f { next = f.next + 1; vmos = f.vmos ++ vmo ∷ [] })
   IsFlat-pushed few = IsFlat-vmos f (f.next + 1) (f.vmos ++ vmo ∷ []) (created (content_of f) vmo.count) flat
-      (ascending_push f.vmos vmo flat.ascending koids_below) content_of-pushed (IsGood-created (content_of f) vmo.count flat.good few)
+      (ascending_push f.vmos vmo flat.ascending koids_below) content_of-pushed
+      (IsGood-created (content_of f) vmo.count flat.good few)
 
 -- ---- how many pages a VMO has
 
 pub count_read : (f : Flat) (v i : ℕ) (vmo : Vmo) → IsFlat f → IsVmoFor f.vmos v i → vmo ≡ get_or f.vmos i vmo → (content_of f).count v ≡ Some vmo.count
-count_read f v i vmo flat at read = count_in-at f.vmos flat.ascending v i at vmo ∙ ap (λ (d : Vmo). Some d.count) (sym read)
+count_read f v i vmo flat at read = count_in-at f.vmos flat.ascending v i at vmo
+    ∙ ap (λ (d : Vmo). Some d.count) (sym read)
 
 pub pages_read : (f : Flat) (v i : ℕ) (vmo : Vmo) → IsFlat f → IsVmoFor f.vmos v i → vmo ≡ get_or f.vmos i vmo → pages_of (content_of f) v ≡ vmo.count
 pages_read f v i vmo flat at read = pages_of-at (content_of f) v vmo.count (count_read f v i vmo flat at read)

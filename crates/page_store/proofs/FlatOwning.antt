@@ -32,7 +32,8 @@ room_free f flat room = omega (arith, used_taken f flat)
 
 -- ---- the pages of rows, where one frame gets bytes
 
-pub page_of_row-with : (old new : Pool) (t : ℕ) (bytes : List ℕ) → taken_frames new ≡ with_key (taken_frames old) t bytes → (o : Option Row)
+pub page_of_row-with : (old new : Pool) (t : ℕ) (bytes : List ℕ) →
+    taken_frames new ≡ with_key (taken_frames old) t bytes → (o : Option Row)
     → page_of_row new o ≡ cond (has_tag t (page_of_row old o)) (some_page t bytes) (page_of_row old o)
 unfolding has_tag with_key
 page_of_row-with old new t bytes e None = refl
@@ -58,7 +59,8 @@ pub record AreShares (f g : Flat) (t : ℕ) (leaves : ℕ → Bool) : Type 0 whe
   pub rows : (u : ℕ) → rows_with u g.rows + cond (leaves u) 1 0 ≡ rows_with u f.rows + cond (t == u) 1 0
   pub stays : (u : ℕ) → leaves u ≡ true → 2 ≤ get_or f.shares u 0
 
-pub is_some-with_key : (m : ℕ → Option (List ℕ)) (t : ℕ) (bytes : List ℕ) (u : ℕ) → is_some (with_key m t bytes u) ≡ cond (t == u) true (is_some (m u))
+pub is_some-with_key : (m : ℕ → Option (List ℕ)) (t : ℕ) (bytes : List ℕ) (u : ℕ) →
+    is_some (with_key m t bytes u) ≡ cond (t == u) true (is_some (m u))
 unfolding with_key
 is_some-with_key m t bytes u = grind (arith, nat_tests)
 
@@ -78,18 +80,22 @@ module _ (f g : Flat) (row : Row) (bytes : List ℕ) (flat : IsFlat f) (is : Hol
   page_held : (w q : ℕ) → page_of_row g.pool (find_row w q g.rows) ≡ cond ((w == row.koid.0) && (q == row.page)) (Some new_page) (page_of_row f.pool (find_row w q f.rows))
   page_held w q = ap (page_of_row g.pool) (is.rows w q) ∙ go ((w == row.koid.0) && (q == row.page)) where
     go : (b : Bool) → page_of_row g.pool (cond b (Some row) (find_row w q f.rows)) ≡ cond b (Some new_page) (page_of_row f.pool (find_row w q f.rows))
-    go true = ap (λ (m : ℕ → Option (List ℕ)). some_page row.tag.0 (unwrap_or (m row.tag.0) [])) is.takes.taken ∙ ap (λ o. some_page row.tag.0 (unwrap_or o [])) (with_key-same (taken_frames f.pool) row.tag.0 bytes)
+    go true = ap (λ (m : ℕ → Option (List ℕ)). some_page row.tag.0 (unwrap_or (m row.tag.0) [])) is.takes.taken
+        ∙ ap (λ o. some_page row.tag.0 (unwrap_or o [])) (with_key-same (taken_frames f.pool) row.tag.0 bytes)
     go false = rw (page_of_row-with f.pool g.pool row.tag.0 bytes is.takes.taken (find_row w q f.rows), had_no_page w q)
 
   pub content_of-held : content_of g ≡ hold (content_of f) row.koid.0 row.page new_page
   unfolding hold
-  content_of-held = same_content _ _ is.frames (ap (λ (h : Flat). h.next) is.rest) (λ w. ap (λ (h : Flat). count_in w h.vmos) is.rest) page_held
+  content_of-held = same_content _ _ is.frames (ap (λ (h : Flat). h.next) is.rest)
+      (λ w. ap (λ (h : Flat). count_in w h.vmos) is.rest) page_held
 
   pub IsFlat-held : (leaves : ℕ → Bool) → AreShares f g row.tag.0 leaves → IsFlat g
   IsFlat-held leaves are = record {
     sorted = is.sorted;
     ascending = subst (λ (h : Flat). IsAscending h.vmos) (sym is.rest) flat.ascending;
-    good = subst IsGood (sym content_of-held) (IsGood-hold_new (content_of f) row.koid.0 row.page new_page flat.good is.page is.takes.below was_unused is.whole);
+    good = subst IsGood (sym content_of-held)
+        (IsGood-hold_new (content_of f) row.koid.0 row.page new_page flat.good is.page is.takes.below was_unused
+        is.whole);
     counts = is.counts ∙ (flat.counts ∙ sym is.frames);
     shares = λ u. omega (arith, are.is u, are.rows u, flat.shares u);
     counted = record {
@@ -105,7 +111,12 @@ module _ (f g : Flat) (row : Row) (bytes : List ℕ) (flat : IsFlat f) (is : Hol
   pub owns_new : sole (content_of f) row.koid.0 row.page ≡ false → bytes ≡ shown (content_of f) row.koid.0 row.page → Owns (content_of f) (content_of g) row.koid.0 row.page row.tag.0
   owns_new shared same = record {
     stays = λ alone. absurd (both_ways (sole (content_of f) row.koid.0 row.page) shared alone);
-    copies = λ _. (is.takes.below, was_unused, content_of-held ∙ ap (λ (bs : List ℕ). hold (content_of f) row.koid.0 row.page (record { tag = row.tag.0; bytes = bs })) same);
+    copies = λ _. (
+      is.takes.below,
+      was_unused,
+      content_of-held
+          ∙ ap (λ (bs : List ℕ). hold (content_of f) row.koid.0 row.page (record { tag = row.tag.0; bytes = bs })) same,
+    );
   }
 
 -- ---- share counts
@@ -180,15 +191,18 @@ pub row_is : (rows : List Row) (v p i : ℕ) (row : Row) → IsRowFor rows v p i
 row_is rows v p i row at read = cmp_same v p row.koid.0 row.page (subst (λ (other : Row). page_cmp v p other.koid.0 other.page ≡ Equal) (sym read) (at.is row))
 
 -- where it is sole, it is owned already
-pub owns_sole : (f : Flat) (v p i : ℕ) (row : Row) → IsFlat f → IsRowFor f.rows v p i → row ≡ get_or f.rows i row → (n : ℕ) → n ≡ get_or f.shares row.tag.0 n → n ≡ 1 → Owns (content_of f) (content_of f) v p row.tag.0
+pub owns_sole : (f : Flat) (v p i : ℕ) (row : Row) → IsFlat f → IsRowFor f.rows v p i → row ≡ get_or f.rows i row →
+    (n : ℕ) → n ≡ get_or f.shares row.tag.0 n → n ≡ 1 → Owns (content_of f) (content_of f) v p row.tag.0
 owns_sole f v p i row flat at read n share one =
     let is = page_read f v p i row flat at read in
     record {
-      stays = λ _. (refl, λ other g. let clash : ◌≡◌ {A = Option Page} (Some (page_from f.pool row)) (Some other) = sym is ∙ g in cc);
-      copies = λ shared. absurd (both_ways (sole (content_of f) v p) shared (sole_is f v p i row flat at read n share ∙ eq-eqb n 1 one));
+      stays = λ _. (refl, λ other g. cc (sym is ∙ g));
+      copies = λ shared. absurd (both_ways (sole (content_of f) v p) shared
+          (sole_is f v p i row flat at read n share ∙ eq-eqb n 1 one));
     }
 
-module _ (f : Flat) (i : ℕ) (row : Row) (flat : IsFlat f) (h : i < length f.rows) (read : row ≡ get_or f.rows i row) where
+module _ (f : Flat) (i : ℕ) (row : Row) (flat : IsFlat f) (h : i < length f.rows)
+    (read : row ≡ get_or f.rows i row) where
   at_row : IsRowFor f.rows row.koid.0 row.page i
   at_row = row_for f.rows i row h read
 
@@ -202,7 +216,8 @@ module _ (f : Flat) (i : ℕ) (row : Row) (flat : IsFlat f) (h : i < length f.ro
   pub room_held : (n : ℕ) → n ≡ get_or f.shares row.tag.0 n → n ≢ 1 → ((v p : ℕ) → IsRowFor f.rows v p i → (sole (content_of f) v p ≡ true) ⊎ (used (content_of f) < (content_of f).frames)) →
       taken_count f.pool < f.pool.frames
   room_held n share shared room = elim (room row.koid.0 row.page at_row) [
-    | inl alone ↦ absurd (both_ways (sole (content_of f) row.koid.0 row.page) (sole_is f row.koid.0 row.page i row flat at_row read n share ∙ ne_eqb n 1 shared) alone)
+    | inl alone ↦ absurd (both_ways (sole (content_of f) row.koid.0 row.page)
+        (sole_is f row.koid.0 row.page i row flat at_row read n share ∙ ne_eqb n 1 shared) alone)
     | inr free ↦ room_free f flat free
   ]
 
@@ -228,7 +243,8 @@ module _ (f : Flat) (pool : Pool) (row : Row) (i t : ℕ) (flat : IsFlat f) (h :
     rest = refl;
     frames = frames;
     takes = takes;
-    counts = length-set (set f.shares row.tag.0 (get_or f.shares row.tag.0 0 - 1)) t 1 ∙ length-set f.shares row.tag.0 (get_or f.shares row.tag.0 0 - 1);
+    counts = length-set (set f.shares row.tag.0 (get_or f.shares row.tag.0 0 - 1)) t 1
+        ∙ length-set f.shares row.tag.0 (get_or f.shares row.tag.0 0 - 1);
     whole = flat.good.whole row.koid.0 row.page (page_from f.pool row) held_is;
     sorted = sorted_set f.rows i (moved row t) flat.sorted there;
     rows = find_row-set f.rows i (moved row t) flat.sorted there;
@@ -241,12 +257,15 @@ module _ (f : Flat) (pool : Pool) (row : Row) (i t : ℕ) (flat : IsFlat f) (h :
       let apart = takes_apart f.pool pool t (frame_bytes f.pool row.tag.0) takes row.tag.0 frame.taken in
       record {
         flat = IsFlat-held f moved_flat (moved row t) (frame_bytes f.pool row.tag.0) flat holds_held (λ u. row.tag.0 == u) (record {
-          is = shares_held f.shares row.tag.0 t apart (free_share f t flat takes.was_free) (omega (arith, takes.below, flat.counts)) (omega (arith, frame.below, flat.counts)) frame.shown;
+          is = shares_held f.shares row.tag.0 t apart (free_share f t flat takes.was_free)
+              (omega (arith, takes.below, flat.counts)) (omega (arith, frame.below, flat.counts)) frame.shown;
           rows = λ u. rows_with-set u f.rows i row (moved row t) h read;
           stays = λ u e. subst (λ (k : ℕ). 2 ≤ get_or f.shares k 0) (eqb-true row.tag.0 u e) (omega (arith, frame.shown));
         });
         owns = owns_new f moved_flat (moved row t) (frame_bytes f.pool row.tag.0) flat holds_held
-            (ap (is_sole_page (content_of f) row.koid.0) held_is ∙ (sole_share f row.koid.0 row.page (page_from f.pool row) flat held_is ∙ ne_eqb (get_or f.shares row.tag.0 0) 1 shared))
+            (ap (is_sole_page (content_of f) row.koid.0) held_is
+            ∙ (sole_share f row.koid.0 row.page (page_from f.pool row) flat held_is
+            ∙ ne_eqb (get_or f.shares row.tag.0 0) 1 shared))
             (sym (bytes_of-some ((content_of f).page row.koid.0 row.page) (page_from f.pool row) held_is));
       }
 
@@ -254,7 +273,8 @@ module _ (f : Flat) (pool : Pool) (row : Row) (i t : ℕ) (flat : IsFlat f) (h :
   pub owned_again : (new : Row) (m n : ℕ) → new ≡ get_or f.rows i new → m ≡ get_or f.shares row.tag.0 m → n ≡ get_or f.shares row.tag.0 n → m ≢ 1 → IsOwned f (held_owned f pool row new i n t) row.koid.0 row.page t
   owned_again new m n read_new share_m share_n shared =
       let same : row ≡ new = get_or_read f.rows i row h read row ∙ sym (get_or_read f.rows i new h read_new row) in
-      let count : get_or f.shares row.tag.0 0 ≡ n = sym (share_is f row.koid.0 row.page i row flat there read n share_n) in
+      let count : get_or f.shares row.tag.0 0 ≡ n =
+      sym (share_is f row.koid.0 row.page i row flat there read n share_n) in
       let old : m ≡ get_or f.shares row.tag.0 0 = share_is f row.koid.0 row.page i row flat there read m share_m in
       subst (λ (r : Row). IsOwned f (held_owned f pool row r i n t) row.koid.0 row.page t) same
       (subst (λ (k : ℕ). IsOwned f (held_owned f pool row row i k t) row.koid.0 row.page t) count (owned_held (λ e. shared (old ∙ e))))

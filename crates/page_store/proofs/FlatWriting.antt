@@ -33,15 +33,18 @@ with_replaced held at bytes = record held { bytes = replaced held.bytes at bytes
 module _ (f : Flat) (pool : Pool) (t at : ℕ) (bytes : List ℕ) (flat : IsFlat f) (once : IsShownOnce (content_of f) t) (frames : pool.frames ≡ f.pool.frames)
     (frame : taken_frames pool ≡ with_key (taken_frames f.pool) t (replaced (frame_bytes f.pool t) at bytes)) where
   -- the page alone has the frame
-  tag_at : (v p : ℕ) (held : Page) → ShowsTag (content_of f) t v p held → (w q : ℕ) → has_tag t ((content_of f).page w q) ≡ ((w == v) && (q == p))
+  tag_at : (v p : ℕ) (held : Page) → ShowsTag (content_of f) t v p held → (w q : ℕ) →
+      has_tag t ((content_of f).page w q) ≡ ((w == v) && (q == p))
   tag_at v p held shows w q = both_ways (has_tag t ((content_of f).page w q)) ((w == v) && (q == p))
       (λ e.
       let other = has_tag_held t ((content_of f).page w q) e in
-      let one = shows_alone (content_of f) t v p held once shows w q other.0 (record { page = other.1; tag = other.2 }) in
+      let one = shows_alone (content_of f) t v p held once shows w q other.0
+      (record { page = other.1; tag = other.2 }) in
       and_from (w == v) (q == p) (eq-eqb w v one.0) (eq-eqb q p one.1))
       (λ e.
       let both = and_parts (w == v) (q == p) e in
-      has_tag_from t ((content_of f).page w q) held (rw (eqb-true w v both.0, eqb-true q p both.1) shows.page) shows.tag)
+      has_tag_from t ((content_of f).page w q) held
+      (rw (eqb-true w v both.0, eqb-true q p both.1) shows.page) shows.tag)
 
   page_written : (v p : ℕ) (held : Page) → ShowsTag (content_of f) t v p held → (w q : ℕ) →
       page_of_row pool (find_row w q f.rows) ≡ cond ((w == v) && (q == p)) (Some (with_replaced held at bytes)) (page_of_row f.pool (find_row w q f.rows))
@@ -71,6 +74,7 @@ module _ (f : Flat) (pool : Pool) (t at : ℕ) (bytes : List ℕ) (flat : IsFlat
           taken = λ u.
               let was = flat.counted.taken u in
               let here = shown_taken f t flat (IsShown-from_once (content_of f) t once) in
-              rw (frame, is_some-with_key (taken_frames f.pool) t (replaced (frame_bytes f.pool t) at bytes) u) (grind (arith, nat_tests));
+              rw (frame, is_some-with_key (taken_frames f.pool) t (replaced (frame_bytes f.pool t) at bytes) u)
+              (grind (arith, nat_tests));
         };
       }

@@ -23,10 +23,12 @@ pub record IsFirstHeld (c : Content) (v from page : ℕ) : Type 0 where
 
 module _ (f : Flat) (v from i : ℕ) (flat : IsFlat f) (bound : IsBoundFor f.rows v from i) where
   -- a page from there on is not held where the row at the bound is behind it, or there is none
-  none_until : (p : ℕ) → from ≤ p → ((d : Row) → i < length f.rows → row_cmp v p (get_or f.rows i d) ≡ Greater) → (content_of f).page v p ≡ None
+  none_until : (p : ℕ) → from ≤ p → ((d : Row) → i < length f.rows → row_cmp v p (get_or f.rows i d) ≡ Greater) →
+      (content_of f).page v p ≡ None
   none_until p low behind = ap (page_of_row f.pool) (find_row-absent v p f.rows (λ k d h. elim (cases_lt k i) [
     | inl less ↦ let before = bound.before k d (omega arith) less in grind (arith, nat_tests)
-    | inr le ↦ let rises = rw (behind d (omega arith)) at (comparisons_rise f.rows flat.sorted v p i k d le h) in grind (arith, nat_tests)
+    | inr le ↦ let rises = rw (behind d (omega arith)) at (comparisons_rise f.rows flat.sorted v p i k d le h) in
+        grind (arith, nat_tests)
   ]))
 
   -- the row at the bound, where it is of the VMO
@@ -36,11 +38,14 @@ module _ (f : Flat) (v from i : ℕ) (flat : IsFlat f) (bound : IsBoundFor f.row
       let page_at = λ (d : Row). ap (λ (r : Row). r.page) (get_or_default f.rows i d row h ∙ sym read) in
       let there : (content_of f).page v row.page ≡ Some (page_from f.pool (get_or f.rows i row)) =
       ap (λ (w : ℕ). (content_of f).page w row.page) (sym (koid_at row))
-      ∙ (ap (λ (q : ℕ). (content_of f).page (get_or f.rows i row).koid.0 q) (sym (page_at row)) ∙ page_of_each f flat.sorted i row h) in
+      ∙ (ap (λ (q : ℕ). (content_of f).page (get_or f.rows i row).koid.0 q) (sym (page_at row))
+      ∙ page_of_each f flat.sorted i row h) in
       record {
-        order = let behind = bound.behind i row (omega arith) h in let a = koid_at row in let b = page_at row in grind (arith, nat_tests);
+        order = let behind = bound.behind i row (omega arith) h in let a = koid_at row in let b = page_at row in
+            grind (arith, nat_tests);
         held = ap is_some there;
-        gap = λ p low high. none_until p low (λ d l. let a = koid_at d in let b = page_at d in grind (arith, nat_tests));
+        gap = λ p low high. none_until p low (λ d l. let a = koid_at d in let b = page_at d in
+            grind (arith, nat_tests));
       }
 
   pub next_past : length f.rows ≤ i → (p : ℕ) → from ≤ p → (content_of f).page v p ≡ None

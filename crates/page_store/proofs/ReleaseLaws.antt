@@ -83,10 +83,12 @@ module _ (f g : Flat) (v p q from end : ℕ) (flat : IsFlat f) (gone : IsRelease
 
   page_out : (w x : ℕ) → (w ≡ v → (x < p) ⊎ (q ≤ x)) → (content_of g).page w x ≡ (content_of f).page w x
   page_out w x out =
-      released_page w x ∙ ap (page_of_row f.pool) (ap (find_row w x) gone.rows ∙ find_row-stays f.rows v p q from end gone.are w x out)
+      released_page w x ∙ ap (page_of_row f.pool)
+      (ap (find_row w x) gone.rows ∙ find_row-stays f.rows v p q from end gone.are w x out)
 
   page_in : (x : ℕ) → p ≤ x → x < q → (content_of g).page v x ≡ None
-  page_in x low high = ap (page_of_row g.pool) (ap (find_row v x) gone.rows ∙ find_row-released f.rows v p q from end gone.are x low high)
+  page_in x low high = ap (page_of_row g.pool)
+      (ap (find_row v x) gone.rows ∙ find_row-released f.rows v p q from end gone.are x low high)
 
   pub content-released : content_of g ≡ zeroed (content_of f) v p q
   unfolding zeroed
@@ -114,14 +116,17 @@ module _ (f g : Flat) (v p q from end : ℕ) (flat : IsFlat f) (gone : IsRelease
 -- ---- another page count
 
 -- a range that ends where the VMO does begins at any page past its end, or there
-pub HasReleased-past : (f g : Flat) (v first n m : ℕ) → n + m ≡ pages_of (content_of f) v → n ≡ min first (n + m) → HasReleased f g v n (n + m) → HasReleased f g v first (pages_of (content_of f) v)
+pub HasReleased-past : (f g : Flat) (v first n m : ℕ) → n + m ≡ pages_of (content_of f) v → n ≡ min first (n + m) →
+    HasReleased f g v n (n + m) → HasReleased f g v first (pages_of (content_of f) v)
 unfolding zeroed
 HasReleased-past f g v first n m end low released = record {
-  content = released.content ∙ same_content _ _ refl refl (λ w. refl) (λ w x. let page = (content_of f).page w x in grind (arith, nat_tests));
+  content = released.content ∙ same_content _ _ refl refl (λ w. refl)
+      (λ w x. let page = (content_of f).page w x in grind (arith, nat_tests));
   vmos = released.vmos;
 }
 
-module _ (old f : Flat) (v at n : ℕ) (vmo : Vmo) (was : IsFlat old) (flat : IsFlat f) (place : IsVmoFor old.vmos v at) (read : vmo ≡ get_or f.vmos at vmo) (released : HasReleased old f v n (pages_of (content_of old) v)) where
+module _ (old f : Flat) (v at n : ℕ) (vmo : Vmo) (was : IsFlat old) (flat : IsFlat f) (place : IsVmoFor old.vmos v at)
+    (read : vmo ≡ get_or f.vmos at vmo) (released : HasReleased old f v n (pages_of (content_of old) v)) where
   abbrev recounted : List Vmo
   recounted = set f.vmos at (record vmo { count = n })
 
@@ -136,16 +141,20 @@ module _ (old f : Flat) (v at n : ℕ) (vmo : Vmo) (was : IsFlat old) (flat : Is
 
   pub content-relisted : content_of (record f { vmos = recounted }) ≡ resized (content_of old) v n
   unfolding resized zeroed with_key
-  content-relisted = same_content _ _ (ap (λ (c : Content). c.frames) released.content) (ap (λ (c : Content). c.next) released.content)
-      (λ w. rw (count_in-set f.vmos at (record vmo { count = n }) flat.ascending again w, koid, released.vmos)) (λ w x. ap (λ (c : Content). c.page w x) released.content)
+  content-relisted = same_content _ _ (ap (λ (c : Content). c.frames) released.content)
+      (ap (λ (c : Content). c.next) released.content)
+      (λ w. rw (count_in-set f.vmos at (record vmo { count = n }) flat.ascending again w, koid, released.vmos))
+      (λ w x. ap (λ (c : Content). c.page w x) released.content)
 
   pub IsFlat-relisted : IsSome ((content_of old).count v) → n ≤ VMO_PAGES → IsFlat (record f { vmos = recounted })
   IsFlat-relisted some few = IsFlat-vmos f f.next recounted (resized (content_of old) v n) flat
-      (ascending_set f.vmos at (record vmo { count = n }) flat.ascending again) content-relisted (IsGood-resized (content_of old) v n was.good some few)
+      (ascending_set f.vmos at (record vmo { count = n }) flat.ascending again) content-relisted
+      (IsGood-resized (content_of old) v n was.good some few)
 
 -- ---- a VMO leaves
 
-module _ (old f : Flat) (v at : ℕ) (vmo : Vmo) (was : IsFlat old) (flat : IsFlat f) (place : IsVmoFor old.vmos v at) (read : vmo ≡ get_or old.vmos at vmo) (released : HasReleased old f v 0 (0 + vmo.count)) where
+module _ (old f : Flat) (v at : ℕ) (vmo : Vmo) (was : IsFlat old) (flat : IsFlat f) (place : IsVmoFor old.vmos v at)
+    (read : vmo ≡ get_or old.vmos at vmo) (released : HasReleased old f v 0 (0 + vmo.count)) where
   still : IsVmoFor f.vmos v at
   still = subst (λ (vmos : List Vmo). IsVmoFor vmos v at) (sym released.vmos) place
 
@@ -159,9 +168,12 @@ module _ (old f : Flat) (v at : ℕ) (vmo : Vmo) (was : IsFlat old) (flat : IsFl
 
   pub content-unlisted : content_of (record f { vmos = remove f.vmos at }) ≡ without (content_of old) v
   unfolding zeroed only
-  content-unlisted = same_content _ _ (ap (λ (c : Content). c.frames) released.content) (ap (λ (c : Content). c.next) released.content)
-      (λ w. rw (count_in-remove f.vmos at v flat.ascending still.in_range still.is w, released.vmos)) (λ w x. ap (λ (c : Content). c.page w x) released.content ∙ page_left w x)
+  content-unlisted = same_content _ _ (ap (λ (c : Content). c.frames) released.content)
+      (ap (λ (c : Content). c.next) released.content)
+      (λ w. rw (count_in-remove f.vmos at v flat.ascending still.in_range still.is w, released.vmos))
+      (λ w x. ap (λ (c : Content). c.page w x) released.content ∙ page_left w x)
 
   pub IsFlat-unlisted : IsFlat (record f { vmos = remove f.vmos at })
   IsFlat-unlisted = IsFlat-vmos f f.next (remove f.vmos at) (without (content_of old) v) flat
-      (ascending_remove f.vmos at still.in_range flat.ascending) content-unlisted (IsGood-only (content_of old) (λ w. not (w == v)) was.good)
+      (ascending_remove f.vmos at still.in_range flat.ascending) content-unlisted
+      (IsGood-only (content_of old) (λ w. not (w == v)) was.good)

@@ -37,7 +37,8 @@ pub sorted_nil : IsSorted []
 sorted_nil = record { rise = λ i j d l h. absurd (omega arith) }
 
 -- a field of each element, where one is set that has it as the one before
-pub set_field : {X : Type 0} (f : X → ℕ) (xs : List X) (i : ℕ) (x : X) (k : ℕ) (d : X) → i < length xs → f (get_or xs i d) ≡ f x
+pub set_field : {X : Type 0} (f : X → ℕ) (xs : List X) (i : ℕ) (x : X) (k : ℕ) (d : X) → i < length xs →
+    f (get_or xs i d) ≡ f x
     → f (get_or (set xs i x) k d) ≡ f (get_or xs k d)
 set_field f xs i x k d h same = elim (cases_eq k i) [
   | inl here ↦ rw here (ap f (get_or-set_same xs i x d h) ∙ sym same)
@@ -53,7 +54,8 @@ rises_from f xs later i j d le h = elim (cases_order i j) [
 
 -- so a binary search may be made
 pub comparisons_rise : (rows : List Row) → IsSorted rows → (v p : ℕ) → IsNonDecreasingBy (λ row. ordering_index (row_cmp v p row)) rows
-comparisons_rise rows s v p = rises_from (λ row. ordering_index (row_cmp v p row)) rows (λ i j d less h. let later = s.rise i j d less h in grind (arith, nat_tests))
+comparisons_rise rows s v p = rises_from (λ row. ordering_index (row_cmp v p row)) rows
+    (λ i j d less h. let later = s.rise i j d less h in grind (arith, nat_tests))
 
 -- the row that stands at the page's place is found
 pub find_row-at : (rows : List Row) → IsSorted rows → (v p i : ℕ) → IsRowFor rows v p i → (d : Row) → find_row v p rows ≡ Some (get_or rows i d)
@@ -63,15 +65,19 @@ find_row-at (row ∷ rows) s v p zero at d = let same = at.is d in grind (arith,
 find_row-at (row ∷ rows) s v p (suc i) at d =
     let h = at.in_range in
     let same = cmp_same v p (get_or rows i d).koid.0 (get_or rows i d).page (at.is d) in
-    let behind : page_cmp row.koid.0 row.page (get_or rows i d).koid.0 (get_or rows i d).page ≡ Greater = s.rise 0 (suc i) d (omega arith) h in
-    rw (find_row-at rows (sorted_rest row rows s) v p i (record { in_range = omega arith; is = at.is }) d) (grind (arith, nat_tests))
+    let behind : page_cmp row.koid.0 row.page (get_or rows i d).koid.0 (get_or rows i d).page ≡ Greater =
+    s.rise 0 (suc i) d (omega arith) h in
+    rw (find_row-at rows (sorted_rest row rows s) v p i (record { in_range = omega arith; is = at.is }) d)
+    (grind (arith, nat_tests))
 
 -- where no row is the page's, none is found
-pub find_row-absent : (v p : ℕ) (rows : List Row) → All (λ row. ((row.koid.0 == v) && (row.page == p)) ≡ false) rows → find_row v p rows ≡ None
+pub find_row-absent : (v p : ℕ) (rows : List Row) → All (λ row. ((row.koid.0 == v) && (row.page == p)) ≡ false) rows →
+    find_row v p rows ≡ None
 unfolding find_row
 find_row-absent v p [] each = refl
 find_row-absent v p (row ∷ rows) each =
-    ap (λ b. cond b (Some row) (find_row v p rows)) (each 0 row (omega arith)) ∙ find_row-absent v p rows (λ k d h. each (suc k) d (omega arith))
+    ap (λ b. cond b (Some row) (find_row v p rows)) (each 0 row (omega arith))
+    ∙ find_row-absent v p rows (λ k d h. each (suc k) d (omega arith))
 
 pub find_row-gap : (rows : List Row) (v p i : ℕ) → IsGapFor rows v p i → find_row v p rows ≡ None
 find_row-gap rows v p i gap = find_row-absent v p rows (λ k d h. elim (cases_lt k i) [
@@ -93,11 +99,13 @@ find_row-insert (first ∷ rows) (suc i) row before w q =
 all_insert : {X : Type 0} (P : X → Type 0) (xs : List X) (i : ℕ) (x : X) → All P xs → P x → All P (insert xs i x)
 all_insert P xs zero x all here = All-cons P x xs here all
 all_insert P [] (suc i) x all here = All-cons P x [] here all
-all_insert P (y ∷ ys) (suc i) x all here = All-cons P y (insert ys i x) (all 0 y (omega arith)) (all_insert P ys i x (λ k d h. all (suc k) d (omega arith)) here)
+all_insert P (y ∷ ys) (suc i) x all here = All-cons P y (insert ys i x) (all 0 y (omega arith))
+    (all_insert P ys i x (λ k d h. all (suc k) d (omega arith)) here)
 
 -- and the rows stay sorted
 pub sorted_insert : (rows : List Row) (i : ℕ) (row : Row) → IsSorted rows → IsGapFor rows row.koid.0 row.page i → IsSorted (insert rows i row)
-sorted_insert rows zero row s gap = record { rise = AllPairs-cons IsBefore row rows (λ k d h. gap.behind k d (omega arith) h) s.rise }
+sorted_insert rows zero row s gap =
+    record { rise = AllPairs-cons IsBefore row rows (λ k d h. gap.behind k d (omega arith) h) s.rise }
 sorted_insert [] (suc i) row s gap = absurd (let h = gap.in_range in omega arith)
 sorted_insert (first ∷ rows) (suc i) row s gap =
     let h = gap.in_range in
@@ -106,23 +114,33 @@ sorted_insert (first ∷ rows) (suc i) row s gap =
       before = λ k d l m. gap.before (suc k) d (omega arith) (omega arith);
       behind = λ k d l m. gap.behind (suc k) d (omega arith) (omega arith);
     }) in
-    let here : IsBefore first row = let less = gap.before 0 first (omega arith) (omega arith) in grind (arith, nat_tests) in
-    record { rise = AllPairs-cons IsBefore first (insert rows i row) (all_insert (IsBefore first) rows i row (λ k d l. s.rise 0 (suc k) d (omega arith) (omega arith)) here) rest.rise }
+    let here : IsBefore first row = let less = gap.before 0 first (omega arith) (omega arith) in
+    grind (arith, nat_tests) in
+    record {
+      rise = AllPairs-cons IsBefore first (insert rows i row)
+          (all_insert (IsBefore first) rows i row
+          (λ k d l. s.rise 0 (suc k) d (omega arith) (omega arith)) here) rest.rise;
+    }
 
 -- ---- a row with another frame
 
-pub sorted_set : (rows : List Row) (i : ℕ) (row : Row) → IsSorted rows → IsRowFor rows row.koid.0 row.page i → IsSorted (set rows i row)
+pub sorted_set : (rows : List Row) (i : ℕ) (row : Row) → IsSorted rows → IsRowFor rows row.koid.0 row.page i →
+    IsSorted (set rows i row)
 sorted_set rows i row s again = record {
-  rise = λ a b d l h. rw (koid-set a d, page-set a d, koid-set b d, page-set b d) (s.rise a b d l (omega (arith, length-set rows i row)));
+  rise = λ a b d l h. rw (koid-set a d, page-set a d, koid-set b d, page-set b d)
+      (s.rise a b d l (omega (arith, length-set rows i row)));
 } where
   koid-set : (k : ℕ) (d : Row) → (get_or (set rows i row) k d).koid.0 ≡ (get_or rows k d).koid.0
-  koid-set k d = set_field (λ r. r.koid.0) rows i row k d again.in_range (cmp_same row.koid.0 row.page (get_or rows i d).koid.0 (get_or rows i d).page (again.is d)).0
+  koid-set k d = set_field (λ r. r.koid.0) rows i row k d again.in_range
+      (cmp_same row.koid.0 row.page (get_or rows i d).koid.0 (get_or rows i d).page (again.is d)).0
 
   page-set : (k : ℕ) (d : Row) → (get_or (set rows i row) k d).page ≡ (get_or rows k d).page
-  page-set k d = set_field (λ r. r.page) rows i row k d again.in_range (cmp_same row.koid.0 row.page (get_or rows i d).koid.0 (get_or rows i d).page (again.is d)).1
+  page-set k d = set_field (λ r. r.page) rows i row k d again.in_range
+      (cmp_same row.koid.0 row.page (get_or rows i d).koid.0 (get_or rows i d).page (again.is d)).1
 
 -- it is found at its page, and at every other page what was found
-pub find_row-set : (rows : List Row) (i : ℕ) (row : Row) → IsSorted rows → IsRowFor rows row.koid.0 row.page i → (w q : ℕ) →
+pub find_row-set : (rows : List Row) (i : ℕ) (row : Row) → IsSorted rows → IsRowFor rows row.koid.0 row.page i →
+    (w q : ℕ) →
     find_row w q (set rows i row) ≡ cond ((w == row.koid.0) && (q == row.page)) (Some row) (find_row w q rows)
 unfolding find_row
 find_row-set [] i row s again w q = absurd (let h = again.in_range in omega arith)
@@ -131,9 +149,11 @@ find_row-set (first ∷ rows) zero row s again w q =
     grind (arith, nat_tests)
 find_row-set (first ∷ rows) (suc i) row s again w q =
     let h = again.in_range in
-    let behind : page_cmp first.koid.0 first.page (get_or rows i first).koid.0 (get_or rows i first).page ≡ Greater = s.rise 0 (suc i) first (omega arith) h in
+    let behind : page_cmp first.koid.0 first.page (get_or rows i first).koid.0 (get_or rows i first).page ≡ Greater =
+    s.rise 0 (suc i) first (omega arith) h in
     let same = again.is first in
-    let other = find_row-set rows i row (sorted_rest first rows s) (record { in_range = omega arith; is = again.is }) w q in
+    let other = find_row-set rows i row (sorted_rest first rows s)
+    (record { in_range = omega arith; is = again.is }) w q in
     rw other (grind (arith, nat_tests))
 
 -- ---- what a binary search answers

@@ -55,7 +55,9 @@ pub rows_with-take : (t : ℕ) (rows : List Row) (i : ℕ) (d : Row) → i < len
 rows_with-take t rows i d h e =
     let all : rows_with t (take (i + 1) rows ++ drop (i + 1) rows) ≡ rows_with t rows = ap (rows_with t) (take-append-drop (i + 1) rows) in
     let more : rows_with t (take (i + 1) rows) ≡ rows_with t (take i rows ++ get_or rows i d ∷ []) = ap (rows_with t) (take_more rows i d h) in
-    omega (arith, all, more, rows_with-append t (take (i + 1) rows) (drop (i + 1) rows), rows_with-push t (take i rows) (get_or rows i d), bit-true _ (eq-eqb (get_or rows i d).tag.0 t e))
+    let parts = rows_with-append t (take (i + 1) rows) (drop (i + 1) rows) in
+    let push = rows_with-push t (take i rows) (get_or rows i d) in
+    omega (arith, all, more, parts, push, bit-true _ (eq-eqb (get_or rows i d).tag.0 t e))
 
 -- fewer of the first rows have it
 pub rows_with-shorter : (t : ℕ) (rows : List Row) (n m : ℕ) → n ≤ m → rows_with t (take n rows) ≤ rows_with t (take m rows)
@@ -74,7 +76,9 @@ rows_with-range t rows from end le =
 rows_with-none : (t : ℕ) (rows : List Row) → All (λ row. row.tag.0 ≢ t) rows → rows_with t rows ≡ 0
 unfolding rows_with
 rows_with-none t [] each = refl
-rows_with-none t (row ∷ rows) each = omega (arith, bit-false _ (ne_eqb row.tag.0 t (each 0 row (omega arith))), rows_with-none t rows (λ k d h. each (suc k) d (omega arith)))
+rows_with-none t (row ∷ rows) each =
+    let rest = rows_with-none t rows (λ k d h. each (suc k) d (omega arith)) in
+    omega (arith, rest, bit-false _ (ne_eqb row.tag.0 t (each 0 row (omega arith))))
 
 -- ---- shared once more
 
@@ -117,7 +121,8 @@ module _ (rows : List Row) (from i : ℕ) (row : Row) (is : get_or rows i row �
       let t = row.tag.0 in
       let within : rows_with t (slice_range rows from (i + 1)) ≤ rows_with t (slice_range rows from end) = rows_with-shorter t (drop from rows) (i + 1 - from) (end - from) (omega arith) in
       let more : rows_with t (slice_range rows from (i + 1)) ≡ rows_with t (slice_range rows from i ++ row ∷ []) = ap (rows_with t) range_more in
-      omega (arith, within, more, rows_with-push t (slice_range rows from i) row, done.counts t, bit-true _ (eqb_same t))
+      let push = rows_with-push t (slice_range rows from i) row in
+      omega (arith, within, more, push, done.counts t, bit-true _ (eqb_same t))
 
   -- the row of the snapshot stands behind those so far
   pub added_more : (all : List Row) (koid first : ℕ) → all ++ map (row_in koid first) (slice_range rows from (i + 1)) ≡ (all ++ map (row_in koid first) (slice_range rows from i)) ++ row_in koid first row ∷ []
@@ -136,24 +141,36 @@ added_none all rows koid first i = rw (between_none rows i) (sym (append-nil all
 
 pub Releases-nil : (shares : List ℕ) (pool : Pool) → AreTakenWhereShared shares pool → Releases [] shares shares pool pool
 unfolding rows_with
-Releases-nil shares pool counted = record { size = refl; counts = λ t. omega arith; frames = refl; counted = counted; kept = λ t h. refl }
+Releases-nil shares pool counted = record {
+  size = refl;
+  counts = λ t. omega arith;
+  frames = refl;
+  counted = counted;
+  kept = λ t h. refl;
+}
 
 -- a count above 0 belongs to a frame
 counted_low : (shares : List ℕ) (t n : ℕ) → get_or shares t 0 ≡ n + 1 → t < length shares
 counted_low shares t n e = elim (cases_lt t (length shares)) [ inl low ↦ low | inr past ↦ absurd (omega (arith, get_or_past shares t 0 past)) ]
 
 -- One row more is released. Its frame has the share count n then, and is given back where that is 0.
-module _ (rows : List Row) (row : Row) (old now : List ℕ) (before pool after : Pool) (n : ℕ) (done : Releases rows old now before pool) (one : get_or now row.tag.0 0 ≡ n + 1)
-    (frames : after.frames ≡ pool.frames) (taken : (u : ℕ) → taken_frames after u ≡ cond ((u == row.tag.0) && (n == 0)) None (taken_frames pool u)) where
+module _ (rows : List Row) (row : Row) (old now : List ℕ) (before pool after : Pool) (n : ℕ)
+    (done : Releases rows old now before pool) (one : get_or now row.tag.0 0 ≡ n + 1)
+    (frames : after.frames ≡ pool.frames)
+    (taken : (u : ℕ) → taken_frames after u ≡ cond ((u == row.tag.0) && (n == 0)) None (taken_frames pool u)) where
   count_at : (u : ℕ) → get_or (set now row.tag.0 n) u 0 ≡ cond (row.tag.0 == u) n (get_or now u 0)
   count_at u = set_at now row.tag.0 n u (counted_low now row.tag.0 n one)
 
   Releases-more : Releases (rows ++ row ∷ []) old (set now row.tag.0 n) before after
   Releases-more = record {
     size = length-set now row.tag.0 n ∙ done.size;
-    counts = λ u. let was = done.counts u in let more = rows_with-push u rows row in let at = count_at u in grind (arith, nat_tests);
+    counts = λ u. let was = done.counts u in let more = rows_with-push u rows row in let at = count_at u in
+        grind (arith, nat_tests);
     frames = frames ∙ done.frames;
-    counted = record { taken = λ u. let was = done.counted.taken u in rw (taken u, count_at u) (grind (arith, nat_tests)) };
+    counted = record {
+      taken = λ u. let was = done.counted.taken u in
+          rw (taken u, count_at u) (grind (arith, nat_tests));
+    };
     kept = λ u h. let kept = done.kept u in let at = count_at u in rw (taken u) (grind (arith, nat_tests));
   }
 
@@ -185,12 +202,16 @@ module _ (rows : List Row) (i : ℕ) (d : Row) (old now : List ℕ) (before pool
   one_more = let some = release_next.some in omega arith
 
   pub release_kept : less ≢ 0 → Releases (take (i + 1) rows) old (set now (get_or rows i d).tag.0 less) before pool
-  release_kept more = rw (take_more rows i d h) (Releases-more (take i rows) (get_or rows i d) old now before pool pool less done one_more refl (λ u. grind (arith, nat_tests)))
+  release_kept more = rw (take_more rows i d h)
+      (Releases-more (take i rows) (get_or rows i d) old now before pool pool less done one_more refl
+      (λ u. grind (arith, nat_tests)))
 
   pub release_given : (after : Pool) → less ≡ 0 → after.frames ≡ pool.frames → taken_frames after ≡ without_key (taken_frames pool) (get_or rows i d).tag.0 → Releases (take (i + 1) rows) old (set now (get_or rows i d).tag.0 less) before after
   unfolding without_key
   release_given after none frames given =
-      rw (take_more rows i d h) (Releases-more (take i rows) (get_or rows i d) old now before pool after less done one_more frames (λ u. rw given (grind (arith, nat_tests))))
+      rw (take_more rows i d h) (Releases-more (take i rows)
+      (get_or rows i d) old now before pool after less done one_more frames
+      (λ u. rw given (grind (arith, nat_tests))))
 
 -- ---- the first row with a frame
 

@@ -36,9 +36,12 @@ unfolding find_row
 find_row-moved koid v first p [] from = refl
 find_row-moved koid v first p (row ∷ rows) from =
     let here = from 0 row (omega arith) in
-    let test : ((koid == koid) && ((row.page - first) == p)) ≡ ((row.koid.0 == v) && (row.page == (first + p))) = grind (arith, nat_tests) in
-    rw (find_row-moved koid v first p rows (λ k d h. from (suc k) d (omega arith)), test) (go ((row.koid.0 == v) && (row.page == (first + p)))) where
-      go : (b : Bool) → cond b (Some (row_in koid first row)) (option_map (row_in koid first) (find_row v (first + p) rows))
+    let test : ((koid == koid) && ((row.page - first) == p)) ≡ ((row.koid.0 == v) && (row.page == (first + p))) =
+    grind (arith, nat_tests) in
+    rw (find_row-moved koid v first p rows (λ k d h. from (suc k) d (omega arith)), test)
+    (go ((row.koid.0 == v) && (row.page == (first + p)))) where
+      go : (b : Bool) → cond b (Some (row_in koid first row))
+          (option_map (row_in koid first) (find_row v (first + p) rows))
           ≡ option_map (row_in koid first) (cond b (Some row) (find_row v (first + p) rows))
       go true = refl
       go false = refl
@@ -61,7 +64,8 @@ sorted_moved koid v first rows from s = record {
       let same = length-map rows (row_in koid first) in
       let a = from i d (omega arith) in
       let b = from j d (omega arith) in
-      rw (get_or-map (row_in koid first) rows i d d (omega arith), get_or-map (row_in koid first) rows j d d (omega arith))
+      let at = λ (k : ℕ) (m : k < length rows). get_or-map (row_in koid first) rows k d d m in
+      rw (at i (omega arith), at j (omega arith))
       (let later = s.rise i j d l (omega arith) in grind (arith, nat_tests));
 }
 
@@ -116,15 +120,18 @@ module _ (f g : Flat) (v first seen pages from end : ℕ) (flat : IsFlat f) (new
       let c = content_of f in
       same_content (content_of g) (snapshotted c v first seen pages)
       (ap (λ (pool : Pool). pool.frames) new.pool) new.next
-      (λ w. ap (count_in w) new.vmos ∙ count_in-push f.vmos (new_vmo f pages) (koids_below f (new_vmo f pages) flat refl) w)
+      (λ w. ap (count_in w) new.vmos ∙ count_in-push f.vmos (new_vmo f pages)
+      (koids_below f (new_vmo f pages) flat refl) w)
       (λ w p. let here = page_new p in let other = page_old w p in grind (arith, nat_tests))
 
   snapshot_sorted : IsSorted g.rows
   snapshot_sorted =
       let seen_rows = slice_range f.rows from end in
       subst IsSorted (sym new.rows) (sorted_append f.rows (map (row_in f.next first) seen_rows) flat.sorted
-      (sorted_moved f.next v first seen_rows seen_from (sorted_range f.rows from end flat.sorted (new.are).order (new.are).range))
-      (λ i j d l h. rw (get_or-map (row_in f.next first) seen_rows j d d (omega (arith, length-map seen_rows (row_in f.next first))))
+      (sorted_moved f.next v first seen_rows seen_from
+      (sorted_range f.rows from end flat.sorted (new.are).order (new.are).range))
+      (λ i j d l h. rw (get_or-map (row_in f.next first) seen_rows j d d
+      (omega (arith, length-map seen_rows (row_in f.next first))))
       (let low = row_koids f flat.sorted flat.good i d l in grind (arith, nat_tests))))
 
   snapshot_counts : (t : ℕ) → get_or g.shares t 0 ≡ rows_with t g.rows

@@ -88,11 +88,14 @@ pub shows_in-found : (t v : ℕ) (rows : List Row) → shows_in t rows v ≡ tru
 shows_in-found t v rows e =
     let found = Any-from_list_any (λ (row : Row). (row.koid.0 == v) && (row.tag.0 == t)) rows e in
     let both = and_parts ((found.1).koid.0 == v) ((found.1).tag.0 == t) found.4 in
+    let koid = eqb-true (found.1).koid.0 v both.0 in
+    let tag = eqb-true (found.1).tag.0 t both.1 in
     let is = λ (d : Row). get_or_default rows found.0 d found.1 found.2 ∙ found.3 in
-    (found.0, found.2, λ d. ap (λ (r : Row). r.koid.0) (is d) ∙ eqb-true (found.1).koid.0 v both.0, λ d. ap (λ (r : Row). r.tag.0) (is d) ∙ eqb-true (found.1).tag.0 t both.1)
+    (found.0, found.2, λ d. rw (is d) koid, λ d. rw (is d) tag)
 
 pub shows_in-at : (t v : ℕ) (rows : List Row) (i : ℕ) (d : Row) → i < length rows → (get_or rows i d).koid.0 ≡ v → (get_or rows i d).tag.0 ≡ t → shows_in t rows v ≡ true
-shows_in-at t v rows i d h koid tag = list_any_at (λ row. (row.koid.0 == v) && (row.tag.0 == t)) rows i d h (grind (arith, nat_tests))
+shows_in-at t v rows i d h koid tag = list_any_at (λ row. (row.koid.0 == v) && (row.tag.0 == t)) rows i d h
+    (grind (arith, nat_tests))
 
 -- no two rows of one VMO have one frame
 pub record AreApart (rows : List Row) : Type 0 where
@@ -111,8 +114,10 @@ count_shows n t (row ∷ rows) low apart =
       | inl here ↦
           let miss : shows_in t rows row.koid.0 ≡ false = false_from_ne_true (shows_in t rows row.koid.0) (λ e.
           let found = shows_in-found t row.koid.0 rows e in
-          apart.apart 0 (suc found.0) row (omega arith) (omega (arith, found.1)) (sym (found.2 row)) (eqb-true row.tag.0 t here ∙ sym (found.3 row))) in
-          let more = count_below_one_more n row.koid.0 (shows_in t rows) (shows_in t (row ∷ rows)) (low 0 row (omega arith)) miss (grind (arith, nat_tests)) (λ v other. grind (arith, nat_tests)) in
+          apart.apart 0 (suc found.0) row (omega arith) (omega (arith, found.1)) (sym (found.2 row))
+          (eqb-true row.tag.0 t here ∙ sym (found.3 row))) in
+          let more = count_below_one_more n row.koid.0 (shows_in t rows) (shows_in t (row ∷ rows))
+          (low 0 row (omega arith)) miss (grind (arith, nat_tests)) (λ v other. grind (arith, nat_tests)) in
           omega (arith, more, rest, bit-true (row.tag.0 == t) here)
     ]
 
@@ -152,13 +157,16 @@ module _ (f : Flat) (sorted : IsSorted f.rows) (good : IsGood (content_of f)) wh
       (λ shows.
       let found = shows_in-found t v f.rows shows in
       let row = get_or f.rows found.0 no_row in
-      let at : (content_of f).page v row.page ≡ Some (page_from f.pool row) = ap (λ (w : ℕ). (content_of f).page w row.page) (sym (found.2 no_row)) ∙ page_of_each f sorted found.0 no_row found.1 in
+      let at : (content_of f).page v row.page ≡ Some (page_from f.pool row) =
+      ap (λ (w : ℕ). (content_of f).page w row.page) (sym (found.2 no_row))
+      ∙ page_of_each f sorted found.0 no_row found.1 in
       views_held (content_of f) t v row.page (page_from f.pool row) good at (found.3 no_row))
 
   pub viewers-rows : (t : ℕ) → viewers (content_of f) t ≡ rows_with t f.rows
   unfolding viewers
   viewers-rows t =
-      count_below_same f.next (views (content_of f) t) (shows_in t f.rows) (λ v h. views-rows t v) ∙ count_shows f.next t f.rows row_koids rows_apart
+      count_below_same f.next (views (content_of f) t) (shows_in t f.rows) (λ v h. views-rows t v)
+      ∙ count_shows f.next t f.rows row_koids rows_apart
 
 -- ---- what the lists of a plain store say of its content
 
@@ -197,7 +205,8 @@ least_row f t i row flat first read = record {
         | inl less ↦ first.before found.0 row (omega arith) less (found.3 row)
         | inr le ↦ elim (cases_lt i found.0) [
           | inl more ↦ let later = flat.sorted.rise i found.0 row more found.1 in absurd (grind (arith, nat_tests))
-          | inr ge ↦ let same : found.0 ≡ i = omega arith in absurd (let is = ap (λ (k : ℕ). (get_or f.rows k row).koid.0) same in omega arith)
+          | inr ge ↦ let same : found.0 ≡ i = omega arith in
+              absurd (let is = ap (λ (k : ℕ). (get_or f.rows k row).koid.0) same in omega arith)
         ]
       ]);
 }

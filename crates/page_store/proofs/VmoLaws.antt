@@ -52,9 +52,11 @@ pub record IsFoundVmo (vmos : List Vmo) (v : ℕ) (r : Result ℕ ℕ) : Type 0 
 -- a koid that is in the list is found
 pub searched_vmo : (vmos : List Vmo) → IsAscending vmos → (v : ℕ) → IsSome (count_in v vmos) → (r : Result ℕ ℕ) → IsSearchInRange r (length vmos) → IsBinarySearchResult (λ (vmo : Vmo). nat_cmp vmo.koid.0 v) vmos r →
     IsFoundVmo vmos v r
-searched_vmo vmos s v some (Ok i) h at = record { found = record { in_range = h; is = λ d. let same = at d in grind (arith, nat_tests) }; absent = tt }
+searched_vmo vmos s v some (Ok i) h at =
+    record { found = record { in_range = h; is = λ d. let same = at d in grind (arith, nat_tests) }; absent = tt }
 searched_vmo vmos s v some (Err i) h parted =
-    let rises = rises_from (λ (vmo : Vmo). ordering_index (nat_cmp vmo.koid.0 v)) vmos (λ a b d l m. let older = s.rise a b d l m in grind (arith, nat_tests)) in
+    let rises = rises_from (λ (vmo : Vmo). ordering_index (nat_cmp vmo.koid.0 v)) vmos
+    (λ a b d l m. let older = s.rise a b d l m in grind (arith, nat_tests)) in
     let none : count_in v vmos ≡ None = count_in-none vmos v (λ k d l same. elim (cases_lt k i) [
       | inl low ↦ let less = (parted rises).0 k d (omega arith) low in grind (arith, nat_tests)
       | inr le ↦ let more = (parted rises).1 k d le l in grind (arith, nat_tests)
@@ -87,7 +89,9 @@ count_in-push (first ∷ vmos) vmo below v =
 
 -- the first koid has no other count
 count_in-behind : (vmo : Vmo) (vmos : List Vmo) → IsAscending (vmo ∷ vmos) → count_in vmo.koid.0 vmos ≡ None
-count_in-behind vmo vmos s = count_in-none vmos vmo.koid.0 (λ k d h same. let up : vmo.koid.0 < (get_or vmos k d).koid.0 = s.rise 0 (suc k) d (omega arith) (omega arith) in absurd (omega arith))
+count_in-behind vmo vmos s = count_in-none vmos vmo.koid.0
+    (λ k d h same. let up : vmo.koid.0 < (get_or vmos k d).koid.0 = s.rise 0 (suc k) d (omega arith) (omega arith) in
+    absurd (omega arith))
 
 -- as many koids below n have a count as there are VMOs
 pub count_vmos : (n : ℕ) (vmos : List Vmo) → IsAscending vmos → AllBelow vmos n → count_below n (λ v. is_some (count_in v vmos)) ≡ length vmos
@@ -96,7 +100,8 @@ count_vmos n [] rises below = count_below_none n _ (λ v h. refl)
 count_vmos n (vmo ∷ vmos) rises below =
     let rest = count_vmos n vmos (ascending_rest vmo vmos rises) (λ i d h. below (suc i) d (omega arith)) in
     let more = count_below_one_more n vmo.koid.0 (λ v. is_some (count_in v vmos)) (λ v. is_some (count_in v (vmo ∷ vmos)))
-    (below 0 vmo (omega arith)) (ap is_some (count_in-behind vmo vmos rises)) (grind (arith, nat_tests)) (λ v apart. grind (arith, nat_tests)) in
+    (below 0 vmo (omega arith)) (ap is_some (count_in-behind vmo vmos rises)) (grind (arith, nat_tests))
+    (λ v apart. grind (arith, nat_tests)) in
     omega (arith, more, rest)
 
 pub ascending_remove : (vmos : List Vmo) (i : ℕ) → i < length vmos → IsAscending vmos → IsAscending (remove vmos i)
@@ -118,13 +123,19 @@ count_in-remove (vmo ∷ vmos) (suc i) v rises h at w =
 
 -- ---- a VMO with another page count
 
-pub ascending_set : (vmos : List Vmo) (i : ℕ) (vmo : Vmo) → IsAscending vmos → IsVmoFor vmos vmo.koid.0 i → IsAscending (set vmos i vmo)
-ascending_set vmos i vmo s again = record { rise = λ a b d l h. rw (koid-set a d, koid-set b d) (s.rise a b d l (omega (arith, length-set vmos i vmo))) } where
-  koid-set : (k : ℕ) (d : Vmo) → (get_or (set vmos i vmo) k d).koid.0 ≡ (get_or vmos k d).koid.0
-  koid-set k d = set_field (λ one. one.koid.0) vmos i vmo k d again.in_range (again.is d)
+pub ascending_set : (vmos : List Vmo) (i : ℕ) (vmo : Vmo) → IsAscending vmos → IsVmoFor vmos vmo.koid.0 i →
+    IsAscending (set vmos i vmo)
+ascending_set vmos i vmo s again =
+    record {
+      rise = λ a b d l h. rw (koid-set a d, koid-set b d)
+          (s.rise a b d l (omega (arith, length-set vmos i vmo)));
+    } where
+      koid-set : (k : ℕ) (d : Vmo) → (get_or (set vmos i vmo) k d).koid.0 ≡ (get_or vmos k d).koid.0
+      koid-set k d = set_field (λ one. one.koid.0) vmos i vmo k d again.in_range (again.is d)
 
 -- it has its new count, and the others keep theirs
-pub count_in-set : (vmos : List Vmo) (i : ℕ) (vmo : Vmo) → IsAscending vmos → IsVmoFor vmos vmo.koid.0 i → (w : ℕ) → count_in w (set vmos i vmo) ≡ cond (w == vmo.koid.0) (Some vmo.count) (count_in w vmos)
+pub count_in-set : (vmos : List Vmo) (i : ℕ) (vmo : Vmo) → IsAscending vmos → IsVmoFor vmos vmo.koid.0 i → (w : ℕ) →
+    count_in w (set vmos i vmo) ≡ cond (w == vmo.koid.0) (Some vmo.count) (count_in w vmos)
 unfolding count_in
 count_in-set [] i vmo rises again w = absurd (let h = again.in_range in omega arith)
 count_in-set (first ∷ vmos) zero vmo rises again w =
@@ -133,5 +144,6 @@ count_in-set (first ∷ vmos) zero vmo rises again w =
 count_in-set (first ∷ vmos) (suc i) vmo rises again w =
     let up : first.koid.0 < (get_or vmos i vmo).koid.0 = rises.rise 0 (suc i) vmo (omega arith) again.in_range in
     let koid = again.is vmo in
-    let others = count_in-set vmos i vmo (ascending_rest first vmos rises) (record { in_range = let h = again.in_range in omega arith; is = again.is }) w in
+    let others = count_in-set vmos i vmo (ascending_rest first vmos rises)
+    (record { in_range = let h = again.in_range in omega arith; is = again.is }) w in
     rw others (grind (arith, nat_tests))

@@ -21,4 +21,6 @@ invariant_of-self c = record {
 
 pub returns-clause-owns : goal.returns-clause-owns
 returns-clause-owns c =
-    rw (rows_are c, ← c.self.view_is) (owned_zero _ _ _ _ 0 c.self.invariant.flat (rw (← c.self.view_is) at c.requires.gap) (rw (← c.self.view_is) at c.requires.page) c.take_zeros-tag.ensures.frames c.take_zeros-tag.ensures.takes).owns
+    rw (rows_are c, ← c.self.view_is)
+    (owned_zero _ _ _ _ 0 c.self.invariant.flat (rw (← c.self.view_is) at c.requires.gap)
+    (rw (← c.self.view_is) at c.requires.page) c.take_zeros-tag.ensures.frames c.take_zeros-tag.ensures.takes).owns

@@ -3,7 +3,8 @@ use Rattle.page_store.proofs.ViewLaws.{rows_with-shown, least_row}
 use Rattle.page_store.proofs.flat_store.FlatStorePageStore.least_viewer.Goals as goal
 
 pub first_with-requires : goal.first_with-requires
-first_with-requires c = rw c.deref.ensures.value (rows_with-shown (flat_of c.self.inside) c.args.tag.0 (rw (← c.self.view_is) at c.requires))
+first_with-requires c = rw c.deref.ensures.value
+    (rows_with-shown (flat_of c.self.inside) c.args.tag.0 (rw (← c.self.view_is) at c.requires))
 
 pub returns : goal.returns
 returns c =

@@ -11,4 +11,5 @@ pub returns-in-Ok : goal.returns-in-Ok
 returns-in-Ok c = rw (← c.self.view_is) (look_row _ _ _ _ _ c.self.invariant.flat (rw c.deref.ensures.value at c.in-Ok.ensures.found) c.index.ensures _ c.index-in-Ok.ensures)
 
 pub returns-in-Err : goal.returns-in-Err
-returns-in-Err c = rw (← c.self.view_is) (look_gap (flat_of c.self.inside) _ _ _ (rw c.deref.ensures.value at c.in-Err.ensures.absent))
+returns-in-Err c = rw (← c.self.view_is)
+    (look_gap (flat_of c.self.inside) _ _ _ (rw c.deref.ensures.value at c.in-Err.ensures.absent))

@@ -18,18 +18,21 @@ place c = rw c.deref.ensures.value at c.find_vmo-at.ensures
 released : (c : goal.After-self-1) → HasReleased (flat_of c.self.inside) (flat_of c.self-2.inside) c.args.v.0 c.args.count (pages_of (content_of (flat_of c.self.inside)) c.args.v.0)
 released c =
     let pages = pages_read (flat_of c.self.inside) c.args.v.0 _ _ c.self.invariant.flat (place c) c.index.ensures in
-    HasReleased-past (flat_of c.self.inside) (flat_of c.self-2.inside) _ c.args.count _ _ (omega arith) (omega arith) (record {
+    HasReleased-past (flat_of c.self.inside) (flat_of c.self-2.inside) _ c.args.count _ _ (omega arith) (omega arith)
+    (record {
       content = rw (← c.self.view_is, ← c.self-2.view_is) at c.release_pages.ensures.content;
       vmos = rw (← c.self.view_is, ← c.self-2.view_is) at c.release_pages.ensures.vmos;
     })
 
 pub invariant_of-self : goal.invariant_of-self
 invariant_of-self c = record {
-  flat = IsFlat-relisted (flat_of c.self.inside) (flat_of c.self-2.inside) c.args.v.0 c.find_vmo-at.result _ _ c.self.invariant.flat c.self-2.invariant.flat
+  flat = IsFlat-relisted (flat_of c.self.inside)
+      (flat_of c.self-2.inside) c.args.v.0 c.find_vmo-at.result _ _ c.self.invariant.flat c.self-2.invariant.flat
       (place c) c.index_mut.ensures.value (released c) (rw (← c.self.view_is) at c.requires.vmo) c.requires.count;
 }
 
 pub returns : goal.returns
 returns c =
-    rw (← c.self.view_is) (content-relisted (flat_of c.self.inside) (flat_of c.self-2.inside) c.args.v.0 c.find_vmo-at.result _ _ c.self.invariant.flat c.self-2.invariant.flat
+    rw (← c.self.view_is) (content-relisted (flat_of c.self.inside)
+    (flat_of c.self-2.inside) c.args.v.0 c.find_vmo-at.result _ _ c.self.invariant.flat c.self-2.invariant.flat
     (place c) c.index_mut.ensures.value (released c))
