@@ -1,11 +1,11 @@
 -- The held page that comes next: its row stands at the bound.
-use Rattle.std.proofs.Common.{◌≡◌, ◌≢◌, ℕ, ◌<◌, ◌≤◌, length, get_or, Option, None, Some, refl, sym, ap, ◌∙◌, inl, inr, arith}
+use Rattle.std.proofs.Common.{◌≡◌, ◌≢◌, ℕ, ◌<◌, ◌≤◌, length, get_or, None, Some, sym, ap, ◌∙◌, inl, inr, arith}
 use Rattle.std.specs.Prelude.{IsSome, is_some}
 use Rattle.std.specs.declared.cmp.Ordering.TheVariants.{Greater}
 use Rattle.std.proofs.lemmas.Bool.{cases_lt}
 use Rattle.std.proofs.lemmas.Bool.Decides.{nat_tests}
 use Rattle.std.proofs.lemmas.List.{get_or_default}
-use Rattle.vm_model.specs.Contents.Content.{Page, Content}
+use Rattle.vm_model.specs.Contents.Content.{Content}
 use Rattle.page_store.specs.declared.rows.Row.{Row}
 use Rattle.page_store.specs.Rows.{row_cmp, IsBoundFor}
 use Rattle.page_store.specs.Flat.{Flat, page_of_row, content_of, IsFlat}

@@ -1,17 +1,16 @@
 -- The plain store with a snapshot: which content its lists stand for, and that they stay a plain store.
-use Rattle.std.proofs.Common.{◌≡◌, ◌≢◌, ℕ, suc, ◌+◌, ◌-◌, ◌^◌, ◌<◌, ◌≤◌, Bool, true, false, cond, ◌&&◌, ◌==◌, List, [], ◌∷◌, ◌++◌, length, map, get_or, Option, None, Some, is_some, refl, sym, ap, subst, ◌∙◌, inl, inr, arith}
-use Rattle.std.specs.Prelude.{nat_lt}
+use Rattle.std.proofs.Common.{◌≡◌, ◌≢◌, ℕ, suc, ◌+◌, ◌-◌, ◌^◌, ◌<◌, ◌≤◌, Bool, true, false, cond, ◌&&◌, ◌==◌, List, [], ◌∷◌, ◌++◌, length, map, get_or, Option, None, Some, refl, sym, ap, subst, ◌∙◌, inl, inr, arith}
 use Rattle.std.specs.List.{All, AllWithin, slice_range}
 use Rattle.std.specs.Option.{option_map}
-use Rattle.std.proofs.lemmas.Bool.{cases_eq, cases_lt}
+use Rattle.std.proofs.lemmas.Bool.{cases_lt}
 use Rattle.std.proofs.lemmas.Bool.Decides.{nat_tests}
 use Rattle.std.proofs.lemmas.List.{length-map, get_or-map}
-use Rattle.frame_pool.specs.Pool.{Pool, taken_frames}
+use Rattle.frame_pool.specs.Pool.{Pool}
 use Rattle.vm_base.specs.declared.limits.TheConstants.{VMO_PAGES, KOIDS}
 use Rattle.vm_model.specs.Contents.Content.{IsGood}
 use Rattle.vm_model.specs.Contents.Sharing.{page_seen, snapshotted}
 use Rattle.vm_base.specs.Entries.{with_key}
-use Rattle.vm_model.proofs.SharingLaws.{page-snapshotted_new, page-snapshotted_other, page_seen-in, page_seen-out, IsGood-snapshotted}
+use Rattle.vm_model.proofs.SharingLaws.{page_seen-in, page_seen-out, IsGood-snapshotted}
 use Rattle.page_store.specs.declared.rows.Row.{Row}
 use Rattle.page_store.specs.declared.vmos.Vmo.{Vmo}
 use Rattle.page_store.specs.Rows.{find_row, IsSorted, AreRowsWithin}
