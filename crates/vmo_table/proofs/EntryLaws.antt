@@ -1,5 +1,5 @@
 -- What the entries of the two maps are as maps from numbers, after a call of the library.
-use Rattle.std.proofs.Common.{◌≡◌, ℕ, ◌==◌, Bool, true, false, cond, List, [], ◌∷◌, Option, None, Some, IsSome, is_some, Result, Ok, Err, refl, sym, ap, ◌∙◌, inl, inr, ◌≢◌, ◌+◌, ◌^◌, ◌≤◌, length, arith}
+use Rattle.std.proofs.Common.{◌≡◌, ℕ, ◌==◌, Bool, true, cond, List, [], ◌∷◌, Option, None, Some, IsSome, Result, Ok, Err, refl, sym, ap, ◌∙◌, inl, inr, ◌≢◌, ◌+◌, ◌^◌, ◌≤◌, length, arith}
 use Rattle.std.specs.Option.{option_map}
 use Rattle.std.specs.Prelude.{IsOk, OnOk}
 use Rattle.std.specs.Map.{lookup}
@@ -9,14 +9,13 @@ use Rattle.std.proofs.lemmas.Bool.Decides.{nat_tests}
 use Rattle.vm_base.specs.declared.names.Koid.{Koid}
 use Rattle.vm_base.specs.declared.names.VmoName.{VmoName}
 use Rattle.vm_base.specs.Entries.{with_key, without_key, passes, entry_count}
-use Rattle.vm_base.proofs.EntryLaws.{passes-some, entry_count-change, entry_count-same, entry_count-empty}
+use Rattle.vm_base.proofs.EntryLaws.{entry_count-change, entry_count-same, entry_count-empty}
 use Rattle.vm_base.proofs.SearchLaws.{bit_le}
 use Rattle.vm_model.specs.declared.names.Target.{Target}
-use Rattle.vm_model.specs.Naming.Names.{is_parent, has_parent}
 use Rattle.vmo_table.specs.declared.vmos.Vmo.{Vmo}
-use Rattle.vmo_table.specs.Vmos.{koid_number, vmos_in, lineage_of_vmo, lineages, with_children, adopted, koid_after, vmos_without, vmo_count}
+use Rattle.vmo_table.specs.Vmos.{vmos_in, lineages, with_children, adopted, vmo_count}
 use Rattle.vmo_table.specs.Table.{names_in}
-use Rattle.vmo_table.proofs.VmosLaws.{lineages-is, vmo_after, is_some-lineages}
+use Rattle.vmo_table.proofs.VmosLaws.{is_some-lineages}
 
 -- an entry of the map of VMOs
 abbrev pub vmo_at : List (Koid × Vmo) → ℕ → Option Vmo
@@ -25,19 +24,6 @@ vmo_at entries v = lookup (λ (koid : Koid). v == koid.0) entries
 -- an entry of the map of names
 abbrev pub target_at : List (VmoName × Target) → ℕ → Option Target
 target_at entries n = lookup (λ (name : VmoName). n == name.0) entries
-
-pub vmos_in-is : (entries : List (Koid × Vmo)) (v : ℕ) → vmos_in entries v ≡ vmo_at entries v
-unfolding vmos_in
-vmos_in-is entries v = refl
-
-pub names_in-is : (entries : List (VmoName × Target)) (n : ℕ) → names_in entries n ≡ target_at entries n
-unfolding names_in
-names_in-is entries n = refl
-
--- a name and its koid
-pub names_in_found : (entries : List (VmoName × Target)) (n : ℕ) (t : Target) → target_at entries n ≡ Some t →
-    names_in entries n ≡ Some t
-names_in_found entries n t e = names_in-is entries n ∙ e
 
 flipped : {A : Type 0} (a b : ℕ) (x y : A) → cond (a == b) x y ≡ cond (b == a) x y
 flipped a b x y = ap (λ (t : Bool). cond t x y) (turned a b)
@@ -82,30 +68,10 @@ adopted-absent entries k gone come none = λ i v. at v i
         vmo_at entries v ≡ cond (k == v) (option_map (with_children gone come) (vmo_at entries v)) (vmo_at entries v)
     at v = grind (arith, common_steps)
 
--- a VMO that is not the parent of any
-pub not_child : (v : ℕ) (parent o : Option Koid) → is_parent v (option_map koid_number o) ≡ false →
-    koid_after v parent o ≡ o
-unfolding koid_after passes
-not_child v parent None h = refl
-not_child v parent (Some p) h = cond-false (p.0 == v) parent (Some p) h
-
-pub stays_as_is : (v : ℕ) (parent : Option Koid) (o : Option Vmo) →
-    passes (has_parent v) (option_map lineage_of_vmo o) ≡ false → o ≡ option_map (vmo_after v parent) o
-stays_as_is v parent None h = refl
-stays_as_is v parent (Some vmo) h =
-    ap (λ (p : Option Koid). Some (record vmo { parent = p })) (sym (not_child v parent vmo.parent (sym (passes-some (has_parent v) (Some (lineage_of_vmo vmo)) (lineage_of_vmo vmo) refl) ∙ h)))
-
--- a VMO without children was removed
-pub vmos_in-removed : (old new : List (Koid × Vmo)) (k : ℕ) (parent : Option Koid) → ((w : ℕ) →
-    passes (has_parent k) (lineages (vmos_in old) w) ≡ false) →
-    ((q : Koid) → vmo_at new q.0 ≡ cond (k == q.0) None (vmo_at old q.0)) →
-    vmos_in new ≡ vmos_without (vmos_in old) k parent
-unfolding vmos_in vmos_without lineages
-vmos_in-removed old new k parent childless each = λ i v. (each (record { 0 = v }) ∙ at v (stays_as_is k parent (vmo_at old v) (childless v))) i
-  where
-    at : (v : ℕ) → vmo_at old v ≡ option_map (vmo_after k parent) (vmo_at old v) →
-        cond (k == v) None (vmo_at old v) ≡ cond (v == k) None (option_map (vmo_after k parent) (vmo_at old v))
-    at v same = grind (arith, common_steps)
+pub vmos_in-removed : (old new : List (Koid × Vmo)) (k : ℕ) → ((q : Koid) →
+    vmo_at new q.0 ≡ cond (k == q.0) None (vmo_at old q.0)) → vmos_in new ≡ without_key (vmos_in old) k
+unfolding vmos_in without_key
+vmos_in-removed old new k each = λ i v. (each (record { 0 = v }) ∙ flipped k v None (vmo_at old v)) i
 
 -- ---- the map of names
 
@@ -134,10 +100,6 @@ pub vmos_in-empty : (entries : List (Koid × Vmo)) → entries ≡ [] → (v : �
 unfolding vmos_in
 vmos_in-empty entries e v = ap (λ (es : List (Koid × Vmo)). vmo_at es v) e
 
-pub lineages-empty : (entries : List (Koid × Vmo)) → entries ≡ [] → (v : ℕ) → lineages (vmos_in entries) v ≡ None
-lineages-empty entries e v =
-    lineages-is (vmos_in entries) v ∙ ap (option_map lineage_of_vmo) (vmos_in-empty entries e v)
-
 -- ---- how much is in a map
 
 -- maps that differ at one key
@@ -155,26 +117,18 @@ count_apart bound test map new k others = elim (cases_lt k bound) [
 
 -- there are no more VMOs than entries
 pub vmo_count_le : (entries : List (Koid × Vmo)) → vmo_count (vmos_in entries) ≤ length entries
+unfolding vmos_in
 vmo_count_le [] = let none = entry_count-empty (2 ^ 64) (λ (vmo : Vmo). true) (vmos_in []) (λ v. vmos_in-empty [] refl v) in omega (arith, none)
 vmo_count_le (e ∷ es) =
     let rest = vmo_count_le es in
     let one = count_apart (2 ^ 64) (λ (vmo : Vmo). true) (vmos_in es) (vmos_in (e ∷ es)) e.0.0 (λ v apart.
-    vmos_in-is (e ∷ es) v ∙ (cond-false (v == e.0.0) (Some e.1) (vmo_at es v) (ne_eqb v e.0.0 apart) ∙ sym (vmos_in-is es v))) in
+    cond-false (v == e.0.0) (Some e.1) (vmo_at es v) (ne_eqb v e.0.0 apart)) in
     omega (arith, rest, one)
 
--- ---- what is in a map
-
-pub target_there : (entries : List (VmoName × Target)) (n : ℕ) → IsSome (names_in entries n) →
-    IsSome (target_at entries n)
-target_there entries n h = sym (ap is_some (names_in-is entries n)) ∙ h
-
-pub vmo_there : (entries : List (Koid × Vmo)) (v : ℕ) → IsSome (lineages (vmos_in entries) v) →
-    IsSome (vmo_at entries v)
-vmo_there entries v h = sym (is_some-lineages (vmos_in entries) v ∙ ap is_some (vmos_in-is entries v)) ∙ h
-
-pub lineage_at : (entries : List (Koid × Vmo)) (v : ℕ) (vmo : Vmo) → vmo_at entries v ≡ Some vmo →
-    lineages (vmos_in entries) v ≡ Some (lineage_of_vmo vmo)
-lineage_at entries v vmo e = lineages-is (vmos_in entries) v ∙ ap (option_map lineage_of_vmo) (vmos_in-is entries v ∙ e)
+-- what has a lineage is in the map
+pub vmo_there : (entries : List (Koid × Vmo)) (v : ℕ) → IsSome (lineages (vmos_in entries) v) → IsSome (vmo_at entries v)
+unfolding vmos_in
+vmo_there entries v h = sym (is_some-lineages (vmo_at entries) v) ∙ h
 
 -- what holds on success holds
 pub from_ok : {T E P : Type 0} (r : Result T E) → IsOk r → OnOk r P → P

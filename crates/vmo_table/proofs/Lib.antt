@@ -1,10 +1,8 @@
 pub mod ChildLaws
-pub mod RelatedLaws
-pub mod NamedLaws
+pub mod CountLaws
 pub mod VmosLaws
-pub mod KeepersLaws
-pub mod EnteredLaws
-pub mod WrittenLaws
+pub mod ForestLaws
+pub mod NamedLaws
 pub mod SettledLaws
 pub mod EntryLaws
 pub mod MovedLaws

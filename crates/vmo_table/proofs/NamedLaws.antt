@@ -1,147 +1,182 @@
--- How many names of each kind a VMO has, as names come and go.
-use Rattle.std.proofs.Common.{◌≡◌, ◌≢◌, ℕ, ◌+◌, ◌-◌, ◌<◌, ◌≤◌, ◌&&◌, false, Option, None, Some, refl, sym, ap, ◌∙◌, arith, Bool, true, cond}
-use Rattle.std.proofs.lemmas.Bool.{eq-eqb, ne_eqb}
-use Rattle.vm_base.specs.Entries.{with_key, without_key, entry_count}
+-- How many names each VMO has, as names and VMOs come and go.
+use Rattle.std.proofs.Common.{◌≡◌, ◌≢◌, ℕ, ◌+◌, ◌-◌, ◌<◌, ◌≤◌, ◌&&◌, Bool, true, false, cond, nat_lt, Option, None, Some, IsSome, is_some, refl, sym, ap, ◌∙◌, arith}
+use Rattle.std.specs.Prelude.{unwrap_or}
+use Rattle.std.specs.Option.{option_map}
+use Rattle.std.proofs.lemmas.Grind.{common_steps}
+use Rattle.std.proofs.lemmas.Bool.{eq-eqb, ne_eqb, and_parts}
+use Rattle.vm_base.specs.declared.names.Koid.{Koid}
+use Rattle.vm_base.specs.Entries.{with_key, without_key, passes, entry_count}
 use Rattle.vm_base.specs.declared.limits.TheConstants.{NAMES}
-use Rattle.vm_base.proofs.EntryLaws.{passes-some, entry_count_le, entry_count-with_key, entry_count-without_key}
+use Rattle.vm_base.proofs.EntryLaws.{passes-some, some_is, entry_count_hit, entry_count_le, entry_count-with_key, entry_count-without_key, entry_count-empty, any_entry-count, with_key-other, without_key-some}
+use Rattle.vm_base.proofs.SearchLaws.{count_below_less}
 use Rattle.vm_model.specs.declared.names.NameKind.{NameKind}
-use Rattle.vm_model.specs.declared.names.NameKind.TheVariants.{Owner, Slice, Reference}
+use Rattle.vm_model.specs.declared.names.NameKind.TheVariants.{Slice, Reference}
 use Rattle.vm_model.specs.declared.names.Target.{Target}
-use Rattle.vm_model.specs.Naming.Names.{Lineage, is_kind, names_as, is_of, is_of_as}
+use Rattle.vm_model.specs.Naming.Names.{is_named, is_kind, names_as, is_of, is_of_as}
 use Rattle.vmo_table.specs.declared.vmos.Vmo.{Vmo}
-use Rattle.vmo_table.specs.Vmos.{kind_bit, more_names, fewer_names}
-use Rattle.vmo_table.specs.TableFields.{name_count, AreRelated, HasNames}
-use Rattle.vmo_table.proofs.RelatedLaws.{name_count-unknown, names_as-unknown}
+use Rattle.vmo_table.specs.Vmos.{kind_bit, fewer_names, count_of, adopted, vmos_without}
+use Rattle.vmo_table.specs.TableFields.{name_count, AreNamed}
+use Rattle.vmo_table.proofs.CountLaws.{at_each, count-at, count-there, count-same, count-with_key, count-adopted, count-without}
 
--- A VMO whose names are counted as before.
-pub record KeepsNames (old new : Vmo) : Type 0 where
-  pub names : new.names ≡ old.names
-  pub slices : new.slices ≡ old.slices
-  pub references : new.references ≡ old.references
+pub AreNamed-empty : (names : ℕ → Option Target) (vmos : ℕ → Option Vmo) → ((n : ℕ) → names n ≡ None) →
+    ((v : ℕ) → vmos v ≡ None) → AreNamed names vmos
+AreNamed-empty names vmos no_name no_vmo = record {
+  below = λ n h. absurd (let e = no_name n in cc);
+  named = λ v. none (λ (x : Vmo). x.names) (is_of v) v;
+  sliced = λ v. none (λ (x : Vmo). x.slices) (is_of_as Slice v) v;
+  referred = λ v. none (λ (x : Vmo). x.references) (is_of_as Reference v) v;
+}
+  where
+    none : (count : Vmo → ℕ) (test : Target → Bool) (v : ℕ) → count_of count vmos v ≡ entry_count NAMES test names
+    none count test v = count-at count vmos v None (no_vmo v) ∙ sym (entry_count-empty NAMES test names no_name)
 
-pub HasNames-kept : (names : ℕ → Option Target) (v : ℕ) (old new : Vmo) → KeepsNames old new → HasNames names v old →
-    HasNames names v new
-HasNames-kept names v old new keeps has = record {
-  named = keeps.names ∙ has.named;
-  sliced = keeps.slices ∙ has.sliced;
-  referred = keeps.references ∙ has.referred;
+-- VMOs of which as much is counted
+pub AreNamed-same : (names : ℕ → Option Target) (vmos other : ℕ → Option Vmo) →
+    ((v : ℕ) → count_of (λ (x : Vmo). x.names) other v ≡ count_of (λ (x : Vmo). x.names) vmos v) →
+    ((v : ℕ) → count_of (λ (x : Vmo). x.slices) other v ≡ count_of (λ (x : Vmo). x.slices) vmos v) →
+    ((v : ℕ) → count_of (λ (x : Vmo). x.references) other v ≡ count_of (λ (x : Vmo). x.references) vmos v) →
+    AreNamed names vmos → AreNamed names other
+AreNamed-same names vmos other same_names same_slices same_references are = record {
+  below = are.below;
+  named = λ v. same_names v ∙ are.named v;
+  sliced = λ v. same_slices v ∙ are.sliced v;
+  referred = λ v. same_references v ∙ are.referred v;
 }
 
-pub HasNames-at : (names : ℕ → Option Target) (v w : ℕ) (vmo : Vmo) → w ≡ v → HasNames names v vmo →
-    HasNames names w vmo
-HasNames-at names v w vmo same has = record {
-  named = has.named ∙ ap (name_count names) (sym same);
-  sliced = has.sliced ∙ ap (names_as Slice names) (sym same);
-  referred = has.referred ∙ ap (names_as Reference names) (sym same);
-}
+pub AreNamed-adopted : (names : ℕ → Option Target) (vmos : ℕ → Option Vmo) (parent : Option ℕ) (gone come : ℕ) → AreNamed names vmos → AreNamed names (adopted vmos parent gone come)
+AreNamed-adopted names vmos parent gone come =
+    AreNamed-same names vmos (adopted vmos parent gone come)
+    (count-adopted (λ (x : Vmo). x.names) vmos (λ x n. refl) parent gone come)
+    (count-adopted (λ (x : Vmo). x.slices) vmos (λ x n. refl) parent gone come)
+    (count-adopted (λ (x : Vmo). x.references) vmos (λ x n. refl) parent gone come)
 
--- whether a name of the VMO itself counts is told by its kind
-own_kind : (kind : NameKind) (t : Target) → is_of_as kind t.koid.0 t ≡ is_kind kind t.kind
-own_kind kind t = ap (λ (b : Bool). b && is_kind kind t.kind) (eq-eqb t.koid.0 t.koid.0 refl)
+pub AreNamed-kept : (names : ℕ → Option Target) (vmos : ℕ → Option Vmo) (k : ℕ) (old new : Vmo) → AreNamed names vmos → vmos k ≡ Some old →
+    new.names ≡ old.names → new.slices ≡ old.slices → new.references ≡ old.references → AreNamed names (with_key vmos k new)
+AreNamed-kept names vmos k old new are found same_names same_slices same_references =
+    AreNamed-same names vmos (with_key vmos k new)
+    (count-same (λ (x : Vmo). x.names) vmos k old new found same_names)
+    (count-same (λ (x : Vmo). x.slices) vmos k old new found same_slices)
+    (count-same (λ (x : Vmo). x.references) vmos k old new found same_references) are
 
--- and a name of another VMO does not
-other_kind : (kind : NameKind) (v : ℕ) (t : Target) → t.koid.0 ≢ v → is_of_as kind v t ≡ false
-other_kind kind v t other = ap (λ (b : Bool). b && is_kind kind t.kind) (ne_eqb t.koid.0 v other)
+-- a name passes the tests of no other VMO, and those of its own by its kind
+other_kind : (kind : NameKind) (t : Target) (v : ℕ) → v ≢ t.koid.0 → is_of_as kind v t ≡ false
+other_kind kind t v apart = ap (λ (b : Bool). b && is_kind kind t.kind) (ne_eqb t.koid.0 v (λ e. apart (sym e)))
 
--- ---- one name more
+own_kind : (kind : NameKind) (t : Target) → ◌≡◌ {A = ℕ} (cond (is_of_as kind t.koid.0 t) 1 0) (kind_bit kind t.kind)
+own_kind kind t = ap (λ (b : Bool). cond {A = ℕ} (b && is_kind kind t.kind) 1 0) (eq-eqb t.koid.0 t.koid.0 refl)
 
-module _ (names : ℕ → Option Target) (n : ℕ) (t : Target) (low : n < NAMES) (free : names n ≡ None) where
-  -- how many names pass a test then
-  more : (test : Target → Bool) (b : Bool) → test t ≡ b →
-      entry_count NAMES test names + cond b 1 0 ≡ entry_count NAMES test (with_key names n t)
-  more test b is =
-      ap (λ (c : Bool). entry_count NAMES test names + cond c 1 0) (sym is) ∙ sym (entry_count-with_key NAMES test names n t low free)
+own_name : (t : Target) → ◌≡◌ {A = ℕ} (cond (is_of t.koid.0 t) 1 0) 1
+own_name t = ap (λ (b : Bool). cond {A = ℕ} b 1 0) (eq-eqb t.koid.0 t.koid.0 refl)
 
-  same : (test : Target → Bool) → test t ≡ false →
-      entry_count NAMES test names ≡ entry_count NAMES test (with_key names n t)
-  same test miss = let is = more test false miss in omega (arith, is)
+module _ (names : ℕ → Option Target) (vmos : ℕ → Option Vmo) (n : ℕ) (t : Target) (are : AreNamed names vmos) where
+  -- ---- one name more
 
-  kind_more : (kind : NameKind) (count : ℕ) → count ≡ names_as kind names t.koid.0 →
-      count + kind_bit kind t.kind ≡ names_as kind (with_key names n t) t.koid.0
-  kind_more kind count is =
-      ap (λ (m : ℕ). m + kind_bit kind t.kind) is ∙ more (is_of_as kind t.koid.0) (is_kind kind t.kind) (own_kind kind t)
+  module _ (new : Vmo) (low : n < NAMES) (free : names n ≡ None) where
+    more : (count : Vmo → ℕ) (test : ℕ → Target → Bool) → ((v : ℕ) → count_of count vmos v ≡ entry_count NAMES (test v) names) →
+        ((v : ℕ) → v ≢ t.koid.0 → test v t ≡ false) → count new ≡ count_of count vmos t.koid.0 + cond (test t.koid.0 t) 1 0 →
+        (v : ℕ) → count_of count (with_key vmos t.koid.0 new) v ≡ entry_count NAMES (test v) (with_key names n t)
+    more count test was miss one = at_each (λ v. count_of count (with_key vmos t.koid.0 new) v ≡ entry_count NAMES (test v) (with_key names n t)) t.koid.0
+        (grind (arith, common_steps, count-with_key count vmos t.koid.0 new t.koid.0, entry_count-with_key NAMES (test t.koid.0) names n t low free, was t.koid.0))
+        (λ v apart. grind (arith, common_steps, count-with_key count vmos t.koid.0 new v, entry_count-with_key NAMES (test v) names n t low free, was v, miss v apart))
 
-  pub HasNames-more : (vmo : Vmo) → HasNames names t.koid.0 vmo →
-      HasNames (with_key names n t) t.koid.0 (more_names t.kind vmo)
-  HasNames-more vmo has = record {
-    named = ap (λ (m : ℕ). m + 1) has.named ∙ more (is_of t.koid.0) true (eq-eqb t.koid.0 t.koid.0 refl);
-    sliced = kind_more Slice vmo.slices has.sliced;
-    referred = kind_more Reference vmo.references has.referred;
-  }
+    pub AreNamed-more : (o : Option Vmo) → vmos t.koid.0 ≡ o → new.names ≡ unwrap_or (option_map (λ (x : Vmo). x.names) o) 0 + 1 →
+        new.slices ≡ unwrap_or (option_map (λ (x : Vmo). x.slices) o) 0 + kind_bit Slice t.kind →
+        new.references ≡ unwrap_or (option_map (λ (x : Vmo). x.references) o) 0 + kind_bit Reference t.kind →
+        AreNamed (with_key names n t) (with_key vmos t.koid.0 new)
+    AreNamed-more o was one slice reference = record {
+      below = at_each (λ m. IsSome (with_key names n t m) → m < NAMES) n (λ h. low)
+          (λ m apart h. are.below m (sym (ap is_some (with_key-other names n t m apart)) ∙ h));
+      named = more (λ (x : Vmo). x.names) is_of are.named (λ v apart. ne_eqb t.koid.0 v (λ e. apart (sym e))) (omega (arith, one, own_name t, count-at (λ (x : Vmo). x.names) vmos t.koid.0 o was));
+      sliced = more (λ (x : Vmo). x.slices) (is_of_as Slice) are.sliced (other_kind Slice t) (omega (arith, slice, own_kind Slice t, count-at (λ (x : Vmo). x.slices) vmos t.koid.0 o was));
+      referred = more (λ (x : Vmo). x.references) (is_of_as Reference) are.referred (other_kind Reference t) (omega (arith, reference, own_kind Reference t, count-at (λ (x : Vmo). x.references) vmos t.koid.0 o was));
+    }
 
-  pub HasNames-more_other : (v : ℕ) (vmo : Vmo) → t.koid.0 ≢ v → HasNames names v vmo →
-      HasNames (with_key names n t) v vmo
-  HasNames-more_other v vmo other has = record {
-    named = has.named ∙ same (is_of v) (ne_eqb t.koid.0 v other);
-    sliced = has.sliced ∙ same (is_of_as Slice v) (other_kind Slice v t other);
-    referred = has.referred ∙ same (is_of_as Reference v) (other_kind Reference v t other);
-  }
+  -- ---- one name less
 
-  -- an owner is the only name of a new VMO
-  pub HasNames-first : (lineage : ℕ → Option Lineage) (vmo : Vmo) → AreRelated names lineage →
-      lineage t.koid.0 ≡ None → t.kind ≡ Owner → vmo.names ≡ 1 → vmo.slices ≡ 0 → vmo.references ≡ 0 →
-      HasNames (with_key names n t) t.koid.0 vmo
-  HasNames-first lineage vmo related none owns one no_slice no_reference = record {
-    named = one ∙ (sym (ap (λ (m : ℕ). m + 1) (name_count-unknown names lineage t.koid.0 related none)) ∙ more (is_of t.koid.0) true (eq-eqb t.koid.0 t.koid.0 refl));
-    sliced = no_slice ∙ no_other Slice (ap (is_kind Slice) owns);
-    referred = no_reference ∙ no_other Reference (ap (is_kind Reference) owns);
-  }
+  module _ (vmo : Vmo) (open_ : names n ≡ Some t) (found : vmos t.koid.0 ≡ Some vmo) where
+    less : (count : Vmo → ℕ) (test : ℕ → Target → Bool) (new : Vmo) → ((v : ℕ) → count_of count vmos v ≡ entry_count NAMES (test v) names) →
+        ((v : ℕ) → v ≢ t.koid.0 → test v t ≡ false) → count new ≡ count vmo - cond (test t.koid.0 t) 1 0 →
+        (cond (test t.koid.0 t) 1 0 ≤ count vmo)
+        × ((v : ℕ) → count_of count (with_key vmos t.koid.0 new) v ≡ entry_count NAMES (test v) (without_key names n))
+    less count test new was miss one =
+        let low = are.below n (ap is_some open_) in
+        let here = count-at count vmos t.koid.0 (Some vmo) found in
+        let change = λ (v : ℕ). entry_count-without_key NAMES (test v) names n low in
+        let is = λ (v : ℕ). passes-some (test v) (names n) t open_ in
+        let bit = ap (λ (b : Bool). cond {A = ℕ} b 1 0) (is t.koid.0) in
+        let fits : cond (test t.koid.0 t) 1 0 ≤ count vmo = omega (arith, change t.koid.0, was t.koid.0, here, bit) in (
+          fits,
+          at_each (λ v. count_of count (with_key vmos t.koid.0 new) v ≡ entry_count NAMES (test v) (without_key names n)) t.koid.0
+              (grind (arith, common_steps, count-with_key count vmos t.koid.0 new t.koid.0, change t.koid.0, was t.koid.0))
+              (λ v apart. grind (arith, common_steps, count-with_key count vmos t.koid.0 new v, change v, is v, was v, miss v apart)),
+        )
+
+    less_kind : (count : Vmo → ℕ) (kind : NameKind) → ((v : ℕ) → count_of count vmos v ≡ names_as kind names v) →
+        count (fewer_names t.kind vmo) ≡ count vmo - kind_bit kind t.kind →
+        (kind_bit kind t.kind ≤ count vmo)
+        × ((v : ℕ) → count_of count (with_key vmos t.koid.0 (fewer_names t.kind vmo)) v ≡ names_as kind (without_key names n) v)
+    less_kind count kind was one =
+        let all = less count (is_of_as kind) (fewer_names t.kind vmo) was (other_kind kind t) (one ∙ ap (λ (m : ℕ). count vmo - m) (sym (own_kind kind t))) in
+        (omega (arith, own_kind kind t, all.0), all.1)
+
+    pub fewer_named : (1 ≤ vmo.names) × (kind_bit Slice t.kind ≤ vmo.slices) × (kind_bit Reference t.kind ≤ vmo.references)
+        × AreNamed (without_key names n) (with_key vmos t.koid.0 (fewer_names t.kind vmo))
+    fewer_named =
+        let name = less (λ (x : Vmo). x.names) is_of (fewer_names t.kind vmo) are.named (λ v apart. ne_eqb t.koid.0 v (λ e. apart (sym e))) (ap (λ (m : ℕ). vmo.names - m) (sym (own_name t))) in
+        let slice = less_kind (λ (x : Vmo). x.slices) Slice are.sliced refl in
+        let reference = less_kind (λ (x : Vmo). x.references) Reference are.referred refl in (
+          omega (arith, own_name t, name.0),
+          slice.0,
+          reference.0,
+          record {
+            below = λ m h. let open_ = some_is (without_key names n m) h in are.below m (ap is_some (without_key-some names n m open_.0 open_.1).1);
+            named = name.1;
+            sliced = slice.1;
+            referred = reference.1;
+          },
+        )
+
+-- ---- a VMO and its names
+
+module _ (names : ℕ → Option Target) (vmos : ℕ → Option Vmo) (are : AreNamed names vmos) where
+  -- what a name that is open stands for, is there
+  pub named-there : (n : ℕ) (t : Target) → names n ≡ Some t → is_some (vmos t.koid.0) ≡ true
+  named-there n t open_ =
+      let one = entry_count_hit NAMES (is_of t.koid.0) names n t (are.below n (ap is_some open_)) open_ (eq-eqb t.koid.0 t.koid.0 refl) in
+      count-there (λ (x : Vmo). x.names) vmos t.koid.0 (omega (arith, one, are.named t.koid.0))
+
+  -- no more names are counted than there are
+  pub names_fit : (v : ℕ) (vmo : Vmo) → vmos v ≡ Some vmo → (vmo.names ≤ NAMES) × (vmo.slices ≤ NAMES) × (vmo.references ≤ NAMES)
+  names_fit v vmo found = (
+    omega (arith, entry_count_le NAMES (is_of v) names, are.named v, count-at (λ (x : Vmo). x.names) vmos v (Some vmo) found),
+    omega (arith, entry_count_le NAMES (is_of_as Slice v) names, are.sliced v, count-at (λ (x : Vmo). x.slices) vmos v (Some vmo) found),
+    omega (arith, entry_count_le NAMES (is_of_as Reference v) names, are.referred v, count-at (λ (x : Vmo). x.references) vmos v (Some vmo) found),
+  )
+
+  -- a koid is named where its VMO has names
+  pub is_named-counts : (v : ℕ) (vmo : Vmo) → vmos v ≡ Some vmo → is_named names v ≡ nat_lt 0 vmo.names
+  is_named-counts v vmo found =
+      any_entry-count NAMES (is_of v) names ∙ ap (nat_lt 0) (sym (are.named v) ∙ count-at (λ (x : Vmo). x.names) vmos v (Some vmo) found)
+
+  kinds_le : (kind : NameKind) (v : ℕ) → names_as kind names v ≤ name_count names v
+  unfolding entry_count passes
+  kinds_le kind v = count_below_less NAMES (λ n. passes (is_of_as kind v) (names n)) (λ n. passes (is_of v) (names n)) (λ n h hit. of (names n) hit)
     where
-      no_other : (kind : NameKind) → is_kind kind t.kind ≡ false → 0 ≡ names_as kind (with_key names n t) t.koid.0
-      no_other kind miss =
-          sym (names_as-unknown kind names lineage t.koid.0 related none) ∙ same (is_of_as kind t.koid.0) (own_kind kind t ∙ miss)
+      of : (o : Option Target) → passes (is_of_as kind v) o ≡ true → passes (is_of v) o ≡ true
+      of None e = e
+      of (Some t) e = (and_parts (is_of v t) (is_kind kind t.kind) e).0
 
--- ---- one name less
-
-module _ (names : ℕ → Option Target) (n : ℕ) (t : Target) (low : n < NAMES) (open_ : names n ≡ Some t) where
-  -- how many names pass a test then
-  fewer : (test : Target → Bool) (b : Bool) → test t ≡ b →
-      entry_count NAMES test (without_key names n) + cond b 1 0 ≡ entry_count NAMES test names
-  fewer test b is =
-      ap (λ (c : Bool). entry_count NAMES test (without_key names n) + cond c 1 0) (sym (passes-some test (names n) t open_ ∙ is))
-      ∙ entry_count-without_key NAMES test names n low
-
-  kind_fewer : (kind : NameKind) (count : ℕ) → count ≡ names_as kind names t.koid.0 →
-      (kind_bit kind t.kind ≤ count) × (count - kind_bit kind t.kind ≡ names_as kind (without_key names n) t.koid.0)
-  kind_fewer kind count is =
-      let change = fewer (is_of_as kind t.koid.0) (is_kind kind t.kind) (own_kind kind t) in
-      (omega (arith, change, is), omega (arith, change, is))
-
-  unchanged : (test : Target → Bool) → test t ≡ false →
-      entry_count NAMES test names ≡ entry_count NAMES test (without_key names n)
-  unchanged test miss = let is = fewer test false miss in omega (arith, is)
-
-  -- the name is counted
-  pub counts_fit : (vmo : Vmo) → HasNames names t.koid.0 vmo →
-      (1 ≤ vmo.names) × (kind_bit Slice t.kind ≤ vmo.slices) × (kind_bit Reference t.kind ≤ vmo.references)
-  counts_fit vmo has =
-      let change = fewer (is_of t.koid.0) true (eq-eqb t.koid.0 t.koid.0 refl) in
-      (omega (arith, has.named, change), (kind_fewer Slice vmo.slices has.sliced).0, (kind_fewer Reference vmo.references has.referred).0)
-
-  pub HasNames-fewer : (vmo : Vmo) → HasNames names t.koid.0 vmo →
-      HasNames (without_key names n) t.koid.0 (fewer_names t.kind vmo)
-  HasNames-fewer vmo has =
-      let change = fewer (is_of t.koid.0) true (eq-eqb t.koid.0 t.koid.0 refl) in
-      record {
-        named = omega (arith, has.named, change);
-        sliced = (kind_fewer Slice vmo.slices has.sliced).1;
-        referred = (kind_fewer Reference vmo.references has.referred).1;
-      }
-
-  pub HasNames-fewer_other : (v : ℕ) (vmo : Vmo) → t.koid.0 ≢ v → HasNames names v vmo →
-      HasNames (without_key names n) v vmo
-  HasNames-fewer_other v vmo other has = record {
-    named = has.named ∙ unchanged (is_of v) (ne_eqb t.koid.0 v other);
-    sliced = has.sliced ∙ unchanged (is_of_as Slice v) (other_kind Slice v t other);
-    referred = has.referred ∙ unchanged (is_of_as Reference v) (other_kind Reference v t other);
-  }
-
--- ---- bounds
-
-pub names_fit : (names : ℕ → Option Target) (v : ℕ) (vmo : Vmo) → HasNames names v vmo →
-    (vmo.names ≤ NAMES) × (vmo.slices ≤ NAMES) × (vmo.references ≤ NAMES)
-names_fit names v vmo has = (
-  omega (arith, has.named, entry_count_le NAMES (is_of v) names),
-  omega (arith, has.sliced, entry_count_le NAMES (is_of_as Slice v) names),
-  omega (arith, has.referred, entry_count_le NAMES (is_of_as Reference v) names),
-)
+  -- a VMO without names leaves
+  pub AreNamed-left : (k : ℕ) (x : Vmo) (parent : Option Koid) → vmos k ≡ Some x → x.names ≤ 0 → AreNamed names (vmos_without vmos k parent)
+  AreNamed-left k x parent found none =
+      let named = count-at (λ (y : Vmo). y.names) vmos k (Some x) found in
+      AreNamed-same names vmos (vmos_without vmos k parent)
+      (kept (λ (y : Vmo). y.names) (λ y o. refl) (omega arith))
+      (kept (λ (y : Vmo). y.slices) (λ y o. refl) (omega (arith, are.named k, are.sliced k, kinds_le Slice k)))
+      (kept (λ (y : Vmo). y.references) (λ y o. refl) (omega (arith, are.named k, are.referred k, kinds_le Reference k))) are
+    where
+      kept : (count : Vmo → ℕ) → ((y : Vmo) (o : Option Koid) → count (record y { parent = o }) ≡ count y) → count_of count vmos k ≡ 0 →
+          (v : ℕ) → count_of count (vmos_without vmos k parent) v ≡ count_of count vmos v
+      kept count keeps zero_ = at_each (λ v. count_of count (vmos_without vmos k parent) v ≡ count_of count vmos v) k
+          (grind (arith, common_steps, count-without count vmos keeps k parent k))
+          (λ v apart. grind (arith, common_steps, count-without count vmos keeps k parent v))

@@ -1,155 +1,149 @@
--- What stays true of the table where a VMO is settled: it is written, or it leaves.
-use Rattle.std.proofs.Common.{◌≡◌, ◌≢◌, ℕ, ◌+◌, ◌-◌, ◌^◌, ◌<◌, ◌≤◌, ◌||◌, Bool, true, false, cond, nat_lt, Option, None, Some, is_some, sym, ap, subst, ◌∙◌, ◌⊎◌, inl, inr, arith, refl}
+-- What stays true of the table where a VMO gets another value, and where it is settled: it is written, or it leaves.
+use Rattle.std.proofs.Common.{◌≡◌, ℕ, ◌+◌, ◌-◌, ◌<◌, ◌≤◌, Bool, true, false, cond, nat_lt, Option, None, Some, is_some, refl, sym, ap, subst, ◌∙◌, ◌⊎◌, inl, inr, arith}
 use Rattle.std.specs.Option.{option_map}
-use Rattle.std.proofs.lemmas.Bool.{cases_Bool, false_from_ne_true, lt-ltb, le-ltb, cond-true, cond-false}
-use Rattle.std.proofs.Math.Bool.{or-true}
+use Rattle.std.proofs.lemmas.Grind.{common_steps}
+use Rattle.std.proofs.lemmas.Bool.{cond-true, cond-false, cond_both, or_parts, ltb-false, false_from_ne_true}
+use Rattle.vm_base.specs.Entries.{with_key, passes}
+use Rattle.vm_base.proofs.EntryLaws.{with_key-same, passes-some, any_entry-count}
 use Rattle.vm_base.specs.declared.names.Koid.{Koid}
 use Rattle.vm_base.specs.declared.limits.TheConstants.{NAMES}
-use Rattle.vm_base.proofs.EntryLaws.{any_entry-count, passes-some}
 use Rattle.vm_model.specs.declared.names.Target.{Target}
-use Rattle.vm_model.specs.Naming.Names.{Lineage, is_named, is_parent, has_parent, child_count, lineage_without, is_of}
-use Rattle.vmo_table.specs.declared.vmos.Vmo.{Vmo}
-use Rattle.vmo_table.specs.Vmos.{koid_number, lineage_of_vmo, lineages, adopted, vmos_without, is_kept, settled, vmo_count, keepers_in}
+use Rattle.vm_model.specs.Naming.Names.{Lineage, is_of, is_named, is_parent, has_parent, lineage_without}
 use Rattle.balanced_tree.specs.Rows.{Rows}
+use Rattle.vmo_table.specs.declared.vmos.Vmo.{Vmo}
 use Rattle.vmo_table.specs.declared.child_rows.ChildRow.{ChildRow}
+use Rattle.vmo_table.specs.Vmos.{koid_number, lineage_of_vmo, lineages, adopted, vmos_without, is_kept, settled, vmo_count, keepers_in, count_of, IsForest, MayGet}
 use Rattle.vmo_table.specs.ChildRows.{AreChildren, MayLeave}
 use Rattle.vmo_table.specs.Table.{parent_of, Settles}
-use Rattle.vmo_table.specs.TableFields.{AreRelated, HasNames, AreConsistent}
-use Rattle.vmo_table.proofs.RelatedLaws.{is_parent_found, child_counts, not_own_parent, child_count-left, child_count-left_other, AreRelated-left, is_named-unknown, left_absent}
-use Rattle.vmo_table.proofs.NamedLaws.{HasNames-kept}
-use Rattle.vmo_table.proofs.VmosLaws.{lineages_found, lineages-adopted, adopted_cases, lineages-without, without_cases, settled-kept, settled-free, free_counts, left_children_le, lineages-is}
-use Rattle.vmo_table.proofs.WrittenLaws.{IsWritten, lineages-is_written, own_children, AreConsistent-written}
-use Rattle.vmo_table.proofs.KeepersLaws.{keepers_none}
+use Rattle.vmo_table.specs.TableFields.{AreNamed}
+use Rattle.vmo_table.proofs.CountLaws.{count-at, count-with_key, count-adopted, count-without}
+use Rattle.vmo_table.proofs.VmosLaws.{lineage-at, lineages-written, lineages-without, without-written, without-childless, without_key-absent, child_count_le, left-there}
+use Rattle.vmo_table.proofs.ForestLaws.{parent-there, IsForest-written, IsForest-left, not_own, parent_counts, lineages-left}
+use Rattle.vmo_table.proofs.NamedLaws.{AreNamed-adopted, AreNamed-left, is_named-counts}
 
-module _ (names : ℕ → Option Target) (vmos : ℕ → Option Vmo) (k : ℕ) (old new : Vmo) (is : IsWritten names vmos k old new) where
-  abbrev above : Option ℕ
-  above = option_map koid_number new.parent
+-- ---- a VMO gets another value
 
-  abbrev gone : ℕ → Option Vmo
-  gone = vmos_without vmos k new.parent
+pub may_get : (vmos : ℕ → Option Vmo) (k : ℕ) (old new : Vmo) → IsForest vmos → vmos k ≡ Some old →
+    lineage_of_vmo new ≡ lineage_of_vmo old → new.children ≡ old.children → MayGet vmos k new
+may_get vmos k old new forest found lineage children =
+    record { old = old; found = found; lineage = lineage; forest = IsForest-written vmos k old new forest found lineage children }
 
-  abbrev left : ℕ → Option Lineage
-  left = lineage_without (lineages vmos) k above
+module _ (vmos : ℕ → Option Vmo) (k : ℕ) (new : Vmo) (may : MayGet vmos k new) where
+  abbrev mid : ℕ → Option Vmo
+  mid = with_key vmos k new
 
-  -- ---- the VMO leaves
+  abbrev up : Option ℕ
+  up = option_map koid_number new.parent
 
-  was : lineages vmos k ≡ Some (lineage_of_vmo new)
-  was = lineages_found vmos k old is.found ∙ ap (λ (l : Lineage). Some l) (sym is.lineage)
+  pub lineages-got : lineages mid ≡ lineages vmos
+  lineages-got = lineages-written vmos k may.old new may.found may.lineage
 
-  small : k < 2 ^ 64
-  small = is.related.koids_below k (ap is_some was)
+  pub AreChildren-got : (t : Rows ChildRow) → AreChildren t (lineages vmos) → AreChildren t (lineages mid)
+  AreChildren-got t rows = subst (AreChildren t) (sym lineages-got) rows
 
-  -- a VMO is named where it has names
-  named_by : is_named names k ≡ nat_lt 0 new.names
-  named_by = any_entry-count NAMES (is_of k) names ∙ ap (nat_lt 0) (sym is.here.named)
+  here : mid k ≡ Some new
+  here = with_key-same vmos k new
+
+  -- ---- it may leave
 
   pub may_leave : (t : Rows ChildRow) → AreChildren t (lineages vmos) → MayLeave vmos t k new.parent
-  may_leave t kept = record {
-    rows = kept;
-    own = λ p. kept.is p k ∙ passes-some (has_parent p) (lineages vmos k) (lineage_of_vmo new) was;
-    apart = false_from_ne_true (is_parent k above) (λ own. absurd (
-        not_own_parent (lineages vmos) k (lineage_of_vmo new) is.related.ranked was (is_parent_found k above own)));
+  may_leave t rows = record {
+    rows = rows;
+    own = λ p. rows.is p k ∙ passes-some (has_parent p) (lineages vmos k) (lineage_of_vmo new)
+        (ap (λ (l : ℕ → Option Lineage). l k) (sym lineages-got) ∙ lineage-at mid k (Some new) here);
+    apart = not_own mid k new may.forest here;
   }
 
-  left_related : is_kept new ≡ false → AreRelated names left
-  left_related free =
-      AreRelated-left names (lineages vmos) k (lineage_of_vmo new) is.related was (named_by ∙ le-ltb 0 new.names (free_counts new free).0)
+  pub left_fits : (v : ℕ) (above : Vmo) → is_parent v up ≡ true → vmos_without vmos k new.parent v ≡ Some above →
+      (1 ≤ above.children) × (above.children - 1 + new.children ≤ vmo_count vmos)
+  left_fits v above hit e =
+      let counts = parent_counts mid k new may.forest here v hit in
+      let is = count-at (λ (x : Vmo). x.children) (vmos_without mid k new.parent) v (Some above) (ap (λ (m : ℕ → Option Vmo). m v) (without-written vmos k new new.parent) ∙ e) in
+      let few = child_count_le vmos (lineage_without (lineages mid) k up) v (λ w h.
+      left-there vmos k up w (ap (λ (l : ℕ → Option Lineage). is_some (lineage_without l k up w)) (sym lineages-got) ∙ h)) in
+      (omega (arith, counts.1, is), omega (arith, counts.2, is, few))
 
-  -- the children of a VMO that is left
-  left_children : (v : ℕ) (vmo : Vmo) → v ≢ k → vmos v ≡ Some vmo →
-      cond (is_parent v above) (vmo.children - 1 + new.children) vmo.children ≡ child_count left v
-  left_children v vmo apart e =
-      let counted = is.counted v vmo e in
-      let own = own_children names vmos k old new is in
-      elim (cases_Bool (is_parent v above)) [
-        | inl hit ↦
-            let some_child = child_counts (lineages vmos) k (lineage_of_vmo new) v small was hit in
-            let more = child_count-left (lineages vmos) k (lineage_of_vmo new) v small was apart (is_parent_found v above hit) in
-            cond-true (is_parent v above) (vmo.children - 1 + new.children) vmo.children hit ∙ omega arith
-        | inr miss ↦
-            let same = child_count-left_other (lineages vmos) k (lineage_of_vmo new) v was apart miss in
-            cond-false (is_parent v above) (vmo.children - 1 + new.children) vmo.children miss ∙ omega arith
-      ]
+  -- ---- it is settled
 
-  pub left_fits : is_kept new ≡ false → (v : ℕ) (vmo : Vmo) → is_parent v above ≡ true → gone v ≡ Some vmo →
-      (1 ≤ vmo.children) × (vmo.children - 1 + new.children ≤ vmo_count vmos)
-  left_fits free v vmo hit e =
-      let was_there = without_cases vmos k new.parent v vmo e in
-      let counted = left_children v was_there.1 was_there.0 was_there.2 in
-      let this = cond-true (is_parent v above) (was_there.1.children - 1 + new.children) was_there.1.children hit in
-      let one = child_counts (lineages vmos) k (lineage_of_vmo new) v small was hit in
-      let own = is.counted v was_there.1 was_there.2 in
-      let less = left_children_le vmos k above v in
-      let fits : vmo.children - 1 + new.children ≤ vmo_count vmos = omega (arith, was_there.4) in
-      (omega (arith, was_there.4), fits)
+  -- it is written where something keeps it, and else leaves
+  pub settled-is : (P : (ℕ → Option Vmo) → Type 0) → (is_kept new ≡ true → P mid) →
+      (is_kept new ≡ false → P (adopted (vmos_without mid k new.parent) up 1 new.children)) → P (settled vmos k new)
+  unfolding settled
+  settled-is P kept free = cond_both (is_kept new) mid (adopted (vmos_without vmos k new.parent) up 1 new.children) P kept
+      (λ e. subst (λ (m : ℕ → Option Vmo). P (adopted m up 1 new.children)) (without-written vmos k new new.parent) (free e))
 
-  lineages-left : lineages (adopted gone above 1 new.children) ≡ left
-  lineages-left = lineages-adopted gone above 1 new.children ∙ lineages-without vmos k new.parent
+  free_counts : is_kept new ≡ false → (new.names ≤ 0) × (new.keepers ≤ 0)
+  free_counts free =
+      let none = or_parts (nat_lt 0 new.names) (nat_lt 0 new.keepers) free in
+      (ltb-false 0 new.names none.0, ltb-false 0 new.keepers none.1)
 
-  left_counted : (v : ℕ) (vmo : Vmo) → adopted gone above 1 new.children v ≡ Some vmo →
-      HasNames names v vmo × (vmo.children ≡ child_count left v)
-  left_counted v vmo e =
-      let case = adopted_cases gone above 1 new.children v vmo e in
-      let then_ = without_cases vmos k new.parent v case.0 case.1 in
-      let named = is.others v then_.1 (λ same. then_.0 (sym same)) then_.2 in (
-        HasNames-kept names v case.0 vmo case.2 (HasNames-kept names v then_.1 case.0 then_.3 named),
-        case.3 ∙ (ap (λ (c : ℕ). cond (is_parent v above) (c - 1 + new.children) c) then_.4 ∙ left_children v then_.1 then_.0 then_.2),
-      )
+  pub IsForest-settled : IsForest (settled vmos k new)
+  IsForest-settled = settled-is IsForest (λ kept. may.forest) (λ free. IsForest-left mid k new may.forest here)
 
-  AreConsistent-left : is_kept new ≡ false → AreConsistent names (adopted gone above 1 new.children)
-  AreConsistent-left free = record {
-    related = subst (λ (l : ℕ → Option Lineage). AreRelated names l) (sym lineages-left) (left_related free);
-    counted = record {
-      named = λ v vmo e. (left_counted v vmo e).0;
-      children = λ v vmo e. (left_counted v vmo e).1 ∙ ap (λ (l : ℕ → Option Lineage). child_count l v) (sym lineages-left);
-    };
-  }
+  -- it has the keepers of its new value, whether it leaves or not
+  pub keepers-settled : keepers_in (settled vmos k new) ≡ keepers_in mid
+  unfolding keepers_in
+  keepers-settled = settled-is (λ (m : ℕ → Option Vmo). keepers_in m ≡ keepers_in mid) (λ kept. refl) (λ free i v. at free v i)
+    where
+      at : is_kept new ≡ false → (v : ℕ) → keepers_in (adopted (vmos_without mid k new.parent) up 1 new.children) v ≡ keepers_in mid v
+      at free v =
+          let gone = vmos_without mid k new.parent in
+          let other = count-adopted (λ (x : Vmo). x.keepers) gone (λ x n. refl) up 1 new.children v in
+          let left = count-without (λ (x : Vmo). x.keepers) mid (λ x o. refl) k new.parent v in
+          let is = count-with_key (λ (x : Vmo). x.keepers) vmos k new v in
+          let none = (free_counts free).1 in
+          grind (arith, common_steps)
 
-  -- ---- the VMO is settled
+  module _ (names : ℕ → Option Target) (named : AreNamed names mid) where
+    pub AreNamed-settled : AreNamed names (settled vmos k new)
+    AreNamed-settled = settled-is (AreNamed names) (λ kept. named) (λ free.
+        AreNamed-adopted names _ up 1 new.children (AreNamed-left names mid named k new new.parent here (free_counts free).0))
 
-  pub AreConsistent-settled : AreConsistent names (settled vmos k new)
-  AreConsistent-settled = elim (cases_Bool (is_kept new)) [
-    | inl held ↦ subst (λ (m : ℕ → Option Vmo). AreConsistent names m) (sym (settled-kept vmos k new held)) (AreConsistent-written names vmos k old new is)
-    | inr free ↦ subst (λ (m : ℕ → Option Vmo). AreConsistent names m) (sym (settled-free vmos k new free)) (AreConsistent-left free)
-  ]
-
-  lineages-kept : is_kept new ≡ true → lineages (settled vmos k new) ≡ lineages vmos
-  lineages-kept held = ap lineages (settled-kept vmos k new held) ∙ lineages-is_written names vmos k old new is
-
-  lineages-free : is_kept new ≡ false →
-      lineages (settled vmos k new) ≡ lineage_without (lineages vmos) k (parent_of (lineages vmos k))
-  lineages-free free =
-      ap lineages (settled-free vmos k new free)
-      ∙ (lineages-left ∙ ap (λ (o : Option Lineage). lineage_without (lineages vmos) k (parent_of o)) (sym was))
-
-  kept_still : (is_named names k ≡ true) ⊎ (0 < new.keepers) → is_kept new ≡ true
-  kept_still (inl named) = ap (λ (b : Bool). b || nat_lt 0 new.keepers) (sym named_by ∙ named)
-  kept_still (inr kept) =
-      ap (λ (b : Bool). nat_lt 0 new.names || b) (lt-ltb 0 new.keepers kept) ∙ or-true (nat_lt 0 new.names)
-
-  kept_no_more : is_named names k ≡ false → new.keepers ≡ 0 → is_kept new ≡ false
-  kept_no_more unnamed none =
-      ap (λ (b : Bool). b || nat_lt 0 new.keepers) (sym named_by ∙ unnamed) ∙ le-ltb 0 new.keepers (omega arith)
-
-  -- what becomes of it
-  pub settles : (answer : Option Koid) → answer ≡ cond (is_kept new) None (Some (record { 0 = k })) →
-      Settles names new.keepers k (lineages vmos) (lineages (settled vmos k new)) answer
-  settles answer said = record {
-    stays = λ by. let held = kept_still by in (said ∙ cond-true (is_kept new) None (Some (record { 0 = k })) held, lineages-kept held);
-    leaves = λ unnamed none. let free = kept_no_more unnamed none in (said ∙ cond-false (is_kept new) None (Some (record { 0 = k })) free, lineages-free free);
-  }
+    -- what becomes of it
+    pub settles : (answer : Option Koid) → answer ≡ cond (is_kept new) None (Some (record { 0 = k })) →
+        Settles names new.keepers k (lineages vmos) (lineages (settled vmos k new)) answer
+    settles answer said =
+        let by = is_named-counts names mid named k new here in
+        settled-is (λ (m : ℕ → Option Vmo). Settles names new.keepers k (lineages vmos) (lineages m) answer)
+        (λ kept. record {
+          stays = λ why. (said ∙ cond-true _ _ _ kept, lineages-got);
+          leaves = λ unnamed none. absurd (grind (arith, common_steps));
+        })
+        (λ free. record {
+          stays = λ why. absurd (still why (is_named names k) by free);
+          leaves = λ unnamed none. (
+            said ∙ cond-false _ _ _ free,
+            lineages-left mid k new may.forest here ∙ (ap (λ (l : ℕ → Option Lineage). lineage_without l k up) lineages-got
+                ∙ ap (λ (o : Option Lineage). lineage_without (lineages vmos) k (parent_of o)) (sym (ap (λ (l : ℕ → Option Lineage). l k) (sym lineages-got) ∙ lineage-at mid k (Some new) here))),
+          );
+        })
+      where
+        still : (is_named names k ≡ true) ⊎ (0 < new.keepers) → (b : Bool) → is_named names k ≡ nat_lt 0 new.names → is_kept new ≡ false → ⊥
+        still (inl named) b by free = grind (arith, common_steps)
+        still (inr kept) b by free = grind (arith, common_steps)
 
 -- a VMO that is not in the table has nothing that keeps it, and settling it changes nothing
-pub settles_absent : (names : ℕ → Option Target) (vmos : ℕ → Option Vmo) (v : ℕ) → AreConsistent names vmos →
+pub settles_absent : (names : ℕ → Option Target) (vmos : ℕ → Option Vmo) (v : ℕ) → AreNamed names vmos → IsForest vmos →
     vmos v ≡ None → Settles names (keepers_in vmos v) v (lineages vmos) (lineages vmos) (Some (record { 0 = v }))
-settles_absent names vmos v kept none =
-    let unknown = lineages-is vmos v ∙ ap (option_map lineage_of_vmo) none in
-    let unnamed = is_named-unknown names (lineages vmos) v kept.related unknown in
-    let unkept = keepers_none vmos v none in
-    record {
-      stays = λ by. elim by [
-        | inl named ↦ absurd (cc)
-        | inr keeper ↦ absurd (omega arith)
-      ];
-      leaves = λ no_name no_keeper. (refl, sym (left_absent names (lineages vmos) v (parent_of (lineages vmos v)) kept.related unknown));
-    }
+unfolding keepers_in
+settles_absent names vmos v named forest none = record {
+  stays = λ by. absurd (kept by);
+  leaves = λ unnamed unkept. (
+    refl,
+    sym (
+        ap (λ (o : Option Lineage). lineage_without (lineages vmos) v (parent_of o)) (lineage-at vmos v None none)
+        ∙ (sym (lineages-without vmos v None) ∙ ap lineages (without-childless vmos v None childless ∙ without_key-absent vmos v none))),
+  );
+}
+  where
+    childless : (w : ℕ) → passes (has_parent v) (lineages vmos w) ≡ false
+    childless w = false_from_ne_true (passes (has_parent v) (lineages vmos w)) (λ hit. absurd (
+        let there = parent-there vmos v w forest hit in cc))
+
+    kept : (is_named names v ≡ true) ⊎ (0 < count_of (λ (x : Vmo). x.keepers) vmos v) → ⊥
+    kept by =
+        let named_by = any_entry-count NAMES (is_of v) names in
+        let no_name = named.named v in
+        let no_names = count-at (λ (x : Vmo). x.names) vmos v None none in
+        let no_keeper = count-at (λ (x : Vmo). x.keepers) vmos v None none in
+        grind (arith, common_steps)

@@ -1,31 +1,26 @@
--- Laws of the VMOs of the table as a map from koids.
-use Rattle.std.proofs.Common.{◌≡◌, ◌≢◌, ℕ, ◌+◌, ◌-◌, ◌≤◌, ◌==◌, Bool, true, false, cond, nat_lt, Option, None, Some, refl, sym, ap, subst, ◌∙◌, inl, inr, ◌^◌, IsSome, is_some, arith}
+-- The lineages of the VMOs of the table, and which VMO is a child of which, as VMOs are written, come and leave.
+use Rattle.std.proofs.Common.{◌≡◌, ◌≢◌, ℕ, ◌≤◌, ◌^◌, ◌==◌, Bool, true, false, cond, Option, None, Some, IsSome, is_some, refl, sym, ap, ◌∙◌, arith}
 use Rattle.std.specs.Option.{option_map}
 use Rattle.std.proofs.lemmas.Grind.{common_steps}
-use Rattle.std.proofs.lemmas.Bool.{cases_eq, eq-eqb, ne_eqb, cond-true, cond-false, or_parts, ltb-false}
-use Rattle.std.proofs.lemmas.Option.{same_Some}
+use Rattle.std.proofs.lemmas.Bool.Decides.{nat_tests}
+use Rattle.std.proofs.lemmas.Bool.{cond-true, cond-false}
 use Rattle.vm_base.specs.declared.names.Koid.{Koid}
-use Rattle.vm_base.specs.Entries.{with_key, passes, entry_count}
-use Rattle.vm_base.proofs.EntryLaws.{some_is, passes_found, passes-some, none_is}
+use Rattle.vm_base.specs.Entries.{with_key, without_key, passes, entry_count}
+use Rattle.vm_base.proofs.EntryLaws.{some_is, none_is, passes_found, passes-some}
 use Rattle.vm_base.proofs.SearchLaws.{count_below_less}
 use Rattle.vm_model.specs.Naming.Names.{Lineage, is_parent, parent_without, lineage_without, has_parent, child_count}
 use Rattle.vm_model.proofs.NamesLaws.{left_by, lineage_without-some}
 use Rattle.vmo_table.specs.declared.vmos.Vmo.{Vmo}
-use Rattle.vmo_table.specs.Vmos.{koid_number, lineage_of_vmo, lineages, with_children, adopted, koid_after, vmos_without, is_kept, settled, vmo_count}
-use Rattle.vmo_table.proofs.NamedLaws.{KeepsNames}
+use Rattle.vmo_table.specs.Vmos.{koid_number, lineage_of_vmo, lineages, with_children, adopted, koid_after, vmos_without, vmo_count}
 
-pub lineages-is : (vmos : ℕ → Option Vmo) (v : ℕ) → lineages vmos v ≡ option_map lineage_of_vmo (vmos v)
+pub lineage-at : (vmos : ℕ → Option Vmo) (v : ℕ) (o : Option Vmo) → vmos v ≡ o → lineages vmos v ≡ option_map lineage_of_vmo o
 unfolding lineages
-lineages-is vmos v = refl
-
--- what stands behind a lineage
-pub lineages_found : (vmos : ℕ → Option Vmo) (v : ℕ) (vmo : Vmo) → vmos v ≡ Some vmo →
-    lineages vmos v ≡ Some (lineage_of_vmo vmo)
-lineages_found vmos v vmo e = lineages-is vmos v ∙ ap (option_map lineage_of_vmo) e
+lineage-at vmos v o e = ap (option_map lineage_of_vmo) e
 
 -- what has a lineage is there
 pub is_some-lineages : (vmos : ℕ → Option Vmo) (v : ℕ) → is_some (lineages vmos v) ≡ is_some (vmos v)
-is_some-lineages vmos v = ap is_some (lineages-is vmos v) ∙ of (vmos v)
+unfolding lineages
+is_some-lineages vmos v = of (vmos v)
   where
     of : (o : Option Vmo) → is_some (option_map lineage_of_vmo o) ≡ is_some o
     of None = refl
@@ -39,32 +34,14 @@ map-if : {A B : Type 0} (f : A → B) (b : Bool) (x y : Option A) → option_map
 map-if f true x y = refl
 map-if f false x y = refl
 
+-- ---- lineages
+
 pub lineages-with_key : (vmos : ℕ → Option Vmo) (k : ℕ) (vmo : Vmo) →
     lineages (with_key vmos k vmo) ≡ with_key (lineages vmos) k (lineage_of_vmo vmo)
 unfolding lineages with_key
 lineages-with_key vmos k vmo = λ i w. map-if lineage_of_vmo (w == k) (Some vmo) (vmos w) i
 
--- no more VMOs have a parent than there are
-child_count_le : (vmos : ℕ → Option Vmo) (lineage : ℕ → Option Lineage) (u : ℕ) → ((w : ℕ) → IsSome (lineage w) →
-    IsSome (vmos w)) → child_count lineage u ≤ vmo_count vmos
-unfolding entry_count
-child_count_le vmos lineage u there =
-    count_below_less (2 ^ 64) (λ w. passes (has_parent u) (lineage w)) (λ w. passes (λ (vmo : Vmo). true) (vmos w)) (λ w h hit.
-    let found = passes_found (has_parent u) (lineage w) hit in
-    let vmo = some_is (vmos w) (there w (ap is_some found.1)) in
-    passes-some (λ (x : Vmo). true) (vmos w) vmo.0 vmo.1)
-
-pub children_le : (vmos : ℕ → Option Vmo) (u : ℕ) → child_count (lineages vmos) u ≤ vmo_count vmos
-children_le vmos u = child_count_le vmos (lineages vmos) u (λ w h. sym (is_some-lineages vmos w) ∙ h)
-
--- nor do after one left
-pub left_children_le : (vmos : ℕ → Option Vmo) (v : ℕ) (parent : Option ℕ) (u : ℕ) →
-    child_count (lineage_without (lineages vmos) v parent) u ≤ vmo_count vmos
-left_children_le vmos v parent u = child_count_le vmos (lineage_without (lineages vmos) v parent) u (λ w h.
-    let found = some_is (lineage_without (lineages vmos) v parent w) h in
-    sym (is_some-lineages vmos w) ∙ ap is_some (lineage_without-some (lineages vmos) v parent w found.0 found.1).2)
-
--- another count of names changes no lineage
+-- another count changes no lineage
 pub lineages-written : (vmos : ℕ → Option Vmo) (k : ℕ) (old new : Vmo) → vmos k ≡ Some old →
     lineage_of_vmo new ≡ lineage_of_vmo old → lineages (with_key vmos k new) ≡ lineages vmos
 unfolding lineages with_key
@@ -73,7 +50,6 @@ lineages-written vmos k old new was same_lineage = λ i w. at w i
     at : (w : ℕ) → option_map lineage_of_vmo (cond (w == k) (Some new) (vmos w)) ≡ option_map lineage_of_vmo (vmos w)
     at w = grind (arith, common_steps)
 
--- nor do other counts of children
 pub lineages-adopted : (vmos : ℕ → Option Vmo) (parent : Option ℕ) (gone come : ℕ) →
     lineages (adopted vmos parent gone come) ≡ lineages vmos
 unfolding lineages adopted
@@ -85,99 +61,124 @@ lineages-adopted vmos parent gone come = λ i w. of (is_parent w parent) (vmos w
     of true (Some vmo) = refl
     of false o = refl
 
--- a VMO that got no other names
-keeps : (old by new : Vmo) → by ≡ new → by.names ≡ old.names → by.slices ≡ old.slices →
-    by.references ≡ old.references → KeepsNames old new
-keeps old by new same names slices references =
-    subst (λ (x : Vmo). KeepsNames old x) same (record { names = names; slices = slices; references = references })
-
--- a VMO after counts of children were changed
-pub adopted_cases : (vmos : ℕ → Option Vmo) (parent : Option ℕ) (gone come v : ℕ) (new : Vmo) →
-    adopted vmos parent gone come v ≡ Some new →
-    (old : Vmo) × (vmos v ≡ Some old) × KeepsNames old new × (new.children ≡ cond (is_parent v parent) (old.children - gone + come) old.children)
-unfolding adopted
-adopted_cases vmos parent gone come v new e = of (is_parent v parent) (vmos v) e
-  where
-    of : (b : Bool) (o : Option Vmo) → cond b (option_map (with_children gone come) o) o ≡ Some new →
-        (old : Vmo) × (o ≡ Some old) × KeepsNames old new × (new.children ≡ cond b (old.children - gone + come) old.children)
-    of true None h = absurd (cc)
-    of true (Some old) h =
-        let same = same_Some (with_children gone come old) new h in (old, refl, keeps old (with_children gone come old) new same refl refl refl, ap (λ (x : Vmo). x.children) (sym same))
-    of false None h = absurd (cc)
-    of false (Some old) h =
-        let same = same_Some old new h in (old, refl, keeps old old new same refl refl refl, ap (λ (x : Vmo). x.children) (sym same))
-
 abbrev pub vmo_after : ℕ → Option Koid → Vmo → Vmo
 vmo_after v parent vmo = record vmo { parent = koid_after v parent vmo.parent }
 
-number_after : (v : ℕ) (parent o : Option Koid) →
-    option_map koid_number (koid_after v parent o) ≡ parent_without v (option_map koid_number parent) (option_map koid_number o)
-unfolding koid_after parent_without
-number_after v parent None = refl
-number_after v parent (Some p) = of (p.0 == v)
+pub lineages-without : (vmos : ℕ → Option Vmo) (v : ℕ) (parent : Option Koid) →
+    lineages (vmos_without vmos v parent) ≡ lineage_without (lineages vmos) v (option_map koid_number parent)
+unfolding lineages vmos_without lineage_without koid_after parent_without
+lineages-without vmos v parent = λ i w. of (w == v) (vmos w) i
   where
-    of : (b : Bool) →
-        option_map koid_number (cond b parent (Some p)) ≡ cond b (option_map koid_number parent) (Some p.0)
+    above : Option ℕ
+    above = option_map koid_number parent
+
+    after : (vmo : Vmo) (o : Option Koid) → option_map koid_number (koid_after v parent o) ≡ parent_without v (option_map koid_number parent) (option_map koid_number o)
+    after vmo None = refl
+    after vmo (Some p) = map-if koid_number (p.0 == v) parent (Some p)
+
+    of : (b : Bool) (o : Option Vmo) → option_map lineage_of_vmo (cond b None (option_map (vmo_after v parent) o)) ≡ cond b None (option_map (left_by v (option_map koid_number parent)) (option_map lineage_of_vmo o))
+    of true o = refl
+    of false None = refl
+    of false (Some vmo) =
+        ap (λ (p : Option ℕ). Some (record { resizable = vmo.resizable; origin = vmo.origin; parent = p })) (after vmo vmo.parent)
+
+-- a VMO that leaves is gone, whatever it was
+pub without-written : (vmos : ℕ → Option Vmo) (k : ℕ) (new : Vmo) (parent : Option Koid) →
+    vmos_without (with_key vmos k new) k parent ≡ vmos_without vmos k parent
+unfolding vmos_without with_key
+without-written vmos k new parent = λ i w. of w (w == k) i
+  where
+    of : (w : ℕ) (b : Bool) → cond b None (option_map (vmo_after k parent) (cond b (Some new) (vmos w))) ≡ cond b None (option_map (vmo_after k parent) (vmos w))
+    of w true = refl
+    of w false = refl
+
+-- the parent of a child of a VMO that leaves, and of another VMO
+pub after-child : (k : ℕ) (parent o : Option Koid) → is_parent k (option_map koid_number o) ≡ true → koid_after k parent o ≡ parent
+unfolding koid_after passes
+after-child k parent None e = absurd (cc)
+after-child k parent (Some p) e = cond-true (p.0 == k) parent (Some p) e
+
+pub after-other : (k : ℕ) (parent o : Option Koid) → is_parent k (option_map koid_number o) ≡ false → koid_after k parent o ≡ o
+unfolding koid_after passes
+after-other k parent None e = refl
+after-other k parent (Some p) e = cond-false (p.0 == k) parent (Some p) e
+
+-- a VMO without children leaves alone
+pub without-childless : (vmos : ℕ → Option Vmo) (k : ℕ) (parent : Option Koid) → ((w : ℕ) → passes (has_parent k) (lineages vmos w) ≡ false) →
+    vmos_without vmos k parent ≡ without_key vmos k
+unfolding vmos_without without_key lineages passes
+without-childless vmos k parent childless = λ i w. of (w == k) (vmos w) (childless w) i
+  where
+    of : (b : Bool) (o : Option Vmo) → passes (has_parent k) (option_map lineage_of_vmo o) ≡ false →
+        cond b None (option_map (vmo_after k parent) o) ≡ cond b None o
+    of true o e = refl
+    of false None e = refl
+    of false (Some x) e = ap (λ (p : Option Koid). Some (record x { parent = p })) (after-other k parent x.parent e)
+
+pub without_key-absent : (vmos : ℕ → Option Vmo) (k : ℕ) → vmos k ≡ None → without_key vmos k ≡ vmos
+unfolding without_key
+without_key-absent vmos k none = λ i w. at w i
+  where
+    at : (w : ℕ) → cond (w == k) None (vmos w) ≡ vmos w
+    at w = grind (arith, common_steps)
+
+-- ---- which VMO is a child of which
+
+pub child-with_key : (lineage : ℕ → Option Lineage) (k : ℕ) (l : Lineage) (u w : ℕ) →
+    passes (has_parent u) (with_key lineage k l w) ≡ cond (w == k) (is_parent u l.parent) (passes (has_parent u) (lineage w))
+unfolding with_key passes
+child-with_key lineage k l u w = of (w == k)
+  where
+    of : (b : Bool) → passes (has_parent u) (cond b (Some l) (lineage w)) ≡ cond b (is_parent u l.parent) (passes (has_parent u) (lineage w))
     of true = refl
     of false = refl
 
-lineage-after : (v : ℕ) (parent : Option Koid) (o : Option Vmo) →
-    option_map lineage_of_vmo (option_map (vmo_after v parent) o) ≡ option_map (left_by v (option_map koid_number parent)) (option_map lineage_of_vmo o)
-lineage-after v parent None = refl
-lineage-after v parent (Some vmo) =
-    ap (λ (p : Option ℕ). Some (record { resizable = vmo.resizable; origin = vmo.origin; parent = p })) (number_after v parent vmo.parent)
-
--- a VMO leaves
-pub without-here : (vmos : ℕ → Option Vmo) (v : ℕ) (parent : Option Koid) (w : ℕ) → w ≡ v →
-    vmos_without vmos v parent w ≡ None
-unfolding vmos_without
-without-here vmos v parent w same = ap (λ b. cond b None (option_map (vmo_after v parent) (vmos w))) (eq-eqb w v same)
-
-pub without-other : (vmos : ℕ → Option Vmo) (v : ℕ) (parent : Option Koid) (w : ℕ) → w ≢ v →
-    vmos_without vmos v parent w ≡ option_map (vmo_after v parent) (vmos w)
-unfolding vmos_without
-without-other vmos v parent w apart =
-    ap (λ b. cond b None (option_map (vmo_after v parent) (vmos w))) (ne_eqb w v apart)
-
-pub lineages-without : (vmos : ℕ → Option Vmo) (v : ℕ) (parent : Option Koid) →
-    lineages (vmos_without vmos v parent) ≡ lineage_without (lineages vmos) v (option_map koid_number parent)
-unfolding lineages vmos_without lineage_without
-lineages-without vmos v parent = λ i w. (map-if lineage_of_vmo (w == v) None (option_map (vmo_after v parent) (vmos w))
-    ∙ ap (cond (w == v) None) (lineage-after v parent (vmos w))) i
-
--- a VMO that is left keeps its counts
-pub without_cases : (vmos : ℕ → Option Vmo) (v : ℕ) (parent : Option Koid) (w : ℕ) (new : Vmo) →
-    vmos_without vmos v parent w ≡ Some new →
-    (w ≢ v) × (old : Vmo) × (vmos w ≡ Some old) × KeepsNames old new × (new.children ≡ old.children)
-without_cases vmos v parent w new e = elim (cases_eq w v) [
-  | inl same ↦ absurd (let gone = without-here vmos v parent w same in cc)
-  | inr apart ↦ let found = of (vmos w) (sym (without-other vmos v parent w apart) ∙ e) in (apart, found.0, found.1, found.2, found.3)
-]
+pub child-without : (lineage : ℕ → Option Lineage) (k : ℕ) (above : Option ℕ) (u w : ℕ) →
+    passes (has_parent u) (lineage_without lineage k above w)
+    ≡ cond (w == k) false (cond (passes (has_parent k) (lineage w)) (is_parent u above) (passes (has_parent u) (lineage w)))
+unfolding lineage_without parent_without passes
+child-without lineage k above u w = of (w == k) (lineage w)
   where
-    of : (o : Option Vmo) → option_map (vmo_after v parent) o ≡ Some new →
-        (old : Vmo) × (o ≡ Some old) × KeepsNames old new × (new.children ≡ old.children)
-    of None h = absurd (cc)
-    of (Some old) h =
-        let same = same_Some (vmo_after v parent old) new h in (old, refl, keeps old (vmo_after v parent old) new same refl refl refl, ap (λ (x : Vmo). x.children) (sym same))
+    up : (o : Option ℕ) → is_parent u (parent_without k above o) ≡ cond (is_parent k o) (is_parent u above) (is_parent u o)
+    up None = refl
+    up (Some p) = pick (p == k)
+      where
+        pick : (b : Bool) → is_parent u (cond b above (Some p)) ≡ cond b (is_parent u above) (p == u)
+        pick true = refl
+        pick false = refl
 
--- ---- a VMO is settled
+    of : (b : Bool) (o : Option Lineage) → passes (has_parent u) (cond b None (option_map (left_by k above) o))
+        ≡ cond b false (cond (passes (has_parent k) o) (is_parent u above) (passes (has_parent u) o))
+    of true o = refl
+    of false None = refl
+    of false (Some l) = up l.parent
 
--- a VMO that something keeps is written
-pub settled-kept : (vmos : ℕ → Option Vmo) (v : ℕ) (vmo : Vmo) → is_kept vmo ≡ true →
-    settled vmos v vmo ≡ with_key vmos v vmo
-unfolding settled
-settled-kept vmos v vmo held =
-    cond-true (is_kept vmo) (with_key vmos v vmo) (adopted (vmos_without vmos v vmo.parent) (option_map koid_number vmo.parent) 1 vmo.children) held
+-- a VMO has one parent
+pub one_parent : (u k : ℕ) → u ≢ k → (o : Option Lineage) → passes (has_parent k) o ≡ true → passes (has_parent u) o ≡ false
+unfolding passes
+one_parent u k apart None e = refl
+one_parent u k apart (Some l) e = of l.parent e
+  where
+    of : (o : Option ℕ) → is_parent k o ≡ true → is_parent u o ≡ false
+    of None f = refl
+    of (Some p) f = grind (arith, nat_tests)
 
--- a VMO that nothing keeps leaves
-pub settled-free : (vmos : ℕ → Option Vmo) (v : ℕ) (vmo : Vmo) → is_kept vmo ≡ false →
-    settled vmos v vmo ≡ adopted (vmos_without vmos v vmo.parent) (option_map koid_number vmo.parent) 1 vmo.children
-unfolding settled
-settled-free vmos v vmo free =
-    cond-false (is_kept vmo) (with_key vmos v vmo) (adopted (vmos_without vmos v vmo.parent) (option_map koid_number vmo.parent) 1 vmo.children) free
+-- what is there after a VMO left was there
+pub left-there : (vmos : ℕ → Option Vmo) (k : ℕ) (above : Option ℕ) (w : ℕ) →
+    IsSome (lineage_without (lineages vmos) k above w) → IsSome (vmos w)
+left-there vmos k above w h =
+    let found = some_is (lineage_without (lineages vmos) k above w) h in
+    sym (is_some-lineages vmos w) ∙ ap is_some (lineage_without-some (lineages vmos) k above w found.0 found.1).2
 
--- a VMO that nothing keeps has neither a name nor a keeper
-pub free_counts : (vmo : Vmo) → is_kept vmo ≡ false → (vmo.names ≤ 0) × (vmo.keepers ≤ 0)
-free_counts vmo free =
-    let none = or_parts (nat_lt 0 vmo.names) (nat_lt 0 vmo.keepers) free in
-    (ltb-false 0 vmo.names none.0, ltb-false 0 vmo.keepers none.1)
+-- no more VMOs have a parent than there are
+pub child_count_le : (vmos : ℕ → Option Vmo) (lineage : ℕ → Option Lineage) (u : ℕ) → ((w : ℕ) → IsSome (lineage w) →
+    IsSome (vmos w)) → child_count lineage u ≤ vmo_count vmos
+unfolding entry_count
+child_count_le vmos lineage u there =
+    count_below_less (2 ^ 64) (λ w. passes (has_parent u) (lineage w)) (λ w. passes (λ (vmo : Vmo). true) (vmos w)) (λ w h hit.
+    let found = passes_found (has_parent u) (lineage w) hit in
+    let vmo = some_is (vmos w) (there w (ap is_some found.1)) in
+    passes-some (λ (x : Vmo). true) (vmos w) vmo.0 vmo.1)
+
+pub children_le : (vmos : ℕ → Option Vmo) (u : ℕ) → child_count (lineages vmos) u ≤ vmo_count vmos
+children_le vmos u = child_count_le vmos (lineages vmos) u (λ w h. sym (is_some-lineages vmos w) ∙ h)

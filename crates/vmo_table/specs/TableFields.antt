@@ -1,14 +1,14 @@
 -- How the fields of the table are seen, and what holds of them.
-use Rattle.std.specs.Prelude.{◌≡◌, ℕ, ◌<◌, min, Option, Some, IsSome, ◌^◌}
+use Rattle.std.specs.Prelude.{◌≡◌, ℕ, ◌<◌, min, Option, IsSome}
 use Rattle.std.specs.HashMap.{spare}
 use Rattle.vm_base.specs.Entries.{entry_count}
 use Rattle.vm_base.specs.declared.limits.TheConstants.{NAMES}
 use Rattle.vm_model.specs.declared.names.NameKind.TheVariants.{Slice, Reference}
 use Rattle.vm_model.specs.declared.names.Target.{Target}
-use Rattle.vm_model.specs.Naming.Names.{Lineage, is_of, names_as, child_count}
+use Rattle.vm_model.specs.Naming.Names.{is_of, names_as}
 use Rattle.vmo_table.specs.declared.vmos.Vmo.{Vmo}
 use Rattle.vmo_table.specs.declared.vmo_table.VmoTable.TheInside.{Inside}
-use Rattle.vmo_table.specs.Vmos.{vmos_in, lineages}
+use Rattle.vmo_table.specs.Vmos.{vmos_in, count_of, lineages, IsForest}
 use Rattle.vmo_table.specs.ChildRows.{AreChildren}
 use Rattle.vmo_table.specs.Table.{Table, names_in}
 
@@ -23,35 +23,15 @@ table_of a = record {
 abbrev pub name_count : (ℕ → Option Target) → ℕ → ℕ
 name_count names v = entry_count NAMES (is_of v) names
 
--- a number for each VMO, smaller for its parent, so that no chain of parents is a ring
-pub record Ranking (lineage : ℕ → Option Lineage) : Type 0 where
-  pub rank : ℕ → ℕ
-  pub falls : (v p : ℕ) (l : Lineage) → lineage v ≡ Some l → l.parent ≡ Some p → rank p < rank v
-
--- Each name stands for a VMO of the table, a parent is in the table, and no chain of parents is a ring. Names and
--- koids have the ranges of their types.
-pub record AreRelated (names : ℕ → Option Target) (lineage : ℕ → Option Lineage) : Type 0 where
-  pub names_below : (n : ℕ) → IsSome (names n) → n < NAMES
-  pub koids_below : (v : ℕ) → IsSome (lineage v) → v < 2 ^ 64
-  pub targets : (n : ℕ) (t : Target) → names n ≡ Some t → IsSome (lineage t.koid.0)
-  pub parents : (v p : ℕ) (l : Lineage) → lineage v ≡ Some l → l.parent ≡ Some p → IsSome (lineage p)
-  pub ranked : ∥ Ranking lineage ∥₁
-
--- The VMO v has as many names as are counted, and as many slices and references among them.
-pub record HasNames (names : ℕ → Option Target) (v : ℕ) (vmo : Vmo) : Type 0 where
-  pub named : vmo.names ≡ name_count names v
-  pub sliced : vmo.slices ≡ names_as Slice names v
-  pub referred : vmo.references ≡ names_as Reference names v
-
--- Each VMO has as many names and children as are counted. One that only keepers keep has no name.
-pub record AreCounted (names : ℕ → Option Target) (vmos : ℕ → Option Vmo) : Type 0 where
-  pub named : (v : ℕ) (vmo : Vmo) → vmos v ≡ Some vmo → HasNames names v vmo
-  pub children : (v : ℕ) (vmo : Vmo) → vmos v ≡ Some vmo → vmo.children ≡ child_count (lineages vmos) v
-
-pub record AreConsistent (names : ℕ → Option Target) (vmos : ℕ → Option Vmo) : Type 0 where
-  pub related : AreRelated names (lineages vmos)
-  pub counted : AreCounted names vmos
+-- Each VMO has as many names, and slices and references among them, as are counted, and no name stands for a koid that
+-- no VMO has. Names have the range of their type.
+pub record AreNamed (names : ℕ → Option Target) (vmos : ℕ → Option Vmo) : Type 0 where
+  pub below : (n : ℕ) → IsSome (names n) → n < NAMES
+  pub named : (v : ℕ) → count_of (λ (vmo : Vmo). vmo.names) vmos v ≡ name_count names v
+  pub sliced : (v : ℕ) → count_of (λ (vmo : Vmo). vmo.slices) vmos v ≡ names_as Slice names v
+  pub referred : (v : ℕ) → count_of (λ (vmo : Vmo). vmo.references) vmos v ≡ names_as Reference names v
 
 pub record IsTable (a : Inside) : Type 0 where
-  pub consistent : AreConsistent (names_in a.names.entries) (vmos_in a.vmos.entries)
-  pub children : AreChildren a.child_rows (lineages (vmos_in a.vmos.entries))
+  pub named : AreNamed (names_in a.names.entries) (vmos_in a.vmos.entries)
+  pub forest : IsForest (vmos_in a.vmos.entries)
+  pub rows : AreChildren a.child_rows (lineages (vmos_in a.vmos.entries))

@@ -1,12 +1,12 @@
 -- The VMOs of the table as a map from koids, and what becomes of it.
-use Rattle.std.specs.Prelude.{ℕ, ◌+◌, ◌-◌, ◌^◌, ◌==◌, nat_lt, Bool, true, ◌||◌, if◌then◌else◌, Option, None, Some, unwrap_or, List}
+use Rattle.std.specs.Prelude.{◌≡◌, ℕ, ◌+◌, ◌-◌, ◌<◌, ◌^◌, ◌==◌, nat_lt, Bool, true, ◌||◌, if◌then◌else◌, Option, None, Some, IsSome, unwrap_or, List}
 use Rattle.std.specs.Option.{option_map}
 use Rattle.std.specs.Map.{lookup}
 use Rattle.vm_base.specs.declared.names.Koid.{Koid}
-use Rattle.vm_base.specs.Entries.{with_key, entry_count}
+use Rattle.vm_base.specs.Entries.{with_key, passes, entry_count}
 use Rattle.vm_model.specs.declared.names.NameKind.{NameKind}
 use Rattle.vm_model.specs.declared.names.NameKind.TheVariants.{Slice, Reference}
-use Rattle.vm_model.specs.Naming.Names.{Lineage, is_kind, is_parent}
+use Rattle.vm_model.specs.Naming.Names.{Lineage, is_kind, is_parent, has_parent, child_count}
 use Rattle.vmo_table.specs.declared.vmos.Vmo.{Vmo}
 
 -- the number of a koid
@@ -29,9 +29,25 @@ lineages vmos v = option_map lineage_of_vmo (vmos v)
 abbrev pub vmo_count : (ℕ → Option Vmo) → ℕ
 vmo_count vmos = entry_count (2 ^ 64) (λ (vmo : Vmo). true) vmos
 
+-- what is counted of the VMO v, and 0 where there is no VMO
+unfoldable pub count_of : (Vmo → ℕ) → (ℕ → Option Vmo) → ℕ → ℕ
+count_of count vmos v = unwrap_or (option_map count (vmos v)) 0
+
 -- how many pins and mapped pages keep a VMO, and none where there is no VMO
 unfoldable pub keepers_in : (ℕ → Option Vmo) → ℕ → ℕ
-keepers_in vmos v = unwrap_or (option_map (λ (vmo : Vmo). vmo.keepers) (vmos v)) 0
+keepers_in = count_of (λ (vmo : Vmo). vmo.keepers)
+
+-- a number for each VMO, smaller for its parent, so that no chain of parents is a ring
+pub record Ranking (lineage : ℕ → Option Lineage) : Type 0 where
+  pub rank : ℕ → ℕ
+  pub falls : (p v : ℕ) → passes (has_parent p) (lineage v) ≡ true → rank p < rank v
+
+-- Each VMO has as many children as are counted, and a koid that no VMO has has none. No chain of parents is a ring.
+-- Koids have the range of their type.
+pub record IsForest (vmos : ℕ → Option Vmo) : Type 0 where
+  pub below : (v : ℕ) → IsSome (vmos v) → v < 2 ^ 64
+  pub children : (v : ℕ) → count_of (λ (vmo : Vmo). vmo.children) vmos v ≡ child_count (lineages vmos) v
+  pub ranked : ∥ Ranking (lineages vmos) ∥₁
 
 -- 1 where two kinds are the same, else 0
 abbrev pub kind_bit : NameKind → NameKind → ℕ
@@ -82,3 +98,10 @@ unfoldable pub settled : (ℕ → Option Vmo) → ℕ → Vmo → ℕ → Option
 settled vmos v vmo =
     if is_kept vmo then with_key vmos v vmo
     else adopted (vmos_without vmos v vmo.parent) (option_map koid_number vmo.parent) 1 vmo.children
+
+-- The VMO k may get this value: the table has it with this lineage, and the VMOs are a forest with it.
+pub record MayGet (vmos : ℕ → Option Vmo) (k : ℕ) (new : Vmo) : Type 0 where
+  pub old : Vmo
+  pub found : vmos k ≡ Some old
+  pub lineage : lineage_of_vmo new ≡ lineage_of_vmo old
+  pub forest : IsForest (with_key vmos k new)

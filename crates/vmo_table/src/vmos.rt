@@ -5,8 +5,8 @@ ghost use Rattle.std.specs.Option.{option_map};
 ghost use Rattle.vm_base.specs.Entries.{with_key};
 ghost use Rattle.vm_base.specs.declared.limits.TheConstants.{NAMES};
 ghost use Rattle.vm_model.specs.Naming.Names.{is_parent, child_count};
-ghost use Rattle.vmo_table.specs.Vmos.{koid_number, vmos_in, lineage_of_vmo, lineages, kind_bit};
-ghost use Rattle.vmo_table.specs.Vmos.{more_names, fewer_names, adopted, vmos_without, vmo_count, is_kept, settled};
+ghost use Rattle.vmo_table.specs.Vmos.{koid_number, vmos_in, lineages, kind_bit, more_names, fewer_names};
+ghost use Rattle.vmo_table.specs.Vmos.{adopted, vmos_without, is_kept, settled, MayGet};
 ghost use Rattle.vmo_table.specs.ChildRows.{is_under, AreChildren, MayLeave};
 ghost use Rattle.vmo_table.specs.declared.vmos.Vmo.{Vmo};
 
@@ -177,13 +177,8 @@ pub(crate) fn settle(
     koid: Koid,
     vmo: Vmo,
 ) -> Option<Koid>
-    requires found { (old : Vmo) × (vmos_in vmos.old.entries koid.0 ≡ Some old)
-        × (lineage_of_vmo vmo ≡ lineage_of_vmo old) }
-    requires leaves { MayLeave (vmos_in vmos.old.entries) rows.old koid.0 vmo.parent }
-    requires fits { is_kept vmo ≡ false → (v : ℕ) (above : Vmo) →
-        is_parent v (option_map koid_number vmo.parent) ≡ true →
-        vmos_without (vmos_in vmos.old.entries) koid.0 vmo.parent v ≡ Some above →
-        (1 ≤ above.children) × (above.children - 1 + vmo.children ≤ vmo_count (vmos_in vmos.old.entries)) }
+    requires may { MayGet (vmos_in vmos.old.entries) koid.0 vmo }
+    requires rows { AreChildren rows.old (lineages (vmos_in vmos.old.entries)) }
     ensures vmos { vmos_in vmos.new.entries ≡ settled (vmos_in vmos.old.entries) koid.0 vmo }
     ensures rows { AreChildren rows.new (lineages (vmos_in vmos.new.entries)) }
     ensures answer { result ≡ (if is_kept vmo then None else Some koid) }

@@ -1,65 +1,60 @@
-use Rattle.std.proofs.Common.{ℕ, ◌+◌, ◌-◌, ◌==◌, cond, Option, refl, sym, ap, ◌∙◌, arith, ◌≡◌, Bool, true, false}
+use Rattle.std.proofs.Common.{◌-◌, None, Some, refl, sym, ◌∙◌, arith}
+use Rattle.std.proofs.lemmas.Grind.{common_steps}
+use Rattle.vm_base.specs.Entries.{with_key}
+use Rattle.vm_base.proofs.EntryLaws.{with_key-same}
 use Rattle.vmo_table.specs.declared.vmos.Vmo.{Vmo}
-use Rattle.vmo_table.specs.Vmos.{lineages, keepers_in}
-use Rattle.vmo_table.specs.Table.{Table, names_of, keepers_of}
-use Rattle.vmo_table.proofs.KeepersLaws.{keepers-less, keepers-here, keepers-settled}
-use Rattle.vmo_table.proofs.EnteredLaws.{AreConsistent-same}
-use Rattle.vmo_table.proofs.WrittenLaws.{with_keepers}
-use Rattle.vmo_table.proofs.SettledLaws.{may_leave, left_fits, AreConsistent-settled, settles}
-use Rattle.vmo_table.proofs.TableLaws.{keeping, keepers_kept, keepers_known, settles_same, keepers_absent, settles_now_absent}
+use Rattle.vmo_table.specs.Vmos.{vmos_in}
+use Rattle.vmo_table.proofs.CountLaws.{keepers-at, keepers-with_key}
+use Rattle.vmo_table.proofs.SettledLaws.{keepers-settled, settles, settles_absent}
+use Rattle.vmo_table.proofs.TableLaws.{IsTable-settled, keeping}
 use Rattle.vmo_table.proofs.vmo_table.VmoTable.release.Goals as goal
 
--- none of an absent VMO's keepers are released
-none_released : (b : Bool) (n : ℕ) → n ≡ 0 → cond b n 0 ≡ 0
-none_released true n none = none
-none_released false n none = refl
-
 pub returns-in_default-clause-keepers : goal.returns-in_default-clause-keepers
-returns-in_default-clause-keepers c = λ v.
-    let koid = c.args.koid.0 in
-    let none = keepers_absent c.self.inside c.args.self.now koid c.self.view_is (sym (c.copied.ensures ∙ c.get.ensures.value) ∙ c.in_default.is) in
-    let released = none_released (v == koid) c.args.n (omega (arith, none, c.requires.keepers)) in
-    omega (arith, released)
+unfolding vmos_in
+returns-in_default-clause-keepers c = λ v. rw (← c.self.view_is) (
+    let few = rw (← c.self.view_is) at c.requires.keepers in
+    let none = keepers-at (vmos_in c.self.inside.vmos.entries) c.args.koid.0 None (sym (c.copied.ensures ∙ c.get.ensures.value) ∙ c.in_default.is) in
+    grind (arith, common_steps))
 
 pub returns-in_default-clause-vmo : goal.returns-in_default-clause-vmo
-returns-in_default-clause-vmo c =
-    settles_now_absent c.self.inside c.args.self.now c.args.koid c.self.view_is c.self.invariant (sym (c.copied.ensures ∙ c.get.ensures.value) ∙ c.in_default.is)
+unfolding vmos_in
+returns-in_default-clause-vmo c = rw (← c.self.view_is)
+    (settles_absent _ _ c.args.koid.0 c.self.invariant.named c.self.invariant.forest (sym (c.copied.ensures ∙ c.get.ensures.value) ∙ c.in_default.is))
 
 pub overflow_sub-left : goal.overflow_sub-left
+unfolding vmos_in
 overflow_sub-left c =
-    let keepers = keepers_known c.self.inside c.args.self.now c.args.koid.0 c.in-Some.vmo c.self.view_is (sym (c.copied.ensures ∙ c.get.ensures.value) ∙ c.in-Some.is) in
-    omega (arith, c.requires.keepers)
+    let few = rw (← c.self.view_is) at c.requires.keepers in
+    omega (arith, few, keepers-at (vmos_in c.self.inside.vmos.entries) c.args.koid.0 (Some c.in-Some.vmo) (sym (c.copied.ensures ∙ c.get.ensures.value) ∙ c.in-Some.is))
 
 pub settle-requires : goal.settle-requires
 settle-requires c =
-    let vmo = c.in-Some.vmo in
-    let written = keeping c.self.inside c.args.koid.0 vmo (vmo.keepers - c.from.result) c.self.invariant (sym (c.copied.ensures ∙ c.get.ensures.value) ∙ c.in-Some.is) in
-    record { found = (vmo, written.found, written.lineage); leaves = may_leave _ _ _ _ _ written c.self.inside.child_rows c.self.invariant.children; fits = left_fits _ _ _ _ _ written }
+    let written = keeping c.self.inside c.args.koid.0 c.in-Some.vmo (c.in-Some.vmo.keepers - c.from.result) c.self.invariant (sym (c.copied.ensures ∙ c.get.ensures.value) ∙ c.in-Some.is) in
+    record { may = written.0; rows = c.self.invariant.rows }
 
 pub invariant_of-self : goal.invariant_of-self
 invariant_of-self c =
-    let vmo = c.in-Some.vmo in
-    let written = keeping c.self.inside c.args.koid.0 vmo (vmo.keepers - c.from.result) c.self.invariant (sym (c.copied.ensures ∙ c.get.ensures.value) ∙ c.in-Some.is) in
-    record { consistent = AreConsistent-same _ _ _ _ refl c.settle.ensures.vmos (AreConsistent-settled _ _ _ _ _ written); children = c.settle.ensures.rows }
+    let written = keeping c.self.inside c.args.koid.0 c.in-Some.vmo (c.in-Some.vmo.keepers - c.from.result) c.self.invariant (sym (c.copied.ensures ∙ c.get.ensures.value) ∙ c.in-Some.is) in
+    IsTable-settled _ _ _ _ written.0 _ refl written.1 c.settle.ensures.vmos c.settle.ensures.rows
 
 pub returns-clause-keepers : goal.returns-clause-keepers
+unfolding vmos_in
 returns-clause-keepers c = λ v.
-    let koid = c.args.koid.0 in
-    let vmo = c.in-Some.vmo in
-    let left = with_keepers (vmo.keepers - c.from.result) vmo in
-    let was = keepers_kept c.self.inside koid vmo (sym (c.copied.ensures ∙ c.get.ensures.value) ∙ c.in-Some.is) in
-    let enough = keepers_known c.self.inside c.args.self.now koid vmo c.self.view_is (sym (c.copied.ensures ∙ c.get.ensures.value) ∙ c.in-Some.is) in
-    ap (λ (m : ℕ → Option Vmo). keepers_in m v + cond (v == koid) c.args.n 0) c.settle.ensures.vmos
-    ∙ (ap (λ (m : ℕ → ℕ). m v + cond (v == koid) c.args.n 0) (keepers-settled _ koid left)
-    ∙ (keepers-less _ koid left c.args.n (omega (arith, was, enough, c.from.ensures, c.requires.keepers)) v
-    ∙ ap (λ (x : Table). keepers_of x v) c.self.view_is))
+    let few = rw (← c.self.view_is) at c.requires.keepers in
+    let vmos = vmos_in c.self.inside.vmos.entries in
+    let left : Vmo = record c.in-Some.vmo { keepers = c.in-Some.vmo.keepers - c.from.result } in
+    let found = sym (c.copied.ensures ∙ c.get.ensures.value) ∙ c.in-Some.is in
+    let written = keeping c.self.inside c.args.koid.0 c.in-Some.vmo left.keepers c.self.invariant found in
+    let was = keepers-at vmos c.args.koid.0 (Some c.in-Some.vmo) found in
+    rw (← c.self.view_is, c.settle.ensures.vmos, keepers-settled _ _ _ written.0)
+    (grind (arith, common_steps, keepers-with_key vmos c.args.koid.0 left v, c.from.ensures))
 
 pub returns-clause-vmo : goal.returns-clause-vmo
+unfolding vmos_in
 returns-clause-vmo c =
-    let koid = c.args.koid.0 in
-    let vmo = c.in-Some.vmo in
-    let left = with_keepers (vmo.keepers - c.from.result) vmo in
-    let written = keeping c.self.inside koid vmo (vmo.keepers - c.from.result) c.self.invariant (sym (c.copied.ensures ∙ c.get.ensures.value) ∙ c.in-Some.is) in
-    let keepers = ap (λ (m : ℕ → Option Vmo). keepers_in m koid) c.settle.ensures.vmos ∙ (ap (λ (m : ℕ → ℕ). m koid) (keepers-settled _ koid left) ∙ keepers-here _ koid left koid refl) in
-    settles_same c.self.inside c.args.self.now _ _ _ _ koid _ _ c.settle.result c.self.view_is (ap names_of (sym c.self.view_is)) keepers (ap lineages c.settle.ensures.vmos)
-    (settles _ _ _ _ _ written c.settle.result c.settle.ensures.answer)
+    let left : Vmo = record c.in-Some.vmo { keepers = c.in-Some.vmo.keepers - c.from.result } in
+    let written = keeping c.self.inside c.args.koid.0 c.in-Some.vmo left.keepers c.self.invariant (sym (c.copied.ensures ∙ c.get.ensures.value) ∙ c.in-Some.is) in
+    let now = keepers-settled _ _ _ written.0 in
+    let here = keepers-at (with_key (vmos_in c.self.inside.vmos.entries) c.args.koid.0 left) c.args.koid.0 (Some left) (with_key-same _ c.args.koid.0 left) in
+    rw (← c.self.view_is, c.settle.ensures.vmos, now, here)
+    (settles _ _ _ written.0 _ written.1 c.settle.result c.settle.ensures.answer)
