@@ -1,5 +1,5 @@
 -- What is counted of each VMO, as VMOs are written, come and leave.
-use Rattle.std.proofs.Common.{◌≡◌, ◌≢◌, ℕ, ◌+◌, ◌-◌, ◌<◌, ◌==◌, ◌&&◌, Bool, true, false, cond, Option, None, Some, is_some, refl, sym, ap, subst, inl, inr, arith}
+use Rattle.std.proofs.Common.{◌≡◌, ◌≢◌, ℕ, ◌+◌, ◌-◌, ◌<◌, ◌==◌, ◌&&◌, true, cond, Option, Some, is_some, refl, sym, ap, subst, inl, inr, arith}
 use Rattle.std.specs.Prelude.{unwrap_or}
 use Rattle.std.specs.Option.{option_map}
 use Rattle.std.proofs.lemmas.Bool.{cases_eq}
@@ -8,7 +8,11 @@ use Rattle.vm_base.specs.declared.names.Koid.{Koid}
 use Rattle.vm_base.specs.Entries.{with_key}
 use Rattle.vm_model.specs.Naming.Names.{is_parent}
 use Rattle.vmo_table.specs.declared.vmos.Vmo.{Vmo}
-use Rattle.vmo_table.specs.Vmos.{count_of, keepers_in, adopted, koid_after, vmos_without}
+use Rattle.vmo_table.specs.Vmos.{count_of, keepers_in, adopted, vmos_without}
+
+-- maps that agree at each key are one
+pub funext : {A : Type 0} {f g : ℕ → A} → ((n : ℕ) → f n ≡ g n) → f ≡ g
+funext each = λ i n. each n i
 
 -- what holds of a key, and of each other key, holds of all
 pub at_each : (P : ℕ → Type 0) (k : ℕ) → P k → ((v : ℕ) → v ≢ k → P v) → (v : ℕ) → P v
@@ -23,20 +27,12 @@ module _ (count : Vmo → ℕ) (vmos : ℕ → Option Vmo) where
   -- where more than none count, a VMO is there
   pub count-there : (v : ℕ) → 0 < count_of count vmos v → is_some (vmos v) ≡ true
   unfolding count_of
-  count-there v = of (vmos v)
-    where
-      of : (o : Option Vmo) → 0 < unwrap_or (option_map count o) 0 → is_some o ≡ true
-      of None h = absurd (omega arith)
-      of (Some vmo) h = refl
+  count-there v h = grind (arith, common_steps)
 
   pub count-with_key : (k : ℕ) (new : Vmo) (v : ℕ) →
       count_of count (with_key vmos k new) v ≡ cond (v == k) (count new) (count_of count vmos v)
   unfolding count_of with_key
-  count-with_key k new v = of (v == k)
-    where
-      of : (b : Bool) → unwrap_or (option_map count (cond b (Some new) (vmos v))) 0 ≡ cond b (count new) (unwrap_or (option_map count (vmos v)) 0)
-      of true = refl
-      of false = refl
+  count-with_key k new v = grind (arith, common_steps)
 
   -- a VMO of which as much is counted as before
   pub count-same : (k : ℕ) (old new : Vmo) → vmos k ≡ Some old → count new ≡ count old → (v : ℕ) →
@@ -47,37 +43,19 @@ module _ (count : Vmo → ℕ) (vmos : ℕ → Option Vmo) where
   pub count-adopted : ((x : Vmo) (n : ℕ) → count (record x { children = n }) ≡ count x) → (parent : Option ℕ) (gone come v : ℕ) →
       count_of count (adopted vmos parent gone come) v ≡ count_of count vmos v
   unfolding count_of adopted
-  count-adopted keeps parent gone come v = of (is_parent v parent) (vmos v)
-    where
-      of : (b : Bool) (o : Option Vmo) →
-          unwrap_or (option_map count (cond b (option_map (λ (x : Vmo). record x { children = x.children - gone + come }) o) o)) 0 ≡ unwrap_or (option_map count o) 0
-      of true None = refl
-      of true (Some x) = keeps x (x.children - gone + come)
-      of false o = refl
+  count-adopted keeps parent gone come v = grind (arith, common_steps, keeps)
 
   -- a VMO that leaves takes its counts with it
   pub count-without : ((x : Vmo) (o : Option Koid) → count (record x { parent = o }) ≡ count x) → (k : ℕ) (parent : Option Koid) (v : ℕ) →
       count_of count (vmos_without vmos k parent) v ≡ cond (v == k) 0 (count_of count vmos v)
   unfolding count_of vmos_without
-  count-without keeps k parent v = of (v == k) (vmos v)
-    where
-      of : (b : Bool) (o : Option Vmo) → unwrap_or (option_map count (cond b None (option_map (λ (x : Vmo). record x { parent = koid_after k parent x.parent }) o))) 0 ≡ cond b 0 (unwrap_or (option_map count o) 0)
-      of true o = refl
-      of false None = refl
-      of false (Some x) = keeps x (koid_after k parent x.parent)
+  count-without keeps k parent v = grind (arith, common_steps, keeps)
 
 pub children-adopted : (vmos : ℕ → Option Vmo) (parent : Option ℕ) (gone come v : ℕ) →
     count_of (λ (vmo : Vmo). vmo.children) (adopted vmos parent gone come) v
     ≡ cond (is_parent v parent && is_some (vmos v)) (count_of (λ (vmo : Vmo). vmo.children) vmos v - gone + come) (count_of (λ (vmo : Vmo). vmo.children) vmos v)
 unfolding count_of adopted
-children-adopted vmos parent gone come v = of (is_parent v parent) (vmos v)
-  where
-    of : (b : Bool) (o : Option Vmo) →
-        unwrap_or (option_map (λ (vmo : Vmo). vmo.children) (cond b (option_map (λ (x : Vmo). record x { children = x.children - gone + come }) o) o)) 0
-        ≡ cond (b && is_some o) (unwrap_or (option_map (λ (vmo : Vmo). vmo.children) o) 0 - gone + come) (unwrap_or (option_map (λ (vmo : Vmo). vmo.children) o) 0)
-    of true None = refl
-    of true (Some x) = refl
-    of false o = refl
+children-adopted vmos parent gone come v = grind (arith, common_steps)
 
 -- ---- keepers
 
@@ -94,12 +72,9 @@ keepers-with_key = count-with_key (λ (vmo : Vmo). vmo.keepers)
 -- a VMO is written with the keepers that it had, where it was there
 pub keepers-same : (vmos : ℕ → Option Vmo) (k : ℕ) (new : Vmo) → keepers_in vmos k ≡ new.keepers →
     keepers_in (with_key vmos k new) ≡ keepers_in vmos
-keepers-same vmos k new same = λ i v. at v i
-  where
-    at : (v : ℕ) → keepers_in (with_key vmos k new) v ≡ keepers_in vmos v
-    at v = grind (arith, common_steps, keepers-with_key vmos k new v)
+keepers-same vmos k new same = funext (λ v. grind (arith, common_steps, keepers-with_key vmos k new v))
 
 pub keepers-adopted : (vmos : ℕ → Option Vmo) (parent : Option ℕ) (gone come : ℕ) →
     keepers_in (adopted vmos parent gone come) ≡ keepers_in vmos
 unfolding keepers_in
-keepers-adopted vmos parent gone come = λ i v. count-adopted (λ (vmo : Vmo). vmo.keepers) vmos (λ x n. refl) parent gone come v i
+keepers-adopted vmos parent gone come = funext (count-adopted (λ (vmo : Vmo). vmo.keepers) vmos (λ x n. refl) parent gone come)

@@ -1,11 +1,9 @@
 -- What the entries of the two maps are as maps from numbers, after a call of the library.
 use Rattle.std.proofs.Common.{◌≡◌, ℕ, ◌==◌, Bool, true, cond, List, [], ◌∷◌, Option, None, Some, IsSome, Result, Ok, Err, refl, sym, ap, ◌∙◌, inl, inr, ◌≢◌, ◌+◌, ◌^◌, ◌≤◌, length, arith}
-use Rattle.std.specs.Option.{option_map}
 use Rattle.std.specs.Prelude.{IsOk, OnOk}
 use Rattle.std.specs.Map.{lookup}
 use Rattle.std.proofs.lemmas.Grind.{common_steps}
 use Rattle.std.proofs.lemmas.Bool.{ne_eqb, cond-false, cases_lt}
-use Rattle.std.proofs.lemmas.Bool.Decides.{nat_tests}
 use Rattle.vm_base.specs.declared.names.Koid.{Koid}
 use Rattle.vm_base.specs.declared.names.VmoName.{VmoName}
 use Rattle.vm_base.specs.Entries.{with_key, without_key, passes, entry_count}
@@ -15,6 +13,7 @@ use Rattle.vm_model.specs.declared.names.Target.{Target}
 use Rattle.vmo_table.specs.declared.vmos.Vmo.{Vmo}
 use Rattle.vmo_table.specs.Vmos.{vmos_in, lineages, with_children, adopted, vmo_count}
 use Rattle.vmo_table.specs.Table.{names_in}
+use Rattle.vmo_table.proofs.CountLaws.{funext}
 use Rattle.vmo_table.proofs.VmosLaws.{is_some-lineages}
 
 -- an entry of the map of VMOs
@@ -25,34 +24,24 @@ vmo_at entries v = lookup (λ (koid : Koid). v == koid.0) entries
 abbrev pub target_at : List (VmoName × Target) → ℕ → Option Target
 target_at entries n = lookup (λ (name : VmoName). n == name.0) entries
 
-flipped : {A : Type 0} (a b : ℕ) (x y : A) → cond (a == b) x y ≡ cond (b == a) x y
-flipped a b x y = ap (λ (t : Bool). cond t x y) (turned a b)
-  where
-    turned : (m n : ℕ) → (m == n) ≡ (n == m)
-    turned m n = grind (arith, nat_tests)
-
 -- ---- the map of VMOs
 
 pub vmos_in-same : (old new : List (Koid × Vmo)) → ((q : Koid) → vmo_at new q.0 ≡ vmo_at old q.0) →
     vmos_in new ≡ vmos_in old
 unfolding vmos_in
-vmos_in-same old new each = λ i v. each (record { 0 = v }) i
+vmos_in-same old new each = funext (λ v. each (record { 0 = v }))
 
 pub vmos_in-put : (old new : List (Koid × Vmo)) (k : ℕ) (vmo : Vmo) → ((q : Koid) →
     vmo_at new q.0 ≡ cond (k == q.0) (Some vmo) (vmo_at old q.0)) → vmos_in new ≡ with_key (vmos_in old) k vmo
 unfolding vmos_in with_key
-vmos_in-put old new k vmo each = λ i v. (each (record { 0 = v }) ∙ flipped k v (Some vmo) (vmo_at old v)) i
+vmos_in-put old new k vmo each = funext (λ v. grind (arith, common_steps, each (record { 0 = v })))
 
 -- the counts of the parent were changed
 pub vmos_in-adopted : (old new : List (Koid × Vmo)) (k : ℕ) (vmo : Vmo) (gone come : ℕ) → vmo_at old k ≡ Some vmo →
     ((q : Koid) → vmo_at new q.0 ≡ cond (k == q.0) (Some (with_children gone come vmo)) (vmo_at old q.0)) →
     vmos_in new ≡ adopted (vmos_in old) (Some k) gone come
 unfolding vmos_in adopted passes
-vmos_in-adopted old new k vmo gone come found each = λ i v. (each (record { 0 = v }) ∙ at v) i
-  where
-    at : (v : ℕ) →
-        cond (k == v) (Some (with_children gone come vmo)) (vmo_at old v) ≡ cond (k == v) (option_map (with_children gone come) (vmo_at old v)) (vmo_at old v)
-    at v = grind (arith, common_steps)
+vmos_in-adopted old new k vmo gone come found each = funext (λ v. grind (arith, common_steps, each (record { 0 = v })))
 
 -- no VMO, no change
 pub adopted-nobody : (vmos : ℕ → Option Vmo) (gone come : ℕ) → vmos ≡ adopted vmos None gone come
@@ -62,33 +51,29 @@ adopted-nobody vmos gone come = refl
 pub adopted-absent : (entries : List (Koid × Vmo)) (k gone come : ℕ) → vmo_at entries k ≡ None →
     vmos_in entries ≡ adopted (vmos_in entries) (Some k) gone come
 unfolding vmos_in adopted passes
-adopted-absent entries k gone come none = λ i v. at v i
-  where
-    at : (v : ℕ) →
-        vmo_at entries v ≡ cond (k == v) (option_map (with_children gone come) (vmo_at entries v)) (vmo_at entries v)
-    at v = grind (arith, common_steps)
+adopted-absent entries k gone come none = funext (λ v. grind (arith, common_steps))
 
 pub vmos_in-removed : (old new : List (Koid × Vmo)) (k : ℕ) → ((q : Koid) →
     vmo_at new q.0 ≡ cond (k == q.0) None (vmo_at old q.0)) → vmos_in new ≡ without_key (vmos_in old) k
 unfolding vmos_in without_key
-vmos_in-removed old new k each = λ i v. (each (record { 0 = v }) ∙ flipped k v None (vmo_at old v)) i
+vmos_in-removed old new k each = funext (λ v. grind (arith, common_steps, each (record { 0 = v })))
 
 -- ---- the map of names
 
 pub names_in-same : (old new : List (VmoName × Target)) → ((q : VmoName) → target_at new q.0 ≡ target_at old q.0) →
     names_in new ≡ names_in old
 unfolding names_in
-names_in-same old new each = λ i n. each (record { 0 = n }) i
+names_in-same old new each = funext (λ n. each (record { 0 = n }))
 
 pub names_in-put : (old new : List (VmoName × Target)) (k : ℕ) (t : Target) → ((q : VmoName) →
     target_at new q.0 ≡ cond (k == q.0) (Some t) (target_at old q.0)) → names_in new ≡ with_key (names_in old) k t
 unfolding names_in with_key
-names_in-put old new k t each = λ i n. (each (record { 0 = n }) ∙ flipped k n (Some t) (target_at old n)) i
+names_in-put old new k t each = funext (λ n. grind (arith, common_steps, each (record { 0 = n })))
 
 pub names_in-taken : (old new : List (VmoName × Target)) (k : ℕ) → ((q : VmoName) →
     target_at new q.0 ≡ cond (k == q.0) None (target_at old q.0)) → names_in new ≡ without_key (names_in old) k
 unfolding names_in without_key
-names_in-taken old new k each = λ i n. (each (record { 0 = n }) ∙ flipped k n None (target_at old n)) i
+names_in-taken old new k each = funext (λ n. grind (arith, common_steps, each (record { 0 = n })))
 
 -- ---- nothing is in a map
 

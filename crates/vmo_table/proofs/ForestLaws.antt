@@ -1,18 +1,19 @@
 -- What stays of the VMOs as a forest, as they are written, come and leave.
-use Rattle.std.proofs.Common.{◌≡◌, ◌≢◌, ℕ, ◌+◌, ◌-◌, ◌^◌, ◌<◌, ◌≤◌, ◌==◌, ◌&&◌, ◌||◌, Bool, true, false, cond, Option, None, Some, IsSome, is_some, refl, sym, ap, subst, ◌∙◌, ◌⊎◌, inl, inr, arith}
+use Rattle.std.proofs.Common.{◌≡◌, ◌≢◌, ℕ, ◌+◌, ◌-◌, ◌^◌, ◌<◌, ◌≤◌, ◌==◌, ◌&&◌, ◌||◌, Bool, true, false, cond, Option, None, Some, is_some, refl, sym, ap, subst, ◌∙◌, arith}
+use Rattle.std.specs.Prelude.{unwrap_or}
 use Rattle.std.specs.Option.{option_map}
 use Rattle.std.proofs.lemmas.Grind.{common_steps, not_there}
-use Rattle.std.proofs.lemmas.Bool.{cases_Bool, cases_eq, cond-true, cond-false, ne_eqb, eqb-true, false_from_ne_true}
+use Rattle.std.proofs.lemmas.Bool.{cond-false, ne_eqb, false_from_ne_true}
 use Rattle.std.proofs.Math.Logic.{∥∥₁_map}
 use Rattle.vm_base.specs.Entries.{with_key, passes, entry_count}
 use Rattle.vm_base.specs.Search.{count_below}
 use Rattle.vm_base.proofs.SearchLaws.{count_below_split, count_below_change, count_below_none}
-use Rattle.vm_base.proofs.EntryLaws.{passes-some, passes_found, entry_count_hit, entry_count-with_key, entry_count-empty, with_key-other}
+use Rattle.vm_base.proofs.EntryLaws.{passes-some, passes_found, entry_count_hit, entry_count-with_key, entry_count-empty}
 use Rattle.vm_model.specs.Naming.Names.{Lineage, is_parent, has_parent, child_count, lineage_without}
 use Rattle.vmo_table.specs.declared.vmos.Vmo.{Vmo}
 use Rattle.vmo_table.specs.Vmos.{koid_number, lineage_of_vmo, lineages, count_of, adopted, vmos_without, vmo_count, Ranking, IsForest}
-use Rattle.vmo_table.proofs.CountLaws.{at_each, count-at, count-there, count-with_key, count-same, count-without, children-adopted}
-use Rattle.vmo_table.proofs.VmosLaws.{lineage-at, is_some-lineages, lineages-with_key, lineages-written, lineages-adopted, lineages-without, child-with_key, child-without, one_parent, left-there, children_le}
+use Rattle.vmo_table.proofs.CountLaws.{count-at, count-there, count-with_key, count-same, count-without, children-adopted}
+use Rattle.vmo_table.proofs.VmosLaws.{lineage-at, is_some-lineages, lineages-with_key, lineages-written, lineages-adopted, lineages-without, child-with_key, child-without, one_parent, children_le}
 
 abbrev pub children_of : (ℕ → Option Vmo) → ℕ → ℕ
 children_of = count_of (λ (vmo : Vmo). vmo.children)
@@ -36,11 +37,11 @@ IsForest-empty vmos none = record {
 
 pub IsForest-written : (vmos : ℕ → Option Vmo) (k : ℕ) (old new : Vmo) → IsForest vmos → vmos k ≡ Some old →
     lineage_of_vmo new ≡ lineage_of_vmo old → new.children ≡ old.children → IsForest (with_key vmos k new)
+unfolding with_key
 IsForest-written vmos k old new forest found lineage children =
     let same = sym (lineages-written vmos k old new found lineage) in
     record {
-      below = at_each (λ v. IsSome (with_key vmos k new v) → v < 2 ^ 64) k (λ h. forest.below k (ap is_some found))
-          (λ v apart h. forest.below v (sym (ap is_some (with_key-other vmos k new v apart)) ∙ h));
+      below = λ v h. grind (arith, common_steps, forest.below v, found);
       children = λ v. count-same (λ (vmo : Vmo). vmo.children) vmos k old new found children v
           ∙ (forest.children v ∙ ap (λ (l : ℕ → Option Lineage). child_count l v) same);
       ranked = subst (λ (l : ℕ → Option Lineage). ∥ Ranking l ∥₁) same forest.ranked;
@@ -56,15 +57,9 @@ parent-there vmos p v forest e =
     let one = entry_count_hit (2 ^ 64) (has_parent p) (lineages vmos) v found.0 low found.1 found.2 in
     count-there (λ (vmo : Vmo). vmo.children) vmos p (omega (arith, one, forest.children p))
 
--- the rank of a VMO that is entered is above its parent's
-rank_over : (ℕ → ℕ) → Option ℕ → ℕ
-rank_over rank None = 0
-rank_over rank (Some p) = rank p + 1
-
-rank_over-is : (rank : ℕ → ℕ) (o : Option ℕ) (p : ℕ) → is_parent p o ≡ true → rank p < rank_over rank o
-unfolding rank_over passes
-rank_over-is rank None p e = absurd (cc)
-rank_over-is rank (Some q) p e = let same = ap rank (eqb-true q p e) in omega arith
+parent_value : (f : ℕ → ℕ) (o : Option ℕ) (p : ℕ) → is_parent p o ≡ true → unwrap_or (option_map f o) 0 ≡ f p
+unfolding passes
+parent_value f o p e = grind (arith, common_steps)
 
 module _ (vmos : ℕ → Option Vmo) (k : ℕ) (x : Vmo) (forest : IsForest vmos) (free : vmos k ≡ None)
     (there : (p : ℕ) → is_parent p (option_map koid_number x.parent) ≡ true → is_some (vmos p) ≡ true) where
@@ -88,49 +83,28 @@ module _ (vmos : ℕ → Option Vmo) (k : ℕ) (x : Vmo) (forest : IsForest vmos
       let kept = cond-false (v == k) x.children (children_of vmos v) (not_free v (there v hit)) in
       omega (arith, is, put, kept, forest.children v, children_le vmos v)
 
+  -- its rank is above its parent's
   Ranking-entered : Ranking (lineages vmos) → Ranking (with_key (lineages vmos) k (lineage_of_vmo x))
   Ranking-entered r = record {
-    rank = λ v. cond (v == k) (rank_over r.rank above) (r.rank v);
-    falls = λ p v e. of p v (cases_Bool (v == k)) (sym (child-with_key (lineages vmos) k (lineage_of_vmo x) p v) ∙ e);
+    rank = λ v. cond (v == k) (unwrap_or (option_map r.rank above) 0 + 1) (r.rank v);
+    falls = λ p v e.
+        let is = sym (child-with_key (lineages vmos) k (lineage_of_vmo x) p v) ∙ e in
+        grind (arith, common_steps, is, r.falls p v, parent_value r.rank above p, not_free p, there p, parent-there vmos p v forest);
   }
-    where
-      of : (p v : ℕ) → ((v == k) ≡ true) ⊎ ((v == k) ≡ false) → cond (v == k) (is_parent p above) (passes (has_parent p) (lineages vmos v)) ≡ true →
-          cond (p == k) (rank_over r.rank above) (r.rank p) < cond (v == k) (rank_over r.rank above) (r.rank v)
-      of p v (inl here) e =
-          let hit = sym (cond-true (v == k) (is_parent p above) (passes (has_parent p) (lineages vmos v)) here) ∙ e in
-          rw (here, not_free p (there p hit)) (rank_over-is r.rank above p hit)
-      of p v (inr apart) e =
-          let hit = sym (cond-false (v == k) (is_parent p above) (passes (has_parent p) (lineages vmos v)) apart) ∙ e in
-          rw (apart, not_free p (parent-there vmos p v forest hit)) (r.falls p v hit)
 
   entered_children : k < 2 ^ 64 → x.children ≡ 0 → (v : ℕ) →
       cond (is_parent v above && is_some (with_key vmos k x v)) (children_of (with_key vmos k x) v - 0 + 1) (children_of (with_key vmos k x) v)
       ≡ child_count (with_key (lineages vmos) k (lineage_of_vmo x)) v
-  entered_children small childless = at_each (λ v.
-      cond (is_parent v above && is_some (with_key vmos k x v)) (children_of (with_key vmos k x) v - 0 + 1) (children_of (with_key vmos k x) v)
-      ≡ child_count (with_key (lineages vmos) k (lineage_of_vmo x)) v) k
-      (let put = count-with_key (λ (vmo : Vmo). vmo.children) vmos k x k in
-      let none = count-at (λ (vmo : Vmo). vmo.children) vmos k None free in
-      let miss = false_from_ne_true (is_parent k above) (λ hit. absurd (let gone = there k hit in cc)) in
-      let count = entered_count k small in
-      grind (arith, common_steps))
-      (λ w apart.
-      let put = count-with_key (λ (vmo : Vmo). vmo.children) vmos k x w in
-      let kept = ap is_some (with_key-other vmos k x w apart) in
-      let count = entered_count w small in
-      let some_ = there w in
-      grind (arith, common_steps))
+  unfolding with_key
+  entered_children small childless v =
+      grind (arith, common_steps, count-with_key (λ (vmo : Vmo). vmo.children) vmos k x v, count-at (λ (vmo : Vmo). vmo.children) vmos k None free, entered_count v small, there v, not_free v)
 
   pub IsForest-entered : k < 2 ^ 64 → x.children ≡ 0 → IsForest (adopted (with_key vmos k x) above 0 1)
+  unfolding adopted with_key
   IsForest-entered small childless =
       let same = sym (lineages-adopted (with_key vmos k x) above 0 1 ∙ lineages-with_key vmos k x) in
       record {
-        below = λ v h. elim (cases_eq v k) [
-          | inl here ↦ omega arith
-          | inr apart ↦ forest.below v (
-              sym (is_some-lineages vmos v) ∙ (ap is_some (sym (with_key-other (lineages vmos) k (lineage_of_vmo x) v apart))
-              ∙ (ap (λ (l : ℕ → Option Lineage). is_some (l v)) same ∙ (is_some-lineages (adopted (with_key vmos k x) above 0 1) v ∙ h))))
-        ];
+        below = λ v h. grind (arith, common_steps, forest.below v);
         children = λ v. children-adopted (with_key vmos k x) above 0 1 v
             ∙ (entered_children small childless v ∙ ap (λ (l : ℕ → Option Lineage). child_count l v) same);
         ranked = subst (λ (l : ℕ → Option Lineage). ∥ Ranking l ∥₁) same (∥∥₁_map forest.ranked Ranking-entered);
@@ -193,43 +167,25 @@ module _ (vmos : ℕ → Option Vmo) (k : ℕ) (x : Vmo) (forest : IsForest vmos
   gone = vmos_without vmos k x.parent
 
   -- a parent has a child, and gets those of the VMO
-  pub parent_counts : (v : ℕ) → is_parent v up ≡ true →
-      (v ≢ k) × (1 ≤ children_of gone v) × (children_of gone v - 1 + x.children ≡ child_count left v)
+  pub parent_counts : (v : ℕ) → is_parent v up ≡ true → (1 ≤ children_of gone v) × (children_of gone v - 1 + x.children ≡ child_count left v)
   parent_counts v hit =
-      let apart : v ≢ k = λ same. absurd (let miss = ap (λ w. is_parent w up) same ∙ not_own in cc) in
       let counts = count-without (λ (vmo : Vmo). vmo.children) vmos (λ y o. refl) k x.parent v in
-      let kept = cond-false (v == k) 0 (children_of vmos v) (ne_eqb v k apart) in
-      let one = entry_count_hit (2 ^ 64) (has_parent v) (lineages vmos) k (lineage_of_vmo x) (forest.below k (ap is_some found)) (lineage-at vmos k (Some x) found) hit in
       let mine = sym (count-at (λ (vmo : Vmo). vmo.children) vmos k (Some x) found) ∙ forest.children k in
-      let moved = left_count v apart in
-      let bit = cond-true {A = ℕ} (is_parent v up) 1 0 hit in
-      let sum = cond-true (is_parent v up) (child_count (lineages vmos) k) 0 hit in
-      (apart, omega (arith, counts, kept, one, forest.children v), omega (arith, counts, kept, one, mine, moved, bit, sum, forest.children v))
+      let one = entry_count_hit (2 ^ 64) (has_parent v) (lineages vmos) k (lineage_of_vmo x) (forest.below k (ap is_some found)) (lineage-at vmos k (Some x) found) hit in
+      (grind (arith, common_steps, forest.children v, not_own), grind (arith, common_steps, forest.children v, not_own, left_count v))
 
   left_children : (v : ℕ) → cond (is_parent v up && is_some (gone v)) (children_of gone v - 1 + x.children) (children_of gone v) ≡ child_count left v
-  left_children v = of v (cases_Bool (is_parent v up))
-    where
-      of : (v : ℕ) → (is_parent v up ≡ true) ⊎ (is_parent v up ≡ false) →
-          cond (is_parent v up && is_some (gone v)) (children_of gone v - 1 + x.children) (children_of gone v) ≡ child_count left v
-      of v (inl hit) =
-          let counts = parent_counts v hit in
-          rw (hit, count-there (λ (vmo : Vmo). vmo.children) gone v counts.1) counts.2
-      of v (inr miss) = rw miss (at_each (λ w. is_parent w up ≡ false → children_of gone w ≡ child_count left w) k
-          (λ no. let counts = count-without (λ (vmo : Vmo). vmo.children) vmos (λ y o. refl) k x.parent k in
-          let none = left_none in
-          grind (arith, common_steps))
-          (λ w apart no. let counts = count-without (λ (vmo : Vmo). vmo.children) vmos (λ y o. refl) k x.parent w in
-          let count = left_count w apart in
-          let was = forest.children w in
-          grind (arith, common_steps)) v miss)
+  left_children v =
+      let counts = count-without (λ (vmo : Vmo). vmo.children) vmos (λ y o. refl) k x.parent v in
+      grind (arith, common_steps, counts, parent_counts v, count-there (λ (vmo : Vmo). vmo.children) gone v, left_none, left_count v, forest.children v)
 
   pub lineages-left : lineages (adopted gone up 1 x.children) ≡ left
   lineages-left = lineages-adopted gone up 1 x.children ∙ lineages-without vmos k x.parent
 
   pub IsForest-left : IsForest (adopted gone up 1 x.children)
+  unfolding adopted vmos_without
   IsForest-left = record {
-    below = λ v h. forest.below v (left-there vmos k up v (
-        ap (λ (l : ℕ → Option Lineage). is_some (l v)) (sym lineages-left) ∙ (is_some-lineages (adopted gone up 1 x.children) v ∙ h)));
+    below = λ v h. grind (arith, common_steps, forest.below v);
     children = λ v. children-adopted gone up 1 x.children v
         ∙ (left_children v ∙ ap (λ (l : ℕ → Option Lineage). child_count l v) (sym lineages-left));
     ranked = subst (λ (l : ℕ → Option Lineage). ∥ Ranking l ∥₁) (sym lineages-left) (∥∥₁_map forest.ranked (λ r. record {

@@ -11,9 +11,10 @@ use Rattle.vm_base.proofs.EntryLaws.{with_key-other, passes-none, passes-some, p
 use Rattle.vm_model.specs.Naming.Names.{Lineage, is_parent, has_parent, child_count, lineage_without}
 use Rattle.vmo_table.specs.declared.child_rows.ChildRow.{ChildRow}
 use Rattle.vmo_table.specs.declared.vmos.Vmo.{Vmo}
-use Rattle.vmo_table.specs.Vmos.{koid_number, lineage_of_vmo, lineages, vmos_without}
+use Rattle.vmo_table.specs.Vmos.{koid_number, lineage_of_vmo, lineages, koid_after, vmos_without}
 use Rattle.vmo_table.specs.ChildRows.{is_under, IsChange, AreChildren, MayLeave}
-use Rattle.vmo_table.proofs.VmosLaws.{lineage-at, is_some-lineages, lineages-with_key, lineages-without, child-with_key, child-without, one_parent, after-child, after-other}
+use Rattle.vmo_table.proofs.CountLaws.{funext}
+use Rattle.vmo_table.proofs.VmosLaws.{lineage-at, is_some-lineages, lineages-with_key, lineages-without, child-with_key, child-without, one_parent}
 use Rattle.vmo_table.proofs.ChildLaws.{under-below}
 
 -- a VMO that is new gets a row under its parent
@@ -99,14 +100,8 @@ module _ (vmos : ℕ → Option Vmo) (t : Rows ChildRow) (k : ℕ) (parent : Opt
         }
 
         without-moved : vmos_without moved k parent ≡ vmos_without vmos k parent
-        unfolding vmos_without with_key
-        without-moved = λ i w. at w i
-          where
-            at : (w : ℕ) → vmos_without moved k parent w ≡ vmos_without vmos k parent w
-            at w =
-                let old = after-child k parent vmo.parent (sym (its_parent k) ∙ is_its) in
-                let now = after-other k parent parent leaves.apart in
-                grind (arith, common_steps, found)
+        unfolding vmos_without with_key koid_after passes
+        without-moved = funext (λ w. grind (arith, common_steps, found, leaves.apart, its_parent k, is_its))
 
         fewer-moved : child_count (lineages moved) k < child_count (lineages vmos) k
         fewer-moved =

@@ -1,13 +1,13 @@
 -- How many names each VMO has, as names and VMOs come and go.
-use Rattle.std.proofs.Common.{◌≡◌, ◌≢◌, ℕ, ◌+◌, ◌-◌, ◌<◌, ◌≤◌, ◌&&◌, Bool, true, false, cond, nat_lt, Option, None, Some, IsSome, is_some, refl, sym, ap, ◌∙◌, arith}
+use Rattle.std.proofs.Common.{◌≡◌, ◌≢◌, ℕ, ◌+◌, ◌-◌, ◌<◌, ◌≤◌, ◌&&◌, Bool, true, false, cond, nat_lt, Option, None, Some, is_some, refl, sym, ap, ◌∙◌, arith}
 use Rattle.std.specs.Prelude.{unwrap_or}
 use Rattle.std.specs.Option.{option_map}
 use Rattle.std.proofs.lemmas.Grind.{common_steps}
-use Rattle.std.proofs.lemmas.Bool.{eq-eqb, ne_eqb, and_parts}
+use Rattle.std.proofs.lemmas.Bool.{eq-eqb, ne_eqb}
 use Rattle.vm_base.specs.declared.names.Koid.{Koid}
 use Rattle.vm_base.specs.Entries.{with_key, without_key, passes, entry_count}
 use Rattle.vm_base.specs.declared.limits.TheConstants.{NAMES}
-use Rattle.vm_base.proofs.EntryLaws.{passes-some, some_is, entry_count_hit, entry_count_le, entry_count-with_key, entry_count-without_key, entry_count-empty, any_entry-count, with_key-other, without_key-some}
+use Rattle.vm_base.proofs.EntryLaws.{passes-some, entry_count_hit, entry_count_le, entry_count-with_key, entry_count-without_key, entry_count-empty, any_entry-count}
 use Rattle.vm_base.proofs.SearchLaws.{count_below_less}
 use Rattle.vm_model.specs.declared.names.NameKind.{NameKind}
 use Rattle.vm_model.specs.declared.names.NameKind.TheVariants.{Slice, Reference}
@@ -16,7 +16,7 @@ use Rattle.vm_model.specs.Naming.Names.{is_named, is_kind, names_as, is_of, is_o
 use Rattle.vmo_table.specs.declared.vmos.Vmo.{Vmo}
 use Rattle.vmo_table.specs.Vmos.{kind_bit, fewer_names, count_of, adopted, vmos_without}
 use Rattle.vmo_table.specs.TableFields.{name_count, AreNamed}
-use Rattle.vmo_table.proofs.CountLaws.{at_each, count-at, count-there, count-same, count-with_key, count-adopted, count-without}
+use Rattle.vmo_table.proofs.CountLaws.{count-at, count-there, count-same, count-with_key, count-adopted, count-without}
 
 pub AreNamed-empty : (names : ℕ → Option Target) (vmos : ℕ → Option Vmo) → ((n : ℕ) → names n ≡ None) →
     ((v : ℕ) → vmos v ≡ None) → AreNamed names vmos
@@ -75,17 +75,16 @@ module _ (names : ℕ → Option Target) (vmos : ℕ → Option Vmo) (n : ℕ) (
     more : (count : Vmo → ℕ) (test : ℕ → Target → Bool) → ((v : ℕ) → count_of count vmos v ≡ entry_count NAMES (test v) names) →
         ((v : ℕ) → v ≢ t.koid.0 → test v t ≡ false) → count new ≡ count_of count vmos t.koid.0 + cond (test t.koid.0 t) 1 0 →
         (v : ℕ) → count_of count (with_key vmos t.koid.0 new) v ≡ entry_count NAMES (test v) (with_key names n t)
-    more count test was miss one = at_each (λ v. count_of count (with_key vmos t.koid.0 new) v ≡ entry_count NAMES (test v) (with_key names n t)) t.koid.0
-        (grind (arith, common_steps, count-with_key count vmos t.koid.0 new t.koid.0, entry_count-with_key NAMES (test t.koid.0) names n t low free, was t.koid.0))
-        (λ v apart. grind (arith, common_steps, count-with_key count vmos t.koid.0 new v, entry_count-with_key NAMES (test v) names n t low free, was v, miss v apart))
+    more count test was miss one v =
+        grind (arith, common_steps, count-with_key count vmos t.koid.0 new v, entry_count-with_key NAMES (test v) names n t low free, was v, miss v)
 
     pub AreNamed-more : (o : Option Vmo) → vmos t.koid.0 ≡ o → new.names ≡ unwrap_or (option_map (λ (x : Vmo). x.names) o) 0 + 1 →
         new.slices ≡ unwrap_or (option_map (λ (x : Vmo). x.slices) o) 0 + kind_bit Slice t.kind →
         new.references ≡ unwrap_or (option_map (λ (x : Vmo). x.references) o) 0 + kind_bit Reference t.kind →
         AreNamed (with_key names n t) (with_key vmos t.koid.0 new)
+    unfolding with_key
     AreNamed-more o was one slice reference = record {
-      below = at_each (λ m. IsSome (with_key names n t m) → m < NAMES) n (λ h. low)
-          (λ m apart h. are.below m (sym (ap is_some (with_key-other names n t m apart)) ∙ h));
+      below = λ m h. grind (arith, common_steps, are.below m);
       named = more (λ (x : Vmo). x.names) is_of are.named (λ v apart. ne_eqb t.koid.0 v (λ e. apart (sym e))) (omega (arith, one, own_name t, count-at (λ (x : Vmo). x.names) vmos t.koid.0 o was));
       sliced = more (λ (x : Vmo). x.slices) (is_of_as Slice) are.sliced (other_kind Slice t) (omega (arith, slice, own_kind Slice t, count-at (λ (x : Vmo). x.slices) vmos t.koid.0 o was));
       referred = more (λ (x : Vmo). x.references) (is_of_as Reference) are.referred (other_kind Reference t) (omega (arith, reference, own_kind Reference t, count-at (λ (x : Vmo). x.references) vmos t.koid.0 o was));
@@ -103,13 +102,8 @@ module _ (names : ℕ → Option Target) (vmos : ℕ → Option Vmo) (n : ℕ) (
         let here = count-at count vmos t.koid.0 (Some vmo) found in
         let change = λ (v : ℕ). entry_count-without_key NAMES (test v) names n low in
         let is = λ (v : ℕ). passes-some (test v) (names n) t open_ in
-        let bit = ap (λ (b : Bool). cond {A = ℕ} b 1 0) (is t.koid.0) in
-        let fits : cond (test t.koid.0 t) 1 0 ≤ count vmo = omega (arith, change t.koid.0, was t.koid.0, here, bit) in (
-          fits,
-          at_each (λ v. count_of count (with_key vmos t.koid.0 new) v ≡ entry_count NAMES (test v) (without_key names n)) t.koid.0
-              (grind (arith, common_steps, count-with_key count vmos t.koid.0 new t.koid.0, change t.koid.0, was t.koid.0))
-              (λ v apart. grind (arith, common_steps, count-with_key count vmos t.koid.0 new v, change v, is v, was v, miss v apart)),
-        )
+        let fits : cond (test t.koid.0 t) 1 0 ≤ count vmo = grind (arith, common_steps, change t.koid.0, was t.koid.0, is t.koid.0) in
+        (fits, λ v. grind (arith, common_steps, count-with_key count vmos t.koid.0 new v, change v, is v, was v, miss v))
 
     less_kind : (count : Vmo → ℕ) (kind : NameKind) → ((v : ℕ) → count_of count vmos v ≡ names_as kind names v) →
         count (fewer_names t.kind vmo) ≡ count vmo - kind_bit kind t.kind →
@@ -121,6 +115,7 @@ module _ (names : ℕ → Option Target) (vmos : ℕ → Option Vmo) (n : ℕ) (
 
     pub fewer_named : (1 ≤ vmo.names) × (kind_bit Slice t.kind ≤ vmo.slices) × (kind_bit Reference t.kind ≤ vmo.references)
         × AreNamed (without_key names n) (with_key vmos t.koid.0 (fewer_names t.kind vmo))
+    unfolding without_key
     fewer_named =
         let name = less (λ (x : Vmo). x.names) is_of (fewer_names t.kind vmo) are.named (λ v apart. ne_eqb t.koid.0 v (λ e. apart (sym e))) (ap (λ (m : ℕ). vmo.names - m) (sym (own_name t))) in
         let slice = less_kind (λ (x : Vmo). x.slices) Slice are.sliced refl in
@@ -129,7 +124,7 @@ module _ (names : ℕ → Option Target) (vmos : ℕ → Option Vmo) (n : ℕ) (
           slice.0,
           reference.0,
           record {
-            below = λ m h. let open_ = some_is (without_key names n m) h in are.below m (ap is_some (without_key-some names n m open_.0 open_.1).1);
+            below = λ m h. grind (arith, common_steps, are.below m);
             named = name.1;
             sliced = slice.1;
             referred = reference.1;
@@ -160,11 +155,8 @@ module _ (names : ℕ → Option Target) (vmos : ℕ → Option Vmo) (are : AreN
 
   kinds_le : (kind : NameKind) (v : ℕ) → names_as kind names v ≤ name_count names v
   unfolding entry_count passes
-  kinds_le kind v = count_below_less NAMES (λ n. passes (is_of_as kind v) (names n)) (λ n. passes (is_of v) (names n)) (λ n h hit. of (names n) hit)
-    where
-      of : (o : Option Target) → passes (is_of_as kind v) o ≡ true → passes (is_of v) o ≡ true
-      of None e = e
-      of (Some t) e = (and_parts (is_of v t) (is_kind kind t.kind) e).0
+  kinds_le kind v =
+      count_below_less NAMES (λ n. passes (is_of_as kind v) (names n)) (λ n. passes (is_of v) (names n)) (λ n h hit. grind (arith, common_steps))
 
   -- a VMO without names leaves
   pub AreNamed-left : (k : ℕ) (x : Vmo) (parent : Option Koid) → vmos k ≡ Some x → x.names ≤ 0 → AreNamed names (vmos_without vmos k parent)
@@ -177,6 +169,4 @@ module _ (names : ℕ → Option Target) (vmos : ℕ → Option Vmo) (are : AreN
     where
       kept : (count : Vmo → ℕ) → ((y : Vmo) (o : Option Koid) → count (record y { parent = o }) ≡ count y) → count_of count vmos k ≡ 0 →
           (v : ℕ) → count_of count (vmos_without vmos k parent) v ≡ count_of count vmos v
-      kept count keeps zero_ = at_each (λ v. count_of count (vmos_without vmos k parent) v ≡ count_of count vmos v) k
-          (grind (arith, common_steps, count-without count vmos keeps k parent k))
-          (λ v apart. grind (arith, common_steps, count-without count vmos keeps k parent v))
+      kept count keeps zero_ v = grind (arith, common_steps, count-without count vmos keeps k parent v)

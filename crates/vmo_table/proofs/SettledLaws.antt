@@ -1,9 +1,9 @@
 -- What stays true of the table where a VMO gets another value, and where it is settled: it is written, or it leaves.
-use Rattle.std.proofs.Common.{◌≡◌, ℕ, ◌+◌, ◌-◌, ◌<◌, ◌≤◌, Bool, true, false, cond, nat_lt, Option, None, Some, is_some, refl, sym, ap, subst, ◌∙◌, ◌⊎◌, inl, inr, arith}
+use Rattle.std.proofs.Common.{◌≡◌, ℕ, ◌+◌, ◌-◌, ◌<◌, ◌≤◌, true, false, cond, Option, None, Some, is_some, refl, sym, ap, subst, ◌∙◌, ◌⊎◌, arith}
 use Rattle.std.specs.Option.{option_map}
 use Rattle.std.proofs.lemmas.Grind.{common_steps}
-use Rattle.std.proofs.lemmas.Bool.{cond-true, cond-false, cond_both, or_parts, ltb-false, false_from_ne_true}
-use Rattle.vm_base.specs.Entries.{with_key, passes}
+use Rattle.std.proofs.lemmas.Bool.{cond-true, cond-false, cond_both}
+use Rattle.vm_base.specs.Entries.{with_key}
 use Rattle.vm_base.proofs.EntryLaws.{with_key-same, passes-some, any_entry-count}
 use Rattle.vm_base.specs.declared.names.Koid.{Koid}
 use Rattle.vm_base.specs.declared.limits.TheConstants.{NAMES}
@@ -44,13 +44,15 @@ module _ (vmos : ℕ → Option Vmo) (k : ℕ) (new : Vmo) (may : MayGet vmos k 
   here : mid k ≡ Some new
   here = with_key-same vmos k new
 
+  its : lineages vmos k ≡ Some (lineage_of_vmo new)
+  its = ap (λ (l : ℕ → Option Lineage). l k) (sym lineages-got) ∙ lineage-at mid k (Some new) here
+
   -- ---- it may leave
 
   pub may_leave : (t : Rows ChildRow) → AreChildren t (lineages vmos) → MayLeave vmos t k new.parent
   may_leave t rows = record {
     rows = rows;
-    own = λ p. rows.is p k ∙ passes-some (has_parent p) (lineages vmos k) (lineage_of_vmo new)
-        (ap (λ (l : ℕ → Option Lineage). l k) (sym lineages-got) ∙ lineage-at mid k (Some new) here);
+    own = λ p. rows.is p k ∙ passes-some (has_parent p) (lineages vmos k) (lineage_of_vmo new) its;
     apart = not_own mid k new may.forest here;
   }
 
@@ -61,7 +63,7 @@ module _ (vmos : ℕ → Option Vmo) (k : ℕ) (new : Vmo) (may : MayGet vmos k 
       let is = count-at (λ (x : Vmo). x.children) (vmos_without mid k new.parent) v (Some above) (ap (λ (m : ℕ → Option Vmo). m v) (without-written vmos k new new.parent) ∙ e) in
       let few = child_count_le vmos (lineage_without (lineages mid) k up) v (λ w h.
       left-there vmos k up w (ap (λ (l : ℕ → Option Lineage). is_some (lineage_without l k up w)) (sym lineages-got) ∙ h)) in
-      (omega (arith, counts.1, is), omega (arith, counts.2, is, few))
+      (omega (arith, counts.0, is), omega (arith, counts.1, is, few))
 
   -- ---- it is settled
 
@@ -71,11 +73,6 @@ module _ (vmos : ℕ → Option Vmo) (k : ℕ) (new : Vmo) (may : MayGet vmos k 
   unfolding settled
   settled-is P kept free = cond_both (is_kept new) mid (adopted (vmos_without vmos k new.parent) up 1 new.children) P kept
       (λ e. subst (λ (m : ℕ → Option Vmo). P (adopted m up 1 new.children)) (without-written vmos k new new.parent) (free e))
-
-  free_counts : is_kept new ≡ false → (new.names ≤ 0) × (new.keepers ≤ 0)
-  free_counts free =
-      let none = or_parts (nat_lt 0 new.names) (nat_lt 0 new.keepers) free in
-      (ltb-false 0 new.names none.0, ltb-false 0 new.keepers none.1)
 
   pub IsForest-settled : IsForest (settled vmos k new)
   IsForest-settled = settled-is IsForest (λ kept. may.forest) (λ free. IsForest-left mid k new may.forest here)
@@ -91,13 +88,12 @@ module _ (vmos : ℕ → Option Vmo) (k : ℕ) (new : Vmo) (may : MayGet vmos k 
           let other = count-adopted (λ (x : Vmo). x.keepers) gone (λ x n. refl) up 1 new.children v in
           let left = count-without (λ (x : Vmo). x.keepers) mid (λ x o. refl) k new.parent v in
           let is = count-with_key (λ (x : Vmo). x.keepers) vmos k new v in
-          let none = (free_counts free).1 in
           grind (arith, common_steps)
 
   module _ (names : ℕ → Option Target) (named : AreNamed names mid) where
     pub AreNamed-settled : AreNamed names (settled vmos k new)
     AreNamed-settled = settled-is (AreNamed names) (λ kept. named) (λ free.
-        AreNamed-adopted names _ up 1 new.children (AreNamed-left names mid named k new new.parent here (free_counts free).0))
+        AreNamed-adopted names _ up 1 new.children (AreNamed-left names mid named k new new.parent here (grind (arith, common_steps))))
 
     -- what becomes of it
     pub settles : (answer : Option Koid) → answer ≡ cond (is_kept new) None (Some (record { 0 = k })) →
@@ -110,17 +106,12 @@ module _ (vmos : ℕ → Option Vmo) (k : ℕ) (new : Vmo) (may : MayGet vmos k 
           leaves = λ unnamed none. absurd (grind (arith, common_steps));
         })
         (λ free. record {
-          stays = λ why. absurd (still why (is_named names k) by free);
+          stays = λ why. absurd (grind (arith, common_steps));
           leaves = λ unnamed none. (
             said ∙ cond-false _ _ _ free,
-            lineages-left mid k new may.forest here ∙ (ap (λ (l : ℕ → Option Lineage). lineage_without l k up) lineages-got
-                ∙ ap (λ (o : Option Lineage). lineage_without (lineages vmos) k (parent_of o)) (sym (ap (λ (l : ℕ → Option Lineage). l k) (sym lineages-got) ∙ lineage-at mid k (Some new) here))),
+            rw (lineages-left mid k new may.forest here, lineages-got, its) refl,
           );
         })
-      where
-        still : (is_named names k ≡ true) ⊎ (0 < new.keepers) → (b : Bool) → is_named names k ≡ nat_lt 0 new.names → is_kept new ≡ false → ⊥
-        still (inl named) b by free = grind (arith, common_steps)
-        still (inr kept) b by free = grind (arith, common_steps)
 
 -- a VMO that is not in the table has nothing that keeps it, and settling it changes nothing
 pub settles_absent : (names : ℕ → Option Target) (vmos : ℕ → Option Vmo) (v : ℕ) → AreNamed names vmos → IsForest vmos →
@@ -132,14 +123,10 @@ settles_absent names vmos v named forest none = record {
     refl,
     sym (
         ap (λ (o : Option Lineage). lineage_without (lineages vmos) v (parent_of o)) (lineage-at vmos v None none)
-        ∙ (sym (lineages-without vmos v None) ∙ ap lineages (without-childless vmos v None childless ∙ without_key-absent vmos v none))),
+        ∙ (sym (lineages-without vmos v None) ∙ ap lineages (without-childless vmos v None (λ w. grind (arith, common_steps, none, parent-there vmos v w forest)) ∙ without_key-absent vmos v none))),
   );
 }
   where
-    childless : (w : ℕ) → passes (has_parent v) (lineages vmos w) ≡ false
-    childless w = false_from_ne_true (passes (has_parent v) (lineages vmos w)) (λ hit. absurd (
-        let there = parent-there vmos v w forest hit in cc))
-
     kept : (is_named names v ≡ true) ⊎ (0 < count_of (λ (x : Vmo). x.keepers) vmos v) → ⊥
     kept by =
         let named_by = any_entry-count NAMES (is_of v) names in

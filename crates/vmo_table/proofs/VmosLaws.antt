@@ -1,17 +1,16 @@
 -- The lineages of the VMOs of the table, and which VMO is a child of which, as VMOs are written, come and leave.
-use Rattle.std.proofs.Common.{◌≡◌, ◌≢◌, ℕ, ◌≤◌, ◌^◌, ◌==◌, Bool, true, false, cond, Option, None, Some, IsSome, is_some, refl, sym, ap, ◌∙◌, arith}
+use Rattle.std.proofs.Common.{◌≡◌, ◌≢◌, ℕ, ◌≤◌, ◌^◌, ◌==◌, true, false, cond, Option, None, Some, IsSome, is_some, sym, ap, ◌∙◌, arith}
 use Rattle.std.specs.Option.{option_map}
 use Rattle.std.proofs.lemmas.Grind.{common_steps}
-use Rattle.std.proofs.lemmas.Bool.Decides.{nat_tests}
-use Rattle.std.proofs.lemmas.Bool.{cond-true, cond-false}
 use Rattle.vm_base.specs.declared.names.Koid.{Koid}
 use Rattle.vm_base.specs.Entries.{with_key, without_key, passes, entry_count}
 use Rattle.vm_base.proofs.EntryLaws.{some_is, none_is, passes_found, passes-some}
 use Rattle.vm_base.proofs.SearchLaws.{count_below_less}
 use Rattle.vm_model.specs.Naming.Names.{Lineage, is_parent, parent_without, lineage_without, has_parent, child_count}
-use Rattle.vm_model.proofs.NamesLaws.{left_by, lineage_without-some}
+use Rattle.vm_model.proofs.NamesLaws.{lineage_without-some}
 use Rattle.vmo_table.specs.declared.vmos.Vmo.{Vmo}
-use Rattle.vmo_table.specs.Vmos.{koid_number, lineage_of_vmo, lineages, with_children, adopted, koid_after, vmos_without, vmo_count}
+use Rattle.vmo_table.proofs.CountLaws.{funext}
+use Rattle.vmo_table.specs.Vmos.{koid_number, lineage_of_vmo, lineages, adopted, koid_after, vmos_without, vmo_count}
 
 pub lineage-at : (vmos : ℕ → Option Vmo) (v : ℕ) (o : Option Vmo) → vmos v ≡ o → lineages vmos v ≡ option_map lineage_of_vmo o
 unfolding lineages
@@ -20,46 +19,28 @@ lineage-at vmos v o e = ap (option_map lineage_of_vmo) e
 -- what has a lineage is there
 pub is_some-lineages : (vmos : ℕ → Option Vmo) (v : ℕ) → is_some (lineages vmos v) ≡ is_some (vmos v)
 unfolding lineages
-is_some-lineages vmos v = of (vmos v)
-  where
-    of : (o : Option Vmo) → is_some (option_map lineage_of_vmo o) ≡ is_some o
-    of None = refl
-    of (Some vmo) = refl
+is_some-lineages vmos v = grind (arith, common_steps)
 
 pub lineages-none : (vmos : ℕ → Option Vmo) (v : ℕ) → lineages vmos v ≡ None → vmos v ≡ None
 lineages-none vmos v e = none_is (vmos v) (sym (is_some-lineages vmos v) ∙ ap is_some e)
-
--- a function of a choice, at each of the two
-map-if : {A B : Type 0} (f : A → B) (b : Bool) (x y : Option A) → option_map f (cond b x y) ≡ cond b (option_map f x) (option_map f y)
-map-if f true x y = refl
-map-if f false x y = refl
 
 -- ---- lineages
 
 pub lineages-with_key : (vmos : ℕ → Option Vmo) (k : ℕ) (vmo : Vmo) →
     lineages (with_key vmos k vmo) ≡ with_key (lineages vmos) k (lineage_of_vmo vmo)
 unfolding lineages with_key
-lineages-with_key vmos k vmo = λ i w. map-if lineage_of_vmo (w == k) (Some vmo) (vmos w) i
+lineages-with_key vmos k vmo = funext (λ w. grind (arith, common_steps))
 
 -- another count changes no lineage
 pub lineages-written : (vmos : ℕ → Option Vmo) (k : ℕ) (old new : Vmo) → vmos k ≡ Some old →
     lineage_of_vmo new ≡ lineage_of_vmo old → lineages (with_key vmos k new) ≡ lineages vmos
 unfolding lineages with_key
-lineages-written vmos k old new was same_lineage = λ i w. at w i
-  where
-    at : (w : ℕ) → option_map lineage_of_vmo (cond (w == k) (Some new) (vmos w)) ≡ option_map lineage_of_vmo (vmos w)
-    at w = grind (arith, common_steps)
+lineages-written vmos k old new was same_lineage = funext (λ w. grind (arith, common_steps))
 
 pub lineages-adopted : (vmos : ℕ → Option Vmo) (parent : Option ℕ) (gone come : ℕ) →
     lineages (adopted vmos parent gone come) ≡ lineages vmos
 unfolding lineages adopted
-lineages-adopted vmos parent gone come = λ i w. of (is_parent w parent) (vmos w) i
-  where
-    of : (b : Bool) (o : Option Vmo) →
-        option_map lineage_of_vmo (cond b (option_map (with_children gone come) o) o) ≡ option_map lineage_of_vmo o
-    of true None = refl
-    of true (Some vmo) = refl
-    of false o = refl
+lineages-adopted vmos parent gone come = funext (λ w. grind (arith, common_steps))
 
 abbrev pub vmo_after : ℕ → Option Koid → Vmo → Vmo
 vmo_after v parent vmo = record vmo { parent = koid_after v parent vmo.parent }
@@ -67,101 +48,41 @@ vmo_after v parent vmo = record vmo { parent = koid_after v parent vmo.parent }
 pub lineages-without : (vmos : ℕ → Option Vmo) (v : ℕ) (parent : Option Koid) →
     lineages (vmos_without vmos v parent) ≡ lineage_without (lineages vmos) v (option_map koid_number parent)
 unfolding lineages vmos_without lineage_without koid_after parent_without
-lineages-without vmos v parent = λ i w. of (w == v) (vmos w) i
-  where
-    above : Option ℕ
-    above = option_map koid_number parent
-
-    after : (vmo : Vmo) (o : Option Koid) → option_map koid_number (koid_after v parent o) ≡ parent_without v (option_map koid_number parent) (option_map koid_number o)
-    after vmo None = refl
-    after vmo (Some p) = map-if koid_number (p.0 == v) parent (Some p)
-
-    of : (b : Bool) (o : Option Vmo) → option_map lineage_of_vmo (cond b None (option_map (vmo_after v parent) o)) ≡ cond b None (option_map (left_by v (option_map koid_number parent)) (option_map lineage_of_vmo o))
-    of true o = refl
-    of false None = refl
-    of false (Some vmo) =
-        ap (λ (p : Option ℕ). Some (record { resizable = vmo.resizable; origin = vmo.origin; parent = p })) (after vmo vmo.parent)
+lineages-without vmos v parent = funext (λ w. grind (arith, common_steps))
 
 -- a VMO that leaves is gone, whatever it was
 pub without-written : (vmos : ℕ → Option Vmo) (k : ℕ) (new : Vmo) (parent : Option Koid) →
     vmos_without (with_key vmos k new) k parent ≡ vmos_without vmos k parent
 unfolding vmos_without with_key
-without-written vmos k new parent = λ i w. of w (w == k) i
-  where
-    of : (w : ℕ) (b : Bool) → cond b None (option_map (vmo_after k parent) (cond b (Some new) (vmos w))) ≡ cond b None (option_map (vmo_after k parent) (vmos w))
-    of w true = refl
-    of w false = refl
-
--- the parent of a child of a VMO that leaves, and of another VMO
-pub after-child : (k : ℕ) (parent o : Option Koid) → is_parent k (option_map koid_number o) ≡ true → koid_after k parent o ≡ parent
-unfolding koid_after passes
-after-child k parent None e = absurd (cc)
-after-child k parent (Some p) e = cond-true (p.0 == k) parent (Some p) e
-
-pub after-other : (k : ℕ) (parent o : Option Koid) → is_parent k (option_map koid_number o) ≡ false → koid_after k parent o ≡ o
-unfolding koid_after passes
-after-other k parent None e = refl
-after-other k parent (Some p) e = cond-false (p.0 == k) parent (Some p) e
+without-written vmos k new parent = funext (λ w. grind (arith, common_steps))
 
 -- a VMO without children leaves alone
 pub without-childless : (vmos : ℕ → Option Vmo) (k : ℕ) (parent : Option Koid) → ((w : ℕ) → passes (has_parent k) (lineages vmos w) ≡ false) →
     vmos_without vmos k parent ≡ without_key vmos k
-unfolding vmos_without without_key lineages passes
-without-childless vmos k parent childless = λ i w. of (w == k) (vmos w) (childless w) i
-  where
-    of : (b : Bool) (o : Option Vmo) → passes (has_parent k) (option_map lineage_of_vmo o) ≡ false →
-        cond b None (option_map (vmo_after k parent) o) ≡ cond b None o
-    of true o e = refl
-    of false None e = refl
-    of false (Some x) e = ap (λ (p : Option Koid). Some (record x { parent = p })) (after-other k parent x.parent e)
+unfolding vmos_without without_key lineages passes koid_after
+without-childless vmos k parent childless = funext (λ w. grind (arith, common_steps, childless w))
 
 pub without_key-absent : (vmos : ℕ → Option Vmo) (k : ℕ) → vmos k ≡ None → without_key vmos k ≡ vmos
 unfolding without_key
-without_key-absent vmos k none = λ i w. at w i
-  where
-    at : (w : ℕ) → cond (w == k) None (vmos w) ≡ vmos w
-    at w = grind (arith, common_steps)
+without_key-absent vmos k none = funext (λ w. grind (arith, common_steps))
 
 -- ---- which VMO is a child of which
 
 pub child-with_key : (lineage : ℕ → Option Lineage) (k : ℕ) (l : Lineage) (u w : ℕ) →
     passes (has_parent u) (with_key lineage k l w) ≡ cond (w == k) (is_parent u l.parent) (passes (has_parent u) (lineage w))
 unfolding with_key passes
-child-with_key lineage k l u w = of (w == k)
-  where
-    of : (b : Bool) → passes (has_parent u) (cond b (Some l) (lineage w)) ≡ cond b (is_parent u l.parent) (passes (has_parent u) (lineage w))
-    of true = refl
-    of false = refl
+child-with_key lineage k l u w = grind (arith, common_steps)
 
 pub child-without : (lineage : ℕ → Option Lineage) (k : ℕ) (above : Option ℕ) (u w : ℕ) →
     passes (has_parent u) (lineage_without lineage k above w)
     ≡ cond (w == k) false (cond (passes (has_parent k) (lineage w)) (is_parent u above) (passes (has_parent u) (lineage w)))
 unfolding lineage_without parent_without passes
-child-without lineage k above u w = of (w == k) (lineage w)
-  where
-    up : (o : Option ℕ) → is_parent u (parent_without k above o) ≡ cond (is_parent k o) (is_parent u above) (is_parent u o)
-    up None = refl
-    up (Some p) = pick (p == k)
-      where
-        pick : (b : Bool) → is_parent u (cond b above (Some p)) ≡ cond b (is_parent u above) (p == u)
-        pick true = refl
-        pick false = refl
-
-    of : (b : Bool) (o : Option Lineage) → passes (has_parent u) (cond b None (option_map (left_by k above) o))
-        ≡ cond b false (cond (passes (has_parent k) o) (is_parent u above) (passes (has_parent u) o))
-    of true o = refl
-    of false None = refl
-    of false (Some l) = up l.parent
+child-without lineage k above u w = grind (arith, common_steps)
 
 -- a VMO has one parent
 pub one_parent : (u k : ℕ) → u ≢ k → (o : Option Lineage) → passes (has_parent k) o ≡ true → passes (has_parent u) o ≡ false
 unfolding passes
-one_parent u k apart None e = refl
-one_parent u k apart (Some l) e = of l.parent e
-  where
-    of : (o : Option ℕ) → is_parent k o ≡ true → is_parent u o ≡ false
-    of None f = refl
-    of (Some p) f = grind (arith, nat_tests)
+one_parent u k apart o e = grind (arith, common_steps)
 
 -- what is there after a VMO left was there
 pub left-there : (vmos : ℕ → Option Vmo) (k : ℕ) (above : Option ℕ) (w : ℕ) →
