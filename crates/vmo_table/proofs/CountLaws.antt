@@ -1,8 +1,7 @@
 -- What is counted of each VMO, as VMOs are written, come and leave.
-use Rattle.std.proofs.Common.{◌≡◌, ◌≢◌, ℕ, ◌+◌, ◌-◌, ◌<◌, ◌==◌, ◌&&◌, true, cond, Option, Some, is_some, refl, sym, ap, subst, inl, inr, arith}
+use Rattle.std.proofs.Common.{◌≡◌, ℕ, ◌+◌, ◌-◌, ◌<◌, ◌==◌, ◌&&◌, true, cond, Option, Some, is_some, refl, ap, arith}
 use Rattle.std.specs.Prelude.{unwrap_or}
 use Rattle.std.specs.Option.{option_map}
-use Rattle.std.proofs.lemmas.Bool.{cases_eq}
 use Rattle.std.proofs.lemmas.Grind.{common_steps}
 use Rattle.vm_base.specs.declared.names.Koid.{Koid}
 use Rattle.vm_base.specs.Entries.{with_key}
@@ -13,10 +12,6 @@ use Rattle.vmo_table.specs.Vmos.{count_of, keepers_in, adopted, vmos_without}
 -- maps that agree at each key are one
 pub funext : {A : Type 0} {f g : ℕ → A} → ((n : ℕ) → f n ≡ g n) → f ≡ g
 funext each = λ i n. each n i
-
--- what holds of a key, and of each other key, holds of all
-pub at_each : (P : ℕ → Type 0) (k : ℕ) → P k → ((v : ℕ) → v ≢ k → P v) → (v : ℕ) → P v
-at_each P k here other v = elim (cases_eq v k) [ inl same ↦ subst P (sym same) here | inr apart ↦ other v apart ]
 
 module _ (count : Vmo → ℕ) (vmos : ℕ → Option Vmo) where
   -- where it is known what is there

@@ -8,7 +8,7 @@ use Rattle.balanced_tree.specs.Rows.{Rows}
 use Rattle.vm_base.specs.declared.names.Koid.{Koid}
 use Rattle.vm_base.specs.Entries.{with_key, passes}
 use Rattle.vm_base.proofs.EntryLaws.{with_key-other, passes-none, passes-some, passes_found, entry_count-change}
-use Rattle.vm_model.specs.Naming.Names.{Lineage, is_parent, has_parent, child_count, lineage_without}
+use Rattle.vm_model.specs.Naming.Names.{Lineage, is_parent, has_parent, child_count}
 use Rattle.vmo_table.specs.declared.child_rows.ChildRow.{ChildRow}
 use Rattle.vmo_table.specs.declared.vmos.Vmo.{Vmo}
 use Rattle.vmo_table.specs.Vmos.{koid_number, lineage_of_vmo, lineages, koid_after, vmos_without}
@@ -20,15 +20,20 @@ use Rattle.vmo_table.proofs.ChildLaws.{under-below}
 -- a VMO that is new gets a row under its parent
 pub AreChildren-entered : (t new : Rows ChildRow) (lineage : ℕ → Option Lineage) (k : ℕ) (l : Lineage) →
     AreChildren t lineage → lineage k ≡ None → IsChange t new l.parent k true → AreChildren new (with_key lineage k l)
-AreChildren-entered t new lineage k l kept free change = record { is = λ p v. at p v (kept.is p k ∙ passes-none (has_parent p) (lineage k) free) }
-  where
-    at : (p v : ℕ) → is_under t p k ≡ false → is_under new p v ≡ passes (has_parent p) (with_key lineage k l v)
-    at p v none = grind (arith, common_steps, change p v, kept.is p v, child-with_key lineage k l p v)
+AreChildren-entered t new lineage k l kept free change = record {
+  is = λ p v. grind (arith, common_steps, change p v, kept.is p v, kept.is p k, passes-none (has_parent p) (lineage k) free, child-with_key lineage k l p v);
+}
 
-pub free_koid : (t : Rows ChildRow) (lineage : ℕ → Option Lineage) (k : ℕ) → AreChildren t lineage → lineage k ≡ None →
-    (parent : Option Koid) → IfSome parent (λ p. is_under t p.0 k ≡ false)
-free_koid t lineage k kept free None = tt
-free_koid t lineage k kept free (Some p) = kept.is p.0 k ∙ passes-none (has_parent p.0) (lineage k) free
+-- a koid with no row has none under a parent that may be there
+pub no_row_under : (t : Rows ChildRow) (k : ℕ) (o : Option Koid) → ((p : ℕ) → is_under t p k ≡ false) → IfSome o (λ p. is_under t p.0 k ≡ false)
+no_row_under t k None none = tt
+no_row_under t k (Some p) none = none p.0
+
+pub row_under : (t : Rows ChildRow) (k : ℕ) (o : Option Koid) → ((p : ℕ) → is_under t p k ≡ is_parent p (option_map koid_number o)) →
+    IfSome o (λ p. is_under t p.0 k ≡ true)
+unfolding passes
+row_under t k None own = tt
+row_under t k (Some p) own = own p.0 ∙ eq-eqb p.0 p.0 refl
 
 -- ---- the VMO k leaves, whose parent is `parent`
 
@@ -36,15 +41,6 @@ module _ (vmos : ℕ → Option Vmo) (t : Rows ChildRow) (k : ℕ) (parent : Opt
     (leaves : MayLeave vmos t k parent) where
   abbrev above : Option ℕ
   above = option_map koid_number parent
-
-  pub own_row : IfSome parent (λ p. is_under t p.0 k ≡ true)
-  unfolding passes
-  own_row = of parent leaves.own
-    where
-      of : (o : Option Koid) → ((p : ℕ) → is_under t p k ≡ is_parent p (option_map koid_number o)) →
-          IfSome o (λ p. is_under t p.0 k ≡ true)
-      of None own = tt
-      of (Some p) own = own p.0 ∙ eq-eqb p.0 p.0 refl
 
   -- a child of it
   module _ (child : ℕ) (under : is_under t k child ≡ true) where
@@ -62,22 +58,17 @@ module _ (vmos : ℕ → Option Vmo) (t : Rows ChildRow) (k : ℕ) (parent : Opt
         let at = ap (is_under t k) (sym same) ∙ under in
         cc)
 
-    module _ (mid : Rows ChildRow) (gone : IsChange t mid (Some k) child false)
-        (vmo : Vmo) (found : vmos child ≡ Some vmo) where
-      its_parent : (q : ℕ) → passes (has_parent q) (lineages vmos child) ≡ is_parent q (option_map koid_number vmo.parent)
-      its_parent q = passes-some (has_parent q) (lineages vmos child) _ (lineage-at vmos child (Some vmo) found)
-
-      nowhere : (q : ℕ) → is_under mid q child ≡ false
+    module _ (mid : Rows ChildRow) (gone : IsChange t mid (Some k) child false) where
+      pub nowhere : (q : ℕ) → is_under mid q child ≡ false
       nowhere q =
           let is = passes-some (λ (p : ℕ). p == q) (Some k) k refl in
           let apart = λ (a : q ≢ k). one_parent q k a (lineages vmos child) is_its in
           grind (arith, common_steps, gone q child, leaves.rows.is q child)
 
-      pub may_add : (o : Option Koid) → IfSome o (λ p. is_under mid p.0 child ≡ false)
-      may_add None = tt
-      may_add (Some p) = nowhere p.0
+      module _ (vmo : Vmo) (found : vmos child ≡ Some vmo) (new : Rows ChildRow) (come : IsChange mid new above child true) where
+        its_parent : (q : ℕ) → passes (has_parent q) (lineages vmos child) ≡ is_parent q (option_map koid_number vmo.parent)
+        its_parent q = passes-some (has_parent q) (lineages vmos child) _ (lineage-at vmos child (Some vmo) found)
 
-      module _ (new : Rows ChildRow) (come : IsChange mid new above child true) where
         abbrev its : Vmo
         its = record vmo { parent = parent }
 
@@ -126,7 +117,7 @@ module _ (vmos : ℕ → Option Vmo) (t : Rows ChildRow) (k : ℕ) (parent : Opt
     no_children w = sym (leaves.rows.is k w) ∙ childless w
 
     pub AreChildren-left : (new : Rows ChildRow) → IsChange t new above k false → AreChildren new (lineages (vmos_without vmos k parent))
-    AreChildren-left new change = record { is = λ p v. at p v ∙ ap (λ (l : ℕ → Option Lineage). passes (has_parent p) (l v)) (sym (lineages-without vmos k parent)) }
-      where
-        at : (p v : ℕ) → is_under new p v ≡ passes (has_parent p) (lineage_without (lineages vmos) k above v)
-        at p v = grind (arith, common_steps, change p v, leaves.own p, leaves.rows.is p v, no_children v, child-without (lineages vmos) k above p v)
+    AreChildren-left new change = record {
+      is = λ p v. rw (lineages-without vmos k parent)
+          (grind (arith, common_steps, change p v, leaves.own p, leaves.rows.is p v, no_children v, child-without (lineages vmos) k above p v));
+    }

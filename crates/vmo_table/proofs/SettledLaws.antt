@@ -1,5 +1,5 @@
 -- What stays true of the table where a VMO gets another value, and where it is settled: it is written, or it leaves.
-use Rattle.std.proofs.Common.{◌≡◌, ℕ, ◌+◌, ◌-◌, ◌<◌, ◌≤◌, true, false, cond, Option, None, Some, is_some, refl, sym, ap, subst, ◌∙◌, ◌⊎◌, arith}
+use Rattle.std.proofs.Common.{◌≡◌, ℕ, ◌+◌, ◌-◌, ◌≤◌, true, false, cond, Option, None, Some, is_some, refl, sym, ap, subst, ◌∙◌, arith}
 use Rattle.std.specs.Option.{option_map}
 use Rattle.std.proofs.lemmas.Grind.{common_steps}
 use Rattle.std.proofs.lemmas.Bool.{cond-true, cond-false, cond_both}
@@ -8,15 +8,15 @@ use Rattle.vm_base.proofs.EntryLaws.{with_key-same, passes-some, any_entry-count
 use Rattle.vm_base.specs.declared.names.Koid.{Koid}
 use Rattle.vm_base.specs.declared.limits.TheConstants.{NAMES}
 use Rattle.vm_model.specs.declared.names.Target.{Target}
-use Rattle.vm_model.specs.Naming.Names.{Lineage, is_of, is_named, is_parent, has_parent, lineage_without}
+use Rattle.vm_model.specs.Naming.Names.{Lineage, is_of, is_parent, has_parent, lineage_without}
 use Rattle.balanced_tree.specs.Rows.{Rows}
 use Rattle.vmo_table.specs.declared.vmos.Vmo.{Vmo}
 use Rattle.vmo_table.specs.declared.child_rows.ChildRow.{ChildRow}
-use Rattle.vmo_table.specs.Vmos.{koid_number, lineage_of_vmo, lineages, adopted, vmos_without, is_kept, settled, vmo_count, keepers_in, count_of, IsForest, MayGet}
+use Rattle.vmo_table.specs.Vmos.{koid_number, lineage_of_vmo, lineages, adopted, vmos_without, is_kept, settled, vmo_count, keepers_in, IsForest, MayGet}
 use Rattle.vmo_table.specs.ChildRows.{AreChildren, MayLeave}
 use Rattle.vmo_table.specs.Table.{parent_of, Settles}
 use Rattle.vmo_table.specs.TableFields.{AreNamed}
-use Rattle.vmo_table.proofs.CountLaws.{count-at, count-with_key, count-adopted, count-without}
+use Rattle.vmo_table.proofs.CountLaws.{funext, count-at, count-with_key, count-adopted, count-without}
 use Rattle.vmo_table.proofs.VmosLaws.{lineage-at, lineages-written, lineages-without, without-written, without-childless, without_key-absent, child_count_le, left-there}
 use Rattle.vmo_table.proofs.ForestLaws.{parent-there, IsForest-written, IsForest-left, not_own, parent_counts, lineages-left}
 use Rattle.vmo_table.proofs.NamedLaws.{AreNamed-adopted, AreNamed-left, is_named-counts}
@@ -80,15 +80,11 @@ module _ (vmos : ℕ → Option Vmo) (k : ℕ) (new : Vmo) (may : MayGet vmos k 
   -- it has the keepers of its new value, whether it leaves or not
   pub keepers-settled : keepers_in (settled vmos k new) ≡ keepers_in mid
   unfolding keepers_in
-  keepers-settled = settled-is (λ (m : ℕ → Option Vmo). keepers_in m ≡ keepers_in mid) (λ kept. refl) (λ free i v. at free v i)
-    where
-      at : is_kept new ≡ false → (v : ℕ) → keepers_in (adopted (vmos_without mid k new.parent) up 1 new.children) v ≡ keepers_in mid v
-      at free v =
-          let gone = vmos_without mid k new.parent in
-          let other = count-adopted (λ (x : Vmo). x.keepers) gone (λ x n. refl) up 1 new.children v in
-          let left = count-without (λ (x : Vmo). x.keepers) mid (λ x o. refl) k new.parent v in
-          let is = count-with_key (λ (x : Vmo). x.keepers) vmos k new v in
-          grind (arith, common_steps)
+  keepers-settled = settled-is (λ (m : ℕ → Option Vmo). keepers_in m ≡ keepers_in mid) (λ kept. refl) (λ free. funext (λ v.
+      let gone = vmos_without mid k new.parent in
+      let other = count-adopted (λ (x : Vmo). x.keepers) gone (λ x n. refl) up 1 new.children v in
+      let left = count-without (λ (x : Vmo). x.keepers) mid (λ x o. refl) k new.parent v in
+      grind (arith, common_steps, count-with_key (λ (x : Vmo). x.keepers) vmos k new v)))
 
   module _ (names : ℕ → Option Target) (named : AreNamed names mid) where
     pub AreNamed-settled : AreNamed names (settled vmos k new)
@@ -118,7 +114,10 @@ pub settles_absent : (names : ℕ → Option Target) (vmos : ℕ → Option Vmo)
     vmos v ≡ None → Settles names (keepers_in vmos v) v (lineages vmos) (lineages vmos) (Some (record { 0 = v }))
 unfolding keepers_in
 settles_absent names vmos v named forest none = record {
-  stays = λ by. absurd (kept by);
+  stays = λ by. absurd (
+      let no_name = count-at (λ (x : Vmo). x.names) vmos v None none in
+      let no_keeper = count-at (λ (x : Vmo). x.keepers) vmos v None none in
+      grind (arith, common_steps, any_entry-count NAMES (is_of v) names, named.named v));
   leaves = λ unnamed unkept. (
     refl,
     sym (
@@ -126,11 +125,3 @@ settles_absent names vmos v named forest none = record {
         ∙ (sym (lineages-without vmos v None) ∙ ap lineages (without-childless vmos v None (λ w. grind (arith, common_steps, none, parent-there vmos v w forest)) ∙ without_key-absent vmos v none))),
   );
 }
-  where
-    kept : (is_named names v ≡ true) ⊎ (0 < count_of (λ (x : Vmo). x.keepers) vmos v) → ⊥
-    kept by =
-        let named_by = any_entry-count NAMES (is_of v) names in
-        let no_name = named.named v in
-        let no_names = count-at (λ (x : Vmo). x.names) vmos v None none in
-        let no_keeper = count-at (λ (x : Vmo). x.keepers) vmos v None none in
-        grind (arith, common_steps)

@@ -42,9 +42,6 @@ pub lineages-adopted : (vmos : ℕ → Option Vmo) (parent : Option ℕ) (gone c
 unfolding lineages adopted
 lineages-adopted vmos parent gone come = funext (λ w. grind (arith, common_steps))
 
-abbrev pub vmo_after : ℕ → Option Koid → Vmo → Vmo
-vmo_after v parent vmo = record vmo { parent = koid_after v parent vmo.parent }
-
 pub lineages-without : (vmos : ℕ → Option Vmo) (v : ℕ) (parent : Option Koid) →
     lineages (vmos_without vmos v parent) ≡ lineage_without (lineages vmos) v (option_map koid_number parent)
 unfolding lineages vmos_without lineage_without koid_after parent_without

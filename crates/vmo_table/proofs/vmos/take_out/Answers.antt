@@ -4,11 +4,11 @@ use Rattle.vmo_table.specs.Vmos.{lineages}
 use Rattle.vmo_table.specs.ChildRows.{AreChildren}
 use Rattle.vmo_table.proofs.VmosLaws.{without-childless}
 use Rattle.vmo_table.proofs.EntryLaws.{vmos_in-removed}
-use Rattle.vmo_table.proofs.MovedLaws.{own_row, no_children, AreChildren-left}
+use Rattle.vmo_table.proofs.MovedLaws.{row_under, no_children, AreChildren-left}
 use Rattle.vmo_table.proofs.vmos.take_out.Goals as goal
 
 pub remove_child-requires : goal.remove_child-requires
-remove_child-requires c = own_row _ _ _ _ c.move_children.ensures.leaves
+remove_child-requires c = row_under _ c.args.koid.0 c.args.parent c.move_children.ensures.leaves.own
 
 pub returns : goal.returns
 returns c =

@@ -3,6 +3,8 @@ use Rattle.std.specs.Option.{option_map}
 use Rattle.vm_base.specs.Entries.{with_key}
 use Rattle.vm_model.specs.declared.names.NameKind.TheVariants.{Owner}
 use Rattle.vm_model.specs.declared.names.Target.{Target}
+use Rattle.vm_base.proofs.EntryLaws.{passes-none}
+use Rattle.vm_model.specs.Naming.Names.{has_parent}
 use Rattle.vmo_table.specs.declared.vmos.Vmo.{Vmo}
 use Rattle.vmo_table.specs.Vmos.{koid_number, vmos_in, lineage_of_vmo, lineages, keepers_in, adopted}
 use Rattle.vmo_table.specs.Table.{names_in}
@@ -13,7 +15,7 @@ use Rattle.vmo_table.proofs.VmosLaws.{lineages-none, lineages-adopted, lineages-
 use Rattle.vmo_table.proofs.ForestLaws.{entered_fits, IsForest-entered}
 use Rattle.vmo_table.proofs.NamedLaws.{AreNamed-adopted, AreNamed-more}
 use Rattle.vmo_table.proofs.TableLaws.{rooms, parent_at, IsTable-is}
-use Rattle.vmo_table.proofs.MovedLaws.{AreChildren-entered, free_koid}
+use Rattle.vmo_table.proofs.MovedLaws.{AreChildren-entered, no_row_under}
 use Rattle.vmo_table.proofs.vmo_table.VmoTable.enter.Goals as goal
 
 abbrev target : goal.After-count_children → Target
@@ -65,6 +67,7 @@ invariant_of-self c =
 
 pub add_child-requires : goal.add_child-requires
 add_child-requires c = record {
-  absent = free_koid c.self.inside.child_rows _ c.args.koid.0 c.self.invariant.rows (rw (← c.self.view_is) at c.requires.koid) c.args.parent;
+  absent = no_row_under c.self.inside.child_rows c.args.koid.0 c.args.parent (λ p.
+      c.self.invariant.rows.is p c.args.koid.0 ∙ passes-none (has_parent p) _ (rw (← c.self.view_is) at c.requires.koid));
   room = (rooms c.self.inside (rw (← c.self.view_is) at c.requires.room)).2;
 }
