@@ -7,7 +7,7 @@ use Rattle.balanced_tree.specs.declared.children.Child.{Child}
 use Rattle.balanced_tree.specs.Row.{Functions, AreLawful, height_in}
 use Rattle.balanced_tree.specs.Tree.{Tree, Leaf, Node, height, child_of, stored, has_rank, found}
 use Rattle.balanced_tree.specs.Standing.{child_at, Spells, Same, IsStanding, Stands, StandsFor, Keeps, Becomes, IsSplit, height_at}
-use Rattle.balanced_tree.proofs.Spelling.{link_of-child_of, child_at-place_of, IsOrdered-bounds, Same-linked, Spells-kept, ContainsKey-place_of}
+use Rattle.balanced_tree.proofs.Spelling.{link_of-child_of, child_at-place_of, IsOrdered-bounds, Same-linked, Spells-kept, split_over, split_with, ContainsKey-place_of}
 
 module _ {R : Type 0} (f : Functions R) where
   -- a height that is not too great is stored as it is
@@ -85,37 +85,11 @@ module _ {R : Type 0} (f : Functions R) where
 
     pub split_left : {s1 : Slab R} {l : Tree R} → AreLawful f → Becomes f s s1 l low (f.rank n.row) → IsSplit f s1 l p n.row n.right low high
     split_left laws h =
-        record {
-          middle = f.rank n.row;
-          past = f.rank n.row + 1;
-          had = here;
-          at = h.kept.kept p here n.at (inr (omega (arith, rank_here)));
-          left = h.spelled;
-          right = right_kept laws h.kept;
-          left_ordered = h.ordered;
-          right_ordered = n.right_standing.ordered;
-          had_from = omega (arith, rank_here);
-          had_below = omega (arith, rank_here);
-          row_from = omega arith;
-          row_below = omega arith;
-        }
+        split_over f (h.kept.kept p here n.at (inr (omega (arith, rank_here)))) rank_here h.spelled (right_kept laws h.kept) h.ordered n.right_standing.ordered
 
     pub split_right : {s1 : Slab R} {r : Tree R} → AreLawful f → Becomes f s s1 r (f.rank n.row + 1) high → IsSplit f s1 n.left p n.row r low high
     split_right laws h =
-        record {
-          middle = f.rank n.row;
-          past = f.rank n.row + 1;
-          had = here;
-          at = h.kept.kept p here n.at (inl (omega (arith, rank_here)));
-          left = left_kept laws h.kept;
-          right = h.spelled;
-          left_ordered = n.left_standing.ordered;
-          right_ordered = h.ordered;
-          had_from = omega (arith, rank_here);
-          had_below = omega (arith, rank_here);
-          row_from = omega arith;
-          row_below = omega arith;
-        }
+        split_over f (h.kept.kept p here n.at (inl (omega (arith, rank_here)))) rank_here (left_kept laws h.kept) h.spelled n.left_standing.ordered h.ordered
 
     pub right_is : (s1 : Slab R) {c : Option (Child R)} → Spells f s1 n.right → c ≡ child_at s1 (f.right here) → c ≡ child_of f n.right
     right_is s1 h e = e ∙ ap (child_at s1) (sym n.right_standing.is_at) ∙ child_at-place_of f s1 n.right h
@@ -190,20 +164,7 @@ module _ {R : Type 0} (f : Functions R) where
 
   pub IsSplit-Same : {s : Slab R} {l : Tree R} {p : ℕ} {x y : R} {r : Tree R} {low high : ℕ} → Same f x y → IsSplit f s l p x r low high → IsSplit f s l p y r low high
   IsSplit-Same same h =
-      record {
-        middle = h.middle;
-        past = h.past;
-        had = h.had;
-        at = h.at;
-        left = h.left;
-        right = h.right;
-        left_ordered = h.left_ordered;
-        right_ordered = h.right_ordered;
-        had_from = h.had_from;
-        had_below = h.had_below;
-        row_from = omega (arith, same.rank, h.row_from);
-        row_below = omega (arith, same.rank, h.row_below);
-      }
+      split_with f h same.rank h.at h.left h.right h.left_ordered h.right_ordered
 
   module _ {s s1 : Slab R} {p : ℕ} {here : R} {t : Tree R} {low high : ℕ} (laws : AreLawful f) (n : IsNode s p here t low high) where
     -- what `balance` asks after a change of the left part

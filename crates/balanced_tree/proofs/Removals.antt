@@ -6,7 +6,7 @@ use Rattle.balanced_tree.specs.declared.children.Child.{Child}
 use Rattle.balanced_tree.specs.Row.{Functions, AreLawful}
 use Rattle.balanced_tree.specs.Tree.{Tree, Leaf, Node, is_leaf, place_of, child_of, IsOrdered, balanced, least, without_least, without_root, removed}
 use Rattle.balanced_tree.specs.Standing.{child_at, Spells, Same, IsStanding, Keeps, Becomes, IsSplit, Splits, HasRemoved, HasTakenLeast, HasTakenRoot}
-use Rattle.balanced_tree.proofs.Spelling.{Keeps-refl, Keeps-trans, Keeps-wider, Keeps-Updates, Spells-kept}
+use Rattle.balanced_tree.proofs.Spelling.{Keeps-refl, Keeps-trans, Keeps-wider, Keeps-Updates, Spells-kept, split_over}
 use Rattle.balanced_tree.proofs.Nodes.{IsNode, rank_here, height-left, height-right, in_low, in_high, right_is, left_is, right_kept, left_kept, split_left, split_right, kept_wider_left, has_rank-left, has_rank-right, has_rank-here, IsSplit-Same}
 use Rattle.balanced_tree.proofs.Insertions.{Balances, Becomes-left, Becomes-right}
 
@@ -80,20 +80,7 @@ module _ {R : Type 0} (f : Functions R) where
       → HasTakenLeast f s s1 n.left low (f.rank n.row) y rest b1 b2
       → IsSplit f s1 (without_least f n.left) p n.row n.right (f.rank (least f n.left y) + 1) high
   split_least {p = p} {here} laws n sub =
-      record {
-        middle = f.rank n.row;
-        past = f.rank n.row + 1;
-        had = here;
-        at = sub.kept.kept p here n.at (inr (omega (arith, rank_here f n)));
-        left = sub.spelled;
-        right = right_kept f n laws sub.kept;
-        left_ordered = sub.ordered;
-        right_ordered = n.right_standing.ordered;
-        had_from = omega (arith, rank_here f n);
-        had_below = omega (arith, rank_here f n);
-        row_from = omega arith;
-        row_below = omega arith;
-      }
+      split_over f (sub.kept.kept p here n.at (inr (omega (arith, rank_here f n)))) (rank_here f n) sub.spelled (right_kept f n laws sub.kept) sub.ordered n.right_standing.ordered
 
   pub Splits-least :
       {s s1 : Slab R} {p : ℕ} {here y : R} {t : Tree R} {low high b1 b2 : ℕ} {rest right : Option (Child R)}

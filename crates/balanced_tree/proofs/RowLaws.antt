@@ -1,9 +1,10 @@
 -- The rows of a tree as a list: what insertion, removal and look-up are of it.
-use Rattle.std.proofs.Common.{◌≡◌, inl, inr, ℕ, ◌+◌, ◌<◌, ◌≤◌, Bool, true, false, not, cond, ltb, leb, eqb, List, [], ◌∷◌, ◌++◌, length, Option, None, Some, is_some, refl, sym, ap, ◌∙◌, subst, arith, length-append}
+use Rattle.std.proofs.Common.{◌≡◌, ℕ, ◌+◌, ◌<◌, ◌≤◌, Bool, true, false, not, cond, ltb, leb, eqb, List, [], ◌∷◌, ◌++◌, length, Option, None, Some, is_some, refl, sym, ap, ◌∙◌, subst, arith}
 use Rattle.std.specs.List.{filter, find}
 use Rattle.std.specs.Option.{option_or}
-use Rattle.std.proofs.lemmas.Bool.{lt-ltb, le-ltb, le-leb, lt-leb, eq-eqb, ne_eqb, cond-true, cond-false, cases_order}
+use Rattle.std.proofs.lemmas.Bool.{lt-ltb, le-ltb, le-leb, lt-leb, eq-eqb, ne_eqb, cond-true, cond-false}
 use Rattle.std.proofs.lemmas.List.{append_assoc, append-nil}
+use Rattle.std.proofs.lemmas.Grind.{common_steps}
 use Rattle.std.proofs.lemmas.List.Elements.{filter-append}
 use Rattle.std.proofs.lemmas.List.Folds.{find-append}
 use Rattle.balanced_tree.specs.Row.{Functions, AreLawful, plain}
@@ -67,32 +68,24 @@ module _ {R : Type 0} (f : Functions R) where
     with_row-left h =
         let less : filter (λ z. ltb (f.rank z) (f.rank x)) (y ∷ ys) ≡ [] = filter-none (λ n. ltb n (f.rank x)) (f.rank y) high (y ∷ ys) whole_right (λ n g e. le-ltb n (f.rank x) (omega arith)) in
         let more : filter (λ z. ltb (f.rank x) (f.rank z)) (y ∷ ys) ≡ y ∷ ys = filter-all (λ n. ltb (f.rank x) n) (f.rank y) high (y ∷ ys) whole_right (λ n g e. lt-ltb (f.rank x) n (omega arith)) in
-        let e1 : filter (λ z. ltb (f.rank z) (f.rank x)) (xs ++ y ∷ ys) ≡ filter (λ z. ltb (f.rank z) (f.rank x)) xs = filter-append (λ z. ltb (f.rank z) (f.rank x)) xs (y ∷ ys) ∙ ap (λ l. filter (λ z. ltb (f.rank z) (f.rank x)) xs ++ l) less ∙ append-nil _ in
-        let e2 : filter (λ z. ltb (f.rank x) (f.rank z)) (xs ++ y ∷ ys) ≡ filter (λ z. ltb (f.rank x) (f.rank z)) xs ++ y ∷ ys = filter-append (λ z. ltb (f.rank x) (f.rank z)) xs (y ∷ ys) ∙ ap (λ l. filter (λ z. ltb (f.rank x) (f.rank z)) xs ++ l) more in
-        ap (λ l. l ++ x ∷ filter (λ z. ltb (f.rank x) (f.rank z)) (xs ++ y ∷ ys)) e1 ∙ ap (λ l. filter (λ z. ltb (f.rank z) (f.rank x)) xs ++ x ∷ l) e2
-        ∙ sym (append_assoc (filter (λ z. ltb (f.rank z) (f.rank x)) xs) (x ∷ filter (λ z. ltb (f.rank x) (f.rank z)) xs) (y ∷ ys))
+        simp (filter-append, less, more, append-nil, append_assoc)
 
     with_row-right : f.rank y < f.rank x → with_row f x (xs ++ y ∷ ys) ≡ xs ++ y ∷ with_row f x ys
     with_row-right h =
         let less : filter (λ z. ltb (f.rank z) (f.rank x)) xs ≡ xs = filter-all (λ n. ltb n (f.rank x)) low (f.rank y) xs left (λ n g e. lt-ltb n (f.rank x) (omega arith)) in
         let more : filter (λ z. ltb (f.rank x) (f.rank z)) xs ≡ [] = filter-none (λ n. ltb (f.rank x) n) low (f.rank y) xs left (λ n g e. le-ltb (f.rank x) n (omega arith)) in
-        let at_y : filter (λ z. ltb (f.rank z) (f.rank x)) (y ∷ ys) ≡ y ∷ filter (λ z. ltb (f.rank z) (f.rank x)) ys = cond-true (ltb (f.rank y) (f.rank x)) _ _ (lt-ltb _ _ h) in
-        let not_y : filter (λ z. ltb (f.rank x) (f.rank z)) (y ∷ ys) ≡ filter (λ z. ltb (f.rank x) (f.rank z)) ys = cond-false (ltb (f.rank x) (f.rank y)) _ _ (le-ltb _ _ (omega arith)) in
-        let e1 : filter (λ z. ltb (f.rank z) (f.rank x)) (xs ++ y ∷ ys) ≡ xs ++ y ∷ filter (λ z. ltb (f.rank z) (f.rank x)) ys = filter-append (λ z. ltb (f.rank z) (f.rank x)) xs (y ∷ ys) ∙ ap (λ l. l ++ filter (λ z. ltb (f.rank z) (f.rank x)) (y ∷ ys)) less ∙ ap (λ l. xs ++ l) at_y in
-        let e2 : filter (λ z. ltb (f.rank x) (f.rank z)) (xs ++ y ∷ ys) ≡ filter (λ z. ltb (f.rank x) (f.rank z)) ys = filter-append (λ z. ltb (f.rank x) (f.rank z)) xs (y ∷ ys) ∙ ap (λ l. l ++ filter (λ z. ltb (f.rank x) (f.rank z)) (y ∷ ys)) more ∙ not_y in
-        ap (λ l. l ++ x ∷ filter (λ z. ltb (f.rank x) (f.rank z)) (xs ++ y ∷ ys)) e1 ∙ ap (λ l. (xs ++ y ∷ filter (λ z. ltb (f.rank z) (f.rank x)) ys) ++ x ∷ l) e2
-        ∙ append_assoc xs (y ∷ filter (λ z. ltb (f.rank z) (f.rank x)) ys) (x ∷ filter (λ z. ltb (f.rank x) (f.rank z)) ys)
+        let at_y = lt-ltb (f.rank y) (f.rank x) h in
+        let not_y = le-ltb (f.rank x) (f.rank y) (omega arith) in
+        simp (filter-append, less, more, at_y, not_y, append_assoc)
 
     with_row-here : f.rank x ≡ f.rank y → with_row f x (xs ++ y ∷ ys) ≡ xs ++ x ∷ ys
     with_row-here h =
         let less : filter (λ z. ltb (f.rank z) (f.rank x)) xs ≡ xs = filter-all (λ n. ltb n (f.rank x)) low (f.rank y) xs left (λ n g e. lt-ltb n (f.rank x) (omega arith)) in
         let more : filter (λ z. ltb (f.rank x) (f.rank z)) xs ≡ [] = filter-none (λ n. ltb (f.rank x) n) low (f.rank y) xs left (λ n g e. le-ltb (f.rank x) n (omega arith)) in
         let no_less : filter (λ z. ltb (f.rank z) (f.rank x)) (y ∷ ys) ≡ [] = filter-none (λ n. ltb n (f.rank x)) (f.rank y) high (y ∷ ys) whole_right (λ n g e. le-ltb n (f.rank x) (omega arith)) in
-        let not_y : filter (λ z. ltb (f.rank x) (f.rank z)) (y ∷ ys) ≡ filter (λ z. ltb (f.rank x) (f.rank z)) ys = cond-false (ltb (f.rank x) (f.rank y)) _ _ (le-ltb _ _ (omega arith)) in
+        let not_y = le-ltb (f.rank x) (f.rank y) (omega arith) in
         let all_more : filter (λ z. ltb (f.rank x) (f.rank z)) ys ≡ ys = filter-all (λ n. ltb (f.rank x) n) (f.rank y + 1) high ys right (λ n g e. lt-ltb (f.rank x) n (omega arith)) in
-        let e1 : filter (λ z. ltb (f.rank z) (f.rank x)) (xs ++ y ∷ ys) ≡ xs = filter-append (λ z. ltb (f.rank z) (f.rank x)) xs (y ∷ ys) ∙ ap (λ l. l ++ filter (λ z. ltb (f.rank z) (f.rank x)) (y ∷ ys)) less ∙ ap (λ l. xs ++ l) no_less ∙ append-nil xs in
-        let e2 : filter (λ z. ltb (f.rank x) (f.rank z)) (xs ++ y ∷ ys) ≡ ys = filter-append (λ z. ltb (f.rank x) (f.rank z)) xs (y ∷ ys) ∙ ap (λ l. l ++ filter (λ z. ltb (f.rank x) (f.rank z)) (y ∷ ys)) more ∙ not_y ∙ all_more in
-        ap (λ l. l ++ x ∷ filter (λ z. ltb (f.rank x) (f.rank z)) (xs ++ y ∷ ys)) e1 ∙ ap (λ l. xs ++ x ∷ l) e2
+        simp (filter-append, less, more, no_less, not_y, all_more, append-nil)
 
   module _ (n : ℕ) (y : R) (low high : ℕ) (xs ys : List R) (left : RisesWithin f low (f.rank y) xs) (right : RisesWithin f (f.rank y + 1) high ys) where
     differs : (a b : ℕ) → (a ≡ b → ⊥) → not (eqb a b) ≡ true
@@ -155,19 +148,8 @@ module _ {R : Type 0} (f : Functions R) where
   pub row_at-row_from : (n low high : ℕ) (xs : List R) → RisesWithin f low high xs → row_at f n xs ≡ if_at f n (row_from f n xs)
   row_at-row_from n low high [] h = refl
   row_at-row_from n low high (y ∷ ys) h =
-      elim (cases_order n (f.rank y)) [
-        | inl same ↦
-            cond-true (eqb (f.rank y) n) (Some y) (row_at f n ys) (eq-eqb (f.rank y) n (sym same))
-            ∙ sym (ap (if_at f n) (cond-true (leb n (f.rank y)) (Some y) (row_from f n ys) (le-leb n (f.rank y) (omega arith))) ∙ cond-true (eqb (f.rank y) n) (Some y) None (eq-eqb (f.rank y) n (sym same)))
-        | inr (inl less) ↦
-            cond-false (eqb (f.rank y) n) (Some y) (row_at f n ys) (ne_eqb (f.rank y) n (λ q. absurd (omega arith)))
-            ∙ find-none (λ m. eqb m n) (f.rank y + 1) high ys h.1 (λ m g e. ne_eqb m n (λ q. absurd (omega arith)))
-            ∙ sym (ap (if_at f n) (cond-true (leb n (f.rank y)) (Some y) (row_from f n ys) (le-leb n (f.rank y) (omega arith))) ∙ cond-false (eqb (f.rank y) n) (Some y) None (ne_eqb (f.rank y) n (λ q. absurd (omega arith))))
-        | inr (inr more) ↦
-            cond-false (eqb (f.rank y) n) (Some y) (row_at f n ys) (ne_eqb (f.rank y) n (λ q. absurd (omega arith)))
-            ∙ row_at-row_from n (f.rank y + 1) high ys h.1
-            ∙ sym (ap (if_at f n) (cond-false (leb n (f.rank y)) (Some y) (row_from f n ys) (lt-leb n (f.rank y) more)))
-      ]
+      let none = λ (less : n < f.rank y). find-none (λ m. eqb m n) (f.rank y + 1) high ys h.1 (λ m g e. ne_eqb m n (λ q. absurd (omega arith))) in
+      grind (arith, common_steps, row_at-row_from n (f.rank y + 1) high ys h.1)
 
   module _ (laws : AreLawful f) where
     rank-plain : (x : R) → f.rank (plain f x) ≡ f.rank x
@@ -197,19 +179,22 @@ module _ {R : Type 0} (f : Functions R) where
     rows-inserted q w low high Leaf h = ap (rows_of f) (insert-leaf_tree f q w)
     rows-inserted q w low high (Node l p x r) h =
         let s = sides low high l p x r h in
-        let ew = rank-plain w in
-        let ex = rank-plain x in
-        elim (cases_order (f.rank w) (f.rank x)) [
-          | inl same ↦ ap (rows_of f) (inserted-here f q w l p x r same) ∙ sym (with_row-here (plain f w) (plain f x) low high (rows_of f l) (rows_of f r) s.left s.right (omega arith))
-          | inr (inl less) ↦
-              ap (rows_of f) (inserted-left f q w l p x r less) ∙ rows-balanced f (inserted f q w l) p x r
-              ∙ ap (λ u. u ++ plain f x ∷ rows_of f r) (rows-inserted q w low (f.rank x) l h.0)
-              ∙ sym (with_row-left (plain f w) (plain f x) low high (rows_of f l) (rows_of f r) s.left s.right (omega arith))
-          | inr (inr more) ↦
-              ap (rows_of f) (inserted-right f q w l p x r more) ∙ rows-balanced f l p x (inserted f q w r)
-              ∙ ap (λ u. rows_of f l ++ plain f x ∷ u) (rows-inserted q w (f.rank x + 1) high r h.1)
-              ∙ sym (with_row-right (plain f w) (plain f x) low high (rows_of f l) (rows_of f r) s.left s.right (omega arith))
-        ]
+        grind (
+          arith,
+          common_steps,
+          rank-plain w,
+          rank-plain x,
+          inserted-here f q w l p x r,
+          inserted-left f q w l p x r,
+          inserted-right f q w l p x r,
+          rows-balanced f (inserted f q w l) p x r,
+          rows-balanced f l p x (inserted f q w r),
+          rows-inserted q w low (f.rank x) l h.0,
+          rows-inserted q w (f.rank x + 1) high r h.1,
+          with_row-here (plain f w) (plain f x) low high (rows_of f l) (rows_of f r) s.left s.right,
+          with_row-left (plain f w) (plain f x) low high (rows_of f l) (rows_of f r) s.left s.right,
+          with_row-right (plain f w) (plain f x) low high (rows_of f l) (rows_of f r) s.left s.right,
+        )
 
     rows-without_least : (d : R) (t : Tree R) → is_leaf t ≡ false → plain f (least f t d) ∷ rows_of f (without_least f t) ≡ rows_of f t
     unfolding without_least
@@ -229,92 +214,82 @@ module _ {R : Type 0} (f : Functions R) where
     rows-removed n low high Leaf h = ap (rows_of f) (removed-leaf f n)
     rows-removed n low high (Node l p x r) h =
         let s = sides low high l p x r h in
-        let ex = rank-plain x in
-        elim (cases_order n (f.rank x)) [
-          | inl same ↦
-              ap (rows_of f) (removed-here f n l p x r same) ∙ rows-without_root l p x r
-              ∙ sym (without_rank-here n (plain f x) low high (rows_of f l) (rows_of f r) s.left s.right (omega arith))
-          | inr (inl less) ↦
-              ap (rows_of f) (removed-left f n l p x r less) ∙ rows-balanced f (removed f n l) p x r
-              ∙ ap (λ u. u ++ plain f x ∷ rows_of f r) (rows-removed n low (f.rank x) l h.0)
-              ∙ sym (without_rank-left n (plain f x) low high (rows_of f l) (rows_of f r) s.left s.right (omega arith))
-          | inr (inr more) ↦
-              ap (rows_of f) (removed-right f n l p x r more) ∙ rows-balanced f l p x (removed f n r)
-              ∙ ap (λ u. rows_of f l ++ plain f x ∷ u) (rows-removed n (f.rank x + 1) high r h.1)
-              ∙ sym (without_rank-right n (plain f x) low high (rows_of f l) (rows_of f r) s.left s.right (omega arith))
-        ]
+        grind (
+          arith,
+          common_steps,
+          rank-plain x,
+          removed-here f n l p x r,
+          removed-left f n l p x r,
+          removed-right f n l p x r,
+          rows-without_root l p x r,
+          rows-balanced f (removed f n l) p x r,
+          rows-balanced f l p x (removed f n r),
+          rows-removed n low (f.rank x) l h.0,
+          rows-removed n (f.rank x + 1) high r h.1,
+          without_rank-here n (plain f x) low high (rows_of f l) (rows_of f r) s.left s.right,
+          without_rank-left n (plain f x) low high (rows_of f l) (rows_of f r) s.left s.right,
+          without_rank-right n (plain f x) low high (rows_of f l) (rows_of f r) s.left s.right,
+        )
 
     -- what the way down finds
     pub found-row_from : (n : ℕ) (best : Option R) (low high : ℕ) (t : Tree R) → IsOrdered f low high t → found f n best t ≡ option_or (row_from f n (rows_of f t)) best
     found-row_from n best low high Leaf h = refl
     found-row_from n best low high (Node l p x r) h =
         let s = sides low high l p x r h in
-        let ex = rank-plain x in
-        elim (cases_order n (f.rank x)) [
-          | inl same ↦
-              cond-false (ltb n (f.rank x)) _ _ (le-ltb n (f.rank x) (omega arith)) ∙ cond-false (ltb (f.rank x) n) _ _ (le-ltb (f.rank x) n (omega arith))
-              ∙ sym (ap (λ o. option_or o best) (row_from-here n (plain f x) low high (rows_of f l) (rows_of f r) s.left s.right (omega arith)))
-          | inr (inl less) ↦
-              cond-true (ltb n (f.rank x)) _ _ (lt-ltb n (f.rank x) less) ∙ found-row_from n (Some (plain f x)) low (f.rank x) l h.0
-              ∙ sym (ap (λ o. option_or o best) (row_from-left n (plain f x) low high (rows_of f l) (rows_of f r) s.left s.right (omega arith)) ∙ option_or-some (row_from f n (rows_of f l)) (plain f x) best)
-          | inr (inr more) ↦
-              cond-false (ltb n (f.rank x)) _ _ (le-ltb n (f.rank x) (omega arith)) ∙ cond-true (ltb (f.rank x) n) _ _ (lt-ltb (f.rank x) n more)
-              ∙ found-row_from n best (f.rank x + 1) high r h.1
-              ∙ sym (ap (λ o. option_or o best) (row_from-right n (plain f x) low high (rows_of f l) (rows_of f r) s.left s.right (omega arith)))
-        ]
+        grind (
+          arith,
+          common_steps,
+          rank-plain x,
+          found-row_from n (Some (plain f x)) low (f.rank x) l h.0,
+          found-row_from n best (f.rank x + 1) high r h.1,
+          option_or-some (row_from f n (rows_of f l)) (plain f x) best,
+          row_from-here n (plain f x) low high (rows_of f l) (rows_of f r) s.left s.right,
+          row_from-left n (plain f x) low high (rows_of f l) (rows_of f r) s.left s.right,
+          row_from-right n (plain f x) low high (rows_of f l) (rows_of f r) s.left s.right,
+        )
 
     pub has_rank-row_at : (n low high : ℕ) (t : Tree R) → IsOrdered f low high t → has_rank f n t ≡ is_some (row_at f n (rows_of f t))
     has_rank-row_at n low high Leaf h = refl
     has_rank-row_at n low high (Node l p x r) h =
         let s = sides low high l p x r h in
-        let ex = rank-plain x in
-        elim (cases_order n (f.rank x)) [
-          | inl same ↦
-              cond-false (ltb n (f.rank x)) _ _ (le-ltb n (f.rank x) (omega arith)) ∙ cond-false (ltb (f.rank x) n) _ _ (le-ltb (f.rank x) n (omega arith))
-              ∙ sym (ap is_some (row_at-here n (plain f x) low high (rows_of f l) (rows_of f r) s.left s.right (omega arith)))
-          | inr (inl less) ↦
-              cond-true (ltb n (f.rank x)) _ _ (lt-ltb n (f.rank x) less) ∙ has_rank-row_at n low (f.rank x) l h.0
-              ∙ sym (ap is_some (row_at-left n (plain f x) low high (rows_of f l) (rows_of f r) s.left s.right (omega arith)))
-          | inr (inr more) ↦
-              cond-false (ltb n (f.rank x)) _ _ (le-ltb n (f.rank x) (omega arith)) ∙ cond-true (ltb (f.rank x) n) _ _ (lt-ltb (f.rank x) n more)
-              ∙ has_rank-row_at n (f.rank x + 1) high r h.1
-              ∙ sym (ap is_some (row_at-right n (plain f x) low high (rows_of f l) (rows_of f r) s.left s.right (omega arith)))
-        ]
+        grind (
+          arith,
+          common_steps,
+          rank-plain x,
+          has_rank-row_at n low (f.rank x) l h.0,
+          has_rank-row_at n (f.rank x + 1) high r h.1,
+          row_at-left n (plain f x) low high (rows_of f l) (rows_of f r) s.left s.right,
+          row_at-right n (plain f x) low high (rows_of f l) (rows_of f r) s.left s.right,
+          row_at-here n (plain f x) low high (rows_of f l) (rows_of f r) s.left s.right,
+        )
 
     pub length-inserted : (q : ℕ) (w : R) (t : Tree R) → length (rows_of f (inserted f q w t)) ≡ length (rows_of f t) + cond (has_rank f (f.rank w) t) 0 1
     length-inserted q w Leaf = ap (λ t. length (rows_of f t)) (insert-leaf_tree f q w)
     length-inserted q w (Node l p x r) =
-        let whole = length-append (rows_of f l) (plain f x ∷ rows_of f r) in
-        elim (cases_order (f.rank w) (f.rank x)) [
-          | inl same ↦
-              let is = ap (λ t. length (rows_of f t)) (inserted-here f q w l p x r same) ∙ length-append (rows_of f l) (plain f w ∷ rows_of f r) in
-              let there : has_rank f (f.rank w) (Node l p x r) ≡ true = cond-false (ltb (f.rank w) (f.rank x)) _ _ (le-ltb _ _ (omega arith)) ∙ cond-false (ltb (f.rank x) (f.rank w)) _ _ (le-ltb _ _ (omega arith)) in
-              omega (arith, is, whole, ap {B = ℕ} (λ b. cond b 0 1) there)
-          | inr (inl less) ↦
-              let is = ap (λ t. length (rows_of f t)) (inserted-left f q w l p x r less) ∙ ap length (rows-balanced f (inserted f q w l) p x r) ∙ length-append (rows_of f (inserted f q w l)) (plain f x ∷ rows_of f r) in
-              let there : has_rank f (f.rank w) (Node l p x r) ≡ has_rank f (f.rank w) l = cond-true (ltb (f.rank w) (f.rank x)) _ _ (lt-ltb _ _ less) in
-              omega (arith, is, whole, length-inserted q w l, ap {B = ℕ} (λ b. cond b 0 1) there)
-          | inr (inr more) ↦
-              let is = ap (λ t. length (rows_of f t)) (inserted-right f q w l p x r more) ∙ ap length (rows-balanced f l p x (inserted f q w r)) ∙ length-append (rows_of f l) (plain f x ∷ rows_of f (inserted f q w r)) in
-              let there : has_rank f (f.rank w) (Node l p x r) ≡ has_rank f (f.rank w) r = cond-false (ltb (f.rank w) (f.rank x)) _ _ (le-ltb _ _ (omega arith)) ∙ cond-true (ltb (f.rank x) (f.rank w)) _ _ (lt-ltb _ _ more) in
-              omega (arith, is, whole, length-inserted q w r, ap {B = ℕ} (λ b. cond b 0 1) there)
-        ]
+        grind (
+          arith,
+          common_steps,
+          inserted-here f q w l p x r,
+          inserted-left f q w l p x r,
+          inserted-right f q w l p x r,
+          rows-balanced f (inserted f q w l) p x r,
+          rows-balanced f l p x (inserted f q w r),
+          length-inserted q w l,
+          length-inserted q w r,
+        )
 
     pub length-removed : (n : ℕ) (t : Tree R) → length (rows_of f (removed f n t)) + cond (has_rank f n t) 1 0 ≡ length (rows_of f t)
     length-removed n Leaf = omega (arith, ap (λ t. length (rows_of f t)) (removed-leaf f n))
     length-removed n (Node l p x r) =
-        let whole = length-append (rows_of f l) (plain f x ∷ rows_of f r) in
-        elim (cases_order n (f.rank x)) [
-          | inl same ↦
-              let is = ap (λ t. length (rows_of f t)) (removed-here f n l p x r same) ∙ ap length (rows-without_root l p x r) ∙ length-append (rows_of f l) (rows_of f r) in
-              let there : has_rank f n (Node l p x r) ≡ true = cond-false (ltb n (f.rank x)) _ _ (le-ltb _ _ (omega arith)) ∙ cond-false (ltb (f.rank x) n) _ _ (le-ltb _ _ (omega arith)) in
-              omega (arith, is, whole, ap {B = ℕ} (λ b. cond b 1 0) there)
-          | inr (inl less) ↦
-              let is = ap (λ t. length (rows_of f t)) (removed-left f n l p x r less) ∙ ap length (rows-balanced f (removed f n l) p x r) ∙ length-append (rows_of f (removed f n l)) (plain f x ∷ rows_of f r) in
-              let there : has_rank f n (Node l p x r) ≡ has_rank f n l = cond-true (ltb n (f.rank x)) _ _ (lt-ltb _ _ less) in
-              omega (arith, is, whole, length-removed n l, ap {B = ℕ} (λ b. cond b 1 0) there)
-          | inr (inr more) ↦
-              let is = ap (λ t. length (rows_of f t)) (removed-right f n l p x r more) ∙ ap length (rows-balanced f l p x (removed f n r)) ∙ length-append (rows_of f l) (plain f x ∷ rows_of f (removed f n r)) in
-              let there : has_rank f n (Node l p x r) ≡ has_rank f n r = cond-false (ltb n (f.rank x)) _ _ (le-ltb _ _ (omega arith)) ∙ cond-true (ltb (f.rank x) n) _ _ (lt-ltb _ _ more) in
-              omega (arith, is, whole, length-removed n r, ap {B = ℕ} (λ b. cond b 1 0) there)
-        ]
+        grind (
+          arith,
+          common_steps,
+          removed-here f n l p x r,
+          removed-left f n l p x r,
+          removed-right f n l p x r,
+          rows-without_root l p x r,
+          rows-balanced f (removed f n l) p x r,
+          rows-balanced f l p x (removed f n r),
+          length-removed n l,
+          length-removed n r,
+        )

@@ -88,6 +88,48 @@ module _ {R : Type 0} (f : Functions R) where
   pub Same-linked : AreLawful f → (x : R) (l r : Option (Child R)) → Same f x (f.linked x l r)
   Same-linked laws x l r = record { linked = λ a b. laws.forgets x l r a b; rank = laws.rank_kept x l r }
 
+  -- parts on both sides of a row, over a row of its rank
+  pub split_over :
+      {s : Slab R} {l r : Tree R} {p low high : ℕ} {x had : R}
+      → get s p ≡ Some had → f.rank had ≡ f.rank x → Spells f s l → Spells f s r
+      → IsOrdered f low (f.rank x) l → IsOrdered f (f.rank x + 1) high r → IsSplit f s l p x r low high
+  split_over {x = x} {had} at same left right left_ordered right_ordered =
+      record {
+        middle = f.rank x;
+        past = f.rank x + 1;
+        had = had;
+        at = at;
+        left = left;
+        right = right;
+        left_ordered = left_ordered;
+        right_ordered = right_ordered;
+        had_from = omega arith;
+        had_below = omega arith;
+        row_from = omega arith;
+        row_below = omega arith;
+      }
+
+  -- other parts between the same bounds, under a row of the same rank
+  pub split_with :
+      {s s1 : Slab R} {l r l1 r1 : Tree R} {p low high low1 high1 : ℕ} {x y : R}
+      → (h : IsSplit f s l p x r low high) → f.rank y ≡ f.rank x → get s1 p ≡ Some h.had → Spells f s1 l1 → Spells f s1 r1
+      → IsOrdered f low1 h.middle l1 → IsOrdered f h.past high1 r1 → IsSplit f s1 l1 p y r1 low1 high1
+  split_with h same at left right left_ordered right_ordered =
+      record {
+        middle = h.middle;
+        past = h.past;
+        had = h.had;
+        at = at;
+        left = left;
+        right = right;
+        left_ordered = left_ordered;
+        right_ordered = right_ordered;
+        had_from = h.had_from;
+        had_below = h.had_below;
+        row_from = omega (arith, h.row_from);
+        row_below = omega (arith, h.row_below);
+      }
+
   -- the new slab has the tree, and the row that is handed back is its root
   pub record IsPlaced (old new : Slab R) (t : Tree R) (low high : ℕ) (c : Child R) : Type 0 where
     pub becomes : Becomes f old new t low high

@@ -7,7 +7,7 @@ use Rattle.balanced_tree.specs.declared.children.Child.{Child}
 use Rattle.balanced_tree.specs.Row.{Functions, AreLawful, height_in}
 use Rattle.balanced_tree.specs.Tree.{Tree, Leaf, Node, child_of, stored, leaned_right, leaned_left, balanced}
 use Rattle.balanced_tree.specs.Standing.{child_at, Spells, Same, Keeps, IsSplit}
-use Rattle.balanced_tree.proofs.Spelling.{link_of-child_of, child_at-place_of, IsOrdered-bounds, Spells-kept, Keeps-trans, Keeps-wider, Same-linked, IsPlaced, place_over-tree, picked-is, picked-test, not_picked}
+use Rattle.balanced_tree.proofs.Spelling.{link_of-child_of, child_at-place_of, IsOrdered-bounds, Spells-kept, Keeps-trans, Keeps-wider, Same-linked, IsPlaced, split_over, split_with, place_over-tree, picked-is, picked-test, not_picked}
 
 module _ {R : Type 0} (f : Functions R) where
   -- a second row is put over parts among which the first was put
@@ -31,38 +31,12 @@ module _ {R : Type 0} (f : Functions R) where
       → Updates s1 s2 i (Some (f.linked v cl (Some lower))) → upper ≡ record { link = i; row = f.linked v cl (Some lower) }
       → IsPlaced f s s2 (Node a j y (Node b p x r)) low high upper
   once_right {s} {s1} {s2} {a} {b} {r} {p} {j} {q} {i} {low} {high} {x} {y} laws split same_x same_y is_j is_p left middle right u1 lower_is u2 upper_is =
-      let inner : IsSplit f s b p x r (f.rank y + 1) high = record {
-        middle = split.middle;
-        past = split.past;
-        had = split.had;
-        at = split.at;
-        left = split.left.2;
-        right = split.right;
-        left_ordered = split.left_ordered.1;
-        right_ordered = split.right_ordered;
-        had_from = split.had_from;
-        had_below = split.had_below;
-        row_from = split.row_from;
-        row_below = split.row_below;
-      } in
+      let inner : IsSplit f s b p x r (f.rank y + 1) high = split_with f split refl split.at split.left.2 split.right split.left_ordered.1 split.right_ordered in
       let one = place_over-tree f laws inner same_x middle right is_p u1 lower_is in
       let had = f.linked y (child_of f a) (child_of f b) in
       let rank_is : f.rank had ≡ f.rank y = laws.rank_kept y _ _ in
       let below = IsOrdered-bounds f low (f.rank y) a split.left_ordered.0 in
-      let outer : IsSplit f s1 a j y (Node b p x r) low high = record {
-        middle = f.rank y;
-        past = f.rank y + 1;
-        had = had;
-        at = one.becomes.kept.kept j had split.left.0 (inl (omega arith));
-        left = Spells-kept f low (f.rank y) a one.becomes.kept laws split.left_ordered.0 (inl (omega arith)) split.left.1;
-        right = one.becomes.spelled;
-        left_ordered = split.left_ordered.0;
-        right_ordered = one.becomes.ordered;
-        had_from = omega arith;
-        had_below = omega arith;
-        row_from = omega arith;
-        row_below = omega arith;
-      } in
+      let outer : IsSplit f s1 a j y (Node b p x r) low high = split_over f (one.becomes.kept.kept j had split.left.0 (inl (omega arith))) rank_is (Spells-kept f low (f.rank y) a one.becomes.kept laws split.left_ordered.0 (inl (omega arith)) split.left.1) one.becomes.spelled split.left_ordered.0 one.becomes.ordered in
       IsPlaced-after (omega arith) (omega arith) one.becomes.kept (place_over-tree f laws outer same_y left one.child is_j u2 upper_is)
 
   pub once_left :
@@ -74,38 +48,12 @@ module _ {R : Type 0} (f : Functions R) where
       → Updates s1 s2 i (Some (f.linked v (Some lower) cr)) → upper ≡ record { link = i; row = f.linked v (Some lower) cr }
       → IsPlaced f s s2 (Node (Node l p x a) j y b) low high upper
   once_left {s} {s1} {s2} {l} {a} {b} {p} {j} {q} {i} {low} {high} {x} {y} laws split same_x same_y is_j is_p left middle right u1 lower_is u2 upper_is =
-      let inner : IsSplit f s l p x a low (f.rank y) = record {
-        middle = split.middle;
-        past = split.past;
-        had = split.had;
-        at = split.at;
-        left = split.left;
-        right = split.right.1;
-        left_ordered = split.left_ordered;
-        right_ordered = split.right_ordered.0;
-        had_from = split.had_from;
-        had_below = split.had_below;
-        row_from = split.row_from;
-        row_below = split.row_below;
-      } in
+      let inner : IsSplit f s l p x a low (f.rank y) = split_with f split refl split.at split.left split.right.1 split.left_ordered split.right_ordered.0 in
       let one = place_over-tree f laws inner same_x left middle is_p u1 lower_is in
       let had = f.linked y (child_of f a) (child_of f b) in
       let rank_is : f.rank had ≡ f.rank y = laws.rank_kept y _ _ in
       let above = IsOrdered-bounds f (f.rank y + 1) high b split.right_ordered.1 in
-      let outer : IsSplit f s1 (Node l p x a) j y b low high = record {
-        middle = f.rank y;
-        past = f.rank y + 1;
-        had = had;
-        at = one.becomes.kept.kept j had split.right.0 (inr (omega arith));
-        left = one.becomes.spelled;
-        right = Spells-kept f (f.rank y + 1) high b one.becomes.kept laws split.right_ordered.1 (inr (omega arith)) split.right.2;
-        left_ordered = one.becomes.ordered;
-        right_ordered = split.right_ordered.1;
-        had_from = omega arith;
-        had_below = omega arith;
-        row_from = omega arith;
-        row_below = omega arith;
-      } in
+      let outer : IsSplit f s1 (Node l p x a) j y b low high = split_over f (one.becomes.kept.kept j had split.right.0 (inr (omega arith))) rank_is one.becomes.spelled (Spells-kept f (f.rank y + 1) high b one.becomes.kept laws split.right_ordered.1 (inr (omega arith)) split.right.2) one.becomes.ordered split.right_ordered.1 in
       IsPlaced-after (omega arith) (omega arith) one.becomes.kept (place_over-tree f laws outer same_y one.child right is_j u2 upper_is)
 
   pub twice_right :
@@ -128,50 +76,11 @@ module _ {R : Type 0} (f : Functions R) where
       let in_r = IsOrdered-bounds f split.past high r split.right_ordered in
       let had_from : split.middle ≤ f.rank split.had = split.had_from in
       let had_below : f.rank split.had < split.past = split.had_below in
-      let inner : IsSplit f s a j y c low (f.rank z) = record {
-        middle = f.rank y;
-        past = f.rank y + 1;
-        had = had_y;
-        at = split.left.0;
-        left = split.left.1;
-        right = split.left.2.1;
-        left_ordered = split.left_ordered.0;
-        right_ordered = split.left_ordered.1.0;
-        had_from = omega arith;
-        had_below = omega arith;
-        row_from = omega arith;
-        row_below = omega arith;
-      } in
+      let inner : IsSplit f s a j y c low (f.rank z) = split_over f split.left.0 rank_y split.left.1 split.left.2.1 split.left_ordered.0 split.left_ordered.1.0 in
       let one = place_over-tree f laws inner same_y on_a on_c is_j u1 first_is in
-      let next : IsSplit f s1 d p x r (f.rank z + 1) high = record {
-        middle = split.middle;
-        past = split.past;
-        had = split.had;
-        at = one.becomes.kept.kept p split.had split.at (inr (omega arith));
-        left = Spells-kept f (f.rank z + 1) split.middle d one.becomes.kept laws split.left_ordered.1.1 (inr (omega arith)) split.left.2.2;
-        right = Spells-kept f split.past high r one.becomes.kept laws split.right_ordered (inr (omega arith)) split.right;
-        left_ordered = split.left_ordered.1.1;
-        right_ordered = split.right_ordered;
-        had_from = split.had_from;
-        had_below = split.had_below;
-        row_from = split.row_from;
-        row_below = split.row_below;
-      } in
+      let next : IsSplit f s1 d p x r (f.rank z + 1) high = split_with f split refl (one.becomes.kept.kept p split.had split.at (inr (omega arith))) (Spells-kept f (f.rank z + 1) split.middle d one.becomes.kept laws split.left_ordered.1.1 (inr (omega arith)) split.left.2.2) (Spells-kept f split.past high r one.becomes.kept laws split.right_ordered (inr (omega arith)) split.right) split.left_ordered.1.1 split.right_ordered in
       let two = place_over-tree f laws next same_x on_d on_r is_p u2 last_is in
-      let outer : IsSplit f s2 (Node a j y c) k z (Node d p x r) low high = record {
-        middle = f.rank z;
-        past = f.rank z + 1;
-        had = had_z;
-        at = two.becomes.kept.kept k had_z (one.becomes.kept.kept k had_z split.left.2.0 (inr (omega arith))) (inl (omega arith));
-        left = Spells-kept f low (f.rank z) (Node a j y c) two.becomes.kept laws one.becomes.ordered (inl (omega arith)) one.becomes.spelled;
-        right = two.becomes.spelled;
-        left_ordered = one.becomes.ordered;
-        right_ordered = two.becomes.ordered;
-        had_from = omega arith;
-        had_below = omega arith;
-        row_from = omega arith;
-        row_below = omega arith;
-      } in
+      let outer : IsSplit f s2 (Node a j y c) k z (Node d p x r) low high = split_over f (two.becomes.kept.kept k had_z (one.becomes.kept.kept k had_z split.left.2.0 (inr (omega arith))) (inl (omega arith))) rank_z (Spells-kept f low (f.rank z) (Node a j y c) two.becomes.kept laws one.becomes.ordered (inl (omega arith)) one.becomes.spelled) two.becomes.spelled one.becomes.ordered two.becomes.ordered in
       let three = place_over-tree f laws outer same_z one.child two.child is_k u3 upper_is in
       IsPlaced-after (omega arith) (omega arith) one.becomes.kept (IsPlaced-after (omega arith) (omega arith) two.becomes.kept three)
 
@@ -195,50 +104,11 @@ module _ {R : Type 0} (f : Functions R) where
       let in_b = IsOrdered-bounds f (f.rank y + 1) high b split.right_ordered.1 in
       let had_from : split.middle ≤ f.rank split.had = split.had_from in
       let had_below : f.rank split.had < split.past = split.had_below in
-      let inner : IsSplit f s l p x c low (f.rank z) = record {
-        middle = split.middle;
-        past = split.past;
-        had = split.had;
-        at = split.at;
-        left = split.left;
-        right = split.right.1.1;
-        left_ordered = split.left_ordered;
-        right_ordered = split.right_ordered.0.0;
-        had_from = split.had_from;
-        had_below = split.had_below;
-        row_from = split.row_from;
-        row_below = split.row_below;
-      } in
+      let inner : IsSplit f s l p x c low (f.rank z) = split_with f split refl split.at split.left split.right.1.1 split.left_ordered split.right_ordered.0.0 in
       let one = place_over-tree f laws inner same_x on_l on_c is_p u1 first_is in
-      let next : IsSplit f s1 d j y b (f.rank z + 1) high = record {
-        middle = f.rank y;
-        past = f.rank y + 1;
-        had = had_y;
-        at = one.becomes.kept.kept j had_y split.right.0 (inr (omega arith));
-        left = Spells-kept f (f.rank z + 1) (f.rank y) d one.becomes.kept laws split.right_ordered.0.1 (inr (omega arith)) split.right.1.2;
-        right = Spells-kept f (f.rank y + 1) high b one.becomes.kept laws split.right_ordered.1 (inr (omega arith)) split.right.2;
-        left_ordered = split.right_ordered.0.1;
-        right_ordered = split.right_ordered.1;
-        had_from = omega arith;
-        had_below = omega arith;
-        row_from = omega arith;
-        row_below = omega arith;
-      } in
+      let next : IsSplit f s1 d j y b (f.rank z + 1) high = split_over f (one.becomes.kept.kept j had_y split.right.0 (inr (omega arith))) rank_y (Spells-kept f (f.rank z + 1) (f.rank y) d one.becomes.kept laws split.right_ordered.0.1 (inr (omega arith)) split.right.1.2) (Spells-kept f (f.rank y + 1) high b one.becomes.kept laws split.right_ordered.1 (inr (omega arith)) split.right.2) split.right_ordered.0.1 split.right_ordered.1 in
       let two = place_over-tree f laws next same_y on_d on_b is_j u2 last_is in
-      let outer : IsSplit f s2 (Node l p x c) k z (Node d j y b) low high = record {
-        middle = f.rank z;
-        past = f.rank z + 1;
-        had = had_z;
-        at = two.becomes.kept.kept k had_z (one.becomes.kept.kept k had_z split.right.1.0 (inr (omega arith))) (inl (omega arith));
-        left = Spells-kept f low (f.rank z) (Node l p x c) two.becomes.kept laws one.becomes.ordered (inl (omega arith)) one.becomes.spelled;
-        right = two.becomes.spelled;
-        left_ordered = one.becomes.ordered;
-        right_ordered = two.becomes.ordered;
-        had_from = omega arith;
-        had_below = omega arith;
-        row_from = omega arith;
-        row_below = omega arith;
-      } in
+      let outer : IsSplit f s2 (Node l p x c) k z (Node d j y b) low high = split_over f (two.becomes.kept.kept k had_z (one.becomes.kept.kept k had_z split.right.1.0 (inr (omega arith))) (inl (omega arith))) rank_z (Spells-kept f low (f.rank z) (Node l p x c) two.becomes.kept laws one.becomes.ordered (inl (omega arith)) one.becomes.spelled) two.becomes.spelled one.becomes.ordered two.becomes.ordered in
       let three = place_over-tree f laws outer same_z one.child two.child is_k u3 upper_is in
       IsPlaced-after (omega arith) (omega arith) one.becomes.kept (IsPlaced-after (omega arith) (omega arith) two.becomes.kept three)
 
