@@ -1,6 +1,6 @@
 -- The root of a tree that stands in a slab, and its parts.
-use Rattle.std.proofs.Common.{◌≡◌, ◌⊎◌, ℕ, ◌+◌, ◌<◌, ◌≤◌, ◌^◌, max, true, ltb, Option, None, Some, IsTrue, refl, sym, ap, ◌∙◌, subst, inl, inr, arith}
-use Rattle.std.proofs.lemmas.Bool.{lt-ltb, le-ltb, cond-true, cond-false}
+use Rattle.std.proofs.Common.{◌≡◌, ◌⊎◌, ℕ, ◌+◌, ◌<◌, ◌≤◌, ◌^◌, max, true, Option, None, Some, IsTrue, refl, sym, ap, ◌∙◌, subst, inl, inr, arith}
+use Rattle.std.proofs.lemmas.Grind.{common_steps}
 use Rattle.std.proofs.lemmas.Option.{same_Some}
 use Rattle.slab.specs.Slab.{Slab, get, ContainsKey, HasRoomFor}
 use Rattle.balanced_tree.specs.declared.children.Child.{Child}
@@ -49,9 +49,6 @@ module _ {R : Type 0} (f : Functions R) where
         left_standing = record { spelled = h.spelled.1; is_at = sym (ap f.left here_is ∙ laws.left_set x _ _ ∙ link_of-child_of f l); ordered = h.ordered.0; short = omega arith };
         right_standing = record { spelled = h.spelled.2; is_at = sym (ap f.right here_is ∙ laws.right_set x _ _ ∙ link_of-child_of f r); ordered = h.ordered.1; short = omega arith };
       }
-
-  pub ContainsKey-Stands : {s : Slab R} {p : ℕ} → Stands f s (Some p) → ContainsKey s p
-  ContainsKey-Stands {s} {p} h = ContainsKey-place_of f s h.tree p h.standing.spelled h.standing.is_at
 
   module _ {s : Slab R} {p : ℕ} {here : R} {t : Tree R} {low high : ℕ} (n : IsNode s p here t low high) where
     pub height-left : height n.left + 1 ≤ height t
@@ -103,12 +100,6 @@ module _ {R : Type 0} (f : Functions R) where
     pub in_high : f.rank n.row + 1 ≤ high
     in_high = IsOrdered-bounds f (f.rank n.row + 1) high n.right n.right_standing.ordered
 
-    pub low_le : low ≤ f.rank here
-    low_le = omega (arith, in_low, rank_here)
-
-    pub high_gt : f.rank here < high
-    high_gt = omega (arith, in_high, rank_here)
-
     pub kept_wider_left : {s1 : Slab R} → Keeps f low (f.rank n.row) s s1 → Keeps f low high s s1
     kept_wider_left k = Rattle.balanced_tree.proofs.Spelling.Keeps-wider f low high (omega arith) (omega (arith, in_high)) k
 
@@ -117,33 +108,22 @@ module _ {R : Type 0} (f : Functions R) where
 
     -- which way leads to a rank
     pub found-left : (m : ℕ) (best : Option R) → m < f.rank here → found f m best t ≡ found f m (Some (f.linked here None None)) n.left
-    found-left m best h =
-        ap (found f m best) n.is ∙ cond-true (ltb m (f.rank n.row)) _ _ (lt-ltb m (f.rank n.row) (omega (arith, rank_here)))
-        ∙ ap (λ x. found f m (Some x) n.left) (sym (n.same.linked None None))
+    found-left m best h = rw n.is (grind (arith, common_steps, rank_here, n.same.linked None None))
 
     pub found-right : (m : ℕ) (best : Option R) → f.rank here < m → found f m best t ≡ found f m best n.right
-    found-right m best h =
-        ap (found f m best) n.is ∙ cond-false (ltb m (f.rank n.row)) _ _ (le-ltb m (f.rank n.row) (omega (arith, rank_here)))
-        ∙ cond-true (ltb (f.rank n.row) m) _ _ (lt-ltb (f.rank n.row) m (omega (arith, rank_here)))
+    found-right m best h = rw n.is (grind (arith, common_steps, rank_here))
 
     pub found-here : (m : ℕ) (best : Option R) → f.rank here ≤ m → m ≤ f.rank here → found f m best t ≡ Some (f.linked here None None)
-    found-here m best g h =
-        ap (found f m best) n.is ∙ cond-false (ltb m (f.rank n.row)) _ _ (le-ltb m (f.rank n.row) (omega (arith, rank_here)))
-        ∙ cond-false (ltb (f.rank n.row) m) _ _ (le-ltb (f.rank n.row) m (omega (arith, rank_here)))
-        ∙ ap Some (sym (n.same.linked None None))
+    found-here m best g h = rw n.is (grind (arith, common_steps, rank_here, n.same.linked None None))
 
     pub has_rank-left : (m : ℕ) → m < f.rank here → has_rank f m t ≡ has_rank f m n.left
-    has_rank-left m h = ap (has_rank f m) n.is ∙ cond-true (ltb m (f.rank n.row)) _ _ (lt-ltb m (f.rank n.row) (omega (arith, rank_here)))
+    has_rank-left m h = rw n.is (grind (arith, common_steps, rank_here))
 
     pub has_rank-right : (m : ℕ) → f.rank here < m → has_rank f m t ≡ has_rank f m n.right
-    has_rank-right m h =
-        ap (has_rank f m) n.is ∙ cond-false (ltb m (f.rank n.row)) _ _ (le-ltb m (f.rank n.row) (omega (arith, rank_here)))
-        ∙ cond-true (ltb (f.rank n.row) m) _ _ (lt-ltb (f.rank n.row) m (omega (arith, rank_here)))
+    has_rank-right m h = rw n.is (grind (arith, common_steps, rank_here))
 
     pub has_rank-here : (m : ℕ) → f.rank here ≤ m → m ≤ f.rank here → has_rank f m t ≡ true
-    has_rank-here m g h =
-        ap (has_rank f m) n.is ∙ cond-false (ltb m (f.rank n.row)) _ _ (le-ltb m (f.rank n.row) (omega (arith, rank_here)))
-        ∙ cond-false (ltb (f.rank n.row) m) _ _ (le-ltb (f.rank n.row) m (omega (arith, rank_here)))
+    has_rank-here m g h = rw n.is (grind (arith, common_steps, rank_here))
 
   pub standing-at : {s : Slab R} {at link : Option ℕ} {t : Tree R} {low high : ℕ} → at ≡ link → IsStanding f s at t low high → IsStanding f s link t low high
   standing-at {s} {at} {link} {t} {low} {high} e h = subst (λ q. IsStanding f s q t low high) e h

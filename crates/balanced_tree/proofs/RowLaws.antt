@@ -11,8 +11,6 @@ use Rattle.balanced_tree.specs.Row.{Functions, AreLawful, plain}
 use Rattle.balanced_tree.specs.Rows.{if_at, row_at, row_from, with_row, without_rank, RisesWithin}
 use Rattle.balanced_tree.specs.Tree.{Tree, Leaf, Node, is_leaf, rows_of, IsOrdered, has_rank, found, inserted, least, without_least, without_root, removed}
 use Rattle.balanced_tree.proofs.TreeLaws.{rows-balanced}
-use Rattle.balanced_tree.proofs.Insertions.{inserted-left, inserted-right, inserted-here, insert-leaf_tree}
-use Rattle.balanced_tree.proofs.Removals.{removed-left, removed-right, removed-here, removed-leaf}
 
 option_or-none : {A : Type 0} (o : Option A) → option_or o None ≡ o
 option_or-none None = refl
@@ -176,25 +174,14 @@ module _ {R : Type 0} (f : Functions R) where
         }
 
     pub rows-inserted : (q : ℕ) (w : R) (low high : ℕ) (t : Tree R) → IsOrdered f low high t → rows_of f (inserted f q w t) ≡ with_row f (plain f w) (rows_of f t)
-    rows-inserted q w low high Leaf h = ap (rows_of f) (insert-leaf_tree f q w)
+    unfolding inserted
+    rows-inserted q w low high Leaf h = refl
     rows-inserted q w low high (Node l p x r) h =
         let s = sides low high l p x r h in
-        grind (
-          arith,
-          common_steps,
-          rank-plain w,
-          rank-plain x,
-          inserted-here f q w l p x r,
-          inserted-left f q w l p x r,
-          inserted-right f q w l p x r,
-          rows-balanced f (inserted f q w l) p x r,
-          rows-balanced f l p x (inserted f q w r),
-          rows-inserted q w low (f.rank x) l h.0,
-          rows-inserted q w (f.rank x + 1) high r h.1,
-          with_row-here (plain f w) (plain f x) low high (rows_of f l) (rows_of f r) s.left s.right,
-          with_row-left (plain f w) (plain f x) low high (rows_of f l) (rows_of f r) s.left s.right,
-          with_row-right (plain f w) (plain f x) low high (rows_of f l) (rows_of f r) s.left s.right,
-        )
+        let here = with_row-here (plain f w) (plain f x) low high (rows_of f l) (rows_of f r) s.left s.right in
+        let left = with_row-left (plain f w) (plain f x) low high (rows_of f l) (rows_of f r) s.left s.right in
+        let right = with_row-right (plain f w) (plain f x) low high (rows_of f l) (rows_of f r) s.left s.right in
+        grind (arith, common_steps, rank-plain, rows-balanced f, rows-inserted q w low (f.rank x) l h.0, rows-inserted q w (f.rank x + 1) high r h.1)
 
     rows-without_least : (d : R) (t : Tree R) → is_leaf t ≡ false → plain f (least f t d) ∷ rows_of f (without_least f t) ≡ rows_of f t
     unfolding without_least
@@ -211,85 +198,44 @@ module _ {R : Type 0} (f : Functions R) where
         rows-balanced f l p (least f a y) (without_least f (Node a q y b)) ∙ ap (λ u. rows_of f l ++ u) (rows-without_least x (Node a q y b) refl)
 
     pub rows-removed : (n low high : ℕ) (t : Tree R) → IsOrdered f low high t → rows_of f (removed f n t) ≡ without_rank f n (rows_of f t)
-    rows-removed n low high Leaf h = ap (rows_of f) (removed-leaf f n)
+    unfolding removed
+    rows-removed n low high Leaf h = refl
     rows-removed n low high (Node l p x r) h =
         let s = sides low high l p x r h in
-        grind (
-          arith,
-          common_steps,
-          rank-plain x,
-          removed-here f n l p x r,
-          removed-left f n l p x r,
-          removed-right f n l p x r,
-          rows-without_root l p x r,
-          rows-balanced f (removed f n l) p x r,
-          rows-balanced f l p x (removed f n r),
-          rows-removed n low (f.rank x) l h.0,
-          rows-removed n (f.rank x + 1) high r h.1,
-          without_rank-here n (plain f x) low high (rows_of f l) (rows_of f r) s.left s.right,
-          without_rank-left n (plain f x) low high (rows_of f l) (rows_of f r) s.left s.right,
-          without_rank-right n (plain f x) low high (rows_of f l) (rows_of f r) s.left s.right,
-        )
+        let here = without_rank-here n (plain f x) low high (rows_of f l) (rows_of f r) s.left s.right in
+        let left = without_rank-left n (plain f x) low high (rows_of f l) (rows_of f r) s.left s.right in
+        let right = without_rank-right n (plain f x) low high (rows_of f l) (rows_of f r) s.left s.right in
+        let root = rows-without_root l p x r in
+        grind (arith, common_steps, rank-plain, rows-balanced f, rows-removed n low (f.rank x) l h.0, rows-removed n (f.rank x + 1) high r h.1)
 
     -- what the way down finds
     pub found-row_from : (n : ℕ) (best : Option R) (low high : ℕ) (t : Tree R) → IsOrdered f low high t → found f n best t ≡ option_or (row_from f n (rows_of f t)) best
     found-row_from n best low high Leaf h = refl
     found-row_from n best low high (Node l p x r) h =
         let s = sides low high l p x r h in
-        grind (
-          arith,
-          common_steps,
-          rank-plain x,
-          found-row_from n (Some (plain f x)) low (f.rank x) l h.0,
-          found-row_from n best (f.rank x + 1) high r h.1,
-          option_or-some (row_from f n (rows_of f l)) (plain f x) best,
-          row_from-here n (plain f x) low high (rows_of f l) (rows_of f r) s.left s.right,
-          row_from-left n (plain f x) low high (rows_of f l) (rows_of f r) s.left s.right,
-          row_from-right n (plain f x) low high (rows_of f l) (rows_of f r) s.left s.right,
-        )
+        let here = row_from-here n (plain f x) low high (rows_of f l) (rows_of f r) s.left s.right in
+        let left = row_from-left n (plain f x) low high (rows_of f l) (rows_of f r) s.left s.right in
+        let right = row_from-right n (plain f x) low high (rows_of f l) (rows_of f r) s.left s.right in
+        let on_left = found-row_from n (Some (plain f x)) low (f.rank x) l h.0 in
+        let on_right = found-row_from n best (f.rank x + 1) high r h.1 in
+        grind (arith, common_steps, rank-plain, option_or-some (row_from f n (rows_of f l)) (plain f x) best)
 
     pub has_rank-row_at : (n low high : ℕ) (t : Tree R) → IsOrdered f low high t → has_rank f n t ≡ is_some (row_at f n (rows_of f t))
     has_rank-row_at n low high Leaf h = refl
     has_rank-row_at n low high (Node l p x r) h =
         let s = sides low high l p x r h in
-        grind (
-          arith,
-          common_steps,
-          rank-plain x,
-          has_rank-row_at n low (f.rank x) l h.0,
-          has_rank-row_at n (f.rank x + 1) high r h.1,
-          row_at-left n (plain f x) low high (rows_of f l) (rows_of f r) s.left s.right,
-          row_at-right n (plain f x) low high (rows_of f l) (rows_of f r) s.left s.right,
-          row_at-here n (plain f x) low high (rows_of f l) (rows_of f r) s.left s.right,
-        )
+        let here = row_at-here n (plain f x) low high (rows_of f l) (rows_of f r) s.left s.right in
+        let left = row_at-left n (plain f x) low high (rows_of f l) (rows_of f r) s.left s.right in
+        let right = row_at-right n (plain f x) low high (rows_of f l) (rows_of f r) s.left s.right in
+        grind (arith, common_steps, rank-plain, has_rank-row_at n low (f.rank x) l h.0, has_rank-row_at n (f.rank x + 1) high r h.1)
 
     pub length-inserted : (q : ℕ) (w : R) (t : Tree R) → length (rows_of f (inserted f q w t)) ≡ length (rows_of f t) + cond (has_rank f (f.rank w) t) 0 1
-    length-inserted q w Leaf = ap (λ t. length (rows_of f t)) (insert-leaf_tree f q w)
-    length-inserted q w (Node l p x r) =
-        grind (
-          arith,
-          common_steps,
-          inserted-here f q w l p x r,
-          inserted-left f q w l p x r,
-          inserted-right f q w l p x r,
-          rows-balanced f (inserted f q w l) p x r,
-          rows-balanced f l p x (inserted f q w r),
-          length-inserted q w l,
-          length-inserted q w r,
-        )
+    unfolding inserted
+    length-inserted q w Leaf = refl
+    length-inserted q w (Node l p x r) = grind (arith, common_steps, rows-balanced f, length-inserted q w l, length-inserted q w r)
 
     pub length-removed : (n : ℕ) (t : Tree R) → length (rows_of f (removed f n t)) + cond (has_rank f n t) 1 0 ≡ length (rows_of f t)
-    length-removed n Leaf = omega (arith, ap (λ t. length (rows_of f t)) (removed-leaf f n))
+    unfolding removed
+    length-removed n Leaf = refl
     length-removed n (Node l p x r) =
-        grind (
-          arith,
-          common_steps,
-          removed-here f n l p x r,
-          removed-left f n l p x r,
-          removed-right f n l p x r,
-          rows-without_root l p x r,
-          rows-balanced f (removed f n l) p x r,
-          rows-balanced f l p x (removed f n r),
-          length-removed n l,
-          length-removed n r,
-        )
+        grind (arith, common_steps, rows-balanced f, rows-without_root l p x r, length-removed n l, length-removed n r)

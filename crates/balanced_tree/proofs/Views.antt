@@ -6,7 +6,7 @@ use Rattle.balanced_tree.specs.declared.children.Child.{Child}
 use Rattle.balanced_tree.specs.Row.{Functions, AreLawful, plain, link_of}
 use Rattle.balanced_tree.specs.Rows.{if_at, row_at, row_from, with_row, without_rank, IsRising}
 use Rattle.balanced_tree.specs.Tree.{Tree, Leaf, Node, place_of, height, child_of, rows_of, has_rank, found, inserted, removed}
-use Rattle.balanced_tree.specs.Standing.{Spells, IsStanding, Stands, StandsFor, HasInserted, HasRemoved, height_at, rows_round, rows_down, rows_in, IsTree}
+use Rattle.balanced_tree.specs.Standing.{Spells, IsStanding, StandsFor, HasInserted, HasRemoved, height_at, rows_round, rows_down, rows_in, IsTree}
 use Rattle.balanced_tree.proofs.Spelling.{link_of-child_of, child_at-place_of}
 use Rattle.balanced_tree.proofs.Nodes.{height_at-standing}
 use Rattle.balanced_tree.proofs.TreeLaws.{IsGrown, IsShrunk, grown-inserted, shrunk-removed}
@@ -67,10 +67,6 @@ module _ {R : Type 0} (f : Functions R) (laws : AreLawful f) where
 
   pub rows-roomy : (s s1 : Slab R) (root : Option ℕ) → s1.slots ≡ s.slots → IsTree f s root → (rows_in f s1 root).rows ≡ (rows_in f s root).rows
   rows-roomy s s1 root same h = rows_in-standing (roomy_standing same h) ∙ sym (rows_in-standing h.standing)
-
-  -- a tree in a slab, for what a change of its root begins with
-  pub Stands-IsTree : {s : Slab R} {root : Option ℕ} → IsTree f s root → Stands f s root
-  Stands-IsTree h = record { tree = h.tree; low = 0; high = 2 ^ 128; standing = h.standing }
 
   pub rising-rows : {s : Slab R} {root : Option ℕ} → IsTree f s root → IsRising f (rows_in f s root).rows
   rising-rows {s} {root} h = subst (IsRising f) (sym (rows_in-standing h.standing)) (rises-rows f laws 0 (2 ^ 128) h.tree h.standing.ordered)
