@@ -2,7 +2,7 @@
 use Rattle.std.proofs.Common.{◌≡◌, ℕ, ◌+◌, ◌<◌, ◌≤◌, Bool, true, false, not, cond, ltb, leb, eqb, List, [], ◌∷◌, ◌++◌, length, Option, None, Some, is_some, refl, sym, ap, ◌∙◌, subst, arith}
 use Rattle.std.specs.List.{filter, find}
 use Rattle.std.specs.Option.{option_or}
-use Rattle.std.proofs.lemmas.Bool.{lt-ltb, le-ltb, le-leb, lt-leb, eq-eqb, ne_eqb, cond-true, cond-false}
+use Rattle.std.proofs.lemmas.Bool.{lt-ltb, le-ltb, lt-leb, ne_eqb, cond-true, cond-false}
 use Rattle.std.proofs.lemmas.List.{append_assoc, append-nil}
 use Rattle.std.proofs.lemmas.Grind.{common_steps}
 use Rattle.std.proofs.lemmas.List.Elements.{filter-append}
@@ -91,56 +91,39 @@ module _ {R : Type 0} (f : Functions R) where
 
     without_rank-left : n < f.rank y → without_rank f n (xs ++ y ∷ ys) ≡ without_rank f n xs ++ y ∷ ys
     without_rank-left h =
-        filter-append (λ z. not (eqb (f.rank z) n)) xs (y ∷ ys)
-        ∙ ap (λ l. filter (λ z. not (eqb (f.rank z) n)) xs ++ l) (filter-all (λ m. not (eqb m n)) (f.rank y) high (y ∷ ys) (omega arith, right) (λ m g e. differs m n (λ q. absurd (omega arith))))
+        let all = filter-all (λ m. not (eqb m n)) (f.rank y) high (y ∷ ys) (omega arith, right) (λ m g e. differs m n (λ q. absurd (omega arith))) in
+        grind (arith, common_steps, filter-append (λ z. not (eqb (f.rank z) n)) xs (y ∷ ys))
 
     without_rank-right : f.rank y < n → without_rank f n (xs ++ y ∷ ys) ≡ xs ++ y ∷ without_rank f n ys
     without_rank-right h =
-        filter-append (λ z. not (eqb (f.rank z) n)) xs (y ∷ ys)
-        ∙ ap (λ l. l ++ filter (λ z. not (eqb (f.rank z) n)) (y ∷ ys)) (filter-all (λ m. not (eqb m n)) low (f.rank y) xs left (λ m g e. differs m n (λ q. absurd (omega arith))))
-        ∙ ap (λ l. xs ++ l) (cond-true (not (eqb (f.rank y) n)) (y ∷ filter (λ z. not (eqb (f.rank z) n)) ys) (filter (λ z. not (eqb (f.rank z) n)) ys) (differs (f.rank y) n (λ q. absurd (omega arith))))
+        let all = filter-all (λ m. not (eqb m n)) low (f.rank y) xs left (λ m g e. differs m n (λ q. absurd (omega arith))) in
+        grind (arith, common_steps, filter-append (λ z. not (eqb (f.rank z) n)) xs (y ∷ ys))
 
     without_rank-here : n ≡ f.rank y → without_rank f n (xs ++ y ∷ ys) ≡ xs ++ ys
     without_rank-here h =
-        filter-append (λ z. not (eqb (f.rank z) n)) xs (y ∷ ys)
-        ∙ ap (λ l. l ++ filter (λ z. not (eqb (f.rank z) n)) (y ∷ ys)) (filter-all (λ m. not (eqb m n)) low (f.rank y) xs left (λ m g e. differs m n (λ q. absurd (omega arith))))
-        ∙ ap (λ l. xs ++ l)
-        (cond-false (not (eqb (f.rank y) n)) (y ∷ filter (λ z. not (eqb (f.rank z) n)) ys) (filter (λ z. not (eqb (f.rank z) n)) ys) (ap not (eq-eqb (f.rank y) n (sym h)))
-        ∙ filter-all (λ m. not (eqb m n)) (f.rank y + 1) high ys right (λ m g e. differs m n (λ q. absurd (omega arith))))
+        let all = filter-all (λ m. not (eqb m n)) low (f.rank y) xs left (λ m g e. differs m n (λ q. absurd (omega arith))) in
+        let rest = filter-all (λ m. not (eqb m n)) (f.rank y + 1) high ys right (λ m g e. differs m n (λ q. absurd (omega arith))) in
+        grind (arith, common_steps, filter-append (λ z. not (eqb (f.rank z) n)) xs (y ∷ ys))
 
     row_from-left : n < f.rank y → row_from f n (xs ++ y ∷ ys) ≡ option_or (row_from f n xs) (Some y)
-    row_from-left h =
-        find-append (λ z. leb n (f.rank z)) xs (y ∷ ys) ∙ ap (option_or (row_from f n xs)) (cond-true (leb n (f.rank y)) (Some y) (row_from f n ys) (le-leb n (f.rank y) (omega arith)))
+    row_from-left h = grind (arith, common_steps, find-append (λ z. leb n (f.rank z)) xs (y ∷ ys))
 
     row_from-right : f.rank y < n → row_from f n (xs ++ y ∷ ys) ≡ row_from f n ys
-    row_from-right h =
-        find-append (λ z. leb n (f.rank z)) xs (y ∷ ys)
-        ∙ ap (λ o. option_or o (row_from f n (y ∷ ys))) (find-none (λ m. leb n m) low (f.rank y) xs left (λ m g e. lt-leb n m (omega arith)))
-        ∙ cond-false (leb n (f.rank y)) (Some y) (row_from f n ys) (lt-leb n (f.rank y) h)
+    row_from-right h = let none = find-none (λ m. leb n m) low (f.rank y) xs left (λ m g e. lt-leb n m (omega arith)) in grind (arith, common_steps, find-append (λ z. leb n (f.rank z)) xs (y ∷ ys))
 
     row_from-here : n ≡ f.rank y → row_from f n (xs ++ y ∷ ys) ≡ Some y
-    row_from-here h =
-        find-append (λ z. leb n (f.rank z)) xs (y ∷ ys)
-        ∙ ap (λ o. option_or o (row_from f n (y ∷ ys))) (find-none (λ m. leb n m) low (f.rank y) xs left (λ m g e. lt-leb n m (omega arith)))
-        ∙ cond-true (leb n (f.rank y)) (Some y) (row_from f n ys) (le-leb n (f.rank y) (omega arith))
+    row_from-here h = let none = find-none (λ m. leb n m) low (f.rank y) xs left (λ m g e. lt-leb n m (omega arith)) in grind (arith, common_steps, find-append (λ z. leb n (f.rank z)) xs (y ∷ ys))
 
     row_at-left : n < f.rank y → row_at f n (xs ++ y ∷ ys) ≡ row_at f n xs
     row_at-left h =
-        find-append (λ z. eqb (f.rank z) n) xs (y ∷ ys)
-        ∙ ap (option_or (row_at f n xs)) (find-none (λ m. eqb m n) (f.rank y) high (y ∷ ys) (omega arith, right) (λ m g e. ne_eqb m n (λ q. absurd (omega arith))))
-        ∙ option_or-none (row_at f n xs)
+        let none = find-none (λ m. eqb m n) (f.rank y) high (y ∷ ys) (omega arith, right) (λ m g e. ne_eqb m n (λ q. absurd (omega arith))) in
+        grind (arith, common_steps, find-append (λ z. eqb (f.rank z) n) xs (y ∷ ys), option_or-none (row_at f n xs))
 
     row_at-right : f.rank y < n → row_at f n (xs ++ y ∷ ys) ≡ row_at f n ys
-    row_at-right h =
-        find-append (λ z. eqb (f.rank z) n) xs (y ∷ ys)
-        ∙ ap (λ o. option_or o (row_at f n (y ∷ ys))) (find-none (λ m. eqb m n) low (f.rank y) xs left (λ m g e. ne_eqb m n (λ q. absurd (omega arith))))
-        ∙ cond-false (eqb (f.rank y) n) (Some y) (row_at f n ys) (ne_eqb (f.rank y) n (λ q. absurd (omega arith)))
+    row_at-right h = let none = find-none (λ m. eqb m n) low (f.rank y) xs left (λ m g e. ne_eqb m n (λ q. absurd (omega arith))) in grind (arith, common_steps, find-append (λ z. eqb (f.rank z) n) xs (y ∷ ys))
 
     row_at-here : n ≡ f.rank y → row_at f n (xs ++ y ∷ ys) ≡ Some y
-    row_at-here h =
-        find-append (λ z. eqb (f.rank z) n) xs (y ∷ ys)
-        ∙ ap (λ o. option_or o (row_at f n (y ∷ ys))) (find-none (λ m. eqb m n) low (f.rank y) xs left (λ m g e. ne_eqb m n (λ q. absurd (omega arith))))
-        ∙ cond-true (eqb (f.rank y) n) (Some y) (row_at f n ys) (eq-eqb (f.rank y) n (sym h))
+    row_at-here h = let none = find-none (λ m. eqb m n) low (f.rank y) xs left (λ m g e. ne_eqb m n (λ q. absurd (omega arith))) in grind (arith, common_steps, find-append (λ z. eqb (f.rank z) n) xs (y ∷ ys))
 
   -- the row of a rank is the first from this rank on, if that has it
   pub row_at-row_from : (n low high : ℕ) (xs : List R) → RisesWithin f low high xs → row_at f n xs ≡ if_at f n (row_from f n xs)

@@ -1,6 +1,7 @@
 -- What insertion and removal make of a tree's rows, heights and balance.
 use Rattle.std.proofs.Common.{◌≡◌, ◌⊎◌, inl, inr, ℕ, ◌+◌, ◌<◌, ◌≤◌, ◌^◌, max, true, cond, ltb, List, ◌∷◌, ◌++◌, refl, arith}
 use Rattle.std.proofs.lemmas.Bool.{ltb-true, ltb-false, cond_both}
+use Rattle.std.proofs.lemmas.Grind.{common_steps}
 use Rattle.std.proofs.lemmas.List.{append_assoc}
 use Rattle.balanced_tree.specs.Row.{Functions, AreLawful, plain}
 use Rattle.balanced_tree.specs.Tree.{Tree, Leaf, Node, is_leaf, height, IsBalanced, stored, rows_of, leaned_right, leaned_left, balanced, inserted, least, without_least, without_root, removed}
@@ -15,25 +16,18 @@ module _ {R : Type 0} (f : Functions R) where
   unfolding leaned_right
   rows-leaned_right Leaf p x r = refl
   rows-leaned_right (Node a j y Leaf) p x r = simp append_assoc
-  rows-leaned_right (Node a j y (Node c k z d)) p x r =
-      cond_both (ltb (stored f a) (stored f (Node c k z d))) (Node (Node a j y c) k z (Node d p x r)) (Node a j y (Node (Node c k z d) p x r))
-      (λ t. rows_of f t ≡ joined_rows (Node a j y (Node c k z d)) x r) (λ e. simp append_assoc) (λ e. simp append_assoc)
+  rows-leaned_right (Node a j y (Node c k z d)) p x r = grind (arith, common_steps, append_assoc {A = R})
 
   rows-leaned_left : (l : Tree R) (p : ℕ) (x : R) (r : Tree R) → rows_of f (leaned_left f l p x r) ≡ joined_rows l x r
   unfolding leaned_left
   rows-leaned_left l p x Leaf = refl
   rows-leaned_left l p x (Node Leaf j y b) = simp append_assoc
-  rows-leaned_left l p x (Node (Node c k z d) j y b) =
-      cond_both (ltb (stored f b) (stored f (Node c k z d))) (Node (Node l p x c) k z (Node d j y b)) (Node (Node l p x (Node c k z d)) j y b)
-      (λ t. rows_of f t ≡ joined_rows l x (Node (Node c k z d) j y b)) (λ e. simp append_assoc) (λ e. simp append_assoc)
+  rows-leaned_left l p x (Node (Node c k z d) j y b) = grind (arith, common_steps, append_assoc {A = R})
 
   -- a rotation keeps the rows and their order
   pub rows-balanced : (l : Tree R) (p : ℕ) (x : R) (r : Tree R) → rows_of f (balanced f l p x r) ≡ joined_rows l x r
   unfolding balanced
-  rows-balanced l p x r =
-      cond_both (ltb (stored f r + 1) (stored f l)) (leaned_right f l p x r) (cond (ltb (stored f l + 1) (stored f r)) (leaned_left f l p x r) (Node l p x r))
-      (λ t. rows_of f t ≡ joined_rows l x r) (λ e. rows-leaned_right l p x r)
-      (λ e. cond_both (ltb (stored f l + 1) (stored f r)) (leaned_left f l p x r) (Node l p x r) (λ t. rows_of f t ≡ joined_rows l x r) (λ g. rows-leaned_left l p x r) (λ g. refl))
+  rows-balanced l p x r = grind (arith, common_steps, rows-leaned_right l p x r, rows-leaned_left l p x r)
 
   -- what a node is balanced to: as high as the higher part or one higher, and one higher where no rotation is needed
   pub record IsSettled (l r t : Tree R) : Type 0 where
