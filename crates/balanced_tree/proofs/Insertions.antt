@@ -6,7 +6,7 @@ use Rattle.balanced_tree.specs.declared.children.Child.{Child}
 use Rattle.balanced_tree.specs.Row.{Functions, AreLawful}
 use Rattle.balanced_tree.specs.Tree.{Tree, Leaf, Node, child_of, balanced, inserted}
 use Rattle.balanced_tree.specs.Standing.{child_at, Same, IsStanding, Becomes, IsSplit, HasInserted}
-use Rattle.balanced_tree.proofs.Spelling.{Keeps-trans, Same-refl, place_over-tree}
+use Rattle.balanced_tree.proofs.Spelling.{Keeps-trans, Same-refl, split_over, split_with, place_over-tree}
 use Rattle.balanced_tree.proofs.Nodes.{IsNode, rank_here, height-left, height-right, right_is, left_is, right_kept, left_kept, split_left, split_right, kept_wider_left, kept_wider_right, has_rank-left, has_rank-right, has_rank-here}
 
 module _ {R : Type 0} (f : Functions R) where
@@ -82,20 +82,8 @@ module _ {R : Type 0} (f : Functions R) where
       → HasInserted f s s2 w t low high root before after
   insert-here {s} {s2} {p} {here} {w} {t} {low} {high} {before} {after} {root} laws n g h on_left on_right u root_is len steps =
       let q = s.vacant_key in
-      let split : IsSplit f s n.left p w n.right low high = record {
-        middle = f.rank n.row;
-        past = f.rank n.row + 1;
-        had = here;
-        at = n.at;
-        left = n.left_standing.spelled;
-        right = n.right_standing.spelled;
-        left_ordered = n.left_standing.ordered;
-        right_ordered = n.right_standing.ordered;
-        had_from = omega (arith, rank_here f n);
-        had_below = omega (arith, rank_here f n);
-        row_from = omega (arith, rank_here f n);
-        row_below = omega (arith, rank_here f n);
-      } in
+      let had : IsSplit f s n.left p n.row n.right low high = split_over f n.at (rank_here f n) n.left_standing.spelled n.right_standing.spelled n.left_standing.ordered n.right_standing.ordered in
+      let split : IsSplit f s n.left p w n.right low high = split_with f had (omega (arith, rank_here f n)) had.at had.left had.right had.left_ordered had.right_ordered in
       let made = place_over-tree f laws split (Same-refl f w) (left_is f n s n.left_standing.spelled on_left) (right_is f n s n.right_standing.spelled on_right) refl u root_is in
       let is = ap (inserted f q w) n.is ∙ inserted-here q w n.left p n.row n.right (omega (arith, rank_here f n)) in
       record {

@@ -1,12 +1,12 @@
 -- The rows that a slab and a link show are those of the tree that stands there.
-use Rattle.std.proofs.Common.{◌≡◌, inl, ℕ, zero, suc, ◌+◌, ◌-◌, ◌*◌, ◌<◌, ◌≤◌, ◌^◌, Bool, true, false, cond, [], ◌∷◌, ◌++◌, length, Option, None, Some, is_some, IsSome, IsNone, eqb, slice_index_or, count_by, refl, sym, ap, ◌∙◌, subst, arith}
+use Rattle.std.proofs.Common.{◌≡◌, inl, ℕ, zero, suc, ◌+◌, ◌-◌, ◌*◌, ◌<◌, ◌≤◌, ◌^◌, Bool, true, false, cond, [], length, Option, None, Some, is_some, IsSome, IsNone, eqb, slice_index_or, count_by, refl, sym, ap, ◌∙◌, subst, arith}
 use Rattle.std.specs.Option.{option_or}
 use Rattle.slab.specs.Slab.{Slab, slab_len}
 use Rattle.balanced_tree.specs.declared.children.Child.{Child}
 use Rattle.balanced_tree.specs.Row.{Functions, AreLawful, plain, link_of}
 use Rattle.balanced_tree.specs.Rows.{if_at, row_at, row_from, with_row, without_rank, IsRising}
 use Rattle.balanced_tree.specs.Tree.{Tree, Leaf, Node, place_of, height, child_of, rows_of, has_rank, found, inserted, removed}
-use Rattle.balanced_tree.specs.Standing.{Spells, IsStanding, StandsFor, HasInserted, HasRemoved, height_at, rows_round, rows_down, rows_in, IsTree}
+use Rattle.balanced_tree.specs.Standing.{Spells, IsStanding, StandsFor, HasInserted, HasRemoved, height_at, rows_down, rows_in, IsTree}
 use Rattle.balanced_tree.proofs.Spelling.{link_of-child_of, child_at-place_of}
 use Rattle.balanced_tree.proofs.Nodes.{height_at-standing}
 use Rattle.balanced_tree.proofs.TreeLaws.{IsGrown, IsShrunk, grown-inserted, shrunk-removed}
@@ -26,10 +26,7 @@ module _ {R : Type 0} (f : Functions R) (laws : AreLawful f) where
       let left_is : f.left row ≡ place_of l = laws.left_set x _ _ ∙ link_of-child_of f l in
       let right_is : f.right row ≡ place_of r = laws.right_set x _ _ ∙ link_of-child_of f r in
       let plain_is : plain f row ≡ plain f x = laws.forgets x _ _ None None in
-      ap (λ c. rows_round f c (λ link. rows_down f n s link)) (child_at-place_of f s (Node l p x r) h)
-      ∙ ap (λ q. rows_down f n s q ++ plain f row ∷ rows_down f n s (f.right row)) left_is ∙ ap (λ q. rows_down f n s (place_of l) ++ plain f row ∷ rows_down f n s q) right_is
-      ∙ ap (λ y. rows_down f n s (place_of l) ++ y ∷ rows_down f n s (place_of r)) plain_is
-      ∙ ap (λ u. u ++ plain f x ∷ rows_down f n s (place_of r)) on_l ∙ ap (λ u. rows_of f l ++ plain f x ∷ u) on_r
+      rw (child_at-place_of f s (Node l p x r) h, left_is, right_is, plain_is, on_l, on_r) refl
 
   pub rows_in-standing : {s : Slab R} {root : Option ℕ} {t : Tree R} {low high : ℕ} → IsStanding f s root t low high → (rows_in f s root).rows ≡ rows_of f t
   rows_in-standing {s} {root} {t} h =
