@@ -1,13 +1,13 @@
 -- The list of rows that the callers of a tree see, as a map from ranks.
-use Rattle.std.proofs.Common.{◌≡◌, inl, inr, ℕ, ◌+◌, ◌<◌, ◌≤◌, Bool, true, not, cond, ltb, eqb}
+use Rattle.std.proofs.Common.{◌≡◌, inl, inr, ℕ, ◌+◌, ◌<◌, ◌≤◌, Bool, true, not, cond, ltb, leb, eqb}
 use Rattle.std.proofs.Common.{List, [], ◌∷◌, length, Option, None, Some, is_some, refl, sym, ap, ◌∙◌, subst, rules, arith}
-use Rattle.std.specs.List.{filter, find}
+use Rattle.std.specs.List.{filter, find, AllByRecursion}
 use Rattle.std.specs.Option.{option_or}
-use Rattle.std.proofs.lemmas.Bool.{cases_Bool, cond-true, cond-false, ne_eqb, lt-leb, le-leb, cases_lt}
+use Rattle.std.proofs.lemmas.Bool.{cases_Bool, cond-true, cond-false, ne_eqb, lt-leb, le-leb, leb-true, cases_lt}
 use Rattle.std.proofs.lemmas.Bool.Decides.{Decides-eqb}
 use Rattle.std.proofs.lemmas.List.Folds.{find-append}
 use Rattle.balanced_tree.specs.Row.{Functions}
-use Rattle.balanced_tree.specs.Rows.{row_at, row_from, with_row, without_rank, RisesWithin}
+use Rattle.balanced_tree.specs.Rows.{row_at, row_from, row_to, with_row, without_rank, RisesWithin}
 use Rattle.std.proofs.lemmas.Grind.{common_steps}
 
 module _ {X : Type 0} (p q : X → Bool) (b : Bool) (agree : (x : X) → p x ≡ true → q x ≡ b) where
@@ -74,6 +74,75 @@ module _ {R : Type 0} (f : Functions R) where
           least = λ m g l. row_at-below m (f.rank y) high (y ∷ rows) (omega arith, h.1) (subst (λ z. m < f.rank z) (sym same) l);
         }
   ]
+
+  -- what is found up to a rank: the row of the greatest rank there is
+  pub row_to-none : (n m : ℕ) (rows : List R) → row_to f n rows ≡ None → m ≤ n → row_at f m rows ≡ None
+  row_to-none n m [] e h = refl
+  row_to-none n m (y ∷ rows) e h = after (λ is. row_to-none n m rows is h) (row_to f n rows) refl e
+    where
+      after : (row_to f n rows ≡ None → row_at f m rows ≡ None) → (o : Option R) → row_to f n rows ≡ o →
+          option_or o (cond (leb (f.rank y) n) (Some y) None) ≡ None → row_at f m (y ∷ rows) ≡ None
+      after rest None is e = let none = rest is in grind (arith, common_steps, none)
+      after rest (Some z) is e = absurd (cc)
+
+  pub record IsLastTo (n : ℕ) (x : R) (rows : List R) : Type 0 where
+    pub to : f.rank x ≤ n
+    pub is : row_at f (f.rank x) rows ≡ Some x
+    pub greatest : (m : ℕ) → f.rank x < m → m ≤ n → row_at f m rows ≡ None
+
+  -- a row that is found behind the first has a higher rank
+  row_at-behind : (m low high : ℕ) (x y : R) (rows : List R) → RisesWithin f low high (y ∷ rows) → row_at f m rows ≡ Some x → f.rank y < m
+  row_at-behind m low high x y rows h e = elim (cases_lt (f.rank y) m) [
+    | inl less ↦ less
+    | inr more ↦ absurd (let none = row_at-below m (f.rank y + 1) high rows h.1 (omega arith) in cc)
+  ]
+
+  pub row_to-some : (n low high : ℕ) (x : R) (rows : List R) → RisesWithin f low high rows → row_to f n rows ≡ Some x →
+      IsLastTo n x rows
+  row_to-some n low high x [] h e = absurd (cc)
+  row_to-some n low high x (y ∷ rows) h e = after (row_to-some n (f.rank y + 1) high x rows h.1) (row_to f n rows) refl e
+    where
+      after : (row_to f n rows ≡ Some x → IsLastTo n x rows) → (o : Option R) → row_to f n rows ≡ o → option_or o (cond (leb (f.rank y) n) (Some y) None) ≡ Some x →
+          IsLastTo n x (y ∷ rows)
+      after tail None is e = elim (cases_Bool (leb (f.rank y) n)) [
+        | inl to ↦
+            let same : y ≡ x = search (rules, sym (cond-true _ _ _ to) ∙ e) in
+            record {
+              to = subst (λ z. f.rank z ≤ n) same (leb-true (f.rank y) n to);
+              is = subst (λ z. row_at f (f.rank z) (y ∷ rows) ≡ Some z) same (cond-true _ _ _ ((Decides-eqb (f.rank y) (f.rank y)).1 refl));
+              greatest = λ m g l.
+                  cond-false _ _ _ (ne_eqb (f.rank y) m (λ q. absurd (let k = ap f.rank same in omega arith)))
+                  ∙ row_to-none n m rows is l;
+            }
+        | inr past ↦ absurd (let none : cond (leb (f.rank y) n) (Some y) None ≡ None = cond-false _ _ _ past in cc)
+      ]
+      after tail (Some z) is e =
+          let same : z ≡ x = search (rules, e) in
+          let rest = tail (is ∙ ap Some same) in
+          let more = row_at-behind (f.rank x) low high x y rows h rest.is in
+          record {
+            to = rest.to;
+            is = cond-false _ _ _ (ne_eqb (f.rank y) (f.rank x) (λ q. absurd (omega arith))) ∙ rest.is;
+            greatest = λ m g l. cond-false _ _ _ (ne_eqb (f.rank y) m (λ q. absurd (omega arith))) ∙ rest.greatest m g l;
+          }
+
+  -- what holds of each row is what holds of each that is found
+  pub each-found : (P : R → Type 0) (n : ℕ) (x : R) (rows : List R) → AllByRecursion P rows → row_at f n rows ≡ Some x → P x
+  each-found P n x [] h e = absurd (cc)
+  each-found P n x (y ∷ rows) h e = elim (cases_Bool (eqb (f.rank y) n)) [
+    | inl here ↦ let same : y ≡ x = search (rules, sym (cond-true _ _ _ here) ∙ e) in subst P same h.0
+    | inr there ↦ each-found P n x rows h.1 (sym (cond-false _ _ _ there) ∙ e)
+  ]
+
+  pub found-each : (P : R → Type 0) (low high : ℕ) (rows : List R) → RisesWithin f low high rows →
+      ((x : R) → row_at f (f.rank x) rows ≡ Some x → P x) → AllByRecursion P rows
+  found-each P low high [] h all = tt
+  found-each P low high (y ∷ rows) h all = (
+    all y (cond-true _ _ _ ((Decides-eqb (f.rank y) (f.rank y)).1 refl)),
+    found-each P (f.rank y + 1) high rows h.1 (λ x e.
+    let more = row_at-behind (f.rank x) low high x y rows h e in
+    all x (cond-false _ _ _ (ne_eqb (f.rank y) (f.rank x) (λ q. absurd (omega arith))) ∙ e)),
+  )
 
   -- how many rows there are, by a rank
   pub length-around : (n low high : ℕ) (rows : List R) → RisesWithin f low high rows →

@@ -5,7 +5,7 @@ use Rattle.std.proofs.lemmas.Option.{same_Some}
 use Rattle.slab.specs.Slab.{Slab, get, ContainsKey, HasRoomFor}
 use Rattle.balanced_tree.specs.declared.children.Child.{Child}
 use Rattle.balanced_tree.specs.Row.{Functions, AreLawful, height_in}
-use Rattle.balanced_tree.specs.Tree.{Tree, Leaf, Node, height, child_of, stored, has_rank, found}
+use Rattle.balanced_tree.specs.Tree.{Tree, Leaf, Node, height, child_of, stored, has_rank, found, found_to}
 use Rattle.balanced_tree.specs.Standing.{child_at, Spells, Same, IsStanding, Stands, StandsFor, Keeps, Becomes, IsSplit, height_at}
 use Rattle.balanced_tree.proofs.Spelling.{link_of-child_of, child_at-place_of, IsOrdered-bounds, Same-linked, Spells-kept, split_over, split_with, ContainsKey-place_of}
 
@@ -116,6 +116,22 @@ module _ {R : Type 0} (f : Functions R) where
     pub found-here : (m : ℕ) (best : Option R) → f.rank here ≤ m → m ≤ f.rank here → found f m best t ≡ Some (f.linked here None None)
     found-here m best g h = rw n.is (grind (arith, common_steps, rank_here, n.same.linked None None))
 
+    pub found_to-left : (m : ℕ) (best : Option R) → m < f.rank here → found_to f m best t ≡ found_to f m best n.left
+    found_to-left m best h =
+        ap (found_to f m best) n.is ∙ cond-false (ltb (f.rank n.row) m) _ _ (le-ltb (f.rank n.row) m (omega (arith, rank_here)))
+        ∙ cond-true (ltb m (f.rank n.row)) _ _ (lt-ltb m (f.rank n.row) (omega (arith, rank_here)))
+
+    pub found_to-right : (m : ℕ) (best : Option R) → f.rank here < m → found_to f m best t ≡ found_to f m (Some (f.linked here None None)) n.right
+    found_to-right m best h =
+        ap (found_to f m best) n.is ∙ cond-true (ltb (f.rank n.row) m) _ _ (lt-ltb (f.rank n.row) m (omega (arith, rank_here)))
+        ∙ ap (λ x. found_to f m (Some x) n.right) (sym (n.same.linked None None))
+
+    pub found_to-here : (m : ℕ) (best : Option R) → f.rank here ≤ m → m ≤ f.rank here → found_to f m best t ≡ Some (f.linked here None None)
+    found_to-here m best g h =
+        ap (found_to f m best) n.is ∙ cond-false (ltb (f.rank n.row) m) _ _ (le-ltb (f.rank n.row) m (omega (arith, rank_here)))
+        ∙ cond-false (ltb m (f.rank n.row)) _ _ (le-ltb m (f.rank n.row) (omega (arith, rank_here)))
+        ∙ ap Some (sym (n.same.linked None None))
+
     pub has_rank-left : (m : ℕ) → m < f.rank here → has_rank f m t ≡ has_rank f m n.left
     has_rank-left m h = rw n.is (grind (arith, common_steps, rank_here))
 
@@ -212,3 +228,7 @@ module _ {R : Type 0} (f : Functions R) where
   pub found-leaf : {s : Slab R} {at : Option ℕ} (t : Tree R) {low high : ℕ} (m : ℕ) (best : Option R) → at ≡ None → IsStanding f s at t low high → found f m best t ≡ best
   found-leaf Leaf m best e h = refl
   found-leaf (Node l p x r) m best e h = let none : Some p ≡ None = h.is_at ∙ e in cc
+
+  pub found_to-leaf : {s : Slab R} {at : Option ℕ} (t : Tree R) {low high : ℕ} (m : ℕ) (best : Option R) → at ≡ None → IsStanding f s at t low high → found_to f m best t ≡ best
+  found_to-leaf Leaf m best e h = refl
+  found_to-leaf (Node l p x r) m best e h = let none : Some p ≡ None = h.is_at ∙ e in cc

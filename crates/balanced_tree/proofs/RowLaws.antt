@@ -8,17 +8,21 @@ use Rattle.std.proofs.lemmas.Grind.{common_steps}
 use Rattle.std.proofs.lemmas.List.Elements.{filter-append}
 use Rattle.std.proofs.lemmas.List.Folds.{find-append}
 use Rattle.balanced_tree.specs.Row.{Functions, AreLawful, plain}
-use Rattle.balanced_tree.specs.Rows.{if_at, row_at, row_from, with_row, without_rank, RisesWithin}
-use Rattle.balanced_tree.specs.Tree.{Tree, Leaf, Node, is_leaf, rows_of, IsOrdered, has_rank, found, inserted, least, without_least, without_root, removed}
+use Rattle.balanced_tree.specs.Rows.{if_at, row_at, row_from, row_to, with_row, without_rank, RisesWithin}
+use Rattle.balanced_tree.specs.Tree.{Tree, Leaf, Node, is_leaf, rows_of, IsOrdered, has_rank, found, found_to, inserted, least, without_least, without_root, removed}
 use Rattle.balanced_tree.proofs.TreeLaws.{rows-balanced}
 
-option_or-none : {A : Type 0} (o : Option A) → option_or o None ≡ o
+pub option_or-none : {A : Type 0} (o : Option A) → option_or o None ≡ o
 option_or-none None = refl
 option_or-none (Some x) = refl
 
 option_or-some : {A : Type 0} (o : Option A) (x : A) (p : Option A) → option_or (option_or o (Some x)) p ≡ option_or o (Some x)
 option_or-some None x p = refl
 option_or-some (Some y) x p = refl
+
+option_or-within : {A : Type 0} (o p q : Option A) → option_or (option_or o p) q ≡ option_or o (option_or p q)
+option_or-within None p q = refl
+option_or-within (Some x) p q = refl
 
 module _ {R : Type 0} (f : Functions R) where
   RisesWithin-bounds : (low high : ℕ) (xs : List R) → RisesWithin f low high xs → low ≤ high
@@ -54,6 +58,19 @@ module _ {R : Type 0} (f : Functions R) where
   pub RisesWithin-join : (low high : ℕ) (xs : List R) (y : R) (ys : List R) → RisesWithin f low (f.rank y) xs → RisesWithin f (f.rank y + 1) high ys → RisesWithin f low high (xs ++ y ∷ ys)
   RisesWithin-join low high [] y ys h g = (h, g)
   RisesWithin-join low high (x ∷ xs) y ys h g = (h.0, RisesWithin-join (f.rank x + 1) high xs y ys h.1 g)
+
+  row_to-append : (n : ℕ) (xs ys : List R) → row_to f n (xs ++ ys) ≡ option_or (row_to f n ys) (row_to f n xs)
+  row_to-append n [] ys = sym (option_or-none (row_to f n ys))
+  row_to-append n (x ∷ xs) ys =
+      let here = cond (leb (f.rank x) n) (Some x) None in
+      ap (λ o. option_or o here) (row_to-append n xs ys) ∙ option_or-within (row_to f n ys) (row_to f n xs) here
+
+  row_to-behind : (n low high : ℕ) (xs : List R) → RisesWithin f low high xs → n < low → row_to f n xs ≡ None
+  row_to-behind n low high [] h less = refl
+  row_to-behind n low high (x ∷ xs) h less =
+      let from = h.0 in
+      ap (λ o. option_or o (cond (leb (f.rank x) n) (Some x) None)) (row_to-behind n (f.rank x + 1) high xs h.1 (omega arith))
+      ∙ cond-false (leb (f.rank x) n) (Some x) None (lt-leb (f.rank x) n (omega arith))
 
   below : R → R → Bool
   below x y = ltb (f.rank y) (f.rank x)
@@ -113,6 +130,16 @@ module _ {R : Type 0} (f : Functions R) where
 
     row_from-here : n ≡ f.rank y → row_from f n (xs ++ y ∷ ys) ≡ Some y
     row_from-here h = let none = find-none (λ m. leb n m) low (f.rank y) xs left (λ m g e. lt-leb n m (omega arith)) in grind (arith, common_steps, find-append (λ z. leb n (f.rank z)) xs (y ∷ ys))
+
+    row_to-left : n < f.rank y → row_to f n (xs ++ y ∷ ys) ≡ row_to f n xs
+    row_to-left h =
+        row_to-append n xs (y ∷ ys)
+        ∙ ap (λ o. option_or o (row_to f n xs)) (row_to-behind n (f.rank y) high (y ∷ ys) (omega arith, right) h)
+
+    row_to-here : f.rank y ≤ n → row_to f n (xs ++ y ∷ ys) ≡ option_or (row_to f n ys) (Some y)
+    row_to-here h =
+        row_to-append n xs (y ∷ ys) ∙ option_or-within (row_to f n ys) _ (row_to f n xs)
+        ∙ ap (λ o. option_or (row_to f n ys) (option_or o (row_to f n xs))) (cond-true (leb (f.rank y) n) (Some y) None (le-leb (f.rank y) n h))
 
     row_at-left : n < f.rank y → row_at f n (xs ++ y ∷ ys) ≡ row_at f n xs
     row_at-left h =
@@ -202,6 +229,26 @@ module _ {R : Type 0} (f : Functions R) where
         let on_left = found-row_from n (Some (plain f x)) low (f.rank x) l h.0 in
         let on_right = found-row_from n best (f.rank x + 1) high r h.1 in
         grind (arith, common_steps, rank-plain, option_or-some (row_from f n (rows_of f l)) (plain f x) best)
+
+    pub found_to-row_to : (n : ℕ) (best : Option R) (low high : ℕ) (t : Tree R) → IsOrdered f low high t → found_to f n best t ≡ option_or (row_to f n (rows_of f t)) best
+    found_to-row_to n best low high Leaf h = refl
+    found_to-row_to n best low high (Node l p x r) h =
+        let s = sides low high l p x r h in
+        let ex = rank-plain x in
+        elim (cases_order n (f.rank x)) [
+          | inl same ↦
+              cond-false (ltb (f.rank x) n) _ _ (le-ltb (f.rank x) n (omega arith)) ∙ cond-false (ltb n (f.rank x)) _ _ (le-ltb n (f.rank x) (omega arith))
+              ∙ sym (ap (λ o. option_or o best) (row_to-here n (plain f x) low high (rows_of f l) (rows_of f r) s.left s.right (omega arith)
+              ∙ ap (λ o. option_or o (Some (plain f x))) (row_to-behind n (f.rank (plain f x) + 1) high (rows_of f r) s.right (omega arith))))
+          | inr (inl less) ↦
+              cond-false (ltb (f.rank x) n) _ _ (le-ltb (f.rank x) n (omega arith)) ∙ cond-true (ltb n (f.rank x)) _ _ (lt-ltb n (f.rank x) less)
+              ∙ found_to-row_to n best low (f.rank x) l h.0
+              ∙ sym (ap (λ o. option_or o best) (row_to-left n (plain f x) low high (rows_of f l) (rows_of f r) s.left s.right (omega arith)))
+          | inr (inr more) ↦
+              cond-true (ltb (f.rank x) n) _ _ (lt-ltb (f.rank x) n more) ∙ found_to-row_to n (Some (plain f x)) (f.rank x + 1) high r h.1
+              ∙ sym (ap (λ o. option_or o best) (row_to-here n (plain f x) low high (rows_of f l) (rows_of f r) s.left s.right (omega arith))
+              ∙ option_or-some (row_to f n (rows_of f r)) (plain f x) best)
+        ]
 
     pub has_rank-row_at : (n low high : ℕ) (t : Tree R) → IsOrdered f low high t → has_rank f n t ≡ is_some (row_at f n (rows_of f t))
     has_rank-row_at n low high Leaf h = refl

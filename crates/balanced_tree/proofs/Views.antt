@@ -4,13 +4,13 @@ use Rattle.std.specs.Option.{option_or}
 use Rattle.slab.specs.Slab.{Slab, slab_len}
 use Rattle.balanced_tree.specs.declared.children.Child.{Child}
 use Rattle.balanced_tree.specs.Row.{Functions, AreLawful, plain, link_of}
-use Rattle.balanced_tree.specs.Rows.{if_at, row_at, row_from, with_row, without_rank, IsRising}
-use Rattle.balanced_tree.specs.Tree.{Tree, Leaf, Node, place_of, height, child_of, rows_of, has_rank, found, inserted, removed}
+use Rattle.balanced_tree.specs.Rows.{if_at, row_at, row_from, row_to, with_row, without_rank, IsRising}
+use Rattle.balanced_tree.specs.Tree.{Tree, Leaf, Node, place_of, height, child_of, rows_of, has_rank, found, found_to, inserted, removed}
 use Rattle.balanced_tree.specs.Standing.{Spells, IsStanding, StandsFor, HasInserted, HasRemoved, height_at, rows_down, rows_in, IsTree}
 use Rattle.balanced_tree.proofs.Spelling.{link_of-child_of, child_at-place_of}
 use Rattle.balanced_tree.proofs.Nodes.{height_at-standing}
 use Rattle.balanced_tree.proofs.TreeLaws.{IsGrown, IsShrunk, grown-inserted, shrunk-removed}
-use Rattle.balanced_tree.proofs.RowLaws.{rises-rows, rows-inserted, rows-removed, found-row_from, has_rank-row_at, length-inserted, length-removed, row_at-row_from}
+use Rattle.balanced_tree.proofs.RowLaws.{option_or-none, rises-rows, rows-inserted, rows-removed, found-row_from, found_to-row_to, has_rank-row_at, length-inserted, length-removed, row_at-row_from}
 use Rattle.balanced_tree.proofs.Costs.{height-short, look_cost, change_cost}
 
 module _ {R : Type 0} (f : Functions R) (laws : AreLawful f) where
@@ -73,11 +73,11 @@ module _ {R : Type 0} (f : Functions R) (laws : AreLawful f) where
 
   pub row_from-IsTree : {s : Slab R} {root : Option ℕ} (n : ℕ) → (h : IsTree f s root) → found f n None h.tree ≡ row_from f n (rows_in f s root).rows
   row_from-IsTree n h =
-      found-row_from f laws n None 0 (2 ^ 128) h.tree h.standing.ordered ∙ option_or-nothing _ ∙ ap (row_from f n) (sym (rows_in-standing h.standing))
-    where
-      option_or-nothing : {A : Type 0} (o : Option A) → option_or o None ≡ o
-      option_or-nothing None = refl
-      option_or-nothing (Some x) = refl
+      found-row_from f laws n None 0 (2 ^ 128) h.tree h.standing.ordered ∙ option_or-none _ ∙ ap (row_from f n) (sym (rows_in-standing h.standing))
+
+  pub row_to-IsTree : {s : Slab R} {root : Option ℕ} (n : ℕ) → (h : IsTree f s root) → found_to f n None h.tree ≡ row_to f n (rows_in f s root).rows
+  row_to-IsTree n h =
+      found_to-row_to f laws n None 0 (2 ^ 128) h.tree h.standing.ordered ∙ option_or-none _ ∙ ap (row_to f n) (sym (rows_in-standing h.standing))
 
   pub row_at-IsTree : {s : Slab R} {root : Option ℕ} (n : ℕ) → (h : IsTree f s root) → row_at f n (rows_in f s root).rows ≡ if_at f n (found f n None h.tree)
   row_at-IsTree n h = row_at-row_from f n 0 (2 ^ 128) _ (rising-rows h) ∙ ap (if_at f n) (sym (row_from-IsTree n h))

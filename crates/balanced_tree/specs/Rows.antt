@@ -1,5 +1,6 @@
 -- A tree as its callers see it: its rows by rising rank, each with no children, and the room for more.
 use Rattle.std.specs.Prelude.{ℕ, ◌+◌, ◌^◌, ◌≤◌, not, ◌==◌, nat_lt, nat_le, List, [], ◌∷◌, ◌++◌, filter, find, cond, Option, None, Some, refl}
+use Rattle.std.specs.Option.{option_or}
 use Rattle.std.specs.Coded.{Coded, code_by, coded×, coded_ℕ, coded_list}
 use Rattle.balanced_tree.specs.Row.{Functions}
 
@@ -31,6 +32,11 @@ module _ {R : Type 0} (f : Functions R) where
   -- the first row of this rank or a higher one
   abbrev pub row_from : ℕ → List R → Option R
   row_from n rows = find (λ x. nat_le n (f.rank x)) rows
+
+  -- the last row of this rank or a lower one
+  abbrev pub row_to : ℕ → List R → Option R
+  row_to n [] = None
+  row_to n (x ∷ rows) = option_or (row_to n rows) (cond (nat_le (f.rank x) n) (Some x) None)
 
   -- the rows of lower rank, this row, and the rows of higher rank
   abbrev pub with_row : R → List R → List R

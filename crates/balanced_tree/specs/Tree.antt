@@ -61,6 +61,15 @@ module _ {R : Type 0} (f : Functions R) where
       (found n (Some (plain f x)) l)
       (cond (nat_lt (f.rank x) n) (found n best r) (Some (plain f x)))
 
+  -- the last row on the way down by rank that lies at this rank or before it, and else what was found above
+  abbrev pub found_to : ℕ → Option R → Tree R → Option R
+  found_to n best Leaf = best
+  found_to n best (Node l p x r) =
+      cond
+      (nat_lt (f.rank x) n)
+      (found_to n (Some (plain f x)) r)
+      (cond (nat_lt n (f.rank x)) (found_to n best l) (Some (plain f x)))
+
   -- The node made again where its left part is too high: the left child moves up, or the inner grandchild where this is
   -- higher than the outer one.
   unfoldable pub leaned_right : Tree R → ℕ → R → Tree R → Tree R

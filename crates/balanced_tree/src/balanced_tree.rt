@@ -4,10 +4,10 @@ ghost use Rattle.std.specs.Prelude.{◌≡◌, ℕ, ◌+◌, ◌-◌, ◌^◌, �
 ghost use Rattle.std.specs.Option.{MatchOption};
 ghost use Rattle.balanced_tree.specs.Gaps.{AreApart, HasNoGap, IsFirstGap};
 ghost use Rattle.balanced_tree.specs.Row.{plain};
-ghost use Rattle.balanced_tree.specs.Rows.{if_at, row_at, row_from, with_row, without_rank, IsRising};
+ghost use Rattle.balanced_tree.specs.Rows.{if_at, row_at, row_from, row_to, with_row, without_rank, IsRising};
 
 use crate::children::link_to;
-use crate::descent::find_below;
+use crate::descent::{find_below, last_below};
 use crate::extent_row::ExtentRow;
 use crate::gaps::gap_below;
 use crate::insertion::insert_below;
@@ -99,6 +99,14 @@ impl<R: TreeRow> BalancedTree<R> {
         find_below(&self.rows, self.root, rank, None, steps)
     }
 
+    /// The last row of this rank or a lower one.
+    pub fn last_counted<L: Ledger>(&self, rank: u128, steps: &mut Steps<L>) -> Option<R>
+        ensures row { result ≡ row_to R.functions rank self.now.rows }
+        ensures cost { 2 ^ (steps.new - steps.old) ≤ (length self.now.rows + 1) ^ 2 }
+    {
+        last_below(&self.rows, self.root, rank, None, steps)
+    }
+
     /// Puts a row of a rank that no row has yet.
     pub fn insert_counted<L: Ledger>(&mut self, row: R, steps: &mut Steps<L>)
         requires absent { IsNone (row_at R.functions (R.functions.rank row) self.old.rows) }
@@ -152,6 +160,13 @@ impl<R: TreeRow> BalancedTree<R> {
         ensures { result ≡ row_from R.functions rank self.now.rows }
     {
         next_with::<R, Brand>(self, rank, Blank::new(1))
+    }
+
+    /// The last row of this rank or a lower one.
+    pub fn last(&self, rank: u128) -> Option<R>
+        ensures { result ≡ row_to R.functions rank self.now.rows }
+    {
+        last_with::<R, Brand>(self, rank, Blank::new(1))
     }
 
     /// Puts a row of a rank that no row has yet.
@@ -253,6 +268,14 @@ fn next_with<R: TreeRow, L: Ledger>(tree: &BalancedTree<R>, rank: u128, blank: B
 {
     let mut steps = Steps::<L>::new(blank);
     tree.next_counted(rank, &mut steps)
+}
+
+fn last_with<R: TreeRow, L: Ledger>(tree: &BalancedTree<R>, rank: u128, blank: Blank) -> Option<R>
+    requires ledger { (blank.name ≡ L.name) × (blank.parts ≡ L.parts) × (0 < blank.parts) }
+    ensures { result ≡ row_to R.functions rank tree.now.rows }
+{
+    let mut steps = Steps::<L>::new(blank);
+    tree.last_counted(rank, &mut steps)
 }
 
 fn insert_with<R: TreeRow, L: Ledger>(tree: &mut BalancedTree<R>, row: R, blank: Blank)

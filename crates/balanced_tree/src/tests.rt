@@ -168,6 +168,8 @@ fn fills<L: Ledger>(tree: &mut BalancedTree<Entry>, count: u32, blank: Blank) ->
     for key in 0..count {
         let found = tree.next_counted(u128::from(key), &mut steps);
         all = found.is_some_and(|row| row.value == key) && all;
+        let last = tree.last_counted(u128::from(key), &mut steps);
+        all = last.is_some_and(|row| row.value == key) && all;
     }
     for key in 0..count {
         all = take(tree, key, &mut steps) && all;
@@ -196,6 +198,7 @@ fn plain_calls(rt: HostRuntime) -> Result<(), Fail> {
         tree.replace(entry_of(7, 2));
     }
     assert!(rt; tree.next(3).is_some_and(|row| row.value == 2));
+    assert!(rt; tree.last(9).is_some_and(|row| row.value == 2));
     if let Some(_) = tree.find(7) {
         assert_eq!(rt; tree.remove(7).value, 2);
     }
