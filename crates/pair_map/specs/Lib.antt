@@ -1,2 +1,3 @@
 pub mod PairRows
 pub mod StretchRows
+pub mod Maps

@@ -1,5 +1,5 @@
 -- What the tree knows of a row of a map from pairs.
-use Rattle.std.specs.Prelude.{ℕ, None}
+use Rattle.std.specs.Prelude.{ℕ, ◌==◌, cond, Option, None, Some}
 use Rattle.balanced_tree.specs.Pairs.{pair_rank}
 use Rattle.balanced_tree.specs.Row.{Functions, link_of, height_over}
 use Rattle.pair_map.specs.declared.pair_row.PairRow.{PairRow}
@@ -26,3 +26,8 @@ module _ {V : Type 0} where
   -- the row of a pair with no children
   abbrev pub pair_of : ℕ → ℕ → V → PairRow V
   pair_of a b value = record { first = a; second = b; value = value; left = None; right = None; height = 0 }
+
+  -- the second number and the value of a row, where its first number is a
+  abbrev pub pair_in : ℕ → Option (PairRow V) → Option (ℕ × V)
+  pair_in a None = None
+  pair_in a (Some row) = cond (row.first == a) (Some (row.second, row.value)) None

@@ -1,8 +1,10 @@
 //! Maps from pairs of numbers over the balanced tree.
 #![tactic(auto)]
 
+mod pair_map;
 mod pair_row;
 mod stretch_row;
 
+pub use pair_map::PairMap;
 pub use pair_row::PairRow;
 pub use stretch_row::{Extent, StretchRow};
