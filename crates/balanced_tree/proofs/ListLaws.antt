@@ -91,7 +91,7 @@ module _ {R : Type 0} (f : Functions R) where
     pub greatest : (m : ℕ) → f.rank x < m → m ≤ n → row_at f m rows ≡ None
 
   -- a row that is found behind the first has a higher rank
-  row_at-behind : (m low high : ℕ) (x y : R) (rows : List R) → RisesWithin f low high (y ∷ rows) → row_at f m rows ≡ Some x → f.rank y < m
+  pub row_at-behind : (m low high : ℕ) (x y : R) (rows : List R) → RisesWithin f low high (y ∷ rows) → row_at f m rows ≡ Some x → f.rank y < m
   row_at-behind m low high x y rows h e = elim (cases_lt (f.rank y) m) [
     | inl less ↦ less
     | inr more ↦ absurd (let none = row_at-below m (f.rank y + 1) high rows h.1 (omega arith) in cc)

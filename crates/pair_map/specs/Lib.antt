@@ -1,3 +1,4 @@
+pub mod Pairs
 pub mod PairRows
 pub mod StretchRows
 pub mod Maps

@@ -1,7 +1,8 @@
 -- What the tree knows of a row of a map from pairs.
-use Rattle.std.specs.Prelude.{ℕ, ◌==◌, cond, Option, None, Some}
-use Rattle.balanced_tree.specs.Pairs.{pair_rank}
+use Rattle.std.specs.Prelude.{ℕ, Option, None, refl}
+use Rattle.balanced_tree.specs.Pairs.{pair_rank, ArePairs}
 use Rattle.balanced_tree.specs.Row.{Functions, link_of, height_over}
+use Rattle.pair_map.specs.Pairs.{pair_under}
 use Rattle.pair_map.specs.declared.pair_row.PairRow.{PairRow}
 
 module _ {V : Type 0} where
@@ -29,5 +30,7 @@ module _ {V : Type 0} where
 
   -- the second number and the value of a row, where its first number is a
   abbrev pub pair_in : ℕ → Option (PairRow V) → Option (ℕ × V)
-  pair_in a None = None
-  pair_in a (Some row) = cond (row.first == a) (Some (row.second, row.value)) None
+  pair_in = pair_under first_of second_of value_of
+
+  abbrev pub pair_rows : ArePairs {R = PairRow V} {V = V} pair_functions first_of second_of value_of
+  pair_rows = record { rank_is = λ x. refl; rank_kept = λ x. refl; value_kept = λ x. refl }

@@ -1,8 +1,11 @@
 -- What the tree knows of a row that stands for an extent of a list.
-use Rattle.std.specs.Prelude.{ℕ, ◌+◌, ◌-◌, ◌^◌, min, None}
-use Rattle.balanced_tree.specs.Pairs.{pair_rank}
+use Rattle.std.specs.Prelude.{◌≡◌, ℕ, ◌+◌, ◌-◌, ◌^◌, ◌≤◌, min, List, Option, None, Some, refl}
+use Rattle.balanced_tree.specs.Pairs.{pair_rank, ArePairs}
+use Rattle.balanced_tree.specs.Rows.{row_at}
+use Rattle.balanced_tree.specs.Gaps.{AreApart}
 use Rattle.balanced_tree.specs.Extents.{Extents, span_over, span_in}
 use Rattle.balanced_tree.specs.Row.{Functions, link_of, height_over}
+use Rattle.pair_map.specs.Pairs.{pair_under}
 use Rattle.pair_map.specs.declared.stretch_row.Extent.{Extent}
 use Rattle.pair_map.specs.declared.stretch_row.StretchRow.{StretchRow}
 
@@ -49,3 +52,20 @@ module _ {V : Type 0} where
     height = 0;
     span = record { lowest = 0; highest = 0; gap = 0 };
   }
+
+  -- the first number and the extent of a row, where its list is l
+  abbrev pub stretch_in : ℕ → Option (StretchRow V) → Option (ℕ × Extent V)
+  stretch_in = pair_under list_of first_of extent_of
+
+  abbrev pub stretch_rows : ArePairs {R = StretchRow V} {V = Extent V} stretch_functions list_of first_of extent_of
+  stretch_rows = record { rank_is = λ x. refl; rank_kept = λ x. refl; value_kept = λ x. refl }
+
+  -- an extent has a number, and ends at or below number 2^63 of its list
+  pub record IsSound (row : StretchRow V) : Type 0 where
+    pub some : 1 ≤ row.extent.count
+    pub end : row.first + row.extent.count ≤ 2 ^ 63
+
+  -- each row is sound, and the ranks of each end before those of the next begin
+  pub record AreExtents (rows : List (StretchRow V)) : Type 0 where
+    pub sound : (n : ℕ) (row : StretchRow V) → row_at stretch_functions n rows ≡ Some row → IsSound row
+    pub apart : AreApart stretch_functions stretch_extents rows

@@ -1,17 +1,18 @@
 use Rattle.balanced_tree.proofs.PairLaws.{row-there, value-found, values-taken}
-use Rattle.pair_map.proofs.ValueLaws.{value_rows, seen_rows}
+use Rattle.pair_map.specs.PairRows.{pair_rows}
+use Rattle.pair_map.proofs.MapLaws.{seen_rows}
 use Rattle.pair_map.proofs.pair_map.PairMap.remove.Goals as goal
 
 pub remove-requires : goal.remove-requires
 remove-requires g c =
-    row-there value_rows _ _ (seen_rows c.self.view_is) c.args.first c.args.second _ c.ranges.second.fits c.pair_rank.ensures c.requires
+    row-there pair_rows _ _ (seen_rows c.self.view_is) c.args.first c.args.second _ c.ranges.second.fits c.pair_rank.ensures c.requires
 
 pub returns-clause-value : goal.returns-clause-value
 returns-clause-value g c =
-    value-found value_rows _ _ (seen_rows c.self.view_is) c.args.first c.args.second _ c.ranges.second.fits c.pair_rank.ensures
+    value-found pair_rows _ _ (seen_rows c.self.view_is) c.args.first c.args.second _ c.ranges.second.fits c.pair_rank.ensures
     c.remove.result c.remove.ensures.row
 
 pub returns-clause-values : goal.returns-clause-values
 returns-clause-values g c =
-    values-taken value_rows _ _ (seen_rows c.self.view_is) c.args.first c.args.second _ c.ranges.second.fits c.pair_rank.ensures
+    values-taken pair_rows _ _ (seen_rows c.self.view_is) c.args.first c.args.second _ c.ranges.second.fits c.pair_rank.ensures
     c.remove.new.self.rows c.remove.ensures.rows
