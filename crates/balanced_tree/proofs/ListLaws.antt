@@ -140,8 +140,8 @@ module _ {R : Type 0} (f : Functions R) where
   found-each P low high (y ∷ rows) h all = (
     all y (cond-true _ _ _ ((Decides-eqb (f.rank y) (f.rank y)).1 refl)),
     found-each P (f.rank y + 1) high rows h.1 (λ x e.
-    let more = row_at-behind (f.rank x) low high x y rows h e in
-    all x (cond-false _ _ _ (ne_eqb (f.rank y) (f.rank x) (λ q. absurd (omega arith))) ∙ e)),
+        let more = row_at-behind (f.rank x) low high x y rows h e in
+        all x (cond-false _ _ _ (ne_eqb (f.rank y) (f.rank x) (λ q. absurd (omega arith))) ∙ e)),
   )
 
   -- how many rows there are, by a rank

@@ -1,12 +1,12 @@
 -- Extents stand apart, as they come and go, and the ranks of a list's numbers are free where the numbers are open.
-use Rattle.std.proofs.Common.{◌≡◌, ◌⊎◌, inl, inr, ℕ, ◌+◌, ◌-◌, ◌<◌, ◌≤◌, ◌^◌, min, max, Bool, true, false, cond, eqb, List, [], ◌∷◌}
+use Rattle.std.proofs.Common.{◌≡◌, ◌⊎◌, inl, inr, ℕ, ◌+◌, ◌-◌, ◌<◌, ◌≤◌, ◌^◌, min, max, Bool, true, false, cond, List}
 use Rattle.std.proofs.Common.{Option, None, Some, ◌↔◌, IsTrue, leb, refl, sym, ap, ◌∙◌, subst, rules, arith}
-use Rattle.std.specs.Option.{option_map, MatchOption}
-use Rattle.std.proofs.lemmas.Bool.{cases_Bool, cases_lt, cases_order, cond-true, cond-false, leb-true, le-leb}
+use Rattle.std.specs.Option.{option_map}
+use Rattle.std.proofs.lemmas.Bool.{cases_lt, cases_order, leb-true, le-leb}
 use Rattle.balanced_tree.specs.Row.{plain}
-use Rattle.balanced_tree.specs.Rows.{Rows, row_at, with_row, without_rank, RisesWithin, IsRising}
+use Rattle.balanced_tree.specs.Rows.{Rows, row_at, with_row, without_rank, IsRising}
 use Rattle.balanced_tree.specs.Pairs.{pair_rank, value_at}
-use Rattle.balanced_tree.specs.Gaps.{ApartWithin, AreApart, IsFree, HasNoGap, IsFirstGap}
+use Rattle.balanced_tree.specs.Gaps.{IsFree, HasNoGap, IsFirstGap}
 use Rattle.balanced_tree.proofs.ListLaws.{row_at-rank, row_at-with_row, row_at-without_rank, each-found, found-each}
 use Rattle.balanced_tree.proofs.ApartLaws.{AreApart-with_row, AreApart-without_rank, apart-found}
 use Rattle.balanced_tree.proofs.PairLaws.{value-seen, value-found, value-past}
@@ -14,8 +14,7 @@ use Rattle.pair_map.specs.Pairs.{IsLast}
 use Rattle.pair_map.specs.declared.stretch_row.Extent.{Extent}
 use Rattle.pair_map.specs.declared.stretch_row.StretchRow.{StretchRow}
 use Rattle.pair_map.specs.StretchRows.{stretch_functions, stretch_extents, extent_of, stretch_rows, stretch_of, IsSound, AreExtents}
-use Rattle.pair_map.specs.Maps.{extents_of, Covers, IsOpen, StandApart, HasNoOpen, IsFirstOpen}
-use Rattle.pair_map.proofs.MapLaws.{seen_rows}
+use Rattle.pair_map.specs.Maps.{extents_of, IsOpen, StandApart, HasNoOpen, IsFirstOpen}
 
 module _ {V : Type 0} (extents : ℕ → Option (Extent V)) (first count : ℕ) (some : 1 ≤ count) where
   -- a range is open where each extent that has a number lies before it or behind it

@@ -1,14 +1,15 @@
 -- Rows whose ranks are pairs, as the maps over them see them.
-use Rattle.std.proofs.Common.{◌≡◌, ℕ, ◌<◌, ◌≤◌, ◌^◌, ◌==◌, Bool, true, false, cond, Option, None, Some, IsSome, IfSome}
+use Rattle.std.proofs.Common.{◌≡◌, ℕ, ◌+◌, ◌<◌, ◌≤◌, ◌^◌, ◌==◌, Bool, true, false, cond, Option, None, Some, IsSome, IfSome}
 use Rattle.std.proofs.Common.{refl, sym, ap, ◌∙◌, subst, inl, inr, arith}
 use Rattle.std.specs.Option.{option_map, IsNone, MatchOption}
-use Rattle.std.proofs.lemmas.Bool.{cases_Bool, cases_lt, cond-true, cond-false}
+use Rattle.std.proofs.lemmas.Bool.{cases_Bool, cond-true, cond-false}
 use Rattle.std.proofs.lemmas.Bool.Decides.{Decides-eqb}
 use Rattle.balanced_tree.specs.Row.{Functions, plain}
 use Rattle.balanced_tree.specs.Rows.{Rows, row_at, row_from, row_to, with_row, IsRising}
 use Rattle.balanced_tree.specs.Pairs.{pair_rank, value_at, ArePairs, with_pair, IsNext, second_in}
-use Rattle.balanced_tree.proofs.PairLaws.{row-absent, row-there, values-put, value-found, value-seen, value-past, next-is}
+use Rattle.balanced_tree.proofs.PairLaws.{row-absent, row-there, values-put, value-found, value-seen, next-is, length-inserted, length-replaced}
 use Rattle.balanced_tree.proofs.ListLaws.{row_from-some, row_to-none, row_to-some}
+use Rattle.pair_map.specs.Maps.{count_of}
 use Rattle.pair_map.specs.Pairs.{pair_under, IsLast}
 
 -- the rows of a map as they were inside, and as they were seen
@@ -29,6 +30,13 @@ module _ {R V : Type 0} {f : Functions R} {first second : R → ℕ} {value : R 
     values-with is new e =
         values-put pairs was.rows old.rows (seen_rows seen) a b _ few rank new.rows row refl e
         ∙ ap (λ v. with_pair (value_at f value old.rows) a b (Some v)) is
+
+    module _ (rising : IsRising f was.rows) (new : Rows R) (e : new.rows ≡ with_row f (plain f row) was.rows) where
+      pub count-more : value_at f value old.rows a b ≡ None → count_of new ≡ count_of old + 1
+      count-more none = length-inserted pairs was.rows old.rows (seen_rows seen) a b _ few rank new.rows rising row refl e none
+
+      pub count-same : IsSome (value_at f value old.rows a b) → count_of new ≡ count_of old
+      count-same some = length-replaced pairs was.rows old.rows (seen_rows seen) a b _ few rank new.rows rising row refl e some
 
   second-under : (a : ℕ) (o : Option R)
       → option_map (λ (pair : ℕ × V). pair.0) (pair_under first second value a o) ≡ second_in first second a o

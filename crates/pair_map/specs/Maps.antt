@@ -1,5 +1,5 @@
 -- Maps from pairs of numbers as their callers see them.
-use Rattle.std.specs.Prelude.{◌≡◌, ℕ, ◌+◌, ◌^◌, ◌<◌, ◌≤◌, Option, Some}
+use Rattle.std.specs.Prelude.{◌≡◌, ℕ, ◌+◌, ◌^◌, ◌<◌, ◌≤◌, length, Option, Some}
 use Rattle.balanced_tree.specs.Rows.{Rows}
 use Rattle.balanced_tree.specs.Pairs.{value_at}
 use Rattle.pair_map.specs.declared.pair_row.PairRow.{PairRow}
@@ -7,6 +7,10 @@ use Rattle.pair_map.specs.declared.stretch_row.Extent.{Extent}
 use Rattle.pair_map.specs.declared.stretch_row.StretchRow.{StretchRow}
 use Rattle.pair_map.specs.PairRows.{pair_functions, value_of}
 use Rattle.pair_map.specs.StretchRows.{stretch_functions, extent_of}
+
+-- how many rows there are
+abbrev pub count_of : {R : Type 0} → Rows R → ℕ
+count_of m = length m.rows
 
 -- how many more rows fit with no memory from the host
 abbrev pub spare_of : {R : Type 0} → Rows R → ℕ

@@ -1,11 +1,12 @@
 //! The map from lists to extents that stand apart.
 
-ghost use Rattle.std.specs.Prelude.{◌≡◌, ℕ, ◌↔◌, ◌+◌, ◌≤◌, ◌<◌, ◌^◌, length, None, Some, OnOk, IsSome, IfSome, IsTrue};
+ghost use Rattle.std.specs.Prelude.{◌≡◌, ℕ, ◌↔◌, ◌+◌, ◌≤◌, ◌<◌, ◌^◌, None, Some, OnOk, IsSome, IfSome, IsTrue};
 ghost use Rattle.std.specs.Option.{option_map, MatchOption};
 ghost use Rattle.balanced_tree.specs.Pairs.{with_pair, IsNext};
 ghost use Rattle.pair_map.specs.declared.stretch_row.Extent.{Extent};
 ghost use Rattle.pair_map.specs.Pairs.{IsLast};
-ghost use Rattle.pair_map.specs.Maps.{extents_of, spare_of, Covers, IsOpen, StandApart, HasNoOpen, IsFirstOpen};
+ghost use Rattle.pair_map.specs.Maps.{extents_of, count_of, spare_of};
+ghost use Rattle.pair_map.specs.Maps.{Covers, IsOpen, StandApart, HasNoOpen, IsFirstOpen};
 ghost use Rattle.pair_map.specs.StretchRows.{extent_of, stretch_in};
 
 use crate::stretch_row::{Extent, StretchRow};
@@ -37,6 +38,7 @@ impl<V: Copy> ExtentMap<V> {
     /// A map with no extent and no room.
     pub fn new(alloc: Global) -> ExtentMap<V>
         ensures extents { extents_of result ≡ λ l p. None }
+        ensures count { count_of result ≡ 0 }
         ensures spare { spare_of result ≡ 0 }
     {
         ExtentMap {
@@ -49,6 +51,7 @@ impl<V: Copy> ExtentMap<V> {
     pub fn reserve(&mut self, n: usize) -> Result<(), AllocError>
         ensures room { OnOk result (n ≤ spare_of self.new) }
         ensures extents { extents_of self.new ≡ extents_of self.old }
+        ensures count { count_of self.new ≡ count_of self.old }
         ensures spare { spare_of self.old ≤ spare_of self.new }
     {
         self.tree.reserve(n)
@@ -56,7 +59,7 @@ impl<V: Copy> ExtentMap<V> {
 
     /// How many extents there are. They stand apart.
     pub fn len(&self) -> usize
-        ensures len { result ≡ length self.now.rows }
+        ensures len { result ≡ count_of self.now }
         ensures apart { StandApart (extents_of self.now) }
     {
         self.tree.len()
@@ -122,6 +125,7 @@ impl<V: Copy> ExtentMap<V> {
         requires room { 1 ≤ spare_of self.old }
         ensures extents { extents_of self.new ≡ with_pair (extents_of self.old) list first
             (Some (record { count = count; value = value })) }
+        ensures count { count_of self.new ≡ count_of self.old + 1 }
         ensures spare { spare_of self.new + 1 ≡ spare_of self.old }
     {
         let _rising = self.tree.len();
@@ -134,8 +138,10 @@ impl<V: Copy> ExtentMap<V> {
         requires { IsSome (extents_of self.old list first) }
         ensures extent { extents_of self.old list first ≡ Some result }
         ensures extents { extents_of self.new ≡ with_pair (extents_of self.old) list first None }
+        ensures count { count_of self.new + 1 ≡ count_of self.old }
         ensures spare { spare_of self.new ≡ spare_of self.old + 1 }
     {
+        let _rising = self.tree.len();
         self.tree.remove(pair_rank(list, first)).extent
     }
 

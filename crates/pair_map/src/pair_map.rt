@@ -1,9 +1,9 @@
 //! The map from pairs to values.
 
-ghost use Rattle.std.specs.Prelude.{◌≡◌, ◌+◌, ◌≤◌, ◌<◌, ◌^◌, length, None, Some, OnOk, IsSome, IfSome};
+ghost use Rattle.std.specs.Prelude.{◌≡◌, ◌+◌, ◌≤◌, ◌<◌, ◌^◌, None, Some, OnOk, IsSome, IfSome};
 ghost use Rattle.std.specs.Option.{option_map};
 ghost use Rattle.balanced_tree.specs.Pairs.{with_pair, IsNext};
-ghost use Rattle.pair_map.specs.Maps.{values_of, spare_of};
+ghost use Rattle.pair_map.specs.Maps.{values_of, count_of, spare_of};
 ghost use Rattle.pair_map.specs.PairRows.{value_of, pair_in};
 
 use crate::pair_row::PairRow;
@@ -31,6 +31,7 @@ impl<V: Copy> PairMap<V> {
     /// A map with no pair and no room.
     pub fn new(alloc: Global) -> PairMap<V>
         ensures values { values_of result ≡ λ a b. None }
+        ensures count { count_of result ≡ 0 }
         ensures spare { spare_of result ≡ 0 }
     {
         PairMap {
@@ -43,6 +44,7 @@ impl<V: Copy> PairMap<V> {
     pub fn reserve(&mut self, n: usize) -> Result<(), AllocError>
         ensures room { OnOk result (n ≤ spare_of self.new) }
         ensures values { values_of self.new ≡ values_of self.old }
+        ensures count { count_of self.new ≡ count_of self.old }
         ensures spare { spare_of self.old ≤ spare_of self.new }
     {
         self.tree.reserve(n)
@@ -50,7 +52,7 @@ impl<V: Copy> PairMap<V> {
 
     /// How many pairs have a value.
     pub fn len(&self) -> usize
-        ensures { result ≡ length self.now.rows }
+        ensures { result ≡ count_of self.now }
     {
         self.tree.len()
     }
@@ -84,8 +86,10 @@ impl<V: Copy> PairMap<V> {
         requires absent { values_of self.old first second ≡ None }
         requires room { 1 ≤ spare_of self.old }
         ensures values { values_of self.new ≡ with_pair (values_of self.old) first second (Some value) }
+        ensures count { count_of self.new ≡ count_of self.old + 1 }
         ensures spare { spare_of self.new + 1 ≡ spare_of self.old }
     {
+        let _rising = self.tree.len();
         self.tree.insert(PairRow::new(first, second, value));
     }
 
@@ -93,8 +97,10 @@ impl<V: Copy> PairMap<V> {
     pub fn replace(&mut self, first: u64, second: u64, value: V)
         requires { IsSome (values_of self.old first second) }
         ensures values { values_of self.new ≡ with_pair (values_of self.old) first second (Some value) }
+        ensures count { count_of self.new ≡ count_of self.old }
         ensures spare { spare_of self.new ≡ spare_of self.old }
     {
+        let _rising = self.tree.len();
         self.tree.replace(PairRow::new(first, second, value));
     }
 
@@ -103,8 +109,10 @@ impl<V: Copy> PairMap<V> {
         requires { IsSome (values_of self.old first second) }
         ensures value { values_of self.old first second ≡ Some result }
         ensures values { values_of self.new ≡ with_pair (values_of self.old) first second None }
+        ensures count { count_of self.new + 1 ≡ count_of self.old }
         ensures spare { spare_of self.new ≡ spare_of self.old + 1 }
     {
+        let _rising = self.tree.len();
         self.tree.remove(pair_rank(first, second)).value
     }
 }

@@ -1,4 +1,4 @@
-use Rattle.balanced_tree.proofs.PairLaws.{row-there, value-found, values-taken}
+use Rattle.balanced_tree.proofs.PairLaws.{row-there, value-found, values-taken, length-taken}
 use Rattle.pair_map.specs.StretchRows.{stretch_rows}
 use Rattle.pair_map.proofs.MapLaws.{seen_rows}
 use Rattle.pair_map.proofs.ExtentLaws.{AreExtents-less}
@@ -20,3 +20,8 @@ pub returns-clause-extents : goal.returns-clause-extents
 returns-clause-extents g c =
     values-taken stretch_rows _ _ (seen_rows c.self.view_is) c.args.list c.args.first _ c.ranges.first.fits c.pair_rank.ensures
     c.remove.new.self.rows c.remove.ensures.rows
+
+pub returns-clause-count : goal.returns-clause-count
+returns-clause-count g c =
+    length-taken stretch_rows _ _ (seen_rows c.self.view_is) c.args.list c.args.first _ c.ranges.first.fits c.pair_rank.ensures
+    c.remove.new.self.rows c.len-rising.ensures.rising c.remove.ensures.rows c.requires
