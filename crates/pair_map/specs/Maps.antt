@@ -2,6 +2,8 @@
 use Rattle.std.specs.Prelude.{◌≡◌, ℕ, ◌+◌, ◌^◌, ◌<◌, ◌≤◌, length, Option, Some}
 use Rattle.balanced_tree.specs.Rows.{Rows}
 use Rattle.balanced_tree.specs.Pairs.{value_at}
+pub use Rattle.balanced_tree.specs.Pairs.{IsNext}
+unfoldable pub use Rattle.balanced_tree.specs.Pairs.{with_pair}
 use Rattle.pair_map.specs.declared.pair_row.PairRow.{PairRow}
 use Rattle.pair_map.specs.declared.stretch_row.Extent.{Extent}
 use Rattle.pair_map.specs.declared.stretch_row.StretchRow.{StretchRow}

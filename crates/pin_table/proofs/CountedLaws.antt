@@ -1,5 +1,5 @@
 -- The entries count the pins, as pins come and go, and say which pages are pinned.
-use Rattle.std.proofs.Common.{◌≡◌, ℕ, ◌+◌, ◌<◌, ◌≤◌, Bool, true, false, ltb, List, [], Option, None, Some, is_some, refl, sym, ap, subst, ◌∙◌, inl, inr, arith}
+use Rattle.std.proofs.Common.{◌≡◌, ℕ, ◌+◌, ◌<◌, ◌≤◌, Bool, true, false, ltb, Option, None, Some, is_some, refl, sym, ap, subst, ◌∙◌, inl, inr, arith}
 use Rattle.std.proofs.lemmas.Bool.{cases_eq, lt-ltb, le-ltb, cases_lt}
 use Rattle.vm_base.specs.declared.limits.TheConstants.{PAGES_END, NAMES}
 use Rattle.vm_base.specs.Entries.{with_key, without_key}
@@ -8,20 +8,17 @@ use Rattle.vm_base.specs.Entries.{passes, entry_count}
 use Rattle.vm_base.proofs.SearchLaws.{bit_same}
 use Rattle.vm_base.proofs.EntryLaws.{passes-some, any_entry-count, entry_count_le, entry_count_hit, entry_count-empty, entry_count-with_key, entry_count-without_key, with_key-other, with_key-cases, without_key-other, without_key-some}
 use Rattle.vm_model.proofs.PinLaws.{covers_at, any_pinned_at, none_pinned}
-use Rattle.pin_table.specs.declared.pages.PinnedPage.{PinnedPage}
-use Rattle.pin_table.specs.Pages.{row_pins, pins_at, AreKept, AddsPin}
+use Rattle.pin_table.specs.Pages.{pins_at, AreKept, AddsPin}
 use Rattle.pin_table.specs.Table.{IsNextPinned}
 use Rattle.pin_table.specs.TableFields.{AreCounted}
-use Rattle.pin_table.proofs.PageLaws.{page_pairs}
-use Rattle.balanced_tree.specs.Pairs.{IsNext}
-use Rattle.balanced_tree.proofs.PairLaws.{values-none}
+use Rattle.pair_map.specs.Maps.{IsNext}
 use Rattle.std.specs.Prelude.{unwrap_or, IsSome}
 
 -- ---- no pins
 
-pub AreCounted-empty : (pins : ℕ → Option Pin) (entries : List PinnedPage) → ((n : ℕ) → pins n ≡ None) → entries ≡ [] → AreCounted pins entries
+pub AreCounted-empty : (pins : ℕ → Option Pin) (entries : ℕ → ℕ → Option ℕ) → ((n : ℕ) → pins n ≡ None) → entries ≡ (λ v p. None) → AreCounted pins entries
 AreCounted-empty pins entries none empty =
-    let none_at : (v p : ℕ) → row_pins entries v p ≡ None = λ v p. ap (λ m. m v p) (values-none page_pairs entries empty) in
+    let none_at : (v p : ℕ) → entries v p ≡ None = λ v p. ap (λ m. m v p) empty in
     record {
       names_below = λ n some. absurd (let gone : false ≡ true = sym (ap is_some (none n)) ∙ some in cc);
       ends = λ n pin e. absurd (let gone = none n in cc);
@@ -32,11 +29,11 @@ AreCounted-empty pins entries none empty =
     }
 
 -- pins and entries that agree
-pub AreCounted-same : (pins others : ℕ → Option Pin) (entries more : List PinnedPage) → others ≡ pins → more ≡ entries → AreCounted pins entries → AreCounted others more
+pub AreCounted-same : (pins others : ℕ → Option Pin) (entries more : ℕ → ℕ → Option ℕ) → others ≡ pins → more ≡ entries → AreCounted pins entries → AreCounted others more
 AreCounted-same pins others entries more e f counted =
-    subst (λ (m : ℕ → Option Pin). AreCounted m more) (sym e) (subst (λ (es : List PinnedPage). AreCounted pins es) (sym f) counted)
+    subst (λ (m : ℕ → Option Pin). AreCounted m more) (sym e) (subst (λ (es : ℕ → ℕ → Option ℕ). AreCounted pins es) (sym f) counted)
 
-module _ (pins : ℕ → Option Pin) (entries : List PinnedPage) (counted : AreCounted pins entries) where
+module _ (pins : ℕ → Option Pin) (entries : ℕ → ℕ → Option ℕ) (counted : AreCounted pins entries) where
   -- no page has more pins than there are names
   pub pins_few : (v p : ℕ) → pins_at v p entries ≤ NAMES
   pins_few v p = omega (arith, counted.counted v p, entry_count_le NAMES (covers v p) pins)
@@ -49,7 +46,7 @@ module _ (pins : ℕ → Option Pin) (entries : List PinnedPage) (counted : AreC
 
   -- ---- a pin is added
 
-  pub AreCounted-added : (n : ℕ) (pin : Pin) (more : List PinnedPage) → n < NAMES → pins n ≡ None → pin.first + pin.count ≤ PAGES_END → AreKept more →
+  pub AreCounted-added : (n : ℕ) (pin : Pin) (more : ℕ → ℕ → Option ℕ) → n < NAMES → pins n ≡ None → pin.first + pin.count ≤ PAGES_END → AreKept more →
       AddsPin entries more pin.koid pin.first (pin.first + pin.count) → AreCounted (with_key pins n pin) more
   AreCounted-added n pin more low free end kept adds = record {
     names_below = λ m some. elim (cases_eq m n) [
@@ -67,7 +64,7 @@ module _ (pins : ℕ → Option Pin) (entries : List PinnedPage) (counted : AreC
 
   -- ---- a pin is taken out
 
-  pub AreCounted-removed : (n : ℕ) (pin : Pin) (fewer : List PinnedPage) → pins n ≡ Some pin → AreKept fewer → AddsPin fewer entries pin.koid pin.first (pin.first + pin.count) → AreCounted (without_key pins n) fewer
+  pub AreCounted-removed : (n : ℕ) (pin : Pin) (fewer : ℕ → ℕ → Option ℕ) → pins n ≡ Some pin → AreKept fewer → AddsPin fewer entries pin.koid pin.first (pin.first + pin.count) → AreCounted (without_key pins n) fewer
   AreCounted-removed n pin fewer there kept adds =
       let low = counted.names_below n (ap is_some there) in
       record {
@@ -90,15 +87,15 @@ module _ (pins : ℕ → Option Pin) (entries : List PinnedPage) (counted : AreC
   unpinned_at : (v p : ℕ) → pins_at v p entries ≡ 0 → is_pinned pins v p ≡ false
   unpinned_at v p none = any_entry-count NAMES (covers v p) pins ∙ le-ltb 0 (entry_count NAMES (covers v p) pins) (omega (arith, counted.counted v p))
 
-  pub next_pinned-is : (v from : ℕ) (answer : Option ℕ) → IsNext (row_pins entries v) from answer → IsNextPinned (is_pinned pins v) from answer
+  pub next_pinned-is : (v from : ℕ) (answer : Option ℕ) → IsNext (entries v) from answer → IsNextPinned (is_pinned pins v) from answer
   next_pinned-is v from answer next = record {
     none = λ e p h. unpinned_at v p (ap (λ o. unwrap_or o 0) (next.none e p h));
     least = λ p e.
         let is = next.least p e in
-        (is.0, pinned_at v p (some p (row_pins entries v p) refl is.1), λ q g h. unpinned_at v q (ap (λ o. unwrap_or o 0) (is.2 q g h)));
+        (is.0, pinned_at v p (some p (entries v p) refl is.1), λ q g h. unpinned_at v q (ap (λ o. unwrap_or o 0) (is.2 q g h)));
   }
     where
-      some : (p : ℕ) (o : Option ℕ) → row_pins entries v p ≡ o → IsSome o → 1 ≤ unwrap_or o 0
+      some : (p : ℕ) (o : Option ℕ) → entries v p ≡ o → IsSome o → 1 ≤ unwrap_or o 0
       some p None e there = absurd (cc)
       some p (Some n) e there = counted.kept.pinned v p n e
 

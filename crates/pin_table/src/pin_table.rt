@@ -6,8 +6,8 @@ ghost use Rattle.vm_base.specs.Entries.{with_key, without_key};
 ghost use Rattle.vm_model.specs.Naming.Pins.{any_pinned, is_pinned};
 ghost use Rattle.pin_table.specs.Table.{pin_of, pins_of, room_of, IsNextPinned};
 
-use crate::pages::{PinnedPage, page_in, pin_pages, unpin_pages};
-use balanced_tree::{BalancedTree, pair_rank};
+use crate::pages::{pin_pages, unpin_pages};
+use pair_map::PairMap;
 use std::alloc::Global;
 use std::collections::HashMap;
 use std::marker::Model;
@@ -27,7 +27,7 @@ struct Pin {
 pub struct PinTable {
     pins: HashMap<PinName, Pin>,
     /// The pages that are pinned, each with the number of pins that cover it.
-    pages: BalancedTree<PinnedPage>,
+    pages: PairMap<u64>,
 }
 
 impl Model for PinTable {
@@ -49,7 +49,7 @@ impl PinTable {
     {
         PinTable {
             pins: HashMap::new(alloc),
-            pages: BalancedTree::new(alloc),
+            pages: PairMap::new(alloc),
         }
     }
 
@@ -109,8 +109,10 @@ impl PinTable {
     pub fn next_pinned(&self, koid: Koid, from: PageNo) -> Option<PageNo>
         ensures { IsNextPinned (is_pinned (pins_of self.now) koid.0) from result }
     {
-        let _rising = self.pages.len();
-        page_in(koid, self.pages.next(pair_rank(koid.0, from)))
+        match self.pages.next(koid.0, from) {
+            Some((page, _)) => Some(page),
+            None => None,
+        }
     }
 
     /// Whether some page of a VMO is pinned, of `count` pages from `first` on. It takes one look-up.

@@ -1,5 +1,6 @@
 use Rattle.std.proofs.Common.{◌≡◌, ◌≤◌, refl, ap, ◌∙◌, arith}
 use Rattle.vm_base.specs.Entries.{with_key}
+use Rattle.pair_map.specs.Maps.{values_of}
 use Rattle.pin_table.specs.Table.{Table, pins_in, pins_of}
 use Rattle.pin_table.specs.TableFields.{table_of}
 use Rattle.pin_table.proofs.EntryLaws.{pins_in-put, from_ok}
@@ -19,7 +20,7 @@ added c =
 pub invariant_of-self : goal.invariant_of-self
 invariant_of-self c =
     let free = ap (λ (t : Table). pins_of t c.args.pin.0) c.self.view_is ∙ c.requires.pin in
-    let more = AreCounted-added _ _ c.self.invariant.pages c.args.pin.0 (record { koid = c.args.koid.0; first = c.args.first; count = c.args.count }) c.pin_pages.new.pages.rows
+    let more = AreCounted-added _ _ c.self.invariant.pages c.args.pin.0 (record { koid = c.args.koid.0; first = c.args.first; count = c.args.count }) (values_of c.pin_pages.new.pages)
     (omega arith) free c.requires.pages c.pin_pages.ensures.kept c.pin_pages.ensures.pin in
     record { pages = AreCounted-same _ _ _ _ (added c) refl more }
 

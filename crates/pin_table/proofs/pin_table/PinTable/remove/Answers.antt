@@ -1,5 +1,6 @@
 use Rattle.std.proofs.Common.{IsSome, refl, sym, ap, subst, ◌∙◌}
 use Rattle.vm_base.specs.Entries.{without_key}
+use Rattle.pair_map.specs.Maps.{values_of}
 use Rattle.pin_table.specs.Table.{Table, pin_of_held, pins_of}
 use Rattle.pin_table.proofs.EntryLaws.{pins_in_found, pins_in-taken, held_there}
 use Rattle.pin_table.proofs.CountedLaws.{AreCounted-same, AreCounted-removed, pages_counted}
@@ -20,7 +21,7 @@ pub invariant_of-self : goal.invariant_of-self
 invariant_of-self c =
     let found = pins_in_found c.self.inside.pins.entries c.args.pin.0 c.index-held.result.now c.index-held.ensures in
     let taken = pins_in-taken c.self.inside.pins.entries c.remove-removed.new.self.entries c.args.pin.0 c.remove-removed.ensures.updates.0 in
-    let removed = AreCounted-removed _ _ c.self.invariant.pages c.args.pin.0 (pin_of_held c.index-held.result.now) c.unpin_pages.new.pages.rows found c.unpin_pages.ensures.kept c.unpin_pages.ensures.pin in
+    let removed = AreCounted-removed _ _ c.self.invariant.pages c.args.pin.0 (pin_of_held c.index-held.result.now) (values_of c.unpin_pages.new.pages) found c.unpin_pages.ensures.kept c.unpin_pages.ensures.pin in
     record { pages = AreCounted-same _ _ _ _ taken refl removed }
 
 pub returns-clause-pins : goal.returns-clause-pins
