@@ -4,9 +4,9 @@ use Rattle.balanced_tree.specs.Rows.{Rows}
 use Rattle.balanced_tree.specs.Pairs.{value_at}
 pub use Rattle.balanced_tree.specs.Pairs.{IsNext}
 unfoldable pub use Rattle.balanced_tree.specs.Pairs.{with_pair}
-use Rattle.pair_map.specs.declared.pair_row.PairRow.{PairRow}
+use Rattle.pair_map.specs.declared.pair_map.PairMap.{PairMap}
+use Rattle.pair_map.specs.declared.extent_map.ExtentMap.{ExtentMap}
 use Rattle.pair_map.specs.declared.stretch_row.Extent.{Extent}
-use Rattle.pair_map.specs.declared.stretch_row.StretchRow.{StretchRow}
 use Rattle.pair_map.specs.PairRows.{pair_functions, value_of}
 use Rattle.pair_map.specs.StretchRows.{stretch_functions, extent_of}
 
@@ -20,11 +20,11 @@ spare_of m = m.spare
 
 module _ {V : Type 0} where
   -- the value of each pair
-  abbrev pub values_of : Rows (PairRow V) → ℕ → ℕ → Option V
+  abbrev pub values_of : PairMap V → ℕ → ℕ → Option V
   values_of m = value_at pair_functions value_of m.rows
 
   -- the extent of each list and first number
-  abbrev pub extents_of : Rows (StretchRow V) → ℕ → ℕ → Option (Extent V)
+  abbrev pub extents_of : ExtentMap V → ℕ → ℕ → Option (Extent V)
   extents_of m = value_at stretch_functions extent_of m.rows
 
   -- number q lies in the extent from p on
