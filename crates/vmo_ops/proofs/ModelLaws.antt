@@ -1,5 +1,5 @@
 -- Laws of the definitions of the machine that operations alone use.
-use Rattle.std.proofs.Common.{Bool, List, None, Option, [], ap, arith, cond, drop, false, get_or, inl, inr, length, map, min, not, refl, subst, suc, sym, take, true, zero, ℕ, ◌%◌, ◌&&◌, ◌++◌, ◌+◌, ◌-◌, ◌/◌, ◌<◌, ◌∙◌, ◌∷◌, ◌≡◌, ◌≤◌}
+use Rattle.std.proofs.Common.{[], Bool, List, None, Option, ap, arith, cond, drop, false, get_or, inl, inr, length, map, min, not, refl, subst, suc, sym, take, true, zero, ℕ, ◌%◌, ◌&&◌, ◌++◌, ◌+◌, ◌-◌, ◌/◌, ◌<◌, ◌∙◌, ◌∷◌, ◌≡◌, ◌≤◌}
 use Rattle.std.proofs.lemmas.Bool.{and_parts, both_ways, cases_Bool, cases_lt, leb-true, or_left, or_right}
 use Rattle.std.proofs.lemmas.Grind.{same_number_lists}
 use Rattle.std.proofs.lemmas.List.{get_or-drop, get_or-take, length-drop, length-take, map-append, take_all}
@@ -129,10 +129,6 @@ bytes_in-page c v offset n whole h = same_number_lists (map (byte_at c v) (range
     ∙ ap (λ (i : ℕ). get_or (shown c v (offset / PAGE)) i 0) place
     ∙ sym (get_or-take n (drop (offset % PAGE) (shown c v (offset / PAGE))) k 0 l' ∙ get_or-drop (offset % PAGE) (shown c v (offset / PAGE)) k 0))
 
-pub length-bytes_in : (c : Content) (v offset n : ℕ) → length (bytes_in c v offset n) ≡ n
-unfolding bytes_in
-length-bytes_in c v offset n = length-map-range_with_len (byte_at c v) offset n
-
 -- the pages of a range that are not sole, none where the range has no byte
 pub need-touched : (c : Content) (v offset len : ℕ) → 0 < len → need c v (touched offset len) ≡ unowned c v (offset / PAGE) (touched_end offset len - offset / PAGE)
 need-touched c v offset len h = ap (need c v) (touched-row offset len h) ∙ need-row c v (offset / PAGE) (touched_end offset len - offset / PAGE)
@@ -142,9 +138,9 @@ unfolding need_from
 need-touched_nil c v offset = ap (need c v) (touched-nil offset)
 
 -- some touched page is not sole where the need is not 0
-pub need-any : (c : Content) (v offset len : ℕ) → 0 < need c v (touched offset len) → list_any (λ p. not (sole c v p)) (touched offset len) ≡ true
-need-any c v offset zero h = absurd (omega (arith, need-touched_nil c v offset))
-need-any c v offset (suc len) h =
+pub need_any : (c : Content) (v offset len : ℕ) → 0 < need c v (touched offset len) → list_any (λ p. not (sole c v p)) (touched offset len) ≡ true
+need_any c v offset zero h = absurd (omega (arith, need-touched_nil c v offset))
+need_any c v offset (suc len) h =
     let some : 0 < suc len = omega arith in
     ap (list_any (λ p. not (sole c v p))) (touched-row offset (suc len) some)
     ∙ unowned-any c v (offset / PAGE) (touched_end offset (suc len) - offset / PAGE) (omega (arith, h, need-touched c v offset (suc len) some))

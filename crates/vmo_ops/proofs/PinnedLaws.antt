@@ -47,9 +47,9 @@ pinned_whole s v count answer good counted is =
 -- ---- the pages from one on
 
 -- the pages that there are from one on end with the last. Differences stop at 0
-any_pinned-rest : (pins : ℕ → Option Pin) (v first end : ℕ)
+pub any_pinned_rest : (pins : ℕ → Option Pin) (v first end : ℕ)
     → any_pinned pins v first (first + (end - first)) ≡ any_pinned pins v first end
-any_pinned-rest pins v first end = elim (cases_lt first end) [
+any_pinned_rest pins v first end = elim (cases_lt first end) [
   | inl below ↦ ap (any_pinned pins v first) (omega arith)
   | inr past ↦ any_pinned-empty pins v first (first + (end - first)) (omega arith)
       ∙ sym (any_pinned-empty pins v first end (omega arith))
@@ -62,4 +62,4 @@ pub pinned_past : (pins : ℕ → Option Pin) (c : Content) (v pages count rest 
 pinned_past pins c v pages count rest answer counted left is =
     is
     ∙ (ap (λ (n : ℕ). any_pinned pins v pages (pages + n)) left
-    ∙ (any_pinned-rest pins v pages count ∙ ap (any_pinned pins v pages) (sym (pages_of-at c v count counted))))
+    ∙ (any_pinned_rest pins v pages count ∙ ap (any_pinned pins v pages) (sym (pages_of-at c v count counted))))

@@ -1,6 +1,6 @@
 -- Laws of a loop that does something to pages of a VMO in a row, one page after another: that the frames which the rest
 -- takes are there, and what the loop leads to.
-use Rattle.std.proofs.Common.{◌≡◌, ◌≢◌, ℕ, zero, suc, ◌+◌, ◌-◌, ◌<◌, ◌≤◌, Bool, true, cond, List, [], ◌∷◌, sym, subst, arith}
+use Rattle.std.proofs.Common.{[], ◌≡◌, ◌≢◌, ℕ, zero, suc, ◌+◌, ◌-◌, ◌<◌, ◌≤◌, Bool, true, cond, List, ◌∷◌, sym, subst, arith}
 use Rattle.std.specs.List.{range_with_len}
 use Rattle.vm_base.proofs.SearchLaws.{bit-true}
 use Rattle.vm_model.specs.Contents.Content.{Content, pages_of, used, IsGood}

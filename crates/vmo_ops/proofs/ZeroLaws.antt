@@ -1,23 +1,15 @@
 -- Laws of zeroing a range by its held pages, from one to the next: what it takes, and what it leads to.
-use Rattle.std.proofs.Common.{◌≡◌, ◌≢◌, ℕ, zero, suc, ◌+◌, ◌-◌, ◌*◌, ◌/◌, ◌<◌, ◌≤◌, Bool, true, false, not, cond, ◌&&◌, List, [], ◌∷◌, length, replicate, Option, None, ◌⊎◌, inl, inr, refl, sym, ap, subst, ◌∙◌, arith}
+use Rattle.std.proofs.Common.{[], ◌≡◌, ◌≢◌, ℕ, zero, suc, ◌+◌, ◌-◌, ◌*◌, ◌/◌, ◌<◌, ◌≤◌, Bool, true, false, not, cond, ◌&&◌, List, ◌∷◌, length, replicate, Option, None, ◌⊎◌, inl, inr, refl, sym, ap, subst, ◌∙◌, arith}
 use Rattle.std.specs.Prelude.{IsSome, is_some}
 use Rattle.std.specs.List.{range_with_len, list_any, filter}
 use Rattle.std.proofs.lemmas.Bool.{cases_Bool, both_ways, and_from, and_left, or_left, or_right, not_from_false}
 use Rattle.vm_base.specs.declared.limits.TheConstants.{PAGE}
-use Rattle.vm_base.specs.declared.refusal.Refusal.{Refusal}
-use Rattle.vm_base.specs.declared.refusal.Refusal.TheVariants.{NoMemory, HostMemory}
 use Rattle.vm_base.proofs.SearchLaws.{bit-true}
-use Rattle.vm_model.specs.declared.command.Command.TheVariants.{VmoZero}
-use Rattle.vm_model.specs.declared.reply.Reply.TheVariants.{Done, Refused}
 use Rattle.vm_model.specs.Contents.Content.{Content, is_held, pages_of, used, sole, IsGood}
 use Rattle.vm_model.specs.Contents.Owning.{need}
 use Rattle.vm_model.specs.Contents.Writing.{touched, piece, WritesPiece}
 use Rattle.vm_model.specs.Contents.Zeroing.{is_cleared, ZeroesPage, Zeroes, owned_by_zero}
-use Rattle.vm_model.specs.declared.names.Target.{Target}
 use Rattle.vm_model.specs.Naming.Pins.{Pin, is_pinned, any_pinned}
-use Rattle.vm_model.specs.Machine.State.{State, target_of, koid_of, place_of}
-use Rattle.vm_model.specs.Machine.Refusals.{change_refusals, first_of}
-use Rattle.vm_model.proofs.NamesLaws.{target_of-at}
 use Rattle.vm_model.proofs.ContentLaws.{IsOfHeld, IsOfHeld-held}
 use Rattle.vm_model.proofs.OwningLaws.{count_from, count_from-same}
 use Rattle.vm_model.proofs.WritingLaws.{IsKept-same}
@@ -26,11 +18,8 @@ use Rattle.vm_model.proofs.ZeroesLaws.{ZeroedPage, ZeroedPage-from_ZeroesPage}
 use Rattle.vmo_ops.proofs.ModelLaws.{ZeroesPage-none, Zeroes-none, need-zero}
 use Rattle.vmo_ops.specs.declared.zeroing.ZeroCost.{ZeroCost}
 use Rattle.vmo_ops.specs.Costs.{held_touched}
-use Rattle.vmo_ops.specs.Targets.{IsPlaced, DoesWith}
-use Rattle.vmo_ops.specs.Changes.{IsRefusedBy}
 use Rattle.vmo_ops.proofs.CountLaws.{IsNextHeld, held_below, count_from-held, AreCounted, AreCounted-start, AreCounted_le, AreCounted-step, AreCounted-end}
 use Rattle.vmo_ops.proofs.RowLaws.{Run, Takes, IsUnderWay, IsUnderWay-start, IsUnderWay-frame, IsUnderWay-step, IsUnderWay-gap}
-use Rattle.vmo_ops.proofs.ChangeLaws.{RefusesChange-named, IsAllowed-free, IsRefusedBy-no_memory, IsRefusedBy-lacks, Step-change_refused, Step-change_done}
 
 -- ---- a page that is cleared
 
@@ -155,9 +144,9 @@ filter_any test (p ∷ ps) h = elim (cases_Bool (test p)) [
 ]
 
 -- the range touches a held page where one is counted
-pub held_touched-any : (c : Content) (v offset len : ℕ) → 0 < held_touched c v offset len
+pub held_touched_any : (c : Content) (v offset len : ℕ) → 0 < held_touched c v offset len
     → list_any (is_held c v) (touched offset len) ≡ true
-held_touched-any c v offset len h = filter_any (is_held c v) (touched offset len) h
+held_touched_any c v offset len h = filter_any (is_held c v) (touched offset len) h
 
 -- ---- zeroing page by page
 
@@ -288,73 +277,3 @@ module _ (v : ℕ) (pinned : ℕ → Bool) (offset len : ℕ) (old : Content) wh
               bit-true (is_held now v page) next.2,
             );
           }
-
--- ---- the steps of zeroing a range of a target
-
-module _ (old new : Content) (pins : ℕ → Option Pin) (target : Target) (offset len : ℕ) where
-  -- the pages that are owned for it, where the range is at this place in the VMO
-  owned_at : ℕ → ℕ → List ℕ
-  owned_at v at = owned_by_zero old v (is_pinned pins v) at len
-
-  -- it is refused, and nothing has changed
-  pub zero_refused : (refusal : Refusal) → IsRefusedBy old target offset len
-      (owned_by_zero old target.koid.0 (is_pinned pins target.koid.0) (target.first * PAGE + offset) len)
-      (is_held old target.koid.0) refusal → new ≡ old
-      → DoesWith pins (λ name. VmoZero name offset len) target old (Refused refusal) new
-  unfolding owned_at
-  zero_refused refusal refused same = λ s name named.
-      let t : State = record s { content = old; pins = pins } in
-      Step-change_refused t (record s { content = new; pins = pins }) (VmoZero name offset len) name.0 offset len
-      (owned_at (koid_of t name.0) (place_of t name.0 offset)) (is_held old (koid_of t name.0)) refusal refl refl
-      (RefusesChange-named t name.0 target named offset len refusal owned_at (is_held old)
-      (refused (record s { pins = pins }) name.0 named))
-      (ap (λ (c : Content). record s { content = c; pins = pins }) same)
-
-  -- a name that may write, and the place of the range in the VMO
-  module _ (at : ℕ) (may : target.may_write ≡ true) (placed : IsPlaced old target offset len at) where
-    zero_need : need old target.koid.0 (owned_by_zero old target.koid.0 (is_pinned pins target.koid.0)
-        (target.first * PAGE + offset) len) ≡ need old target.koid.0
-        (owned_by_zero old target.koid.0 (is_pinned pins target.koid.0) at len)
-    zero_need =
-        ap (λ (a : ℕ). need old target.koid.0 (owned_by_zero old target.koid.0 (is_pinned pins target.koid.0) a len))
-        (sym placed.place)
-
-    -- the machine has too few free frames
-    pub zero_no_memory : old.frames < used old + need old target.koid.0
-        (owned_by_zero old target.koid.0 (is_pinned pins target.koid.0) at len) → new ≡ old
-        → DoesWith pins (λ name. VmoZero name offset len) target old (Refused NoMemory) new
-    zero_no_memory h same =
-        zero_refused NoMemory (IsRefusedBy-no_memory old target offset len _ (is_held old target.koid.0) may
-        placed.range (omega (arith, h, zero_need))) same
-
-    module _ (free : used old + need old target.koid.0 (owned_by_zero old target.koid.0 (is_pinned pins target.koid.0)
-        at len) ≤ old.frames) where
-      -- the host has too little memory, and the range touches a held page
-      pub zero_lacks : 0 < held_touched old target.koid.0 at len → new ≡ old
-          → DoesWith pins (λ name. VmoZero name offset len) target old (Refused HostMemory) new
-      zero_lacks h same =
-          zero_refused HostMemory (IsRefusedBy-lacks old target offset len _ (is_held old target.koid.0) may
-          placed.range (omega (arith, free, zero_need))
-          (ap (λ (a : ℕ). list_any (is_held old target.koid.0) (touched a len)) (sym placed.place)
-          ∙ held_touched-any old target.koid.0 at len h)) same
-
-      -- the range is zeroed
-      pub zero_done : Zeroes old target.koid.0 (is_pinned pins target.koid.0) at len (touched at len) new
-          → DoesWith pins (λ name. VmoZero name offset len) target old Done new
-      unfolding owned_at
-      zero_done zeroes = λ s name named.
-          let t : State = record s { content = old; pins = pins } in
-          let stands : target_of t name.0 ≡ target = target_of-at t name.0 target named in
-          Step-change_done t (record s { content = new; pins = pins }) (VmoZero name offset len) name.0 offset len
-          (owned_at (koid_of t name.0) (place_of t name.0 offset)) refl
-          (subst (λ (u : Target). first_of (change_refusals t name.0 offset len
-          (owned_at u.koid.0 (u.first * PAGE + offset))) ≡ None) (sym stands)
-          (IsAllowed-free old target offset len (owned_at target.koid.0 (target.first * PAGE + offset)) may placed.range
-          (omega (arith, free, zero_need)) (record s { pins = pins }) name.0 named)) (
-            refl,
-            refl,
-            subst (λ (u : Target). Zeroes old u.koid.0 (is_pinned pins u.koid.0) (u.first * PAGE + offset) len
-                (touched (u.first * PAGE + offset) len) new) (sym stands)
-                (subst (λ (a : ℕ). Zeroes old target.koid.0 (is_pinned pins target.koid.0) a len (touched a len) new)
-                placed.place zeroes),
-          )

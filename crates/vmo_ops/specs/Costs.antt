@@ -1,7 +1,9 @@
 -- What a change to a range of pages takes.
-use Rattle.std.specs.Prelude.{◌≡◌, ℕ, ◌≤◌, ◌⊎◌, List, length}
-use Rattle.std.specs.List.{filter}
-use Rattle.vm_model.specs.Contents.Content.{Content, is_held}
+use Rattle.std.specs.Prelude.{◌≡◌, ℕ, ◌+◌, ◌<◌, ◌≤◌, ◌⊎◌, true, not, List, length}
+use Rattle.std.specs.List.{filter, list_any}
+use Rattle.vm_base.specs.declared.refusal.Refusal.{Refusal}
+use Rattle.vm_base.specs.declared.refusal.Refusal.TheVariants.{NoMemory, HostMemory}
+use Rattle.vm_model.specs.Contents.Content.{Content, is_held, sole, used}
 use Rattle.vm_model.specs.Contents.Owning.{need}
 use Rattle.vm_model.specs.Contents.Writing.{touched}
 
@@ -13,3 +15,11 @@ held_touched c v offset len = length (filter (is_held c v) (touched offset len))
 -- page. Owning a sole page may take a row too, where others are owned with it.
 abbrev pub HasRows : Content → ℕ → List ℕ → ℕ → Type 0
 HasRows c v ps spare = (need c v ps ≡ 0) ⊎ (length ps ≤ spare)
+
+-- Owning these pages of v is refused: there are too few free frames, or there are enough and the host has too little
+-- memory, which is wanted where some of them is not sole.
+abbrev pub LacksRoom : Content → ℕ → List ℕ → Refusal → Type 0
+LacksRoom c v ps refusal =
+    ((refusal ≡ NoMemory) × (c.frames < used c + need c v ps))
+    ⊎ ((refusal ≡ HostMemory) × (used c + need c v ps ≤ c.frames)
+    × (list_any (λ p. not (sole c v p)) ps ≡ true))

@@ -1,10 +1,11 @@
 -- What a name stands for, and what a command does by it.
-use Rattle.std.specs.Prelude.{◌≡◌, ℕ, ◌+◌, ◌*◌, ◌≤◌, Option, None, Some, Result}
+use Rattle.std.specs.Prelude.{◌≡◌, ℕ, ◌+◌, ◌*◌, ◌<◌, ◌≤◌, ◌⊎◌, true, false, Option, None, Some, Result}
 use Rattle.std.specs.declared.result.Result.TheVariants.{Ok, Err}
 use Rattle.vm_base.specs.declared.names.Koid.{Koid}
 use Rattle.vm_base.specs.declared.names.VmoName.{VmoName}
 use Rattle.vm_base.specs.declared.limits.TheConstants.{PAGE}
 use Rattle.vm_base.specs.declared.refusal.Refusal.{Refusal}
+use Rattle.vm_base.specs.declared.refusal.Refusal.TheVariants.{AccessDenied, OutOfRange}
 use Rattle.vm_model.specs.declared.command.ChildKind.{ChildKind}
 use Rattle.vm_model.specs.declared.command.ChildKind.TheVariants.{Snapshot, Slice, Reference}
 use Rattle.vm_model.specs.declared.command.Command.{Command}
@@ -23,6 +24,12 @@ pub record IsPlaced (c : Content) (target : Target) (offset len at : ℕ) : Type
   pub range : offset + len ≤ name_pages c target * PAGE
   pub place : at ≡ target.first * PAGE + offset
   pub inside : at + len ≤ pages_of c target.koid.0 * PAGE
+
+-- a change to a range of a name is refused by the name, which may not write, or by the range, which passes its end
+abbrev pub IsBarred : Content → Target → ℕ → ℕ → Refusal → Type 0
+IsBarred c target offset len refusal =
+    ((refusal ≡ AccessDenied) × (target.may_write ≡ false))
+    ⊎ ((refusal ≡ OutOfRange) × (target.may_write ≡ true) × (name_pages c target * PAGE < offset + len))
 
 -- what a call answers, as a reply of the machine
 abbrev pub reply_of : {A : Type 0} → (A → Reply) → Result A Refusal → Reply

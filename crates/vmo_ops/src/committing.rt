@@ -35,7 +35,6 @@ pub fn commit<P: PageStore>(store: &mut P, t: &Target, offset: u64, len: u64) ->
 }
 
 // Owns the pages that a range inside the VMO touches, where the room for it is there.
-#[tactic(auto, using(page_store::proofs::NameLaws::pages_of_le))]
 fn own_pages<P: PageStore>(store: &mut P, v: Koid, offset: u64, len: u64)
     requires good { IsGood (P.content store.old) }
     requires inside { offset + len ≤ pages_of (P.content store.old) v.0 * PAGE }

@@ -1,13 +1,17 @@
 //! Giving pages back (`ZX_VMO_OP_DECOMMIT`).
 
-ghost use Rattle.std.specs.Prelude.{◌≡◌, Some};
+ghost use Rattle.std.specs.Prelude.{◌≡◌, ◌+◌, ◌*◌, ◌/◌, ◌%◌, ◌≤◌, false, Some, IsSome};
 ghost use Rattle.vm_base.specs.declared.names.VmoName.{VmoName};
 ghost use Rattle.vm_model.specs.declared.command.Command.{Command};
 ghost use Rattle.vm_model.specs.declared.reply.Reply.{Reply};
+ghost use Rattle.vm_model.specs.Contents.Content.{pages_of, IsGood};
+ghost use Rattle.vm_model.specs.Contents.Zeroing.{zeroed};
+ghost use Rattle.vm_model.specs.Naming.Pins.{any_pinned};
 ghost use Rattle.vm_model.specs.Machine.State.{State};
 ghost use Rattle.vm_model.specs.Machine.Step.{Step};
 ghost use Rattle.vmo_table.specs.Table.{names_of, IsNamed};
 ghost use Rattle.pin_table.specs.Table.{pins_of};
+ghost use Rattle.vmo_ops.specs.Costs.{held_touched};
 ghost use Rattle.vmo_ops.specs.Targets.{AreTogether, with_tables, reply_of};
 
 use crate::owning::reserve_rows;
@@ -15,7 +19,7 @@ use crate::ranges::place_in_vmo;
 use crate::zeroing::{cost_to_zero, zero_pages};
 use page_store::PageStore;
 use pin_table::PinTable;
-use vm_base::{Refusal, in_page, page_of};
+use vm_base::{Koid, PAGE, Refusal, in_page, page_of};
 use vmo_table::{Target, VmoTable};
 
 /// Makes the pages of a range zero and gives their frames back: `len` bytes from `offset` bytes into the
@@ -57,6 +61,19 @@ pub fn decommit<P: PageStore>(
     let Ok(()) = reserve_rows(store, cost.held, cost.held) else {
         return Err(Refusal::HostMemory);
     };
-    zero_pages(store, pins, t.koid, at, len);
+    clear_pages(store, pins, t.koid, at, len);
     Ok(())
+}
+
+// Makes the pages of a range of whole pages zero, none of which is pinned, where the room for it is there.
+fn clear_pages<P: PageStore>(store: &mut P, pins: &PinTable, v: Koid, offset: u64, len: u64)
+    requires good { IsGood (P.content store.old) }
+    requires vmo { IsSome ((P.content store.old).count v.0) }
+    requires inside { offset + len ≤ pages_of (P.content store.old) v.0 * PAGE }
+    requires whole { (offset % PAGE ≡ 0) × (len % PAGE ≡ 0) }
+    requires free { any_pinned (pins_of pins.now) v.0 (offset / PAGE) (offset / PAGE + len / PAGE) ≡ false }
+    requires room { held_touched (P.content store.old) v.0 offset len ≤ P.spare store.old }
+    ensures { P.content store.new ≡ zeroed (P.content store.old) v.0 (offset / PAGE) ((offset + len) / PAGE) }
+{
+    zero_pages(store, pins, v, offset, len);
 }

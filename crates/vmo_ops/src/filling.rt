@@ -48,7 +48,6 @@ pub fn fill<P: PageStore>(
 
 // Fills a range inside the VMO, page by page, where the room for it is there, from a buffer of `N` bytes. It is not
 // inlined, since a function writes all of its locals, and a short fill is not to pay for a page.
-#[tactic(auto, using(page_store::proofs::NameLaws::pages_of_le))]
 #[inline(never)]
 fn fill_pages<P: PageStore, const N: usize>(store: &mut P, v: Koid, offset: u64, len: u64, byte: u8)
     requires good { IsGood (P.content store.old) }

@@ -5,7 +5,17 @@
 //! It stands on `page_store`, whose trait it is generic over, on `vmo_table` and on `pin_table`. Its contracts say that
 //! a call is the step of its command, as `vm_model` defines it. The layer above looks names up, calls
 //! an operation, and makes a reply of its answer.
-#![tactic(auto)]
+#![tactic(auto,
+// no VMO has more pages than fit
+using(page_store::proofs::NameLaws::pages_of_le,
+// where the host may lack memory, some page that is touched is held, or not sole
+crate::proofs::ZeroLaws::held_touched_any, crate::proofs::ModelLaws::need_any),
+// what a state says of a name and of a VMO
+unfolding(vm_model::specs::Machine::State::target_of, vm_model::specs::Machine::State::lineage_of,
+// how names and VMOs come into a state
+vm_model::specs::Machine::Step::with_alias, vm_model::specs::Machine::Step::with_vmo,
+// and snapshots
+vm_model::specs::Machine::Step::with_snapshot))]
 
 mod aliases;
 mod children;

@@ -1,12 +1,13 @@
 //! Pinning pages, so that they keep their frames (`zx_bti_pin`, `zx_pmt_unpin`).
 
-ghost use Rattle.std.specs.Prelude.{◌≡◌, ◌+◌, ◌*◌, ◌%◌, ◌≤◌, ◌↔◌, None, Some, IsTrue, IsSome, length, map};
+ghost use Rattle.std.specs.Prelude.{◌≡◌, ◌+◌, ◌*◌, ◌/◌, ◌%◌, ◌≤◌, ◌↔◌, None, Some, IsTrue, IsSome, length, map};
 ghost use Rattle.std.specs.List.{range_with_len};
 ghost use Rattle.vm_base.specs.declared.names.VmoName.{VmoName};
 ghost use Rattle.vm_model.specs.declared.command.Command.{Command};
 ghost use Rattle.vm_model.specs.declared.reply.Reply.{Reply};
 ghost use Rattle.vm_model.specs.Contents.Content.{pages_of, used, IsGood};
 ghost use Rattle.vm_model.specs.Contents.Owning.{need, OwnsAll};
+ghost use Rattle.vm_model.specs.Contents.Writing.{touched};
 ghost use Rattle.vm_model.specs.Machine.State.{State};
 ghost use Rattle.vm_model.specs.Machine.Step.{Step, frame_of};
 ghost use Rattle.vmo_table.specs.Table.{names_of, CountsKeepers, IsNamed};
@@ -15,11 +16,11 @@ ghost use Rattle.vmo_ops.specs.Costs.{HasRows};
 ghost use Rattle.vmo_ops.specs.Targets.{IsWellCounted, with_tables, reply_of};
 
 use crate::closing::drop_gone;
-use crate::owning::{need_of, reserve_rows};
-use crate::ranges::place_in_vmo;
+use crate::ranges::{place_in_vmo, touched_pages};
+use crate::ready::reserve_to_own;
 use page_store::PageStore;
 use pin_table::PinTable;
-use vm_base::{Koid, PAGE, PIN_PAGES, PageNo, PinName, Refusal, in_page, page_of};
+use vm_base::{Koid, PAGE, PIN_PAGES, PinName, Refusal, in_page, page_of};
 use vm_model::{LentNumbers, PinNumbers};
 use vmo_table::{Target, VmoTable};
 
@@ -59,7 +60,6 @@ pub fn pin<P: PageStore>(
 }
 
 /// Pins as `pin` does, with room for at least `PIN_PAGES` numbers, and lends the frames' numbers there.
-#[tactic(auto, using(page_store::proofs::NameLaws::pages_of_le))]
 pub fn pin_into<'a, P: PageStore>(
     store: &mut P,
     vmos: &mut VmoTable,
@@ -87,23 +87,18 @@ pub fn pin_into<'a, P: PageStore>(
     let Some(at) = place_in_vmo(store, t, offset, len) else {
         return Err(Refusal::OutOfRange);
     };
-    let first = page_of(at);
-    let count = page_of(len);
-    let need = need_of(store, t.koid, first, first + count);
-    if need > u64::from(store.free()) {
-        return Err(Refusal::NoMemory);
+    if let Err(refusal) = reserve_to_own(store, t.koid, at, len) {
+        return Err(refusal);
     }
     let Ok(()) = pins.reserve() else {
         return Err(Refusal::HostMemory);
     };
-    let Ok(()) = reserve_rows(store, need, count) else {
-        return Err(Refusal::HostMemory);
-    };
+    let count = page_of(len);
     // That a VMO has no more pins than there are names rests on the range of the names.
     prove!(pin.0 <= u32::MAX);
     let numbers = &mut room[..count as usize];
-    own_frames(store, t.koid, first, numbers);
-    pins.add(pin, t.koid, first, count);
+    own_frames(store, t.koid, at, len, numbers);
+    pins.add(pin, t.koid, page_of(at), count);
     vmos.keep(t.koid, 1);
     Ok(LentNumbers::new(numbers))
 }
@@ -115,20 +110,22 @@ fn is_pin_range(offset: u64, len: u64) -> bool
     in_page(offset) == 0 && in_page(len) == 0 && len > 0 && len <= PIN_BYTES
 }
 
-// Owns pages of a VMO from `first` on, as many as numbers, where the room for it is there, and puts their frames'
-// numbers there.
-#[tactic(auto, using(page_store::proofs::NameLaws::pages_of_le))]
-fn own_frames<P: PageStore>(store: &mut P, v: Koid, first: PageNo, numbers: &mut [u64])
+// Owns the pages of a range of whole pages inside a VMO, where the room for it is there, and puts their frames' numbers
+// there, one for each page.
+fn own_frames<P: PageStore>(store: &mut P, v: Koid, offset: u64, len: u64, numbers: &mut [u64])
     requires good { IsGood (P.content store.old) }
-    requires inside { first + length numbers.old ≤ pages_of (P.content store.old) v.0 }
-    requires room { HasRows (P.content store.old) v.0 (range_with_len first (length numbers.old)) (P.spare store.old) }
-    requires free { used (P.content store.old) + need (P.content store.old) v.0
-        (range_with_len first (length numbers.old)) ≤ (P.content store.old).frames }
-    ensures owns { OwnsAll (P.content store.old) v.0 (range_with_len first (length numbers.old)) (P.content store.new) }
+    requires inside { offset + len ≤ pages_of (P.content store.old) v.0 * PAGE }
+    requires whole { (offset % PAGE ≡ 0) × (len % PAGE ≡ 0) }
+    requires count { length numbers.old ≡ len / PAGE }
+    requires room { HasRows (P.content store.old) v.0 (touched offset len) (P.spare store.old) }
+    requires free { used (P.content store.old) + need (P.content store.old) v.0 (touched offset len)
+        ≤ (P.content store.old).frames }
+    ensures owns { OwnsAll (P.content store.old) v.0 (touched offset len) (P.content store.new) }
     ensures frames { numbers.new ≡ map (λ p. frame_of ((P.content store.new).page v.0 p))
-        (range_with_len first (length numbers.old)) }
+        (range_with_len (offset / PAGE) (len / PAGE)) }
 {
-    for page in first..first + numbers.len() as u64 {
+    let (first, end) = touched_pages(offset, len);
+    for page in first..end {
         let tag = store.own(v, page);
         numbers[(page - first) as usize] = u64::from(tag.0);
     }

@@ -56,7 +56,6 @@ pub fn read_into<'a, P: PageStore>(
 }
 
 // Reads the bytes of a range inside the VMO, page by page.
-#[tactic(auto, using(page_store::proofs::NameLaws::pages_of_le))]
 fn read_pages<P: PageStore>(store: &P, v: Koid, offset: u64, out: &mut [u8])
     requires good { IsGood (P.content store.now) }
     requires inside { offset + length out.old ≤ pages_of (P.content store.now) v.0 * PAGE }

@@ -1,16 +1,17 @@
 //! Changing the size of a VMO (`zx_vmo_set_size`).
 
-ghost use Rattle.std.specs.Prelude.{◌≡◌};
+ghost use Rattle.std.specs.Prelude.{◌≡◌, IsSome};
 ghost use Rattle.vm_model.specs.declared.command.Command.{Command};
 ghost use Rattle.vm_model.specs.declared.reply.Reply.{Reply};
-ghost use Rattle.vm_model.specs.Contents.Content.{IsGood};
+ghost use Rattle.vm_model.specs.Contents.Content.{pages_of, IsGood};
+ghost use Rattle.vm_model.specs.Naming.Pins.{any_pinned};
 ghost use Rattle.page_store.specs.Names.{IsInside};
 ghost use Rattle.pin_table.specs.Table.{pins_of};
 ghost use Rattle.vmo_ops.specs.Targets.{DoesWith, reply_of};
 
 use page_store::PageStore;
 use pin_table::PinTable;
-use vm_base::{PAGE, Refusal, VMO_PAGES, page_of, round_up};
+use vm_base::{Koid, PAGE, PageNo, Refusal, VMO_PAGES, page_of, round_up};
 use vmo_table::Target;
 
 /// Changes the size of a VMO to `size` bytes, rounded up to whole pages. Pages past the new end leave
@@ -38,9 +39,17 @@ pub fn resize<P: PageStore>(
         return Err(Refusal::OutOfRange);
     };
     let pages = page_of(whole);
-    if pins.pinned(t.koid, pages, store.count(t.koid).saturating_sub(pages)) {
+    if is_pinned_past(store, pins, t.koid, pages) {
         return Err(Refusal::BadState);
     }
     store.set_count(t.koid, pages);
     Ok(())
+}
+
+// Whether a page of a VMO is pinned, of those behind the first `pages`.
+fn is_pinned_past<P: PageStore>(store: &P, pins: &PinTable, v: Koid, pages: PageNo) -> bool
+    requires { IsSome ((P.content store.now).count v.0) }
+    ensures { result ≡ any_pinned (pins_of pins.now) v.0 pages (pages_of (P.content store.now) v.0) }
+{
+    pins.pinned(v, pages, store.count(v).saturating_sub(pages))
 }

@@ -1,6 +1,6 @@
 //! Making a snapshot of a VMO (`ZX_VMO_CHILD_SNAPSHOT`).
 
-ghost use Rattle.std.specs.Prelude.{◌≡◌, ◌+◌, ◌*◌, ◌/◌, ◌<◌, ◌≤◌, ◌⊎◌, None, Some, IfNone, IfSome, IfOk};
+ghost use Rattle.std.specs.Prelude.{◌≡◌, ◌+◌, ◌*◌, ◌/◌, ◌<◌, ◌≤◌, ◌⊎◌, None, Some, IsSome, IfNone, IfSome, IfOk};
 ghost use Rattle.vm_base.specs.Pages.{rounded};
 ghost use Rattle.vm_base.specs.declared.names.VmoName.{VmoName};
 ghost use Rattle.vm_base.specs.declared.limits.TheConstants.{KOIDS};
@@ -8,7 +8,8 @@ ghost use Rattle.vm_model.specs.declared.command.Command.{Command};
 ghost use Rattle.vm_model.specs.declared.command.ChildKind.TheVariants.{Snapshot};
 ghost use Rattle.vm_model.specs.declared.reply.Reply.{Reply};
 ghost use Rattle.vm_model.specs.Contents.Content.{pages_of, IsGood};
-ghost use Rattle.vm_model.specs.Machine.State.{State};
+ghost use Rattle.vm_model.specs.Naming.Pins.{has_pin};
+ghost use Rattle.vm_model.specs.Machine.State.{State, IsGoodState};
 ghost use Rattle.vm_model.specs.Machine.Step.{Step, seen_pages};
 ghost use Rattle.page_store.specs.Names.{IsInside};
 ghost use Rattle.vmo_table.specs.Table.{names_of, keepers_of, IsNamed};
@@ -51,7 +52,7 @@ pub(crate) fn snapshot<P: PageStore>(
     let Some(pages) = pages_within(offset, size) else {
         return Err(Refusal::OutOfRange);
     };
-    if pins.pinned(t.koid, 0, store.count(t.koid)) {
+    if is_pinned_anywhere(store, pins, t.koid) {
         return Err(Refusal::BadState);
     }
     let Ok(()) = vmos.reserve() else {
@@ -70,6 +71,15 @@ pub(crate) fn snapshot<P: PageStore>(
         !no_write,
     );
     Ok(koid)
+}
+
+// Whether a VMO has a pin.
+fn is_pinned_anywhere<P: PageStore>(store: &P, pins: &PinTable, v: Koid) -> bool
+    requires good { (s : State) × IsGoodState (record s { content = P.content store.now; pins = pins_of pins.now }) }
+    requires vmo { IsSome ((P.content store.now).count v.0) }
+    ensures { result ≡ has_pin (pins_of pins.now) v.0 }
+{
+    pins.pinned(v, 0, store.count(v))
 }
 
 // The pages of `size` bytes, where they end at or below the greatest size of a VMO, counted from

@@ -40,7 +40,6 @@ pub fn write<P: PageStore>(
 }
 
 // Writes bytes inside the VMO, page by page, where the room for it is there.
-#[tactic(auto, using(page_store::proofs::NameLaws::pages_of_le))]
 fn write_pages<P: PageStore>(store: &mut P, v: Koid, offset: u64, bytes: &[u8])
     requires good { IsGood (P.content store.old) }
     requires inside { offset + length bytes.now ≤ pages_of (P.content store.old) v.0 * PAGE }

@@ -65,7 +65,6 @@ pub(crate) struct ZeroCost {
 }
 
 /// What zeroing a range inside the VMO takes. It looks at the held pages alone.
-#[tactic(auto, using(page_store::proofs::NameLaws::pages_of_le))]
 pub(crate) fn cost_to_zero<P: PageStore>(
     store: &P,
     pins: &PinTable,
@@ -95,7 +94,6 @@ pub(crate) fn cost_to_zero<P: PageStore>(
 
 // Whether zeroing a range takes a frame for a page that it touches and that is held: the page does not
 // become zero as a whole, and is not sole.
-#[tactic(auto, using(page_store::proofs::NameLaws::pages_of_le))]
 fn takes_frame<P: PageStore>(
     store: &P,
     pins: &PinTable,
@@ -124,7 +122,6 @@ fn is_cleared_page(pins: &PinTable, v: Koid, page: PageNo, part: PagePart) -> bo
 }
 
 /// Zeroes a range inside the VMO, one held page after another, where the room for it is there.
-#[tactic(auto, using(page_store::proofs::NameLaws::pages_of_le))]
 pub(crate) fn zero_pages<P: PageStore>(
     store: &mut P,
     pins: &PinTable,
@@ -154,7 +151,6 @@ pub(crate) fn zero_pages<P: PageStore>(
 static ZEROS: [u8; PAGE_BYTES] = [0; PAGE_BYTES];
 
 // Zeroes what of a range falls into one page that it touches and that is held.
-#[tactic(auto, using(page_store::proofs::NameLaws::pages_of_le))]
 fn zero_part<P: PageStore>(
     store: &mut P,
     pins: &PinTable,

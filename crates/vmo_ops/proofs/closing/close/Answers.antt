@@ -1,18 +1,24 @@
-use Rattle.vmo_table.specs.Table.{names_of, lineage_in, keepers_of, with_vmos}
-use Rattle.vmo_ops.proofs.CloseLaws.{closing_vmo, close_done}
+use Rattle.std.proofs.Common.{rules, ◌∙◌}
+use Rattle.vm_base.proofs.EntryLaws.{some_is}
+use Rattle.vm_model.proofs.LeavingLaws.{unnamed, Loosens-unnamed, name_vmo}
+use Rattle.vmo_table.specs.Table.{lineage_in, with_vmos}
+use Rattle.vmo_ops.proofs.SettleLaws.{leaving_vmo, settled_pruned}
 use Rattle.vmo_ops.proofs.closing.close.Goals as goal
 
 pub drop_gone-requires : goal.drop_gone-requires
 drop_gone-requires g c =
-    let rest = c.requires.parts.0 in
-    closing_vmo (with_vmos rest (g.P.PageStore.content c.args.store.now) c.args.vmos.now) c.args.name
-    (keepers_of c.args.vmos.now) c.requires.parts.1.good c.requires.named
-    (names_of c.close.new.self) (lineage_in c.close.new.self) c.close.result c.close.ensures.vmo
+    let found = some_is _ c.requires.named in
+    leaving_vmo _ _ _ _ _ (g.P.PageStore.content c.args.store.now) _ (name_vmo _ _ found.0 c.requires.parts.1.good found.1)
+    (c.close.ensures.vmo found.0 found.1)
 
 pub returns-clause-step : goal.returns-clause-step
 returns-clause-step g c = λ rest counted.
-    close_done (with_vmos rest (g.P.PageStore.content c.args.store.now) c.args.vmos.now) c.args.name
-    (keepers_of c.args.vmos.now) counted.good c.requires.named
-    (names_of c.close.new.self) (lineage_in c.close.new.self) c.close.result c.close.ensures.vmo counted.counted
-    c.close.ensures.names
-    (g.P.PageStore.content c.drop_gone.new.store) c.drop_gone.ensures
+    let s = with_vmos rest (g.P.PageStore.content c.args.store.now) c.args.vmos.now in
+    let d = g.P.PageStore.content c.drop_gone.new.store in
+    let found = some_is _ c.requires.named in
+    let gone = settled_pruned s (unnamed s c.args.name.0) _ counted.good
+    (Loosens-unnamed s c.args.name.0 found.0 counted.good found.1) _ c.close.ensures.names _ (counted.counted _) _ _
+    (c.close.ensures.vmo found.0 found.1) d c.drop_gone.ensures in
+    let new = (λ i. record s { content = d; names = c.close.ensures.names i; lineage = lineage_in c.close.new.self })
+    ∙ gone in
+    search rules

@@ -1,5 +1,4 @@
-use Rattle.std.proofs.Common.{◌≡◌, ◌+◌, ◌-◌, length, refl, sym, ap, arith}
-use Rattle.std.specs.List.{range_with_len}
+use Rattle.std.proofs.Common.{◌-◌, refl, arith}
 use Rattle.vm_model.proofs.OwningLaws.{Owned-from_Owns}
 use Rattle.vmo_ops.proofs.OwningLaws.{Written-from_Owns, IsOwning-start, IsOwning-below, IsOwning-room}
 use Rattle.vmo_ops.proofs.OwningLaws.{IsOwning-step, IsOwning-end}
@@ -7,14 +6,11 @@ use Rattle.vmo_ops.proofs.FrameLaws.{AreFrames-start, AreFrames-step, AreFrames-
 use Rattle.vmo_ops.proofs.pinning.own_frames.Goals as goal
 
 pub loop-page-init : goal.loop-page-init
-loop-page-init g c =
-    let count = length c.args.numbers.now in
-    let n : (c.args.first + count) - c.args.first ≡ count = omega arith in
-    record {
-      owning = IsOwning-start _ c.args.v.0 _ _ _ _ _ c.requires.good c.requires.inside (omega arith)
-          (ap (range_with_len c.args.first) (sym n)) c.requires.room c.requires.free;
-      frames = AreFrames-start _ c.args.v.0 c.args.first c.args.numbers.now;
-    }
+loop-page-init g c = record {
+  owning = IsOwning-start _ c.args.v.0 _ _ _ _ _ c.requires.good (omega (arith, c.touched_pages-first.ensures.end))
+      c.touched_pages-first.ensures.order c.touched_pages-first.ensures.pages c.requires.room c.requires.free;
+  frames = AreFrames-start _ c.args.v.0 _ c.args.numbers.now;
+}
 
 pub own-tag-requires-clause-page : goal.own-tag-requires-clause-page
 own-tag-requires-clause-page g c = IsOwning-below _ _ _ _ _ _ _ _ c.loop-page.invariant.owning c.loop-page-test.true
@@ -36,13 +32,16 @@ loop-page-preserved g c =
       owning = IsOwning-step _ _ _ _ _ _ _ _ owning c.loop-page-test.true mid _
           (Written-from_Owns now mid v page tag owning.way.good below owns) c.own-tag.ensures.spare
           (λ ps last w. (mid, tag, owns, w));
-      frames = AreFrames-step now mid v c.args.first page tag c.from.result c.loop-page.numbers c.loop-page.auto.page
+      frames = AreFrames-step now mid v c.touched_pages-first.result.0 page tag c.from.result c.loop-page.numbers c.loop-page.auto.page
           (omega arith) (Owned-from_Owns now mid v page tag owning.way.good below owns) c.from.ensures
           c.loop-page.invariant.frames;
     }
 
 pub returns-clause-owns : goal.returns-clause-owns
-returns-clause-owns g c = IsOwning-end _ _ _ _ _ _ _ _ c.loop-page.invariant.owning c.loop-page-test.false refl
+returns-clause-owns g c = IsOwning-end _ _ _ _ _ _ _ _ c.loop-page.invariant.owning (omega arith) refl
 
 pub returns-clause-frames : goal.returns-clause-frames
-returns-clause-frames g c = AreFrames-end c.loop-page.auto.numbers (omega arith) c.loop-page.invariant.frames
+returns-clause-frames g c =
+    rw (← c.touched_pages-first.ensures.first)
+    (AreFrames-end (omega (arith, c.loop-page.auto.numbers)) (omega (arith, c.touched_pages-first.ensures.end))
+    c.loop-page.invariant.frames)
