@@ -43,9 +43,6 @@ module _ (c : Content) (v : ℕ) (test : ℕ → Bool) (of : IsOfHeld c v test) 
     pub high : from ≤ end
     pub counted : n + count_from test from (end - from) ≡ count_from test first (end - first)
 
-  pub AreCounted-start : (first end : ℕ) → first ≤ end → AreCounted first first end 0
-  AreCounted-start first end h = record { low = omega arith; high = h; counted = omega arith }
-
   module _ (first from end n : ℕ) (so_far : AreCounted first from end n) where
     -- no more count than there are pages
     pub AreCounted_le : n + first ≤ from

@@ -4,7 +4,6 @@ use Rattle.std.proofs.Common.{map, take, refl, sym, ap, ◌∙◌, arith}
 use Rattle.std.specs.List.{range_with_len}
 use Rattle.std.proofs.Math.ListN.{set}
 use Rattle.std.proofs.lemmas.Grind.{take-set_at}
-use Rattle.std.proofs.lemmas.List.{take_all}
 use Rattle.std.proofs.lemmas.List.FromFn.{map-range_with_len_more}
 use Rattle.vm_model.specs.Contents.Content.{Content}
 use Rattle.vm_model.specs.Machine.Step.{frame_of}
@@ -55,10 +54,3 @@ AreFrames-step now mid v first p tag number numbers h room owned same frames =
           ∙ (sym (map-range_with_len_more (λ q. frame_of (mid.page v q)) first (p - first) p (omega arith))
           ∙ sym (ap (frames_in mid v first) n)));
     }
-
--- no page is left
-pub AreFrames-end : {c : Content} {v first count p : ℕ} {numbers : List ℕ} → length numbers ≡ count
-    → p ≡ first + count → AreFrames c v first p numbers → numbers ≡ frames_in c v first count
-AreFrames-end {c} {v} {first} {count} {p} {numbers} size e frames =
-    let n : p - first ≡ count = omega arith in
-    sym (take_all count numbers (omega (arith, size))) ∙ rw n at frames.are

@@ -5,7 +5,6 @@ pub mod LookLaws
 pub mod PinnedLaws
 pub mod CreateLaws
 pub mod SettleLaws
-pub mod AliasLaws
 pub mod ReadLaws
 pub mod CountLaws
 pub mod NeedLaws

@@ -1,22 +1,10 @@
 -- What a name of a good state stands for.
-use Rattle.std.specs.Prelude.{IsSome}
 use Rattle.vm_model.specs.Contents.Content.{Content}
 use Rattle.vm_model.specs.declared.names.Target.{Target}
 use Rattle.vm_model.specs.Machine.State.{State, IsGoodState}
-use Rattle.vm_model.proofs.LeavingLaws.{name_vmo, name_lineage}
 use Rattle.page_store.proofs.NameLaws.{IsInside-good}
 use Rattle.page_store.specs.Names.{IsInside}
 use Rattle.vmo_table.specs.Table.{Table, names_of, with_vmos, IsNamed, AreParts}
-
--- its VMO is in the store
-pub named_vmo : (s : State) (target : Target) → IsGoodState s → IsNamed s.names target
-    → IsSome (s.content.count target.koid.0)
-named_vmo s target good named = name_vmo s named.0 target good named.1
-
--- and in the table
-pub named_lineage : (s : State) (target : Target) → IsGoodState s → IsNamed s.names target
-    → IsSome (s.lineage target.koid.0)
-named_lineage s target good named = name_lineage s named.0 target good named.1
 
 -- and lies inside its VMO
 pub named_inside : (s : State) (target : Target) → IsGoodState s → IsNamed s.names target → IsInside s.content target

@@ -2,7 +2,7 @@
 use Rattle.std.proofs.Common.{◌≡◌, ℕ, ◌+◌, ◌-◌, ◌*◌, ◌/◌, ◌<◌, ◌≤◌, min, List, ◌++◌, length, take}
 use Rattle.std.proofs.Common.{drop, length-drop, sym, ap, ◌∙◌, arith}
 use Rattle.std.specs.Prelude.{slice_range}
-use Rattle.std.proofs.lemmas.List.{take_all, length-take}
+use Rattle.std.proofs.lemmas.List.{length-take}
 use Rattle.std.proofs.lemmas.Slice.{take-put_mid}
 use borrow.Rule.Slice.PartMut.{put_mid}
 use Rattle.vm_base.specs.declared.limits.TheConstants.{PAGE}
@@ -28,13 +28,6 @@ read_start c v offset first out e =
     let none : before offset (length out) first ≡ 0 = omega (arith, e) in record {
       bytes = ap (λ n. take n out) none ∙ sym (ap (bytes_in c v offset) none ∙ bytes_in-nil c v offset);
     }
-
--- all lies before the end
-pub read_end : {c : Content} {v offset len end : ℕ} {out : List ℕ} → length out ≡ len → len ≤ PAGE * end - offset
-    → IsReadTo c v offset len end out → out ≡ bytes_in c v offset len
-read_end {c} {v} {offset} {len} {end} {out} size h read =
-    let all : before offset len end ≡ len = omega arith in
-    sym (take_all len out (omega (arith, size))) ∙ rw all at read.bytes
 
 -- the part of the range that falls into page p is read to its place
 pub read_step : {c : Content} {v offset len p at : ℕ} {out : List ℕ} (from count : ℕ) (new : List ℕ) → IsGood c

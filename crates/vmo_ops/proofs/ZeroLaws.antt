@@ -18,7 +18,7 @@ use Rattle.vm_model.proofs.ZeroesLaws.{ZeroedPage, ZeroedPage-from_ZeroesPage}
 use Rattle.vmo_ops.proofs.ModelLaws.{ZeroesPage-none, Zeroes-none, need-zero}
 use Rattle.vmo_ops.specs.declared.zeroing.ZeroCost.{ZeroCost}
 use Rattle.vmo_ops.specs.Costs.{held_touched}
-use Rattle.vmo_ops.proofs.CountLaws.{IsNextHeld, held_below, count_from-held, AreCounted, AreCounted-start, AreCounted_le, AreCounted-step, AreCounted-end}
+use Rattle.vmo_ops.proofs.CountLaws.{IsNextHeld, held_below, count_from-held, AreCounted, AreCounted_le, AreCounted-step, AreCounted-end}
 use Rattle.vmo_ops.proofs.RowLaws.{Run, Takes, IsUnderWay, IsUnderWay-start, IsUnderWay-frame, IsUnderWay-step, IsUnderWay-gap}
 
 -- ---- a page that is cleared
@@ -88,16 +88,6 @@ pub record IsCounting (c : Content) (v : ℕ) (pinned : ℕ → Bool) (offset le
       end cost.owned
 
 module _ (c : Content) (v : ℕ) (pinned : ℕ → Bool) (offset len first : ℕ) where
-  -- nothing is counted yet
-  pub IsCounting-start : (end : ℕ) → first ≤ end → IsCounting c v pinned offset len first first end
-      (record { held = 0; owned = 0 })
-  IsCounting-start end order =
-      record {
-        held = AreCounted-start c v _ (IsOfHeld-held c v) first end order;
-        owned = AreCounted-start c v _
-            (IsOfHeld-takes c v pinned offset len) first end order;
-      }
-
   -- no more is counted than there are pages
   pub IsCounting_le : (from end : ℕ) (cost : ZeroCost) → IsCounting c v pinned offset len first from end cost
       → (cost.held ≤ from) × (cost.owned ≤ from)

@@ -1,5 +1,4 @@
 use Rattle.pin_table.specs.Table.{pins_of}
-use Rattle.vmo_ops.proofs.NameLaws.{named_lineage}
 use Rattle.vmo_ops.proofs.children.create_child.Goals as goal
 
 pub slice-requires-clause-parts : goal.slice-requires-clause-parts
@@ -7,9 +6,6 @@ slice-requires-clause-parts g c = record {
   rest = record c.requires.parts.rest { pins = pins_of c.args.pins.now };
   good = c.requires.parts.good;
 }
-
-pub reference-requires-clause-vmo : goal.reference-requires-clause-vmo
-reference-requires-clause-vmo g c = named_lineage _ _ c.requires.parts.good c.requires.named
 
 pub returns-in-Ok-clause-step : goal.returns-in-Ok-clause-step
 returns-in-Ok-clause-step g c = λ rest parent named. rw c.in-Snapshot.is (c.in-Ok.ensures.step rest parent named)

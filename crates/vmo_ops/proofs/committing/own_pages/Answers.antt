@@ -1,5 +1,5 @@
-use Rattle.std.proofs.Common.{refl, arith}
-use Rattle.vmo_ops.proofs.OwningLaws.{Written-from_Owns, IsOwning-start, IsOwning-room, IsOwning-step, IsOwning-end}
+use Rattle.std.proofs.Common.{arith}
+use Rattle.vmo_ops.proofs.OwningLaws.{Written-from_Owns, IsOwning-start, IsOwning-room, IsOwning-step}
 use Rattle.vmo_ops.proofs.committing.own_pages.Goals as goal
 
 pub loop-page-init : goal.loop-page-init
@@ -21,6 +21,3 @@ loop-page-preserved g c =
     (omega (arith, owning.way.inside)) owns in
     IsOwning-step _ _ _ _ _ _ _ _ owning c.loop-page-test.true mid _ written c.own.ensures.spare
     (λ ps last w. (mid, c.own.result.0, owns, w))
-
-pub returns : goal.returns
-returns g c = IsOwning-end _ _ _ _ _ _ _ _ c.loop-page.invariant (omega arith) refl

@@ -1,14 +1,9 @@
 use Rattle.std.proofs.Common.{sym, ◌∙◌, arith}
 use Rattle.vm_base.proofs.SearchLaws.{bit-true, bit-false}
-use Rattle.vmo_ops.proofs.CountLaws.{AreCounted-start, AreCounted_le, AreCounted-step, AreCounted-end}
-use Rattle.vmo_ops.proofs.NeedLaws.{IsOfHeld-sole, need-sole}
+use Rattle.vmo_ops.proofs.CountLaws.{AreCounted_le, AreCounted-step, AreCounted-end}
+use Rattle.vmo_ops.proofs.NeedLaws.{need-sole}
 use Rattle.vmo_ops.proofs.owning.need_of.Goals as goal
 use Rattle.vmo_ops.proofs.owning.need_of.Goals.{then-is_sole, else-is_sole}
-
-pub loop-page-init : goal.loop-page-init
-loop-page-init g c =
-    AreCounted-start _ _ _ (IsOfHeld-sole (g.P.PageStore.content c.args.store.now) c.args.v.0) c.args.first c.args.end
-    c.requires.order
 
 pub overflow_add-alone : goal.overflow_add-alone
 overflow_add-alone g c =

@@ -1,8 +1,8 @@
-use Rattle.std.proofs.Common.{◌-◌, refl, arith}
+use Rattle.std.proofs.Common.{◌-◌, arith}
 use Rattle.vm_model.proofs.OwningLaws.{Owned-from_Owns}
 use Rattle.vmo_ops.proofs.OwningLaws.{Written-from_Owns, IsOwning-start, IsOwning-below, IsOwning-room}
-use Rattle.vmo_ops.proofs.OwningLaws.{IsOwning-step, IsOwning-end}
-use Rattle.vmo_ops.proofs.FrameLaws.{AreFrames-start, AreFrames-step, AreFrames-end}
+use Rattle.vmo_ops.proofs.OwningLaws.{IsOwning-step}
+use Rattle.vmo_ops.proofs.FrameLaws.{AreFrames-start, AreFrames-step}
 use Rattle.vmo_ops.proofs.pinning.own_frames.Goals as goal
 
 pub loop-page-init : goal.loop-page-init
@@ -11,9 +11,6 @@ loop-page-init g c = record {
       c.touched_pages-first.ensures.order c.touched_pages-first.ensures.pages c.requires.room c.requires.free;
   frames = AreFrames-start _ c.args.v.0 _ c.args.numbers.now;
 }
-
-pub own-tag-requires-clause-page : goal.own-tag-requires-clause-page
-own-tag-requires-clause-page g c = IsOwning-below _ _ _ _ _ _ _ _ c.loop-page.invariant.owning c.loop-page-test.true
 
 pub own-tag-requires-clause-room : goal.own-tag-requires-clause-room
 own-tag-requires-clause-room g c = IsOwning-room _ _ _ _ _ _ _ _ c.loop-page.invariant.owning c.loop-page-test.true
@@ -36,12 +33,3 @@ loop-page-preserved g c =
           (omega arith) (Owned-from_Owns now mid v page tag owning.way.good below owns) c.from.ensures
           c.loop-page.invariant.frames;
     }
-
-pub returns-clause-owns : goal.returns-clause-owns
-returns-clause-owns g c = IsOwning-end _ _ _ _ _ _ _ _ c.loop-page.invariant.owning (omega arith) refl
-
-pub returns-clause-frames : goal.returns-clause-frames
-returns-clause-frames g c =
-    rw (← c.touched_pages-first.ensures.first)
-    (AreFrames-end (omega (arith, c.loop-page.auto.numbers)) (omega (arith, c.touched_pages-first.ensures.end))
-    c.loop-page.invariant.frames)

@@ -1,17 +1,11 @@
 use Rattle.std.proofs.Common.{arith}
 use Rattle.pin_table.specs.Table.{pins_of}
-use Rattle.vmo_ops.proofs.NameLaws.{named_vmo, named_lineage, named_inside}
+use Rattle.vmo_ops.proofs.NameLaws.{named_inside}
 use Rattle.vmo_ops.proofs.KeeperLaws.{pin_count_le, pin_count-with_key}
 use Rattle.vmo_ops.proofs.pinning.pin_into.Goals as goal
 
 pub place_in_vmo-requires-clause-inside : goal.place_in_vmo-requires-clause-inside
 place_in_vmo-requires-clause-inside g c = named_inside _ _ c.requires.parts.1.good c.requires.named
-
-pub reserve_to_own-requires-clause-vmo : goal.reserve_to_own-requires-clause-vmo
-reserve_to_own-requires-clause-vmo g c = named_vmo _ _ c.requires.parts.1.good c.requires.named
-
-pub keep-requires-clause-koid : goal.keep-requires-clause-koid
-keep-requires-clause-koid g c = named_lineage _ _ c.requires.parts.1.good c.requires.named
 
 pub keep-requires-clause-few : goal.keep-requires-clause-few
 keep-requires-clause-few g c =

@@ -1,5 +1,5 @@
 use Rattle.std.proofs.Common.{arith}
-use Rattle.vmo_ops.proofs.ReadLaws.{read_start, read_step, read_end}
+use Rattle.vmo_ops.proofs.ReadLaws.{read_start, read_step}
 use Rattle.vmo_ops.proofs.reading.read_pages.Goals as goal
 
 pub loop-page-init : goal.loop-page-init
@@ -11,7 +11,3 @@ loop-page-preserved g c =
     read_step part.result.from part.result.len c.read_page.new.out c.requires.good (omega arith)
     (omega (arith, c.touched_pages-first.ensures.end)) part.ensures.at part.ensures.from part.ensures.until part.ensures.within c.loop-page.auto.out c.read_page.auto.out
     c.read_page.ensures c.loop-page.invariant
-
-pub returns : goal.returns
-returns g c =
-    read_end c.loop-page.auto.out (omega (arith, c.touched_pages-first.ensures.all)) c.loop-page.invariant

@@ -1,11 +1,9 @@
-use Rattle.std.proofs.Common.{rules, ◌+◌, ℕ, sym, subst, Option}
-use Rattle.std.specs.Prelude.{IsSome}
+use Rattle.std.proofs.Common.{rules, ◌+◌}
 use Rattle.vm_model.specs.Machine.State.{target_of}
 use Rattle.vm_model.specs.Machine.Step.{with_snapshot}
 use Rattle.vmo_ops.proofs.CreateLaws.{snapshotted-first}
-use Rattle.vm_model.specs.Naming.Names.{Lineage}
 use Rattle.vmo_ops.specs.Targets.{with_tables}
-use Rattle.vmo_ops.proofs.NameLaws.{named_inside, named_vmo, named_lineage}
+use Rattle.vmo_ops.proofs.NameLaws.{named_inside}
 use Rattle.vmo_ops.proofs.snapshots.snapshot.Goals as goal
 
 pub is_pinned_anywhere-requires-clause-good : goal.is_pinned_anywhere-requires-clause-good
@@ -14,19 +12,8 @@ is_pinned_anywhere-requires-clause-good g c = (
   c.requires.parts.good,
 )
 
-pub is_pinned_anywhere-requires-clause-vmo : goal.is_pinned_anywhere-requires-clause-vmo
-is_pinned_anywhere-requires-clause-vmo g c = named_vmo _ _ c.requires.parts.good c.requires.named
-
 pub seen_part-first-requires-clause-inside : goal.seen_part-first-requires-clause-inside
 seen_part-first-requires-clause-inside g c = named_inside _ _ c.requires.parts.good c.requires.named
-
-pub snapshot-requires-clause-vmo : goal.snapshot-requires-clause-vmo
-snapshot-requires-clause-vmo g c = named_vmo _ _ c.requires.parts.good c.requires.named
-
-pub enter-requires-clause-parent : goal.enter-requires-clause-parent
-enter-requires-clause-parent g c =
-    let there = named_lineage _ _ c.requires.parts.good c.requires.named in
-    subst (λ (f : ℕ → Option Lineage). IsSome (f c.args.t.now.koid.0)) (sym c.reserve.ensures.lineage) there
 
 pub returns-clause-step : goal.returns-clause-step
 unfolding target_of with_snapshot

@@ -1,11 +1,8 @@
 use Rattle.std.proofs.Common.{refl, arith}
 use Rattle.vm_base.proofs.SearchLaws.{bit-true, bit-false}
-use Rattle.vmo_ops.proofs.ZeroLaws.{IsCounting-start, IsCounting_le, IsCounting-step, IsCounting-end}
+use Rattle.vmo_ops.proofs.ZeroLaws.{IsCounting_le, IsCounting-step, IsCounting-end}
 use Rattle.vmo_ops.proofs.zeroing.cost_to_zero.Goals as goal
 use Rattle.vmo_ops.proofs.zeroing.cost_to_zero.Goals.{then-takes_frame, else-takes_frame}
-
-pub loop-page-init : goal.loop-page-init
-loop-page-init g c = IsCounting-start _ _ _ _ _ _ _ c.touched_pages-first.ensures.order
 
 pub overflow_add-cost : goal.overflow_add-cost
 overflow_add-cost g c =
