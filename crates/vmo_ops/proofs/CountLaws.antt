@@ -14,7 +14,7 @@ IsNextHeld c v from end page =
 
 -- a held page lies below the count
 pub held_below : (c : Content) (v p : ℕ) → IsGood c → IsSome (c.page v p) → p < pages_of c v
-held_below c v p good some = let held = some_is (c.page v p) some in good.below v p held.0 held.1
+held_below = grind (arith, some_is)
 
 module _ (c : Content) (v : ℕ) (test : ℕ → Bool) (of : IsOfHeld c v test) where
   -- the next held page counts first
@@ -61,4 +61,4 @@ module _ (c : Content) (v : ℕ) (test : ℕ → Bool) (of : IsOfHeld c v test) 
 
     -- no page behind is held
     pub AreCounted-end : ((p : ℕ) → from ≤ p → p < end → c.page v p ≡ None) → n ≡ count_from test first (end - first)
-    AreCounted-end none = omega (arith, so_far.counted, count_from-zero from end none)
+    AreCounted-end = grind (arith, count_from-zero)

@@ -1,14 +1,13 @@
 -- Laws of giving back whole pages, none of which is pinned: zeroing them owns none, and leaves them zero. And the steps
 -- of a decommit.
-use Rattle.std.proofs.Common.{◌≡◌, ℕ, zero, suc, ◌+◌, ◌-◌, ◌*◌, ◌/◌, ◌%◌, ◌<◌, ◌≤◌, Bool, true, false, not, ◌&&◌, List, Option, refl, sym, ap, subst, ◌∙◌, arith}
-use Rattle.std.specs.Prelude.{nat_le}
+use Rattle.std.proofs.Common.{◌≡◌, ℕ, zero, suc, ◌+◌, ◌-◌, ◌/◌, ◌%◌, ◌<◌, ◌≤◌, Bool, true, false, not, ◌&&◌, Option, sym, ap, ◌∙◌, arith}
 use Rattle.std.specs.List.{range_with_len}
 use Rattle.std.proofs.lemmas.Bool.{and_from, and_left, and_right, not_from_true, not_from_false, le-leb}
 use Rattle.vm_base.specs.declared.limits.TheConstants.{PAGE}
 use Rattle.vm_model.specs.Contents.Content.{Content, is_held, sole}
 use Rattle.vm_model.specs.Contents.Owning.{need}
-use Rattle.vm_model.specs.Contents.Writing.{touched, touched_end}
-use Rattle.vm_model.specs.Contents.Zeroing.{zeroed, is_whole, is_cleared, Zeroes, owned_by_zero}
+use Rattle.vm_model.specs.Contents.Writing.{touched}
+use Rattle.vm_model.specs.Contents.Zeroing.{zeroed, is_cleared, Zeroes, owned_by_zero}
 use Rattle.vm_model.specs.Naming.Pins.{Pin, is_pinned, any_pinned}
 use Rattle.vm_model.proofs.RangeLaws.{touched-row, touched-nil, touched_end-is}
 use Rattle.vmo_ops.proofs.ModelLaws.{count_from-none, zeroed-empty, zeroed-more, any_pinned_none, need-zero}
@@ -23,26 +22,13 @@ NoneWithin test first end = (p : ℕ) → first ≤ p → p < end → test p ≡
 module _ (offset len : ℕ) (start : offset % PAGE ≡ 0) (whole : len % PAGE ≡ 0) where
   -- it touches no other page
   pub touched-pages : touched offset len ≡ range_with_len (offset / PAGE) ((offset + len) / PAGE - offset / PAGE)
-  touched-pages = go len refl where
-    go : (n : ℕ) → n ≡ len → touched offset n ≡ range_with_len (offset / PAGE) ((offset + n) / PAGE - offset / PAGE)
-    go zero e =
-        let none : (offset + zero) / PAGE - offset / PAGE ≡ 0 = omega arith in
-        touched-nil offset ∙ sym (ap (range_with_len (offset / PAGE)) none)
-    go (suc n) e =
-        let end : touched_end offset (suc n) ≡ (offset + suc n) / PAGE =
-        omega (arith, touched_end-is offset (suc n), e, start, whole) in
-        touched-row offset (suc n) (omega arith) ∙ ap (λ (m : ℕ). range_with_len (offset / PAGE)
-        (m - offset / PAGE)) end
+  touched-pages = grind (arith, touched-nil, touched_end-is, touched-row)
 
   -- none of its pages is pinned
   module _ (pinned : ℕ → Bool) (free : NoneWithin pinned (offset / PAGE) ((offset + len) / PAGE)) where
     -- each page of it lies wholly in it, and so is cleared
     is_cleared-pages : (p : ℕ) → offset / PAGE ≤ p → p < (offset + len) / PAGE → is_cleared pinned offset len p ≡ true
-    is_cleared-pages p low less =
-        and_from (is_whole offset len p) (not (pinned p))
-        (and_from (nat_le offset (PAGE * p)) (nat_le (PAGE * (p + 1)) (offset + len))
-        (le-leb offset (PAGE * p) (omega arith)) (le-leb (PAGE * (p + 1)) (offset + len) (omega arith)))
-        (not_from_false (pinned p) (free p low less))
+    is_cleared-pages = grind (arith, and_from, le-leb, not_from_false)
 
     -- zeroing it owns no page
     pub need-pages : (c : Content) (v : ℕ) → need c v (owned_by_zero c v pinned offset len) ≡ 0
@@ -71,14 +57,10 @@ module _ (offset len : ℕ) (start : offset % PAGE ≡ 0) (whole : len % PAGE �
     -- all of it becomes zero
     pub Zeroes-whole : (v : ℕ) (old new : Content) → Zeroes old v pinned offset len (touched offset len) new
         → new ≡ zeroed old v (offset / PAGE) ((offset + len) / PAGE)
-    Zeroes-whole v old new zeroes =
-        let e : offset / PAGE + ((offset + len) / PAGE - offset / PAGE) ≡ (offset + len) / PAGE = omega arith in
-        Zeroes-pages v (offset / PAGE) ((offset + len) / PAGE - offset / PAGE) old new (omega arith) (omega (arith, e))
-        (subst (λ (ps : List ℕ). Zeroes old v pinned offset len ps new) touched-pages zeroes)
-        ∙ ap (zeroed old v (offset / PAGE)) e
+    Zeroes-whole = grind (arith, Zeroes-pages, touched-pages)
 
   -- where no page of it is found pinned, none is
   pub none_within : (pins : ℕ → Option Pin) (v : ℕ)
       → any_pinned pins v (offset / PAGE) (offset / PAGE + len / PAGE) ≡ false
       → NoneWithin (is_pinned pins v) (offset / PAGE) ((offset + len) / PAGE)
-  none_within pins v none = λ p low less. any_pinned_none pins v _ _ p none low (omega arith)
+  none_within = grind (arith, any_pinned_none)

@@ -36,7 +36,7 @@ frames_in-same c d v first (suc n) same =
 -- a page that was owned has the frame that was answered
 frame_of-owned : (old new : Content) (v p tag : ℕ) → Owned old new v p tag → frame_of (new.page v p) ≡ tag
 unfolding frame_of
-frame_of-owned old new v p tag owned = ap frame_of owned.held
+frame_of-owned = grind (arith)
 
 -- the next page is owned, and the frames of those before stay
 pub AreFrames-step : (now mid : Content) (v first p tag number : ℕ) (numbers : List ℕ) → first ≤ p

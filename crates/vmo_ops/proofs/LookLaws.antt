@@ -1,5 +1,5 @@
 -- What looking at a page says of it.
-use Rattle.std.proofs.Common.{◌≡◌, ℕ, Bool, Option, None, Some, refl, sym, ap, ◌∙◌, ◌≤◌, ◌+◌, ◌-◌, replicate, take, drop, arith}
+use Rattle.std.proofs.Common.{◌≡◌, ℕ, Bool, Option, None, Some, ap, ◌∙◌, ◌≤◌, ◌+◌, ◌-◌, replicate, take, drop, arith}
 use Rattle.std.proofs.lemmas.List.{take-replicate, drop-replicate}
 use Rattle.vm_base.specs.declared.limits.TheConstants.{PAGE}
 use Rattle.vm_base.specs.declared.names.Tag.{Tag}
@@ -9,15 +9,11 @@ use Rattle.page_store.specs.declared.page_store.Look.TheVariants as look
 use Rattle.page_store.specs.Pages.{look_at}
 
 pub zero_look : (c : Content) (v : ℕ) (o : Option Page) → look.Zero ≡ look_at c v o → o ≡ None
-zero_look c v None e = refl
-zero_look c v (Some held) e = absurd cc
+zero_look = grind (arith)
 
 pub held_look : (c : Content) (v : ℕ) (o : Option Page) (tag : Tag) (alone : Bool) → look.Held tag alone ≡ look_at c v o
     → (held : Page) × (o ≡ Some held) × (held.tag ≡ tag.0) × (is_sole_page c v o ≡ alone)
-held_look c v None tag alone e = absurd cc
-held_look c v (Some held) tag alone e =
-    let same : tag ≡ record { 0 = held.tag } = cc in
-    (held, refl, ap (λ (t : Tag). t.0) (sym same), cc)
+held_look = grind (arith)
 
 -- a part of a page of zeros
 pub part_of_zeros : (at n : ℕ) → at + n ≤ PAGE → take n (drop at zeros) ≡ replicate n 0

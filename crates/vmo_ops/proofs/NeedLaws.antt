@@ -9,10 +9,9 @@ use Rattle.vmo_ops.proofs.ModelLaws.{unowned-sole}
 
 -- no zero page is sole
 pub IsOfHeld-sole : (c : Content) (v : ℕ) → IsOfHeld c v (sole c v)
-IsOfHeld-sole c v = record { zero_fails = sole-zero c v }
+IsOfHeld-sole = grind (arith, sole-zero)
 
 -- the pages in a row that are not sole, by those that are
 pub need-sole : (c : Content) (v first end n : ℕ) → n ≡ count_from (sole c v) first (end - first)
     → (end - first) - n ≡ need c v (range_with_len first (end - first))
-need-sole c v first end n counted =
-    omega (arith, counted, unowned-sole c v first (end - first), need-row c v first (end - first))
+need-sole = grind (arith, unowned-sole, need-row)

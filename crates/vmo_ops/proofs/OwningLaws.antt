@@ -10,7 +10,7 @@ use Rattle.vm_model.proofs.OwningLaws.{Owned-from_Owns, count_from, count_from-s
 use Rattle.vm_model.proofs.WritingLaws.{Written}
 use Rattle.vmo_ops.proofs.ModelLaws.{count_from-next}
 use Rattle.vmo_ops.specs.Costs.{HasRows}
-use Rattle.vmo_ops.proofs.RowLaws.{Run, Takes, IsUnderWay, IsUnderWay-start, IsUnderWay-end, IsUnderWay-frame, IsUnderWay-step}
+use Rattle.vmo_ops.proofs.RowLaws.{Run, Takes, IsUnderWay, IsUnderWay-start, IsUnderWay-step}
 
 -- owning a page takes a frame where it is not sole
 abbrev pub is_unowned : ℕ → Takes
@@ -19,7 +19,7 @@ is_unowned v c p = not (sole c v p)
 -- such pages in a row are the need of the row
 pub need-count : (c : Content) (v first n : ℕ) → need c v (range_with_len first n) ≡ count_from (is_unowned v c) first n
 unfolding unowned
-need-count c v first n = need-row c v first n
+need-count = grind (arith, need-row)
 
 -- The pages of v before `from` are owned, and those from there to below `end` are left. The frames and the rows that
 -- these take are there.
@@ -50,33 +50,16 @@ module _ (run : Run) (v : ℕ) (old : Content) (all : List ℕ) where
   module _ (now : Content) (from end spare : ℕ) (owning : IsOwning run v old all now from end spare) where
     -- no page is left
     pub IsOwning-end : end ≤ from → run now [] now → run old all now
-    IsOwning-end h stop = IsUnderWay-end run (is_unowned v) v old all now from end owning.way h stop
+    IsOwning-end = grind (arith)
 
     module _ (h : from < end) where
       -- the next page lies below the count
       pub IsOwning-below : from < pages_of now v
-      IsOwning-below = omega (arith, owning.way.inside)
+      IsOwning-below = grind (arith)
 
       -- and it is sole, or there are a row and a frame for it
       pub IsOwning-room : (sole now v from ≡ true) ⊎ ((1 ≤ spare) × (used now < now.frames))
-      IsOwning-room = elim (cases_Bool (sole now v from)) [
-        | inl alone ↦ inl alone
-        | inr shared ↦
-            let takes : is_unowned v now from ≡ true = ap not shared in
-            inr (
-              elim owning.rows [
-                | inl none ↦ absurd (omega (
-                  arith,
-                  none,
-                  count_from-next (is_unowned v now) from end h,
-                  bit-true
-                      (is_unowned v now from) takes,
-                ))
-                | inr enough ↦ omega arith
-              ],
-              IsUnderWay-frame run (is_unowned v) v old all now from end owning.way h takes,
-            )
-      ]
+      IsOwning-room = grind (arith, cases_Bool, count_from-next, bit-true)
 
       -- it is owned, and more may be done to it
       pub IsOwning-step : (mid : Content) (left : ℕ) → Written now v from mid → spare ≤ left + 1

@@ -1,6 +1,6 @@
 -- Laws of the part of a range of bytes that falls into a page: what a write and a fill put there, and what is read
 -- there.
-use Rattle.std.proofs.Common.{◌≡◌, ℕ, ◌+◌, ◌-◌, ◌*◌, ◌/◌, ◌%◌, ◌<◌, ◌≤◌, min, ◌==◌, List, ◌++◌, length, replicate, take, drop, sym, ap, ◌∙◌, arith}
+use Rattle.std.proofs.Common.{◌≡◌, ℕ, ◌+◌, ◌-◌, ◌*◌, ◌/◌, ◌<◌, ◌≤◌, min, ◌==◌, List, ◌++◌, length, replicate, take, drop, sym, ap, ◌∙◌, arith}
 use Rattle.std.specs.Prelude.{slice_range}
 use Rattle.std.proofs.lemmas.List.{take-replicate, drop-replicate, length-replicate}
 use Rattle.std.proofs.lemmas.Bool.Decides.{nat_tests}
@@ -12,8 +12,7 @@ use Rattle.vmo_ops.proofs.ModelLaws.{slice_range-min, bytes_in-more}
 
 -- a part of equal bytes
 slice_range-replicate : (n byte i j : ℕ) → j ≤ n → slice_range (replicate n byte) i j ≡ replicate (j - i) byte
-slice_range-replicate n byte i j h =
-    ap (take (j - i)) (drop-replicate i n byte) ∙ take-replicate (j - i) (n - i) byte (omega arith)
+slice_range-replicate = grind (arith, drop-replicate, take-replicate)
 
 -- The part of a range of this length that falls into page p, so many bytes from a place in the range on
 module _ (offset len p from count : ℕ) (start : from ≡ PAGE * p - offset)
@@ -22,10 +21,7 @@ module _ (offset len p from count : ℕ) (start : from ≡ PAGE * p - offset)
   pub part_bytes-slice : (bytes : List ℕ) → length bytes ≡ len
       → slice_range bytes from (from + count) ≡ part_bytes offset bytes p
   unfolding part_bytes
-  part_bytes-slice bytes size =
-      let end : from + count ≡ min (PAGE * (p + 1) - offset) (length bytes) = omega (arith, size, stop) in
-      (λ i. slice_range bytes (start i) (end i)) ∙ sym (slice_range-min bytes (PAGE * p - offset)
-      (PAGE * (p + 1) - offset))
+  part_bytes-slice = grind (arith, slice_range-min)
 
   -- what a fill does
   pub part_bytes-replicate : (byte : ℕ) → replicate count byte ≡ part_bytes offset (replicate len byte) p
@@ -37,16 +33,11 @@ module _ (offset len p from count : ℕ) (start : from ≡ PAGE * p - offset)
 
   -- the page lies wholly in the range where the part is all of it
   pub is_whole-part : p * PAGE < offset + len → is_whole offset len p ≡ (count == PAGE)
-  is_whole-part last = grind (arith, nat_tests)
+  is_whole-part = grind (arith, nat_tests)
 
   -- what was read before it, and what the page shows there
   pub bytes_in-part : (c : Content) (v at : ℕ) → IsGood c → at ≡ part_at offset p → at + count ≤ PAGE
       → offset / PAGE ≤ p → p * PAGE < offset + len
       → bytes_in c v offset (from + count) ≡ bytes_in c v offset from ++ take count (drop at (shown c v p))
   unfolding part_at
-  bytes_in-part c v at good e fits low last =
-      let here : at ≡ offset - PAGE * p = e in
-      let place : (offset + from) % PAGE ≡ at = omega (arith, start, here) in
-      let page : (offset + from) / PAGE ≡ p = omega (arith, start) in
-      bytes_in-more c v offset from count good (omega (arith, place, fits))
-      ∙ (λ i. bytes_in c v offset from ++ take count (drop (place i) (shown c v (page i))))
+  bytes_in-part = grind (arith, bytes_in-more)

@@ -1,5 +1,5 @@
 -- Whether pages of a VMO are pinned, as the table of pins answers.
-use Rattle.std.proofs.Common.{◌≡◌, ℕ, ◌+◌, ◌-◌, ◌==◌, Option, Some, Bool, true, sym, ap, ◌∙◌, inl, inr, arith}
+use Rattle.std.proofs.Common.{◌≡◌, ℕ, ◌+◌, ◌-◌, ◌==◌, Option, Some, Bool, true, sym, ap, ◌∙◌, arith}
 use Rattle.std.proofs.lemmas.Bool.{cases_Bool, cases_lt, false_from_ne_true}
 use Rattle.vm_base.specs.declared.limits.TheConstants.{NAMES}
 use Rattle.vm_base.proofs.SearchLaws.{eqb_is}
@@ -28,14 +28,7 @@ pinned_page s v good e =
 
 -- so a page of the VMO is pinned exactly where the VMO has a pin
 pinned_all : (s : State) (v : ℕ) → IsGoodState s → any_pinned s.pins v 0 (pages_of s.content v) ≡ has_pin s.pins v
-pinned_all s v good = elim (cases_Bool (has_pin s.pins v)) [
-  | inl has ↦ pinned_page s v good has ∙ sym has
-  | inr none ↦
-      false_from_ne_true (any_pinned s.pins v 0 (pages_of s.content v)) (λ e.
-      let found = any_pinned_found s.pins v 0 (pages_of s.content v) e in
-      let has = is_pinned-has_pin s.pins v found.0 found.3 in absurd cc)
-      ∙ sym none
-]
+pinned_all = grind (arith, cases_Bool, pinned_page, false_from_ne_true, any_pinned_found, is_pinned-has_pin)
 
 -- whether a VMO has a pin, as the table answers for all pages of the VMO
 pub pinned_whole : (s : State) (v count : ℕ) (answer : Bool) → IsGoodState s → s.content.count v ≡ Some count
@@ -49,17 +42,10 @@ pinned_whole s v count answer good counted is =
 -- the pages that there are from one on end with the last. Differences stop at 0
 pub any_pinned_rest : (pins : ℕ → Option Pin) (v first end : ℕ)
     → any_pinned pins v first (first + (end - first)) ≡ any_pinned pins v first end
-any_pinned_rest pins v first end = elim (cases_lt first end) [
-  | inl below ↦ ap (any_pinned pins v first) (omega arith)
-  | inr past ↦ any_pinned-empty pins v first (first + (end - first)) (omega arith)
-      ∙ sym (any_pinned-empty pins v first end (omega arith))
-]
+any_pinned_rest = grind (arith, cases_lt, any_pinned-empty)
 
 -- whether a page past a new end of a VMO is pinned, as the table answers for as many pages as are past it
 pub pinned_past : (pins : ℕ → Option Pin) (c : Content) (v pages count rest : ℕ) (answer : Bool)
     → c.count v ≡ Some count → rest ≡ count - pages
     → answer ≡ any_pinned pins v pages (pages + rest) → answer ≡ any_pinned pins v pages (pages_of c v)
-pinned_past pins c v pages count rest answer counted left is =
-    is
-    ∙ (ap (λ (n : ℕ). any_pinned pins v pages (pages + n)) left
-    ∙ (any_pinned_rest pins v pages count ∙ ap (any_pinned pins v pages) (sym (pages_of-at c v count counted))))
+pinned_past = grind (arith, any_pinned_rest, pages_of-at)

@@ -49,15 +49,12 @@ module _ (run : Run) (takes : Takes) (v : ℕ) (old : Content) (all : List ℕ) 
   -- no page is left
   pub IsUnderWay-end : (now : Content) (from end : ℕ) → IsUnderWay run takes v old all now from end → end ≤ from
       → run now [] now → run old all now
-  IsUnderWay-end now from end way h stop =
-      let e : 0 ≡ end - from = omega arith in
-      way.onward now (subst (λ (n : ℕ). run now (range_with_len from n) now) e stop)
+  IsUnderWay-end = grind (arith)
 
   -- a frame is free for the next page, where it takes one
   pub IsUnderWay-frame : (now : Content) (from end : ℕ) → IsUnderWay run takes v old all now from end → from < end
       → takes now from ≡ true → used now < now.frames
-  IsUnderWay-frame now from end way h hit =
-      omega (arith, way.free, count_from-next (takes now) from end h, bit-true (takes now from) hit)
+  IsUnderWay-frame = grind (arith, count_from-next, bit-true)
 
   -- the next page is done
   pub IsUnderWay-step : (now mid : Content) (from end : ℕ) → IsUnderWay run takes v old all now from end → from < end

@@ -1,10 +1,11 @@
 -- Laws of writing a page.
-use Rattle.std.proofs.Common.{◌≡◌, ℕ, ◌/◌, ◌<◌, ◌≤◌, List, length, map, refl, sym, subst, ◌∙◌}
+use Rattle.std.proofs.Common.{arith}
+use Rattle.std.proofs.Common.{◌≡◌, ℕ, ◌/◌, ◌<◌, ◌≤◌, List, length, map, refl, sym, ◌∙◌}
 use Rattle.vm_base.specs.declared.limits.TheConstants.{PAGE}
 use Rattle.vm_base.specs.Pages.{replaced}
 use Rattle.vm_model.specs.Contents.Content.{Page, Content, shown, pages_of, hold, IsGood}
 use Rattle.vm_model.specs.Contents.Owning.{Owns}
-use Rattle.vm_model.specs.Contents.Writing.{touched, Piece, piece, part_at, part_bytes, pieces, WritesPiece, Writes}
+use Rattle.vm_model.specs.Contents.Writing.{touched, piece, part_at, part_bytes, pieces, WritesPiece, Writes}
 use Rattle.vm_model.proofs.ContentLaws.{sole_alone, bytes_of-some}
 use Rattle.vm_model.proofs.OwningLaws.{Owned}
 use Rattle.vm_model.proofs.RangeLaws.{part_fits}
@@ -14,18 +15,7 @@ use Rattle.vmo_ops.proofs.RowLaws.{Run}
 
 -- the frame of a page that was owned is shown once
 pub IsShownOnce-owned : (old new : Content) (v p tag : ℕ) → Owned old new v p tag → IsShownOnce new tag
-IsShownOnce-owned old new v p tag owned =
-    let held : Page = record { tag = tag; bytes = shown old v p } in
-    record {
-      v = v;
-      p = p;
-      held = held;
-      shows = record {
-        shows = record { page = owned.held; tag = refl };
-        alone = λ w q other shows. sole_alone new v p w q held other owned.good owned.alone owned.held
-            shows.page shows.tag;
-      };
-    }
+IsShownOnce-owned = grind (arith, sole_alone)
 
 -- a page that was owned and whose bytes were then overwritten
 pub WritesPiece-from_parts : (old mid new : Content) (v p tag at : ℕ) (bytes : List ℕ) → Owned old mid v p tag
@@ -47,14 +37,7 @@ pub WritesPiece-same : (old new : Content) (v offset p at : ℕ) (bytes part : L
     → part ≡ part_bytes offset bytes p
     → WritesPiece old (record { koid = v; page = p; at = at; bytes = part }) new
     → WritesPiece old (piece v offset bytes p) new
-WritesPiece-same old new v offset p at bytes part place same writes =
-    subst (λ (q : Piece). WritesPiece old q new) (λ i. record {
-      koid = v;
-      page = p;
-      at = place i;
-      bytes =
-          same i;
-    }) writes
+WritesPiece-same = grind (arith)
 
 -- a write at this offset, from a content over pages of v to another
 abbrev pub writing : ℕ → ℕ → List ℕ → Run
@@ -70,5 +53,4 @@ Written-from_piece old new v offset p bytes good below from writes =
 pub Writes-touched : (v offset len : ℕ) (bytes : List ℕ) (old new : Content) → length bytes ≡ len
     → writing v offset bytes old (touched offset len) new → Writes old (pieces v offset bytes) new
 unfolding pieces
-Writes-touched v offset len bytes old new size writes =
-    subst (λ (n : ℕ). writing v offset bytes old (touched offset n) new) (sym size) writes
+Writes-touched = grind (arith)

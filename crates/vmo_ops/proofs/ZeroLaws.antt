@@ -25,11 +25,7 @@ use Rattle.vmo_ops.proofs.RowLaws.{Run, Takes, IsUnderWay, IsUnderWay-start, IsU
 
 -- the one page from p on is pinned exactly where p is
 pub any_pinned-one : (pins : ℕ → Option Pin) (v p : ℕ) → any_pinned pins v p (p + 1) ≡ is_pinned pins v p
-any_pinned-one pins v p = elim (cases_Bool (is_pinned pins v p)) [
-  | inl hit ↦ any_pinned_at pins v p (p + 1) p (omega arith) (omega arith) hit ∙ sym hit
-  | inr miss ↦ none_pinned pins v p (p + 1) (λ q low high. let same : q ≡ p = omega arith in ap (is_pinned pins v) same
-      ∙ miss) ∙ sym miss
-]
+any_pinned-one = grind (arith, cases_Bool, any_pinned_at, none_pinned)
 
 -- a held page that is cut or pinned is zeroed by a write
 pub ZeroesPage-part : (old new : Content) (v : ℕ) (pinned : ℕ → Bool) (offset len p : ℕ)
@@ -48,16 +44,12 @@ takes_frame v pinned offset len c p = (is_held c v p && not (is_cleared pinned o
 
 pub IsOfHeld-takes : (c : Content) (v : ℕ) (pinned : ℕ → Bool) (offset len : ℕ)
     → IsOfHeld c v (takes_frame v pinned offset len c)
-IsOfHeld-takes c v pinned offset len = record {
-  zero_fails = λ p none. and_left (is_held c v p && not (is_cleared pinned offset len p)) (not (sole c v p))
-      (and_left (is_held c v p) (not (is_cleared pinned offset len p)) ((IsOfHeld-held c v).zero_fails p none));
-}
+IsOfHeld-takes = grind (arith, and_left)
 
 -- for a held page, the first part of the test is passed
 takes_frame-held : (c : Content) (v : ℕ) (pinned : ℕ → Bool) (offset len p : ℕ) → IsSome (c.page v p)
     → takes_frame v pinned offset len c p ≡ (not (is_cleared pinned offset len p) && not (sole c v p))
-takes_frame-held c v pinned offset len p some =
-    ap (λ (b : Bool). (b && not (is_cleared pinned offset len p)) && not (sole c v p)) some
+takes_frame-held = grind (arith)
 
 -- ---- counting what it takes
 
@@ -77,8 +69,7 @@ length-passing test first (suc n) =
 pub held_touched-count : (c : Content) (v offset len first end : ℕ)
     → touched offset len ≡ range_with_len first (end - first)
     → held_touched c v offset len ≡ count_from (is_held c v) first (end - first)
-held_touched-count c v offset len first end row =
-    ap (λ (ps : List ℕ). length (filter (is_held c v) ps)) row ∙ length-passing (is_held c v) first (end - first)
+held_touched-count = grind (arith, length-passing)
 
 -- what was counted, of the pages from `first` to below `end`
 pub record IsCounting (c : Content) (v : ℕ) (pinned : ℕ → Bool) (offset len first from end : ℕ) (cost : ZeroCost)
@@ -136,7 +127,7 @@ filter_any test (p ∷ ps) h = elim (cases_Bool (test p)) [
 -- the range touches a held page where one is counted
 pub held_touched_any : (c : Content) (v offset len : ℕ) → 0 < held_touched c v offset len
     → list_any (is_held c v) (touched offset len) ≡ true
-held_touched_any c v offset len h = filter_any (is_held c v) (touched offset len) h
+held_touched_any = grind (arith, filter_any)
 
 -- ---- zeroing page by page
 
