@@ -32,7 +32,4 @@ loop-page-preserved g c =
     (λ ps last w. (mid, writes, w))
 
 pub returns : goal.returns
-returns g c =
-    Writes-touched c.args.v.0 c.args.offset c.args.len (replicate c.args.len c.args.byte) _ _
-    (length-replicate c.args.len c.args.byte)
-    (IsOwning-end _ _ _ _ _ _ _ _ c.loop-page.invariant (omega arith) refl)
+returns g c = grind (arith, Writes-touched, length-replicate, IsOwning-end)

@@ -1,3 +1,4 @@
+use Rattle.std.proofs.Common.{rules}
 use Rattle.std.proofs.Common.{sym, ◌∙◌, arith}
 use Rattle.vm_base.proofs.SearchLaws.{bit-true, bit-false}
 use Rattle.vmo_ops.proofs.CountLaws.{AreCounted_le, AreCounted-step, AreCounted-end}
@@ -21,9 +22,7 @@ loop-page-preserved g c = elim c.if-is_sole.branch [
 ]
 
 pub overflow_sub-result-2 : goal.overflow_sub-result-2
-overflow_sub-result-2 g c =
-    let few = AreCounted_le _ _ _ _ _ _ _ _ c.loop-page.invariant in
-    omega (arith, few, c.loop-page.invariant.high)
+overflow_sub-result-2 g c = search (rules, AreCounted_le)
 
 pub returns : goal.returns
 returns g c =

@@ -4,4 +4,4 @@ use Rattle.vmo_ops.proofs.ranges.part_in_page.Goals as goal
 
 pub returns-clause-at : goal.returns-clause-at
 unfolding part_at
-returns-clause-at c = omega (arith, c.saturating_sub-at.ensures)
+returns-clause-at c = grind (arith)

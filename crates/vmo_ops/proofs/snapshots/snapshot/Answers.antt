@@ -1,4 +1,4 @@
-use Rattle.std.proofs.Common.{rules, ◌+◌}
+use Rattle.std.proofs.Common.{arith}
 use Rattle.vm_model.specs.Machine.State.{target_of}
 use Rattle.vm_model.specs.Machine.Step.{with_snapshot}
 use Rattle.vmo_ops.proofs.CreateLaws.{snapshotted-first}
@@ -17,7 +17,4 @@ seen_part-first-requires-clause-inside g c = named_inside _ _ c.requires.parts.g
 
 pub returns-clause-step : goal.returns-clause-step
 unfolding target_of with_snapshot
-returns-clause-step g c = λ rest parent named.
-    let place = snapshotted-first (g.P.PageStore.content c.args.store.now) c.args.t.now.koid.0 _
-    (c.args.t.now.first + c.page_of.result) _ c.in-Some.pages c.seen_part-first.ensures.first in
-    search rules
+returns-clause-step g c = grind (arith, snapshotted-first)

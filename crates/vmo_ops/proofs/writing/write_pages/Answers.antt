@@ -32,4 +32,4 @@ loop-page-preserved g c =
 
 pub returns : goal.returns
 unfolding pieces
-returns g c = IsOwning-end _ _ _ _ _ _ _ _ c.loop-page.invariant (omega arith) refl
+returns g c = grind (arith, IsOwning-end)

@@ -1,3 +1,4 @@
+use Rattle.std.proofs.Common.{rules}
 use Rattle.std.proofs.Common.{refl, arith}
 use Rattle.vm_base.proofs.SearchLaws.{bit-true, bit-false}
 use Rattle.vmo_ops.proofs.ZeroLaws.{IsCounting_le, IsCounting-step, IsCounting-end}
@@ -5,14 +6,10 @@ use Rattle.vmo_ops.proofs.zeroing.cost_to_zero.Goals as goal
 use Rattle.vmo_ops.proofs.zeroing.cost_to_zero.Goals.{then-takes_frame, else-takes_frame}
 
 pub overflow_add-cost : goal.overflow_add-cost
-overflow_add-cost g c =
-    let few = IsCounting_le _ _ _ _ _ _ _ _ _ c.loop-page.invariant in
-    omega (arith, few.0, c.in-Some.ensures.some.0, c.in-Some.ensures.some.1)
+overflow_add-cost g c = search (rules, IsCounting_le)
 
 pub overflow_add-cost-then-takes_frame : goal.overflow_add-cost-then-takes_frame
-overflow_add-cost-then-takes_frame g c =
-    let few = IsCounting_le _ _ _ _ _ _ _ _ _ c.loop-page.invariant in
-    omega (arith, few.1, c.in-Some.ensures.some.0, c.in-Some.ensures.some.1)
+overflow_add-cost-then-takes_frame g c = search (rules, IsCounting_le)
 
 pub loop-page-preserved : goal.loop-page-preserved
 loop-page-preserved g c = elim c.if-takes_frame.branch [

@@ -1,11 +1,9 @@
+use Rattle.std.proofs.Common.{rules}
 use Rattle.vmo_ops.proofs.ZeroLaws.{IsZeroing-start, IsZeroing-row, IsZeroing-frame, IsZeroing-step, IsZeroing-end}
 use Rattle.vmo_ops.proofs.zeroing.zero_pages.Goals as goal
 
 pub loop-page-init : goal.loop-page-init
-loop-page-init g c =
-    let touched = c.touched_pages-first.ensures in
-    IsZeroing-start _ _ _ _ _ _ _ _ c.requires.good c.requires.vmo c.requires.inside touched.first touched.order
-    touched.end touched.pages c.requires.room c.requires.free
+loop-page-init g c = search (rules, IsZeroing-start)
 
 pub zero_part-requires-clause-room : goal.zero_part-requires-clause-room
 zero_part-requires-clause-room g c =
