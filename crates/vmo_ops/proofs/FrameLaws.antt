@@ -7,7 +7,9 @@ use Rattle.std.proofs.lemmas.Grind.{take-set_at}
 use Rattle.std.proofs.lemmas.List.FromFn.{map-range_with_len_more}
 use Rattle.vm_model.specs.Contents.Content.{Content}
 use Rattle.vm_model.specs.Machine.Step.{frame_of}
-use Rattle.vm_model.proofs.OwningLaws.{Owned}
+use Rattle.vm_model.specs.Contents.Content.{IsGood, pages_of}
+use Rattle.vm_model.specs.Contents.Owning.{Owns}
+use Rattle.vm_model.proofs.OwningLaws.{Owned-from_Owns}
 
 -- the frames of n pages of v from one on
 abbrev pub frames_in : Content → ℕ → ℕ → ℕ → List ℕ
@@ -33,21 +35,18 @@ frames_in-same c d v first (suc n) same =
     frames_in-same c d v (first + 1) n (λ p low high. same p (omega arith) (omega arith)) in
     λ i. head i ∷ tail i
 
--- a page that was owned has the frame that was answered
-frame_of-owned : (old new : Content) (v p tag : ℕ) → Owned old new v p tag → frame_of (new.page v p) ≡ tag
-unfolding frame_of
-frame_of-owned = grind (arith)
-
 -- the next page is owned, and the frames of those before stay
-pub AreFrames-step : (now mid : Content) (v first p tag number : ℕ) (numbers : List ℕ) → first ≤ p
-    → p - first < length numbers → Owned now mid v p tag → number ≡ tag → AreFrames now v first p numbers
-    → AreFrames mid v first (p + 1) (set numbers (p - first) number)
-AreFrames-step now mid v first p tag number numbers h room owned same frames =
+pub AreFrames-step : {now mid : Content} {v first p tag number : ℕ} {numbers : List ℕ} → first ≤ p
+    → p - first < length numbers → IsGood now → p < pages_of now v → Owns now mid v p tag → number ≡ tag
+    → AreFrames now v first p numbers → AreFrames mid v first (p + 1) (set numbers (p - first) number)
+unfolding frame_of
+AreFrames-step {now} {mid} {v} {first} {p} {tag} {number} {numbers} h room good below owns same frames =
+    let owned = Owned-from_Owns now mid v p tag good below owns in
     let n : (p + 1) - first ≡ (p - first) + 1 = omega arith in
     let kept : frames_in now v first (p - first) ≡ frames_in mid v first (p - first) =
     frames_in-same now mid v first (p - first) (λ q low high. let apart : q ≢ p = omega arith
     in sym (owned.other_page q apart)) in
-    let last : number ≡ frame_of (mid.page v p) = same ∙ sym (frame_of-owned now mid v p tag owned) in
+    let last : number ≡ frame_of (mid.page v p) = same ∙ sym (ap frame_of owned.held) in
     record {
       are = take-set_at numbers (p - first) ((p + 1) - first) number n room
           ∙ ((λ i. (frames.are ∙ kept) i ++ last i ∷ [])

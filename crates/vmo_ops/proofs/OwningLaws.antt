@@ -1,5 +1,5 @@
 -- Laws of a loop that owns pages of a VMO in a row, whatever else it does to each.
-use Rattle.std.proofs.Common.{[], ◌≡◌, ◌≢◌, ℕ, ◌+◌, ◌-◌, ◌<◌, ◌≤◌, Bool, true, false, not, cond, List, ◌∷◌, length, ◌⊎◌, inl, inr, ap, ◌∙◌, arith}
+use Rattle.std.proofs.Common.{[], ◌≡◌, ◌≢◌, ℕ, ◌+◌, ◌-◌, ◌*◌, ◌<◌, ◌≤◌, true, not, List, ◌∷◌, ◌⊎◌, ap, arith}
 use Rattle.std.specs.List.{range_with_len}
 use Rattle.std.proofs.lemmas.Bool.{cases_Bool}
 use Rattle.std.proofs.lemmas.List.FromFn.{length-range_with_len}
@@ -9,6 +9,8 @@ use Rattle.vm_model.specs.Contents.Owning.{Owns, OwnsAll, need}
 use Rattle.vm_model.proofs.OwningLaws.{Owned-from_Owns, count_from, count_from-same, unowned, need-row}
 use Rattle.vm_model.proofs.WritingLaws.{Written}
 use Rattle.vmo_ops.proofs.ModelLaws.{count_from-next}
+use Rattle.vm_base.specs.declared.limits.TheConstants.{PAGE}
+use Rattle.vm_model.specs.Contents.Writing.{touched}
 use Rattle.vmo_ops.specs.Costs.{HasRows}
 use Rattle.vmo_ops.proofs.RowLaws.{Run, Takes, IsUnderWay, IsUnderWay-start, IsUnderWay-step}
 
@@ -28,63 +30,47 @@ pub record IsOwning (run : Run) (v : ℕ) (old : Content) (all : List ℕ) (now 
   pub way : IsUnderWay run (is_unowned v) v old all now from end
   pub rows : (count_from (is_unowned v now) from (end - from) ≡ 0) ⊎ (end - from ≤ spare)
 
-module _ (run : Run) (v : ℕ) (old : Content) (all : List ℕ) where
-  -- no page is owned yet
-  pub IsOwning-start : (first end spare : ℕ) → IsGood old → end ≤ pages_of old v → first ≤ end
-      → all ≡ range_with_len first (end - first) → HasRows old v all spare → used old + need old v all ≤ old.frames
-      → IsOwning run v old all old first end spare
-  IsOwning-start first end spare good inside bound row rows free =
-      let counted : need old v all ≡ count_from (is_unowned v old) first (end - first) =
-      ap (need old v) row ∙ need-count old v first (end - first) in
-      let many : length all ≡ end - first = ap length row ∙ length-range_with_len first (end - first) in
-      record {
-        way = IsUnderWay-start run (is_unowned v) v old all first end good inside bound
-            (omega (arith, counted, free)) row;
-        rows = elim rows [
-          | inl none ↦ inl (omega (arith, counted, none))
-          | inr enough
-              ↦ inr (omega (arith, many, enough))
-        ];
-      }
+-- no page that a range touches is owned yet
+pub IsOwning-start : (run : Run) (v : ℕ) (old : Content) (offset len first end spare : ℕ) → IsGood old
+    → offset + len ≤ pages_of old v * PAGE → end * PAGE < offset + len + PAGE → first ≤ end
+    → touched offset len ≡ range_with_len first (end - first) → HasRows old v (touched offset len) spare
+    → used old + need old v (touched offset len) ≤ old.frames
+    → IsOwning run v old (touched offset len) old first end spare
+IsOwning-start run v old offset len first end spare good inside last bound row rows free = record {
+  way = IsUnderWay-start run (is_unowned v) v old _ first end good (omega arith) bound
+      (grind (arith, need-count)) row;
+  rows = grind (arith, need-count, length-range_with_len);
+}
 
-  module _ (now : Content) (from end spare : ℕ) (owning : IsOwning run v old all now from end spare) where
-    -- no page is left
-    pub IsOwning-end : end ≤ from → run now [] now → run old all now
-    IsOwning-end = grind (arith)
+module _ {run : Run} {v : ℕ} {old : Content} {all : List ℕ} {now : Content} {from end spare : ℕ}
+    (owning : IsOwning run v old all now from end spare) where
+  -- no page is left
+  pub IsOwning-end : end ≤ from → run now [] now → run old all now
+  IsOwning-end = grind (arith)
 
-    module _ (h : from < end) where
-      -- the next page lies below the count
-      pub IsOwning-below : from < pages_of now v
-      IsOwning-below = grind (arith)
+  module _ (h : from < end) where
+    -- the next page is sole, or there are a row and a frame for it
+    pub IsOwning-room : (sole now v from ≡ true) ⊎ ((1 ≤ spare) × (used now < now.frames))
+    IsOwning-room = grind (arith, cases_Bool, count_from-next, bit-true)
 
-      -- and it is sole, or there are a row and a frame for it
-      pub IsOwning-room : (sole now v from ≡ true) ⊎ ((1 ≤ spare) × (used now < now.frames))
-      IsOwning-room = grind (arith, cases_Bool, count_from-next, bit-true)
-
-      -- it is owned, and more may be done to it
-      pub IsOwning-step : (mid : Content) (left : ℕ) → Written now v from mid → spare ≤ left + 1
-          → ((ps : List ℕ) (last : Content) → run mid ps last → run now (from ∷ ps) last)
-          → IsOwning run v old all mid (from + 1) end left
-      IsOwning-step mid left written cost onward =
-          let rest : count_from (is_unowned v mid) (from + 1) (end - (from + 1)) ≡ count_from (is_unowned v now)
-          (from + 1) (end - (from + 1)) =
-          count_from-same (is_unowned v mid) (is_unowned v now) (from + 1) (end - (from + 1))
-          (λ q low less. let apart : q ≢ from = omega arith in ap not (written.other_sole q apart)) in
-          record {
-            way = IsUnderWay-step run (is_unowned v) v old all now mid from end owning.way h (record {
-              kept = written.kept;
-              others = λ q apart. ap not (written.other_sole q apart);
-              used = more (sole now v from) (used mid) (used now) written.used;
-              onward = onward;
-            });
-            rows = elim owning.rows [
-              | inl none ↦ inl (omega (arith, none, count_from-next (is_unowned v now) from end h, rest))
-              | inr enough ↦ inr (omega arith)
-            ];
-          } where
-            more : (alone : Bool) (m n : ℕ) → m ≡ cond alone n (n + 1) → m ≤ n + cond (not alone) 1 0
-            more true m n e = omega arith
-            more false m n e = omega arith
+    -- it is owned, and more may be done to it
+    pub IsOwning-step : {mid : Content} {left : ℕ} → Written now v from mid → spare ≤ left + 1
+        → ((ps : List ℕ) (last : Content) → run mid ps last → run now (from ∷ ps) last)
+        → IsOwning run v old all mid (from + 1) end left
+    IsOwning-step {mid} {left} written cost onward =
+        let rest : count_from (is_unowned v mid) (from + 1) (end - (from + 1)) ≡ count_from (is_unowned v now)
+        (from + 1) (end - (from + 1)) =
+        count_from-same (is_unowned v mid) (is_unowned v now) (from + 1) (end - (from + 1))
+        (λ q low less. let apart : q ≢ from = omega arith in ap not (written.other_sole q apart)) in
+        record {
+          way = IsUnderWay-step run (is_unowned v) v old all now mid from end owning.way h (record {
+            kept = written.kept;
+            others = λ q apart. ap not (written.other_sole q apart);
+            used = grind (arith, written.used);
+            onward = onward;
+          });
+          rows = grind (arith, count_from-next, rest);
+        }
 
 -- a page that was owned is one that was written, for all that a loop asks
 pub Written-from_Owns : (old new : Content) (v p tag : ℕ) → IsGood old → p < pages_of old v → Owns old new v p tag
@@ -109,3 +95,11 @@ Written-from_Owns old new v p tag good below owns =
 -- owning pages of v, from one content to another
 abbrev pub owning_pages : ℕ → Run
 owning_pages v c ps new = OwnsAll c v ps new
+
+-- the next page is owned
+pub IsOwning-owned : {v : ℕ} {old : Content} {all : List ℕ} {now mid : Content} {from end spare left tag : ℕ}
+    → IsOwning (owning_pages v) v old all now from end spare → from < end → Owns now mid v from tag → spare ≤ left + 1
+    → IsOwning (owning_pages v) v old all mid (from + 1) end left
+IsOwning-owned {now = now} {mid = mid} {tag = tag} owning h owns cost =
+    IsOwning-step owning h (Written-from_Owns now mid _ _ tag owning.way.good (omega (arith, owning.way.inside)) owns)
+    cost (λ ps last w. (mid, tag, owns, w))

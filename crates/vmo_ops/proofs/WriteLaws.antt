@@ -1,17 +1,18 @@
 -- Laws of writing a page.
 use Rattle.std.proofs.Common.{arith}
-use Rattle.std.proofs.Common.{◌≡◌, ℕ, ◌/◌, ◌<◌, ◌≤◌, List, length, map, refl, sym, ◌∙◌}
+use Rattle.std.proofs.Common.{◌≡◌, ℕ, ◌/◌, ◌+◌, ◌<◌, ◌≤◌, List, length, map, refl, sym, ◌∙◌}
 use Rattle.vm_base.specs.declared.limits.TheConstants.{PAGE}
 use Rattle.vm_base.specs.Pages.{replaced}
-use Rattle.vm_model.specs.Contents.Content.{Page, Content, shown, pages_of, hold, IsGood}
+use Rattle.vm_model.specs.Contents.Content.{Page, Content, shown, hold}
 use Rattle.vm_model.specs.Contents.Owning.{Owns}
 use Rattle.vm_model.specs.Contents.Writing.{touched, piece, part_at, part_bytes, pieces, WritesPiece, Writes}
 use Rattle.vm_model.proofs.ContentLaws.{sole_alone, bytes_of-some}
 use Rattle.vm_model.proofs.OwningLaws.{Owned}
 use Rattle.vm_model.proofs.RangeLaws.{part_fits}
-use Rattle.vm_model.proofs.WritingLaws.{Written, Written-from_WritesPiece}
+use Rattle.vm_model.proofs.WritingLaws.{Written-from_WritesPiece}
 use Rattle.page_store.specs.Pages.{IsShownOnce, Overwrites}
 use Rattle.vmo_ops.proofs.RowLaws.{Run}
+use Rattle.vmo_ops.proofs.OwningLaws.{IsOwning, IsOwning-step}
 
 -- the frame of a page that was owned is shown once
 pub IsShownOnce-owned : (old new : Content) (v p tag : ℕ) → Owned old new v p tag → IsShownOnce new tag
@@ -32,22 +33,21 @@ WritesPiece-from_parts old mid new v p tag at bytes owned owns overwrites =
           ∙ λ i. hold mid v p (record { tag = tag; bytes = replaced (same i) at bytes });
     }
 
--- the piece of a write that falls into page p is written, by its place in the page and its bytes
-pub WritesPiece-same : (old new : Content) (v offset p at : ℕ) (bytes part : List ℕ) → at ≡ part_at offset p
-    → part ≡ part_bytes offset bytes p
-    → WritesPiece old (record { koid = v; page = p; at = at; bytes = part }) new
-    → WritesPiece old (piece v offset bytes p) new
-WritesPiece-same = grind (arith)
-
 -- a write at this offset, from a content over pages of v to another
 abbrev pub writing : ℕ → ℕ → List ℕ → Run
 writing v offset bytes c ps new = Writes c (map (piece v offset bytes) ps) new
 
--- a piece of a write was written
-pub Written-from_piece : (old new : Content) (v offset p : ℕ) (bytes : List ℕ) → IsGood old → p < pages_of old v
-    → offset / PAGE ≤ p → WritesPiece old (piece v offset bytes p) new → Written old v p new
-Written-from_piece old new v offset p bytes good below from writes =
-    Written-from_WritesPiece old (piece v offset bytes p) new good below (part_fits offset bytes p from) writes
+-- the piece of a write that falls into the next page is written, by its place in the page and its bytes
+pub IsOwning-written : (offset : ℕ) (bytes : List ℕ) {v : ℕ} {old : Content} {all : List ℕ} {now mid : Content}
+    {from end spare left at : ℕ} {part : List ℕ}
+    → IsOwning (writing v offset bytes) v old all now from end spare → from < end → offset / PAGE ≤ from
+    → WritesPiece now (record { koid = v; page = from; at = at; bytes = part }) mid → at ≡ part_at offset from
+    → part ≡ part_bytes offset bytes from → spare ≤ left + 1
+    → IsOwning (writing v offset bytes) v old all mid (from + 1) end left
+IsOwning-written offset bytes {v} {old} {all} {now} {mid} {from} owning h low piece_written place same cost =
+    let writes : WritesPiece now (piece v offset bytes from) mid = grind arith in
+    IsOwning-step owning h (Written-from_WritesPiece now (piece v offset bytes from) mid owning.way.good
+    (omega (arith, owning.way.inside)) (part_fits offset bytes from low) writes) cost (λ ps last w. (mid, writes, w))
 
 -- where all pages that a range touches are written, all pieces are
 pub Writes-touched : (v offset len : ℕ) (bytes : List ℕ) (old new : Content) → length bytes ≡ len

@@ -1,5 +1,5 @@
 -- Laws of zeroing a range by its held pages, from one to the next: what it takes, and what it leads to.
-use Rattle.std.proofs.Common.{[], ◌≡◌, ◌≢◌, ℕ, zero, suc, ◌+◌, ◌-◌, ◌*◌, ◌/◌, ◌<◌, ◌≤◌, Bool, true, false, not, cond, ◌&&◌, List, ◌∷◌, length, replicate, Option, None, ◌⊎◌, inl, inr, refl, sym, ap, subst, ◌∙◌, arith}
+use Rattle.std.proofs.Common.{min, [], ◌≡◌, ◌≢◌, ℕ, zero, suc, ◌+◌, ◌-◌, ◌*◌, ◌/◌, ◌<◌, ◌≤◌, Bool, true, false, not, cond, ◌&&◌, List, ◌∷◌, length, replicate, Option, None, ◌⊎◌, inl, inr, refl, sym, ap, subst, ◌∙◌, arith}
 use Rattle.std.specs.Prelude.{IsSome, is_some}
 use Rattle.std.specs.List.{range_with_len, list_any, filter}
 use Rattle.std.proofs.lemmas.Bool.{cases_Bool, both_ways, and_from, and_left, or_left, or_right, not_from_false}
@@ -19,6 +19,8 @@ use Rattle.vmo_ops.proofs.ModelLaws.{ZeroesPage-none, Zeroes-none, need-zero}
 use Rattle.vmo_ops.specs.declared.zeroing.ZeroCost.{ZeroCost}
 use Rattle.vmo_ops.specs.Costs.{held_touched}
 use Rattle.vmo_ops.proofs.CountLaws.{IsNextHeld, held_below, count_from-held, AreCounted, AreCounted_le, AreCounted-step, AreCounted-end}
+use Rattle.vm_model.specs.Contents.Writing.{part_at}
+use Rattle.vmo_ops.proofs.PartLaws.{part_bytes-replicate}
 use Rattle.vmo_ops.proofs.RowLaws.{Run, Takes, IsUnderWay, IsUnderWay-start, IsUnderWay-frame, IsUnderWay-step, IsUnderWay-gap}
 
 -- ---- a page that is cleared
@@ -27,14 +29,15 @@ use Rattle.vmo_ops.proofs.RowLaws.{Run, Takes, IsUnderWay, IsUnderWay-start, IsU
 pub any_pinned-one : (pins : ℕ → Option Pin) (v p : ℕ) → any_pinned pins v p (p + 1) ≡ is_pinned pins v p
 any_pinned-one = grind (arith, cases_Bool, any_pinned_at, none_pinned)
 
--- a held page that is cut or pinned is zeroed by a write
-pub ZeroesPage-part : (old new : Content) (v : ℕ) (pinned : ℕ → Bool) (offset len p : ℕ)
-    → is_cleared pinned offset len p ≡ false → IsSome (old.page v p)
-    → WritesPiece old (piece v offset (replicate len 0) p) new
+-- a held page that is cut or pinned is zeroed by a write of its part, by its place in the page and its length
+pub ZeroesPage-part : (old new : Content) (v : ℕ) (pinned : ℕ → Bool) (offset len p at from count : ℕ)
+    → is_cleared pinned offset len p ≡ false → IsSome (old.page v p) → at ≡ part_at offset p
+    → from ≡ PAGE * p - offset → from + count ≡ min (PAGE * (p + 1) - offset) len
+    → WritesPiece old (record { koid = v; page = p; at = at; bytes = replicate count 0 }) new
     → ZeroesPage old v pinned offset len p new
-ZeroesPage-part old new v pinned offset len p cut some writes = record {
+ZeroesPage-part old new v pinned offset len p at from count cut some place start stop writes = record {
   cleared = λ yes_cleared. absurd (both_ways _ cut yes_cleared);
-  held = λ yes_cut yes_held. writes;
+  held = λ yes_cut yes_held. grind (arith, part_bytes-replicate);
   zero = λ yes_cut free. absurd (both_ways _ free some);
 }
 

@@ -1,6 +1,6 @@
 //! Further names of a VMO (`ZX_VMO_CHILD_SLICE`, `ZX_VMO_CHILD_REFERENCE`).
 
-ghost use Rattle.std.specs.Prelude.{◌≡◌, ◌≢◌, ℕ, Option, ◌+◌, ◌*◌, ◌/◌, ◌%◌, ◌<◌, ◌≤◌, ◌^◌, ◌⊎◌, ◌==◌, ◌&&◌, ◌||◌, not, None, Some, IsSome, IfNone, IfSome};
+ghost use Rattle.std.specs.Prelude.{◌≡◌, ◌≢◌, ℕ, Option, ◌+◌, ◌*◌, ◌/◌, ◌%◌, ◌<◌, ◌≤◌, ◌^◌, ◌⊎◌, ◌==◌, ◌&&◌, ◌||◌, not, None, Some, IsSome, IfNone, IfSome, IfOk};
 ghost use Rattle.vm_base.specs.Pages.{rounded};
 ghost use Rattle.vm_base.specs.declared.names.VmoName.{VmoName};
 ghost use Rattle.vm_model.specs.declared.command.Command.{Command};
@@ -15,7 +15,7 @@ ghost use Rattle.vmo_table.specs.Table.{names_of, lineage_in, keepers_of, with_v
 ghost use Rattle.vmo_ops.specs.Targets.{reply_of};
 
 use page_store::{PageStore, size_of_name};
-use vm_base::{PAGE, PageNo, Refusal, VmoName, in_page, page_of, round_up};
+use vm_base::{Koid, PAGE, PageNo, Refusal, VmoName, in_page, page_of, round_up};
 use vmo_table::{NameKind, Target, VmoTable};
 
 /// Lets a name stand for a part of what `t` stands for: `bytes` bytes rounded up to whole pages, from
@@ -29,7 +29,7 @@ pub(crate) fn slice<P: PageStore>(
     bytes: u64,
     resizable: bool,
     no_write: bool,
-) -> Result<(), Refusal>
+) -> Result<Option<Koid>, Refusal>
     requires parts { AreParts (P.content store.now) vmos.old }
     requires named { IsNamed (names_of vmos.old) t.now }
     requires closed { names_of vmos.old name.0 ≡ None }
@@ -38,6 +38,7 @@ pub(crate) fn slice<P: PageStore>(
         (Command.VmoChild name parent Slice offset bytes resizable no_write)
         (reply_of (λ _. Reply.Done) result) (with_vmos s (P.content store.now) vmos.new) }
     ensures keepers { keepers_of vmos.new ≡ keepers_of vmos.old }
+    ensures koid { IfOk result (λ koid. koid ≡ None) }
 {
     if resizable {
         return Err(Refusal::InvalidArgs);
@@ -52,7 +53,7 @@ pub(crate) fn slice<P: PageStore>(
         return Err(Refusal::HostMemory);
     };
     vmos.alias(name, slice_target(t, page_of(offset), pages, no_write));
-    Ok(())
+    Ok(None)
 }
 
 // The pages of `bytes` bytes, where `offset` is a whole number of pages and they end inside the name.
@@ -97,7 +98,7 @@ pub(crate) fn reference(
     bytes: u64,
     resizable: bool,
     no_write: bool,
-) -> Result<(), Refusal>
+) -> Result<Option<Koid>, Refusal>
     requires named { IsNamed (names_of vmos.old) t.now }
     requires vmo { IsSome (lineage_in vmos.old t.now.koid.0) }
     requires closed { names_of vmos.old name.0 ≡ None }
@@ -105,6 +106,7 @@ pub(crate) fn reference(
         Step (with_vmos s c vmos.old) (Command.VmoChild name parent Reference offset bytes resizable no_write)
         (reply_of (λ _. Reply.Done) result) (with_vmos s c vmos.new) }
     ensures keepers { keepers_of vmos.new ≡ keepers_of vmos.old }
+    ensures koid { IfOk result (λ koid. koid ≡ None) }
 {
     if is_contradictory(offset, bytes, resizable, no_write, t.may_resize) {
         return Err(Refusal::InvalidArgs);
@@ -116,7 +118,7 @@ pub(crate) fn reference(
         return Err(Refusal::HostMemory);
     };
     vmos.alias(name, reference_target(t, resizable, no_write));
-    Ok(())
+    Ok(None)
 }
 
 // Whether a reference may not have these arguments, where the name that it is made of may be resized

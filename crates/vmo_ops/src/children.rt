@@ -55,25 +55,10 @@ pub fn create_child<P: PageStore>(
     ensures koid { IfOk result (λ koid. koid ≡ koid_given kind (P.content store.old).next) }
 {
     match kind {
-        ChildKind::Snapshot => {
-            match snapshot(
-                store, vmos, pins, name, t, offset, size, resizable, no_write,
-            ) {
-                Ok(koid) => Ok(Some(koid)),
-                Err(refusal) => Err(refusal),
-            }
-        }
-        ChildKind::Slice => {
-            match slice(store, vmos, name, t, offset, size, resizable, no_write) {
-                Ok(()) => Ok(None),
-                Err(refusal) => Err(refusal),
-            }
-        }
-        ChildKind::Reference => {
-            match reference(vmos, name, t, offset, size, resizable, no_write) {
-                Ok(()) => Ok(None),
-                Err(refusal) => Err(refusal),
-            }
-        }
+        ChildKind::Snapshot => snapshot(
+            store, vmos, pins, name, t, offset, size, resizable, no_write,
+        ),
+        ChildKind::Slice => slice(store, vmos, name, t, offset, size, resizable, no_write),
+        ChildKind::Reference => reference(vmos, name, t, offset, size, resizable, no_write),
     }
 }

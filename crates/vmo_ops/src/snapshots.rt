@@ -14,7 +14,7 @@ ghost use Rattle.vm_model.specs.Machine.Step.{Step, seen_pages};
 ghost use Rattle.page_store.specs.Names.{IsInside};
 ghost use Rattle.vmo_table.specs.Table.{names_of, keepers_of, IsNamed};
 ghost use Rattle.pin_table.specs.Table.{pins_of};
-ghost use Rattle.vmo_ops.specs.Targets.{AreTogether, with_tables, reply_of};
+ghost use Rattle.vmo_ops.specs.Targets.{AreTogether, with_tables, koid_given, reply_of};
 
 use page_store::{PageStore, pages_of_name};
 use pin_table::PinTable;
@@ -34,7 +34,7 @@ pub(crate) fn snapshot<P: PageStore>(
     size: u64,
     resizable: bool,
     no_write: bool,
-) -> Result<Koid, Refusal>
+) -> Result<Option<Koid>, Refusal>
     requires parts { AreTogether (P.content store.old) vmos.old pins.now }
     requires named { IsNamed (names_of vmos.old) t.now }
     requires closed { names_of vmos.old name.0 ≡ None }
@@ -44,7 +44,7 @@ pub(crate) fn snapshot<P: PageStore>(
         (Command.VmoChild name parent Snapshot offset size resizable no_write)
         (reply_of (λ _. Reply.Done) result) (with_tables s (P.content store.new) vmos.new pins.now) }
     ensures keepers { keepers_of vmos.new ≡ keepers_of vmos.old }
-    ensures koid { IfOk result (λ koid. koid.0 ≡ (P.content store.old).next) }
+    ensures koid { IfOk result (λ koid. koid ≡ koid_given Snapshot (P.content store.old).next) }
 {
     if in_page(offset) != 0 || (resizable && no_write) {
         return Err(Refusal::InvalidArgs);
@@ -70,7 +70,7 @@ pub(crate) fn snapshot<P: PageStore>(
         Some(t.koid),
         !no_write,
     );
-    Ok(koid)
+    Ok(Some(koid))
 }
 
 // Whether a VMO has a pin.

@@ -1,34 +1,22 @@
-use Rattle.std.proofs.Common.{length, refl, arith}
+use Rattle.std.proofs.Common.{length, refl, arith, rules}
 use Rattle.vm_model.specs.Contents.Writing.{pieces}
-use Rattle.vmo_ops.proofs.OwningLaws.{IsOwning-start, IsOwning-room, IsOwning-step, IsOwning-end}
+use Rattle.vmo_ops.proofs.OwningLaws.{IsOwning-start, IsOwning-room, IsOwning-end}
 use Rattle.vmo_ops.proofs.PartLaws.{part_bytes-slice}
-use Rattle.vmo_ops.proofs.WriteLaws.{WritesPiece-same, Written-from_piece}
+use Rattle.vmo_ops.proofs.WriteLaws.{IsOwning-written}
 use Rattle.vmo_ops.proofs.writing.write_pages.Goals as goal
 
 pub loop-page-init : goal.loop-page-init
-loop-page-init g c =
-    IsOwning-start _ c.args.v.0 _ _ _ _ _ c.requires.good (omega (arith, c.touched_pages-first.ensures.end))
-    c.touched_pages-first.ensures.order c.touched_pages-first.ensures.pages c.requires.room c.requires.free
+loop-page-init g c = search (rules, IsOwning-start)
 
 pub write_part-requires-clause-room : goal.write_part-requires-clause-room
-write_part-requires-clause-room g c = IsOwning-room _ _ _ _ _ _ _ _ c.loop-page.invariant c.loop-page-test.true
+write_part-requires-clause-room g c = IsOwning-room c.loop-page.invariant c.loop-page-test.true
 
 pub loop-page-preserved : goal.loop-page-preserved
 loop-page-preserved g c =
-    let now = g.P.PageStore.content c.loop-page.store in
-    let mid = g.P.PageStore.content c.write_part.new.store in
-    let bytes = c.args.bytes.now in
-    let page = c.loop-page.page in
-    let part = c.part_in_page-part in
-    let owning = c.loop-page.invariant in
-    let writes = WritesPiece-same now mid c.args.v.0 c.args.offset page part.result.at bytes _ part.ensures.at
-    (part_bytes-slice c.args.offset (length bytes) page part.result.from part.result.len part.ensures.from
-    part.ensures.until bytes refl) c.write_part.ensures.writes in
-    let written =
-    Written-from_piece now mid c.args.v.0 c.args.offset page bytes owning.way.good (omega (arith, owning.way.inside))
-    (omega arith) writes in
-    IsOwning-step _ _ _ _ _ _ _ _ owning c.loop-page-test.true mid _ written c.write_part.ensures.spare
-    (λ ps last w. (mid, writes, w))
+    let part = c.part_in_page-part.ensures in
+    IsOwning-written _ _ c.loop-page.invariant c.loop-page-test.true (omega arith) c.write_part.ensures.writes part.at
+    (part_bytes-slice c.args.offset (length c.args.bytes.now) c.loop-page.page _ _ part.from part.until _ refl)
+    c.write_part.ensures.spare
 
 pub returns : goal.returns
 unfolding pieces
