@@ -4,7 +4,7 @@ use Rattle.std.specs.Prelude.{IsSome}
 use Rattle.vm_base.proofs.EntryLaws.{some_is}
 use Rattle.vm_model.specs.Contents.Content.{Content, pages_of, IsGood}
 use Rattle.vm_model.proofs.ContentLaws.{IsOfHeld}
-use Rattle.vm_model.proofs.OwningLaws.{count_from, count_from_le}
+use Rattle.vm_model.proofs.OwningLaws.{count_from}
 use Rattle.vmo_ops.proofs.ModelLaws.{count_from-split, count_from-none, count_from-next}
 
 -- this is the first page of v from `from` on that is held, and it lies before `end`
@@ -16,49 +16,37 @@ IsNextHeld c v from end page =
 pub held_below : (c : Content) (v p : ℕ) → IsGood c → IsSome (c.page v p) → p < pages_of c v
 held_below = grind (arith, some_is)
 
-module _ (c : Content) (v : ℕ) (test : ℕ → Bool) (of : IsOfHeld c v test) where
+module _ (c : Content) (v : ℕ) (test : ℕ → Bool) (of : IsOfHeld c v test) (from end : ℕ) where
   -- the next held page counts first
-  pub count_from-held : (from end page : ℕ) → IsNextHeld c v from end page
+  pub count_from-held : (page : ℕ) → IsNextHeld c v from end page
       → count_from test from (end - from) ≡ cond (test page) 1 0 + count_from test (page + 1) (end - (page + 1))
-  count_from-held from end page next =
+  count_from-held page next =
       let skipped =
       count_from-none test from (page - from) (λ p low less. of.zero_fails p (next.3 p low (omega arith))) in
-      omega (
-        arith,
-        count_from-split test from page end next.0 (omega (arith, next.1)),
-        skipped,
-        count_from-next test
-            page end next.1,
-      )
+      grind (arith, skipped, count_from-split test from page end next.0, count_from-next)
 
   -- and none counts where no page is held
-  pub count_from-zero : (from end : ℕ) → ((p : ℕ) → from ≤ p → p < end → c.page v p ≡ None)
-      → count_from test from (end - from) ≡ 0
-  count_from-zero from end none =
+  pub count_from-zero : ((p : ℕ) → from ≤ p → p < end → c.page v p ≡ None) → count_from test from (end - from) ≡ 0
+  count_from-zero none =
       count_from-none test from (end - from) (λ p low less. of.zero_fails p (none p low (omega arith)))
 
-  -- The pages before `from` are counted, of those from `first` to below `end`.
-  pub record AreCounted (first from end n : ℕ) : Type 0 where
-    pub low : first ≤ from
-    pub high : from ≤ end
-    pub counted : n + count_from test from (end - from) ≡ count_from test first (end - first)
+-- Of the pages from `first` to below `end` that pass, those before `from` are counted.
+pub record AreCounted (test : ℕ → Bool) (first from end n : ℕ) : Type 0 where
+  pub few : n + first ≤ from
+  pub high : from ≤ end
+  pub counted : n + count_from test from (end - from) ≡ count_from test first (end - first)
 
-  module _ (first from end n : ℕ) (so_far : AreCounted first from end n) where
-    -- no more count than there are pages
-    pub AreCounted_le : n + first ≤ from
-    AreCounted_le =
-        let before = count_from-split test first from end so_far.low so_far.high in
-        omega (arith, so_far.counted, before, count_from_le test first (from - first), so_far.low)
+module _ {c : Content} {v : ℕ} {test : ℕ → Bool} (of : IsOfHeld c v test) {first from end n : ℕ}
+    (so_far : AreCounted test first from end n) where
+  -- one held page more
+  pub AreCounted-step : {page m : ℕ} → IsNextHeld c v from end page → m ≡ n + cond (test page) 1 0
+      → AreCounted test first (page + 1) end m
+  AreCounted-step {page} next more = record {
+    few = grind (arith, more);
+    high = omega (arith, next.1);
+    counted = omega (arith, so_far.counted, more, count_from-held c v test of from end page next);
+  }
 
-    -- one held page more
-    pub AreCounted-step : (page m : ℕ) → IsNextHeld c v from end page → m ≡ n + cond (test page) 1 0
-        → AreCounted first (page + 1) end m
-    AreCounted-step page m next more = record {
-      low = omega (arith, so_far.low, next.0);
-      high = omega (arith, next.1);
-      counted = omega (arith, so_far.counted, more, count_from-held from end page next);
-    }
-
-    -- no page behind is held
-    pub AreCounted-end : ((p : ℕ) → from ≤ p → p < end → c.page v p ≡ None) → n ≡ count_from test first (end - first)
-    AreCounted-end = grind (arith, count_from-zero)
+  -- no page behind is held
+  pub AreCounted-end : ((p : ℕ) → from ≤ p → p < end → c.page v p ≡ None) → n ≡ count_from test first (end - first)
+  AreCounted-end none = omega (arith, so_far.counted, count_from-zero c v test of from end none)

@@ -1,5 +1,5 @@
 -- Laws of zeroing a range by its held pages, from one to the next: what it takes, and what it leads to.
-use Rattle.std.proofs.Common.{min, [], ◌≡◌, ◌≢◌, ℕ, zero, suc, ◌+◌, ◌-◌, ◌*◌, ◌/◌, ◌<◌, ◌≤◌, Bool, true, false, not, cond, ◌&&◌, List, ◌∷◌, length, replicate, Option, None, ◌⊎◌, inl, inr, refl, sym, ap, subst, ◌∙◌, arith}
+use Rattle.std.proofs.Common.{min, [], ◌≡◌, ◌≢◌, ℕ, zero, suc, ◌+◌, ◌-◌, ◌*◌, ◌/◌, ◌<◌, ◌≤◌, Bool, true, false, not, ◌&&◌, List, ◌∷◌, length, replicate, Option, None, ◌⊎◌, inl, inr, refl, sym, ap, subst, arith}
 use Rattle.std.specs.Prelude.{IsSome, is_some}
 use Rattle.std.specs.List.{range_with_len, list_any, filter}
 use Rattle.std.proofs.lemmas.Bool.{cases_Bool, both_ways, and_from, and_left, or_left, or_right, not_from_false}
@@ -7,7 +7,7 @@ use Rattle.vm_base.specs.declared.limits.TheConstants.{PAGE}
 use Rattle.vm_base.proofs.SearchLaws.{bit-true}
 use Rattle.vm_model.specs.Contents.Content.{Content, is_held, pages_of, used, sole, IsGood}
 use Rattle.vm_model.specs.Contents.Owning.{need}
-use Rattle.vm_model.specs.Contents.Writing.{touched, piece, WritesPiece}
+use Rattle.vm_model.specs.Contents.Writing.{touched, WritesPiece}
 use Rattle.vm_model.specs.Contents.Zeroing.{is_cleared, ZeroesPage, Zeroes, owned_by_zero}
 use Rattle.vm_model.specs.Naming.Pins.{Pin, is_pinned, any_pinned}
 use Rattle.vm_model.proofs.ContentLaws.{IsOfHeld, IsOfHeld-held}
@@ -16,9 +16,8 @@ use Rattle.vm_model.proofs.WritingLaws.{IsKept-same}
 use Rattle.vm_model.proofs.PinLaws.{any_pinned_at, none_pinned}
 use Rattle.vm_model.proofs.ZeroesLaws.{ZeroedPage, ZeroedPage-from_ZeroesPage}
 use Rattle.vmo_ops.proofs.ModelLaws.{ZeroesPage-none, Zeroes-none, need-zero}
-use Rattle.vmo_ops.specs.declared.zeroing.ZeroCost.{ZeroCost}
 use Rattle.vmo_ops.specs.Costs.{held_touched}
-use Rattle.vmo_ops.proofs.CountLaws.{IsNextHeld, held_below, count_from-held, AreCounted, AreCounted_le, AreCounted-step, AreCounted-end}
+use Rattle.vmo_ops.proofs.CountLaws.{IsNextHeld, held_below, count_from-held}
 use Rattle.vm_model.specs.Contents.Writing.{part_at}
 use Rattle.vmo_ops.proofs.PartLaws.{part_bytes-replicate}
 use Rattle.vmo_ops.proofs.RowLaws.{Run, Takes, IsUnderWay, IsUnderWay-start, IsUnderWay-frame, IsUnderWay-step, IsUnderWay-gap}
@@ -50,7 +49,7 @@ pub IsOfHeld-takes : (c : Content) (v : ℕ) (pinned : ℕ → Bool) (offset len
 IsOfHeld-takes = grind (arith, and_left)
 
 -- for a held page, the first part of the test is passed
-takes_frame-held : (c : Content) (v : ℕ) (pinned : ℕ → Bool) (offset len p : ℕ) → IsSome (c.page v p)
+pub takes_frame-held : (c : Content) (v : ℕ) (pinned : ℕ → Bool) (offset len p : ℕ) → IsSome (c.page v p)
     → takes_frame v pinned offset len c p ≡ (not (is_cleared pinned offset len p) && not (sole c v p))
 takes_frame-held = grind (arith)
 
@@ -61,12 +60,7 @@ pub length-passing : (test : ℕ → Bool) (first n : ℕ) → length (filter te
     count_from test first n
 unfolding count_from
 length-passing test first zero = refl
-length-passing test first (suc n) =
-    one (test first) (filter test (range_with_len (first + 1) n)) (length-passing test (first + 1) n) where
-      one : (pass : Bool) (ps : List ℕ) → length ps ≡ count_from test (first + 1) n
-          → length (cond pass (first ∷ ps) ps) ≡ cond pass 1 0 + count_from test (first + 1) n
-      one true ps e = omega (arith, e)
-      one false ps e = omega (arith, e)
+length-passing test first (suc n) = grind (arith, length-passing test (first + 1) n)
 
 -- the held pages of a range, counted page by page
 pub held_touched-count : (c : Content) (v offset len first end : ℕ)
@@ -74,58 +68,10 @@ pub held_touched-count : (c : Content) (v offset len first end : ℕ)
     → held_touched c v offset len ≡ count_from (is_held c v) first (end - first)
 held_touched-count = grind (arith, length-passing)
 
--- what was counted, of the pages from `first` to below `end`
-pub record IsCounting (c : Content) (v : ℕ) (pinned : ℕ → Bool) (offset len first from end : ℕ) (cost : ZeroCost)
-    : Type 0 where
-  pub held : AreCounted c v (is_held c v) (IsOfHeld-held c v) first from end cost.held
-  pub owned : AreCounted c v (takes_frame v pinned offset len c) (IsOfHeld-takes c v pinned offset len) first from
-      end cost.owned
-
-module _ (c : Content) (v : ℕ) (pinned : ℕ → Bool) (offset len first : ℕ) where
-  -- no more is counted than there are pages
-  pub IsCounting_le : (from end : ℕ) (cost : ZeroCost) → IsCounting c v pinned offset len first from end cost
-      → (cost.held ≤ from) × (cost.owned ≤ from)
-  IsCounting_le from end cost counting = (
-    omega (arith, AreCounted_le c v _ (IsOfHeld-held c v) first from end cost.held counting.held),
-    omega (arith, AreCounted_le c v _ (IsOfHeld-takes c v pinned offset len) first from end cost.owned counting.owned),
-  )
-
-  -- a held page is counted
-  pub IsCounting-step : (from end page : ℕ) (old new : ZeroCost) (takes : Bool)
-      → IsCounting c v pinned offset len first from end old → IsNextHeld c v from end page
-      → takes ≡ (not (is_cleared pinned offset len page) && not (sole c v page)) → new.held ≡ old.held + 1
-      → new.owned ≡ old.owned + cond takes 1 0 → IsCounting c v pinned offset len first (page + 1) end new
-  IsCounting-step from end page old new takes counting next is h o =
-      let bit : ◌≡◌ {A = ℕ} (cond takes 1 0) (cond (takes_frame v pinned offset len c page) 1 0) =
-      ap (λ (b : Bool). cond b 1 0) (is ∙ sym (takes_frame-held c v pinned offset len page next.2)) in
-      record {
-        held = AreCounted-step c v _ (IsOfHeld-held c v) first from end old.held counting.held page new.held next
-            (omega (arith, h, bit-true (is_held c v page) next.2));
-        owned = AreCounted-step c v _ (IsOfHeld-takes c v pinned offset len) first from end old.owned counting.owned
-            page new.owned next (omega (arith, o, bit));
-      }
-
-  -- all is counted
-  pub IsCounting-end : (from end : ℕ) (cost : ZeroCost) → touched offset len ≡ range_with_len first (end - first)
-      → IsCounting c v pinned offset len first from end cost → ((p : ℕ) → from ≤ p → p < end → c.page v p ≡ None)
-      → (cost.held ≡ held_touched c v offset len) × (cost.owned ≡ need c v (owned_by_zero c v pinned offset len))
-  IsCounting-end from end cost row counting none = (
-    AreCounted-end c v _ (IsOfHeld-held c v) first from end cost.held counting.held none
-        ∙ sym (held_touched-count c v offset len first end row),
-    AreCounted-end c v _ (IsOfHeld-takes c v pinned offset len) first from end cost.owned counting.owned none
-        ∙ sym (need-zero c v pinned offset len first end row),
-  )
-
 -- a page in the list passes where some are counted
 filter_any : (test : ℕ → Bool) (ps : List ℕ) → 0 < length (filter test ps) → list_any test ps ≡ true
 filter_any test [] h = absurd (omega arith)
-filter_any test (p ∷ ps) h = elim (cases_Bool (test p)) [
-  | inl hit ↦ or_left (test p) (list_any test ps) hit
-  | inr miss ↦
-      let rest : length (cond (test p) (p ∷ filter test ps) (filter test ps)) ≡ length (filter test ps) =
-      ap (λ (b : Bool). length (cond b (p ∷ filter test ps) (filter test ps))) miss in
-      or_right (test p) (list_any test ps) (filter_any test ps (omega (arith, h, rest)))
-]
+filter_any test (p ∷ ps) h = grind (arith, filter_any test ps, or_left, or_right)
 
 -- the range touches a held page where one is counted
 pub held_touched_any : (c : Content) (v offset len : ℕ) → 0 < held_touched c v offset len
@@ -256,8 +202,7 @@ module _ (v : ℕ) (pinned : ℕ → Bool) (offset len : ℕ) (old : Content) wh
               way.rows,
               cost,
               rest,
-              count_from-held now v (is_held now v) (IsOfHeld-held now v) from
-                  end page next,
+              count_from-held now v (is_held now v) (IsOfHeld-held now v) from end page next,
               bit-true (is_held now v page) next.2,
             );
           }

@@ -1,6 +1,6 @@
 //! What owning pages takes (copy on write).
 
-ghost use Rattle.std.specs.Prelude.{◌≡◌, ◌-◌, ◌<◌, ◌≤◌, ◌⊎◌, IsSome, OnOk, OnErr};
+ghost use Rattle.std.specs.Prelude.{◌≡◌, ◌+◌, ◌-◌, ◌^◌, if◌then◌else◌, ◌<◌, ◌≤◌, ◌⊎◌, IsSome, OnOk, OnErr};
 ghost use Rattle.std.specs.List.{range_with_len};
 ghost use Rattle.vm_model.specs.Contents.Content.{pages_of, sole, IsGood};
 ghost use Rattle.vm_model.specs.Contents.Owning.{need};
@@ -21,12 +21,18 @@ pub(crate) fn need_of<P: PageStore>(store: &P, v: Koid, first: PageNo, end: Page
     let mut alone = 0;
     let mut from = first;
     while let Some(page) = next_held_below(store, v, from, end) {
-        if is_sole(store, v, page) {
-            alone += 1;
-        }
+        alone = with_one(alone, is_sole(store, v, page));
         from = page + 1;
     }
     end - first - alone
+}
+
+/// The number, and one more where the page passes a test.
+pub(crate) fn with_one(n: u64, passes: bool) -> u64
+    requires { n + 1 < 2 ^ 64 }
+    ensures { result ≡ n + (if passes then 1 else 0) }
+{
+    if passes { n + 1 } else { n }
 }
 
 /// Whether the page is held and no other VMO shows its frame.

@@ -15,7 +15,7 @@ ghost use Rattle.vmo_ops.specs.Costs.{held_touched};
 
 use crate::filling::fill_part;
 use crate::held_pages::next_held_below;
-use crate::owning::{is_sole, reserve_rows};
+use crate::owning::{is_sole, reserve_rows, with_one};
 use crate::ranges::{PagePart, part_in_page, touched_pages};
 use crate::ready::place_to_change;
 use page_store::PageStore;
@@ -84,9 +84,7 @@ pub(crate) fn cost_to_zero<P: PageStore>(
     let mut from = first;
     while let Some(page) = next_held_below(store, v, from, end) {
         cost.held += 1;
-        if takes_frame(store, pins, v, offset, len, page) {
-            cost.owned += 1;
-        }
+        cost.owned = with_one(cost.owned, takes_frame(store, pins, v, offset, len, page));
         from = page + 1;
     }
     cost

@@ -1,34 +1,29 @@
-use Rattle.std.proofs.Common.{rules}
-use Rattle.std.proofs.Common.{refl, arith}
-use Rattle.vm_base.proofs.SearchLaws.{bit-true, bit-false}
-use Rattle.vmo_ops.proofs.ZeroLaws.{IsCounting_le, IsCounting-step, IsCounting-end}
+use Rattle.std.proofs.Common.{arith}
+use Rattle.vm_base.proofs.SearchLaws.{bit-true}
+use Rattle.vm_model.proofs.ContentLaws.{IsOfHeld-held}
+use Rattle.vmo_ops.proofs.ModelLaws.{need-zero}
+use Rattle.vmo_ops.proofs.CountLaws.{AreCounted-step, AreCounted-end}
+use Rattle.vmo_ops.proofs.ZeroLaws.{IsOfHeld-takes, takes_frame-held, held_touched-count}
 use Rattle.vmo_ops.proofs.zeroing.cost_to_zero.Goals as goal
-use Rattle.vmo_ops.proofs.zeroing.cost_to_zero.Goals.{then-takes_frame, else-takes_frame}
-
-pub overflow_add-cost : goal.overflow_add-cost
-overflow_add-cost g c = search (rules, IsCounting_le)
-
-pub overflow_add-cost-then-takes_frame : goal.overflow_add-cost-then-takes_frame
-overflow_add-cost-then-takes_frame g c = search (rules, IsCounting_le)
 
 pub loop-page-preserved : goal.loop-page-preserved
-loop-page-preserved g c = elim c.if-takes_frame.branch [
-  | then-takes_frame w ↦
-      rw w.cost-is (IsCounting-step _ _ _ _ _ _ _ _ _ _ _ c.takes_frame.result c.loop-page.invariant
-      c.in-Some.ensures.some c.takes_frame.ensures refl
-      (omega (arith, bit-true c.takes_frame.result w.if-takes_frame.true)))
-  | else-takes_frame w ↦
-      rw w.cost-is (IsCounting-step _ _ _ _ _ _ _ _ _ _ _ c.takes_frame.result c.loop-page.invariant
-      c.in-Some.ensures.some c.takes_frame.ensures refl
-      (omega (arith, bit-false c.takes_frame.result w.if-takes_frame.false)))
-]
+loop-page-preserved g c =
+    let of = IsOfHeld-held (g.P.PageStore.content c.args.store.now) c.args.v.0 in
+    let next = c.in-Some.ensures.some in
+    record {
+      held = AreCounted-step of c.loop-page.invariant.held next (omega (arith, bit-true _ next.2));
+      owned = AreCounted-step (IsOfHeld-takes (g.P.PageStore.content c.args.store.now) c.args.v.0 _ _ _)
+          c.loop-page.invariant.owned next (grind (arith, takes_frame-held));
+    }
 
 pub returns-clause-held : goal.returns-clause-held
 returns-clause-held g c =
-    (IsCounting-end _ _ _ _ _ _ _ _ _ c.touched_pages-first.ensures.pages c.loop-page.invariant
-    c.in_default.ensures.none).0
+    let of = IsOfHeld-held (g.P.PageStore.content c.args.store.now) c.args.v.0 in
+    let all = AreCounted-end of c.loop-page.invariant.held c.in_default.ensures.none in
+    grind (arith, all, held_touched-count)
 
 pub returns-clause-owned : goal.returns-clause-owned
 returns-clause-owned g c =
-    (IsCounting-end _ _ _ _ _ _ _ _ _ c.touched_pages-first.ensures.pages c.loop-page.invariant
-    c.in_default.ensures.none).1
+    let of = IsOfHeld-takes (g.P.PageStore.content c.args.store.now) c.args.v.0 _ c.args.offset c.args.len in
+    let all = AreCounted-end of c.loop-page.invariant.owned c.in_default.ensures.none in
+    grind (arith, all, need-zero)
