@@ -27,8 +27,7 @@ module _ (c : Content) (v : ℕ) (test : ℕ → Bool) (of : IsOfHeld c v test) 
 
   -- and none counts where no page is held
   pub count_from-zero : ((p : ℕ) → from ≤ p → p < end → c.page v p ≡ None) → count_from test from (end - from) ≡ 0
-  count_from-zero none =
-      count_from-none test from (end - from) (λ p low less. of.zero_fails p (none p low (omega arith)))
+  count_from-zero = grind (arith, count_from-none)
 
 -- Of the pages from `first` to below `end` that pass, those before `from` are counted.
 pub record AreCounted (test : ℕ → Bool) (first from end n : ℕ) : Type 0 where
@@ -41,12 +40,8 @@ module _ {c : Content} {v : ℕ} {test : ℕ → Bool} (of : IsOfHeld c v test) 
   -- one held page more
   pub AreCounted-step : {page m : ℕ} → IsNextHeld c v from end page → m ≡ n + cond (test page) 1 0
       → AreCounted test first (page + 1) end m
-  AreCounted-step {page} next more = record {
-    few = grind (arith, more);
-    high = omega (arith, next.1);
-    counted = omega (arith, so_far.counted, more, count_from-held c v test of from end page next);
-  }
+  AreCounted-step = grind (arith, count_from-held)
 
   -- no page behind is held
   pub AreCounted-end : ((p : ℕ) → from ≤ p → p < end → c.page v p ≡ None) → n ≡ count_from test first (end - first)
-  AreCounted-end none = omega (arith, so_far.counted, count_from-zero c v test of from end none)
+  AreCounted-end = grind (arith, count_from-zero)

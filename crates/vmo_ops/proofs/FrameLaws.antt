@@ -20,9 +20,7 @@ pub record AreFrames (c : Content) (v first p : ℕ) (numbers : List ℕ) : Type
   pub are : take (p - first) numbers ≡ frames_in c v first (p - first)
 
 pub AreFrames-start : (c : Content) (v first : ℕ) (numbers : List ℕ) → AreFrames c v first first numbers
-AreFrames-start c v first numbers =
-    let none : first - first ≡ 0 = omega arith in
-    record { are = ap (λ n. take n numbers) none ∙ sym (ap (frames_in c v first) none) }
+AreFrames-start = grind (arith)
 
 -- pages in a row that stay have the same frames
 frames_in-same : (c d : Content) (v first n : ℕ) → ((p : ℕ) → first ≤ p → p < first + n → c.page v p ≡ d.page v p)

@@ -36,11 +36,7 @@ pub IsOwning-start : (run : Run) (v : ℕ) (old : Content) (offset len first end
     → touched offset len ≡ range_with_len first (end - first) → HasRows old v (touched offset len) spare
     → used old + need old v (touched offset len) ≤ old.frames
     → IsOwning run v old (touched offset len) old first end spare
-IsOwning-start run v old offset len first end spare good inside last bound row rows free = record {
-  way = IsUnderWay-start run (is_unowned v) v old _ first end good (omega arith) bound
-      (grind (arith, need-count)) row;
-  rows = grind (arith, need-count, length-range_with_len);
-}
+IsOwning-start = grind (arith, IsUnderWay-start, need-count, length-range_with_len)
 
 module _ {run : Run} {v : ℕ} {old : Content} {all : List ℕ} {now : Content} {from end spare : ℕ}
     (owning : IsOwning run v old all now from end spare) where
@@ -75,22 +71,7 @@ module _ {run : Run} {v : ℕ} {old : Content} {all : List ℕ} {now : Content} 
 -- a page that was owned is one that was written, for all that a loop asks
 pub Written-from_Owns : (old new : Content) (v p tag : ℕ) → IsGood old → p < pages_of old v → Owns old new v p tag
     → Written old v p new
-Written-from_Owns old new v p tag good below owns =
-    let owned = Owned-from_Owns old new v p tag good below owns in
-    record {
-      kept = record {
-        good = owned.good;
-        frames = owned.frames;
-        next = owned.next;
-        count = owned.count;
-        pages =
-            owned.pages;
-      };
-      alone = owned.alone;
-      other_page = owned.other_page;
-      other_sole = owned.other_sole;
-      used = owned.used;
-    }
+Written-from_Owns = grind (arith, Owned-from_Owns)
 
 -- owning pages of v, from one content to another
 abbrev pub owning_pages : ℕ → Run

@@ -1,6 +1,6 @@
 -- Laws of a loop that does something to pages of a VMO in a row, one page after another: that the frames which the rest
 -- takes are there, and what the loop leads to.
-use Rattle.std.proofs.Common.{[], ◌≡◌, ◌≢◌, ℕ, zero, suc, ◌+◌, ◌-◌, ◌<◌, ◌≤◌, Bool, true, cond, List, ◌∷◌, sym, subst, arith}
+use Rattle.std.proofs.Common.{[], ◌≡◌, ◌≢◌, ℕ, zero, suc, ◌+◌, ◌-◌, ◌<◌, ◌≤◌, Bool, true, cond, List, ◌∷◌, subst, arith}
 use Rattle.std.specs.List.{range_with_len}
 use Rattle.vm_base.proofs.SearchLaws.{bit-true}
 use Rattle.vm_model.specs.Contents.Content.{Content, pages_of, used, IsGood}
@@ -38,13 +38,7 @@ module _ (run : Run) (takes : Takes) (v : ℕ) (old : Content) (all : List ℕ) 
   pub IsUnderWay-start : (first end : ℕ) → IsGood old → end ≤ pages_of old v → first ≤ end
       → used old + count_from (takes old) first (end - first) ≤ old.frames
       → all ≡ range_with_len first (end - first) → IsUnderWay run takes v old all old first end
-  IsUnderWay-start first end good inside bound free row = record {
-    good = good;
-    inside = inside;
-    bound = bound;
-    free = free;
-    onward = λ last w. subst (λ (ps : List ℕ). run old ps last) (sym row) w;
-  }
+  IsUnderWay-start = grind (arith)
 
   -- no page is left
   pub IsUnderWay-end : (now : Content) (from end : ℕ) → IsUnderWay run takes v old all now from end → end ≤ from

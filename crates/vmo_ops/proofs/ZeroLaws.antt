@@ -34,11 +34,7 @@ pub ZeroesPage-part : (old new : Content) (v : ℕ) (pinned : ℕ → Bool) (off
     → from ≡ PAGE * p - offset → from + count ≡ min (PAGE * (p + 1) - offset) len
     → WritesPiece old (record { koid = v; page = p; at = at; bytes = replicate count 0 }) new
     → ZeroesPage old v pinned offset len p new
-ZeroesPage-part old new v pinned offset len p at from count cut some place start stop writes = record {
-  cleared = λ yes_cleared. absurd (both_ways _ cut yes_cleared);
-  held = λ yes_cut yes_held. grind (arith, part_bytes-replicate);
-  zero = λ yes_cut free. absurd (both_ways _ free some);
-}
+ZeroesPage-part = grind (arith, both_ways, part_bytes-replicate)
 
 -- zeroing the range takes a frame for the page
 abbrev pub takes_frame : ℕ → (ℕ → Bool) → ℕ → ℕ → Takes
@@ -102,24 +98,13 @@ module _ (v : ℕ) (pinned : ℕ → Bool) (offset len : ℕ) (old : Content) wh
       → touched offset len ≡ range_with_len first (end - first) → held_touched old v offset len ≤ spare
       → used old + need old v (owned_by_zero old v pinned offset len) ≤ old.frames
       → IsZeroing v pinned offset len old old first end spare
-  IsZeroing-start first end spare good vmo inside from order last row rows free = record {
-    way =
-        IsUnderWay-start (zeroing v pinned offset len) (takes_frame v pinned offset len) v old (touched offset len)
-        first end good (omega arith) order
-        (omega (arith, free, need-zero old v pinned offset len first end row)) row;
-    vmo = vmo;
-    start = omega arith;
-    inside = inside;
-    rows = omega (arith, rows, held_touched-count old v offset len first end row);
-  }
+  IsZeroing-start = grind (arith, IsUnderWay-start, need-zero, held_touched-count)
 
   module _ (now : Content) (from end spare : ℕ) (way : IsZeroing v pinned offset len old now from end spare) where
     -- no page that is left is held
     pub IsZeroing-end : ((p : ℕ) → from ≤ p → p < end → now.page v p ≡ None)
         → Zeroes old v pinned offset len (touched offset len) now
-    IsZeroing-end none =
-        way.way.onward now (Zeroes-none now v pinned offset len from (end - from)
-        (λ p low less. none p low (omega arith)))
+    IsZeroing-end = grind (arith, Zeroes-none)
 
     -- the next page that is held
     module _ (page : ℕ) (next : IsNextHeld now v from end page) where
