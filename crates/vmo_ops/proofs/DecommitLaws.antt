@@ -1,5 +1,6 @@
 -- Laws of giving back whole pages, none of which is pinned: zeroing them owns none, and leaves them zero. And the steps
 -- of a decommit.
+use Rattle.vmo_ops.proofs.ModelLaws.{used_le}
 use Rattle.std.proofs.Common.{◌≡◌, ℕ, zero, suc, ◌+◌, ◌-◌, ◌/◌, ◌%◌, ◌<◌, ◌≤◌, Bool, true, false, not, ◌&&◌, Option, sym, ap, ◌∙◌, arith}
 use Rattle.std.specs.List.{range_with_len}
 use Rattle.std.proofs.lemmas.Bool.{and_from, and_left, and_right, not_from_true, not_from_false, le-leb}
@@ -64,3 +65,6 @@ module _ (offset len : ℕ) (start : offset % PAGE ≡ 0) (whole : len % PAGE �
       → any_pinned pins v (offset / PAGE) (offset / PAGE + len / PAGE) ≡ false
       → NoneWithin (is_pinned pins v) (offset / PAGE) ((offset + len) / PAGE)
   none_within = grind (arith, any_pinned_none)
+
+-- a range of whole pages of which none is pinned is zeroed with no frame, and is zero then
+pub ruleset clear_laws = (need-pages, none_within, Zeroes-whole, used_le)

@@ -1,4 +1,5 @@
 -- What looking at a page says of it.
+use Rattle.vm_model.proofs.ContentLaws.{sole-zero, bytes_of-none, bytes_of-some}
 use Rattle.std.proofs.Common.{◌≡◌, ℕ, Bool, Option, None, Some, ap, ◌∙◌, ◌≤◌, ◌+◌, ◌-◌, replicate, take, drop, arith}
 use Rattle.std.proofs.lemmas.List.{take-replicate, drop-replicate}
 use Rattle.vm_base.specs.declared.limits.TheConstants.{PAGE}
@@ -21,3 +22,6 @@ unfolding zeros
 part_of_zeros at n h = go PAGE h where
   go : (m : ℕ) → at + n ≤ m → take n (drop at (replicate {A = ℕ} m 0)) ≡ replicate n 0
   go m l = ap (take n) (drop-replicate at m 0) ∙ take-replicate n (m - at) 0 (omega arith)
+
+-- what a look at a page says of its frame and of its bytes
+pub ruleset look_laws = (zero_look, held_look, part_of_zeros, sole-zero, bytes_of-none, bytes_of-some)

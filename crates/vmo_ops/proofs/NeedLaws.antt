@@ -1,11 +1,14 @@
 -- What owning the pages of a range takes.
+use Rattle.std.proofs.lemmas.List.FromFn.{length-range_with_len}
+use Rattle.vm_model.proofs.RangeLaws.{touched-row, touched-nil, touched_end-is}
 use Rattle.std.proofs.Common.{◌≡◌, ℕ, ◌-◌, arith}
 use Rattle.std.specs.List.{range_with_len}
 use Rattle.vm_model.specs.Contents.Content.{Content, sole}
 use Rattle.vm_model.specs.Contents.Owning.{need}
 use Rattle.vm_model.proofs.ContentLaws.{IsOfHeld, sole-zero}
 use Rattle.vm_model.proofs.OwningLaws.{count_from, need-row}
-use Rattle.vmo_ops.proofs.ModelLaws.{unowned-sole}
+use Rattle.page_store.proofs.NameLaws.{pages_of_le}
+use Rattle.vmo_ops.proofs.ModelLaws.{need_any, unowned-sole}
 
 -- no zero page is sole
 pub IsOfHeld-sole : (c : Content) (v : ℕ) → IsOfHeld c v (sole c v)
@@ -15,3 +18,9 @@ IsOfHeld-sole = grind (arith, sole-zero)
 pub need-sole : (c : Content) (v first end n : ℕ) → n ≡ count_from (sole c v) first (end - first)
     → (end - first) - n ≡ need c v (range_with_len first (end - first))
 need-sole = grind (arith, unowned-sole, need-row)
+
+-- the pages that a range touches
+pub ruleset touched_laws = (touched-row, touched-nil, touched_end-is)
+
+-- and what owning them takes
+pub ruleset need_laws = (need_any, length-range_with_len, pages_of_le)

@@ -1,4 +1,5 @@
 -- The steps of a read.
+use Rattle.page_store.proofs.NameLaws.{pages_of_le}
 use Rattle.std.proofs.Common.{◌≡◌, ℕ, ◌+◌, ◌-◌, ◌*◌, ◌/◌, ◌<◌, ◌≤◌, min, List, length, take}
 use Rattle.std.proofs.Common.{drop, length-drop, arith}
 use Rattle.std.specs.Prelude.{slice_range}
@@ -34,3 +35,6 @@ pub read_step : {c : Content} {v offset len p at : ℕ} {out : List ℕ} (from c
     → new ≡ take (length (slice_range out from (from + count))) (drop at (shown c v p)) → IsReadTo c v offset len p out
     → IsReadTo c v offset len (p + 1) (put_mid from ((from + count) - from) out new)
 read_step = grind (arith, length-take, length-drop, take-put_mid, bytes_in-part)
+
+-- a read, page by page
+pub ruleset read_laws = (read_start, read_step, pages_of_le)

@@ -1,8 +1,7 @@
 -- Laws of a loop that does something to pages of a VMO in a row, one page after another: that the frames which the rest
 -- takes are there, and what the loop leads to.
-use Rattle.std.proofs.Common.{[], ◌≡◌, ◌≢◌, ℕ, zero, suc, ◌+◌, ◌-◌, ◌<◌, ◌≤◌, Bool, true, cond, List, ◌∷◌, subst, arith}
+use Rattle.std.proofs.Common.{◌≡◌, ◌≢◌, ℕ, zero, suc, ◌+◌, ◌-◌, ◌<◌, ◌≤◌, Bool, cond, List, ◌∷◌, subst, arith}
 use Rattle.std.specs.List.{range_with_len}
-use Rattle.vm_base.proofs.SearchLaws.{bit-true}
 use Rattle.vm_model.specs.Contents.Content.{Content, pages_of, used, IsGood}
 use Rattle.vm_model.proofs.OwningLaws.{count_from, count_from-same}
 use Rattle.vm_model.proofs.WritingLaws.{IsKept}
@@ -39,16 +38,6 @@ module _ (run : Run) (takes : Takes) (v : ℕ) (old : Content) (all : List ℕ) 
       → used old + count_from (takes old) first (end - first) ≤ old.frames
       → all ≡ range_with_len first (end - first) → IsUnderWay run takes v old all old first end
   IsUnderWay-start = grind (arith)
-
-  -- no page is left
-  pub IsUnderWay-end : (now : Content) (from end : ℕ) → IsUnderWay run takes v old all now from end → end ≤ from
-      → run now [] now → run old all now
-  IsUnderWay-end = grind (arith)
-
-  -- a frame is free for the next page, where it takes one
-  pub IsUnderWay-frame : (now : Content) (from end : ℕ) → IsUnderWay run takes v old all now from end → from < end
-      → takes now from ≡ true → used now < now.frames
-  IsUnderWay-frame = grind (arith, count_from-next, bit-true)
 
   -- the next page is done
   pub IsUnderWay-step : (now mid : Content) (from end : ℕ) → IsUnderWay run takes v old all now from end → from < end

@@ -1,5 +1,5 @@
 -- Something that kept a VMO went, a name or a pin: what the table says of the VMO is what the machine does.
-use Rattle.std.proofs.Common.{◌≡◌, ℕ, ◌<◌, ◌==◌, true, false, Option, None, Some, ◌⊎◌, sym, ◌∙◌, arith}
+use Rattle.std.proofs.Common.{◌≡◌, ℕ, ◌<◌, ◌==◌, true, false, Option, Some, ◌⊎◌, sym, ◌∙◌, arith}
 use Rattle.std.specs.Prelude.{IsSome, IfSome, MatchOption}
 use Rattle.std.proofs.lemmas.Bool.{cases_Bool, ltb-true, ltb-false}
 use Rattle.vm_base.specs.declared.names.Koid.{Koid}
@@ -8,14 +8,14 @@ use Rattle.vm_base.proofs.EntryLaws.{any_entry-count}
 use Rattle.vm_model.specs.Contents.Content.{Content}
 use Rattle.vm_model.specs.Contents.Sharing.{without}
 use Rattle.vm_model.specs.declared.names.Target.{Target}
-use Rattle.vm_model.specs.Naming.Names.{Lineage, is_named, lineage_without}
+use Rattle.vm_model.specs.Naming.Names.{Lineage, is_named}
 use Rattle.vm_model.specs.Naming.Pins.{Pin, pin_count}
 use Rattle.vm_model.specs.Machine.State.{State, is_live, IsGoodState}
 use Rattle.vm_model.specs.Machine.Leaving.{pruned}
 use Rattle.vm_model.proofs.NamesLaws.{lineage-known}
 use Rattle.vm_model.proofs.LiveLaws.{is_live_cases, is_live_none}
 use Rattle.vm_model.proofs.LeavingLaws.{Loosens, pruned-stays, pruned-leaves}
-use Rattle.vmo_table.specs.Table.{parent_of, Settles}
+use Rattle.vmo_table.specs.Table.{Settles}
 
 -- ---- what keeps a VMO, counted
 
@@ -43,33 +43,11 @@ module _ (names : ℕ → Option Target) (keepers v : ℕ) (old new : ℕ → Op
       → IfSome answer (λ koid. IsSome (c.count koid.0))
   leaving_vmo = grind (arith, settled_koid)
 
--- The state t is the good state s with less that keeps the VMO v, whose keepers are those that are left.
-module _ (s t : State) (v : ℕ) (good : IsGoodState s) (less : Loosens s t v)
-    (names : ℕ → Option Target) (named : names ≡ t.names) (keepers : ℕ) (counted : keepers ≡ pin_count t.pins v)
-    (lineage : ℕ → Option Lineage) (answer : Option Koid)
-    (settles : Settles names keepers v s.lineage lineage answer) where
-  named_now : is_named names v ≡ is_named t.names v
-  named_now = grind (arith)
-
-  -- a VMO that is live stays, and nothing else changes
-  settled_stays : is_live t v ≡ true → (answer ≡ None) × (lineage ≡ s.lineage)
-  settled_stays = grind (arith, kept_cases, named_now)
-
-  -- one that is not leaves
-  settled_leaves : is_live t v ≡ false → (answer ≡ Some (record { 0 = v })) ×
-      (lineage ≡ lineage_without s.lineage v (parent_of (s.lineage v)))
-  settled_leaves = grind (arith, kept_none, named_now)
-
-  module _ (content : Content) where
-    all_stays : content ≡ s.content → is_live t v ≡ true → record t { content = content; lineage = lineage } ≡ pruned t
-    all_stays = grind (arith, settled_stays, pruned-stays)
-
-    one_leaves : content ≡ without s.content v → is_live t v ≡ false
-        → record t { content = content; lineage = lineage } ≡ pruned t
-    one_leaves = grind (arith, settled_leaves, lineage-known, pruned-leaves)
-
-    -- where the content lost the VMO that leaves, it and the table's lineage are those of what is left of the loosened
-    -- state
-    pub settled_pruned : MatchOption answer (content ≡ s.content) (λ koid. content ≡ without s.content koid.0)
-        → record t { content = content; lineage = lineage } ≡ pruned t
-    settled_pruned = grind (arith, cases_Bool, all_stays, settled_stays, one_leaves, settled_leaves)
+-- The state t is the good state s with less that keeps the VMO v, whose keepers are those that are left. Where the content
+-- lost the VMO that leaves, it and the table's lineage are those of what is left of the loosened state.
+pub settled_pruned : (s t : State) (v : ℕ) → IsGoodState s → Loosens s t v → (names : ℕ → Option Target)
+    → names ≡ t.names → (keepers : ℕ) → keepers ≡ pin_count t.pins v → (lineage : ℕ → Option Lineage)
+    (answer : Option Koid) → Settles names keepers v s.lineage lineage answer → (content : Content)
+    → MatchOption answer (content ≡ s.content) (λ koid. content ≡ without s.content koid.0)
+    → record t { content = content; lineage = lineage } ≡ pruned t
+settled_pruned = grind (arith, cases_Bool, kept_cases, kept_none, lineage-known, pruned-stays, pruned-leaves)

@@ -1,4 +1,5 @@
 -- Laws of writing a page.
+use Rattle.vm_model.proofs.OwningLaws.{Owned-from_Owns}
 use Rattle.std.proofs.Common.{arith}
 use Rattle.std.proofs.Common.{◌≡◌, ℕ, ◌/◌, ◌+◌, ◌<◌, ◌≤◌, List, length, map, refl, sym, ◌∙◌}
 use Rattle.vm_base.specs.declared.limits.TheConstants.{PAGE}
@@ -54,3 +55,6 @@ pub Writes-touched : (v offset len : ℕ) (bytes : List ℕ) (old new : Content)
     → writing v offset bytes old (touched offset len) new → Writes old (pieces v offset bytes) new
 unfolding pieces
 Writes-touched = grind (arith)
+
+-- a part of a page is written once the page is owned
+pub ruleset part_laws = (Owned-from_Owns, IsShownOnce-owned, WritesPiece-from_parts)

@@ -1,10 +1,9 @@
 -- Laws of zeroing a range by its held pages, from one to the next: what it takes, and what it leads to.
-use Rattle.std.proofs.Common.{min, [], ◌≡◌, ◌≢◌, ℕ, zero, suc, ◌+◌, ◌-◌, ◌*◌, ◌/◌, ◌<◌, ◌≤◌, Bool, true, false, not, ◌&&◌, List, ◌∷◌, length, replicate, Option, None, ◌⊎◌, inl, inr, refl, sym, ap, subst, arith}
+use Rattle.std.proofs.Common.{min, [], ◌≡◌, ◌≢◌, ℕ, zero, suc, ◌+◌, ◌-◌, ◌*◌, ◌/◌, ◌<◌, ◌≤◌, Bool, true, false, not, ◌&&◌, List, ◌∷◌, length, replicate, Option, None, ◌⊎◌, refl, ap, subst, arith}
 use Rattle.std.specs.Prelude.{IsSome, is_some}
 use Rattle.std.specs.List.{range_with_len, list_any, filter}
-use Rattle.std.proofs.lemmas.Bool.{cases_Bool, both_ways, and_from, and_left, or_left, or_right, not_from_false}
+use Rattle.std.proofs.lemmas.Bool.{cases_Bool, both_ways, and_left, or_left, or_right}
 use Rattle.vm_base.specs.declared.limits.TheConstants.{PAGE}
-use Rattle.vm_base.proofs.SearchLaws.{bit-true}
 use Rattle.vm_model.specs.Contents.Content.{Content, is_held, pages_of, used, sole, IsGood}
 use Rattle.vm_model.specs.Contents.Owning.{need}
 use Rattle.vm_model.specs.Contents.Writing.{touched, WritesPiece}
@@ -20,13 +19,13 @@ use Rattle.vmo_ops.specs.Costs.{held_touched}
 use Rattle.vmo_ops.proofs.CountLaws.{IsNextHeld, held_below, count_from-held}
 use Rattle.vm_model.specs.Contents.Writing.{part_at}
 use Rattle.vmo_ops.proofs.PartLaws.{part_bytes-replicate}
-use Rattle.vmo_ops.proofs.RowLaws.{Run, Takes, IsUnderWay, IsUnderWay-start, IsUnderWay-frame, IsUnderWay-step, IsUnderWay-gap}
+use Rattle.vmo_ops.proofs.RowLaws.{Run, Takes, IsUnderWay, IsUnderWay-start, IsUnderWay-step, IsUnderWay-gap}
 
 -- ---- a page that is cleared
 
 -- the one page from p on is pinned exactly where p is
-pub any_pinned-one : (pins : ℕ → Option Pin) (v p : ℕ) → any_pinned pins v p (p + 1) ≡ is_pinned pins v p
-any_pinned-one = grind (arith, cases_Bool, any_pinned_at, none_pinned)
+pub any_pinned_one : (pins : ℕ → Option Pin) (v p : ℕ) → any_pinned pins v p (p + 1) ≡ is_pinned pins v p
+any_pinned_one = grind (arith, cases_Bool, any_pinned_at, none_pinned)
 
 -- a held page that is cut or pinned is zeroed by a write of its part, by its place in the page and its length
 pub ZeroesPage-part : (old new : Content) (v : ℕ) (pinned : ℕ → Bool) (offset len p at from count : ℕ)
@@ -111,12 +110,8 @@ module _ (v : ℕ) (pinned : ℕ → Bool) (offset len : ℕ) (old : Content) wh
       -- there is a row for it
       pub IsZeroing-row : 1 ≤ spare
       IsZeroing-row =
-          omega (
-            arith,
-            way.rows,
-            count_from-held now v (is_held now v) (IsOfHeld-held now v) from end page next,
-            bit-true (is_held now v page) next.2,
-          )
+          let first = count_from-held now v (is_held now v) (IsOfHeld-held now v) from end page next in
+          grind (arith, first)
 
       -- the pages before it are passed over
       passed : IsUnderWay (zeroing v pinned offset len) (takes_frame v pinned offset len) v old
@@ -142,19 +137,10 @@ module _ (v : ℕ) (pinned : ℕ → Bool) (offset len : ℕ) (old : Content) wh
       -- and a frame, where it takes one
       pub IsZeroing-frame : (is_cleared pinned offset len page ≡ true) ⊎
           ((sole now v page ≡ true) ⊎ (used now < now.frames))
-      IsZeroing-frame = elim (cases_Bool (is_cleared pinned offset len page)) [
-        | inl whole ↦ inl whole
-        | inr part ↦ elim (cases_Bool (sole now v page)) [
-          | inl alone ↦ inr (inl alone)
-          | inr shared ↦
-              let takes : takes_frame v pinned offset len now page ≡ true =
-              and_from (is_held now v page && not (is_cleared pinned offset len page)) (not (sole now v page))
-              (and_from (is_held now v page) (not (is_cleared pinned offset len page)) next.2 (not_from_false _ part))
-              (not_from_false _ shared) in
-              inr (inr (IsUnderWay-frame (zeroing v pinned offset len) (takes_frame v pinned offset len) v old
-              (touched offset len) now page end passed next.1 takes))
-        ]
-      ]
+      IsZeroing-frame =
+          let first = count_from-held now v (takes_frame v pinned offset len now)
+          (IsOfHeld-takes now v pinned offset len) from end page next in
+          grind (arith, first, cases_Bool)
 
       -- it is zeroed
       pub IsZeroing-step : (mid : Content) (left : ℕ) → ZeroesPage now v pinned offset len page mid → spare ≤ left + 1
@@ -174,20 +160,12 @@ module _ (v : ℕ) (pinned : ℕ → Bool) (offset len : ℕ) (old : Content) wh
                 IsUnderWay-step (zeroing v pinned offset len) (takes_frame v pinned offset len) v old
                 (touched offset len) now mid page end passed next.1 (record {
                   kept = zeroed.kept;
-                  others = λ q apart. λ i. (held q apart i && not (is_cleared pinned offset len q)) && not
-                      (zeroed.other_sole q apart i);
+                  others = λ q apart. grind (arith, held q apart, zeroed.other_sole q apart);
                   used = zeroed.used;
                   onward = λ ps last w. (mid, zeroes, w);
                 });
-            vmo = subst (λ (f : ℕ → Option ℕ). IsSome (f v)) (sym zeroed.kept.count) way.vmo;
+            vmo = rw zeroed.kept.count way.vmo;
             start = omega (arith, way.start, next.0);
             inside = omega (arith, way.inside, zeroed.kept.pages v);
-            rows = omega (
-              arith,
-              way.rows,
-              cost,
-              rest,
-              count_from-held now v (is_held now v) (IsOfHeld-held now v) from end page next,
-              bit-true (is_held now v page) next.2,
-            );
+            rows = grind (arith, rest, count_from-held now v (is_held now v) (IsOfHeld-held now v) from end page next);
           }

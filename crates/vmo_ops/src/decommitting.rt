@@ -66,6 +66,7 @@ pub fn decommit<P: PageStore>(
 }
 
 // Makes the pages of a range of whole pages zero, none of which is pinned, where the room for it is there.
+#[tactic(auto, using(crate::proofs::DecommitLaws::clear_laws))]
 fn clear_pages<P: PageStore>(store: &mut P, pins: &PinTable, v: Koid, offset: u64, len: u64)
     requires good { IsGood (P.content store.old) }
     requires vmo { IsSome ((P.content store.old).count v.0) }

@@ -36,6 +36,7 @@ pub(crate) fn with_one(n: u64, passes: bool) -> u64
 }
 
 /// Whether the page is held and no other VMO shows its frame.
+#[tactic(auto, using(crate::proofs::LookLaws::look_laws))]
 pub(crate) fn is_sole<P: PageStore>(store: &P, v: Koid, page: PageNo) -> bool
     requires { page < pages_of (P.content store.now) v.0 }
     ensures { result ≡ sole (P.content store.now) v.0 page }

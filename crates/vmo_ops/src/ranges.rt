@@ -43,6 +43,7 @@ fn is_in_range<P: PageStore>(store: &P, t: &Target, offset: u64, len: u64) -> bo
 
 /// The first page that holds a byte of the range, and the page behind the last. The two are one
 /// where the range has no byte.
+#[tactic(auto, using(crate::proofs::NeedLaws::touched_laws))]
 pub(crate) fn touched_pages(offset: u64, len: u64) -> (PageNo, PageNo)
     requires { offset + len ≤ VMO_PAGES * PAGE }
     ensures first { result.0 ≡ offset / PAGE }
@@ -70,6 +71,7 @@ pub(crate) struct PagePart {
 }
 
 /// The part of a range that falls into a page that it touches.
+#[tactic(auto, unfolding(vm_model::specs::Contents::Writing::part_at))]
 pub(crate) fn part_in_page(offset: u64, len: u64, page: PageNo) -> PagePart
     requires range { offset + len ≤ VMO_PAGES * PAGE }
     requires first { offset / PAGE ≤ page }

@@ -56,6 +56,7 @@ pub fn read_into<'a, P: PageStore>(
 }
 
 // Reads the bytes of a range inside the VMO, page by page.
+#[tactic(auto, using(crate::proofs::ReadLaws::read_laws))]
 fn read_pages<P: PageStore>(store: &P, v: Koid, offset: u64, out: &mut [u8])
     requires good { IsGood (P.content store.now) }
     requires inside { offset + length out.old ≤ pages_of (P.content store.now) v.0 * PAGE }
@@ -77,6 +78,7 @@ fn read_pages<P: PageStore>(store: &P, v: Koid, offset: u64, out: &mut [u8])
 }
 
 // Reads what a page shows, from `at` bytes into the page on.
+#[tactic(auto, using(crate::proofs::LookLaws::look_laws))]
 fn read_page<P: PageStore>(store: &P, v: Koid, page: PageNo, at: u64, out: &mut [u8])
     requires page { page < pages_of (P.content store.now) v.0 }
     requires range { at + length out.old ≤ PAGE }

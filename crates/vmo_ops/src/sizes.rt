@@ -47,6 +47,7 @@ pub fn resize<P: PageStore>(
 }
 
 // Whether a page of a VMO is pinned, of those behind the first `pages`.
+#[tactic(auto, using(crate::proofs::PinnedLaws::pinned_past))]
 fn is_pinned_past<P: PageStore>(store: &P, pins: &PinTable, v: Koid, pages: PageNo) -> bool
     requires { IsSome ((P.content store.now).count v.0) }
     ensures { result ≡ any_pinned (pins_of pins.now) v.0 pages (pages_of (P.content store.now) v.0) }

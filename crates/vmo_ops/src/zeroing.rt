@@ -113,6 +113,7 @@ fn takes_frame<P: PageStore>(
 
 // Whether a page becomes zero as a whole, where this part of a range falls into it: the part is all of the
 // page, and the page is not pinned.
+#[tactic(auto, using(crate::proofs::ZeroLaws::any_pinned_one))]
 fn is_cleared_page(pins: &PinTable, v: Koid, page: PageNo, part: PagePart) -> bool
     ensures { result ≡ (part.len == PAGE && not (is_pinned (pins_of pins.now) v.0 page)) }
 {
