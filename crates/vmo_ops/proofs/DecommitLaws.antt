@@ -1,7 +1,7 @@
 -- Laws of giving back whole pages, none of which is pinned: zeroing them owns none, and leaves them zero. And the steps
 -- of a decommit.
 use Rattle.vmo_ops.proofs.ModelLaws.{used_le}
-use Rattle.std.proofs.Common.{◌≡◌, ℕ, zero, suc, ◌+◌, ◌-◌, ◌/◌, ◌%◌, ◌<◌, ◌≤◌, Bool, true, false, not, ◌&&◌, Option, sym, ap, ◌∙◌, arith}
+use Rattle.std.proofs.Common.{◌≡◌, ℕ, zero, suc, ◌+◌, ◌-◌, ◌/◌, ◌%◌, ◌<◌, ◌≤◌, Bool, true, false, not, ◌&&◌, Option, ◌∙◌, arith}
 use Rattle.std.specs.List.{range_with_len}
 use Rattle.std.proofs.lemmas.Bool.{and_from, and_left, and_right, not_from_true, not_from_false, le-leb}
 use Rattle.vm_base.specs.declared.limits.TheConstants.{PAGE}
@@ -43,17 +43,9 @@ module _ (offset len : ℕ) (start : offset % PAGE ≡ 0) (whole : len % PAGE �
     -- pages of it in a row become zero
     Zeroes-pages : (v first n : ℕ) (old new : Content) → offset / PAGE ≤ first → first + n ≤ (offset + len) / PAGE
         → Zeroes old v pinned offset len (range_with_len first n) new → new ≡ zeroed old v first (first + n)
-    Zeroes-pages v first zero old new low less zeroes =
-        let e : first ≡ first + zero = omega arith in
-        zeroes ∙ sym (zeroed-empty old v first) ∙ ap (zeroed old v first) e
+    Zeroes-pages v first zero old new low less zeroes = grind (arith, zeroed-empty)
     Zeroes-pages v first (suc n) old new low less zeroes =
-        let e : (first + 1) + n ≡ first + suc n = omega arith in
-        let here : zeroes.0 ≡ zeroed old v first (first + 1) =
-        zeroes.1.cleared (is_cleared-pages first low (omega arith)) in
-        Zeroes-pages v (first + 1) n zeroes.0 new (omega arith) (omega arith) zeroes.2
-        ∙ ap (λ (c : Content). zeroed c v (first + 1) ((first + 1) + n)) here
-        ∙ zeroed-more old v first (first + 1) ((first + 1) + n) (omega arith) (omega arith)
-        ∙ ap (zeroed old v first) e
+        grind (arith, Zeroes-pages v (first + 1) n zeroes.0 new, is_cleared-pages, zeroed-more, zeroes)
 
     -- all of it becomes zero
     pub Zeroes-whole : (v : ℕ) (old new : Content) → Zeroes old v pinned offset len (touched offset len) new

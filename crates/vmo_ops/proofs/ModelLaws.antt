@@ -1,6 +1,5 @@
 -- Laws of the definitions of the machine that operations alone use.
-use Rattle.std.proofs.Common.{rules}
-use Rattle.std.proofs.Common.{[], Bool, List, None, Option, ap, arith, cond, drop, false, inl, inr, length, min, not, refl, suc, take, true, zero, ℕ, ◌%◌, ◌&&◌, ◌++◌, ◌+◌, ◌-◌, ◌/◌, ◌<◌, ◌∙◌, ◌∷◌, ◌≡◌, ◌≤◌}
+use Rattle.std.proofs.Common.{ap, [], ◌∷◌, Bool, List, None, Option, arith, cond, drop, false, length, min, not, refl, suc, take, true, zero, ℕ, ◌%◌, ◌&&◌, ◌++◌, ◌+◌, ◌-◌, ◌/◌, ◌<◌, ◌≡◌, ◌≤◌}
 use Rattle.std.proofs.lemmas.Bool.{and_parts, both_ways, cases_Bool, cases_lt, leb-true, or_left, or_right}
 use Rattle.std.proofs.lemmas.Grind.{same_number_lists}
 use Rattle.std.proofs.lemmas.List.{get_or-drop, get_or-take, length-drop, length-take, map-append, take_all}
@@ -15,7 +14,7 @@ use Rattle.vm_model.proofs.RangeLaws.{touched-nil, touched-row}
 use Rattle.vm_model.proofs.ZeroingLaws.{cases_zeroed, page-zeroed_in, page-zeroed_out, zeroed-none}
 use Rattle.vm_model.specs.Contents.Content.{Content, IsGood, is_held, shown, sole, used}
 use Rattle.vm_model.specs.Contents.Owning.{need, need_from}
-use Rattle.vm_model.specs.Contents.Writing.{bytes_in, touched, touched_end}
+use Rattle.vm_model.specs.Contents.Writing.{bytes_in, touched}
 use Rattle.vm_model.specs.Contents.Zeroing.{Zeroes, ZeroesPage, is_cleared, owned_by_zero, zeroed}
 use Rattle.vm_model.specs.Naming.Pins.{Pin, any_pinned, is_pinned}
 
@@ -42,53 +41,27 @@ count_from-none test first (suc n) none =
 -- two rows, one behind the other
 pub count_from-append : (test : ℕ → Bool) (first n m : ℕ) → count_from test first (n + m) ≡ count_from test first n + count_from test (first + n) m
 unfolding count_from
-count_from-append test first zero m =
-    let e : zero + m ≡ m = omega arith in
-    let f : count_from test first m ≡ count_from test (first + zero) m = let same : first ≡ first + zero = omega arith in ap (λ (q : ℕ). count_from test q m) same in
-    ap (count_from test first) e ∙ omega (arith, f)
+count_from-append test first zero m = grind arith
 count_from-append test first (suc n) m =
     let e : suc n + m ≡ suc (n + m) = omega arith in
-    let f : (first + 1) + n ≡ first + suc n = omega arith in
-    let rest = count_from-append test (first + 1) n m in
-    let place : count_from test ((first + 1) + n) m ≡ count_from test (first + suc n) m = ap (λ (q : ℕ). count_from test q m) f in
-    ap (count_from test first) e ∙ omega (arith, rest, place)
+    let f : first + suc n ≡ (first + 1) + n = omega arith in
+    rw (e, f) (grind (arith, count_from-append test (first + 1) n m))
 
 -- a row cut in two
 pub count_from-split : (test : ℕ → Bool) (first mid end : ℕ) → first ≤ mid → mid ≤ end → count_from test first (end - first) ≡ count_from test first (mid - first) + count_from test mid (end - mid)
-count_from-split test first mid end h less =
-    let e : end - first ≡ (mid - first) + (end - mid) = omega arith in
-    let f : first + (mid - first) ≡ mid = omega arith in
-    ap (count_from test first) e
-    ∙ (count_from-append test first (mid - first) (end - mid) ∙ ap (λ (q : ℕ). count_from test first (mid - first) + count_from test q (end - mid)) f)
+count_from-split test first mid end h less = grind (arith, count_from-append test first (mid - first) (end - mid))
 
 -- where one counts, some page passes
 pub count_from-any : (test : ℕ → Bool) (first n : ℕ) → 0 < count_from test first n → list_any test (range_with_len first n) ≡ true
 unfolding count_from
 count_from-any test first zero h = absurd (omega arith)
-count_from-any test first (suc n) h = elim (cases_Bool (test first)) [
-  | inl hit ↦ or_left (test first) (list_any test (range_with_len (first + 1) n)) hit
-  | inr miss ↦
-      or_right (test first) (list_any test (range_with_len (first + 1) n)) (count_from-any test (first + 1) n (omega (arith, h, bit-false (test first) miss)))
-]
+count_from-any test first (suc n) h = grind (arith, count_from-any test (first + 1) n, or_left, or_right)
 
 -- the pages that pass and those that do not
 pub count_from-not : (test : ℕ → Bool) (first n : ℕ) → count_from (λ p. not (test p)) first n + count_from test first n ≡ n
 unfolding count_from
 count_from-not test first zero = refl
-count_from-not test first (suc n) = omega (arith, bits (test first), count_from-not test (first + 1) n) where
-  bits : (b : Bool) → ◌≡◌ {A = ℕ} (cond (not b) 1 0 + cond b 1 0) 1
-  bits true = refl
-  bits false = refl
-
--- a page is sole or counted
-pub unowned-sole : (c : Content) (v first n : ℕ) → unowned c v first n + count_from (sole c v) first n ≡ n
-unfolding unowned
-unowned-sole = search (rules, count_from-not)
-
--- some page in a row is not sole where one is counted
-pub unowned-any : (c : Content) (v first n : ℕ) → 0 < unowned c v first n → list_any (λ p. not (sole c v p)) (range_with_len first n) ≡ true
-unfolding unowned
-unowned-any = grind (arith, count_from-any)
+count_from-not test first (suc n) = grind (arith, count_from-not test (first + 1) n)
 
 -- ---- ranges of bytes
 
@@ -98,11 +71,11 @@ slice_range-min = grind (arith, cases_lt, take_all, length-drop)
 
 -- a row of numbers in two parts
 pub range_with_len-append : (a n m : ℕ) → range_with_len a (n + m) ≡ range_with_len a n ++ range_with_len (a + n) m
-range_with_len-append a zero m = let e : zero + m ≡ m = omega arith in let f : a ≡ a + zero = omega arith in ap (range_with_len a) e ∙ ap (λ (b : ℕ). range_with_len b m) f
+range_with_len-append a zero m = grind arith
 range_with_len-append a (suc n) m =
     let e : suc n + m ≡ suc (n + m) = omega arith in
-    let f : (a + 1) + n ≡ a + suc n = omega arith in
-    ap (range_with_len a) e ∙ ap (λ (xs : List ℕ). a ∷ xs) (range_with_len-append (a + 1) n m ∙ ap (λ (b : ℕ). range_with_len (a + 1) n ++ range_with_len b m) f)
+    let f : a + suc n ≡ (a + 1) + n = omega arith in
+    rw (e, f) (ap (λ (xs : List ℕ). a ∷ xs) (range_with_len-append (a + 1) n m))
 
 -- two ranges, one behind the other
 pub bytes_in-append : (c : Content) (v offset n m : ℕ) → bytes_in c v offset (n + m) ≡ bytes_in c v offset n ++ bytes_in c v (offset + n) m
@@ -114,21 +87,11 @@ pub bytes_in-page : (c : Content) (v offset n : ℕ) → length (shown c v (offs
 unfolding bytes_in
 bytes_in-page = grind (arith, same_number_lists, length-map-range_with_len, length-take, length-drop, get_or-map-range_with_len, get_or-take, get_or-drop)
 
--- the pages of a range that are not sole, none where the range has no byte
-pub need-touched : (c : Content) (v offset len : ℕ) → 0 < len → need c v (touched offset len) ≡ unowned c v (offset / PAGE) (touched_end offset len - offset / PAGE)
-need-touched = grind (arith, touched-row, need-row)
-
-pub need-touched_nil : (c : Content) (v offset : ℕ) → need c v (touched offset 0) ≡ 0
-unfolding need_from
-need-touched_nil = grind (arith, touched-nil)
-
 -- some touched page is not sole where the need is not 0
 pub need_any : (c : Content) (v offset len : ℕ) → 0 < need c v (touched offset len) → list_any (λ p. not (sole c v p)) (touched offset len) ≡ true
-need_any c v offset zero h = absurd (omega (arith, need-touched_nil c v offset))
-need_any c v offset (suc len) h =
-    let some : 0 < suc len = omega arith in
-    ap (list_any (λ p. not (sole c v p))) (touched-row offset (suc len) some)
-    ∙ unowned-any c v (offset / PAGE) (touched_end offset (suc len) - offset / PAGE) (omega (arith, h, need-touched c v offset (suc len) some))
+unfolding unowned need_from
+need_any c v offset zero h = grind (arith, touched-nil)
+need_any c v offset (suc len) h = grind (arith, touched-row offset (suc len), need-row, count_from-any)
 
 -- what was read so far, and more of the page where it stands
 pub bytes_in-more : (c : Content) (v offset done n : ℕ) → IsGood c → (offset + done) % PAGE + n ≤ PAGE

@@ -6,9 +6,9 @@ use Rattle.std.specs.List.{range_with_len}
 use Rattle.vm_model.specs.Contents.Content.{Content, sole}
 use Rattle.vm_model.specs.Contents.Owning.{need}
 use Rattle.vm_model.proofs.ContentLaws.{IsOfHeld, sole-zero}
-use Rattle.vm_model.proofs.OwningLaws.{count_from, need-row}
+use Rattle.vm_model.proofs.OwningLaws.{count_from, unowned, need-row}
 use Rattle.page_store.proofs.NameLaws.{pages_of_le}
-use Rattle.vmo_ops.proofs.ModelLaws.{need_any, unowned-sole}
+use Rattle.vmo_ops.proofs.ModelLaws.{need_any, count_from-not}
 
 -- no zero page is sole
 pub IsOfHeld-sole : (c : Content) (v : ℕ) → IsOfHeld c v (sole c v)
@@ -17,7 +17,9 @@ IsOfHeld-sole = grind (arith, sole-zero)
 -- the pages in a row that are not sole, by those that are
 pub need-sole : (c : Content) (v first end n : ℕ) → n ≡ count_from (sole c v) first (end - first)
     → (end - first) - n ≡ need c v (range_with_len first (end - first))
-need-sole = grind (arith, unowned-sole, need-row)
+unfolding unowned
+need-sole c v first end n counted =
+    omega (arith, counted, count_from-not (sole c v) first (end - first), need-row c v first (end - first))
 
 -- the pages that a range touches
 pub ruleset touched_laws = (touched-row, touched-nil, touched_end-is)
