@@ -5,7 +5,7 @@ ghost use Rattle.vm_model.specs.Language.Spelling.{Has32};
 ghost use Rattle.vm_model.specs.Language.Text.{data_text, perm_text};
 
 use bitflags::Flags;
-use itoa::Buffer;
+use itoa::write_digits;
 use vm_base::Perm;
 
 /// Writes bytes.
@@ -35,8 +35,17 @@ pub fn put_decimal(number: u64, out: &mut [u8], at: usize) -> usize
     ensures written { take result out.new ≡ take at out.old ++ decimal number }
     ensures end { result ≤ at + 20 }
 {
-    let mut digits = Buffer::new();
-    put(digits.format(number).as_bytes(), out, at)
+    let end = at + digit_count(number);
+    write_digits(number, out, end);
+    end
+}
+
+/// How many decimal digits a number has.
+fn digit_count(number: u64) -> usize
+    ensures count { result ≡ length (decimal number) }
+    ensures short { result ≤ 20 }
+{
+    number.max(1).ilog10() as usize + 1
 }
 
 /// Writes a number in decimal digits behind a space.
