@@ -2,7 +2,7 @@
 use Rattle.std.proofs.Common.{◌≡◌, ℕ, suc, ◌<◌, ◌≤◌, Bool, true, false, not, List, [], ◌∷◌, length, take, drop}
 use Rattle.std.proofs.Common.{get_or, refl, sym, ◌∙◌, ap, arith, drop-cons, length-drop, position, unwrap_or}
 use Rattle.std.proofs.Common.{one-add}
-use Rattle.std.specs.Prelude.{Option, Some, None}
+use Rattle.std.specs.Prelude.{Option, Some, None, if◌then◌else◌}
 use Rattle.std.specs.List.{position_or_len}
 use Rattle.std.proofs.lemmas.Bool.Decides.{nat_tests}
 use Rattle.std.proofs.lemmas.List.Quantifiers.{position-Some}
@@ -10,7 +10,9 @@ use Rattle.std.proofs.lemmas.List.{drop_all}
 use Rattle.std.proofs.lemmas.Bool.{false_from_ne_true}
 use Rattle.std.proofs.lemmas.List.Sums.{position_or_len_is}
 use Rattle.memchr.specs.Find.{IsFirstByte, is_byte3}
-use Rattle.vm_model.specs.Language.Reading.{words, is_blank, begins_blank, before_first}
+use Rattle.vm_model.specs.Language.Reading.{words, is_blank, begins_blank, before_first, is_comment, reading_of_words}
+use Rattle.vm_model.specs.Language.Reading.{order_or_outside, Blank}
+use Rattle.script_text.specs.Lines.{order_in}
 
 -- a byte of a word
 abbrev pub is_solid : ℕ → Bool
@@ -85,6 +87,17 @@ words-start xs i e =
     let at = position-Some is_solid xs i 0 e in
     let same : i ≡ position_or_len is_solid xs = grind (arith, nat_tests) in
     (rw same (sym (words-drop_blanks xs)), at.0, solid_blank (get_or xs i 0) at.1)
+
+-- what a line says, by the line from its first word on
+pub reading-behind_blanks : (xs : List ℕ) (i : ℕ) → position is_solid xs ≡ Some i → reading_of_words (words xs)
+    ≡ (if is_comment (drop i xs) then Blank else order_or_outside (order_in (words (drop i xs))))
+reading-behind_blanks xs i e =
+    let start = words-start xs i e in
+    let b = get_or xs i 0 in
+    let bs = drop (suc i) xs in
+    let head : drop i xs ≡ b ∷ bs = drop-cons xs i 0 start.1 in
+    let first = words-first b bs start.2 in
+    rw (start.0, head, first, len-solid b bs start.2) refl
 
 -- the answer of a search for a blank, as a length
 pub len_by_search : (xs : List ℕ) (r : Option ℕ) → IsFirstByte (is_byte3 32 9 13) xs r

@@ -1,6 +1,7 @@
 -- What the answers of `read_line` and `read_call` say.
-use Rattle.std.specs.Prelude.{Option, None, Some, Result, Ok, Err}
-use Rattle.vm_model.specs.Language.Reading.{Reading, Blank, Order, Outside}
+use Rattle.std.specs.Prelude.{ℕ, List, [], ◌∷◌, Option, None, Some, Result, Ok, Err}
+use Rattle.vm_model.specs.Language.Reading.{Reading, Blank, Order, Outside, command}
+use Rattle.vm_model.specs.declared.command.Command.{Command}
 use Rattle.vm_model.specs.Machine.Lent.{command_of}
 use Rattle.vm_model.specs.declared.call.Call.{Call}
 use Rattle.script_text.specs.declared.reading.Line.{Line}
@@ -18,3 +19,8 @@ abbrev pub reading_of_call : Result (Option Call) SyntaxFault → Reading
 reading_of_call (Ok None) = Blank
 reading_of_call (Ok (Some call)) = Order (command_of call)
 reading_of_call (Err fault) = Outside
+
+-- the command of a line with these words
+abbrev pub order_in : List (List ℕ) → Option Command
+order_in [] = None
+order_in (word ∷ arguments) = command word arguments

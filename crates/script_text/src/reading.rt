@@ -1,18 +1,18 @@
 //! What one line of a script says.
 
-ghost use Rattle.std.specs.Prelude.{◌≡◌, ◌≤◌, length, option_map};
-ghost use Rattle.vm_model.specs.Language.Reading.{command, is_comment, reading, words};
+ghost use Rattle.std.specs.Prelude.{◌≡◌, ◌≤◌, [], length, option_map, if◌then◌else◌, MatchOption};
+ghost use Rattle.vm_model.specs.Language.Reading.{is_comment, order_or_outside, reading, reading_of_words, words, Blank};
 ghost use Rattle.vm_model.specs.Machine.Lent.{command_of};
-ghost use Rattle.script_text.specs.Lines.{reading_of, reading_of_call};
+ghost use Rattle.script_text.specs.Lines.{order_in, reading_of, reading_of_call};
 
 use crate::command_words::call;
-use crate::words::next_word;
+use crate::words::{next_word, word_start};
 use arrayvec::ArrayVec;
 use vm_base::{DATA_BYTES, LINE_BYTES};
 use vm_model::{Call, Command};
 
-/// The most arguments that a command has.
-const MOST_ARGUMENTS: usize = 10;
+/// The most words that a command has, its own and ten arguments.
+const MOST_WORDS: usize = 11;
 
 /// The line is outside the grammar.
 #[derive(Clone, Copy, Debug, PartialEq, Eq)]
@@ -49,40 +49,52 @@ pub fn read_call<'a>(line: &[u8], room: &'a mut [u8]) -> Result<Option<Call<'a>>
     if line.len() > LINE_BYTES {
         return Err(SyntaxFault);
     }
-    let Some((word, rest)) = next_word(line) else {
+    let Some(line) = behind_blanks(line) else {
         return Ok(None);
     };
-    if is_comment(word) {
+    if is_comment(line) {
         return Ok(None);
     }
-    match order(word, rest, room) {
+    match order(line, room) {
         Some(call) => Ok(Some(call)),
         None => Err(SyntaxFault),
     }
 }
 
-/// Whether a line with this first word is a comment.
-fn is_comment(word: &[u8]) -> bool
-    ensures { result ≡ is_comment word.now }
+/// The line from its first word on, or `None` where it has no word.
+fn behind_blanks(line: &[u8]) -> Option<&[u8]>
+    ensures { MatchOption result (words line.now ≡ []) (λ behind. reading_of_words (words line.now)
+        ≡ (if is_comment behind.now then Blank else order_or_outside (order_in (words behind.now)))) }
 {
-    matches!(word, [b'#', ..])
+    let (_, behind) = line.split_at(word_start(line)?);
+    Some(behind)
 }
 
-/// The command of this word and the arguments in the rest of its line, or `None` where there is
-/// none.
-#[tactic(auto, using(crate::proofs::Many::command_of_many))]
-fn order<'a>(word: &[u8], rest: &[u8], room: &'a mut [u8]) -> Option<Call<'a>>
-    requires { DATA_BYTES ≤ length room.old }
-    ensures { option_map command_of result ≡ command word.now (words rest.now) }
+/// Whether a line that begins with a word is a comment.
+fn is_comment(line: &[u8]) -> bool
+    ensures { result ≡ is_comment line.now }
 {
-    let mut arguments: ArrayVec<&[u8], MOST_ARGUMENTS> = ArrayVec::new();
-    let mut rest = rest;
-    while let Some((argument, behind)) = next_word(rest) {
-        if arguments.is_full() {
+    matches!(line, [b'#', ..])
+}
+
+/// The command of a line, or `None` where it has none. The line is cut into its words once, whatever its
+/// command is.
+#[tactic(auto, using(crate::proofs::Many::order_of_many))]
+fn order<'a>(line: &[u8], room: &'a mut [u8]) -> Option<Call<'a>>
+    requires { DATA_BYTES ≤ length room.old }
+    ensures { option_map command_of result ≡ order_in (words line.now) }
+{
+    let mut found: ArrayVec<&[u8], MOST_WORDS> = ArrayVec::new();
+    let mut rest = line;
+    while let Some((word, behind)) = next_word(rest) {
+        if found.is_full() {
             return None;
         }
-        arguments.push(argument);
+        found.push(word);
         rest = behind;
     }
-    call(word, arguments.as_slice(), room)
+    match found.as_slice() {
+        [word, arguments @ ..] => call(word, arguments, room),
+        [] => None,
+    }
 }

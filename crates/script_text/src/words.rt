@@ -16,7 +16,7 @@ fn is_blank(byte: u8) -> bool
 }
 
 /// Where the first word of a line begins.
-fn word_start(line: &[u8]) -> Option<usize>
+pub fn word_start(line: &[u8]) -> Option<usize>
     ensures { result ≡ position (λ byte. not (is_blank byte)) line.now }
 {
     line.iter().position(|byte| !is_blank(*byte))

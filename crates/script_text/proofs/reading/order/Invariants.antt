@@ -2,8 +2,8 @@ use Rattle.std.proofs.Common.{◌≡◌, ◌++◌, length, map}
 use Rattle.vm_model.specs.Language.Reading.{words}
 use Rattle.script_text.proofs.reading.order.Given as goal
 
-abbrev pub invariant-loop-argument : goal.invariant-loop-argument
-invariant-loop-argument l = map (λ w. w.now) l.arguments.items ++ words l.rest ≡ words l.fn.rest
+abbrev pub invariant-loop-word : goal.invariant-loop-word
+invariant-loop-word l = map (λ w. w.now) l.found.items ++ words l.rest ≡ words l.fn.line
 
-abbrev pub decreases-loop-argument : goal.decreases-loop-argument
-decreases-loop-argument l = length l.rest
+abbrev pub decreases-loop-word : goal.decreases-loop-word
+decreases-loop-word l = length l.rest
