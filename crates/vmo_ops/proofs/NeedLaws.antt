@@ -1,7 +1,7 @@
 -- What owning the pages of a range takes.
 use Rattle.std.proofs.lemmas.List.FromFn.{length-range_with_len}
 use Rattle.vm_model.proofs.RangeLaws.{touched-row, touched-nil, touched_end-is}
-use Rattle.std.proofs.Common.{◌≡◌, ℕ, ◌-◌, arith}
+use Rattle.std.proofs.Common.{◌≡◌, ℕ, ◌-◌, cond, arith}
 use Rattle.std.specs.List.{range_with_len}
 use Rattle.vm_model.specs.Contents.Content.{Content, sole}
 use Rattle.vm_model.specs.Contents.Owning.{need}
@@ -20,6 +20,12 @@ pub need-sole : (c : Content) (v first end n : ℕ) → n ≡ count_from (sole c
 unfolding unowned
 need-sole c v first end n counted =
     omega (arith, counted, count_from-not (sole c v) first (end - first), need-row c v first (end - first))
+
+-- the same of one page
+pub need-one : (c : Content) (v first end : ℕ) → end - first ≡ 1
+    → need c v (range_with_len first (end - first)) ≡ cond (sole c v first) 0 1
+unfolding count_from unowned
+need-one = grind (arith, need-row)
 
 -- the pages that a range touches
 pub ruleset touched_laws = (touched-row, touched-nil, touched_end-is)

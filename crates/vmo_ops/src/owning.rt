@@ -9,9 +9,24 @@ use crate::held_pages::next_held_below;
 use page_store::{Look, PageStore};
 use vm_base::{HostMemory, Koid, PageNo};
 
-/// How many frames owning the pages from `first` to below `end` takes: as many as are not sole. It looks
-/// at the held pages alone.
+/// How many frames owning the pages from `first` to below `end` takes: as many as are not sole. Most ranges lie in
+/// one page, which is looked at once.
 pub(crate) fn need_of<P: PageStore>(store: &P, v: Koid, first: PageNo, end: PageNo) -> u64
+    requires good { IsGood (P.content store.now) }
+    requires vmo { IsSome ((P.content store.now).count v.0) }
+    requires order { first ≤ end }
+    requires pages { end ≤ pages_of (P.content store.now) v.0 }
+    ensures { result ≡ need (P.content store.now) v.0 (range_with_len first (end - first)) }
+{
+    if end - first == 1 {
+        if is_sole(store, v, first) { 0 } else { 1 }
+    } else {
+        need_of_pages(store, v, first, end)
+    }
+}
+
+// The same, page by page. It looks at the held pages alone.
+fn need_of_pages<P: PageStore>(store: &P, v: Koid, first: PageNo, end: PageNo) -> u64
     requires good { IsGood (P.content store.now) }
     requires vmo { IsSome ((P.content store.now).count v.0) }
     requires order { first ≤ end }

@@ -51,8 +51,23 @@ pub fn read_into<'a, P: PageStore>(
         return Err(Refusal::OutOfRange);
     };
     let out = &mut room[..len as usize];
-    read_pages(store, t.koid, at, out);
+    read_range(store, t.koid, at, out);
     Ok(LentBytes::new(out))
+}
+
+// Reads the bytes of a range inside the VMO. Most ranges lie in one page.
+#[tactic(auto, using(page_store::proofs::NameLaws::pages_of_le))]
+fn read_range<P: PageStore>(store: &P, v: Koid, offset: u64, out: &mut [u8])
+    requires good { IsGood (P.content store.now) }
+    requires inside { offset + length out.old ≤ pages_of (P.content store.now) v.0 * PAGE }
+    ensures { out.new ≡ bytes_in (P.content store.now) v.0 offset (length out.old) }
+{
+    let (first, end) = touched_pages(offset, out.len() as u64);
+    if end - first == 1 {
+        read_page(store, v, first, offset % PAGE, out);
+    } else {
+        read_pages(store, v, offset, out);
+    }
 }
 
 // Reads the bytes of a range inside the VMO, page by page.

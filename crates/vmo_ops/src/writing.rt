@@ -35,8 +35,27 @@ pub fn write<P: PageStore>(
         Ok(at) => at,
         Err(refusal) => return Err(refusal),
     };
-    write_pages(store, t.koid, at, bytes);
+    write_range(store, t.koid, at, bytes);
     Ok(())
+}
+
+// Writes bytes inside the VMO, where the room for it is there. Most ranges lie in one page.
+#[tactic(auto, using(page_store::proofs::NameLaws::pages_of_le))]
+fn write_range<P: PageStore>(store: &mut P, v: Koid, offset: u64, bytes: &[u8])
+    requires good { IsGood (P.content store.old) }
+    requires inside { offset + length bytes.now ≤ pages_of (P.content store.old) v.0 * PAGE }
+    requires room { HasRows (P.content store.old) v.0 (touched offset (length bytes.now)) (P.spare store.old) }
+    requires free { used (P.content store.old)
+        + need (P.content store.old) v.0 (touched offset (length bytes.now))
+        ≤ (P.content store.old).frames }
+    ensures { Writes (P.content store.old) (pieces v.0 offset bytes.now) (P.content store.new) }
+{
+    let (first, end) = touched_pages(offset, bytes.len() as u64);
+    if end - first == 1 {
+        write_part(store, v, first, offset % PAGE, bytes);
+    } else {
+        write_pages(store, v, offset, bytes);
+    }
 }
 
 // Writes bytes inside the VMO, page by page, where the room for it is there.

@@ -1,7 +1,7 @@
 use Rattle.std.proofs.Common.{◌-◌}
 use Rattle.vm_model.specs.Contents.Content.{sole}
 use Rattle.vmo_ops.proofs.CountLaws.{AreCounted}
-use Rattle.vmo_ops.proofs.owning.need_of.Given as goal
+use Rattle.vmo_ops.proofs.owning.need_of_pages.Given as goal
 
 abbrev pub invariant-loop-page : goal.invariant-loop-page
 invariant-loop-page g l =
