@@ -1,18 +1,18 @@
 -- Cutting the first word off a line.
-use Rattle.std.proofs.Common.{◌≡◌, ℕ, suc, ◌<◌, ◌≤◌, Bool, true, false, not, List, [], ◌∷◌, length, take, drop}
-use Rattle.std.proofs.Common.{get_or, refl, sym, ◌∙◌, ap, arith, drop-cons, length-drop, position, unwrap_or}
+use Rattle.std.proofs.Common.{◌≡◌, ◌≢◌, ◌-◌, ℕ, suc, ◌<◌, ◌≤◌, Bool, true, false, not, List, [], ◌∷◌, length, take, drop}
+use Rattle.std.proofs.Common.{get_or, refl, sym, ◌∙◌, ap, arith, length-drop, position, unwrap_or}
 use Rattle.std.proofs.Common.{one-add}
-use Rattle.std.specs.Prelude.{Option, Some, None, if◌then◌else◌}
+use Rattle.std.specs.Prelude.{Option, Some, None, IfSome, slice_get, ◌==◌, if◌then◌else◌}
 use Rattle.std.specs.List.{position_or_len}
 use Rattle.std.proofs.lemmas.Bool.Decides.{nat_tests}
 use Rattle.std.proofs.lemmas.List.Quantifiers.{position-Some}
-use Rattle.std.proofs.lemmas.List.{drop_all}
-use Rattle.std.proofs.lemmas.Bool.{false_from_ne_true}
+use Rattle.std.proofs.lemmas.List.{drop_all, take_all}
+use Rattle.std.proofs.lemmas.Bool.{eqb-true, false_from_ne_true}
 use Rattle.std.proofs.lemmas.List.Sums.{position_or_len_is}
 use Rattle.memchr.specs.Find.{IsFirstByte, is_byte3}
-use Rattle.vm_model.specs.Language.Reading.{words, is_blank, begins_blank, before_first, is_comment, reading_of_words}
+use Rattle.vm_model.specs.Language.Reading.{words, is_blank, begins_blank, before_first, reading_of_words}
 use Rattle.vm_model.specs.Language.Reading.{order_or_outside, Blank}
-use Rattle.script_text.specs.Lines.{order_in}
+use Rattle.script_text.specs.Lines.{is_silent, order_in}
 
 -- a byte of a word
 abbrev pub is_solid : ℕ → Bool
@@ -24,6 +24,18 @@ solid_blank b e = elim (is_blank b) as (λ v. not v ≡ true → v ≡ false) [ 
 pub words-blank : (b : ℕ) (bs : List ℕ) → is_blank b ≡ true → words (b ∷ bs) ≡ words bs
 unfolding words
 words-blank b bs e = rw e
+
+-- a line with no byte has no word
+pub words-empty : (xs ys : List ℕ) → words ys ≡ words xs → (length ys == 0) ≡ true → words xs ≡ []
+unfolding words
+words-empty xs [] same none = sym same
+words-empty xs (b ∷ bs) same none = absurd (omega (arith, eqb-true (length (b ∷ bs)) 0 none))
+
+-- behind a blank, as a slice
+pub words-behind : (xs : List ℕ) → 1 ≤ length xs → is_blank (get_or xs 0 0) ≡ true
+    → words (take (length xs - 1) (drop 1 xs)) ≡ words xs
+words-behind [] some e = absurd (omega arith)
+words-behind (b ∷ bs) some e = ap words (take_all (length (b ∷ bs) - 1) bs (omega arith)) ∙ sym (words-blank b bs e)
 
 pub words-alone : (b : ℕ) (bs : List ℕ) → is_blank b ≡ false → begins_blank bs ≡ true
     → words (b ∷ bs) ≡ (b ∷ []) ∷ words bs
@@ -89,15 +101,11 @@ words-start xs i e =
     (rw same (sym (words-drop_blanks xs)), at.0, solid_blank (get_or xs i 0) at.1)
 
 -- what a line says, by the line from its first word on
-pub reading-behind_blanks : (xs : List ℕ) (i : ℕ) → position is_solid xs ≡ Some i → reading_of_words (words xs)
-    ≡ (if is_comment (drop i xs) then Blank else order_or_outside (order_in (words (drop i xs))))
-reading-behind_blanks xs i e =
-    let start = words-start xs i e in
-    let b = get_or xs i 0 in
-    let bs = drop (suc i) xs in
-    let head : drop i xs ≡ b ∷ bs = drop-cons xs i 0 start.1 in
-    let first = words-first b bs start.2 in
-    rw (start.0, head, first, len-solid b bs start.2) refl
+pub reading-begun : (xs ys : List ℕ) → words ys ≡ words xs → IfSome (slice_get ys 0) (λ b. is_blank b ≡ false)
+    → reading_of_words (words xs) ≡ (if is_silent ys then Blank else order_or_outside (order_in (words ys)))
+unfolding words
+reading-begun xs [] same begun = rw (← same) refl
+reading-begun xs (b ∷ bs) same begun = rw (← same, words-first b bs begun, len-solid b bs begun) refl
 
 -- the answer of a search for a blank, as a length
 pub len_by_search : (xs : List ℕ) (r : Option ℕ) → IsFirstByte (is_byte3 32 9 13) xs r
@@ -114,17 +122,11 @@ pub record IsCut (xs word behind : List ℕ) : Type 0 where
   pub words : words xs ≡ word ∷ words behind
   pub shorter : length behind < length xs
 
-pub IsCut-by_positions : (xs : List ℕ) (i : ℕ) (ys : List ℕ) (n : ℕ) → position is_solid xs ≡ Some i → ys ≡ drop i xs
-    → n ≡ position_or_len is_blank ys → IsCut xs (take n ys) (drop n ys)
-IsCut-by_positions xs i ys n e f g =
-    let start = words-start xs i e in
-    let b = get_or xs i 0 in
-    let bs = drop (suc i) xs in
-    let head : ys ≡ b ∷ bs = f ∙ drop-cons xs i 0 start.1 in
-    let len : n ≡ position_or_len is_blank (b ∷ bs) = g ∙ ap (position_or_len is_blank) head in
-    let first = words-first b bs start.2 in
-    let some : 1 ≤ n = rw (len, len-solid b bs start.2) (omega arith) in
-    record {
-      words = start.0 ∙ ap words (sym f) ∙ rw (head, len) first;
-      shorter = rw (length-drop, f) (simp length-drop (omega (arith, start.1)));
-    }
+pub IsCut-begun : (xs ys : List ℕ) (n : ℕ) → words ys ≡ words xs → length ys ≤ length xs → length ys ≢ 0
+    → IfSome (slice_get ys 0) (λ b. is_blank b ≡ false) → n ≡ position_or_len is_blank ys
+    → IsCut xs (take n ys) (drop n ys)
+IsCut-begun xs [] n same few some begun len = absurd (some refl)
+IsCut-begun xs (b ∷ bs) n same few some begun len = record {
+  words = sym same ∙ rw len (words-first b bs begun);
+  shorter = rw length-drop (omega (arith, len, len-solid b bs begun));
+}

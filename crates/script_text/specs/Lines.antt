@@ -1,5 +1,5 @@
 -- What the answers of `read_line` and `read_call` say.
-use Rattle.std.specs.Prelude.{ℕ, List, [], ◌∷◌, Option, None, Some, Result, Ok, Err}
+use Rattle.std.specs.Prelude.{ℕ, ◌==◌, Bool, true, List, [], ◌∷◌, Option, None, Some, Result, Ok, Err}
 use Rattle.vm_model.specs.Language.Reading.{Reading, Blank, Order, Outside, command}
 use Rattle.vm_model.specs.declared.command.Command.{Command}
 use Rattle.vm_model.specs.Machine.Lent.{command_of}
@@ -24,3 +24,8 @@ reading_of_call (Err fault) = Outside
 abbrev pub order_in : List (List ℕ) → Option Command
 order_in [] = None
 order_in (word ∷ arguments) = command word arguments
+
+-- a line that begins with no blank says nothing
+abbrev pub is_silent : List ℕ → Bool
+is_silent [] = true
+is_silent (b ∷ bs) = b == 35

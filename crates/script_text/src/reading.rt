@@ -1,12 +1,12 @@
 //! What one line of a script says.
 
-ghost use Rattle.std.specs.Prelude.{◌≡◌, ◌≤◌, [], length, option_map, if◌then◌else◌, MatchOption};
-ghost use Rattle.vm_model.specs.Language.Reading.{is_comment, order_or_outside, reading, reading_of_words, words, Blank};
+ghost use Rattle.std.specs.Prelude.{◌≡◌, ◌≤◌, length, option_map, if◌then◌else◌};
+ghost use Rattle.vm_model.specs.Language.Reading.{order_or_outside, reading, reading_of_words, words, Blank};
 ghost use Rattle.vm_model.specs.Machine.Lent.{command_of};
-ghost use Rattle.script_text.specs.Lines.{order_in, reading_of, reading_of_call};
+ghost use Rattle.script_text.specs.Lines.{is_silent, order_in, reading_of, reading_of_call};
 
 use crate::command_words::call;
-use crate::words::{next_word, word_start};
+use crate::words::{behind_blanks, next_word};
 use arrayvec::ArrayVec;
 use vm_base::{DATA_BYTES, LINE_BYTES};
 use vm_model::{Call, Command};
@@ -49,10 +49,8 @@ pub fn read_call<'a>(line: &[u8], room: &'a mut [u8]) -> Result<Option<Call<'a>>
     if line.len() > LINE_BYTES {
         return Err(SyntaxFault);
     }
-    let Some(line) = behind_blanks(line) else {
-        return Ok(None);
-    };
-    if is_comment(line) {
+    let line = from_first_word(line);
+    if is_silent(line) {
         return Ok(None);
     }
     match order(line, room) {
@@ -61,20 +59,19 @@ pub fn read_call<'a>(line: &[u8], room: &'a mut [u8]) -> Result<Option<Call<'a>>
     }
 }
 
-/// The line from its first word on, or `None` where it has no word.
-fn behind_blanks(line: &[u8]) -> Option<&[u8]>
-    ensures { MatchOption result (words line.now ≡ []) (λ behind. reading_of_words (words line.now)
-        ≡ (if is_comment behind.now then Blank else order_or_outside (order_in (words behind.now)))) }
+/// A line from its first word on, which says the same.
+fn from_first_word(line: &[u8]) -> &[u8]
+    ensures { reading_of_words (words line.now)
+        ≡ (if is_silent result.now then Blank else order_or_outside (order_in (words result.now))) }
 {
-    let (_, behind) = line.split_at(word_start(line)?);
-    Some(behind)
+    behind_blanks(line)
 }
 
-/// Whether a line that begins with a word is a comment.
-fn is_comment(line: &[u8]) -> bool
-    ensures { result ≡ is_comment line.now }
+/// Whether a line that begins with no blank says nothing: it has no byte, or it is a comment.
+fn is_silent(line: &[u8]) -> bool
+    ensures { result ≡ is_silent line.now }
 {
-    matches!(line, [b'#', ..])
+    matches!(line, [] | [b'#', ..])
 }
 
 /// The command of a line, or `None` where it has none. The line is cut into its words once, whatever its

@@ -1,6 +1,6 @@
 //! The words of a line: the longest runs of bytes that are not blank.
 
-ghost use Rattle.std.specs.Prelude.{◌≡◌, ◌<◌, ◌≤◌, ◌↔◌, [], ◌∷◌, length, take, drop, not, position};
+ghost use Rattle.std.specs.Prelude.{◌≡◌, ◌<◌, ◌≤◌, ◌↔◌, false, [], ◌∷◌, length, take, drop, not, position};
 ghost use Rattle.std.specs.Prelude.{slice_get, slice_range, MatchOption, IfSome, IsNone};
 ghost use Rattle.std.specs.List.{position_or_len};
 ghost use Rattle.vm_model.specs.Language.Reading.{words, is_blank};
@@ -16,7 +16,7 @@ fn is_blank(byte: u8) -> bool
 }
 
 /// Where the first word of a line begins.
-pub fn word_start(line: &[u8]) -> Option<usize>
+fn word_start(line: &[u8]) -> Option<usize>
     ensures { result ≡ position (λ byte. not (is_blank byte)) line.now }
 {
     line.iter().position(|byte| !is_blank(*byte))
@@ -31,12 +31,31 @@ fn word_len(line: &[u8]) -> usize
     memchr3(b' ', b'\t', b'\r', line).unwrap_or(line.len())
 }
 
+/// A line from its first word on, or no byte where it has no word.
+pub fn behind_blanks(line: &[u8]) -> &[u8]
+    ensures words { words result.now ≡ words line.now }
+    ensures begun { IfSome (slice_get result.now 0) (λ byte. is_blank byte ≡ false) }
+    ensures at_most { length result.now ≤ length line.now }
+{
+    let mut rest = line;
+    while let [byte, behind @ ..] = rest {
+        if !is_blank(*byte) {
+            return rest;
+        }
+        rest = behind;
+    }
+    rest
+}
+
 /// The first word of a line and what stands behind it, or `None` where the line has no word.
 pub fn next_word(line: &[u8]) -> Option<(&[u8], &[u8])>
     ensures words { MatchOption result (words line.now ≡ []) (λ r. words line.now ≡ r.0.now ∷ words r.1.now) }
     ensures shorter { IfSome result (λ r. length r.1.now < length line.now) }
 {
-    let (_, line) = line.split_at(word_start(line)?);
+    let line = behind_blanks(line);
+    if line.is_empty() {
+        return None;
+    }
     Some(line.split_at(word_len(line)))
 }
 
