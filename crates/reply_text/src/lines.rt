@@ -72,6 +72,7 @@ pub fn answer_line_count(answer: &Answer<'_>) -> u64
 }
 
 /// Writes line `index` of an answer, as `write_line` does that of a reply.
+#[inline(always)]
 pub fn write_answer_line(answer: &Answer<'_>, index: u64, out: &mut [u8]) -> usize
     requires index { index < length (reply_lines (reply_for answer.now)) }
     requires room { TEXT_ROOM ≤ length out.old }

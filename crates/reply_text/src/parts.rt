@@ -55,7 +55,8 @@ pub fn put_address(address: u64, out: &mut [u8], at: usize) -> usize
     put_hex(address, out, at)
 }
 
-/// Writes what a VMO holds.
+/// Writes what a VMO holds. It is not inlined, so that other replies pay nothing for it.
+#[inline(never)]
 pub fn put_info(info: &Info, out: &mut [u8], at: usize) -> usize
     requires { at + 200 ≤ length out.old }
     ensures written { take result out.new ≡ take at out.old ++ info_text info.now }
@@ -82,7 +83,8 @@ pub fn put_stat(stat: &Stat, out: &mut [u8], at: usize) -> usize
     put_field(b" vmos=", stat.vmos, out, at)
 }
 
-/// Writes the line of a run, with its line feed.
+/// Writes the line of a run, with its line feed. It is not inlined, so that other replies pay nothing for it.
+#[inline(never)]
 pub fn put_run(run: &Run, out: &mut [u8], at: usize) -> usize
     requires { at + 200 ≤ length out.old }
     ensures written { take result out.new ≡ take at out.old ++ run_line run.now }

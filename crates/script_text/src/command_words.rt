@@ -1,5 +1,5 @@
-//! From a command word to the reader of its arguments. The word is compared with those of its own
-//! length alone, and with those that scripts have most of all first.
+//! From a command word to the reader of its arguments. The word is compared with the two that most lines
+//! begin with, and then with those of its own length alone.
 
 ghost use Rattle.std.specs.Prelude.{◌≡◌, ◌≤◌, length, map, option_map};
 ghost use Rattle.vm_model.specs.Language.Reading.{by_word, command};
@@ -18,7 +18,24 @@ use vm_base::DATA_BYTES;
 use vm_model::Call;
 
 /// The command of this word and these arguments, or `None` where there is none. Byte data is lent from `room`.
+#[tactic(auto, unfolding(vm_model::specs::Language::Reading::command))]
 pub fn call<'a>(word: &[u8], arguments: &[&[u8]], room: &'a mut [u8]) -> Option<Call<'a>>
+    requires { DATA_BYTES ≤ length room.old }
+    ensures { option_map command_of result ≡ command word.now (map (λ a. a.now) arguments.now) }
+{
+    if word == b"vmo_read".as_slice() {
+        vmo_read(arguments)
+    } else if word == b"vmo_write".as_slice() {
+        vmo_write(arguments, room)
+    } else {
+        call_by_length(word, arguments, room)
+    }
+}
+
+/// The same, of any word. It is not inlined, since a function writes all of its locals, and a read or a write
+/// is not to pay for those of all commands.
+#[inline(never)]
+fn call_by_length<'a>(word: &[u8], arguments: &[&[u8]], room: &'a mut [u8]) -> Option<Call<'a>>
     requires { DATA_BYTES ≤ length room.old }
     ensures { option_map command_of result ≡ command word.now (map (λ a. a.now) arguments.now) }
 {
@@ -64,10 +81,10 @@ fn call_of_seven(word: &[u8], arguments: &[&[u8]]) -> Option<Call<'static>>
 fn call_of_eight(word: &[u8], arguments: &[&[u8]]) -> Option<Call<'static>>
     ensures { option_map command_of result ≡ by_word (rows_of 8) word.now (map (λ a. a.now) arguments.now) }
 {
-    if word == b"vmo_read".as_slice() {
-        vmo_read(arguments)
-    } else if word == b"vmo_size".as_slice() {
+    if word == b"vmo_size".as_slice() {
         vmo_size(arguments)
+    } else if word == b"vmo_read".as_slice() {
+        vmo_read(arguments)
     } else if word == b"vmo_fill".as_slice() {
         vmo_fill(arguments)
     } else if word == b"vmo_zero".as_slice() {
@@ -88,10 +105,10 @@ fn call_of_nine<'a>(word: &[u8], arguments: &[&[u8]], room: &'a mut [u8]) -> Opt
     requires { DATA_BYTES ≤ length room.old }
     ensures { option_map command_of result ≡ by_word (rows_of 9) word.now (map (λ a. a.now) arguments.now) }
 {
-    if word == b"vmo_write".as_slice() {
-        vmo_write(arguments, room)
-    } else if word == b"vmo_close".as_slice() {
+    if word == b"vmo_close".as_slice() {
         vmo_close(arguments)
+    } else if word == b"vmo_write".as_slice() {
+        vmo_write(arguments, room)
     } else if word == b"vmo_unpin".as_slice() {
         vmo_unpin(arguments)
     } else if word == b"mem_write".as_slice() {

@@ -24,6 +24,7 @@ fn one_vmo(arguments: &[&[u8]]) -> Option<VmoName>
 }
 
 /// The arguments of a command of a range of a VMO: its name, the offset and the length.
+#[inline(always)]
 fn vmo_range(arguments: &[&[u8]]) -> Option<(VmoName, u64, u64)>
     ensures { result ≡ vmo_range (map (λ a. a.now) arguments.now) }
 {
@@ -110,6 +111,7 @@ pub fn vmo_set_size(arguments: &[&[u8]]) -> Option<Call<'static>>
 }
 
 /// `vmo_read VMO OFFSET LEN`
+#[inline(always)]
 #[tactic(auto, using(crate::proofs::ShapeLaws::of_vmo_range_by_range))]
 pub fn vmo_read(arguments: &[&[u8]]) -> Option<Call<'static>>
     ensures { option_map command_of result ≡ of_vmo_range VmoRead (map (λ a. a.now) arguments.now) }

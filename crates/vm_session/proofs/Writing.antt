@@ -1,5 +1,5 @@
 -- What a sink took of the text of replies.
-use Rattle.std.proofs.Common.{◌≡◌, ℕ, zero, suc, ◌+◌, ◌≤◌, List, [], ◌∷◌, ◌++◌, length, take, Option, Some, Result, Ok, Err, refl, sym, ap, subst, ◌∙◌, append_assoc, append-nil, arith}
+use Rattle.std.proofs.Common.{◌≡◌, ℕ, zero, suc, ◌+◌, ◌<◌, ◌≤◌, List, [], ◌∷◌, ◌++◌, length, take, Option, Some, Result, Ok, Err, refl, sym, ap, subst, ◌∙◌, append_assoc, append-nil, arith}
 use Rattle.std.specs.Prelude.{slice_get, OnOk, OnErr}
 use Rattle.std.specs.List.{concat}
 use Rattle.std.specs.Io.KnownBytes.{Appends}
@@ -8,7 +8,8 @@ use Rattle.std.proofs.lemmas.List.{length-append, take_all}
 use Rattle.script_io.specs.Faults.{IsCutOff}
 use Rattle.vm_base.specs.declared.refusal.Refusal.TheVariants.{Syntax}
 use Rattle.vm_model.specs.declared.reply.Reply.{Reply}
-use Rattle.vm_model.specs.declared.reply.Reply.TheVariants.{Refused}
+use Rattle.vm_model.specs.declared.reply.Reply.TheVariants.{Done, Number, Bytes, Pins, Address, Access, Faults, Info}
+use Rattle.vm_model.specs.declared.reply.Reply.TheVariants.{Runs, Stat, Refused, Unbuilt}
 use Rattle.vm_model.specs.declared.command.Command.{Command}
 use Rattle.vm_model.specs.Machine.State.{State}
 use Rattle.vm_model.specs.Machine.Step.{Step}
@@ -29,6 +30,22 @@ concat_parts (y ∷ xs) (suc i) x e =
       ap (λ (m : ℕ). concat (take m (y ∷ xs))) more ∙ (ap (λ (z : List ℕ). y ++ z) found.0 ∙ sym (append_assoc y (concat (take i xs)) x)),
       (found.1.0, ap (λ (z : List ℕ). y ++ z) found.1.1 ∙ sym (append_assoc y (concat (take i xs)) (x ++ found.1.0))),
     )
+
+-- each reply has a line
+pub some_line : (reply : Reply) → 0 < length (reply_lines reply)
+unfolding reply_lines
+some_line Done = omega arith
+some_line (Number n) = omega arith
+some_line (Bytes b) = omega arith
+some_line (Pins n) = omega arith
+some_line (Address n) = omega arith
+some_line (Access f b) = omega arith
+some_line (Faults n) = omega arith
+some_line (Info i) = omega arith
+some_line (Runs r) = omega arith
+some_line (Stat s) = omega arith
+some_line (Refused r) = omega arith
+some_line Unbuilt = omega arith
 
 -- one line more was written
 pub line_written : (reply : Reply) (i : ℕ) (line : List ℕ) (before mid after : Option (List ℕ)) → slice_get (reply_lines reply) i ≡ Some line → Appends before mid (concat (take i (reply_lines reply))) → Appends mid after line → Appends before after (concat (take (i + 1) (reply_lines reply)))

@@ -23,7 +23,10 @@ pub(crate) fn push_answer<K: Sink>(
     ensures err { OnErr result (IsCutOff (K.contents sink.old) (K.contents sink.new) (text (reply_for answer.now))) }
     ensures cause { HasCause (K.faults sink.old) (K.faults sink.new) result }
 {
-    for index in 0..answer_line_count(answer) {
+    // Nearly all answers have one line.
+    let first = write_answer_line(answer, 0, buffer);
+    push_all(sink, &buffer[..first])?;
+    for index in 1..answer_line_count(answer) {
         let len = write_answer_line(answer, index, buffer);
         push_all(sink, &buffer[..len])?;
     }

@@ -11,6 +11,7 @@ use vm_base::{HostMemory, Koid, PageNo};
 
 /// How many frames owning the pages from `first` to below `end` takes: as many as are not sole. Most ranges lie in
 /// one page, which is looked at once.
+#[inline(always)]
 pub(crate) fn need_of<P: PageStore>(store: &P, v: Koid, first: PageNo, end: PageNo) -> u64
     requires good { IsGood (P.content store.now) }
     requires vmo { IsSome ((P.content store.now).count v.0) }

@@ -40,6 +40,7 @@ pub(crate) fn place_to_change<P: PageStore>(
 
 /// Makes a range of a name ready for owning its pages, and answers its place in the VMO in bytes. It is
 /// refused as a change is, for want of frames or of the host's memory too, and then nothing was changed.
+#[inline(always)]
 pub(crate) fn ready_to_own<P: PageStore>(
     store: &mut P,
     t: &Target,

@@ -7,7 +7,7 @@ use Rattle.vm_session.proofs.replies.push_answer.Given as goal
 
 abbrev pub invariant-loop-index : goal.invariant-loop-index
 invariant-loop-index g l = record {
-  written : Appends (g.K.Sink.contents l.initial.sink) (g.K.Sink.contents l.sink)
+  written : Appends (g.K.Sink.contents l.fn.sink) (g.K.Sink.contents l.sink)
       (concat (take l.index (reply_lines (reply_for l.answer))));
-  later : g.K.Sink.faults l.initial.sink ≤ g.K.Sink.faults l.sink;
+  later : g.K.Sink.faults l.fn.sink ≤ g.K.Sink.faults l.sink;
 }
