@@ -1,7 +1,8 @@
 //! How the arguments of the commands of address regions are written.
 
 ghost use Rattle.std.specs.Prelude.{◌≡◌, ◌+◌, ◌≤◌, [], ◌∷◌, ◌++◌, length, take, drop, codes, decimal};
-ghost use Rattle.vm_model.specs.Language.Spelling.{Has32, Has64, HasRanges, command_words, has, region_word, set_flags};
+ghost use Rattle.vm_model.specs.Language.Spelling.{Has32, Has64, HasRanges, command_words, region_word, set_flags};
+ghost use Rattle.vm_model.specs.Space.Rights.{has};
 ghost use Rattle.script_text.specs.Subjects.{subject_of, OfMappings, OfRegion};
 ghost use Rattle.script_text.specs.Spaced.{spaced};
 

@@ -1,8 +1,8 @@
 -- Laws of searching and counting below a bound.
-use Rattle.std.proofs.Common.{◌≡◌, ◌≢◌, ℕ, zero, suc, ◌+◌, ◌<◌, ◌≤◌, Bool, true, false, cond, ◌||◌, ◌⊎◌, refl, sym, ap, ◌∙◌, inl, inr, arith, ◌==◌}
+use Rattle.std.proofs.Common.{◌≡◌, ◌≢◌, ℕ, zero, suc, ◌+◌, ◌*◌, ◌<◌, ◌≤◌, Bool, true, false, cond, ◌||◌, ◌⊎◌, refl, sym, ap, ◌∙◌, inl, inr, arith, ◌==◌}
 use Rattle.std.specs.Prelude.{nat_lt}
-use Rattle.std.proofs.lemmas.Bool.{cases_order, cases_eq, cases_Bool, or_cases, or_from, or_left, or_right, lt-ltb, false_from_ne_true}
-use Rattle.vm_base.specs.Search.{any_below, count_below}
+use Rattle.std.proofs.lemmas.Bool.{cases_order, cases_eq, cases_lt, cases_Bool, or_cases, or_from, or_left, or_right, lt-ltb, false_from_ne_true}
+use Rattle.vm_base.specs.Search.{any_below, count_below, sum_below}
 use Rattle.std.proofs.lemmas.Bool.Decides.{Decides-eqb}
 
 -- ---- equal numbers as tests
@@ -182,3 +182,30 @@ count_below_less (suc n) p q each =
       | inl hit ↦ omega (arith, rest, bit-true (q n) (each n (omega arith) hit), bit_le (p n))
       | inr miss ↦ omega (arith, rest, bit-false (p n) miss)
     ]
+
+-- ---- adding up
+
+-- where f gives 0 for each, the sum is 0
+pub sum_below_none : (n : ℕ) (f : ℕ → ℕ) → ((k : ℕ) → k < n → f k ≡ 0) → sum_below n f ≡ 0
+unfolding sum_below
+sum_below_none zero f each = refl
+sum_below_none (suc n) f each = omega (arith, each n (omega arith), sum_below_none n f (λ k h. each k (omega arith)))
+
+-- where f gives at most m for each, the sum is at most n times m
+pub sum_below_le : (n m : ℕ) (f : ℕ → ℕ) → ((k : ℕ) → f k ≤ m) → sum_below n f ≤ n * m
+unfolding sum_below
+sum_below_le zero m f each = omega arith
+sum_below_le (suc n) m f each = omega (arith, each n, sum_below_le n m f each)
+
+-- some number passes where the sum is more than 0, if those pass for which f gives more than 0
+pub any_below-sum : (n : ℕ) (p : ℕ → Bool) (f : ℕ → ℕ) → ((k : ℕ) → p k ≡ nat_lt 0 (f k)) → any_below n p ≡ nat_lt 0 (sum_below n f)
+unfolding any_below sum_below
+any_below-sum zero p f each = refl
+any_below-sum (suc n) p f each = ap (λ (b : Bool). b || any_below n p) (each n) ∙ (ap (λ (b : Bool). nat_lt 0 (f n) || b) (any_below-sum n p f each) ∙ both (f n) (sum_below n f)) where
+  both : (a b : ℕ) → (nat_lt 0 a || nat_lt 0 b) ≡ nat_lt 0 (a + b)
+  both a b = elim (cases_lt 0 a) [
+    | inl some ↦ or_left (nat_lt 0 a) (nat_lt 0 b) (lt-ltb 0 a some) ∙ sym (lt-ltb 0 (a + b) (omega (arith, some)))
+    | inr none ↦
+        let zero_a : a ≡ 0 = omega (arith, none) in
+        ap (λ (k : ℕ). nat_lt 0 k || nat_lt 0 b) zero_a ∙ ap (nat_lt 0) (omega (arith, zero_a))
+  ]

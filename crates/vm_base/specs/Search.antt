@@ -1,4 +1,4 @@
--- Searching and counting among the numbers below a bound. Both are opaque, since the bound may be large: laws stand in
+-- Searching, counting and adding up among the numbers below a bound. All are opaque, since the bound may be large: laws stand in
 -- proofs/SearchLaws.
 use Rattle.std.specs.Prelude.{ℕ, zero, suc, ◌+◌, Bool, false, ◌||◌, cond}
 
@@ -11,3 +11,8 @@ any_below (suc n) p = p n || any_below n p
 unfoldable pub count_below : ℕ → (ℕ → Bool) → ℕ
 count_below zero p = 0
 count_below (suc n) p = cond (p n) 1 0 + count_below n p
+
+-- the sum of what f gives for the numbers below n
+unfoldable pub sum_below : ℕ → (ℕ → ℕ) → ℕ
+sum_below zero f = 0
+sum_below (suc n) f = f n + sum_below n f

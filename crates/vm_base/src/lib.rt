@@ -17,5 +17,5 @@ pub use limits::{
     ROOT_FIRST, SCRIPT_BYTES, TEXT_BYTES, TEXT_ROOM, VMO_PAGES,
 };
 pub use names::{Koid, PinName, RegionName, Tag, VmoName};
-pub use pages::{PageNo, in_page, page_of, round_up};
+pub use pages::{PageNo, in_page, page_count, page_of, round_up};
 pub use refusal::{Failed, HostMemory, Refusal};

@@ -19,6 +19,13 @@ pub fn round_up(n: u64, limit: u64) -> Option<u64>
     if whole <= limit { Some(whole) } else { None }
 }
 
+/// How many pages `len` bytes take, from the start of a page on.
+pub fn page_count(len: u64) -> u64
+    ensures { result ≡ rounded len / PAGE }
+{
+    len / PAGE + u64::from(len % PAGE != 0)
+}
+
 /// The page that holds the byte `at`, both counted from the same place.
 pub fn page_of(at: u64) -> PageNo
     ensures { result ≡ at / PAGE }

@@ -14,6 +14,8 @@ use Rattle.vm_base.specs.Entries.{with_key}
 use Rattle.vm_model.specs.declared.names.Target.{Target}
 use Rattle.vm_model.specs.Naming.Names.{Lineage, owner, is_named, is_of}
 use Rattle.vm_model.specs.Naming.Pins.{Pin, has_pin, is_pinned, any_pinned}
+use Rattle.vm_model.specs.declared.space.Region.{Region}
+use Rattle.vm_model.specs.Space.AddressSpaces.{Spaces, is_mapped, with_region, AreGoodSpaces}
 use Rattle.vm_model.specs.Machine.State.{State, is_open, is_live, target_of, lineage_of, name_pages, IsGoodName, IsGoodPin, IsGoodState}
 use Rattle.vm_model.specs.Machine.Leaving.{pruned}
 use Rattle.vm_model.specs.Machine.Step.{with_vmo, seen_pages, with_snapshot, slice_of, reference_of, with_alias, ChangesContent}
@@ -27,9 +29,10 @@ use Rattle.vm_model.proofs.SoleLaws.{KeepsSole, sole-created_kept, sole-snapshot
 use Rattle.vm_base.proofs.EntryLaws.{with_key-same, with_key-other, with_key-cases, any_entry-with_key_kept, any_entry-with_key_new}
 use Rattle.vm_model.proofs.NamesLaws.{names-open, lineage_of-at, lineage_of-same}
 use Rattle.vm_model.proofs.PinLaws.{is_pinned_of, is_pinned-has_pin, any_pinned_at}
-use Rattle.vm_model.proofs.LeavingLaws.{lineage_at, count_at, IsGoodName-same, Loosens, unnamed, unpinned, Loosens-unnamed, Loosens-unpinned, IsGoodState-pruned, next-pruned, frames-pruned}
+use Rattle.vm_model.proofs.LeavingLaws.{lineage_at, count_at, IsGoodName-same, Loosens, unnamed, unpinned, LoosensAt-unnamed, LoosensAt-unpinned, IsLoose-from, IsGoodState-pruned, next-pruned, frames-pruned}
 use Rattle.vm_base.proofs.SearchLaws.{eqb_same}
-use Rattle.vm_model.proofs.LiveLaws.{is_live-named, is_live-pinned, is_live_cases, is_live-same}
+use Rattle.vm_model.proofs.LiveLaws.{is_live-named, is_live-pinned, is_live-mapped, is_live_cases, is_live-same}
+use Rattle.vm_model.proofs.SpaceLaws.{AreGoodSpaces-over}
 
 -- ---- what a step keeps
 
@@ -47,11 +50,12 @@ Keeps-same old new good e = subst (Keeps old) (sym e) (record { good = good; nex
 pub lineage_below : (s : State) (v : ℕ) → IsGoodState s → IsSome (s.lineage v) → v < s.content.next
 lineage_below s v good h = koid_some s.content v good.content (count_at s v good h)
 
--- a VMO stays live where names and pins of it stay
-live_kept : (old new : State) (v : ℕ) → (is_named old.names v ≡ true → is_named new.names v ≡ true) → (has_pin old.pins v ≡ true → has_pin new.pins v ≡ true) → is_live old v ≡ true → is_live new v ≡ true
-live_kept old new v names pins e = elim (is_live_cases old v e) [
+-- a VMO stays live where names and pins of it stay, and the address spaces do
+live_kept : (old new : State) (v : ℕ) → (is_named old.names v ≡ true → is_named new.names v ≡ true) → (has_pin old.pins v ≡ true → has_pin new.pins v ≡ true)
+    → (is_mapped old.spaces v ≡ true → is_mapped new.spaces v ≡ true) → is_live old v ≡ true → is_live new v ≡ true
+live_kept old new v names pins spaces e = elim (is_live_cases old v e) [
   | inl named ↦ is_live-named new v (names named)
-  | inr pinned ↦ is_live-pinned new v (pins pinned)
+  | inr other ↦ elim other [ inl pinned ↦ is_live-pinned new v (pins pinned) | inr mapped ↦ is_live-mapped new v (spaces mapped) ]
 ]
 
 -- a name is as good in a state with the same counts and lineage
@@ -125,7 +129,7 @@ enter_keeps old c name pages may_write l good h closed fine new_count other_coun
         live = λ v e. elim (cases_eq v koid) [
           | inl same ↦ ap (is_live state) same ∙ is_live-named state koid (any_entry-with_key_new NAMES (is_of koid) old.names name fresh h (eqb_same koid))
           | inr apart ↦
-              live_kept old state v (λ named. any_entry-with_key_kept NAMES (is_of v) old.names name fresh closed named) (λ has. has)
+              live_kept old state v (λ named. any_entry-with_key_kept NAMES (is_of v) old.names name fresh closed named) (λ has. has) (λ mapped. mapped)
               (good.live v (ap is_some (sym (with_key-other old.lineage koid l v apart)) ∙ e))
         ];
         parents = λ v p k e f. elim (with_key-cases old.lineage koid l v k e) [
@@ -138,6 +142,9 @@ enter_keeps old c name pages may_write l good h closed fine new_count other_coun
         pins = λ n pin e.
             let apart : pin.koid ≢ koid = older pin.koid (lineage_at old pin.koid good (good.pins n pin e).1.vmo) in
             IsGoodPin-kept old state good pinned n pin e (other_count pin.koid apart);
+        spaces = AreGoodSpaces-over old.content old.spaces good.spaces c (λ root p entry e.
+            let there = good.spaces.vmos root p entry e in
+            ap is_some (other_count entry.koid.0 (older entry.koid.0 (lineage_at old entry.koid.0 good there))) ∙ there);
       };
       next = omega (arith, next);
       frames = frames;
@@ -187,9 +194,10 @@ alias_keeps old name target good h closed fine =
           | inr was ↦ let before = good.names n other was.1 in (before.0, IsGoodName-kept old state other refl refl before.1)
         ];
         known = good.known;
-        live = λ v e. live_kept old state v (λ named. any_entry-with_key_kept NAMES (is_of v) old.names name target closed named) (λ has. has) (good.live v e);
+        live = λ v e. live_kept old state v (λ named. any_entry-with_key_kept NAMES (is_of v) old.names name target closed named) (λ has. has) (λ mapped. mapped) (good.live v e);
         parents = good.parents;
         pins = λ n pin e. IsGoodPin-kept old state good (λ w q pinned alone. alone) n pin e refl;
+        spaces = good.spaces;
       };
       next = omega arith;
       frames = refl;
@@ -218,10 +226,10 @@ reference_good s target resizable no_write good may = record {
 
 -- ---- a name or a pin less
 
--- less that keeps a VMO, which may leave
-pub loose_keeps : (old less : State) (v : ℕ) → IsGoodState old → Loosens old less v → Keeps old (pruned less)
-loose_keeps old less v good loose = record {
-  good = IsGoodState-pruned old less v good loose;
+-- less that keeps VMOs, which may leave
+pub loose_keeps : (old less : State) → IsGoodState old → Loosens old less → Keeps old (pruned less)
+loose_keeps old less good loose = record {
+  good = IsGoodState-pruned less (IsLoose-from old less good loose);
   next = let same : less.content.next ≡ old.content.next = ap (λ (c : Content). c.next) loose.content in omega (arith, next-pruned less, same);
   frames = frames-pruned less ∙ ap (λ (c : Content). c.frames) loose.content;
 }
@@ -230,28 +238,33 @@ loose_keeps old less v good loose = record {
 pub close_keeps : (old : State) (name : ℕ) → IsGoodState old → is_open old name ≡ true → Keeps old (pruned (unnamed old name))
 close_keeps old name good open_name =
     let target = target_of old name in
-    loose_keeps old (unnamed old name) target.koid.0 good (Loosens-unnamed old name target good (names-open old name open_name))
+    loose_keeps old (unnamed old name) good (LoosensAt-unnamed old name target good (names-open old name open_name)).less
 
 -- a pin that is taken off
 pub unpin_keeps : (old : State) (name : ℕ) (pin : Pin) → IsGoodState old → old.pins name ≡ Some pin → Keeps old (pruned (unpinned old name))
-unpin_keeps old name pin good there = loose_keeps old (unpinned old name) pin.koid good (Loosens-unpinned old name pin good there)
+unpin_keeps old name pin good there = loose_keeps old (unpinned old name) good (LoosensAt-unpinned old name pin good there).less
 
 -- ---- other pages of the same VMOs
 
 -- a content with the same VMOs, under the same names
-pub kept_keeps : (old new : State) → IsGoodState old → new.names ≡ old.names → new.lineage ≡ old.lineage → new.pins ≡ old.pins → KeepsPages (is_pinned old.pins) old.content new.content → Keeps old new
-kept_keeps old new good names lineage pins keeps = let kept = keeps.kept in record {
+pub kept_keeps : (old new : State) → IsGoodState old → new.names ≡ old.names → new.lineage ≡ old.lineage → new.pins ≡ old.pins → new.spaces ≡ old.spaces
+    → KeepsPages (is_pinned old.pins) old.content new.content → Keeps old new
+kept_keeps old new good names lineage pins spaces keeps = let kept = keeps.kept in record {
   good = record {
     content = kept.good;
     names = λ n target e. let was = good.names n target (ap (λ (f : ℕ → Option Target). f n) (sym names) ∙ e) in (was.0, IsGoodName-kept old new target kept.count lineage was.1);
     known = λ v. ap (λ (f : ℕ → Option Lineage). is_some (f v)) lineage ∙ (good.known v ∙ ap (λ (f : ℕ → Option ℕ). is_some (f v)) (sym kept.count));
     live = λ v h.
         live_kept old new v (λ named. ap (λ (f : ℕ → Option Target). is_named f v) names ∙ named) (λ has. ap (λ (f : ℕ → Option Pin). has_pin f v) pins ∙ has)
+        (λ mapped. ap (λ (f : Spaces). is_mapped f v) spaces ∙ mapped)
         (good.live v (ap (λ (f : ℕ → Option Lineage). is_some (f v)) (sym lineage) ∙ h));
     parents = λ v p l e f.
         let was = good.parents v p l (ap (λ (g : ℕ → Option Lineage). g v) (sym lineage) ∙ e) f in
         (was.0, ap (λ (g : ℕ → Option Lineage). is_some (g p)) lineage ∙ was.1);
     pins = λ n pin e. IsGoodPin-kept old new good keeps.alone n pin (ap (λ (f : ℕ → Option Pin). f n) (sym pins) ∙ e) (ap (λ (f : ℕ → Option ℕ). f pin.koid) kept.count);
+    spaces = subst (λ (f : Spaces). AreGoodSpaces new.content f) (sym spaces)
+        (AreGoodSpaces-over old.content old.spaces good.spaces new.content (λ root p entry e.
+        ap (λ (f : ℕ → Option ℕ). is_some (f entry.koid.0)) kept.count ∙ good.spaces.vmos root p entry e));
   };
   next = omega (arith, kept.next);
   frames = kept.frames;
@@ -260,7 +273,7 @@ kept_keeps old new good names lineage pins keeps = let kept = keeps.kept in reco
 -- the same, where nothing but the content changes
 pub change_keeps : (old new : State) → IsGoodState old → ChangesContent old new → KeepsPages (is_pinned old.pins) old.content new.content → Keeps old new
 change_keeps old new good change keeps =
-    kept_keeps old new good (ap (λ (s : State). s.names) change) (ap (λ (s : State). s.lineage) change) (ap (λ (s : State). s.pins) change) keeps
+    kept_keeps old new good (ap (λ (s : State). s.names) change) (ap (λ (s : State). s.lineage) change) (ap (λ (s : State). s.pins) change) (ap (λ (s : State). s.spaces) change) keeps
 
 -- pages written inside a VMO
 pub write_keeps : (old new : State) (v offset : ℕ) (bytes : List ℕ) → IsGoodState old → offset + length bytes ≤ pages_of old.content v * PAGE → ChangesContent old new → Writes old.content (pieces v offset bytes) new.content → Keeps old new
@@ -301,12 +314,13 @@ IsGoodState-pinned s n pin good h free fine =
       content = good.content;
       names = λ m target e. let was = good.names m target e in (was.0, IsGoodName-kept s state target refl refl was.1);
       known = good.known;
-      live = λ v e. live_kept s state v (λ named. named) (λ has. any_entry-with_key_kept NAMES (λ (p : Pin). p.koid == v) s.pins n pin (ap is_some free) has) (good.live v e);
+      live = λ v e. live_kept s state v (λ named. named) (λ has. any_entry-with_key_kept NAMES (λ (p : Pin). p.koid == v) s.pins n pin (ap is_some free) has) (λ mapped. mapped) (good.live v e);
       parents = good.parents;
       pins = λ m other e. elim (with_key-cases s.pins n pin m other e) [
         | inl new ↦ (subst (λ (k : ℕ). k < NAMES) (sym new.0) h, same other (subst (IsGoodPin s) new.1 fine))
         | inr was ↦ let before = good.pins m other was.1 in (before.0, same other before.1)
       ];
+      spaces = good.spaces;
     }
 
 -- whole pages owned inside a VMO, and pinned under a number that is free
@@ -383,7 +397,7 @@ resize_keeps old name target pages good open_name may few free =
               before ∙ sym (ap (λ (u : ℕ). is_some (state.content.count u)) same ∙ counted)
           | inr apart ↦ good.known w ∙ ap is_some (sym (count-resized_other c v pages w apart))
         ];
-        live = λ w h. is_live-same old state w refl refl ∙ good.live w h;
+        live = λ w h. is_live-same old state w refl refl refl ∙ good.live w h;
         parents = good.parents;
         pins = λ n pin e. elim (cases_eq pin.koid v) [
           | inr apart ↦ IsGoodPin-kept old state good kept n pin e (count-resized_other c v pages pin.koid apart)
@@ -397,7 +411,39 @@ resize_keeps old name target pages good open_name may few free =
               IsGoodPin-inside old state good kept n pin e (subst (λ (w : ℕ). IsSome (state.content.count w)) (sym same) counted)
               (omega (arith, was.1.few.0, room, ap (pages_of state.content) same, pages_of-at state.content v pages (count-resized_here c v pages)))
         ];
+        spaces = AreGoodSpaces-over c old.spaces good.spaces state.content (λ root p entry e. elim (cases_eq entry.koid.0 v) [
+          | inl same ↦ subst (λ (w : ℕ). IsSome (state.content.count w)) (sym same) counted
+          | inr apart ↦ ap is_some (count-resized_other c v pages entry.koid.0 apart) ∙ good.spaces.vmos root p entry e
+        ]);
       };
       next = omega arith;
       frames = refl;
     }
+
+-- ---- address spaces
+
+-- other address spaces, in which the same VMOs are mapped
+pub spaces_keeps : (old : State) (spaces : Spaces) → IsGoodState old → AreGoodSpaces old.content spaces → ((v : ℕ) → is_mapped spaces v ≡ is_mapped old.spaces v)
+    → Keeps old (record old { spaces = spaces })
+spaces_keeps old spaces good fine mapped =
+    let state : State = record old { spaces = spaces } in
+    let same_name : (target : Target) → IsGoodName old target → IsGoodName state target = λ target was. IsGoodName-kept old state target refl refl was in
+    record {
+      good = record {
+        content = good.content;
+        names = λ n target e. let was = good.names n target e in (was.0, same_name target was.1);
+        known = good.known;
+        live = λ v h. is_live-same old state v refl refl (mapped v) ∙ good.live v h;
+        parents = good.parents;
+        pins = λ n pin e. IsGoodPin-kept old state good (λ w q pinned alone. alone) n pin e refl;
+        spaces = fine;
+      };
+      next = omega arith;
+      frames = refl;
+    }
+
+-- a region more changes no entry
+pub region_keeps : (old : State) (n : ℕ) (region : Region) → IsGoodState old → AreGoodSpaces old.content (with_region old.spaces n region)
+    → Keeps old (record old { spaces = with_region old.spaces n region })
+unfolding is_mapped
+region_keeps old n region good fine = spaces_keeps old (with_region old.spaces n region) good fine (λ v. refl)

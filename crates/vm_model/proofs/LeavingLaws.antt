@@ -3,23 +3,26 @@
 use Rattle.std.proofs.Common.{◌≡◌, ◌≢◌, ℕ, zero, suc, ◌<◌, Bool, true, false, not, cond, ◌==◌, Option, None, Some, ◌⊎◌, refl, sym, ap, subst, ◌∙◌, inl, inr, arith}
 use Rattle.std.specs.Prelude.{unwrap_or, IsSome, is_some}
 use Rattle.std.specs.Option.{option_map}
-use Rattle.std.proofs.lemmas.Bool.{cases_Bool, cases_eq, not_from_true, not_from_false, false_from_ne_true, both_ways, eqb-false}
+use Rattle.std.proofs.lemmas.Bool.{cases_Bool, cases_eq, not_from_true, not_from_false, false_from_ne_true, both_ways}
 use Rattle.std.proofs.lemmas.Bool.Decides.{Decides-eqb}
 use Rattle.vm_model.specs.Contents.Content.{Page, Content, pages_of, sole, IsGood}
 use Rattle.vm_model.specs.Contents.Sharing.{only, without}
 use Rattle.vm_base.specs.Entries.{without_key}
 use Rattle.vm_model.specs.declared.names.Target.{Target}
-use Rattle.vm_model.specs.Naming.Names.{Lineage, is_named, parent_without, lineage_without, is_of}
+use Rattle.vm_model.specs.Naming.Names.{Lineage, parent_without, lineage_without, is_of}
 use Rattle.vm_base.specs.declared.limits.TheConstants.{NAMES}
-use Rattle.vm_model.specs.Naming.Pins.{Pin, has_pin}
+use Rattle.vm_model.specs.Naming.Pins.{Pin}
 use Rattle.vm_model.specs.Machine.State.{State, is_live, lineage_of, IsGoodName, IsGoodPin, IsGoodState}
 use Rattle.vm_model.specs.Machine.Leaving.{first_live, lineage_left, pruned}
-use Rattle.vm_base.proofs.SearchLaws.{eqb_apart}
-use Rattle.vm_base.proofs.EntryLaws.{without_key-some, some_is, none_is, any_entry_none, any_entry-without_key_other}
-use Rattle.vm_model.proofs.NamesLaws.{lineage_of-at, lineage-known, lineage_of-same, parent_without-none, parent_without-same, parent_without-other, left_by, lineage_without-same, lineage_without-other, lineage_without-at, lineage_without-some, is_some-lineage_without}
-use Rattle.vm_model.proofs.SharingLaws.{IsGood-only, count-without_here, count-without_other}
+use Rattle.vm_base.proofs.SearchLaws.{eqb_apart, eqb_same}
+use Rattle.vm_base.proofs.EntryLaws.{without_key-some, some_is, none_is, any_entry_at, any_entry-without_key_other}
+use Rattle.vm_model.proofs.NamesLaws.{lineage_of-at, lineage-known, lineage_of-same, parent_without-none, parent_without-same, parent_without-other, left_by, lineage_without-same, lineage_without-other}
+use Rattle.vm_model.proofs.SharingLaws.{IsGood-only}
 use Rattle.vm_model.proofs.SoleLaws.{sole-only_kept}
-use Rattle.vm_model.proofs.LiveLaws.{is_live_none, is_live-same}
+use Rattle.vm_model.proofs.LiveLaws.{is_live-named, is_live-pinned, is_live-mapped, is_live-same}
+use Rattle.vm_model.proofs.SpaceLaws.{is_mapped_at, AreGoodSpaces-over, AreGoodSpaces-without}
+use Rattle.vm_model.specs.declared.space.Entry.{Entry}
+use Rattle.vm_model.specs.Space.AddressSpaces.{without_region, AreGoodSpaces}
 
 -- ---- what good states say
 
@@ -159,48 +162,166 @@ pruned-good s good = λ i. record s { content = same i; lineage = λ v. each v (
       ap (λ (b : Bool). cond {A = Option Lineage} b (Some (lineage_left s v l)) None) (good.live v (ap is_some e))
       ∙ ap (λ (k : Lineage). Some k) (lineage_left-is s v l l.parent (parent v l e l.parent refl))
 
--- ---- a state that is good but for one VMO
+-- ---- a state that is good, but that VMOs of it may not be live
 
--- the state is good, but that the VMO v may not be live
-pub record IsLoose (t : State) (v : ℕ) : Type 0 where
+pub record IsLoose (t : State) : Type 0 where
   pub content : IsGood t.content
   pub names : (n : ℕ) (target : Target) → t.names n ≡ Some target → (n < NAMES) × IsGoodName t target
   pub known : (w : ℕ) → is_some (t.lineage w) ≡ is_some (t.content.count w)
-  pub live : (w : ℕ) → w ≢ v → IsSome (t.lineage w) → is_live t w ≡ true
   pub parents : (w p : ℕ) (l : Lineage) → t.lineage w ≡ Some l → l.parent ≡ Some p → (p < w) × IsSome (t.lineage p)
   pub pins : (n : ℕ) (pin : Pin) → t.pins n ≡ Some pin → (n < NAMES) × IsGoodPin t pin
+  pub spaces : AreGoodSpaces t.content t.spaces
+
+-- what holds of a good state
+pub IsLoose-good : (s : State) → IsGoodState s → IsLoose s
+IsLoose-good s good = record { content = good.content; names = good.names; known = good.known; parents = good.parents; pins = good.pins; spaces = good.spaces }
+
+module _ (t : State) (loose : IsLoose t) where
+  -- it is good where each VMO is live
+  pub IsGoodState-live : ((w : ℕ) → IsSome (t.lineage w) → is_live t w ≡ true) → IsGoodState t
+  IsGoodState-live live = record {
+    content = loose.content;
+    names = loose.names;
+    known = loose.known;
+    live = live;
+    parents = loose.parents;
+    pins = loose.pins;
+    spaces = loose.spaces;
+  }
+
+  -- the VMO of a name, of a pin and of an entry is live
+  named_live : (n : ℕ) (target : Target) → t.names n ≡ Some target → is_live t target.koid.0 ≡ true
+  named_live n target e =
+      is_live-named t target.koid.0 (any_entry_at NAMES (is_of target.koid.0) t.names n target (loose.names n target e).0 e (eqb_same target.koid.0))
+
+  pinned_live : (n : ℕ) (pin : Pin) → t.pins n ≡ Some pin → is_live t pin.koid ≡ true
+  pinned_live n pin e =
+      is_live-pinned t pin.koid (any_entry_at NAMES (λ (p : Pin). p.koid == pin.koid) t.pins n pin (loose.pins n pin e).0 e (eqb_same pin.koid))
+
+  mapped_live : (root p : ℕ) (entry : Entry) → t.spaces.table root p ≡ Some entry → is_live t entry.koid.0 ≡ true
+  mapped_live root p entry e = is_live-mapped t entry.koid.0 (is_mapped_at t.content t.spaces loose.spaces root p entry e)
+
+  -- the first of the VMOs above that is live is one of them
+  first_above : (steps bound : ℕ) (o : Option ℕ) (p : ℕ) → ((q : ℕ) → o ≡ Some q → (q < bound) × IsSome (t.lineage q)) → first_live steps t o ≡ Some p
+      → (p < bound) × IsSome (t.lineage p) × (is_live t p ≡ true)
+  unfolding first_live
+  first_above zero bound o p each e = absurd cc
+  first_above (suc steps) bound None p each e = absurd cc
+  first_above (suc steps) bound (Some q) p each e =
+      let here = each q refl in
+      go (is_live t q) refl e (λ f.
+      let known = lineage-known t q here.1 in
+      let found = first_above steps q (lineage_of t q).parent p (λ r g. loose.parents q r (lineage_of t q) known g) f in
+      (omega (arith, found.0, here.0), found.1, found.2)) where
+        go : (b : Bool) → is_live t q ≡ b → cond b (Some q) (first_live steps t (lineage_of t q).parent) ≡ Some p
+            → (first_live steps t (lineage_of t q).parent ≡ Some p → (p < bound) × IsSome (t.lineage p) × (is_live t p ≡ true))
+            → (p < bound) × IsSome (t.lineage p) × (is_live t p ≡ true)
+        go true live f up = let is : q ≡ p = cc in subst (λ (r : ℕ). (r < bound) × IsSome (t.lineage r) × (is_live t r ≡ true)) is ((each q refl).0, (each q refl).1, live)
+        go false off f up = up f
+
+  -- a VMO that is live keeps its count, and a lineage
+  count-pruned : (v : ℕ) → is_live t v ≡ true → (pruned t).content.count v ≡ t.content.count v
+  unfolding pruned only
+  count-pruned v live = ap (λ (b : Bool). cond {A = Option ℕ} b (t.content.count v) None) live
+
+  lineage-pruned : (v : ℕ) (l : Lineage) → is_live t v ≡ true → t.lineage v ≡ Some l → (pruned t).lineage v ≡ Some (lineage_left t v l)
+  unfolding pruned
+  lineage-pruned v l live e =
+      ap (λ (b : Bool). cond {A = Option Lineage} b (option_map (lineage_left t v) (t.lineage v)) None) live ∙ ap (option_map (lineage_left t v)) e
+
+  lineage_there : (v : ℕ) → is_live t v ≡ true → is_some ((pruned t).lineage v) ≡ is_some (t.lineage v)
+  unfolding pruned
+  lineage_there v live = ap (λ (b : Bool). is_some (cond {A = Option Lineage} b (option_map (lineage_left t v) (t.lineage v)) None)) live ∙ go (t.lineage v) where
+    go : (o : Option Lineage) → is_some (option_map (lineage_left t v) o) ≡ is_some o
+    go None = refl
+    go (Some l) = refl
+
+  -- one that is not live has neither
+  count-gone : (v : ℕ) → is_live t v ≡ false → (pruned t).content.count v ≡ None
+  unfolding pruned only
+  count-gone v off = ap (λ (b : Bool). cond {A = Option ℕ} b (t.content.count v) None) off
+
+  lineage-gone : (v : ℕ) → is_live t v ≡ false → (pruned t).lineage v ≡ None
+  unfolding pruned
+  lineage-gone v off = ap (λ (b : Bool). cond {A = Option Lineage} b (option_map (lineage_left t v) (t.lineage v)) None) off
+
+  -- a VMO that is left is live, and was there
+  left_was : (v : ℕ) (new : Lineage) → (pruned t).lineage v ≡ Some new → (l : Lineage) × (t.lineage v ≡ Some l) × (is_live t v ≡ true) × (new ≡ lineage_left t v l)
+  unfolding pruned
+  left_was v new e = go (is_live t v) refl (t.lineage v) refl e where
+    go : (b : Bool) → is_live t v ≡ b → (o : Option Lineage) → t.lineage v ≡ o → cond {A = Option Lineage} b (option_map (lineage_left t v) o) None ≡ Some new
+        → (l : Lineage) × (t.lineage v ≡ Some l) × (is_live t v ≡ true) × (new ≡ lineage_left t v l)
+    go true f None g h = absurd cc
+    go true f (Some l) g h = (l, g, f, cc)
+    go false f o g h = absurd cc
+
+  resizable-pruned : (v : ℕ) → is_live t v ≡ true → IsSome (t.lineage v) → (lineage_of (pruned t) v).resizable ≡ (lineage_of t v).resizable
+  unfolding lineage_left
+  resizable-pruned v live there =
+      ap (λ (l : Lineage). l.resizable) (lineage_of-at (pruned t) v (lineage_left t v (lineage_of t v)) (lineage-pruned v (lineage_of t v) live (lineage-known t v there)))
+
+  -- what is live after the others left is what was live
+  pub is_live-pruned : (v : ℕ) → is_live (pruned t) v ≡ is_live t v
+  unfolding pruned
+  is_live-pruned v = is_live-same t (pruned t) v refl refl refl
+
+  -- the state is good once the VMOs that are not live have left
+  pub IsGoodState-pruned : IsGoodState (pruned t)
+  unfolding pruned lineage_left
+  IsGoodState-pruned = record {
+    content = IsGood-only t.content (is_live t) loose.content;
+    names = λ n target e.
+        let fine = loose.names n target e in
+        let live = named_live n target e in
+        (fine.0, IsGoodName-same t (pruned t) target (count-pruned target.koid.0 live) (resizable-pruned target.koid.0 live (loose.known target.koid.0 ∙ fine.1.vmo)) fine.1);
+    known = λ v. elim (cases_Bool (is_live t v)) [
+      | inl live ↦ lineage_there v live ∙ (loose.known v ∙ ap is_some (sym (count-pruned v live)))
+      | inr off ↦ ap is_some (lineage-gone v off) ∙ sym (ap is_some (count-gone v off))
+    ];
+    live = λ v there. let was = left_was v (some_is ((pruned t).lineage v) there).0 (some_is ((pruned t).lineage v) there).1 in is_live-pruned v ∙ was.2;
+    parents = λ v p new e f.
+        let was = left_was v new e in
+        let up = first_above v v was.0.parent p (λ q g. loose.parents v q was.0 was.1 g) (sym (ap (λ (l : Lineage). l.parent) was.3) ∙ f) in
+        (up.0, lineage_there p up.2 ∙ up.1);
+    pins = λ n pin e.
+        let fine = loose.pins n pin e in
+        let live = pinned_live n pin e in
+        (fine.0, IsGoodPin-same t (pruned t) pin (count-pruned pin.koid live) (λ p alone. sole-only_kept t.content (is_live t) pin.koid p loose.content live alone) fine.1);
+    spaces = AreGoodSpaces-over t.content t.spaces loose.spaces (pruned t).content (λ root p entry e.
+        ap is_some (count-pruned entry.koid.0 (mapped_live root p entry e)) ∙ loose.spaces.vmos root p entry e);
+  }
+
+-- ---- a state that is good, but that one VMO of it may not be live
+
+pub record IsLooseAt (t : State) (v : ℕ) : Type 0 where
+  pub loose : IsLoose t
+  pub live : (w : ℕ) → w ≢ v → IsSome (t.lineage w) → is_live t w ≡ true
   pub vmo : IsSome (t.lineage v)
 
 -- the state without the VMO v, whose children get its parent
 abbrev pub left_vmo : State → ℕ → State
 left_vmo t v = record t { content = without t.content v; lineage = lineage_without t.lineage v (lineage_of t v).parent }
 
-module _ (t : State) (v : ℕ) (good : IsLoose t v) where
+module _ (t : State) (v : ℕ) (good : IsLooseAt t v) where
   -- the state is good where the VMO is live
-  pub IsGoodState-live : is_live t v ≡ true → IsGoodState t
-  IsGoodState-live here = record {
-    content = good.content;
-    names = good.names;
-    known = good.known;
-    live = λ w h. elim (cases_eq w v) [ inl same ↦ ap (is_live t) same ∙ here | inr apart ↦ good.live w apart h ];
-    parents = good.parents;
-    pins = good.pins;
-  }
+  pub IsGoodState-live_at : is_live t v ≡ true → IsGoodState t
+  IsGoodState-live_at here =
+      IsGoodState-live t good.loose (λ w h. elim (cases_eq w v) [ inl same ↦ ap (is_live t) same ∙ here | inr apart ↦ good.live w apart h ])
 
   -- the parent of the VMO is an older VMO, and another
   parent_older : (p : ℕ) → (lineage_of t v).parent ≡ Some p → (p < v) × IsSome (t.lineage p)
-  parent_older p e = good.parents v p (lineage_of t v) (lineage-known t v good.vmo) e
+  parent_older p e = good.loose.parents v p (lineage_of t v) (lineage-known t v good.vmo) e
 
   -- a VMO that is not live leaves, and it alone. Its children get its parent
   pub pruned-left : is_live t v ≡ false → pruned t ≡ left_vmo t v
   unfolding pruned
   pruned-left left = λ i. record t { content = same i; lineage = λ w. each w i } where
     same : only t.content (is_live t) ≡ without t.content v
-    same = only-alike t.content (is_live t) (λ w. not (w == v)) good.content (λ w. elim (cases_eq w v) [
+    same = only-alike t.content (is_live t) (λ w. not (w == v)) good.loose.content (λ w. elim (cases_eq w v) [
       | inl vmo ↦ inl (ap (is_live t) vmo ∙ (left ∙ sym (not_from_true (w == v) ((Decides-eqb w v).1 vmo))))
       | inr apart ↦ elim (cases_Bool (is_live t w)) [
         | inl live ↦ inl (live ∙ sym (not_from_false (w == v) (eqb_apart w v apart)))
-        | inr off ↦ inr (gone t w (λ there. good.live w apart (good.known w ∙ there)) off)
+        | inr off ↦ inr (gone t w (λ there. good.live w apart (good.loose.known w ∙ there)) off)
       ]
     ])
 
@@ -208,7 +329,7 @@ module _ (t : State) (v : ℕ) (good : IsLoose t v) where
     parent : (w : ℕ) (l : Lineage) → t.lineage w ≡ Some l → (o : Option ℕ) → l.parent ≡ o → first_live w t o ≡ parent_without v (lineage_of t v).parent o
     parent w l e None f = first_live-none w t ∙ sym (parent_without-none v (lineage_of t v).parent)
     parent w l e (Some p) f =
-        let older = good.parents w p l e f in
+        let older = good.loose.parents w p l e f in
         elim (cases_eq p v) [
           | inl vmo ↦
               let next : (q : ℕ) → (lineage_of t p).parent ≡ Some q → (q < p) × (is_live t q ≡ true) = λ q g.
@@ -237,123 +358,60 @@ module _ (t : State) (v : ℕ) (good : IsLoose t v) where
       | inr apart ↦ kept w apart (t.lineage w) refl ∙ sym (lineage_without-other t.lineage v (lineage_of t v).parent w apart)
     ]
 
-  -- another VMO keeps its leave to change its size
-  pub resizable-left : (w : ℕ) → w ≢ v → IsSome (t.lineage w) → (lineage_of (left_vmo t v) w).resizable ≡ (lineage_of t w).resizable
-  resizable-left w apart h =
-      ap (λ (l : Lineage). l.resizable) (lineage_of-at (left_vmo t v) w (left_by v (lineage_of t v).parent (lineage_of t w)) (lineage_without-at t.lineage v (lineage_of t v).parent w (lineage_of t w) apart (lineage-known t w h)))
-
-  -- a name of another VMO is as good as before
-  name_left : (target : Target) → target.koid.0 ≢ v → IsGoodName t target → IsGoodName (left_vmo t v) target
-  name_left target apart fine =
-      IsGoodName-same t (left_vmo t v) target (count-without_other t.content v target.koid.0 apart) (resizable-left target.koid.0 apart (good.known target.koid.0 ∙ fine.vmo)) fine
-
-  -- and so is a pin of another VMO: each frame is shown by no more VMOs than before
-  pin_left : (pin : Pin) → pin.koid ≢ v → IsGoodPin t pin → IsGoodPin (left_vmo t v) pin
-  pin_left pin apart fine =
-      IsGoodPin-same t (left_vmo t v) pin (count-without_other t.content v pin.koid apart)
-      (λ p alone. sole-only_kept t.content (λ w. not (w == v)) pin.koid p good.content (not_from_false (pin.koid == v) (eqb_apart pin.koid v apart)) alone) fine
-
-  -- the state is good without a VMO that is not live
-  pub IsGoodState-left : is_live t v ≡ false → IsGoodState (left_vmo t v)
-  IsGoodState-left gone = record {
-    content = IsGood-only t.content (λ w. not (w == v)) good.content;
-    names = λ m target e.
-        let fine = good.names m target e in
-        (fine.0, name_left target (eqb-false target.koid.0 v (any_entry_none NAMES (is_of v) t.names m target off.0 fine.0 e)) fine.1);
-    known = λ w. elim (cases_eq w v) [
-      | inl vmo ↦
-          ap (λ (u : ℕ). is_some (lineage_without t.lineage v (lineage_of t v).parent u)) vmo
-          ∙ (ap is_some (lineage_without-same t.lineage v (lineage_of t v).parent)
-          ∙ sym (ap (λ (u : ℕ). is_some ((without t.content v).count u)) vmo ∙ ap is_some (count-without_here t.content v)))
-      | inr apart ↦
-          is_some-lineage_without t.lineage v (lineage_of t v).parent w apart ∙ (good.known w ∙ ap is_some (sym (count-without_other t.content v w apart)))
-    ];
-    live = λ w h.
-        let found = some_is (lineage_without t.lineage v (lineage_of t v).parent w) h in
-        let old = lineage_without-some t.lineage v (lineage_of t v).parent w found.0 found.1 in
-        is_live-same t (left_vmo t v) w refl refl ∙ good.live w old.1 (ap is_some old.2);
-    parents = λ w p l e f.
-        let old = lineage_without-some t.lineage v (lineage_of t v).parent w l e in
-        parent w p old.0 old.2 old.0.parent refl (sym (ap (λ (k : Lineage). k.parent) old.3) ∙ f);
-    pins = λ m pin e.
-        let fine = good.pins m pin e in
-        (fine.0, pin_left pin (eqb-false pin.koid v (any_entry_none NAMES (λ (p : Pin). p.koid == v) t.pins m pin off.1 fine.0 e)) fine.1);
-  } where
-    -- neither a name nor a pin is of the VMO
-    off : (is_named t.names v ≡ false) × (has_pin t.pins v ≡ false)
-    off = is_live_none t v gone
-
-    stays : (w p : ℕ) → p < w → IsSome (t.lineage p) → p ≢ v → (p < w) × IsSome (lineage_without t.lineage v (lineage_of t v).parent p)
-    stays w p h there apart = (h, is_some-lineage_without t.lineage v (lineage_of t v).parent p apart ∙ there)
-
-    parent : (w p : ℕ) (l : Lineage) → t.lineage w ≡ Some l → (o : Option ℕ) → l.parent ≡ o → parent_without v (lineage_of t v).parent o ≡ Some p → (p < w) × IsSome (lineage_without t.lineage v (lineage_of t v).parent p)
-    parent w p l e None f g =
-        let none : ◌≡◌ {A = Option ℕ} None (Some p) = sym (parent_without-none v (lineage_of t v).parent) ∙ g in absurd cc
-    parent w p l e (Some q) f g =
-        let older = good.parents w q l e f in
-        elim (cases_eq q v) [
-          | inl vmo ↦
-              let above = parent_older p (sym (ap (λ (u : ℕ). parent_without v (lineage_of t v).parent (Some u)) vmo ∙ parent_without-same v (lineage_of t v).parent) ∙ g) in
-              stays w p (omega (arith, older.0, above.0, vmo)) above.1 (omega (arith, above.0))
-          | inr apart ↦
-              let now : ◌≡◌ {A = Option ℕ} (Some q) (Some p) = sym (parent_without-other v (lineage_of t v).parent q apart) ∙ g in
-              let is : q ≡ p = cc in
-              stays w p (omega (arith, older.0, is)) (subst (λ (u : ℕ). IsSome (t.lineage u)) is older.1) (λ same. apart (is ∙ same))
-        ]
-
 -- ---- less that keeps a VMO
 
--- The state t is s with less that keeps the VMO v: no VMO changes, and the others are as live as before.
-pub record Loosens (s t : State) (v : ℕ) : Type 0 where
+-- The state t is s with less that keeps VMOs: no VMO changes.
+pub record Loosens (s t : State) : Type 0 where
   pub content : t.content ≡ s.content
   pub lineage : t.lineage ≡ s.lineage
   pub names : (n : ℕ) (target : Target) → t.names n ≡ Some target → s.names n ≡ Some target
   pub pins : (n : ℕ) (pin : Pin) → t.pins n ≡ Some pin → s.pins n ≡ Some pin
+  pub spaces : AreGoodSpaces s.content t.spaces
+
+-- the state is good then, but that VMOs of it may not be live
+pub IsLoose-from : (s t : State) → IsGoodState s → Loosens s t → IsLoose t
+IsLoose-from s t good less = record {
+  content = subst IsGood (sym less.content) good.content;
+  names = λ n target e. let was = good.names n target (less.names n target e) in (was.0, name_same target was.1);
+  known = λ w. there w ∙ (good.known w ∙ ap (λ (c : Content). is_some (c.count w)) (sym less.content));
+  parents = λ w p l e f. let was = good.parents w p l (ap (λ (g : ℕ → Option Lineage). g w) (sym less.lineage) ∙ e) f in (was.0, there p ∙ was.1);
+  pins = λ n pin e. let was = good.pins n pin (less.pins n pin e) in (was.0, pin_same pin was.1);
+  spaces = subst (λ (c : Content). AreGoodSpaces c t.spaces) (sym less.content) less.spaces;
+} where
+  there : (w : ℕ) → is_some (t.lineage w) ≡ is_some (s.lineage w)
+  there w = ap (λ (g : ℕ → Option Lineage). is_some (g w)) less.lineage
+
+  name_same : (target : Target) → IsGoodName s target → IsGoodName t target
+  name_same target fine =
+      IsGoodName-same s t target (ap (λ (c : Content). c.count target.koid.0) less.content)
+      (ap (λ (l : Lineage). l.resizable) (lineage_of-same t s target.koid.0 (ap (λ (g : ℕ → Option Lineage). g target.koid.0) less.lineage))) fine
+
+  pin_same : (pin : Pin) → IsGoodPin s pin → IsGoodPin t pin
+  pin_same pin fine =
+      IsGoodPin-same s t pin (ap (λ (c : Content). c.count pin.koid) less.content) (λ p alone. ap (λ (c : Content). sole c pin.koid p) less.content ∙ alone) fine
+
+-- less keeps the VMO v alone: the others are as live as before
+pub record LoosensAt (s t : State) (v : ℕ) : Type 0 where
+  pub less : Loosens s t
   pub live : (w : ℕ) → w ≢ v → is_live t w ≡ is_live s w
   pub vmo : IsSome (s.lineage v)
 
-module _ (s t : State) (v : ℕ) (good : IsGoodState s) (less : Loosens s t v) where
+module _ (s t : State) (v : ℕ) (good : IsGoodState s) (at : LoosensAt s t v) where
   -- the state is good then, but that v may not be live
-  pub IsLoose-from : IsLoose t v
-  IsLoose-from = record {
-    content = subst IsGood (sym less.content) good.content;
-    names = λ n target e. let was = good.names n target (less.names n target e) in (was.0, name_same target was.1);
-    known = λ w. there w ∙ (good.known w ∙ ap (λ (c : Content). is_some (c.count w)) (sym less.content));
-    live = λ w apart h. less.live w apart ∙ good.live w (sym (there w) ∙ h);
-    parents = λ w p l e f. let was = good.parents w p l (ap (λ (g : ℕ → Option Lineage). g w) (sym less.lineage) ∙ e) f in (was.0, there p ∙ was.1);
-    pins = λ n pin e. let was = good.pins n pin (less.pins n pin e) in (was.0, pin_same pin was.1);
-    vmo = there v ∙ less.vmo;
-  } where
-    there : (w : ℕ) → is_some (t.lineage w) ≡ is_some (s.lineage w)
-    there w = ap (λ (g : ℕ → Option Lineage). is_some (g w)) less.lineage
+  pub IsLooseAt-from : IsLooseAt t v
+  IsLooseAt-from = record {
+    loose = IsLoose-from s t good at.less;
+    live = λ w apart h. at.live w apart ∙ good.live w (sym (ap (λ (g : ℕ → Option Lineage). is_some (g w)) at.less.lineage) ∙ h);
+    vmo = ap (λ (g : ℕ → Option Lineage). is_some (g v)) at.less.lineage ∙ at.vmo;
+  }
 
-    name_same : (target : Target) → IsGoodName s target → IsGoodName t target
-    name_same target fine =
-        IsGoodName-same s t target (ap (λ (c : Content). c.count target.koid.0) less.content)
-        (ap (λ (l : Lineage). l.resizable) (lineage_of-same t s target.koid.0 (ap (λ (g : ℕ → Option Lineage). g target.koid.0) less.lineage))) fine
-
-    pin_same : (pin : Pin) → IsGoodPin s pin → IsGoodPin t pin
-    pin_same pin fine =
-        IsGoodPin-same s t pin (ap (λ (c : Content). c.count pin.koid) less.content) (λ p alone. ap (λ (c : Content). sole c pin.koid p) less.content ∙ alone) fine
-
-  -- the state is good where something else keeps the VMO
-  pub IsGoodState-loose : is_live t v ≡ true → IsGoodState t
-  IsGoodState-loose live = IsGoodState-live t v IsLoose-from live
-
-  -- nothing leaves then
+  -- nothing leaves where something else keeps the VMO
   pub pruned-stays : is_live t v ≡ true → pruned t ≡ t
-  pruned-stays live = pruned-good t (IsGoodState-loose live)
+  pruned-stays live = pruned-good t (IsGoodState-live_at t v IsLooseAt-from live)
 
   -- where nothing else keeps the VMO, it leaves, and it alone. Its children get its parent
   pub pruned-leaves : is_live t v ≡ false → pruned t ≡ left_vmo t v
-  pruned-leaves gone = pruned-left t v IsLoose-from gone
-
-  -- whether the VMO stays or leaves, the state is good
-  pub IsGoodState-pruned : IsGoodState (pruned t)
-  IsGoodState-pruned = elim (cases_Bool (is_live t v)) [
-    | inl live ↦ subst IsGoodState (sym (pruned-stays live)) (IsGoodState-loose live)
-    | inr gone ↦ subst IsGoodState (sym (pruned-leaves gone)) (IsGoodState-left t v IsLoose-from gone)
-  ]
+  pruned-leaves gone = pruned-left t v IsLooseAt-from gone
 
 -- ---- a name or a pin that goes
 
@@ -366,26 +424,25 @@ abbrev pub unpinned : State → ℕ → State
 unpinned s n = record s { pins = without_key s.pins n }
 
 -- without a name, less keeps its VMO
-pub Loosens-unnamed : (s : State) (n : ℕ) (t : Target) → IsGoodState s → s.names n ≡ Some t → Loosens s (unnamed s n) t.koid.0
-Loosens-unnamed s n t good e = record {
-  content = refl;
-  lineage = refl;
-  names = λ m target f. (without_key-some s.names n m target f).1;
-  pins = λ m pin f. f;
-  live = λ w apart. is_live-same s (unnamed s n) w (any_entry-without_key_other NAMES (is_of w) s.names n t e (eqb_apart t.koid.0 w (λ same. apart (sym same)))) refl;
+pub LoosensAt-unnamed : (s : State) (n : ℕ) (t : Target) → IsGoodState s → s.names n ≡ Some t → LoosensAt s (unnamed s n) t.koid.0
+LoosensAt-unnamed s n t good e = record {
+  less = record { content = refl; lineage = refl; names = λ m target f. (without_key-some s.names n m target f).1; pins = λ m pin f. f; spaces = good.spaces };
+  live = λ w apart. is_live-same s (unnamed s n) w (any_entry-without_key_other NAMES (is_of w) s.names n t e (eqb_apart t.koid.0 w (λ same. apart (sym same)))) refl refl;
   vmo = name_lineage s n t good e;
 }
 
 -- without a pin, less keeps its VMO
-pub Loosens-unpinned : (s : State) (n : ℕ) (pin : Pin) → IsGoodState s → s.pins n ≡ Some pin → Loosens s (unpinned s n) pin.koid
-Loosens-unpinned s n pin good e = record {
-  content = refl;
-  lineage = refl;
-  names = λ m target f. f;
-  pins = λ m other f. (without_key-some s.pins n m other f).1;
-  live = λ w apart. is_live-same s (unpinned s n) w refl (any_entry-without_key_other NAMES (λ (p : Pin). p.koid == w) s.pins n pin e (eqb_apart pin.koid w (λ same. apart (sym same))));
+pub LoosensAt-unpinned : (s : State) (n : ℕ) (pin : Pin) → IsGoodState s → s.pins n ≡ Some pin → LoosensAt s (unpinned s n) pin.koid
+LoosensAt-unpinned s n pin good e = record {
+  less = record { content = refl; lineage = refl; names = λ m target f. f; pins = λ m other f. (without_key-some s.pins n m other f).1; spaces = good.spaces };
+  live = λ w apart. is_live-same s (unpinned s n) w refl (any_entry-without_key_other NAMES (λ (p : Pin). p.koid == w) s.pins n pin e (eqb_apart pin.koid w (λ same. apart (sym same)))) refl;
   vmo = pin_lineage s n pin good e;
 }
+
+-- without a region and all below it, less keeps the VMOs of their entries
+pub Loosens-destroyed : (s : State) (name : ℕ) → IsGoodState s → Loosens s (record s { spaces = without_region s.spaces name })
+Loosens-destroyed s name good =
+    record { content = refl; lineage = refl; names = λ m target f. f; pins = λ m pin f. f; spaces = AreGoodSpaces-without s.content s.spaces good.spaces name }
 
 -- ---- what a state without the VMOs that left has as before
 

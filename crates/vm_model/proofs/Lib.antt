@@ -9,6 +9,8 @@ pub mod ZeroesLaws
 pub mod SoleLaws
 pub mod NamesLaws
 pub mod PinLaws
+pub mod RegionLaws
+pub mod SpaceLaws
 pub mod LiveLaws
 pub mod LeavingLaws
 pub mod KeepLaws

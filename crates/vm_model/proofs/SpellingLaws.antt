@@ -14,7 +14,8 @@ use Rattle.vm_model.specs.declared.command.Command.{Command}
 use Rattle.vm_model.specs.declared.command.Command.TheVariants.{VmoCreate, VmoChild, VmoClose, VmoSize, VmoSetSize, VmoRead, VmoWrite, VmoFill, VmoCommit, VmoDecommit, VmoZero, VmoPin, VmoUnpin, VmoInfo, RootCreate, VmarAllocate, VmarMap, VmarUnmap, VmarProtect, VmarDestroy, Maps, MemRead, MemWrite, Stat}
 use Rattle.vm_model.specs.Language.Reading.{Order, reading, is_comment, command, are_flags, stands, bit, flagged, of_vmo, of_vmo_range, of_region, of_region_range, vmar_allocate, vmar_map}
 use Rattle.vm_model.specs.Language.Text.{data_text, perm_text}
-use Rattle.vm_model.specs.Language.Spelling.{has, set_flags, vmo_word, region_word, pin_word, kind_word, command_words, spelling, has_spelling, IsData, HasRanges}
+use Rattle.vm_model.specs.Space.Rights.{has}
+use Rattle.vm_model.specs.Language.Spelling.{set_flags, vmo_word, region_word, pin_word, kind_word, command_words, spelling, has_spelling, IsData, HasRanges}
 use Rattle.vm_model.proofs.WordLaws.{is_one_word, are_words, words-join, spaced_length, length-join}
 use Rattle.vm_model.proofs.FieldLaws.{number-decimal, byte-decimal, decimal_word, length-decimal, name_word, vmo-vmo_word, region-region_word, pin-pin_word, byte_data-data_text, data_word, length-data_text, child_kind-kind_word, kind_is_word, length-kind_word, perm-perm_text, perm_word, length-perm_text, IsBytes-from_All}
 use Rattle.vm_base.specs.declared.limits.TheConstants.{DATA_BYTES, LINE_BYTES}

@@ -1,5 +1,5 @@
 -- Laws of the step: a good state stays good.
-use Rattle.std.proofs.Common.{◌≡◌, ℕ, ◌+◌, ◌*◌, ◌/◌, ◌%◌, ◌<◌, ◌≤◌, ◌==◌, Bool, true, false, not, cond, ◌&&◌, ◌||◌, List, [], ◌∷◌, length, replicate, Option, None, Some, refl, sym, ap, subst, inl, inr, arith}
+use Rattle.std.proofs.Common.{◌≡◌, ℕ, ◌+◌, ◌*◌, ◌/◌, ◌%◌, ◌<◌, ◌≤◌, ◌==◌, Bool, true, false, not, cond, ◌&&◌, ◌||◌, List, [], ◌∷◌, length, replicate, Option, None, Some, refl, sym, ap, subst, ◌∙◌, inl, inr, arith}
 use Rattle.std.specs.Prelude.{nat_lt, unwrap_or, IsSome, is_some}
 use Rattle.std.specs.List.{AllByRecursion}
 use Rattle.std.proofs.lemmas.Bool.{ltb-false, eqb-true, eqb-false, not-false, and_cases, and_parts, or_parts, both_ways}
@@ -8,7 +8,7 @@ use Rattle.vm_base.specs.Pages.{rounded}
 use Rattle.vm_base.specs.declared.limits.TheConstants.{PAGE, VMO_PAGES, PIN_PAGES}
 use Rattle.vm_base.specs.declared.refusal.Refusal.{Refusal}
 use Rattle.vm_model.specs.declared.command.Command.{Command}
-use Rattle.vm_model.specs.declared.command.Command.TheVariants.{VmoCreate, VmoChild, VmoClose, VmoSetSize, VmoRead, VmoWrite, VmoFill, VmoCommit, VmoDecommit, VmoZero, VmoPin, VmoUnpin}
+use Rattle.vm_model.specs.declared.command.Command.TheVariants.{VmoCreate, VmoChild, VmoClose, VmoSetSize, VmoRead, VmoWrite, VmoFill, VmoCommit, VmoDecommit, VmoZero, VmoPin, VmoUnpin, RootCreate, VmarAllocate, VmarDestroy}
 use Rattle.vm_model.specs.declared.command.ChildKind.TheVariants.{Snapshot as SnapshotChild, Slice as SliceChild, Reference as ReferenceChild}
 use Rattle.vm_model.specs.declared.reply.Reply.{Reply}
 use Rattle.vm_model.specs.Contents.Content.{nothing, pages_of}
@@ -16,16 +16,25 @@ use Rattle.vm_model.specs.Contents.Writing.{touched}
 use Rattle.vm_model.specs.Contents.Zeroing.{owned_by_zero}
 use Rattle.vm_model.specs.declared.names.Target.{Target}
 use Rattle.vm_model.specs.Naming.Pins.{is_pinned}
-use Rattle.vm_model.specs.Machine.State.{State, empty_state, is_open, target_of, koid_of, name_pages, size_of, place_of, IsGoodName, IsGoodState}
+use Rattle.vm_model.specs.declared.space.Region.{Region}
+use Rattle.vm_model.specs.Space.Rights.{has}
+use Rattle.vm_model.specs.Space.Regions.{root_region, region_of, region_below}
+use Rattle.vm_model.specs.Space.AddressSpaces.{without_region}
+use Rattle.vm_model.specs.Machine.State.{State, empty_state, is_open, is_given, target_of, koid_of, name_pages, size_of, place_of, IsGoodName, IsGoodState}
 use Rattle.vm_model.specs.Machine.Refusals.{lacks_frames, change_refusals, refusals, first_of}
 use Rattle.vm_model.specs.Language.Spelling.{HasRanges}
 use Rattle.vm_model.specs.Machine.Given.{GivesName}
-use Rattle.vm_model.specs.Machine.Step.{slice_of, reference_of, Effect, StepAfter, Step}
+use Rattle.vm_model.specs.Machine.Step.{slice_of, reference_of, Effect, may_lack_memory, StepAfter, Step}
+use Rattle.vm_model.specs.declared.reply.Reply.TheVariants.{Refused}
+use Rattle.vm_base.specs.declared.refusal.Refusal.TheVariants.{HostMemory}
 use Rattle.vm_model.proofs.ContentLaws.{IsGood-nothing}
 use Rattle.vm_base.proofs.EntryLaws.{some_is, none_is}
 use Rattle.vm_model.proofs.NamesLaws.{names-open}
 use Rattle.vm_model.proofs.LeavingLaws.{name_vmo}
-use Rattle.vm_model.proofs.KeepLaws.{Keeps-same, slice_good, reference_good, snapshot_keeps, alias_keeps, close_keeps, unpin_keeps, write_keeps, commit_keeps, zero_range_keeps, zero_keeps, pin_keeps, resize_keeps}
+use Rattle.vm_model.proofs.SpaceLaws.{AreGoodSpaces-none, AreGoodSpaces-root, AreGoodSpaces-child}
+use Rattle.vm_model.proofs.RegionLaws.{region_of-at}
+use Rattle.vm_model.proofs.LeavingLaws.{Loosens-destroyed}
+use Rattle.vm_model.proofs.KeepLaws.{loose_keeps, region_keeps, Keeps-same, slice_good, reference_good, snapshot_keeps, alias_keeps, close_keeps, unpin_keeps, write_keeps, commit_keeps, zero_range_keeps, zero_keeps, pin_keeps, resize_keeps}
 pub use Rattle.vm_model.proofs.KeepLaws.{Keeps, lineage_below, create_keeps, kept_keeps}
 
 -- the name that a command gives is one that there is, where the fields of the command are within their types
@@ -33,6 +42,8 @@ pub GivesName-from : (command : Command) → HasRanges command → GivesName com
 GivesName-from (VmoCreate name size resizable) h = h.0
 GivesName-from (VmoChild name parent kind offset size resizable no_write) h = h.0
 GivesName-from (VmoPin pin name offset len) h = h.0
+GivesName-from (RootCreate region) h = h
+GivesName-from (VmarAllocate region parent offset len flags caps) h = h.0
 GivesName-from _ h = tt
 
 -- ---- rows that do not refuse
@@ -48,6 +59,17 @@ AllOff-from_none (row ∷ rows) e = let parts = split row.0 (first_of rows) e in
   split : (condition : Bool) (rest : Option Refusal) → cond condition (Some row.1) rest ≡ None → (condition ≡ false) × (rest ≡ None)
   split true rest f = absurd cc
   split false rest f = (refl, f)
+
+-- ---- steps
+
+-- where nothing refuses, the effect is a step
+pub Step-done : (old : State) (command : Command) (reply : Reply) (new : State) → first_of (refusals old command) ≡ None → Effect old command reply new → Step old command reply new
+Step-done old command reply new none effect = record { outcome = subst (λ (o : Option Refusal). StepAfter o old command reply new) (sym none) (inl effect) }
+
+-- and so is want of memory, where the command may want it
+pub Step-lacks : (old : State) (command : Command) → first_of (refusals old command) ≡ None → may_lack_memory old command ≡ true → Step old command (Refused HostMemory) old
+Step-lacks old command none may =
+    record { outcome = subst (λ (o : Option Refusal). StepAfter o old command (Refused HostMemory) old) (sym none) (inr (record { answer = refl; same = refl }, may)) }
 
 -- ---- places
 
@@ -171,6 +193,21 @@ effect_keeps old (VmoUnpin pin) reply new good h none effect =
     let off = AllOff-from_none (refusals old (VmoUnpin pin)) none in
     let found = some_is (old.pins pin.0) (not-false (is_some (old.pins pin.0)) off.0) in
     subst (Keeps old) (sym effect.1) (unpin_keeps old pin.0 found.0 good found.1)
+effect_keeps old (RootCreate region) reply new good h none effect =
+    let off = AllOff-from_none (refusals old (RootCreate region)) none in
+    subst (Keeps old) (sym effect.1)
+    (region_keeps old region.0 (root_region region.0) good (AreGoodSpaces-root old.content old.spaces good.spaces region.0 h (none_is (old.spaces.regions region.0) off.0)))
+effect_keeps old (VmarAllocate region parent offset len flags caps) reply new good h none effect =
+    let off = AllOff-from_none (refusals old (VmarAllocate region parent offset len flags caps)) none in
+    let above = region_of old.spaces.regions parent.0 in
+    let there = some_is (old.spaces.regions parent.0) (not-false (is_given old parent.0) off.0) in
+    let given : old.spaces.regions parent.0 ≡ Some above = there.1 ∙ ap (λ (r : Region). Some r) (sym (region_of-at old.spaces.regions parent.0 there.0 there.1)) in
+    subst (Keeps old) (sym effect.3)
+    (region_keeps old region.0 (region_below parent.0 above effect.0 (rounded len / PAGE) caps.0) good
+    (AreGoodSpaces-child old.content old.spaces good.spaces region.0 parent.0 effect.0 (rounded len / PAGE) caps.0 above h (none_is (old.spaces.regions region.0) off.1.0) given
+    (not-false above.live off.1.1.0) (not-false (has above.caps.0 caps.0) off.1.1.1.0) effect.2.free))
+effect_keeps old (VmarDestroy region) reply new good h none effect =
+    subst (Keeps old) (sym effect.1) (loose_keeps old (record old { spaces = without_region old.spaces region.0 }) good (Loosens-destroyed old region.0 good))
 effect_keeps old _ reply new good h none effect = Keeps-same old new good effect.1
 
 -- a step keeps a good state good
@@ -193,6 +230,7 @@ IsGoodState-empty frames = record {
   live = λ v h. absurd cc;
   parents = λ v p l e f. absurd cc;
   pins = λ n pin e. absurd cc;
+  spaces = AreGoodSpaces-none (record nothing { frames = frames });
 }
 
 -- its first koid is 1

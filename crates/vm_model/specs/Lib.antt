@@ -1,5 +1,6 @@
 pub mod Contents
 pub mod Naming
+pub mod Space
 pub mod Machine
 pub mod Language
 pub mod Scripts

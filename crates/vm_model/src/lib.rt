@@ -19,6 +19,7 @@ mod names;
 mod numbers;
 mod reply;
 mod runs;
+mod space;
 
 pub use answer::Answer;
 pub use bytes::Bytes4k;
@@ -29,6 +30,7 @@ pub use names::{NameKind, Origin, Target};
 pub use numbers::PinNumbers;
 pub use reply::{Info, Reply, Stat};
 pub use runs::{Run, Runs};
+pub use space::{Entry, Region};
 
 #[cfg(test)]
 mod tests;

@@ -7,8 +7,7 @@ use Rattle.vm_base.specs.declared.names.VmoName.{VmoName}
 use Rattle.vm_model.specs.Contents.Content.{Content}
 use Rattle.vm_model.specs.declared.names.Target.{Target}
 use Rattle.vm_model.specs.Naming.Names.{Lineage, is_named, lineage_without}
-use Rattle.vm_model.specs.Naming.Pins.{pin_count}
-use Rattle.vm_model.specs.Machine.State.{State, IsGoodState}
+use Rattle.vm_model.specs.Machine.State.{State, keeper_count, IsGoodState}
 use Rattle.vmo_table.specs.declared.vmos.Vmo.{Vmo}
 use Rattle.vmo_table.specs.Vmos.{vmos_in, lineages, keepers_in}
 
@@ -51,9 +50,10 @@ pub record AreParts (c : Content) (t : Table) : Type 0 where
 abbrev pub IsNamed : (ℕ → Option Target) → Target → Type 0
 IsNamed names target = (n : ℕ) × (names n ≡ Some target)
 
--- the table counts what keeps each VMO of a state beside its names: the pins that are of it
+-- the table counts what keeps each VMO of a state beside its names: the pins that are of it, and the pages of address
+-- spaces that show it
 abbrev pub CountsKeepers : Table → State → Type 0
-CountsKeepers t s = (v : ℕ) → keepers_of t v ≡ pin_count s.pins v
+CountsKeepers t s = (v : ℕ) → keepers_of t v ≡ keeper_count s v
 
 -- the parent of a VMO, where it has one
 abbrev pub parent_of : Option Lineage → Option ℕ

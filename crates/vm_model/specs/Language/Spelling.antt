@@ -8,12 +8,9 @@ use Rattle.vm_model.specs.declared.command.ChildKind.{ChildKind}
 use Rattle.vm_model.specs.declared.command.ChildKind.TheVariants.{Snapshot, Slice, Reference}
 use Rattle.vm_model.specs.declared.command.Command.{Command}
 use Rattle.vm_model.specs.declared.command.Command.TheVariants.{VmoCreate, VmoChild, VmoClose, VmoSize, VmoSetSize, VmoRead, VmoWrite, VmoFill, VmoCommit, VmoDecommit, VmoZero, VmoPin, VmoUnpin, VmoInfo, RootCreate, VmarAllocate, VmarMap, VmarUnmap, VmarProtect, VmarDestroy, Maps, MemRead, MemWrite, Stat}
+use Rattle.vm_model.specs.Space.Rights.{has}
 use Rattle.vm_model.specs.Language.Text.{data_text, perm_text}
 use Rattle.vm_base.specs.declared.limits.TheConstants.{DATA_BYTES}
-
--- a set of bits has these
-abbrev pub has : ℕ → ℕ → Bool
-has bits some = bit_and bits some == some
 
 -- the flags of a list that are set, in the list's order
 abbrev pub set_flags : List (List ℕ × Bool) → List (List ℕ)

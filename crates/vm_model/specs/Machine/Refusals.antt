@@ -3,9 +3,9 @@ use Rattle.std.specs.Prelude.{ℕ, ◌+◌, ◌*◌, ◌/◌, ◌%◌, Bool, not
 use Rattle.vm_base.specs.Pages.{rounded}
 use Rattle.vm_base.specs.declared.limits.TheConstants.{PAGE, VMO_PAGES, PIN_PAGES, DATA_BYTES}
 use Rattle.vm_base.specs.declared.refusal.Refusal.{Refusal}
-use Rattle.vm_base.specs.declared.refusal.Refusal.TheVariants.{BadHandle, NameInUse, BadState, AccessDenied, InvalidArgs, NotSupported, Unavailable, OutOfRange, NoMemory}
+use Rattle.vm_base.specs.declared.refusal.Refusal.TheVariants.{BadHandle, NameInUse, BadState, AccessDenied, InvalidArgs, NotSupported, Unavailable, OutOfRange, AlreadyExists, NoResources, NoMemory}
 use Rattle.vm_model.specs.declared.command.Command.{Command}
-use Rattle.vm_model.specs.declared.command.Command.TheVariants.{VmoCreate, VmoChild, VmoClose, VmoSize, VmoSetSize, VmoRead, VmoWrite, VmoFill, VmoCommit, VmoDecommit, VmoZero, VmoPin, VmoUnpin, VmoInfo}
+use Rattle.vm_model.specs.declared.command.Command.TheVariants.{VmoCreate, VmoChild, VmoClose, VmoSize, VmoSetSize, VmoRead, VmoWrite, VmoFill, VmoCommit, VmoDecommit, VmoZero, VmoPin, VmoUnpin, VmoInfo, RootCreate, VmarAllocate, VmarDestroy}
 use Rattle.vm_model.specs.declared.command.ChildKind.TheVariants.{Snapshot, Slice, Reference}
 use Rattle.vm_model.specs.declared.names.NameKind.TheVariants.{Slice as SliceName}
 use Rattle.vm_model.specs.Contents.Content.{used, pages_of}
@@ -14,7 +14,10 @@ use Rattle.vm_model.specs.Contents.Writing.{touched}
 use Rattle.vm_model.specs.Contents.Zeroing.{owned_by_zero}
 use Rattle.vm_model.specs.Naming.Names.{is_kind, may_decommit}
 use Rattle.vm_model.specs.Naming.Pins.{is_pinned, any_pinned, has_pin}
-use Rattle.vm_model.specs.Machine.State.{State, is_open, target_of, koid_of, size_of, place_of, lineage_of}
+use Rattle.vm_model.specs.Space.Rights.{has, specific, upper_limit}
+use Rattle.vm_model.specs.Space.Regions.{region_of}
+use Rattle.vm_model.specs.Space.Places.{is_free, has_place, is_misplaced, limit_of}
+use Rattle.vm_model.specs.Machine.State.{State, is_open, is_given, target_of, koid_of, size_of, place_of, lineage_of}
 
 -- owning these pages of the VMO of this name takes more frames than are free
 abbrev pub lacks_frames : State → ℕ → List ℕ → Bool
@@ -89,6 +92,25 @@ refusals s (VmoPin pin name offset len) =
 refusals s (VmoUnpin pin) = (not (is_some (s.pins pin.0)), BadHandle) ∷ []
 refusals s (VmoSize name) = (not (is_open s name.0), BadHandle) ∷ []
 refusals s (VmoInfo name) = (not (is_open s name.0), BadHandle) ∷ []
+refusals s (RootCreate region) = (is_given s region.0, NameInUse) ∷ []
+refusals s (VmarAllocate region parent offset len flags caps) =
+    let above = region_of s.spaces.regions parent.0 in
+    let fixed = has flags.0 specific in
+    let limited = has flags.0 upper_limit in
+    let first = above.first + offset / PAGE in
+    let count = rounded len / PAGE in
+    (not (is_given s parent.0), BadHandle)
+    ∷ (is_given s region.0, NameInUse)
+    ∷ (not above.live, BadState)
+    ∷ (not (has above.caps.0 caps.0), AccessDenied)
+    ∷ (is_misplaced above fixed limited offset len, InvalidArgs)
+    ∷ (fixed && not (is_free s.spaces parent.0 first (first + count)), AlreadyExists)
+    ∷ (not fixed && not (has_place s.spaces parent.0 count (limit_of above limited offset)), NoResources)
+    ∷ []
+refusals s (VmarDestroy region) =
+    (not (is_given s region.0), BadHandle)
+    ∷ (not (region_of s.spaces.regions region.0).live, BadState)
+    ∷ []
 -- the other commands refuse nothing: `Stat`, and those that are not built yet
 refusals s _ = []
 

@@ -1,4 +1,5 @@
--- The state of the machine: what the page store contains, the names of VMOs, the lineage of each VMO, and the pins.
+-- The state of the machine: what the page store contains, the names of VMOs, the lineage of each VMO, the pins, and the
+-- address spaces.
 use Rattle.std.specs.Prelude.{◌≡◌, ℕ, ◌+◌, ◌*◌, ◌<◌, ◌≤◌, Bool, true, false, ◌||◌, Option, None, Some, IsSome, is_some, unwrap_or}
 use Rattle.vm_base.specs.declared.limits.TheConstants.{PAGE, NAMES, PIN_PAGES}
 use Rattle.vm_model.specs.declared.names.NameKind.TheVariants.{Slice}
@@ -6,20 +7,26 @@ use Rattle.vm_model.specs.declared.names.Origin.TheVariants.{Created}
 use Rattle.vm_model.specs.Contents.Content.{Content, nothing, pages_of, sole, IsGood}
 use Rattle.vm_model.specs.declared.names.Target.{Target}
 use Rattle.vm_model.specs.Naming.Names.{Lineage, owner, is_named}
-use Rattle.vm_model.specs.Naming.Pins.{Pin, has_pin}
+use Rattle.vm_model.specs.Naming.Pins.{Pin, has_pin, pin_count}
+use Rattle.vm_model.specs.Space.AddressSpaces.{Spaces, no_spaces, is_mapped, mapped_count, AreGoodSpaces}
 
 pub record State : Type 0 where
   pub content : Content
   pub names : ℕ → Option Target
   pub lineage : ℕ → Option Lineage
   pub pins : ℕ → Option Pin
+  pub spaces : Spaces
 
 -- a machine with this many frames and nothing else
 unfoldable pub empty_state : ℕ → State
-empty_state frames = record { content = record nothing { frames = frames }; names = λ n. None; lineage = λ v. None; pins = λ n. None }
+empty_state frames = record { content = record nothing { frames = frames }; names = λ n. None; lineage = λ v. None; pins = λ n. None; spaces = no_spaces }
 
 abbrev pub is_open : State → ℕ → Bool
 is_open s name = is_some (s.names name)
+
+-- the name was given to a region
+abbrev pub is_given : State → ℕ → Bool
+is_given s name = is_some (s.spaces.regions name)
 
 -- what the name stands for. Where it is not open, this means nothing
 unfoldable pub target_of : State → ℕ → Target
@@ -45,9 +52,13 @@ place_of s name offset = (target_of s name).first * PAGE + offset
 unfoldable pub lineage_of : State → ℕ → Lineage
 lineage_of s v = unwrap_or (s.lineage v) (record { resizable = false; origin = Created; parent = None })
 
--- a VMO is live while a name stands for it or a pin is of it
+-- a VMO is live while a name stands for it, a pin is of it, or some page of an address space shows a page of it
 unfoldable pub is_live : State → ℕ → Bool
-is_live s v = is_named s.names v || has_pin s.pins v
+is_live s v = is_named s.names v || (has_pin s.pins v || is_mapped s.spaces v)
+
+-- how much keeps the VMO v beside names: the pins that are of it, and the pages of address spaces that show a page of it
+abbrev pub keeper_count : State → ℕ → ℕ
+keeper_count s v = pin_count s.pins v + mapped_count s.spaces v
 
 -- What holds of every name: it stands for a VMO. A name of a part is a slice, of a VMO that keeps its size, and the part lies
 -- inside the VMO.
@@ -74,3 +85,4 @@ pub record IsGoodState (s : State) : Type 0 where
   -- a parent is a VMO, and older than its child
   pub parents : (v p : ℕ) (l : Lineage) → s.lineage v ≡ Some l → l.parent ≡ Some p → (p < v) × IsSome (s.lineage p)
   pub pins : (n : ℕ) (pin : Pin) → s.pins n ≡ Some pin → (n < NAMES) × IsGoodPin s pin
+  pub spaces : AreGoodSpaces s.content s.spaces

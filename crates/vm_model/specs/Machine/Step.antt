@@ -1,17 +1,18 @@
 -- One step of the machine: a command is refused, or it has its effect, or the host lacks memory for it.
-use Rattle.std.specs.Prelude.{◌≡◌, ℕ, ◌+◌, ◌-◌, ◌/◌, min, Bool, true, false, not, List, length, map, replicate, Option, None, Some, ◌⊎◌, ◌&&◌}
+use Rattle.std.specs.Prelude.{◌≡◌, ℕ, ◌+◌, ◌-◌, ◌*◌, ◌/◌, min, Bool, true, false, not, List, length, map, replicate, Option, None, Some, Result, ◌⊎◌, ◌&&◌}
+use Rattle.std.specs.declared.result.Result.TheVariants.{Ok, Err}
 use Rattle.std.specs.List.{list_any, range_with_len}
 use Rattle.vm_base.specs.Pages.{rounded}
 use Rattle.vm_base.specs.declared.limits.TheConstants.{PAGE}
 use Rattle.vm_base.specs.declared.refusal.Refusal.{Refusal}
 use Rattle.vm_base.specs.declared.refusal.Refusal.TheVariants.{HostMemory}
 use Rattle.vm_model.specs.declared.command.Command.{Command}
-use Rattle.vm_model.specs.declared.command.Command.TheVariants.{VmoCreate, VmoChild, VmoClose, VmoSize, VmoSetSize, VmoRead, VmoWrite, VmoFill, VmoCommit, VmoDecommit, VmoZero, VmoPin, VmoUnpin, VmoInfo, Stat}
+use Rattle.vm_model.specs.declared.command.Command.TheVariants.{VmoCreate, VmoChild, VmoClose, VmoSize, VmoSetSize, VmoRead, VmoWrite, VmoFill, VmoCommit, VmoDecommit, VmoZero, VmoPin, VmoUnpin, VmoInfo, RootCreate, VmarAllocate, VmarDestroy, Stat}
 use Rattle.vm_model.specs.declared.command.ChildKind.TheVariants.{Snapshot as SnapshotChild, Slice as SliceChild, Reference as ReferenceChild}
 use Rattle.vm_model.specs.declared.names.NameKind.TheVariants.{Slice, Reference}
 use Rattle.vm_model.specs.declared.names.Origin.TheVariants.{Created, Snapshot}
 use Rattle.vm_model.specs.declared.reply.Reply.{Reply}
-use Rattle.vm_model.specs.declared.reply.Reply.TheVariants.{Done, Number, Bytes, Pins, Info as InfoReply, Stat as StatReply, Refused, Unbuilt}
+use Rattle.vm_model.specs.declared.reply.Reply.TheVariants.{Done, Number, Bytes, Pins, Address, Info as InfoReply, Stat as StatReply, Refused, Unbuilt}
 use Rattle.vm_model.specs.Contents.Content.{Content, Page, created, is_held, sole}
 use Rattle.vm_model.specs.Contents.Owning.{OwnsAll}
 use Rattle.vm_model.specs.Contents.Sharing.{snapshotted}
@@ -21,6 +22,10 @@ use Rattle.vm_base.specs.Entries.{with_key, without_key}
 use Rattle.vm_model.specs.declared.names.Target.{Target}
 use Rattle.vm_model.specs.Naming.Names.{owner}
 use Rattle.vm_model.specs.Naming.Pins.{Pin, is_pinned}
+use Rattle.vm_model.specs.Space.Rights.{has, specific, upper_limit}
+use Rattle.vm_model.specs.Space.Regions.{root_region, region_of, region_below}
+use Rattle.vm_model.specs.Space.AddressSpaces.{with_region, without_region}
+use Rattle.vm_model.specs.Space.Places.{IsPlace}
 use Rattle.vm_model.specs.Machine.State.{State, target_of, koid_of, name_pages, size_of, place_of}
 use Rattle.vm_model.specs.Machine.Leaving.{pruned}
 use Rattle.vm_model.specs.Machine.Attribution.{info_at, stat_of}
@@ -125,6 +130,14 @@ Effect old (VmoUnpin pin) reply new =
     (reply ≡ Done) × (new ≡ pruned (record old { pins = without_key old.pins pin.0 }))
 Effect old (VmoSize name) reply new = (reply ≡ Number (size_of old name.0)) × (new ≡ old)
 Effect old (VmoInfo name) reply new = (reply ≡ InfoReply (info_at old (target_of old name.0))) × (new ≡ old)
+Effect old (RootCreate region) reply new =
+    (reply ≡ Done) × (new ≡ record old { spaces = with_region old.spaces region.0 (root_region region.0) })
+Effect old (VmarAllocate region parent offset len flags caps) reply new =
+    (first : ℕ) × (reply ≡ Address (first * PAGE))
+    × IsPlace old.spaces parent.0 (has flags.0 specific) (has flags.0 upper_limit) offset (rounded len / PAGE) first
+    × (new ≡ record old { spaces = with_region old.spaces region.0 (region_below parent.0 (region_of old.spaces.regions parent.0) first (rounded len / PAGE) caps.0) })
+Effect old (VmarDestroy region) reply new =
+    (reply ≡ Done) × (new ≡ pruned (record old { spaces = without_region old.spaces region.0 }))
 Effect old Stat reply new = (reply ≡ StatReply (stat_of old.content)) × (new ≡ old)
 -- a command that is not built yet says so
 Effect old _ reply new = (reply ≡ Unbuilt) × (new ≡ old)
@@ -139,12 +152,19 @@ abbrev pub may_lack_memory : State → Command → Bool
 may_lack_memory s (VmoCreate name size resizable) = true
 may_lack_memory s (VmoChild name parent kind offset size resizable no_write) = true
 may_lack_memory s (VmoPin pin name offset len) = true
+may_lack_memory s (RootCreate region) = true
+may_lack_memory s (VmarAllocate region parent offset len flags caps) = true
 may_lack_memory s (VmoWrite name offset bytes) = touches_any s name.0 offset (length bytes) (λ p. not (sole s.content (koid_of s name.0) p))
 may_lack_memory s (VmoFill name offset len byte) = touches_any s name.0 offset len (λ p. not (sole s.content (koid_of s name.0) p))
 may_lack_memory s (VmoCommit name offset len) = touches_any s name.0 offset len (λ p. not (sole s.content (koid_of s name.0) p))
 may_lack_memory s (VmoZero name offset len) = touches_any s name.0 offset len (is_held s.content (koid_of s name.0))
 may_lack_memory s (VmoDecommit name offset len) = touches_any s name.0 offset len (is_held s.content (koid_of s name.0))
 may_lack_memory s _ = false
+
+-- what a call answers, as a reply of the machine
+abbrev pub reply_of : {A : Type 0} → (A → Reply) → Result A Refusal → Reply
+reply_of done (Ok a) = done a
+reply_of done (Err refusal) = Refused refusal
 
 -- nothing changes, and the reply is this refusal
 pub record IsRefused (old : State) (refusal : Refusal) (reply : Reply) (new : State) : Type 0 where

@@ -1,6 +1,6 @@
 use Rattle.std.proofs.Common.{◌∙◌, [], ◌∷◌, take}
 use Rattle.std.specs.Prelude.{codes}
-use Rattle.vm_model.specs.Language.Spelling.{has}
+use Rattle.vm_model.specs.Space.Rights.{has}
 use Rattle.script_text.proofs.SpacedLaws.{after_flag, last_flag}
 use Rattle.script_text.proofs.region_arguments.put_region_flags.Goals as goal
 

@@ -1,6 +1,6 @@
 use Rattle.std.proofs.Common.{rules, ◌∙◌}
 use Rattle.vm_base.proofs.EntryLaws.{some_is}
-use Rattle.vm_model.proofs.LeavingLaws.{unnamed, Loosens-unnamed, name_vmo}
+use Rattle.vm_model.proofs.LeavingLaws.{unnamed, LoosensAt-unnamed, name_vmo}
 use Rattle.vmo_table.specs.Table.{lineage_in, with_vmos}
 use Rattle.vmo_ops.proofs.SettleLaws.{leaving_vmo, settled_pruned}
 use Rattle.vmo_ops.proofs.closing.close.Goals as goal
@@ -17,7 +17,7 @@ returns-clause-step g c = λ rest counted.
     let d = g.P.PageStore.content c.drop_gone.new.store in
     let found = some_is _ c.requires.named in
     let gone = settled_pruned s (unnamed s c.args.name.0) _ counted.good
-    (Loosens-unnamed s c.args.name.0 found.0 counted.good found.1) _ c.close.ensures.names _ (counted.counted _) _ _
+    (LoosensAt-unnamed s c.args.name.0 found.0 counted.good found.1) _ c.close.ensures.names _ (counted.counted _) _ _
     (c.close.ensures.vmo found.0 found.1) d c.drop_gone.ensures in
     let new = (λ i. record s { content = d; names = c.close.ensures.names i; lineage = lineage_in c.close.new.self })
     ∙ gone in

@@ -1,6 +1,6 @@
 use Rattle.std.proofs.Common.{refl, sym, ◌∙◌, arith, rules}
 use Rattle.vm_base.proofs.SearchLaws.{bit-true, eqb_same}
-use Rattle.vm_model.proofs.LeavingLaws.{unpinned, Loosens-unpinned, pin_vmo}
+use Rattle.vm_model.proofs.LeavingLaws.{unpinned, LoosensAt-unpinned, pin_vmo}
 use Rattle.vmo_table.specs.Table.{lineage_in, keepers_of}
 use Rattle.pin_table.specs.Table.{pin_of, pins_of}
 use Rattle.vmo_ops.specs.Targets.{with_tables}
@@ -32,7 +32,7 @@ returns-clause-step g c = λ rest is.
     let low = (is.good.pins c.args.pin.0 (pin_of c.remove.result) held).0 in
     let count = pin_count-without_key s.pins c.args.pin.0 (pin_of c.remove.result) v low c.remove.ensures.pin in
     let gone = settled_pruned s (unpinned s c.args.pin.0) v is.good
-    (Loosens-unpinned s c.args.pin.0 (pin_of c.remove.result) is.good held) s.names refl (keepers_of c.release.new.self v)
+    (LoosensAt-unpinned s c.args.pin.0 (pin_of c.remove.result) is.good held) s.names refl (keepers_of c.release.new.self v)
     (omega (arith, is.counted v, c.release.ensures.keepers v, count)) _ _ c.release.ensures.vmo d
     c.drop_gone.ensures in
     let new = (λ i. record s {

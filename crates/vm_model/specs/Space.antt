@@ -1,0 +1,5 @@
+pub mod Rights
+pub mod Regions
+pub mod Table
+pub mod AddressSpaces
+pub mod Places

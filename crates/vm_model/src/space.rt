@@ -1,0 +1,36 @@
+//! What stands in an address space: regions, and what each page shows.
+
+use vm_base::{Koid, PageNo, Perm, RegionName};
+
+/// What a page of an address space shows: a page of a VMO, and what an access may do to it. A mapping of the kernel
+/// is a run of these.
+#[derive(Clone, Copy, Debug, PartialEq, Eq)]
+pub struct Entry {
+    /// The VMO that is shown.
+    pub koid: Koid,
+    /// The page of the VMO, counted from its first.
+    pub page: PageNo,
+    /// What an access may do.
+    pub perm: Perm,
+    /// The most that `perm` may be changed to.
+    pub cap: Perm,
+    /// The region that the mapping was made in.
+    pub region: RegionName,
+}
+
+/// A region of an address space (VMAR). It keeps its name when it is destroyed, and is not live from then on.
+#[derive(Clone, Copy, Debug, PartialEq, Eq)]
+pub struct Region {
+    /// The root region of its address space, itself where it is one.
+    pub root: RegionName,
+    /// The region that it was allocated in. A root region has none.
+    pub parent: Option<RegionName>,
+    /// Its first page, counted from address 0.
+    pub first: PageNo,
+    /// How many pages it has.
+    pub count: u64,
+    /// What mappings and regions in it may allow (`ZX_VM_CAN_MAP_READ` and so on).
+    pub caps: Perm,
+    /// Whether it is not destroyed.
+    pub live: bool,
+}
