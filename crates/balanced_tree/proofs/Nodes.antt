@@ -117,20 +117,13 @@ module _ {R : Type 0} (f : Functions R) where
     found-here m best g h = rw n.is (grind (arith, common_steps, rank_here, n.same.linked None None))
 
     pub found_to-left : (m : ℕ) (best : Option R) → m < f.rank here → found_to f m best t ≡ found_to f m best n.left
-    found_to-left m best h =
-        ap (found_to f m best) n.is ∙ cond-false (ltb (f.rank n.row) m) _ _ (le-ltb (f.rank n.row) m (omega (arith, rank_here)))
-        ∙ cond-true (ltb m (f.rank n.row)) _ _ (lt-ltb m (f.rank n.row) (omega (arith, rank_here)))
+    found_to-left m best h = rw n.is (grind (arith, common_steps, rank_here))
 
     pub found_to-right : (m : ℕ) (best : Option R) → f.rank here < m → found_to f m best t ≡ found_to f m (Some (f.linked here None None)) n.right
-    found_to-right m best h =
-        ap (found_to f m best) n.is ∙ cond-true (ltb (f.rank n.row) m) _ _ (lt-ltb (f.rank n.row) m (omega (arith, rank_here)))
-        ∙ ap (λ x. found_to f m (Some x) n.right) (sym (n.same.linked None None))
+    found_to-right m best h = rw n.is (grind (arith, common_steps, rank_here, n.same.linked None None))
 
     pub found_to-here : (m : ℕ) (best : Option R) → f.rank here ≤ m → m ≤ f.rank here → found_to f m best t ≡ Some (f.linked here None None)
-    found_to-here m best g h =
-        ap (found_to f m best) n.is ∙ cond-false (ltb (f.rank n.row) m) _ _ (le-ltb (f.rank n.row) m (omega (arith, rank_here)))
-        ∙ cond-false (ltb m (f.rank n.row)) _ _ (le-ltb m (f.rank n.row) (omega (arith, rank_here)))
-        ∙ ap Some (sym (n.same.linked None None))
+    found_to-here m best g h = rw n.is (grind (arith, common_steps, rank_here, n.same.linked None None))
 
     pub has_rank-left : (m : ℕ) → m < f.rank here → has_rank f m t ≡ has_rank f m n.left
     has_rank-left m h = rw n.is (grind (arith, common_steps, rank_here))
