@@ -17,6 +17,11 @@ module _ {X : Type 0} (p q : X → Bool) (b : Bool) (agree : (x : X) → p x ≡
   find-filter (x ∷ xs) = grind (arith, common_steps, find-filter xs, agree x)
 
 module _ {R : Type 0} (f : Functions R) where
+  -- the row of a rank has this rank
+  pub row_at-rank : (n : ℕ) (x : R) (rows : List R) → row_at f n rows ≡ Some x → f.rank x ≡ n
+  row_at-rank n x [] e = absurd (cc)
+  row_at-rank n x (y ∷ rows) e = grind (arith, common_steps, row_at-rank n x rows)
+
   -- rows from a rank on have no lower one
   row_at-below : (n low high : ℕ) (rows : List R) → RisesWithin f low high rows → n < low → row_at f n rows ≡ None
   row_at-below n low high [] h less = refl

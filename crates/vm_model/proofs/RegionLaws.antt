@@ -435,3 +435,30 @@ module _ (regions : ℕ → Option Region) (good : AreGoodRegions regions) (name
   -- a live region below another lies in it
   pub lies_below : (n : ℕ) (region : Region) → regions n ≡ Some region → region.live ≡ true → is_below regions name n ≡ true → lies_in above.first (end_of above) region ≡ true
   lies_below n region e live below = lies_under (good.age n + 1) n region (omega arith) e live below
+
+module _ (regions : ℕ → Option Region) (good : AreGoodRegions regions) (name : ℕ) where
+  -- one step up
+  older_by : (n : ℕ) (region : Region) → regions n ≡ Some region → is_below regions name n ≡ true
+      → ((p : ℕ) (up : Region) → good.age p < good.age n → regions p ≡ Some up → is_below regions name p ≡ true → good.age name < good.age p) → good.age name < good.age n
+  older_by n region e below each = go region.parent refl where
+    go : (o : Option RegionName) → region.parent ≡ o → good.age name < good.age n
+    go None f =
+        let none : is_below regions name n ≡ false =
+        ap (λ (o : Option Region). is_above NAMES regions name (parent_in o)) e
+        ∙ (ap (λ (o : Option RegionName). is_above NAMES regions name (option_map (λ (r : RegionName). r.0) o)) f ∙ is_above-none NAMES regions name) in
+        absurd (both_ways (is_below regions name n) none below)
+    go (Some p) f =
+        let parent = good.parents n region p e f in
+        elim (or_cases (p.0 == name) (is_below regions name p.0) (sym (is_below-step regions good name n region p e f) ∙ below)) [
+          | inl here ↦ omega (arith, parent.2, ap good.age (eqb_is p.0 name here))
+          | inr higher ↦ omega (arith, parent.2, each p.0 parent.0 parent.2 parent.1 higher)
+        ]
+
+  older_under : (fuel n : ℕ) (region : Region) → good.age n < fuel → regions n ≡ Some region → is_below regions name n ≡ true → good.age name < good.age n
+  older_under zero n region h e below = absurd (omega (arith, h))
+  older_under (suc fuel) n region h e below = older_by n region e below (λ p up older f higher. older_under fuel p up (omega (arith, h, older)) f higher)
+
+  -- no region lies below itself
+  pub not_below_itself : (region : Region) → regions name ≡ Some region → is_below regions name name ≡ false
+  not_below_itself region e = false_from_ne_true (is_below regions name name) (λ below.
+      let older = older_under (good.age name + 1) name region (omega arith) e below in absurd (omega (arith, older)))
