@@ -1,3 +1,4 @@
 mod AskingLaws
 mod CallLaws
 pub mod StartLaws
+pub mod DestroyLaws

@@ -6,19 +6,24 @@ use Rattle.vm_model.specs.Machine.State.{IsGoodState, empty_state}
 use Rattle.vm_base.specs.declared.limits.TheConstants.{NAMES}
 use Rattle.vm_base.proofs.EntryLaws.{entry_count-empty}
 use Rattle.vm_model.specs.Naming.Pins.{Pin}
-use Rattle.vmo_table.specs.Table.{Table as Vmos, names_of, lineage_in, keepers_of}
-use Rattle.pin_table.specs.Table.{Table as Pins, pins_of}
-use Rattle.vm_core.specs.Vm.{Parts, HasNoVmo, bare_state, state_of}
-use Rattle.vm_core.specs.Calls.{CountsPins}
+use Rattle.vmo_table.specs.Table.{names_of, lineage_in, keepers_of, CountsKeepers}
+use Rattle.pin_table.specs.Table.{pins_of}
+use Rattle.vm_model.specs.Space.AddressSpaces.{no_spaces}
+use Rattle.mapping_set.specs.Tables.{table_of}
+use Rattle.region_tree.specs.Tree.{regions_of}
+use Rattle.vm_core.specs.Vm.{Parts, spaces_in, HasNoVmo, bare_state, state_of}
+use Rattle.vm_model.proofs.SpaceLaws.{AreGoodSpaces-none, mapped_count-none}
 
 -- tables in which nothing stands
 pub state_of-bare : (c : Content) (vm : Parts) → ((n : ℕ) → names_of vm.vmos n ≡ None)
-    → ((v : ℕ) → lineage_in vm.vmos v ≡ None) → ((n : ℕ) → pins_of vm.pins n ≡ None) → state_of c vm ≡ bare_state c
-unfolding empty_state
-state_of-bare c vm names lineage pins = λ i. record (bare_state c) {
+    → ((v : ℕ) → lineage_in vm.vmos v ≡ None) → ((n : ℕ) → pins_of vm.pins n ≡ None)
+    → regions_of vm.regions ≡ (λ n. None) → table_of vm.maps ≡ (λ root p. None) → state_of c vm ≡ bare_state c
+unfolding empty_state no_spaces
+state_of-bare c vm names lineage pins regions table = λ i. record (bare_state c) {
   names = λ n. names n i;
   lineage = λ v. lineage v i;
   pins = λ n. pins n i;
+  spaces = record { regions = regions i; table = table i };
 }
 
 -- the machine is good
@@ -31,6 +36,7 @@ IsGoodState-bare c good none = record {
   live = λ v h. absurd cc;
   parents = λ v p l e f. absurd cc;
   pins = λ n pin e. absurd cc;
+  spaces = AreGoodSpaces-none c;
 }
 
 -- in a store without VMOs no page is held
@@ -57,8 +63,9 @@ state_of-filled frames new old vm bare filled e =
     bare new ∙ ap bare_state (filled ∙ ap with_frames e)
 
 -- in a table of VMOs without keepers no pin is counted
-pub counts_none : (vmos : Vmos) (pins : Pins) → ((v : ℕ) → keepers_of vmos v ≡ 0) → ((n : ℕ) → pins_of pins n ≡ None)
-    → CountsPins vmos pins
-counts_none vmos pins none empty = record {
-  each = λ s v. none v ∙ sym (entry_count-empty NAMES (λ (pin : Pin). pin.koid == v) (pins_of pins) empty);
-}
+pub counts_none : (vm : Parts) → ((v : ℕ) → keepers_of vm.vmos v ≡ 0) → ((n : ℕ) → pins_of vm.pins n ≡ None)
+    → table_of vm.maps ≡ (λ root p. None) → CountsKeepers vm.vmos (state_of nothing vm)
+counts_none vm none empty table v =
+    let no_pin = entry_count-empty NAMES (λ (pin : Pin). pin.koid == v) (pins_of vm.pins) empty in
+    let no_page = mapped_count-none (spaces_in vm) v table in
+    omega (arith, none v, no_pin, no_page)

@@ -3,23 +3,40 @@
 use Rattle.vm_model.specs.declared.command.Command.{Command}
 use Rattle.vm_model.specs.declared.reply.Reply.{Reply}
 use Rattle.vm_model.specs.Contents.Content.{Content}
+use Rattle.vm_model.specs.Space.AddressSpaces.{Spaces}
 use Rattle.vm_model.specs.Machine.State.{State, IsGoodState}
 use Rattle.vm_model.specs.Machine.Step.{Step}
 use Rattle.vmo_table.specs.Table.{Table as Vmos, with_vmos, CountsKeepers}
 use Rattle.pin_table.specs.Table.{Table as Pins, pins_of}
-use Rattle.vmo_ops.specs.Targets.{with_tables}
+use Rattle.vmo_ops.specs.Targets.{with_tables, IsWellCounted}
+use Rattle.vm_core.specs.Vm.{Parts, with_parts}
 
--- the table of VMOs counts what keeps each VMO: the pins of the other table
-pub record CountsPins (vmos : Vmos) (pins : Pins) : Type 0 where
-  pub each : (s : State) → CountsKeepers vmos (record s { pins = pins_of pins })
+-- A store and the two tables are parts of one good state, and the table of VMOs counts right what keeps each VMO of it.
+pub record AreCounted (c : Content) (vmos : Vmos) (pins : Pins) : Type 0 where
+  pub rest : State
+  pub well : IsWellCounted vmos (with_tables rest c vmos pins)
+
+-- the table of VMOs counts right what keeps each VMO beside the new pins, where it did beside the old ones
+pub record KeepsCounts (vmos_old : Vmos) (pins_old : Pins) (vmos_new : Vmos) (pins_new : Pins) : Type 0 where
+  pub counts : (s : State) → CountsKeepers vmos_old (record s { pins = pins_of pins_old })
+      → CountsKeepers vmos_new (record s { pins = pins_of pins_new })
 
 -- a store and a table of VMOs do a step of the machine, whatever else it has
 pub record StepsVmos (old : Content) (vmos_old : Vmos) (command : Command) (reply : Reply)
     (new : Content) (vmos_new : Vmos) : Type 0 where
   pub step : (s : State) → Step (with_vmos s old vmos_old) command reply (with_vmos s new vmos_new)
 
--- a store and the two tables do a step of the machine, where it is good, whatever else it has
+-- a store and the two tables do a step of the machine, where it is good and its keepers are counted right, whatever else it has
 pub record Steps (old : Content) (vmos_old : Vmos) (pins_old : Pins) (command : Command) (reply : Reply)
     (new : Content) (vmos_new : Vmos) (pins_new : Pins) : Type 0 where
-  pub step : (s : State) → IsGoodState (with_tables s old vmos_old pins_old)
+  pub step : (s : State) → IsWellCounted vmos_old (with_tables s old vmos_old pins_old)
       → Step (with_tables s old vmos_old pins_old) command reply (with_tables s new vmos_new pins_new)
+
+-- a store, the tables and the address spaces do a step of the machine, where it is good and its keepers are counted right
+pub record StepsAll (old : Content) (vm_old : Parts) (command : Command) (reply : Reply) (new : Content) (vm_new : Parts) : Type 0 where
+  pub step : (s : State) → IsWellCounted vm_old.vmos (with_parts s old vm_old)
+      → Step (with_parts s old vm_old) command reply (with_parts s new vm_new)
+
+-- the regions and the mappings do a step of the machine, where it is good, whatever else it has
+pub record StepsSpaces (old : Spaces) (command : Command) (reply : Reply) (new : Spaces) : Type 0 where
+  pub step : (s : State) → IsGoodState (record s { spaces = old }) → Step (record s { spaces = old }) command reply (record s { spaces = new })

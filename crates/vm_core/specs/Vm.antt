@@ -5,19 +5,33 @@ use Rattle.vm_model.specs.Machine.State.{State, empty_state}
 use Rattle.vmo_table.specs.Table.{Table as Vmos}
 use Rattle.pin_table.specs.Table.{Table as Pins}
 use Rattle.vmo_ops.specs.Targets.{with_tables}
+use Rattle.vm_model.specs.Space.AddressSpaces.{Spaces}
+use Rattle.mapping_set.specs.Tables.{Set as Mappings}
+use Rattle.mapping_set.specs.Tables.{table_of}
+use Rattle.region_tree.specs.Tree.{Tree as Regions, regions_of, spaces_of}
 
--- the table of names and VMOs, and the table of pins
+-- the table of names and VMOs, the table of pins, the regions, and the mappings
 pub record Parts : Type 0 where
   pub vmos : Vmos
   pub pins : Pins
+  pub regions : Regions
+  pub maps : Mappings
 
--- a machine with this content, and without names, lineage and pins
+-- the address spaces that the regions and the mappings are
+abbrev pub spaces_in : Parts → Spaces
+spaces_in vm = spaces_of (regions_of vm.regions) (table_of vm.maps)
+
+-- the state s, but with this content of a store, and all that the parts have
+abbrev pub with_parts : State → Content → Parts → State
+with_parts s c vm = record (with_tables s c vm.vmos vm.pins) { spaces = spaces_in vm }
+
+-- a machine with this content, and without names, lineage, pins and regions
 abbrev pub bare_state : Content → State
 bare_state c = record (empty_state 0) { content = c }
 
--- the state of the machine. What neither the store nor the tables keep is as in a machine without any of it
+-- the state of the machine. The store and the parts keep all of it
 abbrev pub state_of : Content → Parts → State
-state_of c vm = with_tables (bare_state c) c vm.vmos vm.pins
+state_of c vm = with_parts (bare_state c) c vm
 
 -- the store has no VMO
 abbrev pub HasNoVmo : Content → Type 0

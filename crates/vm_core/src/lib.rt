@@ -11,6 +11,7 @@ mod changing;
 mod dispatching;
 mod naming;
 mod pinning;
+mod spaces;
 mod vm;
 
 pub use vm::Vm;

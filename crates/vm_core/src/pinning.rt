@@ -5,8 +5,7 @@ ghost use Rattle.std.specs.Prelude.{◌<◌, ◌≤◌, length};
 ghost use Rattle.vm_base.specs.declared.limits.TheConstants.{NAMES, PIN_PAGES};
 ghost use Rattle.vm_model.specs.declared.command.Command.{Command};
 ghost use Rattle.vm_model.specs.Machine.Lent.{reply_for};
-ghost use Rattle.vmo_ops.specs.Targets.{AreTogether};
-ghost use Rattle.vm_core.specs.Calls.{CountsPins, Steps};
+ghost use Rattle.vm_core.specs.Calls.{AreCounted, KeepsCounts, Steps};
 
 use page_store::PageStore;
 use pin_table::PinTable;
@@ -26,12 +25,11 @@ pub(crate) fn vmo_pin<'a, P: PageStore>(
     len: u64,
     room: &'a mut [u64],
 ) -> Answer<'a>
-    requires good { AreTogether (P.content store.old) vmos.old pins.old }
-    requires counted { CountsPins vmos.old pins.old }
+    requires counted { AreCounted (P.content store.old) vmos.old pins.old }
     requires room { PIN_PAGES ≤ length room.old }
     ensures step { Steps (P.content store.old) vmos.old pins.old (Command.VmoPin pin name offset len)
         (reply_for result) (P.content store.new) vmos.new pins.new }
-    ensures counted { CountsPins vmos.new pins.new }
+    ensures counted { KeepsCounts vmos.old pins.old vmos.new pins.new }
     ensures pin { pin.0 < NAMES }
 {
     let Some(target) = vmos.resolve(name) else {
@@ -53,12 +51,11 @@ pub(crate) fn vmo_unpin<P: PageStore>(
     pins: &mut PinTable,
     pin: PinName,
 ) -> Answer<'static>
-    requires good { AreTogether (P.content store.old) vmos.old pins.old }
-    requires counted { CountsPins vmos.old pins.old }
+    requires counted { AreCounted (P.content store.old) vmos.old pins.old }
     ensures step { Steps (P.content store.old) vmos.old pins.old (Command.VmoUnpin pin)
         (reply_for result)
         (P.content store.new) vmos.new pins.new }
-    ensures counted { CountsPins vmos.new pins.new }
+    ensures counted { KeepsCounts vmos.old pins.old vmos.new pins.new }
 {
     if pins.get(pin).is_none() {
         return Answer::Refused(Refusal::BadHandle);

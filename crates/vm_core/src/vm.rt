@@ -5,20 +5,26 @@ ghost use Rattle.vm_base.specs.declared.limits.TheConstants.{DATA_BYTES, KOIDS, 
 ghost use Rattle.vm_model.specs.Machine.Lent.{command_of, reply_for};
 
 use crate::dispatching::dispatch;
+use mapping_set::MappingSet;
 use page_store::PageStore;
 use pin_table::PinTable;
+use region_tree::Regions;
 use std::alloc::Global;
 use std::marker::Model;
 use vm_base::{DATA_BYTES, PIN_PAGES};
 use vm_model::{Answer, Call, Command, Reply};
 use vmo_table::VmoTable;
 
-/// The names, VMOs and pins of the machine, over a store of pages. One `step` is one event.
+/// The names, VMOs, pins and regions of the machine, over a store of pages. One `step` is one event.
 #[derive(Drop)]
 pub struct Vm {
     vmos: VmoTable,
     /// The pins. Each is counted in `vmos` as a keeper of its VMO.
     pins: PinTable,
+    /// The regions of all address spaces.
+    regions: Regions,
+    /// What each page of each address space shows.
+    maps: MappingSet,
 }
 
 impl Model for Vm {
@@ -39,7 +45,7 @@ impl Vm {
     ghost use Rattle.vm_model.specs.Machine.Step.{Step};
     ghost use Rattle.vm_core.specs.Vm.{HasNoVmo, bare_state, state_of};
 
-    /// A machine with no names and no pins. It agrees with every good store that has no VMO, whatever its
+    /// A machine with no names, pins and regions. It agrees with every good store that has no VMO, whatever its
     /// next koid is. Where that is 1, they are the empty machine.
     pub fn new(alloc: Global) -> Vm
         ensures bare { (c : Content) → state_of c result ≡ bare_state c }
@@ -49,6 +55,8 @@ impl Vm {
         Vm {
             vmos: VmoTable::new(alloc),
             pins: PinTable::new(alloc),
+            regions: Regions::new(alloc),
+            maps: MappingSet::new(alloc),
         }
     }
 
@@ -88,6 +96,15 @@ impl Vm {
         ensures good { IsGoodState (state_of (P.content store.new) self.new) }
         ensures next { (P.content store.new).next ≤ (P.content store.old).next + 1 }
     {
-        dispatch(store, &mut self.vmos, &mut self.pins, call, bytes, numbers)
+        dispatch(
+            store,
+            &mut self.vmos,
+            &mut self.pins,
+            &mut self.regions,
+            &self.maps,
+            call,
+            bytes,
+            numbers,
+        )
     }
 }

@@ -1,15 +1,15 @@
 use Rattle.vmo_ops.specs.Targets.{with_tables}
-use Rattle.vm_core.proofs.CallLaws.{counted_parts}
+use Rattle.vm_core.specs.Vm.{Parts, with_parts}
 use Rattle.vm_core.proofs.dispatching.dispatch.Goals as goal
 
 pub returns-in-VmoClose-clause-step : goal.returns-in-VmoClose-clause-step
 returns-in-VmoClose-clause-step g c = rw c.in-VmoClose.is (record {
-  step = λ s good.
-      let machine = with_tables s (g.P.PageStore.content c.args.store.now) c.args.vmos.now c.args.pins.now in
-      c.vmo_close.ensures.step machine (record { good = good; counted = c.requires.counted.each machine });
+  step = λ s well.
+      let vm : Parts = record { vmos = c.args.vmos.now; pins = c.args.pins.now; regions = c.args.regions.now; maps = c.args.maps.now } in
+      c.vmo_close.ensures.step (with_parts s (g.P.PageStore.content c.args.store.now) vm) well;
 })
 
 pub vmo_close-requires : goal.vmo_close-requires
 vmo_close-requires g c =
-    let counted = counted_parts _ c.args.vmos.now c.args.pins.now c.requires.good c.requires.counted in
-    (with_tables counted.0 (g.P.PageStore.content c.args.store.now) c.args.vmos.now c.args.pins.now, counted.1)
+    let counted = c.requires.counted in
+    (with_tables counted.rest (g.P.PageStore.content c.args.store.now) c.args.vmos.now c.args.pins.now, counted.well)

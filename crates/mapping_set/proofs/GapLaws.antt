@@ -1,0 +1,89 @@
+-- A range of a region's list is open where no entry of the region is on its pages.
+use Rattle.std.proofs.Common.{subst, ◌≡◌, ℕ, ◌+◌, ◌<◌, true, false, ◌&&◌, Option, None, Some, inl, inr, sym, ap, ◌∙◌, arith}
+use Rattle.std.specs.Prelude.{nat_le}
+use Rattle.std.specs.Option.{MatchOption}
+use Rattle.std.proofs.lemmas.Bool.{cases_Bool, and_parts, and_from, false_from_ne_true, both_ways, le-leb, leb-true, eqb-true, eq-eqb}
+use Rattle.vm_base.specs.Entries.{passes}
+use Rattle.vm_base.specs.declared.limits.TheConstants.{NAMES, PAGES_END}
+use Rattle.vm_base.proofs.EntryLaws.{passes-some, passes_found}
+use Rattle.vm_base.proofs.SearchLaws.{any_below_found, any_below_at}
+use Rattle.pair_map.specs.declared.stretch_row.Extent.{Extent}
+use Rattle.pair_map.specs.Maps.{IsOpen, HasNoOpen, IsFirstOpen}
+use Rattle.vm_model.specs.declared.space.Entry.{Entry}
+use Rattle.vm_model.specs.Space.Table.{mapping_from, is_in, has_entry}
+use Rattle.mapping_set.specs.declared.piece.Piece.{Piece}
+use Rattle.mapping_set.specs.Pieces.{list_number, table_in, ArePieces, AreListed}
+use Rattle.mapping_set.specs.Tables.{IsFirstGap, HasNoGap}
+use Rattle.mapping_set.proofs.TableLaws.{table_in-found, table_in-at}
+
+-- an entry of a piece is of the region of the piece
+region_same : (x : Piece) (p : ℕ) (e : Entry) → mapping_from x.first x.entry p ≡ Some e → x.entry.region.0 ≡ e.region.0
+region_same x p e is = ap region_of is
+  where
+    region_of : Option Entry → ℕ
+    region_of None = 0
+    region_of (Some entry) = entry.region.0
+
+module _ {V : Type 0} (pieces : ℕ → ℕ → Option Piece) (h : ArePieces pieces) (lists : ℕ → ℕ → Option (Extent V)) (g : AreListed pieces lists)
+    (root region : ℕ) (few : root < NAMES) where
+  abbrev list : ℕ → Option (Extent V)
+  list = lists (list_number region root)
+
+  -- an entry of the region is on a page of a range that is not open
+  has_no-open : (p count : ℕ) → IsOpen list p count → has_entry (table_in pieces) root region p (p + count) ≡ false
+  unfolding has_entry
+  has_no-open p count free = false_from_ne_true _ (λ has.
+      let found = any_below_found (p + count) (λ q. nat_le p q && passes (is_in region) (table_in pieces root q)) has in
+      let parts = and_parts (nat_le p found.0) (passes (is_in region) (table_in pieces root found.0)) found.2 in
+      let entry = passes_found (is_in region) (table_in pieces root found.0) parts.1 in
+      let by = table_in-found pieces root found.0 entry.0 entry.1 in
+      let region_is : by.1.entry.region.0 ≡ region = region_same by.1 found.0 entry.0 by.6 ∙ eqb-true entry.0.region.0 region entry.2 in
+      let listed = g.listed root by.0 by.1 by.2 in
+      let last = (h.sound root by.0 by.1 by.2).last_is in
+      let count_is = listed.2 in
+      free.free found.0 by.1.first listed.0 (leb-true p found.0 parts.0) found.1 (record {
+        is = subst (λ n. lists (list_number n root) by.1.first ≡ Some listed.0) region_is listed.1;
+        from = by.3;
+        below = omega (arith, by.4);
+      }))
+
+  open-has_no : (p count : ℕ) → has_entry (table_in pieces) root region p (p + count) ≡ false → IsOpen list p count
+  unfolding has_entry
+  open-has_no p count none = record {
+    free = λ q first e low high covers.
+        let held = g.held root region first e few covers.is in
+        let last = (h.sound root held.0 held.1 held.2).last_is in
+        let begins = held.3 in
+        let count_is = held.4 in
+        let from = covers.from in
+        let below = covers.below in
+        let shown = table_in-at pieces h root held.0 held.1 q held.2 (omega arith) (omega arith) in
+        both_ways (has_entry (table_in pieces) root region p (p + count)) none
+        (any_below_at (p + count) q (λ k. nat_le p k && passes (is_in region) (table_in pieces root k)) high
+        (and_from (nat_le p q) (passes (is_in region) (table_in pieces root q)) (le-leb p q low)
+        (passes-some (is_in region) (table_in pieces root q) _ shown ∙ eq-eqb held.1.entry.region.0 region held.5)));
+  }
+
+  has-not_open : (p count : ℕ) → (IsOpen list p count → ⊥) → has_entry (table_in pieces) root region p (p + count) ≡ true
+  has-not_open p count shut = elim (cases_Bool (has_entry (table_in pieces) root region p (p + count))) [
+    | inl has ↦ has
+    | inr none ↦ absurd (shut (open-has_no p count none))
+  ]
+
+  -- the lowest gap of the list is the lowest one among the entries of the region
+  pub gap_of-list : (from count limit : ℕ) (answer : Option ℕ) → MatchOption answer (HasNoOpen list from count limit) (IsFirstOpen list from count limit)
+      → MatchOption answer (HasNoGap (table_in pieces) root region from count limit) (IsFirstGap (table_in pieces) root region from count limit)
+  gap_of-list from count limit None none = λ p low high. has-not_open p count (none p low high)
+  gap_of-list from count limit (Some p) gap = record {
+    not_before = gap.not_before;
+    not_past = gap.not_past;
+    free = has_no-open p count gap.free;
+    first = λ q low less. has-not_open q count (gap.first q low less);
+  }
+
+  -- no page has an entry of a region with an empty list
+  pub no_entry-none : ((p : ℕ) → list p ≡ None) → has_entry (table_in pieces) root region 0 PAGES_END ≡ false
+  no_entry-none none =
+      let end : 0 + PAGES_END ≡ PAGES_END = omega arith in
+      ap (has_entry (table_in pieces) root region 0) (sym end)
+      ∙ has_no-open 0 PAGES_END (record { free = λ q p e low high covers. absurd (let is = covers.is in let gone = none p in cc) })

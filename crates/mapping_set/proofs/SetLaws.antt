@@ -1,0 +1,86 @@
+-- The set where a piece comes or goes, in the words of its fields.
+use Rattle.std.proofs.Common.{◌≡◌, ℕ, ◌+◌, ◌-◌, ◌<◌, ◌≤◌, Option, None, Some, sym, ap, subst, ◌∙◌, arith}
+use Rattle.vm_base.specs.declared.limits.TheConstants.{NAMES, PAGES_END}
+use Rattle.balanced_tree.specs.Pairs.{with_pair}
+use Rattle.pair_map.specs.declared.stretch_row.Extent.{Extent}
+use Rattle.pair_map.specs.Maps.{IsOpen, values_of, extents_of}
+use Rattle.mapping_set.specs.declared.piece.Piece.{Piece}
+use Rattle.mapping_set.specs.declared.mapping_set.MappingSet.TheInside.{Inside}
+use Rattle.mapping_set.specs.Pieces.{list_number, table_in, IsSound, ArePieces, AreListed}
+use Rattle.mapping_set.specs.SetFields.{set_of, IsSet}
+use Rattle.mapping_set.specs.Tables.{Set, table_of, with_piece, without_piece, IsBare, IsPieceOf}
+use Rattle.mapping_set.proofs.TableLaws.{shown_whole}
+use Rattle.mapping_set.proofs.PieceLaws.{none_there, ArePieces-more, table_in-more, open_there, AreListed-more, ArePieces-less, table_in-less, AreListed-less}
+
+module _ (a : Inside) (h : IsSet a) (now : Set) (seen : set_of a ≡ now) (root n l : ℕ) (n_is : n ≡ root) (x : Piece) (l_is : l ≡ list_number x.entry.region.0 root) where
+  abbrev values : ℕ → ℕ → Option Piece
+  values = values_of a.pieces
+
+  abbrev lists : ℕ → ℕ → Option (Extent Unit)
+  lists = extents_of a.lists
+
+  -- a piece comes
+  module _ (below : (x.entry.region.0 < NAMES) × (root < NAMES)) (some : 1 ≤ x.count) (end : x.first + x.count ≤ PAGES_END)
+      (pages : x.entry.page + x.count ≤ PAGES_END) (bare : IsBare (table_of now root) x.first (x.first + x.count)) where
+    sound : IsSound root (x.first + x.count - 1) x
+    sound = record {
+      root_below = below.1;
+      region_below = below.0;
+      some = some;
+      last_is = omega arith;
+      end = omega arith;
+      pages = pages;
+    }
+
+    bare_inside : IsBare (table_in values root) x.first (x.first + x.count)
+    bare_inside = subst (λ (m : Set). IsBare (table_of m root) x.first (x.first + x.count)) (sym seen) bare
+
+    pub absent : values n (x.first + x.count - 1) ≡ None
+    absent = ap (λ k. values k (x.first + x.count - 1)) n_is ∙ none_there values h.pieces root (x.first + x.count - 1) x sound bare_inside
+
+    pub free : IsOpen (lists l) x.first x.count
+    free =
+        subst (λ k. IsOpen (lists k) x.first x.count) (sym l_is)
+        (open_there values h.pieces root (x.first + x.count - 1) x sound bare_inside lists h.lists)
+
+    module _ (b : Inside) (put : values_of b.pieces ≡ with_pair values n (x.first + x.count - 1) (Some x)) where
+      put_is : values_of b.pieces ≡ with_pair values root (x.first + x.count - 1) (Some x)
+      put_is = put ∙ ap (λ k. with_pair values k (x.first + x.count - 1) (Some x)) n_is
+
+      pub IsSet-more : (e : Extent Unit) → e.count ≡ x.count → extents_of b.lists ≡ with_pair lists l x.first (Some e) → IsSet b
+      IsSet-more e count_is list = record {
+        pieces = subst ArePieces (sym put_is) (ArePieces-more values h.pieces root (x.first + x.count - 1) x sound bare_inside);
+        lists = subst (λ m. AreListed m (extents_of b.lists)) (sym put_is) (subst (AreListed (with_pair values root (x.first + x.count - 1) (Some x)))
+            (sym (list ∙ ap (λ k. with_pair lists k x.first (Some e)) l_is))
+            (AreListed-more values h.pieces root (x.first + x.count - 1) x sound bare_inside lists h.lists e count_is));
+      }
+
+      pub table-more : table_of (set_of b) ≡ with_piece (table_of now) root x
+      table-more =
+          ap table_in put_is ∙ (table_in-more values h.pieces root (x.first + x.count - 1) x sound bare_inside
+          ∙ ap (λ (m : Set). with_piece (table_of m) root x) seen)
+
+  -- a piece goes
+  module _ (last : ℕ) (is : values n last ≡ Some x) where
+    is_root : values root last ≡ Some x
+    is_root = ap (λ k. values k last) (sym n_is) ∙ is
+
+    pub whole : IsPieceOf (table_of now root) x
+    whole = subst (λ (m : Set). IsPieceOf (table_of m root) x) seen (shown_whole values h.pieces root last x is_root)
+
+    module _ (b : Inside) (taken : values_of b.pieces ≡ with_pair values n last None) where
+      taken_is : values_of b.pieces ≡ with_pair values root last None
+      taken_is = taken ∙ ap (λ k. with_pair values k last None) n_is
+
+      pub IsSet-less : extents_of b.lists ≡ with_pair lists l x.first None → IsSet b
+      IsSet-less list = record {
+        pieces = subst ArePieces (sym taken_is) (ArePieces-less values h.pieces root last x is_root);
+        lists = subst (λ m. AreListed m (extents_of b.lists)) (sym taken_is) (subst (AreListed (with_pair values root last None))
+            (sym (list ∙ ap (λ k. with_pair lists k x.first None) l_is)) (AreListed-less values h.pieces root last x is_root lists h.lists));
+      }
+
+      pub table-less : (y : Piece) → values_of now.pieces root last ≡ Some y → table_of (set_of b) ≡ without_piece (table_of now) root y
+      table-less y found =
+          ap table_in taken_is
+          ∙ (table_in-less values h.pieces root last y (ap (λ (m : Set). values_of m.pieces root last) seen ∙ found)
+          ∙ ap (λ (m : Set). without_piece (table_of m) root y) seen)

@@ -1,0 +1,43 @@
+use Rattle.std.proofs.Common.{◌≡◌, ◌+◌, refl, ap, ◌∙◌, arith}
+use Rattle.mapping_set.specs.Pieces.{piece_until}
+use Rattle.mapping_set.specs.Tables.{table_of, without_piece}
+use Rattle.mapping_set.specs.declared.piece.Piece.{Piece}
+use Rattle.mapping_set.proofs.CutLaws.{tail-bare, tail-table, bare-until}
+use Rattle.mapping_set.proofs.mapping_set.MappingSet.carve.Goals as goal
+
+pub returns-in_err-last-clause-table : goal.returns-in_err-last-clause-table
+returns-in_err-last-clause-table c = rw c.from_residual.ensures c.cut.ensures.table
+
+pub returns-then-end-piece-clause-table : goal.returns-then-end-piece-clause-table
+returns-then-end-piece-clause-table c = c.cut.ensures.table
+
+pub returns-then-last-end-clause-table : goal.returns-then-last-end-clause-table
+returns-then-last-end-clause-table c =
+    c.take.ensures.table _ c.in_ok-last.ensures.is
+    ∙ ap (λ t. without_piece t c.args.root.0 c.in_ok-last.piece) c.cut.ensures.table
+
+pub put-requires-clause-bare : goal.put-requires-clause-bare
+put-requires-clause-bare c =
+    let held = c.in_ok-last.ensures in
+    let taken = c.take.ensures.table _ held.is in
+    tail-bare _ _ c.args.root.0 c.in_ok-last.piece taken held.entries c.saturating_add-end.result c.if-end-piece.false
+    (omega (arith, held.sound.last_is, c.if-last-end.false)) (piece_until c.in_ok-last.piece c.saturating_add-end.result) c.from.result refl c.from.ensures
+
+left : (c : goal.After-until) → table_of c.put.new.self ≡ without_piece (table_of c.cut.new.self) c.args.root.0 c.until.result
+left c =
+    let held = c.in_ok-last.ensures in
+    let taken = c.take.ensures.table _ held.is in
+    tail-table _ _ c.args.root.0 c.in_ok-last.piece taken held.entries c.saturating_add-end.result c.if-end-piece.false
+    (omega (arith, held.sound.last_is, c.if-last-end.false)) c.until.result c.from.result c.until.ensures c.from.ensures _ c.put.ensures.table
+
+pub returns-clause-table : goal.returns-clause-table
+returns-clause-table c = left c ∙ ap (λ t. without_piece t c.args.root.0 c.until.result) c.cut.ensures.table
+
+pub returns-clause-rest : goal.returns-clause-rest
+returns-clause-rest c falls =
+    let held = c.in_ok-last.ensures in
+    let begins = ap (λ (x : Piece). x.first) c.until.ensures in
+    let count = ap (λ (x : Piece). x.count) c.until.ensures in
+    bare-until _ _ c.args.root.0 c.until.result (left c) c.args.first (c.args.first + c.args.count)
+    (omega (arith, c.saturating_add-end.ensures, begins, count, held.sound.end, c.if-last-end.false, c.if-end-piece.false))
+    (λ p low high. held.free p low (omega (arith, begins)))

@@ -1,0 +1,36 @@
+use Rattle.std.proofs.Common.{◌+◌, sym, ap, ◌∙◌, arith}
+use Rattle.mapping_set.specs.declared.piece.Piece.{Piece}
+use Rattle.mapping_set.specs.Tables.{with_piece}
+use Rattle.mapping_set.proofs.ChangeLaws.{taken-perm}
+use Rattle.mapping_set.proofs.BorderLaws.{begins_there, back-behind, back-kept}
+use Rattle.mapping_set.proofs.CutLaws.{taken-bare}
+use Rattle.mapping_set.proofs.mapping_set.MappingSet.restrict_piece.Goals as goal
+
+pub put-requires-clause-bare : goal.put-requires-clause-bare
+put-requires-clause-bare c =
+    let held = c.in-Some.ensures in
+    let taken = c.take.ensures.table _ held.is in
+    let begins = ap (λ (y : Piece). y.first) c.with_perm.ensures in
+    let count = ap (λ (y : Piece). y.count) c.with_perm.ensures in
+    taken-bare _ _ c.args.root.0 c.in-Some.piece taken c.with_perm.result.first (c.with_perm.result.first + c.with_perm.result.count) (omega arith) (omega arith)
+
+pub returns-clause-table : goal.returns-clause-table
+returns-clause-table c =
+    let held = c.in-Some.ensures in
+    let taken = c.take.ensures.table _ held.is in
+    let begins = begins_there _ c.args.root.0 c.args.at c.in-Some.last c.in-Some.piece held c.requires.begins c.requires.some in
+    c.put.ensures.table
+    ∙ (ap (λ t. with_piece t c.args.root.0 c.with_perm.result) taken
+    ∙ taken-perm _ c.args.root.0 c.in-Some.piece held.entries c.args.perm c.with_perm.result c.with_perm.ensures c.args.at (c.in-Some.last + 1)
+    (sym begins) (sym held.sound.last_is))
+
+pub returns-clause-begins : goal.returns-clause-begins
+returns-clause-begins c =
+    back-behind _ c.args.root.0 c.args.at c.in-Some.last c.in-Some.piece c.in-Some.ensures _ _ c.with_perm.result
+    (ap (λ (y : Piece). y.first) c.with_perm.ensures) (ap (λ (y : Piece). y.count) c.with_perm.ensures) c.take.ensures.pieces c.put.ensures.pieces
+
+pub returns-clause-ends : goal.returns-clause-ends
+returns-clause-ends c =
+    back-kept _ c.args.root.0 c.args.at c.in-Some.last c.in-Some.piece c.in-Some.ensures _ _ c.with_perm.result
+    (ap (λ (y : Piece). y.first) c.with_perm.ensures) (ap (λ (y : Piece). y.count) c.with_perm.ensures) c.take.ensures.pieces c.put.ensures.pieces
+    c.args.end c.requires.ends

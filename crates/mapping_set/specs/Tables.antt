@@ -1,0 +1,95 @@
+-- The set of mappings as its callers see it: what each page of each address space shows, and room.
+use Rattle.std.specs.Option.{option_map}
+use Rattle.std.specs.Prelude.{◌≡◌, ℕ, ◌+◌, ◌<◌, ◌≤◌, true, false, Option, None, Some, IsSome}
+use Rattle.pair_map.specs.declared.pair_row.PairRow.{PairRow}
+use Rattle.pair_map.specs.Maps.{values_of}
+use Rattle.balanced_tree.specs.Rows.{Rows}
+use Rattle.vm_base.specs.Search.{count_below}
+use Rattle.vm_base.specs.Entries.{passes}
+use Rattle.vm_base.specs.declared.limits.TheConstants.{PAGES_END}
+use Rattle.vm_base.specs.declared.flags.Perm.{Perm}
+use Rattle.vm_model.specs.declared.space.Entry.{Entry}
+use Rattle.vm_model.specs.Space.Table.{mapping_from, with_pages, is_in, has_entry}
+use Rattle.mapping_set.specs.declared.piece.Piece.{Piece}
+use Rattle.mapping_set.specs.Pieces.{table_in}
+
+-- the pieces, and how many more fit with no memory from the host
+pub record Set : Type 0 where
+  pub pieces : Rows (PairRow Piece)
+  pub spare : ℕ
+
+-- what each page of each address space shows, by the number of the root region
+abbrev pub table_of : Set → ℕ → ℕ → Option Entry
+table_of m = table_in (values_of m.pieces)
+
+-- how many more pieces fit with no memory from the host
+abbrev pub spare_of : Set → ℕ
+spare_of m = m.spare
+
+-- the table, with the entries of a piece under `root`, or with none on its pages
+abbrev pub with_piece : (ℕ → ℕ → Option Entry) → ℕ → Piece → ℕ → ℕ → Option Entry
+with_piece table root piece = with_pages table root piece.first (piece.first + piece.count) (mapping_from piece.first piece.entry)
+
+abbrev pub without_piece : (ℕ → ℕ → Option Entry) → ℕ → Piece → ℕ → ℕ → Option Entry
+without_piece table root piece = with_pages table root piece.first (piece.first + piece.count) (λ p. None)
+
+-- the table, without what is taken out, if anything is
+abbrev pub without_taken : (ℕ → ℕ → Option Entry) → ℕ → Option Piece → ℕ → ℕ → Option Entry
+without_taken table root None = table
+without_taken table root (Some piece) = without_piece table root piece
+
+-- the entries, each with these permissions
+abbrev pub with_perm : Perm → (ℕ → Option Entry) → ℕ → Option Entry
+with_perm perm entries p = option_map (λ (entry : Entry). record entry { perm = perm }) (entries p)
+
+-- each page from `first` to below `end` has an entry
+abbrev pub IsFull : (ℕ → Option Entry) → ℕ → ℕ → Type 0
+IsFull entries first end = (p : ℕ) → first ≤ p → p < end → IsSome (entries p)
+
+-- no page from `first` to below `end` has an entry
+abbrev pub IsBare : (ℕ → Option Entry) → ℕ → ℕ → Type 0
+IsBare entries first end = (p : ℕ) → first ≤ p → p < end → entries p ≡ None
+
+-- no page from `first` on has an entry
+abbrev pub IsBareFrom : (ℕ → Option Entry) → ℕ → Type 0
+IsBareFrom entries first = (p : ℕ) → first ≤ p → entries p ≡ None
+
+-- The pages of the piece have the entries that it says, and lie where page numbers do.
+pub record IsPieceOf (shown : ℕ → Option Entry) (piece : Piece) : Type 0 where
+  pub some : 1 ≤ piece.count
+  pub end : piece.first + piece.count ≤ PAGES_END
+  pub pages : piece.entry.page + piece.count ≤ PAGES_END
+  pub entries : (p : ℕ) → piece.first ≤ p → p < piece.first + piece.count → shown p ≡ mapping_from piece.first piece.entry p
+
+-- The piece begins at the first entry at or past the page `from`.
+pub record IsNextPiece (shown : ℕ → Option Entry) (from : ℕ) (piece : Piece) : Type 0 where
+  pub not_before : from ≤ piece.first
+  pub bare : IsBare shown from piece.first
+  pub is : IsPieceOf shown piece
+
+-- The piece begins at the first entry on the pages from `first` to below `end`, and ends there.
+pub record IsFirstPiece (shown : ℕ → Option Entry) (first end : ℕ) (piece : Piece) : Type 0 where
+  pub next : IsNextPiece shown first piece
+  pub not_past : piece.first + piece.count ≤ end
+
+-- The piece has entries that belong to the region.
+pub record IsPieceIn (shown : ℕ → Option Entry) (region : ℕ) (piece : Piece) : Type 0 where
+  pub is : IsPieceOf shown piece
+  pub region_is : piece.entry.region.0 ≡ region
+
+-- how many pages have an entry that belongs to the region
+abbrev pub entries_in : (ℕ → ℕ → Option Entry) → (root region : ℕ) → ℕ
+entries_in table root region = count_below PAGES_END (λ p. passes (is_in region) (table root p))
+
+-- p is the lowest page from `from` on such that no entry of the region is on it and the next ones, `count` in all, which end
+-- at the limit or before
+pub record IsFirstGap (table : ℕ → ℕ → Option Entry) (root region from count limit p : ℕ) : Type 0 where
+  pub not_before : from ≤ p
+  pub not_past : p + count ≤ limit
+  pub free : has_entry table root region p (p + count) ≡ false
+  pub first : (q : ℕ) → from ≤ q → q < p → has_entry table root region q (q + count) ≡ true
+
+-- there is no such page
+abbrev pub HasNoGap : (ℕ → ℕ → Option Entry) → (root region from count limit : ℕ) → Type 0
+HasNoGap table root region from count limit =
+    (p : ℕ) → from ≤ p → p + count ≤ limit → has_entry table root region p (p + count) ≡ true

@@ -1,0 +1,304 @@
+//! The set of mappings.
+
+ghost use Rattle.std.specs.Prelude.{◌≡◌, ℕ, ◌+◌, ◌-◌, ◌<◌, ◌≤◌, false, None, Some, IsSome, IfSome, OnOk};
+ghost use Rattle.std.specs.Option.{MatchOption};
+ghost use Rattle.balanced_tree.specs.Pairs.{with_pair};
+ghost use Rattle.pair_map.specs.Maps.{values_of};
+ghost use Rattle.vm_base.specs.declared.limits.TheConstants.{NAMES, PAGES_END};
+ghost use Rattle.vm_model.specs.Space.Table.{with_pages, has_entry};
+ghost use Rattle.mapping_set.specs.declared.piece.Piece.{Piece};
+ghost use Rattle.mapping_set.specs.Pieces.{list_number, IsHeld, HasNoHeld, IsOfRegion, IsBorder};
+ghost use Rattle.mapping_set.specs.Tables.{table_of, spare_of, with_piece, without_piece, without_taken, with_perm};
+ghost use Rattle.mapping_set.specs.Tables.{IsBare, IsBareFrom, IsFull, IsNextPiece, IsPieceOf, IsFirstPiece, IsPieceIn, entries_in};
+ghost use Rattle.mapping_set.specs.Tables.{IsFirstGap, HasNoGap};
+
+use crate::piece::Piece;
+use pair_map::{ExtentMap, PairMap};
+use std::alloc::Global;
+use std::marker::Model;
+use vm_base::{HostMemory, NAMES, PAGES_END, PageNo, Perm, RegionName};
+use vm_model::Entry;
+
+/// What each page of each address space shows. Contracts see the entry of each root region and page (`table_of`), and
+/// `spare_of`, how many more pieces fit with no memory from the host. No call but `reserve` asks the host for memory.
+#[derive(Drop)]
+pub struct MappingSet {
+    /// Each piece by its root region and its last page.
+    pieces: PairMap<Piece>,
+    /// The pages of each piece, in the list of its region.
+    lists: ExtentMap<()>,
+}
+
+impl Model for MappingSet {
+    ghost use Rattle.mapping_set.specs.Tables.{Set};
+
+    ghost Value = { Set };
+
+    ghost use Rattle.mapping_set.specs.SetFields.{set_of, IsSet};
+
+    ghost view = { set_of };
+
+    ghost invariant = { IsSet };
+}
+
+/// The number of the list of a region's pieces.
+fn list_number(region: RegionName, root: RegionName) -> u64
+    ensures number { result ≡ list_number region.0 root.0 }
+    ensures below { (region.0 < NAMES) × (root.0 < NAMES) }
+{
+    u64::from(region.0) * NAMES + u64::from(root.0)
+}
+
+impl MappingSet {
+    /// A set with no entry and no room.
+    pub fn new(alloc: Global) -> MappingSet
+        ensures table { table_of result ≡ λ root p. None }
+        ensures spare { spare_of result ≡ 0 }
+    {
+        MappingSet {
+            pieces: PairMap::new(alloc),
+            lists: ExtentMap::new(alloc),
+        }
+    }
+
+    /// Makes room for `n` pieces more. `HostMemory` where the host has too little memory. The entries stay as they are
+    /// on both answers, and no room is lost.
+    pub fn reserve(&mut self, n: u64) -> Result<(), HostMemory>
+        ensures room { OnOk result (n ≤ spare_of self.new) }
+        ensures table { table_of self.new ≡ table_of self.old }
+        ensures spare { spare_of self.old ≤ spare_of self.new }
+    {
+        let Ok(()) = self.pieces.reserve(n as usize) else {
+            return Err(HostMemory);
+        };
+        let Ok(()) = self.lists.reserve(n as usize) else {
+            return Err(HostMemory);
+        };
+        Ok(())
+    }
+
+    /// Puts the entries of a piece into an address space, where none of its pages has an entry. The piece has a page,
+    /// and ends at or below page `PAGES_END`, as do the pages that it shows.
+    pub fn place(&mut self, root: RegionName, piece: Piece)
+        requires some { 1 ≤ piece.count }
+        requires end { piece.first + piece.count ≤ PAGES_END }
+        requires pages { piece.entry.page + piece.count ≤ PAGES_END }
+        requires bare { IsBare (table_of self.old root.0) piece.first (piece.first + piece.count) }
+        requires room { 1 ≤ spare_of self.old }
+        ensures table { table_of self.new ≡ with_piece (table_of self.old) root.0 piece }
+        ensures spare { spare_of self.old ≤ spare_of self.new + 1 }
+    {
+        self.put(root, piece);
+    }
+
+    /// What a page of an address space shows. `None` exactly where it has no entry. Only pages below `PAGES_END` have
+    /// one.
+    pub fn at(&self, root: RegionName, page: PageNo) -> Option<Entry>
+        ensures entry { result ≡ table_of self.now root.0 page }
+        ensures below { (r p : ℕ) → IsSome (table_of self.now r p) → p < PAGES_END }
+    {
+        let (_last, piece) = self.held(root, page)?;
+        if piece.first <= page {
+            Some(piece.from(page).entry)
+        } else {
+            None
+        }
+    }
+
+    /// The entries from the first one at or past the page `from` on to the end of its piece. `None` exactly where there
+    /// is none.
+    pub fn next_piece(&self, root: RegionName, from: PageNo) -> Option<Piece>
+        ensures { MatchOption result (IsBareFrom (table_of self.now root.0) from)
+            (IsNextPiece (table_of self.now root.0) from) }
+    {
+        let (_last, piece) = self.held(root, from)?;
+        Some(piece.from(piece.first.max(from)))
+    }
+
+    /// The lowest page from `from` on such that no entry that belongs to the region is on it and the next ones, `count`
+    /// in all, which end at the limit or before. `None` exactly where there is none.
+    pub fn first_gap(
+        &self,
+        root: RegionName,
+        region: RegionName,
+        from: PageNo,
+        count: u64,
+        limit: PageNo,
+    ) -> Option<PageNo>
+        requires some { 1 ≤ count }
+        requires limit { limit ≤ PAGES_END }
+        ensures { MatchOption result (HasNoGap (table_of self.now) root.0 region.0 from count limit)
+            (IsFirstGap (table_of self.now) root.0 region.0 from count limit) }
+    {
+        self.lists
+            .first_gap(list_number(region, root), from, count, limit)
+    }
+
+    /// Takes entries out of a range of `count` pages from `first` on, which may pass 2^64: from the first entry of the
+    /// range on, as far as they are of one piece and of the range. Answers them. `None` exactly where the range has no
+    /// entry. What is left of the piece, before the range or behind it, stays.
+    pub fn carve(&mut self, root: RegionName, first: PageNo, count: u64) -> Option<Piece>
+        requires room { 1 ≤ spare_of self.old }
+        ensures piece { MatchOption result (IsBare (table_of self.old root.0) first (first + count))
+            (IsFirstPiece (table_of self.old root.0) first (first + count)) }
+        ensures table { table_of self.new ≡ without_taken (table_of self.old) root.0 result }
+        ensures spare { spare_of self.old ≤ spare_of self.new + 1 }
+        ensures none { result ≡ None → spare_of self.old ≤ spare_of self.new }
+        ensures rest { spare_of self.new < spare_of self.old → IsBare (table_of self.new root.0) first (first + count) }
+    {
+        if count == 0 {
+            return None;
+        }
+        let end = first.saturating_add(count);
+        self.cut(root, first);
+        let (last, piece) = self.held(root, first)?;
+        if end <= piece.first {
+            return None;
+        }
+        self.take(root, last);
+        if last < end {
+            return Some(piece);
+        }
+        self.put(root, piece.from(end));
+        Some(piece.until(end))
+    }
+
+    /// Takes out a whole piece of the entries that belong to a region, and answers it. `None` exactly where there is
+    /// none.
+    pub fn drop_region(&mut self, root: RegionName, region: RegionName) -> Option<Piece>
+        ensures piece { MatchOption result (has_entry (table_of self.old) root.0 region.0 0 PAGES_END ≡ false)
+            (IsPieceIn (table_of self.old root.0) region.0) }
+        ensures table { table_of self.new ≡ without_taken (table_of self.old) root.0 result }
+        ensures fewer { IfSome result (λ piece.
+            entries_in (table_of self.new) root.0 region.0 < entries_in (table_of self.old) root.0 region.0) }
+        ensures spare { spare_of self.old ≤ spare_of self.new }
+    {
+        let last = self.last_of(root, region)?;
+        Some(self.take(root, last))
+    }
+
+    /// Gives each entry of a range other permissions. Each of its pages, `count` from `first` on, has an entry.
+    pub fn restrict(&mut self, root: RegionName, first: PageNo, count: u64, perm: Perm)
+        requires full { IsFull (table_of self.old root.0) first (first + count) }
+        requires room { 2 ≤ spare_of self.old }
+        ensures table { table_of self.new ≡
+            with_pages (table_of self.old) root.0 first (first + count) (with_perm perm (table_of self.old root.0)) }
+        ensures spare { spare_of self.old ≤ spare_of self.new + 2 }
+    {
+        let end = first + count;
+        self.cut(root, first);
+        self.cut(root, end);
+        self.restrict_pieces(root, first, end, perm);
+    }
+
+    /// The first piece of an address space that ends at or behind the page `from`, with its last page. `None` exactly
+    /// where no page from `from` on has an entry.
+    fn held(&self, root: RegionName, from: PageNo) -> Option<(PageNo, Piece)>
+        ensures { MatchOption result (HasNoHeld (values_of self.now.pieces) root.0 from)
+            (λ pair. IsHeld (values_of self.now.pieces) root.0 from pair.0 pair.1) }
+    {
+        self.pieces.next(u64::from(root.0), from)
+    }
+
+    /// Puts a piece into an address space, as `place` does.
+    fn put(&mut self, root: RegionName, piece: Piece)
+        requires some { 1 ≤ piece.count }
+        requires end { piece.first + piece.count ≤ PAGES_END }
+        requires pages { piece.entry.page + piece.count ≤ PAGES_END }
+        requires bare { IsBare (table_of self.old root.0) piece.first (piece.first + piece.count) }
+        requires room { 1 ≤ spare_of self.old }
+        ensures table { table_of self.new ≡ with_piece (table_of self.old) root.0 piece }
+        ensures pieces { values_of self.new.pieces ≡
+            with_pair (values_of self.old.pieces) root.0 (piece.first + piece.count - 1) (Some piece) }
+        ensures spare { spare_of self.old ≤ spare_of self.new + 1 }
+    {
+        let list = list_number(piece.entry.region, root);
+        self.pieces
+            .insert(u64::from(root.0), piece.first + piece.count - 1, piece);
+        self.lists.insert(list, piece.first, piece.count, ());
+    }
+
+    /// Takes the piece of an address space with its last page at `last` out, and answers it.
+    fn take(&mut self, root: RegionName, last: PageNo) -> Piece
+        requires { IsSome (values_of self.old.pieces root.0 last) }
+        ensures piece { values_of self.old.pieces root.0 last ≡ Some result }
+        ensures shown { IsPieceOf (table_of self.old root.0) result }
+        ensures table { (x : Piece) → values_of self.old.pieces root.0 last ≡ Some x
+            → table_of self.new ≡ without_piece (table_of self.old) root.0 x }
+        ensures pieces { values_of self.new.pieces ≡ with_pair (values_of self.old.pieces) root.0 last None }
+        ensures spare { spare_of self.new ≡ spare_of self.old + 1 }
+    {
+        let piece = self.pieces.remove(u64::from(root.0), last);
+        self.lists
+            .remove(list_number(piece.entry.region, root), piece.first);
+        piece
+    }
+
+    /// The last page of the first piece that belongs to a region. `None` exactly where the region has no entry.
+    fn last_of(&self, root: RegionName, region: RegionName) -> Option<PageNo>
+        ensures { MatchOption result (has_entry (table_of self.now) root.0 region.0 0 PAGES_END ≡ false)
+            (IsOfRegion (values_of self.now.pieces) root.0 region.0) }
+    {
+        let (first, extent) = self.lists.next(list_number(region, root), 0)?;
+        Some(first + extent.count - 1)
+    }
+
+    /// Cuts the piece that has the page `page` and the one before it in two, if there is one. The entries stay.
+    fn cut(&mut self, root: RegionName, page: PageNo)
+        requires room { 1 ≤ spare_of self.old }
+        ensures table { table_of self.new ≡ table_of self.old }
+        ensures border { IsBorder (values_of self.new.pieces root.0) page }
+        ensures kept { (q : ℕ) → IsBorder (values_of self.old.pieces root.0) q
+            → IsBorder (values_of self.new.pieces root.0) q }
+        ensures spare { spare_of self.old ≤ spare_of self.new + 1 }
+        ensures whole { table_of self.old root.0 page ≡ None → spare_of self.old ≤ spare_of self.new }
+    {
+        let Some((last, piece)) = self.held(root, page) else {
+            return;
+        };
+        if page <= piece.first {
+            return;
+        }
+        self.take(root, last);
+        self.put(root, piece.until(page));
+        self.put(root, piece.from(page));
+    }
+
+    /// Gives each entry of whole pieces other permissions. Their pages from `first` to below `end` all have one.
+    fn restrict_pieces(&mut self, root: RegionName, first: PageNo, end: PageNo, perm: Perm)
+        requires full { IsFull (table_of self.old root.0) first end }
+        requires order { first ≤ end }
+        requires begins { IsBorder (values_of self.old.pieces root.0) first }
+        requires ends { IsBorder (values_of self.old.pieces root.0) end }
+        ensures table { table_of self.new ≡
+            with_pages (table_of self.old) root.0 first end (with_perm perm (table_of self.old root.0)) }
+        ensures spare { spare_of self.old ≤ spare_of self.new }
+    {
+        let mut at = first;
+        while at < end {
+            at = self.restrict_piece(root, at, end, perm);
+        }
+    }
+
+    /// Gives each entry of the piece that begins at the page `at` other permissions. Answers the page behind it, which
+    /// is at most `end`.
+    fn restrict_piece(&mut self, root: RegionName, at: PageNo, end: PageNo, perm: Perm) -> PageNo
+        requires some { IsSome (table_of self.old root.0 at) }
+        requires order { at < end }
+        requires begins { IsBorder (values_of self.old.pieces root.0) at }
+        requires ends { IsBorder (values_of self.old.pieces root.0) end }
+        ensures order { (at < result) × (result ≤ end) }
+        ensures table { table_of self.new ≡
+            with_pages (table_of self.old) root.0 at result (with_perm perm (table_of self.old root.0)) }
+        ensures begins { IsBorder (values_of self.new.pieces root.0) result }
+        ensures ends { IsBorder (values_of self.new.pieces root.0) end }
+        ensures spare { spare_of self.old ≤ spare_of self.new }
+    {
+        let Some((last, piece)) = self.held(root, at) else {
+            unreachable!()
+        };
+        self.take(root, last);
+        self.put(root, piece.with_perm(perm));
+        last + 1
+    }
+}

@@ -1,0 +1,97 @@
+//! Where in a region a place is.
+
+ghost use Rattle.std.specs.Prelude.{◌≡◌, ◌+◌, ◌/◌, ◌≤◌, true, false, Some, MatchResult};
+ghost use Rattle.vm_base.specs.declared.limits.TheConstants.{PAGE, ROOT_END};
+ghost use Rattle.vm_model.specs.Space.Places.{IsPlace, is_misplaced};
+ghost use Rattle.vm_model.specs.Space.Rights.{has, specific, upper_limit};
+ghost use Rattle.mapping_set.specs.Tables.{table_of};
+ghost use Rattle.region_tree.specs.Tree.{regions_of, spaces_of};
+ghost use Rattle.region_ops.specs.Spaces.{HasNoPlace};
+
+use bitflags::Flags;
+use mapping_set::MappingSet;
+use region_tree::{Region, Regions};
+use vm_base::{MapFlags, PageNo, Refusal, RegionName, in_page, page_count, page_of};
+
+/// Where a place is asked for.
+#[derive(Clone, Copy, Debug)]
+pub(crate) struct Wanted {
+    /// It begins at the offset.
+    pub fixed: bool,
+    /// It ends at the offset, or before it.
+    pub limited: bool,
+    /// The offset, in bytes from the start of the region.
+    pub offset: u64,
+}
+
+impl Wanted {
+    /// Where the options ask for a place, with an offset.
+    pub(crate) fn by(flags: MapFlags, offset: u64) -> Wanted
+        ensures { result ≡ record {
+          fixed = has flags.0 specific;
+          limited = has flags.0 upper_limit;
+          offset = offset;
+        } }
+    {
+        Wanted {
+            fixed: flags.contains(MapFlags::SPECIFIC),
+            limited: flags.contains(MapFlags::UPPER_LIMIT),
+            offset,
+        }
+    }
+}
+
+/// Whether a place cannot be asked for like this: the offset is not at a page, there is no byte, both or none of the two
+/// ways are asked for where an offset is given, or a fixed place passes the end of the region.
+pub(crate) fn is_misplaced(above: Region, wanted: Wanted, len: u64) -> bool
+    ensures { result ≡ is_misplaced above wanted.fixed wanted.limited wanted.offset len }
+{
+    if in_page(wanted.offset) != 0 || len == 0 {
+        return true;
+    }
+    if !wanted.fixed {
+        return !wanted.limited && wanted.offset != 0;
+    }
+    wanted.limited || page_of(wanted.offset) + page_count(len) > above.count
+}
+
+/// The first page of a free place of `count` pages in a live region, which is `above`. A fixed place ends in the region.
+/// Refusals: `AlreadyExists` where the fixed place is not free, `NoResources` where no place is free that fits.
+pub(crate) fn find_place(
+    regions: &Regions,
+    maps: &MappingSet,
+    name: RegionName,
+    above: Region,
+    wanted: Wanted,
+    count: u64,
+) -> Result<PageNo, Refusal>
+    requires above { regions_of regions.now name.0 ≡ Some above }
+    requires live { above.live ≡ true }
+    requires end { above.first + above.count ≤ ROOT_END }
+    requires some { 1 ≤ count }
+    requires way { wanted.fixed ≡ true → wanted.limited ≡ false }
+    requires inside { wanted.fixed ≡ true → wanted.offset / PAGE + count ≤ above.count }
+    ensures { MatchResult result
+        (λ first. IsPlace (spaces_of (regions_of regions.now) (table_of maps.now)) name.0 wanted.fixed wanted.limited
+        wanted.offset count first)
+        (λ refusal. HasNoPlace (spaces_of (regions_of regions.now) (table_of maps.now)) name.0 wanted.fixed
+        wanted.limited wanted.offset count refusal) }
+{
+    if wanted.fixed {
+        let first = above.first + page_of(wanted.offset);
+        return if regions.is_free(maps, name, first, count) {
+            Ok(first)
+        } else {
+            Err(Refusal::AlreadyExists)
+        };
+    }
+    let limit = if wanted.limited {
+        page_of(wanted.offset)
+    } else {
+        above.count
+    };
+    match regions.find_gap(maps, name, count, limit) {
+        Some(first) => Ok(first),
+        None => Err(Refusal::NoResources),
+    }
+}

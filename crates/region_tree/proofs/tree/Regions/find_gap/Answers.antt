@@ -1,0 +1,18 @@
+use Rattle.std.proofs.Common.{arith}
+use Rattle.region_tree.proofs.PlaceLaws.{seen, place-is}
+use Rattle.region_tree.proofs.TreeLaws.{given-seen, region-end}
+use Rattle.region_tree.proofs.tree.Regions.find_gap.Goals as goal
+
+pub overflow_add-above : goal.overflow_add-above
+overflow_add-above c =
+    omega (arith, region-end _ _ c.self.invariant c.args.region.0 c.held-above.result c.held-above.ensures.region c.held-above.ensures.live)
+
+pub gap_in-requires-clause-limit : goal.gap_in-requires-clause-limit
+gap_in-requires-clause-limit c =
+    omega (arith, c.min-end.ensures, region-end _ _ c.self.invariant c.args.region.0 c.held-above.result c.held-above.ensures.region c.held-above.ensures.live)
+
+pub returns : goal.returns
+returns c =
+    place-is _ _ (seen c.self.view_is c.self.invariant) _ c.args.region.0 c.held-above.result (given-seen c.self.view_is c.args.region.0 c.held-above.result c.held-above.ensures.region) c.args.count c.args.limit c.min-end.result
+    c.requires.some (omega (arith, region-end _ _ c.self.invariant c.args.region.0 c.held-above.result c.held-above.ensures.region c.held-above.ensures.live))
+    (omega (arith, c.min-end.ensures, c.saturating_add.ensures)) _ c.gap_in.ensures

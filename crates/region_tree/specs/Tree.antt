@@ -1,0 +1,46 @@
+-- The regions of address spaces, as the callers of the tree see them.
+use Rattle.std.specs.Prelude.{◌≡◌, ℕ, Bool, true, ◌==◌, Option, Some, unwrap_or}
+use Rattle.balanced_tree.specs.Rows.{Rows}
+use Rattle.pair_map.specs.declared.pair_row.PairRow.{PairRow}
+use Rattle.pair_map.specs.Maps.{values_of}
+use Rattle.vm_base.specs.Entries.{passes}
+use Rattle.vm_model.specs.declared.space.Entry.{Entry}
+use Rattle.vm_model.specs.declared.space.Region.{Region}
+use Rattle.vm_model.specs.Space.Regions.{root_region, lies_in, any_child, is_below, killed}
+use Rattle.vm_model.specs.Space.AddressSpaces.{Spaces}
+
+-- the region of each name that was given
+abbrev pub regions_of : Rows (PairRow Region) → ℕ → Option Region
+regions_of tree = values_of tree 0
+
+-- the region of a name. Where it was never given, this means nothing
+abbrev pub region_in : (ℕ → Option Region) → ℕ → Region
+region_in regions name = unwrap_or (regions name) (root_region 0)
+
+-- the name was given to a region that is live
+abbrev pub is_live : (ℕ → Option Region) → ℕ → Bool
+is_live regions name = passes (λ (region : Region). region.live) (regions name)
+
+-- the region has a live child
+abbrev pub has_child : (ℕ → Option Region) → ℕ → Bool
+has_child regions name = any_child regions name (λ (region : Region). true)
+
+-- the regions, where this one is dead
+abbrev pub without : (ℕ → Option Region) → ℕ → ℕ → Option Region
+without regions name = killed regions (λ n. n == name)
+
+-- these regions, and these entries
+abbrev pub spaces_of : (ℕ → Option Region) → (ℕ → ℕ → Option Entry) → Spaces
+spaces_of regions table = record { regions = regions; table = table }
+
+-- `name` is a live region below `above`, all of whose pages are among those from `first` to below `end`
+pub record IsWithin (regions : ℕ → Option Region) (above first end name : ℕ) : Type 0 where
+  pub region : Region
+  pub given : regions name ≡ Some region
+  pub live : region.live ≡ true
+  pub below : is_below regions above name ≡ true
+  pub inside : lies_in first end region ≡ true
+
+-- no live region below `above` has all of its pages among those from `first` to below `end`
+abbrev pub HasNoneWithin : (ℕ → Option Region) → (above first end : ℕ) → Type 0
+HasNoneWithin regions above first end = (name : ℕ) → IsWithin regions above first end name → ⊥

@@ -1,0 +1,118 @@
+//! Look-ups and searches in the fields of the tree.
+
+ghost use Rattle.std.specs.Prelude.{◌≡◌, ◌↔◌, ◌+◌, ◌≤◌, nat_lt, ◌&&◌, true, None, Some, IsSome, IsTrue, ⊤};
+ghost use Rattle.std.specs.Option.{MatchOption};
+ghost use Rattle.vm_base.specs.declared.limits.TheConstants.{PAGES_END};
+ghost use Rattle.balanced_tree.specs.Pairs.{with_pair};
+ghost use Rattle.pair_map.specs.Maps.{values_of, extents_of};
+ghost use Rattle.vm_model.specs.Space.Regions.{end_of, reaches_over};
+ghost use Rattle.mapping_set.specs.Tables.{table_of};
+ghost use Rattle.region_tree.specs.Tree.{is_live};
+ghost use Rattle.region_tree.specs.TreeFields.{HasNoClear, IsClearPlace, ReachesOut, IsBetween, HasNoneBetween};
+
+use mapping_set::MappingSet;
+use pair_map::{ExtentMap, PairMap};
+use vm_base::{PAGES_END, PageNo, RegionName};
+use vm_model::Region;
+
+/// A live region.
+pub(crate) fn held(regions: &PairMap<Region>, name: RegionName) -> Region
+    requires { is_live (values_of regions.now 0) name.0 ≡ true }
+    ensures region { values_of regions.now 0 name.0 ≡ Some result }
+    ensures live { result.live ≡ true }
+{
+    match regions.find(0, name.0 as u64) {
+        Some(region) => region,
+        None => unreachable!(),
+    }
+}
+
+/// Whether there are such pages, and all of them are pages of the region.
+pub(crate) fn reaches_over(region: Region, first: PageNo, count: u64) -> bool
+    requires pages { first + count ≤ PAGES_END }
+    requires region { end_of region ≤ PAGES_END }
+    ensures { result ≡ (nat_lt first (first + count) && reaches_over first (first + count) region) }
+{
+    first < first + count && (region.first <= first && first + count <= region.first + region.count)
+}
+
+/// The first page from `first` on of `count` pages, below the limit, that are in no child of the region and have no
+/// entry of it. Children and entries are asked in turn, each for a place that is not before the other's.
+pub(crate) fn gap_in(
+    children: &ExtentMap<RegionName>,
+    maps: &MappingSet,
+    root: RegionName,
+    region: RegionName,
+    first: PageNo,
+    count: u64,
+    limit: PageNo,
+) -> Option<PageNo>
+    requires some { 1 ≤ count }
+    requires limit { limit ≤ PAGES_END }
+    ensures { MatchOption result
+        (HasNoClear (extents_of children.now region.0) (table_of maps.now) root.0 region.0 first count limit)
+        (IsClearPlace (extents_of children.now region.0) (table_of maps.now) root.0 region.0 first count limit) }
+{
+    let mut from = first;
+    'search: loop {
+        let Some(apart) = children.first_gap(region.0 as u64, from, count, limit) else {
+            return None;
+        };
+        let Some(bare) = maps.first_gap(root, region, apart, count, limit) else {
+            return None;
+        };
+        if bare == apart {
+            return Some(apart);
+        }
+        from = bare;
+    }
+}
+
+/// Whether the child of a region that has this page has one before `first` or from `end` on.
+pub(crate) fn reaches_out(
+    children: &ExtentMap<RegionName>,
+    region: RegionName,
+    page: PageNo,
+    first: PageNo,
+    end: PageNo,
+) -> bool
+    ensures { IsTrue result ↔ ReachesOut (extents_of children.now region.0) page first end }
+{
+    let _apart = children.len();
+    match children.at(region.0 as u64, page) {
+        Some((start, extent)) => start < first || end < start + extent.count,
+        None => false,
+    }
+}
+
+/// The first child of a region that has no page but of `count` pages from `first` on.
+pub(crate) fn child_in(
+    children: &ExtentMap<RegionName>,
+    region: RegionName,
+    first: PageNo,
+    count: u64,
+) -> Option<RegionName>
+    ensures { MatchOption result (HasNoneBetween (extents_of children.now region.0) first (first + count))
+        (λ name. IsBetween (extents_of children.now region.0) first (first + count) name.0) }
+{
+    let _apart = children.len();
+    let end = first.saturating_add(count);
+    match children.next(region.0 as u64, first) {
+        Some((start, extent)) if start + extent.count <= end => Some(extent.value),
+        _ => None,
+    }
+}
+
+/// Takes a region out of the children of its parent, if it has one.
+pub(crate) fn leave_parent(children: &mut ExtentMap<RegionName>, region: Region)
+    requires { MatchOption region.parent ⊤ (λ parent. IsSome (extents_of children.old parent.0 region.first)) }
+    ensures { MatchOption region.parent (extents_of children.new ≡ extents_of children.old)
+        (λ parent. extents_of children.new ≡ with_pair (extents_of children.old) parent.0 region.first None) }
+{
+    match region.parent {
+        Some(parent) => {
+            let _child = children.remove(parent.0 as u64, region.first);
+        }
+        None => {}
+    }
+}

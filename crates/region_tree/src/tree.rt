@@ -1,0 +1,302 @@
+//! The tree of regions.
+
+ghost use Rattle.std.specs.Prelude.{◌≡◌, ℕ, ◌+◌, ◌≤◌, true, false, None, IfSome, OnOk, OnErr};
+ghost use Rattle.std.specs.Option.{MatchOption};
+ghost use Rattle.vm_base.specs.declared.limits.TheConstants.{PAGES_END};
+ghost use Rattle.vm_base.specs.Entries.{with_key};
+ghost use Rattle.vm_model.specs.Space.Regions.{root_region, region_below, reaches_over, meets_child, cuts_child};
+ghost use Rattle.vm_model.specs.Space.Regions.{AreGoodRegions};
+ghost use Rattle.vm_model.specs.Space.AddressSpaces.{region_of};
+ghost use Rattle.vm_model.specs.Space.Places.{is_free, has_place};
+ghost use Rattle.mapping_set.specs.Tables.{table_of};
+ghost use Rattle.region_tree.specs.Tree.{regions_of, region_in, is_live, has_child, without, spaces_of};
+ghost use Rattle.region_tree.specs.Tree.{IsWithin, HasNoneWithin};
+ghost use Rattle.region_tree.specs.TreeFields.{HasNoneOver};
+
+use crate::fields::{child_in, gap_in, held, leave_parent, reaches_out, reaches_over};
+use mapping_set::MappingSet;
+use pair_map::{ExtentMap, PairMap};
+use std::alloc::Global;
+use std::marker::Model;
+use vm_base::{HostMemory, PAGES_END, PageNo, Perm, ROOT_END, ROOT_FIRST, RegionName};
+use vm_model::Region;
+
+/// What mappings and regions in a root region may allow.
+const ALL: Perm = Perm(Perm::READ.0 + Perm::WRITE.0 + Perm::EXECUTE.0);
+
+/// The regions of all address spaces, each under its name, dead ones too. Contracts see the region of each name
+/// (`regions_of`). A call takes look-ups, and no walk over the regions or the children of one. Only `add_root` and
+/// `allocate` ask the host for memory.
+#[derive(Drop)]
+pub struct Regions {
+    /// Each region under (0, its name).
+    regions: PairMap<Region>,
+    /// The live children of each region, under the number of its name: the pages of each child, with its name.
+    children: ExtentMap<RegionName>,
+}
+
+impl Model for Regions {
+    ghost use Rattle.balanced_tree.specs.Rows.{Rows};
+    ghost use Rattle.pair_map.specs.declared.pair_row.PairRow.{PairRow};
+    ghost use Rattle.vm_model.specs.declared.space.Region.{Region};
+
+    ghost Value = { Rows (PairRow Region) };
+
+    ghost use Rattle.pair_map.specs.Maps.{values_of, extents_of};
+    ghost use Rattle.region_tree.specs.TreeFields.{IsTree};
+
+    ghost view = { λ r. r.regions };
+
+    ghost invariant = { λ r. IsTree (values_of r.regions 0) (extents_of r.children) };
+}
+
+impl Regions {
+    /// No region was given.
+    pub fn new(alloc: Global) -> Regions
+        ensures { regions_of result ≡ λ n. None }
+    {
+        Regions {
+            regions: PairMap::new(alloc),
+            children: ExtentMap::new(alloc),
+        }
+    }
+
+    /// Adds a root region under a name that was never given. `HostMemory` where the host has too little memory.
+    pub fn add_root(&mut self, name: RegionName) -> Result<(), HostMemory>
+        requires { regions_of self.old name.0 ≡ None }
+        ensures ok { OnOk result (regions_of self.new ≡ with_key (regions_of self.old) name.0 (root_region name.0)) }
+        ensures err { OnErr result (regions_of self.new ≡ regions_of self.old) }
+    {
+        // How many names there are rests on the range of their numbers.
+        prove!(name.0 <= u32::MAX);
+        let Ok(()) = self.regions.reserve(1) else {
+            return Err(HostMemory);
+        };
+        let region = Region {
+            root: name,
+            parent: None,
+            first: ROOT_FIRST,
+            count: ROOT_END - ROOT_FIRST,
+            caps: ALL,
+            live: true,
+        };
+        self.regions.insert(0, name.0 as u64, region);
+        Ok(())
+    }
+
+    /// Adds a region of `count` pages from `first` on below a live one, in which they lie, and which has no live child
+    /// there. Its name was never given. `HostMemory` where the host has too little memory.
+    pub fn allocate(
+        &mut self,
+        name: RegionName,
+        parent: RegionName,
+        first: PageNo,
+        count: u64,
+        caps: Perm,
+    ) -> Result<(), HostMemory>
+        requires name { regions_of self.old name.0 ≡ None }
+        requires live { is_live (regions_of self.old) parent.0 ≡ true }
+        requires some { 1 ≤ count }
+        requires inside { reaches_over first (first + count) (region_in (regions_of self.old) parent.0) ≡ true }
+        requires apart { meets_child (regions_of self.old) parent.0 first (first + count) ≡ false }
+        ensures ok { OnOk result (regions_of self.new ≡ with_key (regions_of self.old) name.0
+            (region_below parent.0 (region_in (regions_of self.old) parent.0) first count caps.0)) }
+        ensures err { OnErr result (regions_of self.new ≡ regions_of self.old) }
+    {
+        // How many names there are rests on the range of their numbers.
+        prove!(name.0 <= u32::MAX);
+        let above = held(&self.regions, parent);
+        let Ok(()) = self.regions.reserve(1) else {
+            return Err(HostMemory);
+        };
+        let Ok(()) = self.children.reserve(1) else {
+            return Err(HostMemory);
+        };
+        let region = Region {
+            root: above.root,
+            parent: Some(parent),
+            first,
+            count,
+            caps,
+            live: true,
+        };
+        self.regions.insert(0, name.0 as u64, region);
+        self.children.insert(parent.0 as u64, first, count, name);
+        Ok(())
+    }
+
+    /// The region of a name, dead or live. `None` exactly where the name was never given.
+    pub fn get(&self, name: RegionName) -> Option<Region>
+        ensures region { result ≡ regions_of self.now name.0 }
+        ensures good { AreGoodRegions (regions_of self.now) }
+    {
+        self.regions.find(0, name.0 as u64)
+    }
+
+    /// The first page of a free place of `count` pages in a live region, which ends at most `limit` pages behind the
+    /// start of the region. `None` exactly where there is none.
+    pub fn find_gap(
+        &self,
+        maps: &MappingSet,
+        region: RegionName,
+        count: u64,
+        limit: u64,
+    ) -> Option<PageNo>
+        requires live { is_live (regions_of self.now) region.0 ≡ true }
+        requires some { 1 ≤ count }
+        ensures { let spaces = spaces_of (regions_of self.now) (table_of maps.now) in
+            MatchOption result (has_place spaces region.0 count limit ≡ false) (λ (first : ℕ).
+            (is_free spaces region.0 first (first + count) ≡ true) ×
+            (first + count ≤ (region_of spaces region.0).first + limit)) }
+    {
+        let above = held(&self.regions, region);
+        let end = above
+            .first
+            .saturating_add(limit)
+            .min(above.first + above.count);
+        gap_in(
+            &self.children,
+            maps,
+            above.root,
+            region,
+            above.first,
+            count,
+            end,
+        )
+    }
+
+    /// Whether `count` pages from `first` on are a free place in a live region.
+    pub fn is_free(&self, maps: &MappingSet, region: RegionName, first: PageNo, count: u64) -> bool
+        requires live { is_live (regions_of self.now) region.0 ≡ true }
+        requires pages { first + count ≤ PAGES_END }
+        ensures { result ≡
+            is_free (spaces_of (regions_of self.now) (table_of maps.now)) region.0 first (first + count) }
+    {
+        let above = held(&self.regions, region);
+        if !reaches_over(above, first, count) {
+            return false;
+        }
+        if self.meets(region, first, count) {
+            return false;
+        }
+        maps.first_gap(above.root, region, first, count, first + count)
+            .is_some()
+    }
+
+    /// Whether a live child of a live region has one of `count` pages from `first` on.
+    pub fn meets(&self, region: RegionName, first: PageNo, count: u64) -> bool
+        requires live { is_live (regions_of self.now) region.0 ≡ true }
+        requires pages { first + count ≤ PAGES_END }
+        ensures { result ≡ meets_child (regions_of self.now) region.0 first (first + count) }
+    {
+        !self.children.is_open(region.0 as u64, first, count)
+    }
+
+    /// Whether a live child of a live region has one of `count` pages from `first` on, and a page that is none of
+    /// them.
+    pub fn cuts(&self, region: RegionName, first: PageNo, count: u64) -> bool
+        requires live { is_live (regions_of self.now) region.0 ≡ true }
+        requires pages { first + count ≤ PAGES_END }
+        ensures { result ≡ cuts_child (regions_of self.now) region.0 first (first + count) }
+    {
+        if count == 0 {
+            return false;
+        }
+        let end = first + count;
+        let at_first = reaches_out(&self.children, region, first, first, end);
+        let at_last = reaches_out(&self.children, region, end - 1, first, end);
+        at_first || at_last
+    }
+
+    /// Destroys a live region that lies below a live one, has no page but of `count` pages from `first` on, and has no
+    /// live child, and answers its name. `None` exactly where no live region below the region lies in these pages; then
+    /// nothing is changed. It goes down from the region each time, so a caller that goes on from the parent of what was
+    /// destroyed passes each region once.
+    pub fn destroy_next(
+        &mut self,
+        region: RegionName,
+        first: PageNo,
+        count: u64,
+    ) -> Option<RegionName>
+        requires { is_live (regions_of self.old) region.0 ≡ true }
+        ensures within { MatchOption result (HasNoneWithin (regions_of self.old) region.0 first (first + count))
+            (λ name. IsWithin (regions_of self.old) region.0 first (first + count) name.0) }
+        ensures childless { IfSome result (λ name. has_child (regions_of self.old) name.0 ≡ false) }
+        ensures regions { MatchOption result (regions_of self.new ≡ regions_of self.old)
+            (λ name. regions_of self.new ≡ without (regions_of self.old) name.0) }
+    {
+        let Some(within) = self.within(region, first, count) else {
+            return None;
+        };
+        let leaf = self.childless(within);
+        self.destroy_one(leaf);
+        Some(leaf)
+    }
+
+    /// Destroys a live region that has no live child.
+    pub fn destroy_one(&mut self, region: RegionName)
+        requires live { is_live (regions_of self.old) region.0 ≡ true }
+        requires childless { has_child (regions_of self.old) region.0 ≡ false }
+        ensures { regions_of self.new ≡ without (regions_of self.old) region.0 }
+    {
+        let dying = held(&self.regions, region);
+        let dead = Region {
+            live: false,
+            ..dying
+        };
+        self.regions.replace(0, region.0 as u64, dead);
+        leave_parent(&mut self.children, dying);
+    }
+
+    /// A live region below a live one that has no page but of `count` pages from `first` on. Those that lie in no other
+    /// such region are children of the live one, or of a region that has the first or the last of these pages.
+    fn within(&self, region: RegionName, first: PageNo, count: u64) -> Option<RegionName>
+        ensures { MatchOption result (HasNoneWithin (regions_of self.now) region.0 first (first + count))
+            (λ name. IsWithin (regions_of self.now) region.0 first (first + count) name.0) }
+    {
+        if let Some(name) = self.within_over(region, first, first, count) {
+            return Some(name);
+        }
+        let last = first.saturating_add(count.saturating_sub(1));
+        self.within_over(region, last, first, count)
+    }
+
+    /// A live child of a live region, or of a region below it that has this page, where the child has no page but of
+    /// `count` pages from `first` on.
+    fn within_over(
+        &self,
+        region: RegionName,
+        page: PageNo,
+        first: PageNo,
+        count: u64,
+    ) -> Option<RegionName>
+        ensures within { MatchOption result (HasNoneOver (regions_of self.now) region.0 page first (first + count))
+            (λ name. IsWithin (regions_of self.now) region.0 first (first + count) name.0) }
+        ensures good { AreGoodRegions (regions_of self.now) }
+    {
+        let _apart = self.children.len();
+        let mut above = region;
+        'descent: loop {
+            if let Some(name) = child_in(&self.children, above, first, count) {
+                return Some(name);
+            }
+            let Some((_, extent)) = self.children.at(above.0 as u64, page) else {
+                return None;
+            };
+            above = extent.value;
+        }
+    }
+
+    /// A region that has no live child: this one, or the first child of the first child, and so on.
+    fn childless(&self, region: RegionName) -> RegionName
+        ensures within { (above first end : ℕ) → IsWithin (regions_of self.now) above first end region.0
+            → IsWithin (regions_of self.now) above first end result.0 }
+        ensures childless { has_child (regions_of self.now) result.0 ≡ false }
+    {
+        let mut leaf = region;
+        while let Some((_, extent)) = self.children.next(leaf.0 as u64, 0) {
+            leaf = extent.value;
+        }
+        leaf
+    }
+}
