@@ -9,9 +9,8 @@ use Rattle.vm_base.proofs.SearchLaws.{none_below}
 use Rattle.vm_base.proofs.EntryLaws.{any_entry_at}
 use Rattle.vm_model.specs.declared.space.Entry.{Entry}
 use Rattle.vm_model.specs.declared.space.Region.{Region}
-use Rattle.vm_model.specs.Space.Regions.{end_of, root_region, meets, lies_in, reaches_over, is_child, any_child, meets_child, cuts_child}
+use Rattle.vm_model.specs.Space.Regions.{region_of, end_of, root_region, meets, lies_in, reaches_over, is_child, any_child, meets_child, cuts_child}
 use Rattle.vm_model.specs.Space.Table.{has_entry}
-use Rattle.vm_model.specs.Space.AddressSpaces.{region_of}
 use Rattle.vm_model.specs.Space.Places.{is_free, has_place}
 use Rattle.vm_model.proofs.RegionLaws.{meets_at, reaches_over_parts, reaches_over_from}
 use Rattle.vm_model.proofs.SpaceLaws.{child_none, none_child}
@@ -127,7 +126,7 @@ module _ (regions : ℕ → Option Region) (children : ℕ → ℕ → Option (E
   -- ---- free places
 
   module _ (table : ℕ → ℕ → Option Entry) (name : ℕ) (above : Region) (given : regions name ≡ Some above) where
-    pub region-is : region_of (spaces_of regions table) name ≡ above
+    pub region-is : region_of regions name ≡ above
     unfolding region_of
     region-is = ap (λ (o : Option Region). unwrap_or o (root_region 0)) given
 
@@ -172,28 +171,28 @@ module _ (regions : ℕ → Option Region) (children : ℕ → ℕ → Option (E
         → HasNoClear (children name) table above.root.0 name above.first count end → has_place (spaces_of regions table) name count limit ≡ false
     unfolding has_place
     place-none count limit end ends none =
-        none_below (end_of (region_of (spaces_of regions table) name))
-        (λ first. nat_le (first + count) ((region_of (spaces_of regions table) name).first + limit) && is_free (spaces_of regions table) name first (first + count))
-        (λ first h. false_from_ne_true (nat_le (first + count) ((region_of (spaces_of regions table) name).first + limit) && is_free (spaces_of regions table) name first (first + count)) (λ both.
-        let parts = and_parts (nat_le (first + count) ((region_of (spaces_of regions table) name).first + limit)) (is_free (spaces_of regions table) name first (first + count)) both in
-        let short = leb-true (first + count) ((region_of (spaces_of regions table) name).first + limit) parts.0 in
-        let begins : (region_of (spaces_of regions table) name).first ≡ above.first = ap (λ (r : Region). r.first) region-is in
+        none_below (end_of (region_of regions name))
+        (λ first. nat_le (first + count) ((region_of regions name).first + limit) && is_free (spaces_of regions table) name first (first + count))
+        (λ first h. false_from_ne_true (nat_le (first + count) ((region_of regions name).first + limit) && is_free (spaces_of regions table) name first (first + count)) (λ both.
+        let parts = and_parts (nat_le (first + count) ((region_of regions name).first + limit)) (is_free (spaces_of regions table) name first (first + count)) both in
+        let short = leb-true (first + count) ((region_of regions name).first + limit) parts.0 in
+        let begins : (region_of regions name).first ≡ above.first = ap (λ (r : Region). r.first) region-is in
         let free = free-clear first count parts.1 in
         none first free.0 (elim ends [ inl to ↦ omega (arith, short, begins, to) | inr to ↦ omega (arith, free.1, to) ]) free.2))
 
     -- a range that is clear is a free place
     pub place-some : (count limit end first : ℕ) → 1 ≤ count → end ≤ above.first + limit → end ≤ end_of above
         → IsClearPlace (children name) table above.root.0 name above.first count end first
-        → (is_free (spaces_of regions table) name first (first + count) ≡ true) × (first + count ≤ (region_of (spaces_of regions table) name).first + limit)
+        → (is_free (spaces_of regions table) name first (first + count) ≡ true) × (first + count ≤ (region_of regions name).first + limit)
     place-some count limit end first some short inside place =
-        let begins : (region_of (spaces_of regions table) name).first ≡ above.first = ap (λ (r : Region). r.first) region-is in
+        let begins : (region_of regions name).first ≡ above.first = ap (λ (r : Region). r.first) region-is in
         (clear-free first count some place.not_before (omega (arith, place.not_past)) place.clear, omega (arith, begins, place.not_past))
 
     -- what a search in the region answers
     pub place-is : (count limit end : ℕ) → 1 ≤ count → end_of above < 2 ^ 64 → end ≡ min (min (above.first + limit) (2 ^ 64 - 1)) (end_of above) → (o : Option ℕ)
         → MatchOption o (HasNoClear (children name) table above.root.0 name above.first count end) (IsClearPlace (children name) table above.root.0 name above.first count end)
         → MatchOption o (has_place (spaces_of regions table) name count limit ≡ false) (λ (first : ℕ).
-        (is_free (spaces_of regions table) name first (first + count) ≡ true) × (first + count ≤ (region_of (spaces_of regions table) name).first + limit))
+        (is_free (spaces_of regions table) name first (first + count) ≡ true) × (first + count ≤ (region_of regions name).first + limit))
     place-is count limit end some few ends None none = place-none count limit end (elim (cases_lt (above.first + limit) (end_of above)) [
       | inl less ↦ inl (omega (arith, less, few, ends))
       | inr more ↦ inr (omega (arith, more, few, ends))

@@ -9,15 +9,15 @@ use Rattle.vm_base.specs.declared.names.RegionName.{RegionName}
 use Rattle.vm_base.proofs.EntryLaws.{passes-some, with_key-same, with_key-here, with_key-other}
 use Rattle.vm_base.proofs.SearchLaws.{eqb_same, eqb_apart, eqb_is}
 use Rattle.vm_model.specs.declared.space.Region.{Region}
-use Rattle.vm_model.specs.Space.Regions.{end_of, root_region, region_below, meets, reaches_over, is_child, meets_child, killed, AreGoodRegions}
-use Rattle.vm_model.proofs.RegionLaws.{meets_none, reaches_over_parts, is_child_parts, region_bounds, IsFresh, AreGoodRegions-with, with_region-each, still, killed-at, killed-stays, killed-was, is_child-killed, AreGoodRegions-killed}
+use Rattle.vm_model.specs.Space.Regions.{region_of, end_of, root_region, region_below, meets, reaches_over, is_child, meets_child, killed, AreGoodRegions}
+use Rattle.vm_model.proofs.RegionLaws.{meets_none, reaches_over_parts, is_child_parts, region_of-at, region_bounds, IsFresh, AreGoodRegions-with, with_region-each, still, killed-at, killed-stays, killed-was, is_child-killed, AreGoodRegions-killed}
 use Rattle.vm_model.proofs.SpaceLaws.{child_none}
 use Rattle.balanced_tree.specs.Rows.{Rows}
 use Rattle.balanced_tree.specs.Pairs.{with_pair}
 use Rattle.pair_map.specs.declared.pair_row.PairRow.{PairRow}
 use Rattle.pair_map.specs.declared.stretch_row.Extent.{Extent}
 use Rattle.pair_map.specs.Maps.{values_of}
-use Rattle.region_tree.specs.Tree.{regions_of, region_in, is_live, has_child, without, IsWithin}
+use Rattle.region_tree.specs.Tree.{regions_of, is_live_region, has_child, with_one_dead, IsWithin}
 use Rattle.region_tree.specs.TreeFields.{IsChildAt, extent_for, IsTree}
 use Rattle.region_tree.proofs.PlaceLaws.{child_at, apart-open}
 use Rattle.region_tree.proofs.BelowLaws.{some_same, is_child_from}
@@ -93,28 +93,25 @@ IsTree-same {regions} {others} {children} {more} e f tree = subst (λ (m : ℕ �
 -- ---- a live name
 
 module _ (regions : ℕ → Option Region) where
-  pub region_in-is : (n : ℕ) (region : Region) → regions n ≡ Some region → region_in regions n ≡ region
-  region_in-is n region e = ap (λ (o : Option Region). unwrap_or o (root_region 0)) e
+  pub inside-is : (n first end : ℕ) (region : Region) → regions n ≡ Some region → reaches_over first end (region_of regions n) ≡ true → reaches_over first end region ≡ true
+  inside-is n first end region e inside = ap (reaches_over first end) (sym (region_of-at regions n region e)) ∙ inside
 
-  pub inside-is : (n first end : ℕ) (region : Region) → regions n ≡ Some region → reaches_over first end (region_in regions n) ≡ true → reaches_over first end region ≡ true
-  inside-is n first end region e inside = ap (reaches_over first end) (sym (region_in-is n region e)) ∙ inside
-
-  pub live-is : (n : ℕ) (region : Region) → regions n ≡ Some region → is_live regions n ≡ region.live
+  pub live-is : (n : ℕ) (region : Region) → regions n ≡ Some region → is_live_region regions n ≡ region.live
   live-is n region e = passes-some (λ (r : Region). r.live) (regions n) region e
 
-  pub live-none : (n : ℕ) → regions n ≡ None → is_live regions n ≡ false
+  pub live-none : (n : ℕ) → regions n ≡ None → is_live_region regions n ≡ false
   unfolding passes
   live-none n e = ap (passes (λ (r : Region). r.live)) e
 
   -- what lies within a region is live
-  pub within-live : {above first end n : ℕ} → IsWithin regions above first end n → is_live regions n ≡ true
+  pub within-live : {above first end n : ℕ} → IsWithin regions above first end n → is_live_region regions n ≡ true
   within-live {above} {first} {end} {n} within = live-is n within.region within.given ∙ within.live
 
-  pub live-found : (n : ℕ) (o : Option Region) (region : Region) → is_live regions n ≡ true → o ≡ regions n → o ≡ Some region → region.live ≡ true
+  pub live-found : (n : ℕ) (o : Option Region) (region : Region) → is_live_region regions n ≡ true → o ≡ regions n → o ≡ Some region → region.live ≡ true
   live-found n o region live is some = sym (live-is n region (sym is ∙ some)) ∙ live
 
-  pub live-not_none : (n : ℕ) (o : Option Region) → is_live regions n ≡ true → o ≡ regions n → o ≡ None → ⊥
-  live-not_none n o live is none = both_ways (is_live regions n) (live-none n (sym is ∙ none)) live
+  pub live-not_none : (n : ℕ) (o : Option Region) → is_live_region regions n ≡ true → o ≡ regions n → o ≡ None → ⊥
+  live-not_none n o live is none = both_ways (is_live_region regions n) (live-none n (sym is ∙ none)) live
 
 module _ (regions : ℕ → Option Region) (children : ℕ → ℕ → Option (Extent RegionName)) (tree : IsTree regions children) where
   -- pages of a live region are pages of the address space
@@ -242,16 +239,16 @@ module _ (regions : ℕ → Option Region) (children : ℕ → ℕ → Option (E
 
   module _ (n : ℕ) (dying : Region) (given : regions n ≡ Some dying) where
     -- one that does not die is as it was
-    not-killed : (m : ℕ) → m ≢ n → without regions n m ≡ regions m
+    not-killed : (m : ℕ) → m ≢ n → with_one_dead regions n m ≡ regions m
     unfolding killed
     not-killed m apart = at (regions m) where
       at : (o : Option Region) → option_map (λ (r : Region). cond (m == n) (record r { live = false }) r) o ≡ o
       at None = refl
       at (Some region) = ap (λ (b : Bool). Some (cond b (record region { live = false }) region)) (eqb_apart m n apart)
 
-    pub killed-one : with_key regions n (record dying { live = false }) ≡ without regions n
+    pub killed-one : with_key regions n (record dying { live = false }) ≡ with_one_dead regions n
     killed-one = λ i m. at m i where
-      at : (m : ℕ) → with_key regions n (record dying { live = false }) m ≡ without regions n m
+      at : (m : ℕ) → with_key regions n (record dying { live = false }) m ≡ with_one_dead regions n m
       at m = elim (cases_eq m n) [
         | inl same ↦
             let e : regions m ≡ Some dying = ap regions same ∙ given in
@@ -263,11 +260,11 @@ module _ (regions : ℕ → Option Region) (children : ℕ → ℕ → Option (E
     module _ (none : has_child regions n ≡ false) where
       -- this one dies, and what is dead already
       dies : ℕ → Bool
-      dies m = (m == n) || not (is_live regions m)
+      dies m = (m == n) || not (is_live_region regions m)
 
       dies-dead : (m : ℕ) (region : Region) → regions m ≡ Some region → region.live ≡ false → dies m ≡ true
       unfolding dies
-      dies-dead m region e dead = or_right (m == n) (not (is_live regions m)) (ap not (live-is regions m region e ∙ dead))
+      dies-dead m region e dead = or_right (m == n) (not (is_live_region regions m)) (ap not (live-is regions m region e ∙ dead))
 
       dies-live : (m : ℕ) (region : Region) → regions m ≡ Some region → region.live ≡ true → dies m ≡ (m == n)
       unfolding dies
@@ -287,7 +284,7 @@ module _ (regions : ℕ → Option Region) (children : ℕ → ℕ → Option (E
       ]
 
       -- regions stay good where one dies that has no live child
-      pub AreGoodRegions-without : AreGoodRegions (without regions n)
+      pub AreGoodRegions-without : AreGoodRegions (with_one_dead regions n)
       AreGoodRegions-without =
           subst AreGoodRegions (killed-same dies (λ m. m == n) dies-live) (AreGoodRegions-killed regions dies tree.good dies-closed)
 
@@ -296,7 +293,7 @@ module _ (regions : ℕ → Option Region) (children : ℕ → ℕ → Option (E
         pub keeps : (p page : ℕ) (e : Extent RegionName) → children p page ≡ Some e → e.value.0 ≢ n → more p page ≡ Some e
         pub was : (p page : ℕ) (e : Extent RegionName) → more p page ≡ Some e → (children p page ≡ Some e) × (e.value.0 ≢ n)
 
-      tree-without : (more : ℕ → ℕ → Option (Extent RegionName)) → AreWithout more → IsTree (without regions n) more
+      tree-without : (more : ℕ → ℕ → Option (Extent RegionName)) → AreWithout more → IsTree (with_one_dead regions n) more
       tree-without more less = record {
         good = AreGoodRegions-without;
         listed = λ p m region e child.
@@ -331,8 +328,8 @@ module _ (regions : ℕ → Option Region) (children : ℕ → ℕ → Option (E
       its-place live (Some p) f = ap is_some (tree.listed p.0 n dying given (is_child_from p.0 dying p live f refl))
 
       pub IsTree-without : dying.live ≡ true → (more : ℕ → ℕ → Option (Extent RegionName)) (o : Option RegionName) → dying.parent ≡ o
-          → MatchOption o (more ≡ children) (λ p. more ≡ with_pair children p.0 dying.first None) → IsTree (without regions n) more
-      IsTree-without live more None f same = subst (IsTree (without regions n)) (sym same) (tree-without children (record {
+          → MatchOption o (more ≡ children) (λ p. more ≡ with_pair children p.0 dying.first None) → IsTree (with_one_dead regions n) more
+      IsTree-without live more None f same = subst (IsTree (with_one_dead regions n)) (sym same) (tree-without children (record {
         keeps = λ p page e is apart. is;
         was = λ p page e is. (
           is,
@@ -343,7 +340,7 @@ module _ (regions : ℕ → Option Region) (children : ℕ → ℕ → Option (E
               cc,
         );
       }))
-      IsTree-without live more (Some p) f same = subst (IsTree (without regions n)) (sym same) (tree-without (with_pair children p.0 dying.first None) (record {
+      IsTree-without live more (Some p) f same = subst (IsTree (with_one_dead regions n)) (sym same) (tree-without (with_pair children p.0 dying.first None) (record {
         keeps = λ q page e is apart.
             pair-other children p.0 dying.first None q page (λ both. apart (
             let listed = tree.listed p.0 n dying given (is_child_from p.0 dying p live f refl) in

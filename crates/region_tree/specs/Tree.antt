@@ -9,25 +9,25 @@ use Rattle.vm_model.specs.declared.space.Region.{Region}
 use Rattle.vm_model.specs.Space.Regions.{root_region, lies_in, any_child, is_below, killed}
 use Rattle.vm_model.specs.Space.AddressSpaces.{Spaces}
 
+-- the regions under their names
+abbrev pub Tree : Type 0
+Tree = Rows (PairRow Region)
+
 -- the region of each name that was given
-abbrev pub regions_of : Rows (PairRow Region) → ℕ → Option Region
+abbrev pub regions_of : Tree → ℕ → Option Region
 regions_of tree = values_of tree 0
 
--- the region of a name. Where it was never given, this means nothing
-abbrev pub region_in : (ℕ → Option Region) → ℕ → Region
-region_in regions name = unwrap_or (regions name) (root_region 0)
-
 -- the name was given to a region that is live
-abbrev pub is_live : (ℕ → Option Region) → ℕ → Bool
-is_live regions name = passes (λ (region : Region). region.live) (regions name)
+abbrev pub is_live_region : (ℕ → Option Region) → ℕ → Bool
+is_live_region regions name = passes (λ (region : Region). region.live) (regions name)
 
 -- the region has a live child
 abbrev pub has_child : (ℕ → Option Region) → ℕ → Bool
 has_child regions name = any_child regions name (λ (region : Region). true)
 
 -- the regions, where this one is dead
-abbrev pub without : (ℕ → Option Region) → ℕ → ℕ → Option Region
-without regions name = killed regions (λ n. n == name)
+abbrev pub with_one_dead : (ℕ → Option Region) → ℕ → ℕ → Option Region
+with_one_dead regions name = killed regions (λ n. n == name)
 
 -- these regions, and these entries
 abbrev pub spaces_of : (ℕ → Option Region) → (ℕ → ℕ → Option Entry) → Spaces

@@ -7,7 +7,7 @@ ghost use Rattle.balanced_tree.specs.Pairs.{with_pair};
 ghost use Rattle.pair_map.specs.Maps.{values_of, extents_of};
 ghost use Rattle.vm_model.specs.Space.Regions.{end_of, reaches_over};
 ghost use Rattle.mapping_set.specs.Tables.{table_of};
-ghost use Rattle.region_tree.specs.Tree.{is_live};
+ghost use Rattle.region_tree.specs.Tree.{is_live_region};
 ghost use Rattle.region_tree.specs.TreeFields.{HasNoClear, IsClearPlace, ReachesOut, IsBetween, HasNoneBetween};
 
 use mapping_set::MappingSet;
@@ -17,7 +17,7 @@ use vm_model::Region;
 
 /// A live region.
 pub(crate) fn held(regions: &PairMap<Region>, name: RegionName) -> Region
-    requires { is_live (values_of regions.now 0) name.0 ≡ true }
+    requires { is_live_region (values_of regions.now 0) name.0 ≡ true }
     ensures region { values_of regions.now 0 name.0 ≡ Some result }
     ensures live { result.live ≡ true }
 {

@@ -1,6 +1,6 @@
 ghost use Rattle.std.specs.Prelude.{◌≡◌, ◌+◌, ◌<◌, ◌^◌, true, IsTrue};
 ghost use Rattle.vm_model.specs.Space.Regions.{reaches_over};
-ghost use Rattle.region_tree.specs.Tree.{regions_of, is_live};
+ghost use Rattle.region_tree.specs.Tree.{regions_of, is_live_region};
 
 use super::*;
 use mapping_set::MappingSet;
@@ -16,8 +16,8 @@ fn lies_in(above: Region, first: u64, count: u64) -> bool
 }
 
 /// Whether a region is live.
-fn is_live(regions: &Regions, region: RegionName) -> bool
-    ensures { result ≡ is_live (regions_of regions.now) region.0 }
+fn is_live_region(regions: &Regions, region: RegionName) -> bool
+    ensures { result ≡ is_live_region (regions_of regions.now) region.0 }
 {
     match regions.get(region) {
         Some(region) => region.live,
@@ -41,7 +41,7 @@ fn add(
     if count == 0 || regions.get(name).is_some() {
         return Err(HostMemory);
     }
-    if !is_live(regions, parent) || !lies_in(above, first, count) {
+    if !is_live_region(regions, parent) || !lies_in(above, first, count) {
         return Err(HostMemory);
     }
     if regions.meets(parent, first, count) {
@@ -58,7 +58,7 @@ fn gap(
     count: u64,
     limit: u64,
 ) -> Option<PageNo> {
-    if count == 0 || !is_live(regions, RegionName(region)) {
+    if count == 0 || !is_live_region(regions, RegionName(region)) {
         return None;
     }
     regions.find_gap(maps, RegionName(region), count, limit)
@@ -68,7 +68,7 @@ fn gap(
 fn told(regions: &Regions, maps: &MappingSet, region: u32, first: u32, count: u32) -> u32 {
     let region = RegionName(region);
     let (first, count) = (first as u64, count as u64);
-    if !is_live(regions, region) {
+    if !is_live_region(regions, region) {
         return 0;
     }
     let free = regions.is_free(maps, region, first, count) as u32;
@@ -80,7 +80,7 @@ fn told(regions: &Regions, maps: &MappingSet, region: u32, first: u32, count: u3
 /// The number of the region that `destroy_next` destroys below a live one, or 0.
 fn destroyed(regions: &mut Regions, region: u32, first: u64, count: u64) -> u32 {
     let region = RegionName(region);
-    if !is_live(regions, region) {
+    if !is_live_region(regions, region) {
         return 0;
     }
     match regions.destroy_next(region, first, count) {

@@ -4,12 +4,11 @@ ghost use Rattle.std.specs.Prelude.{◌≡◌, ℕ, ◌+◌, ◌≤◌, true, fa
 ghost use Rattle.std.specs.Option.{MatchOption};
 ghost use Rattle.vm_base.specs.declared.limits.TheConstants.{PAGES_END};
 ghost use Rattle.vm_base.specs.Entries.{with_key};
-ghost use Rattle.vm_model.specs.Space.Regions.{root_region, region_below, reaches_over, meets_child, cuts_child};
+ghost use Rattle.vm_model.specs.Space.Regions.{region_of, root_region, region_below, reaches_over, meets_child, cuts_child};
 ghost use Rattle.vm_model.specs.Space.Regions.{AreGoodRegions};
-ghost use Rattle.vm_model.specs.Space.AddressSpaces.{region_of};
 ghost use Rattle.vm_model.specs.Space.Places.{is_free, has_place};
 ghost use Rattle.mapping_set.specs.Tables.{table_of};
-ghost use Rattle.region_tree.specs.Tree.{regions_of, region_in, is_live, has_child, without, spaces_of};
+ghost use Rattle.region_tree.specs.Tree.{regions_of, is_live_region, has_child, with_one_dead, spaces_of};
 ghost use Rattle.region_tree.specs.Tree.{IsWithin, HasNoneWithin};
 ghost use Rattle.region_tree.specs.TreeFields.{HasNoneOver};
 
@@ -95,12 +94,12 @@ impl Regions {
         caps: Perm,
     ) -> Result<(), HostMemory>
         requires name { regions_of self.old name.0 ≡ None }
-        requires live { is_live (regions_of self.old) parent.0 ≡ true }
+        requires live { is_live_region (regions_of self.old) parent.0 ≡ true }
         requires some { 1 ≤ count }
-        requires inside { reaches_over first (first + count) (region_in (regions_of self.old) parent.0) ≡ true }
+        requires inside { reaches_over first (first + count) (region_of (regions_of self.old) parent.0) ≡ true }
         requires apart { meets_child (regions_of self.old) parent.0 first (first + count) ≡ false }
         ensures ok { OnOk result (regions_of self.new ≡ with_key (regions_of self.old) name.0
-            (region_below parent.0 (region_in (regions_of self.old) parent.0) first count caps.0)) }
+            (region_below parent.0 (region_of (regions_of self.old) parent.0) first count caps.0)) }
         ensures err { OnErr result (regions_of self.new ≡ regions_of self.old) }
     {
         // How many names there are rests on the range of their numbers.
@@ -142,12 +141,12 @@ impl Regions {
         count: u64,
         limit: u64,
     ) -> Option<PageNo>
-        requires live { is_live (regions_of self.now) region.0 ≡ true }
+        requires live { is_live_region (regions_of self.now) region.0 ≡ true }
         requires some { 1 ≤ count }
         ensures { let spaces = spaces_of (regions_of self.now) (table_of maps.now) in
             MatchOption result (has_place spaces region.0 count limit ≡ false) (λ (first : ℕ).
             (is_free spaces region.0 first (first + count) ≡ true) ×
-            (first + count ≤ (region_of spaces region.0).first + limit)) }
+            (first + count ≤ (region_of (regions_of self.now) region.0).first + limit)) }
     {
         let above = held(&self.regions, region);
         let end = above
@@ -167,7 +166,7 @@ impl Regions {
 
     /// Whether `count` pages from `first` on are a free place in a live region.
     pub fn is_free(&self, maps: &MappingSet, region: RegionName, first: PageNo, count: u64) -> bool
-        requires live { is_live (regions_of self.now) region.0 ≡ true }
+        requires live { is_live_region (regions_of self.now) region.0 ≡ true }
         requires pages { first + count ≤ PAGES_END }
         ensures { result ≡
             is_free (spaces_of (regions_of self.now) (table_of maps.now)) region.0 first (first + count) }
@@ -185,7 +184,7 @@ impl Regions {
 
     /// Whether a live child of a live region has one of `count` pages from `first` on.
     pub fn meets(&self, region: RegionName, first: PageNo, count: u64) -> bool
-        requires live { is_live (regions_of self.now) region.0 ≡ true }
+        requires live { is_live_region (regions_of self.now) region.0 ≡ true }
         requires pages { first + count ≤ PAGES_END }
         ensures { result ≡ meets_child (regions_of self.now) region.0 first (first + count) }
     {
@@ -195,7 +194,7 @@ impl Regions {
     /// Whether a live child of a live region has one of `count` pages from `first` on, and a page that is none of
     /// them.
     pub fn cuts(&self, region: RegionName, first: PageNo, count: u64) -> bool
-        requires live { is_live (regions_of self.now) region.0 ≡ true }
+        requires live { is_live_region (regions_of self.now) region.0 ≡ true }
         requires pages { first + count ≤ PAGES_END }
         ensures { result ≡ cuts_child (regions_of self.now) region.0 first (first + count) }
     {
@@ -218,12 +217,12 @@ impl Regions {
         first: PageNo,
         count: u64,
     ) -> Option<RegionName>
-        requires { is_live (regions_of self.old) region.0 ≡ true }
+        requires { is_live_region (regions_of self.old) region.0 ≡ true }
         ensures within { MatchOption result (HasNoneWithin (regions_of self.old) region.0 first (first + count))
             (λ name. IsWithin (regions_of self.old) region.0 first (first + count) name.0) }
         ensures childless { IfSome result (λ name. has_child (regions_of self.old) name.0 ≡ false) }
         ensures regions { MatchOption result (regions_of self.new ≡ regions_of self.old)
-            (λ name. regions_of self.new ≡ without (regions_of self.old) name.0) }
+            (λ name. regions_of self.new ≡ with_one_dead (regions_of self.old) name.0) }
     {
         let Some(within) = self.within(region, first, count) else {
             return None;
@@ -235,9 +234,9 @@ impl Regions {
 
     /// Destroys a live region that has no live child.
     pub fn destroy_one(&mut self, region: RegionName)
-        requires live { is_live (regions_of self.old) region.0 ≡ true }
+        requires live { is_live_region (regions_of self.old) region.0 ≡ true }
         requires childless { has_child (regions_of self.old) region.0 ≡ false }
-        ensures { regions_of self.new ≡ without (regions_of self.old) region.0 }
+        ensures { regions_of self.new ≡ with_one_dead (regions_of self.old) region.0 }
     {
         let dying = held(&self.regions, region);
         let dead = Region {

@@ -1,7 +1,7 @@
 use Rattle.std.proofs.Common.{sym, ◌∙◌}
 use Rattle.region_tree.specs.Tree.{regions_of}
 use Rattle.region_tree.proofs.TreeLaws.{live-is, live-none}
-use Rattle.region_tree.proofs.tests.is_live.Goals as goal
+use Rattle.region_tree.proofs.tests.is_live_region.Goals as goal
 
 pub returns-in-Some : goal.returns-in-Some
 returns-in-Some c =

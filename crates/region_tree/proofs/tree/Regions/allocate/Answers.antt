@@ -6,7 +6,8 @@ use Rattle.pair_map.specs.Maps.{IsOpen}
 use Rattle.region_tree.specs.Tree.{regions_of}
 use Rattle.region_tree.specs.TreeFields.{extent_for}
 use Rattle.region_tree.proofs.PlaceLaws.{seen, apart-open}
-use Rattle.region_tree.proofs.TreeLaws.{given-seen, put-seen, region_in-is, inside-is, inside-end, IsTree-child, IsTree-same}
+use Rattle.vm_model.proofs.RegionLaws.{region_of-at}
+use Rattle.region_tree.proofs.TreeLaws.{given-seen, put-seen, inside-is, inside-end, IsTree-child, IsTree-same}
 use Rattle.region_tree.proofs.tree.Regions.allocate.Goals as goal
 
 pub insert-requires-2-clause-end : goal.insert-requires-2-clause-end
@@ -34,4 +35,4 @@ returns-clause-ok c =
     let given = given-seen c.self.view_is c.args.parent.0 c.held-above.result c.held-above.ensures.region in
     put-seen c.self.view_is c.args.name.0 (region_below c.args.parent.0 c.held-above.result c.args.first c.args.count c.args.caps.0) c.reserve.ensures.values c.insert.ensures.values
     ∙ ap (λ above. with_key (regions_of c.args.self.now) c.args.name.0 (region_below c.args.parent.0 above c.args.first c.args.count c.args.caps.0))
-    (sym (region_in-is (regions_of c.args.self.now) c.args.parent.0 c.held-above.result given))
+    (sym (region_of-at (regions_of c.args.self.now) c.args.parent.0 c.held-above.result given))
