@@ -74,7 +74,8 @@ impl PinTable {
         requires few { (1 ≤ count) × (count ≤ PIN_PAGES) }
         requires pages { first + count ≤ PAGES_END }
         requires room { 1 ≤ room_of self.old }
-        ensures { pins_of self.new ≡ with_key (pins_of self.old) pin.0 (record { koid = koid.0; first = first; count = count }) }
+        ensures { pins_of self.new ≡ with_key (pins_of self.old) pin.0
+            (record { koid = koid.0; first = first; count = count }) }
     {
         // How far the table counts rests on the range of the names.
         prove!(pin.0 <= u32::MAX);
