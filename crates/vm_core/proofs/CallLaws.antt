@@ -62,7 +62,7 @@ steps_beside {old} {new} {vmos_old} {vmos_new} {pins} steps = record {
 pub steps_all : {old new : Content} {vmos_old vmos_new : Vmos} {pins_old pins_new : Pins} {regions : Regions} {maps : Mappings} {command : Command} {reply : Reply}
     → Steps old vmos_old pins_old command reply new vmos_new pins_new
     → StepsAll old (record { vmos = vmos_old; pins = pins_old; regions = regions; maps = maps }) command reply new
-      (record { vmos = vmos_new; pins = pins_new; regions = regions; maps = maps })
+    (record { vmos = vmos_new; pins = pins_new; regions = regions; maps = maps })
 steps_all {regions = regions} {maps = maps} steps = record {
   step = λ s well. steps.step (record s { spaces = spaces_of (regions_of regions) (table_of maps) }) well;
 }
@@ -71,7 +71,7 @@ steps_all {regions = regions} {maps = maps} steps = record {
 pub steps_spaces : {c : Content} {vmos : Vmos} {pins : Pins} {regions_old regions_new : Regions} {maps : Mappings} {command : Command} {reply : Reply}
     → StepsSpaces (spaces_of (regions_of regions_old) (table_of maps)) command reply (spaces_of (regions_of regions_new) (table_of maps))
     → StepsAll c (record { vmos = vmos; pins = pins; regions = regions_old; maps = maps }) command reply c
-      (record { vmos = vmos; pins = pins; regions = regions_new; maps = maps })
+    (record { vmos = vmos; pins = pins; regions = regions_new; maps = maps })
 steps_spaces {c} {vmos} {pins} steps = record { step = λ s well. steps.step (with_tables s c vmos pins) well.good }
 
 -- the tables of a machine are counted, where it is good and its table of VMOs counts right

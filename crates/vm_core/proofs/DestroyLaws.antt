@@ -1,6 +1,6 @@
 -- Laws of destroying a region: the regions below it die one after another, each when it has no live child.
-use Rattle.std.proofs.Common.{arith, ◌+◌, ◌<◌, ◌≡◌, ℕ, Bool, true, false, not, ◌&&◌, ◌||◌, ◌==◌, Option, None, Some, ◌⊎◌, refl, sym, ap, ◌∙◌, inl, inr}
-use Rattle.std.proofs.lemmas.Bool.{cases_Bool, or_cases, or_left, or_right, both_ways, false_from_ne_true, and_right, not_from_true}
+use Rattle.std.proofs.Common.{arith, ◌+◌, ◌<◌, ◌≡◌, ℕ, Bool, true, false, ◌||◌, ◌==◌, Option, None, Some, ◌⊎◌, refl, sym, ap, ◌∙◌, inl, inr}
+use Rattle.std.proofs.lemmas.Bool.{cases_Bool, or_cases, or_left, or_right, both_ways, false_from_ne_true}
 use Rattle.std.specs.Option.{option_map}
 use Rattle.std.proofs.Common.{cond}
 use Rattle.vm_base.specs.declared.limits.TheConstants.{NAMES}
@@ -9,7 +9,7 @@ use Rattle.vm_base.proofs.EntryLaws.{passes-some, entry_count-change}
 use Rattle.vm_base.proofs.SearchLaws.{eqb_is, eqb_same, eqb_apart, bit-true, bit-false}
 use Rattle.vm_model.specs.declared.space.Entry.{Entry}
 use Rattle.vm_model.specs.declared.space.Region.{Region}
-use Rattle.vm_model.specs.Space.Regions.{end_of, meets, lies_in, is_child, cuts_child, is_below, is_at_or_below, killed, AreGoodRegions}
+use Rattle.vm_model.specs.Space.Regions.{end_of, is_child, is_below, is_at_or_below, killed, AreGoodRegions}
 use Rattle.vm_model.specs.Space.AddressSpaces.{is_mapped, without_region}
 use Rattle.vm_model.specs.Space.Table.{without_regions}
 use Rattle.vm_model.specs.Machine.State.{State, IsGoodState}
@@ -59,22 +59,22 @@ pub underway_end : (old now new : ℕ → Option Region) (name : ℕ) → IsUnde
 underway_end old now new name under none e =
     e ∙ (ap (λ (r : ℕ → Option Region). killed r (λ n. n == name)) under.dead
     ∙ (killed-twice old under.dies (λ n. n == name) ∙ killed-alike old (λ n. under.dies n || (n == name)) (is_at_or_below old name) each)) where
-  each : (n : ℕ) (region : Region) → old n ≡ Some region → ((under.dies n || (n == name)) ≡ is_at_or_below old name n) ⊎ (region.live ≡ false)
-  each n region f = elim (cases_Bool (under.dies n)) [
-    | inl dead ↦
-        inl (or_left (under.dies n) (n == name) dead ∙ sym (or_right (n == name) (is_below old name n) (under.below n dead)))
-    | inr spared ↦ elim (cases_Bool (is_below old name n)) [
-      | inl below ↦
-          let still : now n ≡ Some region = ap (λ (r : ℕ → Option Region). r n) under.dead ∙ killed-stays old under.dies n region f spared in
-          let under_now : is_below now name n ≡ true = ap (λ (r : ℕ → Option Region). is_below r name n) under.dead ∙ (is_below-killed old under.dies name n ∙ below) in
-          inr (none n region still under_now)
-      | inr apart ↦
-          inl (ap (λ (b : Bool). b || (n == name)) spared ∙ sym (both (n == name) (is_below old name n) apart))
-    ]
-  ] where
-    both : (a b : Bool) → b ≡ false → (a || b) ≡ a
-    both true b h = refl
-    both false b h = h
+      each : (n : ℕ) (region : Region) → old n ≡ Some region → ((under.dies n || (n == name)) ≡ is_at_or_below old name n) ⊎ (region.live ≡ false)
+      each n region f = elim (cases_Bool (under.dies n)) [
+        | inl dead ↦
+            inl (or_left (under.dies n) (n == name) dead ∙ sym (or_right (n == name) (is_below old name n) (under.below n dead)))
+        | inr spared ↦ elim (cases_Bool (is_below old name n)) [
+          | inl below ↦
+              let still : now n ≡ Some region = ap (λ (r : ℕ → Option Region). r n) under.dead ∙ killed-stays old under.dies n region f spared in
+              let under_now : is_below now name n ≡ true = ap (λ (r : ℕ → Option Region). is_below r name n) under.dead ∙ (is_below-killed old under.dies name n ∙ below) in
+              inr (none n region still under_now)
+          | inr apart ↦
+              inl (ap (λ (b : Bool). b || (n == name)) spared ∙ sym (both (n == name) (is_below old name n) apart))
+        ]
+      ] where
+        both : (a b : Bool) → b ≡ false → (a || b) ≡ a
+        both true b h = refl
+        both false b h = h
 
 -- ---- where nothing is mapped
 
@@ -89,9 +89,9 @@ unfolding is_mapped
 destroyed_pruned s name good none =
     (λ i. record s { spaces = record { regions = killed s.spaces.regions (is_at_or_below s.spaces.regions name); table = same i } })
     ∙ sym (pruned-good (record s { spaces = without_region s.spaces name }) (spaces_keeps s (without_region s.spaces name) good
-      (AreGoodSpaces-without s.content s.spaces good.spaces name) (λ v. ap (λ (t : ℕ → ℕ → Option Entry). is_mapped (record s.spaces { table = t }) v) (sym same))).good) where
-  same : s.spaces.table ≡ without_regions s.spaces.table (is_at_or_below s.spaces.regions name)
-  same = none-without s.spaces.table (is_at_or_below s.spaces.regions name) none
+    (AreGoodSpaces-without s.content s.spaces good.spaces name) (λ v. ap (λ (t : ℕ → ℕ → Option Entry). is_mapped (record s.spaces { table = t }) v) (sym same))).good) where
+      same : s.spaces.table ≡ without_regions s.spaces.table (is_at_or_below s.spaces.regions name)
+      same = none-without s.spaces.table (is_at_or_below s.spaces.regions name) none
 
 -- ---- the loop
 
@@ -116,10 +116,10 @@ pub live_count-fewer : (regions new : ℕ → Option Region) (leaf : ℕ) (regio
     → new ≡ with_one_dead regions leaf → live_count new < live_count regions
 live_count-fewer regions new leaf region h given live e =
     let count = entry_count-change NAMES (λ (r : Region). r.live) regions new leaf h (λ n apart.
-      ap (λ (f : ℕ → Option Region). f n) e ∙ killed-other regions (λ m. m == leaf) n (eqb_apart n leaf apart)) in
+    ap (λ (f : ℕ → Option Region). f n) e ∙ killed-other regions (λ m. m == leaf) n (eqb_apart n leaf apart)) in
     let was = bit-true _ (passes-some (λ (r : Region). r.live) (regions leaf) region given ∙ live) in
     let is = bit-false _ (passes-some (λ (r : Region). r.live) (new leaf) (record region { live = false })
-      (ap (λ (f : ℕ → Option Region). f leaf) e ∙ killed-here regions (λ m. m == leaf) leaf region given (eqb_same leaf))) in
+    (ap (λ (f : ℕ → Option Region). f leaf) e ∙ killed-here regions (λ m. m == leaf) leaf region given (eqb_same leaf))) in
     omega (arith, count, was, is)
 
 -- the region itself is as before, and live
@@ -141,25 +141,16 @@ underway_name old now name n region good under e =
 
 module _ (now : ℕ → Option Region) (good : AreGoodRegions now) (name : ℕ) (above : Region) (given : now name ≡ Some above)
     (left : HasNoneWithin now name above.first (end_of above)) where
-  -- a live child lies below the region, and in it
+  -- a live child lies below the region
   child_below : (n : ℕ) (region : Region) → now n ≡ Some region → is_child name region ≡ true → is_below now name n ≡ true
   child_below n region e child =
       let found = is_child_parts name region child in
       is_below-step now good name n region found.1 e found.2
       ∙ or_left (found.1.0 == name) (is_below now name found.1.0) (ap (λ (p : ℕ). p == name) found.3 ∙ eqb_same name)
 
-  child_inside : (n : ℕ) (region : Region) → now n ≡ Some region → is_child name region ≡ true → lies_in above.first (end_of above) region ≡ true
-  child_inside n region e child = lies_below now good name above given n region e (is_child_parts name region child).0 (child_below n region e child)
-
-  -- so none reaches out of it
-  none_cut : cuts_child now name above.first (end_of above) ≡ false
-  none_cut = none_child now name (λ (r : Region). meets above.first (end_of above) r && not (lies_in above.first (end_of above) r)) (λ n region e child.
-      and_right (meets above.first (end_of above) region) (not (lies_in above.first (end_of above) region))
-      (not_from_true (lies_in above.first (end_of above) region) (child_inside n region e child)))
-
   -- no live region is left below the region
   pub none_left : (n : ℕ) (region : Region) → now n ≡ Some region → is_below now name n ≡ true → region.live ≡ false
-  none_left n region e below = false_from_ne_true region.live (λ live. left.below none_cut n (record {
+  none_left n region e below = false_from_ne_true region.live (λ live. left n (record {
     region = region;
     given = e;
     live = live;
