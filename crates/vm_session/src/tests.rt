@@ -18,6 +18,7 @@ mod lines;
 mod naming;
 mod pins;
 mod ranges;
+mod regions;
 mod sharing;
 mod sizes;
 mod words;

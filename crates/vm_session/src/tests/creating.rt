@@ -35,12 +35,12 @@ fn vmos_are_made(rt: HostRuntime) -> Result<(), Fail> {
     check(&rt, "run", &rows)?;
     // A command that is not built is read, and changes nothing.
     let rows = transcript![
-        "vmar_destroy r1" => "UNBUILT",
+        "maps r1" => "UNBUILT",
         "vmo_create v1 1 resizable" => "OK",
-        "root_create r1" => "UNBUILT",
+        "vmar_map r1 0 v1 0 4096 rw" => "UNBUILT",
         "vmo_size v1" => "OK 4096",
         "stat" => "OK frames=1024 used=0 free=1024 vmos=1",
-        "root_create" => "SYNTAX",
+        "maps" => "SYNTAX",
     ];
     check(&rt, "run", &rows)?;
     Ok(())

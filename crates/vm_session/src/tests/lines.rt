@@ -36,7 +36,9 @@ fn lines_are_spelled(rt: HostRuntime) -> Result<(), Fail> {
         "vmo_fill v1 0 1 256" => "SYNTAX",
         "vmo_read v1 0 1" => "OK ab",
         "vmar_allocate r1 r2 0 4096 specific_overwrite" => "SYNTAX",
-        "vmar_allocate r1 r2 0 4096" => "UNBUILT",
+        "vmar_allocate r1 r2 0 4096 can_read specific" => "BAD_HANDLE",
+        "vmar_map r1 0 v1 0 4096 rw can_read" => "SYNTAX",
+        "vmar_map r1 0 v1 0 4096 rw specific_overwrite" => "UNBUILT",
     ];
     check(&rt, "run", &rows)?;
     Ok(())
