@@ -10,6 +10,7 @@ using(crate::proofs::PlaceLaws::live_end, crate::proofs::PlaceLaws::place_inside
 unfolding(vm_model::specs::Space::Regions::region_of, vm_base::specs::Entries::passes))]
 
 mod allocating;
+pub mod laws;
 mod placing;
 
 pub use allocating::allocate;

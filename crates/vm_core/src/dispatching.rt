@@ -25,7 +25,9 @@ use vmo_table::VmoTable;
 /// Does a command by its handler, with room for the bytes and for the numbers that it may answer. One that is not
 /// built yet is answered `Unbuilt`.
 #[inline(always)]
-#[tactic(auto, using(crate::proofs::CallLaws::steps_beside, crate::proofs::CallLaws::steps_all, crate::proofs::CallLaws::steps_spaces, crate::proofs::CallLaws::counts_same))]
+#[tactic(auto, using(crate::proofs::CallLaws::steps_beside, crate::proofs::CallLaws::counts_same,
+// beside any address spaces, and beside any tables
+crate::proofs::CallLaws::steps_all, crate::proofs::CallLaws::steps_spaces))]
 pub(crate) fn dispatch<'a, P: PageStore>(
     store: &mut P,
     vmos: &mut VmoTable,
