@@ -26,6 +26,7 @@ fn is_live_region(regions: &Regions, region: RegionName) -> bool
 }
 
 /// Allocates a region where that is allowed.
+#[tactic(auto, unfolding(vm_model::specs::Space::Regions::region_of))]
 fn add(
     regions: &mut Regions,
     name: u32,
