@@ -6,11 +6,11 @@ use Rattle.vm_base.specs.declared.flags.Perm.{Perm}
 use Rattle.vm_base.proofs.SearchLaws.{eqb_is, eqb_same}
 use Rattle.vm_model.specs.declared.space.Entry.{Entry}
 use Rattle.vm_model.specs.Contents.Zeroing.{is_within}
-use Rattle.vm_model.specs.Space.Table.{mapping_from, with_pages}
+use Rattle.vm_model.specs.Space.Table.{mapping_from, with_pages, with_perm}
 use Rattle.vm_model.proofs.ZeroingLaws.{is_within-true, is_within-parts}
 use Rattle.mapping_set.specs.declared.piece.Piece.{Piece}
 use Rattle.mapping_set.specs.Pieces.{piece_from, piece_until, piece_with_perm}
-use Rattle.mapping_set.specs.Tables.{with_piece, without_piece, with_perm}
+use Rattle.mapping_set.specs.Tables.{with_piece, without_piece}
 
 module _ (table : ℕ → ℕ → Option Entry) (root first end : ℕ) (now : ℕ → Option Entry) where
   -- a page of the range has its new entry

@@ -38,10 +38,6 @@ abbrev pub without_taken : (ℕ → ℕ → Option Entry) → ℕ → Option Pie
 without_taken table root None = table
 without_taken table root (Some piece) = without_piece table root piece
 
--- the entries, each with these permissions
-abbrev pub with_perm : Perm → (ℕ → Option Entry) → ℕ → Option Entry
-with_perm perm entries p = option_map (λ (entry : Entry). record entry { perm = perm }) (entries p)
-
 -- each page from `first` to below `end` has an entry
 abbrev pub IsFull : (ℕ → Option Entry) → ℕ → ℕ → Type 0
 IsFull entries first end = (p : ℕ) → first ≤ p → p < end → IsSome (entries p)

@@ -5,10 +5,10 @@ ghost use Rattle.std.specs.Option.{MatchOption};
 ghost use Rattle.balanced_tree.specs.Pairs.{with_pair};
 ghost use Rattle.pair_map.specs.Maps.{values_of};
 ghost use Rattle.vm_base.specs.declared.limits.TheConstants.{NAMES, PAGES_END};
-ghost use Rattle.vm_model.specs.Space.Table.{with_pages, has_entry};
+ghost use Rattle.vm_model.specs.Space.Table.{with_pages, with_perm, has_entry};
 ghost use Rattle.mapping_set.specs.declared.piece.Piece.{Piece};
 ghost use Rattle.mapping_set.specs.Pieces.{list_number, IsHeld, HasNoHeld, IsOfRegion, IsBorder};
-ghost use Rattle.mapping_set.specs.Tables.{table_of, spare_of, with_piece, without_piece, without_taken, with_perm};
+ghost use Rattle.mapping_set.specs.Tables.{table_of, spare_of, with_piece, without_piece, without_taken};
 ghost use Rattle.mapping_set.specs.Tables.{IsBare, IsBareFrom, IsFull, IsNextPiece, IsPieceOf, IsFirstPiece, IsPieceIn, entries_in};
 ghost use Rattle.mapping_set.specs.Tables.{IsFirstGap, HasNoGap};
 

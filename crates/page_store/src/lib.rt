@@ -1,11 +1,13 @@
 //! The store of pages: what it contains and how it changes (`PageStore`), and the plain store
-//! (`FlatStore`), a sorted list of held pages. And how many pages a name has in a store.
+//! (`FlatStore`), a sorted list of held pages. And how many pages a name has in a store, and a VMO that leaves it.
 //!
 //! It stands on `vm_model`, whose contents the contracts speak of. The layers above use the trait,
-//! make a store by `FlatStore::new`, and ask for the size of a name by `size_of_name`.
+//! make a store by `FlatStore::new`, ask for the size of a name by `size_of_name`, and hand on a VMO that nothing keeps
+//! to `drop_gone`.
 #![tactic(auto)]
 
 mod flat_store;
+mod leaving;
 mod names;
 mod page_store;
 mod rows;
@@ -13,6 +15,7 @@ mod sharing;
 mod vmos;
 
 pub use flat_store::FlatStore;
+pub use leaving::drop_gone;
 pub use names::{pages_of_name, size_of_name};
 pub use page_store::{Look, PageStore};
 

@@ -6,9 +6,9 @@ use Rattle.vm_model.specs.Contents.Content.{Content}
 use Rattle.vm_model.specs.Space.AddressSpaces.{Spaces}
 use Rattle.vm_model.specs.Machine.State.{State, IsGoodState}
 use Rattle.vm_model.specs.Machine.Step.{Step}
-use Rattle.vmo_table.specs.Table.{Table as Vmos, with_vmos, CountsKeepers}
+use Rattle.vmo_table.specs.Table.{Table as Vmos, with_vmos, CountsKeepers, IsWellCounted}
 use Rattle.pin_table.specs.Table.{Table as Pins, pins_of}
-use Rattle.vmo_ops.specs.Targets.{with_tables, IsWellCounted}
+use Rattle.vmo_ops.specs.Targets.{with_tables}
 use Rattle.vm_core.specs.Vm.{Parts, with_parts}
 
 -- A store and the two tables are parts of one good state, and the table of VMOs counts right what keeps each VMO of it.

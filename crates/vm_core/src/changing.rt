@@ -6,8 +6,9 @@ ghost use Rattle.std.specs.Prelude.{◌≡◌};
 ghost use Rattle.vm_model.specs.declared.command.Command.{Command};
 ghost use Rattle.vm_model.specs.declared.reply.Reply.{Reply};
 ghost use Rattle.vm_model.specs.Machine.Lent.{reply_for};
+ghost use Rattle.vm_model.specs.Machine.Step.{reply_of};
 ghost use Rattle.vmo_table.specs.Table.{AreParts};
-ghost use Rattle.vmo_ops.specs.Targets.{AreTogether, reply_of};
+ghost use Rattle.vmo_ops.specs.Targets.{AreTogether};
 ghost use Rattle.vm_core.specs.Calls.{Steps, StepsVmos};
 
 use page_store::PageStore;

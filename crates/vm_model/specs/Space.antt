@@ -3,3 +3,4 @@ pub mod Regions
 pub mod Table
 pub mod AddressSpaces
 pub mod Places
+pub mod Mappings

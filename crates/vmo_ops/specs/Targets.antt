@@ -1,6 +1,5 @@
 -- What a name stands for, and what a command does by it.
-use Rattle.std.specs.Prelude.{◌≡◌, ℕ, ◌+◌, ◌*◌, ◌<◌, ◌≤◌, ◌⊎◌, true, false, Option, None, Some, Result}
-use Rattle.std.specs.declared.result.Result.TheVariants.{Ok, Err}
+use Rattle.std.specs.Prelude.{◌≡◌, ℕ, ◌+◌, ◌*◌, ◌<◌, ◌≤◌, ◌⊎◌, true, false, Option, None, Some}
 use Rattle.vm_base.specs.declared.names.Koid.{Koid}
 use Rattle.vm_base.specs.declared.names.VmoName.{VmoName}
 use Rattle.vm_base.specs.declared.limits.TheConstants.{PAGE}
@@ -10,13 +9,12 @@ use Rattle.vm_model.specs.declared.command.ChildKind.{ChildKind}
 use Rattle.vm_model.specs.declared.command.ChildKind.TheVariants.{Snapshot, Slice, Reference}
 use Rattle.vm_model.specs.declared.command.Command.{Command}
 use Rattle.vm_model.specs.declared.reply.Reply.{Reply}
-use Rattle.vm_model.specs.declared.reply.Reply.TheVariants.{Refused}
 use Rattle.vm_model.specs.Contents.Content.{Content, pages_of}
 use Rattle.vm_model.specs.declared.names.Target.{Target}
 use Rattle.vm_model.specs.Naming.Pins.{Pin}
 use Rattle.vm_model.specs.Machine.State.{State, name_pages, IsGoodState}
 use Rattle.vm_model.specs.Machine.Step.{Step}
-use Rattle.vmo_table.specs.Table.{Table as Vmos, with_vmos, CountsKeepers}
+use Rattle.vmo_table.specs.Table.{Table as Vmos, with_vmos}
 use Rattle.pin_table.specs.Table.{Table as Pins, pins_of}
 
 -- a range of a name lies inside it, at this place in the VMO
@@ -30,11 +28,6 @@ abbrev pub IsBarred : Content → Target → ℕ → ℕ → Refusal → Type 0
 IsBarred c target offset len refusal =
     ((refusal ≡ AccessDenied) × (target.may_write ≡ false))
     ⊎ ((refusal ≡ OutOfRange) × (target.may_write ≡ true) × (name_pages c target * PAGE < offset + len))
-
--- what a call answers, as a reply of the machine
-abbrev pub reply_of : {A : Type 0} → (A → Reply) → Result A Refusal → Reply
-reply_of done (Ok a) = done a
-reply_of done (Err refusal) = Refused refusal
 
 -- A name that stands for the target gives the command: from the old content to the new it is a step of the machine with
 -- this reply, whichever name it is and whatever else the state has.
@@ -57,11 +50,6 @@ with_tables s c vmos pins = record (with_vmos s c vmos) { pins = pins_of pins }
 pub record AreTogether (c : Content) (vmos : Vmos) (pins : Pins) : Type 0 where
   pub rest : State
   pub good : IsGoodState (with_tables rest c vmos pins)
-
--- a state is good, and the table counts right what keeps each VMO of it
-pub record IsWellCounted (vmos : Vmos) (s : State) : Type 0 where
-  pub good : IsGoodState s
-  pub counted : CountsKeepers vmos s
 
 -- the koid that a child of this kind is given, where the next koid is this: a snapshot is a VMO of its own
 abbrev pub koid_given : ChildKind → ℕ → Option Koid

@@ -9,10 +9,9 @@ ghost use Rattle.vm_model.specs.declared.reply.Reply.{Reply};
 ghost use Rattle.vm_model.specs.Contents.Content.{Content, IsGood};
 ghost use Rattle.vm_model.specs.Naming.Names.{is_kind};
 ghost use Rattle.vm_model.specs.Machine.State.{State, name_pages};
-ghost use Rattle.vm_model.specs.Machine.Step.{Step, slice_of, reference_of};
+ghost use Rattle.vm_model.specs.Machine.Step.{Step, slice_of, reference_of, reply_of};
 ghost use Rattle.page_store.specs.Names.{IsInside};
 ghost use Rattle.vmo_table.specs.Table.{names_of, lineage_in, keepers_of, with_vmos, AreParts, IsNamed};
-ghost use Rattle.vmo_ops.specs.Targets.{reply_of};
 
 use page_store::{PageStore, size_of_name};
 use vm_base::{Koid, PAGE, PageNo, Refusal, VmoName, in_page, page_of, round_up};

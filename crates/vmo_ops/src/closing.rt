@@ -1,16 +1,14 @@
 //! Closing a name of a VMO (`zx_handle_close`).
 
-ghost use Rattle.std.specs.Prelude.{◌≡◌, IsSome, IfSome, MatchOption};
+ghost use Rattle.std.specs.Prelude.{◌≡◌, IsSome};
 ghost use Rattle.vm_model.specs.declared.command.Command.{Command};
 ghost use Rattle.vm_model.specs.declared.reply.Reply.{Reply};
-ghost use Rattle.vm_model.specs.Contents.Sharing.{without};
 ghost use Rattle.vm_model.specs.Machine.State.{State};
 ghost use Rattle.vm_model.specs.Machine.Step.{Step};
-ghost use Rattle.vmo_table.specs.Table.{names_of, keepers_of, with_vmos};
-ghost use Rattle.vmo_ops.specs.Targets.{IsWellCounted};
+ghost use Rattle.vmo_table.specs.Table.{names_of, keepers_of, with_vmos, IsWellCounted};
 
-use page_store::PageStore;
-use vm_base::{Koid, VmoName};
+use page_store::{PageStore, drop_gone};
+use vm_base::VmoName;
 use vmo_table::VmoTable;
 
 /// Closes a name that is open. A VMO that nothing keeps any more leaves with its pages, and its children
@@ -24,15 +22,4 @@ pub fn close<P: PageStore>(store: &mut P, vmos: &mut VmoTable, name: VmoName)
     ensures keepers { keepers_of vmos.new ≡ keepers_of vmos.old }
 {
     drop_gone(store, vmos.close(name));
-}
-
-/// Takes a VMO out of the store that left the table, where one did.
-pub(crate) fn drop_gone<P: PageStore>(store: &mut P, gone: Option<Koid>)
-    requires { IfSome gone (λ koid. IsSome ((P.content store.old).count koid.0)) }
-    ensures { MatchOption gone (P.content store.new ≡ P.content store.old)
-        (λ koid. P.content store.new ≡ without (P.content store.old) koid.0) }
-{
-    if let Some(koid) = gone {
-        store.drop_vmo(koid);
-    }
 }

@@ -6,9 +6,10 @@ ghost use Rattle.vm_model.specs.declared.reply.Reply.{Reply};
 ghost use Rattle.vm_model.specs.Contents.Content.{pages_of, used, IsGood};
 ghost use Rattle.vm_model.specs.Contents.Owning.{need, OwnsAll};
 ghost use Rattle.vm_model.specs.Contents.Writing.{touched};
+ghost use Rattle.vm_model.specs.Machine.Step.{reply_of};
 ghost use Rattle.page_store.specs.Names.{IsInside};
 ghost use Rattle.vmo_ops.specs.Costs.{HasRows};
-ghost use Rattle.vmo_ops.specs.Targets.{Does, reply_of};
+ghost use Rattle.vmo_ops.specs.Targets.{Does};
 
 use crate::ranges::touched_pages;
 use crate::ready::ready_to_own;

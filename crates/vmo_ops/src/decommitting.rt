@@ -8,11 +8,11 @@ ghost use Rattle.vm_model.specs.Contents.Content.{pages_of, IsGood};
 ghost use Rattle.vm_model.specs.Contents.Zeroing.{zeroed};
 ghost use Rattle.vm_model.specs.Naming.Pins.{any_pinned};
 ghost use Rattle.vm_model.specs.Machine.State.{State};
-ghost use Rattle.vm_model.specs.Machine.Step.{Step};
+ghost use Rattle.vm_model.specs.Machine.Step.{Step, reply_of};
 ghost use Rattle.vmo_table.specs.Table.{names_of, IsNamed};
 ghost use Rattle.pin_table.specs.Table.{pins_of};
 ghost use Rattle.vmo_ops.specs.Costs.{held_touched};
-ghost use Rattle.vmo_ops.specs.Targets.{AreTogether, with_tables, reply_of};
+ghost use Rattle.vmo_ops.specs.Targets.{AreTogether, with_tables};
 
 use crate::owning::reserve_rows;
 use crate::ranges::place_in_vmo;

@@ -5,9 +5,8 @@ ghost use Rattle.vm_base.specs.declared.limits.TheConstants.{KOIDS};
 ghost use Rattle.vm_model.specs.declared.command.Command.{Command};
 ghost use Rattle.vm_model.specs.declared.reply.Reply.{Reply};
 ghost use Rattle.vm_model.specs.Machine.State.{State};
-ghost use Rattle.vm_model.specs.Machine.Step.{Step};
+ghost use Rattle.vm_model.specs.Machine.Step.{Step, reply_of};
 ghost use Rattle.vmo_table.specs.Table.{names_of, keepers_of, with_vmos, AreParts};
-ghost use Rattle.vmo_ops.specs.Targets.{reply_of};
 
 use page_store::PageStore;
 use vm_base::{Koid, PAGE, Refusal, VMO_PAGES, VmoName, page_of, round_up};

@@ -5,8 +5,9 @@ ghost use Rattle.vm_model.specs.declared.command.Command.{Command};
 ghost use Rattle.vm_model.specs.declared.reply.Reply.{Reply};
 ghost use Rattle.vm_model.specs.Contents.Content.{shown, pages_of, IsGood};
 ghost use Rattle.vm_model.specs.Contents.Writing.{bytes_in};
+ghost use Rattle.vm_model.specs.Machine.Step.{reply_of};
 ghost use Rattle.page_store.specs.Names.{IsInside};
-ghost use Rattle.vmo_ops.specs.Targets.{Does, reply_of};
+ghost use Rattle.vmo_ops.specs.Targets.{Does};
 
 use crate::ranges::{part_in_page, place_in_vmo, touched_pages};
 use page_store::{Look, PageStore};

@@ -10,11 +10,11 @@ ghost use Rattle.vm_model.specs.declared.reply.Reply.{Reply};
 ghost use Rattle.vm_model.specs.Contents.Content.{pages_of, IsGood};
 ghost use Rattle.vm_model.specs.Naming.Pins.{has_pin};
 ghost use Rattle.vm_model.specs.Machine.State.{State, IsGoodState};
-ghost use Rattle.vm_model.specs.Machine.Step.{Step, seen_pages};
+ghost use Rattle.vm_model.specs.Machine.Step.{Step, seen_pages, reply_of};
 ghost use Rattle.page_store.specs.Names.{IsInside};
 ghost use Rattle.vmo_table.specs.Table.{names_of, keepers_of, IsNamed};
 ghost use Rattle.pin_table.specs.Table.{pins_of};
-ghost use Rattle.vmo_ops.specs.Targets.{AreTogether, with_tables, koid_given, reply_of};
+ghost use Rattle.vmo_ops.specs.Targets.{AreTogether, with_tables, koid_given};
 
 use page_store::{PageStore, pages_of_name};
 use pin_table::PinTable;

@@ -8,9 +8,10 @@ ghost use Rattle.vm_model.specs.Contents.Owning.{need};
 ghost use Rattle.vm_model.specs.Contents.Writing.{touched};
 ghost use Rattle.vm_model.specs.Naming.Pins.{is_pinned};
 ghost use Rattle.vm_model.specs.Contents.Zeroing.{is_cleared, owned_by_zero, ZeroesPage, Zeroes};
+ghost use Rattle.vm_model.specs.Machine.Step.{reply_of};
 ghost use Rattle.page_store.specs.Names.{IsInside};
 ghost use Rattle.pin_table.specs.Table.{pins_of};
-ghost use Rattle.vmo_ops.specs.Targets.{DoesWith, reply_of};
+ghost use Rattle.vmo_ops.specs.Targets.{DoesWith};
 ghost use Rattle.vmo_ops.specs.Costs.{held_touched};
 
 use crate::filling::fill_part;

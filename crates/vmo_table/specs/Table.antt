@@ -55,6 +55,11 @@ IsNamed names target = (n : ℕ) × (names n ≡ Some target)
 abbrev pub CountsKeepers : Table → State → Type 0
 CountsKeepers t s = (v : ℕ) → keepers_of t v ≡ keeper_count s v
 
+-- a state is good, and the table counts right what keeps each VMO of it
+pub record IsWellCounted (t : Table) (s : State) : Type 0 where
+  pub good : IsGoodState s
+  pub counted : CountsKeepers t s
+
 -- the parent of a VMO, where it has one
 abbrev pub parent_of : Option Lineage → Option ℕ
 parent_of None = None

@@ -1,8 +1,10 @@
 -- What each page of each address space shows. From the kernel's mappings, page by page. An address space goes by the name of
 -- its root region.
 use Rattle.std.specs.Prelude.{◌≡◌, ℕ, ◌+◌, ◌-◌, Bool, true, false, ◌&&◌, ◌==◌, nat_le, if◌then◌else◌, Option, None, Some}
+use Rattle.std.specs.Option.{option_map}
 use Rattle.vm_base.specs.Search.{any_below}
 use Rattle.vm_base.specs.Entries.{passes}
+use Rattle.vm_base.specs.declared.flags.Perm.{Perm}
 use Rattle.vm_model.specs.declared.space.Entry.{Entry}
 use Rattle.vm_model.specs.declared.space.Region.{Region}
 use Rattle.vm_model.specs.Contents.Zeroing.{is_within}
@@ -16,6 +18,10 @@ entry_behind entry i = record entry { page = entry.page + i }
 -- the entries of a mapping from the page `first` on
 abbrev pub mapping_from : ℕ → Entry → ℕ → Option Entry
 mapping_from first entry p = Some (entry_behind entry (p - first))
+
+-- the entries, each with these permissions
+abbrev pub with_perm : Perm → (ℕ → Option Entry) → ℕ → Option Entry
+with_perm perm entries p = option_map (λ (entry : Entry). record entry { perm = perm }) (entries p)
 
 -- the table, with these in place of the entries of `root` from the page `first` to below `end`
 unfoldable pub with_pages : (ℕ → ℕ → Option Entry) → ℕ → ℕ → ℕ → (ℕ → Option Entry) → ℕ → ℕ → Option Entry

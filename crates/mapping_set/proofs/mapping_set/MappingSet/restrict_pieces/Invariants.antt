@@ -1,8 +1,8 @@
 use Rattle.std.proofs.Common.{◌≡◌, ◌-◌, ◌≤◌}
 use Rattle.pair_map.specs.Maps.{values_of}
-use Rattle.vm_model.specs.Space.Table.{with_pages}
+use Rattle.vm_model.specs.Space.Table.{with_pages, with_perm}
 use Rattle.mapping_set.specs.Pieces.{IsBorder}
-use Rattle.mapping_set.specs.Tables.{table_of, spare_of, with_perm}
+use Rattle.mapping_set.specs.Tables.{table_of, spare_of}
 use Rattle.mapping_set.proofs.mapping_set.MappingSet.restrict_pieces.Given as goal
 
 -- the entries up to here have their new permissions, and no piece is cut here
