@@ -7,25 +7,13 @@ use Rattle.vm_base.proofs.SearchLaws.{eqb_is, eqb_same}
 use Rattle.vm_model.specs.declared.space.Entry.{Entry}
 use Rattle.vm_model.specs.Contents.Zeroing.{is_within}
 use Rattle.vm_model.specs.Space.Table.{mapping_from, with_pages, with_perm}
+use Rattle.vm_model.proofs.TableLaws.{with_pages-in, with_pages-out}
 use Rattle.vm_model.proofs.ZeroingLaws.{is_within-true, is_within-parts}
 use Rattle.mapping_set.specs.declared.piece.Piece.{Piece}
 use Rattle.mapping_set.specs.Pieces.{piece_from, piece_until, piece_with_perm}
 use Rattle.mapping_set.specs.Tables.{with_piece, without_piece}
 
 module _ (table : ℕ → ℕ → Option Entry) (root first end : ℕ) (now : ℕ → Option Entry) where
-  -- a page of the range has its new entry
-  pub with_pages-in : (p : ℕ) → first ≤ p → p < end → with_pages table root first end now root p ≡ now p
-  unfolding with_pages
-  with_pages-in p low high = cond-true _ _ _ (and_from (root == root) (is_within first end p) (eqb_same root) (is_within-true first end p low high))
-
-  -- another page has the entry that it had
-  pub with_pages-out : (r p : ℕ) → (r ≡ root → first ≤ p → p < end → ⊥) → with_pages table root first end now r p ≡ table r p
-  unfolding with_pages
-  with_pages-out r p out = cond-false _ _ _ (false_from_ne_true ((r == root) && is_within first end p) (λ inside.
-      let both = and_parts (r == root) (is_within first end p) inside in
-      let within = is_within-parts first end p both.1 in
-      out (eqb_is r root both.0) within.0 within.1))
-
   -- a table of which both hold
   pub with_pages-is : (new : ℕ → ℕ → Option Entry) → ((p : ℕ) → first ≤ p → p < end → new root p ≡ now p)
       → ((r p : ℕ) → (r ≡ root → first ≤ p → p < end → ⊥) → new r p ≡ table r p) → new ≡ with_pages table root first end now
@@ -55,10 +43,10 @@ module _ (table : ℕ → ℕ → Option Entry) (root first end : ℕ) (now : �
   ])
 
   pub with_pages-beside : (p : ℕ) → (p < first) ⊎ (end ≤ p) → with_pages table root first end now root p ≡ table root p
-  with_pages-beside p out = with_pages-out root p (λ same low high. elim out [ inl before ↦ absurd (omega arith) | inr behind ↦ absurd (omega arith) ])
+  with_pages-beside p out = with_pages-out table root first end now root p (λ same low high. elim out [ inl before ↦ absurd (omega arith) | inr behind ↦ absurd (omega arith) ])
 
   pub with_pages-elsewhere : (r p : ℕ) → r ≢ root → with_pages table root first end now r p ≡ table r p
-  with_pages-elsewhere r p apart = with_pages-out r p (λ same low high. apart same)
+  with_pages-elsewhere r p apart = with_pages-out table root first end now r p (λ same low high. apart same)
 
 -- a part of a piece shows what the piece does
 from-shows : (x : Piece) (page p : ℕ) → x.first ≤ page → page ≤ p → mapping_from (piece_from x page).first (piece_from x page).entry p ≡ mapping_from x.first x.entry p

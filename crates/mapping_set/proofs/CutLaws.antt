@@ -13,7 +13,8 @@ use Rattle.mapping_set.specs.declared.piece.Piece.{Piece}
 use Rattle.mapping_set.specs.Pieces.{table_in}
 use Rattle.mapping_set.specs.Pieces.{piece_from, piece_until}
 use Rattle.mapping_set.specs.Tables.{with_piece, without_piece, IsBare, IsFull, IsPieceIn, entries_in}
-use Rattle.mapping_set.proofs.ChangeLaws.{with_pages-in, with_pages-beside, taken-tail, taken-parts}
+use Rattle.vm_model.proofs.TableLaws.{with_pages-in}
+use Rattle.mapping_set.proofs.ChangeLaws.{with_pages-beside, taken-tail, taken-parts}
 use Rattle.mapping_set.proofs.TableLaws.{table_in-below}
 
 -- a range with an entry on each page ends where page numbers do, or is empty

@@ -20,9 +20,9 @@ use Rattle.vm_model.proofs.NamesLaws.{lineage_of-at, lineage-known, lineage_of-s
 use Rattle.vm_model.proofs.SharingLaws.{IsGood-only}
 use Rattle.vm_model.proofs.SoleLaws.{sole-only_kept}
 use Rattle.vm_model.proofs.LiveLaws.{is_live-named, is_live-pinned, is_live-mapped, is_live-same}
-use Rattle.vm_model.proofs.SpaceLaws.{is_mapped_at, AreGoodSpaces-over, AreGoodSpaces-without}
+use Rattle.vm_model.proofs.SpaceLaws.{is_mapped_at, AreGoodSpaces-over}
 use Rattle.vm_model.specs.declared.space.Entry.{Entry}
-use Rattle.vm_model.specs.Space.AddressSpaces.{without_region, AreGoodSpaces}
+use Rattle.vm_model.specs.Space.AddressSpaces.{Spaces, AreGoodSpaces}
 
 -- ---- what good states say
 
@@ -439,10 +439,9 @@ LoosensAt-unpinned s n pin good e = record {
   vmo = pin_lineage s n pin good e;
 }
 
--- without a region and all below it, less keeps the VMOs of their entries
-pub Loosens-destroyed : (s : State) (name : ℕ) → IsGoodState s → Loosens s (record s { spaces = without_region s.spaces name })
-Loosens-destroyed s name good =
-    record { content = refl; lineage = refl; names = λ m target f. f; pins = λ m pin f. f; spaces = AreGoodSpaces-without s.content s.spaces good.spaces name }
+-- with other address spaces, less may keep the VMOs of entries
+pub Loosens-spaces : (s : State) (spaces : Spaces) → AreGoodSpaces s.content spaces → Loosens s (record s { spaces = spaces })
+Loosens-spaces s spaces good = record { content = refl; lineage = refl; names = λ m target f. f; pins = λ m pin f. f; spaces = good }
 
 -- ---- what a state without the VMOs that left has as before
 

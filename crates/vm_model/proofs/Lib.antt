@@ -11,6 +11,8 @@ pub mod NamesLaws
 pub mod PinLaws
 pub mod RegionLaws
 pub mod SpaceLaws
+pub mod TableLaws
+pub mod MappingLaws
 pub mod LiveLaws
 pub mod LeavingLaws
 pub mod KeepLaws

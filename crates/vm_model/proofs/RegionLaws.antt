@@ -244,9 +244,9 @@ module _ (regions : ℕ → Option Region) (dies : ℕ → Bool) where
       let live = and_parts region.live (not (dies n)) both.0 in
       (and_from region.live (passes (λ (parent : ℕ). parent == p) (parent_of region)) live.0 both.1, not-true (dies n) live.1)
 
-  -- regions stay good where all that lies below what dies does too
+  -- regions stay good where all that is live and lies below what dies does too
   pub AreGoodRegions-killed : AreGoodRegions regions
-      → ((n : ℕ) (region : Region) (p : RegionName) → regions n ≡ Some region → region.parent ≡ Some p → dies p.0 ≡ true → dies n ≡ true)
+      → ((n : ℕ) (region : Region) (p : RegionName) → regions n ≡ Some region → region.parent ≡ Some p → region.live ≡ true → dies p.0 ≡ true → dies n ≡ true)
       → AreGoodRegions (killed regions dies)
   AreGoodRegions-killed good closed = record {
     age = good.age;
@@ -269,7 +269,7 @@ module _ (regions : ℕ → Option Region) (dies : ℕ → Bool) where
             root = up.3.root;
             live = λ live.
                 let parts = and_parts was.0.live (not (dies n)) live in
-                let spared : dies p.0 ≡ false = false_from_ne_true (dies p.0) (λ dead. both_ways (dies n) (not-true (dies n) parts.1) (closed n was.0 p was.1 f dead)) in
+                let spared : dies p.0 ≡ false = false_from_ne_true (dies p.0) (λ dead. both_ways (dies n) (not-true (dies n) parts.1) (closed n was.0 p was.1 f parts.0 dead)) in
                 and_from up.0.live (not (dies p.0)) (up.3.live parts.0) (not_from_false (dies p.0) spared);
             inside = λ live. up.3.inside (and_parts was.0.live (not (dies n)) live).0;
           },
@@ -437,6 +437,32 @@ module _ (regions : ℕ → Option Region) (good : AreGoodRegions regions) (name
   lies_below n region e live below = lies_under (good.age n + 1) n region (omega arith) e live below
 
 module _ (regions : ℕ → Option Region) (good : AreGoodRegions regions) (name : ℕ) where
+  -- a region has the root of its parent
+  root_by : (n : ℕ) (region : Region) → regions n ≡ Some region → is_below regions name n ≡ true
+      → ((p : ℕ) (up : Region) → good.age p < good.age n → regions p ≡ Some up → is_below regions name p ≡ true → up.root ≡ (region_of regions name).root)
+      → region.root ≡ (region_of regions name).root
+  root_by n region e below each = go region.parent refl where
+    go : (o : Option RegionName) → region.parent ≡ o → region.root ≡ (region_of regions name).root
+    go None f =
+        let none : is_below regions name n ≡ false =
+        ap (λ (o : Option Region). is_above NAMES regions name (parent_in o)) e
+        ∙ (ap (λ (o : Option RegionName). is_above NAMES regions name (option_map (λ (r : RegionName). r.0) o)) f ∙ is_above-none NAMES regions name) in
+        absurd (both_ways (is_below regions name n) none below)
+    go (Some p) f =
+        let parent = good.parents n region p e f in
+        elim (or_cases (p.0 == name) (is_below regions name p.0) (sym (is_below-step regions good name n region p e f) ∙ below)) [
+          | inl here ↦ parent.3.root ∙ ap (λ (r : Region). r.root) (sym (region_of-at regions name parent.0 (ap regions (sym (eqb_is p.0 name here)) ∙ parent.1)))
+          | inr higher ↦ parent.3.root ∙ each p.0 parent.0 parent.2 parent.1 higher
+        ]
+
+  root_under : (fuel n : ℕ) (region : Region) → good.age n < fuel → regions n ≡ Some region → is_below regions name n ≡ true → region.root ≡ (region_of regions name).root
+  root_under zero n region h e below = absurd (omega (arith, h))
+  root_under (suc fuel) n region h e below = root_by n region e below (λ p up older f higher. root_under fuel p up (omega (arith, h, older)) f higher)
+
+  -- a region is of the address space of each above it
+  pub root_below : (n : ℕ) (region : Region) → regions n ≡ Some region → is_below regions name n ≡ true → region.root ≡ (region_of regions name).root
+  root_below n region e below = root_under (good.age n + 1) n region (omega arith) e below
+
   -- one step up
   older_by : (n : ℕ) (region : Region) → regions n ≡ Some region → is_below regions name n ≡ true
       → ((p : ℕ) (up : Region) → good.age p < good.age n → regions p ≡ Some up → is_below regions name p ≡ true → good.age name < good.age p) → good.age name < good.age n

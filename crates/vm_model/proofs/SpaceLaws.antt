@@ -209,7 +209,7 @@ module _ (c : Content) (spaces : Spaces) (good : AreGoodSpaces c spaces) where
   pub AreGoodSpaces-without : (name : ℕ) → AreGoodSpaces c (without_region spaces name)
   AreGoodSpaces-without name = record {
     regions = AreGoodRegions-killed spaces.regions (is_at_or_below spaces.regions name) good.regions
-        (λ n region p e f h. at_or_below-closed spaces.regions good.regions name n region p e f h);
+        (λ n region p e f live h. at_or_below-closed spaces.regions good.regions name n region p e f h);
     caps = λ n new e.
         let was = killed-was spaces.regions (is_at_or_below spaces.regions name) n new e in
         subst (λ (r : Region). has all_rights r.caps.0 ≡ true) (sym was.2) (good.caps n was.0 was.1);

@@ -8,7 +8,7 @@ use Rattle.vm_base.specs.Pages.{rounded}
 use Rattle.vm_base.specs.declared.limits.TheConstants.{PAGE, VMO_PAGES, PIN_PAGES}
 use Rattle.vm_base.specs.declared.refusal.Refusal.{Refusal}
 use Rattle.vm_model.specs.declared.command.Command.{Command}
-use Rattle.vm_model.specs.declared.command.Command.TheVariants.{VmoCreate, VmoChild, VmoClose, VmoSetSize, VmoRead, VmoWrite, VmoFill, VmoCommit, VmoDecommit, VmoZero, VmoPin, VmoUnpin, RootCreate, VmarAllocate, VmarDestroy}
+use Rattle.vm_model.specs.declared.command.Command.TheVariants.{VmoCreate, VmoChild, VmoClose, VmoSetSize, VmoRead, VmoWrite, VmoFill, VmoCommit, VmoDecommit, VmoZero, VmoPin, VmoUnpin, RootCreate, VmarAllocate, VmarMap, VmarUnmap, VmarProtect, VmarDestroy, Maps}
 use Rattle.vm_model.specs.declared.command.ChildKind.TheVariants.{Snapshot as SnapshotChild, Slice as SliceChild, Reference as ReferenceChild}
 use Rattle.vm_model.specs.declared.reply.Reply.{Reply}
 use Rattle.vm_model.specs.Contents.Content.{nothing, pages_of}
@@ -17,9 +17,10 @@ use Rattle.vm_model.specs.Contents.Zeroing.{owned_by_zero}
 use Rattle.vm_model.specs.declared.names.Target.{Target}
 use Rattle.vm_model.specs.Naming.Pins.{is_pinned}
 use Rattle.vm_model.specs.declared.space.Region.{Region}
-use Rattle.vm_model.specs.Space.Rights.{has}
+use Rattle.vm_model.specs.Space.Rights.{has, specific, overwrite, upper_limit}
 use Rattle.vm_model.specs.Space.Regions.{root_region, region_of, region_below}
 use Rattle.vm_model.specs.Space.AddressSpaces.{without_region}
+use Rattle.vm_model.specs.Space.Mappings.{entry_of, with_mapping, unmapped, protected}
 use Rattle.vm_model.specs.Machine.State.{State, empty_state, is_open, is_given, target_of, koid_of, name_pages, size_of, place_of, IsGoodName, IsGoodState}
 use Rattle.vm_model.specs.Machine.Refusals.{lacks_frames, change_refusals, refusals, first_of}
 use Rattle.vm_model.specs.Language.Spelling.{HasRanges}
@@ -31,10 +32,11 @@ use Rattle.vm_model.proofs.ContentLaws.{IsGood-nothing}
 use Rattle.vm_base.proofs.EntryLaws.{some_is, none_is}
 use Rattle.vm_model.proofs.NamesLaws.{names-open}
 use Rattle.vm_model.proofs.LeavingLaws.{name_vmo}
-use Rattle.vm_model.proofs.SpaceLaws.{AreGoodSpaces-none, AreGoodSpaces-root, AreGoodSpaces-child}
+use Rattle.vm_model.proofs.SpaceLaws.{AreGoodSpaces-none, AreGoodSpaces-root, AreGoodSpaces-child, AreGoodSpaces-without}
 use Rattle.vm_model.proofs.RegionLaws.{region_of-at}
-use Rattle.vm_model.proofs.LeavingLaws.{Loosens-destroyed}
-use Rattle.vm_model.proofs.KeepLaws.{loose_keeps, region_keeps, Keeps-same, slice_good, reference_good, snapshot_keeps, alias_keeps, close_keeps, unpin_keeps, write_keeps, commit_keeps, zero_range_keeps, zero_keeps, pin_keeps, resize_keeps}
+use Rattle.vm_model.proofs.LeavingLaws.{Loosens-spaces}
+use Rattle.vm_model.proofs.MappingLaws.{cap_of-has, mismapped_parts, map_place, AreGoodSpaces-mapping, AreGoodSpaces-unmapped, AreGoodSpaces-protected, is_mapped-protected}
+use Rattle.vm_model.proofs.KeepLaws.{loose_keeps, spaces_keeps, region_keeps, Keeps-same, slice_good, reference_good, snapshot_keeps, alias_keeps, close_keeps, unpin_keeps, write_keeps, commit_keeps, zero_range_keeps, zero_keeps, pin_keeps, resize_keeps}
 pub use Rattle.vm_model.proofs.KeepLaws.{Keeps, lineage_below, create_keeps, kept_keeps}
 
 -- the name that a command gives is one that there is, where the fields of the command are within their types
@@ -125,6 +127,11 @@ pin_range offset len off =
 
 -- ---- effects
 
+-- the region of a name that was given
+region_given : (s : State) (name : ℕ) → is_given s name ≡ true → s.spaces.regions name ≡ Some (region_of s.spaces.regions name)
+region_given s name given =
+    let there = some_is (s.spaces.regions name) given in there.1 ∙ ap (λ (r : Region). Some r) (sym (region_of-at s.spaces.regions name there.0 there.1))
+
 -- the effect of a command that nothing refuses
 pub effect_keeps : (old : State) (command : Command) (reply : Reply) (new : State) → IsGoodState old → GivesName command → first_of (refusals old command) ≡ None → Effect old command reply new → Keeps old new
 effect_keeps old (VmoCreate name size resizable) reply new good h none effect =
@@ -200,14 +207,40 @@ effect_keeps old (RootCreate region) reply new good h none effect =
 effect_keeps old (VmarAllocate region parent offset len flags caps) reply new good h none effect =
     let off = AllOff-from_none (refusals old (VmarAllocate region parent offset len flags caps)) none in
     let above = region_of old.spaces.regions parent.0 in
-    let there = some_is (old.spaces.regions parent.0) (not-false (is_given old parent.0) off.0) in
-    let given : old.spaces.regions parent.0 ≡ Some above = there.1 ∙ ap (λ (r : Region). Some r) (sym (region_of-at old.spaces.regions parent.0 there.0 there.1)) in
+    let given = region_given old parent.0 (not-false (is_given old parent.0) off.0) in
     subst (Keeps old) (sym effect.3)
     (region_keeps old region.0 (region_below parent.0 above effect.0 (rounded len / PAGE) caps.0) good
     (AreGoodSpaces-child old.content old.spaces good.spaces region.0 parent.0 effect.0 (rounded len / PAGE) caps.0 above h (none_is (old.spaces.regions region.0) off.1.0) given
     (not-false above.live off.1.1.0) (not-false (has above.caps.0 caps.0) off.1.1.1.0) effect.2.free))
+effect_keeps old (VmarMap region offset name vmo_offset len perm flags) reply new good h none effect =
+    let off = AllOff-from_none (refusals old (VmarMap region offset name vmo_offset len perm flags)) none in
+    let above = region_of old.spaces.regions region.0 in
+    let target = target_of old name.0 in
+    let there = and_parts (is_given old region.0) (is_open old name.0) (not-false (is_given old region.0 && is_open old name.0) off.0) in
+    let given = region_given old region.0 there.0 in
+    let right = mismapped_parts old.spaces region.0 (has flags.0 overwrite) (has flags.0 specific) (has flags.0 upper_limit) offset vmo_offset len perm.0 (rounded len / PAGE) off.1.1.1.0 in
+    let place = map_place old.spaces region.0 (has flags.0 overwrite) (has flags.0 specific) (has flags.0 upper_limit) offset vmo_offset len perm.0 effect.0 right effect.2 in
+    let spaces = with_mapping old.spaces above.root.0 effect.0 (rounded len / PAGE) (entry_of above region.0 target (vmo_offset / PAGE) perm) in
+    subst (Keeps old) (sym effect.3) (loose_keeps old (record old { spaces = spaces }) good (Loosens-spaces old spaces
+    (AreGoodSpaces-mapping old.content old.spaces good.spaces region.0 effect.0 (rounded len / PAGE) above (entry_of above region.0 target (vmo_offset / PAGE) perm) given
+    (not-false above.live off.1.0) place.0 place.1 refl (cap_of-has above target perm.0 (good.spaces.caps region.0 above given) off.1.1.0)
+    (name_vmo old name.0 target good (names-open old name.0 there.1)))))
+effect_keeps old (VmarUnmap region addr len) reply new good h none effect =
+    let off = AllOff-from_none (refusals old (VmarUnmap region addr len)) none in
+    let spaces = unmapped old.spaces region.0 (addr / PAGE) (addr / PAGE + rounded len / PAGE) in
+    subst (Keeps old) (sym effect.1) (loose_keeps old (record old { spaces = spaces }) good (Loosens-spaces old spaces
+    (AreGoodSpaces-unmapped old.content old.spaces good.spaces region.0 (addr / PAGE) (addr / PAGE + rounded len / PAGE))))
+effect_keeps old (VmarProtect region addr len perm) reply new good h none effect =
+    let off = AllOff-from_none (refusals old (VmarProtect region addr len perm)) none in
+    let root = (region_of old.spaces.regions region.0).root.0 in
+    let first = addr / PAGE in
+    let end = first + rounded len / PAGE in
+    subst (Keeps old) (sym effect.1) (spaces_keeps old (protected old.spaces root first end perm) good
+    (AreGoodSpaces-protected old.content old.spaces good.spaces root first end perm off.1.1.1.1.1.0) (is_mapped-protected old.spaces root first end perm))
+effect_keeps old (Maps region) reply new good h none effect = Keeps-same old new good effect.1
 effect_keeps old (VmarDestroy region) reply new good h none effect =
-    subst (Keeps old) (sym effect.1) (loose_keeps old (record old { spaces = without_region old.spaces region.0 }) good (Loosens-destroyed old region.0 good))
+    subst (Keeps old) (sym effect.1) (loose_keeps old (record old { spaces = without_region old.spaces region.0 }) good
+    (Loosens-spaces old (without_region old.spaces region.0) (AreGoodSpaces-without old.content old.spaces good.spaces region.0)))
 effect_keeps old _ reply new good h none effect = Keeps-same old new good effect.1
 
 -- a step keeps a good state good

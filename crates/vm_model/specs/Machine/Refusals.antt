@@ -3,9 +3,9 @@ use Rattle.std.specs.Prelude.{ℕ, ◌+◌, ◌*◌, ◌/◌, ◌%◌, Bool, not
 use Rattle.vm_base.specs.Pages.{rounded}
 use Rattle.vm_base.specs.declared.limits.TheConstants.{PAGE, VMO_PAGES, PIN_PAGES, DATA_BYTES}
 use Rattle.vm_base.specs.declared.refusal.Refusal.{Refusal}
-use Rattle.vm_base.specs.declared.refusal.Refusal.TheVariants.{BadHandle, NameInUse, BadState, AccessDenied, InvalidArgs, NotSupported, Unavailable, OutOfRange, AlreadyExists, NoResources, NoMemory}
+use Rattle.vm_base.specs.declared.refusal.Refusal.TheVariants.{BadHandle, NameInUse, BadState, AccessDenied, InvalidArgs, NotSupported, Unavailable, OutOfRange, BufferTooSmall, NotFound, AlreadyExists, NoResources, NoMemory}
 use Rattle.vm_model.specs.declared.command.Command.{Command}
-use Rattle.vm_model.specs.declared.command.Command.TheVariants.{VmoCreate, VmoChild, VmoClose, VmoSize, VmoSetSize, VmoRead, VmoWrite, VmoFill, VmoCommit, VmoDecommit, VmoZero, VmoPin, VmoUnpin, VmoInfo, RootCreate, VmarAllocate, VmarDestroy}
+use Rattle.vm_model.specs.declared.command.Command.TheVariants.{VmoCreate, VmoChild, VmoClose, VmoSize, VmoSetSize, VmoRead, VmoWrite, VmoFill, VmoCommit, VmoDecommit, VmoZero, VmoPin, VmoUnpin, VmoInfo, RootCreate, VmarAllocate, VmarMap, VmarUnmap, VmarProtect, VmarDestroy, Maps}
 use Rattle.vm_model.specs.declared.command.ChildKind.TheVariants.{Snapshot, Slice, Reference}
 use Rattle.vm_model.specs.declared.names.NameKind.TheVariants.{Slice as SliceName}
 use Rattle.vm_model.specs.Contents.Content.{used, pages_of}
@@ -14,9 +14,10 @@ use Rattle.vm_model.specs.Contents.Writing.{touched}
 use Rattle.vm_model.specs.Contents.Zeroing.{owned_by_zero}
 use Rattle.vm_model.specs.Naming.Names.{is_kind, may_decommit}
 use Rattle.vm_model.specs.Naming.Pins.{is_pinned, any_pinned, has_pin}
-use Rattle.vm_model.specs.Space.Rights.{has, specific, upper_limit}
-use Rattle.vm_model.specs.Space.Regions.{region_of}
+use Rattle.vm_model.specs.Space.Rights.{has, writing, specific, overwrite, upper_limit, allow_faults}
+use Rattle.vm_model.specs.Space.Regions.{region_of, meets_child, cuts_child}
 use Rattle.vm_model.specs.Space.Places.{is_free, has_place, is_misplaced, limit_of}
+use Rattle.vm_model.specs.Space.Mappings.{lacks_reading, is_mismapped, is_outside, has_hole, forbids}
 use Rattle.vm_model.specs.Machine.State.{State, is_open, is_given, target_of, koid_of, size_of, place_of, lineage_of}
 
 -- owning these pages of the VMO of this name takes more frames than are free
@@ -107,7 +108,48 @@ refusals s (VmarAllocate region parent offset len flags caps) =
     ∷ (fixed && not (is_free s.spaces parent.0 first (first + count)), AlreadyExists)
     ∷ (not fixed && not (has_place s.spaces parent.0 count (limit_of above limited offset)), NoResources)
     ∷ []
+refusals s (VmarMap region offset name vmo_offset len perm flags) =
+    let above = region_of s.spaces.regions region.0 in
+    let target = target_of s name.0 in
+    let over = has flags.0 overwrite in
+    let fixed = has flags.0 specific in
+    let limited = has flags.0 upper_limit in
+    let first = above.first + offset / PAGE in
+    let count = rounded len / PAGE in
+    (not (is_given s region.0 && is_open s name.0), BadHandle)
+    ∷ (not above.live, BadState)
+    ∷ (not (has above.caps.0 perm.0) || (has perm.0 writing && not target.may_write), AccessDenied)
+    ∷ (is_mismapped s.spaces region.0 over fixed limited offset vmo_offset len perm.0 count, InvalidArgs)
+    ∷ (nat_lt (VMO_PAGES * PAGE) (vmo_offset + rounded len), OutOfRange)
+    ∷ (nat_lt (size_of s name.0) (vmo_offset + rounded len) && (not (has flags.0 allow_faults) || is_kind SliceName target.kind), BufferTooSmall)
+    ∷ (fixed && not (is_free s.spaces region.0 first (first + count)), AlreadyExists)
+    ∷ (not fixed && (not over && not (has_place s.spaces region.0 count (limit_of above limited offset))), NoResources)
+    ∷ []
+refusals s (VmarUnmap region addr len) =
+    let above = region_of s.spaces.regions region.0 in
+    let first = addr / PAGE in
+    let count = rounded len / PAGE in
+    (not (is_given s region.0), BadHandle)
+    ∷ (not above.live, BadState)
+    ∷ (is_outside above addr len count || cuts_child s.spaces.regions region.0 first (first + count), InvalidArgs)
+    ∷ []
+refusals s (VmarProtect region addr len perm) =
+    let above = region_of s.spaces.regions region.0 in
+    let entries = s.spaces.table above.root.0 in
+    let first = addr / PAGE in
+    let count = rounded len / PAGE in
+    (not (is_given s region.0), BadHandle)
+    ∷ (not above.live, BadState)
+    ∷ (not (has above.caps.0 perm.0), AccessDenied)
+    ∷ (is_outside above addr len count || (meets_child s.spaces.regions region.0 first (first + count) || lacks_reading perm.0), InvalidArgs)
+    ∷ (has_hole entries region.0 first (first + count), NotFound)
+    ∷ (forbids entries perm.0 first (first + count), AccessDenied)
+    ∷ []
 refusals s (VmarDestroy region) =
+    (not (is_given s region.0), BadHandle)
+    ∷ (not (region_of s.spaces.regions region.0).live, BadState)
+    ∷ []
+refusals s (Maps region) =
     (not (is_given s region.0), BadHandle)
     ∷ (not (region_of s.spaces.regions region.0).live, BadState)
     ∷ []

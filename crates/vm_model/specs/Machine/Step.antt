@@ -7,12 +7,12 @@ use Rattle.vm_base.specs.declared.limits.TheConstants.{PAGE}
 use Rattle.vm_base.specs.declared.refusal.Refusal.{Refusal}
 use Rattle.vm_base.specs.declared.refusal.Refusal.TheVariants.{HostMemory}
 use Rattle.vm_model.specs.declared.command.Command.{Command}
-use Rattle.vm_model.specs.declared.command.Command.TheVariants.{VmoCreate, VmoChild, VmoClose, VmoSize, VmoSetSize, VmoRead, VmoWrite, VmoFill, VmoCommit, VmoDecommit, VmoZero, VmoPin, VmoUnpin, VmoInfo, RootCreate, VmarAllocate, VmarDestroy, Stat}
+use Rattle.vm_model.specs.declared.command.Command.TheVariants.{VmoCreate, VmoChild, VmoClose, VmoSize, VmoSetSize, VmoRead, VmoWrite, VmoFill, VmoCommit, VmoDecommit, VmoZero, VmoPin, VmoUnpin, VmoInfo, RootCreate, VmarAllocate, VmarMap, VmarUnmap, VmarProtect, VmarDestroy, Maps, Stat}
 use Rattle.vm_model.specs.declared.command.ChildKind.TheVariants.{Snapshot as SnapshotChild, Slice as SliceChild, Reference as ReferenceChild}
 use Rattle.vm_model.specs.declared.names.NameKind.TheVariants.{Slice, Reference}
 use Rattle.vm_model.specs.declared.names.Origin.TheVariants.{Created, Snapshot}
 use Rattle.vm_model.specs.declared.reply.Reply.{Reply}
-use Rattle.vm_model.specs.declared.reply.Reply.TheVariants.{Done, Number, Bytes, Pins, Address, Info as InfoReply, Stat as StatReply, Refused, Unbuilt}
+use Rattle.vm_model.specs.declared.reply.Reply.TheVariants.{Done, Number, Bytes, Pins, Address, Info as InfoReply, Runs as RunsReply, Stat as StatReply, Refused, Unbuilt}
 use Rattle.vm_model.specs.Contents.Content.{Content, Page, created, is_held, sole}
 use Rattle.vm_model.specs.Contents.Owning.{OwnsAll}
 use Rattle.vm_model.specs.Contents.Sharing.{snapshotted}
@@ -22,10 +22,11 @@ use Rattle.vm_base.specs.Entries.{with_key, without_key}
 use Rattle.vm_model.specs.declared.names.Target.{Target}
 use Rattle.vm_model.specs.Naming.Names.{owner}
 use Rattle.vm_model.specs.Naming.Pins.{Pin, is_pinned}
-use Rattle.vm_model.specs.Space.Rights.{has, specific, upper_limit}
-use Rattle.vm_model.specs.Space.Regions.{root_region, region_of, region_below}
+use Rattle.vm_model.specs.Space.Rights.{has, specific, overwrite, upper_limit}
+use Rattle.vm_model.specs.Space.Regions.{root_region, region_of, end_of, region_below}
 use Rattle.vm_model.specs.Space.AddressSpaces.{with_region, without_region}
 use Rattle.vm_model.specs.Space.Places.{IsPlace}
+use Rattle.vm_model.specs.Space.Mappings.{entry_of, with_mapping, IsMapPlace, unmapped, protected, is_mapped_in, runs_of}
 use Rattle.vm_model.specs.Machine.State.{State, target_of, koid_of, name_pages, size_of, place_of}
 use Rattle.vm_model.specs.Machine.Leaving.{pruned}
 use Rattle.vm_model.specs.Machine.Attribution.{info_at, stat_of}
@@ -136,6 +137,20 @@ Effect old (VmarAllocate region parent offset len flags caps) reply new =
     (first : ℕ) × (reply ≡ Address (first * PAGE))
     × IsPlace old.spaces parent.0 (has flags.0 specific) (has flags.0 upper_limit) offset (rounded len / PAGE) first
     × (new ≡ record old { spaces = with_region old.spaces region.0 (region_below parent.0 (region_of old.spaces.regions parent.0) first (rounded len / PAGE) caps.0) })
+Effect old (VmarMap region offset name vmo_offset len perm flags) reply new =
+    let above = region_of old.spaces.regions region.0 in
+    let count = rounded len / PAGE in
+    (first : ℕ) × (reply ≡ Address (first * PAGE))
+    × IsMapPlace old.spaces region.0 (has flags.0 overwrite) (has flags.0 specific) (has flags.0 upper_limit) offset count first
+    × (new ≡ pruned (record old { spaces = with_mapping old.spaces above.root.0 first count (entry_of above region.0 (target_of old name.0) (vmo_offset / PAGE) perm) }))
+Effect old (VmarUnmap region addr len) reply new =
+    (reply ≡ Done) × (new ≡ pruned (record old { spaces = unmapped old.spaces region.0 (addr / PAGE) (addr / PAGE + rounded len / PAGE) }))
+Effect old (VmarProtect region addr len perm) reply new =
+    (reply ≡ Done)
+    × (new ≡ record old { spaces = protected old.spaces (region_of old.spaces.regions region.0).root.0 (addr / PAGE) (addr / PAGE + rounded len / PAGE) perm })
+Effect old (Maps region) reply new =
+    let above = region_of old.spaces.regions region.0 in
+    (reply ≡ RunsReply (runs_of (old.spaces.table above.root.0) above.count above.first)) × (new ≡ old)
 Effect old (VmarDestroy region) reply new =
     (reply ≡ Done) × (new ≡ pruned (record old { spaces = without_region old.spaces region.0 }))
 Effect old Stat reply new = (reply ≡ StatReply (stat_of old.content)) × (new ≡ old)
@@ -146,14 +161,22 @@ Effect old _ reply new = (reply ≡ Unbuilt) × (new ≡ old)
 abbrev pub touches_any : State → ℕ → ℕ → ℕ → (ℕ → Bool) → Bool
 touches_any s name offset len test = list_any test (touched (place_of s name offset) len)
 
--- The command may want memory of the host in this state. To own pages it is wanted only where a touched page is not sole, and to
--- make pages zero only where a touched page is held
+-- some page of the address space of this region is mapped, of those from `first` to below `end`
+abbrev pub maps_any : State → ℕ → ℕ → ℕ → Bool
+maps_any s region first end = is_mapped_in (s.spaces.table (region_of s.spaces.regions region).root.0) first end
+
+-- The command may want memory of the host in this state. To own pages it is wanted only where a touched page is not sole, to
+-- make pages zero only where a touched page is held, and to unmap or list mappings only where a page of the range is mapped
 abbrev pub may_lack_memory : State → Command → Bool
 may_lack_memory s (VmoCreate name size resizable) = true
 may_lack_memory s (VmoChild name parent kind offset size resizable no_write) = true
 may_lack_memory s (VmoPin pin name offset len) = true
 may_lack_memory s (RootCreate region) = true
 may_lack_memory s (VmarAllocate region parent offset len flags caps) = true
+may_lack_memory s (VmarMap region offset name vmo_offset len perm flags) = true
+may_lack_memory s (VmarUnmap region addr len) = maps_any s region.0 (addr / PAGE) (addr / PAGE + rounded len / PAGE)
+may_lack_memory s (VmarProtect region addr len perm) = true
+may_lack_memory s (Maps region) = maps_any s region.0 (region_of s.spaces.regions region.0).first (end_of (region_of s.spaces.regions region.0))
 may_lack_memory s (VmoWrite name offset bytes) = touches_any s name.0 offset (length bytes) (λ p. not (sole s.content (koid_of s name.0) p))
 may_lack_memory s (VmoFill name offset len byte) = touches_any s name.0 offset len (λ p. not (sole s.content (koid_of s name.0) p))
 may_lack_memory s (VmoCommit name offset len) = touches_any s name.0 offset len (λ p. not (sole s.content (koid_of s name.0) p))
