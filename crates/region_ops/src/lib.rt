@@ -12,5 +12,6 @@ unfolding(vm_model::specs::Space::Regions::region_of, vm_base::specs::Entries::p
 mod allocating;
 pub mod laws;
 mod placing;
+mod ranges;
 
 pub use allocating::allocate;

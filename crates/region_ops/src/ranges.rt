@@ -1,0 +1,29 @@
+//! Ranges of an address space that are asked for by a region.
+
+ghost use Rattle.std.specs.Prelude.{◌≡◌, ◌/◌, ◌+◌, ◌≤◌, ◌||◌};
+ghost use Rattle.vm_base.specs.Pages.{rounded};
+ghost use Rattle.vm_base.specs.declared.limits.TheConstants.{PAGE};
+ghost use Rattle.vm_model.specs.Space.Mappings.{is_outside, lacks_reading};
+
+use bitflags::Flags;
+use region_tree::Region;
+use vm_base::{Perm, in_page, page_count, page_of};
+
+/// Whether `len` bytes from an address on, rounded up to whole pages, are no range of a region: they do not begin at a
+/// page, there is none, or they pass an end of the region.
+pub(crate) fn is_outside(region: Region, addr: u64, len: u64) -> bool
+    ensures { result ≡ is_outside region addr len (rounded len / PAGE) }
+{
+    if in_page(addr) != 0 || len == 0 {
+        return true;
+    }
+    let first = page_of(addr);
+    first < region.first || first + page_count(len) > region.first + region.count
+}
+
+/// Whether permissions allow writing or executing without reading, which no mapping may.
+pub(crate) fn lacks_reading(perm: Perm) -> bool
+    ensures { result ≡ lacks_reading perm.0 }
+{
+    (perm.contains(Perm::WRITE) || perm.contains(Perm::EXECUTE)) && !perm.contains(Perm::READ)
+}
