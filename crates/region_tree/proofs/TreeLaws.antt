@@ -219,24 +219,6 @@ module _ (regions : ℕ → Option Region) (children : ℕ → ℕ → Option (E
 
   -- ---- a region that dies
 
-  -- a region that is dead is as it was where it dies once more
-  dead-same : (region : Region) (b : Bool) → region.live ≡ false → cond b (record region { live = false }) region ≡ region
-  dead-same region true f = λ i. record region { live = sym f i }
-  dead-same region false f = refl
-
-  -- the same regions die
-  pub killed-same : (dies others : ℕ → Bool) → ((m : ℕ) (region : Region) → regions m ≡ Some region → region.live ≡ true → dies m ≡ others m)
-      → killed regions dies ≡ killed regions others
-  unfolding killed
-  killed-same dies others each = λ i m. at m (regions m) refl i where
-    at : (m : ℕ) (o : Option Region) → regions m ≡ o
-        → option_map (λ (r : Region). cond (dies m) (record r { live = false }) r) o ≡ option_map (λ (r : Region). cond (others m) (record r { live = false }) r) o
-    at m None e = refl
-    at m (Some region) e = elim (cases_Bool region.live) [
-      | inl live ↦ ap (λ (b : Bool). Some (cond b (record region { live = false }) region)) (each m region e live)
-      | inr dead ↦ ap (λ (r : Region). Some r) (dead-same region (dies m) dead ∙ sym (dead-same region (others m) dead))
-    ]
-
   module _ (n : ℕ) (dying : Region) (given : regions n ≡ Some dying) where
     -- one that does not die is as it was
     not-killed : (m : ℕ) → m ≢ n → with_one_dead regions n m ≡ regions m
@@ -258,35 +240,15 @@ module _ (regions : ℕ → Option Region) (children : ℕ → ℕ → Option (E
       ]
 
     module _ (none : has_child regions n ≡ false) where
-      -- this one dies, and what is dead already
-      dies : ℕ → Bool
-      dies m = (m == n) || not (is_live_region regions m)
-
-      dies-dead : (m : ℕ) (region : Region) → regions m ≡ Some region → region.live ≡ false → dies m ≡ true
-      unfolding dies
-      dies-dead m region e dead = or_right (m == n) (not (is_live_region regions m)) (ap not (live-is regions m region e ∙ dead))
-
-      dies-live : (m : ℕ) (region : Region) → regions m ≡ Some region → region.live ≡ true → dies m ≡ (m == n)
-      unfolding dies
-      dies-live m region e live = ap (λ (b : Bool). (m == n) || not b) (live-is regions m region e ∙ live) ∙ or-false (m == n) where
-        or-false : (b : Bool) → (b || false) ≡ b
-        or-false true = refl
-        or-false false = refl
-
-      dies-closed : (m : ℕ) (region : Region) (p : RegionName) → regions m ≡ Some region → region.parent ≡ Some p → dies p.0 ≡ true → dies m ≡ true
-      dies-closed m region p e f dead = elim (cases_Bool region.live) [
-        | inl live ↦
-            let up = tree.good.parents m region p e f in
-            let same = eqb_is p.0 n (sym (dies-live p.0 up.0 up.1 (up.3.live live)) ∙ dead) in
-            let child = child_at regions n (λ (r : Region). true) m region (tree.good.names m region e) e (is_child_from n region p live f same) refl in
-            absurd (both_ways (has_child regions n) none child)
-        | inr gone ↦ dies-dead m region e gone
-      ]
+      -- no region below this one is live
+      dies-closed : (m : ℕ) (region : Region) (p : RegionName) → regions m ≡ Some region → region.parent ≡ Some p → region.live ≡ true → (p.0 == n) ≡ true → (m == n) ≡ true
+      dies-closed m region p e f live dead =
+          let child = child_at regions n (λ (r : Region). true) m region (tree.good.names m region e) e (is_child_from n region p live f (eqb_is p.0 n dead)) refl in
+          absurd (both_ways (has_child regions n) none child)
 
       -- regions stay good where one dies that has no live child
       pub AreGoodRegions-without : AreGoodRegions (with_one_dead regions n)
-      AreGoodRegions-without =
-          subst AreGoodRegions (killed-same dies (λ m. m == n) dies-live) (AreGoodRegions-killed regions dies tree.good dies-closed)
+      AreGoodRegions-without = AreGoodRegions-killed regions (λ m. m == n) tree.good dies-closed
 
       -- the extents are those that do not stand for it
       record AreWithout (more : ℕ → ℕ → Option (Extent RegionName)) : Type 0 where
