@@ -2,7 +2,7 @@
 
 ghost use Rattle.std.specs.Prelude.{◌≡◌, ◌/◌, ◌+◌, ◌≤◌, ◌||◌};
 ghost use Rattle.vm_base.specs.Pages.{rounded};
-ghost use Rattle.vm_base.specs.declared.limits.TheConstants.{PAGE};
+ghost use Rattle.vm_base.specs.declared.limits.TheConstants.{PAGE, ROOT_END};
 ghost use Rattle.vm_model.specs.Space.Mappings.{is_outside, lacks_reading};
 
 use bitflags::Flags;
@@ -12,6 +12,7 @@ use vm_base::{Perm, in_page, page_count, page_of};
 /// Whether `len` bytes from an address on, rounded up to whole pages, are no range of a region: they do not begin at a
 /// page, there is none, or they pass an end of the region.
 pub(crate) fn is_outside(region: Region, addr: u64, len: u64) -> bool
+    requires { region.first + region.count ≤ ROOT_END }
     ensures { result ≡ is_outside region addr len (rounded len / PAGE) }
 {
     if in_page(addr) != 0 || len == 0 {
