@@ -16,7 +16,7 @@ use Rattle.vm_model.specs.Machine.State.{State, IsGoodState}
 use Rattle.vm_model.specs.Language.Text.{text, texts}
 use Rattle.vm_model.specs.Scripts.Run.{Gives}
 use Rattle.vm_model.specs.Language.Reading.{Outside, reading, reading_of_words, words}
-use Rattle.vm_session.specs.Outcome.{Writes, AnswersLine, BreaksOff}
+use Rattle.vm_session.specs.Outcome.{SinkTakes, AnswersLine, BreaksOff}
 use Rattle.vm_session.specs.Serving.{IsServed, IsReady, bytes_left}
 use Rattle.vm_session.proofs.Writing.{AnswersLine-outside}
 use Rattle.vm_session.proofs.Served.{IsServed-more, BreaksOff-more}
@@ -34,7 +34,7 @@ pub record IsAnswered {T E : Type 0} (old new : Reader) (source_old source_new s
   pub within : new.taken ≤ new.limit
   pub gives : Gives line before replies after
   pub good : IsGoodState after
-  pub written : Writes result sink_old sink_new (texts replies)
+  pub written : SinkTakes result sink_old sink_new (texts replies)
   pub koids : after.content.next ≤ before.content.next + 1
 
 pub IsAnswered-line : {T E : Type 0} (old new : Reader) (source_old source_new sink_old sink_new : Option (List ℕ)) (before after : State) (pending line : List ℕ) (result : Result T E)
@@ -88,14 +88,14 @@ pub IsServed-answered : (frames limit : ℕ) (old new : Reader) (source_old sour
     → (s : IsServed frames limit old source_old source_mid sink_old sink_mid before) → IsAnswered old new source_mid source_new sink_mid sink_new before after s.pending result
     → new.limit ≡ old.limit → (old.ended ≡ true → new.taken ≡ old.taken) → IsServed frames limit new source_old source_new sink_old sink_new after
 IsServed-answered frames limit old new source_old source_mid source_new sink_old sink_mid sink_new before after {T} {E} result x e s a same none =
-    IsServed-more frames limit old new source_old source_mid source_new sink_old sink_mid sink_new before after a.replies a.line a.left s a.part a.consumes a.taken a.still a.first a.within same none a.gives a.good (subst (λ (r : Result T E). Writes r sink_mid sink_new (texts a.replies)) e a.written)
+    IsServed-more frames limit old new source_old source_mid source_new sink_old sink_mid sink_new before after a.replies a.line a.left s a.part a.consumes a.taken a.still a.first a.within same none a.gives a.good (subst (λ (r : Result T E). SinkTakes r sink_mid sink_new (texts a.replies)) e a.written)
 
 -- its replies were cut off
 pub BreaksOff-answered : (frames limit : ℕ) (old new : Reader) (source_old source_mid source_new sink_old sink_mid sink_new : Option (List ℕ)) (before after : State) {T E : Type 0} (result : Result T E) (x : E) → result ≡ Err x
     → (s : IsServed frames limit old source_old source_mid sink_old sink_mid before) → IsAnswered old new source_mid source_new sink_mid sink_new before after s.pending result
     → new.limit ≡ old.limit → (old.ended ≡ true → new.taken ≡ old.taken) → BreaksOff frames limit source_old source_new sink_old sink_new after.content
 BreaksOff-answered frames limit old new source_old source_mid source_new sink_old sink_mid sink_new before after {T} {E} result x e s a same none =
-    BreaksOff-more frames limit old new source_old source_mid source_new sink_old sink_mid sink_new before after a.replies a.line a.left s a.part a.consumes a.taken a.still a.first a.within same none a.gives a.good (subst (λ (r : Result T E). Writes r sink_mid sink_new (texts a.replies)) e a.written)
+    BreaksOff-more frames limit old new source_old source_mid source_new sink_old sink_mid sink_new before after a.replies a.line a.left s a.part a.consumes a.taken a.still a.first a.within same none a.gives a.good (subst (λ (r : Result T E). SinkTakes r sink_mid sink_new (texts a.replies)) e a.written)
 
 -- a first line is a byte at least
 pub used_up : (ended : Bool) (bytes line left : List ℕ) → IsFirstLine ended bytes line left → length left + 1 ≤ length bytes

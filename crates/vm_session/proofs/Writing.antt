@@ -16,7 +16,7 @@ use Rattle.vm_model.specs.Machine.Step.{Step}
 use Rattle.vm_model.specs.Language.Reading.{Reading, Order, Outside, reading}
 use Rattle.vm_model.specs.Language.Text.{reply_lines, text, texts}
 use Rattle.vm_model.specs.Scripts.Run.{GivesAs}
-use Rattle.vm_session.specs.Outcome.{Writes, AnswersLine}
+use Rattle.vm_session.specs.Outcome.{SinkTakes, AnswersLine}
 
 -- the pieces up to one, the piece, and those behind it
 pub concat_parts : (xs : List (List ℕ)) (i : ℕ) (x : List ℕ) → slice_get xs i ≡ Some x → (concat (take (i + 1) xs) ≡ concat (take i xs) ++ x) × ((rest : List ℕ) × (concat xs ≡ concat (take i xs) ++ (x ++ rest)))
@@ -77,9 +77,9 @@ one_text : (reply : Reply) → text reply ≡ texts (reply ∷ [])
 one_text reply = sym (append-nil (text reply))
 
 -- a reply that was pushed, whole or in part
-pub Writes-one : {T E : Type 0} (result : Result T E) (before after : Option (List ℕ)) (reply : Reply) → OnOk result (Appends before after (text reply)) → OnErr result (IsCutOff before after (text reply)) → Writes result before after (texts (reply ∷ []))
-Writes-one (Ok x) before after reply ok err = subst (Appends before after) (one_text reply) ok
-Writes-one (Err e) before after reply ok err = subst (IsCutOff before after) (one_text reply) err
+pub SinkTakes-one : {T E : Type 0} (result : Result T E) (before after : Option (List ℕ)) (reply : Reply) → OnOk result (Appends before after (text reply)) → OnErr result (IsCutOff before after (text reply)) → SinkTakes result before after (texts (reply ∷ []))
+SinkTakes-one (Ok x) before after reply ok err = subst (Appends before after) (one_text reply) ok
+SinkTakes-one (Err e) before after reply ok err = subst (IsCutOff before after) (one_text reply) err
 
 -- a line that is an order, one step, and its reply
 pub AnswersLine-order : {T E : Type 0} (line : List ℕ) (command : Command) (old new : State) (reply : Reply) (before after : Option (List ℕ)) (result : Result T E)
@@ -87,7 +87,7 @@ pub AnswersLine-order : {T E : Type 0} (line : List ℕ) (command : Command) (ol
 AnswersLine-order line command old new reply before after result e step ok err = record {
   replies = reply ∷ [];
   gives = record { answer = subst (λ (r : Reading). GivesAs r old (reply ∷ []) new) e (reply, refl, step) };
-  written = Writes-one result before after reply ok err;
+  written = SinkTakes-one result before after reply ok err;
 }
 
 -- a line outside the grammar, and its refusal
@@ -96,5 +96,5 @@ pub AnswersLine-outside : {T E : Type 0} (line : List ℕ) (old : State) (before
 AnswersLine-outside line old before after result e ok err = record {
   replies = Refused Syntax ∷ [];
   gives = record { answer = subst (λ (r : Reading). GivesAs r old (Refused Syntax ∷ []) old) e (refl, refl) };
-  written = Writes-one result before after (Refused Syntax) ok err;
+  written = SinkTakes-one result before after (Refused Syntax) ok err;
 }

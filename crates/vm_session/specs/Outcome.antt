@@ -40,14 +40,14 @@ frames_in (w ∷ f ∷ n ∷ []) = if is_text w (codes "run") && is_text f (code
 frames_in _ = None
 
 -- how many frames the words ask for, None where they are outside the grammar
-abbrev pub frames_of : List (String Global) → Option ℕ
-frames_of words = frames_in (map string_bytes words)
+abbrev pub frames_asked : List (String Global) → Option ℕ
+frames_asked words = frames_in (map string_bytes words)
 
 -- ---- what was answered
 
 -- a call that may fail writing: the sink took all of these bytes, or a part of them
-abbrev pub Writes : {T E : Type 0} → Result T E → Option (List ℕ) → Option (List ℕ) → List ℕ → Type 0
-Writes result sink_old sink_new out =
+abbrev pub SinkTakes : {T E : Type 0} → Result T E → Option (List ℕ) → Option (List ℕ) → List ℕ → Type 0
+SinkTakes result sink_old sink_new out =
     MatchResult result (λ _. Appends sink_old sink_new out) (λ _. IsCutOff sink_old sink_new out)
 
 -- from old, the line was answered, and its replies were written
@@ -55,7 +55,7 @@ pub record AnswersLine {T E : Type 0} (line : List ℕ) (old new : State) (sink_
     (result : Result T E) : Type 0 where
   pub replies : List Reply
   pub gives : Gives line old replies new
-  pub written : Writes result sink_old sink_new (texts replies)
+  pub written : SinkTakes result sink_old sink_new (texts replies)
 
 -- The lines were answered as on a machine with this many frames, their replies were written, and the store has what the
 -- machine has in the end, which is a good state.

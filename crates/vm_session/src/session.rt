@@ -3,10 +3,10 @@
 ghost use Rattle.std.specs.Prelude.{◌≡◌, ◌↔◌, None, IfSome};
 ghost use Rattle.script_io.specs.Faults.{HasFailed};
 ghost use Rattle.vm_model.specs.Contents.Content.{nothing};
-ghost use Rattle.vm_session.specs.Outcome.{frames_of, EndsAs};
+ghost use Rattle.vm_session.specs.Outcome.{frames_asked, EndsAs};
 
 use crate::serving::serve;
-use crate::words::frames_of;
+use crate::words::frames_asked;
 use page_store::PageStore;
 use script_io::{Sink, Source, Status};
 use std::alloc::Global;
@@ -32,7 +32,7 @@ pub fn run<P: PageStore, S: Source, K: Sink>(
     // What each status says of the bytes that the source gave, the bytes that the sink took and what
     // the store contains. `Done` says that what was written is the replies of one legal run over all
     // lines of the script, and that the store contains what the machine has in the end.
-    ensures ends { IfSome (frames_of words.now) (λ frames.
+    ensures ends { IfSome (frames_asked words.now) (λ frames.
         EndsAs result frames SCRIPT_BYTES (S.remaining source.old) (S.remaining source.new)
         (K.contents sink.old) (K.contents sink.new) (P.content store.new)) }
 
@@ -44,11 +44,11 @@ pub fn run<P: PageStore, S: Source, K: Sink>(
     ensures host_memory { result ≡ Status.HostMemory → (source.new ≡ source.old) × (sink.new ≡ sink.old) }
 
     // Other words are refused, and nothing is touched.
-    ensures usage { (result ≡ Status.Usage) ↔ (frames_of words.now ≡ None) }
+    ensures usage { (result ≡ Status.Usage) ↔ (frames_asked words.now ≡ None) }
     ensures untouched { result ≡ Status.Usage → (source.new ≡ source.old) × (sink.new ≡ sink.old)
         × (store.new ≡ store.old) }
 {
-    match frames_of(words) {
+    match frames_asked(words) {
         Some(frames) => serve(alloc, frames, SCRIPT_BYTES, store, source, sink),
         None => Status::Usage,
     }

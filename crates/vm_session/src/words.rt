@@ -2,7 +2,7 @@
 
 ghost use Rattle.std.specs.Prelude.{◌≡◌, ◌≤◌, length, IfSome};
 ghost use Rattle.vm_model.specs.Language.Reading.{number};
-ghost use Rattle.vm_session.specs.Outcome.{frames_of, frames_of_digits, frames_of_word};
+ghost use Rattle.vm_session.specs.Outcome.{frames_asked, frames_of_digits, frames_of_word};
 
 use script_text::number;
 use vm_base::FRAMES;
@@ -12,8 +12,8 @@ const DEFAULT_FRAMES: u32 = 1024;
 
 /// How many page frames the words ask for: `run`, or `run --frames N` with one to five digits from 1
 /// to 65,536. `None` for any other words.
-pub(crate) fn frames_of(words: &[String]) -> Option<u32>
-    ensures frames { result ≡ frames_of words.now }
+pub(crate) fn frames_asked(words: &[String]) -> Option<u32>
+    ensures frames { result ≡ frames_asked words.now }
     ensures range { IfSome result (λ frames. 1 ≤ frames × frames ≤ FRAMES) }
 {
     match words {
