@@ -1,2 +1,3 @@
 pub mod AttributionLaws
 pub mod CountLaws
+pub mod RunLaws

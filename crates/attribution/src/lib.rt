@@ -1,12 +1,14 @@
-//! What a VMO holds (`info`), and what the machine holds (`stat`).
+//! What a VMO holds (`info`), what the machine holds (`stat`), and what is mapped in a region (`maps`).
 //!
-//! It stands on `page_store` and `vmo_table`, and its contracts speak in the words of `vm_model`. The
-//! layer above answers by it the commands that ask.
+//! It stands on `page_store` and `vmo_table`, for regions on `mapping_set` and `region_tree`, and its contracts speak in
+//! the words of `vm_model`. The layer above answers by it the commands that ask.
 #![tactic(auto)]
 
 mod counts;
 mod machine_stat;
+mod region_maps;
 mod vmo_info;
 
 pub use machine_stat::stat;
+pub use region_maps::maps;
 pub use vmo_info::info;
