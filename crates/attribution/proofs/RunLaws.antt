@@ -1,14 +1,16 @@
 -- How runs of mappings are put together from pieces.
-use Rattle.std.proofs.Common.{◌≡◌, ℕ, zero, suc, ◌+◌, ◌-◌, ◌*◌, ◌<◌, ◌≤◌, Bool, true, false, cond, ◌&&◌, ◌==◌, List, [], ◌∷◌, ◌++◌, Option, None, Some, refl, sym, ap, ◌∙◌, arith}
+use Rattle.std.proofs.Common.{◌≡◌, ℕ, zero, suc, ◌+◌, ◌-◌, ◌*◌, ◌<◌, ◌≤◌, true, ◌&&◌, List, [], ◌∷◌, ◌++◌, Option, None, Some, refl, sym, ap, ◌∙◌, arith}
 use Rattle.std.specs.Prelude.{nat_le, is_some, IsSome, Result, Ok, Err, MatchResult}
-use Rattle.std.proofs.lemmas.Bool.{and_parts, and_from, le-leb}
+use Rattle.std.proofs.lemmas.Bool.{and_from, le-leb}
+use Rattle.std.proofs.lemmas.Bool.Decides.{nat_tests}
+use Rattle.std.proofs.lemmas.Grind.{common_steps}
 use Rattle.vm_base.specs.declared.limits.TheConstants.{PAGE}
 use Rattle.vm_base.specs.declared.refusal.HostMemory.{HostMemory}
-use Rattle.vm_base.proofs.SearchLaws.{eqb_is, eqb_same, any_below_at}
+use Rattle.vm_base.proofs.SearchLaws.{any_below_at}
 use Rattle.vm_model.specs.declared.runs.Run.{Run}
 use Rattle.vm_model.specs.declared.space.Entry.{Entry}
 use Rattle.vm_model.specs.Space.Table.{entry_behind, mapping_from}
-use Rattle.vm_model.specs.Space.Mappings.{is_mapped_in, page_run, goes_on, run_before, entry_before, runs_of}
+use Rattle.vm_model.specs.Space.Mappings.{is_mapped_in, page_run, goes_on, run_before, runs_of}
 use Rattle.mapping_set.specs.declared.piece.Piece.{Piece}
 use Rattle.mapping_set.specs.Tables.{IsBare, IsFirstPiece}
 use Rattle.attribution.specs.BegunRuns.{begun_before, run_of}
@@ -19,59 +21,10 @@ use Rattle.attribution.specs.BegunRuns.{begun_before, run_of}
 abbrev pub joined : Run → Run → Run
 joined x y = record x { len = x.len + y.len }
 
--- the run y goes on where x ends, as equations
-pub record AreAlike (x y : Run) : Type 0 where
-  pub addr : x.addr + x.len ≡ y.addr
-  pub offset : x.offset + x.len ≡ y.offset
-  pub koid : x.koid.0 ≡ y.koid.0
-  pub perm : x.perm.0 ≡ y.perm.0
-  pub region : x.region.0 ≡ y.region.0
-
--- whether y goes on where a run ends that is like this
-abbrev is_next : (addr offset koid perm region : ℕ) → Run → Bool
-is_next addr offset koid perm region y =
-    (addr == y.addr) && (offset == y.offset) && (koid == y.koid.0) && (perm == y.perm.0) && (region == y.region.0)
-
-pub AreAlike-goes_on : (x y : Run) → goes_on x y ≡ true → AreAlike x y
-AreAlike-goes_on x y e =
-    let a = and_parts ((x.addr + x.len == y.addr) && (x.offset + x.len == y.offset) && (x.koid.0 == y.koid.0) && (x.perm.0 == y.perm.0)) (x.region.0 == y.region.0) e in
-    let b = and_parts ((x.addr + x.len == y.addr) && (x.offset + x.len == y.offset) && (x.koid.0 == y.koid.0)) (x.perm.0 == y.perm.0) a.0 in
-    let c = and_parts ((x.addr + x.len == y.addr) && (x.offset + x.len == y.offset)) (x.koid.0 == y.koid.0) b.0 in
-    let d = and_parts (x.addr + x.len == y.addr) (x.offset + x.len == y.offset) c.0 in
-    record { addr = eqb_is _ _ d.0; offset = eqb_is _ _ d.1; koid = eqb_is _ _ c.1; perm = eqb_is _ _ b.1; region = eqb_is _ _ a.1 }
-
--- what goes on where y ends goes on where x and y end
-goes_on-joined : (x y z : Run) → AreAlike x y → goes_on (joined x y) z ≡ goes_on y z
-goes_on-joined x y z alike =
-    let addr : x.addr + (x.len + y.len) ≡ y.addr + y.len = omega (arith, alike.addr) in
-    let offset : x.offset + (x.len + y.len) ≡ y.offset + y.len = omega (arith, alike.offset) in
-    λ i. is_next (addr i) (offset i) (alike.koid i) (alike.perm i) (alike.region i) z
-
-goes_on-alike : (x y : Run) → AreAlike x y → goes_on x y ≡ true
-goes_on-alike x y alike =
-    (λ i. is_next (alike.addr i) (alike.offset i) (alike.koid i) (alike.perm i) (alike.region i) y)
-    ∙ and_from _ _ (and_from _ _ (and_from _ _ (and_from _ _ (eqb_same y.addr) (eqb_same y.offset)) (eqb_same y.koid.0)) (eqb_same y.perm.0)) (eqb_same y.region.0)
-
 -- where y goes on, both are one run before runs
-pub run_before-joined : (x y : Run) (rest : List Run) → goes_on x y ≡ true → run_before x (run_before y rest) ≡ run_before (joined x y) rest
-run_before-joined x y [] on = ap (λ (b : Bool). cond b (joined x y ∷ []) (x ∷ y ∷ [])) on
-run_before-joined x y (z ∷ rest) on =
-    go (goes_on y z)
-    ∙ ap (λ (b : Bool). cond b (joined (joined x y) z ∷ rest) (joined x y ∷ z ∷ rest)) (sym (goes_on-joined x y z (AreAlike-goes_on x y on))) where
-      go : (b : Bool) → run_before x (cond b (joined y z ∷ rest) (y ∷ z ∷ rest)) ≡ cond b (joined (joined x y) z ∷ rest) (joined x y ∷ z ∷ rest)
-      go true =
-          let len : x.len + (y.len + z.len) ≡ x.len + y.len + z.len = omega arith in
-          ap (λ (b : Bool). cond b (joined x (joined y z) ∷ rest) (x ∷ joined y z ∷ rest)) on
-          ∙ ap (λ (n : ℕ). record x { len = n } ∷ rest) len
-      go false = ap (λ (b : Bool). cond b (joined x y ∷ z ∷ rest) (x ∷ y ∷ z ∷ rest)) on
-
--- where it does not, x is a run of its own
-pub run_before-apart : (x y : Run) (rest : List Run) → goes_on x y ≡ false → run_before x (run_before y rest) ≡ x ∷ run_before y rest
-run_before-apart x y [] off = ap (λ (b : Bool). cond b (joined x y ∷ []) (x ∷ y ∷ [])) off
-run_before-apart x y (z ∷ rest) off = go (goes_on y z) where
-  go : (b : Bool) → run_before x (cond b (joined y z ∷ rest) (y ∷ z ∷ rest)) ≡ x ∷ cond b (joined y z ∷ rest) (y ∷ z ∷ rest)
-  go true = ap (λ (b : Bool). cond b (joined x (joined y z) ∷ rest) (x ∷ joined y z ∷ rest)) off
-  go false = ap (λ (b : Bool). cond b (joined x y ∷ z ∷ rest) (x ∷ y ∷ z ∷ rest)) off
+run_before-joined : (x y : Run) (rest : List Run) → goes_on x y ≡ true → run_before x (run_before y rest) ≡ run_before (joined x y) rest
+run_before-joined x y [] on = grind (arith, common_steps, nat_tests)
+run_before-joined x y (z ∷ rest) on = grind (arith, common_steps, nat_tests)
 
 -- ---- the runs of pages
 
@@ -85,19 +38,13 @@ module _ (entries : ℕ → Option Entry) where
   runs_of-zero p = refl
 
   -- pages without entries change nothing
-  pub runs_of-bare : (k n p : ℕ) → IsBare entries p (p + k) → runs_of entries (k + n) p ≡ runs_of entries n (p + k)
+  runs_of-bare : (k n p : ℕ) → IsBare entries p (p + k) → runs_of entries (k + n) p ≡ runs_of entries n (p + k)
   unfolding runs_of
-  runs_of-bare zero n p bare =
-      let same : 0 + n ≡ n = omega arith in
-      let here : p ≡ p + 0 = omega arith in
-      λ i. runs_of entries (same i) (here i)
+  runs_of-bare zero n p bare = grind arith
   runs_of-bare (suc k) n p bare =
       let more : suc k + n ≡ suc (k + n) = omega arith in
-      let end : p + 1 + k ≡ p + suc k = omega arith in
-      ap (λ (m : ℕ). runs_of entries m p) more
-      ∙ (ap (λ (o : Option Entry). entry_before p o (runs_of entries (k + n) (p + 1))) (bare p (omega arith) (omega arith))
-      ∙ (runs_of-bare k n (p + 1) (λ q low high. bare q (omega (arith, low)) (omega (arith, high)))
-      ∙ ap (runs_of entries n) end))
+      let here : entries p ≡ None = bare p (omega arith) (omega arith) in
+      rw (more, here) (grind (arith, runs_of-bare k n (p + 1) (λ q low high. bare q (omega (arith, low)) (omega (arith, high)))))
 
   -- pages that show rising pages of one VMO are one run before the runs of the pages behind them
   runs_of-rising : (first : ℕ) (entry : Entry) (k n p : ℕ) → first ≤ p → ((q : ℕ) → p ≤ q → q < p + suc k → entries q ≡ mapping_from first entry q)
@@ -105,20 +52,17 @@ module _ (entries : ℕ → Option Entry) where
   unfolding runs_of
   runs_of-rising first entry zero n p low each =
       let more : suc zero + n ≡ suc n = omega arith in
-      ap (λ (m : ℕ). runs_of entries m p) more
-      ∙ ap (λ (o : Option Entry). entry_before p o (runs_of entries n (p + 1))) (each p (omega arith) (omega arith))
+      rw (more, each p (omega arith) (omega arith)) refl
   runs_of-rising first entry (suc k) n p low each =
       let more : suc (suc k) + n ≡ suc (suc k + n) = omega arith in
       let end : p + 1 + suc k ≡ p + suc (suc k) = omega arith in
       let len : PAGE + suc k * PAGE ≡ suc (suc k) * PAGE = omega arith in
       let here = entry_behind entry (p - first) in
       let next = run_from (p + 1) (entry_behind entry (p + 1 - first)) (suc k) in
-      let alike : AreAlike (page_run p here) next = record { addr = omega arith; offset = omega (arith, low); koid = refl; perm = refl; region = refl } in
-      ap (λ (m : ℕ). runs_of entries m p) more
-      ∙ (ap (λ (o : Option Entry). entry_before p o (runs_of entries (suc k + n) (p + 1))) (each p (omega arith) (omega arith))
-      ∙ (ap (run_before (page_run p here)) (runs_of-rising first entry k n (p + 1) (omega (arith, low)) (λ q from to. each q (omega (arith, from)) (omega (arith, to))))
-      ∙ (run_before-joined (page_run p here) next (runs_of entries n (p + 1 + suc k)) (goes_on-alike (page_run p here) next alike)
-      ∙ λ i. run_before (record (page_run p here) { len = len i }) (runs_of entries n (end i)))))
+      let on : goes_on (page_run p here) next ≡ true = grind (arith, nat_tests) in
+      let rest = runs_of-rising first entry k n (p + 1) (omega (arith, low)) (λ q from to. each q (omega (arith, from)) (omega (arith, to))) in
+      rw (more, each p (omega arith) (omega arith), rest, run_before-joined (page_run p here) next (runs_of entries n (p + 1 + suc k)) on)
+      (λ i. run_before (record (page_run p here) { len = len i }) (runs_of entries n (end i)))
 
   module _ (from end : ℕ) (piece : Piece) (is : IsFirstPiece entries from end piece) where
     -- the pages of a piece are one run before the runs of the pages behind them
