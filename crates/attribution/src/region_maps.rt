@@ -11,7 +11,7 @@ ghost use Rattle.region_tree.specs.Tree.{regions_of, is_live_region};
 ghost use Rattle.attribution.specs.BegunRuns.{begun_before, run_of};
 
 use mapping_set::{MappingSet, Piece};
-use region_tree::{Region, Regions};
+use region_tree::Regions;
 use std::alloc::Global;
 use vm_base::{HostMemory, PAGE, PageNo, RegionName};
 use vm_model::{Run, Runs};
@@ -41,7 +41,8 @@ pub fn maps(
     runs_in(alloc, maps, above.root, above.first, above.count)
 }
 
-/// The runs of what is mapped on `count` pages of an address space from `first` on.
+/// The runs of what is mapped on `count` pages of an address space from `first` on. `HostMemory` only where one of them is
+/// mapped.
 fn runs_in(
     alloc: Global,
     maps: &MappingSet,
@@ -97,7 +98,8 @@ fn run_of(piece: Piece) -> Run
     }
 }
 
-/// Whether a run goes on where another ends, in the address space and in the VMO, and is like it in all else.
+/// Whether a run goes on where another ends, in the address space and in the VMO, and is like it in all else. A run may
+/// end at byte 2^64 of its VMO, where nothing goes on.
 fn goes_on(run: Run, next: Run) -> bool
     ensures { result ≡ goes_on run next }
 {
@@ -108,8 +110,8 @@ fn goes_on(run: Run, next: Run) -> bool
         && run.region == next.region
 }
 
-/// Puts a run behind the one that is begun, if there is one. It is joined to that where it goes on there, and else that
-/// is closed. Answers the run that is begun now.
+/// Puts a run behind the one that was begun, if there is one. It is joined to that where it goes on there, and else that
+/// is put behind the others. Answers the run that is begun now. On `HostMemory` nothing is said of the runs.
 fn join(runs: &mut Runs, begun: Option<Run>, next: Run) -> Result<Run, HostMemory>
     requires { next.addr + next.len < 2 ^ 64 }
     ensures { IfOk result (λ run. (rest : List Run) →
@@ -128,7 +130,7 @@ fn join(runs: &mut Runs, begun: Option<Run>, next: Run) -> Result<Run, HostMemor
     Ok(next)
 }
 
-/// Closes the run that is begun, if there is one.
+/// Puts the run that was begun, if there is one, behind the others. `HostMemory` only where there is one.
 fn close(mut runs: Runs, begun: Option<Run>) -> Result<Runs, HostMemory>
     ensures { MatchResult result (λ all. all ≡ runs ++ begun_before begun []) (λ lack. IsSome begun) }
 {
