@@ -1,2 +1,13 @@
 pub mod PlaceLaws
 pub mod HolderLaws
+pub mod PrunedLaws
+pub mod CountLaws
+pub mod MapLaws
+pub mod CapLaws
+pub mod MapSteps
+pub mod LeavingLaws
+pub mod DyingLaws
+pub mod UnmapLaws
+pub mod DestroyLaws
+pub mod ClearLaws
+pub mod CoverLaws

@@ -1,2 +1,5 @@
 pub mod Spaces
 pub mod Holders
+pub mod Mapping
+pub mod Leaving
+pub mod Covers

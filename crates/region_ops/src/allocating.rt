@@ -1,20 +1,17 @@
 //! Allocating a region in another (`zx_vmar_allocate`).
 
-ghost use Rattle.std.specs.Prelude.{◌≡◌, ◌+◌, ◌≤◌, true, None, Some};
-ghost use Rattle.vm_base.specs.declared.limits.TheConstants.{ROOT_END};
+ghost use Rattle.std.specs.Prelude.{◌≡◌, true, None};
 ghost use Rattle.vm_model.specs.declared.command.Command.{Command};
 ghost use Rattle.vm_model.specs.declared.reply.Reply.{Reply};
-ghost use Rattle.vm_model.specs.Space.Rights.{has};
 ghost use Rattle.vm_model.specs.Machine.State.{State};
 ghost use Rattle.vm_model.specs.Machine.Step.{Step, reply_of};
 ghost use Rattle.mapping_set.specs.Tables.{table_of};
 ghost use Rattle.region_tree.specs.Tree.{regions_of, is_live_region, spaces_of};
 ghost use Rattle.region_ops.specs.Spaces.{with_spaces};
 
-use crate::placing::{Wanted, find_place, is_misplaced};
-use bitflags::Flags;
+use crate::placing::{Wanted, allows, find_place, is_misplaced, live_region};
 use mapping_set::MappingSet;
-use region_tree::{Region, Regions};
+use region_tree::Regions;
 use vm_base::{MapFlags, PAGE, Perm, Refusal, RegionName, page_count};
 
 /// Allocates a region of `len` bytes, rounded up to whole pages, in a live region, under a name that was never given,
@@ -54,24 +51,4 @@ pub fn allocate(
         Ok(()) => Ok(first * PAGE),
         Err(_) => Err(Refusal::HostMemory),
     }
-}
-
-/// The region of a name that was given to one that is live. It ends where the address space does, or before.
-fn live_region(regions: &Regions, name: RegionName) -> Region
-    requires { is_live_region (regions_of regions.now) name.0 ≡ true }
-    ensures region { regions_of regions.now name.0 ≡ Some result }
-    ensures live { result.live ≡ true }
-    ensures end { result.first + result.count ≤ ROOT_END }
-{
-    let Some(region) = regions.get(name) else {
-        unreachable!()
-    };
-    region
-}
-
-/// Whether a region allows these permissions to what is in it.
-fn allows(region: Region, caps: Perm) -> bool
-    ensures { result ≡ has region.caps.0 caps.0 }
-{
-    region.caps.contains(caps)
 }

@@ -1,8 +1,11 @@
-//! What commands do to address spaces: a region is allocated in another (`allocate`).
+//! What commands do to address spaces: a region is allocated in another (`allocate`), a part of a VMO is mapped into one
+//! (`map`), the pages of a range are unmapped (`unmap`), what accesses to them may do is changed (`protect`), and a region
+//! is destroyed with all below it (`destroy`).
 //!
-//! It stands on `region_tree` and `mapping_set`, and each call promises that it is the step of its command
-//! (`vm_model`), whatever else the state has. The layer above has looked the names up, so that a call begins with the
-//! refusals that rest on regions and arguments.
+//! It stands on `region_tree` and `mapping_set`, and on `vmo_table` and any store of pages: each entry keeps its VMO, which
+//! leaves with the last that keeps it. Each call promises that it is the step of its command (`vm_model`), whatever else
+//! the state has. The layer above has looked the names up, so that a call begins with the refusals that rest on regions
+//! and arguments.
 #![tactic(auto,
 // where a region and a place in it end
 using(crate::proofs::PlaceLaws::live_end, crate::proofs::PlaceLaws::place_inside, crate::proofs::PlaceLaws::place_end),
@@ -11,7 +14,14 @@ unfolding(vm_model::specs::Space::Regions::region_of, vm_base::specs::Entries::p
 
 mod allocating;
 pub mod laws;
+mod leaving;
+mod mapping;
 mod placing;
+mod protecting;
 mod ranges;
+mod unmapping;
 
 pub use allocating::allocate;
+pub use mapping::map;
+pub use protecting::protect;
+pub use unmapping::{destroy, unmap};

@@ -1,17 +1,37 @@
-//! Where in a region a place is.
+//! The region that a call is about, what it allows, and where in it a place is.
 
 ghost use Rattle.std.specs.Prelude.{◌≡◌, ◌+◌, ◌/◌, ◌≤◌, true, false, Some, MatchResult};
 ghost use Rattle.vm_base.specs.declared.limits.TheConstants.{PAGE, ROOT_END};
 ghost use Rattle.vm_model.specs.Space.Places.{IsPlace, is_misplaced};
-ghost use Rattle.vm_model.specs.Space.Rights.{has, specific, upper_limit};
+ghost use Rattle.vm_model.specs.Space.Rights.{has, specific, overwrite, upper_limit};
 ghost use Rattle.mapping_set.specs.Tables.{table_of};
-ghost use Rattle.region_tree.specs.Tree.{regions_of, spaces_of};
+ghost use Rattle.region_tree.specs.Tree.{regions_of, is_live_region, spaces_of};
 ghost use Rattle.region_ops.specs.Spaces.{HasNoPlace};
 
 use bitflags::Flags;
 use mapping_set::MappingSet;
 use region_tree::{Region, Regions};
-use vm_base::{MapFlags, PageNo, Refusal, RegionName, in_page, page_count, page_of};
+use vm_base::{MapFlags, PageNo, Perm, Refusal, RegionName, in_page, page_count, page_of};
+
+/// The region of a name that was given to one that is live. It ends where the address space does, or before.
+pub(crate) fn live_region(regions: &Regions, name: RegionName) -> Region
+    requires { is_live_region (regions_of regions.now) name.0 ≡ true }
+    ensures region { regions_of regions.now name.0 ≡ Some result }
+    ensures live { result.live ≡ true }
+    ensures end { result.first + result.count ≤ ROOT_END }
+{
+    let Some(region) = regions.get(name) else {
+        unreachable!()
+    };
+    region
+}
+
+/// Whether a region allows these permissions to what is in it.
+pub(crate) fn allows(region: Region, caps: Perm) -> bool
+    ensures { result ≡ has region.caps.0 caps.0 }
+{
+    region.caps.contains(caps)
+}
 
 /// Where a place is asked for.
 #[derive(Clone, Copy, Debug)]
@@ -20,6 +40,8 @@ pub(crate) struct Wanted {
     pub fixed: bool,
     /// It ends at the offset, or before it.
     pub limited: bool,
+    /// It begins at the offset, and what is mapped there goes. Where a region is allocated, this asks for nothing.
+    pub overwriting: bool,
     /// The offset, in bytes from the start of the region.
     pub offset: u64,
 }
@@ -30,12 +52,14 @@ impl Wanted {
         ensures { result ≡ record {
           fixed = has flags.0 specific;
           limited = has flags.0 upper_limit;
+          overwriting = has flags.0 overwrite;
           offset = offset;
         } }
     {
         Wanted {
             fixed: flags.contains(MapFlags::SPECIFIC),
             limited: flags.contains(MapFlags::UPPER_LIMIT),
+            overwriting: flags.contains(MapFlags::OVERWRITE),
             offset,
         }
     }

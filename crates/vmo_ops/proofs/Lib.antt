@@ -4,7 +4,6 @@ pub mod NameLaws
 pub mod LookLaws
 pub mod PinnedLaws
 pub mod CreateLaws
-pub mod SettleLaws
 pub mod ReadLaws
 pub mod CountLaws
 pub mod NeedLaws

@@ -7,3 +7,4 @@ pub mod SettledLaws
 pub mod EntryLaws
 pub mod MovedLaws
 pub mod TableLaws
+pub mod SettleLaws

@@ -2,7 +2,7 @@ use Rattle.std.proofs.Common.{rules, ◌∙◌}
 use Rattle.vm_base.proofs.EntryLaws.{some_is}
 use Rattle.vm_model.proofs.LeavingLaws.{unnamed, LoosensAt-unnamed, name_vmo}
 use Rattle.vmo_table.specs.Table.{lineage_in, with_vmos}
-use Rattle.vmo_ops.proofs.SettleLaws.{leaving_vmo, settled_pruned}
+use Rattle.vmo_table.proofs.SettleLaws.{leaving_vmo, settled_pruned}
 use Rattle.vmo_ops.proofs.closing.close.Goals as goal
 
 pub drop_gone-requires : goal.drop_gone-requires

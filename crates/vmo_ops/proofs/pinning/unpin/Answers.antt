@@ -5,7 +5,7 @@ use Rattle.vmo_table.specs.Table.{lineage_in, keepers_of}
 use Rattle.pin_table.specs.Table.{pin_of, pins_of}
 use Rattle.vmo_ops.specs.Targets.{with_tables}
 use Rattle.vmo_ops.proofs.KeeperLaws.{pin_count-without_key}
-use Rattle.vmo_ops.proofs.SettleLaws.{leaving_vmo, settled_pruned}
+use Rattle.vmo_table.proofs.SettleLaws.{leaving_vmo, settled_pruned}
 use Rattle.vmo_ops.proofs.pinning.unpin.Goals as goal
 
 pub release-requires : goal.release-requires

@@ -1,4 +1,4 @@
--- Something that kept a VMO went, a name or a pin: what the table says of the VMO is what the machine does.
+-- Something that kept a VMO went, a name, a pin or entries: what the table says of the VMO is what the machine does.
 use Rattle.std.proofs.Common.{◌≡◌, ℕ, ◌<◌, ◌==◌, true, false, Option, Some, ◌⊎◌, sym, ◌∙◌, arith}
 use Rattle.std.specs.Prelude.{IsSome, IfSome, MatchOption}
 use Rattle.std.proofs.lemmas.Bool.{cases_Bool, ltb-true, ltb-false}

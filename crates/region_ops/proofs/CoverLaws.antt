@@ -1,0 +1,152 @@
+-- What a region finds on a range of pages, piece by piece, and what a change of permissions leaves as it is.
+use Rattle.std.proofs.Common.{◌≡◌, ◌≢◌, ℕ, ◌+◌, ◌<◌, ◌≤◌, Bool, true, false, not, ◌&&◌, ◌||◌, ◌==◌, Option, None, Some, refl, sym, ap, subst, ◌∙◌, inl, inr, arith}
+use Rattle.std.specs.Prelude.{nat_le, IsSome}
+use Rattle.std.specs.Option.{option_map}
+use Rattle.std.specs.Cmp.{both_ways}
+use Rattle.std.proofs.lemmas.Bool.{cases_Bool, cases_lt, and_parts, and_from, or_cases, false_from_ne_true, cond-true, cond-false, not-false, le-leb, leb-true}
+use Rattle.vm_base.specs.Entries.{passes}
+use Rattle.vm_base.specs.Search.{count_below, sum_below}
+use Rattle.vm_base.specs.declared.flags.Perm.{Perm}
+use Rattle.vm_base.specs.declared.limits.TheConstants.{NAMES, ROOT_END}
+use Rattle.vm_base.proofs.SearchLaws.{any_below_found, any_below_at, eqb_is}
+use Rattle.vm_base.proofs.EntryLaws.{passes-none, passes-some}
+use Rattle.vm_model.specs.declared.space.Entry.{Entry}
+use Rattle.vm_model.specs.Contents.Zeroing.{is_within}
+use Rattle.vm_model.specs.Space.Rights.{has}
+use Rattle.vm_model.specs.Space.Table.{mapping_from, with_pages, is_in}
+use Rattle.vm_model.specs.Space.AddressSpaces.{Spaces, shows, mapped_count}
+use Rattle.vm_model.specs.Space.Mappings.{protected, any_from, has_hole, forbids}
+use Rattle.mapping_set.specs.declared.piece.Piece.{Piece}
+use Rattle.mapping_set.specs.Tables.{IsFull, IsBareFrom, IsNextPiece}
+use Rattle.region_ops.specs.Covers.{IsCovered}
+
+-- ---- searching a range
+
+module _ (test : ℕ → Bool) where
+  found_from : (first end : ℕ) → any_from first end test ≡ true → (p : ℕ) × (first ≤ p) × (p < end) × (test p ≡ true)
+  found_from first end e =
+      let found = any_below_found end (λ p. nat_le first p && test p) e in
+      let both = and_parts (nat_le first found.0) (test found.0) found.2 in
+      (found.0, leb-true first found.0 both.0, found.1, both.1)
+
+  any_from_at : (first end p : ℕ) → first ≤ p → p < end → test p ≡ true → any_from first end test ≡ true
+  any_from_at first end p low high e = any_below_at end p (λ q. nat_le first q && test q) high (and_from (nat_le first p) (test p) (le-leb first p low) e)
+
+  none_from : (first end : ℕ) → ((p : ℕ) → first ≤ p → p < end → test p ≡ false) → any_from first end test ≡ false
+  none_from first end each = false_from_ne_true (any_from first end test) (λ e.
+      let found = found_from first end e in
+      absurd (let miss = each found.0 found.1 found.2 in let hit = found.3 in cc))
+
+  none_from_at : (first end p : ℕ) → any_from first end test ≡ false → first ≤ p → p < end → test p ≡ false
+  none_from_at first end p none low high = false_from_ne_true (test p) (λ e. absurd (let some = any_from_at first end p low high e in cc))
+
+  -- what is found in a range is found in one of its two parts
+  any_from-join : (first mid end : ℕ) → first ≤ mid → mid ≤ end → any_from first end test ≡ (any_from first mid test || any_from mid end test)
+  any_from-join first mid end low high = both_ways (any_from first end test) (any_from first mid test || any_from mid end test)
+      (λ e.
+      let found = found_from first end e in
+      elim (cases_lt found.0 mid) [
+        | inl before ↦ let hit = any_from_at first mid found.0 found.1 before found.3 in grind (arith, hit)
+        | inr behind ↦ let hit = any_from_at mid end found.0 behind found.2 found.3 in grind (arith, hit)
+      ])
+      (λ e. elim (or_cases (any_from first mid test) (any_from mid end test) e) [
+        | inl left ↦ let found = found_from first mid left in any_from_at first end found.0 found.1 (omega (arith, found.2)) found.3
+        | inr right ↦ let found = found_from mid end right in any_from_at first end found.0 (omega (arith, found.1)) found.2 found.3
+      ])
+
+-- ---- what a region finds, piece by piece
+
+module _ (entries : ℕ → Option Entry) (region perm : ℕ) where
+  -- no page
+  pub covered-none : (first : ℕ) → IsCovered entries region perm first first true
+  unfolding has_hole forbids
+  covered-none first = record {
+    whole = none_from _ first first (λ p low high. absurd (omega arith));
+    free = sym (ap not (none_from _ first first (λ p low high. absurd (omega arith))));
+  }
+
+  -- pages, and some behind them
+  pub covered-join : (first mid end : ℕ) (a b : Bool) → first ≤ mid → mid ≤ end → IsCovered entries region perm first mid a → IsCovered entries region perm mid end b
+      → IsCovered entries region perm first end (a && b)
+  unfolding has_hole forbids
+  covered-join first mid end a b low high x y = record {
+    whole = any_from-join _ first mid end low high ∙ rw (x.whole, y.whole) refl;
+    free = rw (x.free, y.free) (both _ _) ∙ sym (ap not (any_from-join _ first mid end low high));
+  } where
+    both : (x y : Bool) → (not x && not y) ≡ not (x || y)
+    both true y = refl
+    both false y = refl
+
+  -- the same, where a range ends there
+  pub covered-end : (first at end : ℕ) (a : Bool) → at ≤ end → end ≤ at → IsCovered entries region perm first at a → IsCovered entries region perm first end a
+  covered-end first at end a low high x = let same : at ≡ end = omega arith in subst (λ (n : ℕ). IsCovered entries region perm first n a) same x
+
+  -- a page without an entry of the region
+  pub hole_at : (first end p : ℕ) → first ≤ p → p < end → passes (is_in region) (entries p) ≡ false → has_hole entries region first end ≡ true
+  unfolding has_hole
+  hole_at first end p low high miss = any_from_at _ first end p low high (ap not miss)
+
+  -- a hole in a part of a range
+  pub hole-part : (first mid end : ℕ) → first ≤ mid → mid ≤ end → has_hole entries region mid end ≡ true → has_hole entries region first end ≡ true
+  unfolding has_hole
+  hole-part first mid end low high hole = any_from-join _ first mid end low high ∙ grind (arith, hole)
+
+  -- the entries of one piece
+  pub covered-piece : (first end : ℕ) (piece : Piece) → first < end → end ≤ first + piece.count → piece.first ≡ first → (piece.entry.region.0 == region) ≡ true
+      → IsNextPiece entries first piece → IsCovered entries region perm first end (has piece.entry.cap.0 perm)
+  unfolding has_hole forbids
+  covered-piece first end piece some high begins same next = record {
+    whole = none_from _ first end (λ p low less. ap not (passes-some (is_in region) (entries p) _ (shown p low less) ∙ same));
+    free = elim (cases_Bool (has piece.entry.cap.0 perm)) [
+      | inl all ↦ all ∙ sym (ap not (none_from _ first end (λ p low less. bad p low less ∙ ap not all)))
+      | inr off ↦ off ∙ sym (ap not (any_from_at _ first end first (omega arith) some (bad first (omega arith) some ∙ ap not off)))
+    ];
+  } where
+    shown : (p : ℕ) → first ≤ p → p < end → entries p ≡ mapping_from piece.first piece.entry p
+    shown p low less = next.is.entries p (omega (arith, begins)) (omega (arith, begins))
+
+    bad : (p : ℕ) → first ≤ p → p < end → passes (λ (entry : Entry). not (has entry.cap.0 perm)) (entries p) ≡ not (has piece.entry.cap.0 perm)
+    bad p low less = passes-some (λ (entry : Entry). not (has entry.cap.0 perm)) (entries p) _ (shown p low less)
+
+  -- the next piece begins behind the page, or belongs to another region
+  pub hole-behind : (first end : ℕ) (piece : Piece) → first < end → piece.first ≢ first → IsNextPiece entries first piece → has_hole entries region first end ≡ true
+  hole-behind first end piece some apart next =
+      hole_at first end first (omega arith) some (passes-none (is_in region) (entries first) (next.bare first (omega arith)
+      (elim (cases_lt first piece.first) [ inl less ↦ less | inr more ↦ absurd (apart (omega (arith, more, next.not_before))) ])))
+
+  pub hole-other : (first end : ℕ) (piece : Piece) → first < end → piece.first ≡ first → (piece.entry.region.0 == region) ≡ false → IsNextPiece entries first piece
+      → has_hole entries region first end ≡ true
+  hole-other first end piece some begins apart next =
+      hole_at first end first (omega arith) some (passes-some (is_in region) (entries first) _ (next.is.entries first (omega (arith, begins)) (omega (arith, begins, next.is.some)))
+      ∙ apart)
+
+  pub hole-none : (first end : ℕ) → first < end → IsBareFrom entries first → has_hole entries region first end ≡ true
+  hole-none first end some bare = hole_at first end first (omega arith) some (passes-none (is_in region) (entries first) (bare first (omega arith)))
+
+  -- where there is no hole, each page has an entry
+  pub full : (first end : ℕ) → has_hole entries region first end ≡ false → IsFull entries first end
+  unfolding has_hole passes
+  full first end none p low high = there (entries p) (not-false _ (none_from_at _ first end p none low high)) where
+    there : (o : Option Entry) → passes (is_in region) o ≡ true → IsSome o
+    there None e = absurd cc
+    there (Some entry) e = refl
+
+-- ---- a change of permissions
+
+-- an entry shows the VMO that it showed
+shows-protected : (spaces : Spaces) (root first end : ℕ) (perm : Perm) (v r p : ℕ) → passes (shows v) ((protected spaces root first end perm).table r p) ≡ passes (shows v) (spaces.table r p)
+unfolding with_pages passes
+shows-protected spaces root first end perm v r p = elim (cases_Bool ((r == root) && is_within first end p)) [
+  | inl is ↦
+      let both = and_parts (r == root) (is_within first end p) is in
+      ap (passes (shows v)) (cond-true _ _ _ is) ∙ (one (spaces.table root p) ∙ ap (λ (s : ℕ). passes (shows v) (spaces.table s p)) (sym (eqb_is r root both.0)))
+  | inr out ↦ ap (passes (shows v)) (cond-false _ _ _ out)
+] where
+  one : (o : Option Entry) → passes (shows v) (option_map (λ (entry : Entry). record entry { perm = perm }) o) ≡ passes (shows v) o
+  one None = refl
+  one (Some entry) = refl
+
+-- so each VMO is mapped as often as before
+pub mapped_count-protected : (spaces : Spaces) (root first end : ℕ) (perm : Perm) (v : ℕ) → mapped_count (protected spaces root first end perm) v ≡ mapped_count spaces v
+unfolding mapped_count
+mapped_count-protected spaces root first end perm v = λ i. sum_below NAMES (λ r. count_below ROOT_END (λ p. shows-protected spaces root first end perm v r p i))

@@ -1,0 +1,81 @@
+use Rattle.std.proofs.Common.{◌∙◌, sym, arith}
+use Rattle.page_store.proofs.NameLaws.{IsInside-good, name_few}
+use Rattle.mapping_set.specs.Tables.{table_of}
+use Rattle.region_tree.specs.Tree.{regions_of, spaces_of}
+use Rattle.region_ops.specs.Spaces.{with_all}
+use Rattle.region_ops.proofs.MapSteps.{refused_by, refused_place, lacks_step, done_step, puttable}
+use Rattle.region_ops.proofs.mapping.map.Goals as goal
+
+pub refusal_of-requires-clause-inside : goal.refusal_of-requires-clause-inside
+refusal_of-requires-clause-inside g c =
+    IsInside-good (with_all c.requires.well.rest _ c.args.vmos.now (spaces_of (regions_of c.args.regions.now) (table_of c.args.maps.now)))
+    c.requires.named.0 _ c.requires.well.well.good c.requires.named.1
+
+pub returns-in-Some : goal.returns-in-Some
+returns-in-Some g c = λ name named. record {
+  step = λ s well.
+      refused_by _ _ _ _ _ _ _ _ _ _ c.live_region-above.ensures.region c.live_region-above.ensures.live named _
+      (rw c.by-wanted.ensures at (rw (c.contains-faults.ensures tt) at (sym c.refusal_of.ensures ∙ c.in-Some.is)));
+  counted = λ s well. well.counted;
+}
+
+pub returns-in-Err : goal.returns-in-Err
+returns-in-Err g c = λ name named. record {
+  step = λ s well.
+      refused_place _ _ _ _ _ _ _ _ _ _ c.live_region-above.ensures.region c.live_region-above.ensures.live named _
+      (rw c.by-wanted.ensures at (rw (c.contains-faults.ensures tt) at (sym c.refusal_of.ensures ∙ c.in_default.is)))
+      (rw c.by-wanted.ensures at c.in-Err.ensures.0) (rw c.by-wanted.ensures at (rw c.page_count-count.ensures at c.in-Err.ensures.1));
+  counted = λ s well. well.counted;
+}
+
+pub returns-in_default-reserve : goal.returns-in_default-reserve
+returns-in_default-reserve g c = rw c.in_default-reserve.ensures.table (λ name named. record {
+  step = λ s well.
+      lacks_step _ _ _ _ _ _ _ _ _ _ c.live_region-above.ensures.region c.live_region-above.ensures.live named c.in-Ok.first
+      (rw c.by-wanted.ensures at (rw (c.contains-faults.ensures tt) at (sym c.refusal_of.ensures ∙ c.in_default.is)))
+      (rw c.by-wanted.ensures at (rw c.page_count-count.ensures at c.in-Ok.ensures));
+  counted = λ s well. well.counted;
+})
+
+pub entry_of-entry-requires : goal.entry_of-entry-requires
+entry_of-entry-requires g c =
+    let old = with_all c.requires.well.rest (g.P.PageStore.content c.args.store.now) c.args.vmos.now (spaces_of (regions_of c.args.regions.now) (table_of c.args.maps.now)) in
+    let good = c.requires.well.well.good in
+    omega (arith, name_few old.content c.args.t.now good.content (IsInside-good old c.requires.named.0 _ good c.requires.named.1))
+
+pub put-requires-clause-well : goal.put-requires-clause-well
+put-requires-clause-well g c = rw c.in-Ok-reserve.ensures.table (record {
+  rest = record c.requires.well.rest { spaces = spaces_of (regions_of c.args.regions.now) (table_of c.args.maps.now) };
+  well = c.requires.well.well;
+})
+
+pub put-requires-clause-place : goal.put-requires-clause-place
+put-requires-clause-place g c =
+    let old = with_all c.requires.well.rest (g.P.PageStore.content c.args.store.now) c.args.vmos.now (spaces_of (regions_of c.args.regions.now) (table_of c.args.maps.now)) in
+    rw c.in-Ok-reserve.ensures.table (rw c.entry_of-entry.ensures (rw c.page_count-count.ensures (rw c.by-wanted.ensures
+    (puttable old c.args.region c.args.offset (record { 0 = c.requires.named.0 }) c.args.vmo_offset c.args.len c.args.perm c.args.flags _ _
+    c.live_region-above.ensures.region c.live_region-above.ensures.live c.requires.named.1 c.in-Ok.first
+    (rw c.by-wanted.ensures at (rw (c.contains-faults.ensures tt) at (sym c.refusal_of.ensures ∙ c.in_default.is)))
+    (rw c.by-wanted.ensures at (rw c.page_count-count.ensures at c.in-Ok.ensures)) c.requires.well.well.good))))
+
+pub overflow_mul-result : goal.overflow_mul-result
+overflow_mul-result g c =
+    let old = with_all c.requires.well.rest (g.P.PageStore.content c.args.store.now) c.args.vmos.now (spaces_of (regions_of c.args.regions.now) (table_of c.args.maps.now)) in
+    let may = puttable old c.args.region c.args.offset (record { 0 = c.requires.named.0 }) c.args.vmo_offset c.args.len c.args.perm c.args.flags _ _
+    c.live_region-above.ensures.region c.live_region-above.ensures.live c.requires.named.1 c.in-Ok.first
+    (rw c.by-wanted.ensures at (rw (c.contains-faults.ensures tt) at (sym c.refusal_of.ensures ∙ c.in_default.is)))
+    (rw c.by-wanted.ensures at (rw c.page_count-count.ensures at c.in-Ok.ensures)) c.requires.well.well.good in
+    omega (arith, may.end)
+
+pub returns : goal.returns
+returns g c = λ name named. record {
+  step = λ s well.
+      done_step _ _ _ _ _ _ _ _ _ _ c.live_region-above.ensures.region c.live_region-above.ensures.live named c.in-Ok.first
+      (rw c.by-wanted.ensures at (rw (c.contains-faults.ensures tt) at (sym c.refusal_of.ensures ∙ c.in_default.is)))
+      (rw c.by-wanted.ensures at (rw c.page_count-count.ensures at c.in-Ok.ensures)) _
+      ((rw c.in-Ok-reserve.ensures.table at (rw c.entry_of-entry.ensures at (rw c.page_count-count.ensures at c.put.ensures.put)))
+      (with_all s (g.P.PageStore.content c.args.store.now) c.args.vmos.now (spaces_of (regions_of c.args.regions.now) (table_of c.args.maps.now))) well);
+  counted = λ s well.
+      (rw c.in-Ok-reserve.ensures.table at c.put.ensures.counted)
+      (with_all s (g.P.PageStore.content c.args.store.now) c.args.vmos.now (spaces_of (regions_of c.args.regions.now) (table_of c.args.maps.now))) well;
+}

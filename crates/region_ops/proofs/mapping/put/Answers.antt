@@ -1,0 +1,24 @@
+use Rattle.region_ops.proofs.MapLaws.{put_vmo, put_few, put_bare, put_state, put_counted}
+use Rattle.region_ops.proofs.mapping.put.Goals as goal
+
+pub keep-requires-clause-koid : goal.keep-requires-clause-koid
+keep-requires-clause-koid g c =
+    put_vmo c.requires.well.rest _ _ _ _ _ _ _ _ _ c.requires.well.well c.clear_place.ensures.gone c.requires.place c.clear_place.ensures.table
+
+pub keep-requires-clause-few : goal.keep-requires-clause-few
+keep-requires-clause-few g c =
+    put_few c.requires.well.rest _ _ _ _ _ _ _ _ _ c.requires.well.well c.clear_place.ensures.gone c.requires.place c.clear_place.ensures.table
+
+pub place-requires-clause-bare : goal.place-requires-clause-bare
+place-requires-clause-bare g c =
+    put_bare c.requires.well.rest _ _ _ _ _ _ _ _ _ c.requires.well.well c.clear_place.ensures.gone c.requires.place c.clear_place.ensures.table
+
+pub returns : goal.returns
+returns g c = record {
+  put = λ s well.
+      put_state s _ _ _ _ c.clear_place.new.vmos _ _ _ _ well c.clear_place.ensures.gone c.requires.place c.clear_place.ensures.table
+      c.keep.new.self _ c.keep.ensures.names c.keep.ensures.lineage c.keep.ensures.keepers c.place.ensures.table;
+  counted = λ s well.
+      put_counted s _ _ _ _ c.clear_place.new.vmos _ _ _ _ well c.clear_place.ensures.gone c.requires.place c.clear_place.ensures.table
+      c.keep.new.self _ c.keep.ensures.names c.keep.ensures.lineage c.keep.ensures.keepers c.place.ensures.table;
+}

@@ -1,0 +1,17 @@
+use Rattle.region_ops.proofs.DyingLaws.{underway_start, within_live, within_next, within_fewer, within_end}
+use Rattle.region_ops.proofs.unmapping.destroy_within.Goals as goal
+
+pub loop-leaf-init : goal.loop-leaf-init
+loop-leaf-init c = underway_start _ _
+
+pub destroy_next-requires : goal.destroy_next-requires
+destroy_next-requires c = within_live _ _ _ _ _ c.requires.good c.loop-leaf.invariant c.requires.live
+
+pub loop-leaf-smaller : goal.loop-leaf-smaller
+loop-leaf-smaller c = within_fewer _ _ _ _ _ c.requires.good c.loop-leaf.invariant _ _ c.in-Some.ensures.within c.in-Some.ensures.regions
+
+pub loop-leaf-preserved : goal.loop-leaf-preserved
+loop-leaf-preserved c = within_next _ _ _ _ _ c.requires.good c.loop-leaf.invariant _ _ c.in-Some.ensures.within c.in-Some.ensures.regions
+
+pub returns : goal.returns
+returns c = rw c.in_default.ensures.regions (within_end _ _ _ _ _ c.requires.good c.loop-leaf.invariant c.in_default.ensures.within)

@@ -1,0 +1,53 @@
+-- What a mapping asks for, and what it does to a store, a table of VMOs and entries.
+use Rattle.std.specs.Prelude.{◌≡◌, ℕ, ◌+◌, ◌*◌, ◌/◌, ◌<◌, ◌≤◌, Bool, false, not, ◌&&◌, ◌||◌, nat_lt, List, [], ◌∷◌, Option, None}
+use Rattle.vm_base.specs.Pages.{rounded}
+use Rattle.vm_base.specs.declared.limits.TheConstants.{PAGE, VMO_PAGES, NAMES, ROOT_END, PAGES_END}
+use Rattle.vm_base.specs.declared.refusal.Refusal.{Refusal}
+use Rattle.vm_base.specs.declared.refusal.Refusal.TheVariants.{AccessDenied, InvalidArgs, OutOfRange, BufferTooSmall}
+use Rattle.vm_model.specs.declared.names.NameKind.TheVariants.{Slice}
+use Rattle.vm_model.specs.declared.names.Target.{Target}
+use Rattle.vm_model.specs.declared.space.Entry.{Entry}
+use Rattle.vm_model.specs.declared.space.Region.{Region}
+use Rattle.vm_model.specs.Contents.Content.{Content}
+use Rattle.vm_model.specs.Naming.Names.{is_kind}
+use Rattle.vm_model.specs.Space.Rights.{has, writing}
+use Rattle.vm_model.specs.Space.Mappings.{is_mismapped}
+use Rattle.vm_model.specs.Machine.State.{State, name_pages}
+use Rattle.vm_model.specs.Machine.Leaving.{pruned}
+use Rattle.vmo_table.specs.Table.{Table as Vmos, CountsKeepers, IsWellCounted, IsNamed}
+use Rattle.mapping_set.specs.declared.piece.Piece.{Piece}
+use Rattle.mapping_set.specs.Tables.{with_piece, IsBare}
+use Rattle.region_tree.specs.Tree.{spaces_of}
+use Rattle.region_ops.specs.Spaces.{with_entries}
+
+-- no page shows anything
+abbrev pub no_entries : ℕ → ℕ → Option Entry
+no_entries root p = None
+
+-- the refusals of a mapping, but for those by names and those of a place that is not free. They do not rest on what is mapped.
+abbrev pub map_rows : Content → (ℕ → Option Region) → (name : ℕ) → Region → (overwriting fixed limited faults : Bool) → (offset : ℕ) → Target → (vmo_offset len perm : ℕ) → List (Bool × Refusal)
+map_rows c regions name above overwriting fixed limited faults offset target vmo_offset len perm =
+    (not (has above.caps.0 perm) || (has perm writing && not target.may_write), AccessDenied)
+    ∷ (is_mismapped (spaces_of regions no_entries) name overwriting fixed limited offset vmo_offset len perm (rounded len / PAGE), InvalidArgs)
+    ∷ (nat_lt (VMO_PAGES * PAGE) (vmo_offset + rounded len), OutOfRange)
+    ∷ (nat_lt (name_pages c target * PAGE) (vmo_offset + rounded len) && (not faults || is_kind Slice target.kind), BufferTooSmall)
+    ∷ []
+
+-- A piece may be put into an address space: it lies in it, shows a VMO that a name stands for, and has no page that has an entry,
+-- unless it overwrites those.
+pub record IsPuttable (names : ℕ → Option Target) (table : ℕ → ℕ → Option Entry) (root : ℕ) (piece : Piece) (overwriting : Bool) : Type 0 where
+  pub space : root < NAMES
+  pub some : 1 ≤ piece.count
+  pub end : piece.first + piece.count ≤ ROOT_END
+  pub pages : piece.entry.page + piece.count ≤ PAGES_END
+  pub target : Target
+  pub named : IsNamed names target
+  pub koid : target.koid ≡ piece.entry.koid
+  pub bare : overwriting ≡ false → IsBare (table root) piece.first (piece.first + piece.count)
+
+-- A piece was put into an address space, and with the entries that it overwrote went the VMOs that nothing keeps any more. The
+-- table of VMOs counts right what keeps the others.
+pub record Puts (c : Content) (vmos : Vmos) (table : ℕ → ℕ → Option Entry) (root : ℕ) (piece : Piece) (d : Content) (vmos_new : Vmos) (table_new : ℕ → ℕ → Option Entry) : Type 0 where
+  pub put : (s : State) → IsWellCounted vmos (with_entries s c vmos table)
+      → with_entries s d vmos_new table_new ≡ pruned (with_entries s c vmos (with_piece table root piece))
+  pub counted : (s : State) → IsWellCounted vmos (with_entries s c vmos table) → CountsKeepers vmos_new (with_entries s d vmos_new table_new)

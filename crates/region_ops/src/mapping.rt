@@ -1,0 +1,295 @@
+//! Mapping a part of a VMO into a region (`zx_vmar_map`).
+
+ghost use Rattle.std.specs.Prelude.{◌≡◌, ◌+◌, ◌-◌, ◌*◌, ◌/◌, ◌%◌, ◌≤◌, true, false, not, ◌&&◌, ◌||◌, nat_lt, if◌then◌else◌, None, Some, MatchResult};
+ghost use Rattle.vm_base.specs.Pages.{rounded};
+ghost use Rattle.vm_base.specs.declared.limits.TheConstants.{PAGE, VMO_PAGES, ROOT_END};
+ghost use Rattle.vm_base.specs.declared.names.VmoName.{VmoName};
+ghost use Rattle.vm_model.specs.declared.command.Command.{Command};
+ghost use Rattle.vm_model.specs.declared.reply.Reply.{Reply};
+ghost use Rattle.vm_model.specs.declared.names.NameKind.TheVariants.{Slice};
+ghost use Rattle.vm_model.specs.Naming.Names.{is_kind};
+ghost use Rattle.vm_model.specs.Space.Rights.{has, writing};
+ghost use Rattle.vm_model.specs.Space.Mappings.{cap_of, entry_of, is_mismapped, IsMapPlace};
+ghost use Rattle.vm_model.specs.Space.Table.{with_pages};
+ghost use Rattle.vm_model.specs.Machine.Refusals.{first_of};
+ghost use Rattle.vm_model.specs.Machine.Step.{reply_of};
+ghost use Rattle.page_store.specs.Names.{IsInside};
+ghost use Rattle.vmo_table.specs.Table.{names_of, IsNamed};
+ghost use Rattle.mapping_set.specs.Tables.{table_of, spare_of, IsBare};
+ghost use Rattle.region_tree.specs.Tree.{regions_of, is_live_region, spaces_of};
+ghost use Rattle.region_ops.specs.Spaces.{AreWell, AreAllWell, Does, LetsGo, HasNoPlace};
+ghost use Rattle.region_ops.specs.Mapping.{map_rows, no_entries, IsPuttable, Puts};
+
+use crate::leaving::clear_range;
+use crate::placing::{Wanted, allows, find_place, is_misplaced, live_region};
+use crate::ranges::lacks_reading;
+use bitflags::Flags;
+use mapping_set::{Entry, MappingSet, Piece};
+use page_store::{PageStore, pages_of_name};
+use region_tree::{Region, Regions};
+use vm_base::{
+    MapFlags, PAGE, PageNo, Perm, Refusal, RegionName, VMO_PAGES, in_page, page_count, page_of,
+};
+use vm_model::{NameKind, Target};
+use vmo_table::VmoTable;
+
+/// Maps `len` bytes, rounded up to whole pages, of what an open name stands for into a live region, and answers the
+/// address. The first page that is shown is the one at `vmo_offset` bytes in the name. `offset` is in bytes from the start
+/// of the region: the mapping begins there with `SPECIFIC`, and with `OVERWRITE`, which takes out what is mapped there,
+/// ends at or below it with `UPPER_LIMIT`, and stands anywhere else, where it is 0. Refusals, in their order:
+/// `AccessDenied` where the region does not allow what is asked for in `perm`, or the name may not write and `perm` has
+/// writing, `InvalidArgs` where an offset is not at a page, `len` is 0, more than one of the three options is given, an
+/// offset is given with none of them, a place at the offset passes the region's end, what would be overwritten has a page
+/// of a live child of the region, or writing or executing is asked for without reading, `OutOfRange` where the part of the
+/// VMO would end past the greatest size of a VMO, `BufferTooSmall` where it ends past the end of the name, and
+/// `ALLOW_FAULTS` is not given or the name is a slice, `AlreadyExists` where the place at the offset is not free,
+/// `NoResources` where no place is free that fits, and `HostMemory`. It costs the pieces that it overwrites, and not the
+/// pages of the mapping.
+pub fn map<P: PageStore>(
+    store: &mut P,
+    vmos: &mut VmoTable,
+    regions: &Regions,
+    maps: &mut MappingSet,
+    region: RegionName,
+    offset: u64,
+    t: &Target,
+    vmo_offset: u64,
+    len: u64,
+    perm: Perm,
+    flags: MapFlags,
+) -> Result<u64, Refusal>
+    requires live { is_live_region (regions_of regions.now) region.0 ≡ true }
+    requires named { IsNamed (names_of vmos.old) t.now }
+    requires well { AreAllWell (P.content store.old) vmos.old (spaces_of (regions_of regions.now) (table_of maps.old)) }
+    ensures { (name : VmoName) → names_of vmos.old name.0 ≡ Some t.now →
+        Does (P.content store.old) vmos.old (spaces_of (regions_of regions.now) (table_of maps.old))
+        (Command.VmarMap region offset name vmo_offset len perm flags) (reply_of (λ address. Reply.Address address) result)
+        (P.content store.new) vmos.new (spaces_of (regions_of regions.now) (table_of maps.new)) }
+{
+    let above = live_region(regions, region);
+    let wanted = Wanted::by(flags, offset);
+    let faults = flags.contains(MapFlags::ALLOW_FAULTS);
+    if let Some(refusal) = refusal_of(
+        store, regions, region, above, wanted, t, vmo_offset, len, perm, faults,
+    ) {
+        return Err(refusal);
+    }
+    let count = page_count(len);
+    let first = match find_map_place(regions, maps, region, above, wanted, count) {
+        Ok(first) => first,
+        Err(refusal) => return Err(refusal),
+    };
+    let Ok(()) = maps.reserve(2) else {
+        return Err(Refusal::HostMemory);
+    };
+    let entry = entry_of(above, region, t, vmo_offset, perm);
+    let piece = Piece {
+        first,
+        count,
+        entry,
+    };
+    put(store, vmos, maps, above.root, piece, wanted.overwriting);
+    Ok(first * PAGE)
+}
+
+/// Why a mapping is refused before a place for it is looked for, if it is.
+fn refusal_of<P: PageStore>(
+    store: &P,
+    regions: &Regions,
+    region: RegionName,
+    above: Region,
+    wanted: Wanted,
+    t: &Target,
+    vmo_offset: u64,
+    len: u64,
+    perm: Perm,
+    faults: bool,
+) -> Option<Refusal>
+    requires above { regions_of regions.now region.0 ≡ Some above }
+    requires live { above.live ≡ true }
+    requires end { above.first + above.count ≤ ROOT_END }
+    requires inside { IsInside (P.content store.now) t.now }
+    ensures { result ≡ first_of (map_rows (P.content store.now) (regions_of regions.now) region.0 above
+        wanted.overwriting wanted.fixed wanted.limited faults wanted.offset t.now vmo_offset len perm.0) }
+{
+    if is_denied(above, t, perm) {
+        return Some(Refusal::AccessDenied);
+    }
+    if is_mismapped(regions, region, above, wanted, vmo_offset, len, perm) {
+        return Some(Refusal::InvalidArgs);
+    }
+    if passes(VMO_PAGES, vmo_offset, len) {
+        return Some(Refusal::OutOfRange);
+    }
+    if passes(pages_of_name(store, t), vmo_offset, len) && (!faults || is_slice(t)) {
+        return Some(Refusal::BufferTooSmall);
+    }
+    None
+}
+
+/// Whether a region or a name does not allow a mapping with these permissions.
+fn is_denied(above: Region, t: &Target, perm: Perm) -> bool
+    ensures { result ≡ (not (has above.caps.0 perm.0) || (has perm.0 writing && not t.now.may_write)) }
+{
+    !allows(above, perm) || (perm.contains(Perm::WRITE) && !t.may_write)
+}
+
+/// Whether a name is one of a part of a VMO.
+fn is_slice(t: &Target) -> bool
+    ensures { result ≡ is_kind Slice t.now.kind }
+{
+    matches!(t.kind, NameKind::Slice)
+}
+
+/// Whether a mapping is asked for wrongly, wherever it would be.
+fn is_mismapped(
+    regions: &Regions,
+    region: RegionName,
+    above: Region,
+    wanted: Wanted,
+    vmo_offset: u64,
+    len: u64,
+    perm: Perm,
+) -> bool
+    requires above { regions_of regions.now region.0 ≡ Some above }
+    requires live { above.live ≡ true }
+    requires end { above.first + above.count ≤ ROOT_END }
+    ensures { result ≡ is_mismapped (spaces_of (regions_of regions.now) no_entries) region.0 wanted.overwriting
+        wanted.fixed wanted.limited wanted.offset vmo_offset len perm.0 (rounded len / PAGE) }
+{
+    let at = Wanted {
+        fixed: wanted.fixed || wanted.overwriting,
+        ..wanted
+    };
+    if is_misplaced(above, at, len) {
+        return true;
+    }
+    if in_page(vmo_offset) != 0 || (wanted.fixed && wanted.overwriting) || lacks_reading(perm) {
+        return true;
+    }
+    if !wanted.overwriting {
+        return false;
+    }
+    let first = above.first + page_of(wanted.offset);
+    regions.meets(region, first, page_count(len))
+}
+
+/// Whether `len` bytes from an offset at a page on, rounded up to whole pages, pass so many pages.
+fn passes(pages: PageNo, offset: u64, len: u64) -> bool
+    requires { offset % PAGE ≡ 0 }
+    ensures { result ≡ nat_lt (pages * PAGE) (offset + rounded len) }
+{
+    page_of(offset) + page_count(len) > pages
+}
+
+/// The first page of a place for a mapping of `count` pages in a live region, which is `above`: at the offset where it
+/// overwrites what is there, and else a free one, as `find_place` finds it.
+fn find_map_place(
+    regions: &Regions,
+    maps: &MappingSet,
+    region: RegionName,
+    above: Region,
+    wanted: Wanted,
+    count: u64,
+) -> Result<PageNo, Refusal>
+    requires above { regions_of regions.now region.0 ≡ Some above }
+    requires live { above.live ≡ true }
+    requires end { above.first + above.count ≤ ROOT_END }
+    requires some { 1 ≤ count }
+    requires way { wanted.fixed ≡ true → wanted.limited ≡ false }
+    requires inside { wanted.fixed ≡ true → wanted.offset / PAGE + count ≤ above.count }
+    ensures { MatchResult result
+        (λ first. IsMapPlace (spaces_of (regions_of regions.now) (table_of maps.now)) region.0 wanted.overwriting
+        wanted.fixed wanted.limited wanted.offset count first)
+        (λ refusal. (wanted.overwriting ≡ false) × HasNoPlace (spaces_of (regions_of regions.now) (table_of maps.now))
+        region.0 wanted.fixed wanted.limited wanted.offset count refusal) }
+{
+    if wanted.overwriting {
+        return Ok(above.first + page_of(wanted.offset));
+    }
+    find_place(regions, maps, region, above, wanted, count)
+}
+
+/// The entry of the first page of a mapping in a region.
+fn entry_of(above: Region, region: RegionName, t: &Target, vmo_offset: u64, perm: Perm) -> Entry
+    requires { t.now.first ≤ VMO_PAGES }
+    ensures { result ≡ entry_of above region.0 t.now (vmo_offset / PAGE) perm }
+{
+    Entry {
+        koid: t.koid,
+        page: t.first + page_of(vmo_offset),
+        perm,
+        cap: cap_of(above, t),
+        region,
+    }
+}
+
+/// What the entries of a mapping may be changed to: what the region allows, but for writing where the name may not write.
+fn cap_of(above: Region, t: &Target) -> Perm
+    ensures { result.0 ≡ cap_of above t.now }
+{
+    if t.may_write {
+        return above.caps;
+    }
+    without_writing(above.caps)
+}
+
+/// Permissions, but for writing.
+fn without_writing(caps: Perm) -> Perm
+    ensures { result.0 ≡ if has caps.0 writing then caps.0 - writing else caps.0 }
+{
+    prove!(caps.0 <= u32::MAX);
+    caps.difference(Perm::WRITE)
+}
+
+/// Puts a mapping where it has a place, and counts its pages as keepers of its VMO. With `overwriting`, what is mapped
+/// there goes.
+fn put<P: PageStore>(
+    store: &mut P,
+    vmos: &mut VmoTable,
+    maps: &mut MappingSet,
+    root: RegionName,
+    piece: Piece,
+    overwriting: bool,
+)
+    requires well { AreWell (P.content store.old) vmos.old (table_of maps.old) }
+    requires room { 2 ≤ spare_of maps.old }
+    requires place { IsPuttable (names_of vmos.old) (table_of maps.old) root.0 piece overwriting }
+    ensures { Puts (P.content store.old) vmos.old (table_of maps.old) root.0 piece
+        (P.content store.new) vmos.new (table_of maps.new) }
+{
+    clear_place(
+        store,
+        vmos,
+        maps,
+        root,
+        piece.first,
+        piece.count,
+        overwriting,
+    );
+    vmos.keep(piece.entry.koid, piece.count);
+    maps.place(root, piece);
+}
+
+/// Takes out what is mapped on the pages of a place, where it is overwritten. Else nothing is.
+fn clear_place<P: PageStore>(
+    store: &mut P,
+    vmos: &mut VmoTable,
+    maps: &mut MappingSet,
+    root: RegionName,
+    first: PageNo,
+    count: u64,
+    overwriting: bool,
+)
+    requires well { AreWell (P.content store.old) vmos.old (table_of maps.old) }
+    requires room { 2 ≤ spare_of maps.old }
+    requires bare { overwriting ≡ false → IsBare (table_of maps.old root.0) first (first + count) }
+    ensures table { table_of maps.new ≡ with_pages (table_of maps.old) root.0 first (first + count) (λ p. None) }
+    ensures gone { LetsGo (P.content store.old) vmos.old (table_of maps.old)
+        (P.content store.new) vmos.new (table_of maps.new) }
+    ensures spare { 1 ≤ spare_of maps.new }
+{
+    if overwriting {
+        clear_range(store, vmos, maps, root, first, count);
+    }
+}

@@ -1,0 +1,146 @@
+//! Changing what accesses to mapped pages may do (`zx_vmar_protect`).
+
+ghost use Rattle.std.specs.Prelude.{◌≡◌, ◌+◌, ◌<◌, ◌≤◌, ℕ, true, false, not};
+ghost use Rattle.std.specs.Option.{MatchOption};
+ghost use Rattle.vm_model.specs.declared.command.Command.{Command};
+ghost use Rattle.vm_model.specs.declared.reply.Reply.{Reply};
+ghost use Rattle.vm_model.specs.Machine.State.{State};
+ghost use Rattle.vm_model.specs.Machine.Step.{Step, reply_of};
+ghost use Rattle.vm_model.specs.Space.AddressSpaces.{mapped_count};
+ghost use Rattle.vm_model.specs.Space.Mappings.{has_hole, forbids};
+ghost use Rattle.mapping_set.specs.Tables.{table_of};
+ghost use Rattle.region_tree.specs.Tree.{regions_of, is_live_region, spaces_of};
+ghost use Rattle.region_ops.specs.Spaces.{with_spaces};
+ghost use Rattle.region_ops.specs.Covers.{IsCovered};
+
+use crate::placing::{allows, live_region};
+use crate::ranges::{is_outside, lacks_reading};
+use bitflags::Flags;
+use mapping_set::MappingSet;
+use region_tree::Regions;
+use vm_base::{PageNo, Perm, Refusal, RegionName, page_count, page_of};
+
+/// Changes what accesses to a range of a live region may do: `len` bytes, rounded up to whole pages, from an address on.
+/// Refusals, in their order: `AccessDenied` where the region does not allow what is asked for in `perm`, `InvalidArgs`
+/// where the address is not at a page, `len` is 0, the range passes an end of the region or has a page of a live child of
+/// it, or writing or executing is asked for without reading, `NotFound` where a page of the range has no entry that
+/// belongs to the region, `AccessDenied` where the entry of a page of the range may not be changed to `perm`, and
+/// `HostMemory`. It costs the pieces of the range.
+pub fn protect(
+    regions: &Regions,
+    maps: &mut MappingSet,
+    region: RegionName,
+    addr: u64,
+    len: u64,
+    perm: Perm,
+) -> Result<(), Refusal>
+    requires live { is_live_region (regions_of regions.now) region.0 ≡ true }
+    ensures step { (s : State) → Step (with_spaces s (spaces_of (regions_of regions.now) (table_of maps.old)))
+        (Command.VmarProtect region addr len perm) (reply_of (λ done. Reply.Done) result)
+        (with_spaces s (spaces_of (regions_of regions.now) (table_of maps.new))) }
+    ensures mapped { (v : ℕ) → mapped_count (spaces_of (regions_of regions.now) (table_of maps.new)) v
+        ≡ mapped_count (spaces_of (regions_of regions.now) (table_of maps.old)) v }
+{
+    let above = live_region(regions, region);
+    if !allows(above, perm) {
+        return Err(Refusal::AccessDenied);
+    }
+    if is_outside(above, addr, len) {
+        return Err(Refusal::InvalidArgs);
+    }
+    let first = page_of(addr);
+    let count = page_count(len);
+    if regions.meets(region, first, count) || lacks_reading(perm) {
+        return Err(Refusal::InvalidArgs);
+    }
+    let cover = cover_of(maps, above.root, region, first, first + count, perm);
+    if !cover.whole {
+        return Err(Refusal::NotFound);
+    }
+    if !cover.allowed {
+        return Err(Refusal::AccessDenied);
+    }
+    let Ok(()) = maps.reserve(2) else {
+        return Err(Refusal::HostMemory);
+    };
+    maps.restrict(above.root, first, count, perm);
+    Ok(())
+}
+
+/// What a region finds on a range of pages that it would give other permissions.
+#[derive(Clone, Copy, Debug)]
+struct Cover {
+    /// Each page has an entry that belongs to the region.
+    whole: bool,
+    /// Where this is so, each entry may be changed to the permissions.
+    allowed: bool,
+}
+
+/// What a region finds on the pages from `first` to below `end`. It looks at each piece once, and at none behind a page
+/// that has no entry of the region.
+fn cover_of(
+    maps: &MappingSet,
+    root: RegionName,
+    region: RegionName,
+    first: PageNo,
+    end: PageNo,
+    perm: Perm,
+) -> Cover
+    requires order { first ≤ end }
+    ensures whole { result.whole ≡ not (has_hole (table_of maps.now root.0) region.0 first end) }
+    ensures allowed { has_hole (table_of maps.now root.0) region.0 first end ≡ false
+        → result.allowed ≡ not (forbids (table_of maps.now root.0) perm.0 first end) }
+{
+    let mut at = first;
+    let mut allowed = true;
+    while at < end {
+        let Some(stretch) = stretch_at(maps, root, region, at, end, perm) else {
+            return Cover {
+                whole: false,
+                allowed,
+            };
+        };
+        at = stretch.end;
+        allowed &= stretch.allowed;
+    }
+    Cover {
+        whole: true,
+        allowed,
+    }
+}
+
+/// Neighbouring pages whose entries belong to one region and may be changed to the same permissions.
+#[derive(Clone, Copy, Debug)]
+struct Stretch {
+    /// The page behind the last one.
+    end: PageNo,
+    /// The entries may be changed to the permissions that were asked for.
+    allowed: bool,
+}
+
+/// The pages of one piece from the page `at` on, which end at `end` or before. `None` exactly where the page has no entry
+/// that belongs to the region.
+fn stretch_at(
+    maps: &MappingSet,
+    root: RegionName,
+    region: RegionName,
+    at: PageNo,
+    end: PageNo,
+    perm: Perm,
+) -> Option<Stretch>
+    requires { at < end }
+    ensures { MatchOption result (has_hole (table_of maps.now root.0) region.0 at end ≡ true)
+        (λ stretch. (at < stretch.end) × (stretch.end ≤ end)
+        × IsCovered (table_of maps.now root.0) region.0 perm.0 at stretch.end stretch.allowed) }
+{
+    let Some(piece) = maps.next_piece(root, at) else {
+        return None;
+    };
+    if piece.first != at || piece.entry.region != region {
+        return None;
+    }
+    Some(Stretch {
+        end: end.min(at + piece.count),
+        allowed: piece.entry.cap.contains(perm),
+    })
+}

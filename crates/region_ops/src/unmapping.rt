@@ -1,0 +1,131 @@
+//! Unmapping a range (`zx_vmar_unmap`), and destroying a region (`zx_vmar_destroy`).
+
+ghost use Rattle.std.specs.Prelude.{◌≡◌, ◌+◌, true, OnOk, OnErr, None};
+ghost use Rattle.vm_model.specs.declared.command.Command.{Command};
+ghost use Rattle.vm_model.specs.declared.reply.Reply.{Reply};
+ghost use Rattle.vm_model.specs.Machine.Step.{reply_of};
+ghost use Rattle.vm_model.specs.Space.Regions.{AreGoodRegions, killed};
+ghost use Rattle.vm_model.specs.Space.Table.{with_pages};
+ghost use Rattle.vm_model.specs.Space.Mappings.{is_mapped_in, lies_below_in};
+ghost use Rattle.mapping_set.specs.Tables.{table_of};
+ghost use Rattle.region_tree.specs.Tree.{regions_of, is_live_region, spaces_of};
+ghost use Rattle.region_ops.specs.Spaces.{AreWell, AreAllWell, LetsGo, Does};
+
+use crate::placing::live_region;
+use crate::leaving::{clear_range, clear_region};
+use crate::ranges::is_outside;
+use mapping_set::MappingSet;
+use page_store::PageStore;
+use region_tree::Regions;
+use vm_base::{HostMemory, PageNo, Refusal, RegionName, page_count, page_of};
+use vmo_table::VmoTable;
+
+/// Unmaps a range of a live region: `len` bytes, rounded up to whole pages, from an address on. Regions below it that
+/// have no other pages are destroyed. A VMO leaves with the last that keeps it. Refusals, in their order: `InvalidArgs`
+/// where the address is not at a page, `len` is 0, the range passes an end of the region, or a live child of it has a page
+/// of the range and one outside, and `HostMemory`, only where a page of the range is mapped. It costs the pieces of the
+/// range, and the regions that it destroys.
+pub fn unmap<P: PageStore>(
+    store: &mut P,
+    vmos: &mut VmoTable,
+    regions: &mut Regions,
+    maps: &mut MappingSet,
+    region: RegionName,
+    addr: u64,
+    len: u64,
+) -> Result<(), Refusal>
+    requires live { is_live_region (regions_of regions.old) region.0 ≡ true }
+    requires well { AreAllWell (P.content store.old) vmos.old (spaces_of (regions_of regions.old) (table_of maps.old)) }
+    ensures { Does (P.content store.old) vmos.old (spaces_of (regions_of regions.old) (table_of maps.old))
+        (Command.VmarUnmap region addr len) (reply_of (λ done. Reply.Done) result)
+        (P.content store.new) vmos.new (spaces_of (regions_of regions.new) (table_of maps.new)) }
+{
+    let above = live_region(regions, region);
+    if is_outside(above, addr, len) {
+        return Err(Refusal::InvalidArgs);
+    }
+    let first = page_of(addr);
+    let count = page_count(len);
+    if regions.cuts(region, first, count) {
+        return Err(Refusal::InvalidArgs);
+    }
+    let Ok(()) = clear_mapped(store, vmos, maps, above.root, first, count) else {
+        return Err(Refusal::HostMemory);
+    };
+    destroy_within(regions, region, first, count);
+    Ok(())
+}
+
+/// Destroys a live region and all below it, with their mappings. A VMO leaves with the last that keeps it. It costs the
+/// regions and the pieces that go, and never wants memory.
+pub fn destroy<P: PageStore>(
+    store: &mut P,
+    vmos: &mut VmoTable,
+    regions: &mut Regions,
+    maps: &mut MappingSet,
+    region: RegionName,
+)
+    requires live { is_live_region (regions_of regions.old) region.0 ≡ true }
+    requires well { AreAllWell (P.content store.old) vmos.old (spaces_of (regions_of regions.old) (table_of maps.old)) }
+    ensures { Does (P.content store.old) vmos.old (spaces_of (regions_of regions.old) (table_of maps.old))
+        (Command.VmarDestroy region) Reply.Done
+        (P.content store.new) vmos.new (spaces_of (regions_of regions.new) (table_of maps.new)) }
+{
+    let dying = live_region(regions, region);
+    while let Some(leaf) = regions.destroy_next(region, dying.first, dying.count) {
+        clear_region(store, vmos, maps, dying.root, leaf);
+    }
+    regions.destroy_one(region);
+    clear_region(store, vmos, maps, dying.root, region);
+}
+
+/// Takes the entries of `count` pages from `first` on out of an address space. `HostMemory`, only where there is one, where
+/// the host has too little memory.
+fn clear_mapped<P: PageStore>(
+    store: &mut P,
+    vmos: &mut VmoTable,
+    maps: &mut MappingSet,
+    root: RegionName,
+    first: PageNo,
+    count: u64,
+) -> Result<(), HostMemory>
+    requires well { AreWell (P.content store.old) vmos.old (table_of maps.old) }
+    ensures cleared { OnOk result
+        (table_of maps.new ≡ with_pages (table_of maps.old) root.0 first (first + count) (λ p. None)) }
+    ensures gone { OnOk result (LetsGo (P.content store.old) vmos.old (table_of maps.old)
+        (P.content store.new) vmos.new (table_of maps.new)) }
+    ensures mapped { OnErr result (is_mapped_in (table_of maps.old root.0) first (first + count) ≡ true) }
+    ensures store { OnErr result (P.content store.new ≡ P.content store.old) }
+    ensures vmos { OnErr result (vmos.new ≡ vmos.old) }
+    ensures table { OnErr result (table_of maps.new ≡ table_of maps.old) }
+{
+    if !is_mapped_in(maps, root, first, count) {
+        return Ok(());
+    }
+    let Ok(()) = maps.reserve(2) else {
+        return Err(HostMemory);
+    };
+    clear_range(store, vmos, maps, root, first, count);
+    Ok(())
+}
+
+/// Whether one of `count` pages from `first` on of an address space has an entry.
+fn is_mapped_in(maps: &MappingSet, root: RegionName, first: PageNo, count: u64) -> bool
+    ensures { result ≡ is_mapped_in (table_of maps.now root.0) first (first + count) }
+{
+    match maps.next_piece(root, first) {
+        Some(piece) => piece.first - first < count,
+        None => false,
+    }
+}
+
+/// Destroys all regions below a live one that have no page but of `count` pages from `first` on, those first that have
+/// no live child.
+fn destroy_within(regions: &mut Regions, region: RegionName, first: PageNo, count: u64)
+    requires good { AreGoodRegions (regions_of regions.old) }
+    requires live { is_live_region (regions_of regions.old) region.0 ≡ true }
+    ensures { regions_of regions.new ≡ killed (regions_of regions.old)
+        (lies_below_in (regions_of regions.old) region.0 first (first + count)) }
+{
+    while let Some(_leaf) = regions.destroy_next(region, first, count) {}
+}
