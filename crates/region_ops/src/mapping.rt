@@ -75,10 +75,7 @@ pub fn map<P: PageStore>(
         return Err(refusal);
     }
     let count = page_count(len);
-    let first = match find_map_place(regions, maps, region, above, wanted, count) {
-        Ok(first) => first,
-        Err(refusal) => return Err(refusal),
-    };
+    let first = find_map_place(regions, maps, region, above, wanted, count)?;
     let Ok(()) = maps.reserve(2) else {
         return Err(Refusal::HostMemory);
     };

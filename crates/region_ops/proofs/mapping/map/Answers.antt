@@ -1,4 +1,5 @@
-use Rattle.std.proofs.Common.{◌∙◌, sym, arith}
+use Rattle.std.proofs.Common.{◌≡◌, ◌∙◌, sym, arith, rules}
+use Rattle.std.specs.declared.result.Result.TheVariants.{Err}
 use Rattle.page_store.proofs.NameLaws.{IsInside-good, name_few}
 use Rattle.mapping_set.specs.Tables.{table_of}
 use Rattle.region_tree.specs.Tree.{regions_of, spaces_of}
@@ -19,21 +20,23 @@ returns-in-Some g c = λ name named. record {
   counted = λ s well. well.counted;
 }
 
-pub returns-in-Err : goal.returns-in-Err
-returns-in-Err g c = λ name named. record {
-  step = λ s well.
-      refused_place _ _ _ _ _ _ _ _ _ _ c.live_region-above.ensures.region c.live_region-above.ensures.live named _
-      (rw c.by-wanted.ensures at (rw (c.contains-faults.ensures tt) at (sym c.refusal_of.ensures ∙ c.in_default.is)))
-      (rw c.by-wanted.ensures at c.in-Err.ensures.0) (rw c.by-wanted.ensures at (rw c.page_count-count.ensures at c.in-Err.ensures.1));
-  counted = λ s well. well.counted;
-}
+pub returns-in_err-first : goal.returns-in_err-first
+returns-in_err-first g c =
+    let same : c.from_residual.result ≡ Err c.in_err-first.field-0.0 = search rules in
+    rw same (λ name named. record {
+      step = λ s well.
+          refused_place _ _ _ _ _ _ _ _ _ _ c.live_region-above.ensures.region c.live_region-above.ensures.live named _
+          (rw c.by-wanted.ensures at (rw (c.contains-faults.ensures tt) at (sym c.refusal_of.ensures ∙ c.in_default.is)))
+          (rw c.by-wanted.ensures at c.in_err-first.ensures.0) (rw c.by-wanted.ensures at (rw c.page_count-count.ensures at c.in_err-first.ensures.1));
+      counted = λ s well. well.counted;
+    })
 
 pub returns-in_default-reserve : goal.returns-in_default-reserve
 returns-in_default-reserve g c = rw c.in_default-reserve.ensures.table (λ name named. record {
   step = λ s well.
-      lacks_step _ _ _ _ _ _ _ _ _ _ c.live_region-above.ensures.region c.live_region-above.ensures.live named c.in-Ok.first
+      lacks_step _ _ _ _ _ _ _ _ _ _ c.live_region-above.ensures.region c.live_region-above.ensures.live named c.in_ok-first.first
       (rw c.by-wanted.ensures at (rw (c.contains-faults.ensures tt) at (sym c.refusal_of.ensures ∙ c.in_default.is)))
-      (rw c.by-wanted.ensures at (rw c.page_count-count.ensures at c.in-Ok.ensures));
+      (rw c.by-wanted.ensures at (rw c.page_count-count.ensures at c.in_ok-first.ensures));
   counted = λ s well. well.counted;
 })
 
@@ -44,7 +47,7 @@ entry_of-entry-requires g c =
     omega (arith, name_few old.content c.args.t.now good.content (IsInside-good old c.requires.named.0 _ good c.requires.named.1))
 
 pub put-requires-clause-well : goal.put-requires-clause-well
-put-requires-clause-well g c = rw c.in-Ok-reserve.ensures.table (record {
+put-requires-clause-well g c = rw c.in-Ok.ensures.table (record {
   rest = record c.requires.well.rest { spaces = spaces_of (regions_of c.args.regions.now) (table_of c.args.maps.now) };
   well = c.requires.well.well;
 })
@@ -52,30 +55,30 @@ put-requires-clause-well g c = rw c.in-Ok-reserve.ensures.table (record {
 pub put-requires-clause-place : goal.put-requires-clause-place
 put-requires-clause-place g c =
     let old = with_all c.requires.well.rest (g.P.PageStore.content c.args.store.now) c.args.vmos.now (spaces_of (regions_of c.args.regions.now) (table_of c.args.maps.now)) in
-    rw c.in-Ok-reserve.ensures.table (rw c.entry_of-entry.ensures (rw c.page_count-count.ensures (rw c.by-wanted.ensures
+    rw c.in-Ok.ensures.table (rw c.entry_of-entry.ensures (rw c.page_count-count.ensures (rw c.by-wanted.ensures
     (puttable old c.args.region c.args.offset (record { 0 = c.requires.named.0 }) c.args.vmo_offset c.args.len c.args.perm c.args.flags _ _
-    c.live_region-above.ensures.region c.live_region-above.ensures.live c.requires.named.1 c.in-Ok.first
+    c.live_region-above.ensures.region c.live_region-above.ensures.live c.requires.named.1 c.in_ok-first.first
     (rw c.by-wanted.ensures at (rw (c.contains-faults.ensures tt) at (sym c.refusal_of.ensures ∙ c.in_default.is)))
-    (rw c.by-wanted.ensures at (rw c.page_count-count.ensures at c.in-Ok.ensures)) c.requires.well.well.good))))
+    (rw c.by-wanted.ensures at (rw c.page_count-count.ensures at c.in_ok-first.ensures)) c.requires.well.well.good))))
 
 pub overflow_mul-result : goal.overflow_mul-result
 overflow_mul-result g c =
     let old = with_all c.requires.well.rest (g.P.PageStore.content c.args.store.now) c.args.vmos.now (spaces_of (regions_of c.args.regions.now) (table_of c.args.maps.now)) in
     let may = puttable old c.args.region c.args.offset (record { 0 = c.requires.named.0 }) c.args.vmo_offset c.args.len c.args.perm c.args.flags _ _
-    c.live_region-above.ensures.region c.live_region-above.ensures.live c.requires.named.1 c.in-Ok.first
+    c.live_region-above.ensures.region c.live_region-above.ensures.live c.requires.named.1 c.in_ok-first.first
     (rw c.by-wanted.ensures at (rw (c.contains-faults.ensures tt) at (sym c.refusal_of.ensures ∙ c.in_default.is)))
-    (rw c.by-wanted.ensures at (rw c.page_count-count.ensures at c.in-Ok.ensures)) c.requires.well.well.good in
+    (rw c.by-wanted.ensures at (rw c.page_count-count.ensures at c.in_ok-first.ensures)) c.requires.well.well.good in
     omega (arith, may.end)
 
 pub returns : goal.returns
 returns g c = λ name named. record {
   step = λ s well.
-      done_step _ _ _ _ _ _ _ _ _ _ c.live_region-above.ensures.region c.live_region-above.ensures.live named c.in-Ok.first
+      done_step _ _ _ _ _ _ _ _ _ _ c.live_region-above.ensures.region c.live_region-above.ensures.live named c.in_ok-first.first
       (rw c.by-wanted.ensures at (rw (c.contains-faults.ensures tt) at (sym c.refusal_of.ensures ∙ c.in_default.is)))
-      (rw c.by-wanted.ensures at (rw c.page_count-count.ensures at c.in-Ok.ensures)) _
-      ((rw c.in-Ok-reserve.ensures.table at (rw c.entry_of-entry.ensures at (rw c.page_count-count.ensures at c.put.ensures.put)))
+      (rw c.by-wanted.ensures at (rw c.page_count-count.ensures at c.in_ok-first.ensures)) _
+      ((rw c.in-Ok.ensures.table at (rw c.entry_of-entry.ensures at (rw c.page_count-count.ensures at c.put.ensures.put)))
       (with_all s (g.P.PageStore.content c.args.store.now) c.args.vmos.now (spaces_of (regions_of c.args.regions.now) (table_of c.args.maps.now))) well);
   counted = λ s well.
-      (rw c.in-Ok-reserve.ensures.table at c.put.ensures.counted)
+      (rw c.in-Ok.ensures.table at c.put.ensures.counted)
       (with_all s (g.P.PageStore.content c.args.store.now) c.args.vmos.now (spaces_of (regions_of c.args.regions.now) (table_of c.args.maps.now))) well;
 }
