@@ -3,7 +3,6 @@ pub mod HolderLaws
 pub mod PrunedLaws
 pub mod CountLaws
 pub mod MapLaws
-pub mod CapLaws
 pub mod MapSteps
 pub mod LeavingLaws
 pub mod DyingLaws

@@ -1,10 +1,13 @@
--- Laws of a piece that is put into an address space: which VMOs are live then, and how many pages show each.
-use Rattle.std.proofs.Common.{◌≡◌, ◌≢◌, ℕ, ◌+◌, ◌*◌, ◌/◌, ◌<◌, ◌≤◌, ◌^◌, Bool, true, false, cond, ◌&&◌, ◌==◌, Option, None, Some, IsSome, refl, sym, ap, subst, ◌∙◌, inl, inr, arith}
-use Rattle.std.specs.Prelude.{is_some, nat_lt}
-use Rattle.std.proofs.lemmas.Bool.{cases_Bool, cases_eq, cond-true, cond-false, and_parts}
-use Rattle.vm_base.specs.Search.{count_below, sum_below}
+-- Laws of a mapping: what it may be changed to, and what it is to put its piece into an address space: which VMOs are live then, and
+-- how many pages show each.
+use Rattle.std.proofs.Common.{◌≡◌, ◌≢◌, ℕ, ◌+◌, ◌-◌, ◌%◌, ◌<◌, ◌≤◌, ◌^◌, bit_and, Bool, true, false, cond, ◌&&◌, ◌==◌, Option, None, IsSome, refl, sym, ap, subst, ◌∙◌, inl, inr, arith}
+use Rattle.std.specs.Prelude.{nat_lt}
+use Rattle.std.proofs.lemmas.Bool.{eqb-true, eqb-false, cases_Bool, cases_eq, cond-true, cond-false, and_parts}
+use Rattle.std.proofs.lemmas.Nat.{and-not, and_comm, and_mod, and_le_r}
+use Rattle.bitflags.specs.Sets.{without}
+use Rattle.vm_base.specs.Search.{count_below}
 use Rattle.vm_base.specs.Entries.{passes}
-use Rattle.vm_base.specs.declared.limits.TheConstants.{NAMES, ROOT_END, PAGES_END}
+use Rattle.vm_base.specs.declared.limits.TheConstants.{NAMES, ROOT_END}
 use Rattle.vm_base.specs.declared.names.Koid.{Koid}
 use Rattle.vm_base.proofs.EntryLaws.{passes-none, passes-some, any_entry_at, entry_count_le}
 use Rattle.vm_base.proofs.SearchLaws.{eqb_same, eqb_is, eqb_apart, count_below_same}
@@ -14,22 +17,44 @@ use Rattle.vm_model.specs.declared.names.Target.{Target}
 use Rattle.vm_model.specs.Naming.Names.{is_named, is_of, Lineage}
 use Rattle.vm_model.specs.Naming.Pins.{Pin, pin_count}
 use Rattle.vm_model.specs.declared.space.Entry.{Entry}
+use Rattle.vm_model.specs.Space.Rights.{has, writing}
 use Rattle.vm_model.specs.Space.Table.{with_pages, mapping_from}
 use Rattle.vm_model.specs.Space.AddressSpaces.{Spaces, shows, is_mapped, mapped_count}
-use Rattle.vm_model.specs.Machine.State.{State, is_live, keeper_count, IsGoodState}
+use Rattle.vm_model.specs.Machine.State.{State, is_live}
 use Rattle.vm_model.specs.Machine.Leaving.{pruned}
 use Rattle.vm_model.proofs.ZeroingLaws.{is_within-parts}
 use Rattle.vm_model.proofs.LiveLaws.{is_live-named, is_live-same}
 use Rattle.vm_model.proofs.LeavingLaws.{pruned-good, name_lineage}
 use Rattle.vm_model.proofs.SpaceLaws.{is_mapped-count, mapped_count_le}
 use Rattle.vm_model.proofs.TableLaws.{with_pages-in, with_pages-out}
-use Rattle.vmo_table.specs.Table.{Table as Vmos, names_of, lineage_in, keepers_of, CountsKeepers, IsWellCounted, IsNamed}
+use Rattle.vmo_table.specs.Table.{Table as Vmos, names_of, lineage_in, keepers_of, CountsKeepers, IsWellCounted}
 use Rattle.mapping_set.specs.declared.piece.Piece.{Piece}
 use Rattle.mapping_set.specs.Tables.{with_piece, without_piece, IsBare}
 use Rattle.region_ops.specs.Spaces.{with_entries, LetsGo}
-use Rattle.region_ops.specs.Mapping.{IsPuttable, Puts}
+use Rattle.region_ops.specs.Mapping.{IsPuttable}
 use Rattle.region_ops.proofs.CountLaws.{sum_below_change, count_below_range, eqb_turned}
 use Rattle.region_ops.proofs.PrunedLaws.{pruned-alike}
+
+-- ---- permissions
+
+-- a set of permissions once writing is taken out
+pub without_bit : (caps : ℕ) → caps < 2 ^ 32 → without 32 caps writing ≡ cond (has caps writing) (caps - writing) caps
+without_bit caps h = elim (cases_Bool (has caps writing)) [
+  | inl writes ↦
+      let both = eqb-true (bit_and caps writing) writing writes in
+      let is : without 32 caps writing ≡ caps - writing = omega (arith, split, both, turned, other) in is ∙ sym (cond-true (has caps writing) (caps - writing) caps writes)
+  | inr off ↦
+      let apart = eqb-false (bit_and caps writing) writing off in
+      let is : without 32 caps writing ≡ caps = omega (arith, split, turned, other, apart, and_mod caps 2 1, and_le_r (caps % 2) 0, and_le_r caps 2) in is ∙ sym (cond-false (has caps writing) (caps - writing) caps off)
+] where
+  split : bit_and (2 ^ 32 - 1 - writing) caps + bit_and writing caps ≡ caps
+  split = and-not 32 writing caps (omega arith) h
+
+  turned : bit_and caps writing ≡ bit_and writing caps
+  turned = and_comm caps writing
+
+  other : bit_and caps (2 ^ 32 - 1 - writing) ≡ bit_and (2 ^ 32 - 1 - writing) caps
+  other = and_comm caps (2 ^ 32 - 1 - writing)
 
 -- ---- entries of a range that is cleared
 

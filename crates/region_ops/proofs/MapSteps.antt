@@ -1,11 +1,11 @@
 -- The step of a mapping: why it is refused, what its place is, and what it does.
-use Rattle.std.proofs.Common.{◌≡◌, ℕ, ◌+◌, ◌*◌, ◌/◌, ◌%◌, ◌<◌, ◌≤◌, Bool, true, false, not, cond, ◌&&◌, ◌||◌, ◌==◌, List, [], ◌∷◌, Option, None, Some, refl, sym, ap, subst, ◌∙◌, inl, inr, arith}
+use Rattle.std.proofs.Common.{◌≡◌, ℕ, ◌+◌, ◌*◌, ◌/◌, ◌≤◌, Bool, true, false, not, ◌&&◌, ◌||◌, List, [], ◌∷◌, Option, None, Some, refl, sym, ap, subst, ◌∙◌, arith}
 use Rattle.std.specs.Prelude.{nat_lt}
 use Rattle.std.proofs.lemmas.Bool.{ltb-false, both_ways, and_from}
 use Rattle.vm_base.specs.Pages.{rounded}
 use Rattle.vm_base.specs.declared.flags.MapFlags.{MapFlags}
 use Rattle.vm_base.specs.declared.flags.Perm.{Perm}
-use Rattle.vm_base.specs.declared.limits.TheConstants.{PAGE, VMO_PAGES, NAMES, ROOT_END, PAGES_END}
+use Rattle.vm_base.specs.declared.limits.TheConstants.{PAGE, VMO_PAGES}
 use Rattle.vm_base.specs.declared.names.RegionName.{RegionName}
 use Rattle.vm_base.specs.declared.names.VmoName.{VmoName}
 use Rattle.vm_base.specs.declared.refusal.Refusal.{Refusal}
@@ -19,8 +19,8 @@ use Rattle.vm_model.specs.declared.reply.Reply.TheVariants.{Address, Refused}
 use Rattle.vm_model.specs.declared.space.Entry.{Entry}
 use Rattle.vm_model.specs.declared.space.Region.{Region}
 use Rattle.vm_model.specs.Space.Rights.{has, writing, specific, overwrite, upper_limit, allow_faults}
-use Rattle.vm_model.specs.Space.Regions.{region_of, reaches_over, meets_child}
-use Rattle.vm_model.specs.Space.Places.{is_free, has_place, limit_of, IsPlace}
+use Rattle.vm_model.specs.Space.Regions.{region_of, reaches_over}
+use Rattle.vm_model.specs.Space.Places.{is_free, has_place, limit_of}
 use Rattle.vm_model.specs.Space.Mappings.{is_mismapped, entry_of, with_mapping, IsMapPlace}
 use Rattle.vm_model.specs.Machine.State.{State, name_pages, target_of, IsGoodState}
 use Rattle.vm_model.specs.Machine.Leaving.{pruned}
@@ -30,9 +30,7 @@ use Rattle.vm_model.proofs.MappingLaws.{IsMappedRightly, mismapped_parts, mispla
 use Rattle.vm_model.proofs.NamesLaws.{target_of-at}
 use Rattle.vm_model.proofs.RegionLaws.{region_of-at, region_bounds, reaches_over_parts}
 use Rattle.vm_model.proofs.StepLaws.{AllOff-from_none, Step-done, Step-lacks}
-use Rattle.page_store.specs.Names.{IsInside}
 use Rattle.page_store.proofs.NameLaws.{IsInside-good, name_few}
-use Rattle.mapping_set.specs.declared.piece.Piece.{Piece}
 use Rattle.region_tree.specs.Tree.{spaces_of}
 use Rattle.region_ops.specs.Spaces.{HasNoPlace}
 use Rattle.region_ops.specs.Mapping.{map_rows, no_entries, IsPuttable}
@@ -163,10 +161,14 @@ module _ (s : State) (region : RegionName) (offset : ℕ) (name : VmoName) (vmo_
     pub done_step : (new : State) → new ≡ pruned (record s { spaces = with_mapping s.spaces above.root.0 first count (entry_of above region.0 t (vmo_offset / PAGE) perm) })
         → Step s command (Address (first * PAGE)) new
     done_step new e =
-        Step-done s command (Address (first * PAGE)) new none_refuses
-        (first, refl, place, e ∙ ap (λ (entry : Entry). pruned (record s { spaces = with_mapping s.spaces above.root.0 first count entry }))
-        (ap (λ (x : Target). entry_of above region.0 x (vmo_offset / PAGE) perm) (sym target))
-        ∙ ap (λ (r : Region). pruned (record s { spaces = with_mapping s.spaces r.root.0 first count (entry_of r region.0 (target_of s name.0) (vmo_offset / PAGE) perm) })) (sym here))
+        Step-done s command (Address (first * PAGE)) new none_refuses (
+          first,
+          refl,
+          place,
+          e ∙ ap (λ (entry : Entry). pruned (record s { spaces = with_mapping s.spaces above.root.0 first count entry }))
+              (ap (λ (x : Target). entry_of above region.0 x (vmo_offset / PAGE) perm) (sym target))
+              ∙ ap (λ (r : Region). pruned (record s { spaces = with_mapping s.spaces r.root.0 first count (entry_of r region.0 (target_of s name.0) (vmo_offset / PAGE) perm) })) (sym here),
+        )
 
     -- its pages have a place in the address space, and so have those that they show in page numbers
     pub puttable : IsGoodState s → IsPuttable s.names s.spaces.table above.root.0 (record { first = first; count = count; entry = entry_of above region.0 t (vmo_offset / PAGE) perm }) over

@@ -1,5 +1,5 @@
 use Rattle.std.proofs.Common.{◌∙◌, arith}
-use Rattle.region_ops.proofs.CapLaws.{without_bit}
+use Rattle.region_ops.proofs.MapLaws.{without_bit}
 use Rattle.region_ops.proofs.mapping.without_writing.Goals as goal
 
 pub returns : goal.returns
