@@ -15,6 +15,7 @@ macro_rules! transcript {
 mod creating;
 mod faults;
 mod lines;
+mod mappings;
 mod naming;
 mod pins;
 mod ranges;

@@ -35,12 +35,12 @@ fn vmos_are_made(rt: HostRuntime) -> Result<(), Fail> {
     check(&rt, "run", &rows)?;
     // A command that is not built is read, and changes nothing.
     let rows = transcript![
-        "maps r1" => "UNBUILT",
+        "mem_read r1 0x200000 1" => "UNBUILT",
         "vmo_create v1 1 resizable" => "OK",
-        "vmar_map r1 0 v1 0 4096 rw" => "UNBUILT",
+        "mem_write r1 0x200000 01" => "UNBUILT",
         "vmo_size v1" => "OK 4096",
         "stat" => "OK frames=1024 used=0 free=1024 vmos=1",
-        "maps" => "SYNTAX",
+        "mem_read r1" => "SYNTAX",
     ];
     check(&rt, "run", &rows)?;
     Ok(())

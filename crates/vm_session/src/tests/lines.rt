@@ -38,7 +38,7 @@ fn lines_are_spelled(rt: HostRuntime) -> Result<(), Fail> {
         "vmar_allocate r1 r2 0 4096 specific_overwrite" => "SYNTAX",
         "vmar_allocate r1 r2 0 4096 can_read specific" => "BAD_HANDLE",
         "vmar_map r1 0 v1 0 4096 rw can_read" => "SYNTAX",
-        "vmar_map r1 0 v1 0 4096 rw specific_overwrite" => "UNBUILT",
+        "vmar_map r1 0 v1 0 4096 rw specific_overwrite" => "BAD_HANDLE",
     ];
     check(&rt, "run", &rows)?;
     Ok(())
