@@ -503,9 +503,16 @@ fn mappings_are_refused(rt: HostRuntime) -> Result<(), Fail> {
         "vmar_protect r1 0x210000 8192 rw" => "NOT_FOUND",
         "vmar_protect r1 0x210000 4096 rw" => "ACCESS_DENIED",
         "vmar_unmap r2 0x1ff000 0x2000" => "INVALID_ARGS",
-        "maps r1" => "OK 2",
+        "vmar_allocate r5 r1 0x20000 0x2000 specific can_write" => "OK 0x220000",
+        "vmar_map r5 0 v1 0 4096 rw specific" => "ACCESS_DENIED",
+        "vmar_map r5 0 v1 0 4096 w specific" => "INVALID_ARGS",
+        "vmar_map r5 0 v1 0 4096 none specific" => "OK 0x220000",
+        "vmar_protect r5 0x220000 4096 r" => "ACCESS_DENIED",
+        "vmar_protect r5 0x220000 4096 w" => "INVALID_ARGS",
+        "maps r1" => "OK 3",
         "" => "+ 0x201000 4096 r vmo=2 offset=0 region=r2",
         "" => "+ 0x210000 4096 r vmo=2 offset=0 region=r1",
+        "" => "+ 0x220000 4096 none vmo=1 offset=0 region=r5",
         "stat" => "OK frames=1024 used=0 free=1024 vmos=2",
     ];
     check(&rt, "run", &rows)?;
