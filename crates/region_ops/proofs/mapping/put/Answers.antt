@@ -1,3 +1,4 @@
+use Rattle.std.proofs.Common.{arith}
 use Rattle.region_ops.proofs.MapLaws.{put_vmo, put_few, put_bare, put_state, put_counted}
 use Rattle.region_ops.proofs.mapping.put.Goals as goal
 
@@ -7,7 +8,7 @@ keep-requires-clause-koid g c =
 
 pub keep-requires-clause-few : goal.keep-requires-clause-few
 keep-requires-clause-few g c =
-    put_few c.requires.well.rest _ _ _ _ _ _ _ _ _ c.requires.well.well c.clear_place.ensures.gone c.requires.place c.clear_place.ensures.table
+    omega (arith, put_few c.requires.well.rest _ _ _ _ _ _ _ _ _ c.requires.well.well c.clear_place.ensures.gone c.requires.place c.clear_place.ensures.table)
 
 pub place-requires-clause-bare : goal.place-requires-clause-bare
 place-requires-clause-bare g c =
