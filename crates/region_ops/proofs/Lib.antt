@@ -5,6 +5,7 @@ pub mod CountLaws
 pub mod MapLaws
 pub mod MapSteps
 pub mod LeavingLaws
+pub mod BelowLaws
 pub mod DyingLaws
 pub mod UnmapLaws
 pub mod DestroyLaws

@@ -9,7 +9,7 @@ use Rattle.vm_base.specs.declared.names.RegionName.{RegionName}
 use Rattle.vm_base.proofs.EntryLaws.{with_key-other, with_key-cases, entry_count_le, entry_count-same, entry_count-with_key}
 use Rattle.vm_base.proofs.SearchLaws.{eqb_same, eqb_apart, eqb_is}
 use Rattle.vm_model.specs.declared.space.Region.{Region}
-use Rattle.vm_model.specs.Space.Regions.{end_of, root_region, region_of, meets, lies_in, reaches_over, parent_of, is_child, parent_in, is_above, is_below, is_at_or_below, killed, given_count, IsBelow, AreGoodRegions}
+use Rattle.vm_model.specs.Space.Regions.{end_of, root_region, region_of, meets, reaches_over, parent_of, is_child, parent_in, is_above, is_below, is_at_or_below, killed, given_count, IsBelow, AreGoodRegions}
 
 -- ---- a name
 
@@ -339,77 +339,15 @@ module _ (regions : ℕ → Option Region) (good : AreGoodRegions regions) (name
       → is_at_or_below regions name p.0 ≡ true → is_at_or_below regions name n ≡ true
   at_or_below-closed n region p e f h = or_right (n == name) (is_below regions name n) (is_below-step n region p e f ∙ h)
 
--- ---- regions that die one after another
+-- ---- what holds of all below a region
 
--- a region that dies twice dies once
-pub killed-twice : (regions : ℕ → Option Region) (dies too : ℕ → Bool) → killed (killed regions dies) too ≡ killed regions (λ n. dies n || too n)
-unfolding killed
-killed-twice regions dies too = λ i n. one (regions n) (dies n) (too n) i where
-  one : (o : Option Region) (a b : Bool) → option_map (λ (r : Region). cond b (record r { live = false }) r) (option_map (λ (r : Region). cond a (record r { live = false }) r) o)
-      ≡ option_map (λ (r : Region). cond (a || b) (record r { live = false }) r) o
-  one None a b = refl
-  one (Some r) true true = refl
-  one (Some r) true false = refl
-  one (Some r) false b = refl
-
--- where two tell the same of each region that is live, the same die
-pub killed-alike : (regions : ℕ → Option Region) (dies too : ℕ → Bool) → ((n : ℕ) (region : Region) → regions n ≡ Some region → (dies n ≡ too n) ⊎ (region.live ≡ false))
-    → killed regions dies ≡ killed regions too
-unfolding killed
-killed-alike regions dies too each = λ i n. one n (regions n) refl i where
-  dead : (region : Region) (b : Bool) → region.live ≡ false → cond b (record region { live = false }) region ≡ region
-  dead region true e = λ i. record region { live = sym e i }
-  dead region false e = refl
-
-  one : (n : ℕ) (o : Option Region) → regions n ≡ o → option_map (λ (r : Region). cond (dies n) (record r { live = false }) r) o
-      ≡ option_map (λ (r : Region). cond (too n) (record r { live = false }) r) o
-  one n None e = refl
-  one n (Some region) e = elim (each n region e) [
-    | inl same ↦ ap (λ (b : Bool). Some (cond b (record region { live = false }) region)) same
-    | inr off ↦ ap (λ (r : Region). Some r) (dead region (dies n) off ∙ sym (dead region (too n) off))
-  ]
-
--- a region has the parent that it had
-parent_killed : (regions : ℕ → Option Region) (dies : ℕ → Bool) (m : ℕ) → parent_in (killed regions dies m) ≡ parent_in (regions m)
-unfolding killed
-parent_killed regions dies m = one (regions m) (dies m) where
-  one : (o : Option Region) (b : Bool) → parent_in (option_map (λ (r : Region). cond b (record r { live = false }) r) o) ≡ parent_in o
-  one None b = refl
-  one (Some r) true = refl
-  one (Some r) false = refl
-
-is_above-killed : (regions : ℕ → Option Region) (dies : ℕ → Bool) (name steps : ℕ) (o : Option ℕ) → is_above steps (killed regions dies) name o ≡ is_above steps regions name o
-unfolding is_above
-is_above-killed regions dies name zero o = refl
-is_above-killed regions dies name (suc steps) None = refl
-is_above-killed regions dies name (suc steps) (Some p) =
-    ap (λ (b : Bool). (p == name) || b)
-    (ap (is_above steps (killed regions dies) name) (parent_killed regions dies p) ∙ is_above-killed regions dies name steps (parent_in (regions p)))
-
--- what lies below what is as before
-pub is_below-killed : (regions : ℕ → Option Region) (dies : ℕ → Bool) (name n : ℕ) → is_below (killed regions dies) name n ≡ is_below regions name n
-is_below-killed regions dies name n =
-    ap (is_above NAMES (killed regions dies) name) (parent_killed regions dies n) ∙ is_above-killed regions dies name NAMES (parent_in (regions n))
-
-some_same : {x y : Region} → ◌≡◌ {A = Option Region} (Some x) (Some y) → x ≡ y
-some_same s = cc
-
-lies_in_from : (outer inner : Region) → outer.first ≤ inner.first → end_of inner ≤ end_of outer → lies_in outer.first (end_of outer) inner ≡ true
-lies_in_from outer inner low high =
-    and_from (nat_le outer.first inner.first) (nat_le (end_of inner) (end_of outer)) (le-leb outer.first inner.first low) (le-leb (end_of inner) (end_of outer) high)
-
-lies_in_parts : (outer inner : Region) → lies_in outer.first (end_of outer) inner ≡ true → (outer.first ≤ inner.first) × (end_of inner ≤ end_of outer)
-lies_in_parts outer inner h =
-    let both = and_parts (nat_le outer.first inner.first) (nat_le (end_of inner) (end_of outer)) h in
-    (leb-true outer.first inner.first both.0, leb-true (end_of inner) (end_of outer) both.1)
-
-module _ (regions : ℕ → Option Region) (good : AreGoodRegions regions) (name : ℕ) (above : Region) (given : regions name ≡ Some above) where
-  -- one step up, where a region is live
-  lies_by : (n : ℕ) (region : Region) → regions n ≡ Some region → region.live ≡ true → is_below regions name n ≡ true
-      → ((p : ℕ) (up : Region) → good.age p < good.age n → regions p ≡ Some up → up.live ≡ true → is_below regions name p ≡ true → lies_in above.first (end_of above) up ≡ true)
-      → lies_in above.first (end_of above) region ≡ true
-  lies_by n region e live below each = go region.parent refl where
-    go : (o : Option RegionName) → region.parent ≡ o → lies_in above.first (end_of above) region ≡ true
+module _ (regions : ℕ → Option Region) (good : AreGoodRegions regions) (name : ℕ) (P : ℕ → Region → Type 0)
+    (step : (n : ℕ) (region : Region) (p : RegionName) (up : Region) → regions n ≡ Some region → regions p.0 ≡ Some up → good.age p.0 < good.age n → IsBelow region up
+    → (p.0 ≡ name) ⊎ P p.0 up → P n region) where
+  below_by : (n : ℕ) (region : Region) → regions n ≡ Some region → is_below regions name n ≡ true
+      → ((p : ℕ) (up : Region) → good.age p < good.age n → regions p ≡ Some up → is_below regions name p ≡ true → P p up) → P n region
+  below_by n region e below each = go region.parent refl where
+    go : (o : Option RegionName) → region.parent ≡ o → P n region
     go None f =
         let none : is_below regions name n ≡ false =
         ap (λ (o : Option Region). is_above NAMES regions name (parent_in o)) e
@@ -417,74 +355,24 @@ module _ (regions : ℕ → Option Region) (good : AreGoodRegions regions) (name
         absurd (both_ways (is_below regions name n) none below)
     go (Some p) f =
         let parent = good.parents n region p e f in
-        let inside = reaches_over_parts region.first (end_of region) parent.0 (parent.3.inside live) in
-        elim (or_cases (p.0 == name) (is_below regions name p.0) (sym (is_below-step regions good name n region p e f) ∙ below)) [
-          | inl here ↦
-              let same : parent.0 ≡ above = some_same (sym parent.1 ∙ (ap regions (eqb_is p.0 name here) ∙ given)) in
-              lies_in_from above region (omega (arith, inside.0, ap (λ (r : Region). r.first) same)) (omega (arith, inside.1, ap end_of same))
-          | inr higher ↦
-              let outer = lies_in_parts above parent.0 (each p.0 parent.0 parent.2 parent.1 (parent.3.live live) higher) in
-              lies_in_from above region (omega (arith, inside.0, outer.0)) (omega (arith, inside.1, outer.1))
-        ]
+        step n region p parent.0 e parent.1 parent.2 parent.3
+        (elim (or_cases (p.0 == name) (is_below regions name p.0) (sym (is_below-step regions good name n region p e f) ∙ below)) [
+          | inl here ↦ inl (eqb_is p.0 name here)
+          | inr higher ↦ inr (each p.0 parent.0 parent.2 parent.1 higher)
+        ])
 
-  lies_under : (fuel n : ℕ) (region : Region) → good.age n < fuel → regions n ≡ Some region → region.live ≡ true → is_below regions name n ≡ true → lies_in above.first (end_of above) region ≡ true
-  lies_under zero n region h e live below = absurd (omega (arith, h))
-  lies_under (suc fuel) n region h e live below =
-      lies_by n region e live below (λ p up older f live_up below_up. lies_under fuel p up (omega (arith, h, older)) f live_up below_up)
+  below_under : (fuel n : ℕ) (region : Region) → good.age n < fuel → regions n ≡ Some region → is_below regions name n ≡ true → P n region
+  below_under zero n region h e below = absurd (omega (arith, h))
+  below_under (suc fuel) n region h e below = below_by n region e below (λ p up older f higher. below_under fuel p up (omega (arith, h, older)) f higher)
 
-  -- a live region below another lies in it
-  pub lies_below : (n : ℕ) (region : Region) → regions n ≡ Some region → region.live ≡ true → is_below regions name n ≡ true → lies_in above.first (end_of above) region ≡ true
-  lies_below n region e live below = lies_under (good.age n + 1) n region (omega arith) e live below
+  -- what holds of the children of a region, and of those of each of which it holds, holds of all below it
+  pub below_each : (n : ℕ) (region : Region) → regions n ≡ Some region → is_below regions name n ≡ true → P n region
+  below_each n region e below = below_under (good.age n + 1) n region (omega arith) e below
 
-module _ (regions : ℕ → Option Region) (good : AreGoodRegions regions) (name : ℕ) where
-  -- a region has the root of its parent
-  root_by : (n : ℕ) (region : Region) → regions n ≡ Some region → is_below regions name n ≡ true
-      → ((p : ℕ) (up : Region) → good.age p < good.age n → regions p ≡ Some up → is_below regions name p ≡ true → up.root ≡ (region_of regions name).root)
-      → region.root ≡ (region_of regions name).root
-  root_by n region e below each = go region.parent refl where
-    go : (o : Option RegionName) → region.parent ≡ o → region.root ≡ (region_of regions name).root
-    go None f =
-        let none : is_below regions name n ≡ false =
-        ap (λ (o : Option Region). is_above NAMES regions name (parent_in o)) e
-        ∙ (ap (λ (o : Option RegionName). is_above NAMES regions name (option_map (λ (r : RegionName). r.0) o)) f ∙ is_above-none NAMES regions name) in
-        absurd (both_ways (is_below regions name n) none below)
-    go (Some p) f =
-        let parent = good.parents n region p e f in
-        elim (or_cases (p.0 == name) (is_below regions name p.0) (sym (is_below-step regions good name n region p e f) ∙ below)) [
-          | inl here ↦ parent.3.root ∙ ap (λ (r : Region). r.root) (sym (region_of-at regions name parent.0 (ap regions (sym (eqb_is p.0 name here)) ∙ parent.1)))
-          | inr higher ↦ parent.3.root ∙ each p.0 parent.0 parent.2 parent.1 higher
-        ]
-
-  root_under : (fuel n : ℕ) (region : Region) → good.age n < fuel → regions n ≡ Some region → is_below regions name n ≡ true → region.root ≡ (region_of regions name).root
-  root_under zero n region h e below = absurd (omega (arith, h))
-  root_under (suc fuel) n region h e below = root_by n region e below (λ p up older f higher. root_under fuel p up (omega (arith, h, older)) f higher)
-
-  -- a region is of the address space of each above it
-  pub root_below : (n : ℕ) (region : Region) → regions n ≡ Some region → is_below regions name n ≡ true → region.root ≡ (region_of regions name).root
-  root_below n region e below = root_under (good.age n + 1) n region (omega arith) e below
-
-  -- one step up
-  older_by : (n : ℕ) (region : Region) → regions n ≡ Some region → is_below regions name n ≡ true
-      → ((p : ℕ) (up : Region) → good.age p < good.age n → regions p ≡ Some up → is_below regions name p ≡ true → good.age name < good.age p) → good.age name < good.age n
-  older_by n region e below each = go region.parent refl where
-    go : (o : Option RegionName) → region.parent ≡ o → good.age name < good.age n
-    go None f =
-        let none : is_below regions name n ≡ false =
-        ap (λ (o : Option Region). is_above NAMES regions name (parent_in o)) e
-        ∙ (ap (λ (o : Option RegionName). is_above NAMES regions name (option_map (λ (r : RegionName). r.0) o)) f ∙ is_above-none NAMES regions name) in
-        absurd (both_ways (is_below regions name n) none below)
-    go (Some p) f =
-        let parent = good.parents n region p e f in
-        elim (or_cases (p.0 == name) (is_below regions name p.0) (sym (is_below-step regions good name n region p e f) ∙ below)) [
-          | inl here ↦ omega (arith, parent.2, ap good.age (eqb_is p.0 name here))
-          | inr higher ↦ omega (arith, parent.2, each p.0 parent.0 parent.2 parent.1 higher)
-        ]
-
-  older_under : (fuel n : ℕ) (region : Region) → good.age n < fuel → regions n ≡ Some region → is_below regions name n ≡ true → good.age name < good.age n
-  older_under zero n region h e below = absurd (omega (arith, h))
-  older_under (suc fuel) n region h e below = older_by n region e below (λ p up older f higher. older_under fuel p up (omega (arith, h, older)) f higher)
-
-  -- no region lies below itself
-  pub not_below_itself : (region : Region) → regions name ≡ Some region → is_below regions name name ≡ false
-  not_below_itself region e = false_from_ne_true (is_below regions name name) (λ below.
-      let older = older_under (good.age name + 1) name region (omega arith) e below in absurd (omega (arith, older)))
+-- a region is of the address space of each above it
+pub root_below : (regions : ℕ → Option Region) → AreGoodRegions regions → (name n : ℕ) (region : Region) → regions n ≡ Some region → is_below regions name n ≡ true
+    → region.root ≡ (region_of regions name).root
+root_below regions good name = below_each regions good name (λ n region. region.root ≡ (region_of regions name).root) (λ n region p up e f older is at. is.root ∙ elim at [
+  | inl here ↦ ap (λ (r : Region). r.root) (sym (region_of-at regions name up (ap regions (sym here) ∙ f)))
+  | inr higher ↦ higher
+])

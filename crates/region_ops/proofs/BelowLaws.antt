@@ -1,0 +1,97 @@
+-- Laws of regions that die one after another, and of what lies below what.
+use Rattle.std.proofs.Common.{◌≡◌, ℕ, zero, suc, ◌<◌, ◌≤◌, Bool, true, false, cond, ◌||◌, ◌==◌, Option, None, Some, ◌⊎◌, refl, sym, ap, ◌∙◌, inl, inr, arith}
+use Rattle.std.specs.Prelude.{nat_le}
+use Rattle.std.specs.Option.{option_map}
+use Rattle.std.proofs.lemmas.Bool.{and_parts, and_from, false_from_ne_true, leb-true, le-leb}
+use Rattle.vm_base.specs.declared.limits.TheConstants.{NAMES}
+use Rattle.vm_model.specs.declared.space.Region.{Region}
+use Rattle.vm_model.specs.Space.Regions.{end_of, lies_in, parent_in, is_above, is_below, killed, AreGoodRegions}
+use Rattle.vm_model.proofs.RegionLaws.{reaches_over_parts, below_each}
+
+-- ---- regions that die one after another
+
+-- a region that dies twice dies once
+pub killed-twice : (regions : ℕ → Option Region) (dies too : ℕ → Bool) → killed (killed regions dies) too ≡ killed regions (λ n. dies n || too n)
+unfolding killed
+killed-twice regions dies too = λ i n. one (regions n) (dies n) (too n) i where
+  one : (o : Option Region) (a b : Bool) → option_map (λ (r : Region). cond b (record r { live = false }) r) (option_map (λ (r : Region). cond a (record r { live = false }) r) o)
+      ≡ option_map (λ (r : Region). cond (a || b) (record r { live = false }) r) o
+  one None a b = refl
+  one (Some r) true true = refl
+  one (Some r) true false = refl
+  one (Some r) false b = refl
+
+-- where two tell the same of each region that is live, the same die
+pub killed-alike : (regions : ℕ → Option Region) (dies too : ℕ → Bool) → ((n : ℕ) (region : Region) → regions n ≡ Some region → (dies n ≡ too n) ⊎ (region.live ≡ false))
+    → killed regions dies ≡ killed regions too
+unfolding killed
+killed-alike regions dies too each = λ i n. one n (regions n) refl i where
+  dead : (region : Region) (b : Bool) → region.live ≡ false → cond b (record region { live = false }) region ≡ region
+  dead region true e = λ i. record region { live = sym e i }
+  dead region false e = refl
+
+  one : (n : ℕ) (o : Option Region) → regions n ≡ o → option_map (λ (r : Region). cond (dies n) (record r { live = false }) r) o
+      ≡ option_map (λ (r : Region). cond (too n) (record r { live = false }) r) o
+  one n None e = refl
+  one n (Some region) e = elim (each n region e) [
+    | inl same ↦ ap (λ (b : Bool). Some (cond b (record region { live = false }) region)) same
+    | inr off ↦ ap (λ (r : Region). Some r) (dead region (dies n) off ∙ sym (dead region (too n) off))
+  ]
+
+-- a region has the parent that it had
+parent_killed : (regions : ℕ → Option Region) (dies : ℕ → Bool) (m : ℕ) → parent_in (killed regions dies m) ≡ parent_in (regions m)
+unfolding killed
+parent_killed regions dies m = one (regions m) (dies m) where
+  one : (o : Option Region) (b : Bool) → parent_in (option_map (λ (r : Region). cond b (record r { live = false }) r) o) ≡ parent_in o
+  one None b = refl
+  one (Some r) true = refl
+  one (Some r) false = refl
+
+is_above-killed : (regions : ℕ → Option Region) (dies : ℕ → Bool) (name steps : ℕ) (o : Option ℕ) → is_above steps (killed regions dies) name o ≡ is_above steps regions name o
+unfolding is_above
+is_above-killed regions dies name zero o = refl
+is_above-killed regions dies name (suc steps) None = refl
+is_above-killed regions dies name (suc steps) (Some p) =
+    ap (λ (b : Bool). (p == name) || b)
+    (ap (is_above steps (killed regions dies) name) (parent_killed regions dies p) ∙ is_above-killed regions dies name steps (parent_in (regions p)))
+
+-- what lies below what is as before
+pub is_below-killed : (regions : ℕ → Option Region) (dies : ℕ → Bool) (name n : ℕ) → is_below (killed regions dies) name n ≡ is_below regions name n
+is_below-killed regions dies name n =
+    ap (is_above NAMES (killed regions dies) name) (parent_killed regions dies n) ∙ is_above-killed regions dies name NAMES (parent_in (regions n))
+
+-- ---- what lies below what
+
+some_same : {x y : Region} → ◌≡◌ {A = Option Region} (Some x) (Some y) → x ≡ y
+some_same s = cc
+
+lies_in_from : (outer inner : Region) → outer.first ≤ inner.first → end_of inner ≤ end_of outer → lies_in outer.first (end_of outer) inner ≡ true
+lies_in_from outer inner low high =
+    and_from (nat_le outer.first inner.first) (nat_le (end_of inner) (end_of outer)) (le-leb outer.first inner.first low) (le-leb (end_of inner) (end_of outer) high)
+
+lies_in_parts : (outer inner : Region) → lies_in outer.first (end_of outer) inner ≡ true → (outer.first ≤ inner.first) × (end_of inner ≤ end_of outer)
+lies_in_parts outer inner h =
+    let both = and_parts (nat_le outer.first inner.first) (nat_le (end_of inner) (end_of outer)) h in
+    (leb-true outer.first inner.first both.0, leb-true (end_of inner) (end_of outer) both.1)
+
+-- a live region below another lies in it
+pub lies_below : (regions : ℕ → Option Region) → AreGoodRegions regions → (name : ℕ) (above : Region) → regions name ≡ Some above
+    → (n : ℕ) (region : Region) → regions n ≡ Some region → region.live ≡ true → is_below regions name n ≡ true → lies_in above.first (end_of above) region ≡ true
+lies_below regions good name above given n region e live below =
+    below_each regions good name (λ m r. r.live ≡ true → lies_in above.first (end_of above) r ≡ true) (λ m r p up f g older is at alive.
+    let inside = reaches_over_parts r.first (end_of r) up (is.inside alive) in
+    elim at [
+      | inl here ↦
+          let same : up ≡ above = some_same (sym g ∙ (ap regions here ∙ given)) in
+          lies_in_from above r (omega (arith, inside.0, ap (λ (x : Region). x.first) same)) (omega (arith, inside.1, ap end_of same))
+      | inr higher ↦ let outer = lies_in_parts above up (higher (is.live alive)) in lies_in_from above r (omega (arith, inside.0, outer.0)) (omega (arith, inside.1, outer.1))
+    ]) n region e below live
+
+-- no region lies below itself
+pub not_below_itself : (regions : ℕ → Option Region) → AreGoodRegions regions → (name : ℕ) (region : Region) → regions name ≡ Some region → is_below regions name name ≡ false
+not_below_itself regions good name region e = false_from_ne_true (is_below regions name name) (λ below.
+    let older = below_each regions good name (λ m r. good.age name < good.age m) (λ m r p up f g less is at. elim at [
+      | inl here ↦ omega (arith, less, ap good.age here)
+      | inr higher ↦ omega (arith, less, higher)
+    ]) name region e below in
+    absurd (omega (arith, older)))
