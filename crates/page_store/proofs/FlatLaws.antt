@@ -1,97 +1,168 @@
--- Which content the lists of a plain store stand for, when they are a plain store, and what its pages, frames and
--- counts are.
-use Rattle.std.proofs.Common.{◌≡◌, ℕ, ◌+◌, ◌^◌, ◌<◌, ◌≤◌, cond, ◌==◌, List, [], ◌∷◌, ◌++◌, length, get_or, take, replicate, Option, None, Some, refl, sym, ap, subst, ◌∙◌, inl, inr, arith}
-use Rattle.std.specs.Prelude.{is_some, nat_lt}
-use Rattle.std.proofs.lemmas.Bool.{cases_lt}
-use Rattle.std.proofs.lemmas.List.{get_or_past, get_or-replicate, length-replicate}
+-- What the fields of a plain store say of its content, and how it begins and gets VMOs.
+use Rattle.std.proofs.Common.{◌≡◌, ◌≢◌, ℕ, ◌+◌, ◌-◌, ◌^◌, ◌<◌, ◌≤◌, Bool, true, false, not, cond, ◌==◌, ◌&&◌, List, [], ◌∷◌, ◌++◌, length, get_or, take, drop, replicate, Option, None, Some, IsSome, refl, sym, ap, subst, ◌∙◌, inl, inr, arith}
+use Rattle.std.specs.Prelude.{is_some, nat_lt, unwrap_or}
+use Rattle.std.proofs.lemmas.Bool.{cases_lt, both_ways, false_from_ne_true}
+use Rattle.std.proofs.lemmas.Bool.Decides.{nat_tests}
+use Rattle.std.proofs.lemmas.List.{get_or_past, get_or-replicate, get_or_read, length-replicate}
 use Rattle.std.proofs.Math.Seq.{take-nil}
 use Rattle.vm_base.specs.declared.limits.TheConstants.{VMO_PAGES}
-use Rattle.frame_pool.specs.Pool.{Pool, taken_frames, frame_bytes}
-use Rattle.vm_model.specs.Contents.Content.{Page, Content, nothing, pages_of, created, IsGood}
-use Rattle.vm_base.specs.Entries.{with_key}
-use Rattle.vm_model.proofs.ContentLaws.{pages_of-at, IsGood-created, IsGood-nothing}
-use Rattle.page_store.specs.declared.rows.Row.{Row}
-use Rattle.page_store.specs.declared.vmos.Vmo.{Vmo}
-use Rattle.page_store.specs.Rows.{find_row, IsSorted, IsRowFor, IsGapFor}
-use Rattle.page_store.specs.Vmos.{count_in, IsAscending, IsVmoFor}
-use Rattle.page_store.specs.Flat.{Flat, page_of_row, content_of, IsFlat}
-use Rattle.page_store.specs.Shares.{rows_with}
+use Rattle.vm_base.specs.declared.names.Tag.{Tag}
+use Rattle.vm_base.specs.Entries.{with_key, without_key}
+use Rattle.vm_base.proofs.SearchLaws.{count_below_same, count_below_none}
+use Rattle.vm_base.proofs.EntryLaws.{some_is, none_is}
+use Rattle.frame_pool.specs.Pool.{Pool, taken_frames, frame_bytes, taken_count}
+use Rattle.frame_pool.proofs.PoolLaws.{taken_count-is}
+use Rattle.pair_map.specs.declared.pair_map.PairMap.{PairMap}
+use Rattle.pair_map.specs.Maps.{values_of, with_pair, count_of, IsNext}
+use Rattle.vm_model.specs.Contents.Content.{Page, Content, has_tag, nothing, pages_of, views, in_use, used, vmos_of, is_sole_page, sole, created, IsGood}
+use Rattle.vm_model.specs.Contents.Sharing.{viewers, IsLeastViewer, snapshotted, without, only}
+use Rattle.vm_model.specs.Contents.Zeroing.{zeroed, resized}
+use Rattle.vm_model.proofs.ContentLaws.{in_use_at, count_from_page, views_found, zero_not_held, held_once, has_tag_held, has_tag_from, IsGood-created, IsGood-nothing}
+use Rattle.vm_model.proofs.SharingLaws.{views_held, koid_held, koid_some, IsGood-only, IsGood-snapshotted}
+use Rattle.vm_model.proofs.ZeroingLaws.{IsGood-resized, page_past}
+use Rattle.page_store.specs.Pages.{look_at, ShowsTag, IsShown}
+use Rattle.page_store.specs.declared.page_store.Look.TheVariants as look
+use Rattle.page_store.specs.Held.{IsNextBelow, HasNoneBelow, held_from, showing}
+use Rattle.page_store.specs.Flat.{Flat, page_with, page_from, content_of, IsFlat}
 use Rattle.page_store.proofs.NameLaws.{pages_of_le}
-use Rattle.page_store.proofs.RowLaws.{find_row-at, find_row-gap, sorted_nil}
-use Rattle.page_store.proofs.VmoLaws.{AllBelow, count_in-at, count_in-push, ascending_nil, ascending_push, below_from_counts}
+use Rattle.page_store.proofs.HeldLaws.{same_content, showing-created}
+use Rattle.page_store.proofs.ViewerLaws.{in_use-viewers, viewers_le, sole-viewers, viewers-pages, vmos_of-same, vmos_of-created, vmos_of-without}
 
--- two contents that answer alike are equal
-pub same_content : (c d : Content) → c.frames ≡ d.frames → c.next ≡ d.next → ((v : ℕ) → c.count v ≡ d.count v) → ((v p : ℕ) → c.page v p ≡ d.page v p) → c ≡ d
-same_content c d frames next count page = λ i. record { frames = frames i; next = next i; count = λ v. count v i; page = λ v p. page v p i }
+-- a held page has the frame of its entry
+pub page_found : (pool : Pool) (o : Option Tag) (held : Page) → page_from pool o ≡ Some held → (tag : Tag) × (o ≡ Some tag) × (page_with pool tag ≡ held)
+page_found pool None held e = absurd cc
+page_found pool (Some tag) held e = (tag, refl, cc)
 
--- the page of a row
-abbrev pub page_from : Pool → Row → Page
-page_from pool row = record { tag = row.tag.0; bytes = frame_bytes pool row.tag.0 }
+-- ---- frames
 
--- a page with this frame
-abbrev pub some_page : ℕ → List ℕ → Option Page
-some_page t bytes = Some (record { tag = t; bytes = bytes })
+-- a frame is taken where some VMO shows it
+pub taken_in_use : (f : Flat) → IsFlat f → (t : ℕ) → is_some (taken_frames f.pool t) ≡ in_use (content_of f) t
+taken_in_use f flat t = flat.taken t ∙ (ap (nat_lt 0) (flat.shares t) ∙ sym (in_use-viewers (content_of f) t))
 
--- a held page is a row's
-pub page_of_row_found : (pool : Pool) (o : Option Row) (held : Page) → page_of_row pool o ≡ Some held → (row : Row) × (o ≡ Some row) × (page_from pool row ≡ held)
-page_of_row_found pool None held e = absurd cc
-page_of_row_found pool (Some row) held e = (row, refl, cc)
+-- as many frames are taken as are used
+pub used_taken : (f : Flat) → IsFlat f → used (content_of f) ≡ taken_count f.pool
+unfolding used
+used_taken f flat =
+    count_below_same f.pool.frames (in_use (content_of f)) (λ t. is_some (taken_frames f.pool t))
+    (λ t h. sym (taken_in_use f flat t)) ∙ sym (taken_count-is f.pool)
 
--- where no page is held, none is with other frames
-page_of_row_free : (pool other : Pool) (o : Option Row) → page_of_row pool o ≡ None →
-    page_of_row other o ≡ page_of_row pool o
-page_of_row_free pool other None e = refl
-page_of_row_free pool other (Some row) e = absurd cc
+-- and the others are free
+pub free_unused : (f : Flat) (n : ℕ) → IsFlat f → n + taken_count f.pool ≡ f.pool.frames → n + used (content_of f) ≡ (content_of f).frames
+free_unused f n flat e = omega (arith, used_taken f flat)
 
--- other VMOs are in the list, and the rest stays
-pub IsFlat-vmos : (f : Flat) (n : ℕ) (vmos : List Vmo) (c : Content) → IsFlat f → IsAscending vmos →
-    content_of (record f { next = n; vmos = vmos }) ≡ c → IsGood c → IsFlat (record f { next = n; vmos = vmos })
-IsFlat-vmos f n vmos c flat rises same good =
+-- what is known of the frame of a held page
+pub record IsFrameOf (f : Flat) (held : Page) : Type 0 where
+  pub below : held.tag < f.pool.frames
+  pub taken : IsSome (taken_frames f.pool held.tag)
+  pub bytes : held.bytes ≡ frame_bytes f.pool held.tag
+  pub shown : 1 ≤ get_or f.shares held.tag 0
+
+pub IsFrameOf-held : (f : Flat) (v p : ℕ) (held : Page) → IsFlat f → (content_of f).page v p ≡ Some held → IsFrameOf f held
+IsFrameOf-held f v p held flat e =
+    let taken = taken_in_use f flat held.tag ∙ in_use_at (content_of f) held.tag v p held flat.good e refl in
+    let found = page_found f.pool (values_of f.rows v p) held e in
     record {
-      sorted = flat.sorted;
-      ascending = rises;
-      good = subst IsGood (sym same) good;
-      counts = flat.counts;
-      shares = flat.shares;
-      counted = flat.counted;
+      below = flat.good.tags v p held e;
+      taken = taken;
+      bytes = ap (λ (page : Page). page.bytes) (sym found.2) ∙ ap (λ (page : Page). frame_bytes f.pool page.tag) found.2;
+      shown = let some = sym (flat.taken held.tag) ∙ taken in grind (arith, nat_tests);
     }
+
+-- the frame of a page that is shown is taken
+pub shown_frame : (f : Flat) (t : ℕ) → IsFlat f → IsShown (content_of f) t → IsFrameOf f (record { tag = t; bytes = frame_bytes f.pool t })
+shown_frame f t flat shown =
+    let held = IsFrameOf-held f shown.v shown.p shown.held flat shown.shows.page in
+    let tag = shown.shows.tag in
+    record {
+      below = subst (λ (u : ℕ). u < f.pool.frames) tag held.below;
+      taken = subst (λ (u : ℕ). IsSome (taken_frames f.pool u)) tag held.taken;
+      bytes = refl;
+      shown = subst (λ (u : ℕ). 1 ≤ get_or f.shares u 0) tag held.shown;
+    }
+
+-- and has the bytes of the page
+pub shown_bytes : (f : Flat) (t v p : ℕ) (held : Page) → IsFlat f → ShowsTag (content_of f) t v p held → frame_bytes f.pool t ≡ held.bytes
+shown_bytes f t v p held flat shows = ap (λ (u : ℕ). frame_bytes f.pool u) (sym shows.tag) ∙ sym (IsFrameOf-held f v p held flat shows.page).bytes
+
+-- bytes that were read from its frame
+pub AreBytesOf-read : (f : Flat) (t at n : ℕ) (bytes : List ℕ) (v p : ℕ) (held : Page) → IsFlat f → ShowsTag (content_of f) t v p held → length bytes ≡ n → bytes ≡ take n (drop at (frame_bytes f.pool t)) → bytes ≡ take (length bytes) (drop at held.bytes)
+AreBytesOf-read f t at n bytes v p held flat shows long e =
+    e ∙ (ap (λ (m : ℕ). take m (drop at (frame_bytes f.pool t))) (sym long) ∙ ap (λ (bs : List ℕ). take (length bytes) (drop at bs)) (shown_bytes f t v p held flat shows))
+
+-- a frame that no VMO shows is given back
+pub given_back : (old new : ℕ → Option (List ℕ)) (t n : ℕ) → n ≡ 0 → new ≡ without_key old t → (u : ℕ) → new u ≡ cond ((u == t) && (n == 0)) None (old u)
+unfolding without_key
+given_back old new t n none is u = ap (λ (map : ℕ → Option (List ℕ)). map u) is ∙ grind (arith, nat_tests)
+
+-- ---- what is found under a page
+
+module _ (f : Flat) (v p : ℕ) (tag : Tag) (flat : IsFlat f) (found : values_of f.rows v p ≡ Some tag) where
+  pub page_is : (content_of f).page v p ≡ Some (page_with f.pool tag)
+  page_is = ap (page_from f.pool) found
+
+  pub frame_is : IsFrameOf f (page_with f.pool tag)
+  frame_is = IsFrameOf-held f v p (page_with f.pool tag) flat page_is
+
+  pub tag_below : tag.0 < length f.shares
+  tag_below = omega (arith, frame_is.below, flat.counts)
+
+  -- its share count is how many VMOs show it
+  pub share_is : (n : ℕ) → n ≡ get_or f.shares tag.0 n → n ≡ get_or f.shares tag.0 0
+  share_is n share = get_or_read f.shares tag.0 n tag_below share 0
+
+  -- and says whether the page is sole
+  pub sole_is : (n : ℕ) → n ≡ get_or f.shares tag.0 n → sole (content_of f) v p ≡ (n == 1)
+  sole_is n share =
+      ap (is_sole_page (content_of f) v) page_is ∙ (sole-viewers (content_of f) v p (page_with f.pool tag) flat.good page_is
+      ∙ ap (λ (m : ℕ). m == 1) (sym (share_is n share ∙ flat.shares tag.0)))
+
+  pub look_is : (n : ℕ) → n ≡ get_or f.shares tag.0 n → look.Held tag (n == 1) ≡ look_at (content_of f) v ((content_of f).page v p)
+  look_is n share = ap (look.Held tag) (sym (sole_is n share) ∙ ap (is_sole_page (content_of f) v) page_is)
+      ∙ ap (look_at (content_of f) v) (sym page_is)
 
 -- ---- a store with no VMO
 
-abbrev pub nothing_of : Pool → Content
-nothing_of pool = record nothing { frames = pool.frames }
+-- no VMO shows a frame where none is held
+none-shown : (c : Content) (t : ℕ) → ((v p : ℕ) → c.page v p ≡ None) → viewers c t ≡ 0
+unfolding viewers
+none-shown c t none = count_below_none c.next (views c t) (λ v h. false_from_ne_true (views c t v) (λ e.
+    let page = views_found c t v e in zero_not_held (c.page v page.0) page.1 (none v page.0) page.3))
 
-pub IsFlat-nothing : (f : Flat) → content_of f ≡ nothing_of f.pool → IsSorted f.rows → IsAscending f.vmos → length f.shares ≡ f.pool.frames →
-    ((t : ℕ) → get_or f.shares t 0 ≡ 0) → ((t : ℕ) → rows_with t f.rows ≡ 0) → ((t : ℕ) → taken_frames f.pool t ≡ None) → IsFlat f
-IsFlat-nothing f e sorted ascending counts zeros none free = record {
-  sorted = sorted;
-  ascending = ascending;
+pub IsFlat-nothing : (f : Flat) → content_of f ≡ record nothing { frames = f.pool.frames } → count_of f.vmos ≡ 0 → length f.shares ≡ f.pool.frames →
+    ((t : ℕ) → get_or f.shares t 0 ≡ 0) → ((t : ℕ) → taken_frames f.pool t ≡ None) → IsFlat f
+unfolding nothing vmos_of
+IsFlat-nothing f e few counts zeros free = record {
   good = subst IsGood (sym e) (IsGood-nothing f.pool.frames);
+  live = few ∙ sym (count_below_none f.next (λ v. is_some ((content_of f).count v)) (λ v h. ap (λ (c : Content). is_some (c.count v)) e));
   counts = counts;
-  shares = λ t. zeros t ∙ sym (none t);
-  counted = record { taken = λ t. ap is_some (free t) ∙ ap (nat_lt 0) (sym (zeros t)) };
+  shares = λ t. zeros t ∙ sym (none-shown (content_of f) t (λ v p. ap (λ (c : Content). c.page v p) e));
+  taken = λ t. ap is_some (free t) ∙ ap (nat_lt 0) (sym (zeros t));
 }
 
-abbrev pub empty_flat : Pool → ℕ → Flat
-empty_flat pool s = record { pool = pool; next = 1; vmos = []; rows = []; shares = []; spare = s }
-
-pub IsFlat-empty : (pool : Pool) (s : ℕ) → pool.frames ≡ 0 → ((t : ℕ) → taken_frames pool t ≡ None) → IsFlat (empty_flat pool s)
-unfolding nothing find_row count_in rows_with
-IsFlat-empty pool s none free =
-    IsFlat-nothing (empty_flat pool s) refl sorted_nil ascending_nil (sym none)
-    (λ t. get_or_past [] t 0 (omega arith)) (λ t. refl) free
-
-pub content_of-none : (pool : Pool) (s : ℕ) → pool.frames ≡ 0 → content_of (empty_flat pool s) ≡ nothing
-unfolding nothing find_row count_in
-content_of-none pool s none = ap (λ (n : ℕ). record nothing { frames = n }) none
-
--- a store with no VMO has no frames and no VMO
+-- it has no frames
 pub no_frames : (f : Flat) → content_of f ≡ nothing → f.pool.frames ≡ 0
 unfolding nothing
 no_frames f e = ap (λ (c : Content). c.frames) e
 
 pub no_shares : (f : Flat) → IsFlat f → content_of f ≡ nothing → length f.shares ≡ 0
 no_shares f flat e = flat.counts ∙ no_frames f e
+
+pub no_vmos : (f : Flat) → IsFlat f → content_of f ≡ nothing → count_of f.vmos ≡ 0
+unfolding nothing vmos_of
+no_vmos f flat e = flat.live ∙ count_below_none f.next (λ v. is_some ((content_of f).count v)) (λ v h. ap (λ (c : Content). is_some (c.count v)) e)
+
+pub content-new : (pool : Pool) (vmos : PairMap ℕ) (rows : PairMap Tag) (shares : List ℕ) → pool.frames ≡ 0 → values_of vmos ≡ (λ a b. None) → values_of rows ≡ (λ a b. None) →
+    content_of (record { pool = pool; next = 1; vmos = vmos; rows = rows; shares = shares }) ≡ nothing
+unfolding nothing
+content-new pool vmos rows shares none no-vmo no-row = same_content _ _ none refl (λ v. ap (λ (map : ℕ → ℕ → Option ℕ). map 0 v) no-vmo)
+    (λ v p. ap (λ (map : ℕ → ℕ → Option Tag). page_from pool (map v p)) no-row)
+
+pub IsFlat-new : (pool : Pool) (vmos : PairMap ℕ) (rows : PairMap Tag) → pool.frames ≡ 0 → ((t : ℕ) → taken_frames pool t ≡ None) →
+    values_of vmos ≡ (λ a b. None) → values_of rows ≡ (λ a b. None) → count_of vmos ≡ 0 → IsFlat (record { pool = pool; next = 1; vmos = vmos; rows = rows; shares = [] })
+unfolding nothing
+IsFlat-new pool vmos rows none free no-vmo no-row few =
+    IsFlat-nothing _ (content-new pool vmos rows [] none no-vmo no-row ∙ ap (λ (n : ℕ). record nothing { frames = n }) (sym none)) few (sym none)
+    (λ t. get_or_past [] t 0 (omega arith)) free
 
 -- counts that were made where there were none
 zero_counts : (xs : List ℕ) (n m : ℕ) → length xs ≡ 0 → m ≡ n → take n xs ++ replicate m 0 ≡ replicate n 0
@@ -104,56 +175,183 @@ all_zero n t = elim (cases_lt t n) [
   | inr past ↦ get_or_past (replicate n 0) t 0 (omega (arith, length-replicate {A = ℕ} n 0))
 ]
 
+-- where no page is held, none is with other frames
+page_free : (pool other : Pool) (o : Option Tag) → page_from pool o ≡ None → page_from other o ≡ page_from pool o
+page_free pool other None e = refl
+page_free pool other (Some tag) e = absurd cc
+
 -- it gets its frames
-pub content_of-filled : (f : Flat) (pool : Pool) → content_of f ≡ nothing →
-    content_of (record f { pool = pool }) ≡ record (content_of f) { frames = pool.frames }
+pub content-filled : (f : Flat) (pool : Pool) → content_of f ≡ nothing → content_of (record f { pool = pool }) ≡ record (content_of f) { frames = pool.frames }
 unfolding nothing
-content_of-filled f pool empty = same_content _ _ refl refl (λ v. refl)
-    (λ v p. page_of_row_free f.pool pool (find_row v p f.rows) (ap (λ (c : Content). c.page v p) empty))
+content-filled f pool empty = same_content _ _ refl refl (λ v. refl)
+    (λ v p. page_free f.pool pool (values_of f.rows v p) (ap (λ (c : Content). c.page v p) empty))
 
 pub IsFlat-filled : (f : Flat) (pool : Pool) (n m : ℕ) → content_of f ≡ nothing → IsFlat f → pool.frames ≡ n → ((t : ℕ) → taken_frames pool t ≡ None) → m ≡ n → IsFlat (record f { pool = pool; shares = take n f.shares ++ replicate m 0 })
 IsFlat-filled f pool n m empty flat frames free same =
-    let g : Flat = record f { pool = pool; shares = take n f.shares ++ replicate m 0 } in
-    let none = zero_counts f.shares n m (no_shares f flat empty) same in
-    IsFlat-nothing g (content_of-filled f pool empty ∙ ap (λ (c : Content). record c { frames = pool.frames }) empty)
-    flat.sorted flat.ascending (ap length none ∙ (length-replicate {A = ℕ} n 0 ∙ sym frames)) (λ t. ap (λ (xs : List ℕ). get_or xs t 0) none ∙ all_zero n t)
-    (λ t. sym (flat.shares t) ∙ get_or_past f.shares t 0 (omega (arith, no_shares f flat empty))) free
+    let made = zero_counts f.shares n m (no_shares f flat empty) same in
+    IsFlat-nothing (record f { pool = pool; shares = take n f.shares ++ replicate m 0 })
+    (content-filled f pool empty ∙ ap (λ (c : Content). record c { frames = pool.frames }) empty)
+    (no_vmos f flat empty) (ap length made ∙ (length-replicate {A = ℕ} n 0 ∙ sym frames))
+    (λ t. ap (λ (xs : List ℕ). get_or xs t 0) made ∙ all_zero n t) free
 
--- ---- a new VMO
+-- ---- a VMO comes, leaves, or gets another count
 
-module _ (f : Flat) (vmo : Vmo) (flat : IsFlat f) (koid : vmo.koid.0 ≡ f.next) where
-  pub koids_below : AllBelow f.vmos vmo.koid.0
-  koids_below = below_from_counts f.vmos vmo.koid.0 flat.ascending (λ w n e. let low = (flat.good.koids w n e).1 in
-      omega arith)
+-- the store with other VMOs, whose pages are the same
+pub IsFlat-vmos : (f : Flat) (n : ℕ) (vmos : PairMap ℕ) (d : Content) → IsFlat f → f.next ≤ n → content_of (record f { next = n; vmos = vmos }) ≡ d → IsGood d → count_of vmos ≡ vmos_of d →
+    IsFlat (record f { next = n; vmos = vmos })
+IsFlat-vmos f n vmos d flat le is good many =
+    let fine : IsGood (content_of (record f { next = n; vmos = vmos })) = subst IsGood (sym is) good in
+    record {
+      good = fine;
+      live = many ∙ ap vmos_of (sym is);
+      counts = flat.counts;
+      shares = λ t. flat.shares t ∙ sym (viewers-pages (content_of f) (content_of (record f { next = n; vmos = vmos })) flat.good fine le (λ v p. refl) t);
+      taken = flat.taken;
+    }
 
-  pub content_of-pushed : content_of (record f { next = f.next + 1; vmos = f.vmos ++ vmo ∷ [] }) ≡ created (content_of f) vmo.count
-  unfolding created with_key
-  content_of-pushed = same_content _ _ refl refl (λ v. count_in-push f.vmos vmo koids_below v ∙ ap (λ (n : ℕ). cond (v == n) (Some vmo.count) (count_in v f.vmos)) koid) (λ v p. refl)
+module _ (f : Flat) (vmos : PairMap ℕ) (n : ℕ) (values : values_of vmos ≡ with_pair (values_of f.vmos) 0 f.next (Some n)) where
+  pub content-created : content_of (record f { next = f.next + 1; vmos = vmos }) ≡ created (content_of f) n
+  unfolding created with_key with_pair
+  content-created = same_content _ _ refl refl (λ v. ap (λ (map : ℕ → ℕ → Option ℕ). map 0 v) values ∙ grind (arith, nat_tests)) (λ v p. refl)
 
-  pub IsFlat-pushed : vmo.count ≤ VMO_PAGES → IsFlat (record f { next = f.next + 1; vmos = f.vmos ++ vmo ∷ [] })
-  IsFlat-pushed few = IsFlat-vmos f (f.next + 1) (f.vmos ++ vmo ∷ []) (created (content_of f) vmo.count) flat
-      (ascending_push f.vmos vmo flat.ascending koids_below) content_of-pushed
-      (IsGood-created (content_of f) vmo.count flat.good few)
+  pub IsFlat-created : IsFlat f → n ≤ VMO_PAGES → count_of vmos ≡ count_of f.vmos + 1 → IsFlat (record f { next = f.next + 1; vmos = vmos })
+  IsFlat-created flat few many =
+      IsFlat-vmos f (f.next + 1) vmos (created (content_of f) n) flat (omega arith) content-created (IsGood-created (content_of f) n flat.good few)
+      (many ∙ (ap (λ k. k + 1) flat.live ∙ sym (vmos_of-created (content_of f) n)))
 
--- ---- how many pages a VMO has
+vmos_of-resized : (c : Content) (v n m : ℕ) → IsSome (c.count v) → vmos_of (resized c v n) ≡ vmos_of (zeroed c v n m)
+unfolding resized zeroed with_key
+vmos_of-resized c v n m some = vmos_of-same (zeroed c v n m) (resized c v n) refl (λ w. grind (arith, nat_tests))
 
-pub count_read : (f : Flat) (v i : ℕ) (vmo : Vmo) → IsFlat f → IsVmoFor f.vmos v i → vmo ≡ get_or f.vmos i vmo → (content_of f).count v ≡ Some vmo.count
-count_read f v i vmo flat at read = count_in-at f.vmos flat.ascending v i at vmo
-    ∙ ap (λ (d : Vmo). Some d.count) (sym read)
+-- f is the store without the pages of the VMO past the new end
+module _ (c : Content) (f : Flat) (vmos : PairMap ℕ) (v n m : ℕ) (zero : content_of f ≡ zeroed c v n m) (was : c.count v ≡ Some m)
+    (values : values_of vmos ≡ with_pair (values_of f.vmos) 0 v (Some n)) where
+  pub content-resized : content_of (record f { vmos = vmos }) ≡ resized c v n
+  unfolding resized zeroed with_key with_pair pages_of
+  content-resized = same_content _ _ (ap (λ (d : Content). d.frames) zero) (ap (λ (d : Content). d.next) zero)
+      (λ w. ap (λ (map : ℕ → ℕ → Option ℕ). map 0 w) values ∙ (let before = ap (λ (d : Content). d.count w) zero in grind (arith, nat_tests)))
+      (λ w p. ap (λ (d : Content). d.page w p) zero ∙ rw was refl)
 
-pub pages_read : (f : Flat) (v i : ℕ) (vmo : Vmo) → IsFlat f → IsVmoFor f.vmos v i → vmo ≡ get_or f.vmos i vmo → pages_of (content_of f) v ≡ vmo.count
-pages_read f v i vmo flat at read = pages_of-at (content_of f) v vmo.count (count_read f v i vmo flat at read)
+  pub IsFlat-resized : IsGood c → IsFlat f → n ≤ VMO_PAGES → count_of vmos ≡ count_of f.vmos → IsFlat (record f { vmos = vmos })
+  IsFlat-resized good flat few many =
+      IsFlat-vmos f f.next vmos (resized c v n) flat (omega arith) content-resized (IsGood-resized c v n good (ap is_some was) few)
+      (many ∙ (flat.live ∙ (ap vmos_of zero ∙ sym (vmos_of-resized c v n m (ap is_some was)))))
 
--- so the end of a range of pages is a number of the machine
-pub end_fits : (f : Flat) (v first seen : ℕ) → IsFlat f → first + seen ≤ pages_of (content_of f) v → first + seen < 2 ^ 64
-end_fits f v first seen flat h = omega (arith, pages_of_le (content_of f) v flat.good)
+-- f is the store where the pages of the VMO are zero
+module _ (c : Content) (f : Flat) (vmos : PairMap ℕ) (v : ℕ) (zero : content_of f ≡ zeroed c v 0 VMO_PAGES) (flat : IsFlat f)
+    (values : values_of vmos ≡ with_pair (values_of f.vmos) 0 v None) where
+  without-here : content_of (record f { vmos = vmos }) ≡ without (content_of f) v
+  unfolding only with_pair zeroed
+  without-here = same_content _ _ refl refl
+      (λ w. ap (λ (map : ℕ → ℕ → Option ℕ). map 0 w) values ∙ grind (arith, nat_tests))
+      (λ w p. let few = pages_of_le (content_of f) w flat.good in
+      let past = page_past (content_of f) w p flat.good in
+      let low = ap (λ (d : Content). d.page w p) zero in grind (arith, nat_tests))
 
--- ---- held pages
+  pub content-dropped : content_of (record f { vmos = vmos }) ≡ without c v
+  unfolding only zeroed
+  content-dropped = without-here ∙ (ap (λ (d : Content). without d v) zero ∙ same_content _ _ refl refl (λ w. refl) (λ w p. grind (arith, nat_tests)))
 
--- the page at the place of its row
-pub page_at_row : (f : Flat) (v p i : ℕ) (d : Row) → IsFlat f → IsRowFor f.rows v p i → (content_of f).page v p ≡ Some (page_from f.pool (get_or f.rows i d))
-page_at_row f v p i d flat at = ap (page_of_row f.pool) (find_row-at f.rows flat.sorted v p i at d)
+  pub IsFlat-dropped : IsSome (c.count v) → count_of vmos + 1 ≡ count_of f.vmos → IsFlat (record f { vmos = vmos })
+  unfolding zeroed
+  IsFlat-dropped some many =
+      let there : IsSome ((content_of f).count v) = ap (λ (d : Content). is_some (d.count v)) zero ∙ some in
+      IsFlat-vmos f f.next vmos (without (content_of f) v) flat (omega arith) without-here (IsGood-only (content_of f) (λ w. not (w == v)) flat.good)
+      (let less = vmos_of-without (content_of f) v flat.good there in omega (arith, less, flat.live))
 
--- no page is held where there is no row
-pub page_in_gap : (f : Flat) (v p i : ℕ) → IsGapFor f.rows v p i → (content_of f).page v p ≡ None
-page_in_gap f v p i gap = ap (page_of_row f.pool) (find_row-gap f.rows v p i gap)
+-- ---- whether a VMO shows a frame
+
+module _ (c : Content) (v t : ℕ) where
+  pub shows-found : (p : ℕ) (held : Page) → IsGood c → c.page v p ≡ Some held → held.tag ≡ t → true ≡ views c t v
+  shows-found p held good e same = sym (views_held c t v p held good e same)
+
+  pub shows-next : (from end p : ℕ) (held : Page) → ((q : ℕ) → q < from → has_tag t (c.page v q) ≡ false) → IsNextBelow c v from end p → c.page v p ≡ Some held → held.tag ≢ t →
+      (q : ℕ) → q < p + 1 → has_tag t (c.page v q) ≡ false
+  shows-next from end p held none next e other q less = false_from_ne_true (has_tag t (c.page v q)) (λ hit.
+      let found = has_tag_held t (c.page v q) hit in
+      elim (cases_lt q from) [
+        | inl low ↦ both_ways (has_tag t (c.page v q)) (none q low) hit
+        | inr high ↦ elim (cases_lt q p) [
+          | inl before ↦ zero_not_held (c.page v q) found.0 (next.gap q high before) found.1
+          | inr past ↦
+              let same : q ≡ p = omega arith in
+              other (held_once (c.page v p) held found.0 e (ap (c.page v) (sym same) ∙ found.1) ∙ found.2)
+        ]
+      ])
+
+  pub shows-none : (from : ℕ) → IsGood c → ((q : ℕ) → q < from → has_tag t (c.page v q) ≡ false) → HasNoneBelow c v from VMO_PAGES → false ≡ views c t v
+  shows-none from good none rest = sym (false_from_ne_true (views c t v) (λ e.
+      let found = views_found c t v e in
+      let few = pages_of_le c v good in
+      elim (cases_lt found.0 from) [
+        | inl low ↦ both_ways (has_tag t (c.page v found.0)) (none found.0 low) (has_tag_from t (c.page v found.0) found.1 found.3 found.4)
+        | inr high ↦ zero_not_held (c.page v found.0) found.1 (rest found.0 high (omega (arith, found.2))) found.3
+      ]))
+
+-- ---- the least VMO that shows a frame
+
+no-views : (c : Content) (t w : ℕ) → c.count w ≡ None → views c t w ≡ false
+no-views c t w none = false_from_ne_true (views c t w) (λ e.
+    let found = views_found c t w e in
+    let some = count_from_page c w found.0 found.2 in absurd (cc))
+
+module _ (c : Content) (t from : ℕ) (none : (w : ℕ) → w < from → views c t w ≡ false) where
+  before : (koid : ℕ) → IsNext c.count from (Some koid) → (w : ℕ) → w < koid → views c t w ≡ false
+  before koid next w less = elim (cases_lt w from) [
+    | inl low ↦ none w low
+    | inr high ↦ no-views c t w ((next.least koid refl).2 w high less)
+  ]
+
+  pub least-at : (koid : ℕ) → IsNext c.count from (Some koid) → true ≡ views c t koid → IsLeastViewer c t koid
+  least-at koid next shows = record { shows = sym shows; least = before koid next }
+
+  pub least-next : (koid : ℕ) → IsNext c.count from (Some koid) → false ≡ views c t koid → (w : ℕ) → w < koid + 1 → views c t w ≡ false
+  least-next koid next not w less = elim (cases_lt w koid) [
+    | inl low ↦ before koid next w low
+    | inr high ↦ let same : koid ≡ w = omega arith in ap (views c t) (sym same) ∙ sym not
+  ]
+
+  pub least-below : IsGood c → (koid : ℕ) → IsNext c.count from (Some koid) → koid < c.next
+  least-below good koid next = koid_some c koid good (next.least koid refl).1
+
+  pub least-none : IsGood c → IsNext c.count from None → IsShown c t → ⊥
+  least-none good next shown =
+      let shows = views_held c t shown.v shown.p shown.held good shown.shows.page shown.shows.tag in
+      elim (cases_lt shown.v from) [
+        | inl low ↦ both_ways (views c t shown.v) (none shown.v low) shows
+        | inr high ↦ both_ways (views c t shown.v) (no-views c t shown.v (next.none refl shown.v high)) shows
+      ]
+
+-- ---- a snapshot
+
+module _ (c d : Content) (v first seen n koid : ℕ) (good : IsGood c) (made : d ≡ created c n) (new : koid ≡ c.next) where
+  pub snapshot-zero : (p : ℕ) → d.page koid p ≡ None
+  unfolding created
+  snapshot-zero p = ap (λ (s : Content). s.page koid p) made ∙ (ap (λ w. c.page w p) new ∙ none_is (c.page c.next p) (false_from_ne_true (is_some (c.page c.next p)) (λ e.
+      let held = some_is (c.page c.next p) e in
+      let low = koid_held c c.next p held.0 good held.1 in absurd (omega arith))))
+
+  pub snapshot-is : showing d v first (first + seen - first) koid ≡ snapshotted c v first seen n
+  snapshot-is =
+      let far : first + seen - first ≡ seen = omega arith in
+      ap (λ k. showing d v first k koid) far ∙ (ap (λ w. showing d v first seen w) new ∙ (ap (λ (s : Content). showing s v first seen c.next) made ∙ showing-created c v first seen n))
+
+  pub snapshot-good : seen ≤ n → n ≤ VMO_PAGES → IsGood (showing d v first (first + seen - first) koid)
+  snapshot-good few many = subst IsGood (sym snapshot-is) (IsGood-snapshotted c v first seen n good few many)
+
+  pub snapshot-held : (k : ℕ) → held_from d v first k ≡ held_from c v first k
+  unfolding created held_from
+  snapshot-held k = ap (λ (s : Content). held_from s v first k) made
+
+  pub snapshot-apart : IsSome (c.count v) → v ≢ koid
+  snapshot-apart some same = let low = koid_some c v good some in absurd (omega (arith, same, new))
+
+-- ---- the count of a VMO
+
+pub count_is : (o : Option ℕ) (n : ℕ) → IsSome o → n ≡ unwrap_or o 0 → o ≡ Some n
+count_is None n some is = absurd cc
+count_is (Some m) n some is = ap (λ k. Some k) (sym is)
+
+pub count_stays : (c d : Content) (v first end : ℕ) → d ≡ zeroed c v first end → IsSome (c.count v) → IsSome (d.count v)
+unfolding zeroed
+count_stays c d v first end zero some = ap (λ (s : Content). is_some (s.count v)) zero ∙ some

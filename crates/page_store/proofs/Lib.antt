@@ -1,13 +1,7 @@
 pub mod NameLaws
-pub mod RowLaws
-pub mod BoundLaws
-pub mod VmoLaws
+pub mod HeldLaws
+pub mod ViewerLaws
 pub mod FlatLaws
-pub mod FlatFrames
 pub mod FlatOwning
 pub mod FlatWriting
-pub mod ShareLaws
-pub mod ViewLaws
-pub mod ReleaseLaws
-pub mod SnapshotLaws
-pub mod NextLaws
+pub mod FlatSharing

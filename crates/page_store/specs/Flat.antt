@@ -1,41 +1,54 @@
--- The plain store as plain lists, and the content that they stand for.
-use Rattle.std.specs.Prelude.{◌≡◌, ℕ, List, length, slice_index_or, Option, None, Some}
-use Rattle.frame_pool.specs.Pool.{Pool, frame_bytes}
-use Rattle.vm_model.specs.Contents.Content.{Content, Page, IsGood}
-use Rattle.page_store.specs.declared.rows.Row.{Row}
-use Rattle.page_store.specs.declared.vmos.Vmo.{Vmo}
-use Rattle.page_store.specs.Rows.{find_row, IsSorted}
-use Rattle.page_store.specs.Vmos.{count_in, IsAscending}
-use Rattle.page_store.specs.Shares.{rows_with, AreTakenWhereShared}
+-- The plain store as the values of its fields, and the content that they stand for.
+use Rattle.std.specs.Prelude.{◌≡◌, ℕ, List, length, slice_index_or, nat_lt, Option, None, Some, is_some}
+use Rattle.frame_pool.specs.Pool.{Pool, taken_frames, frame_bytes}
+use Rattle.pair_map.specs.declared.pair_map.PairMap.{PairMap}
+use Rattle.pair_map.specs.Maps.{values_of, count_of, spare_of}
+use Rattle.vm_base.specs.declared.names.Tag.{Tag}
+use Rattle.vm_model.specs.Contents.Content.{Content, Page, vmos_of, IsGood}
+use Rattle.vm_model.specs.Contents.Sharing.{viewers}
+use Rattle.page_store.specs.declared.flat_store.FlatStore.TheInside.{Inside}
 
--- the page frames, the next koid, the VMOs, the rows of the held pages, the share counts by tag, and the rows that
--- may be added without asking for memory
+-- the page frames, the next koid, the page counts by 0 and koid, the frames of the held pages by koid and page number,
+-- and the share counts by tag
 pub record Flat : Type 0 where
   pub pool : Pool
   pub next : ℕ
-  pub vmos : List Vmo
-  pub rows : List Row
+  pub vmos : PairMap ℕ
+  pub rows : PairMap Tag
   pub shares : List ℕ
-  pub spare : ℕ
 
--- the page of a row, with the bytes of its frame
-abbrev pub page_of_row : Pool → Option Row → Option Page
-page_of_row pool None = None
-page_of_row pool (Some row) = Some (record { tag = row.tag.0; bytes = frame_bytes pool row.tag.0 })
+-- a page with the frame of this tag and its bytes
+abbrev pub page_with : Pool → Tag → Page
+page_with pool tag = record { tag = tag.0; bytes = frame_bytes pool tag.0 }
+
+abbrev pub page_from : Pool → Option Tag → Option Page
+page_from pool None = None
+page_from pool (Some tag) = Some (page_with pool tag)
 
 abbrev pub content_of : Flat → Content
 content_of f = record {
   frames = f.pool.frames;
   next = f.next;
-  count = λ v. count_in v f.vmos;
-  page = λ v p. page_of_row f.pool (find_row v p f.rows);
+  count = λ v. values_of f.vmos 0 v;
+  page = λ v p. page_from f.pool (values_of f.rows v p);
 }
 
--- What holds of every plain store: the share count of a frame is how many rows have it, and the frames with a row are taken.
+-- how many pages may be held more with no memory from the host
+abbrev pub room_of : Flat → ℕ
+room_of f = spare_of f.rows
+
+-- What holds of every plain store: the share count of a frame is how many VMOs show it, and the frames that some VMO shows
+-- are taken.
 pub record IsFlat (f : Flat) : Type 0 where
-  pub sorted : IsSorted f.rows
-  pub ascending : IsAscending f.vmos
   pub good : IsGood (content_of f)
+  pub live : count_of f.vmos ≡ vmos_of (content_of f)
   pub counts : length f.shares ≡ f.pool.frames
-  pub shares : (t : ℕ) → slice_index_or f.shares t 0 ≡ rows_with t f.rows
-  pub counted : AreTakenWhereShared f.shares f.pool
+  pub shares : (t : ℕ) → slice_index_or f.shares t 0 ≡ viewers (content_of f) t
+  pub taken : (t : ℕ) → is_some (taken_frames f.pool t) ≡ nat_lt 0 (slice_index_or f.shares t 0)
+
+abbrev pub flat_of : Inside → Flat
+flat_of a = record { pool = a.pool; next = a.next; vmos = a.vmos; rows = a.rows; shares = a.shares.items }
+
+-- the fields are a plain store
+pub record AreFlat (a : Inside) : Type 0 where
+  pub flat : IsFlat (flat_of a)

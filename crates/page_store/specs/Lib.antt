@@ -1,7 +1,4 @@
 pub mod Pages
 pub mod Names
-pub mod Rows
-pub mod Vmos
-pub mod Shares
+pub mod Held
 pub mod Flat
-pub mod FlatFields

@@ -1,47 +1,44 @@
-//! The plain store: one sorted list of the pages that are held, and a share count for each frame.
+//! The plain store: a map of the pages that are held, and a share count for each frame.
 
-ghost use Rattle.std.specs.Prelude.{◌≡◌, ℕ, ◌+◌, ◌<◌, ◌≤◌, ◌⊎◌, true, length, IsSome};
-ghost use Rattle.vm_model.specs.Contents.Content.{nothing, pages_of, used, sole};
+ghost use Rattle.std.specs.Prelude.{◌≡◌, ◌≢◌, ℕ, ◌+◌, ◌-◌, ◌<◌, ◌≤◌, ◌⊎◌, ◌==◌, ◌&&◌, if◌then◌else◌, true, IsSome, IfSome, IfNone, OnOk, IfOk, OnErr, None, Some};
+ghost use Rattle.vm_base.specs.declared.limits.TheConstants.{VMO_PAGES, KOIDS};
+ghost use Rattle.vm_base.specs.Pages.{zeros};
+ghost use Rattle.vm_model.specs.Contents.Content.{nothing, pages_of, views, used, sole, hold, created, IsGood};
 ghost use Rattle.vm_model.specs.Contents.Owning.{Owns};
 ghost use Rattle.vm_model.specs.Contents.Zeroing.{zeroed};
-ghost use Rattle.vm_base.specs.Pages.{zeros};
 ghost use Rattle.frame_pool.specs.Pool.{taken_frames, frame_bytes, taken_count, Takes};
-ghost use Rattle.page_store.specs.Rows.{IsRowFor, IsGapFor};
-ghost use Rattle.page_store.specs.Flat.{content_of};
+ghost use Rattle.pair_map.specs.Maps.{values_of};
+ghost use Rattle.page_store.specs.Pages.{IsShown};
+ghost use Rattle.page_store.specs.Held.{IsNextBelow, HasNoneBelow, held_from, showing};
+ghost use Rattle.page_store.specs.Flat.{content_of, page_with, room_of};
 
 use crate::page_store::{Look, PageStore};
-use crate::rows::{Row, find, lower_bound, rows_within};
-use crate::sharing::{first_with, release_rows, share_rows};
-use crate::vmos::{Vmo, find_vmo};
 use frame_pool::FramePool;
+use pair_map::PairMap;
 use std::alloc::Global;
 use std::marker::Model;
-use vm_base::{HostMemory, Koid, PageNo, Tag};
+use vm_base::{HostMemory, Koid, PageNo, Tag, VMO_PAGES};
 
-/// A page store whose held pages are the rows of one sorted list. VMOs share page frames: a snapshot has
-/// rows of its own for the pages that it sees, with the same frames, and the share count of a frame says
-/// how many VMOs show it.
-// A page is looked up by a binary search. A row that comes, and rows that go, move those behind them.
+/// A page store whose held pages are the entries of one map. VMOs share page frames: a snapshot has entries of its own
+/// for the pages that it sees, with the same frames, and the share count of a frame says how many VMOs show it.
 #[derive(Drop)]
 pub struct FlatStore {
     /// The page frames. A frame is taken while some VMO shows it.
     pool: FramePool,
     /// The koid of the next VMO. The first has koid 1, and none is given twice.
     next: u64,
-    /// The VMOs, by koid.
-    vmos: Vec<Vmo>,
-    /// The pages that are held, by koid and then by page number.
-    rows: Vec<Row>,
+    /// The page counts of the VMOs, by the pair of 0 and the koid: in the order of koids.
+    vmos: PairMap<PageNo>,
+    /// The frames of the pages that are held, by koid and page number.
+    rows: PairMap<Tag>,
     /// How many VMOs show each frame, by tag.
     shares: Vec<u64>,
 }
 
 impl Model for FlatStore {
-    ghost use Rattle.page_store.specs.Flat.{Flat};
+    ghost use Rattle.page_store.specs.Flat.{Flat, flat_of, AreFlat};
 
     ghost Value = { Flat };
-
-    ghost use Rattle.page_store.specs.FlatFields.{flat_of, AreFlat};
 
     ghost view = { flat_of };
 
@@ -56,67 +53,164 @@ impl FlatStore {
         FlatStore {
             pool: FramePool::new(alloc),
             next: 1,
-            vmos: Vec::new(alloc),
-            rows: Vec::new(alloc),
+            vmos: PairMap::new(alloc),
+            rows: PairMap::new(alloc),
             shares: Vec::new(alloc),
         }
     }
 
-    // Gives a page that is zero a frame. Its row would stand at `at`.
-    fn own_zero(&mut self, v: Koid, page: PageNo, at: usize) -> Tag
-        requires gap { IsGapFor self.old.rows v.0 page at }
+    // Makes a VMO of `count` zero pages under the next koid.
+    fn add_vmo(&mut self, count: PageNo) -> Result<Koid, HostMemory>
+        requires count { count ≤ VMO_PAGES }
+        requires next { (content_of self.old).next < KOIDS }
+        ensures koid { IfOk result (λ v. v.0 ≡ (content_of self.old).next) }
+        ensures ok { OnOk result (content_of self.new ≡ created (content_of self.old) count) }
+        ensures err { OnErr result (content_of self.new ≡ content_of self.old) }
+        ensures rows { self.new.rows ≡ self.old.rows }
+    {
+        let Ok(()) = self.vmos.reserve(1) else {
+            return Err(HostMemory);
+        };
+        let koid = self.next;
+        self.vmos.insert(0, koid, count);
+        self.next = koid + 1;
+        Ok(Koid(koid))
+    }
+
+    // Gives a page that is zero a frame.
+    fn own_zero(&mut self, v: Koid, page: PageNo) -> Tag
+        requires zero { (content_of self.old).page v.0 page ≡ None }
         requires page { page < pages_of (content_of self.old) v.0 }
-        requires row { 1 ≤ self.old.spare }
+        requires room { 1 ≤ room_of self.old }
         requires frame { used (content_of self.old) < (content_of self.old).frames }
         ensures owns { Owns (content_of self.old) (content_of self.new) v.0 page result.0 }
-        ensures spare { self.old.spare ≤ self.new.spare + 1 }
+        ensures room { room_of self.old ≤ room_of self.new + 1 }
     {
         let tag = take_zeros(&mut self.pool);
-        // There is room for the row: `reserve` took it.
-        let _ = self.rows.insert(at, Row { koid: v, page, tag });
+        self.rows.insert(v.0, page, tag);
         self.shares[tag.0 as usize] = 1;
         tag
     }
 
-    // Gives the page of the row at `at` a frame of its own, where other VMOs show its frame too.
-    fn own_held(&mut self, at: usize) -> Tag
-        requires row { at < length self.old.rows }
-        requires room { (v p : ℕ) → IsRowFor self.old.rows v p at → (sole (content_of self.old) v p ≡ true)
+    // Gives a page that is held a frame of its own, where other VMOs show its frame too.
+    fn own_held(&mut self, v: Koid, page: PageNo, shown: Tag) -> Tag
+        requires held { values_of self.old.rows v.0 page ≡ Some shown }
+        requires room { (sole (content_of self.old) v.0 page ≡ true)
             ⊎ (used (content_of self.old) < (content_of self.old).frames) }
-        ensures owns { (v p : ℕ) → IsRowFor self.old.rows v p at
-            → Owns (content_of self.old) (content_of self.new) v p result.0 }
-        ensures spare { self.new.spare ≡ self.old.spare }
+        ensures owns { Owns (content_of self.old) (content_of self.new) v.0 page result.0 }
+        ensures room { room_of self.new ≡ room_of self.old }
     {
-        let shown = self.rows[at].tag;
         let viewers = self.shares[shown.0 as usize];
         if viewers == 1 {
             return shown;
         }
         let tag = take_copy(&mut self.pool, shown);
-        self.shares[shown.0 as usize] -= 1;
+        self.shares[shown.0 as usize] = viewers - 1;
         self.shares[tag.0 as usize] = 1;
-        self.rows[at].tag = tag;
+        self.rows.replace(v.0, page, tag);
         tag
     }
 
-    // Makes `count` pages of a VMO zero, from page `first` on. Their frames are free then, unless another
-    // VMO shows them.
-    fn release_pages(&mut self, v: Koid, first: PageNo, count: PageNo)
-        requires { first + count ≤ pages_of (content_of self.old) v.0 }
-        ensures content { content_of self.new ≡ zeroed (content_of self.old) v.0 first (first + count) }
-        ensures vmos { self.new.vmos ≡ self.old.vmos }
-        ensures spare { self.old.spare ≤ self.new.spare }
+    // The first page of a VMO that is held, from page `from` to below `end`, and its frame.
+    fn held_below(&self, v: Koid, from: PageNo, end: PageNo) -> Option<(PageNo, Tag)>
+        ensures some { IfSome result (λ row. IsNextBelow (content_of self.now) v.0 from end row.0) }
+        ensures tag { IfSome result (λ row. values_of self.now.rows v.0 row.0 ≡ Some row.1) }
+        ensures none { IfNone result (HasNoneBelow (content_of self.now) v.0 from end) }
     {
-        let (from, end) = rows_within(&self.rows, v, first, first + count);
-        release_rows(&self.rows[from..end], &mut self.shares, &mut self.pool);
-        self.rows.drain(from..end);
+        match self.rows.next(v.0, from) {
+            Some((page, tag)) if page < end => Some((page, tag)),
+            _ => None,
+        }
+    }
+
+    // How many pages of a VMO are held, from page `first` to below `end`.
+    fn count_held(&self, v: Koid, first: PageNo, end: PageNo) -> u64
+        requires { first ≤ end }
+        ensures { result ≡ held_from (content_of self.now) v.0 first (end - first) }
+    {
+        let mut held = 0;
+        let mut from = first;
+        while let Some((page, _)) = self.held_below(v, from, end) {
+            held += 1;
+            from = page + 1;
+        }
+        held
+    }
+
+    // Whether some page of a VMO has a frame.
+    fn shows(&self, v: Koid, tag: Tag) -> bool
+        requires { IsGood (content_of self.now) }
+        ensures { result ≡ views (content_of self.now) tag.0 v.0 }
+    {
+        let mut from = 0;
+        while let Some((page, shown)) = self.held_below(v, from, VMO_PAGES) {
+            if shown == tag {
+                return true;
+            }
+            from = page + 1;
+        }
+        false
+    }
+
+    // Lets a page that is zero show a frame that some other VMO shows.
+    fn show_page(&mut self, v: Koid, page: PageNo, tag: Tag)
+        requires zero { (content_of self.old).page v.0 page ≡ None }
+        requires shown { IsShown (content_of self.old) tag.0 }
+        requires good { IsGood (hold (content_of self.old) v.0 page (page_with self.old.pool tag)) }
+        requires room { 1 ≤ room_of self.old }
+        ensures content { content_of self.new ≡ hold (content_of self.old) v.0 page (page_with self.old.pool tag) }
+        ensures room { room_of self.new + 1 ≡ room_of self.old }
+    {
+        // No more VMOs show a frame than there are koids.
+        let _koids = self.next;
+        self.rows.insert(v.0, page, tag);
+        self.shares[tag.0 as usize] += 1;
+    }
+
+    // Lets a VMO with no held page show those of another one from `first` to below `end`, counted from `first`.
+    fn show_pages(&mut self, v: Koid, of: Koid, first: PageNo, end: PageNo)
+        requires order { first ≤ end }
+        requires apart { of.0 ≢ v.0 }
+        requires zero { (p : ℕ) → (content_of self.old).page v.0 p ≡ None }
+        requires good { IsGood (showing (content_of self.old) of.0 first (end - first) v.0) }
+        requires room { held_from (content_of self.old) of.0 first (end - first) ≤ room_of self.old }
+        ensures { content_of self.new ≡ showing (content_of self.old) of.0 first (end - first) v.0 }
+    {
+        let mut from = first;
+        while let Some((page, tag)) = self.held_below(of, from, end) {
+            self.show_page(v, page - first, tag);
+            from = page + 1;
+        }
+    }
+
+    // Makes a page zero that is held. Its frame is free then, unless another VMO shows it.
+    fn release_page(&mut self, v: Koid, page: PageNo)
+        requires { IsSome (values_of self.old.rows v.0 page) }
+        ensures content { content_of self.new ≡ zeroed (content_of self.old) v.0 page (page + 1) }
+        ensures room { room_of self.old ≤ room_of self.new }
+    {
+        let tag = self.rows.remove(v.0, page);
+        let viewers = self.shares[tag.0 as usize] - 1;
+        self.shares[tag.0 as usize] = viewers;
+        give_back_unshown(&mut self.pool, tag, viewers);
+    }
+
+    // Makes the pages of a VMO zero from `first` to below `end`.
+    fn release_pages(&mut self, v: Koid, first: PageNo, end: PageNo)
+        ensures { content_of self.new ≡ zeroed (content_of self.old) v.0 first end }
+    {
+        let mut from = first;
+        while let Some((page, _)) = self.held_below(v, from, end) {
+            self.release_page(v, page);
+            from = page + 1;
+        }
     }
 }
 
 impl PageStore for FlatStore {
     ghost content = { content_of };
 
-    ghost spare = { λ f. f.spare };
+    ghost spare = { room_of };
 
     fn fill(&mut self, frames: u32) -> Result<(), HostMemory> {
         let Ok(()) = self.shares.reserve_exact(frames as usize) else {
@@ -131,12 +225,7 @@ impl PageStore for FlatStore {
     }
 
     fn create(&mut self, count: PageNo) -> Result<Koid, HostMemory> {
-        let koid = Koid(self.next);
-        let Ok(()) = self.vmos.push(Vmo { koid, count }) else {
-            return Err(HostMemory);
-        };
-        self.next += 1;
-        Ok(koid)
+        self.add_vmo(count)
     }
 
     fn snapshot(
@@ -146,17 +235,17 @@ impl PageStore for FlatStore {
         seen: PageNo,
         count: PageNo,
     ) -> Result<Koid, HostMemory> {
-        let (from, end) = rows_within(&self.rows, of, first, first + seen);
-        // All memory is taken before anything is changed.
-        let Ok(()) = self.rows.reserve(end - from) else {
-            return Err(HostMemory);
-        };
         let koid = Koid(self.next);
-        let Ok(()) = self.vmos.push(Vmo { koid, count }) else {
+        let end = first + seen;
+        // All memory is taken before anything is changed.
+        let held = self.count_held(of, first, end);
+        let Ok(()) = self.rows.reserve(held as usize) else {
             return Err(HostMemory);
         };
-        self.next += 1;
-        share_rows(&mut self.rows, &mut self.shares, from, end, koid, first);
+        let Ok(_) = self.add_vmo(count) else {
+            return Err(HostMemory);
+        };
+        self.show_pages(koid, of, first, end);
         Ok(koid)
     }
 
@@ -168,47 +257,42 @@ impl PageStore for FlatStore {
     }
 
     fn look(&self, v: Koid, page: PageNo) -> Look {
-        match find(&self.rows, v, page) {
-            Ok(at) => {
-                let tag = self.rows[at].tag;
-                Look::Held {
-                    tag,
-                    sole: self.shares[tag.0 as usize] == 1,
-                }
-            }
-            Err(_) => Look::Zero,
+        match self.rows.find(v.0, page) {
+            Some(tag) => Look::Held {
+                tag,
+                sole: self.shares[tag.0 as usize] == 1,
+            },
+            None => Look::Zero,
         }
     }
 
     fn own(&mut self, v: Koid, page: PageNo) -> Tag {
-        match find(&self.rows, v, page) {
-            Ok(at) => self.own_held(at),
-            Err(at) => self.own_zero(v, page, at),
+        match self.rows.find(v.0, page) {
+            Some(shown) => self.own_held(v, page, shown),
+            None => self.own_zero(v, page),
         }
     }
 
     fn zero(&mut self, v: Koid, page: PageNo) {
-        self.release_pages(v, page, 1);
+        if self.rows.find(v.0, page).is_some() {
+            self.release_page(v, page);
+        }
     }
 
     fn count(&self, v: Koid) -> PageNo {
-        self.vmos[find_vmo(&self.vmos, v)].count
+        self.vmos.find(0, v.0).unwrap_or(0)
     }
 
     fn set_count(&mut self, v: Koid, count: PageNo) {
-        let at = find_vmo(&self.vmos, v);
-        let old = self.vmos[at].count;
+        let old = self.vmos.find(0, v.0).unwrap_or(0);
         // Where the VMO grows, no page leaves it.
-        let kept = count.min(old);
-        self.release_pages(v, kept, old - kept);
-        self.vmos[at].count = count;
+        self.release_pages(v, count, old);
+        self.vmos.replace(0, v.0, count);
     }
 
     fn drop_vmo(&mut self, v: Koid) {
-        let at = find_vmo(&self.vmos, v);
-        let pages = self.vmos[at].count;
-        self.release_pages(v, 0, pages);
-        self.vmos.remove(at);
+        self.release_pages(v, 0, VMO_PAGES);
+        self.vmos.remove(0, v.0);
     }
 
     fn read(&self, tag: Tag, at: u64, out: &mut [u8]) {
@@ -220,22 +304,29 @@ impl PageStore for FlatStore {
     }
 
     fn next_held(&self, v: Koid, from: PageNo) -> Option<PageNo> {
-        let at = lower_bound(&self.rows, v, from);
-        if at < self.rows.len() && self.rows[at].koid == v {
-            Some(self.rows[at].page)
-        } else {
-            None
+        match self.rows.next(v.0, from) {
+            Some((page, _)) => Some(page),
+            None => None,
         }
     }
 
     fn least_viewer(&self, tag: Tag) -> Koid {
-        self.rows[first_with(&self.rows, tag)].koid
+        // The koids are below the next.
+        let _koids = self.next;
+        let mut from = 0;
+        while let Some((koid, _)) = self.vmos.next(0, from) {
+            if self.shows(Koid(koid), tag) {
+                return Koid(koid);
+            }
+            from = koid + 1;
+        }
+        unreachable!()
     }
 
     fn viewers(&self, v: Koid, page: PageNo) -> u64 {
-        match find(&self.rows, v, page) {
-            Ok(at) => self.shares[self.rows[at].tag.0 as usize],
-            Err(_) => 0,
+        match self.rows.find(v.0, page) {
+            Some(tag) => self.shares[tag.0 as usize],
+            None => 0,
         }
     }
 
@@ -269,4 +360,16 @@ fn take_copy(pool: &mut FramePool, from: Tag) -> Tag
     ensures takes { Takes pool.old pool.new result.0 (frame_bytes pool.old from.0) }
 {
     pool.take_copy(from).unwrap()
+}
+
+/// Gives a frame back that is taken, where no VMO shows it any more.
+fn give_back_unshown(pool: &mut FramePool, tag: Tag, viewers: u64)
+    requires { IsSome (taken_frames pool.old tag.0) }
+    ensures frames { pool.new.frames ≡ pool.old.frames }
+    ensures taken { (t : ℕ) → taken_frames pool.new t
+        ≡ (if (t == tag.0) && (viewers == 0) then None else taken_frames pool.old t) }
+{
+    if viewers == 0 {
+        pool.give_back(tag);
+    }
 }

@@ -1,7 +1,7 @@
 //! The store of pages: what it contains and how it changes (`PageStore`), and the plain store
-//! (`FlatStore`), a sorted list of held pages. And how many pages a name has in a store, and a VMO that leaves it.
+//! (`FlatStore`), a map of held pages. And how many pages a name has in a store, and a VMO that leaves it.
 //!
-//! It stands on `vm_model`, whose contents the contracts speak of. The layers above use the trait,
+//! It stands on `vm_model`, whose contents the contracts speak of, and on `pair_map` for the plain store. The layers above use the trait,
 //! make a store by `FlatStore::new`, ask for the size of a name by `size_of_name`, and hand on a VMO that nothing keeps
 //! to `drop_gone`.
 #![tactic(auto)]
@@ -10,9 +10,6 @@ mod flat_store;
 mod leaving;
 mod names;
 mod page_store;
-mod rows;
-mod sharing;
-mod vmos;
 
 pub use flat_store::FlatStore;
 pub use leaving::drop_gone;

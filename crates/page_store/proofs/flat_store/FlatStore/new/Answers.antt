@@ -1,11 +1,9 @@
-use Rattle.page_store.proofs.FlatLaws.{IsFlat-empty, content_of-none}
+use Rattle.std.proofs.Common.{[]}
+use Rattle.page_store.proofs.FlatLaws.{content-new, IsFlat-new}
 use Rattle.page_store.proofs.flat_store.FlatStore.new.Goals as goal
 
 pub invariant_of-result : goal.invariant_of-result
-invariant_of-result c = record { flat = rw (c.new-2.ensures.items, c.new-3.ensures.items, c.new-4.ensures.items) (IsFlat-empty _ _ c.new.ensures.frames c.new.ensures.taken) }
+invariant_of-result c = record { flat = rw c.new-4.ensures.items (IsFlat-new _ _ _ c.new.ensures.frames c.new.ensures.taken c.new-2.ensures.values c.new-3.ensures.values c.new-2.ensures.count) }
 
 pub returns : goal.returns
-returns c = record {
-  content = rw (c.new-2.ensures.items, c.new-3.ensures.items)
-      (content_of-none _ 0 c.new.ensures.frames);
-}
+returns c = record { content = content-new _ c.new-2.result c.new-3.result [] c.new.ensures.frames c.new-2.ensures.values c.new-3.ensures.values }

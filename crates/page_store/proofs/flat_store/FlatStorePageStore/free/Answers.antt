@@ -1,4 +1,4 @@
-use Rattle.page_store.proofs.FlatFrames.{free_unused}
+use Rattle.page_store.proofs.FlatLaws.{free_unused}
 use Rattle.page_store.proofs.flat_store.FlatStorePageStore.free.Goals as goal
 
 pub returns : goal.returns

@@ -1,11 +1,25 @@
-use Rattle.page_store.specs.FlatFields.{flat_of}
-use Rattle.page_store.proofs.ViewLaws.{rows_with-shown, least_row}
+use Rattle.std.proofs.Common.{◌≡◌, subst, sym, ap, ◌∙◌, arith}
+use Rattle.std.specs.Option.{option_map}
+use Rattle.pair_map.specs.Maps.{values_of, IsNext}
+use Rattle.page_store.specs.Flat.{flat_of, content_of}
+use Rattle.page_store.proofs.FlatLaws.{least-at, least-next, least-below, least-none}
 use Rattle.page_store.proofs.flat_store.FlatStorePageStore.least_viewer.Goals as goal
 
-pub first_with-requires : goal.first_with-requires
-first_with-requires c = rw c.deref.ensures.value
-    (rows_with-shown (flat_of c.self.inside) c.args.tag.0 (rw (← c.self.view_is) at c.requires))
+pub returns-then-shows : goal.returns-then-shows
+returns-then-shows c =
+    rw (← c.self.view_is) (least-at (content_of (flat_of c.self.inside)) c.args.tag.0 c.loop-koid.from c.loop-koid.invariant.none c.in-Some.koid c.in-Some.ensures.next
+    (rw (← c.self.view_is) at c.if-shows.ensures))
 
-pub returns : goal.returns
-returns c =
-    rw (← c.self.view_is) (least_row (flat_of c.self.inside) c.args.tag.0 c.first_with.result c.index.result.now c.self.invariant.flat (rw c.deref.ensures.value at c.first_with.ensures) c.index.ensures)
+pub overflow_add-from : goal.overflow_add-from
+overflow_add-from c =
+    omega (arith, least-below (content_of (flat_of c.self.inside)) c.args.tag.0 c.loop-koid.from c.loop-koid.invariant.none c.self.invariant.flat.good c.in-Some.koid c.in-Some.ensures.next)
+
+pub loop-koid-preserved : goal.loop-koid-preserved
+loop-koid-preserved c = record {
+  none = least-next (content_of (flat_of c.self.inside)) c.args.tag.0 c.loop-koid.from c.loop-koid.invariant.none c.in-Some.koid c.in-Some.ensures.next
+      (rw (← c.self.view_is) at c.if-shows.ensures);
+}
+
+pub unreachable-requires : goal.unreachable-requires
+unreachable-requires c =
+    least-none (content_of (flat_of c.self.inside)) c.args.tag.0 c.loop-koid.from c.loop-koid.invariant.none c.self.invariant.flat.good c.in_default.ensures.next (rw (← c.self.view_is) at c.requires)

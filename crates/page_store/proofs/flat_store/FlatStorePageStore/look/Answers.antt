@@ -1,15 +1,12 @@
-use Rattle.std.proofs.Common.{arith}
-use Rattle.page_store.specs.FlatFields.{flat_of}
-use Rattle.page_store.proofs.FlatFrames.{share_below, look_row, look_gap}
+use Rattle.std.proofs.Common.{sym, ◌∙◌, arith}
+use Rattle.page_store.specs.Flat.{flat_of}
+use Rattle.page_store.proofs.FlatLaws.{tag_below, look_is}
 use Rattle.page_store.proofs.flat_store.FlatStorePageStore.look.Goals as goal
 
-pub index-requires-in-Ok : goal.index-requires-in-Ok
-index-requires-in-Ok c =
-    omega (arith, c.self.inside.shares.ok.0, share_below _ _ _ _ _ c.self.invariant.flat (rw c.deref.ensures.value at c.in-Ok.ensures.found) c.index.ensures)
+pub index-requires : goal.index-requires
+index-requires c =
+    omega (arith, c.self.inside.shares.ok.0, tag_below (flat_of c.self.inside) _ _ c.in-Some.tag c.self.invariant.flat (sym c.find.ensures ∙ c.in-Some.is))
 
-pub returns-in-Ok : goal.returns-in-Ok
-returns-in-Ok c = rw (← c.self.view_is) (look_row _ _ _ _ _ c.self.invariant.flat (rw c.deref.ensures.value at c.in-Ok.ensures.found) c.index.ensures _ c.index-in-Ok.ensures)
-
-pub returns-in-Err : goal.returns-in-Err
-returns-in-Err c = rw (← c.self.view_is)
-    (look_gap (flat_of c.self.inside) _ _ _ (rw c.deref.ensures.value at c.in-Err.ensures.absent))
+pub returns-in-Some : goal.returns-in-Some
+returns-in-Some c =
+    rw (← c.self.view_is) (look_is (flat_of c.self.inside) _ _ c.in-Some.tag c.self.invariant.flat (sym c.find.ensures ∙ c.in-Some.is) _ c.index.ensures)

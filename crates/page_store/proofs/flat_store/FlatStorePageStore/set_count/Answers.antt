@@ -1,38 +1,26 @@
-use Rattle.std.proofs.Common.{arith}
-use Rattle.vm_model.specs.Contents.Content.{pages_of}
-use Rattle.page_store.specs.Vmos.{IsVmoFor}
-use Rattle.page_store.specs.Flat.{content_of}
-use Rattle.page_store.specs.FlatFields.{flat_of}
-use Rattle.page_store.proofs.FlatLaws.{pages_read}
-use Rattle.page_store.proofs.ReleaseLaws.{HasReleased, HasReleased-past, content-relisted, IsFlat-relisted}
+use Rattle.std.proofs.Common.{◌≡◌, Some, ap, ◌∙◌, sym}
+use Rattle.vm_model.specs.Contents.Zeroing.{zeroed}
+use Rattle.page_store.specs.Flat.{flat_of, content_of}
+use Rattle.page_store.proofs.FlatLaws.{content-resized, IsFlat-resized, count_is, count_stays}
 use Rattle.page_store.proofs.flat_store.FlatStorePageStore.set_count.Goals as goal
 
-pub release_pages-requires : goal.release_pages-requires
-release_pages-requires c =
-    rw (← c.self.view_is) (let pages = pages_read (flat_of c.self.inside) c.args.v.0 _ _ c.self.invariant.flat (rw c.deref.ensures.value at c.find_vmo-at.ensures) c.index.ensures in omega arith)
+pub replace-requires : goal.replace-requires
+replace-requires c =
+    count_stays (content_of (flat_of c.self.inside)) (content_of (flat_of c.self-2.inside)) c.args.v.0 _ _
+    (rw (← c.self.view_is, ← c.self-2.view_is) at c.release_pages.ensures) (rw (← c.self.view_is) at c.requires.vmo)
 
-place : (c : goal.After-self-1) → IsVmoFor (flat_of c.self.inside).vmos c.args.v.0 c.find_vmo-at.result
-place c = rw c.deref.ensures.value at c.find_vmo-at.ensures
+was : (c : goal.After-replace) → (content_of (flat_of c.self.inside)).count c.args.v.0 ≡ Some c.unwrap_or-old.result
+was c = count_is _ c.unwrap_or-old.result (rw (← c.self.view_is) at c.requires.vmo) (rw c.find.ensures at c.unwrap_or-old.ensures)
 
--- the pages past the new end were released
-released : (c : goal.After-self-1) → HasReleased (flat_of c.self.inside) (flat_of c.self-2.inside) c.args.v.0 c.args.count (pages_of (content_of (flat_of c.self.inside)) c.args.v.0)
-released c =
-    let pages = pages_read (flat_of c.self.inside) c.args.v.0 _ _ c.self.invariant.flat (place c) c.index.ensures in
-    HasReleased-past (flat_of c.self.inside) (flat_of c.self-2.inside) _ c.args.count _ _ (omega arith) (omega arith)
-    (record {
-      content = rw (← c.self.view_is, ← c.self-2.view_is) at c.release_pages.ensures.content;
-      vmos = rw (← c.self.view_is, ← c.self-2.view_is) at c.release_pages.ensures.vmos;
-    })
+zero : (c : goal.After-replace) → content_of (flat_of c.self-2.inside) ≡ zeroed (content_of (flat_of c.self.inside)) c.args.v.0 c.args.count c.unwrap_or-old.result
+zero c = rw (← c.self.view_is, ← c.self-2.view_is) at c.release_pages.ensures
 
 pub invariant_of-self : goal.invariant_of-self
 invariant_of-self c = record {
-  flat = IsFlat-relisted (flat_of c.self.inside)
-      (flat_of c.self-2.inside) c.args.v.0 c.find_vmo-at.result _ _ c.self.invariant.flat c.self-2.invariant.flat
-      (place c) c.index_mut.ensures.value (released c) (rw (← c.self.view_is) at c.requires.vmo) c.requires.count;
+  flat = IsFlat-resized (content_of (flat_of c.self.inside)) (flat_of c.self-2.inside) c.replace.new.self c.args.v.0 c.args.count _ (zero c) (was c) c.replace.ensures.values
+      c.self.invariant.flat.good c.self-2.invariant.flat c.requires.count c.replace.ensures.count;
 }
 
 pub returns : goal.returns
 returns c =
-    rw (← c.self.view_is) (content-relisted (flat_of c.self.inside)
-    (flat_of c.self-2.inside) c.args.v.0 c.find_vmo-at.result _ _ c.self.invariant.flat c.self-2.invariant.flat
-    (place c) c.index_mut.ensures.value (released c))
+    rw (← c.self.view_is) (content-resized (content_of (flat_of c.self.inside)) (flat_of c.self-2.inside) c.replace.new.self c.args.v.0 c.args.count _ (zero c) (was c) c.replace.ensures.values)

@@ -1,0 +1,17 @@
+use Rattle.std.proofs.Common.{◌≡◌, ◌+◌, ◌-◌, ◌≤◌}
+use Rattle.page_store.specs.Held.{held_from, showing}
+use Rattle.page_store.specs.Flat.{content_of, room_of}
+use Rattle.page_store.proofs.flat_store.FlatStore.show_pages.Given as goal
+
+-- the pages up to here are shown, and there is room for the others
+abbrev pub invariant-loop-page : goal.invariant-loop-page
+invariant-loop-page l = record {
+  first : l.first ≤ l.from;
+  end : l.from ≤ l.end;
+  shown : content_of l.self ≡ showing (content_of l.initial.self) l.of.0 l.first (l.from - l.first) l.v.0;
+  room : held_from (content_of l.initial.self) l.of.0 l.first (l.end - l.first)
+      ≤ room_of l.self + held_from (content_of l.initial.self) l.of.0 l.first (l.from - l.first);
+}
+
+abbrev pub decreases-loop-page : goal.decreases-loop-page
+decreases-loop-page l = l.end - l.from
