@@ -10,6 +10,7 @@ use Rattle.mapping_set.specs.declared.piece.Piece.{Piece}
 use Rattle.mapping_set.specs.Pieces.{list_number, shown_by, table_in, IsSound, ArePieces, AreListed}
 use Rattle.mapping_set.specs.Tables.{with_piece, without_piece, IsBare}
 use Rattle.mapping_set.proofs.TableLaws.{with_pair-cases, with_pair-same, shown_by-out, table_in-none, one_piece, table_in-at, table_in-changed}
+use Rattle.vm_base.proofs.EntryLaws.{some_same}
 
 -- numbers of lists are equal where the regions and the root regions are
 list_numbers : (n m r s : ℕ) → r < NAMES → s < NAMES → list_number n r ≡ list_number m s → (n ≡ m) × (r ≡ s)
@@ -18,10 +19,6 @@ list_numbers n m r s few_r few_s e = elim (cases_order n m) [
   | inr (inl less) ↦ absurd (omega arith)
   | inr (inr more) ↦ absurd (omega arith)
 ]
-
--- of two pieces that are one
-some_same : {A : Type 0} {x y : A} → ◌≡◌ {A = Option A} (Some x) (Some y) → x ≡ y
-some_same e = cc
 
 -- ---- a piece comes
 

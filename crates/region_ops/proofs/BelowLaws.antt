@@ -6,7 +6,8 @@ use Rattle.std.proofs.lemmas.Bool.{and_parts, and_from, false_from_ne_true, leb-
 use Rattle.vm_base.specs.declared.limits.TheConstants.{NAMES}
 use Rattle.vm_model.specs.declared.space.Region.{Region}
 use Rattle.vm_model.specs.Space.Regions.{end_of, lies_in, parent_in, is_above, is_below, killed, AreGoodRegions}
-use Rattle.vm_model.proofs.RegionLaws.{reaches_over_parts, below_each}
+use Rattle.vm_model.proofs.RegionLaws.{reaches_over_parts, below_each, lies_in_parts, lies_in_from}
+use Rattle.vm_base.proofs.EntryLaws.{some_same}
 
 -- ---- regions that die one after another
 
@@ -62,18 +63,6 @@ is_below-killed regions dies name n =
 
 -- ---- what lies below what
 
-some_same : {x y : Region} → ◌≡◌ {A = Option Region} (Some x) (Some y) → x ≡ y
-some_same s = cc
-
-lies_in_from : (outer inner : Region) → outer.first ≤ inner.first → end_of inner ≤ end_of outer → lies_in outer.first (end_of outer) inner ≡ true
-lies_in_from outer inner low high =
-    and_from (nat_le outer.first inner.first) (nat_le (end_of inner) (end_of outer)) (le-leb outer.first inner.first low) (le-leb (end_of inner) (end_of outer) high)
-
-lies_in_parts : (outer inner : Region) → lies_in outer.first (end_of outer) inner ≡ true → (outer.first ≤ inner.first) × (end_of inner ≤ end_of outer)
-lies_in_parts outer inner h =
-    let both = and_parts (nat_le outer.first inner.first) (nat_le (end_of inner) (end_of outer)) h in
-    (leb-true outer.first inner.first both.0, leb-true (end_of inner) (end_of outer) both.1)
-
 -- a live region below another lies in it
 pub lies_below : (regions : ℕ → Option Region) → AreGoodRegions regions → (name : ℕ) (above : Region) → regions name ≡ Some above
     → (n : ℕ) (region : Region) → regions n ≡ Some region → region.live ≡ true → is_below regions name n ≡ true → lies_in above.first (end_of above) region ≡ true
@@ -83,8 +72,8 @@ lies_below regions good name above given n region e live below =
     elim at [
       | inl here ↦
           let same : up ≡ above = some_same (sym g ∙ (ap regions here ∙ given)) in
-          lies_in_from above r (omega (arith, inside.0, ap (λ (x : Region). x.first) same)) (omega (arith, inside.1, ap end_of same))
-      | inr higher ↦ let outer = lies_in_parts above up (higher (is.live alive)) in lies_in_from above r (omega (arith, inside.0, outer.0)) (omega (arith, inside.1, outer.1))
+          lies_in_from above.first (end_of above) r (omega (arith, inside.0, ap (λ (x : Region). x.first) same)) (omega (arith, inside.1, ap end_of same))
+      | inr higher ↦ let outer = lies_in_parts above.first (end_of above) up (higher (is.live alive)) in lies_in_from above.first (end_of above) r (omega (arith, inside.0, outer.0)) (omega (arith, inside.1, outer.1))
     ]) n region e below live
 
 -- no region lies below itself

@@ -19,6 +19,7 @@ use Rattle.vm_model.specs.Space.Mappings.{protected, any_from, has_hole, forbids
 use Rattle.mapping_set.specs.declared.piece.Piece.{Piece}
 use Rattle.mapping_set.specs.Tables.{IsFull, IsBareFrom, IsNextPiece}
 use Rattle.region_ops.specs.Covers.{IsCovered}
+use Rattle.vm_model.proofs.MappingLaws.{shows-protected}
 
 -- ---- searching a range
 
@@ -132,19 +133,6 @@ module _ (entries : ℕ → Option Entry) (region perm : ℕ) where
     there (Some entry) e = refl
 
 -- ---- a change of permissions
-
--- an entry shows the VMO that it showed
-shows-protected : (spaces : Spaces) (root first end : ℕ) (perm : Perm) (v r p : ℕ) → passes (shows v) ((protected spaces root first end perm).table r p) ≡ passes (shows v) (spaces.table r p)
-unfolding with_pages passes
-shows-protected spaces root first end perm v r p = elim (cases_Bool ((r == root) && is_within first end p)) [
-  | inl is ↦
-      let both = and_parts (r == root) (is_within first end p) is in
-      ap (passes (shows v)) (cond-true _ _ _ is) ∙ (one (spaces.table root p) ∙ ap (λ (s : ℕ). passes (shows v) (spaces.table s p)) (sym (eqb_is r root both.0)))
-  | inr out ↦ ap (passes (shows v)) (cond-false _ _ _ out)
-] where
-  one : (o : Option Entry) → passes (shows v) (option_map (λ (entry : Entry). record entry { perm = perm }) o) ≡ passes (shows v) o
-  one None = refl
-  one (Some entry) = refl
 
 -- so each VMO is mapped as often as before
 pub mapped_count-protected : (spaces : Spaces) (root first end : ℕ) (perm : Perm) (v : ℕ) → mapped_count (protected spaces root first end perm) v ≡ mapped_count spaces v

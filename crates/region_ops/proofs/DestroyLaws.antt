@@ -24,6 +24,7 @@ use Rattle.region_ops.specs.Spaces.{without_entries, with_all, AreWell, AreAllWe
 use Rattle.region_ops.proofs.LeavingLaws.{LetsGo-same, LetsGo-next, AreWell-gone}
 use Rattle.region_ops.proofs.DyingLaws.{IsUnderWay, killed-none, within_was}
 use Rattle.region_ops.proofs.UnmapLaws.{AreWell-all, Does-gone}
+use Rattle.vm_base.proofs.EntryLaws.{some_same}
 
 -- ---- the entries of regions that die
 
@@ -127,9 +128,6 @@ going_well c vmos spaces test d vmos_new now going well =
 module _ (c : Content) (vmos : Vmos) (spaces : Spaces) (good : AreGoodSpaces c spaces) (name : ℕ) (dying : Region) (given : spaces.regions name ≡ Some dying) where
   abbrev below : ℕ → Bool
   below = lies_below_in spaces.regions name dying.first (end_of dying)
-
-  some_same : {x y : Region} → ◌≡◌ {A = Option Region} (Some x) (Some y) → x ≡ y
-  some_same s = cc
 
   -- the entries of the region, and of each below it, are of its address space
   its_root : (n : ℕ) → is_at_or_below spaces.regions name n ≡ true → (r p : ℕ) (entry : Entry) → spaces.table r p ≡ Some entry → entry.region.0 ≡ n → r ≡ dying.root.0

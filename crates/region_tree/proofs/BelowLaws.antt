@@ -6,11 +6,11 @@ use Rattle.std.proofs.lemmas.Bool.{cases_Bool, cases_lt, cases_order, and_parts,
 use Rattle.vm_base.specs.Entries.{passes}
 use Rattle.vm_base.specs.declared.limits.TheConstants.{NAMES}
 use Rattle.vm_base.specs.declared.names.RegionName.{RegionName}
-use Rattle.vm_base.proofs.EntryLaws.{entry_count_le}
+use Rattle.vm_base.proofs.EntryLaws.{entry_count_le, some_same}
 use Rattle.vm_base.proofs.SearchLaws.{eqb_same, eqb_is}
 use Rattle.vm_model.specs.declared.space.Region.{Region}
 use Rattle.vm_model.specs.Space.Regions.{end_of, lies_in, parent_of, is_child, any_child, parent_in, is_above, is_below, given_count, AreGoodRegions}
-use Rattle.vm_model.proofs.RegionLaws.{reaches_over_parts, is_child_parts, region_bounds, is_below-step}
+use Rattle.vm_model.proofs.RegionLaws.{reaches_over_parts, is_child_parts, region_bounds, is_below-step, is_above-none, lies_in_parts, lies_in_from}
 use Rattle.vm_model.proofs.SpaceLaws.{none_child}
 use Rattle.balanced_tree.specs.Pairs.{IsNext}
 use Rattle.pair_map.specs.declared.stretch_row.Extent.{Extent}
@@ -19,10 +19,6 @@ use Rattle.region_tree.specs.Tree.{has_child, IsWithin, HasNoneWithin}
 use Rattle.region_tree.specs.TreeFields.{extent_for, IsTree, IsBetween, HasNoneBetween, IsOver, HasNoneOver}
 use Rattle.region_tree.proofs.PlaceLaws.{child_at}
 
--- what is found twice is the same
-pub some_same : {A : Type 0} {x y : A} → ◌≡◌ {A = Option A} (Some x) (Some y) → x ≡ y
-some_same s = cc
-
 -- a live region whose parent is this is a child
 pub is_child_from : (name : ℕ) (region : Region) (p : RegionName) → region.live ≡ true → region.parent ≡ Some p → p.0 ≡ name → is_child name region ≡ true
 unfolding passes
@@ -30,12 +26,6 @@ is_child_from name region p live up same =
     and_from region.live (passes (λ (parent : ℕ). parent == name) (parent_of region)) live
     (ap (λ (o : Option RegionName). passes (λ (parent : ℕ). parent == name) (option_map (λ (n : RegionName). n.0) o)) up
     ∙ (ap (λ (n : ℕ). n == name) same ∙ eqb_same name))
-
--- nothing is above a region without a parent
-none_above : (steps : ℕ) (regions : ℕ → Option Region) (name : ℕ) → is_above steps regions name None ≡ false
-unfolding is_above
-none_above zero regions name = refl
-none_above (suc steps) regions name = refl
 
 -- ---- how deep a region lies
 
@@ -136,7 +126,7 @@ module _ (regions : ℕ → Option Region) (good : AreGoodRegions regions) where
     go : (o : Option RegionName) → region.parent ≡ o → HasChildOver above n region
     go None f = absurd (both_ways (is_below regions above n)
         (ap (λ (o : Option Region). is_above NAMES regions above (parent_in o)) e
-        ∙ (ap (λ (o : Option RegionName). is_above NAMES regions above (option_map (λ (r : RegionName). r.0) o)) f ∙ none_above NAMES regions above)) below)
+        ∙ (ap (λ (o : Option RegionName). is_above NAMES regions above (option_map (λ (r : RegionName). r.0) o)) f ∙ is_above-none NAMES regions above)) below)
     go (Some p) f = elim (cases_Bool (p.0 == above)) [
       | inl same ↦ record {
         name = n;
@@ -178,15 +168,6 @@ module _ (regions : ℕ → Option Region) (good : AreGoodRegions regions) where
   pub has-over : (above n : ℕ) (region : Region) → regions n ≡ Some region → region.live ≡ true → is_below regions above n ≡ true → HasChildOver above n region
   has-over above n region e live below = over_under above (good.age n + 1) n region (omega arith) e live below
 
-lies_in_parts : (first end : ℕ) (region : Region) → lies_in first end region ≡ true → (first ≤ region.first) × (end_of region ≤ end)
-lies_in_parts first end region e =
-    let both = and_parts (nat_le first region.first) (nat_le (end_of region) end) e in
-    (leb-true first region.first both.0, leb-true (end_of region) end both.1)
-
-lies_in_from : (first end : ℕ) (region : Region) → first ≤ region.first → end_of region ≤ end → lies_in first end region ≡ true
-lies_in_from first end region low high =
-    and_from (nat_le first region.first) (nat_le (end_of region) end) (le-leb first region.first low) (le-leb (end_of region) end high)
-
 module _ (regions : ℕ → Option Region) (good : AreGoodRegions regions) where
   -- where none that is older lies within
   within_by : (above first last end : ℕ) → last ≡ min (first + (end - first - 1)) (2 ^ 64 - 1) → HasNoneOver regions above first first end → HasNoneOver regions above last first end
@@ -196,7 +177,7 @@ module _ (regions : ℕ → Option Region) (good : AreGoodRegions regions) where
       go : (o : Option RegionName) → within.region.parent ≡ o → ⊥
       go None f = both_ways (is_below regions above name)
           (ap (λ (o : Option Region). is_above NAMES regions above (parent_in o)) within.given
-          ∙ (ap (λ (o : Option RegionName). is_above NAMES regions above (option_map (λ (r : RegionName). r.0) o)) f ∙ none_above NAMES regions above)) within.below
+          ∙ (ap (λ (o : Option RegionName). is_above NAMES regions above (option_map (λ (r : RegionName). r.0) o)) f ∙ is_above-none NAMES regions above)) within.below
       go (Some p) f =
           let up = good.parents name within.region p within.given f in
           let lies = lies_in_parts first end within.region within.inside in

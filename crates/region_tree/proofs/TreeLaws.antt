@@ -6,7 +6,7 @@ use Rattle.std.proofs.lemmas.Bool.{cases_Bool, cases_eq, and_parts, or_right, bo
 use Rattle.vm_base.specs.Entries.{passes, with_key}
 use Rattle.vm_base.specs.declared.limits.TheConstants.{NAMES, ROOT_END}
 use Rattle.vm_base.specs.declared.names.RegionName.{RegionName}
-use Rattle.vm_base.proofs.EntryLaws.{passes-some, with_key-same, with_key-here, with_key-other}
+use Rattle.vm_base.proofs.EntryLaws.{passes-some, with_key-same, with_key-here, with_key-other, some_same}
 use Rattle.vm_base.proofs.SearchLaws.{eqb_same, eqb_apart, eqb_is}
 use Rattle.vm_model.specs.declared.space.Region.{Region}
 use Rattle.vm_model.specs.Space.Regions.{region_of, end_of, root_region, region_below, meets, reaches_over, is_child, meets_child, killed, AreGoodRegions}
@@ -20,7 +20,7 @@ use Rattle.pair_map.specs.Maps.{values_of}
 use Rattle.region_tree.specs.Tree.{regions_of, is_live_region, has_child, with_one_dead, IsWithin}
 use Rattle.region_tree.specs.TreeFields.{IsChildAt, extent_for, IsTree}
 use Rattle.region_tree.proofs.PlaceLaws.{child_at, apart-open}
-use Rattle.region_tree.proofs.BelowLaws.{some_same, is_child_from}
+use Rattle.region_tree.proofs.BelowLaws.{is_child_from}
 
 -- the number of a name, if there is one
 abbrev name_in : Option RegionName → ℕ

@@ -9,6 +9,10 @@ use Rattle.vm_base.proofs.SearchLaws.{eqb_same, eqb_apart, any_below_found, any_
 
 -- ---- options
 
+-- what is found twice is the same
+pub some_same : {A : Type 0} {x y : A} → ◌≡◌ {A = Option A} (Some x) (Some y) → x ≡ y
+some_same s = cc
+
 -- what is there has a value
 pub some_is : {A : Type 0} (o : Option A) → IsSome o → (a : A) × (o ≡ Some a)
 some_is None h = absurd cc

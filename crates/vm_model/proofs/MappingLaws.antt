@@ -2,30 +2,30 @@
 use Rattle.std.proofs.Common.{◌≡◌, ℕ, zero, suc, ◌+◌, ◌-◌, ◌*◌, ◌/◌, ◌%◌, ◌<◌, ◌≤◌, Bool, true, false, not, cond, ◌&&◌, ◌||◌, ◌==◌, Option, None, Some, ◌⊎◌, refl, sym, ap, subst, ◌∙◌, inl, inr, arith, bit_and}
 use Rattle.std.specs.Prelude.{nat_lt, nat_le, min, max, IsSome}
 use Rattle.std.specs.Option.{option_map}
-use Rattle.std.proofs.lemmas.Bool.{cases_Bool, and_parts, and_from, and_cases, or_parts, both_ways, false_from_ne_true, not-true, not-false, not_from_false, le-leb, cond-true, cond-false, or_right, ltb-true, ltb-false, leb-true, eqb-true}
-use Rattle.std.proofs.lemmas.Nat.{and_le_l, and_le_r}
+use Rattle.std.proofs.lemmas.Bool.{cases_Bool, and_parts, and_from, and_cases, or_parts, both_ways, false_from_ne_true, not-false, not_from_false, le-leb, cond-true, cond-false, or_right, ltb-true, ltb-false, eqb-true}
+use Rattle.std.proofs.lemmas.Nat.{and_le_l}
 use Rattle.vm_base.specs.Pages.{rounded}
 use Rattle.vm_base.specs.Search.{any_below}
 use Rattle.vm_base.specs.Entries.{passes}
 use Rattle.vm_base.specs.declared.limits.TheConstants.{PAGE, NAMES, ROOT_END}
 use Rattle.vm_base.specs.declared.names.RegionName.{RegionName}
 use Rattle.vm_base.specs.declared.flags.Perm.{Perm}
-use Rattle.vm_base.proofs.SearchLaws.{any_below_at, any_below_same, eqb_same, eqb_is}
-use Rattle.vm_base.proofs.EntryLaws.{some_is, passes-some}
+use Rattle.vm_base.proofs.SearchLaws.{any_below_at, any_below_same, eqb_is}
+use Rattle.vm_base.proofs.EntryLaws.{passes-some, some_same}
 use Rattle.vm_model.specs.declared.names.Target.{Target}
 use Rattle.vm_model.specs.declared.space.Entry.{Entry}
 use Rattle.vm_model.specs.declared.space.Region.{Region}
 use Rattle.vm_model.specs.Contents.Content.{Content}
 use Rattle.vm_model.specs.Contents.Zeroing.{is_within}
 use Rattle.vm_model.specs.Space.Rights.{has, all_rights, writing}
-use Rattle.vm_model.specs.Space.Regions.{end_of, region_of, meets, lies_in, reaches_over, is_child, meets_child, is_below, killed, AreGoodRegions}
-use Rattle.vm_model.specs.Space.Table.{entry_behind, mapping_from, with_pages, with_perm, is_in, IsGoodEntry}
+use Rattle.vm_model.specs.Space.Regions.{end_of, region_of, meets, lies_in, reaches_over, meets_child, is_below, AreGoodRegions}
+use Rattle.vm_model.specs.Space.Table.{entry_behind, mapping_from, with_pages, with_perm, IsGoodEntry}
 use Rattle.vm_model.specs.Space.AddressSpaces.{Spaces, shows, is_mapped, AreGoodSpaces}
 use Rattle.vm_model.specs.Space.Places.{is_misplaced}
-use Rattle.vm_model.specs.Space.Mappings.{lacks_reading, cap_of, entry_of, with_mapping, IsMapPlace, is_mismapped, is_outside, lies_below_in, unmapped, protected, any_from, has_hole, forbids}
-use Rattle.vm_model.proofs.RegionLaws.{region_of-at, meets_at, reaches_over_parts, reaches_over_from, is_child_parts, killed-was, AreGoodRegions-killed, is_below-step, root_below}
+use Rattle.vm_model.specs.Space.Mappings.{lacks_reading, cap_of, with_mapping, IsMapPlace, is_mismapped, lies_below_in, unmapped, protected, any_from, forbids}
+use Rattle.vm_model.proofs.RegionLaws.{region_of-at, meets_at, reaches_over_parts, reaches_over_from, killed-was, AreGoodRegions-killed, is_below-step, root_below, lies_in_parts, lies_in_from}
 use Rattle.vm_model.proofs.SpaceLaws.{child_none, none_child, is_free_parts, IsGoodEntry-killed}
-use Rattle.vm_model.proofs.TableLaws.{with_pages-in, with_pages-out, with_pages-was}
+use Rattle.vm_model.proofs.TableLaws.{with_pages-was}
 
 -- ---- what an entry may be changed to
 
@@ -155,7 +155,7 @@ map_place spaces name overwriting fixed limited offset vmo_offset len perm first
       let placed = misplaced_parts (region_of spaces.regions name) (fixed || overwriting) limited offset len right.placed in
       let is_fixed : (fixed || overwriting) ≡ true = ap (λ (b : Bool). fixed || b) e ∙ or_true fixed in (
         subst (λ (n : ℕ). reaches_over n (n + rounded len / PAGE) (region_of spaces.regions name) ≡ true) (sym at)
-        (pages_inside (region_of spaces.regions name) offset len placed.aligned (placed.inside is_fixed)),
+            (pages_inside (region_of spaces.regions name) offset len placed.aligned (placed.inside is_fixed)),
         subst (λ (n : ℕ). meets_child spaces.regions name n (n + rounded len / PAGE) ≡ false) (sym at) (right.childless e),
       ) where
         or_true : (b : Bool) → (b || true) ≡ true
@@ -163,11 +163,6 @@ map_place spaces name overwriting fixed limited offset vmo_offset len perm first
         or_true false = refl
 
 -- ---- ranges of entries
-
--- what holds of the bounds of a region in a range
-lies_in_bounds : (first end : ℕ) (region : Region) → lies_in first end region ≡ true → (first ≤ region.first) × (end_of region ≤ end)
-lies_in_bounds first end region e =
-    let both = and_parts (nat_le first region.first) (nat_le (end_of region) end) e in (leb-true first region.first both.0, leb-true (end_of region) end both.1)
 
 -- where no entry of a range forbids the permissions, each may be changed to them
 pub not_forbidden : (entries : ℕ → Option Entry) (perm first end p : ℕ) (entry : Entry) → forbids entries perm first end ≡ false → first ≤ p → p < end → entries p ≡ Some entry
@@ -208,9 +203,6 @@ module _ (c : Content) (spaces : Spaces) (good : AreGoodSpaces c spaces) where
       | inr old ↦ good.vmos root p e old.1
     ];
   } where
-    some_same : {x y : Entry} → ◌≡◌ {A = Option Entry} (Some x) (Some y) → x ≡ y
-    some_same s = cc
-
     fresh : (root p : ℕ) → root ≡ region.root.0 → first ≤ p → p < first + count → IsGoodEntry spaces.regions root p (entry_behind entry (p - first))
     fresh root p same low high =
         let parts = reaches_over_parts first (first + count) region inside in
@@ -241,12 +233,12 @@ module _ (c : Content) (spaces : Spaces) (good : AreGoodSpaces c spaces) where
     closed n r p e f live dead =
         let up = good.regions.parents n r p e f in
         let parts = and_parts (is_below spaces.regions name p.0) (lies_in first end (region_of spaces.regions p.0)) dead in
-        let outer = lies_in_bounds first end up.0 (subst (λ (x : Region). lies_in first end x ≡ true) (region_of-at spaces.regions p.0 up.0 up.1) parts.1) in
+        let outer = lies_in_parts first end up.0 (subst (λ (x : Region). lies_in first end x ≡ true) (region_of-at spaces.regions p.0 up.0 up.1) parts.1) in
         let inner = reaches_over_parts r.first (end_of r) up.0 (up.3.inside live) in
         and_from (is_below spaces.regions name n) (lies_in first end (region_of spaces.regions n))
         (is_below-step spaces.regions good.regions name n r p e f ∙ or_right (p.0 == name) (is_below spaces.regions name p.0) parts.0)
         (subst (λ (x : Region). lies_in first end x ≡ true) (sym (region_of-at spaces.regions n r e))
-        (and_from (nat_le first r.first) (nat_le (end_of r) end) (le-leb first r.first (omega (arith, outer.0, inner.0))) (le-leb (end_of r) end (omega (arith, outer.1, inner.1)))))
+        (lies_in_from first end r (omega (arith, outer.0, inner.0)) (omega (arith, outer.1, inner.1))))
 
     left : (root p : ℕ) (entry : Entry) → (unmapped spaces name first end).table root p ≡ Some entry → (dies entry.region.0 ≡ false) × (spaces.table root p ≡ Some entry)
     left root p entry e = elim (with_pages-was spaces.table (region_of spaces.regions name).root.0 first end (λ q. None) root p entry e) [
@@ -263,7 +255,7 @@ module _ (c : Content) (spaces : Spaces) (good : AreGoodSpaces c spaces) where
       of_range root p entry e dead =
           let fine = good.entries root p entry e in
           let parts = and_parts (is_below spaces.regions name entry.region.0) (lies_in first end (region_of spaces.regions entry.region.0)) dead in
-          let outer = lies_in_bounds first end fine.region (subst (λ (x : Region). lies_in first end x ≡ true) (region_of-at spaces.regions entry.region.0 fine.region fine.given) parts.1) in
+          let outer = lies_in_parts first end fine.region (subst (λ (x : Region). lies_in first end x ≡ true) (region_of-at spaces.regions entry.region.0 fine.region fine.given) parts.1) in
           let inner = reaches_over_parts p (p + 1) fine.region fine.inside in
           (omega (arith, outer.0, inner.0), omega (arith, outer.1, inner.1))
 
@@ -289,9 +281,9 @@ module _ (c : Content) (spaces : Spaces) (good : AreGoodSpaces c spaces) where
   }
 
 -- an entry shows the VMO that it showed
-shows_perm : (spaces : Spaces) (root first end : ℕ) (perm : Perm) (v r p : ℕ) → passes (shows v) ((protected spaces root first end perm).table r p) ≡ passes (shows v) (spaces.table r p)
+pub shows-protected : (spaces : Spaces) (root first end : ℕ) (perm : Perm) (v r p : ℕ) → passes (shows v) ((protected spaces root first end perm).table r p) ≡ passes (shows v) (spaces.table r p)
 unfolding with_pages passes
-shows_perm spaces root first end perm v r p = elim (cases_Bool ((r == root) && is_within first end p)) [
+shows-protected spaces root first end perm v r p = elim (cases_Bool ((r == root) && is_within first end p)) [
   | inl is ↦
       let both = and_parts (r == root) (is_within first end p) is in
       ap (passes (shows v)) (cond-true _ _ _ is) ∙ (one (spaces.table root p) ∙ ap (λ (s : ℕ). passes (shows v) (spaces.table s p)) (sym (eqb_is r root both.0)))
@@ -306,6 +298,4 @@ pub is_mapped-protected : (spaces : Spaces) (root first end : ℕ) (perm : Perm)
 unfolding is_mapped
 is_mapped-protected spaces root first end perm v =
     any_below_same NAMES (λ r. any_below ROOT_END (λ p. passes (shows v) ((protected spaces root first end perm).table r p))) (λ r. any_below ROOT_END (λ p. passes (shows v) (spaces.table r p)))
-    (λ r h. any_below_same ROOT_END (λ p. passes (shows v) ((protected spaces root first end perm).table r p)) (λ p. passes (shows v) (spaces.table r p)) (λ p k. shows-protected r p)) where
-      shows-protected : (r p : ℕ) → passes (shows v) ((protected spaces root first end perm).table r p) ≡ passes (shows v) (spaces.table r p)
-      shows-protected r p = shows_perm spaces root first end perm v r p
+    (λ r h. any_below_same ROOT_END (λ p. passes (shows v) ((protected spaces root first end perm).table r p)) (λ p. passes (shows v) (spaces.table r p)) (λ p k. shows-protected spaces root first end perm v r p))

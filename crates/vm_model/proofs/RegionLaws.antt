@@ -9,7 +9,7 @@ use Rattle.vm_base.specs.declared.names.RegionName.{RegionName}
 use Rattle.vm_base.proofs.EntryLaws.{with_key-other, with_key-cases, entry_count_le, entry_count-same, entry_count-with_key}
 use Rattle.vm_base.proofs.SearchLaws.{eqb_same, eqb_apart, eqb_is}
 use Rattle.vm_model.specs.declared.space.Region.{Region}
-use Rattle.vm_model.specs.Space.Regions.{end_of, root_region, region_of, meets, reaches_over, parent_of, is_child, parent_in, is_above, is_below, is_at_or_below, killed, given_count, IsBelow, AreGoodRegions}
+use Rattle.vm_model.specs.Space.Regions.{end_of, root_region, region_of, meets, lies_in, reaches_over, parent_of, is_child, parent_in, is_above, is_below, is_at_or_below, killed, given_count, IsBelow, AreGoodRegions}
 
 -- ---- a name
 
@@ -44,6 +44,15 @@ reaches_over_parts first end region e =
 pub reaches_over_from : (first end : ℕ) (region : Region) → region.first ≤ first → end ≤ end_of region → reaches_over first end region ≡ true
 reaches_over_from first end region low high =
     and_from (nat_le region.first first) (nat_le end (end_of region)) (le-leb region.first first low) (le-leb end (end_of region) high)
+
+-- a region lies in a range where it begins and ends in it
+pub lies_in_from : (first end : ℕ) (region : Region) → first ≤ region.first → end_of region ≤ end → lies_in first end region ≡ true
+lies_in_from first end region low high =
+    and_from (nat_le first region.first) (nat_le (end_of region) end) (le-leb first region.first low) (le-leb (end_of region) end high)
+
+pub lies_in_parts : (first end : ℕ) (region : Region) → lies_in first end region ≡ true → (first ≤ region.first) × (end_of region ≤ end)
+lies_in_parts first end region e =
+    let both = and_parts (nat_le first region.first) (nat_le (end_of region) end) e in (leb-true first region.first both.0, leb-true (end_of region) end both.1)
 
 -- ---- children
 
@@ -286,7 +295,7 @@ module _ (regions : ℕ → Option Region) (dies : ℕ → Bool) where
 -- ---- what lies below what
 
 -- nothing is above a region without a parent
-is_above-none : (steps : ℕ) (regions : ℕ → Option Region) (name : ℕ) → is_above steps regions name None ≡ false
+pub is_above-none : (steps : ℕ) (regions : ℕ → Option Region) (name : ℕ) → is_above steps regions name None ≡ false
 unfolding is_above
 is_above-none zero regions name = refl
 is_above-none (suc steps) regions name = refl

@@ -7,7 +7,7 @@ use Rattle.vm_base.specs.Search.{any_below, count_below}
 use Rattle.vm_base.specs.Entries.{passes, with_key}
 use Rattle.vm_base.specs.declared.limits.TheConstants.{NAMES, ROOT_END}
 use Rattle.vm_base.specs.declared.names.RegionName.{RegionName}
-use Rattle.vm_base.proofs.EntryLaws.{passes-some, any_entry_none, none_entry}
+use Rattle.vm_base.proofs.EntryLaws.{passes-some, any_entry_none, none_entry, some_same}
 use Rattle.vm_base.proofs.SearchLaws.{any_below_at, any_below-count, any_below-sum, sum_below_none, sum_below_le, count_below_none, count_below_le, eqb_same}
 use Rattle.vm_model.specs.declared.space.Entry.{Entry}
 use Rattle.vm_model.specs.declared.space.Region.{Region}
@@ -264,6 +264,4 @@ module _ (c : Content) (spaces : Spaces) (good : AreGoodSpaces c spaces) where
             let root_same : root ≡ (region_of spaces.regions parent).root.0 = sym fine.root_is ∙ ap (λ (r : Region). r.root.0) (region_same ∙ sym same) in
             let within = ltb-true (max p first) (min (p + 1) (first + count)) meet in
             no_entry spaces (region_of spaces.regions parent).root.0 parent first (first + count) p entry parts.3 (omega (arith, within)) (omega (arith, within))
-            (ap (λ (r : ℕ). spaces.table r p) (sym root_same) ∙ e) is) where
-              some_same : {x y : Region} → ◌≡◌ {A = Option Region} (Some x) (Some y) → x ≡ y
-              some_same s = cc
+            (ap (λ (r : ℕ). spaces.table r p) (sym root_same) ∙ e) is)

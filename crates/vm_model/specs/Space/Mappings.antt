@@ -10,7 +10,7 @@ use Rattle.vm_model.specs.declared.space.Entry.{Entry}
 use Rattle.vm_model.specs.declared.space.Region.{Region}
 use Rattle.vm_model.specs.declared.runs.Run.{Run}
 use Rattle.vm_model.specs.Space.Rights.{has, reading, writing, executing}
-use Rattle.vm_model.specs.Space.Regions.{region_of, reaches_over, lies_in, meets_child, cuts_child, is_below, killed}
+use Rattle.vm_model.specs.Space.Regions.{region_of, reaches_over, lies_in, meets_child, is_below, killed}
 use Rattle.vm_model.specs.Space.Table.{mapping_from, with_pages, with_perm, is_in}
 use Rattle.vm_model.specs.Space.AddressSpaces.{Spaces}
 use Rattle.vm_model.specs.Space.Places.{is_misplaced, IsPlace}
