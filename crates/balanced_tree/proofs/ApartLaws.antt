@@ -61,6 +61,10 @@ module _ {R : Type 0} (f : Functions R) (e : Extents R) where
           right = apart_behind 0 (2 ^ 128) rows h free to;
         })
 
+  -- an extent that goes
+  pub AreApart-without_rank : (n : ℕ) (rows : List R) → AreApart f e rows → AreApart f e (without_rank f n rows)
+  AreApart-without_rank n rows h = ApartWithin-filter _ 0 (2 ^ 128) rows h
+
   -- extents from a rank on are found at this rank or behind it
   apart-from : (low high m : ℕ) (y : R) (xs : List R) → ApartWithin f e low high xs → row_at f m xs ≡ Some y → low ≤ m
   apart-from low high m y [] h is = absurd (cc)
