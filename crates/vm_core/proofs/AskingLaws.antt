@@ -20,7 +20,7 @@ module _ {c : Content} (vmos : Vmos) (name : VmoName) (target : Target)
   -- the size of what the name stands for is answered
   pub size_named : (size : ℕ) → size ≡ name_pages c target * PAGE → StepsVmos c vmos (VmoSize name) (Number size) c vmos
   size_named size e = record {
-    step = λ rest.
+    step = λ rest well.
         let s = with_vmos rest c vmos in
         Step-done s (VmoSize name) (Number size) s
         (first_of-skip (not (is_open s name.0)) BadHandle [] (open_at s name.0 target (sym named)))
@@ -31,7 +31,7 @@ module _ {c : Content} (vmos : Vmos) (name : VmoName) (target : Target)
   pub info_named : (info : Info) → ((rest : State) → info ≡ info_at (with_vmos rest c vmos) target)
       → StepsVmos c vmos (VmoInfo name) (InfoReply info) c vmos
   info_named info e = record {
-    step = λ rest.
+    step = λ rest well.
         let s = with_vmos rest c vmos in
         let same = e rest ∙ sym (ap (info_at s) (target_of-at s name.0 target (sym named))) in
         Step-done s (VmoInfo name) (InfoReply info) s

@@ -1,23 +1,25 @@
 -- What the handlers of commands ask and promise.
-use Rattle.std.proofs.Common.{◌≡◌, ℕ, None, Some, sym, ap, ◌∙◌, arith}
+use Rattle.std.proofs.Common.{◌≡◌, ℕ, Option, Some, sym, ap, ◌∙◌, arith}
 use Rattle.vm_base.specs.declared.names.VmoName.{VmoName}
 use Rattle.vm_model.specs.declared.command.Command.{Command}
 use Rattle.vm_model.specs.declared.reply.Reply.{Reply}
 use Rattle.vm_model.specs.Contents.Content.{Content}
-use Rattle.vm_model.specs.Contents.Content.{nothing}
-use Rattle.vm_model.specs.Machine.State.{IsGoodState}
-use Rattle.vm_model.proofs.SpaceLaws.{mapped_count-none}
+use Rattle.vm_model.specs.declared.space.Entry.{Entry}
+use Rattle.vm_model.specs.declared.space.Region.{Region}
+use Rattle.vm_model.specs.Space.AddressSpaces.{Spaces, mapped_count}
+use Rattle.vm_model.specs.Machine.State.{State}
 use Rattle.vm_core.specs.Vm.{Parts, spaces_in, state_of}
 use Rattle.vm_model.specs.declared.names.Target.{Target}
-use Rattle.vmo_table.specs.Table.{Table as Vmos, names_of, keepers_of, with_vmos, AreParts, CountsKeepers}
+use Rattle.vmo_table.specs.Table.{Table as Vmos, names_of, keepers_of, with_vmos, AreParts, IsWellCounted}
 use Rattle.pin_table.specs.Table.{Table as Pins, pins_of}
 use Rattle.page_store.specs.Names.{IsInside}
-use Rattle.vmo_ops.specs.Targets.{with_tables, AreTogether, Does, DoesWith}
+use Rattle.vmo_ops.specs.Targets.{with_tables, AreTogether, Does as DoesNamed, DoesWith}
 use Rattle.vmo_ops.proofs.NameLaws.{parts_inside}
 use Rattle.mapping_set.specs.Tables.{Set as Mappings}
 use Rattle.mapping_set.specs.Tables.{table_of}
 use Rattle.region_tree.specs.Tree.{Tree as Regions, regions_of, spaces_of}
-use Rattle.vm_core.specs.Calls.{AreCounted, KeepsCounts, StepsVmos, Steps, StepsAll, StepsSpaces}
+use Rattle.region_ops.specs.Spaces.{AreAllWell, Does}
+use Rattle.vm_core.specs.Calls.{AreCounted, KeepsCounts, StepsVmos, Steps, StepsSpaces, DoesTables, DoesSpaces, StepsSame, Handles}
 
 -- a store and a table of VMOs are parts of what they are parts of together with the pins
 pub parts_of : {c : Content} {vmos : Vmos} {pins : Pins} → AreTogether c vmos pins → AreParts c vmos
@@ -26,6 +28,14 @@ parts_of {c} {vmos} {pins} together = record { rest = with_tables together.rest 
 -- and of what they are parts of where it is counted right
 pub together_of : {c : Content} {vmos : Vmos} {pins : Pins} → AreCounted c vmos pins → AreTogether c vmos pins
 together_of counted = record { rest = counted.rest; good = counted.well.good }
+
+-- a store and a table of VMOs that are counted right are parts of one good state
+pub parts_counted : {c : Content} {vmos : Vmos} {pins : Pins} → AreCounted c vmos pins → AreParts c vmos
+parts_counted counted = parts_of (together_of counted)
+
+-- and counted right in it
+pub kept_counted : {c : Content} {vmos : Vmos} {pins : Pins} → AreCounted c vmos pins → (s : State) × IsWellCounted vmos (with_vmos s c vmos)
+kept_counted {c} {vmos} {pins} counted = (with_tables counted.rest c vmos pins, counted.well)
 
 -- keepers that did not change count the same
 pub counts_same : {old new : Vmos} {pins : Pins} → keepers_of new ≡ keepers_of old → KeepsCounts old pins new pins
@@ -38,9 +48,9 @@ inside_named {c} vmos name {target} parts named = parts_inside c vmos target par
 
 -- what a command does by the name of a target
 pub steps_named : {old new : Content} (command : VmoName → Command) {target : Target} {reply : Reply}
-    (vmos : Vmos) (name : VmoName) → Does command target old reply new → Some target ≡ names_of vmos name.0
+    (vmos : Vmos) (name : VmoName) → DoesNamed command target old reply new → Some target ≡ names_of vmos name.0
     → StepsVmos old vmos (command name) reply new vmos
-steps_named {old} command vmos name does named = record { step = λ s. does (with_vmos s old vmos) name (sym named) }
+steps_named {old} command vmos name does named = record { step = λ s well. does (with_vmos s old vmos) name (sym named) }
 
 -- what it does beside these pins
 pub steps_named_with : {old new : Content} (command : VmoName → Command) {target : Target} {reply : Reply}
@@ -55,33 +65,65 @@ steps_named_with {old} command vmos pins name does named = record {
 pub steps_beside : {old new : Content} {vmos_old vmos_new : Vmos} {pins : Pins} {command : Command} {reply : Reply}
     → StepsVmos old vmos_old command reply new vmos_new → Steps old vmos_old pins command reply new vmos_new pins
 steps_beside {old} {new} {vmos_old} {vmos_new} {pins} steps = record {
-  step = λ s good. steps.step (with_tables s old vmos_old pins);
+  step = λ s well. steps.step (with_tables s old vmos_old pins) well;
 }
 
--- what is done whatever the address spaces are is done beside these
-pub steps_all : {old new : Content} {vmos_old vmos_new : Vmos} {pins_old pins_new : Pins} {regions : Regions} {maps : Mappings} {command : Command} {reply : Reply}
-    → Steps old vmos_old pins_old command reply new vmos_new pins_new
-    → StepsAll old (record { vmos = vmos_old; pins = pins_old; regions = regions; maps = maps }) command reply new
+-- what a command does to the regions alone is done beside this store and this table
+pub does_regions : {c : Content} {vmos : Vmos} {regions_old regions_new : ℕ → Option Region} {table : ℕ → ℕ → Option Entry} {command : Command} {reply : Reply}
+    → StepsSpaces (spaces_of regions_old table) command reply (spaces_of regions_new table)
+    → Does c vmos (spaces_of regions_old table) command reply c vmos (spaces_of regions_new table)
+unfolding mapped_count
+does_regions {c} {vmos} steps = record {
+  step = λ s well. steps.step (with_vmos s c vmos) well.good;
+  counted = λ s well v. well.counted v;
+}
+
+-- what it does to the mappings, of which each VMO has as many as before
+pub does_mapped : {c : Content} {vmos : Vmos} {old new : Spaces} {command : Command} {reply : Reply} → StepsSpaces old command reply new
+    → ((v : ℕ) → mapped_count new v ≡ mapped_count old v) → Does c vmos old command reply c vmos new
+does_mapped {c} {vmos} steps mapped = record {
+  step = λ s well. steps.step (with_vmos s c vmos) well.good;
+  counted = λ s well v. omega (arith, well.counted v, mapped v);
+}
+
+-- ---- the whole machine
+
+-- a good machine that counts right, and what of it is handed to the commands on VMOs and pins, and to those on regions
+pub counted_in : {c : Content} {vm : Parts} → IsWellCounted vm.vmos (state_of c vm) → AreCounted c vm.vmos vm.pins
+counted_in {c} {vm} well = record { rest = state_of c vm; well = well }
+
+pub spaces_well : {c : Content} {vm : Parts} → IsWellCounted vm.vmos (state_of c vm) → AreAllWell c vm.vmos (spaces_in vm)
+spaces_well {c} {vm} well = record { rest = state_of c vm; well = well }
+
+-- what is done to a store and the two tables is done to the machine
+pub handles_tables : {old new : Content} {vmos_old vmos_new : Vmos} {pins_old pins_new : Pins} (regions : Regions) (maps : Mappings) {command : Command} {reply : Reply}
+    → IsWellCounted vmos_old (state_of old (record { vmos = vmos_old; pins = pins_old; regions = regions; maps = maps }))
+    → DoesTables old vmos_old pins_old command reply new vmos_new pins_new
+    → Handles old (record { vmos = vmos_old; pins = pins_old; regions = regions; maps = maps }) command reply new
     (record { vmos = vmos_new; pins = pins_new; regions = regions; maps = maps })
-steps_all {regions = regions} {maps = maps} steps = record {
-  step = λ s well. steps.step (record s { spaces = spaces_of (regions_of regions) (table_of maps) }) well;
-}
+handles_tables {old} {new} {vmos_old} {vmos_new} {pins_old} regions maps well does =
+    let s = state_of old (record { vmos = vmos_old; pins = pins_old; regions = regions; maps = maps }) in
+    record {
+      step = does.steps.step s well;
+      counted = does.counts.counts s well.counted;
+      name = does.name;
+    }
 
--- what is done to the address spaces is done beside these tables
-pub steps_spaces : {c : Content} {vmos : Vmos} {pins : Pins} {regions_old regions_new : Regions} {maps : Mappings} {command : Command} {reply : Reply}
-    → StepsSpaces (spaces_of (regions_of regions_old) (table_of maps)) command reply (spaces_of (regions_of regions_new) (table_of maps))
-    → StepsAll c (record { vmos = vmos; pins = pins; regions = regions_old; maps = maps }) command reply c
-    (record { vmos = vmos; pins = pins; regions = regions_new; maps = maps })
-steps_spaces {c} {vmos} {pins} steps = record { step = λ s well. steps.step (with_tables s c vmos pins) well.good }
+-- and what is done to a store, the table of VMOs and the address spaces
+pub handles_spaces : {old new : Content} {vmos_old vmos_new : Vmos} (pins : Pins) {regions_old regions_new : Regions} {maps_old maps_new : Mappings} {command : Command} {reply : Reply}
+    → IsWellCounted vmos_old (state_of old (record { vmos = vmos_old; pins = pins; regions = regions_old; maps = maps_old }))
+    → DoesSpaces old vmos_old (spaces_of (regions_of regions_old) (table_of maps_old)) command reply new vmos_new (spaces_of (regions_of regions_new) (table_of maps_new))
+    → Handles old (record { vmos = vmos_old; pins = pins; regions = regions_old; maps = maps_old }) command reply new
+    (record { vmos = vmos_new; pins = pins; regions = regions_new; maps = maps_new })
+handles_spaces {old} {vmos_old = vmos_old} pins {regions_old = regions_old} {maps_old = maps_old} well does =
+    let s = state_of old (record { vmos = vmos_old; pins = pins; regions = regions_old; maps = maps_old }) in
+    record {
+      step = does.does.step s well;
+      counted = does.does.counted s well;
+      name = does.name;
+    }
 
--- the tables of a machine are counted, where it is good and its table of VMOs counts right
-pub vm_counted : (c : Content) (vm : Parts) → IsGoodState (state_of c vm) → CountsKeepers vm.vmos (state_of nothing vm) → AreCounted c vm.vmos vm.pins
-vm_counted c vm good counted = record { rest = state_of c vm; well = record { good = good; counted = counted } }
-
--- what keeps each VMO is counted still, where nothing is mapped
-pub counted_after : (old new : Parts) → KeepsCounts old.vmos old.pins new.vmos new.pins → table_of old.maps ≡ (λ root p. None)
-    → table_of new.maps ≡ (λ root p. None) → CountsKeepers old.vmos (state_of nothing old) → CountsKeepers new.vmos (state_of nothing new)
-counted_after old new kept none still counted v =
-    let before = mapped_count-none (spaces_in old) v none in
-    let after = mapped_count-none (spaces_in new) v still in
-    omega (arith, kept.counts (state_of nothing old) counted v, before, after)
+-- and what changes nothing
+pub handles_same : {c : Content} {vm : Parts} {command : Command} {reply : Reply} → IsWellCounted vm.vmos (state_of c vm)
+    → StepsSame c command reply → Handles c vm command reply c vm
+handles_same {c} {vm} well same = record { step = same.step (state_of c vm); counted = well.counted; name = same.name }

@@ -1,4 +1,3 @@
 mod AskingLaws
 mod CallLaws
 pub mod StartLaws
-pub mod DestroyLaws

@@ -5,11 +5,13 @@ use Rattle.vm_model.specs.declared.reply.Reply.{Reply}
 use Rattle.vm_model.specs.Contents.Content.{Content}
 use Rattle.vm_model.specs.Space.AddressSpaces.{Spaces}
 use Rattle.vm_model.specs.Machine.State.{State, IsGoodState}
+use Rattle.vm_model.specs.Machine.Given.{GivesName}
 use Rattle.vm_model.specs.Machine.Step.{Step}
 use Rattle.vmo_table.specs.Table.{Table as Vmos, with_vmos, CountsKeepers, IsWellCounted}
 use Rattle.pin_table.specs.Table.{Table as Pins, pins_of}
 use Rattle.vmo_ops.specs.Targets.{with_tables}
-use Rattle.vm_core.specs.Vm.{Parts, with_parts}
+use Rattle.region_ops.specs.Spaces.{Does}
+use Rattle.vm_core.specs.Vm.{Parts, state_of}
 
 -- A store and the two tables are parts of one good state, and the table of VMOs counts right what keeps each VMO of it.
 pub record AreCounted (c : Content) (vmos : Vmos) (pins : Pins) : Type 0 where
@@ -21,10 +23,11 @@ pub record KeepsCounts (vmos_old : Vmos) (pins_old : Pins) (vmos_new : Vmos) (pi
   pub counts : (s : State) → CountsKeepers vmos_old (record s { pins = pins_of pins_old })
       → CountsKeepers vmos_new (record s { pins = pins_of pins_new })
 
--- a store and a table of VMOs do a step of the machine, whatever else it has
+-- a store and a table of VMOs do a step of the machine, where it is good and its keepers are counted right, whatever else it has
 pub record StepsVmos (old : Content) (vmos_old : Vmos) (command : Command) (reply : Reply)
     (new : Content) (vmos_new : Vmos) : Type 0 where
-  pub step : (s : State) → Step (with_vmos s old vmos_old) command reply (with_vmos s new vmos_new)
+  pub step : (s : State) → IsWellCounted vmos_old (with_vmos s old vmos_old)
+      → Step (with_vmos s old vmos_old) command reply (with_vmos s new vmos_new)
 
 -- a store and the two tables do a step of the machine, where it is good and its keepers are counted right, whatever else it has
 pub record Steps (old : Content) (vmos_old : Vmos) (pins_old : Pins) (command : Command) (reply : Reply)
@@ -32,11 +35,32 @@ pub record Steps (old : Content) (vmos_old : Vmos) (pins_old : Pins) (command : 
   pub step : (s : State) → IsWellCounted vmos_old (with_tables s old vmos_old pins_old)
       → Step (with_tables s old vmos_old pins_old) command reply (with_tables s new vmos_new pins_new)
 
--- a store, the tables and the address spaces do a step of the machine, where it is good and its keepers are counted right
-pub record StepsAll (old : Content) (vm_old : Parts) (command : Command) (reply : Reply) (new : Content) (vm_new : Parts) : Type 0 where
-  pub step : (s : State) → IsWellCounted vm_old.vmos (with_parts s old vm_old)
-      → Step (with_parts s old vm_old) command reply (with_parts s new vm_new)
-
 -- the regions and the mappings do a step of the machine, where it is good, whatever else it has
 pub record StepsSpaces (old : Spaces) (command : Command) (reply : Reply) (new : Spaces) : Type 0 where
   pub step : (s : State) → IsGoodState (record s { spaces = old }) → Step (record s { spaces = old }) command reply (record s { spaces = new })
+
+-- A store and the two tables do a command: it is a step, what keeps each VMO is counted as before, and the name that it gives
+-- is one that there is.
+pub record DoesTables (old : Content) (vmos_old : Vmos) (pins_old : Pins) (command : Command) (reply : Reply)
+    (new : Content) (vmos_new : Vmos) (pins_new : Pins) : Type 0 where
+  pub steps : Steps old vmos_old pins_old command reply new vmos_new pins_new
+  pub counts : KeepsCounts vmos_old pins_old vmos_new pins_new
+  pub name : GivesName command
+
+-- the same of a store, the table of VMOs and the address spaces
+pub record DoesSpaces (old : Content) (vmos_old : Vmos) (spaces_old : Spaces) (command : Command) (reply : Reply)
+    (new : Content) (vmos_new : Vmos) (spaces_new : Spaces) : Type 0 where
+  pub does : Does old vmos_old spaces_old command reply new vmos_new spaces_new
+  pub name : GivesName command
+
+-- A store does a command that changes nothing, whatever else the machine has.
+pub record StepsSame (c : Content) (command : Command) (reply : Reply) : Type 0 where
+  pub step : (s : State) → Step (record s { content = c }) command reply (record s { content = c })
+  pub name : GivesName command
+
+-- A store and the parts of a machine do a command: it is a step of the machine, what keeps each VMO is counted right
+-- afterwards, and the name that it gives is one that there is.
+pub record Handles (old : Content) (vm_old : Parts) (command : Command) (reply : Reply) (new : Content) (vm_new : Parts) : Type 0 where
+  pub step : Step (state_of old vm_old) command reply (state_of new vm_new)
+  pub counted : CountsKeepers vm_new.vmos (state_of new vm_new)
+  pub name : GivesName command

@@ -1,3 +1,4 @@
 pub mod Vm
 pub mod VmFields
 pub mod Calls
+pub mod Subjects

@@ -1,6 +1,4 @@
 -- How the fields of a `Vm` are seen, and what holds of them.
-use Rattle.std.specs.Prelude.{◌≡◌, None}
-use Rattle.mapping_set.specs.Tables.{table_of}
 use Rattle.vm_core.specs.declared.vm.Vm.TheInside.{Inside}
 use Rattle.vm_model.specs.Contents.Content.{nothing}
 use Rattle.vmo_table.specs.Table.{CountsKeepers}
@@ -9,7 +7,6 @@ use Rattle.vm_core.specs.Vm.{Parts, state_of}
 abbrev pub parts_of : Inside → Parts
 parts_of a = record { vmos = a.vmos; pins = a.pins; regions = a.regions; maps = a.maps }
 
--- What keeps each VMO is counted in the table of VMOs. No page of an address space is mapped yet.
+-- What keeps each VMO is counted in the table of VMOs.
 pub record IsCounted (a : Inside) : Type 0 where
   pub counted : CountsKeepers a.vmos (state_of nothing (parts_of a))
-  pub unmapped : table_of a.maps ≡ λ root p. None

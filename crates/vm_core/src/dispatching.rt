@@ -1,56 +1,85 @@
-//! Which handler does a command.
+//! Which handler does a command. `dispatch` finds what a call is about, and one function for each subject finds the
+//! handler, so that each of them is a short `match`.
 
-ghost use Rattle.std.specs.Prelude.{◌≡◌, ◌<◌, ◌≤◌, length, None};
+ghost use Rattle.std.specs.Prelude.{◌≡◌, ◌<◌, ◌≤◌, length};
 ghost use Rattle.mapping_set.specs.Tables.{table_of};
+ghost use Rattle.region_tree.specs.Tree.{regions_of, spaces_of};
 ghost use Rattle.vm_base.specs.declared.limits.TheConstants.{DATA_BYTES, KOIDS, PIN_PAGES};
-ghost use Rattle.vm_model.specs.Machine.Given.{GivesName};
 ghost use Rattle.vm_model.specs.Machine.Lent.{command_of, reply_for};
-ghost use Rattle.vmo_table.specs.Table.{AreParts};
-ghost use Rattle.vmo_ops.specs.Targets.{AreTogether};
-ghost use Rattle.vm_core.specs.Calls.{AreCounted, KeepsCounts, StepsAll};
+ghost use Rattle.vmo_table.specs.Table.{IsWellCounted};
+ghost use Rattle.region_ops.specs.Spaces.{AreAllWell};
+ghost use Rattle.vm_core.specs.Calls.{AreCounted, DoesTables, DoesSpaces, Handles, StepsSame};
+ghost use Rattle.vm_core.specs.Subjects.{subject_of};
+ghost use Rattle.vm_core.specs.declared.subjects.Subject.{Subject};
+ghost use Rattle.vm_core.specs.Vm.{state_of};
 
 use crate::asking::{vmo_info, vmo_read, vmo_size};
 use crate::changing::{vmo_commit, vmo_decommit, vmo_fill, vmo_set_size, vmo_write, vmo_zero};
+use crate::mappings::{list_maps, vmar_map, vmar_protect, vmar_unmap};
 use crate::naming::{vmo_close, vmo_create, vmo_create_child};
 use crate::pinning::{vmo_pin, vmo_unpin};
 use crate::spaces::{root_create, vmar_allocate, vmar_destroy};
+use crate::subjects::{Subject, subject_of};
 use attribution::stat;
 use mapping_set::MappingSet;
 use page_store::PageStore;
 use pin_table::PinTable;
 use region_tree::Regions;
+use std::alloc::Global;
 use vm_model::{Answer, Call};
 use vmo_table::VmoTable;
 
 /// Does a command by its handler, with room for the bytes and for the numbers that it may answer. One that is not
 /// built yet is answered `Unbuilt`.
 #[inline(always)]
-#[tactic(auto, using(crate::proofs::CallLaws::steps_beside, crate::proofs::CallLaws::counts_same,
-// beside any address spaces, and beside any tables
-crate::proofs::CallLaws::steps_all, crate::proofs::CallLaws::steps_spaces))]
+#[tactic(auto, using(crate::proofs::CallLaws::counted_in, crate::proofs::CallLaws::spaces_well,
+// beside what else the machine has
+crate::proofs::CallLaws::handles_tables, crate::proofs::CallLaws::handles_spaces, crate::proofs::CallLaws::handles_same))]
 pub(crate) fn dispatch<'a, P: PageStore>(
+    alloc: Global,
     store: &mut P,
     vmos: &mut VmoTable,
     pins: &mut PinTable,
     regions: &mut Regions,
-    maps: &MappingSet,
+    maps: &mut MappingSet,
     call: &Call<'_>,
     bytes: &'a mut [u8],
     numbers: &'a mut [u64],
 ) -> Answer<'a>
-    requires parts { AreParts (P.content store.old) vmos.old }
-    requires good { AreTogether (P.content store.old) vmos.old pins.old }
-    requires counted { AreCounted (P.content store.old) vmos.old pins.old }
-    requires unmapped { table_of maps.now ≡ λ root p. None }
+    requires well { IsWellCounted vmos.old (state_of (P.content store.old)
+        (record { vmos = vmos.old; pins = pins.old; regions = regions.old; maps = maps.old })) }
     requires next { (P.content store.old).next < KOIDS }
     requires bytes { DATA_BYTES ≤ length bytes.old }
     requires numbers { PIN_PAGES ≤ length numbers.old }
-    ensures step { StepsAll (P.content store.old)
-        (record { vmos = vmos.old; pins = pins.old; regions = regions.old; maps = maps.now }) (command_of call.now)
+    ensures { Handles (P.content store.old)
+        (record { vmos = vmos.old; pins = pins.old; regions = regions.old; maps = maps.old }) (command_of call.now)
         (reply_for result) (P.content store.new)
-        (record { vmos = vmos.new; pins = pins.new; regions = regions.new; maps = maps.now }) }
-    ensures counted { KeepsCounts vmos.old pins.old vmos.new pins.new }
-    ensures name { GivesName (command_of call.now) }
+        (record { vmos = vmos.new; pins = pins.new; regions = regions.new; maps = maps.new }) }
+{
+    match subject_of(call) {
+        Subject::Vmo => on_vmo(store, vmos, pins, call),
+        Subject::Pages => on_pages(store, vmos, pins, call, bytes),
+        Subject::Pin => on_pin(store, vmos, pins, call, numbers),
+        Subject::Region => on_region(alloc, store, vmos, regions, maps, call),
+        Subject::Machine => on_machine(store, call),
+    }
+}
+
+/// Does a command on a VMO as a whole.
+#[tactic(auto, using(crate::proofs::CallLaws::parts_counted, crate::proofs::CallLaws::together_of, crate::proofs::CallLaws::kept_counted,
+// beside any pins
+crate::proofs::CallLaws::steps_beside, crate::proofs::CallLaws::counts_same))]
+fn on_vmo<P: PageStore>(
+    store: &mut P,
+    vmos: &mut VmoTable,
+    pins: &PinTable,
+    call: &Call<'_>,
+) -> Answer<'static>
+    requires subject { subject_of call.now ≡ Subject.Vmo }
+    requires counted { AreCounted (P.content store.old) vmos.old pins.now }
+    requires next { (P.content store.old).next < KOIDS }
+    ensures { DoesTables (P.content store.old) vmos.old pins.now (command_of call.now) (reply_for result)
+        (P.content store.new) vmos.new pins.now }
 {
     match call {
         Call::VmoCreate {
@@ -70,6 +99,31 @@ pub(crate) fn dispatch<'a, P: PageStore>(
             store, vmos, pins, *name, *parent, *kind, *offset, *size, *resizable, *no_write,
         ),
         Call::VmoClose { name } => vmo_close(store, vmos, *name),
+        Call::VmoSize { name } => vmo_size(store, vmos, *name),
+        Call::VmoSetSize { name, size } => vmo_set_size(store, vmos, pins, *name, *size),
+        Call::VmoInfo { name } => vmo_info(store, vmos, *name),
+        _ => unreachable!(),
+    }
+}
+
+/// Does a command on pages of a VMO.
+#[tactic(auto, using(crate::proofs::CallLaws::parts_counted, crate::proofs::CallLaws::together_of,
+// beside any pins
+crate::proofs::CallLaws::steps_beside, crate::proofs::CallLaws::counts_same))]
+fn on_pages<'a, P: PageStore>(
+    store: &mut P,
+    vmos: &VmoTable,
+    pins: &PinTable,
+    call: &Call<'_>,
+    bytes: &'a mut [u8],
+) -> Answer<'a>
+    requires subject { subject_of call.now ≡ Subject.Pages }
+    requires counted { AreCounted (P.content store.old) vmos.now pins.now }
+    requires bytes { DATA_BYTES ≤ length bytes.old }
+    ensures { DoesTables (P.content store.old) vmos.now pins.now (command_of call.now) (reply_for result)
+        (P.content store.new) vmos.now pins.now }
+{
+    match call {
         Call::VmoRead { name, offset, len } => vmo_read(store, vmos, *name, *offset, *len, bytes),
         Call::VmoWrite {
             name,
@@ -87,7 +141,25 @@ pub(crate) fn dispatch<'a, P: PageStore>(
         Call::VmoDecommit { name, offset, len } => vmo_decommit(
             store, vmos, pins, *name, *offset, *len,
         ),
-        Call::VmoSetSize { name, size } => vmo_set_size(store, vmos, pins, *name, *size),
+        _ => unreachable!(),
+    }
+}
+
+/// Does a command on a pin.
+fn on_pin<'a, P: PageStore>(
+    store: &mut P,
+    vmos: &mut VmoTable,
+    pins: &mut PinTable,
+    call: &Call<'_>,
+    numbers: &'a mut [u64],
+) -> Answer<'a>
+    requires subject { subject_of call.now ≡ Subject.Pin }
+    requires counted { AreCounted (P.content store.old) vmos.old pins.old }
+    requires numbers { PIN_PAGES ≤ length numbers.old }
+    ensures { DoesTables (P.content store.old) vmos.old pins.old (command_of call.now) (reply_for result)
+        (P.content store.new) vmos.new pins.new }
+{
+    match call {
         Call::VmoPin {
             pin,
             name,
@@ -95,8 +167,27 @@ pub(crate) fn dispatch<'a, P: PageStore>(
             len,
         } => vmo_pin(store, vmos, pins, *pin, *name, *offset, *len, numbers),
         Call::VmoUnpin { pin } => vmo_unpin(store, vmos, pins, *pin),
-        Call::VmoSize { name } => vmo_size(store, vmos, *name),
-        Call::VmoInfo { name } => vmo_info(store, vmos, *name),
+        _ => unreachable!(),
+    }
+}
+
+/// Does a command on a region, or on the mappings in one.
+#[tactic(auto, using(crate::proofs::CallLaws::does_regions, crate::proofs::CallLaws::does_mapped))]
+fn on_region<P: PageStore>(
+    alloc: Global,
+    store: &mut P,
+    vmos: &mut VmoTable,
+    regions: &mut Regions,
+    maps: &mut MappingSet,
+    call: &Call<'_>,
+) -> Answer<'static>
+    requires subject { subject_of call.now ≡ Subject.Region }
+    requires well { AreAllWell (P.content store.old) vmos.old (spaces_of (regions_of regions.old) (table_of maps.old)) }
+    ensures { DoesSpaces (P.content store.old) vmos.old (spaces_of (regions_of regions.old) (table_of maps.old))
+        (command_of call.now) (reply_for result)
+        (P.content store.new) vmos.new (spaces_of (regions_of regions.new) (table_of maps.new)) }
+{
+    match call {
         Call::RootCreate { region } => root_create(regions, maps, *region),
         Call::VmarAllocate {
             region,
@@ -108,7 +199,48 @@ pub(crate) fn dispatch<'a, P: PageStore>(
         } => vmar_allocate(
             regions, maps, *region, *parent, *offset, *len, *flags, *caps,
         ),
-        Call::VmarDestroy { region } => vmar_destroy(regions, maps, *region),
+        Call::VmarMap {
+            region,
+            offset,
+            name,
+            vmo_offset,
+            len,
+            perm,
+            flags,
+        } => vmar_map(
+            store,
+            vmos,
+            regions,
+            maps,
+            *region,
+            *offset,
+            *name,
+            *vmo_offset,
+            *len,
+            *perm,
+            *flags,
+        ),
+        Call::VmarUnmap { region, addr, len } => vmar_unmap(
+            store, vmos, regions, maps, *region, *addr, *len,
+        ),
+        Call::VmarProtect {
+            region,
+            addr,
+            len,
+            perm,
+        } => vmar_protect(regions, maps, *region, *addr, *len, *perm),
+        Call::VmarDestroy { region } => vmar_destroy(store, vmos, regions, maps, *region),
+        Call::Maps { region } => list_maps(alloc, regions, maps, *region),
+        _ => unreachable!(),
+    }
+}
+
+/// Tells of the machine. What else is about it is not built yet.
+fn on_machine<P: PageStore>(store: &P, call: &Call<'_>) -> Answer<'static>
+    requires { subject_of call.now ≡ Subject.Machine }
+    ensures { StepsSame (P.content store.now) (command_of call.now) (reply_for result) }
+{
+    match call {
         Call::Stat => Answer::Stat(stat(store)),
         _ => Answer::Unbuilt,
     }

@@ -10,9 +10,11 @@
 mod asking;
 mod changing;
 mod dispatching;
+mod mappings;
 mod naming;
 mod pinning;
 mod spaces;
+mod subjects;
 mod vm;
 
 pub use vm::Vm;

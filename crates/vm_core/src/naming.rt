@@ -6,7 +6,6 @@ ghost use Rattle.vm_base.specs.declared.limits.TheConstants.{KOIDS, NAMES};
 ghost use Rattle.vm_model.specs.declared.command.Command.{Command};
 ghost use Rattle.vm_model.specs.Machine.Lent.{reply_for};
 ghost use Rattle.vm_model.specs.Machine.State.{State};
-ghost use Rattle.vm_model.specs.Machine.Step.{Step};
 ghost use Rattle.vmo_table.specs.Table.{keepers_of, with_vmos, AreParts, IsWellCounted};
 ghost use Rattle.vmo_ops.specs.Targets.{AreTogether};
 ghost use Rattle.vm_core.specs.Calls.{Steps, StepsVmos};
@@ -83,9 +82,8 @@ pub(crate) fn vmo_close<P: PageStore>(
     name: VmoName,
 ) -> Answer<'static>
     requires { (s : State) × IsWellCounted vmos.old (with_vmos s (P.content store.old) vmos.old) }
-    ensures step { (s : State) → IsWellCounted vmos.old (with_vmos s (P.content store.old) vmos.old) →
-        Step (with_vmos s (P.content store.old) vmos.old) (Command.VmoClose name) (reply_for result)
-        (with_vmos s (P.content store.new) vmos.new) }
+    ensures step { StepsVmos (P.content store.old) vmos.old (Command.VmoClose name) (reply_for result)
+        (P.content store.new) vmos.new }
     ensures keepers { keepers_of vmos.new ≡ keepers_of vmos.old }
 {
     if vmos.resolve(name).is_none() {

@@ -1,20 +1,21 @@
 //! The commands on regions: `root_create`, `vmar_allocate`, `vmar_destroy`. Each clause `name` hands up the range of the
 //! name's number, which the caller has behind a reference.
 
-ghost use Rattle.std.specs.Prelude.{◌≡◌, ◌<◌, true, None, Some};
+ghost use Rattle.std.specs.Prelude.{◌<◌};
 ghost use Rattle.vm_base.specs.declared.limits.TheConstants.{NAMES};
 ghost use Rattle.vm_model.specs.declared.command.Command.{Command};
-ghost use Rattle.vm_model.specs.declared.space.Region.{Region};
 ghost use Rattle.vm_model.specs.Machine.Lent.{reply_for};
-ghost use Rattle.vm_model.specs.Space.Regions.{AreGoodRegions, is_at_or_below, killed};
 ghost use Rattle.mapping_set.specs.Tables.{table_of};
 ghost use Rattle.region_tree.specs.Tree.{regions_of, spaces_of};
+ghost use Rattle.region_ops.specs.Spaces.{AreAllWell, Does};
 ghost use Rattle.vm_core.specs.Calls.{StepsSpaces};
 
 use mapping_set::MappingSet;
-use region_tree::{Region, Regions};
+use page_store::PageStore;
+use region_tree::Regions;
 use vm_base::{MapFlags, Perm, Refusal, RegionName};
 use vm_model::Answer;
+use vmo_table::VmoTable;
 
 /// Makes an address space with its root region, where the name was never given.
 pub(crate) fn root_create(
@@ -67,16 +68,19 @@ pub(crate) fn vmar_allocate(
     }
 }
 
-/// Destroys a region and all below it, where it was given and is live. No page is mapped.
+/// Destroys a region and all below it, where it was given and is live. What is mapped in them is unmapped.
 #[tactic(auto, unfolding(vm_model::specs::Space::Regions::region_of, vm_base::specs::Entries::passes))]
-pub(crate) fn vmar_destroy(
+pub(crate) fn vmar_destroy<P: PageStore>(
+    store: &mut P,
+    vmos: &mut VmoTable,
     regions: &mut Regions,
-    maps: &MappingSet,
+    maps: &mut MappingSet,
     region: RegionName,
 ) -> Answer<'static>
-    requires { table_of maps.now ≡ λ root p. None }
-    ensures { StepsSpaces (spaces_of (regions_of regions.old) (table_of maps.now)) (Command.VmarDestroy region)
-        (reply_for result) (spaces_of (regions_of regions.new) (table_of maps.now)) }
+    requires { AreAllWell (P.content store.old) vmos.old (spaces_of (regions_of regions.old) (table_of maps.old)) }
+    ensures { Does (P.content store.old) vmos.old (spaces_of (regions_of regions.old) (table_of maps.old))
+        (Command.VmarDestroy region) (reply_for result)
+        (P.content store.new) vmos.new (spaces_of (regions_of regions.new) (table_of maps.new)) }
 {
     let Some(dying) = regions.get(region) else {
         return Answer::Refused(Refusal::BadHandle);
@@ -84,19 +88,6 @@ pub(crate) fn vmar_destroy(
     if !dying.live {
         return Answer::Refused(Refusal::BadState);
     }
-    destroy_all(regions, region, dying);
+    region_ops::destroy(store, vmos, regions, maps, region);
     Answer::Done
-}
-
-/// Destroys a live region and all below it, those first that have no live child.
-fn destroy_all(regions: &mut Regions, region: RegionName, dying: Region)
-    requires good { AreGoodRegions (regions_of regions.old) }
-    requires given { regions_of regions.old region.0 ≡ Some dying }
-    requires live { dying.live ≡ true }
-    ensures { regions_of regions.new ≡ killed (regions_of regions.old) (is_at_or_below (regions_of regions.old) region.0) }
-{
-    while let Some(_leaf) = regions.destroy_next(region, dying.first, dying.count) {}
-    // Regions are good, so none is left below.
-    let _good = regions.get(region);
-    regions.destroy_one(region);
 }

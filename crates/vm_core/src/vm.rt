@@ -18,6 +18,8 @@ use vmo_table::VmoTable;
 /// The names, VMOs, pins and regions of the machine, over a store of pages. One `step` is one event.
 #[derive(Drop)]
 pub struct Vm {
+    /// Where the mappings that are listed are kept.
+    alloc: Global,
     vmos: VmoTable,
     /// The pins. Each is counted in `vmos` as a keeper of its VMO.
     pins: PinTable,
@@ -53,6 +55,7 @@ impl Vm {
         ensures empty { (c : Content) → IsGood c → HasNoVmo c → c.next ≡ 1 → state_of c result ≡ empty_state c.frames }
     {
         Vm {
+            alloc,
             vmos: VmoTable::new(alloc),
             pins: PinTable::new(alloc),
             regions: Regions::new(alloc),
@@ -97,11 +100,12 @@ impl Vm {
         ensures next { (P.content store.new).next ≤ (P.content store.old).next + 1 }
     {
         dispatch(
+            self.alloc,
             store,
             &mut self.vmos,
             &mut self.pins,
             &mut self.regions,
-            &self.maps,
+            &mut self.maps,
             call,
             bytes,
             numbers,

@@ -1,0 +1,134 @@
+//! The commands on the mappings in a region: `vmar_map`, `vmar_unmap`, `vmar_protect`, `maps`.
+
+ghost use Rattle.std.specs.Prelude.{◌≡◌, ℕ};
+ghost use Rattle.vm_model.specs.declared.command.Command.{Command};
+ghost use Rattle.vm_model.specs.Machine.Lent.{reply_for};
+ghost use Rattle.vm_model.specs.Space.AddressSpaces.{mapped_count};
+ghost use Rattle.mapping_set.specs.Tables.{table_of};
+ghost use Rattle.region_tree.specs.Tree.{regions_of, spaces_of};
+ghost use Rattle.region_ops.specs.Spaces.{AreAllWell, Does};
+ghost use Rattle.vm_core.specs.Calls.{StepsSpaces};
+
+use mapping_set::MappingSet;
+use page_store::PageStore;
+use region_tree::Regions;
+use std::alloc::Global;
+use vm_base::{MapFlags, Perm, Refusal, RegionName, VmoName};
+use vm_model::Answer;
+use vmo_table::VmoTable;
+
+/// Maps a part of what a name stands for, where the region was given and the name is open, and the region is live.
+#[tactic(auto, unfolding(vm_model::specs::Space::Regions::region_of, vm_base::specs::Entries::passes))]
+pub(crate) fn vmar_map<P: PageStore>(
+    store: &mut P,
+    vmos: &mut VmoTable,
+    regions: &Regions,
+    maps: &mut MappingSet,
+    region: RegionName,
+    offset: u64,
+    name: VmoName,
+    vmo_offset: u64,
+    len: u64,
+    perm: Perm,
+    flags: MapFlags,
+) -> Answer<'static>
+    requires { AreAllWell (P.content store.old) vmos.old (spaces_of (regions_of regions.now) (table_of maps.old)) }
+    ensures { Does (P.content store.old) vmos.old (spaces_of (regions_of regions.now) (table_of maps.old))
+        (Command.VmarMap region offset name vmo_offset len perm flags) (reply_for result)
+        (P.content store.new) vmos.new (spaces_of (regions_of regions.now) (table_of maps.new)) }
+{
+    let Some(above) = regions.get(region) else {
+        return Answer::Refused(Refusal::BadHandle);
+    };
+    let Some(target) = vmos.resolve(name) else {
+        return Answer::Refused(Refusal::BadHandle);
+    };
+    if !above.live {
+        return Answer::Refused(Refusal::BadState);
+    }
+    match region_ops::map(
+        store, vmos, regions, maps, region, offset, &target, vmo_offset, len, perm, flags,
+    ) {
+        Ok(address) => Answer::Address(address),
+        Err(refusal) => Answer::Refused(refusal),
+    }
+}
+
+/// Unmaps a range, where the region was given and is live.
+#[tactic(auto, unfolding(vm_model::specs::Space::Regions::region_of, vm_base::specs::Entries::passes))]
+pub(crate) fn vmar_unmap<P: PageStore>(
+    store: &mut P,
+    vmos: &mut VmoTable,
+    regions: &mut Regions,
+    maps: &mut MappingSet,
+    region: RegionName,
+    addr: u64,
+    len: u64,
+) -> Answer<'static>
+    requires { AreAllWell (P.content store.old) vmos.old (spaces_of (regions_of regions.old) (table_of maps.old)) }
+    ensures { Does (P.content store.old) vmos.old (spaces_of (regions_of regions.old) (table_of maps.old))
+        (Command.VmarUnmap region addr len) (reply_for result)
+        (P.content store.new) vmos.new (spaces_of (regions_of regions.new) (table_of maps.new)) }
+{
+    let Some(above) = regions.get(region) else {
+        return Answer::Refused(Refusal::BadHandle);
+    };
+    if !above.live {
+        return Answer::Refused(Refusal::BadState);
+    }
+    match region_ops::unmap(store, vmos, regions, maps, region, addr, len) {
+        Ok(()) => Answer::Done,
+        Err(refusal) => Answer::Refused(refusal),
+    }
+}
+
+/// Changes what accesses to a range may do, where the region was given and is live. Each VMO is mapped as often as before.
+#[tactic(auto, unfolding(vm_model::specs::Space::Regions::region_of, vm_base::specs::Entries::passes))]
+pub(crate) fn vmar_protect(
+    regions: &Regions,
+    maps: &mut MappingSet,
+    region: RegionName,
+    addr: u64,
+    len: u64,
+    perm: Perm,
+) -> Answer<'static>
+    ensures step { StepsSpaces (spaces_of (regions_of regions.now) (table_of maps.old))
+        (Command.VmarProtect region addr len perm) (reply_for result)
+        (spaces_of (regions_of regions.now) (table_of maps.new)) }
+    ensures mapped { (v : ℕ) → mapped_count (spaces_of (regions_of regions.now) (table_of maps.new)) v
+        ≡ mapped_count (spaces_of (regions_of regions.now) (table_of maps.old)) v }
+{
+    let Some(above) = regions.get(region) else {
+        return Answer::Refused(Refusal::BadHandle);
+    };
+    if !above.live {
+        return Answer::Refused(Refusal::BadState);
+    }
+    match region_ops::protect(regions, maps, region, addr, len, perm) {
+        Ok(()) => Answer::Done,
+        Err(refusal) => Answer::Refused(refusal),
+    }
+}
+
+/// Lists the mappings in a region, where it was given and is live.
+#[tactic(auto, unfolding(vm_model::specs::Space::Regions::region_of, vm_base::specs::Entries::passes))]
+pub(crate) fn list_maps(
+    alloc: Global,
+    regions: &Regions,
+    maps: &MappingSet,
+    region: RegionName,
+) -> Answer<'static>
+    ensures { StepsSpaces (spaces_of (regions_of regions.now) (table_of maps.now)) (Command.Maps region)
+        (reply_for result) (spaces_of (regions_of regions.now) (table_of maps.now)) }
+{
+    let Some(above) = regions.get(region) else {
+        return Answer::Refused(Refusal::BadHandle);
+    };
+    if !above.live {
+        return Answer::Refused(Refusal::BadState);
+    }
+    match attribution::maps(alloc, regions, maps, region) {
+        Ok(runs) => Answer::Runs(runs),
+        Err(_) => Answer::Refused(Refusal::HostMemory),
+    }
+}
