@@ -89,11 +89,11 @@ does_mapped {c} {vmos} steps mapped = record {
 -- ---- the whole machine
 
 -- a good machine that counts right, and what of it is handed to the commands on VMOs and pins, and to those on regions
-pub counted_in : {c : Content} {vm : Parts} → IsWellCounted vm.vmos (state_of c vm) → AreCounted c vm.vmos vm.pins
-counted_in {c} {vm} well = record { rest = state_of c vm; well = well }
+pub counted_in : (c : Content) (vm : Parts) → IsWellCounted vm.vmos (state_of c vm) → AreCounted c vm.vmos vm.pins
+counted_in c vm well = record { rest = state_of c vm; well = well }
 
-pub spaces_well : {c : Content} {vm : Parts} → IsWellCounted vm.vmos (state_of c vm) → AreAllWell c vm.vmos (spaces_in vm)
-spaces_well {c} {vm} well = record { rest = state_of c vm; well = well }
+pub spaces_well : (c : Content) (vm : Parts) → IsWellCounted vm.vmos (state_of c vm) → AreAllWell c vm.vmos (spaces_in vm)
+spaces_well c vm well = record { rest = state_of c vm; well = well }
 
 -- what is done to a store and the two tables is done to the machine
 pub handles_tables : {old new : Content} {vmos_old vmos_new : Vmos} {pins_old pins_new : Pins} (regions : Regions) (maps : Mappings) {command : Command} {reply : Reply}

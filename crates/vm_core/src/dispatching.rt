@@ -32,9 +32,6 @@ use vmo_table::VmoTable;
 /// Does a command by its handler, with room for the bytes and for the numbers that it may answer. One that is not
 /// built yet is answered `Unbuilt`.
 #[inline(always)]
-#[tactic(auto, using(crate::proofs::CallLaws::counted_in, crate::proofs::CallLaws::spaces_well,
-// beside what else the machine has
-crate::proofs::CallLaws::handles_tables, crate::proofs::CallLaws::handles_spaces, crate::proofs::CallLaws::handles_same))]
 pub(crate) fn dispatch<'a, P: PageStore>(
     alloc: Global,
     store: &mut P,
@@ -66,7 +63,7 @@ pub(crate) fn dispatch<'a, P: PageStore>(
 }
 
 /// Does a command on a VMO as a whole.
-#[tactic(auto, using(crate::proofs::CallLaws::parts_counted, crate::proofs::CallLaws::together_of, crate::proofs::CallLaws::kept_counted,
+#[tactic(auto, using(crate::proofs::CallLaws::together_of,
 // beside any pins
 crate::proofs::CallLaws::steps_beside, crate::proofs::CallLaws::counts_same))]
 fn on_vmo<P: PageStore>(
@@ -107,7 +104,7 @@ fn on_vmo<P: PageStore>(
 }
 
 /// Does a command on pages of a VMO.
-#[tactic(auto, using(crate::proofs::CallLaws::parts_counted, crate::proofs::CallLaws::together_of,
+#[tactic(auto, using(crate::proofs::CallLaws::together_of,
 // beside any pins
 crate::proofs::CallLaws::steps_beside, crate::proofs::CallLaws::counts_same))]
 fn on_pages<'a, P: PageStore>(

@@ -121,10 +121,10 @@ pub(crate) fn list_maps(
     ensures { StepsSpaces (spaces_of (regions_of regions.now) (table_of maps.now)) (Command.Maps region)
         (reply_for result) (spaces_of (regions_of regions.now) (table_of maps.now)) }
 {
-    let Some(above) = regions.get(region) else {
+    let Some(listed) = regions.get(region) else {
         return Answer::Refused(Refusal::BadHandle);
     };
-    if !above.live {
+    if !listed.live {
         return Answer::Refused(Refusal::BadState);
     }
     match attribution::maps(alloc, regions, maps, region) {

@@ -18,7 +18,7 @@ use vmo_table::VmoTable;
 /// The names, VMOs, pins and regions of the machine, over a store of pages. One `step` is one event.
 #[derive(Drop)]
 pub struct Vm {
-    /// Where the mappings that are listed are kept.
+    /// Where room for a list of mappings comes from.
     alloc: Global,
     vmos: VmoTable,
     /// The pins. Each is counted in `vmos` as a keeper of its VMO.
