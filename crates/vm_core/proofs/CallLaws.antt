@@ -7,6 +7,7 @@ use Rattle.vm_model.specs.Contents.Content.{Content}
 use Rattle.vm_model.specs.declared.space.Entry.{Entry}
 use Rattle.vm_model.specs.declared.space.Region.{Region}
 use Rattle.vm_model.specs.Space.AddressSpaces.{Spaces, mapped_count}
+use Rattle.vm_model.specs.Machine.Given.{GivesName}
 use Rattle.vm_model.specs.Machine.State.{State}
 use Rattle.vm_core.specs.Vm.{Parts, spaces_in, state_of}
 use Rattle.vm_model.specs.declared.names.Target.{Target}
@@ -37,10 +38,6 @@ parts_counted counted = parts_of (together_of counted)
 pub kept_counted : {c : Content} {vmos : Vmos} {pins : Pins} → AreCounted c vmos pins → (s : State) × IsWellCounted vmos (with_vmos s c vmos)
 kept_counted {c} {vmos} {pins} counted = (with_tables counted.rest c vmos pins, counted.well)
 
--- keepers that did not change count the same
-pub counts_same : {old new : Vmos} {pins : Pins} → keepers_of new ≡ keepers_of old → KeepsCounts old pins new pins
-counts_same same = record { counts = λ s counted v. ap (λ (f : ℕ → ℕ). f v) same ∙ counted v }
-
 -- what a name stands for lies inside its VMO
 pub inside_named : {c : Content} (vmos : Vmos) (name : VmoName) {target : Target}
     → AreParts c vmos → Some target ≡ names_of vmos name.0 → IsInside c target
@@ -61,12 +58,22 @@ steps_named_with {old} command vmos pins name does named = record {
   step = λ s good. does (with_tables s old vmos pins) name (sym named);
 }
 
--- what is done whatever the pins are is done beside these pins
-pub steps_beside : {old new : Content} {vmos_old vmos_new : Vmos} {pins : Pins} {command : Command} {reply : Reply}
-    → StepsVmos old vmos_old command reply new vmos_new → Steps old vmos_old pins command reply new vmos_new pins
-steps_beside {old} {new} {vmos_old} {vmos_new} {pins} steps = record {
-  step = λ s well. steps.step (with_tables s old vmos_old pins) well;
+-- what a command does beside these pins, where the keepers did not change
+pub does_steps : {old new : Content} {vmos_old vmos_new : Vmos} {pins : Pins} {command : Command} {reply : Reply}
+    → Steps old vmos_old pins command reply new vmos_new pins → keepers_of vmos_new ≡ keepers_of vmos_old → GivesName command
+    → DoesTables old vmos_old pins command reply new vmos_new pins
+does_steps steps same name = record {
+  steps = steps;
+  counts = record { counts = λ s counted v. ap (λ (f : ℕ → ℕ). f v) same ∙ counted v };
+  name = name;
 }
+
+-- and what it does whatever the pins are
+pub does_vmos : {old new : Content} {vmos_old vmos_new : Vmos} {pins : Pins} {command : Command} {reply : Reply}
+    → StepsVmos old vmos_old command reply new vmos_new → keepers_of vmos_new ≡ keepers_of vmos_old → GivesName command
+    → DoesTables old vmos_old pins command reply new vmos_new pins
+does_vmos {old} {vmos_old = vmos_old} {pins = pins} steps same name =
+    does_steps (record { step = λ s well. steps.step (with_tables s old vmos_old pins) well }) same name
 
 -- what a command does to the regions alone is done beside this store and this table
 pub does_regions : {c : Content} {vmos : Vmos} {regions_old regions_new : ℕ → Option Region} {table : ℕ → ℕ → Option Entry} {command : Command} {reply : Reply}

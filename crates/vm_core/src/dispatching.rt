@@ -63,9 +63,6 @@ pub(crate) fn dispatch<'a, P: PageStore>(
 }
 
 /// Does a command on a VMO as a whole.
-#[tactic(auto, using(crate::proofs::CallLaws::together_of,
-// beside any pins
-crate::proofs::CallLaws::steps_beside, crate::proofs::CallLaws::counts_same))]
 fn on_vmo<P: PageStore>(
     store: &mut P,
     vmos: &mut VmoTable,
@@ -104,9 +101,6 @@ fn on_vmo<P: PageStore>(
 }
 
 /// Does a command on pages of a VMO.
-#[tactic(auto, using(crate::proofs::CallLaws::together_of,
-// beside any pins
-crate::proofs::CallLaws::steps_beside, crate::proofs::CallLaws::counts_same))]
 fn on_pages<'a, P: PageStore>(
     store: &mut P,
     vmos: &VmoTable,
@@ -169,7 +163,6 @@ fn on_pin<'a, P: PageStore>(
 }
 
 /// Does a command on a region, or on the mappings in one.
-#[tactic(auto, using(crate::proofs::CallLaws::does_regions, crate::proofs::CallLaws::does_mapped))]
 fn on_region<P: PageStore>(
     alloc: Global,
     store: &mut P,

@@ -1,4 +1,5 @@
-use Rattle.vm_core.proofs.CallLaws.{parts_counted}
+use Rattle.std.proofs.Common.{refl}
+use Rattle.vm_core.proofs.CallLaws.{parts_counted, together_of, does_steps, does_vmos}
 use Rattle.vm_core.proofs.dispatching.on_pages.Goals as goal
 
 pub vmo_read-requires-clause-parts : goal.vmo_read-requires-clause-parts
@@ -12,3 +13,27 @@ vmo_fill-requires g c = parts_counted c.requires.counted
 
 pub vmo_commit-requires : goal.vmo_commit-requires
 vmo_commit-requires g c = parts_counted c.requires.counted
+
+pub vmo_zero-requires : goal.vmo_zero-requires
+vmo_zero-requires g c = together_of c.requires.counted
+
+pub vmo_decommit-requires : goal.vmo_decommit-requires
+vmo_decommit-requires g c = together_of c.requires.counted
+
+pub returns-in-VmoRead : goal.returns-in-VmoRead
+returns-in-VmoRead g c = rw c.in-VmoRead.is (does_vmos c.vmo_read.ensures refl tt)
+
+pub returns-in-VmoWrite : goal.returns-in-VmoWrite
+returns-in-VmoWrite g c = rw c.in-VmoWrite.is (rw (← c.as_slice.ensures.value) (does_vmos c.vmo_write.ensures refl tt))
+
+pub returns-in-VmoFill : goal.returns-in-VmoFill
+returns-in-VmoFill g c = rw c.in-VmoFill.is (does_vmos c.vmo_fill.ensures refl tt)
+
+pub returns-in-VmoCommit : goal.returns-in-VmoCommit
+returns-in-VmoCommit g c = rw c.in-VmoCommit.is (does_vmos c.vmo_commit.ensures refl tt)
+
+pub returns-in-VmoZero : goal.returns-in-VmoZero
+returns-in-VmoZero g c = rw c.in-VmoZero.is (does_steps c.vmo_zero.ensures refl tt)
+
+pub returns-in-VmoDecommit : goal.returns-in-VmoDecommit
+returns-in-VmoDecommit g c = rw c.in-VmoDecommit.is (does_steps c.vmo_decommit.ensures refl tt)

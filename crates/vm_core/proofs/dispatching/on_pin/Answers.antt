@@ -1,0 +1,7 @@
+use Rattle.vm_core.proofs.dispatching.on_pin.Goals as goal
+
+pub returns-in-VmoPin : goal.returns-in-VmoPin
+returns-in-VmoPin g c = rw c.in-VmoPin.is (record { steps = c.vmo_pin.ensures.step; counts = c.vmo_pin.ensures.counted; name = c.vmo_pin.ensures.pin })
+
+pub returns-in-VmoUnpin : goal.returns-in-VmoUnpin
+returns-in-VmoUnpin g c = rw c.in-VmoUnpin.is (record { steps = c.vmo_unpin.ensures.step; counts = c.vmo_unpin.ensures.counted; name = tt })
