@@ -225,7 +225,7 @@ fn on_region<P: PageStore>(
     }
 }
 
-/// Tells of the machine. What else is about it is not built yet.
+/// Tells of the machine. An access through mappings is not built yet.
 fn on_machine<P: PageStore>(store: &P, call: &Call<'_>) -> Answer<'static>
     requires { subject_of call.now ≡ Subject.Machine }
     ensures { StepsSame (P.content store.now) (command_of call.now) (reply_for result) }

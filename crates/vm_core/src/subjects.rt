@@ -16,7 +16,7 @@ pub(crate) enum Subject {
     Pin,
     /// A region, or the mappings in one.
     Region,
-    /// The machine, or what is not built yet.
+    /// The machine, or an access through mappings, which is not built yet.
     Machine,
 }
 
@@ -32,8 +32,8 @@ pub(crate) fn subject_of(call: &Call<'_>) -> Subject
         | Call::VmoSize { .. }
         | Call::VmoSetSize { .. }
         | Call::VmoInfo { .. } => Subject::Vmo,
-        Call::VmoWrite { .. } => Subject::Pages,
         Call::VmoRead { .. }
+        | Call::VmoWrite { .. }
         | Call::VmoFill { .. }
         | Call::VmoCommit { .. }
         | Call::VmoDecommit { .. }
