@@ -20,7 +20,7 @@ use Rattle.mapping_set.specs.Tables.{Set as Mappings}
 use Rattle.mapping_set.specs.Tables.{table_of}
 use Rattle.region_tree.specs.Tree.{Tree as Regions, regions_of, spaces_of}
 use Rattle.region_ops.specs.Spaces.{AreAllWell, Does}
-use Rattle.vm_core.specs.Calls.{AreCounted, KeepsCounts, StepsVmos, Steps, StepsSpaces, DoesTables, DoesSpaces, StepsSame, Handles}
+use Rattle.vm_core.specs.Calls.{AreCounted, StepsVmos, Steps, StepsSpaces, DoesTables, DoesSpaces, StepsSame, Handles}
 
 -- a store and a table of VMOs are parts of what they are parts of together with the pins
 pub parts_of : {c : Content} {vmos : Vmos} {pins : Pins} → AreTogether c vmos pins → AreParts c vmos
