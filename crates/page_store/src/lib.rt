@@ -1,9 +1,9 @@
 //! The store of pages: what it contains and how it changes (`PageStore`), and the plain store
 //! (`FlatStore`), a map of held pages. And how many pages a name has in a store, and a VMO that leaves it.
 //!
-//! It stands on `vm_model`, whose contents the contracts speak of, and on `pair_map` for the plain store. The layers above use the trait,
-//! make a store by `FlatStore::new`, ask for the size of a name by `size_of_name`, and hand on a VMO that nothing keeps
-//! to `drop_gone`.
+//! It stands on `vm_model`, whose contents the contracts speak of, and on `pair_map` for the plain store. The layers
+//! above use the trait, make a store by `FlatStore::new`, ask for the size of a name by `size_of_name`, and hand on a VMO
+//! that nothing keeps to `drop_gone`.
 #![tactic(auto)]
 
 mod flat_store;
