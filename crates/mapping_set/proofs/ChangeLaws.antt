@@ -1,7 +1,7 @@
 -- Tables whose entries change on a range of pages.
 use Rattle.std.proofs.Common.{◌≡◌, ◌≢◌, ℕ, ◌+◌, ◌-◌, ◌<◌, ◌≤◌, cond, ◌&&◌, ◌==◌, Option, None, Some, ◌⊎◌, inl, inr, refl, sym, ap, ◌∙◌, arith}
 use Rattle.std.specs.Option.{option_map}
-use Rattle.std.proofs.lemmas.Bool.{cases_Bool, cases_lt, cases_eq, cond-true, cond-false, and_parts, and_from, both_ways, false_from_ne_true}
+use Rattle.std.proofs.lemmas.Bool.{cases_Bool, cases_lt, cases_eq, cond-true, cond-false, and_parts, and_from, both_ways}
 use Rattle.vm_base.specs.declared.flags.Perm.{Perm}
 use Rattle.vm_base.proofs.SearchLaws.{eqb_is, eqb_same}
 use Rattle.vm_model.specs.declared.space.Entry.{Entry}

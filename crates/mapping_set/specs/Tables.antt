@@ -1,5 +1,4 @@
 -- The set of mappings as its callers see it: what each page of each address space shows, and room.
-use Rattle.std.specs.Option.{option_map}
 use Rattle.std.specs.Prelude.{◌≡◌, ℕ, ◌+◌, ◌<◌, ◌≤◌, true, false, Option, None, Some, IsSome}
 use Rattle.pair_map.specs.declared.pair_row.PairRow.{PairRow}
 use Rattle.pair_map.specs.Maps.{values_of}
@@ -7,7 +6,6 @@ use Rattle.balanced_tree.specs.Rows.{Rows}
 use Rattle.vm_base.specs.Search.{count_below}
 use Rattle.vm_base.specs.Entries.{passes}
 use Rattle.vm_base.specs.declared.limits.TheConstants.{PAGES_END}
-use Rattle.vm_base.specs.declared.flags.Perm.{Perm}
 use Rattle.vm_model.specs.declared.space.Entry.{Entry}
 use Rattle.vm_model.specs.Space.Table.{mapping_from, with_pages, is_in, has_entry}
 use Rattle.mapping_set.specs.declared.piece.Piece.{Piece}

@@ -1,8 +1,8 @@
 -- The regions and the extents of their children hang together, as regions come and go.
-use Rattle.std.proofs.Common.{◌≡◌, ◌≢◌, ℕ, ◌+◌, ◌<◌, ◌≤◌, Bool, true, false, not, cond, ◌&&◌, ◌||◌, ◌==◌, Option, None, Some, IsSome, is_some, ◌⊎◌, refl, sym, ap, subst, ◌∙◌, inl, inr, arith}
-use Rattle.std.specs.Prelude.{⊤, unwrap_or}
+use Rattle.std.proofs.Common.{◌≡◌, ◌≢◌, ℕ, ◌+◌, ◌<◌, ◌≤◌, Bool, true, false, cond, ◌&&◌, ◌==◌, Option, None, Some, IsSome, is_some, ◌⊎◌, refl, sym, ap, subst, ◌∙◌, inl, inr, arith}
+use Rattle.std.specs.Prelude.{⊤}
 use Rattle.std.specs.Option.{option_map, MatchOption}
-use Rattle.std.proofs.lemmas.Bool.{cases_Bool, cases_eq, and_parts, or_right, both_ways, false_from_ne_true, cond-true, cond-false}
+use Rattle.std.proofs.lemmas.Bool.{cases_eq, and_parts, both_ways, false_from_ne_true, cond-true, cond-false}
 use Rattle.vm_base.specs.Entries.{passes, with_key}
 use Rattle.vm_base.specs.declared.limits.TheConstants.{NAMES, ROOT_END}
 use Rattle.vm_base.specs.declared.names.RegionName.{RegionName}

@@ -1,12 +1,12 @@
 -- The regions of address spaces, as the callers of the tree see them.
-use Rattle.std.specs.Prelude.{◌≡◌, ℕ, Bool, true, ◌==◌, Option, Some, unwrap_or}
+use Rattle.std.specs.Prelude.{◌≡◌, ℕ, Bool, true, ◌==◌, Option, Some}
 use Rattle.balanced_tree.specs.Rows.{Rows}
 use Rattle.pair_map.specs.declared.pair_row.PairRow.{PairRow}
 use Rattle.pair_map.specs.Maps.{values_of}
 use Rattle.vm_base.specs.Entries.{passes}
 use Rattle.vm_model.specs.declared.space.Entry.{Entry}
 use Rattle.vm_model.specs.declared.space.Region.{Region}
-use Rattle.vm_model.specs.Space.Regions.{root_region, lies_in, any_child, is_below, killed}
+use Rattle.vm_model.specs.Space.Regions.{lies_in, any_child, is_below, killed}
 use Rattle.vm_model.specs.Space.AddressSpaces.{Spaces}
 
 -- the regions under their names
