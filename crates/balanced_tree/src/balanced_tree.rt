@@ -87,7 +87,7 @@ impl<R: TreeRow> BalancedTree<R> {
         ensures row { result ≡ row_at R.functions rank self.now.rows }
         ensures cost { 2 ^ (steps.new - steps.old) ≤ (length self.now.rows + 1) ^ 2 }
     {
-        let row = find_below(&self.rows, self.root, rank, None, steps);
+        let row = find_below(&self.rows, self.root, rank, steps);
         if_of_rank(row, rank)
     }
 
@@ -96,7 +96,7 @@ impl<R: TreeRow> BalancedTree<R> {
         ensures row { result ≡ row_from R.functions rank self.now.rows }
         ensures cost { 2 ^ (steps.new - steps.old) ≤ (length self.now.rows + 1) ^ 2 }
     {
-        find_below(&self.rows, self.root, rank, None, steps)
+        find_below(&self.rows, self.root, rank, steps)
     }
 
     /// The last row of this rank or a lower one.
@@ -104,7 +104,7 @@ impl<R: TreeRow> BalancedTree<R> {
         ensures row { result ≡ row_to R.functions rank self.now.rows }
         ensures cost { 2 ^ (steps.new - steps.old) ≤ (length self.now.rows + 1) ^ 2 }
     {
-        last_below(&self.rows, self.root, rank, None, steps)
+        last_below(&self.rows, self.root, rank, steps)
     }
 
     /// Puts a row of a rank that no row has yet.
@@ -140,7 +140,7 @@ impl<R: TreeRow> BalancedTree<R> {
         ensures spare { self.new.spare ≡ self.old.spare + 1 }
         ensures cost { 2 ^ (steps.new - steps.old) ≤ (length self.old.rows + 2) ^ 32 }
     {
-        let Some(row) = find_below(&self.rows, self.root, rank, None, steps) else {
+        let Some(row) = find_below(&self.rows, self.root, rank, steps) else {
             unreachable!()
         };
         let root = remove_below(&mut self.rows, self.root, rank, steps);

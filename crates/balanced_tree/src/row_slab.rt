@@ -75,6 +75,16 @@ impl<R: Copy> RowSlab<R> {
         self.rows[place]
     }
 
+    /// The row under a place, where it stands.
+    pub fn look<L: Ledger>(&self, place: usize, steps: &mut Steps<L>) -> &R
+        requires { ContainsKey self.now place }
+        ensures row { get self.now place ≡ Some result.now }
+        ensures step { steps.new ≡ steps.old + 1 }
+    {
+        steps.tick();
+        &self.rows[place]
+    }
+
     /// Puts a row under a place in place of the one there.
     pub fn put<L: Ledger>(&mut self, place: usize, row: R, steps: &mut Steps<L>)
         requires { ContainsKey self.old place }
