@@ -11,8 +11,8 @@ ghost use Rattle.mapping_set.specs.Tables.{table_of};
 ghost use Rattle.region_tree.specs.Tree.{regions_of, is_live_region, spaces_of};
 ghost use Rattle.region_ops.specs.Spaces.{AreWell, AreAllWell, LetsGo, Does};
 
-use crate::placing::live_region;
 use crate::leaving::{clear_range, clear_region};
+use crate::placing::live_region;
 use crate::ranges::is_outside;
 use mapping_set::MappingSet;
 use page_store::PageStore;
