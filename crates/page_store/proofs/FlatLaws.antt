@@ -1,5 +1,5 @@
 -- What the fields of a plain store say of its content, and how it begins and gets VMOs.
-use Rattle.std.proofs.Common.{◌≡◌, ◌≢◌, ℕ, ◌+◌, ◌-◌, ◌^◌, ◌<◌, ◌≤◌, Bool, true, false, not, cond, ◌==◌, ◌&&◌, List, [], ◌∷◌, ◌++◌, length, get_or, take, drop, replicate, Option, None, Some, IsSome, refl, sym, ap, subst, ◌∙◌, inl, inr, arith}
+use Rattle.std.proofs.Common.{◌≡◌, ◌≢◌, ℕ, ◌+◌, ◌-◌, ◌<◌, ◌≤◌, true, false, not, cond, ◌==◌, ◌&&◌, List, [], ◌∷◌, ◌++◌, length, get_or, take, drop, replicate, Option, None, Some, IsSome, refl, sym, ap, subst, ◌∙◌, inl, inr, arith}
 use Rattle.std.specs.Prelude.{is_some, nat_lt, unwrap_or}
 use Rattle.std.proofs.lemmas.Bool.{cases_lt, both_ways, false_from_ne_true}
 use Rattle.std.proofs.lemmas.Bool.Decides.{nat_tests}
@@ -26,7 +26,7 @@ use Rattle.page_store.specs.Held.{IsNextBelow, HasNoneBelow, held_from, showing}
 use Rattle.page_store.specs.Flat.{Flat, page_with, page_from, content_of, IsFlat}
 use Rattle.page_store.proofs.NameLaws.{pages_of_le}
 use Rattle.page_store.proofs.HeldLaws.{same_content, showing-created}
-use Rattle.page_store.proofs.ViewerLaws.{in_use-viewers, viewers_le, sole-viewers, viewers-pages, vmos_of-same, vmos_of-created, vmos_of-without}
+use Rattle.page_store.proofs.ViewerLaws.{in_use-viewers, sole-viewers, viewers-pages, vmos_of-same, vmos_of-created, vmos_of-without}
 
 -- a held page has the frame of its entry
 pub page_found : (pool : Pool) (o : Option Tag) (held : Page) → page_from pool o ≡ Some held → (tag : Tag) × (o ≡ Some tag) × (page_with pool tag ≡ held)

@@ -13,7 +13,7 @@ use Rattle.frame_pool.specs.Pool.{Pool, taken_frames, frame_bytes, taken_count, 
 use Rattle.frame_pool.proofs.PoolLaws.{takes_apart}
 use Rattle.pair_map.specs.declared.pair_map.PairMap.{PairMap}
 use Rattle.pair_map.specs.Maps.{values_of, with_pair}
-use Rattle.vm_model.specs.Contents.Content.{Page, shown, has_tag, pages_of, in_use, used, vmos_of, is_sole_page, sole, hold, IsGood}
+use Rattle.vm_model.specs.Contents.Content.{Page, shown, has_tag, pages_of, in_use, used, vmos_of, sole, hold, IsGood}
 use Rattle.vm_model.specs.Contents.Owning.{Owns}
 use Rattle.vm_model.specs.Contents.Sharing.{viewers}
 use Rattle.vm_model.specs.Contents.Zeroing.{zeroed}

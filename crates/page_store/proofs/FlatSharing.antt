@@ -1,15 +1,15 @@
 -- A page of the plain store that shows a frame of another page, or is released.
-use Rattle.std.proofs.Common.{◌≡◌, ℕ, ◌+◌, ◌-◌, ◌<◌, ◌≤◌, Bool, true, false, cond, ◌&&◌, ◌==◌, List, [], length, get_or, set, Option, None, Some, IsSome, refl, sym, ap, subst, ◌∙◌, inl, inr, arith, length-set}
-use Rattle.std.specs.Prelude.{is_some, nat_lt, unwrap_or}
+use Rattle.std.proofs.Common.{◌≡◌, ℕ, ◌+◌, ◌-◌, ◌<◌, ◌≤◌, Bool, true, false, cond, ◌&&◌, ◌==◌, List, [], length, get_or, set, Option, None, Some, refl, sym, ap, subst, ◌∙◌, inl, inr, arith, length-set}
+use Rattle.std.specs.Prelude.{is_some, unwrap_or}
 use Rattle.std.proofs.lemmas.Bool.{cond-true, cond-false, and_parts, and_from, eqb-true, eq-eqb, false_from_ne_true}
 use Rattle.std.proofs.lemmas.Bool.Decides.{nat_tests}
 use Rattle.vm_base.specs.declared.names.Tag.{Tag}
 use Rattle.vm_base.proofs.SearchLaws.{eqb_same, bit-true}
 use Rattle.vm_base.proofs.EntryLaws.{none_is}
-use Rattle.frame_pool.specs.Pool.{Pool, taken_frames, frame_bytes}
+use Rattle.frame_pool.specs.Pool.{Pool, taken_frames}
 use Rattle.pair_map.specs.declared.pair_map.PairMap.{PairMap}
 use Rattle.pair_map.specs.Maps.{values_of, with_pair}
-use Rattle.vm_model.specs.Contents.Content.{Page, Content, in_use, vmos_of, hold, IsGood}
+use Rattle.vm_model.specs.Contents.Content.{Content, vmos_of, hold, IsGood}
 use Rattle.vm_model.specs.Contents.Sharing.{viewers}
 use Rattle.vm_model.specs.Contents.Zeroing.{zeroed}
 use Rattle.vm_model.proofs.ContentLaws.{in_use_at}
@@ -18,7 +18,7 @@ use Rattle.page_store.specs.Pages.{IsShown}
 use Rattle.page_store.specs.Flat.{Flat, page_with, page_from, content_of, IsFlat}
 use Rattle.page_store.proofs.HeldLaws.{same_content}
 use Rattle.page_store.proofs.ViewerLaws.{in_use-viewers, viewers_le, IsOneMore-hold, IsOneMore-zeroed, viewers-more, vmos_of-same}
-use Rattle.page_store.proofs.FlatLaws.{shown_frame, page_is, frame_is, share_is, tag_below}
+use Rattle.page_store.proofs.FlatLaws.{shown_frame, page_is, tag_below}
 use Rattle.page_store.proofs.FlatOwning.{set_at}
 
 -- ---- a frame that is shown once more

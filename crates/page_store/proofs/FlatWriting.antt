@@ -9,7 +9,7 @@ use Rattle.frame_pool.specs.Pool.{Pool, taken_frames, frame_bytes}
 use Rattle.vm_base.proofs.SearchLaws.{any_below_same}
 use Rattle.vm_base.specs.declared.names.Tag.{Tag}
 use Rattle.pair_map.specs.Maps.{values_of}
-use Rattle.vm_model.specs.Contents.Content.{Page, Content, pages_of, views, vmos_of, has_tag, hold, IsGood}
+use Rattle.vm_model.specs.Contents.Content.{Page, Content, pages_of, views, has_tag, hold, IsGood}
 use Rattle.vm_model.specs.Contents.Sharing.{viewers}
 use Rattle.vm_base.specs.Pages.{replaced}
 use Rattle.vm_model.proofs.ContentLaws.{has_tag_from, has_tag_held, sole_from, IsGood-hold_bytes}

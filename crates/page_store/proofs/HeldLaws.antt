@@ -1,14 +1,12 @@
 -- Pages that become zero, or are shown by another VMO, one held page after another.
-use Rattle.std.proofs.Common.{◌≡◌, ◌≢◌, ◌⊎◌, ℕ, zero, suc, ◌+◌, ◌-◌, ◌<◌, ◌≤◌, Bool, false, ◌==◌, cond, Option, None, Some, IsSome, refl, sym, ap, subst, ◌∙◌, inl, inr, arith}
-use Rattle.std.proofs.lemmas.Bool.{cases_lt, cases_eq}
+use Rattle.std.proofs.Common.{◌≡◌, ◌≢◌, ◌⊎◌, ℕ, zero, suc, ◌+◌, ◌-◌, ◌<◌, ◌≤◌, Bool, None, Some, IsSome, refl, sym, ap, subst, ◌∙◌, arith}
 use Rattle.std.proofs.lemmas.Bool.Decides.{nat_tests}
 use Rattle.vm_base.specs.Search.{count_below}
 use Rattle.vm_base.proofs.SearchLaws.{bit-true, count_below-suc, count_below_gap, count_below_le, count_below-zero}
-use Rattle.vm_model.specs.Contents.Content.{Content, Page, is_held, pages_of, hold, created, IsGood}
+use Rattle.vm_model.specs.Contents.Content.{Content, Page, is_held, hold, created, IsGood}
 use Rattle.vm_model.specs.Contents.Sharing.{page_seen, snapshotted}
 use Rattle.vm_model.specs.Contents.Zeroing.{zeroed}
 use Rattle.vm_model.proofs.ContentLaws.{is_held-zero, IsGood-part, own_pages, pages_of-same}
-use Rattle.vm_model.proofs.SharingLaws.{page_seen-in, page_seen-out, page_seen_held}
 use Rattle.vm_model.proofs.ZeroingLaws.{zeroed-none}
 use Rattle.vm_base.specs.Entries.{with_key}
 use Rattle.page_store.specs.Held.{IsNextBelow, HasNoneBelow, held_from, showing}

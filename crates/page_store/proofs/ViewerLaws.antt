@@ -1,5 +1,5 @@
 -- How many VMOs show a frame, where a page more is held, and how many VMOs there are, where one comes or leaves.
-use Rattle.std.proofs.Common.{◌≡◌, ◌≢◌, ℕ, ◌+◌, ◌<◌, ◌≤◌, Bool, false, not, ◌&&◌, ◌==◌, cond, Option, None, Some, IsSome, refl, sym, ap, subst, ◌∙◌, inl, inr, arith}
+use Rattle.std.proofs.Common.{◌≡◌, ◌≢◌, ℕ, ◌+◌, ◌<◌, ◌≤◌, Bool, false, not, ◌&&◌, ◌==◌, cond, None, Some, IsSome, refl, sym, ap, subst, ◌∙◌, inl, inr, arith}
 use Rattle.std.specs.Prelude.{is_some, nat_lt}
 use Rattle.std.specs.Cmp.{both_ways}
 use Rattle.std.proofs.lemmas.Bool.{cases_eq, false_from_ne_true, and_left, eq-eqb, ne_eqb}
@@ -13,7 +13,7 @@ use Rattle.vm_model.specs.Contents.Sharing.{viewers, only, without}
 use Rattle.vm_model.specs.Contents.Zeroing.{zeroed}
 use Rattle.vm_model.proofs.ContentLaws.{pages_of-same, zero_not_held, held_once, page-hold_here, page-hold_other, views_found, views_at, views-same}
 use Rattle.vm_model.proofs.SharingLaws.{views_held, koid_held, koid_some, count-without_here, count-without_other}
-use Rattle.vm_model.proofs.ZeroingLaws.{page-zeroed_in, page-zeroed_out}
+use Rattle.vm_model.proofs.ZeroingLaws.{page-zeroed_in}
 
 -- a frame is in use where some VMO shows it
 pub in_use-viewers : (c : Content) (t : ℕ) → in_use c t ≡ nat_lt 0 (viewers c t)

@@ -1,20 +1,18 @@
 -- What a region finds on a range of pages, piece by piece, and what a change of permissions leaves as it is.
 use Rattle.std.proofs.Common.{◌≡◌, ◌≢◌, ℕ, ◌+◌, ◌<◌, ◌≤◌, Bool, true, false, not, ◌&&◌, ◌||◌, ◌==◌, Option, None, Some, refl, sym, ap, subst, ◌∙◌, inl, inr, arith}
 use Rattle.std.specs.Prelude.{nat_le, IsSome}
-use Rattle.std.specs.Option.{option_map}
 use Rattle.std.specs.Cmp.{both_ways}
-use Rattle.std.proofs.lemmas.Bool.{cases_Bool, cases_lt, and_parts, and_from, or_cases, false_from_ne_true, cond-true, cond-false, not-false, le-leb, leb-true}
+use Rattle.std.proofs.lemmas.Bool.{cases_Bool, cases_lt, and_parts, and_from, or_cases, false_from_ne_true, not-false, le-leb, leb-true}
 use Rattle.vm_base.specs.Entries.{passes}
 use Rattle.vm_base.specs.Search.{count_below, sum_below}
 use Rattle.vm_base.specs.declared.flags.Perm.{Perm}
 use Rattle.vm_base.specs.declared.limits.TheConstants.{NAMES, ROOT_END}
-use Rattle.vm_base.proofs.SearchLaws.{any_below_found, any_below_at, eqb_is}
+use Rattle.vm_base.proofs.SearchLaws.{any_below_found, any_below_at}
 use Rattle.vm_base.proofs.EntryLaws.{passes-none, passes-some}
 use Rattle.vm_model.specs.declared.space.Entry.{Entry}
-use Rattle.vm_model.specs.Contents.Zeroing.{is_within}
 use Rattle.vm_model.specs.Space.Rights.{has}
-use Rattle.vm_model.specs.Space.Table.{mapping_from, with_pages, is_in}
-use Rattle.vm_model.specs.Space.AddressSpaces.{Spaces, shows, mapped_count}
+use Rattle.vm_model.specs.Space.Table.{mapping_from, is_in}
+use Rattle.vm_model.specs.Space.AddressSpaces.{Spaces, mapped_count}
 use Rattle.vm_model.specs.Space.Mappings.{protected, any_from, has_hole, forbids}
 use Rattle.mapping_set.specs.declared.piece.Piece.{Piece}
 use Rattle.mapping_set.specs.Tables.{IsFull, IsBareFrom, IsNextPiece}

@@ -1,7 +1,6 @@
-use Rattle.std.proofs.Common.{◌+◌, sym, ◌∙◌, ap, arith, Some}
+use Rattle.std.proofs.Common.{◌+◌, sym, ◌∙◌, arith}
 use Rattle.std.specs.Prelude.{option_map, option_copied}
 use Rattle.balanced_tree.specs.Row.{plain}
-use Rattle.balanced_tree.specs.Tree.{found}
 use Rattle.balanced_tree.proofs.Nodes.{node_of, standing-at, lower-left, lower-right, Stands-left, Stands-right, found-leaf, found-left, found-right, found-here, height-left, height-right}
 use Rattle.balanced_tree.proofs.descent.+first_from.Goals as goal
 

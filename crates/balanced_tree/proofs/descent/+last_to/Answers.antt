@@ -1,7 +1,6 @@
-use Rattle.std.proofs.Common.{◌+◌, sym, ◌∙◌, ap, arith, Some}
+use Rattle.std.proofs.Common.{◌+◌, sym, ◌∙◌, arith}
 use Rattle.std.specs.Prelude.{option_map, option_copied}
 use Rattle.balanced_tree.specs.Row.{plain}
-use Rattle.balanced_tree.specs.Tree.{found_to}
 use Rattle.balanced_tree.proofs.Nodes.{node_of, standing-at, lower-left, lower-right, Stands-left, Stands-right, found_to-leaf, found_to-left, found_to-right, found_to-here, height-left, height-right}
 use Rattle.balanced_tree.proofs.descent.+last_to.Goals as goal
 

@@ -1,5 +1,3 @@
-use Rattle.std.proofs.Common.{◌≡◌, ap, ◌∙◌, arith}
-use Rattle.std.proofs.lemmas.Bool.Decides.{nat_tests}
 use Rattle.page_store.proofs.FlatLaws.{given_back}
 use Rattle.page_store.proofs.flat_store.give_back_unshown.Goals as goal
 

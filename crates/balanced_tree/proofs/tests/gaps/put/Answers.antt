@@ -1,4 +1,4 @@
-use Rattle.std.proofs.Common.{◌≡◌, ℕ, ◌+◌, ◌*◌, ◌^◌, ◌≤◌, refl, subst, arith}
+use Rattle.std.proofs.Common.{◌≡◌, ℕ, ◌+◌, ◌*◌, ◌^◌, subst, arith}
 use Rattle.balanced_tree.specs.Gaps.{IsFree}
 use Rattle.balanced_tree.specs.contracts.tests.gaps.ExtentTreeRow.TheImpl.{ghosts as row}
 use Rattle.balanced_tree.specs.contracts.tests.gaps.ExtentExtentRow.TheImpl.{ghosts as extent}

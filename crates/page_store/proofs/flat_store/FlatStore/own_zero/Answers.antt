@@ -1,5 +1,5 @@
 use Rattle.page_store.specs.Flat.{flat_of}
-use Rattle.page_store.proofs.FlatOwning.{IsOwned, room_free, owned_zero}
+use Rattle.page_store.proofs.FlatOwning.{room_free, owned_zero}
 use Rattle.page_store.proofs.flat_store.FlatStore.own_zero.Goals as goal
 
 pub take_zeros-tag-requires : goal.take_zeros-tag-requires

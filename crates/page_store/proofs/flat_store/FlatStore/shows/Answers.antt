@@ -1,4 +1,4 @@
-use Rattle.std.proofs.Common.{sym, ap, ◌∙◌}
+use Rattle.std.proofs.Common.{sym, ap}
 use Rattle.std.proofs.lemmas.Bool.{eqb-true, eq-eqb, both_ways}
 use Rattle.page_store.specs.Flat.{content_of, page_from}
 use Rattle.page_store.proofs.FlatLaws.{shows-found, shows-next, shows-none}

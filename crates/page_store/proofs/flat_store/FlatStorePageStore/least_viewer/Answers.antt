@@ -1,6 +1,4 @@
-use Rattle.std.proofs.Common.{◌≡◌, subst, sym, ap, ◌∙◌, arith}
-use Rattle.std.specs.Option.{option_map}
-use Rattle.pair_map.specs.Maps.{values_of, IsNext}
+use Rattle.std.proofs.Common.{arith}
 use Rattle.page_store.specs.Flat.{flat_of, content_of}
 use Rattle.page_store.proofs.FlatLaws.{least-at, least-next, least-below, least-none}
 use Rattle.page_store.proofs.flat_store.FlatStorePageStore.least_viewer.Goals as goal

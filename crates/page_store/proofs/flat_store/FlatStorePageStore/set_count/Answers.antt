@@ -1,4 +1,4 @@
-use Rattle.std.proofs.Common.{◌≡◌, Some, ap, ◌∙◌, sym}
+use Rattle.std.proofs.Common.{◌≡◌, Some}
 use Rattle.vm_model.specs.Contents.Zeroing.{zeroed}
 use Rattle.page_store.specs.Flat.{flat_of, content_of}
 use Rattle.page_store.proofs.FlatLaws.{content-resized, IsFlat-resized, count_is, count_stays}

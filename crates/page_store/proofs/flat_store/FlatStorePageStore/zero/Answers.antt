@@ -1,4 +1,4 @@
-use Rattle.std.proofs.Common.{refl, sym, ap, ◌∙◌}
+use Rattle.std.proofs.Common.{sym, ◌∙◌}
 use Rattle.page_store.specs.Flat.{flat_of}
 use Rattle.page_store.proofs.FlatSharing.{zero_already}
 use Rattle.page_store.proofs.flat_store.FlatStorePageStore.zero.Goals as goal
