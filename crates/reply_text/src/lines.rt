@@ -60,7 +60,6 @@ fn lend(reply: &Reply) -> Result<Answer<'_>, &[Run]>
         Reply::Runs(runs) => return Err(runs.as_slice()),
         Reply::Stat(stat) => Answer::Stat(*stat),
         Reply::Refused(refusal) => Answer::Refused(*refusal),
-        Reply::Unbuilt => Answer::Unbuilt,
     })
 }
 
@@ -104,8 +103,7 @@ fn runs_of<'b>(answer: &'b Answer<'_>) -> &'b [Run]
         | Answer::Faults(_)
         | Answer::Info(_)
         | Answer::Stat(_)
-        | Answer::Refused(_)
-        | Answer::Unbuilt => &[],
+        | Answer::Refused(_) => &[],
     }
 }
 
@@ -129,7 +127,6 @@ fn put_first_line(answer: &Answer<'_>, out: &mut [u8]) -> usize
         Answer::Runs(runs) => put_number(runs.as_slice().len() as u64, out, ok),
         Answer::Stat(stat) => put_stat(stat, out, ok),
         Answer::Refused(refusal) => put(name_of(*refusal), out, 0),
-        Answer::Unbuilt => put(b"UNBUILT", out, 0),
     }
 }
 

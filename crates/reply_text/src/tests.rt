@@ -112,7 +112,6 @@ fn replies_have_their_lines(rt: HostRuntime) -> Result<(), Fail> {
         (Reply::Refused(Refusal::NoResources), "NO_RESOURCES\n"),
         (Reply::Refused(Refusal::NoMemory), "NO_MEMORY\n"),
         (Reply::Refused(Refusal::HostMemory), "HOST_MEMORY\n"),
-        (Reply::Unbuilt, "UNBUILT\n"),
     ] {
         expect_lines(&rt, &reply, &[want]);
     }

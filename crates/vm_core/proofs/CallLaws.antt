@@ -9,18 +9,15 @@ use Rattle.vm_model.specs.declared.space.Region.{Region}
 use Rattle.vm_model.specs.Space.AddressSpaces.{Spaces, mapped_count}
 use Rattle.vm_model.specs.Machine.Given.{GivesName}
 use Rattle.vm_model.specs.Machine.State.{State}
-use Rattle.vm_core.specs.Vm.{Parts, spaces_in, state_of}
 use Rattle.vm_model.specs.declared.names.Target.{Target}
 use Rattle.vmo_table.specs.Table.{Table as Vmos, names_of, keepers_of, with_vmos, AreParts, IsWellCounted}
 use Rattle.pin_table.specs.Table.{Table as Pins, pins_of}
 use Rattle.page_store.specs.Names.{IsInside}
 use Rattle.vmo_ops.specs.Targets.{with_tables, AreTogether, Does as DoesNamed, DoesWith}
 use Rattle.vmo_ops.proofs.NameLaws.{parts_inside}
-use Rattle.mapping_set.specs.Tables.{Set as Mappings}
-use Rattle.mapping_set.specs.Tables.{table_of}
-use Rattle.region_tree.specs.Tree.{Tree as Regions, regions_of, spaces_of}
+use Rattle.region_tree.specs.Tree.{spaces_of}
 use Rattle.region_ops.specs.Spaces.{AreAllWell, Does}
-use Rattle.vm_core.specs.Calls.{AreCounted, StepsVmos, Steps, StepsSpaces, DoesTables, DoesSpaces, StepsSame, Handles}
+use Rattle.vm_core.specs.Calls.{AreCounted, StepsVmos, Steps, StepsSpaces, DoesTables, DoesSpaces, StepsSame, state_with, Handles}
 
 -- a store and a table of VMOs are parts of what they are parts of together with the pins
 pub parts_of : {c : Content} {vmos : Vmos} {pins : Pins} → AreTogether c vmos pins → AreParts c vmos
@@ -96,41 +93,29 @@ does_mapped {c} {vmos} steps mapped = record {
 -- ---- the whole machine
 
 -- a good machine that counts right, and what of it is handed to the commands on VMOs and pins, and to those on regions
-pub counted_in : (c : Content) (vm : Parts) → IsWellCounted vm.vmos (state_of c vm) → AreCounted c vm.vmos vm.pins
-counted_in c vm well = record { rest = state_of c vm; well = well }
+pub counted_in : {c : Content} {vmos : Vmos} {pins : Pins} (spaces : Spaces) → IsWellCounted vmos (state_with c vmos pins spaces) → AreCounted c vmos pins
+counted_in {c} {vmos} {pins} spaces well = record { rest = state_with c vmos pins spaces; well = well }
 
-pub spaces_well : (c : Content) (vm : Parts) → IsWellCounted vm.vmos (state_of c vm) → AreAllWell c vm.vmos (spaces_in vm)
-spaces_well c vm well = record { rest = state_of c vm; well = well }
+pub spaces_well : {c : Content} {vmos : Vmos} (pins : Pins) {spaces : Spaces} → IsWellCounted vmos (state_with c vmos pins spaces) → AreAllWell c vmos spaces
+spaces_well {c} {vmos} pins {spaces} well = record { rest = state_with c vmos pins spaces; well = well }
 
 -- what is done to a store and the two tables is done to the machine
-pub handles_tables : {old new : Content} {vmos_old vmos_new : Vmos} {pins_old pins_new : Pins} (regions : Regions) (maps : Mappings) {command : Command} {reply : Reply}
-    → IsWellCounted vmos_old (state_of old (record { vmos = vmos_old; pins = pins_old; regions = regions; maps = maps }))
-    → DoesTables old vmos_old pins_old command reply new vmos_new pins_new
-    → Handles old (record { vmos = vmos_old; pins = pins_old; regions = regions; maps = maps }) command reply new
-    (record { vmos = vmos_new; pins = pins_new; regions = regions; maps = maps })
-handles_tables {old} {new} {vmos_old} {vmos_new} {pins_old} regions maps well does =
-    let s = state_of old (record { vmos = vmos_old; pins = pins_old; regions = regions; maps = maps }) in
-    record {
-      step = does.steps.step s well;
-      counted = does.counts.counts s well.counted;
-      name = does.name;
-    }
+pub handles_tables : {old new : Content} {vmos_old vmos_new : Vmos} {pins_old pins_new : Pins} (spaces : Spaces) {command : Command} {reply : Reply}
+    → IsWellCounted vmos_old (state_with old vmos_old pins_old spaces) → DoesTables old vmos_old pins_old command reply new vmos_new pins_new
+    → Handles old vmos_old pins_old spaces command reply new vmos_new pins_new spaces
+handles_tables {old} {vmos_old = vmos_old} {pins_old = pins_old} spaces well does =
+    let s = state_with old vmos_old pins_old spaces in
+    record { step = does.steps.step s well; counted = does.counts.counts s well.counted; name = does.name }
 
 -- and what is done to a store, the table of VMOs and the address spaces
-pub handles_spaces : {old new : Content} {vmos_old vmos_new : Vmos} (pins : Pins) {regions_old regions_new : Regions} {maps_old maps_new : Mappings} {command : Command} {reply : Reply}
-    → IsWellCounted vmos_old (state_of old (record { vmos = vmos_old; pins = pins; regions = regions_old; maps = maps_old }))
-    → DoesSpaces old vmos_old (spaces_of (regions_of regions_old) (table_of maps_old)) command reply new vmos_new (spaces_of (regions_of regions_new) (table_of maps_new))
-    → Handles old (record { vmos = vmos_old; pins = pins; regions = regions_old; maps = maps_old }) command reply new
-    (record { vmos = vmos_new; pins = pins; regions = regions_new; maps = maps_new })
-handles_spaces {old} {vmos_old = vmos_old} pins {regions_old = regions_old} {maps_old = maps_old} well does =
-    let s = state_of old (record { vmos = vmos_old; pins = pins; regions = regions_old; maps = maps_old }) in
-    record {
-      step = does.does.step s well;
-      counted = does.does.counted s well;
-      name = does.name;
-    }
+pub handles_spaces : {old new : Content} {vmos_old vmos_new : Vmos} (pins : Pins) {spaces_old spaces_new : Spaces} {command : Command} {reply : Reply}
+    → IsWellCounted vmos_old (state_with old vmos_old pins spaces_old) → DoesSpaces old vmos_old spaces_old command reply new vmos_new spaces_new
+    → Handles old vmos_old pins spaces_old command reply new vmos_new pins spaces_new
+handles_spaces {old} {vmos_old = vmos_old} pins {spaces_old = spaces_old} well does =
+    let s = state_with old vmos_old pins spaces_old in
+    record { step = does.does.step s well; counted = does.does.counted s well; name = does.name }
 
 -- and what changes nothing
-pub handles_same : {c : Content} {vm : Parts} {command : Command} {reply : Reply} → IsWellCounted vm.vmos (state_of c vm)
-    → StepsSame c command reply → Handles c vm command reply c vm
-handles_same {c} {vm} well same = record { step = same.step (state_of c vm); counted = well.counted; name = same.name }
+pub handles_same : {c : Content} {vmos : Vmos} {pins : Pins} {spaces : Spaces} {command : Command} {reply : Reply} → IsWellCounted vmos (state_with c vmos pins spaces)
+    → StepsSame c command reply → Handles c vmos pins spaces command reply c vmos pins spaces
+handles_same {c} {vmos} {pins} {spaces} well same = record { step = same.step (state_with c vmos pins spaces); counted = well.counted; name = same.name }

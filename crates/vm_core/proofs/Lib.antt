@@ -1,3 +1,14 @@
 mod AskingLaws
 mod CallLaws
+mod ResettingLaws
+mod BoundLaws
+mod AnswerLaws
 pub mod StartLaws
+pub mod AgreeLaws
+pub mod OutsideLaws
+pub mod LeftLaws
+pub mod StaysLaws
+pub mod DestroyedLaws
+pub mod SpacesLeftLaws
+pub mod EffectLaws
+pub mod ResetLaws

@@ -1,5 +1,5 @@
--- A machine with no names and no pins, over a store without VMOs.
-use Rattle.std.proofs.Common.{◌≡◌, ℕ, ◌<◌, Option, None, Some, refl, sym, ap, ◌∙◌, ◌==◌, arith}
+-- A machine with no names, pins, regions and translations, over a store without VMOs.
+use Rattle.std.proofs.Common.{◌≡◌, ℕ, ◌<◌, Option, None, Some, refl, sym, ap, subst, ◌∙◌, ◌==◌, arith}
 use Rattle.std.specs.Prelude.{is_some, unwrap_or}
 use Rattle.vm_model.specs.Contents.Content.{Content, Page, nothing, pages_of, IsGood}
 use Rattle.vm_model.specs.Machine.State.{IsGoodState, empty_state}
@@ -11,7 +11,10 @@ use Rattle.pin_table.specs.Table.{pins_of}
 use Rattle.vm_model.specs.Space.AddressSpaces.{no_spaces}
 use Rattle.mapping_set.specs.Tables.{table_of}
 use Rattle.region_tree.specs.Tree.{regions_of}
-use Rattle.vm_core.specs.Vm.{Parts, spaces_in, HasNoVmo, bare_state, state_of}
+use Rattle.vm_model.specs.Machine.Machine.{empty_machine}
+use Rattle.fault.specs.Table.{places_of, ready_of, AreTrue}
+use Rattle.vm_core.specs.Vm.{Parts, spaces_in, HasNoVmo, bare_state, bare_machine, state_of, machine_of, Agrees}
+use Rattle.vm_model.proofs.ContentLaws.{IsGood-nothing}
 use Rattle.vm_model.proofs.SpaceLaws.{AreGoodSpaces-none, mapped_count-none}
 
 -- tables in which nothing stands
@@ -26,8 +29,12 @@ state_of-bare c vm names lineage pins regions table = λ i. record (bare_state c
   spaces = record { regions = regions i; table = table i };
 }
 
--- the machine is good
-pub IsGoodState-bare : (c : Content) → IsGood c → HasNoVmo c → IsGoodState (bare_state c)
+-- and no page is translated
+pub machine_of-bare : (c : Content) (vm : Parts) → state_of c vm ≡ bare_state c → places_of vm.translations ≡ (λ root p. None) → machine_of c vm ≡ bare_machine c
+machine_of-bare c vm bare none = λ i. record { state = bare i; ready = ready_of (none i) }
+
+-- the state is good
+IsGoodState-bare : (c : Content) → IsGood c → HasNoVmo c → IsGoodState (bare_state c)
 unfolding empty_state
 IsGoodState-bare c good none = record {
   content = good;
@@ -39,6 +46,14 @@ IsGoodState-bare c good none = record {
   spaces = AreGoodSpaces-none c;
 }
 
+-- the parts agree with the store
+pub agrees_bare : (c : Content) (vm : Parts) → state_of c vm ≡ bare_state c → places_of vm.translations ≡ (λ root p. None) → IsGood c → HasNoVmo c → Agrees c vm
+agrees_bare c vm bare none good no_vmo = record {
+  good = subst IsGoodState (sym bare) (IsGoodState-bare c good no_vmo);
+  translations = subst (AreTrue c (table_of vm.maps)) (sym none)
+      (record { entry = λ root p x e. absurd cc; frame = λ root p x e. absurd cc; below = λ root p x e. absurd cc; alone = λ root p x e. absurd cc });
+}
+
 -- in a store without VMOs no page is held
 no_page : (c : Content) (v p : ℕ) → IsGood c → HasNoVmo c → c.page v p ≡ None
 unfolding pages_of
@@ -48,19 +63,36 @@ no_page c v p good none = go (c.page v p) (good.below v p) where
   go (Some held) below = absurd (omega (arith, below held refl, ap (λ (o : Option ℕ). unwrap_or o 0) (none v)))
 
 -- with the first koid to come it is the empty machine
-pub bare_state-first : (c : Content) → IsGood c → HasNoVmo c → c.next ≡ 1 → bare_state c ≡ empty_state c.frames
+bare_state-first : (c : Content) → IsGood c → HasNoVmo c → c.next ≡ 1 → bare_state c ≡ empty_state c.frames
 unfolding empty_state nothing
 bare_state-first c good none first = λ i. record (bare_state c) {
   content = record c { next = first i; count = λ v. none v i; page = λ v p. no_page c v p good none i };
 }
 
+pub bare_machine-first : (c : Content) → IsGood c → HasNoVmo c → c.next ≡ 1 → bare_machine c ≡ empty_machine c.frames
+unfolding empty_machine
+bare_machine-first c good none first = λ i. record { state = bare_state-first c good none first i; ready = λ root p. None }
+
 -- a store that had nothing, with page frames
-pub state_of-filled : (frames : ℕ) (new old : Content) (vm : Parts) → ((c : Content) → state_of c vm ≡ bare_state c)
-    → new ≡ record old { frames = frames } → old ≡ nothing → state_of new vm ≡ empty_state frames
-unfolding empty_state
-state_of-filled frames new old vm bare filled e =
+pub machine_of-filled : (frames : ℕ) (new old : Content) (vm : Parts) → ((c : Content) → machine_of c vm ≡ bare_machine c)
+    → new ≡ record old { frames = frames } → old ≡ nothing → machine_of new vm ≡ empty_machine frames
+unfolding empty_machine empty_state
+machine_of-filled frames new old vm bare filled e =
     let with_frames = λ (c : Content). record c { frames = frames } in
-    bare new ∙ ap bare_state (filled ∙ ap with_frames e)
+    bare new ∙ ap bare_machine (filled ∙ ap with_frames e)
+
+-- it is good, and has no VMO
+pub filled_fresh : (frames : ℕ) (new old : Content) → new ≡ record old { frames = frames } → old ≡ nothing → IsGood new × HasNoVmo new
+unfolding nothing
+filled_fresh frames new old filled e =
+    let with_frames = λ (c : Content). record c { frames = frames } in
+    let is : new ≡ record nothing { frames = frames } = filled ∙ ap with_frames e in
+    (subst IsGood (sym is) (IsGood-nothing frames), λ v. ap (λ (c : Content). c.count v) is)
+
+-- and its first koid is 1
+pub filled_next : (frames : ℕ) (new old : Content) → new ≡ record old { frames = frames } → old ≡ nothing → new.next ≡ 1
+unfolding nothing
+filled_next frames new old filled e = ap (λ (c : Content). c.next) filled ∙ ap (λ (c : Content). c.next) e
 
 -- in a table of VMOs without keepers no pin is counted
 pub counts_none : (vm : Parts) → ((v : ℕ) → keepers_of vm.vmos v ≡ 0) → ((n : ℕ) → pins_of vm.pins n ≡ None)

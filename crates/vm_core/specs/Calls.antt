@@ -7,11 +7,14 @@ use Rattle.vm_model.specs.Space.AddressSpaces.{Spaces}
 use Rattle.vm_model.specs.Machine.State.{State, IsGoodState}
 use Rattle.vm_model.specs.Machine.Given.{GivesName}
 use Rattle.vm_model.specs.Machine.Step.{Step}
+use Rattle.vm_model.specs.Machine.Machine.{Machine}
+use Rattle.vm_model.specs.Machine.MachineStep.{MachineStep}
 use Rattle.vmo_table.specs.Table.{Table as Vmos, with_vmos, CountsKeepers, IsWellCounted}
 use Rattle.pin_table.specs.Table.{Table as Pins, pins_of}
 use Rattle.vmo_ops.specs.Targets.{with_tables}
 use Rattle.region_ops.specs.Spaces.{Does}
-use Rattle.vm_core.specs.Vm.{Parts, state_of}
+use Rattle.fault.specs.Table.{Places, ready_of, AreTrue}
+use Rattle.vm_core.specs.Vm.{bare_state}
 
 -- A store and the two tables are parts of one good state, and the table of VMOs counts right what keeps each VMO of it.
 pub record AreCounted (c : Content) (vmos : Vmos) (pins : Pins) : Type 0 where
@@ -58,9 +61,27 @@ pub record StepsSame (c : Content) (command : Command) (reply : Reply) : Type 0 
   pub step : (s : State) → Step (record s { content = c }) command reply (record s { content = c })
   pub name : GivesName command
 
--- A store and the parts of a machine do a command: it is a step of the machine, what keeps each VMO is counted right
--- afterwards, and the name that it gives is one that there is.
-pub record Handles (old : Content) (vm_old : Parts) (command : Command) (reply : Reply) (new : Content) (vm_new : Parts) : Type 0 where
-  pub step : Step (state_of old vm_old) command reply (state_of new vm_new)
-  pub counted : CountsKeepers vm_new.vmos (state_of new vm_new)
+-- the state of a store, the two tables and the address spaces, which keep all of it
+abbrev pub state_with : Content → Vmos → Pins → Spaces → State
+state_with c vmos pins spaces = record (with_tables (bare_state c) c vmos pins) { spaces = spaces }
+
+-- All that keeps the state does a command: it is a step of the state, what keeps each VMO is counted right afterwards, and the
+-- name that it gives is one that there is.
+pub record Handles (old : Content) (vmos_old : Vmos) (pins_old : Pins) (spaces_old : Spaces) (command : Command) (reply : Reply)
+    (new : Content) (vmos_new : Vmos) (pins_new : Pins) (spaces_new : Spaces) : Type 0 where
+  pub step : Step (state_with old vmos_old pins_old spaces_old) command reply (state_with new vmos_new pins_new spaces_new)
+  pub counted : CountsKeepers vmos_new (state_with new vmos_new pins_new spaces_new)
   pub name : GivesName command
+
+-- the machine of the state s, but with this content of a store and these address spaces, whose pages are ready by these
+-- translations
+abbrev pub with_memory : State → Content → Spaces → Places → Machine
+with_memory s c spaces places = record { state = record s { content = c; spaces = spaces }; ready = ready_of places }
+
+-- A store and translations do an access through the mappings of address spaces: it is a step of the machine, whatever else that
+-- has, the name that it gives is one that there is, and the translations are true afterwards.
+pub record DoesAccess (spaces : Spaces) (old : Content) (places_old : Places) (command : Command) (reply : Reply)
+    (new : Content) (places_new : Places) : Type 0 where
+  pub step : (s : State) → MachineStep (with_memory s old spaces places_old) command reply (with_memory s new spaces places_new)
+  pub name : GivesName command
+  pub translations : AreTrue new spaces.table places_new

@@ -24,4 +24,6 @@ subject_of (Call.VmarUnmap region addr len) = Subject.Region
 subject_of (Call.VmarProtect region addr len perm) = Subject.Region
 subject_of (Call.VmarDestroy region) = Subject.Region
 subject_of (Call.Maps region) = Subject.Region
-subject_of _ = Subject.Machine
+subject_of (Call.MemRead region addr len) = Subject.Memory
+subject_of (Call.MemWrite region addr bytes) = Subject.Memory
+subject_of Call.Stat = Subject.Machine

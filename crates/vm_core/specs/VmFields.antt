@@ -5,7 +5,7 @@ use Rattle.vmo_table.specs.Table.{CountsKeepers}
 use Rattle.vm_core.specs.Vm.{Parts, state_of}
 
 abbrev pub parts_of : Inside → Parts
-parts_of a = record { vmos = a.vmos; pins = a.pins; regions = a.regions; maps = a.maps }
+parts_of a = record { vmos = a.vmos; pins = a.pins; regions = a.regions; maps = a.maps; translations = a.translations }
 
 -- What keeps each VMO is counted in the table of VMOs.
 pub record IsCounted (a : Inside) : Type 0 where

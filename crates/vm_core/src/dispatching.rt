@@ -1,18 +1,19 @@
 //! Which handler does a command. `dispatch` finds what a call is about, and one function for each subject finds the
 //! handler, so that each of them is a short `match`.
 
-ghost use Rattle.std.specs.Prelude.{◌≡◌, ◌<◌, ◌≤◌, length};
+ghost use Rattle.std.specs.Prelude.{◌≡◌, ◌≢◌, ◌<◌, ◌≤◌, length};
 ghost use Rattle.mapping_set.specs.Tables.{table_of};
 ghost use Rattle.region_tree.specs.Tree.{regions_of, spaces_of};
 ghost use Rattle.vm_base.specs.declared.limits.TheConstants.{DATA_BYTES, KOIDS, PIN_PAGES};
 ghost use Rattle.vm_model.specs.Machine.Lent.{command_of, reply_for};
 ghost use Rattle.vmo_table.specs.Table.{IsWellCounted};
 ghost use Rattle.region_ops.specs.Spaces.{AreAllWell};
-ghost use Rattle.vm_core.specs.Calls.{AreCounted, DoesTables, DoesSpaces, Handles, StepsSame};
+ghost use Rattle.fault.specs.Table.{places_of, AreBacked, AreTrue};
+ghost use Rattle.vm_core.specs.Calls.{state_with, AreCounted, DoesTables, DoesSpaces, DoesAccess, Handles, StepsSame};
 ghost use Rattle.vm_core.specs.Subjects.{subject_of};
 ghost use Rattle.vm_core.specs.declared.subjects.Subject.{Subject};
-ghost use Rattle.vm_core.specs.Vm.{state_of};
 
+use crate::accessing::{mem_read, mem_write};
 use crate::asking::{vmo_info, vmo_read, vmo_size};
 use crate::changing::{vmo_commit, vmo_decommit, vmo_fill, vmo_set_size, vmo_write, vmo_zero};
 use crate::mappings::{list_maps, vmar_map, vmar_protect, vmar_unmap};
@@ -21,6 +22,7 @@ use crate::pinning::{vmo_pin, vmo_unpin};
 use crate::spaces::{root_create, vmar_allocate, vmar_destroy};
 use crate::subjects::{Subject, subject_of};
 use attribution::stat;
+use fault::Translations;
 use mapping_set::MappingSet;
 use page_store::PageStore;
 use pin_table::PinTable;
@@ -29,8 +31,8 @@ use std::alloc::Global;
 use vm_model::{Answer, Call};
 use vmo_table::VmoTable;
 
-/// Does a command by its handler, with room for the bytes and for the numbers that it may answer. One that is not
-/// built yet is answered `Unbuilt`.
+/// Does a command that is no access through mappings by its handler, with room for the bytes and for the numbers that it
+/// may answer.
 #[inline(always)]
 pub(crate) fn dispatch<'a, P: PageStore>(
     alloc: Global,
@@ -43,15 +45,15 @@ pub(crate) fn dispatch<'a, P: PageStore>(
     bytes: &'a mut [u8],
     numbers: &'a mut [u64],
 ) -> Answer<'a>
-    requires well { IsWellCounted vmos.old (state_of (P.content store.old)
-        (record { vmos = vmos.old; pins = pins.old; regions = regions.old; maps = maps.old })) }
+    requires subject { subject_of call.now ≢ Subject.Memory }
+    requires well { IsWellCounted vmos.old (state_with (P.content store.old) vmos.old pins.old
+        (spaces_of (regions_of regions.old) (table_of maps.old))) }
     requires next { (P.content store.old).next < KOIDS }
     requires bytes { DATA_BYTES ≤ length bytes.old }
     requires numbers { PIN_PAGES ≤ length numbers.old }
-    ensures { Handles (P.content store.old)
-        (record { vmos = vmos.old; pins = pins.old; regions = regions.old; maps = maps.old }) (command_of call.now)
-        (reply_for result) (P.content store.new)
-        (record { vmos = vmos.new; pins = pins.new; regions = regions.new; maps = maps.new }) }
+    ensures { Handles (P.content store.old) vmos.old pins.old (spaces_of (regions_of regions.old) (table_of maps.old))
+        (command_of call.now) (reply_for result)
+        (P.content store.new) vmos.new pins.new (spaces_of (regions_of regions.new) (table_of maps.new)) }
 {
     match subject_of(call) {
         Subject::Vmo => on_vmo(store, vmos, pins, call),
@@ -59,6 +61,7 @@ pub(crate) fn dispatch<'a, P: PageStore>(
         Subject::Pin => on_pin(store, vmos, pins, call, numbers),
         Subject::Region => on_region(alloc, store, vmos, regions, maps, call),
         Subject::Machine => on_machine(store, call),
+        Subject::Memory => unreachable!(),
     }
 }
 
@@ -225,13 +228,58 @@ fn on_region<P: PageStore>(
     }
 }
 
-/// Tells of the machine. An access through mappings is not built yet.
+/// Tells of the machine.
 fn on_machine<P: PageStore>(store: &P, call: &Call<'_>) -> Answer<'static>
     requires { subject_of call.now ≡ Subject.Machine }
     ensures { StepsSame (P.content store.now) (command_of call.now) (reply_for result) }
 {
     match call {
         Call::Stat => Answer::Stat(stat(store)),
-        _ => Answer::Unbuilt,
+        _ => unreachable!(),
+    }
+}
+
+/// Does an access through mappings, with room for the bytes that it may answer.
+pub(crate) fn on_memory<'a, P: PageStore>(
+    store: &mut P,
+    regions: &Regions,
+    maps: &MappingSet,
+    translations: &mut Translations,
+    call: &Call<'_>,
+    bytes: &'a mut [u8],
+) -> Answer<'a>
+    requires subject { subject_of call.now ≡ Subject.Memory }
+    requires backed { AreBacked (P.content store.old) (table_of maps.now) }
+    requires translations { AreTrue (P.content store.old) (table_of maps.now) (places_of translations.old) }
+    requires bytes { DATA_BYTES ≤ length bytes.old }
+    ensures { DoesAccess (spaces_of (regions_of regions.now) (table_of maps.now)) (P.content store.old)
+        (places_of translations.old) (command_of call.now) (reply_for result) (P.content store.new)
+        (places_of translations.new) }
+{
+    match call {
+        Call::MemRead { region, addr, len } => mem_read(
+            store,
+            regions,
+            maps,
+            translations,
+            *region,
+            *addr,
+            *len,
+            bytes,
+        ),
+        Call::MemWrite {
+            region,
+            addr,
+            bytes: written,
+        } => mem_write(
+            store,
+            regions,
+            maps,
+            translations,
+            *region,
+            *addr,
+            written.as_slice(),
+        ),
+        _ => unreachable!(),
     }
 }

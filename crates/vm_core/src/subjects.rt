@@ -16,7 +16,9 @@ pub(crate) enum Subject {
     Pin,
     /// A region, or the mappings in one.
     Region,
-    /// The machine, or an access through mappings, which is not built yet.
+    /// Bytes that are read or written through mappings.
+    Memory,
+    /// The machine.
     Machine,
 }
 
@@ -46,6 +48,7 @@ pub(crate) fn subject_of(call: &Call<'_>) -> Subject
         | Call::VmarProtect { .. }
         | Call::VmarDestroy { .. }
         | Call::Maps { .. } => Subject::Region,
-        _ => Subject::Machine,
+        Call::MemRead { .. } | Call::MemWrite { .. } => Subject::Memory,
+        Call::Stat => Subject::Machine,
     }
 }

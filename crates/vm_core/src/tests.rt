@@ -1,17 +1,16 @@
 ghost use Rattle.std.specs.Prelude.{◌+◌, ◌<◌, ◌≤◌, length};
 ghost use Rattle.vm_base.specs.declared.limits.TheConstants.{DATA_BYTES, KOIDS};
-ghost use Rattle.vm_model.specs.Machine.State.{IsGoodState};
-ghost use Rattle.vm_core.specs.Vm.{state_of};
+ghost use Rattle.vm_core.specs.Vm.{Agrees};
 
 use super::*;
 use page_store::{FlatStore, PageStore};
 use std::test::Fail;
-use vm_base::{PinName, Refusal, VmoName};
+use vm_base::{MapFlags, Perm, PinName, Refusal, RegionName, VmoName};
 use vm_model::{Bytes4k, ChildKind, Command, Reply};
 
 /// The first refusal among the replies to commands that are given one after another.
 fn first_refusal<P: PageStore>(store: &mut P, vm: &mut Vm, commands: &[Command]) -> Option<Refusal>
-    requires good { IsGoodState (state_of (P.content store.old) vm.old) }
+    requires agrees { Agrees (P.content store.old) vm.old }
     requires next { (P.content store.old).next + length commands.now < KOIDS }
 {
     for command in commands {
@@ -50,6 +49,18 @@ fn write(name: u32, offset: u64, bytes: &[u8]) -> Command
     Command::VmoWrite {
         name: VmoName(name),
         offset,
+        bytes: kept,
+    }
+}
+
+fn mem_write(region: u32, addr: u64, bytes: &[u8]) -> Command
+    requires { length bytes.now ≤ DATA_BYTES }
+{
+    let mut kept = Bytes4k::new();
+    kept.extend_from_slice(bytes);
+    Command::MemWrite {
+        region: RegionName(region),
+        addr,
         bytes: kept,
     }
 }
@@ -95,6 +106,24 @@ fn commands_find_memory(rt: HostRuntime) -> Result<(), Fail> {
             offset: 4096,
             len: 4096,
         },
+        Command::RootCreate {
+            region: RegionName(1),
+        },
+        Command::VmarMap {
+            region: RegionName(1),
+            offset: 0,
+            name: VmoName(1),
+            vmo_offset: 0,
+            len: 8192,
+            perm: Perm(Perm::READ.0 + Perm::WRITE.0),
+            flags: MapFlags(0),
+        },
+        Command::MemRead {
+            region: RegionName(1),
+            addr: 0x201000,
+            len: 1,
+        },
+        mem_write(1, 0x200fff, &[5, 6]),
     ];
     assert_eq!(rt; first_refusal(&mut store, &mut vm, &commands), None);
     Ok(())

@@ -4,7 +4,10 @@ ghost use Rattle.std.specs.Prelude.{◌≡◌, ◌+◌, ◌<◌, ◌≤◌, leng
 ghost use Rattle.vm_base.specs.declared.limits.TheConstants.{DATA_BYTES, KOIDS, PIN_PAGES};
 ghost use Rattle.vm_model.specs.Machine.Lent.{command_of, reply_for};
 
-use crate::dispatching::dispatch;
+use crate::dispatching::{dispatch, on_memory};
+use crate::resets;
+use crate::subjects::{Subject, subject_of};
+use fault::Translations;
 use mapping_set::MappingSet;
 use page_store::PageStore;
 use pin_table::PinTable;
@@ -27,6 +30,8 @@ pub struct Vm {
     regions: Regions,
     /// What each page of each address space shows.
     maps: MappingSet,
+    /// The pages that are ready for an access.
+    translations: Translations,
 }
 
 impl Model for Vm {
@@ -42,17 +47,17 @@ impl Model for Vm {
 }
 
 impl Vm {
-    ghost use Rattle.vm_model.specs.Machine.State.{IsGoodState, empty_state};
     ghost use Rattle.vm_model.specs.Contents.Content.{Content, IsGood};
-    ghost use Rattle.vm_model.specs.Machine.Step.{Step};
-    ghost use Rattle.vm_core.specs.Vm.{HasNoVmo, bare_state, state_of};
+    ghost use Rattle.vm_model.specs.Machine.Machine.{IsGoodMachine, empty_machine};
+    ghost use Rattle.vm_model.specs.Machine.MachineStep.{MachineStep};
+    ghost use Rattle.vm_core.specs.Vm.{Agrees, HasNoVmo, bare_machine, machine_of};
 
-    /// A machine with no names, pins and regions. It agrees with every good store that has no VMO, whatever its
+    /// A machine with no names, pins, regions and translations. It agrees with every good store that has no VMO, whatever its
     /// next koid is. Where that is 1, they are the empty machine.
     pub fn new(alloc: Global) -> Vm
-        ensures bare { (c : Content) → state_of c result ≡ bare_state c }
-        ensures good { (c : Content) → IsGood c → HasNoVmo c → IsGoodState (state_of c result) }
-        ensures empty { (c : Content) → IsGood c → HasNoVmo c → c.next ≡ 1 → state_of c result ≡ empty_state c.frames }
+        ensures bare { (c : Content) → machine_of c result ≡ bare_machine c }
+        ensures agrees { (c : Content) → IsGood c → HasNoVmo c → Agrees c result }
+        ensures empty { (c : Content) → IsGood c → HasNoVmo c → c.next ≡ 1 → machine_of c result ≡ empty_machine c.frames }
     {
         Vm {
             alloc,
@@ -60,19 +65,20 @@ impl Vm {
             pins: PinTable::new(alloc),
             regions: Regions::new(alloc),
             maps: MappingSet::new(alloc),
+            translations: Translations::new(alloc),
         }
     }
 
     /// One event of the machine, done whole: a command is refused and nothing changes, or it has
     /// its effect, or the host lacks memory for it and nothing changes. The store is the one that
-    /// holds the VMOs of the names. A command that is not built yet is answered `Unbuilt` before
-    /// anything else is looked at, and changes nothing.
+    /// holds the VMOs of the names. Afterwards each translation is true.
     pub fn step<P: PageStore>(&mut self, store: &mut P, command: &Command) -> Reply
-        requires good { IsGoodState (state_of (P.content store.old) self.old) }
+        requires agrees { Agrees (P.content store.old) self.old }
         requires next { (P.content store.old).next < KOIDS }
-        ensures step { Step (state_of (P.content store.old) self.old) command.now result
-            (state_of (P.content store.new) self.new) }
-        ensures good { IsGoodState (state_of (P.content store.new) self.new) }
+        ensures step { MachineStep (machine_of (P.content store.old) self.old) command.now result
+            (machine_of (P.content store.new) self.new) }
+        ensures agrees { Agrees (P.content store.new) self.new }
+        ensures good { IsGoodMachine (machine_of (P.content store.new) self.new) }
         ensures next { (P.content store.new).next ≤ (P.content store.old).next + 1 }
     {
         let mut bytes = [0; DATA_BYTES];
@@ -90,16 +96,28 @@ impl Vm {
         bytes: &'a mut [u8],
         numbers: &'a mut [u64],
     ) -> Answer<'a>
-        requires good { IsGoodState (state_of (P.content store.old) self.old) }
+        requires agrees { Agrees (P.content store.old) self.old }
         requires next { (P.content store.old).next < KOIDS }
         requires bytes { DATA_BYTES ≤ length bytes.old }
         requires numbers { PIN_PAGES ≤ length numbers.old }
-        ensures step { Step (state_of (P.content store.old) self.old) (command_of call.now) (reply_for result)
-            (state_of (P.content store.new) self.new) }
-        ensures good { IsGoodState (state_of (P.content store.new) self.new) }
+        ensures step { MachineStep (machine_of (P.content store.old) self.old) (command_of call.now) (reply_for result)
+            (machine_of (P.content store.new) self.new) }
+        ensures agrees { Agrees (P.content store.new) self.new }
+        ensures good { IsGoodMachine (machine_of (P.content store.new) self.new) }
         ensures next { (P.content store.new).next ≤ (P.content store.old).next + 1 }
     {
-        dispatch(
+        if let Subject::Memory = subject_of(call) {
+            return on_memory(
+                store,
+                &self.regions,
+                &self.maps,
+                &mut self.translations,
+                call,
+                bytes,
+            );
+        }
+        let reset = resets::reset_for(&self.translations, store, &self.vmos, &self.regions, call);
+        let answer = dispatch(
             self.alloc,
             store,
             &mut self.vmos,
@@ -109,6 +127,8 @@ impl Vm {
             call,
             bytes,
             numbers,
-        )
+        );
+        resets::apply(&mut self.translations, store, reset, &answer);
+        answer
     }
 }

@@ -8,7 +8,7 @@ use Rattle.vm_model.specs.Contents.Owning.{Owns, OwnsAll}
 use Rattle.vm_model.specs.Contents.Writing.{touched, touched_end}
 use Rattle.vm_model.proofs.OwningLaws.{Owned-from_Owns}
 use Rattle.vm_model.proofs.RangeLaws.{touched-row, touched_end-is, touched_end_le, touched_below}
-use Rattle.vm_model.proofs.WritingLaws.{KeepsPages, row_keeps, touched_keeps}
+use Rattle.vm_model.proofs.WritingLaws.{KeepsPages, KeepsPages-handed_on, row_keeps, touched_keeps}
 
 -- page p of v is owned
 abbrev OwnsPage : ℕ → Content → ℕ → Content → Type 0
@@ -28,7 +28,7 @@ Owns-keeps test v lowest old new p good h low owns =
 pub OwnsAll-keeps : (test : ℕ → ℕ → Bool) (v offset len : ℕ) (old new : Content) → IsGood old → offset + len ≤ pages_of old v * PAGE
     → OwnsAll old v (touched offset len) new → KeepsPages test old new
 OwnsAll-keeps test v offset len old new good h owns =
-    touched_keeps test v 0 (OwnsPage v) (λ a ps b. OwnsAll a v ps b) (λ a b e. e) (λ a b p ps all. (all.0, (all.1, all.2), all.3)) (Owns-keeps test v 0)
+    touched_keeps (KeepsPages test) (KeepsPages-handed_on test) v 0 (OwnsPage v) (λ a ps b. OwnsAll a v ps b) (λ a b e. e) (λ a b p ps all. (all.0, (all.1, all.2), all.3)) (Owns-keeps test v 0)
     offset len old new good (omega arith) h owns
 
 -- each of the pages in a row is sole then
@@ -39,7 +39,7 @@ OwnsAll-alone v first (suc n) old new good h owns p from less =
     let owned = Owned-from_Owns old owns.0 v first owns.1 good (omega arith) owns.2 in
     let room : (first + 1) + n ≤ pages_of owns.0 v = omega (arith, owned.pages v) in
     let every : ℕ → ℕ → Bool = λ w q. true in
-    let rest = row_keeps every v 0 (OwnsPage v) (λ a ps b. OwnsAll a v ps b) (λ a b e. e) (λ a b q ps all. (all.0, (all.1, all.2), all.3))
+    let rest = row_keeps (KeepsPages every) (KeepsPages-handed_on every) v 0 (OwnsPage v) (λ a ps b. OwnsAll a v ps b) (λ a b e. e) (λ a b q ps all. (all.0, (all.1, all.2), all.3))
     (Owns-keeps every v 0) (first + 1) n owns.0 new owned.good (omega arith) room owns.3 in
     elim (cases_eq p first) [
       | inl same ↦ ap (sole new v) same ∙ rest.alone v first refl owned.alone

@@ -16,12 +16,15 @@ use Rattle.vm_model.specs.declared.names.Target.{Target}
 use Rattle.vm_model.specs.Naming.Names.{owner}
 use Rattle.vm_model.specs.Machine.State.{State, empty_state, is_open, target_of, koid_of, name_pages, size_of, place_of}
 use Rattle.vm_model.specs.Machine.Refusals.{lacks_frames, refusals, first_of}
-use Rattle.vm_model.specs.Machine.Step.{with_vmo, Effect, StepAfter, Step}
+use Rattle.vm_model.specs.Machine.Step.{with_vmo, Effect}
+use Rattle.vm_model.specs.Machine.Machine.{Machine, empty_machine}
+use Rattle.vm_model.specs.Machine.MachineStep.{ready_after, MachineEffect, MachineStepAfter, MachineStep}
 use Rattle.vm_model.specs.Scripts.Run.{GivesAs, Gives, Run, lines_of}
 use Rattle.vm_model.proofs.ContentLaws.{page-hold_here, page-hold_other, bytes_of-none, bytes_of-some, in_use_found, sole-zero, used_none, IsGood-nothing, IsGood-created}
 use Rattle.vm_model.proofs.OwningLaws.{Owned-from_Owns, need-row, unowned, unowned_le}
 use Rattle.vm_model.proofs.WritingLaws.{Writes-keeps}
 use Rattle.vm_model.proofs.NamesLaws.{target_of-same}
+use Rattle.vm_model.proofs.MachineLaws.{MachineStep-done}
 use Rattle.vm_model.specs.declared.names.Origin.TheVariants.{Created}
 use Rattle.vm_model.specs.declared.command.Command.{Command}
 use Rattle.vm_model.specs.declared.command.Command.TheVariants.{VmoCreate, VmoRead, VmoWrite}
@@ -77,6 +80,10 @@ example-texts = refl
 
 abbrev start : State
 start = empty_state 1024
+
+-- the machine before the first line
+abbrev begun : Machine
+begun = record { state = start; ready = λ root p. None }
 
 -- after the first line
 abbrev made : State
@@ -226,27 +233,25 @@ read_free s w =
 -- ---- steps
 
 -- a step that nothing refuses, and for which the host had memory, has the command's effect
-effect_of_step : (old : State) (command : Command) (reply : Reply) (new : State) → first_of (refusals old command) ≡ None → Step old command reply new → reply ≢ Refused HostMemory → Effect old command reply new
-effect_of_step old command reply new none step granted = go (subst (λ (o : Option Refusal). StepAfter o old command reply new) none step.outcome) where
-  go : StepAfter None old command reply new → Effect old command reply new
+effect_of_step : (old : Machine) (command : Command) (reply : Reply) (new : Machine) → first_of (refusals old.state command) ≡ None → MachineStep old command reply new → reply ≢ Refused HostMemory → MachineEffect old command reply new
+effect_of_step old command reply new none step granted = go (subst (λ (o : Option Refusal). MachineStepAfter o old command reply new) none step.outcome) where
+  go : MachineStepAfter None old command reply new → MachineEffect old command reply new
   go (inl effect) = effect
   go (inr lacked) = absurd (granted lacked.0.answer)
 
-step_of_effect : (old : State) (command : Command) (reply : Reply) (new : State) → first_of (refusals old command) ≡ None → Effect old command reply new → Step old command reply new
-step_of_effect old command reply new none effect = record { outcome = subst (λ (o : Option Refusal). StepAfter o old command reply new) (sym none) (inl effect) }
-
-order_given : (line : List ℕ) (command : Command) (old : State) (now : List Reply) (new : State) → reading line ≡ Order command → Gives line old now new → (reply : Reply) × (now ≡ reply ∷ []) × Step old command reply new
+order_given : (line : List ℕ) (command : Command) (old : Machine) (now : List Reply) (new : Machine) → reading line ≡ Order command → Gives line old now new → (reply : Reply) × (now ≡ reply ∷ []) × MachineStep old command reply new
 order_given line command old now new e gives = subst (λ (r : Reading). GivesAs r old now new) e gives.answer
 
-give_order : (line : List ℕ) (command : Command) (old : State) (reply : Reply) (new : State) → reading line ≡ Order command → Step old command reply new → Gives line old (reply ∷ []) new
+give_order : (line : List ℕ) (command : Command) (old : Machine) (reply : Reply) (new : Machine) → reading line ≡ Order command → MachineStep old command reply new → Gives line old (reply ∷ []) new
 give_order line command old reply new e step = record { answer = subst (λ (r : Reading). GivesAs r old (reply ∷ []) new) (sym e) (reply, refl, step) }
 
 -- ---- the outcome
 
-pub example_only : (replies : List Reply) (last : State) → Run start (lines_of example_script) replies last → AllByRecursion (λ r. r ≢ Refused HostMemory) replies → texts replies ≡ example_text
+pub example_only : (replies : List Reply) (last : Machine) → Run (empty_machine 1024) (lines_of example_script) replies last → AllByRecursion (λ r. r ≢ Refused HostMemory) replies → texts replies ≡ example_text
+unfolding empty_machine
 example_only replies last whole granted =
-    let run : Run start (create_line ∷ write_line ∷ read_line ∷ []) replies last = subst (λ (lines : List (List ℕ)). Run start lines replies last) example_lines whole in
-    let first = order_given create_line create start run.1 run.0 create-reading run.3 in
+    let run : Run begun (create_line ∷ write_line ∷ read_line ∷ []) replies last = subst (λ (lines : List (List ℕ)). Run begun lines replies last) example_lines whole in
+    let first = order_given create_line create begun run.1 run.0 create-reading run.3 in
     let second_run = run.4 in
     let second = order_given write_line write run.0 second_run.1 second_run.0 write-reading second_run.3 in
     let third_run = second_run.4 in
@@ -258,14 +263,16 @@ example_only replies last whole granted =
     ∙ ap (λ (xs : List Reply). second.0 ∷ xs) (third_run.5 ∙ (ap (λ (xs : List Reply). xs ++ third_run.2) third.1
     ∙ ap (λ (xs : List Reply). third.0 ∷ xs) rest))))) in
     let each : AllByRecursion (λ r. r ≢ Refused HostMemory) (first.0 ∷ second.0 ∷ third.0 ∷ []) = subst (AllByRecursion (λ r. r ≢ Refused HostMemory)) all granted in
-    let one = effect_of_step start create first.0 run.0 create_free first.2 each.0 in
-    let at_made : Step made write second.0 second_run.0 = subst (λ (s : State). Step s write second.0 second_run.0) (one.1 ∙ made-is) second.2 in
-    let two = effect_of_step made write second.0 second_run.0 write_free at_made each.1.0 in
-    let written = IsWritten-from_effect second.0 second_run.0 two in
-    let three = effect_of_step second_run.0 read third.0 third_run.0 (read_free second_run.0 written) third.2 each.1.1.0 in
+    let one = effect_of_step begun create first.0 run.0 create_free first.2 each.0 in
+    let is_made : run.0.state ≡ made = one.0.1 ∙ made-is in
+    let free = subst (λ (s : State). first_of (refusals s write) ≡ None) (sym is_made) write_free in
+    let two = effect_of_step run.0 write second.0 second_run.0 free second.2 each.1.0 in
+    let from_made : Effect made write second.0 second_run.0.state = subst (λ (s : State). Effect s write second.0 second_run.0.state) is_made two.0 in
+    let written = IsWritten-from_effect second.0 second_run.0.state from_made in
+    let three = effect_of_step second_run.0 read third.0 third_run.0 (read_free second_run.0.state written) third.2 each.1.1.0 in
     let bytes : third.0 ≡ Bytes (0 ∷ 170 ∷ 187 ∷ 0 ∷ 0 ∷ []) =
-    three.0 ∙ ap (λ (xs : List ℕ). Bytes xs) (read_at second_run.0 written) in
-    ap texts (all ∙ (λ i. one.0 i ∷ two.0 i ∷ bytes i ∷ [])) ∙ example-texts
+    three.0.0 ∙ ap (λ (xs : List ℕ). Bytes xs) (read_at second_run.0.state written) in
+    ap texts (all ∙ (λ i. one.0.0 i ∷ from_made.0 i ∷ bytes i ∷ [])) ∙ example-texts
 
 -- ---- there is such a run
 
@@ -290,27 +297,39 @@ write_effect =
     let whole : Writes made.content (pieces 1 4094 marks) written.content = subst (λ (ps : List Piece). Writes made.content ps written.content) (sym write-pieces) w in
     (refl, refl, subst (λ (t : Target). Writes made.content (pieces t.koid.0 (t.first * PAGE + 4094) marks) written.content) (sym made-target) whole)
 
-abbrev outcome : List Reply
-outcome = Done ∷ Done ∷ Bytes (bytes_in written.content (koid_of written 1) (place_of written 1 4093) 5) ∷ []
+abbrev read_reply : Reply
+read_reply = Bytes (bytes_in written.content (koid_of written 1) (place_of written 1 4093) 5)
 
-outcome_run : Run start (create_line ∷ write_line ∷ read_line ∷ []) outcome written
+abbrev outcome : List Reply
+outcome = Done ∷ Done ∷ read_reply ∷ []
+
+-- the machines after the lines: their states, and what is ready then
+abbrev after_create : Machine
+after_create = record { state = made; ready = ready_after begun create Done made }
+
+abbrev after_write : Machine
+after_write = record { state = written; ready = ready_after after_create write Done written }
+
+abbrev after_read : Machine
+after_read = record { state = written; ready = ready_after after_write read read_reply written }
+
+outcome_run : Run begun (create_line ∷ write_line ∷ read_line ∷ []) outcome after_read
 outcome_run =
-    let is = IsWritten-from_effect Done written write_effect in
-    let read_reply : Reply = Bytes (bytes_in written.content (koid_of written 1) (place_of written 1 4093) 5) in (
-      made,
+    let is = IsWritten-from_effect Done written write_effect in (
+      after_create,
       Done ∷ [],
       Done ∷ read_reply ∷ [],
-      give_order create_line create start Done made create-reading (step_of_effect start create Done made create_free (refl, sym made-is)),
+      give_order create_line create begun Done after_create create-reading (MachineStep-done begun create Done after_create create_free ((refl, sym made-is), refl)),
       (
-        written,
+        after_write,
         Done ∷ [],
         read_reply ∷ [],
-        give_order write_line write made Done written write-reading (step_of_effect made write Done written write_free write_effect),
+        give_order write_line write after_create Done after_write write-reading (MachineStep-done after_create write Done after_write write_free (write_effect, refl)),
         (
-          written,
+          after_read,
           read_reply ∷ [],
           [],
-          give_order read_line read written read_reply written read-reading (step_of_effect written read read_reply written (read_free written is) (refl, refl)),
+          give_order read_line read after_write read_reply after_read read-reading (MachineStep-done after_write read read_reply after_read (read_free written is) ((refl, refl), refl)),
           (refl, refl),
           refl,
         ),
@@ -319,13 +338,14 @@ outcome_run =
       refl,
     )
 
-pub example_exists : (replies : List Reply) × (last : State) × Run start (lines_of example_script) replies last × AllByRecursion (λ r. r ≢ Refused HostMemory) replies × (texts replies ≡ example_text)
+pub example_exists : (replies : List Reply) × (last : Machine) × Run (empty_machine 1024) (lines_of example_script) replies last × AllByRecursion (λ r. r ≢ Refused HostMemory) replies × (texts replies ≡ example_text)
+unfolding empty_machine
 example_exists =
     let is = IsWritten-from_effect Done written write_effect in
     let bytes = read_at written is in (
       outcome,
-      written,
-      subst (λ (lines : List (List ℕ)). Run start lines outcome written) (sym example_lines) outcome_run,
+      after_read,
+      subst (λ (lines : List (List ℕ)). Run begun lines outcome after_read) (sym example_lines) outcome_run,
       ((λ e. absurd cc), ((λ e. absurd cc), ((λ e. absurd cc), tt))),
       ap (λ (xs : List ℕ). texts (Done ∷ Done ∷ Bytes xs ∷ [])) bytes ∙ example-texts,
     )

@@ -176,7 +176,7 @@ snapshot_keeps old name target start pages resizable no_write good h closed vmo 
     enter_keeps old (snapshotted c target.koid.0 first seen pages) name pages (not no_write) l good h closed
     (IsGood-snapshotted c target.koid.0 first seen pages good.content (seen_le c target start pages) few)
     (with_key-same c.count c.next pages) (λ v apart. with_key-other c.count c.next pages v apart) refl refl
-    (λ w q pinned alone. sole-snapshotted_kept c target.koid.0 first seen pages w q good.content (elsewhere w q pinned) alone)
+    (λ w q pinned alone. sole-snapshotted_kept c target.koid.0 first seen pages w q good.content (λ same. absurd (elsewhere w q pinned same)) alone)
     (λ p e. let is : target.koid.0 ≡ p = cc in subst (λ (v : ℕ). IsSome (old.lineage v)) is (lineage_at old target.koid.0 good vmo))
 
 -- ---- a name more

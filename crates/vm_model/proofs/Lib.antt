@@ -7,6 +7,7 @@ pub mod WritingLaws
 pub mod CommitLaws
 pub mod ZeroesLaws
 pub mod SoleLaws
+pub mod FrameLaws
 pub mod NamesLaws
 pub mod PinLaws
 pub mod RegionLaws
@@ -16,8 +17,12 @@ pub mod MappingLaws
 pub mod LiveLaws
 pub mod LeavingLaws
 pub mod KeepLaws
+pub mod ReadinessLaws
+pub mod AccessLaws
 pub mod StepLaws
-pub mod ExampleLaws
+pub mod ReadyLaws
+pub mod MachineLaws
 pub mod WordLaws
 pub mod FieldLaws
 pub mod SpellingLaws
+pub mod ExampleLaws

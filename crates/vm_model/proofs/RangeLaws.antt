@@ -1,7 +1,8 @@
 -- Laws of ranges of bytes: the pages that they touch, what falls into each, and the bytes read.
-use Rattle.std.proofs.Common.{◌≡◌, ◌≢◌, ℕ, ◌+◌, ◌-◌, ◌*◌, ◌/◌, ◌<◌, ◌≤◌, cond, List, [], length, refl, ap, arith}
-use Rattle.std.specs.List.{range_with_len}
+use Rattle.std.proofs.Common.{◌≡◌, ◌≢◌, ℕ, zero, suc, ◌+◌, ◌-◌, ◌*◌, ◌/◌, ◌<◌, ◌≤◌, cond, List, [], length, refl, sym, ap, subst, arith}
+use Rattle.std.specs.List.{All, range_with_len}
 use Rattle.std.proofs.lemmas.List.{length-take, length-drop}
+use Rattle.std.proofs.lemmas.List.Elements.{All-nil, All-cons}
 use Rattle.vm_base.specs.declared.limits.TheConstants.{PAGE}
 use Rattle.vm_model.specs.Contents.Writing.{touched_end, touched, part_at, part_bytes}
 use Rattle.vm_base.proofs.SearchLaws.{eqb_apart}
@@ -29,6 +30,15 @@ touched_below offset len h = omega arith
 pub touched_end_le : (offset len pages : ℕ) → offset + len ≤ pages * PAGE → touched_end offset len ≤ pages
 unfolding touched_end
 touched_end_le offset len pages h = omega arith
+
+-- the pages that it touches are not before its first byte's
+pub touched-from : (offset len : ℕ) → All (λ p. offset / PAGE ≤ p) (touched offset len)
+touched-from offset zero = subst (All (λ p. offset / PAGE ≤ p)) (sym (touched-nil offset)) (All-nil (λ p. offset / PAGE ≤ p))
+touched-from offset (suc len) =
+    subst (All (λ p. offset / PAGE ≤ p)) (sym (touched-row offset (suc len) (omega arith))) (row (offset / PAGE) (touched_end offset (suc len) - offset / PAGE) (omega arith)) where
+      row : (first n : ℕ) → offset / PAGE ≤ first → All (λ p. offset / PAGE ≤ p) (range_with_len first n)
+      row first zero h = All-nil (λ p. offset / PAGE ≤ p)
+      row first (suc n) h = All-cons (λ p. offset / PAGE ≤ p) first (range_with_len (first + 1) n) h (row (first + 1) n (omega arith))
 
 -- ---- pieces
 

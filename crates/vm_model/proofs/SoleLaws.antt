@@ -1,5 +1,5 @@
 -- Laws of sole pages: a page that is sole stays so under each change of a content that does not take it away.
-use Rattle.std.proofs.Common.{◌≡◌, ◌≢◌, ℕ, ◌+◌, ◌<◌, ◌≤◌, Bool, true, false, Some, ◌⊎◌, refl, sym, ap, ◌∙◌, inl, inr}
+use Rattle.std.proofs.Common.{◌≡◌, ℕ, ◌+◌, ◌<◌, ◌≤◌, Bool, true, false, Some, ◌⊎◌, refl, sym, ap, ◌∙◌, inl, inr, arith}
 use Rattle.vm_model.specs.Contents.Content.{Page, Content, in_use, sole, hold, created, IsGood}
 use Rattle.vm_model.specs.Contents.Sharing.{snapshotted, only}
 use Rattle.vm_model.specs.Contents.Zeroing.{zeroed, resized}
@@ -47,7 +47,7 @@ sole-hold_keeps c v p held w q good frame alone = elim (same_page v p w q) [
 -- ---- pages that leave
 
 -- a sole page that is there still is sole, where each page that is held now was held before
-sole-same_page : (c d : Content) (w q : ℕ) → IsGood c → ((x y : ℕ) (other : Page) → d.page x y ≡ Some other → c.page x y ≡ Some other)
+pub sole-same_page : (c d : Content) (w q : ℕ) → IsGood c → ((x y : ℕ) (other : Page) → d.page x y ≡ Some other → c.page x y ≡ Some other)
     → d.page w q ≡ c.page w q → sole c w q ≡ true → sole d w q ≡ true
 sole-same_page c d w q good from stays alone =
     let mine = sole_held c w q alone in
@@ -78,12 +78,15 @@ pub sole-created_kept : (c : Content) (pages w q : ℕ) → IsGood c → sole c 
 unfolding created
 sole-created_kept c pages w q good alone = sole-same_page c (created c pages) w q good (λ x y other f. f) refl alone
 
--- a snapshot of another VMO
-pub sole-snapshotted_kept : (c : Content) (v first seen pages w q : ℕ) → IsGood c → w ≢ v → sole c w q ≡ true → sole (snapshotted c v first seen pages) w q ≡ true
-sole-snapshotted_kept c v first seen pages w q good elsewhere alone =
+-- a snapshot that does not see the page
+pub sole-snapshotted_kept : (c : Content) (v first seen pages w q : ℕ) → IsGood c → (w ≡ v → (q < first) ⊎ (first + seen ≤ q)) → sole c w q ≡ true
+    → sole (snapshotted c v first seen pages) w q ≡ true
+sole-snapshotted_kept c v first seen pages w q good out alone =
     let mine = sole_held c w q alone in
     sole_from (snapshotted c v first seen pages) w q mine.0 (page-snapshotted_old c v first seen pages w q mine.0 good mine.1) (λ x y other apart f same.
     elim (page-snapshotted_cases c v first seen pages x y other f) [
-      | inl new ↦ elsewhere (sym (sole_alone c w q v (first + y) mine.0 other good alone mine.1 new.2 same).0)
+      | inl new ↦
+          let shown = sole_alone c w q v (first + y) mine.0 other good alone mine.1 new.2 same in
+          elim (out (sym shown.0)) [ inl before ↦ omega (arith, shown.1) | inr behind ↦ omega (arith, shown.1, new.1) ]
       | inr old ↦ apart (sole_alone c w q x y mine.0 other good alone mine.1 old.1 same).0
     ])

@@ -8,7 +8,7 @@ use Rattle.vm_base.specs.Pages.{rounded}
 use Rattle.vm_base.specs.declared.limits.TheConstants.{PAGE, VMO_PAGES, PIN_PAGES}
 use Rattle.vm_base.specs.declared.refusal.Refusal.{Refusal}
 use Rattle.vm_model.specs.declared.command.Command.{Command}
-use Rattle.vm_model.specs.declared.command.Command.TheVariants.{VmoCreate, VmoChild, VmoClose, VmoSetSize, VmoRead, VmoWrite, VmoFill, VmoCommit, VmoDecommit, VmoZero, VmoPin, VmoUnpin, RootCreate, VmarAllocate, VmarMap, VmarUnmap, VmarProtect, VmarDestroy, Maps}
+use Rattle.vm_model.specs.declared.command.Command.TheVariants.{VmoCreate, VmoChild, VmoClose, VmoSetSize, VmoRead, VmoWrite, VmoFill, VmoCommit, VmoDecommit, VmoZero, VmoPin, VmoUnpin, RootCreate, VmarAllocate, VmarMap, VmarUnmap, VmarProtect, VmarDestroy, Maps, MemRead, MemWrite, Stat, VmoSize, VmoInfo}
 use Rattle.vm_model.specs.declared.command.ChildKind.TheVariants.{Snapshot as SnapshotChild, Slice as SliceChild, Reference as ReferenceChild}
 use Rattle.vm_model.specs.declared.reply.Reply.{Reply}
 use Rattle.vm_model.specs.Contents.Content.{nothing, pages_of}
@@ -241,15 +241,11 @@ effect_keeps old (Maps region) reply new good h none effect = Keeps-same old new
 effect_keeps old (VmarDestroy region) reply new good h none effect =
     subst (Keeps old) (sym effect.1) (loose_keeps old (record old { spaces = without_region old.spaces region.0 }) good
     (Loosens-spaces old (without_region old.spaces region.0) (AreGoodSpaces-without old.content old.spaces good.spaces region.0)))
-effect_keeps old _ reply new good h none effect = Keeps-same old new good effect.1
-
--- a step keeps a good state good
-pub Step-keeps : (old : State) (command : Command) (reply : Reply) (new : State) → IsGoodState old → GivesName command → Step old command reply new → Keeps old new
-Step-keeps old command reply new good h step = go (first_of (refusals old command)) refl step.outcome where
-  go : (o : Option Refusal) → first_of (refusals old command) ≡ o → StepAfter o old command reply new → Keeps old new
-  go (Some refusal) e refused = Keeps-same old new good refused.same
-  go None e (inl effect) = effect_keeps old command reply new good h e effect
-  go None e (inr lacked) = Keeps-same old new good lacked.0.same
+effect_keeps old (VmoSize name) reply new good h none effect = Keeps-same old new good effect.1
+effect_keeps old (VmoInfo name) reply new good h none effect = Keeps-same old new good effect.1
+effect_keeps old Stat reply new good h none effect = Keeps-same old new good effect.1
+effect_keeps old (MemRead region addr len) reply new good h none effect = absurd effect
+effect_keeps old (MemWrite region addr bytes) reply new good h none effect = absurd effect
 
 -- ---- the beginning
 

@@ -1,14 +1,18 @@
--- Laws of zeroing a range page by page: contents stay good, nothing changes but pages, and how many frames it takes.
-use Rattle.std.proofs.Common.{◌≡◌, ◌≢◌, ℕ, ◌+◌, ◌*◌, ◌/◌, ◌<◌, ◌≤◌, Bool, true, false, not, cond, ◌&&◌, replicate, ◌⊎◌, refl, sym, subst, inl, inr, arith}
+-- Laws of zeroing a range page by page: contents stay good, nothing changes but pages, how many frames it takes, and pages that no
+-- other VMO shows stay so.
+use Rattle.std.proofs.Common.{◌≡◌, ◌≢◌, ℕ, ◌+◌, ◌*◌, ◌/◌, ◌<◌, ◌≤◌, Bool, true, false, not, cond, ◌&&◌, replicate, ◌⊎◌, refl, sym, ap, subst, ◌∙◌, inl, inr, arith}
+use Rattle.std.specs.Prelude.{is_some}
 use Rattle.std.proofs.lemmas.Bool.{cases_Bool, cases_lt, both_ways, and_parts, not-true}
 use Rattle.vm_base.specs.declared.limits.TheConstants.{PAGE}
 use Rattle.vm_model.specs.Contents.Content.{Content, is_held, pages_of, used, sole, IsGood}
 use Rattle.vm_model.specs.Contents.Writing.{touched, piece, WritesPiece}
 use Rattle.vm_model.specs.Contents.Zeroing.{zeroed, is_whole, is_cleared, ZeroesPage, Zeroes}
-use Rattle.vm_model.proofs.ZeroingLaws.{page-zeroed_out, sole-zeroed_out, IsGood-zeroed, used-zeroed_le}
+use Rattle.vm_base.proofs.EntryLaws.{some_is}
+use Rattle.vm_model.proofs.ContentLaws.{same_page as cases_page}
+use Rattle.vm_model.proofs.ZeroingLaws.{page-zeroed_out, page-zeroed_some, sole-zeroed_out, IsGood-zeroed, used-zeroed_le}
 use Rattle.vm_model.proofs.RangeLaws.{part_fits}
 use Rattle.vm_model.proofs.SoleLaws.{sole-zeroed_kept}
-use Rattle.vm_model.proofs.WritingLaws.{IsKept, IsKept-same, Written, Written-from_WritesPiece, KeepsPages, WritesPiece-keeps, touched_keeps}
+use Rattle.vm_model.proofs.WritingLaws.{IsKept, IsKept-same, IsKept-trans, Written, Written-from_WritesPiece, KeepsPages, IsHandedOn, KeepsPages-handed_on, Written-other, WritesPiece-keeps, touched_keeps}
 
 -- ---- one page
 
@@ -98,9 +102,54 @@ ZeroesPage-keeps pins v offset len old new p good h from zeroes = record {
 pub Zeroes-keeps : (pins : ℕ → ℕ → Bool) (v offset len : ℕ) (old new : Content) → IsGood old → offset + len ≤ pages_of old v * PAGE
     → Zeroes old v (pins v) offset len (touched offset len) new → KeepsPages pins old new
 Zeroes-keeps pins v offset len old new good h zeroes =
-    touched_keeps pins v (offset / PAGE) (λ a p b. ZeroesPage a v (pins v) offset len p b) (λ a ps b. Zeroes a v (pins v) offset len ps b)
+    touched_keeps (KeepsPages pins) (KeepsPages-handed_on pins) v (offset / PAGE) (λ a p b. ZeroesPage a v (pins v) offset len p b) (λ a ps b. Zeroes a v (pins v) offset len ps b)
     (λ a b e. e) (λ a b p ps all. all) (ZeroesPage-keeps pins v offset len) offset len old new good (omega arith) h zeroes
 
--- ---- where no page is held
+-- ---- pages that no other VMO shows
 
--- ---- how many frames it takes
+-- new has the frames and VMOs of old, and is good, and each page stays zero or sole that is so
+pub record KeepsOwn (old new : Content) : Type 0 where
+  pub kept : IsKept old new
+  pub own : (w q : ℕ) → (is_held old w q ≡ true → sole old w q ≡ true) → is_held new w q ≡ true → sole new w q ≡ true
+
+-- one change after another keeps this
+KeepsOwn-handed_on : IsHandedOn KeepsOwn
+KeepsOwn-handed_on = record {
+  kept = λ old new keeps. keeps.kept;
+  same = λ old new good e. subst (KeepsOwn old) (sym e) (record { kept = IsKept-same old old good refl; own = λ w q was held. was held });
+  both = λ old mid new first second. record {
+    kept = IsKept-trans old mid new first.kept second.kept;
+    own = λ w q was held. second.own w q (first.own w q was) held;
+  };
+}
+
+-- one page below the count
+ZeroesPage-own : (v : ℕ) (pinned : ℕ → Bool) (offset len : ℕ) (old new : Content) (p : ℕ) → IsGood old → p < pages_of old v → offset / PAGE ≤ p
+    → ZeroesPage old v pinned offset len p new → KeepsOwn old new
+ZeroesPage-own v pinned offset len old new p good h from zeroes = record {
+  kept = (ZeroedPage-from_ZeroesPage old v pinned offset len p new good h from zeroes).kept;
+  own = λ w q was. elim (cases_Bool (is_cleared pinned offset len p)) [
+    | inl cleared ↦ subst (λ (c : Content). is_held c w q ≡ true → sole c w q ≡ true) (sym (zeroes.cleared cleared)) (λ held.
+        let page = some_is ((zeroed old v p (p + 1)).page w q) held in
+        let before = page-zeroed_some old v p (p + 1) w q page.0 page.1 in
+        sole-zeroed_kept old v p (p + 1) w q good (was (ap is_some before.0)) before.1)
+    | inr part ↦ elim (cases_Bool (is_held old v p)) [
+      | inr free ↦ subst (λ (c : Content). is_held c w q ≡ true → sole c w q ≡ true) (sym (zeroes.zero part free)) was
+      | inl here ↦ λ held.
+          let fits = part_fits offset (replicate len 0) p from in
+          let writes = zeroes.held part here in
+          let before : is_held old w q ≡ true = elim (cases_page v p w q) [
+            | inl this ↦ ap (λ (u : ℕ). is_held old u q) this.0 ∙ (ap (is_held old v) this.1 ∙ here)
+            | inr other ↦ ap is_some (sym (Written-other old new v p (Written-from_WritesPiece old (piece v offset (replicate len 0) p) new good h fits writes) w q other)) ∙ held
+          ] in
+          (WritesPiece-keeps old (piece v offset (replicate len 0) p) new good h fits writes (λ u x. true)).alone w q refl (was before)
+    ]
+  ];
+}
+
+-- all pages of a range inside the VMO
+pub Zeroes-own : (v : ℕ) (pinned : ℕ → Bool) (offset len : ℕ) (old new : Content) → IsGood old → offset + len ≤ pages_of old v * PAGE
+    → Zeroes old v pinned offset len (touched offset len) new → KeepsOwn old new
+Zeroes-own v pinned offset len old new good h zeroes =
+    touched_keeps KeepsOwn KeepsOwn-handed_on v (offset / PAGE) (λ a p b. ZeroesPage a v pinned offset len p b) (λ a ps b. Zeroes a v pinned offset len ps b)
+    (λ a b e. e) (λ a b p ps all. all) (ZeroesPage-own v pinned offset len) offset len old new good (omega arith) h zeroes

@@ -5,3 +5,6 @@ pub mod Refusals
 pub mod Lent
 pub mod Given
 pub mod Step
+pub mod Access
+pub mod Machine
+pub mod MachineStep

@@ -4,3 +4,4 @@ pub mod Table
 pub mod AddressSpaces
 pub mod Places
 pub mod Mappings
+pub mod Readiness

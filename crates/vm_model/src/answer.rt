@@ -23,7 +23,6 @@ pub enum Answer<'a> {
     Runs(Runs),
     Stat(Stat),
     Refused(Refusal),
-    Unbuilt,
 }
 
 impl<'a> Answer<'a> {
@@ -46,7 +45,6 @@ impl<'a> Answer<'a> {
             Answer::Runs(runs) => Reply::Runs(runs),
             Answer::Stat(stat) => Reply::Stat(stat),
             Answer::Refused(refusal) => Reply::Refused(refusal),
-            Answer::Unbuilt => Reply::Unbuilt,
         }
     }
 }

@@ -7,39 +7,39 @@ ghost use Rattle.vm_model.specs.declared.command.Command.{Command};
 ghost use Rattle.vm_model.specs.declared.reply.Reply.{Reply};
 ghost use Rattle.vm_model.specs.Language.Reading.{reading, Order};
 ghost use Rattle.vm_model.specs.Language.Spelling.{HasRanges, has_spelling, spelling};
-ghost use Rattle.vm_model.specs.Machine.State.{State, empty_state, IsGoodState};
-ghost use Rattle.vm_model.specs.Machine.Step.{Step};
+ghost use Rattle.vm_model.specs.Machine.Machine.{Machine, empty_machine, IsGoodMachine};
+ghost use Rattle.vm_model.specs.Machine.MachineStep.{MachineStep};
 ghost use Rattle.vm_model.specs.Scripts.Run.{lines_of, Run};
 ghost use Rattle.vm_model.specs.Language.Text.{texts};
 ghost use Rattle.vm_model.specs.Scripts.Example.{example_script, example_text};
 
-/// A machine with page frames and nothing else is in a good state.
-pub fn the_empty_state_is_good()
-    ensures { (frames : ℕ) → IsGoodState (empty_state frames) }
+/// A machine with page frames and nothing else is good.
+pub fn the_empty_machine_is_good()
+    ensures { (frames : ℕ) → IsGoodMachine (empty_machine frames) }
 {}
 
-/// A step of the machine, by a command whose fields are within their types, leads from a good state to a
-/// good state. It gives at most one koid, and the machine keeps its frames.
-pub fn a_step_keeps_the_state_good()
-    ensures good { (old new : State) (command : Command) (reply : Reply) →
-        IsGoodState old → HasRanges command → Step old command reply new → IsGoodState new }
-    ensures koids { (old new : State) (command : Command) (reply : Reply) →
-        IsGoodState old → HasRanges command → Step old command reply new →
-        new.content.next ≤ old.content.next + 1 }
-    ensures frames { (old new : State) (command : Command) (reply : Reply) →
-        IsGoodState old → HasRanges command → Step old command reply new →
-        new.content.frames ≡ old.content.frames }
+/// A step of the machine, by a command whose fields are within their types, leads from a good machine to a
+/// good machine. It gives at most one koid, and the machine keeps its frames.
+pub fn a_step_keeps_the_machine_good()
+    ensures good { (old new : Machine) (command : Command) (reply : Reply) →
+        IsGoodMachine old → HasRanges command → MachineStep old command reply new → IsGoodMachine new }
+    ensures koids { (old new : Machine) (command : Command) (reply : Reply) →
+        IsGoodMachine old → HasRanges command → MachineStep old command reply new →
+        new.state.content.next ≤ old.state.content.next + 1 }
+    ensures frames { (old new : Machine) (command : Command) (reply : Reply) →
+        IsGoodMachine old → HasRanges command → MachineStep old command reply new →
+        new.state.content.frames ≡ old.state.content.frames }
 {}
 
 /// The definitions are neither loose nor empty. On a machine with 1,024 frames each legal run over
 /// the example's three lines in which the host had memory writes exactly its three replies, and
 /// there is such a run.
 pub fn the_example_has_one_outcome()
-    ensures only { (replies : List Reply) (last : State) →
-        Run (empty_state 1024) (lines_of example_script) replies last →
+    ensures only { (replies : List Reply) (last : Machine) →
+        Run (empty_machine 1024) (lines_of example_script) replies last →
         AllByRecursion (λ r. r ≢ Reply.Refused HostMemory) replies → texts replies ≡ example_text }
-    ensures exists { (replies : List Reply) × (last : State) ×
-        Run (empty_state 1024) (lines_of example_script) replies last
+    ensures exists { (replies : List Reply) × (last : Machine) ×
+        Run (empty_machine 1024) (lines_of example_script) replies last
         × AllByRecursion (λ r. r ≢ Reply.Refused HostMemory) replies × (texts replies ≡ example_text) }
 {}
 

@@ -30,7 +30,7 @@ pub use names::{NameKind, Origin, Target};
 pub use numbers::PinNumbers;
 pub use reply::{Info, Reply, Stat};
 pub use runs::{Run, Runs};
-pub use space::{Entry, Region};
+pub use space::{Entry, Readiness, Region};
 
 #[cfg(test)]
 mod tests;

@@ -57,6 +57,4 @@ pub enum Reply {
     Stat(Stat),
     /// It is refused, and nothing was changed.
     Refused(Refusal),
-    /// The command is read, and not built yet. Nothing was changed.
-    Unbuilt,
 }

@@ -1,4 +1,4 @@
-//! What stands in an address space: regions, and what each page shows.
+//! What stands in an address space: regions, what each page shows, and what it is ready for.
 
 use vm_base::{Koid, PageNo, Perm, RegionName};
 
@@ -33,4 +33,14 @@ pub struct Region {
     pub caps: Perm,
     /// Whether it is not destroyed.
     pub live: bool,
+}
+
+/// What an access to a page of an address space may do there with no page fault. A page that no access has touched, or
+/// that has changed since, has none. In the kernel it is what the page tables of the processor allow.
+#[derive(Clone, Copy, Debug, PartialEq, Eq)]
+pub enum Readiness {
+    /// It may read.
+    Read,
+    /// It may read and write.
+    Write,
 }

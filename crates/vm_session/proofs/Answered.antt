@@ -12,7 +12,7 @@ use Rattle.vm_base.specs.declared.limits.TheConstants.{LINE_BYTES}
 use Rattle.vm_base.specs.declared.refusal.Refusal.TheVariants.{Syntax}
 use Rattle.vm_model.specs.declared.reply.Reply.{Reply}
 use Rattle.vm_model.specs.declared.reply.Reply.TheVariants.{Refused}
-use Rattle.vm_model.specs.Machine.State.{State, IsGoodState}
+use Rattle.vm_model.specs.Machine.Machine.{Machine, IsGoodMachine}
 use Rattle.vm_model.specs.Language.Text.{text, texts}
 use Rattle.vm_model.specs.Scripts.Run.{Gives}
 use Rattle.vm_model.specs.Language.Reading.{Outside, reading, reading_of_words, words}
@@ -22,7 +22,7 @@ use Rattle.vm_session.proofs.Writing.{AnswersLine-outside}
 use Rattle.vm_session.proofs.Served.{IsServed-more, BreaksOff-more}
 
 -- From these pending bytes a line was fetched, and it was answered.
-pub record IsAnswered {T E : Type 0} (old new : Reader) (source_old source_new sink_old sink_new : Option (List ℕ)) (before after : State) (pending : List ℕ) (result : Result T E) : Type 0 where
+pub record IsAnswered {T E : Type 0} (old new : Reader) (source_old source_new sink_old sink_new : Option (List ℕ)) (before after : Machine) (pending : List ℕ) (result : Result T E) : Type 0 where
   pub part : List ℕ
   pub left : List ℕ
   pub line : List ℕ
@@ -33,12 +33,12 @@ pub record IsAnswered {T E : Type 0} (old new : Reader) (source_old source_new s
   pub first : IsFirstLine new.ended (pending ++ part) line left
   pub within : new.taken ≤ new.limit
   pub gives : Gives line before replies after
-  pub good : IsGoodState after
+  pub good : IsGoodMachine after
   pub written : SinkTakes result sink_old sink_new (texts replies)
-  pub koids : after.content.next ≤ before.content.next + 1
+  pub koids : after.state.content.next ≤ before.state.content.next + 1
 
-pub IsAnswered-line : {T E : Type 0} (old new : Reader) (source_old source_new sink_old sink_new : Option (List ℕ)) (before after : State) (pending line : List ℕ) (result : Result T E)
-    → Fetches old new source_old source_new pending Line → line ≡ new.line → AnswersLine line before after sink_old sink_new result → IsGoodState after → after.content.next ≤ before.content.next + 1
+pub IsAnswered-line : {T E : Type 0} (old new : Reader) (source_old source_new sink_old sink_new : Option (List ℕ)) (before after : Machine) (pending line : List ℕ) (result : Result T E)
+    → Fetches old new source_old source_new pending Line → line ≡ new.line → AnswersLine line before after sink_old sink_new result → IsGoodMachine after → after.state.content.next ≤ before.state.content.next + 1
     → IsAnswered old new source_old source_new sink_old sink_new before after pending result
 IsAnswered-line old new source_old source_new sink_old sink_new before after pending line result f e answer good koids = record {
   part = f.part;
@@ -61,8 +61,8 @@ long_is_outside : (line : List ℕ) → LINE_BYTES < length line → Outside ≡
 unfolding reading
 long_is_outside line long = sym (ap (λ t. cond t Outside (reading_of_words (words line))) ((Decides-ltb LINE_BYTES (length line)).1 long))
 
-pub IsAnswered-long : {T E : Type 0} (old new : Reader) (source_old source_new sink_old sink_new : Option (List ℕ)) (now : State) (pending : List ℕ) (result : Result T E)
-    → Fetches old new source_old source_new pending TooLong → IsGoodState now → OnOk result (Appends sink_old sink_new (text (Refused Syntax))) → OnErr result (IsCutOff sink_old sink_new (text (Refused Syntax)))
+pub IsAnswered-long : {T E : Type 0} (old new : Reader) (source_old source_new sink_old sink_new : Option (List ℕ)) (now : Machine) (pending : List ℕ) (result : Result T E)
+    → Fetches old new source_old source_new pending TooLong → IsGoodMachine now → OnOk result (Appends sink_old sink_new (text (Refused Syntax))) → OnErr result (IsCutOff sink_old sink_new (text (Refused Syntax)))
     → IsAnswered old new source_old source_new sink_old sink_new now now pending result
 IsAnswered-long old new source_old source_new sink_old sink_new now pending result f good ok err =
     let line = f.fetched.0 in
@@ -84,16 +84,16 @@ IsAnswered-long old new source_old source_new sink_old sink_new now pending resu
     }
 
 -- it was answered whole
-pub IsServed-answered : (frames limit : ℕ) (old new : Reader) (source_old source_mid source_new sink_old sink_mid sink_new : Option (List ℕ)) (before after : State) {T E : Type 0} (result : Result T E) (x : T) → result ≡ Ok x
+pub IsServed-answered : (frames limit : ℕ) (old new : Reader) (source_old source_mid source_new sink_old sink_mid sink_new : Option (List ℕ)) (before after : Machine) {T E : Type 0} (result : Result T E) (x : T) → result ≡ Ok x
     → (s : IsServed frames limit old source_old source_mid sink_old sink_mid before) → IsAnswered old new source_mid source_new sink_mid sink_new before after s.pending result
     → new.limit ≡ old.limit → (old.ended ≡ true → new.taken ≡ old.taken) → IsServed frames limit new source_old source_new sink_old sink_new after
 IsServed-answered frames limit old new source_old source_mid source_new sink_old sink_mid sink_new before after {T} {E} result x e s a same none =
     IsServed-more frames limit old new source_old source_mid source_new sink_old sink_mid sink_new before after a.replies a.line a.left s a.part a.consumes a.taken a.still a.first a.within same none a.gives a.good (subst (λ (r : Result T E). SinkTakes r sink_mid sink_new (texts a.replies)) e a.written)
 
 -- its replies were cut off
-pub BreaksOff-answered : (frames limit : ℕ) (old new : Reader) (source_old source_mid source_new sink_old sink_mid sink_new : Option (List ℕ)) (before after : State) {T E : Type 0} (result : Result T E) (x : E) → result ≡ Err x
+pub BreaksOff-answered : (frames limit : ℕ) (old new : Reader) (source_old source_mid source_new sink_old sink_mid sink_new : Option (List ℕ)) (before after : Machine) {T E : Type 0} (result : Result T E) (x : E) → result ≡ Err x
     → (s : IsServed frames limit old source_old source_mid sink_old sink_mid before) → IsAnswered old new source_mid source_new sink_mid sink_new before after s.pending result
-    → new.limit ≡ old.limit → (old.ended ≡ true → new.taken ≡ old.taken) → BreaksOff frames limit source_old source_new sink_old sink_new after.content
+    → new.limit ≡ old.limit → (old.ended ≡ true → new.taken ≡ old.taken) → BreaksOff frames limit source_old source_new sink_old sink_new after.state.content
 BreaksOff-answered frames limit old new source_old source_mid source_new sink_old sink_mid sink_new before after {T} {E} result x e s a same none =
     BreaksOff-more frames limit old new source_old source_mid source_new sink_old sink_mid sink_new before after a.replies a.line a.left s a.part a.consumes a.taken a.still a.first a.within same none a.gives a.good (subst (λ (r : Result T E). SinkTakes r sink_mid sink_new (texts a.replies)) e a.written)
 
@@ -108,16 +108,16 @@ used_up ended bytes line left first = go first.parts where
 pending_size : (reader : Reader) (remaining : Option (List ℕ)) (pending : List ℕ) → IsPending reader remaining pending → length pending ≡ reader.dropped + length reader.held
 pending_size reader remaining pending p = omega (arith, ap (λ (xs : List ℕ). length xs) p.parts, length-append p.front reader.held, p.size)
 
-pub IsReady-answered : {T E : Type 0} (old new : Reader) (source_old source_new sink_old sink_new : Option (List ℕ)) (before after : State) (result : Result T E)
-    (r : IsReady old source_old before.content.next) → IsAnswered old new source_old source_new sink_old sink_new before after r.pending result → IsReady new source_new after.content.next
+pub IsReady-answered : {T E : Type 0} (old new : Reader) (source_old source_new sink_old sink_new : Option (List ℕ)) (before after : Machine) (result : Result T E)
+    (r : IsReady old source_old before.state.content.next) → IsAnswered old new source_old source_new sink_old sink_new before after r.pending result → IsReady new source_new after.state.content.next
 IsReady-answered old new source_old source_new sink_old sink_new before after result r a = record {
   pending = a.left;
   still = a.still;
   koids = omega (arith, a.koids, r.koids, a.taken, used_up new.ended (r.pending ++ a.part) a.line a.left a.first, length-append r.pending a.part);
 }
 
-pub bytes_left-answered : {T E : Type 0} (old new : Reader) (source_old source_new sink_old sink_new : Option (List ℕ)) (before after : State) (result : Result T E)
-    (r : IsReady old source_old before.content.next) → IsAnswered old new source_old source_new sink_old sink_new before after r.pending result → new.limit ≡ old.limit → bytes_left new < bytes_left old
+pub bytes_left-answered : {T E : Type 0} (old new : Reader) (source_old source_new sink_old sink_new : Option (List ℕ)) (before after : Machine) (result : Result T E)
+    (r : IsReady old source_old before.state.content.next) → IsAnswered old new source_old source_new sink_old sink_new before after r.pending result → new.limit ≡ old.limit → bytes_left new < bytes_left old
 bytes_left-answered old new source_old source_new sink_old sink_new before after result r a same =
     omega (
       arith,

@@ -1,13 +1,14 @@
 -- What a store contains before its first VMO, and how the serving of a script begins.
 use Rattle.std.proofs.Common.{◌≡◌, ℕ, inl, false, List, [], Option, refl, sym, ap, subst, ◌∙◌, arith}
 use Rattle.std.proofs.KnownBytes.{Appends-nil, Consumes-nil}
-use Rattle.vm_model.specs.Contents.Content.{Content, nothing}
-use Rattle.vm_model.specs.Machine.State.{State, IsGoodState, empty_state}
-use Rattle.vm_model.proofs.ContentLaws.{count-nothing}
+use Rattle.vm_model.specs.Contents.Content.{Content, nothing, IsGood}
+use Rattle.vm_model.specs.Machine.Machine.{Machine, IsGoodMachine, empty_machine}
+use Rattle.vm_model.proofs.ContentLaws.{count-nothing, IsGood-nothing}
 use Rattle.vm_core.specs.Vm.{HasNoVmo}
 use Rattle.script_io.specs.Reader.{Reader}
 use Rattle.script_io.specs.Fetching.{IsPending}
-use Rattle.vm_model.proofs.StepLaws.{IsGoodState-empty, next-empty}
+use Rattle.vm_model.proofs.StepLaws.{next-empty}
+use Rattle.vm_model.proofs.MachineLaws.{IsGoodMachine-empty}
 use Rattle.vm_session.specs.Outcome.{NothingDone}
 use Rattle.vm_session.specs.Serving.{IsServed, IsReady}
 use Rattle.vm_session.proofs.Served.{AreLines-none}
@@ -27,7 +28,7 @@ IsPending-fresh : (limit : ℕ) (source : Option (List ℕ)) → IsPending (fres
 IsPending-fresh limit source = record { front = []; no_feed = λ k d l. absurd (omega (arith, l)); size = refl; parts = refl; at_end = λ e. absurd cc }
 
 -- no line was answered yet
-pub IsServed-fresh : (frames limit : ℕ) (reader : Reader) (source sink : Option (List ℕ)) (now : State) → reader ≡ fresh limit → now ≡ empty_state frames → IsServed frames limit reader source source sink sink now
+pub IsServed-fresh : (frames limit : ℕ) (reader : Reader) (source sink : Option (List ℕ)) (now : Machine) → reader ≡ fresh limit → now ≡ empty_machine frames → IsServed frames limit reader source source sink sink now
 IsServed-fresh frames limit reader source sink now e f = subst (λ (r : Reader). IsServed frames limit r source source sink sink now) (sym e) (record {
   front = [];
   pending = [];
@@ -40,13 +41,14 @@ IsServed-fresh frames limit reader source sink now e f = subst (λ (r : Reader).
   split = inl AreLines-none;
   replies = [];
   run = (refl, f);
-  good = subst IsGoodState (sym f) (IsGoodState-empty frames);
+  good = subst IsGoodMachine (sym f) (IsGoodMachine-empty frames);
   written = Appends-nil sink;
 })
 
-pub IsReady-fresh : (frames limit : ℕ) (reader : Reader) (source : Option (List ℕ)) (now : State) → reader ≡ fresh limit → now ≡ empty_state frames → IsReady reader source now.content.next
-IsReady-fresh frames limit reader source now e f = subst (λ (r : Reader). IsReady r source now.content.next) (sym e) (record {
+pub IsReady-fresh : (frames limit : ℕ) (reader : Reader) (source : Option (List ℕ)) (now : Machine) → reader ≡ fresh limit → now ≡ empty_machine frames → IsReady reader source now.state.content.next
+unfolding empty_machine
+IsReady-fresh frames limit reader source now e f = subst (λ (r : Reader). IsReady r source now.state.content.next) (sym e) (record {
   pending = [];
   still = IsPending-fresh limit source;
-  koids = omega (arith, next-empty frames, ap (λ (s : State). s.content.next) f);
+  koids = omega (arith, next-empty frames, ap (λ (m : Machine). m.state.content.next) f);
 })

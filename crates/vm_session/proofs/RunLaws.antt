@@ -2,7 +2,7 @@
 use Rattle.std.proofs.Common.{◌≡◌, ◌≢◌, ℕ, suc, ◌<◌, cond, List, [], ◌∷◌, ◌++◌, length, get_or, refl, sym, ap, subst, ◌∙◌, append_assoc, append-nil, arith}
 use Rattle.std.proofs.lemmas.Grind.{flat_map-append}
 use Rattle.vm_model.specs.declared.reply.Reply.{Reply}
-use Rattle.vm_model.specs.Machine.State.{State}
+use Rattle.vm_model.specs.Machine.Machine.{Machine}
 use Rattle.vm_model.specs.Language.Text.{text, texts}
 use Rattle.vm_model.specs.Scripts.Run.{onto_first, lines_of, before_whole, whole_lines, Gives, Run}
 use Rattle.vm_base.proofs.SearchLaws.{eqb_apart}
@@ -56,9 +56,9 @@ pub texts-append : (xs ys : List Reply) → texts (xs ++ ys) ≡ texts xs ++ tex
 texts-append xs ys = flat_map-append text xs ys
 
 -- a run, and one line more
-pub Run-more : (old mid new : State) (lines : List (List ℕ)) (line : List ℕ) (before now : List Reply) → Run old lines before mid → Gives line mid now new → Run old (lines ++ line ∷ []) (before ++ now) new
+pub Run-more : (old mid new : Machine) (lines : List (List ℕ)) (line : List ℕ) (before now : List Reply) → Run old lines before mid → Gives line mid now new → Run old (lines ++ line ∷ []) (before ++ now) new
 Run-more old mid new [] line before now run gives =
-    let here : Gives line old now new = subst (λ (s : State). Gives line s now new) run.1 gives in
+    let here : Gives line old now new = subst (λ (s : Machine). Gives line s now new) run.1 gives in
     let all : before ++ now ≡ now ++ [] = ap (λ (rs : List Reply). rs ++ now) run.0 ∙ sym (append-nil now) in
     (new, now, [], here, (refl, refl), all)
 Run-more old mid new (first ∷ lines) line before now run gives =

@@ -8,7 +8,7 @@ use Rattle.script_io.specs.Faults.{IsCutOff}
 use Rattle.script_io.specs.Reader.{Reader, HasNoFeed}
 use Rattle.script_io.specs.Fetching.{IsPending, IsFirstLine}
 use Rattle.vm_model.specs.declared.reply.Reply.{Reply}
-use Rattle.vm_model.specs.Machine.State.{State, IsGoodState, empty_state}
+use Rattle.vm_model.specs.Machine.Machine.{Machine, IsGoodMachine, empty_machine}
 use Rattle.vm_model.specs.Language.Text.{texts}
 use Rattle.vm_model.specs.Scripts.Run.{lines_of, whole_lines, Gives, Run}
 use Rattle.vm_session.proofs.RunLaws.{lines_of-line, lines_of-piece, lines_of-nil, whole_lines-line, whole_lines-none, texts-append, Run-more}
@@ -78,11 +78,11 @@ still_lines old front pending part line left lines ended none (inr all) first =
       go (inr h) z = omega (arith, z, ap (λ (xs : List ℕ). length xs) h.0, h.2)
 
 -- one line more was answered, and its replies were written
-pub IsServed-more : (frames limit : ℕ) (old new : Reader) (source_old source_mid source_new sink_old sink_mid sink_new : Option (List ℕ)) (before after : State)
+pub IsServed-more : (frames limit : ℕ) (old new : Reader) (source_old source_mid source_new sink_old sink_mid sink_new : Option (List ℕ)) (before after : Machine)
     (replies : List Reply) (line left : List ℕ) (s : IsServed frames limit old source_old source_mid sink_old sink_mid before) (part : List ℕ)
     → Consumes source_mid source_new part → new.taken ≡ old.taken + length part → IsPending new source_new left → IsFirstLine new.ended (s.pending ++ part) line left
     → new.taken ≤ new.limit → new.limit ≡ old.limit → (old.ended ≡ true → new.taken ≡ old.taken)
-    → Gives line before replies after → IsGoodState after → Appends sink_mid sink_new (texts replies)
+    → Gives line before replies after → IsGoodMachine after → Appends sink_mid sink_new (texts replies)
     → IsServed frames limit new source_old source_new sink_old sink_new after
 IsServed-more frames limit old new source_old source_mid source_new sink_old sink_mid sink_new before after replies line left s part
     consumes taken still first within same none gives good written =
@@ -99,8 +99,8 @@ IsServed-more frames limit old new source_old source_mid source_new sink_old sin
       size : new.taken ≡ length script
       size = omega (arith, taken, s.taken, length-append (s.front ++ s.pending) part)
 
-      run : Run (empty_state frames) (s.lines ++ line ∷ []) (s.replies ++ replies) after
-      run = Run-more (empty_state frames) before after s.lines line s.replies replies s.run gives
+      run : Run (empty_machine frames) (s.lines ++ line ∷ []) (s.replies ++ replies) after
+      run = Run-more (empty_machine frames) before after s.lines line s.replies replies s.run gives
 
       all_written : Appends sink_old sink_new (texts (s.replies ++ replies))
       all_written = subst (Appends sink_old sink_new) (sym (texts-append s.replies replies)) (Appends-trans sink_old sink_mid sink_new (texts s.replies) (texts replies) s.written written)
@@ -133,12 +133,12 @@ IsServed-more frames limit old new source_old source_mid source_new sink_old sin
 -- ---- how a run ends
 
 -- the replies of one more line were cut off
-pub BreaksOff-more : (frames limit : ℕ) (old new : Reader) (source_old source_mid source_new sink_old sink_mid sink_new : Option (List ℕ)) (before after : State)
+pub BreaksOff-more : (frames limit : ℕ) (old new : Reader) (source_old source_mid source_new sink_old sink_mid sink_new : Option (List ℕ)) (before after : Machine)
     (replies : List Reply) (line left : List ℕ) (s : IsServed frames limit old source_old source_mid sink_old sink_mid before) (part : List ℕ)
     → Consumes source_mid source_new part → new.taken ≡ old.taken + length part → IsPending new source_new left → IsFirstLine new.ended (s.pending ++ part) line left
     → new.taken ≤ new.limit → new.limit ≡ old.limit → (old.ended ≡ true → new.taken ≡ old.taken)
-    → Gives line before replies after → IsGoodState after → IsCutOff sink_mid sink_new (texts replies)
-    → BreaksOff frames limit source_old source_new sink_old sink_new after.content
+    → Gives line before replies after → IsGoodMachine after → IsCutOff sink_mid sink_new (texts replies)
+    → BreaksOff frames limit source_old source_new sink_old sink_new after.state.content
 BreaksOff-more frames limit old new source_old source_mid source_new sink_old sink_mid sink_new before after replies line left s part
     consumes taken still first within same none gives good cut =
     go first.parts where
@@ -152,14 +152,14 @@ BreaksOff-more frames limit old new source_old source_mid source_new sink_old si
       short = omega (arith, within, taken, s.taken, length-append (s.front ++ s.pending) part, same, s.bounded)
 
       -- the lines up to the one that was cut off
-      answers : (lines : List (List ℕ)) (rest : List (List ℕ)) → lines ≡ s.lines ++ line ∷ rest → AnswersPart frames lines sink_old sink_new after.content
+      answers : (lines : List (List ℕ)) (rest : List (List ℕ)) → lines ≡ s.lines ++ line ∷ rest → AnswersPart frames lines sink_old sink_new after.state.content
       answers lines rest e = record {
         answered = length s.lines;
         line = line;
         next = ap (λ (ls : List (List ℕ)). slice_get ls (length s.lines)) e ∙ get_behind s.lines line rest;
         before = s.replies;
         mid = before;
-        run = subst (λ (ls : List (List ℕ)). Run (empty_state frames) ls s.replies before) (sym (ap (take (length s.lines)) e ∙ take_front s.lines (line ∷ rest))) s.run;
+        run = subst (λ (ls : List (List ℕ)). Run (empty_machine frames) ls s.replies before) (sym (ap (take (length s.lines)) e ∙ take_front s.lines (line ∷ rest))) s.run;
         replies = replies;
         last = after;
         gives = gives;
@@ -172,8 +172,8 @@ BreaksOff-more frames limit old new source_old source_mid source_new sink_old si
         store = refl;
       }
 
-      breaks : (AnswersPart frames (whole_lines (take limit script)) sink_old sink_new after.content
-          ⊎ (AnswersPart frames (lines_of script) sink_old sink_new after.content × IsAtEnd source_new × (length script ≤ limit))) → BreaksOff frames limit source_old source_new sink_old sink_new after.content
+      breaks : (AnswersPart frames (whole_lines (take limit script)) sink_old sink_new after.state.content
+          ⊎ (AnswersPart frames (lines_of script) sink_old sink_new after.state.content × IsAtEnd source_new × (length script ≤ limit))) → BreaksOff frames limit source_old source_new sink_old sink_new after.state.content
       breaks parts = record {
         script = script;
         given = Consumes-trans source_old source_mid source_new (s.front ++ s.pending) part s.given consumes;
@@ -181,7 +181,7 @@ BreaksOff-more frames limit old new source_old source_mid source_new sink_old si
         answers = parts;
       }
 
-      go : ((s.pending ++ part ≡ line ++ 10 ∷ left) ⊎ ((s.pending ++ part ≡ line) × (left ≡ []) × (0 < length line) × (new.ended ≡ true))) → BreaksOff frames limit source_old source_new sink_old sink_new after.content
+      go : ((s.pending ++ part ≡ line ++ 10 ∷ left) ⊎ ((s.pending ++ part ≡ line) × (left ≡ []) × (0 < length line) × (new.ended ≡ true))) → BreaksOff frames limit source_old source_new sink_old sink_new after.state.content
       go (inl e) =
           let parts : script ≡ s.front ++ (line ++ 10 ∷ left) = append_assoc s.front s.pending part ∙ ap (λ (xs : List ℕ). s.front ++ xs) e in
           breaks (inl (answers (whole_lines (take limit script)) (whole_lines left)
@@ -191,12 +191,12 @@ BreaksOff-more frames limit old new source_old source_mid source_new sink_old si
           breaks (inr (answers (lines_of script) [] (ap lines_of parts ∙ lines_of-more s.front line s.lines so_far first.no_feed h.2), still.at_end h.3, short))
 
 -- every line was answered
-answers_all : (frames limit : ℕ) (reader : Reader) (source_old source_now sink_old sink_now : Option (List ℕ)) (now : State) (lines : List (List ℕ))
-    (s : IsServed frames limit reader source_old source_now sink_old sink_now now) → lines ≡ s.lines → AnswersAll frames lines sink_old sink_now now.content
+answers_all : (frames limit : ℕ) (reader : Reader) (source_old source_now sink_old sink_now : Option (List ℕ)) (now : Machine) (lines : List (List ℕ))
+    (s : IsServed frames limit reader source_old source_now sink_old sink_now now) → lines ≡ s.lines → AnswersAll frames lines sink_old sink_now now.state.content
 answers_all frames limit reader source_old source_now sink_old sink_now now lines s e = record {
   out = texts s.replies;
   last = now;
-  legal = record { replies = s.replies; run = subst (λ (ls : List (List ℕ)). Run (empty_state frames) ls s.replies now) (sym e) s.run; text = refl };
+  legal = record { replies = s.replies; run = subst (λ (ls : List (List ℕ)). Run (empty_machine frames) ls s.replies now) (sym e) s.run; text = refl };
   good = s.good;
   written = s.written;
   store = refl;
@@ -207,11 +207,11 @@ no_bytes [] e = refl
 no_bytes (x ∷ xs) e = absurd (omega (arith, e))
 
 -- nothing is pending, and nothing comes
-pub Completes-end : (frames limit : ℕ) (old new : Reader) (source_old source_mid source_new sink_old sink_now : Option (List ℕ)) (now : State)
+pub Completes-end : (frames limit : ℕ) (old new : Reader) (source_old source_mid source_new sink_old sink_now : Option (List ℕ)) (now : Machine)
     (s : IsServed frames limit old source_old source_mid sink_old sink_now now) (part : List ℕ)
     → Consumes source_mid source_new part → new.taken ≡ old.taken + length part → IsAtEnd source_new → s.pending ++ part ≡ []
     → new.taken ≤ new.limit → new.limit ≡ old.limit
-    → Completes frames limit source_old source_new sink_old sink_now now.content
+    → Completes frames limit source_old source_new sink_old sink_now now.state.content
 Completes-end frames limit old new source_old source_mid source_new sink_old sink_now now s part consumes taken at_end none within same =
     let empty : length s.pending + length part ≡ 0 = omega (arith, length-append s.pending part, ap (λ (xs : List ℕ). length xs) none) in
     let no_part : part ≡ [] = no_bytes part (omega (arith, empty)) in
@@ -230,11 +230,11 @@ Completes-end frames limit old new source_old source_mid source_new sink_old sin
       go (inr whole) = whole.each
 
 -- the bytes that are left hold no line feed, and the script doesn't end there
-pub StopsReading-there : (frames limit : ℕ) (old new : Reader) (source_old source_mid source_new sink_old sink_now : Option (List ℕ)) (now : State)
+pub StopsReading-there : (frames limit : ℕ) (old new : Reader) (source_old source_mid source_new sink_old sink_now : Option (List ℕ)) (now : Machine)
     (s : IsServed frames limit old source_old source_mid sink_old sink_now now) (part : List ℕ)
     → Consumes source_mid source_new part → new.taken ≡ old.taken + length part → HasNoFeed (s.pending ++ part) → (old.ended ≡ true → ⊥)
     → new.taken ≤ new.limit → new.limit ≡ old.limit
-    → StopsReading frames limit source_old source_new sink_old sink_now now.content
+    → StopsReading frames limit source_old source_new sink_old sink_now now.state.content
 StopsReading-there frames limit old new source_old source_mid source_new sink_old sink_now now s part consumes taken none going within same =
     let parts : (s.front ++ s.pending) ++ part ≡ s.front ++ (s.pending ++ part) = append_assoc s.front s.pending part in
     record {
@@ -249,11 +249,11 @@ StopsReading-there frames limit old new source_old source_mid source_new sink_ol
       go (inr whole) = absurd (going whole.ended)
 
 -- one byte over the limit was taken, and no line feed is left before it
-pub ReachesLimit-there : (frames limit : ℕ) (old new : Reader) (source_old source_mid source_new sink_old sink_now : Option (List ℕ)) (now : State)
+pub ReachesLimit-there : (frames limit : ℕ) (old new : Reader) (source_old source_mid source_new sink_old sink_now : Option (List ℕ)) (now : Machine)
     (s : IsServed frames limit old source_old source_mid sink_old sink_now now) (part : List ℕ)
     → Consumes source_mid source_new part → new.taken ≡ old.taken + length part → HasNoFeed (take (length (s.pending ++ part) - 1) (s.pending ++ part))
     → (old.ended ≡ true → new.taken ≡ old.taken) → new.taken ≡ new.limit + 1 → new.limit ≡ old.limit
-    → ReachesLimit frames limit source_old source_new sink_old sink_now now.content
+    → ReachesLimit frames limit source_old source_new sink_old sink_now now.state.content
 ReachesLimit-there frames limit old new source_old source_mid source_new sink_old sink_now now s part consumes taken none going over same =
     record {
       script = script;

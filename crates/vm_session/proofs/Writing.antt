@@ -9,10 +9,10 @@ use Rattle.script_io.specs.Faults.{IsCutOff}
 use Rattle.vm_base.specs.declared.refusal.Refusal.TheVariants.{Syntax}
 use Rattle.vm_model.specs.declared.reply.Reply.{Reply}
 use Rattle.vm_model.specs.declared.reply.Reply.TheVariants.{Done, Number, Bytes, Pins, Address, Access, Faults, Info}
-use Rattle.vm_model.specs.declared.reply.Reply.TheVariants.{Runs, Stat, Refused, Unbuilt}
+use Rattle.vm_model.specs.declared.reply.Reply.TheVariants.{Runs, Stat, Refused}
 use Rattle.vm_model.specs.declared.command.Command.{Command}
-use Rattle.vm_model.specs.Machine.State.{State}
-use Rattle.vm_model.specs.Machine.Step.{Step}
+use Rattle.vm_model.specs.Machine.Machine.{Machine}
+use Rattle.vm_model.specs.Machine.MachineStep.{MachineStep}
 use Rattle.vm_model.specs.Language.Reading.{Reading, Order, Outside, reading}
 use Rattle.vm_model.specs.Language.Text.{reply_lines, text, texts}
 use Rattle.vm_model.specs.Scripts.Run.{GivesAs}
@@ -45,7 +45,6 @@ some_line (Info i) = omega arith
 some_line (Runs r) = omega arith
 some_line (Stat s) = omega arith
 some_line (Refused r) = omega arith
-some_line Unbuilt = omega arith
 
 -- one line more was written
 pub line_written : (reply : Reply) (i : ℕ) (line : List ℕ) (before mid after : Option (List ℕ)) → slice_get (reply_lines reply) i ≡ Some line → Appends before mid (concat (take i (reply_lines reply))) → Appends mid after line → Appends before after (concat (take (i + 1) (reply_lines reply)))
@@ -82,8 +81,8 @@ SinkTakes-one (Ok x) before after reply ok err = subst (Appends before after) (o
 SinkTakes-one (Err e) before after reply ok err = subst (IsCutOff before after) (one_text reply) err
 
 -- a line that is an order, one step, and its reply
-pub AnswersLine-order : {T E : Type 0} (line : List ℕ) (command : Command) (old new : State) (reply : Reply) (before after : Option (List ℕ)) (result : Result T E)
-    → Order command ≡ reading line → Step old command reply new → OnOk result (Appends before after (text reply)) → OnErr result (IsCutOff before after (text reply)) → AnswersLine line old new before after result
+pub AnswersLine-order : {T E : Type 0} (line : List ℕ) (command : Command) (old new : Machine) (reply : Reply) (before after : Option (List ℕ)) (result : Result T E)
+    → Order command ≡ reading line → MachineStep old command reply new → OnOk result (Appends before after (text reply)) → OnErr result (IsCutOff before after (text reply)) → AnswersLine line old new before after result
 AnswersLine-order line command old new reply before after result e step ok err = record {
   replies = reply ∷ [];
   gives = record { answer = subst (λ (r : Reading). GivesAs r old (reply ∷ []) new) e (reply, refl, step) };
@@ -91,7 +90,7 @@ AnswersLine-order line command old new reply before after result e step ok err =
 }
 
 -- a line outside the grammar, and its refusal
-pub AnswersLine-outside : {T E : Type 0} (line : List ℕ) (old : State) (before after : Option (List ℕ)) (result : Result T E)
+pub AnswersLine-outside : {T E : Type 0} (line : List ℕ) (old : Machine) (before after : Option (List ℕ)) (result : Result T E)
     → Outside ≡ reading line → OnOk result (Appends before after (text (Refused Syntax))) → OnErr result (IsCutOff before after (text (Refused Syntax))) → AnswersLine line old old before after result
 AnswersLine-outside line old before after result e ok err = record {
   replies = Refused Syntax ∷ [];

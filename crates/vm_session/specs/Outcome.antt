@@ -12,7 +12,7 @@ use Rattle.script_io.specs.Faults.{IsCutOff}
 use Rattle.vm_base.specs.declared.limits.TheConstants.{FRAMES}
 use Rattle.vm_model.specs.declared.reply.Reply.{Reply}
 use Rattle.vm_model.specs.Contents.Content.{Content}
-use Rattle.vm_model.specs.Machine.State.{State, IsGoodState, empty_state}
+use Rattle.vm_model.specs.Machine.Machine.{Machine, IsGoodMachine, empty_machine}
 use Rattle.vm_model.specs.Language.Text.{texts}
 use Rattle.vm_model.specs.Language.Reading.{is_hex, number, ◌>>=◌}
 use Rattle.vm_core.specs.Vm.{HasNoVmo}
@@ -51,7 +51,7 @@ SinkTakes result sink_old sink_new out =
     MatchResult result (λ _. Appends sink_old sink_new out) (λ _. IsCutOff sink_old sink_new out)
 
 -- from old, the line was answered, and its replies were written
-pub record AnswersLine {T E : Type 0} (line : List ℕ) (old new : State) (sink_old sink_new : Option (List ℕ))
+pub record AnswersLine {T E : Type 0} (line : List ℕ) (old new : Machine) (sink_old sink_new : Option (List ℕ))
     (result : Result T E) : Type 0 where
   pub replies : List Reply
   pub gives : Gives line old replies new
@@ -62,11 +62,11 @@ pub record AnswersLine {T E : Type 0} (line : List ℕ) (old new : State) (sink_
 pub record AnswersAll (frames : ℕ) (lines : List (List ℕ)) (sink_old sink_new : Option (List ℕ))
     (content : Content) : Type 0 where
   pub out : List ℕ
-  pub last : State
+  pub last : Machine
   pub legal : Legal frames lines out last
-  pub good : IsGoodState last
+  pub good : IsGoodMachine last
   pub written : Appends sink_old sink_new out
-  pub store : content ≡ last.content
+  pub store : content ≡ last.state.content
 
 -- Some of the lines were answered and their replies written. One line more was done, and only a part of its replies was
 -- written. The store has what the machine has then, which is a good state.
@@ -76,18 +76,18 @@ pub record AnswersPart (frames : ℕ) (lines : List (List ℕ)) (sink_old sink_n
   pub line : List ℕ
   pub next : slice_get lines answered ≡ Some line
   pub before : List Reply
-  pub mid : State
-  pub run : Run (empty_state frames) (take answered lines) before mid
+  pub mid : Machine
+  pub run : Run (empty_machine frames) (take answered lines) before mid
   pub replies : List Reply
-  pub last : State
+  pub last : Machine
   pub gives : Gives line mid replies last
-  pub good : IsGoodState last
+  pub good : IsGoodMachine last
   pub part : List ℕ
   pub rest : List ℕ
   pub cut : texts replies ≡ part ++ rest
   pub left : 0 < length rest
   pub written : Appends sink_old sink_new (texts before ++ part)
-  pub store : content ≡ last.content
+  pub store : content ≡ last.state.content
 
 -- ---- how a run ends. Each form speaks of the script that the source gave in the call
 

@@ -5,7 +5,7 @@ use Rattle.script_io.specs.Reader.{Reader}
 use Rattle.script_io.specs.Fetching.{IsPending, Fetches}
 use Rattle.script_io.specs.declared.line_reader.Fetch.{Fetch}
 use Rattle.vm_model.specs.declared.reply.Reply.{Reply}
-use Rattle.vm_model.specs.Machine.State.{State, IsGoodState, empty_state}
+use Rattle.vm_model.specs.Machine.Machine.{Machine, IsGoodMachine, empty_machine}
 use Rattle.vm_model.specs.Language.Text.{texts}
 use Rattle.vm_model.specs.Scripts.Run.{lines_of, whole_lines, Run}
 
@@ -23,7 +23,7 @@ pub record AreAll (reader : Reader) (bytes pending : List ℕ) (lines : List (Li
 -- The source gave a script: bytes whose lines were answered, and bytes that are pending in the reader. The replies were
 -- written, and the machine is in a good state.
 pub record IsServed (frames limit : ℕ) (reader : Reader) (source_old source_now sink_old sink_now : Option (List ℕ))
-    (now : State) : Type 0 where
+    (now : Machine) : Type 0 where
   pub front : List ℕ
   pub pending : List ℕ
   pub lines : List (List ℕ)
@@ -34,8 +34,8 @@ pub record IsServed (frames limit : ℕ) (reader : Reader) (source_old source_no
   pub within : length front ≤ limit
   pub split : AreLines front lines ⊎ AreAll reader front pending lines
   pub replies : List Reply
-  pub run : Run (empty_state frames) lines replies now
-  pub good : IsGoodState now
+  pub run : Run (empty_machine frames) lines replies now
+  pub good : IsGoodMachine now
   pub written : Appends sink_old sink_now (texts replies)
 
 -- Bytes are pending, and every KOID was given for a byte that was used up.

@@ -2,8 +2,8 @@
 
 ghost use Rattle.std.specs.Prelude.{◌≡◌, ◌+◌, ◌^◌, ◌<◌, ◌≤◌, ℕ, Option, List, IfNone, Some, MatchOption, ◌≢◌};
 ghost use Rattle.script_io.specs.Faults.{HasCause, HasFailed};
-ghost use Rattle.vm_model.specs.Machine.State.{IsGoodState};
-ghost use Rattle.vm_core.specs.Vm.{state_of};
+ghost use Rattle.vm_model.specs.Machine.Machine.{IsGoodMachine};
+ghost use Rattle.vm_core.specs.Vm.{Agrees, machine_of};
 ghost use Rattle.vm_session.specs.Outcome.{AnswersLine, EndsAs};
 ghost use Rattle.vm_session.specs.Serving.{IsServed, IsReady, FetchesOnce, bytes_left};
 
@@ -24,11 +24,12 @@ fn answer_line<P: PageStore, K: Sink>(
     rooms: &mut Rooms,
     line: &[u8],
 ) -> Result<(), Failed>
-    requires good { IsGoodState (state_of (P.content store.old) vm.old) }
+    requires agrees { Agrees (P.content store.old) vm.old }
     requires next { (P.content store.old).next < KOIDS }
-    ensures answer { AnswersLine line.now (state_of (P.content store.old) vm.old)
-        (state_of (P.content store.new) vm.new) (K.contents sink.old) (K.contents sink.new) result }
-    ensures good { IsGoodState (state_of (P.content store.new) vm.new) }
+    ensures answer { AnswersLine line.now (machine_of (P.content store.old) vm.old)
+        (machine_of (P.content store.new) vm.new) (K.contents sink.old) (K.contents sink.new) result }
+    ensures agrees { Agrees (P.content store.new) vm.new }
+    ensures good { IsGoodMachine (machine_of (P.content store.new) vm.new) }
     ensures next { (P.content store.new).next ≤ (P.content store.old).next + 1 }
     ensures cause { HasCause (K.faults sink.old) (K.faults sink.new) result }
 {
@@ -52,19 +53,19 @@ pub fn answer_next<P: PageStore, S: Source, K: Sink>(
     sink: &mut K,
     rooms: &mut Rooms,
 ) -> Option<Status>
-    requires good { IsGoodState (state_of (P.content store.old) vm.old) }
+    requires agrees { Agrees (P.content store.old) vm.old }
     requires ready { IsReady lines.old (S.remaining source.old) (P.content store.old).next }
     requires limit { lines.old.limit < 2 ^ 63 }
     ensures served { (frames limit : ℕ) (source_old sink_old : Option (List ℕ))
         → IsServed frames limit lines.old source_old (S.remaining source.old) sink_old (K.contents sink.old)
-        (state_of (P.content store.old) vm.old)
+        (machine_of (P.content store.old) vm.old)
         → MatchOption result
         (IsServed frames limit lines.new source_old (S.remaining source.new) sink_old (K.contents sink.new)
-        (state_of (P.content store.new) vm.new))
+        (machine_of (P.content store.new) vm.new))
         (λ status. EndsAs status frames limit source_old (S.remaining source.new) sink_old (K.contents sink.new)
         (P.content store.new)) }
     ensures once { FetchesOnce lines.old lines.new (S.remaining source.old) (S.remaining source.new) }
-    ensures good { IsGoodState (state_of (P.content store.new) vm.new) }
+    ensures agrees { Agrees (P.content store.new) vm.new }
     ensures ready { IfNone result (IsReady lines.new (S.remaining source.new) (P.content store.new).next) }
     ensures limit { lines.new.limit ≡ lines.old.limit }
     ensures falls { IfNone result (bytes_left lines.new < bytes_left lines.old) }

@@ -12,6 +12,7 @@ macro_rules! transcript {
     ($($line:literal => $reply:literal,)*) => { [$(($line, $reply)),*] };
 }
 
+mod accesses;
 mod creating;
 mod faults;
 mod lines;

@@ -6,7 +6,7 @@ use Rattle.hex.specs.Hex.{encode_lower}
 use Rattle.vm_base.specs.declared.refusal.Refusal.{Refusal}
 use Rattle.vm_base.specs.declared.refusal.Refusal.TheVariants.{Syntax, BadHandle, NameInUse, BadState, AccessDenied, InvalidArgs, NotSupported, Unavailable, OutOfRange, BufferTooSmall, NotFound, AlreadyExists, NoResources, NoMemory, HostMemory}
 use Rattle.vm_model.specs.declared.reply.Reply.{Reply}
-use Rattle.vm_model.specs.declared.reply.Reply.TheVariants.{Done, Number, Bytes, Pins, Address, Access, Faults, Info as InfoReply, Runs as RunsReply, Stat as StatReply, Refused, Unbuilt}
+use Rattle.vm_model.specs.declared.reply.Reply.TheVariants.{Done, Number, Bytes, Pins, Address, Access, Faults, Info as InfoReply, Runs as RunsReply, Stat as StatReply, Refused}
 use Rattle.vm_model.specs.declared.reply.Info.{Info}
 use Rattle.vm_model.specs.declared.reply.Stat.{Stat}
 use Rattle.vm_model.specs.declared.runs.Run.{Run}
@@ -80,7 +80,6 @@ reply_lines (InfoReply info) = ok_line (info_text info) ∷ []
 reply_lines (RunsReply runs) = ok_line (codes " " ++ decimal (length runs)) ∷ map run_line runs
 reply_lines (StatReply stat) = ok_line (stat_text stat) ∷ []
 reply_lines (Refused refusal) = (refusal_name refusal ++ codes "\n") ∷ []
-reply_lines Unbuilt = codes "UNBUILT\n" ∷ []
 
 -- the text of a reply
 unfoldable pub text : Reply → List ℕ

@@ -44,4 +44,3 @@ reply_for (Answer.Info info) = Reply.Info info
 reply_for (Answer.Runs runs) = Reply.Runs runs
 reply_for (Answer.Stat stat) = Reply.Stat stat
 reply_for (Answer.Refused refusal) = Reply.Refused refusal
-reply_for Answer.Unbuilt = Reply.Unbuilt

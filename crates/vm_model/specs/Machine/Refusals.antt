@@ -1,23 +1,25 @@
 -- When each command is refused: conditions in the order of the ranks, each with its refusal.
-use Rattle.std.specs.Prelude.{ℕ, ◌+◌, ◌*◌, ◌/◌, ◌%◌, Bool, not, ◌&&◌, ◌||◌, ◌==◌, nat_lt, List, [], ◌∷◌, length, if◌then◌else◌, Option, None, Some, is_some}
+use Rattle.std.specs.Prelude.{ℕ, ◌+◌, ◌*◌, ◌/◌, ◌%◌, Bool, not, ◌&&◌, ◌||◌, ◌==◌, nat_lt, List, [], ◌∷◌, length, if◌then◌else◌, Option, None, Some, is_some, unwrap_or}
 use Rattle.vm_base.specs.Pages.{rounded}
 use Rattle.vm_base.specs.declared.limits.TheConstants.{PAGE, VMO_PAGES, PIN_PAGES, DATA_BYTES}
 use Rattle.vm_base.specs.declared.refusal.Refusal.{Refusal}
 use Rattle.vm_base.specs.declared.refusal.Refusal.TheVariants.{BadHandle, NameInUse, BadState, AccessDenied, InvalidArgs, NotSupported, Unavailable, OutOfRange, BufferTooSmall, NotFound, AlreadyExists, NoResources, NoMemory}
 use Rattle.vm_model.specs.declared.command.Command.{Command}
-use Rattle.vm_model.specs.declared.command.Command.TheVariants.{VmoCreate, VmoChild, VmoClose, VmoSize, VmoSetSize, VmoRead, VmoWrite, VmoFill, VmoCommit, VmoDecommit, VmoZero, VmoPin, VmoUnpin, VmoInfo, RootCreate, VmarAllocate, VmarMap, VmarUnmap, VmarProtect, VmarDestroy, Maps}
+use Rattle.vm_model.specs.declared.command.Command.TheVariants.{VmoCreate, VmoChild, VmoClose, VmoSize, VmoSetSize, VmoRead, VmoWrite, VmoFill, VmoCommit, VmoDecommit, VmoZero, VmoPin, VmoUnpin, VmoInfo, RootCreate, VmarAllocate, VmarMap, VmarUnmap, VmarProtect, VmarDestroy, Maps, MemRead, MemWrite, Stat}
 use Rattle.vm_model.specs.declared.command.ChildKind.TheVariants.{Snapshot, Slice, Reference}
 use Rattle.vm_model.specs.declared.names.NameKind.TheVariants.{Slice as SliceName}
-use Rattle.vm_model.specs.Contents.Content.{used, pages_of}
-use Rattle.vm_model.specs.Contents.Owning.{need}
+use Rattle.vm_model.specs.declared.space.Entry.{Entry}
+use Rattle.vm_model.specs.Contents.Content.{Content, used, pages_of}
+use Rattle.vm_model.specs.Contents.Owning.{need, need_each}
 use Rattle.vm_model.specs.Contents.Writing.{touched}
 use Rattle.vm_model.specs.Contents.Zeroing.{owned_by_zero}
 use Rattle.vm_model.specs.Naming.Names.{is_kind, may_decommit}
 use Rattle.vm_model.specs.Naming.Pins.{is_pinned, any_pinned, has_pin}
-use Rattle.vm_model.specs.Space.Rights.{has, writing, specific, overwrite, upper_limit, allow_faults}
+use Rattle.vm_model.specs.Space.Rights.{has, reading, writing, specific, overwrite, upper_limit, allow_faults}
 use Rattle.vm_model.specs.Space.Regions.{region_of, meets_child, cuts_child}
 use Rattle.vm_model.specs.Space.Places.{is_free, has_place, is_misplaced, limit_of}
 use Rattle.vm_model.specs.Space.Mappings.{lacks_reading, is_mismapped, is_outside, has_hole, forbids}
+use Rattle.vm_model.specs.Machine.Access.{pages_shown, access_refusal}
 use Rattle.vm_model.specs.Machine.State.{State, is_open, is_given, target_of, koid_of, size_of, place_of, lineage_of}
 
 -- owning these pages of the VMO of this name takes more frames than are free
@@ -31,6 +33,21 @@ change_refusals s name offset len owned =
     ∷ (not (target_of s name).may_write, AccessDenied)
     ∷ (nat_lt (size_of s name) (offset + len), OutOfRange)
     ∷ (lacks_frames s name owned, NoMemory)
+    ∷ []
+
+-- the refusals of a read through mappings that touches these pages of an address space
+abbrev pub read_refusals : Content → (ℕ → Option Entry) → List ℕ → List (Bool × Refusal)
+read_refusals c entries ps =
+    let page_refusal = access_refusal c reading entries ps in
+    (is_some page_refusal, unwrap_or page_refusal NotFound)
+    ∷ []
+
+-- the refusals of such a write
+abbrev pub write_refusals : Content → (ℕ → Option Entry) → List ℕ → List (Bool × Refusal)
+write_refusals c entries ps =
+    let page_refusal = access_refusal c writing entries ps in
+    (is_some page_refusal, unwrap_or page_refusal NotFound)
+    ∷ (nat_lt c.frames (used c + need_each c (pages_shown entries ps)), NoMemory)
     ∷ []
 
 -- the refusals of a command. A row may rest on those before it: where a name is not open, the rows behind mean nothing
@@ -153,8 +170,17 @@ refusals s (Maps region) =
     (not (is_given s region.0), BadHandle)
     ∷ (not (region_of s.spaces.regions region.0).live, BadState)
     ∷ []
--- the other commands refuse nothing: `Stat`, and those that are not built yet
-refusals s _ = []
+refusals s (MemRead region addr len) =
+    (not (is_given s region.0), BadHandle)
+    ∷ (not (region_of s.spaces.regions region.0).live, BadState)
+    ∷ (is_some (region_of s.spaces.regions region.0).parent || nat_lt DATA_BYTES len, InvalidArgs)
+    ∷ read_refusals s.content (s.spaces.table region.0) (touched addr len)
+refusals s (MemWrite region addr bytes) =
+    (not (is_given s region.0), BadHandle)
+    ∷ (not (region_of s.spaces.regions region.0).live, BadState)
+    ∷ (is_some (region_of s.spaces.regions region.0).parent, InvalidArgs)
+    ∷ write_refusals s.content (s.spaces.table region.0) (touched addr (length bytes))
+refusals s Stat = []
 
 -- the first refusal whose condition holds
 abbrev pub first_of : List (Bool × Refusal) → Option Refusal

@@ -1,4 +1,4 @@
--- One step of the machine: a command is refused, or it has its effect, or the host lacks memory for it.
+-- One step of the machine's state: a command is refused, or it has its effect, or the host lacks memory for it.
 use Rattle.std.specs.Prelude.{◌≡◌, ℕ, ◌+◌, ◌-◌, ◌*◌, ◌/◌, min, Bool, true, false, not, List, length, map, replicate, Option, None, Some, Result, ◌⊎◌, ◌&&◌}
 use Rattle.std.specs.declared.result.Result.TheVariants.{Ok, Err}
 use Rattle.std.specs.List.{list_any, range_with_len}
@@ -7,12 +7,12 @@ use Rattle.vm_base.specs.declared.limits.TheConstants.{PAGE}
 use Rattle.vm_base.specs.declared.refusal.Refusal.{Refusal}
 use Rattle.vm_base.specs.declared.refusal.Refusal.TheVariants.{HostMemory}
 use Rattle.vm_model.specs.declared.command.Command.{Command}
-use Rattle.vm_model.specs.declared.command.Command.TheVariants.{VmoCreate, VmoChild, VmoClose, VmoSize, VmoSetSize, VmoRead, VmoWrite, VmoFill, VmoCommit, VmoDecommit, VmoZero, VmoPin, VmoUnpin, VmoInfo, RootCreate, VmarAllocate, VmarMap, VmarUnmap, VmarProtect, VmarDestroy, Maps, Stat}
+use Rattle.vm_model.specs.declared.command.Command.TheVariants.{VmoCreate, VmoChild, VmoClose, VmoSize, VmoSetSize, VmoRead, VmoWrite, VmoFill, VmoCommit, VmoDecommit, VmoZero, VmoPin, VmoUnpin, VmoInfo, RootCreate, VmarAllocate, VmarMap, VmarUnmap, VmarProtect, VmarDestroy, Maps, MemRead, MemWrite, Stat}
 use Rattle.vm_model.specs.declared.command.ChildKind.TheVariants.{Snapshot as SnapshotChild, Slice as SliceChild, Reference as ReferenceChild}
 use Rattle.vm_model.specs.declared.names.NameKind.TheVariants.{Slice, Reference}
 use Rattle.vm_model.specs.declared.names.Origin.TheVariants.{Created, Snapshot}
 use Rattle.vm_model.specs.declared.reply.Reply.{Reply}
-use Rattle.vm_model.specs.declared.reply.Reply.TheVariants.{Done, Number, Bytes, Pins, Address, Info as InfoReply, Runs as RunsReply, Stat as StatReply, Refused, Unbuilt}
+use Rattle.vm_model.specs.declared.reply.Reply.TheVariants.{Done, Number, Bytes, Pins, Address, Info as InfoReply, Runs as RunsReply, Stat as StatReply, Refused}
 use Rattle.vm_model.specs.Contents.Content.{Content, Page, created, is_held, sole}
 use Rattle.vm_model.specs.Contents.Owning.{OwnsAll}
 use Rattle.vm_model.specs.Contents.Sharing.{snapshotted}
@@ -154,8 +154,9 @@ Effect old (Maps region) reply new =
 Effect old (VmarDestroy region) reply new =
     (reply ≡ Done) × (new ≡ pruned (record old { spaces = without_region old.spaces region.0 }))
 Effect old Stat reply new = (reply ≡ StatReply (stat_of old.content)) × (new ≡ old)
--- a command that is not built yet says so
-Effect old _ reply new = (reply ≡ Unbuilt) × (new ≡ old)
+-- an access through mappings is a step of the whole machine, and none of the state alone
+Effect old (MemRead region addr len) reply new = ⊥
+Effect old (MemWrite region addr bytes) reply new = ⊥
 
 -- some page passes, of those that the range of a name touches in its VMO
 abbrev pub touches_any : State → ℕ → ℕ → ℕ → (ℕ → Bool) → Bool
@@ -190,7 +191,7 @@ reply_of done (Ok a) = done a
 reply_of done (Err refusal) = Refused refusal
 
 -- nothing changes, and the reply is this refusal
-pub record IsRefused (old : State) (refusal : Refusal) (reply : Reply) (new : State) : Type 0 where
+pub record IsRefused {S : Type 0} (old : S) (refusal : Refusal) (reply : Reply) (new : S) : Type 0 where
   pub answer : reply ≡ Refused refusal
   pub same : new ≡ old
 
@@ -199,6 +200,6 @@ StepAfter (Some refusal) old command reply new = IsRefused old refusal reply new
 StepAfter None old command reply new =
     Effect old command reply new ⊎ (IsRefused old HostMemory reply new × (may_lack_memory old command ≡ true))
 
--- From old, the machine may give this reply to the command and go on to new.
+-- From old, the state of the machine may go on to new with this reply to the command.
 pub record Step (old : State) (command : Command) (reply : Reply) (new : State) : Type 0 where
   pub outcome : StepAfter (first_of (refusals old command)) old command reply new

@@ -3,8 +3,8 @@ use Rattle.std.specs.Prelude.{◌≡◌, ℕ, ◌==◌, List, [], ◌∷◌, ◌
 use Rattle.vm_base.specs.declared.refusal.Refusal.TheVariants.{Syntax}
 use Rattle.vm_model.specs.declared.reply.Reply.{Reply}
 use Rattle.vm_model.specs.declared.reply.Reply.TheVariants.{Refused}
-use Rattle.vm_model.specs.Machine.State.{State, empty_state}
-use Rattle.vm_model.specs.Machine.Step.{Step}
+use Rattle.vm_model.specs.Machine.Machine.{Machine, empty_machine}
+use Rattle.vm_model.specs.Machine.MachineStep.{MachineStep}
 use Rattle.vm_model.specs.Language.Reading.{Reading, Blank, Order, Outside, reading}
 use Rattle.vm_model.specs.Language.Text.{texts}
 
@@ -29,23 +29,23 @@ whole_lines [] = []
 whole_lines (b ∷ bs) = if b == 10 then [] ∷ whole_lines bs else before_whole b (whole_lines bs)
 
 -- what a line that is read so may give: a blank line no reply, a line outside the grammar its refusal, an order one step
-abbrev pub GivesAs : Reading → State → List Reply → State → Type 0
+abbrev pub GivesAs : Reading → Machine → List Reply → Machine → Type 0
 GivesAs Blank old replies new = (replies ≡ []) × (new ≡ old)
-GivesAs (Order command) old replies new = (reply : Reply) × (replies ≡ reply ∷ []) × Step old command reply new
+GivesAs (Order command) old replies new = (reply : Reply) × (replies ≡ reply ∷ []) × MachineStep old command reply new
 GivesAs Outside old replies new = (replies ≡ Refused Syntax ∷ []) × (new ≡ old)
 
 -- from old, the line may give these replies and lead to new
-pub record Gives (line : List ℕ) (old : State) (replies : List Reply) (new : State) : Type 0 where
+pub record Gives (line : List ℕ) (old : Machine) (replies : List Reply) (new : Machine) : Type 0 where
   pub answer : GivesAs (reading line) old replies new
 
 -- from old, the lines may give these replies and lead to new
-abbrev pub Run : State → List (List ℕ) → List Reply → State → Type 0
+abbrev pub Run : Machine → List (List ℕ) → List Reply → Machine → Type 0
 Run old [] replies new = (replies ≡ []) × (new ≡ old)
 Run old (line ∷ lines) replies new =
-    (mid : State) × (now later : List Reply) × Gives line old now mid × Run mid lines later new × (replies ≡ now ++ later)
+    (mid : Machine) × (now later : List Reply) × Gives line old now mid × Run mid lines later new × (replies ≡ now ++ later)
 
 -- On a machine with this many frames and nothing else, the lines may be answered by this text and lead to last.
-pub record Legal (frames : ℕ) (lines : List (List ℕ)) (out : List ℕ) (last : State) : Type 0 where
+pub record Legal (frames : ℕ) (lines : List (List ℕ)) (out : List ℕ) (last : Machine) : Type 0 where
   pub replies : List Reply
-  pub run : Run (empty_state frames) lines replies last
+  pub run : Run (empty_machine frames) lines replies last
   pub text : out ≡ texts replies

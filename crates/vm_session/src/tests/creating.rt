@@ -33,16 +33,6 @@ fn vmos_are_made(rt: HostRuntime) -> Result<(), Fail> {
         "vmo_info v2" => "OK koid=2 size=4096 held=0 private=0 shared=0 charged=0 children=0",
     ];
     check(&rt, "run", &rows)?;
-    // A command that is not built is read, and changes nothing.
-    let rows = transcript![
-        "mem_read r1 0x200000 1" => "UNBUILT",
-        "vmo_create v1 1 resizable" => "OK",
-        "mem_write r1 0x200000 01" => "UNBUILT",
-        "vmo_size v1" => "OK 4096",
-        "stat" => "OK frames=1024 used=0 free=1024 vmos=1",
-        "mem_read r1" => "SYNTAX",
-    ];
-    check(&rt, "run", &rows)?;
     Ok(())
 }
 

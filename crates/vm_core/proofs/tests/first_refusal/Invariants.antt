@@ -1,10 +1,9 @@
 use Rattle.std.proofs.Common.{◌+◌, ◌≤◌}
-use Rattle.vm_model.specs.Machine.State.{IsGoodState}
-use Rattle.vm_core.specs.Vm.{state_of}
+use Rattle.vm_core.specs.Vm.{Agrees}
 use Rattle.vm_core.proofs.tests.first_refusal.Given as goal
 
 abbrev pub invariant-loop-command : goal.invariant-loop-command
 invariant-loop-command g l = record {
-  good : IsGoodState (state_of (g.P.PageStore.content l.store) l.vm);
+  agrees : Agrees (g.P.PageStore.content l.store) l.vm;
   next : (g.P.PageStore.content l.store).next ≤ (g.P.PageStore.content l.fn.store).next + l.command-index;
 }

@@ -1,6 +1,7 @@
 use Rattle.std.proofs.Common.{◌∙◌, refl, sym, arith}
-use Rattle.vm_core.specs.Vm.{state_of}
+use Rattle.vm_core.specs.Vm.{machine_of}
 use Rattle.std.proofs.lemmas.List.{length-append}
+use Rattle.vm_core.proofs.AgreeLaws.{agrees_good}
 use Rattle.vm_session.proofs.Served.{Completes-end, StopsReading-there, ReachesLimit-there}
 use Rattle.vm_session.proofs.Answered.{used_up, IsAnswered-line, IsAnswered-long, IsServed-answered}
 use Rattle.vm_session.proofs.Answered.{BreaksOff-answered, IsReady-answered, bytes_left-answered}
@@ -55,7 +56,7 @@ returns-in-Ok-clause-served g c = elim c.match-next.branch [
       rw w.sink-is (rw w.store-is (rw w.vm-is (IsServed-answered frames limit c.args.lines.now c.next.new.self
       source_old _ _ sink_old _ _ _ _ push.result c.in-Ok.field-0 (sym w.answered-is ∙ c.in-Ok.is) s
       (IsAnswered-long _ _ _ _ _ _ _ s.pending push.result (w.in-TooLong.ensures.fetches s.pending s.still)
-      c.requires.good push.ensures.ok push.ensures.err) w.in-TooLong.ensures.limit
+      (agrees_good _ _ c.requires.agrees) push.ensures.ok push.ensures.err) w.in-TooLong.ensures.limit
       (λ e. (w.in-TooLong.ensures.ended e).1))))
 ]
 
@@ -71,10 +72,10 @@ returns-in-Ok-clause-ready g c =
           line.ensures.good line.ensures.next))
       | in-TooLong w ↦
           let push = w.push_answer-answered in
-          let now = (state_of (g.P.PageStore.content c.args.store.now) c.args.vm.now) in
+          let now = (machine_of (g.P.PageStore.content c.args.store.now) c.args.vm.now) in
           rw w.store-is (IsReady-answered c.args.lines.now c.next.new.self _ _ _ _ now now push.result ready
           (IsAnswered-long _ _ _ _ _ _ now ready.pending push.result
-          (w.in-TooLong.ensures.fetches ready.pending ready.still) c.requires.good push.ensures.ok push.ensures.err))
+          (w.in-TooLong.ensures.fetches ready.pending ready.still) (agrees_good _ _ c.requires.agrees) push.ensures.ok push.ensures.err))
     ]
 
 pub returns-in-Ok-clause-falls : goal.returns-in-Ok-clause-falls
@@ -89,10 +90,10 @@ returns-in-Ok-clause-falls g c =
           line.ensures.good line.ensures.next) w.in-Line.ensures.limit
       | in-TooLong w ↦
           let push = w.push_answer-answered in
-          let now = (state_of (g.P.PageStore.content c.args.store.now) c.args.vm.now) in
+          let now = (machine_of (g.P.PageStore.content c.args.store.now) c.args.vm.now) in
           bytes_left-answered c.args.lines.now c.next.new.self _ _ _ _ now now push.result ready
           (IsAnswered-long _ _ _ _ _ _ now ready.pending push.result
-          (w.in-TooLong.ensures.fetches ready.pending ready.still) c.requires.good push.ensures.ok push.ensures.err)
+          (w.in-TooLong.ensures.fetches ready.pending ready.still) (agrees_good _ _ c.requires.agrees) push.ensures.ok push.ensures.err)
           w.in-TooLong.ensures.limit
     ]
 
@@ -110,6 +111,6 @@ returns-in-Err-clause-served g c = elim c.match-next.branch [
       rw w.sink-is (rw w.store-is (BreaksOff-answered frames limit c.args.lines.now c.next.new.self source_old _ _
       sink_old _ _ _ _ push.result c.in-Err.field-0 (sym w.answered-is ∙ c.in-Err.is) s
       (IsAnswered-long _ _ _ _ _ _ _ s.pending push.result (w.in-TooLong.ensures.fetches s.pending s.still)
-      c.requires.good push.ensures.ok push.ensures.err) w.in-TooLong.ensures.limit
+      (agrees_good _ _ c.requires.agrees) push.ensures.ok push.ensures.err) w.in-TooLong.ensures.limit
       (λ e. (w.in-TooLong.ensures.ended e).1)))
 ]

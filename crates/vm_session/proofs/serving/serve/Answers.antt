@@ -1,5 +1,5 @@
 use Rattle.std.proofs.Common.{◌∙◌, refl, ap, arith}
-use Rattle.vm_core.proofs.StartLaws.{state_of-filled}
+use Rattle.vm_core.proofs.StartLaws.{filled_fresh, machine_of-filled}
 use Rattle.vm_session.proofs.Beginning.{NothingDone-yet, IsServed-fresh, IsReady-fresh}
 use Rattle.vm_session.proofs.serving.serve.Goals as goal
 
@@ -11,10 +11,12 @@ returns-in_default-fill-clause-ends g c = NothingDone-yet _ _ _ _ c.in_default-f
 
 pub loop-status-init : goal.loop-status-init
 loop-status-init g c =
-    let empty = state_of-filled c.args.frames _ _ c.new-vm.result c.new-vm.ensures.bare c.in-Ok-fill.ensures.ok
+    let empty = machine_of-filled c.args.frames _ _ c.new-vm.result c.new-vm.ensures.bare c.in-Ok-fill.ensures.ok
     c.requires.empty in
+    let fresh = filled_fresh c.args.frames _ _ c.in-Ok-fill.ensures.ok c.requires.empty in
     record {
       served = IsServed-fresh c.args.frames c.args.limit _ _ _ _ c.in-Ok.ensures empty;
+      agrees = c.new-vm.ensures.agrees _ fresh.0 fresh.1;
       ready = IsReady-fresh c.args.frames c.args.limit _ _ _ c.in-Ok.ensures empty;
       limit = ap (λ r. r.limit) c.in-Ok.ensures;
       read_later = omega arith;
@@ -24,6 +26,7 @@ loop-status-init g c =
 pub loop-status-preserved : goal.loop-status-preserved
 loop-status-preserved g c = record {
   served = c.in_default-next.ensures.served c.args.frames c.args.limit _ _ c.loop-status.invariant.served;
+  agrees = c.in_default-next.ensures.agrees;
   ready = c.in_default-next.ensures.ready;
   limit = c.in_default-next.ensures.limit ∙ c.loop-status.invariant.limit;
   read_later = omega (arith, c.loop-status.invariant.read_later, c.in_default-next.ensures.read_later);

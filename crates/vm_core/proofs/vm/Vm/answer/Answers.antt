@@ -1,17 +1,42 @@
-use Rattle.vm_model.proofs.StepLaws.{Step-keeps}
+use Rattle.std.proofs.Common.{◌∙◌}
+use Rattle.vm_model.specs.Machine.Lent.{command_of, reply_for}
+use Rattle.vm_core.specs.Vm.{Parts}
+use Rattle.vm_core.specs.VmFields.{parts_of}
+use Rattle.vm_core.proofs.AnswerLaws.{no_access, parts_of_agrees, reset_bounded, Answers, command_answered, access_answered}
+use Rattle.vm_core.proofs.vm.Vm.answer.Given as given
 use Rattle.vm_core.proofs.vm.Vm.answer.Goals as goal
 
-pub dispatch-requires-clause-well : goal.dispatch-requires-clause-well
-dispatch-requires-clause-well g c = record { good = rw (← c.self.view_is) at c.requires.good; counted = c.self.invariant.counted }
+-- what an access did
+accessed : (g : given.Over) (c : goal.After-on_memory g)
+    → Answers (g.P.PageStore.content c.args.store.now) (parts_of c.self.inside) (command_of c.args.call.now) (reply_for c.on_memory.result)
+    (g.P.PageStore.content c.on_memory.new.store) (record (parts_of c.self.inside) { translations = c.on_memory.new.translations })
+accessed g c = access_answered _ (parts_of c.self.inside) _ _ _ c.on_memory.new.translations (rw (← c.self.view_is) at c.requires.agrees) c.on_memory.ensures
 
-pub returns-clause-step : goal.returns-clause-step
-returns-clause-step g c = rw (← c.self.view_is) c.dispatch.ensures.step
+pub returns-in-Memory-clause-step : goal.returns-in-Memory-clause-step
+returns-in-Memory-clause-step g c = rw (← c.self.view_is) (accessed g c).step
 
-pub returns-clause-good : goal.returns-clause-good
-returns-clause-good g c = (Step-keeps _ _ _ _ c.requires.good c.dispatch.ensures.name (returns-clause-step g c)).good
+pub returns-in-Memory-clause-agrees : goal.returns-in-Memory-clause-agrees
+returns-in-Memory-clause-agrees g c = (accessed g c).agrees
 
-pub returns-clause-next : goal.returns-clause-next
-returns-clause-next g c = (Step-keeps _ _ _ _ c.requires.good c.dispatch.ensures.name (returns-clause-step g c)).next
+pub returns-in-Memory-clause-good : goal.returns-in-Memory-clause-good
+returns-in-Memory-clause-good g c = (accessed g c).keeps.good
 
-pub invariant_of-self : goal.invariant_of-self
-invariant_of-self g c = record { counted = c.dispatch.ensures.counted }
+pub returns-in-Memory-clause-next : goal.returns-in-Memory-clause-next
+returns-in-Memory-clause-next g c = (accessed g c).keeps.next
+
+pub reset_for-reset-requires : goal.reset_for-reset-requires
+reset_for-reset-requires g c = parts_of_agrees _ _ (rw (← c.self.view_is) at c.requires.agrees)
+
+pub apply-requires : goal.apply-requires
+apply-requires g c =
+    reset_bounded _ (parts_of c.self.inside) (command_of c.args.call.now) (reply_for c.dispatch-answer.result) c.reset_for-reset.result c.reset_for-reset.ensures _
+    (rw (← c.self.view_is) at c.requires.agrees.good) c.dispatch-answer.ensures.step
+
+pub returns : goal.returns
+returns g c =
+    let new = c.dispatch-answer.new in
+    let vm : Parts = record { vmos = new.vmos; pins = new.pins; regions = new.regions; maps = new.maps; translations = c.apply.new.translations } in
+    let answers = command_answered _ (parts_of c.self.inside) (command_of c.args.call.now) (reply_for c.dispatch-answer.result) (g.P.PageStore.content new.store) vm
+    (rw (← c.self.view_is) at c.requires.agrees) c.reset_for-reset.result (no_access c.args.call.now (λ e. c.in_default.not-Memory (c.subject_of.ensures ∙ e)))
+    c.reset_for-reset.ensures c.dispatch-answer.ensures c.apply.ensures in
+    record { step = rw (← c.self.view_is) answers.step; agrees = answers.agrees; good = answers.keeps.good; next = answers.keeps.next }

@@ -1,22 +1,25 @@
-use Rattle.std.proofs.Common.{sym, subst, ◌∙◌}
-use Rattle.vm_model.specs.Machine.State.{IsGoodState}
-use Rattle.vm_core.specs.Vm.{Parts}
-use Rattle.vm_core.proofs.StartLaws.{counts_none, state_of-bare, IsGoodState-bare, bare_state-first}
+use Rattle.std.proofs.Common.{◌≡◌, ◌∙◌}
+use Rattle.vm_model.specs.Contents.Content.{Content}
+use Rattle.vm_core.specs.Vm.{Parts, bare_state, state_of}
+use Rattle.vm_core.proofs.StartLaws.{counts_none, state_of-bare, machine_of-bare, agrees_bare, bare_machine-first}
 use Rattle.vm_core.proofs.vm.Vm.new.Goals as goal
 
+-- what is made
+abbrev made : goal.After-new-5 → Parts
+made c = record { vmos = c.new.result; pins = c.new-2.result; regions = c.new-3.result; maps = c.new-4.result; translations = c.new-5.result }
+
+-- and that nothing stands in it
+bare : (c : goal.After-new-5) (d : Content) → state_of d (made c) ≡ bare_state d
+bare c d = state_of-bare d (made c) c.new.ensures.names c.new.ensures.lineage c.new-2.ensures c.new-3.ensures c.new-4.ensures.table
+
 pub invariant_of-result : goal.invariant_of-result
-invariant_of-result c = record {
-  counted = counts_none (record { vmos = c.new.result; pins = c.new-2.result; regions = c.new-3.result; maps = c.new-4.result })
-      c.new.ensures.keepers c.new-2.ensures c.new-4.ensures.table;
-}
+invariant_of-result c = record { counted = counts_none (made c) c.new.ensures.keepers c.new-2.ensures c.new-4.ensures.table }
 
 pub returns-clause-bare : goal.returns-clause-bare
-returns-clause-bare c = λ d.
-    let vm : Parts = record { vmos = c.new.result; pins = c.new-2.result; regions = c.new-3.result; maps = c.new-4.result } in
-    state_of-bare d vm c.new.ensures.names c.new.ensures.lineage c.new-2.ensures c.new-3.ensures c.new-4.ensures.table
+returns-clause-bare c = λ d. machine_of-bare d (made c) (bare c d) c.new-5.ensures
 
-pub returns-clause-good : goal.returns-clause-good
-returns-clause-good c = λ d good none. subst IsGoodState (sym (returns-clause-bare c d)) (IsGoodState-bare d good none)
+pub returns-clause-agrees : goal.returns-clause-agrees
+returns-clause-agrees c = λ d good none. agrees_bare d (made c) (bare c d) c.new-5.ensures good none
 
 pub returns-clause-empty : goal.returns-clause-empty
-returns-clause-empty c = λ d good none first. returns-clause-bare c d ∙ bare_state-first d good none first
+returns-clause-empty c = λ d good none first. returns-clause-bare c d ∙ bare_machine-first d good none first

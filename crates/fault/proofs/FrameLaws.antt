@@ -1,0 +1,39 @@
+-- What the frame of a translation shows.
+use Rattle.std.proofs.Common.{◌≡◌, ℕ, ◌+◌, ◌-◌, ◌≤◌, List, length, replicate, take, drop, Option, None, Some, refl, sym, ap, ◌∙◌, arith}
+use Rattle.std.proofs.lemmas.List.{take-replicate, drop-replicate}
+use Rattle.vm_base.specs.declared.limits.TheConstants.{PAGE}
+use Rattle.vm_base.specs.declared.names.Tag.{Tag}
+use Rattle.vm_base.specs.Pages.{zeros}
+use Rattle.vm_model.specs.Contents.Content.{Content, Page, shown, bytes_of}
+use Rattle.vm_model.specs.Space.Readiness.{frame_at}
+use Rattle.page_store.specs.Pages.{AreBytesOf}
+use Rattle.fault.specs.declared.translation.Translation.{Translation}
+use Rattle.fault.specs.Table.{frame_in}
+
+-- a part of a page of zeros
+part_of_zeros : (at n : ℕ) → at + n ≤ PAGE → take n (drop at zeros) ≡ replicate n 0
+unfolding zeros
+part_of_zeros at n h = go PAGE h where
+  go : (m : ℕ) → at + n ≤ m → take n (drop at (replicate {A = ℕ} m 0)) ≡ replicate n 0
+  go m l = ap (take n) (drop-replicate at m 0) ∙ take-replicate n (m - at) 0 (omega arith)
+
+module _ (c : Content) (v p at n : ℕ) (x : Translation) (frame : frame_in x ≡ frame_at c v p) where
+  -- bytes of the frame
+  pub shown-frame : (tag : Tag) (bytes : List ℕ) → x.frame ≡ Some tag → AreBytesOf c tag.0 at bytes → length bytes ≡ n
+      → bytes ≡ take n (drop at (shown c v p))
+  unfolding bytes_of
+  shown-frame tag bytes is read size = go (c.page v p) refl where
+    go : (o : Option Page) → c.page v p ≡ o → bytes ≡ take n (drop at (shown c v p))
+    go None zero = absurd cc
+    go (Some held) page =
+        let same : held.tag ≡ tag.0 = cc in
+        let part = read v p held (record { page = page; tag = same }) in
+        rw page (part ∙ ap (λ (m : ℕ). take m (drop at held.bytes)) size)
+
+  -- with no frame it shows zeros
+  pub shown-none : x.frame ≡ None → at + n ≤ PAGE → replicate n 0 ≡ take n (drop at (shown c v p))
+  unfolding bytes_of
+  shown-none is fits = go (c.page v p) refl where
+    go : (o : Option Page) → c.page v p ≡ o → replicate n 0 ≡ take n (drop at (shown c v p))
+    go None zero = rw zero (sym (part_of_zeros at n fits))
+    go (Some held) page = absurd cc

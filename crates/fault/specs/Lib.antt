@@ -1,0 +1,8 @@
+pub mod Table
+pub mod Access
+pub mod Lists
+pub mod Fields
+pub mod Walks
+pub mod Touching
+pub mod Writable
+pub mod Needing

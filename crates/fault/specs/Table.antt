@@ -1,0 +1,85 @@
+-- The translations as their callers see them, when they are true, and what the resets leave of them.
+use Rattle.std.specs.Prelude.{◌≡◌, ℕ, ◌<◌, Bool, true, not, ◌&&◌, ◌==◌, if◌then◌else◌, Option, None, Some, IsSome}
+use Rattle.std.specs.Option.{option_map}
+use Rattle.vm_base.specs.Entries.{passes}
+use Rattle.vm_base.specs.declared.names.Tag.{Tag}
+use Rattle.vm_model.specs.declared.space.Entry.{Entry}
+use Rattle.vm_model.specs.declared.space.Readiness.TheVariants.{Read, Write}
+use Rattle.vm_model.specs.Contents.Content.{Content, sole, pages_of, IsGood}
+use Rattle.vm_model.specs.Contents.Zeroing.{is_within}
+use Rattle.vm_model.specs.Space.Readiness.{Ready, frame_at, is_same_frame, shows_in}
+use Rattle.balanced_tree.specs.Rows.{Rows}
+use Rattle.pair_map.specs.declared.pair_row.PairRow.{PairRow}
+use Rattle.pair_map.specs.Maps.{values_of}
+use Rattle.fault.specs.declared.translation.Translation.{Translation}
+use Rattle.fault.specs.declared.translation.Kept.{Kept}
+
+-- the translation of each page of each address space
+abbrev pub Places : Type 0
+Places = ℕ → ℕ → Option Translation
+
+-- the rows of the translations, and how many more fit with no memory from the host
+pub record Table : Type 0 where
+  pub rows : Rows (PairRow Kept)
+  pub room : ℕ
+
+-- the translation of each page that the rows have
+abbrev pub places_of : Table → Places
+places_of t root p = option_map (λ (kept : Kept). kept.translation) (values_of t.rows root p)
+
+-- how many more translations fit with no memory from the host
+abbrev pub room_of : Table → ℕ
+room_of t = t.room
+
+-- what each page is ready for by its translation
+abbrev pub ready_of : Places → Ready
+ready_of places root p = option_map (λ (x : Translation). x.readiness) (places root p)
+
+-- the number of a frame, if there is one
+abbrev pub number_of : Option Tag → Option ℕ
+number_of frame = option_map (λ (tag : Tag). tag.0) frame
+
+-- the number of the frame that a translation holds
+abbrev pub frame_in : Translation → Option ℕ
+frame_in x = number_of x.frame
+
+-- The content is a good one, and each entry shows a VMO of it.
+pub record AreBacked (c : Content) (table : ℕ → ℕ → Option Entry) : Type 0 where
+  pub good : IsGood c
+  pub vmos : (root p : ℕ) (entry : Entry) → table root p ≡ Some entry → IsSome (c.count entry.koid.0)
+
+-- Each translation is of an entry of the table, and holds the frame that the page of the VMO has. That page lies in its VMO, and
+-- is sole where the translation may be written by.
+pub record AreTrue (c : Content) (table : ℕ → ℕ → Option Entry) (places : Places) : Type 0 where
+  pub entry : (root p : ℕ) (x : Translation) → places root p ≡ Some x → table root p ≡ Some x.entry
+  pub frame : (root p : ℕ) (x : Translation) → places root p ≡ Some x → frame_in x ≡ frame_at c x.entry.koid.0 x.entry.page
+  pub below : (root p : ℕ) (x : Translation) → places root p ≡ Some x → x.entry.page < pages_of c x.entry.koid.0
+  pub alone : (root p : ℕ) (x : Translation) → places root p ≡ Some x → x.readiness ≡ Write → sole c x.entry.koid.0 x.entry.page ≡ true
+
+-- the translations, with this one of a page
+unfoldable pub with_translation : Places → (root p : ℕ) → Translation → Places
+with_translation places root p x r q = if (r == root) && (q == p) then Some x else places r q
+
+-- the translations, without those that pass
+unfoldable pub without : (ℕ → ℕ → Translation → Bool) → Places → Places
+without goes places root p = if passes (goes root p) (places root p) then None else places root p
+
+-- it is of a page of the VMO v from `first` to below `end`
+abbrev pub is_of : (v first end : ℕ) → ℕ → ℕ → Translation → Bool
+is_of v first end root p x = shows_in v first end x.entry
+
+-- and that page has another frame than the one that it holds
+abbrev pub is_stale : Content → (v first end : ℕ) → ℕ → ℕ → Translation → Bool
+is_stale c v first end root p x = shows_in v first end x.entry && not (is_same_frame (frame_in x) (frame_at c v x.entry.page))
+
+-- it is of a page of the address space from `first` to below `end`
+abbrev pub is_at : (root first end : ℕ) → ℕ → ℕ → Translation → Bool
+is_at root first end r p x = (r == root) && is_within first end p
+
+-- the translation, for reading alone where it is of a page of the VMO v from `first` to below `end`
+abbrev pub restricted : (v first end : ℕ) → Translation → Translation
+restricted v first end x = if shows_in v first end x.entry then record x { readiness = Read } else x
+
+-- the translations, those of pages of the VMO v from `first` to below `end` for reading alone
+unfoldable pub with_read_only : (v first end : ℕ) → Places → Places
+with_read_only v first end places root p = option_map (restricted v first end) (places root p)

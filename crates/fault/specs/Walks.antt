@@ -1,0 +1,89 @@
+-- What is kept of each page, how it changes over a list or a range, and what the searches for the next of them answer.
+use Rattle.std.specs.Prelude.{◌≡◌, ℕ, ◌+◌, ◌^◌, ◌<◌, ◌≤◌, ◌&&◌, ◌==◌, Bool, not, if◌then◌else◌, Option, None, Some, IsSome}
+use Rattle.vm_model.specs.declared.space.Readiness.TheVariants.{Read}
+use Rattle.vm_model.specs.Space.Readiness.{is_same_frame}
+use Rattle.pair_map.specs.Maps.{values_of}
+use Rattle.fault.specs.declared.translation.Kept.{Kept}
+use Rattle.fault.specs.declared.translation.Place.{Place}
+use Rattle.fault.specs.Table.{Table, frame_in}
+
+-- what is kept of each page of each address space
+abbrev pub Keeping : Type 0
+Keeping = ℕ → ℕ → Option Kept
+
+-- what is kept of each page that the rows have
+abbrev pub kept_of : Table → Keeping
+kept_of t = values_of t.rows
+
+-- what becomes of what is kept of a page, where it passes
+abbrev pub become : (Kept → Option Kept) → (Kept → Bool) → Option Kept → Option Kept
+become change test None = None
+become change test (Some k) = if test k then change k else Some k
+
+-- what is kept, changed where it passes
+unfoldable pub changed_where : (Kept → Option Kept) → (ℕ → ℕ → Kept → Bool) → Keeping → Keeping
+changed_where change test kept root p = become change (test root p) (kept root p)
+
+-- it is dropped
+abbrev pub dropped : Kept → Option Kept
+dropped k = None
+
+-- it is kept for reading alone
+abbrev pub restricted : Kept → Option Kept
+restricted k = Some (record k { translation = record k.translation { readiness = Read } })
+
+-- it is page p of an address space
+abbrev pub is_place : (root p : ℕ) → ℕ → ℕ → Bool
+is_place root p r q = (r == root) && (q == p)
+
+-- it stands in the list
+abbrev pub is_member : ℕ → Kept → Bool
+is_member list k = k.list == list
+
+-- it holds another frame than this
+abbrev pub holds_other : Option ℕ → Kept → Bool
+holds_other frame k = not (is_same_frame (frame_in k.translation) frame)
+
+-- no page of the address space from `from` to below `end` is translated
+abbrev pub HasNoPlace : Keeping → (root from end : ℕ) → Type 0
+HasNoPlace kept root from end = (p : ℕ) → from ≤ p → p < end → kept root p ≡ None
+
+-- the page is the first of the address space from `from` to below `end` that is translated
+pub record IsNextPlace (kept : Keeping) (root from end page : ℕ) : Type 0 where
+  pub order : from ≤ page
+  pub below : page < end
+  pub is : IsSome (kept root page)
+  pub least : (p : ℕ) → from ≤ p → p < page → kept root p ≡ None
+
+-- it is of a page of the VMO from `from` to below `end`
+pub record IsOf (v from end : ℕ) (k : Kept) : Type 0 where
+  pub koid : k.translation.entry.koid.0 ≡ v
+  pub order : from ≤ k.translation.entry.page
+  pub below : k.translation.entry.page < end
+
+-- no page of the VMO from `from` to below `end` has a translation
+abbrev pub HasNoList : Keeping → (v from end : ℕ) → Type 0
+HasNoList kept v from end = (root p : ℕ) (k : Kept) → kept root p ≡ Some k → IsOf v from end k → ⊥
+
+-- The page is the first of the VMO from `from` to below `end` that may have translations. They are the members of the list.
+pub record IsNextList (kept : Keeping) (v from end : ℕ) (found : ℕ × ℕ) : Type 0 where
+  pub order : from ≤ found.0
+  pub below : found.0 < end
+  pub least : (root p : ℕ) (k : Kept) → kept root p ≡ Some k → IsOf v from found.0 k → ⊥
+  pub of : (root p : ℕ) (k : Kept) → kept root p ≡ Some k → k.list ≡ found.1 → (k.translation.entry.koid.0 ≡ v) × (k.translation.entry.page ≡ found.0)
+  pub has : (root p : ℕ) (k : Kept) → kept root p ≡ Some k → k.translation.entry.koid.0 ≡ v → k.translation.entry.page ≡ found.0 → k.list ≡ found.1
+
+-- no member of the list has a serial from `from` on
+abbrev pub HasNoMember : Keeping → (list from : ℕ) → Type 0
+HasNoMember kept list from = (root p : ℕ) (k : Kept) → kept root p ≡ Some k → k.list ≡ list → from ≤ k.serial → ⊥
+
+-- the place has the first member of the list with a serial from `from` on
+pub record IsNextMember (kept : Keeping) (list from : ℕ) (found : ℕ × Place) : Type 0 where
+  pub order : from ≤ found.0
+  pub below : found.0 + 1 < 2 ^ 64
+  pub member : Kept
+  pub is : kept found.1.root.0 found.1.page ≡ Some member
+  pub listed : member.list ≡ list
+  pub serial : member.serial ≡ found.0
+  pub least : (root p : ℕ) (k : Kept) → kept root p ≡ Some k → k.list ≡ list → from ≤ k.serial → k.serial ≤ found.0
+      → (root ≡ found.1.root.0) × (p ≡ found.1.page)

@@ -1,0 +1,98 @@
+//! Whether an access may touch a page, and room for the translations that it makes.
+
+ghost use Rattle.std.specs.Prelude.{◌≡◌, ◌<◌, ◌≤◌, None, Some, MatchResult};
+ghost use Rattle.mapping_set.specs.Tables.{table_of};
+ghost use Rattle.vm_model.specs.Machine.Access.{refusal_at};
+ghost use Rattle.vm_base.specs.declared.refusal.Refusal.TheVariants as Refusal;
+ghost use Rattle.fault.specs.Table.{AreBacked, AreTrue, places_of, room_of};
+ghost use Rattle.fault.specs.Touching.{IsTouched, missing_in};
+
+use crate::translation::Translation;
+use crate::translations::Translations;
+use bitflags::Flags;
+use mapping_set::MappingSet;
+use page_store::PageStore;
+use vm_base::{PageNo, Perm, Refusal, RegionName};
+use vm_model::Entry;
+
+/// A page that an access may touch.
+#[derive(Clone, Copy, Debug, PartialEq, Eq)]
+pub(crate) struct TouchedPage {
+    /// What the page shows.
+    pub(crate) entry: Entry,
+    /// Its translation, and `None` where it has none.
+    pub(crate) translation: Option<Translation>,
+}
+
+impl TouchedPage {
+    /// How many translations are missing for it to be read.
+    pub(crate) fn missing(&self) -> usize
+        ensures { result ≡ missing_in self.now }
+    {
+        usize::from(self.translation.is_none())
+    }
+}
+
+impl Translations {
+    /// What an access with this right finds of a page that it may touch. Refusals, in their order: `NotFound` where the
+    /// page has no entry, `AccessDenied` where that lacks the right, `OutOfRange` where it shows a page past the end of
+    /// the VMO. Neither the mappings nor the store are asked where the page has a translation.
+    #[tactic(auto, using(crate::proofs::CheckLaws::check_laws))]
+    pub(crate) fn check<P: PageStore>(
+        &self,
+        store: &P,
+        maps: &MappingSet,
+        root: RegionName,
+        page: PageNo,
+        right: Perm,
+    ) -> Result<TouchedPage, Refusal>
+        requires backed { AreBacked (P.content store.now) (table_of maps.now) }
+        requires translations { AreTrue (P.content store.now) (table_of maps.now) (places_of self.now) }
+        ensures { MatchResult result
+            (λ touched. IsTouched (P.content store.now) (table_of maps.now) (places_of self.now) right.0 root.0 page touched)
+            (λ refusal. refusal_at (P.content store.now) right.0 (table_of maps.now root.0 page) ≡ Some refusal) }
+    {
+        match self.find(root, page) {
+            Some(translation) => {
+                let entry = translation.entry;
+                if !entry.perm.contains(right) {
+                    return Err(Refusal::AccessDenied);
+                }
+                Ok(TouchedPage {
+                    entry,
+                    translation: Some(translation),
+                })
+            }
+            None => {
+                let Some(entry) = maps.at(root, page) else {
+                    return Err(Refusal::NotFound);
+                };
+                if !entry.perm.contains(right) {
+                    return Err(Refusal::AccessDenied);
+                }
+                if entry.page >= store.count(entry.koid) {
+                    return Err(Refusal::OutOfRange);
+                }
+                Ok(TouchedPage {
+                    entry,
+                    translation: None,
+                })
+            }
+        }
+    }
+
+    /// Makes room for `n` translations more, of which there may be none. `HostMemory` where the host has too little
+    /// memory.
+    pub(crate) fn reserve_missing(&mut self, n: usize) -> Result<(), Refusal>
+        ensures room { MatchResult result (λ done. n ≤ room_of self.new) (λ refusal. (refusal ≡ Refusal.HostMemory) × (0 < n)) }
+        ensures same { places_of self.new ≡ places_of self.old }
+    {
+        if n == 0 {
+            return Ok(());
+        }
+        let Ok(()) = self.reserve(n) else {
+            return Err(Refusal::HostMemory);
+        };
+        Ok(())
+    }
+}

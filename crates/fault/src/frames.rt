@@ -1,0 +1,20 @@
+//! Which frame a page of a VMO has.
+
+ghost use Rattle.std.specs.Prelude.{◌≡◌, ◌<◌};
+ghost use Rattle.vm_model.specs.Contents.Content.{pages_of};
+ghost use Rattle.vm_model.specs.Space.Readiness.{frame_at};
+ghost use Rattle.fault.specs.Table.{number_of};
+
+use page_store::{Look, PageStore};
+use vm_base::{Koid, PageNo, Tag};
+
+/// The frame that a page of a VMO has. `None` where it is zero.
+pub(crate) fn frame_of<P: PageStore>(store: &P, v: Koid, page: PageNo) -> Option<Tag>
+    requires { page < pages_of (P.content store.now) v.0 }
+    ensures { number_of result ≡ frame_at (P.content store.now) v.0 page }
+{
+    match store.look(v, page) {
+        Look::Held { tag, .. } => Some(tag),
+        Look::Zero => None,
+    }
+}

@@ -1,0 +1,29 @@
+//! Page faults: which pages of address spaces are translated, and reading and writing through mappings
+//! (`Translations`).
+//!
+//! A translation is what the page tables of the processor have of a page: the frame of the page of the VMO that it
+//! shows, and whether it may be written. An access to a page that has one takes no page fault, asks no other table, and
+//! asks the store for the bytes of the frame alone. The layer above forgets the translations that a command made untrue
+//! (`forget_changed`, `forget`, `forget_at`, `make_readonly`). These go by the translations that stand, found by the page
+//! of the VMO that they show or by their own page, and never over a range page by page.
+//!
+//! It stands on `page_store` and `mapping_set`, whose entries it translates, and on `pair_map` for its tables. It speaks
+//! the words of `vm_model` on accesses and readiness.
+#![tactic(auto)]
+
+mod checking;
+mod forgetting;
+mod frames;
+mod lists;
+mod needing;
+mod reading;
+mod translation;
+mod translations;
+mod writable;
+mod writing;
+
+pub use translation::Translation;
+pub use translations::Translations;
+
+#[cfg(test)]
+mod tests;

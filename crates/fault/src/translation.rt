@@ -1,0 +1,30 @@
+//! What is kept of a page that is ready for an access.
+
+use vm_base::{PageNo, RegionName, Tag};
+use vm_model::{Entry, Readiness};
+
+/// What the page tables have of a page of an address space.
+#[derive(Clone, Copy, Debug, PartialEq, Eq)]
+pub struct Translation {
+    /// What the page shows.
+    pub entry: Entry,
+    /// The frame of the page of the VMO, and `None` where that page is zero and has none.
+    pub frame: Option<Tag>,
+    /// What an access may do with no page fault.
+    pub readiness: Readiness,
+}
+
+/// A translation as it is kept, with the list of the page of the VMO, and the number that it has there.
+#[derive(Clone, Copy, Debug, PartialEq, Eq)]
+pub(crate) struct Kept {
+    pub(crate) translation: Translation,
+    pub(crate) list: u64,
+    pub(crate) serial: u64,
+}
+
+/// The page of an address space that a translation is of.
+#[derive(Clone, Copy, Debug, PartialEq, Eq)]
+pub(crate) struct Place {
+    pub(crate) root: RegionName,
+    pub(crate) page: PageNo,
+}

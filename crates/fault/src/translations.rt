@@ -1,0 +1,225 @@
+//! The translations: what is kept of each page, and what is found there.
+
+ghost use Rattle.std.specs.Prelude.{◌≡◌, ℕ, IsTrue, ◌+◌, ◌≤◌, ◌⊎◌, true, None, Some, OnOk, IsSome, IfSome};
+ghost use Rattle.std.specs.Option.{option_map, MatchOption};
+ghost use Rattle.balanced_tree.specs.Pairs.{with_pair};
+ghost use Rattle.fault.specs.Table.{places_of, room_of, with_translation};
+ghost use Rattle.fault.specs.Walks.{kept_of, changed_where, dropped, is_place};
+ghost use Rattle.fault.specs.Walks.{HasNoPlace, IsNextPlace, HasNoList, IsNextList, HasNoMember, IsNextMember};
+
+use crate::lists::{drop_empty, list_of};
+use crate::translation::{Kept, Place, Translation};
+use pair_map::PairMap;
+use std::alloc::Global;
+use std::marker::Model;
+use vm_base::{HostMemory, Koid, PageNo, RegionName};
+
+/// The translations of all address spaces. Contracts see the translation of each page of each of them, and how many more
+/// fit with no memory from the host.
+///
+/// The translations of a page of a VMO are the members of a list, so that they are found with no look at others.
+#[derive(Drop)]
+pub struct Translations {
+    /// The translation of each page, by the root region and the page.
+    places: PairMap<Kept>,
+    /// The list of each page of a VMO that has a translation, by the koid and the page.
+    lists: PairMap<u64>,
+    /// The pages that the translations of each list are of, by the list and the serial.
+    members: PairMap<Place>,
+    /// The number that the next list or member gets. None is given twice.
+    next: u64,
+}
+
+impl Model for Translations {
+    ghost use Rattle.fault.specs.Table.{Table};
+
+    ghost Value = { Table };
+
+    ghost use Rattle.fault.specs.Fields.{table_of, IsTable};
+
+    ghost view = { table_of };
+
+    ghost invariant = { IsTable };
+}
+
+impl Translations {
+    /// No page is translated.
+    pub fn new(alloc: Global) -> Translations
+        ensures { places_of result ≡ λ root p. None }
+    {
+        Translations {
+            places: PairMap::new(alloc),
+            lists: PairMap::new(alloc),
+            members: PairMap::new(alloc),
+            next: 0,
+        }
+    }
+
+    /// Whether no page is translated.
+    #[tactic(auto, unfolding(balanced_tree::specs::Pairs::value_at))]
+    pub fn is_empty(&self) -> bool
+        ensures { IsTrue result → (root p : ℕ) → places_of self.now root p ≡ None }
+    {
+        self.places.len() == 0
+    }
+
+    /// The translation of a page of an address space. `None` where it has none.
+    pub(crate) fn find(&self, root: RegionName, page: PageNo) -> Option<Translation>
+        ensures { result ≡ places_of self.now root.0 page }
+    {
+        translation_in(self.places.find(root.0 as u64, page))
+    }
+
+    /// Makes room for `n` translations more. `HostMemory` where the host has too little memory.
+    pub(crate) fn reserve(&mut self, n: usize) -> Result<(), HostMemory>
+        ensures room { OnOk result (n ≤ room_of self.new) }
+        ensures same { places_of self.new ≡ places_of self.old }
+        ensures kept { room_of self.old ≤ room_of self.new }
+    {
+        if u64::MAX - self.next < n as u64 {
+            return Err(HostMemory);
+        }
+        let Ok(()) = self.places.reserve(n) else {
+            return Err(HostMemory);
+        };
+        let Ok(()) = self.lists.reserve(n) else {
+            return Err(HostMemory);
+        };
+        let Ok(()) = self.members.reserve(n) else {
+            return Err(HostMemory);
+        };
+        Ok(())
+    }
+
+    /// Translates a page so. Where it is translated already, it is so for the same entry, and else there is room.
+    pub(crate) fn set(&mut self, root: RegionName, page: PageNo, translation: Translation)
+        requires same { IfSome (places_of self.old root.0 page) (λ x. x.entry ≡ translation.entry) }
+        requires room { IsSome (places_of self.old root.0 page) ⊎ (1 ≤ room_of self.old) }
+        ensures at { places_of self.new ≡ with_translation (places_of self.old) root.0 page translation }
+        ensures room { room_of self.old ≤ room_of self.new + 1 }
+        ensures kept { IsSome (places_of self.old root.0 page) → room_of self.old ≤ room_of self.new }
+    {
+        match self.kept(root, page) {
+            Some(kept) => self.put(root, page, kept, translation),
+            None => self.add(root, page, translation),
+        }
+    }
+
+    /// What is kept of a page. `None` where it is not translated.
+    pub(crate) fn kept(&self, root: RegionName, page: PageNo) -> Option<Kept>
+        ensures { result ≡ kept_of self.now root.0 page }
+    {
+        self.places.find(root.0 as u64, page)
+    }
+
+    /// Translates a page that is translated, for the same entry.
+    pub(crate) fn put(
+        &mut self,
+        root: RegionName,
+        page: PageNo,
+        kept: Kept,
+        translation: Translation,
+    )
+        requires kept { kept_of self.old root.0 page ≡ Some kept }
+        requires same { translation.entry ≡ kept.translation.entry }
+        ensures at { kept_of self.new
+            ≡ with_pair (kept_of self.old) root.0 page (Some (record kept { translation = translation })) }
+        ensures room { room_of self.new ≡ room_of self.old }
+    {
+        self.places.replace(
+            root.0 as u64,
+            page,
+            Kept {
+                translation,
+                ..kept
+            },
+        );
+    }
+
+    // Translates a page that is not translated. There is room.
+    fn add(&mut self, root: RegionName, page: PageNo, translation: Translation)
+        requires absent { kept_of self.old root.0 page ≡ None }
+        requires room { 1 ≤ room_of self.old }
+        ensures at { places_of self.new ≡ with_translation (places_of self.old) root.0 page translation }
+        ensures room { room_of self.old ≤ room_of self.new + 1 }
+    {
+        let serial = self.next;
+        let list = list_of(
+            &mut self.lists,
+            translation.entry.koid,
+            translation.entry.page,
+            serial,
+        );
+        self.places.insert(
+            root.0 as u64,
+            page,
+            Kept {
+                translation,
+                list,
+                serial,
+            },
+        );
+        self.members.insert(list, serial, Place { root, page });
+        self.next = serial + 1;
+    }
+
+    /// Forgets the translation of a page that has one.
+    pub(crate) fn drop_place(&mut self, root: RegionName, page: PageNo)
+        requires { IsSome (kept_of self.old root.0 page) }
+        ensures at { kept_of self.new ≡ changed_where dropped (λ r p k. is_place root.0 page r p) (kept_of self.old) }
+        ensures room { room_of self.old ≤ room_of self.new }
+    {
+        let kept = self.places.remove(root.0 as u64, page);
+        self.members.remove(kept.list, kept.serial);
+        drop_empty(&mut self.lists, &self.members, kept);
+    }
+
+    /// The first page of an address space from `from` to below `end` that is translated.
+    pub(crate) fn place_below(&self, root: RegionName, from: PageNo, end: PageNo) -> Option<PageNo>
+        ensures { MatchOption result (HasNoPlace (kept_of self.now) root.0 from end)
+            (IsNextPlace (kept_of self.now) root.0 from end) }
+    {
+        match self.places.next(root.0 as u64, from) {
+            Some((page, _)) if page < end => Some(page),
+            _ => None,
+        }
+    }
+
+    /// Whether none of `count` pages of a VMO from `first` on, which may pass 2^64, has a translation.
+    pub(crate) fn shows_none(&self, v: Koid, first: PageNo, count: u64) -> bool
+        ensures { result ≡ true → HasNoList (kept_of self.now) v.0 first (first + count) }
+    {
+        match self.lists.next(v.0, first) {
+            Some((page, _)) => page - first >= count,
+            None => true,
+        }
+    }
+
+    /// The first page of a VMO from `from` to below `end` that has translations, and their list.
+    pub(crate) fn list_below(&self, v: Koid, from: PageNo, end: PageNo) -> Option<(PageNo, u64)>
+        ensures { MatchOption result (HasNoList (kept_of self.now) v.0 from end)
+            (IsNextList (kept_of self.now) v.0 from end) }
+    {
+        match self.lists.next(v.0, from) {
+            Some((page, list)) if page < end => Some((page, list)),
+            _ => None,
+        }
+    }
+
+    /// The first translation of a list with a serial from `from` on: its serial, and the page that it is of.
+    pub(crate) fn member_from(&self, list: u64, from: u64) -> Option<(u64, Place)>
+        ensures { MatchOption result (HasNoMember (kept_of self.now) list from)
+            (IsNextMember (kept_of self.now) list from) }
+    {
+        // The serials are below the next.
+        let _next = self.next;
+        self.members.next(list, from)
+    }
+}
+
+/// The translation that is kept.
+fn translation_in(kept: Option<Kept>) -> Option<Translation>
+    ensures { result ≡ option_map (λ (kept : Kept). kept.translation) kept }
+{
+    Some(kept?.translation)
+}

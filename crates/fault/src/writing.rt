@@ -1,0 +1,250 @@
+//! Writing through mappings.
+
+ghost use Rattle.std.specs.Prelude.{◌≡◌, ◌+◌, ◌%◌, ◌<◌, ◌≤◌, ◌⊎◌, true, length, IfSome, IfErr, OnOk, MatchResult, is_some, if◌then◌else◌};
+ghost use Rattle.vm_base.specs.declared.limits.TheConstants.{PAGE, DATA_BYTES};
+ghost use Rattle.mapping_set.specs.Tables.{table_of};
+ghost use Rattle.vm_model.specs.Contents.Content.{sole, used, pages_of, IsGood};
+ghost use Rattle.vm_model.specs.Contents.Owning.{Owns};
+ghost use Rattle.fault.specs.Table.{AreBacked, AreTrue, places_of, room_of};
+ghost use Rattle.fault.specs.Access.{RefusesWrite, Writes};
+ghost use Rattle.fault.specs.Writable.{IsInStore, WritesTo, fault_of, faulted};
+ghost use Rattle.fault.specs.Needing.{IsReady, LacksRoom};
+
+use crate::needing::{frame_needed, frames_needed};
+use crate::translation::Translation;
+use crate::translations::Translations;
+use crate::writable::WritablePage;
+use mapping_set::MappingSet;
+use page_store::PageStore;
+use vm_base::{DATA_BYTES, PAGE, PageNo, Refusal, RegionName, Tag, in_page, page_of};
+use vm_model::{Entry, Readiness};
+
+impl Translations {
+    /// Writes bytes, at most `DATA_BYTES`, from an address of the address space of a root region on, and answers how many
+    /// page faults that took. Each page that is not translated for writing takes one: the page of the VMO is owned (copy
+    /// on write), other translations of it are forgotten where its frame changed, and it is translated for writing. The
+    /// first page that is refused decides the refusal: `NotFound` where nothing is mapped, `AccessDenied` where the mapping
+    /// may not be written, `OutOfRange` where its page lies past the end of the VMO. Behind these comes `NoMemory` where
+    /// too few frames are free. `HostMemory` where the host has too little memory, and only where a page was not
+    /// translated for writing. On each refusal nothing is written.
+    pub fn mem_write<P: PageStore>(
+        &mut self,
+        store: &mut P,
+        maps: &MappingSet,
+        root: RegionName,
+        addr: u64,
+        bytes: &[u8],
+    ) -> Result<u64, Refusal>
+        requires backed { AreBacked (P.content store.old) (table_of maps.now) }
+        requires translations { AreTrue (P.content store.old) (table_of maps.now) (places_of self.old) }
+        requires len { length bytes.now ≤ DATA_BYTES }
+        ensures outcome { MatchResult result
+            (λ faults. Writes (P.content store.old) (table_of maps.now) root.0 addr bytes.now (places_of self.old) faults
+            (P.content store.new) (places_of self.new))
+            (RefusesWrite (P.content store.old) (table_of maps.now) root.0 addr (length bytes.now) (places_of self.old)
+            (P.content store.new) (places_of self.new)) }
+        ensures translations { AreTrue (P.content store.new) (table_of maps.now) (places_of self.new) }
+    {
+        if bytes.is_empty() {
+            return Ok(0);
+        }
+        if in_page(addr) + bytes.len() as u64 <= PAGE {
+            self.write_in_page(store, maps, root, addr, bytes)
+        } else {
+            self.write_in_two(store, maps, root, addr, bytes)
+        }
+    }
+
+    // Writes bytes, at least one, that fall into one page, as `mem_write` does.
+    fn write_in_page<P: PageStore>(
+        &mut self,
+        store: &mut P,
+        maps: &MappingSet,
+        root: RegionName,
+        addr: u64,
+        bytes: &[u8],
+    ) -> Result<u64, Refusal>
+        requires backed { AreBacked (P.content store.old) (table_of maps.now) }
+        requires translations { AreTrue (P.content store.old) (table_of maps.now) (places_of self.old) }
+        requires some { 0 < length bytes.now }
+        requires one { addr % PAGE + length bytes.now ≤ PAGE }
+        ensures outcome { MatchResult result
+            (λ faults. Writes (P.content store.old) (table_of maps.now) root.0 addr bytes.now (places_of self.old) faults
+            (P.content store.new) (places_of self.new))
+            (RefusesWrite (P.content store.old) (table_of maps.now) root.0 addr (length bytes.now) (places_of self.old)
+            (P.content store.new) (places_of self.new)) }
+        ensures translations { AreTrue (P.content store.new) (table_of maps.now) (places_of self.new) }
+    {
+        let page = page_of(addr);
+        let found = match self.check_write(store, maps, root, page) {
+            Ok(found) => found,
+            Err(refusal) => return Err(refusal),
+        };
+        let need = frame_needed(store, &found);
+        let faults = found.faults();
+        match self.make_ready(store, need, faults) {
+            Ok(()) => {}
+            Err(refusal) => return Err(refusal),
+        }
+        self.write_page(store, root, page, found, in_page(addr), bytes);
+        Ok(faults)
+    }
+
+    // Writes bytes that fall into two pages, as `mem_write` does.
+    fn write_in_two<P: PageStore>(
+        &mut self,
+        store: &mut P,
+        maps: &MappingSet,
+        root: RegionName,
+        addr: u64,
+        bytes: &[u8],
+    ) -> Result<u64, Refusal>
+        requires backed { AreBacked (P.content store.old) (table_of maps.now) }
+        requires translations { AreTrue (P.content store.old) (table_of maps.now) (places_of self.old) }
+        requires len { length bytes.now ≤ DATA_BYTES }
+        requires two { PAGE < addr % PAGE + length bytes.now }
+        ensures outcome { MatchResult result
+            (λ faults. Writes (P.content store.old) (table_of maps.now) root.0 addr bytes.now (places_of self.old) faults
+            (P.content store.new) (places_of self.new))
+            (RefusesWrite (P.content store.old) (table_of maps.now) root.0 addr (length bytes.now) (places_of self.old)
+            (P.content store.new) (places_of self.new)) }
+        ensures translations { AreTrue (P.content store.new) (table_of maps.now) (places_of self.new) }
+    {
+        let page = page_of(addr);
+        let first = match self.check_write(store, maps, root, page) {
+            Ok(first) => first,
+            Err(refusal) => return Err(refusal),
+        };
+        let second = match self.check_write(store, maps, root, page + 1) {
+            Ok(second) => second,
+            Err(refusal) => return Err(refusal),
+        };
+        let need = frames_needed(store, &first, &second);
+        let faults = first.faults() + second.faults();
+        match self.make_ready(store, need, faults) {
+            Ok(()) => {}
+            Err(refusal) => return Err(refusal),
+        }
+        let at = in_page(addr);
+        let (head, tail) = bytes.split_at((PAGE - at) as usize);
+        self.write_page(store, root, page, first, at, head);
+        self.write_page(store, root, page + 1, second, 0, tail);
+        Ok(faults)
+    }
+
+    // Makes room for so many page faults of a write, where the frames are free that it needs.
+    fn make_ready<P: PageStore>(
+        &mut self,
+        store: &mut P,
+        need: u64,
+        faults: u64,
+    ) -> Result<(), Refusal>
+        ensures content { P.content store.new ≡ P.content store.old }
+        ensures places { places_of self.new ≡ places_of self.old }
+        ensures ok { OnOk result (IsReady (P.content store.old) need faults (P.spare store.new) (room_of self.new)) }
+        ensures err { IfErr result (LacksRoom (P.content store.old) need faults) }
+    {
+        if need > u64::from(store.free()) {
+            return Err(Refusal::NoMemory);
+        }
+        if faults == 0 {
+            return Ok(());
+        }
+        let Ok(()) = self.reserve(faults as usize) else {
+            return Err(Refusal::HostMemory);
+        };
+        let Ok(()) = store.reserve(faults) else {
+            return Err(Refusal::HostMemory);
+        };
+        Ok(())
+    }
+
+    // Writes bytes to one page, from `at` bytes into the page on, where the room for it is there.
+    fn write_page<P: PageStore>(
+        &mut self,
+        store: &mut P,
+        root: RegionName,
+        page: PageNo,
+        found: WritablePage,
+        at: u64,
+        bytes: &[u8],
+    )
+        requires good { IsGood (P.content store.old) }
+        requires found { IsInStore (P.content store.old) found }
+        requires same { IfSome (places_of self.old root.0 page) (λ x. x.entry ≡ found.entry) }
+        requires within { at + length bytes.now ≤ PAGE }
+        requires free { (sole (P.content store.old) found.entry.koid.0 found.entry.page ≡ true)
+            ⊎ (used (P.content store.old) < (P.content store.old).frames) }
+        requires spare { fault_of found ≤ P.spare store.old }
+        requires room { fault_of found ≤ room_of self.old }
+        ensures writes { WritesTo root.0 page found at bytes.now (P.content store.old) (places_of self.old)
+            (P.content store.new) (places_of self.new) }
+        ensures spare { P.spare store.old ≤ P.spare store.new + fault_of found }
+        ensures room { room_of self.old ≤ room_of self.new + fault_of found }
+    {
+        let tag = self.own(store, root, page, found);
+        store.write(tag, at, bytes);
+    }
+
+    // Makes the page of the VMO sole, and answers its frame. That takes a page fault where the page is not translated for
+    // writing.
+    fn own<P: PageStore>(
+        &mut self,
+        store: &mut P,
+        root: RegionName,
+        page: PageNo,
+        found: WritablePage,
+    ) -> Tag
+        requires good { IsGood (P.content store.old) }
+        requires found { IsInStore (P.content store.old) found }
+        requires same { IfSome (places_of self.old root.0 page) (λ x. x.entry ≡ found.entry) }
+        requires free { (sole (P.content store.old) found.entry.koid.0 found.entry.page ≡ true)
+            ⊎ (used (P.content store.old) < (P.content store.old).frames) }
+        requires spare { fault_of found ≤ P.spare store.old }
+        requires room { fault_of found ≤ room_of self.old }
+        ensures owns { Owns (P.content store.old) (P.content store.new) found.entry.koid.0 found.entry.page result.0 }
+        ensures places { places_of self.new ≡ (if is_some found.frame then places_of self.old
+            else faulted (P.content store.new) (places_of self.old) root.0 page found.entry result) }
+        ensures spare { P.spare store.old ≤ P.spare store.new + fault_of found }
+        ensures room { room_of self.old ≤ room_of self.new + fault_of found }
+    {
+        match found.frame {
+            Some(tag) => tag,
+            None => self.fault(store, root, page, found.entry),
+        }
+    }
+
+    // Takes a page fault for writing, and answers the frame of the page of the VMO, which is owned then.
+    fn fault<P: PageStore>(
+        &mut self,
+        store: &mut P,
+        root: RegionName,
+        page: PageNo,
+        entry: Entry,
+    ) -> Tag
+        requires good { IsGood (P.content store.old) }
+        requires below { entry.page < pages_of (P.content store.old) entry.koid.0 }
+        requires same { IfSome (places_of self.old root.0 page) (λ x. x.entry ≡ entry) }
+        requires free { (sole (P.content store.old) entry.koid.0 entry.page ≡ true)
+            ⊎ (used (P.content store.old) < (P.content store.old).frames) }
+        requires spare { 1 ≤ P.spare store.old }
+        requires room { 1 ≤ room_of self.old }
+        ensures owns { Owns (P.content store.old) (P.content store.new) entry.koid.0 entry.page result.0 }
+        ensures places { places_of self.new ≡ faulted (P.content store.new) (places_of self.old) root.0 page entry result }
+        ensures spare { P.spare store.old ≤ P.spare store.new + 1 }
+        ensures room { room_of self.old ≤ room_of self.new + 1 }
+    {
+        let tag = store.own(entry.koid, entry.page);
+        self.forget_changed(store, entry.koid, entry.page, 1);
+        self.set(
+            root,
+            page,
+            Translation {
+                entry,
+                frame: Some(tag),
+                readiness: Readiness::Write,
+            },
+        );
+        tag
+    }
+}

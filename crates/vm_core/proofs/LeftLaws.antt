@@ -1,0 +1,226 @@
+-- Laws of what is left of the translations: each is true still, and what is ready by them is what a step of the machine says.
+use Rattle.std.proofs.Common.{◌≡◌, ℕ, ◌<◌, ◌≤◌, Bool, true, false, cond, ◌&&◌, ◌==◌, Option, None, Some, ◌⊎◌, refl, sym, ap, subst, ◌∙◌, inl, inr}
+use Rattle.std.specs.Option.{option_map}
+use Rattle.std.proofs.lemmas.Bool.{cases_Bool, and_left, and_right, cond-true, cond-false, le-ltb}
+use Rattle.vm_base.specs.Entries.{passes}
+use Rattle.vm_base.proofs.EntryLaws.{passes-some, passes-none}
+use Rattle.vm_model.specs.declared.space.Entry.{Entry}
+use Rattle.vm_model.specs.declared.space.Readiness.{Readiness}
+use Rattle.vm_model.specs.declared.space.Readiness.TheVariants.{Read}
+use Rattle.vm_model.specs.Contents.Content.{Page, Content, pages_of}
+use Rattle.vm_model.specs.Contents.Zeroing.{is_within}
+use Rattle.vm_model.specs.Space.Readiness.{Ready, frame_at, is_same_frame, keeps_frame, settled, unready, shows_in, read_only}
+use Rattle.vm_model.proofs.ReadinessLaws.{keeps_frame-from, settled-kept, settled-changed}
+use Rattle.fault.specs.declared.translation.Translation.{Translation}
+use Rattle.vm_core.proofs.AgreeLaws.{readiness_of}
+use Rattle.fault.specs.Table.{Places, ready_of, frame_in, AreTrue, without, is_at, restricted, with_read_only}
+
+-- a page that is the same has the same frame
+pub frame_at-same : (c d : Content) (v p : ℕ) → d.page v p ≡ c.page v p → frame_at d v p ≡ frame_at c v p
+frame_at-same c d v p same = ap (option_map (λ (held : Page). held.tag)) same
+
+-- ---- entries that stay
+
+-- The entry stands in the table, what it shows has in d the frame that it had in c, and lies in its VMO there.
+pub record StaysAt (c d : Content) (table : ℕ → ℕ → Option Entry) (root p : ℕ) (entry : Entry) : Type 0 where
+  pub is : table root p ≡ Some entry
+  pub frame : frame_at d entry.koid.0 entry.page ≡ frame_at c entry.koid.0 entry.page
+  pub inside : entry.page < pages_of d entry.koid.0
+
+module _ (c d : Content) (table : ℕ → ℕ → Option Entry) (ready : Ready) (root p : ℕ) where
+  -- what was ready for nothing is so still
+  settled-none : ready root p ≡ None → settled c d table ready root p ≡ None
+  unfolding settled
+  settled-none e = go (passes (keeps_frame c d) (table root p)) where
+    go : (b : Bool) → cond b (ready root p) None ≡ None
+    go true = e
+    go false = refl
+
+  -- where nothing is shown, nothing is ready
+  pub settled-bare : table root p ≡ None → settled c d table ready root p ≡ None
+  settled-bare e = settled-changed c d table ready root p (passes-none (keeps_frame c d) (table root p) e)
+
+  -- so it is where what is shown has another frame, or lies in its VMO no more
+  pub settled-lost : (entry : Entry) → table root p ≡ Some entry
+      → (is_same_frame (frame_at c entry.koid.0 entry.page) (frame_at d entry.koid.0 entry.page) ≡ false) ⊎ (pages_of d entry.koid.0 ≤ entry.page)
+      → settled c d table ready root p ≡ None
+  unfolding keeps_frame
+  settled-lost entry e lost = settled-changed c d table ready root p (passes-some (keeps_frame c d) (table root p) entry e ∙ elim lost [
+    | inl other ↦ and_left _ _ other
+    | inr past ↦ and_right _ _ (le-ltb entry.page (pages_of d entry.koid.0) past)
+  ])
+
+  -- an entry that stays is ready for what it was
+  settled-stays : (entry : Entry) → StaysAt c d table root p entry → settled c d table ready root p ≡ ready root p
+  settled-stays entry stays = settled-kept c d table ready root p entry stays.is (keeps_frame-from c d entry stays.frame stays.inside)
+
+-- ---- pages of a range that are ready for nothing
+
+module _ (ready : Ready) (root first end r p : ℕ) where
+  -- a page of the range is
+  unready-in : ((r == root) && is_within first end p) ≡ true → unready ready root first end r p ≡ None
+  unfolding unready
+  unready-in e = cond-true _ _ _ e
+
+  -- another page is ready for what it was
+  unready-out : ((r == root) && is_within first end p) ≡ false → unready ready root first end r p ≡ ready r p
+  unfolding unready
+  unready-out e = cond-false _ _ _ e
+
+  -- what was ready for nothing is so still
+  unready-none : ready r p ≡ None → unready ready root first end r p ≡ None
+  unfolding unready
+  unready-none e = go ((r == root) && is_within first end p) where
+    go : (b : Bool) → cond b None (ready r p) ≡ None
+    go true = refl
+    go false = e
+
+-- ---- what is left
+
+-- By these translations the pages are ready for this. Each is of an entry of the table, and holds the frame of its page.
+pub record Fits (d : Content) (table : ℕ → ℕ → Option Entry) (ready : Ready) (left : Places) : Type 0 where
+  pub are_ready : ready_of left ≡ ready
+  pub entry : (root p : ℕ) (x : Translation) → left root p ≡ Some x → table root p ≡ Some x.entry
+  pub frame : (root p : ℕ) (x : Translation) → left root p ≡ Some x → frame_in x ≡ frame_at d x.entry.koid.0 x.entry.page
+
+module _ (goes : ℕ → ℕ → Translation → Bool) (places : Places) (root p : ℕ) where
+  -- where there was none before, there is none
+  without-none : places root p ≡ None → without goes places root p ≡ None
+  unfolding without
+  without-none e = cond-false _ _ _ (passes-none (goes root p) (places root p) e) ∙ e
+
+  -- one that passes is gone
+  without-gone : (x : Translation) → places root p ≡ Some x → goes root p x ≡ true → without goes places root p ≡ None
+  unfolding without
+  without-gone x e on = cond-true _ _ _ (passes-some (goes root p) (places root p) x e ∙ on)
+
+  -- another stays
+  without-stays : (x : Translation) → places root p ≡ Some x → goes root p x ≡ false → without goes places root p ≡ Some x
+  unfolding without
+  without-stays x e off = cond-false _ _ _ (passes-some (goes root p) (places root p) x e ∙ off) ∙ e
+
+  -- what is left was there, and does not go
+  without-was : (x : Translation) → without goes places root p ≡ Some x → (places root p ≡ Some x) × (goes root p x ≡ false)
+  without-was x e = go (places root p) refl where
+    go : (o : Option Translation) → places root p ≡ o → (places root p ≡ Some x) × (goes root p x ≡ false)
+    go None f = absurd (let none = without-none f in let none_too : ◌≡◌ {A = Option Translation} None (Some x) = sym none ∙ e in cc)
+    go (Some y) f = elim (cases_Bool (goes root p y)) [
+      | inl on ↦ absurd (let none : ◌≡◌ {A = Option Translation} None (Some x) = sym (without-gone y f on) ∙ e in cc)
+      | inr off ↦
+          let both : ◌≡◌ {A = Option Translation} (Some y) (Some x) = sym (without-stays y f off) ∙ e in
+          let same : y ≡ x = cc in
+          (f ∙ ap (λ (z : Translation). Some z) same, ap (goes root p) (sym same) ∙ off)
+    ]
+
+module _ (c d : Content) (old table : ℕ → ℕ → Option Entry) (places : Places) (good : AreTrue c old places) where
+  -- a translation that stays holds the frame of its page
+  frame_left : (root p : ℕ) (x : Translation) → places root p ≡ Some x → StaysAt c d table root p x.entry → frame_in x ≡ frame_at d x.entry.koid.0 x.entry.page
+  frame_left root p x e stays = good.frame root p x e ∙ sym stays.frame
+
+  -- where some go
+  Fits-without : (goes : ℕ → ℕ → Translation → Bool) (ready : Ready) → ((root p : ℕ) → places root p ≡ None → ready root p ≡ None)
+      → ((root p : ℕ) (x : Translation) → places root p ≡ Some x → goes root p x ≡ true → ready root p ≡ None)
+      → ((root p : ℕ) (x : Translation) → places root p ≡ Some x → goes root p x ≡ false → StaysAt c d table root p x.entry × (ready root p ≡ ready_of places root p))
+      → Fits d table ready (without goes places)
+  Fits-without goes ready none gone stays = record {
+    are_ready = λ i root p. each root p (places root p) refl i;
+    entry = λ root p x e. let was = without-was goes places root p x e in (stays root p x was.0 was.1).0.is;
+    frame = λ root p x e. let was = without-was goes places root p x e in frame_left root p x was.0 (stays root p x was.0 was.1).0;
+  } where
+    each : (root p : ℕ) (o : Option Translation) → places root p ≡ o → ready_of (without goes places) root p ≡ ready root p
+    each root p None e = ap readiness_of (without-none goes places root p e) ∙ sym (none root p e)
+    each root p (Some x) e = elim (cases_Bool (goes root p x)) [
+      | inl on ↦ ap readiness_of (without-gone goes places root p x e on) ∙ sym (gone root p x e on)
+      | inr off ↦ ap readiness_of (without-stays goes places root p x e off ∙ sym e) ∙ sym (stays root p x e off).1
+    ]
+
+  -- where all stay
+  pub Fits-all : ((root p : ℕ) (x : Translation) → places root p ≡ Some x → StaysAt c d table root p x.entry) → Fits d table (settled c d table (ready_of places)) places
+  Fits-all stays = record {
+    are_ready = λ i root p. each root p (places root p) refl i;
+    entry = λ root p x e. (stays root p x e).is;
+    frame = λ root p x e. frame_left root p x e (stays root p x e);
+  } where
+    each : (root p : ℕ) (o : Option Translation) → places root p ≡ o → ready_of places root p ≡ settled c d table (ready_of places) root p
+    each root p None e = let none : ready_of places root p ≡ None = ap readiness_of e in none ∙ sym (settled-none c d table (ready_of places) root p none)
+    each root p (Some x) e = sym (settled-stays c d table (ready_of places) root p x.entry (stays root p x e))
+
+  -- where some go since what they show changed, or is shown no more
+  pub Fits-settled : (goes : ℕ → ℕ → Translation → Bool)
+      → ((root p : ℕ) (x : Translation) → places root p ≡ Some x → goes root p x ≡ true → settled c d table (ready_of places) root p ≡ None)
+      → ((root p : ℕ) (x : Translation) → places root p ≡ Some x → goes root p x ≡ false → StaysAt c d table root p x.entry)
+      → Fits d table (settled c d table (ready_of places)) (without goes places)
+  Fits-settled goes gone stays =
+      Fits-without goes (settled c d table (ready_of places)) (λ root p e. settled-none c d table (ready_of places) root p (ap readiness_of e)) gone
+      (λ root p x e off. let left = stays root p x e off in (left, settled-stays c d table (ready_of places) root p x.entry left))
+
+  -- where the pages of a range are ready for nothing
+  pub Fits-unready : (root first end : ℕ)
+      → ((r p : ℕ) (x : Translation) → places r p ≡ Some x → is_at root first end r p x ≡ false → StaysAt c d table r p x.entry)
+      → Fits d table (unready (settled c d table (ready_of places)) root first end) (without (is_at root first end) places)
+  Fits-unready root first end stays =
+      let kept = settled c d table (ready_of places) in
+      Fits-without (is_at root first end) (unready kept root first end)
+      (λ r p e. unready-none kept root first end r p (settled-none c d table (ready_of places) r p (ap readiness_of e)))
+      (λ r p x e on. unready-in kept root first end r p on)
+      (λ r p x e off.
+      let left = stays r p x e off in
+      (left, unready-out kept root first end r p off ∙ settled-stays c d table (ready_of places) r p x.entry left))
+
+  -- where what shows some pages of a VMO is ready for reading at most
+  pub Fits-read_only : (v first end : ℕ) → ((root p : ℕ) (x : Translation) → places root p ≡ Some x → StaysAt c d table root p x.entry)
+      → Fits d table (read_only old v first end (settled c d table (ready_of places))) (with_read_only v first end places)
+  unfolding read_only with_read_only
+  Fits-read_only v first end stays = record {
+    are_ready = λ i root p. each root p (places root p) refl i;
+    entry = λ root p x e. let was = from root p (places root p) x refl e in was.2 (λ (entry : Entry). table root p ≡ Some entry) (stays root p was.0 was.1).is;
+    frame = λ root p x e. from_frame root p (places root p) x refl e;
+  } where
+    kept : Ready
+    kept = settled c d table (ready_of places)
+
+    same_entry : (x : Translation) → (restricted v first end x).entry ≡ x.entry
+    same_entry x = go (shows_in v first end x.entry) where
+      go : (b : Bool) → (cond b (record x { readiness = Read }) x).entry ≡ x.entry
+      go true = refl
+      go false = refl
+
+    same_frame : (x : Translation) → frame_in (restricted v first end x) ≡ frame_in x
+    same_frame x = go (shows_in v first end x.entry) where
+      go : (b : Bool) → frame_in (cond b (record x { readiness = Read }) x) ≡ frame_in x
+      go true = refl
+      go false = refl
+
+    from : (root p : ℕ) (o : Option Translation) (x : Translation) → places root p ≡ o → option_map (restricted v first end) (places root p) ≡ Some x
+        → (was : Translation) × (places root p ≡ Some was) × ((P : Entry → Type 0) → P was.entry → P x.entry)
+    from root p None x f e = absurd (let none : ◌≡◌ {A = Option Translation} None (Some x) = sym (ap (option_map (restricted v first end)) f) ∙ e in cc)
+    from root p (Some y) x f e =
+        let both : ◌≡◌ {A = Option Translation} (Some (restricted v first end y)) (Some x) = sym (ap (option_map (restricted v first end)) f) ∙ e in
+        let same : restricted v first end y ≡ x = cc in
+        (y, f, λ P h. subst P (sym (same_entry y) ∙ ap (λ (z : Translation). z.entry) same) h)
+
+    from_frame : (root p : ℕ) (o : Option Translation) (x : Translation) → places root p ≡ o → option_map (restricted v first end) (places root p) ≡ Some x
+        → frame_in x ≡ frame_at d x.entry.koid.0 x.entry.page
+    from_frame root p None x f e = absurd (let none : ◌≡◌ {A = Option Translation} None (Some x) = sym (ap (option_map (restricted v first end)) f) ∙ e in cc)
+    from_frame root p (Some y) x f e =
+        let both : ◌≡◌ {A = Option Translation} (Some (restricted v first end y)) (Some x) = sym (ap (option_map (restricted v first end)) f) ∙ e in
+        let same : restricted v first end y ≡ x = cc in
+        subst (λ (z : Translation). frame_in z ≡ frame_at d z.entry.koid.0 z.entry.page) same
+        (same_frame y ∙ (frame_left root p y f (stays root p y f) ∙ ap (λ (entry : Entry). frame_at d entry.koid.0 entry.page) (sym (same_entry y))))
+
+    each : (root p : ℕ) (o : Option Translation) → places root p ≡ o
+        → readiness_of (option_map (restricted v first end) (places root p)) ≡ cond (passes (shows_in v first end) (old root p)) (option_map (λ (r : Readiness). Read) (kept root p)) (kept root p)
+    each root p None e =
+        let none : kept root p ≡ None = settled-none c d table (ready_of places) root p (ap readiness_of e) in
+        ap (λ (o : Option Translation). readiness_of (option_map (restricted v first end) o)) e ∙ sym (bare (passes (shows_in v first end) (old root p)) none) where
+          bare : (b : Bool) → kept root p ≡ None → cond b (option_map (λ (r : Readiness). Read) (kept root p)) (kept root p) ≡ None
+          bare true f = ap (option_map (λ (r : Readiness). Read)) f
+          bare false f = f
+    each root p (Some x) e =
+        let is : kept root p ≡ Some x.readiness = settled-stays c d table (ready_of places) root p x.entry (stays root p x e) ∙ ap readiness_of e in
+        ap (λ (o : Option Translation). readiness_of (option_map (restricted v first end) o)) e
+        ∙ (go (shows_in v first end x.entry) ∙ (ap (λ (o : Option Readiness). cond (shows_in v first end x.entry) (option_map (λ (r : Readiness). Read) o) o) (sym is)
+        ∙ ap (λ (b : Bool). cond b (option_map (λ (r : Readiness). Read) (kept root p)) (kept root p)) (sym (passes-some (shows_in v first end) (old root p) x.entry (good.entry root p x e))))) where
+          go : (b : Bool) → ◌≡◌ {A = Option Readiness} (Some (cond b (record x { readiness = Read }) x).readiness) (cond b (Some Read) (Some x.readiness))
+          go true = refl
+          go false = refl

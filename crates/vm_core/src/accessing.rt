@@ -1,0 +1,86 @@
+//! The accesses through mappings: `mem_read`, `mem_write`.
+
+ghost use Rattle.std.specs.Prelude.{◌≤◌, length};
+ghost use Rattle.vm_base.specs.declared.limits.TheConstants.{DATA_BYTES};
+ghost use Rattle.vm_model.specs.declared.command.Command.{Command};
+ghost use Rattle.vm_model.specs.Machine.Lent.{reply_for};
+ghost use Rattle.mapping_set.specs.Tables.{table_of};
+ghost use Rattle.region_tree.specs.Tree.{regions_of, spaces_of};
+ghost use Rattle.fault.specs.Table.{places_of, AreBacked, AreTrue};
+ghost use Rattle.vm_core.specs.Calls.{DoesAccess};
+
+use fault::Translations;
+use mapping_set::MappingSet;
+use page_store::PageStore;
+use region_tree::Regions;
+use vm_base::{DATA_BYTES, Refusal, RegionName};
+use vm_model::Answer;
+
+/// Reads `len` bytes from an address on through the mappings of an address space, where the region was given, is live and
+/// is a root, into room for `DATA_BYTES` bytes.
+#[tactic(auto, unfolding(vm_model::specs::Space::Regions::region_of))]
+pub(crate) fn mem_read<'a, P: PageStore>(
+    store: &P,
+    regions: &Regions,
+    maps: &MappingSet,
+    translations: &mut Translations,
+    region: RegionName,
+    addr: u64,
+    len: u64,
+    room: &'a mut [u8],
+) -> Answer<'a>
+    requires backed { AreBacked (P.content store.now) (table_of maps.now) }
+    requires translations { AreTrue (P.content store.now) (table_of maps.now) (places_of translations.old) }
+    requires room { DATA_BYTES ≤ length room.old }
+    ensures { DoesAccess (spaces_of (regions_of regions.now) (table_of maps.now)) (P.content store.now)
+        (places_of translations.old) (Command.MemRead region addr len) (reply_for result) (P.content store.now)
+        (places_of translations.new) }
+{
+    let Some(root) = regions.get(region) else {
+        return Answer::Refused(Refusal::BadHandle);
+    };
+    if !root.live {
+        return Answer::Refused(Refusal::BadState);
+    }
+    if root.parent.is_some() || len > DATA_BYTES as u64 {
+        return Answer::Refused(Refusal::InvalidArgs);
+    }
+    match translations.mem_read_into(store, maps, region, addr, len, room) {
+        Ok((faults, bytes)) => Answer::Access { faults, bytes },
+        Err(refusal) => Answer::Refused(refusal),
+    }
+}
+
+/// Writes bytes, at most `DATA_BYTES`, from an address on through the mappings of an address space, where the region was
+/// given, is live and is a root.
+#[tactic(auto, unfolding(vm_model::specs::Space::Regions::region_of))]
+pub(crate) fn mem_write<P: PageStore>(
+    store: &mut P,
+    regions: &Regions,
+    maps: &MappingSet,
+    translations: &mut Translations,
+    region: RegionName,
+    addr: u64,
+    bytes: &[u8],
+) -> Answer<'static>
+    requires backed { AreBacked (P.content store.old) (table_of maps.now) }
+    requires translations { AreTrue (P.content store.old) (table_of maps.now) (places_of translations.old) }
+    requires bytes { length bytes.now ≤ DATA_BYTES }
+    ensures { DoesAccess (spaces_of (regions_of regions.now) (table_of maps.now)) (P.content store.old)
+        (places_of translations.old) (Command.MemWrite region addr bytes.now) (reply_for result) (P.content store.new)
+        (places_of translations.new) }
+{
+    let Some(root) = regions.get(region) else {
+        return Answer::Refused(Refusal::BadHandle);
+    };
+    if !root.live {
+        return Answer::Refused(Refusal::BadState);
+    }
+    if root.parent.is_some() {
+        return Answer::Refused(Refusal::InvalidArgs);
+    }
+    match translations.mem_write(store, maps, region, addr, bytes) {
+        Ok(faults) => Answer::Faults(faults),
+        Err(refusal) => Answer::Refused(refusal),
+    }
+}

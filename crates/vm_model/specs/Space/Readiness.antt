@@ -1,0 +1,57 @@
+-- Which pages of address spaces are ready for an access, so that it takes no page fault. From the kernel's page tables: a page
+-- is translated when it is touched first, and again after its frame changed.
+use Rattle.std.specs.Prelude.{ℕ, Bool, true, false, ◌&&◌, ◌==◌, nat_lt, if◌then◌else◌, Option, None, Some}
+use Rattle.std.specs.Option.{option_map}
+use Rattle.vm_base.specs.Entries.{passes}
+use Rattle.vm_model.specs.declared.space.Entry.{Entry}
+use Rattle.vm_model.specs.declared.space.Readiness.{Readiness}
+use Rattle.vm_model.specs.declared.space.Readiness.TheVariants.{Read, Write}
+use Rattle.vm_model.specs.Contents.Content.{Content, Page, pages_of}
+use Rattle.vm_model.specs.Contents.Zeroing.{is_within}
+
+-- what each page of each address space is ready for
+abbrev pub Ready : Type 0
+Ready = ℕ → ℕ → Option Readiness
+
+-- a page is ready for writing
+abbrev pub is_writable : Option Readiness → Bool
+is_writable None = false
+is_writable (Some Read) = false
+is_writable (Some Write) = true
+
+-- the frame of page p of the VMO v, where it is held
+abbrev pub frame_at : Content → ℕ → ℕ → Option ℕ
+frame_at c v p = option_map (λ (held : Page). held.tag) (c.page v p)
+
+-- both are the same frame, or no frame
+abbrev pub is_same_frame : Option ℕ → Option ℕ → Bool
+is_same_frame None None = true
+is_same_frame (Some t) (Some u) = t == u
+is_same_frame _ _ = false
+
+-- the page that the entry shows has in `new` the frame that it had in `old`, and lies in its VMO there
+unfoldable pub keeps_frame : (old new : Content) → Entry → Bool
+keeps_frame old new entry =
+    is_same_frame (frame_at old entry.koid.0 entry.page) (frame_at new entry.koid.0 entry.page) && nat_lt entry.page (pages_of new entry.koid.0)
+
+-- what is ready once the content is `new` in place of `old` and pages show what the table says: a page stays ready where what it
+-- shows keeps its frame
+unfoldable pub settled : (old new : Content) → (ℕ → ℕ → Option Entry) → Ready → Ready
+settled old new table ready root p = if passes (keeps_frame old new) (table root p) then ready root p else None
+
+-- page p of an address space is ready for this
+unfoldable pub with_ready : Ready → (root p : ℕ) → Readiness → Ready
+with_ready ready root p readiness r q = if (r == root) && (q == p) then Some readiness else ready r q
+
+-- the pages from `first` to below `end` of an address space are ready for nothing
+unfoldable pub unready : Ready → (root first end : ℕ) → Ready
+unready ready root first end r p = if (r == root) && is_within first end p then None else ready r p
+
+-- the entry shows a page of the VMO v from `first` to below `end`
+abbrev pub shows_in : (v first end : ℕ) → Entry → Bool
+shows_in v first end entry = (entry.koid.0 == v) && is_within first end entry.page
+
+-- what shows a page of the VMO v from `first` to below `end` is ready for reading at most
+unfoldable pub read_only : (ℕ → ℕ → Option Entry) → (v first end : ℕ) → Ready → Ready
+read_only table v first end ready root p =
+    if passes (shows_in v first end) (table root p) then option_map (λ (readiness : Readiness). Read) (ready root p) else ready root p
