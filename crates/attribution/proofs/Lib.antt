@@ -1,3 +1,4 @@
 pub mod AttributionLaws
+pub mod ChargeLaws
 pub mod CountLaws
 pub mod RunLaws

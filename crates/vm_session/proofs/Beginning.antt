@@ -1,9 +1,9 @@
 -- What a store contains before its first VMO, and how the serving of a script begins.
 use Rattle.std.proofs.Common.{◌≡◌, ℕ, inl, false, List, [], Option, refl, sym, ap, subst, ◌∙◌, arith}
 use Rattle.std.proofs.KnownBytes.{Appends-nil, Consumes-nil}
-use Rattle.vm_model.specs.Contents.Content.{Content, nothing, IsGood}
+use Rattle.vm_model.specs.Contents.Content.{Content, nothing}
 use Rattle.vm_model.specs.Machine.Machine.{Machine, IsGoodMachine, empty_machine}
-use Rattle.vm_model.proofs.ContentLaws.{count-nothing, IsGood-nothing}
+use Rattle.vm_model.proofs.ContentLaws.{count-nothing}
 use Rattle.vm_core.specs.Vm.{HasNoVmo}
 use Rattle.script_io.specs.Reader.{Reader}
 use Rattle.script_io.specs.Fetching.{IsPending}
@@ -45,10 +45,14 @@ IsServed-fresh frames limit reader source sink now e f = subst (λ (r : Reader).
   written = Appends-nil sink;
 })
 
-pub IsReady-fresh : (frames limit : ℕ) (reader : Reader) (source : Option (List ℕ)) (now : Machine) → reader ≡ fresh limit → now ≡ empty_machine frames → IsReady reader source now.state.content.next
+-- the first koid of an empty machine
+pub first_koid : (frames : ℕ) (now : Machine) → now ≡ empty_machine frames → now.state.content.next ≡ 1
 unfolding empty_machine
+first_koid frames now e = ap (λ (m : Machine). m.state.content.next) e ∙ next-empty frames
+
+pub IsReady-fresh : (frames limit : ℕ) (reader : Reader) (source : Option (List ℕ)) (now : Machine) → reader ≡ fresh limit → now ≡ empty_machine frames → IsReady reader source now.state.content.next
 IsReady-fresh frames limit reader source now e f = subst (λ (r : Reader). IsReady r source now.state.content.next) (sym e) (record {
   pending = [];
   still = IsPending-fresh limit source;
-  koids = omega (arith, next-empty frames, ap (λ (m : Machine). m.state.content.next) f);
+  koids = omega (arith, first_koid frames now f);
 })

@@ -3,3 +3,4 @@ mod Served
 mod Answered
 mod Beginning
 mod Writing
+mod WorkLaws

@@ -1,2 +1,4 @@
 pub mod Outcome
+pub mod Tasks
 pub mod Serving
+pub mod Working

@@ -1,6 +1,6 @@
 -- How a run ends, over the bytes that a source gave, the bytes that a sink took, and what a store contains. What a
 -- source has left and what a sink took are known where these tell them.
-use Rattle.std.specs.Prelude.{◌≡◌, ℕ, ◌+◌, ◌<◌, ◌≤◌, ◌⊎◌, ◌&&◌, nat_le, Bool, List, [], ◌∷◌, ◌++◌, length, take, map, codes, nat_eq, if◌then◌else◌, Option, None, Some, Result, slice_get, MatchResult}
+use Rattle.std.specs.Prelude.{◌≡◌, ℕ, ◌+◌, ◌-◌, ◌^◌, ◌<◌, ◌≤◌, ◌⊎◌, ◌&&◌, nat_le, Bool, List, [], ◌∷◌, ◌++◌, length, take, map, codes, nat_eq, if◌then◌else◌, Option, None, Some, option_map, Result, slice_get, MatchResult}
 use Rattle.std.specs.Cmp.Lexicographic.{pointwise}
 use Rattle.std.specs.Io.KnownBytes.{Appends, Consumes, IsAtEnd}
 use Rattle.std.specs.String.{string_bytes}
@@ -9,7 +9,7 @@ use Rattle.std.specs.declared.alloc.Global.{Global}
 use Rattle.script_io.specs.declared.status.Status.{Status}
 use Rattle.script_io.specs.declared.status.Status.TheVariants.{Done, Usage, HostMemory, ReadFault, WriteFault, ScriptLimit}
 use Rattle.script_io.specs.Faults.{IsCutOff}
-use Rattle.vm_base.specs.declared.limits.TheConstants.{FRAMES}
+use Rattle.vm_base.specs.declared.limits.TheConstants.{FRAMES, SCRIPT_BYTES}
 use Rattle.vm_model.specs.declared.reply.Reply.{Reply}
 use Rattle.vm_model.specs.Contents.Content.{Content}
 use Rattle.vm_model.specs.Machine.Machine.{Machine, IsGoodMachine, empty_machine}
@@ -17,31 +17,62 @@ use Rattle.vm_model.specs.Language.Text.{texts}
 use Rattle.vm_model.specs.Language.Reading.{is_hex, number, ◌>>=◌}
 use Rattle.vm_core.specs.Vm.{HasNoVmo}
 use Rattle.vm_model.specs.Scripts.Run.{lines_of, whole_lines, Gives, Run, Legal}
+use Rattle.vm_model.specs.Scripts.Workload.{IsWorked}
+use Rattle.vm_session.specs.declared.words.Task.{Task}
 
 -- ---- the words of the command line
 
 abbrev pub is_text : List ℕ → List ℕ → Bool
 is_text = pointwise nat_eq
 
--- at most five digits, and a number from 1 to 65,536
-abbrev pub frames_of_digits : List ℕ → Option ℕ → Option ℕ
-frames_of_digits word o = do
+-- at most so many digits, and a number from least to most
+abbrev pub within : (len least most : ℕ) → List ℕ → Option ℕ → Option ℕ
+within len least most word o = do
   n ← o
-  if nat_le (length word) 5 && (nat_le 1 n && nat_le n FRAMES) then Some n else None
+  if nat_le (length word) len && (nat_le least n && nat_le n most) then Some n else None
 
--- a number of frames, which isn't written in hexadecimal
-unfoldable pub frames_of_word : List ℕ → Option ℕ
-frames_of_word word = if is_hex word then None else frames_of_digits word (number word)
+-- such a number, which isn't written in hexadecimal
+unfoldable pub decimal_of_word : (len least most : ℕ) → List ℕ → Option ℕ
+decimal_of_word len least most word = if is_hex word then None else within len least most word (number word)
 
--- `run`, with 1,024 frames, or `run --frames N`
+-- a number of frames: one to five digits, from 1 to 65,536
+abbrev pub frames_of_word : List ℕ → Option ℕ
+frames_of_word = decimal_of_word 5 1 FRAMES
+
+-- the number of a workload: one to twenty digits, below 2^64
+abbrev pub number_of_word : List ℕ → Option ℕ
+number_of_word = decimal_of_word 20 0 (2 ^ 64 - 1)
+
+-- how many commands a workload has: one to seven digits, at most 1,000,000
+abbrev pub count_of_word : List ℕ → Option ℕ
+count_of_word = decimal_of_word 7 0 1000000
+
+-- no more words, for 1,024 frames, or `--frames N`
 abbrev pub frames_in : List (List ℕ) → Option ℕ
-frames_in (w ∷ []) = if is_text w (codes "run") then Some 1024 else None
-frames_in (w ∷ f ∷ n ∷ []) = if is_text w (codes "run") && is_text f (codes "--frames") then frames_of_word n else None
+frames_in [] = Some 1024
+frames_in (flag ∷ frames ∷ []) = if is_text flag (codes "--frames") then frames_of_word frames else None
 frames_in _ = None
 
--- how many frames the words ask for, None where they are outside the grammar
-abbrev pub frames_asked : List (String Global) → Option ℕ
-frames_asked words = frames_in (map string_bytes words)
+-- a workload, behind `work`: its number and its count, and then the frames
+abbrev pub work_in : List (List ℕ) → Option Task
+work_in (number ∷ count ∷ behind) = do
+  n ← number_of_word number
+  k ← count_of_word count
+  frames ← frames_in behind
+  Some (Task.Work n k frames)
+work_in _ = None
+
+-- `run` and the frames, or `work` and a workload
+abbrev pub task_in : List (List ℕ) → Option Task
+task_in [] = None
+task_in (verb ∷ behind) =
+    if is_text verb (codes "run") then option_map (λ frames. Task.Run frames) (frames_in behind)
+    else if is_text verb (codes "work") then work_in behind
+    else None
+
+-- what the words ask for, None where they are outside the grammar
+abbrev pub task_asked : List (String Global) → Option Task
+task_asked words = task_in (map string_bytes words)
 
 -- ---- what was answered
 
@@ -132,7 +163,7 @@ pub record NothingDone (source_old source_new sink_old sink_new : Option (List �
   pub written : sink_new ≡ sink_old
   pub store : HasNoVmo content
 
--- what each status says
+-- what each status says of a script
 abbrev pub EndsAs : Status → ℕ → ℕ → Option (List ℕ) → Option (List ℕ) → Option (List ℕ) → Option (List ℕ)
     → Content → Type 0
 EndsAs Done frames limit source_old source_new sink_old sink_new content =
@@ -146,3 +177,37 @@ EndsAs WriteFault frames limit source_old source_new sink_old sink_new content =
 EndsAs HostMemory frames limit source_old source_new sink_old sink_new content =
     NothingDone source_old source_new sink_old sink_new content
 EndsAs Usage frames limit source_old source_new sink_old sink_new content = ⊥
+
+-- ---- how a workload ends
+
+-- Nothing was read. The workload was done and is told by a line, this was written of the line, and the store has what the
+-- machine has in the end, which is a good state.
+pub record Works (Written : List ℕ → Type 0) (frames number count : ℕ) (source_old source_new : Option (List ℕ))
+    (content : Content) : Type 0 where
+  pub read : source_new ≡ source_old
+  pub line : List ℕ
+  pub last : Machine
+  pub worked : IsWorked frames number count line last
+  pub good : IsGoodMachine last
+  pub written : Written line
+  pub store : content ≡ last.state.content
+
+-- what each status says of a workload
+abbrev pub WorkEndsAs : Status → ℕ → ℕ → ℕ → Option (List ℕ) → Option (List ℕ) → Option (List ℕ) → Option (List ℕ)
+    → Content → Type 0
+WorkEndsAs Done frames number count source_old source_new sink_old sink_new content =
+    Works (Appends sink_old sink_new) frames number count source_old source_new content
+WorkEndsAs WriteFault frames number count source_old source_new sink_old sink_new content =
+    Works (IsCutOff sink_old sink_new) frames number count source_old source_new content
+WorkEndsAs HostMemory frames number count source_old source_new sink_old sink_new content =
+    NothingDone source_old source_new sink_old sink_new content
+WorkEndsAs status frames number count source_old source_new sink_old sink_new content = ⊥
+
+-- ---- how a task ends
+
+abbrev pub TaskEndsAs : Task → Status → Option (List ℕ) → Option (List ℕ) → Option (List ℕ) → Option (List ℕ)
+    → Content → Type 0
+TaskEndsAs (Task.Run frames) status source_old source_new sink_old sink_new content =
+    EndsAs status frames SCRIPT_BYTES source_old source_new sink_old sink_new content
+TaskEndsAs (Task.Work number count frames) status source_old source_new sink_old sink_new content =
+    WorkEndsAs status frames number count source_old source_new sink_old sink_new content

@@ -1,8 +1,9 @@
-//! A run of the machine over a script: from the bytes of a source to the bytes of a sink.
+//! A run of the machine over a script, from the bytes of a source to the bytes of a sink, or over
+//! commands that are generated from a number.
 //!
-//! It stands on `vm_core` for the step, on `script_text` and `reply_text` for lines and replies, and
-//! on `script_io` for sources and sinks. `run` is the call that the program makes, and its contract
-//! is the theorem of the whole project.
+//! It stands on `vm_core` for the step, on `script_text`, `reply_text` and `word_text` for lines and
+//! replies, and on `script_io` for sources and sinks. `run` is the call that the program makes, and
+//! its contract is the theorem of the whole project.
 #![tactic(auto)]
 
 mod answers;
@@ -10,7 +11,10 @@ mod replies;
 mod rooms;
 mod serving;
 mod session;
+mod tally;
 mod words;
+mod working;
+mod workload;
 
 pub use script_io::{Status, code};
 pub use serving::serve;

@@ -1,25 +1,30 @@
 //! The call that the program makes.
 
-ghost use Rattle.std.specs.Prelude.{◌≡◌, ◌↔◌, None, IfSome};
+ghost use Rattle.std.specs.Prelude.{◌≡◌, ◌↔◌, ℕ, None, Some, IfSome};
 ghost use Rattle.script_io.specs.Faults.{HasFailed};
 ghost use Rattle.vm_model.specs.Contents.Content.{nothing};
-ghost use Rattle.vm_session.specs.Outcome.{frames_asked, EndsAs};
+ghost use Rattle.vm_session.specs.Outcome.{task_asked, TaskEndsAs};
+ghost use Rattle.vm_session.specs.declared.words.Task.{Task};
 
 use crate::serving::serve;
-use crate::words::frames_asked;
+use crate::words::{Task, task_asked};
+use crate::working::work;
 use page_store::PageStore;
 use script_io::{Sink, Source, Status};
 use std::alloc::Global;
 use vm_base::SCRIPT_BYTES;
 
-/// Runs the script that a source gives, and writes the replies to a sink. `words` are the words of
-/// the command line behind the program's name: `run`, with 1,024 page frames, or `run --frames N`
-/// with one to five digits from 1 to 65,536.
+/// Does what `words` ask for, the words of the command line behind the program's name.
 ///
-/// Each line is answered, and its replies written, before the next line is looked at. `HostMemory`
-/// where the host has too little memory for the buffers and the frames. `ScriptLimit` where the
-/// source gives more than 4,294,967,296 bytes. `ReadFault` and `WriteFault` where the source and the
-/// sink fail. `Usage` for other words, and then nothing is touched.
+/// `run` runs the script that a source gives, and writes the replies to a sink. Each line is answered,
+/// and its replies written, before the next line is looked at. `work NUMBER COUNT` reads nothing: it
+/// does so many commands, at most 1,000,000, that are generated from a number below 2^64, and writes
+/// one line that tells what became of them. The machine has 1,024 page frames, or as many as `--frames
+/// N` says behind, with one to five digits from 1 to 65,536.
+///
+/// `HostMemory` where the host has too little memory for the buffers and the frames. `ScriptLimit`
+/// where the source gives more than 4,294,967,296 bytes. `ReadFault` and `WriteFault` where the source
+/// and the sink fail. `Usage` for other words, and then nothing is touched.
 pub fn run<P: PageStore, S: Source, K: Sink>(
     alloc: Global,
     words: &[String],
@@ -31,10 +36,15 @@ pub fn run<P: PageStore, S: Source, K: Sink>(
 
     // What each status says of the bytes that the source gave, the bytes that the sink took and what
     // the store contains. `Done` says that what was written is the replies of one legal run over all
-    // lines of the script, and that the store contains what the machine has in the end.
-    ensures ends { IfSome (frames_asked words.now) (λ frames.
-        EndsAs result frames SCRIPT_BYTES (S.remaining source.old) (S.remaining source.new)
+    // lines of the script, or the line that tells of one over the workload, and that the store contains
+    // what the machine has in the end.
+    ensures ends { IfSome (task_asked words.now) (λ task.
+        TaskEndsAs task result (S.remaining source.old) (S.remaining source.new)
         (K.contents sink.old) (K.contents sink.new) (P.content store.new)) }
+
+    // A workload is done without reading.
+    ensures unread { (number count frames : ℕ) → task_asked words.now ≡ Some (Task.Work number count frames)
+        → source.new ≡ source.old }
 
     // A fault is answered only where the source or the sink failed.
     ensures read_cause { result ≡ Status.ReadFault → HasFailed (S.faults source.old) (S.faults source.new) }
@@ -44,12 +54,19 @@ pub fn run<P: PageStore, S: Source, K: Sink>(
     ensures host_memory { result ≡ Status.HostMemory → (source.new ≡ source.old) × (sink.new ≡ sink.old) }
 
     // Other words are refused, and nothing is touched.
-    ensures usage { (result ≡ Status.Usage) ↔ (frames_asked words.now ≡ None) }
+    ensures usage { (result ≡ Status.Usage) ↔ (task_asked words.now ≡ None) }
     ensures untouched { result ≡ Status.Usage → (source.new ≡ source.old) × (sink.new ≡ sink.old)
         × (store.new ≡ store.old) }
 {
-    match frames_asked(words) {
-        Some(frames) => serve(alloc, frames, SCRIPT_BYTES, store, source, sink),
+    match task_asked(words) {
+        Some(Task::Run { frames }) => serve(alloc, frames, SCRIPT_BYTES, store, source, sink),
+        Some(
+            Task::Work {
+                number,
+                count,
+                frames,
+            },
+        ) => work(alloc, frames, number, count, store, sink),
         None => Status::Usage,
     }
 }

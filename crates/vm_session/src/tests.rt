@@ -24,6 +24,7 @@ mod regions;
 mod sharing;
 mod sizes;
 mod words;
+mod workload;
 
 /// The room of a sink that is never full here, in bytes.
 const ROOM: usize = 4096;

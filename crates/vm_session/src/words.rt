@@ -1,8 +1,10 @@
 //! The words of the command line.
 
-ghost use Rattle.std.specs.Prelude.{◌≡◌, ◌≤◌, length, IfSome};
+ghost use Rattle.std.specs.Prelude.{◌≡◌, ◌≤◌, map, IfSome};
+ghost use Rattle.std.specs.String.{string_bytes};
 ghost use Rattle.vm_model.specs.Language.Reading.{number};
-ghost use Rattle.vm_session.specs.Outcome.{frames_asked, frames_of_digits, frames_of_word};
+ghost use Rattle.vm_session.specs.Outcome.{decimal_of_word, frames_in, task_asked, within};
+ghost use Rattle.vm_session.specs.Tasks.{HasBounds};
 
 use script_text::number;
 use vm_base::FRAMES;
@@ -10,41 +12,85 @@ use vm_base::FRAMES;
 /// How many page frames a machine has where the words don't say.
 const DEFAULT_FRAMES: u32 = 1024;
 
-/// How many page frames the words ask for: `run`, or `run --frames N` with one to five digits from 1
-/// to 65,536. `None` for any other words.
-pub(crate) fn frames_asked(words: &[String]) -> Option<u32>
-    ensures frames { result ≡ frames_asked words.now }
-    ensures range { IfSome result (λ frames. 1 ≤ frames × frames ≤ FRAMES) }
+/// The most commands of a workload.
+const WORK_COUNT: u64 = 1_000_000;
+
+/// What the words ask for.
+#[derive(Clone, Copy)]
+pub(crate) enum Task {
+    /// To run a script on a machine with so many page frames.
+    Run {
+        frames: u32,
+    },
+    /// To run so many commands, generated from a number, on a machine with so many page frames.
+    Work {
+        number: u64,
+        count: u64,
+        frames: u32,
+    },
+}
+
+/// What the words ask for: `run`, or `work NUMBER COUNT` with a number of one to twenty digits below
+/// 2^64 and a count of one to seven digits up to 1,000,000. Behind either `--frames N` may stand, with
+/// one to five digits from 1 to 65,536. `None` for any other words.
+pub(crate) fn task_asked(words: &[String]) -> Option<Task>
+    ensures task { result ≡ task_asked words.now }
+    ensures bounds { IfSome result HasBounds }
 {
     match words {
-        [run] if run.as_bytes() == b"run".as_slice() => Some(DEFAULT_FRAMES),
-        [run, frames, count]
-            if run.as_bytes() == b"run".as_slice() && frames.as_bytes() == b"--frames".as_slice() =>
-            { frames_of_word(count.as_bytes()) }
+        [verb, behind @ ..] if verb.as_bytes() == b"run".as_slice() => {
+            let frames = frames_asked(behind)?;
+            Some(Task::Run { frames })
+        }
+        [verb, number, count, behind @ ..] if verb.as_bytes() == b"work".as_slice() => {
+            let number = decimal_of_word(number.as_bytes(), 20, 0, u64::MAX)?;
+            let count = decimal_of_word(count.as_bytes(), 7, 0, WORK_COUNT)?;
+            let frames = frames_asked(behind)?;
+            Some(Task::Work {
+                number,
+                count,
+                frames,
+            })
+        }
         _ => None,
     }
 }
 
-/// A number of page frames: one to five digits, from 1 to 65,536.
-#[tactic(auto, unfolding(crate::specs::Outcome::frames_of_word))]
-fn frames_of_word(word: &[u8]) -> Option<u32>
-    ensures count { result ≡ frames_of_word word.now }
-    ensures range { IfSome result (λ count. 1 ≤ count × count ≤ FRAMES) }
+/// How many page frames the last words ask for: `--frames N`, or no words.
+fn frames_asked(words: &[String]) -> Option<u32>
+    ensures frames { result ≡ frames_in (map string_bytes words.now) }
+    ensures range { IfSome result (λ frames. 1 ≤ frames × frames ≤ FRAMES) }
 {
-    match word {
-        [b'0', b'x', ..] => None,
-        _ => frames_of_digits(word),
+    match words {
+        [] => Some(DEFAULT_FRAMES),
+        [flag, frames] if flag.as_bytes() == b"--frames".as_slice() => {
+            let frames = decimal_of_word(frames.as_bytes(), 5, 1, FRAMES as u64)?;
+            Some(frames as u32)
+        }
+        _ => None,
     }
 }
 
-/// A number of at most five bytes, from 1 to 65,536.
-fn frames_of_digits(word: &[u8]) -> Option<u32>
-    ensures count { result ≡ frames_of_digits word.now (number word.now) }
-    ensures range { IfSome result (λ count. 1 ≤ count × count ≤ FRAMES) }
+/// A decimal number of at most `len` bytes, from `least` to `most`.
+#[tactic(auto, unfolding(crate::specs::Outcome::decimal_of_word))]
+fn decimal_of_word(word: &[u8], len: usize, least: u64, most: u64) -> Option<u64>
+    ensures value { result ≡ decimal_of_word len least most word.now }
+    ensures range { IfSome result (λ value. least ≤ value × value ≤ most) }
 {
-    let count = number(word)?;
-    if word.len() <= 5 && (1 <= count && count <= FRAMES as u64) {
-        Some(count as u32)
+    match word {
+        [b'0', b'x', ..] => None,
+        _ => within(word, len, least, most),
+    }
+}
+
+/// A number of at most `len` bytes, from `least` to `most`.
+fn within(word: &[u8], len: usize, least: u64, most: u64) -> Option<u64>
+    ensures value { result ≡ within len least most word.now (number word.now) }
+    ensures range { IfSome result (λ value. least ≤ value × value ≤ most) }
+{
+    let value = number(word)?;
+    if word.len() <= len && (least <= value && value <= most) {
+        Some(value)
     } else {
         None
     }
