@@ -19,7 +19,7 @@ use vm_base::{Koid, PAGE, PAGE_BYTES, PageNo, Refusal};
 use vmo_table::Target;
 
 /// The most bytes of a fill that is done from a short buffer.
-const SHORT_FILL: usize = 64;
+const SHORT_FILL: usize = 256;
 
 /// Writes one byte at every place of a range: `len` bytes from `offset` bytes into the name on. The
 /// refusals are those of a write of these bytes, in the same order.
