@@ -1,12 +1,11 @@
 -- How runs of mappings are put together from pieces.
-use Rattle.std.proofs.Common.{◌≡◌, ℕ, zero, suc, ◌+◌, ◌-◌, ◌*◌, ◌<◌, ◌≤◌, true, ◌&&◌, List, [], ◌∷◌, ◌++◌, Option, None, Some, refl, sym, ap, ◌∙◌, arith}
-use Rattle.std.specs.Prelude.{nat_le, is_some, IsSome, Result, Ok, Err, MatchResult}
-use Rattle.std.proofs.lemmas.Bool.{and_from, le-leb}
+use Rattle.std.proofs.Common.{◌≡◌, ℕ, zero, suc, ◌+◌, ◌-◌, ◌*◌, ◌<◌, ◌≤◌, true, List, [], ◌∷◌, ◌++◌, Option, None, Some, refl, sym, ap, ◌∙◌, arith}
+use Rattle.std.specs.Prelude.{is_some, IsSome, Result, Ok, Err, MatchResult}
 use Rattle.std.proofs.lemmas.Bool.Decides.{nat_tests}
 use Rattle.std.proofs.lemmas.Grind.{common_steps}
 use Rattle.vm_base.specs.declared.limits.TheConstants.{PAGE}
 use Rattle.vm_base.specs.declared.refusal.HostMemory.{HostMemory}
-use Rattle.vm_base.proofs.SearchLaws.{any_below_at}
+use Rattle.vm_base.proofs.SearchLaws.{any_from_at}
 use Rattle.vm_model.specs.declared.runs.Run.{Run}
 use Rattle.vm_model.specs.declared.space.Entry.{Entry}
 use Rattle.vm_model.specs.Space.Table.{entry_behind, mapping_from}
@@ -92,9 +91,8 @@ module _ (entries : ℕ → Option Entry) where
         let some = is.next.is.some in
         let before = is.next.not_before in
         let high = is.not_past in
-        any_below_at end piece.first (λ p. nat_le first p && is_some (entries p)) (omega (arith, some, high))
-        (and_from _ _ (le-leb first piece.first (omega (arith, low, before)))
-        (ap is_some (is.next.is.entries piece.first (omega arith) (omega (arith, some)))))
+        any_from_at _ first end piece.first (omega (arith, low, before)) (omega (arith, some, high))
+        (ap is_some (is.next.is.entries piece.first (omega arith) (omega (arith, some))))
 
   -- ---- the runs of a range, as far as they are put together
 

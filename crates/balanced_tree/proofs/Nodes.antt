@@ -1,11 +1,12 @@
 -- The root of a tree that stands in a slab, and its parts.
-use Rattle.std.proofs.Common.{◌≡◌, ◌⊎◌, ℕ, ◌+◌, ◌<◌, ◌≤◌, ◌^◌, max, true, Option, None, Some, IsTrue, refl, sym, ap, ◌∙◌, subst, inl, inr, arith}
+use Rattle.std.proofs.Common.{◌≡◌, ◌⊎◌, ℕ, ◌+◌, ◌<◌, ◌≤◌, ◌^◌, max, Bool, true, false, not, cond, Option, None, Some, IsTrue, refl, sym, ap, ◌∙◌, subst, inl, inr, arith}
 use Rattle.std.proofs.lemmas.Grind.{common_steps}
 use Rattle.std.proofs.lemmas.Option.{same_Some}
 use Rattle.slab.specs.Slab.{Slab, get, ContainsKey, HasRoomFor}
 use Rattle.balanced_tree.specs.declared.children.Child.{Child}
-use Rattle.balanced_tree.specs.Row.{Functions, AreLawful, height_in}
-use Rattle.balanced_tree.specs.Tree.{Tree, Leaf, Node, height, child_of, stored, has_rank, found, found_to}
+use Rattle.std.specs.Option.{option_map}
+use Rattle.balanced_tree.specs.Row.{Functions, AreLawful, height_in, plain}
+use Rattle.balanced_tree.specs.Tree.{Tree, Leaf, Node, height, child_of, stored, has_rank, found}
 use Rattle.balanced_tree.specs.Standing.{child_at, Spells, Same, IsStanding, Stands, StandsFor, Keeps, Becomes, IsSplit, height_at}
 use Rattle.balanced_tree.proofs.Spelling.{link_of-child_of, child_at-place_of, IsOrdered-bounds, Same-linked, Spells-kept, split_over, split_with, ContainsKey-place_of}
 
@@ -107,23 +108,18 @@ module _ {R : Type 0} (f : Functions R) where
     kept_wider_right k = Rattle.balanced_tree.proofs.Spelling.Keeps-wider f low high (omega (arith, in_low)) (omega arith) k
 
     -- which way leads to a rank
-    pub found-left : (m : ℕ) (best : Option R) → m < f.rank here → found f m best t ≡ found f m (Some (f.linked here None None)) n.left
-    found-left m best h = rw n.is (grind (arith, common_steps, rank_here, n.same.linked None None))
+    pub found-left : (down : Bool) (m : ℕ) (best next : Option R) → next ≡ cond (not down) (Some here) best → m < f.rank here
+        → found f down m (option_map (plain f) best) t ≡ found f down m (option_map (plain f) next) n.left
+    found-left false m best next is h = rw (n.is, is) (grind (arith, common_steps, rank_here, n.same.linked None None))
+    found-left true m best next is h = rw (n.is, is) (grind (arith, common_steps, rank_here))
 
-    pub found-right : (m : ℕ) (best : Option R) → f.rank here < m → found f m best t ≡ found f m best n.right
-    found-right m best h = rw n.is (grind (arith, common_steps, rank_here))
+    pub found-right : (down : Bool) (m : ℕ) (best next : Option R) → next ≡ cond down (Some here) best → f.rank here < m
+        → found f down m (option_map (plain f) best) t ≡ found f down m (option_map (plain f) next) n.right
+    found-right false m best next is h = rw (n.is, is) (grind (arith, common_steps, rank_here))
+    found-right true m best next is h = rw (n.is, is) (grind (arith, common_steps, rank_here, n.same.linked None None))
 
-    pub found-here : (m : ℕ) (best : Option R) → f.rank here ≤ m → m ≤ f.rank here → found f m best t ≡ Some (f.linked here None None)
-    found-here m best g h = rw n.is (grind (arith, common_steps, rank_here, n.same.linked None None))
-
-    pub found_to-left : (m : ℕ) (best : Option R) → m < f.rank here → found_to f m best t ≡ found_to f m best n.left
-    found_to-left m best h = rw n.is (grind (arith, common_steps, rank_here))
-
-    pub found_to-right : (m : ℕ) (best : Option R) → f.rank here < m → found_to f m best t ≡ found_to f m (Some (f.linked here None None)) n.right
-    found_to-right m best h = rw n.is (grind (arith, common_steps, rank_here, n.same.linked None None))
-
-    pub found_to-here : (m : ℕ) (best : Option R) → f.rank here ≤ m → m ≤ f.rank here → found_to f m best t ≡ Some (f.linked here None None)
-    found_to-here m best g h = rw n.is (grind (arith, common_steps, rank_here, n.same.linked None None))
+    pub found-here : (down : Bool) (m : ℕ) (best : Option R) → f.rank here ≤ m → m ≤ f.rank here → found f down m best t ≡ Some (f.linked here None None)
+    found-here down m best g h = rw n.is (grind (arith, common_steps, rank_here, n.same.linked None None))
 
     pub has_rank-left : (m : ℕ) → m < f.rank here → has_rank f m t ≡ has_rank f m n.left
     has_rank-left m h = rw n.is (grind (arith, common_steps, rank_here))
@@ -218,10 +214,6 @@ module _ {R : Type 0} (f : Functions R) where
       let n = node_of laws h.standing is at in
       record { tree = n.right; low = f.rank n.row + 1; high = h.high; standing = standing-at (sym e) n.right_standing }
 
-  pub found-leaf : {s : Slab R} {at : Option ℕ} (t : Tree R) {low high : ℕ} (m : ℕ) (best : Option R) → at ≡ None → IsStanding f s at t low high → found f m best t ≡ best
-  found-leaf Leaf m best e h = refl
-  found-leaf (Node l p x r) m best e h = let none : Some p ≡ None = h.is_at ∙ e in cc
-
-  pub found_to-leaf : {s : Slab R} {at : Option ℕ} (t : Tree R) {low high : ℕ} (m : ℕ) (best : Option R) → at ≡ None → IsStanding f s at t low high → found_to f m best t ≡ best
-  found_to-leaf Leaf m best e h = refl
-  found_to-leaf (Node l p x r) m best e h = let none : Some p ≡ None = h.is_at ∙ e in cc
+  pub found-leaf : {s : Slab R} {at : Option ℕ} (t : Tree R) {low high : ℕ} (down : Bool) (m : ℕ) (best : Option R) → at ≡ None → IsStanding f s at t low high → found f down m best t ≡ best
+  found-leaf Leaf down m best e h = refl
+  found-leaf (Node l p x r) down m best e h = let none : Some p ≡ None = h.is_at ∙ e in cc

@@ -9,7 +9,7 @@ use Rattle.std.proofs.lemmas.List.Elements.{filter-append}
 use Rattle.std.proofs.lemmas.List.Folds.{find-append}
 use Rattle.balanced_tree.specs.Row.{Functions, AreLawful, plain}
 use Rattle.balanced_tree.specs.Rows.{if_at, row_at, row_from, row_to, with_row, without_rank, RisesWithin}
-use Rattle.balanced_tree.specs.Tree.{Tree, Leaf, Node, is_leaf, rows_of, IsOrdered, has_rank, found, found_to, inserted, least, without_least, without_root, removed}
+use Rattle.balanced_tree.specs.Tree.{Tree, Leaf, Node, is_leaf, rows_of, IsOrdered, has_rank, found, inserted, least, without_least, without_root, removed}
 use Rattle.balanced_tree.proofs.TreeLaws.{rows-balanced}
 
 pub option_or-none : {A : Type 0} (o : Option A) → option_or o None ≡ o
@@ -219,7 +219,7 @@ module _ {R : Type 0} (f : Functions R) where
         grind (arith, common_steps, rank-plain, rows-balanced f, rows-removed n low (f.rank x) l h.0, rows-removed n (f.rank x + 1) high r h.1)
 
     -- what the way down finds
-    pub found-row_from : (n : ℕ) (best : Option R) (low high : ℕ) (t : Tree R) → IsOrdered f low high t → found f n best t ≡ option_or (row_from f n (rows_of f t)) best
+    pub found-row_from : (n : ℕ) (best : Option R) (low high : ℕ) (t : Tree R) → IsOrdered f low high t → found f false n best t ≡ option_or (row_from f n (rows_of f t)) best
     found-row_from n best low high Leaf h = refl
     found-row_from n best low high (Node l p x r) h =
         let s = sides low high l p x r h in
@@ -230,22 +230,21 @@ module _ {R : Type 0} (f : Functions R) where
         let on_right = found-row_from n best (f.rank x + 1) high r h.1 in
         grind (arith, common_steps, rank-plain, option_or-some (row_from f n (rows_of f l)) (plain f x) best)
 
-    pub found_to-row_to : (n : ℕ) (best : Option R) (low high : ℕ) (t : Tree R) → IsOrdered f low high t → found_to f n best t ≡ option_or (row_to f n (rows_of f t)) best
-    found_to-row_to n best low high Leaf h = refl
-    found_to-row_to n best low high (Node l p x r) h =
+    pub found-row_to : (n : ℕ) (best : Option R) (low high : ℕ) (t : Tree R) → IsOrdered f low high t → found f true n best t ≡ option_or (row_to f n (rows_of f t)) best
+    found-row_to n best low high Leaf h = refl
+    found-row_to n best low high (Node l p x r) h =
         let s = sides low high l p x r h in
         let ex = rank-plain x in
         elim (cases_order n (f.rank x)) [
           | inl same ↦
-              cond-false (ltb (f.rank x) n) _ _ (le-ltb (f.rank x) n (omega arith)) ∙ cond-false (ltb n (f.rank x)) _ _ (le-ltb n (f.rank x) (omega arith))
+              cond-false (ltb n (f.rank x)) _ _ (le-ltb n (f.rank x) (omega arith)) ∙ cond-false (ltb (f.rank x) n) _ _ (le-ltb (f.rank x) n (omega arith))
               ∙ sym (ap (λ o. option_or o best) (row_to-here n (plain f x) low high (rows_of f l) (rows_of f r) s.left s.right (omega arith)
               ∙ ap (λ o. option_or o (Some (plain f x))) (row_to-behind n (f.rank (plain f x) + 1) high (rows_of f r) s.right (omega arith))))
           | inr (inl less) ↦
-              cond-false (ltb (f.rank x) n) _ _ (le-ltb (f.rank x) n (omega arith)) ∙ cond-true (ltb n (f.rank x)) _ _ (lt-ltb n (f.rank x) less)
-              ∙ found_to-row_to n best low (f.rank x) l h.0
+              cond-true (ltb n (f.rank x)) _ _ (lt-ltb n (f.rank x) less) ∙ found-row_to n best low (f.rank x) l h.0
               ∙ sym (ap (λ o. option_or o best) (row_to-left n (plain f x) low high (rows_of f l) (rows_of f r) s.left s.right (omega arith)))
           | inr (inr more) ↦
-              cond-true (ltb (f.rank x) n) _ _ (lt-ltb (f.rank x) n more) ∙ found_to-row_to n (Some (plain f x)) (f.rank x + 1) high r h.1
+              cond-false (ltb n (f.rank x)) _ _ (le-ltb n (f.rank x) (omega arith)) ∙ cond-true (ltb (f.rank x) n) _ _ (lt-ltb (f.rank x) n more) ∙ found-row_to n (Some (plain f x)) (f.rank x + 1) high r h.1
               ∙ sym (ap (λ o. option_or o best) (row_to-here n (plain f x) low high (rows_of f l) (rows_of f r) s.left s.right (omega arith))
               ∙ option_or-some (row_to f n (rows_of f r)) (plain f x) best)
         ]

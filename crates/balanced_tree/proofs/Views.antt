@@ -4,12 +4,12 @@ use Rattle.slab.specs.Slab.{Slab, slab_len}
 use Rattle.balanced_tree.specs.declared.children.Child.{Child}
 use Rattle.balanced_tree.specs.Row.{Functions, AreLawful, plain, link_of}
 use Rattle.balanced_tree.specs.Rows.{if_at, row_at, row_from, row_to, with_row, without_rank, IsRising}
-use Rattle.balanced_tree.specs.Tree.{Tree, Leaf, Node, place_of, height, child_of, rows_of, has_rank, found, found_to, inserted, removed}
+use Rattle.balanced_tree.specs.Tree.{Tree, Leaf, Node, place_of, height, child_of, rows_of, has_rank, found, inserted, removed}
 use Rattle.balanced_tree.specs.Standing.{Spells, IsStanding, StandsFor, HasInserted, HasRemoved, height_at, rows_down, rows_in, IsTree}
 use Rattle.balanced_tree.proofs.Spelling.{link_of-child_of, child_at-place_of}
 use Rattle.balanced_tree.proofs.Nodes.{height_at-standing}
 use Rattle.balanced_tree.proofs.TreeLaws.{IsGrown, IsShrunk, grown-inserted, shrunk-removed}
-use Rattle.balanced_tree.proofs.RowLaws.{option_or-none, rises-rows, rows-inserted, rows-removed, found-row_from, found_to-row_to, has_rank-row_at, length-inserted, length-removed, row_at-row_from}
+use Rattle.balanced_tree.proofs.RowLaws.{option_or-none, rises-rows, rows-inserted, rows-removed, found-row_from, found-row_to, has_rank-row_at, length-inserted, length-removed, row_at-row_from}
 use Rattle.balanced_tree.proofs.Costs.{height-short, look_cost, change_cost}
 
 module _ {R : Type 0} (f : Functions R) (laws : AreLawful f) where
@@ -70,15 +70,15 @@ module _ {R : Type 0} (f : Functions R) (laws : AreLawful f) where
   pub length-rows : {s : Slab R} {root : Option ℕ} → IsTree f s root → slab_len s ≡ length (rows_in f s root).rows
   length-rows h = h.count ∙ ap length (sym (rows_in-standing h.standing))
 
-  pub row_from-IsTree : {s : Slab R} {root : Option ℕ} (n : ℕ) → (h : IsTree f s root) → found f n None h.tree ≡ row_from f n (rows_in f s root).rows
+  pub row_from-IsTree : {s : Slab R} {root : Option ℕ} (n : ℕ) → (h : IsTree f s root) → found f false n None h.tree ≡ row_from f n (rows_in f s root).rows
   row_from-IsTree n h =
       found-row_from f laws n None 0 (2 ^ 128) h.tree h.standing.ordered ∙ option_or-none _ ∙ ap (row_from f n) (sym (rows_in-standing h.standing))
 
-  pub row_to-IsTree : {s : Slab R} {root : Option ℕ} (n : ℕ) → (h : IsTree f s root) → found_to f n None h.tree ≡ row_to f n (rows_in f s root).rows
+  pub row_to-IsTree : {s : Slab R} {root : Option ℕ} (n : ℕ) → (h : IsTree f s root) → found f true n None h.tree ≡ row_to f n (rows_in f s root).rows
   row_to-IsTree n h =
-      found_to-row_to f laws n None 0 (2 ^ 128) h.tree h.standing.ordered ∙ option_or-none _ ∙ ap (row_to f n) (sym (rows_in-standing h.standing))
+      found-row_to f laws n None 0 (2 ^ 128) h.tree h.standing.ordered ∙ option_or-none _ ∙ ap (row_to f n) (sym (rows_in-standing h.standing))
 
-  pub row_at-IsTree : {s : Slab R} {root : Option ℕ} (n : ℕ) → (h : IsTree f s root) → row_at f n (rows_in f s root).rows ≡ if_at f n (found f n None h.tree)
+  pub row_at-IsTree : {s : Slab R} {root : Option ℕ} (n : ℕ) → (h : IsTree f s root) → row_at f n (rows_in f s root).rows ≡ if_at f n (found f false n None h.tree)
   row_at-IsTree n h = row_at-row_from f n 0 (2 ^ 128) _ (rising-rows h) ∙ ap (if_at f n) (sym (row_from-IsTree n h))
 
   pub has_rank-IsTree : {s : Slab R} {root : Option ℕ} (n : ℕ) → (h : IsTree f s root) → has_rank f n h.tree ≡ is_some (row_at f n (rows_in f s root).rows)
@@ -148,7 +148,7 @@ module _ {R : Type 0} (f : Functions R) (laws : AreLawful f) where
         rows_in-standing removed_standing ∙ rows-removed f laws n 0 (2 ^ 128) h.tree h.standing.ordered ∙ ap (without_rank f n) (sym (rows_in-standing h.standing))
 
   -- what a look-up by rank answers, from what the way down finds
-  module _ {s : Slab R} {root : Option ℕ} (n : ℕ) (o : Option R) (h : IsTree f s root) (is : o ≡ found f n None h.tree) where
+  module _ {s : Slab R} {root : Option ℕ} (n : ℕ) (o : Option R) (h : IsTree f s root) (is : o ≡ found f false n None h.tree) where
     pub at_found : row_at f n (rows_in f s root).rows ≡ if_at f n o
     at_found = row_at-IsTree n h ∙ ap (if_at f n) (sym is)
 

@@ -1,5 +1,5 @@
 -- A tree of rows, each under a place of the slab, and what is done to it, as functions of trees.
-use Rattle.std.specs.Prelude.{ℕ, ◌+◌, ◌≤◌, max, Bool, true, false, cond, nat_lt, List, [], ◌∷◌, ◌++◌, Option, None, Some}
+use Rattle.std.specs.Prelude.{ℕ, ◌+◌, ◌≤◌, max, Bool, true, false, not, cond, nat_lt, List, [], ◌∷◌, ◌++◌, Option, None, Some}
 use Rattle.balanced_tree.specs.declared.children.Child.{Child}
 use Rattle.balanced_tree.specs.Row.{Functions, height_in, plain}
 
@@ -52,23 +52,15 @@ module _ {R : Type 0} (f : Functions R) where
   has_rank n Leaf = false
   has_rank n (Node l p x r) = cond (nat_lt n (f.rank x)) (has_rank n l) (cond (nat_lt (f.rank x) n) (has_rank n r) true)
 
-  -- the last row on the way down by rank that lies at this rank or past it, and else what was found above
-  abbrev pub found : ℕ → Option R → Tree R → Option R
-  found n best Leaf = best
-  found n best (Node l p x r) =
+  -- the last row on the way down by rank that lies at this rank or past it, or, with `down`, at it or before it, and else what
+  -- was found above
+  abbrev pub found : (down : Bool) → ℕ → Option R → Tree R → Option R
+  found down n best Leaf = best
+  found down n best (Node l p x r) =
       cond
       (nat_lt n (f.rank x))
-      (found n (Some (plain f x)) l)
-      (cond (nat_lt (f.rank x) n) (found n best r) (Some (plain f x)))
-
-  -- the last row on the way down by rank that lies at this rank or before it, and else what was found above
-  abbrev pub found_to : ℕ → Option R → Tree R → Option R
-  found_to n best Leaf = best
-  found_to n best (Node l p x r) =
-      cond
-      (nat_lt (f.rank x) n)
-      (found_to n (Some (plain f x)) r)
-      (cond (nat_lt n (f.rank x)) (found_to n best l) (Some (plain f x)))
+      (found down n (cond (not down) (Some (plain f x)) best) l)
+      (cond (nat_lt (f.rank x) n) (found down n (cond down (Some (plain f x)) best) r) (Some (plain f x)))
 
   -- The node made again where its left part is too high: the left child moves up, or the inner grandchild where this is
   -- higher than the outer one.

@@ -7,7 +7,7 @@ ghost use Rattle.balanced_tree.specs.Row.{plain};
 ghost use Rattle.balanced_tree.specs.Rows.{if_at, row_at, row_from, row_to, with_row, without_rank, IsRising};
 
 use crate::children::link_to;
-use crate::descent::{find_below, last_below};
+use crate::descent::find_below;
 use crate::extent_row::ExtentRow;
 use crate::gaps::gap_below;
 use crate::insertion::insert_below;
@@ -87,7 +87,7 @@ impl<R: TreeRow> BalancedTree<R> {
         ensures row { result ≡ row_at R.functions rank self.now.rows }
         ensures cost { 2 ^ (steps.new - steps.old) ≤ (length self.now.rows + 1) ^ 2 }
     {
-        let row = find_below(&self.rows, self.root, rank, steps);
+        let row = find_below(&self.rows, self.root, rank, false, steps);
         if_of_rank(row, rank)
     }
 
@@ -96,7 +96,7 @@ impl<R: TreeRow> BalancedTree<R> {
         ensures row { result ≡ row_from R.functions rank self.now.rows }
         ensures cost { 2 ^ (steps.new - steps.old) ≤ (length self.now.rows + 1) ^ 2 }
     {
-        find_below(&self.rows, self.root, rank, steps)
+        find_below(&self.rows, self.root, rank, false, steps)
     }
 
     /// The last row of this rank or a lower one.
@@ -104,7 +104,7 @@ impl<R: TreeRow> BalancedTree<R> {
         ensures row { result ≡ row_to R.functions rank self.now.rows }
         ensures cost { 2 ^ (steps.new - steps.old) ≤ (length self.now.rows + 1) ^ 2 }
     {
-        last_below(&self.rows, self.root, rank, steps)
+        find_below(&self.rows, self.root, rank, true, steps)
     }
 
     /// Puts a row of a rank that no row has yet.
@@ -140,7 +140,7 @@ impl<R: TreeRow> BalancedTree<R> {
         ensures spare { self.new.spare ≡ self.old.spare + 1 }
         ensures cost { 2 ^ (steps.new - steps.old) ≤ (length self.old.rows + 2) ^ 32 }
     {
-        let Some(row) = find_below(&self.rows, self.root, rank, steps) else {
+        let Some(row) = find_below(&self.rows, self.root, rank, false, steps) else {
             unreachable!()
         };
         let root = remove_below(&mut self.rows, self.root, rank, steps);

@@ -1,12 +1,10 @@
 -- A range of a region's list is open where no entry of the region is on its pages.
-use Rattle.std.proofs.Common.{subst, ◌≡◌, ℕ, ◌+◌, ◌<◌, true, false, ◌&&◌, Option, None, Some, inl, inr, sym, ap, ◌∙◌, arith}
-use Rattle.std.specs.Prelude.{nat_le}
+use Rattle.std.proofs.Common.{subst, ◌≡◌, ℕ, ◌+◌, ◌<◌, true, false, Option, None, Some, inl, inr, sym, ap, ◌∙◌, arith}
 use Rattle.std.specs.Option.{MatchOption}
-use Rattle.std.proofs.lemmas.Bool.{cases_Bool, and_parts, and_from, false_from_ne_true, both_ways, le-leb, leb-true, eqb-true, eq-eqb}
-use Rattle.vm_base.specs.Entries.{passes}
+use Rattle.std.proofs.lemmas.Bool.{cases_Bool, false_from_ne_true, both_ways, eqb-true, eq-eqb}
 use Rattle.vm_base.specs.declared.limits.TheConstants.{NAMES, PAGES_END}
 use Rattle.vm_base.proofs.EntryLaws.{passes-some, passes_found}
-use Rattle.vm_base.proofs.SearchLaws.{any_below_found, any_below_at}
+use Rattle.vm_base.proofs.SearchLaws.{any_from_found, none_from_at}
 use Rattle.pair_map.specs.declared.stretch_row.Extent.{Extent}
 use Rattle.pair_map.specs.Maps.{IsOpen, HasNoOpen, IsFirstOpen}
 use Rattle.vm_model.specs.declared.space.Entry.{Entry}
@@ -33,15 +31,14 @@ module _ {V : Type 0} (pieces : ℕ → ℕ → Option Piece) (h : ArePieces pie
   has_no-open : (p count : ℕ) → IsOpen list p count → has_entry (table_in pieces) root region p (p + count) ≡ false
   unfolding has_entry
   has_no-open p count free = false_from_ne_true _ (λ has.
-      let found = any_below_found (p + count) (λ q. nat_le p q && passes (is_in region) (table_in pieces root q)) has in
-      let parts = and_parts (nat_le p found.0) (passes (is_in region) (table_in pieces root found.0)) found.2 in
-      let entry = passes_found (is_in region) (table_in pieces root found.0) parts.1 in
+      let found = any_from_found _ p (p + count) has in
+      let entry = passes_found (is_in region) (table_in pieces root found.0) found.3 in
       let by = table_in-found pieces root found.0 entry.0 entry.1 in
       let region_is : by.1.entry.region.0 ≡ region = region_same by.1 found.0 entry.0 by.6 ∙ eqb-true entry.0.region.0 region entry.2 in
       let listed = g.listed root by.0 by.1 by.2 in
       let last = (h.sound root by.0 by.1 by.2).last_is in
       let count_is = listed.2 in
-      free.free found.0 by.1.first listed.0 (leb-true p found.0 parts.0) found.1 (record {
+      free.free found.0 by.1.first listed.0 found.1 found.2 (record {
         is = subst (λ n. lists (list_number n root) by.1.first ≡ Some listed.0) region_is listed.1;
         from = by.3;
         below = omega (arith, by.4);
@@ -58,10 +55,8 @@ module _ {V : Type 0} (pieces : ℕ → ℕ → Option Piece) (h : ArePieces pie
         let from = covers.from in
         let below = covers.below in
         let shown = table_in-at pieces h root held.0 held.1 q held.2 (omega arith) (omega arith) in
-        both_ways (has_entry (table_in pieces) root region p (p + count)) none
-        (any_below_at (p + count) q (λ k. nat_le p k && passes (is_in region) (table_in pieces root k)) high
-        (and_from (nat_le p q) (passes (is_in region) (table_in pieces root q)) (le-leb p q low)
-        (passes-some (is_in region) (table_in pieces root q) _ shown ∙ eq-eqb held.1.entry.region.0 region held.5)));
+        both_ways _ (none_from_at _ p (p + count) q none low high)
+        (passes-some (is_in region) (table_in pieces root q) _ shown ∙ eq-eqb held.1.entry.region.0 region held.5);
   }
 
   has-not_open : (p count : ℕ) → (IsOpen list p count → ⊥) → has_entry (table_in pieces) root region p (p + count) ≡ true

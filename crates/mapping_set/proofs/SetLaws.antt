@@ -7,12 +7,12 @@ use Rattle.pair_map.specs.Maps.{IsOpen, values_of, extents_of}
 use Rattle.mapping_set.specs.declared.piece.Piece.{Piece}
 use Rattle.mapping_set.specs.declared.mapping_set.MappingSet.TheInside.{Inside}
 use Rattle.mapping_set.specs.Pieces.{list_number, table_in, IsSound, ArePieces, AreListed}
-use Rattle.mapping_set.specs.SetFields.{set_of, IsSet}
-use Rattle.mapping_set.specs.Tables.{Set, table_of, with_piece, without_piece, IsBare, IsPieceOf}
+use Rattle.mapping_set.specs.SetFields.{mappings_of, AreMappings}
+use Rattle.mapping_set.specs.Tables.{Mappings, table_of, with_piece, without_piece, IsBare, IsPieceOf}
 use Rattle.mapping_set.proofs.TableLaws.{shown_whole}
 use Rattle.mapping_set.proofs.PieceLaws.{none_there, ArePieces-more, table_in-more, open_there, AreListed-more, ArePieces-less, table_in-less, AreListed-less}
 
-module _ (a : Inside) (h : IsSet a) (now : Set) (seen : set_of a ≡ now) (root n l : ℕ) (n_is : n ≡ root) (x : Piece) (l_is : l ≡ list_number x.entry.region.0 root) where
+module _ (a : Inside) (h : AreMappings a) (now : Mappings) (seen : mappings_of a ≡ now) (root n l : ℕ) (n_is : n ≡ root) (x : Piece) (l_is : l ≡ list_number x.entry.region.0 root) where
   abbrev values : ℕ → ℕ → Option Piece
   values = values_of a.pieces
 
@@ -33,7 +33,7 @@ module _ (a : Inside) (h : IsSet a) (now : Set) (seen : set_of a ≡ now) (root 
     }
 
     bare_inside : IsBare (table_in values root) x.first (x.first + x.count)
-    bare_inside = subst (λ (m : Set). IsBare (table_of m root) x.first (x.first + x.count)) (sym seen) bare
+    bare_inside = subst (λ (m : Mappings). IsBare (table_of m root) x.first (x.first + x.count)) (sym seen) bare
 
     pub absent : values n (x.first + x.count - 1) ≡ None
     absent = ap (λ k. values k (x.first + x.count - 1)) n_is ∙ none_there values h.pieces root (x.first + x.count - 1) x sound bare_inside
@@ -47,18 +47,18 @@ module _ (a : Inside) (h : IsSet a) (now : Set) (seen : set_of a ≡ now) (root 
       put_is : values_of b.pieces ≡ with_pair values root (x.first + x.count - 1) (Some x)
       put_is = put ∙ ap (λ k. with_pair values k (x.first + x.count - 1) (Some x)) n_is
 
-      pub IsSet-more : (e : Extent Unit) → e.count ≡ x.count → extents_of b.lists ≡ with_pair lists l x.first (Some e) → IsSet b
-      IsSet-more e count_is list = record {
+      pub AreMappings-more : (e : Extent Unit) → e.count ≡ x.count → extents_of b.lists ≡ with_pair lists l x.first (Some e) → AreMappings b
+      AreMappings-more e count_is list = record {
         pieces = subst ArePieces (sym put_is) (ArePieces-more values h.pieces root (x.first + x.count - 1) x sound bare_inside);
         lists = subst (λ m. AreListed m (extents_of b.lists)) (sym put_is) (subst (AreListed (with_pair values root (x.first + x.count - 1) (Some x)))
             (sym (list ∙ ap (λ k. with_pair lists k x.first (Some e)) l_is))
             (AreListed-more values h.pieces root (x.first + x.count - 1) x sound bare_inside lists h.lists e count_is));
       }
 
-      pub table-more : table_of (set_of b) ≡ with_piece (table_of now) root x
+      pub table-more : table_of (mappings_of b) ≡ with_piece (table_of now) root x
       table-more =
           ap table_in put_is ∙ (table_in-more values h.pieces root (x.first + x.count - 1) x sound bare_inside
-          ∙ ap (λ (m : Set). with_piece (table_of m) root x) seen)
+          ∙ ap (λ (m : Mappings). with_piece (table_of m) root x) seen)
 
   -- a piece goes
   module _ (last : ℕ) (is : values n last ≡ Some x) where
@@ -66,21 +66,21 @@ module _ (a : Inside) (h : IsSet a) (now : Set) (seen : set_of a ≡ now) (root 
     is_root = ap (λ k. values k last) (sym n_is) ∙ is
 
     pub whole : IsPieceOf (table_of now root) x
-    whole = subst (λ (m : Set). IsPieceOf (table_of m root) x) seen (shown_whole values h.pieces root last x is_root)
+    whole = subst (λ (m : Mappings). IsPieceOf (table_of m root) x) seen (shown_whole values h.pieces root last x is_root)
 
     module _ (b : Inside) (taken : values_of b.pieces ≡ with_pair values n last None) where
       taken_is : values_of b.pieces ≡ with_pair values root last None
       taken_is = taken ∙ ap (λ k. with_pair values k last None) n_is
 
-      pub IsSet-less : extents_of b.lists ≡ with_pair lists l x.first None → IsSet b
-      IsSet-less list = record {
+      pub AreMappings-less : extents_of b.lists ≡ with_pair lists l x.first None → AreMappings b
+      AreMappings-less list = record {
         pieces = subst ArePieces (sym taken_is) (ArePieces-less values h.pieces root last x is_root);
         lists = subst (λ m. AreListed m (extents_of b.lists)) (sym taken_is) (subst (AreListed (with_pair values root last None))
             (sym (list ∙ ap (λ k. with_pair lists k x.first None) l_is)) (AreListed-less values h.pieces root last x is_root lists h.lists));
       }
 
-      pub table-less : (y : Piece) → values_of now.pieces root last ≡ Some y → table_of (set_of b) ≡ without_piece (table_of now) root y
+      pub table-less : (y : Piece) → values_of now.pieces root last ≡ Some y → table_of (mappings_of b) ≡ without_piece (table_of now) root y
       table-less y found =
           ap table_in taken_is
-          ∙ (table_in-less values h.pieces root last y (ap (λ (m : Set). values_of m.pieces root last) seen ∙ found)
-          ∙ ap (λ (m : Set). without_piece (table_of m) root y) seen)
+          ∙ (table_in-less values h.pieces root last y (ap (λ (m : Mappings). values_of m.pieces root last) seen ∙ found)
+          ∙ ap (λ (m : Mappings). without_piece (table_of m) root y) seen)

@@ -12,16 +12,16 @@ use Rattle.mapping_set.specs.declared.piece.Piece.{Piece}
 use Rattle.mapping_set.specs.Pieces.{table_in}
 
 -- the pieces, and how many more fit with no memory from the host
-pub record Set : Type 0 where
+pub record Mappings : Type 0 where
   pub pieces : Rows (PairRow Piece)
   pub spare : ℕ
 
 -- what each page of each address space shows, by the number of the root region
-abbrev pub table_of : Set → ℕ → ℕ → Option Entry
+abbrev pub table_of : Mappings → ℕ → ℕ → Option Entry
 table_of m = table_in (values_of m.pieces)
 
 -- how many more pieces fit with no memory from the host
-abbrev pub spare_of : Set → ℕ
+abbrev pub spare_of : Mappings → ℕ
 spare_of m = m.spare
 
 -- the table, with the entries of a piece under `root`, or with none on its pages

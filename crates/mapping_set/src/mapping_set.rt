@@ -30,15 +30,15 @@ pub struct MappingSet {
 }
 
 impl Model for MappingSet {
-    ghost use Rattle.mapping_set.specs.Tables.{Set};
+    ghost use Rattle.mapping_set.specs.Tables.{Mappings};
 
-    ghost Value = { Set };
+    ghost Value = { Mappings };
 
-    ghost use Rattle.mapping_set.specs.SetFields.{set_of, IsSet};
+    ghost use Rattle.mapping_set.specs.SetFields.{mappings_of, AreMappings};
 
-    ghost view = { set_of };
+    ghost view = { mappings_of };
 
-    ghost invariant = { IsSet };
+    ghost invariant = { AreMappings };
 }
 
 /// The number of the list of a region's pieces.

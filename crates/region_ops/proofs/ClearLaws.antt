@@ -1,12 +1,12 @@
 -- Entries go piece by piece: what is left to take out, and what went so far.
 use Rattle.std.proofs.Common.{◌≡◌, ℕ, ◌+◌, ◌<◌, ◌≤◌, Bool, true, false, cond, ◌==◌, ◌&&◌, Option, None, ◌⊎◌, refl, sym, ap, subst, ◌∙◌, inl, inr, arith}
-use Rattle.std.specs.Prelude.{is_some, nat_le}
-use Rattle.std.proofs.lemmas.Bool.{cases_Bool, cases_eq, cases_lt, cond-true, cond-false, and_parts, and_from, both_ways, eq-eqb, le-leb}
+use Rattle.std.specs.Prelude.{is_some}
+use Rattle.std.proofs.lemmas.Bool.{cases_Bool, cases_eq, cases_lt, cond-true, cond-false, and_parts, and_from, both_ways, eq-eqb}
 use Rattle.vm_base.specs.Search.{count_below}
 use Rattle.vm_base.specs.Entries.{passes}
 use Rattle.vm_base.specs.declared.limits.TheConstants.{PAGES_END}
 use Rattle.vm_base.proofs.EntryLaws.{passes-none, passes-some, passes_found}
-use Rattle.vm_base.proofs.SearchLaws.{any_below_at, eqb_is}
+use Rattle.vm_base.proofs.SearchLaws.{eqb_is, none_from_at}
 use Rattle.vm_model.specs.Contents.Content.{Content}
 use Rattle.vm_model.specs.declared.space.Entry.{Entry}
 use Rattle.vm_model.specs.Space.Table.{with_pages, is_in, has_entry}
@@ -100,8 +100,7 @@ without_entries-none c vmos table root region well off = λ i r p. at r p i wher
         let found = passes_found (is_in region) (table r p) both.1 in
         let bounds = entry_bounds c (with_entries well.rest c vmos table).spaces well.well.good.spaces r p found.0 found.1 in
         let there : passes (is_in region) (table root p) ≡ true = ap (λ (k : ℕ). passes (is_in region) (table k p)) (sym (eqb_is r root both.0)) ∙ both.1 in
-        absurd (both_ways (has_entry table root region 0 PAGES_END) off
-        (any_below_at PAGES_END p (λ q. nat_le 0 q && passes (is_in region) (table root q)) (omega (arith, bounds.1)) (and_from (nat_le 0 p) _ (le-leb 0 p (omega arith)) there)))
+        absurd (both_ways _ (none_from_at _ 0 PAGES_END p off (omega arith) (omega (arith, bounds.1))) there)
   ]
 
 -- ---- what went so far

@@ -1,57 +1,22 @@
 -- What a region finds on a range of pages, piece by piece, and what a change of permissions leaves as it is.
 use Rattle.std.proofs.Common.{◌≡◌, ◌≢◌, ℕ, ◌+◌, ◌<◌, ◌≤◌, Bool, true, false, not, ◌&&◌, ◌||◌, ◌==◌, Option, None, Some, refl, sym, ap, subst, ◌∙◌, inl, inr, arith}
-use Rattle.std.specs.Prelude.{nat_le, IsSome}
-use Rattle.std.specs.Cmp.{both_ways}
-use Rattle.std.proofs.lemmas.Bool.{cases_Bool, cases_lt, and_parts, and_from, or_cases, false_from_ne_true, not-false, le-leb, leb-true}
+use Rattle.std.specs.Prelude.{IsSome}
+use Rattle.std.proofs.lemmas.Bool.{cases_Bool, cases_lt, not-false}
 use Rattle.vm_base.specs.Entries.{passes}
 use Rattle.vm_base.specs.Search.{count_below, sum_below}
 use Rattle.vm_base.specs.declared.flags.Perm.{Perm}
 use Rattle.vm_base.specs.declared.limits.TheConstants.{NAMES, ROOT_END}
-use Rattle.vm_base.proofs.SearchLaws.{any_below_found, any_below_at}
+use Rattle.vm_base.proofs.SearchLaws.{any_from_at, any_from-join, none_from, none_from_at}
 use Rattle.vm_base.proofs.EntryLaws.{passes-none, passes-some}
 use Rattle.vm_model.specs.declared.space.Entry.{Entry}
 use Rattle.vm_model.specs.Space.Rights.{has}
 use Rattle.vm_model.specs.Space.Table.{mapping_from, is_in}
 use Rattle.vm_model.specs.Space.AddressSpaces.{Spaces, mapped_count}
-use Rattle.vm_model.specs.Space.Mappings.{protected, any_from, has_hole, forbids}
+use Rattle.vm_model.specs.Space.Mappings.{protected, has_hole, forbids}
 use Rattle.mapping_set.specs.declared.piece.Piece.{Piece}
 use Rattle.mapping_set.specs.Tables.{IsFull, IsBareFrom, IsNextPiece}
 use Rattle.region_ops.specs.Covers.{IsCovered}
 use Rattle.vm_model.proofs.MappingLaws.{shows-protected}
-
--- ---- searching a range
-
-module _ (test : ℕ → Bool) where
-  found_from : (first end : ℕ) → any_from first end test ≡ true → (p : ℕ) × (first ≤ p) × (p < end) × (test p ≡ true)
-  found_from first end e =
-      let found = any_below_found end (λ p. nat_le first p && test p) e in
-      let both = and_parts (nat_le first found.0) (test found.0) found.2 in
-      (found.0, leb-true first found.0 both.0, found.1, both.1)
-
-  any_from_at : (first end p : ℕ) → first ≤ p → p < end → test p ≡ true → any_from first end test ≡ true
-  any_from_at first end p low high e = any_below_at end p (λ q. nat_le first q && test q) high (and_from (nat_le first p) (test p) (le-leb first p low) e)
-
-  none_from : (first end : ℕ) → ((p : ℕ) → first ≤ p → p < end → test p ≡ false) → any_from first end test ≡ false
-  none_from first end each = false_from_ne_true (any_from first end test) (λ e.
-      let found = found_from first end e in
-      absurd (let miss = each found.0 found.1 found.2 in let hit = found.3 in cc))
-
-  none_from_at : (first end p : ℕ) → any_from first end test ≡ false → first ≤ p → p < end → test p ≡ false
-  none_from_at first end p none low high = false_from_ne_true (test p) (λ e. absurd (let some = any_from_at first end p low high e in cc))
-
-  -- what is found in a range is found in one of its two parts
-  any_from-join : (first mid end : ℕ) → first ≤ mid → mid ≤ end → any_from first end test ≡ (any_from first mid test || any_from mid end test)
-  any_from-join first mid end low high = both_ways (any_from first end test) (any_from first mid test || any_from mid end test)
-      (λ e.
-      let found = found_from first end e in
-      elim (cases_lt found.0 mid) [
-        | inl before ↦ let hit = any_from_at first mid found.0 found.1 before found.3 in grind (arith, hit)
-        | inr behind ↦ let hit = any_from_at mid end found.0 behind found.2 found.3 in grind (arith, hit)
-      ])
-      (λ e. elim (or_cases (any_from first mid test) (any_from mid end test) e) [
-        | inl left ↦ let found = found_from first mid left in any_from_at first end found.0 found.1 (omega (arith, found.2)) found.3
-        | inr right ↦ let found = found_from mid end right in any_from_at first end found.0 (omega (arith, found.1)) found.2 found.3
-      ])
 
 -- ---- what a region finds, piece by piece
 

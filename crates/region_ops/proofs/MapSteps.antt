@@ -82,7 +82,7 @@ module _ (s : State) (region : RegionName) (offset : ℕ) (name : VmoName) (vmo_
   denied = not (has above.caps.0 perm.0) || (has perm.0 writing && not t.may_write)
 
   abbrev wrong : Bool
-  wrong = is_mismapped (spaces_of s.spaces.regions no_entries) region.0 over fixed limited offset vmo_offset len perm.0 count
+  wrong = is_mismapped (spaces_of s.spaces.regions no_entries) region.0 over fixed limited offset vmo_offset len perm.0
 
   abbrev past : Bool
   past = nat_lt (VMO_PAGES * PAGE) (vmo_offset + rounded len)
@@ -132,8 +132,8 @@ module _ (s : State) (region : RegionName) (offset : ℕ) (name : VmoName) (vmo_
         grind (arith, is, new, off, full.0)
 
   module _ (first : ℕ) (none : first_of rows ≡ None) (place : IsMapPlace s.spaces region.0 over fixed limited offset count first) where
-    right : IsMappedRightly s.spaces region.0 over fixed limited offset vmo_offset len perm.0 count
-    right = mismapped_parts s.spaces region.0 over fixed limited offset vmo_offset len perm.0 count (AllOff-from_none rows none).1.0
+    right : IsMappedRightly s.spaces region.0 over fixed limited offset vmo_offset len perm.0
+    right = mismapped_parts s.spaces region.0 over fixed limited offset vmo_offset len perm.0 (AllOff-from_none rows none).1.0
 
     -- nothing refuses the mapping where it has a place
     none_refuses : first_of (refusals s command) ≡ None

@@ -1,12 +1,12 @@
 -- Laws of unmapping a range: what is mapped in it, and the step.
 use Rattle.std.proofs.Common.{◌≡◌, ℕ, ◌+◌, ◌-◌, ◌/◌, ◌<◌, ◌≤◌, Bool, true, false, cond, ◌&&◌, ◌||◌, ◌==◌, Option, None, Some, refl, sym, ap, subst, ◌∙◌, inl, inr, arith}
-use Rattle.std.specs.Prelude.{nat_lt, nat_le, is_some}
-use Rattle.std.proofs.lemmas.Bool.{cases_Bool, and_from, and_parts, both_ways, false_from_ne_true, le-leb, leb-true, ltb-true, ltb-false}
+use Rattle.std.specs.Prelude.{nat_lt, is_some}
+use Rattle.std.proofs.lemmas.Bool.{cases_Bool, and_parts, both_ways, ltb-true, ltb-false}
 use Rattle.vm_base.specs.Pages.{rounded}
 use Rattle.vm_base.specs.declared.limits.TheConstants.{PAGE}
 use Rattle.vm_base.specs.declared.names.RegionName.{RegionName}
 use Rattle.vm_base.specs.declared.refusal.Refusal.TheVariants.{InvalidArgs, HostMemory}
-use Rattle.vm_base.proofs.SearchLaws.{any_below_at, none_below, eqb_is}
+use Rattle.vm_base.proofs.SearchLaws.{eqb_is, any_from_at, none_from}
 use Rattle.vm_model.specs.declared.command.Command.{Command}
 use Rattle.vm_model.specs.declared.command.Command.TheVariants.{VmarUnmap}
 use Rattle.vm_model.specs.declared.reply.Reply.{Reply}
@@ -38,8 +38,7 @@ module _ (entries : ℕ → Option Entry) (first end : ℕ) where
   -- a page that has an entry is
   mapped_at : (p : ℕ) (entry : Entry) → first ≤ p → p < end → entries p ≡ Some entry → is_mapped_in entries first end ≡ true
   unfolding is_mapped_in
-  mapped_at p entry low high e =
-      any_below_at end p (λ q. nat_le first q && is_some (entries q)) high (and_from (nat_le first p) (is_some (entries p)) (le-leb first p low) (ap is_some e))
+  mapped_at p entry low high e = any_from_at _ first end p low high (ap is_some e)
 
   -- where none is, no page has one
   pub bare_from : is_mapped_in entries first end ≡ false → IsBare entries first end
@@ -50,10 +49,7 @@ module _ (entries : ℕ → Option Entry) (first end : ℕ) where
 
   bare_is : IsBare entries first end → is_mapped_in entries first end ≡ false
   unfolding is_mapped_in
-  bare_is bare = none_below end (λ q. nat_le first q && is_some (entries q)) (λ p high.
-      false_from_ne_true (nat_le first p && is_some (entries p)) (λ both.
-      let parts = and_parts (nat_le first p) (is_some (entries p)) both in
-      both_ways (is_some (entries p)) (ap is_some (bare p (leb-true first p parts.0) high)) parts.1))
+  bare_is bare = none_from _ first end (λ p low high. ap is_some (bare p low high))
 
 -- one is where the next piece begins in the range
 pub mapped_next : (entries : ℕ → Option Entry) (first count : ℕ) (piece : Piece) → IsNextPiece entries first piece

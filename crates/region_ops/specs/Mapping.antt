@@ -28,7 +28,7 @@ no_entries root p = None
 abbrev pub map_rows : Content → (ℕ → Option Region) → (name : ℕ) → Region → (overwriting fixed limited faults : Bool) → (offset : ℕ) → Target → (vmo_offset len perm : ℕ) → List (Bool × Refusal)
 map_rows c regions name above overwriting fixed limited faults offset target vmo_offset len perm =
     (not (has above.caps.0 perm) || (has perm writing && not target.may_write), AccessDenied)
-    ∷ (is_mismapped (spaces_of regions no_entries) name overwriting fixed limited offset vmo_offset len perm (rounded len / PAGE), InvalidArgs)
+    ∷ (is_mismapped (spaces_of regions no_entries) name overwriting fixed limited offset vmo_offset len perm, InvalidArgs)
     ∷ (nat_lt (VMO_PAGES * PAGE) (vmo_offset + rounded len), OutOfRange)
     ∷ (nat_lt (name_pages c target * PAGE) (vmo_offset + rounded len) && (not faults || is_kind Slice target.kind), BufferTooSmall)
     ∷ []

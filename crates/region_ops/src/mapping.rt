@@ -152,7 +152,7 @@ fn is_mismapped(
     requires live { above.live ≡ true }
     requires end { above.first + above.count ≤ ROOT_END }
     ensures { result ≡ is_mismapped (spaces_of (regions_of regions.now) no_entries) region.0 wanted.overwriting
-        wanted.fixed wanted.limited wanted.offset vmo_offset len perm.0 (rounded len / PAGE) }
+        wanted.fixed wanted.limited wanted.offset vmo_offset len perm.0 }
 {
     let at = Wanted {
         fixed: wanted.fixed || wanted.overwriting,

@@ -1,8 +1,9 @@
 -- Laws of searching and counting below a bound.
-use Rattle.std.proofs.Common.{◌≡◌, ◌≢◌, ℕ, zero, suc, ◌+◌, ◌*◌, ◌<◌, ◌≤◌, Bool, true, false, cond, ◌||◌, ◌⊎◌, refl, sym, ap, ◌∙◌, inl, inr, arith, ◌==◌}
-use Rattle.std.specs.Prelude.{nat_lt}
-use Rattle.std.proofs.lemmas.Bool.{cases_order, cases_eq, cases_lt, cases_Bool, or_cases, or_from, or_left, or_right, lt-ltb, false_from_ne_true}
-use Rattle.vm_base.specs.Search.{any_below, count_below, sum_below}
+use Rattle.std.proofs.Common.{◌≡◌, ◌≢◌, ℕ, zero, suc, ◌+◌, ◌*◌, ◌<◌, ◌≤◌, Bool, true, false, cond, ◌&&◌, ◌||◌, ◌⊎◌, refl, sym, ap, ◌∙◌, inl, inr, arith, ◌==◌}
+use Rattle.std.specs.Prelude.{nat_le, nat_lt}
+use Rattle.std.specs.Cmp.{both_ways}
+use Rattle.std.proofs.lemmas.Bool.{cases_order, cases_eq, cases_lt, cases_Bool, and_parts, and_from, or_cases, or_from, or_left, or_right, lt-ltb, le-leb, leb-true, false_from_ne_true}
+use Rattle.vm_base.specs.Search.{any_below, any_from, count_below, sum_below}
 use Rattle.std.proofs.lemmas.Bool.Decides.{Decides-eqb}
 
 -- ---- equal numbers as tests
@@ -48,6 +49,48 @@ pub none_below : (n : ℕ) (p : ℕ → Bool) → ((k : ℕ) → k < n → p k �
 unfolding any_below
 none_below zero p each = refl
 none_below (suc n) p each = or_from (p n) (any_below n p) (each n (omega arith)) (none_below n p (λ k h. each k (omega arith)))
+
+-- ---- searching from a number on
+
+module _ (test : ℕ → Bool) where
+  -- what was found
+  pub any_from_found : (first end : ℕ) → any_from first end test ≡ true → (k : ℕ) × (first ≤ k) × (k < end) × (test k ≡ true)
+  unfolding any_from
+  any_from_found first end e =
+      let found = any_below_found end (λ k. nat_le first k && test k) e in
+      let both = and_parts (nat_le first found.0) (test found.0) found.2 in
+      (found.0, leb-true first found.0 both.0, found.1, both.1)
+
+  -- what passes is found
+  pub any_from_at : (first end k : ℕ) → first ≤ k → k < end → test k ≡ true → any_from first end test ≡ true
+  unfolding any_from
+  any_from_at first end k low high e = any_below_at end k (λ j. nat_le first j && test j) high (and_from (nat_le first k) (test k) (le-leb first k low) e)
+
+  -- where nothing passes, nothing is found
+  pub none_from : (first end : ℕ) → ((k : ℕ) → first ≤ k → k < end → test k ≡ false) → any_from first end test ≡ false
+  none_from first end each = false_from_ne_true (any_from first end test) (λ e.
+      let found = any_from_found first end e in
+      absurd (let miss = each found.0 found.1 found.2 in let hit = found.3 in cc))
+
+  -- where nothing is found, nothing passes
+  pub none_from_at : (first end k : ℕ) → any_from first end test ≡ false → first ≤ k → k < end → test k ≡ false
+  none_from_at first end k none low high = false_from_ne_true (test k) (λ e. absurd (let some = any_from_at first end k low high e in cc))
+
+  -- what is found in a range is found in one of its two parts
+  pub any_from-join : (first mid end : ℕ) → first ≤ mid → mid ≤ end → any_from first end test ≡ (any_from first mid test || any_from mid end test)
+  any_from-join first mid end low high = both_ways (any_from first end test) (any_from first mid test || any_from mid end test)
+      (λ e.
+      let found = any_from_found first end e in
+      elim (cases_lt found.0 mid) [
+        | inl before ↦ let hit = any_from_at first mid found.0 found.1 before found.3 in grind (arith, hit)
+        | inr behind ↦ let hit = any_from_at mid end found.0 behind found.2 found.3 in grind (arith, hit)
+      ])
+      (λ e. elim (or_cases (any_from first mid test) (any_from mid end test) e) [
+        | inl left ↦ let found = any_from_found first mid left in any_from_at first end found.0 found.1 (omega (arith, found.2)) found.3
+        | inr right ↦ let found = any_from_found mid end right in any_from_at first end found.0 (omega (arith, found.1)) found.2 found.3
+      ])
+
+-- ---- tests that agree
 
 -- tests that agree below the bound find alike
 pub any_below_same : (n : ℕ) (p q : ℕ → Bool) → ((k : ℕ) → k < n → p k ≡ q k) → any_below n p ≡ any_below n q

@@ -130,7 +130,7 @@ effect_bounded old (VmarMap region offset name vmo_offset len perm flags) reply 
     let off = AllOff-from_none (refusals old (VmarMap region offset name vmo_offset len perm flags)) none in
     let above = region_of old.spaces.regions region.0 in
     let there = and_parts (is_given old region.0) (is_open old name.0) (not-false (is_given old region.0 && is_open old name.0) off.0) in
-    let right = mismapped_parts old.spaces region.0 (has flags.0 overwrite) (has flags.0 specific) (has flags.0 upper_limit) offset vmo_offset len perm.0 (rounded len / PAGE) off.1.1.1.0 in
+    let right = mismapped_parts old.spaces region.0 (has flags.0 overwrite) (has flags.0 specific) (has flags.0 upper_limit) offset vmo_offset len perm.0 off.1.1.1.0 in
     let place = map_place old.spaces region.0 (has flags.0 overwrite) (has flags.0 specific) (has flags.0 upper_limit) offset vmo_offset len perm.0 effect.0 right effect.2 in
     let inside = reaches_over_parts effect.0 (effect.0 + rounded len / PAGE) above place.0 in
     let below = given_bounds old region.0 good there.0 (not-false above.live off.1.0) in

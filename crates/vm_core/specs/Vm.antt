@@ -8,7 +8,7 @@ use Rattle.pin_table.specs.Table.{Table as Pins}
 use Rattle.fault.specs.Table.{Table as Translations, places_of, ready_of, AreTrue}
 use Rattle.vmo_ops.specs.Targets.{with_tables}
 use Rattle.vm_model.specs.Space.AddressSpaces.{Spaces}
-use Rattle.mapping_set.specs.Tables.{Set as Mappings}
+use Rattle.mapping_set.specs.Tables.{Mappings}
 use Rattle.mapping_set.specs.Tables.{table_of}
 use Rattle.region_tree.specs.Tree.{Tree as Regions, regions_of, spaces_of}
 

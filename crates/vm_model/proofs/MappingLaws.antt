@@ -1,8 +1,8 @@
 -- Laws of mappings: where one may be made, and address spaces stay good where pages are mapped, unmapped and protected.
 use Rattle.std.proofs.Common.{◌≡◌, ℕ, zero, suc, ◌+◌, ◌-◌, ◌*◌, ◌/◌, ◌%◌, ◌<◌, ◌≤◌, Bool, true, false, not, cond, ◌&&◌, ◌||◌, ◌==◌, Option, None, Some, ◌⊎◌, refl, sym, ap, subst, ◌∙◌, inl, inr, arith, bit_and}
-use Rattle.std.specs.Prelude.{nat_lt, nat_le, min, max, IsSome}
+use Rattle.std.specs.Prelude.{nat_lt, min, max, IsSome}
 use Rattle.std.specs.Option.{option_map}
-use Rattle.std.proofs.lemmas.Bool.{cases_Bool, and_parts, and_from, and_cases, or_parts, both_ways, false_from_ne_true, not-false, not_from_false, le-leb, cond-true, cond-false, or_right, ltb-true, ltb-false, eqb-true}
+use Rattle.std.proofs.lemmas.Bool.{cases_Bool, and_parts, and_from, and_cases, or_parts, both_ways, false_from_ne_true, not-false, not_from_false, cond-true, cond-false, or_right, ltb-true, ltb-false, eqb-true}
 use Rattle.std.proofs.lemmas.Nat.{and_le_l}
 use Rattle.vm_base.specs.Pages.{rounded}
 use Rattle.vm_base.specs.Search.{any_below}
@@ -10,7 +10,7 @@ use Rattle.vm_base.specs.Entries.{passes}
 use Rattle.vm_base.specs.declared.limits.TheConstants.{PAGE, NAMES, ROOT_END}
 use Rattle.vm_base.specs.declared.names.RegionName.{RegionName}
 use Rattle.vm_base.specs.declared.flags.Perm.{Perm}
-use Rattle.vm_base.proofs.SearchLaws.{any_below_at, any_below_same, eqb_is}
+use Rattle.vm_base.proofs.SearchLaws.{any_below_at, any_below_same, eqb_is, none_from_at}
 use Rattle.vm_base.proofs.EntryLaws.{passes-some, some_same}
 use Rattle.vm_model.specs.declared.names.Target.{Target}
 use Rattle.vm_model.specs.declared.space.Entry.{Entry}
@@ -22,7 +22,7 @@ use Rattle.vm_model.specs.Space.Regions.{end_of, region_of, meets, lies_in, reac
 use Rattle.vm_model.specs.Space.Table.{entry_behind, mapping_from, with_pages, with_perm, IsGoodEntry}
 use Rattle.vm_model.specs.Space.AddressSpaces.{Spaces, shows, is_mapped, AreGoodSpaces}
 use Rattle.vm_model.specs.Space.Places.{is_misplaced}
-use Rattle.vm_model.specs.Space.Mappings.{lacks_reading, cap_of, with_mapping, IsMapPlace, is_mismapped, lies_below_in, unmapped, protected, any_from, forbids}
+use Rattle.vm_model.specs.Space.Mappings.{lacks_reading, cap_of, with_mapping, IsMapPlace, is_mismapped, lies_below_in, unmapped, protected, forbids}
 use Rattle.vm_model.proofs.RegionLaws.{region_of-at, meets_at, reaches_over_parts, reaches_over_from, killed-was, AreGoodRegions-killed, is_below-step, root_below, lies_in_parts, lies_in_from}
 use Rattle.vm_model.proofs.SpaceLaws.{child_none, none_child, is_free_parts, IsGoodEntry-killed}
 use Rattle.vm_model.proofs.TableLaws.{with_pages-was}
@@ -84,19 +84,19 @@ pages_inside region offset len aligned inside =
     reaches_over_from (region.first + offset / PAGE) (region.first + offset / PAGE + rounded len / PAGE) region (omega arith) (omega (arith, aligned, inside))
 
 -- what is_mismapped says, part by part
-pub record IsMappedRightly (spaces : Spaces) (name : ℕ) (overwriting fixed limited : Bool) (offset vmo_offset len perm count : ℕ) : Type 0 where
+pub record IsMappedRightly (spaces : Spaces) (name : ℕ) (overwriting fixed limited : Bool) (offset vmo_offset len perm : ℕ) : Type 0 where
   pub placed : is_misplaced (region_of spaces.regions name) (fixed || overwriting) limited offset len ≡ false
   pub aligned : vmo_offset % PAGE ≡ 0
   pub one_way : (fixed && overwriting) ≡ false
-  pub childless : overwriting ≡ true → meets_child spaces.regions name ((region_of spaces.regions name).first + offset / PAGE) ((region_of spaces.regions name).first + offset / PAGE + count) ≡ false
+  pub childless : overwriting ≡ true → meets_child spaces.regions name ((region_of spaces.regions name).first + offset / PAGE) ((region_of spaces.regions name).first + offset / PAGE + rounded len / PAGE) ≡ false
   pub readable : lacks_reading perm ≡ false
 
-pub mismapped_parts : (spaces : Spaces) (name : ℕ) (overwriting fixed limited : Bool) (offset vmo_offset len perm count : ℕ)
-    → is_mismapped spaces name overwriting fixed limited offset vmo_offset len perm count ≡ false → IsMappedRightly spaces name overwriting fixed limited offset vmo_offset len perm count
-mismapped_parts spaces name overwriting fixed limited offset vmo_offset len perm count off =
+pub mismapped_parts : (spaces : Spaces) (name : ℕ) (overwriting fixed limited : Bool) (offset vmo_offset len perm : ℕ)
+    → is_mismapped spaces name overwriting fixed limited offset vmo_offset len perm ≡ false → IsMappedRightly spaces name overwriting fixed limited offset vmo_offset len perm
+mismapped_parts spaces name overwriting fixed limited offset vmo_offset len perm off =
     let region = region_of spaces.regions name in
     let first = region.first + offset / PAGE in
-    let over = overwriting && meets_child spaces.regions name first (first + count) in
+    let over = overwriting && meets_child spaces.regions name first (first + rounded len / PAGE) in
     let a = or_parts (is_misplaced region (fixed || overwriting) limited offset len) (not (vmo_offset % PAGE == 0) || ((fixed && overwriting) || (over || lacks_reading perm))) off in
     let b = or_parts (not (vmo_offset % PAGE == 0)) ((fixed && overwriting) || (over || lacks_reading perm)) a.1 in
     let d = or_parts (fixed && overwriting) (over || lacks_reading perm) b.1 in
@@ -105,7 +105,7 @@ mismapped_parts spaces name overwriting fixed limited offset vmo_offset len perm
       placed = a.0;
       aligned = eqb-true (vmo_offset % PAGE) 0 (not-false (vmo_offset % PAGE == 0) b.0);
       one_way = d.0;
-      childless = λ is. elim (and_cases overwriting (meets_child spaces.regions name first (first + count)) e.0) [ inl none ↦ absurd (both_ways overwriting none is) | inr clear ↦ clear ];
+      childless = λ is. elim (and_cases overwriting (meets_child spaces.regions name first (first + rounded len / PAGE)) e.0) [ inl none ↦ absurd (both_ways overwriting none is) | inr clear ↦ clear ];
       readable = e.1;
     }
 
@@ -143,7 +143,7 @@ misplaced_parts region fixed limited offset len off =
 
 -- a place of a mapping: its pages are pages of the region, and no live child of it has one
 pub map_place : (spaces : Spaces) (name : ℕ) (overwriting fixed limited : Bool) (offset vmo_offset len perm first : ℕ)
-    → IsMappedRightly spaces name overwriting fixed limited offset vmo_offset len perm (rounded len / PAGE)
+    → IsMappedRightly spaces name overwriting fixed limited offset vmo_offset len perm
     → IsMapPlace spaces name overwriting fixed limited offset (rounded len / PAGE) first
     → (reaches_over first (first + rounded len / PAGE) (region_of spaces.regions name) ≡ true) × (meets_child spaces.regions name first (first + rounded len / PAGE) ≡ false)
 map_place spaces name overwriting fixed limited offset vmo_offset len perm first right place = go overwriting refl where
@@ -169,11 +169,8 @@ pub not_forbidden : (entries : ℕ → Option Entry) (perm first end p : ℕ) (e
     → has entry.cap.0 perm ≡ true
 unfolding forbids
 not_forbidden entries perm first end p entry off low high e =
-    let bad : ℕ → Bool = λ q. passes (λ (x : Entry). not (has x.cap.0 perm)) (entries q) in
-    not-false (has entry.cap.0 perm) (false_from_ne_true (not (has entry.cap.0 perm)) (λ no.
-    both_ways (any_from first end bad) off
-    (any_below_at end p (λ q. nat_le first q && bad q) high
-    (and_from (nat_le first p) (bad p) (le-leb first p low) (passes-some (λ (x : Entry). not (has x.cap.0 perm)) (entries p) entry e ∙ no)))))
+    not-false (has entry.cap.0 perm)
+    (sym (passes-some (λ (x : Entry). not (has x.cap.0 perm)) (entries p) entry e) ∙ none_from_at _ first end p off low high)
 
 -- the entry that had other permissions
 perm_was : (perm : Perm) (entries : ℕ → Option Entry) (p : ℕ) (new : Entry) → with_perm perm entries p ≡ Some new

@@ -1,10 +1,9 @@
 -- Laws of pins: the pages that a pin covers, and which pages of a row are pinned.
-use Rattle.std.proofs.Common.{◌≡◌, ℕ, ◌+◌, ◌<◌, ◌≤◌, true, false, ◌&&◌, ◌==◌, Option, Some, refl, inl, inr}
-use Rattle.std.specs.Prelude.{nat_le}
-use Rattle.std.proofs.lemmas.Bool.{cases_Bool, and_parts, and_from, and_left, and_right, leb-true, le-leb}
+use Rattle.std.proofs.Common.{◌≡◌, ℕ, ◌+◌, ◌<◌, ◌≤◌, true, false, ◌==◌, Option, Some, refl}
+use Rattle.std.proofs.lemmas.Bool.{and_parts, and_from}
 use Rattle.std.proofs.lemmas.Bool.Decides.{Decides-eqb}
 use Rattle.vm_base.specs.declared.limits.TheConstants.{NAMES}
-use Rattle.vm_base.proofs.SearchLaws.{any_below_at, none_below, eqb_is}
+use Rattle.vm_base.proofs.SearchLaws.{any_from_at, none_from, eqb_is}
 use Rattle.vm_base.proofs.EntryLaws.{any_entry_at, any_entry_found}
 use Rattle.vm_model.specs.Contents.Zeroing.{is_within}
 use Rattle.vm_model.specs.Naming.Pins.{Pin, has_pin, covers, is_pinned, any_pinned}
@@ -38,12 +37,8 @@ is_pinned-has_pin pins v p e =
 
 pub any_pinned_at : (pins : ℕ → Option Pin) (v first end p : ℕ) → first ≤ p → p < end → is_pinned pins v p ≡ true → any_pinned pins v first end ≡ true
 unfolding any_pinned
-any_pinned_at pins v first end p low high e =
-    any_below_at end p (λ q. nat_le first q && is_pinned pins v q) high (and_from (nat_le first p) (is_pinned pins v p) (le-leb first p low) e)
+any_pinned_at pins v = any_from_at (is_pinned pins v)
 
 pub none_pinned : (pins : ℕ → Option Pin) (v first end : ℕ) → ((p : ℕ) → first ≤ p → p < end → is_pinned pins v p ≡ false) → any_pinned pins v first end ≡ false
 unfolding any_pinned
-none_pinned pins v first end each = none_below end (λ p. nat_le first p && is_pinned pins v p) (λ p h. elim (cases_Bool (nat_le first p)) [
-  | inl low ↦ and_right (nat_le first p) (is_pinned pins v p) (each p (leb-true first p low) h)
-  | inr below ↦ and_left (nat_le first p) (is_pinned pins v p) below
-])
+none_pinned pins v = none_from (is_pinned pins v)

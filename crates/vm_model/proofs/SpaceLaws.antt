@@ -1,14 +1,14 @@
 -- Laws of address spaces: entries and regions stay good where a region comes in or dies, and which VMOs are mapped.
 use Rattle.std.proofs.Common.{◌≡◌, ◌≢◌, ℕ, ◌+◌, ◌*◌, ◌<◌, ◌≤◌, Bool, true, false, not, cond, ◌&&◌, Option, None, Some, refl, sym, ap, subst, ◌∙◌, inl, inr, arith, bit_and}
-use Rattle.std.specs.Prelude.{nat_lt, nat_le, min, max, IsSome}
-use Rattle.std.proofs.lemmas.Bool.{and_parts, and_from, and_cases, both_ways, false_from_ne_true, not-true, le-leb, ltb-true, eqb-true, eq-eqb}
+use Rattle.std.specs.Prelude.{nat_lt, min, max, IsSome}
+use Rattle.std.proofs.lemmas.Bool.{and_parts, and_cases, both_ways, false_from_ne_true, not-true, ltb-true, eqb-true, eq-eqb}
 use Rattle.std.proofs.lemmas.Nat.{and_assoc}
 use Rattle.vm_base.specs.Search.{any_below, count_below}
 use Rattle.vm_base.specs.Entries.{passes, with_key}
 use Rattle.vm_base.specs.declared.limits.TheConstants.{NAMES, ROOT_END}
 use Rattle.vm_base.specs.declared.names.RegionName.{RegionName}
 use Rattle.vm_base.proofs.EntryLaws.{passes-some, any_entry_none, none_entry, some_same}
-use Rattle.vm_base.proofs.SearchLaws.{any_below_at, any_below-count, any_below-sum, sum_below_none, sum_below_le, count_below_none, count_below_le, eqb_same}
+use Rattle.vm_base.proofs.SearchLaws.{any_below_at, any_below-count, any_below-sum, sum_below_none, sum_below_le, count_below_none, count_below_le, eqb_same, none_from_at}
 use Rattle.vm_model.specs.declared.space.Entry.{Entry}
 use Rattle.vm_model.specs.declared.space.Region.{Region}
 use Rattle.vm_model.specs.Contents.Content.{Content}
@@ -116,10 +116,7 @@ module _ (spaces : Spaces) where
       → spaces.table root p ≡ Some entry → entry.region.0 ≡ name → ⊥
   unfolding has_entry
   no_entry root name first end p entry off low high e same =
-      both_ways (has_entry spaces.table root name first end) off
-      (any_below_at end p (λ q. nat_le first q && passes (is_in name) (spaces.table root q)) high
-      (and_from (nat_le first p) (passes (is_in name) (spaces.table root p)) (le-leb first p low)
-      (passes-some (is_in name) (spaces.table root p) entry e ∙ eq-eqb entry.region.0 name same)))
+      both_ways _ (none_from_at _ first end p off low high) (passes-some (is_in name) (spaces.table root p) entry e ∙ eq-eqb entry.region.0 name same)
 
 -- ---- the spaces of a machine
 

@@ -218,7 +218,7 @@ effect_keeps old (VmarMap region offset name vmo_offset len perm flags) reply ne
     let target = target_of old name.0 in
     let there = and_parts (is_given old region.0) (is_open old name.0) (not-false (is_given old region.0 && is_open old name.0) off.0) in
     let given = region_given old region.0 there.0 in
-    let right = mismapped_parts old.spaces region.0 (has flags.0 overwrite) (has flags.0 specific) (has flags.0 upper_limit) offset vmo_offset len perm.0 (rounded len / PAGE) off.1.1.1.0 in
+    let right = mismapped_parts old.spaces region.0 (has flags.0 overwrite) (has flags.0 specific) (has flags.0 upper_limit) offset vmo_offset len perm.0 off.1.1.1.0 in
     let place = map_place old.spaces region.0 (has flags.0 overwrite) (has flags.0 specific) (has flags.0 upper_limit) offset vmo_offset len perm.0 effect.0 right effect.2 in
     let spaces = with_mapping old.spaces above.root.0 effect.0 (rounded len / PAGE) (entry_of above region.0 target (vmo_offset / PAGE) perm) in
     subst (Keeps old) (sym effect.3) (loose_keeps old (record old { spaces = spaces }) good (Loosens-spaces old spaces

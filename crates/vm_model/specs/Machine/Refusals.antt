@@ -136,7 +136,7 @@ refusals s (VmarMap region offset name vmo_offset len perm flags) =
     (not (is_given s region.0 && is_open s name.0), BadHandle)
     ∷ (not above.live, BadState)
     ∷ (not (has above.caps.0 perm.0) || (has perm.0 writing && not target.may_write), AccessDenied)
-    ∷ (is_mismapped s.spaces region.0 over fixed limited offset vmo_offset len perm.0 count, InvalidArgs)
+    ∷ (is_mismapped s.spaces region.0 over fixed limited offset vmo_offset len perm.0, InvalidArgs)
     ∷ (nat_lt (VMO_PAGES * PAGE) (vmo_offset + rounded len), OutOfRange)
     ∷ (nat_lt (size_of s name.0) (vmo_offset + rounded len) && (not (has flags.0 allow_faults) || is_kind SliceName target.kind), BufferTooSmall)
     ∷ (fixed && not (is_free s.spaces region.0 first (first + count)), AlreadyExists)

@@ -1,6 +1,6 @@
 -- Pins, which keep pages of a VMO in their frames. From the kernel's pinned memory.
-use Rattle.std.specs.Prelude.{ℕ, ◌+◌, Bool, ◌&&◌, ◌==◌, nat_le, Option}
-use Rattle.vm_base.specs.Search.{any_below}
+use Rattle.std.specs.Prelude.{ℕ, ◌+◌, Bool, ◌&&◌, ◌==◌, Option}
+use Rattle.vm_base.specs.Search.{any_from}
 use Rattle.vm_base.specs.Entries.{any_entry, entry_count}
 use Rattle.vm_base.specs.declared.limits.TheConstants.{NAMES}
 use Rattle.vm_model.specs.Contents.Zeroing.{is_within}
@@ -29,4 +29,4 @@ is_pinned pins v p = any_entry NAMES (covers v p) pins
 
 -- some page of the VMO v is pinned, of those from `first` to below `end`
 unfoldable pub any_pinned : (ℕ → Option Pin) → ℕ → ℕ → ℕ → Bool
-any_pinned pins v first end = any_below end (λ p. nat_le first p && is_pinned pins v p)
+any_pinned pins v first end = any_from first end (is_pinned pins v)

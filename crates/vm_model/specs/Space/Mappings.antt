@@ -1,7 +1,8 @@
 -- Mappings of VMOs in regions: how they are asked for, what they do to the table, and how they are listed. From the kernel's
 -- zx_vmar_map, zx_vmar_unmap and zx_vmar_protect.
-use Rattle.std.specs.Prelude.{◌≡◌, ℕ, zero, suc, ◌+◌, ◌-◌, ◌*◌, ◌/◌, ◌%◌, Bool, true, false, not, ◌&&◌, ◌||◌, ◌==◌, nat_le, List, [], ◌∷◌, if◌then◌else◌, Option, None, Some, is_some}
-use Rattle.vm_base.specs.Search.{any_below}
+use Rattle.std.specs.Prelude.{◌≡◌, ℕ, zero, suc, ◌+◌, ◌-◌, ◌*◌, ◌/◌, ◌%◌, Bool, true, false, not, ◌&&◌, ◌||◌, ◌==◌, List, [], ◌∷◌, if◌then◌else◌, Option, None, Some, is_some}
+use Rattle.vm_base.specs.Search.{any_from}
+use Rattle.vm_base.specs.Pages.{rounded}
 use Rattle.vm_base.specs.Entries.{passes}
 use Rattle.vm_base.specs.declared.limits.TheConstants.{PAGE}
 use Rattle.vm_base.specs.declared.flags.Perm.{Perm}
@@ -47,12 +48,12 @@ pub record IsMapPlace (spaces : Spaces) (name : ℕ) (overwriting fixed limited 
 
 -- A mapping is asked for wrongly: where a place would be, at two places, from within a page of the VMO, over a live child of the
 -- region, or for writing or executing without reading.
-abbrev pub is_mismapped : Spaces → (name : ℕ) → (overwriting fixed limited : Bool) → (offset vmo_offset len perm count : ℕ) → Bool
-is_mismapped spaces name overwriting fixed limited offset vmo_offset len perm count =
+abbrev pub is_mismapped : Spaces → (name : ℕ) → (overwriting fixed limited : Bool) → (offset vmo_offset len perm : ℕ) → Bool
+is_mismapped spaces name overwriting fixed limited offset vmo_offset len perm =
     let region = region_of spaces.regions name in
     let first = region.first + offset / PAGE in
     is_misplaced region (fixed || overwriting) limited offset len || (not (vmo_offset % PAGE == 0) || ((fixed && overwriting)
-    || ((overwriting && meets_child spaces.regions name first (first + count)) || lacks_reading perm)))
+    || ((overwriting && meets_child spaces.regions name first (first + rounded len / PAGE)) || lacks_reading perm)))
 
 -- A range of an address space, in bytes, is no range of the region: it does not begin at a page, has no byte, or passes an end of
 -- the region.
@@ -76,10 +77,6 @@ unmapped spaces name first end = record {
 abbrev pub protected : Spaces → (root first end : ℕ) → Perm → Spaces
 protected spaces root first end perm =
     record spaces { table = with_pages spaces.table root first end (with_perm perm (spaces.table root)) }
-
--- some page from `first` to below `end` passes
-abbrev pub any_from : ℕ → ℕ → (ℕ → Bool) → Bool
-any_from first end test = any_below end (λ p. nat_le first p && test p)
 
 -- some page of the range has an entry
 unfoldable pub is_mapped_in : (ℕ → Option Entry) → ℕ → ℕ → Bool

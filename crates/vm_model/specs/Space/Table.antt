@@ -1,8 +1,8 @@
 -- What each page of each address space shows. From the kernel's mappings, page by page. An address space goes by the name of
 -- its root region.
-use Rattle.std.specs.Prelude.{◌≡◌, ℕ, ◌+◌, ◌-◌, Bool, true, false, ◌&&◌, ◌==◌, nat_le, if◌then◌else◌, Option, None, Some}
+use Rattle.std.specs.Prelude.{◌≡◌, ℕ, ◌+◌, ◌-◌, Bool, true, false, ◌&&◌, ◌==◌, if◌then◌else◌, Option, None, Some}
 use Rattle.std.specs.Option.{option_map}
-use Rattle.vm_base.specs.Search.{any_below}
+use Rattle.vm_base.specs.Search.{any_from}
 use Rattle.vm_base.specs.Entries.{passes}
 use Rattle.vm_base.specs.declared.flags.Perm.{Perm}
 use Rattle.vm_model.specs.declared.space.Entry.{Entry}
@@ -37,7 +37,7 @@ is_in region entry = entry.region.0 == region
 
 -- some entry of `root` that belongs to the region is on a page from `first` to below `end`
 unfoldable pub has_entry : (ℕ → ℕ → Option Entry) → ℕ → ℕ → ℕ → ℕ → Bool
-has_entry table root region first end = any_below end (λ p. nat_le first p && passes (is_in region) (table root p))
+has_entry table root region first end = any_from first end (λ p. passes (is_in region) (table root p))
 
 -- What holds of every entry that is of the page p of an address space: its region is live and of that address space, has the
 -- page, and no live child of it has. What an access may do is within what it may be changed to.

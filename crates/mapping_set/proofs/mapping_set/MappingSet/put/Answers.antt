@@ -1,5 +1,5 @@
 use Rattle.std.proofs.Common.{refl}
-use Rattle.mapping_set.proofs.SetLaws.{absent, free, IsSet-more, table-more}
+use Rattle.mapping_set.proofs.SetLaws.{absent, free, AreMappings-more, table-more}
 use Rattle.mapping_set.proofs.mapping_set.MappingSet.put.Goals as goal
 
 pub insert-requires-clause-absent : goal.insert-requires-clause-absent
@@ -14,7 +14,7 @@ insert-requires-2-clause-free c =
 
 pub invariant_of-self : goal.invariant_of-self
 invariant_of-self c =
-    IsSet-more _ c.self.invariant _ c.self.view_is c.args.root.0 _ _ c.from.ensures c.args.piece c.list_number-list.ensures.number
+    AreMappings-more _ c.self.invariant _ c.self.view_is c.args.root.0 _ _ c.from.ensures c.args.piece c.list_number-list.ensures.number
     c.list_number-list.ensures.below c.requires.some c.requires.end c.requires.pages c.requires.bare (record { pieces = c.insert.new.self; lists = c.insert-2.new.self }) c.insert.ensures.values
     _ refl c.insert-2.ensures.extents
 

@@ -1,9 +1,9 @@
-use Rattle.mapping_set.proofs.SetLaws.{whole, IsSet-less, table-less}
+use Rattle.mapping_set.proofs.SetLaws.{whole, AreMappings-less, table-less}
 use Rattle.mapping_set.proofs.mapping_set.MappingSet.take.Goals as goal
 
 pub invariant_of-self : goal.invariant_of-self
 invariant_of-self c =
-    IsSet-less _ c.self.invariant _ c.self.view_is c.args.root.0 _ _ c.from.ensures c.remove-piece.result c.list_number.ensures.number
+    AreMappings-less _ c.self.invariant _ c.self.view_is c.args.root.0 _ _ c.from.ensures c.remove-piece.result c.list_number.ensures.number
     c.args.last c.remove-piece.ensures.value (record { pieces = c.remove-piece.new.self; lists = c.remove.new.self }) c.remove-piece.ensures.values c.remove.ensures.extents
 
 pub returns-clause-table : goal.returns-clause-table
