@@ -1,21 +1,13 @@
 -- What the frame of a translation shows.
-use Rattle.std.proofs.Common.{◌≡◌, ℕ, ◌+◌, ◌-◌, ◌≤◌, List, length, replicate, take, drop, Option, None, Some, refl, sym, ap, ◌∙◌, arith}
-use Rattle.std.proofs.lemmas.List.{take-replicate, drop-replicate}
+use Rattle.std.proofs.Common.{◌≡◌, ℕ, ◌+◌, ◌-◌, ◌≤◌, List, length, replicate, take, drop, Option, None, Some, refl, sym, ap, ◌∙◌}
 use Rattle.vm_base.specs.declared.limits.TheConstants.{PAGE}
 use Rattle.vm_base.specs.declared.names.Tag.{Tag}
-use Rattle.vm_base.specs.Pages.{zeros}
 use Rattle.vm_model.specs.Contents.Content.{Content, Page, shown, bytes_of}
 use Rattle.vm_model.specs.Space.Readiness.{frame_at}
 use Rattle.page_store.specs.Pages.{AreBytesOf}
 use Rattle.fault.specs.declared.translation.Translation.{Translation}
 use Rattle.fault.specs.Table.{frame_in}
-
--- a part of a page of zeros
-part_of_zeros : (at n : ℕ) → at + n ≤ PAGE → take n (drop at zeros) ≡ replicate n 0
-unfolding zeros
-part_of_zeros at n h = go PAGE h where
-  go : (m : ℕ) → at + n ≤ m → take n (drop at (replicate {A = ℕ} m 0)) ≡ replicate n 0
-  go m l = ap (take n) (drop-replicate at m 0) ∙ take-replicate n (m - at) 0 (omega arith)
+use Rattle.page_store.proofs.PartLaws.{part_of_zeros}
 
 module _ (c : Content) (v p at n : ℕ) (x : Translation) (frame : frame_in x ≡ frame_at c v p) where
   -- bytes of the frame

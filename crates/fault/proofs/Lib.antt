@@ -8,12 +8,12 @@ pub mod TranslationLaws
 pub mod TouchingLaws
 pub mod FrameLaws
 pub mod ReadLaws
-pub mod OutcomeLaws
 pub mod FindLaws
 pub mod NeedingLaws
 pub mod OwnedLaws
 pub mod WrittenLaws
 pub mod WritableLaws
 pub mod AskedLaws
+pub mod OutcomeLaws
 pub mod PartLaws
 pub mod ThroughLaws

@@ -1,5 +1,5 @@
 -- How many frames owning one page takes, or two pages one after another.
-use Rattle.std.proofs.Common.{◌≡◌, ◌≢◌, ℕ, suc, ◌+◌, ◌<◌, ◌≤◌, Bool, true, false, cond, ◌&&◌, ◌==◌, List, [], ◌∷◌, Option, None, Some, ◌⊎◌, length, refl, sym, ap, ◌∙◌, inl, inr, arith}
+use Rattle.std.proofs.Common.{◌≡◌, ◌≢◌, ℕ, suc, ◌+◌, ◌<◌, ◌≤◌, Bool, true, false, cond, ◌&&◌, ◌==◌, List, [], ◌∷◌, Option, None, Some, length, refl, sym, ap, ◌∙◌, inl, inr, arith}
 use Rattle.std.specs.Prelude.{IfSome}
 use Rattle.std.proofs.lemmas.Bool.{cases_Bool, cases_eq, and_parts, and_from, both_ways, eq-eqb, false_from_ne_true, ltb-true}
 use Rattle.std.proofs.lemmas.Bool.Decides.{nat_tests}
@@ -17,6 +17,7 @@ use Rattle.vm_model.proofs.WritingLaws.{Written-from_WritesPiece, WritesPiece-ke
 use Rattle.page_store.specs.Pages.{look_at}
 use Rattle.page_store.proofs.ViewerLaws.{in_use-viewers, sole-viewers, IsOneMore-hold, IsOneMore-zeroed, IsOneMore-moved, viewers-more}
 use Rattle.fault.specs.Needing.{need_by, have_one_frame}
+use Rattle.fault.specs.Writable.{MayOwn}
 
 -- ---- a page with a frame that is counted as new
 
@@ -227,7 +228,7 @@ module _ (c : Content) (v p w q : ℕ) (good : IsGood c) (h : p < pages_of c v) 
       need-last few = let second : n ≡ 2 = omega (arith, need-shared.1) in rw (need-shared.0, second) refl
 
   -- where the frames are free that both need, one is there for the first, where that is not sole
-  pub first-free : used c + need_each c both ≤ c.frames → (sole c v p ≡ true) ⊎ (used c < c.frames)
+  pub first-free : used c + need_each c both ≤ c.frames → MayOwn c v p
   first-free free = elim (cases_Bool (sole c v p)) [
     | inl alone ↦ inl alone
     | inr shared ↦ let some : need_each c both ≡ suc (cond (sole after w q) 0 1) = rw (need-both, shared) refl in inr (omega (arith, free, some))
@@ -236,7 +237,7 @@ module _ (c : Content) (v p w q : ℕ) (good : IsGood c) (h : p < pages_of c v) 
   -- where the frames are free that both need, writing the first leaves one for the second, where that is not sole
   pub second-free : (at : ℕ) (bytes : List ℕ) (d : Content) → at + length bytes ≤ PAGE
       → WritesPiece c (record { koid = v; page = p; at = at; bytes = bytes }) d → used c + need_each c both ≤ c.frames
-      → (sole d w q ≡ true) ⊎ (used d < d.frames)
+      → MayOwn d w q
   second-free at bytes d fits writes free =
       let part : Piece = record { koid = v; page = p; at = at; bytes = bytes } in
       let owned = Owned-from_Owns c writes.owned v p writes.tag good h writes.owns in

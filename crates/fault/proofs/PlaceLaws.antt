@@ -12,7 +12,9 @@ use Rattle.mapping_set.proofs.TableLaws.{with_pair-cases}
 use Rattle.fault.specs.declared.translation.Translation.{Translation}
 use Rattle.fault.specs.declared.translation.Kept.{Kept}
 use Rattle.fault.specs.Table.{Places, without, with_translation, with_read_only, restricted as restrict_one}
-use Rattle.fault.specs.Walks.{Keeping, become, changed_where, dropped, restricted, is_place}
+use Rattle.fault.specs.declared.translation.Change.{Change}
+use Rattle.fault.specs.declared.translation.Change.TheVariants.{Forget, ForgetOther, Restrict}
+use Rattle.fault.specs.Walks.{Keeping, become, changed_where, dropped, restricted, change_by, is_place}
 use Rattle.fault.proofs.PairLaws.{missing}
 
 -- a change that leaves what it made
@@ -24,12 +26,18 @@ pub dropped-once : IsOnce dropped
 dropped-once k test = refl
 
 -- what is for reading alone stays so
-pub restricted-once : IsOnce restricted
+restricted-once : IsOnce restricted
 restricted-once k test = cases (test (record k { translation = record k.translation { readiness = Read } }))
   where
     cases : (b : Bool) → cond b (restricted k) (restricted k) ≡ restricted k
     cases true = refl
     cases false = refl
+
+-- so is each change
+pub change_by-once : (change : Change) → IsOnce (change_by change)
+change_by-once Forget = dropped-once
+change_by-once (ForgetOther frame) = dropped-once
+change_by-once Restrict = restricted-once
 
 -- ---- changes in a row
 

@@ -1,16 +1,16 @@
 -- What writing through one page of an address space, or through two, gives.
-use Rattle.std.proofs.Common.{◌≡◌, ℕ, ◌+◌, ◌<◌, ◌≤◌, true, List, [], ◌∷◌, length, Option, ◌⊎◌, refl, arith}
-use Rattle.std.specs.Prelude.{IfSome}
+use Rattle.std.proofs.Common.{◌≡◌, ℕ, ◌+◌, ◌≤◌, List, [], ◌∷◌, length, Option, refl, arith}
 use Rattle.vm_base.specs.declared.limits.TheConstants.{PAGE}
 use Rattle.vm_model.specs.declared.space.Entry.{Entry}
-use Rattle.vm_model.specs.Contents.Content.{Content, in_use, used, sole, IsGood}
+use Rattle.vm_model.specs.Contents.Content.{Content, in_use, used, IsGood}
 use Rattle.vm_model.specs.Contents.Owning.{need_from, need_each}
 use Rattle.vm_model.specs.Contents.Writing.{touched, part_at, part_bytes}
+use Rattle.vm_model.specs.Space.Rights.{writing}
 use Rattle.vm_model.specs.Machine.Access.{Memory, WritesPage, WritesThrough, page_shown, write_fault}
 use Rattle.fault.specs.declared.writable.WritablePage.{WritablePage}
-use Rattle.fault.specs.Table.{Places, AreTrue}
+use Rattle.fault.specs.Table.{Places, AreTrue, IsOfEntry}
 use Rattle.fault.specs.Access.{Writes}
-use Rattle.fault.specs.Writable.{IsWritable, WritesTo, fault_of}
+use Rattle.fault.specs.Writable.{IsWritable, WritesTo, fault_of, MayOwn}
 use Rattle.vm_base.proofs.SearchLaws.{count_below_le}
 use Rattle.vm_model.proofs.RangeLaws.{touched-nil}
 use Rattle.fault.proofs.AskedLaws.{AreAsked, AreAsked-none, none-refuses, fault-found}
@@ -37,15 +37,15 @@ pub record IsBetween (c : Content) (table : ℕ → ℕ → Option Entry) (place
   pub good : IsGood c
   pub are : AreTrue c table places
   pub found : IsWritable c table places root p page
-  pub same : IfSome (places root p) (λ x. x.entry ≡ page.entry)
-  pub free : (sole c page.entry.koid.0 page.entry.page ≡ true) ⊎ (used c < c.frames)
+  pub same : IsOfEntry places root p page.entry
+  pub free : MayOwn c page.entry.koid.0 page.entry.page
 
 -- the first page, or the only one
 module _ (c : Content) (table : ℕ → ℕ → Option Entry) (old : Places) (root p : ℕ) (first : WritablePage) (at : ℕ) (part : List ℕ) (mid : Content) (between : Places)
     (good : IsGood c) (are : AreTrue c table old) (is : IsWritable c table old root p first) (fits : at + length part ≤ PAGE)
     (w : WritesTo root p first at part c old mid between) where
   -- it was the only one
-  pub Writes-one : (addr : ℕ) (bytes : List ℕ) → touched addr (length bytes) ≡ p ∷ [] → AreAsked c (table root) (p ∷ []) (page_shown first.entry ∷ [])
+  pub Writes-one : (addr : ℕ) (bytes : List ℕ) → touched addr (length bytes) ≡ p ∷ [] → AreAsked c writing (table root) (p ∷ []) (page_shown first.entry ∷ [])
       → used c + need_each c (page_shown first.entry ∷ []) ≤ c.frames → at ≡ part_at addr p → part ≡ part_bytes addr bytes p
       → Writes c table root addr bytes old (fault_of first) mid between
   Writes-one addr bytes one asked free place same = record {
@@ -81,7 +81,7 @@ module _ (c : Content) (table : ℕ → ℕ → Option Entry) (old : Places) (ro
 
       -- and both parts were written
       pub Writes-two : (addr : ℕ) (bytes : List ℕ) → touched addr (length bytes) ≡ p ∷ (p + 1) ∷ []
-          → AreAsked c (table root) (p ∷ (p + 1) ∷ []) (page_shown first.entry ∷ page_shown second.entry ∷ [])
+          → AreAsked c writing (table root) (p ∷ (p + 1) ∷ []) (page_shown first.entry ∷ page_shown second.entry ∷ [])
           → at ≡ part_at addr p → part ≡ part_bytes addr bytes p → then_at ≡ part_at addr (p + 1) → then_part ≡ part_bytes addr bytes (p + 1)
           → Writes c table root addr bytes old (fault_of first + fault_of second) d new
       Writes-two addr bytes two asked place same then_place then_same =
@@ -100,6 +100,6 @@ unfolding used need_from
 Writes-none c table old root addr bytes empty =
     let none : touched addr (length bytes) ≡ [] = rw empty (touched-nil addr) in
     record {
-      free = rw none (none-refuses c (table root) [] [] (AreAsked-none c (table root)) (omega (arith, count_below_le c.frames (in_use c))));
+      free = rw none (none-refuses c (table root) [] [] (AreAsked-none c writing (table root)) (omega (arith, count_below_le c.frames (in_use c))));
       writes = rw none (refl, refl);
     }

@@ -1,5 +1,5 @@
 -- Laws of a page that may be written, as it is found before anything is written.
-use Rattle.std.proofs.Common.{◌≡◌, ℕ, ◌+◌, ◌<◌, ◌≤◌, true, [], ◌∷◌, Option, None, Some, ◌⊎◌, refl, sym, ap, subst, ◌∙◌, inl, inr, arith}
+use Rattle.std.proofs.Common.{◌≡◌, ℕ, ◌+◌, ◌≤◌, true, [], ◌∷◌, Option, None, Some, refl, sym, ap, subst, ◌∙◌, inl, inr, arith}
 use Rattle.std.specs.Prelude.{is_some, IfSome}
 use Rattle.std.specs.Option.{option_map}
 use Rattle.std.proofs.lemmas.Bool.{cases_Bool}
@@ -16,9 +16,9 @@ use Rattle.vm_model.specs.Machine.Access.{refusal_at}
 use Rattle.vm_model.proofs.ContentLaws.{sole_held}
 use Rattle.fault.specs.declared.translation.Translation.{Translation}
 use Rattle.fault.specs.declared.checking.TouchedPage.{TouchedPage}
-use Rattle.fault.specs.Table.{Places, AreTrue, ready_of, frame_in}
+use Rattle.fault.specs.Table.{Places, AreTrue, ready_of, frame_in, IsOfEntry}
 use Rattle.fault.specs.Touching.{IsTouched}
-use Rattle.fault.specs.Writable.{writing_frame, IsSoleWith, IsWritable}
+use Rattle.fault.specs.Writable.{writing_frame, IsSoleWith, IsWritable, MayOwn}
 use Rattle.fault.proofs.CheckLaws.{below-free}
 
 -- a page that is ready for writing is ready for that
@@ -34,8 +34,8 @@ is_held_by (Some t) tag e = refl
 
 module _ (c : Content) (table : ℕ → ℕ → Option Entry) (places : Places) (root p : ℕ) (are : AreTrue c table places) where
   -- the translation that the page has, if it has one, is of the entry
-  pub entry-found : (entry : Entry) (now : Places) → table root p ≡ Some entry → now ≡ places → IfSome (now root p) (λ x. x.entry ≡ entry)
-  entry-found entry now is same = subst (λ (m : Places). IfSome (m root p) (λ x. x.entry ≡ entry)) (sym same) (go (places root p) refl) where
+  pub entry-found : (entry : Entry) (now : Places) → table root p ≡ Some entry → now ≡ places → IsOfEntry now root p entry
+  entry-found entry now is same = subst (λ (m : Places). IsOfEntry m root p entry) (sym same) (go (places root p) refl) where
     go : (o : Option Translation) → places root p ≡ o → IfSome o (λ x. x.entry ≡ entry)
     go None e = tt
     go (Some x) e = some_same (sym (are.entry root p x e) ∙ is)
@@ -83,7 +83,7 @@ module _ (c : Content) (table : ℕ → ℕ → Option Entry) (places : Places) 
     ]
 
 -- where the frame is free that owning a page needs, it is there where the page is not sole
-pub one-free : (c : Content) (v p : ℕ) → used c + need_each c (record { koid = v; page = p } ∷ []) ≤ c.frames → (sole c v p ≡ true) ⊎ (used c < c.frames)
+pub one-free : (c : Content) (v p : ℕ) → used c + need_each c (record { koid = v; page = p } ∷ []) ≤ c.frames → MayOwn c v p
 unfolding need_from
 one-free c v p free = elim (cases_Bool (sole c v p)) [
   | inl alone ↦ inl alone

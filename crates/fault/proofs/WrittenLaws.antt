@@ -26,7 +26,8 @@ use Rattle.fault.specs.declared.translation.Translation.{Translation}
 use Rattle.fault.specs.declared.writable.WritablePage.{WritablePage}
 use Rattle.fault.specs.Table.{Places, AreTrue, ready_of, without, is_stale}
 use Rattle.fault.specs.Writable.{IsWritable, WritesTo}
-use Rattle.fault.proofs.OwnedLaws.{WritesPiece-from_parts, frame_at-owned, frame_at-overwritten}
+use Rattle.page_store.proofs.PartLaws.{WritesPiece-from_parts}
+use Rattle.fault.proofs.OwnedLaws.{frame_at-owned, frame_at-overwritten}
 use Rattle.fault.proofs.WritableLaws.{is_writable-is}
 use Rattle.fault.proofs.TranslationLaws.{ready_of-with_translation, AreTrue-with_translation}
 

@@ -1,5 +1,5 @@
 -- What an access through mappings does to a store and the translations.
-use Rattle.std.specs.Prelude.{◌≡◌, ℕ, Bool, true, not, List, length, Option, None, Some, is_some, ◌⊎◌}
+use Rattle.std.specs.Prelude.{◌≡◌, ℕ, Bool, true, not, List, length, Option, None, Some, is_some, Result, MatchResult, ◌⊎◌}
 use Rattle.std.specs.List.{list_any}
 use Rattle.vm_base.specs.declared.refusal.Refusal.{Refusal}
 use Rattle.vm_base.specs.declared.refusal.Refusal.TheVariants.{HostMemory}
@@ -40,7 +40,17 @@ pub record Reads (c : Content) (table : ℕ → ℕ → Option Entry) (root addr
   pub bytes_are : bytes ≡ bytes_through c (table root) addr len
   pub ready : ready_of new ≡ after_reading root (touched addr len) (ready_of old)
 
+-- A read of `len` bytes has this answer: so many page faults, and then these are the bytes, or why it is refused.
+abbrev pub AnswersRead : Content → (ℕ → ℕ → Option Entry) → (root addr len : ℕ) → (old : Places) → List ℕ → (new : Places) → Result ℕ Refusal → Type 0
+AnswersRead c table root addr len old bytes new answer =
+    MatchResult answer (λ faults. Reads c table root addr len old faults bytes new) (RefusesRead c table root addr len old new)
+
 -- Nothing refuses the write. It was done page by page with so many page faults.
 pub record Writes (c : Content) (table : ℕ → ℕ → Option Entry) (root addr : ℕ) (bytes : List ℕ) (old : Places) (faults : ℕ) (d : Content) (new : Places) : Type 0 where
   pub free : first_of (write_refusals c (table root) (touched addr (length bytes))) ≡ None
   pub writes : WritesThrough table root addr bytes (touched addr (length bytes)) (record { content = c; ready = ready_of old }) faults (record { content = d; ready = ready_of new })
+
+-- A write of these bytes has this answer: so many page faults, or why it is refused.
+abbrev pub AnswersWrite : Content → (ℕ → ℕ → Option Entry) → (root addr : ℕ) → List ℕ → (old : Places) → Content → (new : Places) → Result ℕ Refusal → Type 0
+AnswersWrite c table root addr bytes old d new answer =
+    MatchResult answer (λ faults. Writes c table root addr bytes old faults d new) (RefusesWrite c table root addr (length bytes) old d new)

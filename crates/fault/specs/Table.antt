@@ -1,5 +1,5 @@
 -- The translations as their callers see them, when they are true, and what the resets leave of them.
-use Rattle.std.specs.Prelude.{◌≡◌, ℕ, ◌<◌, Bool, true, not, ◌&&◌, ◌==◌, if◌then◌else◌, Option, None, Some, IsSome}
+use Rattle.std.specs.Prelude.{◌≡◌, ℕ, ◌<◌, Bool, true, not, ◌&&◌, ◌==◌, if◌then◌else◌, Option, None, Some, IsSome, IfSome}
 use Rattle.std.specs.Option.{option_map}
 use Rattle.vm_base.specs.Entries.{passes}
 use Rattle.vm_base.specs.declared.names.Tag.{Tag}
@@ -55,6 +55,10 @@ pub record AreTrue (c : Content) (table : ℕ → ℕ → Option Entry) (places 
   pub frame : (root p : ℕ) (x : Translation) → places root p ≡ Some x → frame_in x ≡ frame_at c x.entry.koid.0 x.entry.page
   pub below : (root p : ℕ) (x : Translation) → places root p ≡ Some x → x.entry.page < pages_of c x.entry.koid.0
   pub alone : (root p : ℕ) (x : Translation) → places root p ≡ Some x → x.readiness ≡ Write → sole c x.entry.koid.0 x.entry.page ≡ true
+
+-- the translation of page p of an address space, where it has one, is of this entry
+abbrev pub IsOfEntry : Places → (root p : ℕ) → Entry → Type 0
+IsOfEntry places root p entry = IfSome (places root p) (λ x. x.entry ≡ entry)
 
 -- the translations, with this one of a page
 unfoldable pub with_translation : Places → (root p : ℕ) → Translation → Places

@@ -1,11 +1,13 @@
 -- What is kept of each page, how it changes over a list or a range, and what the searches for the next of them answer.
-use Rattle.std.specs.Prelude.{◌≡◌, ℕ, ◌+◌, ◌^◌, ◌<◌, ◌≤◌, ◌&&◌, ◌==◌, Bool, not, if◌then◌else◌, Option, None, Some, IsSome}
+use Rattle.std.specs.Prelude.{◌≡◌, ℕ, ◌+◌, ◌^◌, ◌<◌, ◌≤◌, ◌&&◌, ◌==◌, Bool, true, not, if◌then◌else◌, Option, None, Some, IsSome}
 use Rattle.vm_model.specs.declared.space.Readiness.TheVariants.{Read}
 use Rattle.vm_model.specs.Space.Readiness.{is_same_frame}
 use Rattle.pair_map.specs.Maps.{values_of}
 use Rattle.fault.specs.declared.translation.Kept.{Kept}
 use Rattle.fault.specs.declared.translation.Place.{Place}
-use Rattle.fault.specs.Table.{Table, frame_in}
+use Rattle.fault.specs.declared.translation.Change.{Change}
+use Rattle.fault.specs.declared.translation.Change.TheVariants.{Forget, ForgetOther, Restrict}
+use Rattle.fault.specs.Table.{Table, frame_in, number_of}
 
 -- what is kept of each page of each address space
 abbrev pub Keeping : Type 0
@@ -43,6 +45,18 @@ is_member list k = k.list == list
 -- it holds another frame than this
 abbrev pub holds_other : Option ℕ → Kept → Bool
 holds_other frame k = not (is_same_frame (frame_in k.translation) frame)
+
+-- what a change makes of what is kept of a page
+abbrev pub change_by : Change → Kept → Option Kept
+change_by Forget = dropped
+change_by (ForgetOther frame) = dropped
+change_by Restrict = restricted
+
+-- whether the change is for it
+abbrev pub is_for : Change → Kept → Bool
+is_for Forget k = true
+is_for (ForgetOther frame) k = holds_other (number_of frame) k
+is_for Restrict k = true
 
 -- no page of the address space from `from` to below `end` is translated
 abbrev pub HasNoPlace : Keeping → (root from end : ℕ) → Type 0

@@ -4,10 +4,11 @@ ghost use Rattle.std.specs.Prelude.{◌≡◌, ◌+◌, ◌≤◌, ◌<◌, ◌&
 ghost use Rattle.vm_base.specs.declared.limits.TheConstants.{PAGES_END};
 ghost use Rattle.vm_model.specs.Contents.Content.{pages_of};
 ghost use Rattle.fault.specs.Table.{number_of, places_of, room_of, without, is_of, is_stale, is_at, with_read_only};
-ghost use Rattle.fault.specs.Walks.{kept_of, changed_where, dropped, restricted, is_place, is_member, holds_other};
+ghost use Rattle.vm_model.specs.Space.Readiness.{shows_in};
+ghost use Rattle.fault.specs.Walks.{kept_of, changed_where, dropped, restricted, change_by, is_for, is_place, is_member, holds_other};
 
 use crate::frames::frame_of;
-use crate::translation::{Kept, Translation};
+use crate::translation::{Change, Kept, Translation};
 use crate::translations::Translations;
 use page_store::PageStore;
 use vm_base::{Koid, PageNo, RegionName, Tag};
@@ -30,7 +31,7 @@ impl Translations {
         let end = first + count;
         let mut from = first;
         while let Some((page, list)) = self.list_below(v, from, end) {
-            self.drop_others(list, frame_of(store, v, page));
+            self.change_members(list, Change::ForgetOther(frame_of(store, v, page)));
             from = page + 1;
         }
     }
@@ -41,12 +42,7 @@ impl Translations {
         ensures at { places_of self.new ≡ without (is_of v.0 first (first + count)) (places_of self.old) }
         ensures room { room_of self.old ≤ room_of self.new }
     {
-        let end = first + count;
-        let mut from = first;
-        while let Some((page, list)) = self.list_below(v, from, end) {
-            self.drop_members(list);
-            from = page + 1;
-        }
+        self.change_pages(v, first, count, Change::Forget);
     }
 
     /// Forgets the translations of `count` pages of an address space from the page `first` on.
@@ -69,11 +65,48 @@ impl Translations {
         ensures at { places_of self.new ≡ with_read_only v.0 first (first + count) (places_of self.old) }
         ensures room { room_of self.old ≤ room_of self.new }
     {
+        self.change_pages(v, first, count, Change::Restrict);
+    }
+
+    // Changes the translations of `count` pages of a VMO from the page `first` on, those that the change is for.
+    fn change_pages(&mut self, v: Koid, first: PageNo, count: u64, change: Change)
+        requires range { first + count ≤ PAGES_END }
+        ensures at { kept_of self.new ≡ changed_where (change_by change)
+            (λ r p k. shows_in v.0 first (first + count) k.translation.entry && is_for change k) (kept_of self.old) }
+        ensures room { room_of self.old ≤ room_of self.new }
+    {
         let end = first + count;
         let mut from = first;
         while let Some((page, list)) = self.list_below(v, from, end) {
-            self.restrict_members(list);
+            self.change_members(list, change);
             from = page + 1;
+        }
+    }
+
+    // Changes the translations of a list, those that the change is for.
+    fn change_members(&mut self, list: u64, change: Change)
+        ensures at { kept_of self.new
+            ≡ changed_where (change_by change) (λ r p k. is_member list k && is_for change k) (kept_of self.old) }
+        ensures room { room_of self.old ≤ room_of self.new }
+    {
+        let mut from = 0;
+        while let Some((serial, place)) = self.member_from(list, from) {
+            self.change_place(place.root, place.page, change);
+            from = serial + 1;
+        }
+    }
+
+    // Changes the translation of a page that has one, where the change is for it.
+    fn change_place(&mut self, root: RegionName, page: PageNo, change: Change)
+        requires { IsSome (kept_of self.old root.0 page) }
+        ensures at { kept_of self.new
+            ≡ changed_where (change_by change) (λ r p k. is_place root.0 page r p && is_for change k) (kept_of self.old) }
+        ensures room { room_of self.old ≤ room_of self.new }
+    {
+        match change {
+            Change::Forget => self.drop_place(root, page),
+            Change::ForgetOther(frame) => self.drop_other(root, page, frame),
+            Change::Restrict => self.restrict(root, page),
         }
     }
 
@@ -87,43 +120,6 @@ impl Translations {
             if holds_other(kept, frame) {
                 self.drop_place(root, page);
             }
-        }
-    }
-
-    // Forgets the translations of a list that hold another frame than this.
-    fn drop_others(&mut self, list: u64, frame: Option<Tag>)
-        ensures at { kept_of self.new
-            ≡ changed_where dropped (λ r p k. is_member list k && holds_other (number_of frame) k) (kept_of self.old) }
-        ensures room { room_of self.old ≤ room_of self.new }
-    {
-        let mut from = 0;
-        while let Some((serial, place)) = self.member_from(list, from) {
-            self.drop_other(place.root, place.page, frame);
-            from = serial + 1;
-        }
-    }
-
-    // Forgets the translations of a list.
-    fn drop_members(&mut self, list: u64)
-        ensures at { kept_of self.new ≡ changed_where dropped (λ r p k. is_member list k) (kept_of self.old) }
-        ensures room { room_of self.old ≤ room_of self.new }
-    {
-        let mut from = 0;
-        while let Some((serial, place)) = self.member_from(list, from) {
-            self.drop_place(place.root, place.page);
-            from = serial + 1;
-        }
-    }
-
-    // Leaves the translations of a list for reading alone.
-    fn restrict_members(&mut self, list: u64)
-        ensures at { kept_of self.new ≡ changed_where restricted (λ r p k. is_member list k) (kept_of self.old) }
-        ensures room { room_of self.new ≡ room_of self.old }
-    {
-        let mut from = 0;
-        while let Some((serial, place)) = self.member_from(list, from) {
-            self.restrict(place.root, place.page);
-            from = serial + 1;
         }
     }
 

@@ -6,7 +6,7 @@ ghost use Rattle.vm_model.specs.declared.space.Readiness.TheVariants as Readines
 ghost use Rattle.vm_model.specs.Contents.Content.{shown, pages_of};
 ghost use Rattle.mapping_set.specs.Tables.{table_of};
 ghost use Rattle.fault.specs.Table.{AreBacked, AreTrue, places_of, room_of};
-ghost use Rattle.fault.specs.Access.{Reads, RefusesRead};
+ghost use Rattle.fault.specs.Access.{Reads, RefusesRead, AnswersRead};
 ghost use Rattle.fault.specs.Touching.{IsFound, IsOf, ReadsPage, missing_in};
 
 use crate::checking::TouchedPage;
@@ -85,9 +85,8 @@ impl Translations {
         requires backed { AreBacked (P.content store.now) (table_of maps.now) }
         requires translations { AreTrue (P.content store.now) (table_of maps.now) (places_of self.old) }
         requires len { length out.old ≤ DATA_BYTES }
-        ensures outcome { MatchResult result
-            (λ faults. Reads (P.content store.now) (table_of maps.now) root.0 addr (length out.old) (places_of self.old) faults out.new (places_of self.new))
-            (RefusesRead (P.content store.now) (table_of maps.now) root.0 addr (length out.old) (places_of self.old) (places_of self.new)) }
+        ensures outcome { AnswersRead (P.content store.now) (table_of maps.now) root.0 addr (length out.old) (places_of self.old)
+            out.new (places_of self.new) result }
         ensures translations { AreTrue (P.content store.now) (table_of maps.now) (places_of self.new) }
     {
         if out.is_empty() {
@@ -112,9 +111,8 @@ impl Translations {
         requires translations { AreTrue (P.content store.now) (table_of maps.now) (places_of self.old) }
         requires some { 0 < length out.old }
         requires one { addr % PAGE + length out.old ≤ PAGE }
-        ensures outcome { MatchResult result
-            (λ faults. Reads (P.content store.now) (table_of maps.now) root.0 addr (length out.old) (places_of self.old) faults out.new (places_of self.new))
-            (RefusesRead (P.content store.now) (table_of maps.now) root.0 addr (length out.old) (places_of self.old) (places_of self.new)) }
+        ensures outcome { AnswersRead (P.content store.now) (table_of maps.now) root.0 addr (length out.old) (places_of self.old)
+            out.new (places_of self.new) result }
         ensures translations { AreTrue (P.content store.now) (table_of maps.now) (places_of self.new) }
     {
         let page = page_of(addr);
@@ -136,9 +134,8 @@ impl Translations {
         requires translations { AreTrue (P.content store.now) (table_of maps.now) (places_of self.old) }
         requires two { PAGE < addr % PAGE + length out.old }
         requires len { length out.old ≤ DATA_BYTES }
-        ensures outcome { MatchResult result
-            (λ faults. Reads (P.content store.now) (table_of maps.now) root.0 addr (length out.old) (places_of self.old) faults out.new (places_of self.new))
-            (RefusesRead (P.content store.now) (table_of maps.now) root.0 addr (length out.old) (places_of self.old) (places_of self.new)) }
+        ensures outcome { AnswersRead (P.content store.now) (table_of maps.now) root.0 addr (length out.old) (places_of self.old)
+            out.new (places_of self.new) result }
         ensures translations { AreTrue (P.content store.now) (table_of maps.now) (places_of self.new) }
     {
         let page = page_of(addr);

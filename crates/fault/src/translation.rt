@@ -28,3 +28,14 @@ pub(crate) struct Place {
     pub(crate) root: RegionName,
     pub(crate) page: PageNo,
 }
+
+/// What becomes of translations, and of which.
+#[derive(Clone, Copy, Debug, PartialEq, Eq)]
+pub(crate) enum Change {
+    /// They are forgotten.
+    Forget,
+    /// Those that hold another frame than this are forgotten.
+    ForgetOther(Option<Tag>),
+    /// They are left for reading alone.
+    Restrict,
+}

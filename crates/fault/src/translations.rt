@@ -1,9 +1,9 @@
 //! The translations: what is kept of each page, and what is found there.
 
-ghost use Rattle.std.specs.Prelude.{◌≡◌, ℕ, IsTrue, ◌+◌, ◌≤◌, ◌⊎◌, true, None, Some, OnOk, IsSome, IfSome};
+ghost use Rattle.std.specs.Prelude.{◌≡◌, ℕ, IsTrue, ◌+◌, ◌≤◌, ◌⊎◌, true, None, Some, OnOk, IsSome};
 ghost use Rattle.std.specs.Option.{option_map, MatchOption};
 ghost use Rattle.balanced_tree.specs.Pairs.{with_pair};
-ghost use Rattle.fault.specs.Table.{places_of, room_of, with_translation};
+ghost use Rattle.fault.specs.Table.{places_of, room_of, with_translation, IsOfEntry};
 ghost use Rattle.fault.specs.Walks.{kept_of, changed_where, dropped, is_place};
 ghost use Rattle.fault.specs.Walks.{HasNoPlace, IsNextPlace, HasNoList, IsNextList, HasNoMember, IsNextMember};
 
@@ -93,7 +93,7 @@ impl Translations {
 
     /// Translates a page so. Where it is translated already, it is so for the same entry, and else there is room.
     pub(crate) fn set(&mut self, root: RegionName, page: PageNo, translation: Translation)
-        requires same { IfSome (places_of self.old root.0 page) (λ x. x.entry ≡ translation.entry) }
+        requires same { IsOfEntry (places_of self.old) root.0 page translation.entry }
         requires room { IsSome (places_of self.old root.0 page) ⊎ (1 ≤ room_of self.old) }
         ensures at { places_of self.new ≡ with_translation (places_of self.old) root.0 page translation }
         ensures room { room_of self.old ≤ room_of self.new + 1 }

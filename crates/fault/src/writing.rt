@@ -1,13 +1,13 @@
 //! Writing through mappings.
 
-ghost use Rattle.std.specs.Prelude.{◌≡◌, ◌+◌, ◌%◌, ◌<◌, ◌≤◌, ◌⊎◌, true, length, IfSome, IfErr, OnOk, MatchResult, is_some, if◌then◌else◌};
+ghost use Rattle.std.specs.Prelude.{◌≡◌, ◌+◌, ◌%◌, ◌<◌, ◌≤◌, length, IfErr, OnOk, is_some, if◌then◌else◌};
 ghost use Rattle.vm_base.specs.declared.limits.TheConstants.{PAGE, DATA_BYTES};
 ghost use Rattle.mapping_set.specs.Tables.{table_of};
-ghost use Rattle.vm_model.specs.Contents.Content.{sole, used, pages_of, IsGood};
+ghost use Rattle.vm_model.specs.Contents.Content.{pages_of, IsGood};
 ghost use Rattle.vm_model.specs.Contents.Owning.{Owns};
-ghost use Rattle.fault.specs.Table.{AreBacked, AreTrue, places_of, room_of};
-ghost use Rattle.fault.specs.Access.{RefusesWrite, Writes};
-ghost use Rattle.fault.specs.Writable.{IsInStore, WritesTo, fault_of, faulted};
+ghost use Rattle.fault.specs.Table.{AreBacked, AreTrue, IsOfEntry, places_of, room_of};
+ghost use Rattle.fault.specs.Access.{AnswersWrite};
+ghost use Rattle.fault.specs.Writable.{IsInStore, MayOwn, WritesTo, fault_of, faulted};
 ghost use Rattle.fault.specs.Needing.{IsReady, LacksRoom};
 
 use crate::needing::{frame_needed, frames_needed};
@@ -38,11 +38,8 @@ impl Translations {
         requires backed { AreBacked (P.content store.old) (table_of maps.now) }
         requires translations { AreTrue (P.content store.old) (table_of maps.now) (places_of self.old) }
         requires len { length bytes.now ≤ DATA_BYTES }
-        ensures outcome { MatchResult result
-            (λ faults. Writes (P.content store.old) (table_of maps.now) root.0 addr bytes.now (places_of self.old) faults
-            (P.content store.new) (places_of self.new))
-            (RefusesWrite (P.content store.old) (table_of maps.now) root.0 addr (length bytes.now) (places_of self.old)
-            (P.content store.new) (places_of self.new)) }
+        ensures outcome { AnswersWrite (P.content store.old) (table_of maps.now) root.0 addr bytes.now (places_of self.old)
+            (P.content store.new) (places_of self.new) result }
         ensures translations { AreTrue (P.content store.new) (table_of maps.now) (places_of self.new) }
     {
         if bytes.is_empty() {
@@ -68,11 +65,8 @@ impl Translations {
         requires translations { AreTrue (P.content store.old) (table_of maps.now) (places_of self.old) }
         requires some { 0 < length bytes.now }
         requires one { addr % PAGE + length bytes.now ≤ PAGE }
-        ensures outcome { MatchResult result
-            (λ faults. Writes (P.content store.old) (table_of maps.now) root.0 addr bytes.now (places_of self.old) faults
-            (P.content store.new) (places_of self.new))
-            (RefusesWrite (P.content store.old) (table_of maps.now) root.0 addr (length bytes.now) (places_of self.old)
-            (P.content store.new) (places_of self.new)) }
+        ensures outcome { AnswersWrite (P.content store.old) (table_of maps.now) root.0 addr bytes.now (places_of self.old)
+            (P.content store.new) (places_of self.new) result }
         ensures translations { AreTrue (P.content store.new) (table_of maps.now) (places_of self.new) }
     {
         let page = page_of(addr);
@@ -103,11 +97,8 @@ impl Translations {
         requires translations { AreTrue (P.content store.old) (table_of maps.now) (places_of self.old) }
         requires len { length bytes.now ≤ DATA_BYTES }
         requires two { PAGE < addr % PAGE + length bytes.now }
-        ensures outcome { MatchResult result
-            (λ faults. Writes (P.content store.old) (table_of maps.now) root.0 addr bytes.now (places_of self.old) faults
-            (P.content store.new) (places_of self.new))
-            (RefusesWrite (P.content store.old) (table_of maps.now) root.0 addr (length bytes.now) (places_of self.old)
-            (P.content store.new) (places_of self.new)) }
+        ensures outcome { AnswersWrite (P.content store.old) (table_of maps.now) root.0 addr bytes.now (places_of self.old)
+            (P.content store.new) (places_of self.new) result }
         ensures translations { AreTrue (P.content store.new) (table_of maps.now) (places_of self.new) }
     {
         let page = page_of(addr);
@@ -171,10 +162,9 @@ impl Translations {
     )
         requires good { IsGood (P.content store.old) }
         requires found { IsInStore (P.content store.old) found }
-        requires same { IfSome (places_of self.old root.0 page) (λ x. x.entry ≡ found.entry) }
+        requires same { IsOfEntry (places_of self.old) root.0 page found.entry }
         requires within { at + length bytes.now ≤ PAGE }
-        requires free { (sole (P.content store.old) found.entry.koid.0 found.entry.page ≡ true)
-            ⊎ (used (P.content store.old) < (P.content store.old).frames) }
+        requires free { MayOwn (P.content store.old) found.entry.koid.0 found.entry.page }
         requires spare { fault_of found ≤ P.spare store.old }
         requires room { fault_of found ≤ room_of self.old }
         ensures writes { WritesTo root.0 page found at bytes.now (P.content store.old) (places_of self.old)
@@ -197,9 +187,8 @@ impl Translations {
     ) -> Tag
         requires good { IsGood (P.content store.old) }
         requires found { IsInStore (P.content store.old) found }
-        requires same { IfSome (places_of self.old root.0 page) (λ x. x.entry ≡ found.entry) }
-        requires free { (sole (P.content store.old) found.entry.koid.0 found.entry.page ≡ true)
-            ⊎ (used (P.content store.old) < (P.content store.old).frames) }
+        requires same { IsOfEntry (places_of self.old) root.0 page found.entry }
+        requires free { MayOwn (P.content store.old) found.entry.koid.0 found.entry.page }
         requires spare { fault_of found ≤ P.spare store.old }
         requires room { fault_of found ≤ room_of self.old }
         ensures owns { Owns (P.content store.old) (P.content store.new) found.entry.koid.0 found.entry.page result.0 }
@@ -224,9 +213,8 @@ impl Translations {
     ) -> Tag
         requires good { IsGood (P.content store.old) }
         requires below { entry.page < pages_of (P.content store.old) entry.koid.0 }
-        requires same { IfSome (places_of self.old root.0 page) (λ x. x.entry ≡ entry) }
-        requires free { (sole (P.content store.old) entry.koid.0 entry.page ≡ true)
-            ⊎ (used (P.content store.old) < (P.content store.old).frames) }
+        requires same { IsOfEntry (places_of self.old) root.0 page entry }
+        requires free { MayOwn (P.content store.old) entry.koid.0 entry.page }
         requires spare { 1 ≤ P.spare store.old }
         requires room { 1 ≤ room_of self.old }
         ensures owns { Owns (P.content store.old) (P.content store.new) entry.koid.0 entry.page result.0 }

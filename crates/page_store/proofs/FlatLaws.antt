@@ -343,9 +343,6 @@ module _ (c d : Content) (v first seen n koid : ℕ) (good : IsGood c) (made : d
   unfolding created held_from
   snapshot-held k = ap (λ (s : Content). held_from s v first k) made
 
-  pub snapshot-apart : IsSome (c.count v) → v ≢ koid
-  snapshot-apart some same = let low = koid_some c v good some in absurd (omega (arith, same, new))
-
 -- ---- the count of a VMO
 
 pub count_is : (o : Option ℕ) (n : ℕ) → IsSome o → n ≡ unwrap_or o 0 → o ≡ Some n

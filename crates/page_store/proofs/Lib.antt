@@ -5,3 +5,4 @@ pub mod FlatLaws
 pub mod FlatOwning
 pub mod FlatWriting
 pub mod FlatSharing
+pub mod PartLaws

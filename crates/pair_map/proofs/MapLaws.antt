@@ -7,11 +7,9 @@ use Rattle.std.proofs.lemmas.Bool.Decides.{Decides-eqb}
 use Rattle.balanced_tree.specs.Row.{Functions, plain}
 use Rattle.balanced_tree.specs.Rows.{Rows, row_at, row_from, row_to, with_row, IsRising}
 use Rattle.balanced_tree.specs.Pairs.{pair_rank, value_at, ArePairs, with_pair, IsNext, second_in}
-use Rattle.balanced_tree.proofs.PairLaws.{row-absent, row-there, values-put, value-found, value-seen, value-past, next-is, length-inserted, length-replaced}
+use Rattle.balanced_tree.proofs.PairLaws.{row-absent, row-there, values-put, value-found, value-seen, next-is, length-inserted, length-replaced}
 use Rattle.balanced_tree.proofs.ListLaws.{row_from-some, row_to-none, row_to-some}
-use Rattle.pair_map.specs.declared.pair_row.PairRow.{PairRow}
-use Rattle.pair_map.specs.PairRows.{pair_rows}
-use Rattle.pair_map.specs.Maps.{values_of, count_of}
+use Rattle.pair_map.specs.Maps.{count_of}
 use Rattle.pair_map.specs.Pairs.{pair_under, IsLast}
 
 -- the rows of a map as they were inside, and as they were seen
@@ -116,7 +114,3 @@ module _ {R V : Type 0} {f : Functions R} {first second : R → ℕ} {value : R 
                     (sym (cond-false _ _ _ there))
                     (λ b less. no-value b less (found.greatest (pair_rank a b) (omega arith) (omega arith)))
               ]
-
--- second numbers that are too large for the map have no value
-pub values-past : {V : Type 0} (m : Rows (PairRow V)) (a b : ℕ) → 2 ^ 64 ≤ b → values_of m a b ≡ None
-values-past m a b past = value-past pair_rows m.rows a b past

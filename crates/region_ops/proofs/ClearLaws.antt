@@ -16,7 +16,6 @@ use Rattle.mapping_set.specs.declared.piece.Piece.{Piece}
 use Rattle.mapping_set.specs.Tables.{without_piece, IsPieceOf, IsPieceIn, IsFirstPiece, IsBare}
 use Rattle.mapping_set.proofs.ChangeLaws.{with_pages-is}
 use Rattle.region_ops.specs.Spaces.{without_entries, AreWell, LetsGo, with_entries}
-use Rattle.region_ops.specs.Leaving.{IsTaken}
 use Rattle.region_ops.proofs.CountLaws.{HasLess, HasLess-same, HasLess-piece, count_below_range, entry_bounds}
 use Rattle.region_ops.proofs.LeavingLaws.{LetsGo-same, LetsGo-next, AreWell-gone}
 
@@ -114,10 +113,6 @@ pub record IsOnTheWay (c : Content) (vmos : Vmos) (table : ℕ → ℕ → Optio
 module _ {c d : Content} {vmos after : Vmos} {table less : ℕ → ℕ → Option Entry} where
   pub IsOnTheWay-well : IsOnTheWay c vmos table d after less → AreWell d after less
   IsOnTheWay-well way = AreWell-gone c vmos table d after less way.well way.gone
-
-  -- a piece that is taken out
-  pub IsOnTheWay-taken : IsOnTheWay c vmos table d after less → (root : ℕ) (piece : Piece) → IsPieceOf (less root) piece → IsTaken d after piece
-  IsOnTheWay-taken way root piece is = record { table = less; root = root; well = IsOnTheWay-well way; is = is }
 
   -- one piece more
   pub IsOnTheWay-piece : IsOnTheWay c vmos table d after less → (root : ℕ) (piece : Piece) (e : Content) (last : Vmos) → LetsGo d after less e last (without_piece less root piece)

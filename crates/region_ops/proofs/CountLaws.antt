@@ -15,12 +15,12 @@ use Rattle.vm_model.proofs.RegionLaws.{region_bounds, reaches_over_parts}
 use Rattle.vm_model.proofs.SpaceLaws.{is_mapped-count}
 use Rattle.vm_model.proofs.TableLaws.{with_pages-in, with_pages-out, with_pages-was}
 use Rattle.mapping_set.specs.declared.piece.Piece.{Piece}
-use Rattle.mapping_set.specs.Tables.{without_piece, IsPieceOf}
+use Rattle.mapping_set.specs.Tables.{without_piece, IsBare, IsPieceOf}
 
 -- ---- sums and counts
 
 -- where what is added up differs for one number at most, the sums differ by what is added for it
-pub sum_below_change : (n k : ℕ) (f g : ℕ → ℕ) → k < n → ((j : ℕ) → j ≢ k → g j ≡ f j) → sum_below n g + f k ≡ sum_below n f + g k
+sum_below_change : (n k : ℕ) (f g : ℕ → ℕ) → k < n → ((j : ℕ) → j ≢ k → g j ≡ f j) → sum_below n g + f k ≡ sum_below n f + g k
 unfolding sum_below
 sum_below_change zero k f g h others = absurd (omega arith)
 sum_below_change (suc n) k f g h others = elim (below_next k n h) [
@@ -69,6 +69,41 @@ count_below_range b (suc n) first (suc width) p q h each others = elim (cases_eq
       let same = others n (omega arith) (λ low high. omega (arith, apart)) in
       omega (arith, rest, bit_same (q n) (p n) same)
 ]
+
+-- ---- one piece more
+
+-- The pages of a piece show its VMO in one table and nothing in the other, and no other page differs.
+pub record IsPieceMore (less more : ℕ → ℕ → Option Entry) (root : ℕ) (piece : Piece) : Type 0 where
+  pub space : root < NAMES
+  pub end : piece.first + piece.count ≤ ROOT_END
+  pub bare : IsBare (less root) piece.first (piece.first + piece.count)
+  pub shown : (p : ℕ) → piece.first ≤ p → p < piece.first + piece.count → more root p ≡ mapping_from piece.first piece.entry p
+  pub others : (r p : ℕ) → (r ≡ root → piece.first ≤ p → p < piece.first + piece.count → ⊥) → less r p ≡ more r p
+
+module _ (s t : Spaces) {root : ℕ} {piece : Piece} (is : IsPieceMore s.table t.table root piece) where
+  -- as many pages more show its VMO, and of the others as many
+  pub mapped_count-more : (v : ℕ) → mapped_count s v + cond (v == piece.entry.koid.0) piece.count 0 ≡ mapped_count t v
+  unfolding mapped_count
+  mapped_count-more v =
+      let change = sum_below_change NAMES root (count_in t.table) (count_in s.table) is.space (λ r apart.
+      count_below_same ROOT_END _ _ (λ p below. ap (passes (shows v)) (is.others r p (λ same low high. apart same)))) in
+      let range = count_below_range (piece.entry.koid.0 == v) ROOT_END piece.first piece.count (λ p. passes (shows v) (t.table root p)) (λ p. passes (shows v) (s.table root p)) is.end
+      (λ p low high. (passes-some (shows v) (t.table root p) _ (is.shown p low high), passes-none (shows v) _ (is.bare p low high)))
+      (λ p below out. ap (passes (shows v)) (is.others root p (λ same low high. out low high))) in
+      omega (arith, change, range, turned) where
+        count_in : (ℕ → ℕ → Option Entry) → ℕ → ℕ
+        count_in table r = count_below ROOT_END (λ p. passes (shows v) (table r p))
+
+        turned : ◌≡◌ {A = ℕ} (cond (v == piece.entry.koid.0) piece.count 0) (cond (piece.entry.koid.0 == v) piece.count 0)
+        turned = ap (λ (b : Bool). cond {A = ℕ} b piece.count 0) (eqb_turned v piece.entry.koid.0)
+
+  -- the other VMOs are as mapped
+  pub is_mapped-more : (v : ℕ) → v ≢ piece.entry.koid.0 → is_mapped s v ≡ is_mapped t v
+  is_mapped-more v apart =
+      let count = mapped_count-more v in
+      let none : ◌≡◌ {A = ℕ} (cond (v == piece.entry.koid.0) piece.count 0) 0 = ap (λ (b : Bool). cond {A = ℕ} b piece.count 0) (eqb_apart v piece.entry.koid.0 apart) in
+      let same : mapped_count s v ≡ mapped_count t v = omega (arith, count, none) in
+      is_mapped-count s v ∙ (ap (nat_lt 0) same ∙ sym (is_mapped-count t v))
 
 -- ---- entries that go
 
@@ -123,30 +158,19 @@ module _ (c : Content) (spaces : Spaces) (good : AreGoodSpaces c spaces) where
     pub piece_vmo : IsSome (c.count piece.entry.koid.0)
     piece_vmo = good.vmos root piece.first _ first_is
 
+    gone : IsPieceMore less.table spaces.table root piece
+    gone = record {
+      space = root_below;
+      end = end_below;
+      bare = with_pages-in spaces.table root piece.first (piece.first + piece.count) (λ q. None);
+      shown = is.entries;
+      others = with_pages-out spaces.table root piece.first (piece.first + piece.count) (λ q. None);
+    }
+
     -- as many pages less show its VMO, and of the others as many as before
     pub mapped_count-piece : (v : ℕ) → mapped_count less v + cond (v == piece.entry.koid.0) piece.count 0 ≡ mapped_count spaces v
-    unfolding mapped_count
-    mapped_count-piece v =
-        let change = sum_below_change NAMES root (count_in spaces.table) (count_in (without_piece spaces.table root piece)) root_below (λ r apart.
-        count_below_same ROOT_END _ _ (λ p below. ap (passes (shows v)) (with_pages-out spaces.table root piece.first (piece.first + piece.count) (λ q. None) r p (λ same low high. apart same)))) in
-        let range = count_below_range (piece.entry.koid.0 == v) ROOT_END piece.first piece.count (λ p. passes (shows v) (spaces.table root p))
-        (λ p. passes (shows v) (without_piece spaces.table root piece root p)) end_below
-        (λ p low high. (
-          passes-some (shows v) (spaces.table root p) _ (is.entries p low high),
-          passes-none (shows v) _ (with_pages-in spaces.table root piece.first (piece.first + piece.count) (λ q. None) p low high),
-        ))
-        (λ p below out. ap (passes (shows v)) (with_pages-out spaces.table root piece.first (piece.first + piece.count) (λ q. None) root p (λ same low high. out low high))) in
-        omega (arith, change, range, turned) where
-          count_in : (ℕ → ℕ → Option Entry) → ℕ → ℕ
-          count_in table r = count_below ROOT_END (λ p. passes (shows v) (table r p))
-
-          turned : ◌≡◌ {A = ℕ} (cond (v == piece.entry.koid.0) piece.count 0) (cond (piece.entry.koid.0 == v) piece.count 0)
-          turned = ap (λ (b : Bool). cond {A = ℕ} b piece.count 0) (eqb_turned v piece.entry.koid.0)
+    mapped_count-piece = mapped_count-more less spaces gone
 
     -- the other VMOs are as mapped as before
     pub is_mapped-piece : (v : ℕ) → v ≢ piece.entry.koid.0 → is_mapped less v ≡ is_mapped spaces v
-    is_mapped-piece v apart =
-        let count = mapped_count-piece v in
-        let none : ◌≡◌ {A = ℕ} (cond (v == piece.entry.koid.0) piece.count 0) 0 = ap (λ (b : Bool). cond {A = ℕ} b piece.count 0) (eqb_apart v piece.entry.koid.0 apart) in
-        let same : mapped_count less v ≡ mapped_count spaces v = omega (arith, count, none) in
-        is_mapped-count less v ∙ (ap (nat_lt 0) same ∙ sym (is_mapped-count spaces v))
+    is_mapped-piece = is_mapped-more less spaces gone

@@ -3,8 +3,8 @@ use Rattle.std.proofs.Common.{arith, ◌<◌, ◌≡◌, ℕ, Bool, true, false,
 use Rattle.std.proofs.lemmas.Bool.{cases_Bool, or_cases, and_from, and_parts, both_ways, false_from_ne_true}
 use Rattle.std.specs.Option.{option_map}
 use Rattle.vm_base.specs.declared.limits.TheConstants.{NAMES}
-use Rattle.vm_base.specs.Entries.{passes, entry_count}
-use Rattle.vm_base.proofs.EntryLaws.{passes-some, entry_count-change}
+use Rattle.vm_base.specs.Entries.{entry_count}
+use Rattle.vm_base.proofs.EntryLaws.{passes-some, passes_found, entry_count-change}
 use Rattle.vm_base.proofs.SearchLaws.{eqb_is, eqb_same, eqb_apart, bit-true, bit-false}
 use Rattle.vm_model.specs.declared.space.Region.{Region}
 use Rattle.vm_model.specs.Space.Regions.{region_of, lies_in, is_below, killed, AreGoodRegions}
@@ -84,14 +84,6 @@ live_count-fewer regions new leaf region h given live e =
     (ap (λ (f : ℕ → Option Region). f leaf) e ∙ killed-here regions (λ m. m == leaf) leaf region given (eqb_same leaf))) in
     omega (arith, count, was, is)
 
--- a live region is one that was given
-pub live_given : (regions : ℕ → Option Region) (n : ℕ) → is_live_region regions n ≡ true → (region : Region) × (regions n ≡ Some region) × (region.live ≡ true)
-unfolding passes
-live_given regions n h = go (regions n) refl h where
-  go : (o : Option Region) → regions n ≡ o → passes (λ (r : Region). r.live) o ≡ true → (region : Region) × (regions n ≡ Some region) × (region.live ≡ true)
-  go None e f = absurd cc
-  go (Some region) e f = (region, e, f)
-
 -- ---- those of a range
 
 module _ (old now : ℕ → Option Region) (name first end : ℕ) (good : AreGoodRegions old) (under : IsUnderWay old now (lies_below_in old name first end)) where
@@ -138,4 +130,4 @@ module _ (old now : ℕ → Option Region) (name first end : ℕ) (good : AreGoo
 
   -- and live where it was
   pub within_live : is_live_region old name ≡ true → is_live_region now name ≡ true
-  within_live live = let was = live_given old name live in passes-some (λ (r : Region). r.live) (now name) was.0 (within_same was.0 was.1) ∙ was.2
+  within_live live = let was = passes_found (λ (r : Region). r.live) (old name) live in passes-some (λ (r : Region). r.live) (now name) was.0 (within_same was.0 was.1) ∙ was.2

@@ -1,39 +1,35 @@
 -- Laws of a mapping: what it may be changed to, and what it is to put its piece into an address space: which VMOs are live then, and
 -- how many pages show each.
 use Rattle.std.proofs.Common.{◌≡◌, ◌≢◌, ℕ, ◌+◌, ◌-◌, ◌%◌, ◌<◌, ◌≤◌, ◌^◌, bit_and, Bool, true, false, cond, ◌&&◌, ◌==◌, Option, None, IsSome, refl, sym, ap, subst, ◌∙◌, inl, inr, arith}
-use Rattle.std.specs.Prelude.{nat_lt}
-use Rattle.std.proofs.lemmas.Bool.{eqb-true, eqb-false, cases_Bool, cases_eq, cond-true, cond-false, and_parts}
+use Rattle.std.proofs.lemmas.Bool.{eqb-true, eqb-false, cases_Bool, cases_eq, cond-true, cond-false}
 use Rattle.std.proofs.lemmas.Nat.{and-not, and_comm, and_mod, and_le_r}
 use Rattle.bitflags.specs.Sets.{without}
-use Rattle.vm_base.specs.Search.{count_below}
-use Rattle.vm_base.specs.Entries.{passes}
 use Rattle.vm_base.specs.declared.limits.TheConstants.{NAMES, ROOT_END}
 use Rattle.vm_base.specs.declared.names.Koid.{Koid}
-use Rattle.vm_base.proofs.EntryLaws.{passes-none, passes-some, any_entry_at, entry_count_le}
-use Rattle.vm_base.proofs.SearchLaws.{eqb_same, eqb_is, eqb_apart, count_below_same}
+use Rattle.vm_base.proofs.EntryLaws.{any_entry_at}
+use Rattle.vm_base.proofs.SearchLaws.{eqb_same}
 use Rattle.vm_model.specs.Contents.Content.{Content}
 use Rattle.vm_model.specs.Contents.Zeroing.{is_within}
 use Rattle.vm_model.specs.declared.names.Target.{Target}
 use Rattle.vm_model.specs.Naming.Names.{is_named, is_of, Lineage}
-use Rattle.vm_model.specs.Naming.Pins.{Pin, pin_count}
 use Rattle.vm_model.specs.declared.space.Entry.{Entry}
 use Rattle.vm_model.specs.Space.Rights.{has, writing}
 use Rattle.vm_model.specs.Space.Table.{with_pages, mapping_from}
-use Rattle.vm_model.specs.Space.AddressSpaces.{Spaces, shows, is_mapped, mapped_count}
+use Rattle.vm_model.specs.Space.AddressSpaces.{Spaces, is_mapped, mapped_count}
 use Rattle.vm_model.specs.Machine.State.{State, is_live}
 use Rattle.vm_model.specs.Machine.Leaving.{pruned}
-use Rattle.vm_model.proofs.ZeroingLaws.{is_within-parts}
 use Rattle.vm_model.proofs.LiveLaws.{is_live-named, is_live-same}
-use Rattle.vm_model.proofs.LeavingLaws.{pruned-good, name_lineage}
-use Rattle.vm_model.proofs.SpaceLaws.{is_mapped-count, mapped_count_le}
+use Rattle.vm_model.proofs.LeavingLaws.{name_lineage}
+use Rattle.vm_model.proofs.SpaceLaws.{mapped_count_le}
 use Rattle.vm_model.proofs.TableLaws.{with_pages-in, with_pages-out}
 use Rattle.vmo_table.specs.Table.{Table as Vmos, names_of, lineage_in, keepers_of, CountsKeepers, IsWellCounted}
 use Rattle.mapping_set.specs.declared.piece.Piece.{Piece}
 use Rattle.mapping_set.specs.Tables.{with_piece, without_piece, IsBare}
 use Rattle.region_ops.specs.Spaces.{with_entries, LetsGo}
 use Rattle.region_ops.specs.Mapping.{IsPuttable}
-use Rattle.region_ops.proofs.CountLaws.{sum_below_change, count_below_range, eqb_turned}
+use Rattle.region_ops.proofs.CountLaws.{IsPieceMore, mapped_count-more, is_mapped-more}
 use Rattle.region_ops.proofs.PrunedLaws.{pruned-alike}
+use Rattle.vm_model.proofs.PinLaws.{pin_count_le}
 
 -- ---- permissions
 
@@ -68,30 +64,6 @@ unfolding with_pages
 with_piece-cleared table root piece = λ i r p.
     cond_twice ((r == root) && is_within piece.first (piece.first + piece.count) p) (mapping_from piece.first piece.entry p) None (table r p) i
 
--- where nothing is mapped, nothing is taken out
-pub cleared-bare : (table : ℕ → ℕ → Option Entry) (root first end : ℕ) → IsBare (table root) first end → with_pages table root first end (λ p. None) ≡ table
-unfolding with_pages
-cleared-bare table root first end bare = λ i r p. each r p i where
-  each : (r p : ℕ) → cond ((r == root) && is_within first end p) None (table r p) ≡ table r p
-  each r p = elim (cases_Bool ((r == root) && is_within first end p)) [
-    | inl is ↦
-        let both = and_parts (r == root) (is_within first end p) is in
-        let within = is_within-parts first end p both.1 in
-        cond-true _ _ _ is ∙ sym (ap (λ (n : ℕ). table n p) (eqb_is r root both.0) ∙ bare p within.0 within.1)
-    | inr off ↦ cond-false _ _ _ off
-  ]
-
--- nothing goes where nothing is taken out
-pub LetsGo-none : (c : Content) (vmos : Vmos) (table : ℕ → ℕ → Option Entry) → LetsGo c vmos table c vmos table
-LetsGo-none c vmos table = record {
-  gone = λ s well. sym (pruned-good (with_entries s c vmos table) well.good);
-  well = λ s well. well;
-}
-
--- no VMO has more pins than there are names
-pin_count_le : (pins : ℕ → Option Pin) (v : ℕ) → pin_count pins v ≤ NAMES
-pin_count_le = grind (arith, entry_count_le)
-
 -- ---- one piece more
 
 module _ (spaces : Spaces) (root : ℕ) (piece : Piece) (space : root < NAMES) (end : piece.first + piece.count ≤ ROOT_END)
@@ -100,34 +72,22 @@ module _ (spaces : Spaces) (root : ℕ) (piece : Piece) (space : root < NAMES) (
   abbrev more : Spaces
   more = record spaces { table = with_piece spaces.table root piece }
 
+  put : IsPieceMore spaces.table more.table root piece
+  put = record {
+    space = space;
+    end = end;
+    bare = bare;
+    shown = with_pages-in spaces.table root piece.first (piece.first + piece.count) (mapping_from piece.first piece.entry);
+    others = λ r p out. sym (with_pages-out spaces.table root piece.first (piece.first + piece.count) (mapping_from piece.first piece.entry) r p out);
+  }
+
   -- as many pages more show its VMO, and of the others as many as before
   pub mapped_count-put : (v : ℕ) → mapped_count more v ≡ mapped_count spaces v + cond (v == piece.entry.koid.0) piece.count 0
-  unfolding mapped_count
-  mapped_count-put v =
-      let new = mapping_from piece.first piece.entry in
-      let change = sum_below_change NAMES root (count_in (with_piece spaces.table root piece)) (count_in spaces.table) space (λ r apart.
-      count_below_same ROOT_END _ _ (λ p below. sym (ap (passes (shows v)) (with_pages-out spaces.table root piece.first (piece.first + piece.count) new r p (λ same low high. apart same))))) in
-      let range = count_below_range (piece.entry.koid.0 == v) ROOT_END piece.first piece.count (λ p. passes (shows v) (with_piece spaces.table root piece root p))
-      (λ p. passes (shows v) (spaces.table root p)) end
-      (λ p low high. (
-        passes-some (shows v) _ _ (with_pages-in spaces.table root piece.first (piece.first + piece.count) new p low high),
-        passes-none (shows v) _ (bare p low high),
-      ))
-      (λ p below out. sym (ap (passes (shows v)) (with_pages-out spaces.table root piece.first (piece.first + piece.count) new root p (λ same low high. out low high)))) in
-      omega (arith, change, range, turned) where
-        count_in : (ℕ → ℕ → Option Entry) → ℕ → ℕ
-        count_in table r = count_below ROOT_END (λ p. passes (shows v) (table r p))
-
-        turned : ◌≡◌ {A = ℕ} (cond (v == piece.entry.koid.0) piece.count 0) (cond (piece.entry.koid.0 == v) piece.count 0)
-        turned = ap (λ (b : Bool). cond {A = ℕ} b piece.count 0) (eqb_turned v piece.entry.koid.0)
+  mapped_count-put v = sym (mapped_count-more spaces more put v)
 
   -- the other VMOs are as mapped as before
   pub is_mapped-put : (v : ℕ) → v ≢ piece.entry.koid.0 → is_mapped more v ≡ is_mapped spaces v
-  is_mapped-put v apart =
-      let count = mapped_count-put v in
-      let none : ◌≡◌ {A = ℕ} (cond (v == piece.entry.koid.0) piece.count 0) 0 = ap (λ (b : Bool). cond {A = ℕ} b piece.count 0) (eqb_apart v piece.entry.koid.0 apart) in
-      let same : mapped_count more v ≡ mapped_count spaces v = omega (arith, count, none) in
-      is_mapped-count more v ∙ (ap (nat_lt 0) same ∙ sym (is_mapped-count spaces v))
+  is_mapped-put v apart = sym (is_mapped-more spaces more put v apart)
 
 -- The VMO of the piece is named. So the same VMOs are live with the piece as without it, and the same leave.
 pub pruned-put : (s : State) (root : ℕ) (piece : Piece) → root < NAMES → piece.first + piece.count ≤ ROOT_END → IsBare (s.spaces.table root) piece.first (piece.first + piece.count)

@@ -33,17 +33,6 @@ live_end regions name region good given live =
     (region_bounds regions good name region given (sym (passes-some (λ (r : Region). r.live) (regions name) region given) ∙ live)).0
 
 module _ (spaces : Spaces) (name : ℕ) (above : Region) (given : region_of spaces.regions name ≡ above) where
-  -- a free place at the offset
-  pub place_at_offset : (limited : Bool) (offset count : ℕ) → is_free spaces name (above.first + offset / PAGE) (above.first + offset / PAGE + count) ≡ true
-      → limited ≡ false → offset / PAGE + count ≤ above.count → IsPlace spaces name true limited offset count (above.first + offset / PAGE)
-  place_at_offset limited offset count free way inside = record {
-    free = free;
-    at = λ e. ap (λ (r : Region). r.first + offset / PAGE) (sym given);
-    limit =
-        let all : limit_of (region_of spaces.regions name) limited offset ≡ above.count = ap (λ (b : Bool). limit_of (region_of spaces.regions name) b offset) way ∙ ap (λ (r : Region). r.count) given in
-        omega (arith, all, ap (λ (r : Region). r.first) given);
-  }
-
   -- a place lies in the region, and meets no live child
   pub place_inside : (fixed limited : Bool) (offset count first : ℕ) → IsPlace spaces name fixed limited offset count first
       → (reaches_over first (first + count) above ≡ true) × (meets_child spaces.regions name first (first + count) ≡ false)

@@ -1,20 +1,18 @@
 -- Laws of unmapping a range: what is mapped in it, and the step.
-use Rattle.std.proofs.Common.{◌≡◌, ℕ, ◌+◌, ◌-◌, ◌/◌, ◌<◌, ◌≤◌, Bool, true, false, cond, ◌&&◌, ◌||◌, ◌==◌, Option, None, Some, refl, sym, ap, subst, ◌∙◌, inl, inr, arith}
+use Rattle.std.proofs.Common.{◌≡◌, ℕ, ◌+◌, ◌-◌, ◌/◌, ◌<◌, ◌≤◌, Bool, true, false, cond, ◌||◌, Option, None, Some, refl, sym, ap, ◌∙◌, inl, inr, arith}
 use Rattle.std.specs.Prelude.{nat_lt, is_some}
-use Rattle.std.proofs.lemmas.Bool.{cases_Bool, and_parts, both_ways, ltb-true, ltb-false}
+use Rattle.std.proofs.lemmas.Bool.{cases_Bool, both_ways, ltb-true, ltb-false}
 use Rattle.vm_base.specs.Pages.{rounded}
 use Rattle.vm_base.specs.declared.limits.TheConstants.{PAGE}
 use Rattle.vm_base.specs.declared.names.RegionName.{RegionName}
-use Rattle.vm_base.specs.declared.refusal.Refusal.TheVariants.{InvalidArgs, HostMemory}
-use Rattle.vm_base.proofs.SearchLaws.{eqb_is, any_from_at, none_from}
+use Rattle.vm_base.specs.declared.refusal.Refusal.TheVariants.{InvalidArgs}
+use Rattle.vm_base.proofs.SearchLaws.{any_from_at, none_from}
 use Rattle.vm_model.specs.declared.command.Command.{Command}
 use Rattle.vm_model.specs.declared.command.Command.TheVariants.{VmarUnmap}
-use Rattle.vm_model.specs.declared.reply.Reply.{Reply}
-use Rattle.vm_model.specs.declared.reply.Reply.TheVariants.{Done, Refused}
+use Rattle.vm_model.specs.declared.reply.Reply.TheVariants.{Done}
 use Rattle.vm_model.specs.declared.space.Entry.{Entry}
 use Rattle.vm_model.specs.declared.space.Region.{Region}
 use Rattle.vm_model.specs.Contents.Content.{Content}
-use Rattle.vm_model.specs.Contents.Zeroing.{is_within}
 use Rattle.vm_model.specs.Space.Regions.{region_of, cuts_child, killed}
 use Rattle.vm_model.specs.Space.Table.{with_pages}
 use Rattle.vm_model.specs.Space.AddressSpaces.{Spaces, is_mapped, mapped_count}
@@ -24,8 +22,7 @@ use Rattle.vm_model.specs.Machine.Leaving.{pruned}
 use Rattle.vm_model.specs.Machine.Refusals.{refusals, first_of}
 use Rattle.vm_model.specs.Machine.Step.{Effect}
 use Rattle.vm_model.proofs.RegionLaws.{region_of-at}
-use Rattle.vm_model.proofs.StepLaws.{Step-done, Step-lacks}
-use Rattle.vm_model.proofs.ZeroingLaws.{is_within-parts}
+use Rattle.vm_model.proofs.StepLaws.{Step-done}
 use Rattle.mapping_set.specs.declared.piece.Piece.{Piece}
 use Rattle.mapping_set.specs.Tables.{IsBare, IsBareFrom, IsNextPiece}
 use Rattle.vmo_table.specs.Table.{Table as Vmos}
@@ -66,19 +63,6 @@ mapped_next entries first count piece next = elim (cases_Bool (nat_lt (piece.fir
 -- and none where no piece begins
 pub mapped_none : (entries : ℕ → Option Entry) (first count : ℕ) → IsBareFrom entries first → false ≡ is_mapped_in entries first (first + count)
 mapped_none entries first count bare = sym (bare_is entries first (first + count) (λ p low high. bare p low))
-
--- nothing goes from a range that has no entry
-pub with_pages-bare : (table : ℕ → ℕ → Option Entry) (root first end : ℕ) → IsBare (table root) first end → table ≡ with_pages table root first end (λ p. None)
-unfolding with_pages
-with_pages-bare table root first end bare = λ i r p. one r p i where
-  one : (r p : ℕ) → table r p ≡ cond ((r == root) && is_within first end p) None (table r p)
-  one r p = elim (cases_Bool ((r == root) && is_within first end p)) [
-    | inl is ↦
-        let both = and_parts (r == root) (is_within first end p) is in
-        let within = is_within-parts first end p both.1 in
-        ap (λ (n : ℕ). table n p) (eqb_is r root both.0) ∙ (bare p within.0 within.1 ∙ sym (ap (λ (b : Bool). cond b None (table r p)) is))
-    | inr off ↦ sym (ap (λ (b : Bool). cond b None (table r p)) off)
-  ]
 
 -- parts of one good state, with its regions or without
 pub AreWell-all : (c : Content) (vmos : Vmos) (spaces : Spaces) → AreAllWell c vmos spaces → AreWell c vmos spaces.table
@@ -128,34 +112,9 @@ module _ (c : Content) (vmos : Vmos) (spaces : Spaces) (region : RegionName) (ad
       ≡ cond (is_outside above addr len count || cuts_child spaces.regions region.0 first (first + count)) (Some InvalidArgs) None
   rows s = grind (arith, here, given, live)
 
-  -- a range that is none of the region, or cuts a child of it
-  pub unmap_refused : (is_outside above addr len count || cuts_child spaces.regions region.0 first (first + count)) ≡ true
-      → Does c vmos spaces (VmarUnmap region addr len) (Refused InvalidArgs) c vmos spaces
-  unmap_refused wrong = record {
-    step = λ s well. record { outcome = rw (rows s, wrong) (record { answer = refl; same = refl }) };
-    counted = λ s well. well.counted;
-  }
-
   module _ (right : (is_outside above addr len count || cuts_child spaces.regions region.0 first (first + count)) ≡ false) where
     none : (s : State) → first_of (refusals (with_all s c vmos spaces) (VmarUnmap region addr len)) ≡ None
     none s = rows s ∙ ap (λ (b : Bool). cond b (Some InvalidArgs) None) right
-
-    -- the host lacks memory, which is wanted only where a page is mapped
-    pub unmap_lacks : (d : Content) (vmos_new : Vmos) (table_new : ℕ → ℕ → Option Entry) → is_mapped_in (spaces.table above.root.0) first (first + count) ≡ true
-        → d ≡ c → vmos_new ≡ vmos → table_new ≡ spaces.table
-        → Does c vmos spaces (VmarUnmap region addr len) (Refused HostMemory) d vmos_new (record spaces { table = table_new })
-    unmap_lacks d vmos_new table_new mapped e f g =
-        subst (λ (x : Content). Does c vmos spaces command lacks x vmos_new (record spaces { table = table_new })) (sym e)
-        (subst (λ (w : Vmos). Does c vmos spaces command lacks c w (record spaces { table = table_new })) (sym f)
-        (subst (λ (t : ℕ → ℕ → Option Entry). Does c vmos spaces command lacks c vmos (record spaces { table = t })) (sym g) (record {
-          step = λ s well. Step-lacks (with_all s c vmos spaces) command (none s) (ap (λ (r : Region). is_mapped_in (spaces.table r.root.0) first (first + count)) here ∙ mapped);
-          counted = λ s well. well.counted;
-        }))) where
-          command : Command
-          command = VmarUnmap region addr len
-
-          lacks : Reply
-          lacks = Refused HostMemory
 
     -- the entries go, and then the regions
     pub unmap_done : (d : Content) (vmos_new : Vmos) (table_new : ℕ → ℕ → Option Entry) (regions_new : ℕ → Option Region)

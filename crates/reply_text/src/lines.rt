@@ -6,10 +6,10 @@ ghost use Rattle.vm_model.specs.Language.Text.{reply_lines, run_line, refusal_na
 ghost use Rattle.vm_model.specs.Machine.Lent.{reply_for};
 ghost use Rattle.vm_model.specs.declared.reply.Reply.{Reply};
 
-use crate::parts::{put_access, put_address, put_field, put_info, put_numbers, put_run, put_stat};
+use crate::parts::{put_access, put_address, put_info, put_numbers, put_run, put_stat};
 use vm_base::{Refusal, TEXT_BYTES, TEXT_ROOM};
 use vm_model::{Answer, Reply, Run};
-use word_text::{put, put_data, put_number};
+use word_text::{put, put_data, put_field, put_number};
 
 /// How many lines a reply has.
 #[tactic(auto, unfolding(vm_model::specs::Language::Text::reply_lines))]

@@ -7,7 +7,7 @@ ghost use Rattle.std.specs.List.{flat_map};
 ghost use Rattle.vm_model.specs.Language.Text.{data_text, address_text, field, run_line, info_text, stat_text};
 
 use vm_model::{Info, Run, Stat};
-use word_text::{put, put_data, put_decimal, put_number, put_perm};
+use word_text::{put, put_data, put_field, put_number, put_perm};
 
 /// Writes numbers in decimal, each behind a space.
 pub fn put_numbers(numbers: &[u64], out: &mut [u8], at: usize) -> usize
@@ -21,16 +21,6 @@ pub fn put_numbers(numbers: &[u64], out: &mut [u8], at: usize) -> usize
         end = put_number(*number, out, end);
     }
     end
-}
-
-/// Writes a number behind its label, as ` free=7`.
-pub fn put_field(label: &[u8], number: u64, out: &mut [u8], at: usize) -> usize
-    requires { at + length label.now + 20 ≤ length out.old }
-    ensures written { take result out.new ≡ take at out.old ++ (label.now ++ decimal number) }
-    ensures end { result ≤ at + length label.now + 20 }
-{
-    let at = put(label, out, at);
-    put_decimal(number, out, at)
 }
 
 /// Writes a count of page faults and byte data.

@@ -128,14 +128,6 @@ module _ {A : Type 0} (bound : ℕ) (test : A → Bool) (map : ℕ → Option A)
   unfolding entry_count
   entry_count_le = count_below_le bound (λ k. passes test (map k))
 
--- where each fails, none counts
-pub entry_count_miss : {A : Type 0} (bound : ℕ) (test : A → Bool) (map : ℕ → Option A) → ((k : ℕ) (a : A) → k < bound → map k ≡ Some a → test a ≡ false) → entry_count bound test map ≡ 0
-unfolding entry_count
-entry_count_miss bound test map each = count_below_none bound (λ k. passes test (map k)) (λ k h. false_from_ne_true (passes test (map k)) (λ e.
-    let value = passes_found test (map k) e in
-    let miss = each k value.0 h value.1 in
-    absurd (let hit = value.2 in cc)))
-
 -- an entry that passes counts
 pub entry_count_hit : {A : Type 0} (bound : ℕ) (test : A → Bool) (map : ℕ → Option A) (k : ℕ) (a : A) → k < bound → map k ≡ Some a → test a ≡ true → 0 < entry_count bound test map
 unfolding entry_count

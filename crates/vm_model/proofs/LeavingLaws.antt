@@ -172,10 +172,6 @@ pub record IsLoose (t : State) : Type 0 where
   pub pins : (n : ℕ) (pin : Pin) → t.pins n ≡ Some pin → (n < NAMES) × IsGoodPin t pin
   pub spaces : AreGoodSpaces t.content t.spaces
 
--- what holds of a good state
-pub IsLoose-good : (s : State) → IsGoodState s → IsLoose s
-IsLoose-good s good = record { content = good.content; names = good.names; known = good.known; parents = good.parents; pins = good.pins; spaces = good.spaces }
-
 module _ (t : State) (loose : IsLoose t) where
   -- it is good where each VMO is live
   pub IsGoodState-live : ((w : ℕ) → IsSome (t.lineage w) → is_live t w ≡ true) → IsGoodState t

@@ -1,6 +1,6 @@
 -- Laws of names and of the lineage of VMOs: which VMOs a name stands for, and what is kept of them after one left.
 use Rattle.std.proofs.Common.{◌≡◌, ◌≢◌, ℕ, Bool, false, cond, Option, None, Some, refl, sym, ap, ◌∙◌, inl, inr}
-use Rattle.std.specs.Prelude.{unwrap_or, IsSome, is_some}
+use Rattle.std.specs.Prelude.{unwrap_or, IsSome}
 use Rattle.std.specs.Option.{option_map}
 use Rattle.std.proofs.lemmas.Bool.{cases_eq}
 use Rattle.vm_model.specs.declared.names.Origin.TheVariants.{Created}
@@ -66,9 +66,6 @@ module _ (lineage : ℕ → Option Lineage) (v : ℕ) (parent : Option ℕ) wher
   unfolding lineage_without
   lineage_without-other w apart = ap (λ (b : Bool). cond {A = Option Lineage} b None (option_map (left_by v parent) (lineage w))) (eqb_apart w v apart)
 
-  pub lineage_without-at : (w : ℕ) (l : Lineage) → w ≢ v → lineage w ≡ Some l → lineage_without lineage v parent w ≡ Some (left_by v parent l)
-  lineage_without-at w l apart e = lineage_without-other w apart ∙ ap (option_map (left_by v parent)) e
-
   -- a lineage that is kept now was kept before, with its old parent
   pub lineage_without-some : (w : ℕ) (l : Lineage) → lineage_without lineage v parent w ≡ Some l → (old : Lineage) × (w ≢ v) × (lineage w ≡ Some old) × (l ≡ left_by v parent old)
   lineage_without-some w l e = elim (cases_eq w v) [
@@ -82,10 +79,3 @@ module _ (lineage : ℕ → Option Lineage) (v : ℕ) (parent : Option ℕ) wher
         let here : ◌≡◌ {A = Option Lineage} (Some (left_by v parent old)) (Some l) = h in
         let is : left_by v parent old ≡ l = cc in
         (old, apart, f, sym is)
-
-  -- the same VMOs are kept, but for v
-  pub is_some-lineage_without : (w : ℕ) → w ≢ v → is_some (lineage_without lineage v parent w) ≡ is_some (lineage w)
-  is_some-lineage_without w apart = ap is_some (lineage_without-other w apart) ∙ go (lineage w) where
-    go : (o : Option Lineage) → is_some (option_map (left_by v parent) o) ≡ is_some o
-    go None = refl
-    go (Some l) = refl

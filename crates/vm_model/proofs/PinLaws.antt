@@ -1,12 +1,12 @@
 -- Laws of pins: the pages that a pin covers, and which pages of a row are pinned.
-use Rattle.std.proofs.Common.{◌≡◌, ℕ, ◌+◌, ◌<◌, ◌≤◌, true, false, ◌==◌, Option, Some, refl}
+use Rattle.std.proofs.Common.{◌≡◌, ℕ, ◌+◌, ◌<◌, ◌≤◌, true, false, ◌==◌, Option, Some, refl, arith}
 use Rattle.std.proofs.lemmas.Bool.{and_parts, and_from}
 use Rattle.std.proofs.lemmas.Bool.Decides.{Decides-eqb}
 use Rattle.vm_base.specs.declared.limits.TheConstants.{NAMES}
 use Rattle.vm_base.proofs.SearchLaws.{any_from_at, none_from, eqb_is}
-use Rattle.vm_base.proofs.EntryLaws.{any_entry_at, any_entry_found}
+use Rattle.vm_base.proofs.EntryLaws.{any_entry_at, any_entry_found, entry_count_le}
 use Rattle.vm_model.specs.Contents.Zeroing.{is_within}
-use Rattle.vm_model.specs.Naming.Pins.{Pin, has_pin, covers, is_pinned, any_pinned}
+use Rattle.vm_model.specs.Naming.Pins.{Pin, has_pin, covers, is_pinned, any_pinned, pin_count}
 use Rattle.vm_model.proofs.ZeroingLaws.{is_within-true, is_within-parts}
 
 -- ---- one pin
@@ -42,3 +42,7 @@ any_pinned_at pins v = any_from_at (is_pinned pins v)
 pub none_pinned : (pins : ℕ → Option Pin) (v first end : ℕ) → ((p : ℕ) → first ≤ p → p < end → is_pinned pins v p ≡ false) → any_pinned pins v first end ≡ false
 unfolding any_pinned
 none_pinned pins v = none_from (is_pinned pins v)
+
+-- no VMO has more pins than there are names
+pub pin_count_le : (pins : ℕ → Option Pin) (v : ℕ) → pin_count pins v ≤ NAMES
+pin_count_le = grind (arith, entry_count_le)

@@ -133,14 +133,6 @@ module _ (c : Content) (v : ℕ) where
   unfolding only
   count-without_other w apart = ap (λ b. cond (not b) (c.count w) None) (eqb_apart w v apart)
 
-  pub page-without_here : (p : ℕ) → (without c v).page v p ≡ None
-  unfolding only
-  page-without_here p = ap (λ b. cond (not b) (c.page v p) None) (eqb_same v)
-
-  pub page-without_other : (w p : ℕ) → w ≢ v → (without c v).page w p ≡ c.page w p
-  unfolding only
-  page-without_other w p apart = ap (λ b. cond (not b) (c.page w p) None) (eqb_apart w v apart)
-
 -- a VMO's koid is below the next
 pub koid_some : (c : Content) (v : ℕ) → IsGood c → IsSome (c.count v) → v < c.next
 koid_some c v good is_there = go (c.count v) refl is_there where

@@ -1,5 +1,5 @@
 -- Laws of address spaces: entries and regions stay good where a region comes in or dies, and which VMOs are mapped.
-use Rattle.std.proofs.Common.{◌≡◌, ◌≢◌, ℕ, ◌+◌, ◌*◌, ◌<◌, ◌≤◌, Bool, true, false, not, cond, ◌&&◌, Option, None, Some, refl, sym, ap, subst, ◌∙◌, inl, inr, arith, bit_and}
+use Rattle.std.proofs.Common.{◌≡◌, ℕ, ◌+◌, ◌*◌, ◌<◌, ◌≤◌, Bool, true, false, not, cond, ◌&&◌, Option, None, Some, refl, sym, ap, subst, ◌∙◌, inl, inr, arith, bit_and}
 use Rattle.std.specs.Prelude.{nat_lt, min, max, IsSome}
 use Rattle.std.proofs.lemmas.Bool.{and_parts, and_cases, both_ways, false_from_ne_true, not-true, ltb-true, eqb-true, eq-eqb}
 use Rattle.std.proofs.lemmas.Nat.{and_assoc}
@@ -171,10 +171,6 @@ module _ (c : Content) (spaces : Spaces) (good : AreGoodSpaces c spaces) where
       any_below_at NAMES root (λ r. any_below ROOT_END (λ q. passes (shows entry.koid.0) (spaces.table r q))) name
       (any_below_at ROOT_END p (λ q. passes (shows entry.koid.0) (spaces.table root q)) (omega (arith, inside.1, bounds.0))
       (passes-some (shows entry.koid.0) (spaces.table root p) entry e ∙ eqb_same entry.koid.0))
-
-  -- where a VMO is not mapped, no entry is of it
-  pub not_mapped : (v root p : ℕ) (entry : Entry) → is_mapped spaces v ≡ false → spaces.table root p ≡ Some entry → entry.koid.0 ≢ v
-  not_mapped v root p entry off e same = both_ways (is_mapped spaces v) off (ap (is_mapped spaces) (sym same) ∙ is_mapped_at root p entry e)
 
   -- another content that has the VMOs of the entries
   pub AreGoodSpaces-over : (d : Content) → ((root p : ℕ) (entry : Entry) → spaces.table root p ≡ Some entry → IsSome (d.count entry.koid.0)) → AreGoodSpaces d spaces

@@ -1,7 +1,7 @@
 -- A line that was fetched, and its replies.
-use Rattle.std.proofs.Common.{◌≡◌, ℕ, ◌+◌, ◌<◌, ◌≤◌, ◌⊎◌, inl, inr, Bool, true, cond, List, [], ◌∷◌, ◌++◌, length, Option, Result, Ok, Err, sym, ap, subst, arith}
+use Rattle.std.proofs.Common.{◌≡◌, ℕ, ◌+◌, ◌<◌, ◌≤◌, ◌⊎◌, inl, inr, Bool, true, cond, List, [], ◌∷◌, ◌++◌, length, Option, Result, sym, ap, subst, arith}
 use Rattle.std.specs.Prelude.{OnOk, OnErr}
-use Rattle.std.specs.Io.KnownBytes.{Appends, Consumes}
+use Rattle.std.specs.Io.KnownBytes.{Appends}
 use Rattle.std.proofs.lemmas.List.{length-append}
 use Rattle.std.proofs.lemmas.Bool.Decides.{Decides-ltb}
 use Rattle.script_io.specs.Faults.{IsCutOff}
@@ -10,32 +10,14 @@ use Rattle.script_io.specs.Fetching.{IsPending, IsFirstLine, Fetches}
 use Rattle.script_io.specs.declared.line_reader.Fetch.TheVariants.{Line, TooLong}
 use Rattle.vm_base.specs.declared.limits.TheConstants.{LINE_BYTES}
 use Rattle.vm_base.specs.declared.refusal.Refusal.TheVariants.{Syntax}
-use Rattle.vm_model.specs.declared.reply.Reply.{Reply}
 use Rattle.vm_model.specs.declared.reply.Reply.TheVariants.{Refused}
 use Rattle.vm_model.specs.Machine.Machine.{Machine, IsGoodMachine}
-use Rattle.vm_model.specs.Language.Text.{text, texts}
-use Rattle.vm_model.specs.Scripts.Run.{Gives}
+use Rattle.vm_model.specs.Language.Text.{text}
 use Rattle.vm_model.specs.Language.Reading.{Outside, reading, reading_of_words, words}
-use Rattle.vm_session.specs.Outcome.{SinkTakes, AnswersLine, BreaksOff}
-use Rattle.vm_session.specs.Serving.{IsServed, IsReady, bytes_left}
+use Rattle.vm_session.specs.Outcome.{AnswersLine}
+use Rattle.vm_session.specs.Serving.{IsReady, bytes_left}
 use Rattle.vm_session.proofs.Writing.{AnswersLine-outside}
-use Rattle.vm_session.proofs.Served.{IsServed-more, BreaksOff-more}
-
--- From these pending bytes a line was fetched, and it was answered.
-pub record IsAnswered {T E : Type 0} (old new : Reader) (source_old source_new sink_old sink_new : Option (List ℕ)) (before after : Machine) (pending : List ℕ) (result : Result T E) : Type 0 where
-  pub part : List ℕ
-  pub left : List ℕ
-  pub line : List ℕ
-  pub replies : List Reply
-  pub consumes : Consumes source_old source_new part
-  pub taken : new.taken ≡ old.taken + length part
-  pub still : IsPending new source_new left
-  pub first : IsFirstLine new.ended (pending ++ part) line left
-  pub within : new.taken ≤ new.limit
-  pub gives : Gives line before replies after
-  pub good : IsGoodMachine after
-  pub written : SinkTakes result sink_old sink_new (texts replies)
-  pub koids : after.state.content.next ≤ before.state.content.next + 1
+use Rattle.vm_session.proofs.Served.{IsAnswered}
 
 pub IsAnswered-line : {T E : Type 0} (old new : Reader) (source_old source_new sink_old sink_new : Option (List ℕ)) (before after : Machine) (pending line : List ℕ) (result : Result T E)
     → Fetches old new source_old source_new pending Line → line ≡ new.line → AnswersLine line before after sink_old sink_new result → IsGoodMachine after → after.state.content.next ≤ before.state.content.next + 1
@@ -82,20 +64,6 @@ IsAnswered-long old new source_old source_new sink_old sink_new now pending resu
       written = answer.written;
       koids = omega arith;
     }
-
--- it was answered whole
-pub IsServed-answered : (frames limit : ℕ) (old new : Reader) (source_old source_mid source_new sink_old sink_mid sink_new : Option (List ℕ)) (before after : Machine) {T E : Type 0} (result : Result T E) (x : T) → result ≡ Ok x
-    → (s : IsServed frames limit old source_old source_mid sink_old sink_mid before) → IsAnswered old new source_mid source_new sink_mid sink_new before after s.pending result
-    → new.limit ≡ old.limit → (old.ended ≡ true → new.taken ≡ old.taken) → IsServed frames limit new source_old source_new sink_old sink_new after
-IsServed-answered frames limit old new source_old source_mid source_new sink_old sink_mid sink_new before after {T} {E} result x e s a same none =
-    IsServed-more frames limit old new source_old source_mid source_new sink_old sink_mid sink_new before after a.replies a.line a.left s a.part a.consumes a.taken a.still a.first a.within same none a.gives a.good (subst (λ (r : Result T E). SinkTakes r sink_mid sink_new (texts a.replies)) e a.written)
-
--- its replies were cut off
-pub BreaksOff-answered : (frames limit : ℕ) (old new : Reader) (source_old source_mid source_new sink_old sink_mid sink_new : Option (List ℕ)) (before after : Machine) {T E : Type 0} (result : Result T E) (x : E) → result ≡ Err x
-    → (s : IsServed frames limit old source_old source_mid sink_old sink_mid before) → IsAnswered old new source_mid source_new sink_mid sink_new before after s.pending result
-    → new.limit ≡ old.limit → (old.ended ≡ true → new.taken ≡ old.taken) → BreaksOff frames limit source_old source_new sink_old sink_new after.state.content
-BreaksOff-answered frames limit old new source_old source_mid source_new sink_old sink_mid sink_new before after {T} {E} result x e s a same none =
-    BreaksOff-more frames limit old new source_old source_mid source_new sink_old sink_mid sink_new before after a.replies a.line a.left s a.part a.consumes a.taken a.still a.first a.within same none a.gives a.good (subst (λ (r : Result T E). SinkTakes r sink_mid sink_new (texts a.replies)) e a.written)
 
 -- a first line is a byte at least
 pub used_up : (ended : Bool) (bytes line left : List ℕ) → IsFirstLine ended bytes line left → length left + 1 ≤ length bytes

@@ -1,5 +1,5 @@
 -- One more line of a script was served, or the script ends there.
-use Rattle.std.proofs.Common.{◌≡◌, ℕ, zero, suc, ◌+◌, ◌-◌, ◌<◌, ◌≤◌, ◌⊎◌, inl, inr, Bool, true, List, [], ◌∷◌, ◌++◌, length, take, Option, Some, refl, sym, ap, subst, ◌∙◌, append_assoc, append-nil, take_all, arith}
+use Rattle.std.proofs.Common.{◌≡◌, ℕ, zero, suc, ◌+◌, ◌-◌, ◌<◌, ◌≤◌, ◌⊎◌, inl, inr, Bool, true, List, [], ◌∷◌, ◌++◌, length, take, Option, Some, refl, sym, ap, subst, ◌∙◌, append_assoc, append-nil, take_all, arith, Result, Ok, Err}
 use Rattle.std.specs.Prelude.{slice_get}
 use Rattle.std.specs.Io.KnownBytes.{Appends, Consumes, IsAtEnd}
 use Rattle.std.proofs.KnownBytes.{Appends-trans, Consumes-trans}
@@ -12,7 +12,7 @@ use Rattle.vm_model.specs.Machine.Machine.{Machine, IsGoodMachine, empty_machine
 use Rattle.vm_model.specs.Language.Text.{texts}
 use Rattle.vm_model.specs.Scripts.Run.{lines_of, whole_lines, Gives, Run}
 use Rattle.vm_session.proofs.RunLaws.{lines_of-line, lines_of-piece, lines_of-nil, whole_lines-line, whole_lines-none, texts-append, Run-more}
-use Rattle.vm_session.specs.Outcome.{AnswersAll, AnswersPart, Completes, StopsReading, ReachesLimit, BreaksOff}
+use Rattle.vm_session.specs.Outcome.{AnswersAll, AnswersPart, Completes, StopsReading, ReachesLimit, BreaksOff, SinkTakes}
 use Rattle.vm_session.specs.Serving.{AreLines, AreAll, IsServed}
 
 -- ---- lists
@@ -77,118 +77,7 @@ still_lines old front pending part line left lines ended none (inr all) first =
       go (inl e) z = omega (arith, z, ap (λ (xs : List ℕ). length xs) e, length-append line (10 ∷ left))
       go (inr h) z = omega (arith, z, ap (λ (xs : List ℕ). length xs) h.0, h.2)
 
--- one line more was answered, and its replies were written
-pub IsServed-more : (frames limit : ℕ) (old new : Reader) (source_old source_mid source_new sink_old sink_mid sink_new : Option (List ℕ)) (before after : Machine)
-    (replies : List Reply) (line left : List ℕ) (s : IsServed frames limit old source_old source_mid sink_old sink_mid before) (part : List ℕ)
-    → Consumes source_mid source_new part → new.taken ≡ old.taken + length part → IsPending new source_new left → IsFirstLine new.ended (s.pending ++ part) line left
-    → new.taken ≤ new.limit → new.limit ≡ old.limit → (old.ended ≡ true → new.taken ≡ old.taken)
-    → Gives line before replies after → IsGoodMachine after → Appends sink_mid sink_new (texts replies)
-    → IsServed frames limit new source_old source_new sink_old sink_new after
-IsServed-more frames limit old new source_old source_mid source_new sink_old sink_mid sink_new before after replies line left s part
-    consumes taken still first within same none gives good written =
-    go first.parts where
-      so_far : AreLines s.front s.lines
-      so_far = still_lines old s.front s.pending part line left s.lines new.ended (λ e. omega (arith, taken, none e)) s.split first
-
-      script : List ℕ
-      script = (s.front ++ s.pending) ++ part
-
-      given : Consumes source_old source_new script
-      given = Consumes-trans source_old source_mid source_new (s.front ++ s.pending) part s.given consumes
-
-      size : new.taken ≡ length script
-      size = omega (arith, taken, s.taken, length-append (s.front ++ s.pending) part)
-
-      run : Run (empty_machine frames) (s.lines ++ line ∷ []) (s.replies ++ replies) after
-      run = Run-more (empty_machine frames) before after s.lines line s.replies replies s.run gives
-
-      all_written : Appends sink_old sink_new (texts (s.replies ++ replies))
-      all_written = subst (Appends sink_old sink_new) (sym (texts-append s.replies replies)) (Appends-trans sink_old sink_mid sink_new (texts s.replies) (texts replies) s.written written)
-
-      served : (front : List ℕ) → script ≡ front ++ left → (AreLines front (s.lines ++ line ∷ []) ⊎ AreAll new front left (s.lines ++ line ∷ [])) → IsServed frames limit new source_old source_new sink_old sink_new after
-      served front parts split = record {
-        front = front;
-        pending = left;
-        lines = s.lines ++ line ∷ [];
-        given = subst (Consumes source_old source_new) parts given;
-        still = still;
-        bounded = same ∙ s.bounded;
-        taken = size ∙ ap (λ (xs : List ℕ). length xs) parts;
-        within = omega (arith, within, size, ap (λ (xs : List ℕ). length xs) parts, length-append front left, same, s.bounded);
-        split = split;
-        replies = s.replies ++ replies;
-        run = run;
-        good = good;
-        written = all_written;
-      }
-
-      go : ((s.pending ++ part ≡ line ++ 10 ∷ left) ⊎ ((s.pending ++ part ≡ line) × (left ≡ []) × (0 < length line) × (new.ended ≡ true))) → IsServed frames limit new source_old source_new sink_old sink_new after
-      go (inl e) = served (s.front ++ (line ++ 10 ∷ []))
-          (append_assoc s.front s.pending part ∙ (ap (λ (xs : List ℕ). s.front ++ xs) e ∙ sym (line_behind s.front line left)))
-          (inl (AreLines-more s.front line s.lines so_far first.no_feed))
-      go (inr h) = served (s.front ++ line)
-          (append_assoc s.front s.pending part ∙ (ap (λ (xs : List ℕ). s.front ++ xs) h.0 ∙ (sym (append-nil (s.front ++ line)) ∙ ap (λ (xs : List ℕ). (s.front ++ line) ++ xs) (sym h.1))))
-          (inr (record { each = lines_of-more s.front line s.lines so_far first.no_feed h.2; behind = h.1; ended = h.3 }))
-
--- ---- how a run ends
-
--- the replies of one more line were cut off
-pub BreaksOff-more : (frames limit : ℕ) (old new : Reader) (source_old source_mid source_new sink_old sink_mid sink_new : Option (List ℕ)) (before after : Machine)
-    (replies : List Reply) (line left : List ℕ) (s : IsServed frames limit old source_old source_mid sink_old sink_mid before) (part : List ℕ)
-    → Consumes source_mid source_new part → new.taken ≡ old.taken + length part → IsPending new source_new left → IsFirstLine new.ended (s.pending ++ part) line left
-    → new.taken ≤ new.limit → new.limit ≡ old.limit → (old.ended ≡ true → new.taken ≡ old.taken)
-    → Gives line before replies after → IsGoodMachine after → IsCutOff sink_mid sink_new (texts replies)
-    → BreaksOff frames limit source_old source_new sink_old sink_new after.state.content
-BreaksOff-more frames limit old new source_old source_mid source_new sink_old sink_mid sink_new before after replies line left s part
-    consumes taken still first within same none gives good cut =
-    go first.parts where
-      so_far : AreLines s.front s.lines
-      so_far = still_lines old s.front s.pending part line left s.lines new.ended (λ e. omega (arith, taken, none e)) s.split first
-
-      script : List ℕ
-      script = (s.front ++ s.pending) ++ part
-
-      short : length script ≤ limit
-      short = omega (arith, within, taken, s.taken, length-append (s.front ++ s.pending) part, same, s.bounded)
-
-      -- the lines up to the one that was cut off
-      answers : (lines : List (List ℕ)) (rest : List (List ℕ)) → lines ≡ s.lines ++ line ∷ rest → AnswersPart frames lines sink_old sink_new after.state.content
-      answers lines rest e = record {
-        answered = length s.lines;
-        line = line;
-        next = ap (λ (ls : List (List ℕ)). slice_get ls (length s.lines)) e ∙ get_behind s.lines line rest;
-        before = s.replies;
-        mid = before;
-        run = subst (λ (ls : List (List ℕ)). Run (empty_machine frames) ls s.replies before) (sym (ap (take (length s.lines)) e ∙ take_front s.lines (line ∷ rest))) s.run;
-        replies = replies;
-        last = after;
-        gives = gives;
-        good = good;
-        part = cut.part;
-        rest = cut.rest;
-        cut = cut.whole;
-        left = cut.left;
-        written = Appends-trans sink_old sink_mid sink_new (texts s.replies) cut.part s.written cut.taken;
-        store = refl;
-      }
-
-      breaks : (AnswersPart frames (whole_lines (take limit script)) sink_old sink_new after.state.content
-          ⊎ (AnswersPart frames (lines_of script) sink_old sink_new after.state.content × IsAtEnd source_new × (length script ≤ limit))) → BreaksOff frames limit source_old source_new sink_old sink_new after.state.content
-      breaks parts = record {
-        script = script;
-        given = Consumes-trans source_old source_mid source_new (s.front ++ s.pending) part s.given consumes;
-        at_most = omega (arith, short);
-        answers = parts;
-      }
-
-      go : ((s.pending ++ part ≡ line ++ 10 ∷ left) ⊎ ((s.pending ++ part ≡ line) × (left ≡ []) × (0 < length line) × (new.ended ≡ true))) → BreaksOff frames limit source_old source_new sink_old sink_new after.state.content
-      go (inl e) =
-          let parts : script ≡ s.front ++ (line ++ 10 ∷ left) = append_assoc s.front s.pending part ∙ ap (λ (xs : List ℕ). s.front ++ xs) e in
-          breaks (inl (answers (whole_lines (take limit script)) (whole_lines left)
-          (ap whole_lines (take_all limit script short ∙ parts) ∙ (so_far.whole (line ++ 10 ∷ left) ∙ ap (λ (ls : List (List ℕ)). s.lines ++ ls) (whole_lines-line line left (λ k l. first.no_feed k 0 l))))))
-      go (inr h) =
-          let parts : script ≡ s.front ++ line = append_assoc s.front s.pending part ∙ ap (λ (xs : List ℕ). s.front ++ xs) h.0 in
-          breaks (inr (answers (lines_of script) [] (ap lines_of parts ∙ lines_of-more s.front line s.lines so_far first.no_feed h.2), still.at_end h.3, short))
+-- ---- bytes that were taken behind those of the lines that were answered
 
 -- every line was answered
 answers_all : (frames limit : ℕ) (reader : Reader) (source_old source_now sink_old sink_now : Option (List ℕ)) (now : Machine) (lines : List (List ℕ))
@@ -206,74 +95,178 @@ no_bytes : (xs : List ℕ) → length xs ≡ 0 → xs ≡ []
 no_bytes [] e = refl
 no_bytes (x ∷ xs) e = absurd (omega (arith, e))
 
--- nothing is pending, and nothing comes
-pub Completes-end : (frames limit : ℕ) (old new : Reader) (source_old source_mid source_new sink_old sink_now : Option (List ℕ)) (now : Machine)
-    (s : IsServed frames limit old source_old source_mid sink_old sink_now now) (part : List ℕ)
-    → Consumes source_mid source_new part → new.taken ≡ old.taken + length part → IsAtEnd source_new → s.pending ++ part ≡ []
-    → new.taken ≤ new.limit → new.limit ≡ old.limit
-    → Completes frames limit source_old source_new sink_old sink_now now.state.content
-Completes-end frames limit old new source_old source_mid source_new sink_old sink_now now s part consumes taken at_end none within same =
-    let empty : length s.pending + length part ≡ 0 = omega (arith, length-append s.pending part, ap (λ (xs : List ℕ). length xs) none) in
-    let no_part : part ≡ [] = no_bytes part (omega (arith, empty)) in
-    let no_pending : s.pending ≡ [] = no_bytes s.pending (omega (arith, empty)) in
-    let all : s.front ++ s.pending ≡ s.front = ap (λ (xs : List ℕ). s.front ++ xs) no_pending ∙ append-nil s.front in
-    record {
-      script = s.front;
-      given = subst (Consumes source_old source_new) (ap (λ (xs : List ℕ). (s.front ++ s.pending) ++ xs) no_part ∙ (append-nil (s.front ++ s.pending) ∙ all))
-          (Consumes-trans source_old source_mid source_new (s.front ++ s.pending) part s.given consumes);
-      ended = at_end;
-      short = s.within;
-      answers = answers_all frames limit old source_old source_mid sink_old sink_now now (lines_of s.front) s (go s.split);
-    } where
-      go : (AreLines s.front s.lines ⊎ AreAll old s.front s.pending s.lines) → lines_of s.front ≡ s.lines
-      go (inl so_far) = lines_of-all s.front s.lines so_far
-      go (inr whole) = whole.each
+module _ (frames limit : ℕ) (old new : Reader) (source_old source_mid source_new sink_old sink_now : Option (List ℕ)) (now : Machine)
+    (s : IsServed frames limit old source_old source_mid sink_old sink_now now) (part : List ℕ) (consumes : Consumes source_mid source_new part)
+    (taken : new.taken ≡ old.taken + length part) (same : new.limit ≡ old.limit) where
+  abbrev script : List ℕ
+  script = (s.front ++ s.pending) ++ part
 
--- the bytes that are left hold no line feed, and the script doesn't end there
-pub StopsReading-there : (frames limit : ℕ) (old new : Reader) (source_old source_mid source_new sink_old sink_now : Option (List ℕ)) (now : Machine)
-    (s : IsServed frames limit old source_old source_mid sink_old sink_now now) (part : List ℕ)
-    → Consumes source_mid source_new part → new.taken ≡ old.taken + length part → HasNoFeed (s.pending ++ part) → (old.ended ≡ true → ⊥)
-    → new.taken ≤ new.limit → new.limit ≡ old.limit
-    → StopsReading frames limit source_old source_new sink_old sink_now now.state.content
-StopsReading-there frames limit old new source_old source_mid source_new sink_old sink_now now s part consumes taken none going within same =
-    let parts : (s.front ++ s.pending) ++ part ≡ s.front ++ (s.pending ++ part) = append_assoc s.front s.pending part in
-    record {
-      script = (s.front ++ s.pending) ++ part;
-      given = Consumes-trans source_old source_mid source_new (s.front ++ s.pending) part s.given consumes;
-      short = omega (arith, within, taken, s.taken, length-append (s.front ++ s.pending) part, same, s.bounded);
-      answers = answers_all frames limit old source_old source_mid sink_old sink_now now (whole_lines ((s.front ++ s.pending) ++ part)) s
-          (ap whole_lines parts ∙ whole_lines-rest s.front (s.pending ++ part) s.lines (go s.split) none);
-    } where
-      go : (AreLines s.front s.lines ⊎ AreAll old s.front s.pending s.lines) → AreLines s.front s.lines
-      go (inl so_far) = so_far
-      go (inr whole) = absurd (going whole.ended)
+  given : Consumes source_old source_new script
+  given = Consumes-trans source_old source_mid source_new (s.front ++ s.pending) part s.given consumes
 
--- one byte over the limit was taken, and no line feed is left before it
-pub ReachesLimit-there : (frames limit : ℕ) (old new : Reader) (source_old source_mid source_new sink_old sink_now : Option (List ℕ)) (now : Machine)
-    (s : IsServed frames limit old source_old source_mid sink_old sink_now now) (part : List ℕ)
-    → Consumes source_mid source_new part → new.taken ≡ old.taken + length part → HasNoFeed (take (length (s.pending ++ part) - 1) (s.pending ++ part))
-    → (old.ended ≡ true → new.taken ≡ old.taken) → new.taken ≡ new.limit + 1 → new.limit ≡ old.limit
-    → ReachesLimit frames limit source_old source_new sink_old sink_now now.state.content
-ReachesLimit-there frames limit old new source_old source_mid source_new sink_old sink_now now s part consumes taken none going over same =
-    record {
-      script = script;
-      given = Consumes-trans source_old source_mid source_new (s.front ++ s.pending) part s.given consumes;
-      long = long;
-      answers = answers_all frames limit old source_old source_mid sink_old sink_now now (whole_lines (take limit script)) s
-          (ap whole_lines (ap (take limit) (append_assoc s.front s.pending part) ∙ take_behind limit (length bytes - 1) s.front bytes size) ∙ whole_lines-rest s.front (take (length bytes - 1) bytes) s.lines (go s.split) none);
-    } where
-      script : List ℕ
-      script = (s.front ++ s.pending) ++ part
+  size : new.taken ≡ length script
+  size = omega (arith, taken, s.taken, length-append (s.front ++ s.pending) part)
 
-      bytes : List ℕ
-      bytes = s.pending ++ part
+  -- nothing is pending, and nothing comes
+  pub Completes-end : IsAtEnd source_new → s.pending ++ part ≡ [] → Completes frames limit source_old source_new sink_old sink_now now.state.content
+  Completes-end at_end none =
+      let empty : length s.pending + length part ≡ 0 = omega (arith, length-append s.pending part, ap (λ (xs : List ℕ). length xs) none) in
+      let no_part : part ≡ [] = no_bytes part (omega (arith, empty)) in
+      let no_pending : s.pending ≡ [] = no_bytes s.pending (omega (arith, empty)) in
+      let all : s.front ++ s.pending ≡ s.front = ap (λ (xs : List ℕ). s.front ++ xs) no_pending ∙ append-nil s.front in
+      record {
+        script = s.front;
+        given = subst (Consumes source_old source_new) (ap (λ (xs : List ℕ). (s.front ++ s.pending) ++ xs) no_part ∙ (append-nil (s.front ++ s.pending) ∙ all)) given;
+        ended = at_end;
+        short = s.within;
+        answers = answers_all frames limit old source_old source_mid sink_old sink_now now (lines_of s.front) s (go s.split);
+      } where
+        go : (AreLines s.front s.lines ⊎ AreAll old s.front s.pending s.lines) → lines_of s.front ≡ s.lines
+        go (inl so_far) = lines_of-all s.front s.lines so_far
+        go (inr whole) = whole.each
 
-      long : length script ≡ limit + 1
-      long = omega (arith, taken, s.taken, length-append (s.front ++ s.pending) part, same, s.bounded, over)
+  -- the bytes that are left hold no line feed, and the script doesn't end there
+  pub StopsReading-there : HasNoFeed (s.pending ++ part) → (old.ended ≡ true → ⊥) → new.taken ≤ new.limit
+      → StopsReading frames limit source_old source_new sink_old sink_now now.state.content
+  StopsReading-there none going within = record {
+    script = script;
+    given = given;
+    short = omega (arith, within, size, same, s.bounded);
+    answers = answers_all frames limit old source_old source_mid sink_old sink_now now (whole_lines script) s
+        (ap whole_lines (append_assoc s.front s.pending part) ∙ whole_lines-rest s.front (s.pending ++ part) s.lines (go s.split) none);
+  } where
+    go : (AreLines s.front s.lines ⊎ AreAll old s.front s.pending s.lines) → AreLines s.front s.lines
+    go (inl so_far) = so_far
+    go (inr whole) = absurd (going whole.ended)
 
-      size : limit ≡ length s.front + (length bytes - 1)
-      size = omega (arith, long, s.within, length-append s.front bytes, ap (λ (xs : List ℕ). length xs) (append_assoc s.front s.pending part))
+  -- one byte over the limit was taken, and no line feed is left before it
+  pub ReachesLimit-there : HasNoFeed (take (length (s.pending ++ part) - 1) (s.pending ++ part)) → (old.ended ≡ true → new.taken ≡ old.taken) → new.taken ≡ new.limit + 1
+      → ReachesLimit frames limit source_old source_new sink_old sink_now now.state.content
+  ReachesLimit-there none going over = record {
+    script = script;
+    given = given;
+    long = long;
+    answers = answers_all frames limit old source_old source_mid sink_old sink_now now (whole_lines (take limit script)) s
+        (ap whole_lines (ap (take limit) (append_assoc s.front s.pending part) ∙ take_behind limit (length bytes - 1) s.front bytes room) ∙ whole_lines-rest s.front (take (length bytes - 1) bytes) s.lines (go s.split) none);
+  } where
+    bytes : List ℕ
+    bytes = s.pending ++ part
 
-      go : (AreLines s.front s.lines ⊎ AreAll old s.front s.pending s.lines) → AreLines s.front s.lines
-      go (inl so_far) = so_far
-      go (inr whole) = absurd (omega (arith, going whole.ended, over, same, s.bounded, s.taken, s.within, length-append s.front s.pending, ap (λ (xs : List ℕ). length xs) whole.behind))
+    long : length script ≡ limit + 1
+    long = omega (arith, size, same, s.bounded, over)
+
+    room : limit ≡ length s.front + (length bytes - 1)
+    room = omega (arith, long, s.within, length-append s.front bytes, ap (λ (xs : List ℕ). length xs) (append_assoc s.front s.pending part))
+
+    go : (AreLines s.front s.lines ⊎ AreAll old s.front s.pending s.lines) → AreLines s.front s.lines
+    go (inl so_far) = so_far
+    go (inr whole) = absurd (omega (arith, going whole.ended, over, same, s.bounded, s.taken, s.within, length-append s.front s.pending, ap (λ (xs : List ℕ). length xs) whole.behind))
+
+-- ---- one line more
+
+-- From these pending bytes a line was fetched, and it was answered.
+pub record IsAnswered {T E : Type 0} (old new : Reader) (source_old source_new sink_old sink_new : Option (List ℕ)) (before after : Machine) (pending : List ℕ) (result : Result T E) : Type 0 where
+  pub part : List ℕ
+  pub left : List ℕ
+  pub line : List ℕ
+  pub replies : List Reply
+  pub consumes : Consumes source_old source_new part
+  pub taken : new.taken ≡ old.taken + length part
+  pub still : IsPending new source_new left
+  pub first : IsFirstLine new.ended (pending ++ part) line left
+  pub within : new.taken ≤ new.limit
+  pub gives : Gives line before replies after
+  pub good : IsGoodMachine after
+  pub written : SinkTakes result sink_old sink_new (texts replies)
+  pub koids : after.state.content.next ≤ before.state.content.next + 1
+
+module _ {T E : Type 0} (frames limit : ℕ) (old new : Reader) (source_old source_mid source_new sink_old sink_mid sink_new : Option (List ℕ)) (before after : Machine)
+    (result : Result T E) (s : IsServed frames limit old source_old source_mid sink_old sink_mid before)
+    (a : IsAnswered old new source_mid source_new sink_mid sink_new before after s.pending result)
+    (same : new.limit ≡ old.limit) (none : old.ended ≡ true → new.taken ≡ old.taken) where
+  so_far : AreLines s.front s.lines
+  so_far = still_lines old s.front s.pending a.part a.line a.left s.lines new.ended (λ e. omega (arith, a.taken, none e)) s.split a.first
+
+  abbrev taken_all : List ℕ
+  taken_all = (s.front ++ s.pending) ++ a.part
+
+  given_all : Consumes source_old source_new taken_all
+  given_all = Consumes-trans source_old source_mid source_new (s.front ++ s.pending) a.part s.given a.consumes
+
+  size_all : new.taken ≡ length taken_all
+  size_all = omega (arith, a.taken, s.taken, length-append (s.front ++ s.pending) a.part)
+
+  -- it was answered whole
+  pub IsServed-answered : (x : T) → result ≡ Ok x → IsServed frames limit new source_old source_new sink_old sink_new after
+  IsServed-answered x is = go a.first.parts where
+    written : Appends sink_old sink_new (texts (s.replies ++ a.replies))
+    written = subst (Appends sink_old sink_new) (sym (texts-append s.replies a.replies))
+        (Appends-trans sink_old sink_mid sink_new (texts s.replies) (texts a.replies) s.written (subst (λ (r : Result T E). SinkTakes r sink_mid sink_new (texts a.replies)) is a.written))
+
+    served : (front : List ℕ) → taken_all ≡ front ++ a.left → (AreLines front (s.lines ++ a.line ∷ []) ⊎ AreAll new front a.left (s.lines ++ a.line ∷ [])) → IsServed frames limit new source_old source_new sink_old sink_new after
+    served front parts split = record {
+      front = front;
+      pending = a.left;
+      lines = s.lines ++ a.line ∷ [];
+      given = subst (Consumes source_old source_new) parts given_all;
+      still = a.still;
+      bounded = same ∙ s.bounded;
+      taken = size_all ∙ ap (λ (xs : List ℕ). length xs) parts;
+      within = omega (arith, a.within, size_all, ap (λ (xs : List ℕ). length xs) parts, length-append front a.left, same, s.bounded);
+      split = split;
+      replies = s.replies ++ a.replies;
+      run = Run-more (empty_machine frames) before after s.lines a.line s.replies a.replies s.run a.gives;
+      good = a.good;
+      written = written;
+    }
+
+    go : ((s.pending ++ a.part ≡ a.line ++ 10 ∷ a.left) ⊎ ((s.pending ++ a.part ≡ a.line) × (a.left ≡ []) × (0 < length a.line) × (new.ended ≡ true))) → IsServed frames limit new source_old source_new sink_old sink_new after
+    go (inl e) = served (s.front ++ (a.line ++ 10 ∷ []))
+        (append_assoc s.front s.pending a.part ∙ (ap (λ (xs : List ℕ). s.front ++ xs) e ∙ sym (line_behind s.front a.line a.left)))
+        (inl (AreLines-more s.front a.line s.lines so_far a.first.no_feed))
+    go (inr h) = served (s.front ++ a.line)
+        (append_assoc s.front s.pending a.part ∙ (ap (λ (xs : List ℕ). s.front ++ xs) h.0 ∙ (sym (append-nil (s.front ++ a.line)) ∙ ap (λ (xs : List ℕ). (s.front ++ a.line) ++ xs) (sym h.1))))
+        (inr (record { each = lines_of-more s.front a.line s.lines so_far a.first.no_feed h.2; behind = h.1; ended = h.3 }))
+
+  -- its replies were cut off
+  pub BreaksOff-answered : (x : E) → result ≡ Err x → BreaksOff frames limit source_old source_new sink_old sink_new after.state.content
+  BreaksOff-answered x is = go a.first.parts where
+    cut : IsCutOff sink_mid sink_new (texts a.replies)
+    cut = subst (λ (r : Result T E). SinkTakes r sink_mid sink_new (texts a.replies)) is a.written
+
+    short : length taken_all ≤ limit
+    short = omega (arith, a.within, size_all, same, s.bounded)
+
+    -- the lines up to the one that was cut off
+    answers : (lines : List (List ℕ)) (rest : List (List ℕ)) → lines ≡ s.lines ++ a.line ∷ rest → AnswersPart frames lines sink_old sink_new after.state.content
+    answers lines rest e = record {
+      answered = length s.lines;
+      line = a.line;
+      next = ap (λ (ls : List (List ℕ)). slice_get ls (length s.lines)) e ∙ get_behind s.lines a.line rest;
+      before = s.replies;
+      mid = before;
+      run = subst (λ (ls : List (List ℕ)). Run (empty_machine frames) ls s.replies before) (sym (ap (take (length s.lines)) e ∙ take_front s.lines (a.line ∷ rest))) s.run;
+      replies = a.replies;
+      last = after;
+      gives = a.gives;
+      good = a.good;
+      part = cut.part;
+      rest = cut.rest;
+      cut = cut.whole;
+      left = cut.left;
+      written = Appends-trans sink_old sink_mid sink_new (texts s.replies) cut.part s.written cut.taken;
+      store = refl;
+    }
+
+    breaks : (AnswersPart frames (whole_lines (take limit taken_all)) sink_old sink_new after.state.content
+        ⊎ (AnswersPart frames (lines_of taken_all) sink_old sink_new after.state.content × IsAtEnd source_new × (length taken_all ≤ limit))) → BreaksOff frames limit source_old source_new sink_old sink_new after.state.content
+    breaks parts = record { script = taken_all; given = given_all; at_most = omega (arith, short); answers = parts }
+
+    go : ((s.pending ++ a.part ≡ a.line ++ 10 ∷ a.left) ⊎ ((s.pending ++ a.part ≡ a.line) × (a.left ≡ []) × (0 < length a.line) × (new.ended ≡ true))) → BreaksOff frames limit source_old source_new sink_old sink_new after.state.content
+    go (inl e) =
+        let parts : taken_all ≡ s.front ++ (a.line ++ 10 ∷ a.left) = append_assoc s.front s.pending a.part ∙ ap (λ (xs : List ℕ). s.front ++ xs) e in
+        breaks (inl (answers (whole_lines (take limit taken_all)) (whole_lines a.left)
+        (ap whole_lines (take_all limit taken_all short ∙ parts) ∙ (so_far.whole (a.line ++ 10 ∷ a.left) ∙ ap (λ (ls : List (List ℕ)). s.lines ++ ls) (whole_lines-line a.line a.left (λ k l. a.first.no_feed k 0 l))))))
+    go (inr h) =
+        let parts : taken_all ≡ s.front ++ a.line = append_assoc s.front s.pending a.part ∙ ap (λ (xs : List ℕ). s.front ++ xs) h.0 in
+        breaks (inr (answers (lines_of taken_all) [] (ap lines_of parts ∙ lines_of-more s.front a.line s.lines so_far a.first.no_feed h.2), a.still.at_end h.3, short))

@@ -9,7 +9,7 @@ ghost use Rattle.vm_session.specs.Working.{tally_text, with_reply};
 use page_store::PageStore;
 use vm_base::{Refusal, TEXT_ROOM};
 use vm_model::Answer;
-use word_text::{put, put_decimal};
+use word_text::{put, put_field};
 
 /// How many commands were done, refused, and lacked memory of the host.
 #[derive(Clone, Copy)]
@@ -59,14 +59,4 @@ fn put_tally(tally: Tally, used: u64, vmos: u64, out: &mut [u8], at: usize) -> u
     let at = put_field(b" host=", tally.host, out, at);
     let at = put_field(b" used=", used, out, at);
     put_field(b" vmos=", vmos, out, at)
-}
-
-/// Writes a number behind its label, as ` ok=7`.
-fn put_field(label: &[u8], number: u64, out: &mut [u8], at: usize) -> usize
-    requires { at + length label.now + 20 ≤ length out.old }
-    ensures written { take result out.new ≡ take at out.old ++ (label.now ++ decimal number) }
-    ensures end { result ≤ at + length label.now + 20 }
-{
-    let at = put(label, out, at);
-    put_decimal(number, out, at)
 }

@@ -1,19 +1,11 @@
 -- The keepers of VMOs are the pins that are of them, also as pins come and go.
-use Rattle.std.proofs.Common.{◌≡◌, ℕ, ◌+◌, ◌<◌, ◌≤◌, cond, Bool, ◌==◌, Option, None, Some, arith}
+use Rattle.std.proofs.Common.{◌≡◌, ℕ, ◌+◌, ◌<◌, cond, ◌==◌, Option, None, Some, arith}
 use Rattle.std.proofs.lemmas.Bool.{cases_eq}
 use Rattle.vm_base.specs.Entries.{with_key, without_key}
 use Rattle.vm_base.specs.declared.limits.TheConstants.{NAMES}
 use Rattle.vm_base.proofs.SearchLaws.{bit_same, eqb_same, eqb_apart}
-use Rattle.vm_base.proofs.EntryLaws.{passes-some, entry_count_le, entry_count-with_key, entry_count-without_key}
+use Rattle.vm_base.proofs.EntryLaws.{passes-some, entry_count-with_key, entry_count-without_key}
 use Rattle.vm_model.specs.Naming.Pins.{Pin, pin_count}
-
--- the pin is of the VMO v
-abbrev pub is_pin_of : ℕ → Pin → Bool
-is_pin_of v pin = pin.koid == v
-
--- no VMO has more pins than there are names
-pub pin_count_le : (pins : ℕ → Option Pin) (v : ℕ) → pin_count pins v ≤ NAMES
-pin_count_le = grind (arith, entry_count_le)
 
 -- the bit of a pin that is of the VMO, asked the other way round
 bit_of-pin : (v k : ℕ) → ◌≡◌ {A = ℕ} (cond (k == v) 1 0) (cond (v == k) 1 0)

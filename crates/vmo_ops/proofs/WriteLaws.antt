@@ -1,38 +1,15 @@
 -- Laws of writing a page.
 use Rattle.vm_model.proofs.OwningLaws.{Owned-from_Owns}
 use Rattle.std.proofs.Common.{arith}
-use Rattle.std.proofs.Common.{◌≡◌, ℕ, ◌/◌, ◌+◌, ◌<◌, ◌≤◌, List, length, map, refl, sym, ◌∙◌}
+use Rattle.std.proofs.Common.{◌≡◌, ℕ, ◌/◌, ◌+◌, ◌<◌, ◌≤◌, List, length, map}
 use Rattle.vm_base.specs.declared.limits.TheConstants.{PAGE}
-use Rattle.vm_base.specs.Pages.{replaced}
-use Rattle.vm_model.specs.Contents.Content.{Page, Content, shown, hold}
-use Rattle.vm_model.specs.Contents.Owning.{Owns}
+use Rattle.vm_model.specs.Contents.Content.{Content}
 use Rattle.vm_model.specs.Contents.Writing.{touched, piece, part_at, part_bytes, pieces, WritesPiece, Writes}
-use Rattle.vm_model.proofs.ContentLaws.{sole_alone, bytes_of-some}
-use Rattle.vm_model.proofs.OwningLaws.{Owned}
 use Rattle.vm_model.proofs.RangeLaws.{part_fits}
 use Rattle.vm_model.proofs.WritingLaws.{Written-from_WritesPiece}
-use Rattle.page_store.specs.Pages.{IsShownOnce, Overwrites}
 use Rattle.vmo_ops.proofs.RowLaws.{Run}
 use Rattle.vmo_ops.proofs.OwningLaws.{IsOwning, IsOwning-step}
-
--- the frame of a page that was owned is shown once
-pub IsShownOnce-owned : (old new : Content) (v p tag : ℕ) → Owned old new v p tag → IsShownOnce new tag
-IsShownOnce-owned = grind (arith, sole_alone)
-
--- a page that was owned and whose bytes were then overwritten
-pub WritesPiece-from_parts : (old mid new : Content) (v p tag at : ℕ) (bytes : List ℕ) → Owned old mid v p tag
-    → Owns old mid v p tag → Overwrites mid new tag at bytes
-    → WritesPiece old (record { koid = v; page = p; at = at; bytes = bytes }) new
-WritesPiece-from_parts old mid new v p tag at bytes owned owns overwrites =
-    let held : Page = record { tag = tag; bytes = shown old v p } in
-    let same : shown old v p ≡ shown mid v p = sym (bytes_of-some (mid.page v p) held owned.held) in
-    record {
-      tag = tag;
-      owned = mid;
-      owns = owns;
-      bytes = overwrites v p held (record { page = owned.held; tag = refl })
-          ∙ λ i. hold mid v p (record { tag = tag; bytes = replaced (same i) at bytes });
-    }
+use Rattle.page_store.proofs.PartLaws.{IsShownOnce-owned, WritesPiece-from_parts}
 
 -- a write at this offset, from a content over pages of v to another
 abbrev pub writing : ℕ → ℕ → List ℕ → Run

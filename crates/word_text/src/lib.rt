@@ -12,7 +12,7 @@
 
 mod parts;
 
-pub use parts::{put, put_data, put_decimal, put_number, put_perm, put_word};
+pub use parts::{put, put_data, put_decimal, put_field, put_number, put_perm, put_word};
 
 #[cfg(test)]
 mod tests;

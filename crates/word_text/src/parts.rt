@@ -58,6 +58,16 @@ pub fn put_number(number: u64, out: &mut [u8], at: usize) -> usize
     put_decimal(number, out, at)
 }
 
+/// Writes a number behind its label, as ` free=7`.
+pub fn put_field(label: &[u8], number: u64, out: &mut [u8], at: usize) -> usize
+    requires { at + length label.now + 20 ≤ length out.old }
+    ensures written { take result out.new ≡ take at out.old ++ (label.now ++ decimal number) }
+    ensures end { result ≤ at + length label.now + 20 }
+{
+    let at = put(label, out, at);
+    put_decimal(number, out, at)
+}
+
 /// Writes byte data in lower-case hex behind a space, `-` for no bytes.
 pub fn put_data(bytes: &[u8], out: &mut [u8], at: usize) -> usize
     requires { at + 2 + 2 * length bytes.now ≤ length out.old }

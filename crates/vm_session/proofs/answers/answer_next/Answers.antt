@@ -2,9 +2,8 @@ use Rattle.std.proofs.Common.{◌∙◌, refl, sym, arith}
 use Rattle.vm_core.specs.Vm.{machine_of}
 use Rattle.std.proofs.lemmas.List.{length-append}
 use Rattle.vm_core.proofs.AgreeLaws.{agrees_good}
-use Rattle.vm_session.proofs.Served.{Completes-end, StopsReading-there, ReachesLimit-there}
-use Rattle.vm_session.proofs.Answered.{used_up, IsAnswered-line, IsAnswered-long, IsServed-answered}
-use Rattle.vm_session.proofs.Answered.{BreaksOff-answered, IsReady-answered, bytes_left-answered}
+use Rattle.vm_session.proofs.Served.{Completes-end, StopsReading-there, ReachesLimit-there, IsServed-answered, BreaksOff-answered}
+use Rattle.vm_session.proofs.Answered.{used_up, IsAnswered-line, IsAnswered-long, IsReady-answered, bytes_left-answered}
 use Rattle.vm_session.proofs.answers.answer_next.Goals.{in-Line, in-TooLong}
 use Rattle.vm_session.proofs.answers.answer_next.Goals as goal
 
@@ -13,19 +12,19 @@ returns-in-End-clause-served g c = λ frames limit source_old sink_old s.
     let f = c.in-End.ensures.fetches s.pending s.still in
     let end = f.fetched in
     Completes-end frames limit c.args.lines.now c.next.new.self source_old _ _ sink_old _ _ s f.part f.consumes
-    f.taken (f.still.at_end end.2) end.0 end.4 c.in-End.ensures.limit
+    f.taken c.in-End.ensures.limit (f.still.at_end end.2) end.0
 
 pub returns-in-Fault-clause-served : goal.returns-in-Fault-clause-served
 returns-in-Fault-clause-served g c = λ frames limit source_old sink_old s.
     let f = c.in-Fault.ensures.fetches s.pending s.still in
     StopsReading-there frames limit c.args.lines.now c.next.new.self source_old _ _ sink_old _ _ s f.part f.consumes
-    f.taken f.fetched.1 (λ e. (c.in-Fault.ensures.ended e).2 refl) f.fetched.3 c.in-Fault.ensures.limit
+    f.taken c.in-Fault.ensures.limit f.fetched.1 (λ e. (c.in-Fault.ensures.ended e).2 refl) f.fetched.3
 
 pub returns-in-Limit-clause-served : goal.returns-in-Limit-clause-served
 returns-in-Limit-clause-served g c = λ frames limit source_old sink_old s.
     let f = c.in-Limit.ensures.fetches s.pending s.still in
     ReachesLimit-there frames limit c.args.lines.now c.next.new.self source_old _ _ sink_old _ _ s f.part f.consumes
-    f.taken f.fetched.1.no_feed (λ e. (c.in-Limit.ensures.ended e).1) f.fetched.3 c.in-Limit.ensures.limit
+    f.taken c.in-Limit.ensures.limit f.fetched.1.no_feed (λ e. (c.in-Limit.ensures.ended e).1) f.fetched.3
 
 pub answer_line-answered-requires-clause-next : goal.answer_line-answered-requires-clause-next
 answer_line-answered-requires-clause-next g c =
@@ -47,17 +46,17 @@ returns-in-Ok-clause-served g c = elim c.match-next.branch [
   | in-Line w ↦ λ frames limit source_old sink_old s.
       let line = w.answer_line-answered in
       rw w.sink-is (rw w.store-is (rw w.vm-is (IsServed-answered frames limit c.args.lines.now c.next.new.self
-      source_old _ _ sink_old _ _ _ _ line.result c.in-Ok.field-0 (sym w.answered-is ∙ c.in-Ok.is) s
+      source_old _ _ sink_old _ _ _ _ line.result s
       (IsAnswered-line _ _ _ _ _ _ _ _ s.pending w.line.result.now line.result
       (w.in-Line.ensures.fetches s.pending s.still) w.line.ensures.bytes line.ensures.answer line.ensures.good
-      line.ensures.next) w.in-Line.ensures.limit (λ e. (w.in-Line.ensures.ended e).1))))
+      line.ensures.next) w.in-Line.ensures.limit (λ e. (w.in-Line.ensures.ended e).1) c.in-Ok.field-0 (sym w.answered-is ∙ c.in-Ok.is))))
   | in-TooLong w ↦ λ frames limit source_old sink_old s.
       let push = w.push_answer-answered in
       rw w.sink-is (rw w.store-is (rw w.vm-is (IsServed-answered frames limit c.args.lines.now c.next.new.self
-      source_old _ _ sink_old _ _ _ _ push.result c.in-Ok.field-0 (sym w.answered-is ∙ c.in-Ok.is) s
+      source_old _ _ sink_old _ _ _ _ push.result s
       (IsAnswered-long _ _ _ _ _ _ _ s.pending push.result (w.in-TooLong.ensures.fetches s.pending s.still)
       (agrees_good _ _ c.requires.agrees) push.ensures.ok push.ensures.err) w.in-TooLong.ensures.limit
-      (λ e. (w.in-TooLong.ensures.ended e).1))))
+      (λ e. (w.in-TooLong.ensures.ended e).1) c.in-Ok.field-0 (sym w.answered-is ∙ c.in-Ok.is))))
 ]
 
 pub returns-in-Ok-clause-ready : goal.returns-in-Ok-clause-ready
@@ -102,15 +101,15 @@ returns-in-Err-clause-served g c = elim c.match-next.branch [
   | in-Line w ↦ λ frames limit source_old sink_old s.
       let line = w.answer_line-answered in
       rw w.sink-is (rw w.store-is (BreaksOff-answered frames limit c.args.lines.now c.next.new.self source_old _ _
-      sink_old _ _ _ _ line.result c.in-Err.field-0 (sym w.answered-is ∙ c.in-Err.is) s
+      sink_old _ _ _ _ line.result s
       (IsAnswered-line _ _ _ _ _ _ _ _ s.pending w.line.result.now line.result
       (w.in-Line.ensures.fetches s.pending s.still) w.line.ensures.bytes line.ensures.answer line.ensures.good
-      line.ensures.next) w.in-Line.ensures.limit (λ e. (w.in-Line.ensures.ended e).1)))
+      line.ensures.next) w.in-Line.ensures.limit (λ e. (w.in-Line.ensures.ended e).1) c.in-Err.field-0 (sym w.answered-is ∙ c.in-Err.is)))
   | in-TooLong w ↦ λ frames limit source_old sink_old s.
       let push = w.push_answer-answered in
       rw w.sink-is (rw w.store-is (BreaksOff-answered frames limit c.args.lines.now c.next.new.self source_old _ _
-      sink_old _ _ _ _ push.result c.in-Err.field-0 (sym w.answered-is ∙ c.in-Err.is) s
+      sink_old _ _ _ _ push.result s
       (IsAnswered-long _ _ _ _ _ _ _ s.pending push.result (w.in-TooLong.ensures.fetches s.pending s.still)
       (agrees_good _ _ c.requires.agrees) push.ensures.ok push.ensures.err) w.in-TooLong.ensures.limit
-      (λ e. (w.in-TooLong.ensures.ended e).1)))
+      (λ e. (w.in-TooLong.ensures.ended e).1) c.in-Err.field-0 (sym w.answered-is ∙ c.in-Err.is)))
 ]

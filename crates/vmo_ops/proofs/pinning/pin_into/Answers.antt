@@ -1,7 +1,8 @@
 use Rattle.std.proofs.Common.{arith}
 use Rattle.vmo_ops.proofs.NameLaws.{named_inside}
 use Rattle.vm_model.proofs.SpaceLaws.{mapped_count_le}
-use Rattle.vmo_ops.proofs.KeeperLaws.{pin_count_le, pin_count-with_key}
+use Rattle.vm_model.proofs.PinLaws.{pin_count_le}
+use Rattle.vmo_ops.proofs.KeeperLaws.{pin_count-with_key}
 use Rattle.vmo_ops.proofs.pinning.pin_into.Goals as goal
 
 pub place_in_vmo-requires-clause-inside : goal.place_in_vmo-requires-clause-inside

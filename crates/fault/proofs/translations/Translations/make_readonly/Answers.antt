@@ -1,30 +1,11 @@
-use Rattle.std.proofs.Common.{true, ◌+◌, refl, arith}
+use Rattle.std.proofs.Common.{◌+◌}
 use Rattle.vm_model.specs.Space.Readiness.{shows_in}
-use Rattle.fault.specs.Walks.{kept_of, restricted, is_member}
-use Rattle.fault.proofs.PlaceLaws.{restricted-once, places-read_only, changed-all, changed-all_of}
-use Rattle.fault.proofs.WalkLaws.{pages-start, pages-next, pages-end}
+use Rattle.fault.specs.Walks.{restricted}
+use Rattle.fault.proofs.PlaceLaws.{places-read_only, changed-all}
 use Rattle.fault.proofs.translations.Translations.make_readonly.Goals as goal
-
-pub loop-page-init : goal.loop-page-init
-loop-page-init c = record { first = omega arith; end = omega arith; changed = pages-start restricted restricted-once c.args.v.0 c.args.first (λ k. true) (kept_of c.args.self.now); room = omega arith }
-
-pub loop-page-smaller : goal.loop-page-smaller
-loop-page-smaller c = omega (arith, c.in-Some.ensures.order, c.in-Some.ensures.below)
-
-pub loop-page-preserved : goal.loop-page-preserved
-loop-page-preserved c =
-    let inv = c.loop-page.invariant in
-    let next = c.in-Some.ensures in
-    record {
-      first = omega (arith, inv.first, next.order);
-      end = omega (arith, next.below);
-      changed = pages-next restricted restricted-once c.args.v.0 c.args.first (λ k. true) (kept_of c.args.self.now) (kept_of c.loop-page.self) c.loop-page.from _ inv.changed c.in-Some.page c.in-Some.list
-          (λ k. true) _ inv.first next (λ k h. refl) (changed-all_of restricted _ _ (λ r p k. is_member c.in-Some.list k) c.restrict_members.ensures.at);
-      room = omega (arith, inv.room, c.restrict_members.ensures.room);
-    }
 
 pub returns-clause-at : goal.returns-clause-at
 returns-clause-at c =
-    let inv = c.loop-page.invariant in
-    places-read_only c.args.v.0 c.args.first (c.args.first + c.args.count) (kept_of c.loop-page.self) (kept_of c.args.self.now)
-    (changed-all restricted _ _ (λ r p k. shows_in c.args.v.0 c.args.first (c.args.first + c.args.count) k.translation.entry) (pages-end restricted restricted-once c.args.v.0 c.args.first (λ k. true) (kept_of c.args.self.now) (kept_of c.loop-page.self) c.loop-page.from (c.args.first + c.args.count) inv.changed inv.end c.in_default.ensures))
+    let end = c.args.first + c.args.count in
+    places-read_only c.args.v.0 c.args.first end _ _
+    (changed-all restricted _ _ (λ r p k. shows_in c.args.v.0 c.args.first end k.translation.entry) c.change_pages.ensures.at)

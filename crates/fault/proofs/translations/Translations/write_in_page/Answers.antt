@@ -10,14 +10,14 @@ use Rattle.fault.proofs.translations.Translations.write_in_page.Goals as goal
 pub returns-in-Err-clause-outcome : goal.returns-in-Err-clause-outcome
 returns-in-Err-clause-outcome g c =
     rw (touched-one c.args.addr _ c.requires.some c.requires.one)
-    (IsDenied-first _ _ _ _ _ _ (rw c.page_of-page.ensures at c.in-Err.ensures), refl, refl)
+    (IsDenied-first _ _ _ _ _ _ _ _ (rw c.page_of-page.ensures at c.in-Err.ensures), refl, refl)
 
 pub returns-in-Err-make_ready-clause-outcome : goal.returns-in-Err-make_ready-clause-outcome
 returns-in-Err-make_ready-clause-outcome g c =
     let found = rw c.page_of-page.ensures at c.in-Ok.ensures in
     let ready = c.in-Err-make_ready.ensures in
     rw (touched-one c.args.addr _ c.requires.some c.requires.one) (
-      IsDenied-room _ _ _ _ (AreAsked-one _ _ _ _ found.0.entry found.1) _ _ _ (rw (c.frame_needed-need.ensures, c.faults-faults.ensures) at ready.err)
+      IsDenied-room _ _ _ _ (AreAsked-one _ _ _ _ _ found.0.entry found.1) _ _ _ (rw (c.frame_needed-need.ensures, c.faults-faults.ensures) at ready.err)
           (wants-one _ _ _ _ _ _ found.0),
       ready.content,
       ready.places,
@@ -38,7 +38,7 @@ returns-clause-outcome g c =
     let writes = rw (ready.content, ready.places, c.page_of-page.ensures) at c.write_page.ensures.writes in
     rw c.faults-faults.ensures (Writes-one _ _ _ _ _ _ _ _ _ _ c.requires.backed.good c.requires.translations found.0
     (omega (arith, c.in_page.ensures, c.requires.one)) writes c.args.addr c.args.bytes.now (touched-one c.args.addr _ c.requires.some c.requires.one)
-    (AreAsked-one _ _ _ _ found.0.entry found.1) (rw c.frame_needed-need.ensures at ready.ok.free) (c.in_page.ensures ∙ part_at-first c.args.addr)
+    (AreAsked-one _ _ _ _ _ found.0.entry found.1) (rw c.frame_needed-need.ensures at ready.ok.free) (c.in_page.ensures ∙ part_at-first c.args.addr)
     (part_bytes-all c.args.addr c.args.bytes.now c.requires.one))
 
 pub returns-clause-translations : goal.returns-clause-translations

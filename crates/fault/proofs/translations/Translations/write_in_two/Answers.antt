@@ -13,12 +13,12 @@ use Rattle.fault.proofs.translations.Translations.write_in_two.Goals as goal
 pub returns-in-Err-clause-outcome : goal.returns-in-Err-clause-outcome
 returns-in-Err-clause-outcome g c =
     rw (touched-two c.args.addr _ c.requires.two c.requires.len)
-    (IsDenied-first _ _ _ _ _ _ (rw c.page_of-page.ensures at c.in-Err.ensures), refl, refl)
+    (IsDenied-first _ _ _ _ _ _ _ _ (rw c.page_of-page.ensures at c.in-Err.ensures), refl, refl)
 
 pub returns-in-Err-check_write-clause-outcome : goal.returns-in-Err-check_write-clause-outcome
 returns-in-Err-check_write-clause-outcome g c =
     rw (touched-two c.args.addr _ c.requires.two c.requires.len) (
-      IsDenied-second _ _ _ _ _ _ (rw c.page_of-page.ensures at c.in-Ok.ensures.1)
+      IsDenied-second _ _ _ _ _ _ _ _ (rw c.page_of-page.ensures at c.in-Ok.ensures.1)
           (rw c.page_of-page.ensures at c.in-Err-check_write.ensures),
       refl,
       refl,
@@ -30,7 +30,7 @@ returns-in-Err-make_ready-clause-outcome g c =
     let second = rw c.page_of-page.ensures at c.in-Ok-check_write.ensures in
     let ready = c.in-Err-make_ready.ensures in
     rw (touched-two c.args.addr _ c.requires.two c.requires.len) (
-      IsDenied-room _ _ _ _ (AreAsked-two _ _ _ _ _ _ first.0.entry first.1 second.0.entry second.1) _ _ _
+      IsDenied-room _ _ _ _ (AreAsked-two _ _ _ _ _ _ _ first.0.entry first.1 second.0.entry second.1) _ _ _
           (rw (c.frames_needed-need.ensures, c.faults.ensures, c.faults-2.ensures) at ready.err)
           (wants-two _ _ _ _ _ _ _ _ first.0 second.0),
       ready.content,
@@ -80,7 +80,7 @@ returns-clause-outcome g c =
     (omega (arith, c.in_page-at.ensures, parts.front_len)) writes c.in-Ok-check_write.second second.0 (rw c.frames_needed-need.ensures at ready.ok.free)
     _ _ _ _ (omega (arith, c.in_page-at.ensures, parts.back_len, c.requires.len)) then_writes
     c.args.addr c.args.bytes.now (touched-two c.args.addr _ c.requires.two c.requires.len)
-    (AreAsked-two _ _ _ _ _ _ first.0.entry first.1 second.0.entry second.1) (c.in_page-at.ensures ∙ part_at-first c.args.addr)
+    (AreAsked-two _ _ _ _ _ _ _ first.0.entry first.1 second.0.entry second.1) (c.in_page-at.ensures ∙ part_at-first c.args.addr)
     (parts.front ∙ part_bytes-first c.args.addr _ c.args.bytes.now c.in_page-at.ensures) (part_at-second c.args.addr)
     (parts.back ∙ part_bytes-second c.args.addr _ c.args.bytes.now c.in_page-at.ensures c.requires.len))
 

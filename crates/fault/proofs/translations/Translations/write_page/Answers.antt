@@ -1,5 +1,5 @@
 use Rattle.vm_model.proofs.OwningLaws.{Owned-from_Owns}
-use Rattle.fault.proofs.OwnedLaws.{IsShownOnce-owned}
+use Rattle.page_store.proofs.PartLaws.{IsShownOnce-owned}
 use Rattle.fault.proofs.translations.Translations.write_page.Goals as goal
 
 pub write-requires-clause-shown : goal.write-requires-clause-shown
