@@ -1,4 +1,4 @@
-use Rattle.fault.specs.Walks.{kept_of, dropped, restricted, is_place}
+use Rattle.fault.specs.Walks.{dropped, restricted, is_place}
 use Rattle.fault.proofs.PlaceLaws.{changed-all_of}
 use Rattle.fault.proofs.translations.Translations.change_place.Goals as goal
 
