@@ -1,9 +1,8 @@
--- The reset of a command that was done stays within its bounds.
-use Rattle.std.proofs.Common.{◌≡◌, ◌≢◌, ◌==◌, ◌%◌, ℕ, ◌+◌, ◌-◌, ◌*◌, ◌/◌, ◌≤◌, zero, suc, true, false, not, ◌&&◌, ◌||◌, length, replicate, Option, None, Some, refl, sym, ap, subst, ◌∙◌, inl, inr, arith}
+-- What a command that was done reached lies within the bounds that the calls ask for which forget translations.
+use Rattle.std.proofs.Common.{◌≡◌, ◌≢◌, ◌==◌, ◌%◌, ℕ, ◌+◌, ◌*◌, ◌/◌, ◌≤◌, Bool, true, false, not, ◌&&◌, ◌||◌, length, replicate, Option, None, Some, refl, sym, ap, subst, ◌∙◌, inl, inr, arith}
 use Rattle.std.specs.Prelude.{IsSome, is_some}
 use Rattle.std.proofs.lemmas.Bool.{ltb-false, not-false, and_parts, or_parts}
 use Rattle.std.proofs.lemmas.List.{length-replicate}
-use Rattle.std.proofs.Math.Nat.{min-le_right}
 use Rattle.vm_base.specs.Pages.{rounded}
 use Rattle.vm_base.specs.declared.limits.TheConstants.{PAGE, VMO_PAGES, PAGES_END}
 use Rattle.vm_base.specs.declared.refusal.Refusal.{Refusal}
@@ -13,8 +12,10 @@ use Rattle.vm_model.specs.declared.command.Command.TheVariants.{VmoChild, VmoSet
 use Rattle.vm_model.specs.declared.command.ChildKind.TheVariants.{Snapshot}
 use Rattle.vm_model.specs.declared.reply.Reply.{Reply}
 use Rattle.vm_model.specs.declared.reply.Reply.TheVariants.{Address, Refused}
+use Rattle.vm_model.specs.declared.names.Target.{Target}
 use Rattle.vm_model.specs.declared.space.Region.{Region}
-use Rattle.vm_model.specs.Contents.Content.{Content, pages_of}
+use Rattle.vm_model.specs.Contents.Content.{Content}
+use Rattle.vm_model.specs.Contents.Sharing.{snapshotted}
 use Rattle.vm_model.specs.Contents.Writing.{touched}
 use Rattle.vm_model.specs.Contents.Zeroing.{owned_by_zero}
 use Rattle.vm_model.specs.Naming.Pins.{is_pinned}
@@ -23,7 +24,8 @@ use Rattle.vm_model.specs.Space.Regions.{region_of, end_of, reaches_over, cuts_c
 use Rattle.vm_model.specs.Space.Mappings.{lacks_reading, is_outside}
 use Rattle.vm_model.specs.Machine.State.{State, is_open, is_given, target_of, koid_of, name_pages, size_of, place_of, IsGoodState}
 use Rattle.vm_model.specs.Machine.Refusals.{refusals, first_of}
-use Rattle.vm_model.specs.Machine.Step.{Effect, StepAfter, Step}
+use Rattle.vm_model.specs.Machine.Step.{seen_pages, with_snapshot, Effect, StepAfter, Step}
+use Rattle.vm_model.proofs.ContentLaws.{pages_of-same}
 use Rattle.vm_model.proofs.CommitLaws.{OwnsAll-keeps}
 use Rattle.vm_model.proofs.LeavingLaws.{name_vmo}
 use Rattle.vm_model.proofs.MappingLaws.{mismapped_parts, map_place}
@@ -32,29 +34,59 @@ use Rattle.vm_model.proofs.RegionLaws.{region_of-at, region_bounds, reaches_over
 use Rattle.vm_model.proofs.StepLaws.{AllOff-from_none, change_parts, place_inside}
 use Rattle.vm_model.proofs.WritingLaws.{IsKept, Writes-keeps}
 use Rattle.vm_model.proofs.ZeroesLaws.{zeroed-keeps, Zeroes-keeps}
-use Rattle.page_store.proofs.NameLaws.{name_few, IsInside-good}
-use Rattle.vm_core.specs.declared.resets.Reset.{Reset}
-use Rattle.vm_core.specs.Resets.{reset_of}
-use Rattle.vm_core.specs.Resetting.{bounds_of, IsBounded}
-use Rattle.vm_core.proofs.ResettingLaws.{touched_count, touched_none}
+use Rattle.page_store.specs.Names.{IsInside}
+use Rattle.page_store.proofs.NameLaws.{name_few, pages_of_le, IsInside-good}
+use Rattle.vm_core.specs.Resets.{IsReached, IsShared}
+use Rattle.vm_core.proofs.StaysLaws.{count-snapshotted, name_pages-snapshotted}
+
+-- what the calls that forget translations ask for after a command, where the store contains this then
+abbrev pub bounds_of : State → Command → Content → Reply → Type 0
+bounds_of s (VmoChild name parent Snapshot offset size resizable no_write) c reply = IsShared c (target_of s parent.0) offset size
+bounds_of s (VmoSetSize name size) c reply = rounded size ≤ VMO_PAGES * PAGE
+bounds_of s (VmoWrite name offset bytes) c reply = IsReached c (target_of s name.0) offset (length bytes)
+bounds_of s (VmoFill name offset len byte) c reply = IsReached c (target_of s name.0) offset len
+bounds_of s (VmoCommit name offset len) c reply = IsReached c (target_of s name.0) offset len
+bounds_of s (VmoDecommit name offset len) c reply = IsReached c (target_of s name.0) offset len
+bounds_of s (VmoZero name offset len) c reply = IsReached c (target_of s name.0) offset len
+bounds_of s (VmoPin pin name offset len) c reply = IsReached c (target_of s name.0) offset len
+bounds_of s (VmarMap region offset name vmo_offset len perm flags) c reply = (addr : ℕ) → reply ≡ Address addr → addr / PAGE + rounded len / PAGE ≤ PAGES_END
+bounds_of s (VmarUnmap region addr len) c reply = addr / PAGE + rounded len / PAGE ≤ PAGES_END
+bounds_of s (VmarProtect region addr len perm) c reply = addr / PAGE + rounded len / PAGE ≤ PAGES_END
+bounds_of s (VmarDestroy region) c reply = end_of (region_of s.spaces.regions region.0) ≤ PAGES_END
+bounds_of s command c reply = Unit {0}
 
 -- ---- ranges of a VMO
 
--- the pages that a range touches end where it lies inside
-touched_fit : (at len pages : ℕ) → at + len ≤ pages * PAGE → at / PAGE + length (touched at len) ≤ pages
-touched_fit at zero pages h = omega (arith, h, touched_none at)
-touched_fit at (suc len) pages h = omega (arith, h, touched_count at (suc len) (omega arith))
-
 -- a range inside a name that is open, where the content keeps its VMOs
 range_bounded : (s : State) (c : Content) (name offset len : ℕ) → IsGoodState s → IsKept s.content c → IsSome (s.names name) → offset + len ≤ size_of s name
-    → IsSome (c.count (koid_of s name)) × (place_of s name offset / PAGE + length (touched (place_of s name offset) len) ≤ pages_of c (koid_of s name))
+    → IsReached c (target_of s name) offset len
 range_bounded s c name offset len good kept opened range =
     let target = target_of s name in
     let named = names-open s name opened in
-    let inside = place_inside s name target offset len good named range in (
-      ap (λ (count : ℕ → Option ℕ). is_some (count target.koid.0)) kept.count ∙ name_vmo s name target good named,
-      omega (arith, kept.pages target.koid.0, touched_fit (place_of s name offset) len (pages_of s.content target.koid.0) inside),
-    )
+    record {
+      vmo = ap (λ (count : ℕ → Option ℕ). is_some (count target.koid.0)) kept.count ∙ name_vmo s name target good named;
+      inside = omega (arith, kept.pages target.koid.0, place_inside s name target offset len good named range);
+      few = pages_of_le c target.koid.0 kept.good;
+    }
+
+-- a name whose VMO has a snapshot more
+snapshot_bounded : (s : State) (name : ℕ) (target : Target) (offset size : ℕ) (resizable no_write : Bool) → IsGoodState s → IsInside s.content target → offset + rounded size ≤ VMO_PAGES * PAGE
+    → IsShared (with_snapshot s name target (offset / PAGE) (rounded size / PAGE) resizable no_write).content target offset size
+unfolding with_snapshot snapshotted
+snapshot_bounded s name target offset size resizable no_write good inside range =
+    let c = s.content in
+    let start = offset / PAGE in
+    let pages = rounded size / PAGE in
+    let seen = seen_pages c target start pages in
+    let v = target.koid.0 in
+    let d = snapshotted c v (target.first + start) seen pages in
+    let same : name_pages d target ≡ name_pages c target = name_pages-snapshotted c target v (target.first + start) seen pages good.content inside.vmo in
+    let count : d.count v ≡ c.count v = count-snapshotted c v v (target.first + start) seen pages good.content inside.vmo in
+    record {
+      inside = record { vmo = ap is_some count ∙ inside.vmo; pages = omega (arith, inside.pages, same, pages_of-same d c v count) };
+      few = omega (arith, name_few c target good.content inside, same);
+      range = range;
+    }
 
 -- ---- ranges of a region
 
@@ -82,17 +114,16 @@ address_same e = cc
 
 -- what the effect of a command asks for, where nothing refuses it
 effect_bounded : (old : State) (command : Command) (reply : Reply) (new : State) → IsGoodState old → first_of (refusals old command) ≡ None
-    → Effect old command reply new → bounds_of new.content reply (reset_of old command)
+    → Effect old command reply new → bounds_of old command new.content reply
 effect_bounded old (VmoChild name parent Snapshot offset size resizable no_write) reply new good none effect =
     let target = target_of old parent.0 in
     let off = AllOff-from_none (refusals old (VmoChild name parent Snapshot offset size resizable no_write)) none in
-    let few : offset + rounded size ≤ VMO_PAGES * PAGE = ltb-false (VMO_PAGES * PAGE) (offset + rounded size) off.1.1.1.0 in
-    let named = names-open old parent.0 (not-false (is_open old parent.0) off.0) in
-    omega (arith, few, name_few old.content target good.content (IsInside-good old parent.0 target good named), min-le_right (rounded size / PAGE) (name_pages old.content target - offset / PAGE))
+    let few = ltb-false (VMO_PAGES * PAGE) (offset + rounded size) off.1.1.1.0 in
+    let inside = IsInside-good old parent.0 target good (names-open old parent.0 (not-false (is_open old parent.0) off.0)) in
+    subst (λ (s : State). IsShared s.content target offset size) (sym effect.1) (snapshot_bounded old name.0 target offset size resizable no_write good inside few)
 effect_bounded old (VmoSetSize name size) reply new good none effect =
     let off = AllOff-from_none (refusals old (VmoSetSize name size)) none in
-    let few : rounded size ≤ VMO_PAGES * PAGE = ltb-false (VMO_PAGES * PAGE) (rounded size) off.1.1.1.0 in
-    omega (arith, few)
+    ltb-false (VMO_PAGES * PAGE) (rounded size) off.1.1.1.0
 effect_bounded old (VmoWrite name offset bytes) reply new good none effect =
     let parts = change_parts old name.0 offset (length bytes) (touched (place_of old name.0 offset) (length bytes)) none in
     let inside = place_inside old name.0 (target_of old name.0) offset (length bytes) good (names-open old name.0 parts.0) parts.2 in
@@ -156,11 +187,11 @@ effect_bounded old (VmarDestroy region) reply new good none effect =
     given_bounds old region.0 good (not-false (is_given old region.0) off.0) (not-false (region_of old.spaces.regions region.0).live off.1.0)
 effect_bounded old _ reply new good none effect = tt
 
--- what a command asks for that was done, by the reset that it has where nothing refuses it
-pub step_bounded : (old : State) (command : Command) (reply : Reply) (new : State) (reset : Reset) → IsGoodState old → Step old command reply new
-    → (first_of (refusals old command) ≡ None → reset ≡ reset_of old command) → IsBounded new.content reply reset
-step_bounded old command reply new reset good step is = record { bounds = λ done. go done (first_of (refusals old command)) refl step.outcome } where
-  go : ((refusal : Refusal) → reply ≢ Refused refusal) → (o : Option Refusal) → first_of (refusals old command) ≡ o → StepAfter o old command reply new → bounds_of new.content reply reset
-  go done (Some refusal) e refused = absurd (done refusal refused.answer)
-  go done None e (inr lacked) = absurd (done _ lacked.0.answer)
-  go done None e (inl effect) = subst (bounds_of new.content reply) (sym (is e)) (effect_bounded old command reply new good e effect)
+-- what is asked for after a command that was done
+pub done_bounds : (old : State) (command : Command) (reply : Reply) (new : State) → IsGoodState old → Step old command reply new → ((refusal : Refusal) → reply ≢ Refused refusal)
+    → bounds_of old command new.content reply
+done_bounds old command reply new good step done = go (first_of (refusals old command)) refl step.outcome where
+  go : (o : Option Refusal) → first_of (refusals old command) ≡ o → StepAfter o old command reply new → bounds_of old command new.content reply
+  go (Some refusal) e refused = absurd (done refusal refused.answer)
+  go None e (inr lacked) = absurd (done _ lacked.0.answer)
+  go None e (inl effect) = effect_bounded old command reply new good e effect

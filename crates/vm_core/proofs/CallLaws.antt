@@ -17,7 +17,10 @@ use Rattle.vmo_ops.specs.Targets.{with_tables, AreTogether, Does as DoesNamed, D
 use Rattle.vmo_ops.proofs.NameLaws.{parts_inside}
 use Rattle.region_tree.specs.Tree.{spaces_of}
 use Rattle.region_ops.specs.Spaces.{AreAllWell, Does}
-use Rattle.vm_core.specs.Calls.{AreCounted, StepsVmos, Steps, StepsSpaces, DoesTables, DoesSpaces, StepsSame, state_with, Handles}
+use Rattle.fault.specs.Table.{Places}
+use Rattle.vm_core.specs.Calls.{AreCounted, StepsVmos, Steps, StepsSpaces, LeavesVmos, LeavesSpaces, DoesTables, DoesSpaces, StepsSame, state_with, Handles}
+use Rattle.vm_core.specs.Resets.{left_by}
+use Rattle.vm_core.proofs.LeavesLaws.{left_all}
 
 -- a store and a table of VMOs are parts of what they are parts of together with the pins
 pub parts_of : {c : Content} {vmos : Vmos} {pins : Pins} → AreTogether c vmos pins → AreParts c vmos
@@ -56,21 +59,33 @@ steps_named_with {old} command vmos pins name does named = record {
 }
 
 -- what a command does beside these pins, where the keepers did not change
-pub does_steps : {old new : Content} {vmos_old vmos_new : Vmos} {pins : Pins} {command : Command} {reply : Reply}
-    → Steps old vmos_old pins command reply new vmos_new pins → keepers_of vmos_new ≡ keepers_of vmos_old → GivesName command
-    → DoesTables old vmos_old pins command reply new vmos_new pins
-does_steps steps same name = record {
+pub does_steps : {old new : Content} {vmos_old vmos_new : Vmos} {pins : Pins} {places left : Places} {command : Command} {reply : Reply}
+    → Steps old vmos_old pins command reply new vmos_new pins → LeavesVmos old vmos_old places command reply new left → keepers_of vmos_new ≡ keepers_of vmos_old → GivesName command
+    → DoesTables old vmos_old pins places command reply new vmos_new pins left
+does_steps steps leaves same name = record {
   steps = steps;
+  leaves = leaves;
   counts = record { counts = λ s counted v. ap (λ (f : ℕ → ℕ). f v) same ∙ counted v };
   name = name;
 }
 
 -- and what it does whatever the pins are
-pub does_vmos : {old new : Content} {vmos_old vmos_new : Vmos} {pins : Pins} {command : Command} {reply : Reply}
-    → StepsVmos old vmos_old command reply new vmos_new → keepers_of vmos_new ≡ keepers_of vmos_old → GivesName command
-    → DoesTables old vmos_old pins command reply new vmos_new pins
-does_vmos {old} {vmos_old = vmos_old} {pins = pins} steps same name =
-    does_steps (record { step = λ s well. steps.step (with_tables s old vmos_old pins) well }) same name
+pub does_vmos : {old new : Content} {vmos_old vmos_new : Vmos} {pins : Pins} {places left : Places} {command : Command} {reply : Reply}
+    → StepsVmos old vmos_old command reply new vmos_new → LeavesVmos old vmos_old places command reply new left → keepers_of vmos_new ≡ keepers_of vmos_old → GivesName command
+    → DoesTables old vmos_old pins places command reply new vmos_new pins left
+does_vmos {old} {vmos_old = vmos_old} {pins = pins} steps leaves same name =
+    does_steps (record { step = λ s well. steps.step (with_tables s old vmos_old pins) well }) leaves same name
+
+-- a command on VMOs that forgets no translation leaves all
+pub leaves_all : {old new : Content} {vmos : Vmos} {places : Places} {command : Command} {reply : Reply}
+    → ((s : State) (r : Reply) → left_by s command new r places ≡ places) → LeavesVmos old vmos places command reply new places
+leaves_all {old} {new} {vmos} {places} {command} {reply} same = record { left = λ s. left_all (with_vmos s old vmos) command new reply places (same (with_vmos s old vmos)) }
+
+-- and so does one on address spaces
+pub leaves_spaces : {spaces : Spaces} {places : Places} {command : Command} {reply : Reply}
+    → ((s : State) (c : Content) (r : Reply) → left_by s command c r places ≡ places) → LeavesSpaces spaces places command reply places
+leaves_spaces {spaces} {places} {command} {reply} same =
+    record { left = λ s c. left_all (record s { spaces = spaces }) command c reply places (same (record s { spaces = spaces }) c) }
 
 -- what a command does to the regions alone is done beside this store and this table
 pub does_regions : {c : Content} {vmos : Vmos} {regions_old regions_new : ℕ → Option Region} {table : ℕ → ℕ → Option Entry} {command : Command} {reply : Reply}
@@ -100,22 +115,24 @@ pub spaces_well : {c : Content} {vmos : Vmos} (pins : Pins) {spaces : Spaces} �
 spaces_well {c} {vmos} pins {spaces} well = record { rest = state_with c vmos pins spaces; well = well }
 
 -- what is done to a store and the two tables is done to the machine
-pub handles_tables : {old new : Content} {vmos_old vmos_new : Vmos} {pins_old pins_new : Pins} (spaces : Spaces) {command : Command} {reply : Reply}
-    → IsWellCounted vmos_old (state_with old vmos_old pins_old spaces) → DoesTables old vmos_old pins_old command reply new vmos_new pins_new
-    → Handles old vmos_old pins_old spaces command reply new vmos_new pins_new spaces
+pub handles_tables : {old new : Content} {vmos_old vmos_new : Vmos} {pins_old pins_new : Pins} {places left : Places} (spaces : Spaces) {command : Command} {reply : Reply}
+    → IsWellCounted vmos_old (state_with old vmos_old pins_old spaces) → DoesTables old vmos_old pins_old places command reply new vmos_new pins_new left
+    → Handles old vmos_old pins_old spaces places command reply new vmos_new pins_new spaces left
 handles_tables {old} {vmos_old = vmos_old} {pins_old = pins_old} spaces well does =
     let s = state_with old vmos_old pins_old spaces in
-    record { step = does.steps.step s well; counted = does.counts.counts s well.counted; name = does.name }
+    record { step = does.steps.step s well; left = does.leaves.left s; counted = does.counts.counts s well.counted; name = does.name }
 
 -- and what is done to a store, the table of VMOs and the address spaces
-pub handles_spaces : {old new : Content} {vmos_old vmos_new : Vmos} (pins : Pins) {spaces_old spaces_new : Spaces} {command : Command} {reply : Reply}
-    → IsWellCounted vmos_old (state_with old vmos_old pins spaces_old) → DoesSpaces old vmos_old spaces_old command reply new vmos_new spaces_new
-    → Handles old vmos_old pins spaces_old command reply new vmos_new pins spaces_new
-handles_spaces {old} {vmos_old = vmos_old} pins {spaces_old = spaces_old} well does =
+pub handles_spaces : {old new : Content} {vmos_old vmos_new : Vmos} (pins : Pins) {spaces_old spaces_new : Spaces} {places left : Places} {command : Command} {reply : Reply}
+    → IsWellCounted vmos_old (state_with old vmos_old pins spaces_old) → DoesSpaces old vmos_old spaces_old places command reply new vmos_new spaces_new left
+    → Handles old vmos_old pins spaces_old places command reply new vmos_new pins spaces_new left
+handles_spaces {old} {new} {vmos_old = vmos_old} pins {spaces_old = spaces_old} well does =
     let s = state_with old vmos_old pins spaces_old in
-    record { step = does.does.step s well; counted = does.does.counted s well; name = does.name }
+    record { step = does.does.step s well; left = does.leaves.left s new; counted = does.does.counted s well; name = does.name }
 
 -- and what changes nothing
-pub handles_same : {c : Content} {vmos : Vmos} {pins : Pins} {spaces : Spaces} {command : Command} {reply : Reply} → IsWellCounted vmos (state_with c vmos pins spaces)
-    → StepsSame c command reply → Handles c vmos pins spaces command reply c vmos pins spaces
-handles_same {c} {vmos} {pins} {spaces} well same = record { step = same.step (state_with c vmos pins spaces); counted = well.counted; name = same.name }
+pub handles_same : {c : Content} {vmos : Vmos} {pins : Pins} {spaces : Spaces} {places : Places} {command : Command} {reply : Reply} → IsWellCounted vmos (state_with c vmos pins spaces)
+    → StepsSame c command reply → Handles c vmos pins spaces places command reply c vmos pins spaces places
+handles_same {c} {vmos} {pins} {spaces} {places} well same =
+    let s = state_with c vmos pins spaces in
+    record { step = same.step s; left = same.leaves s places; counted = well.counted; name = same.name }

@@ -1,6 +1,7 @@
 -- What is left of the translations after each command that nothing refuses: they are true, and what is ready by them is what the
 -- step of the machine says.
-use Rattle.std.proofs.Common.{◌≡◌, ℕ, ◌+◌, ◌*◌, ◌/◌, Bool, true, length, replicate, None, Some, refl, sym, ap, subst, ◌∙◌, arith}
+use Rattle.std.proofs.Common.{◌≡◌, ℕ, ◌+◌, ◌-◌, ◌*◌, ◌/◌, Bool, true, length, replicate, None, Some, refl, sym, ap, subst, ◌∙◌, arith}
+use Rattle.std.specs.Prelude.{IsSome, min}
 use Rattle.std.proofs.lemmas.Bool.{not-false}
 use Rattle.std.proofs.lemmas.List.{length-replicate}
 use Rattle.vm_base.specs.Pages.{rounded}
@@ -21,27 +22,29 @@ use Rattle.vm_model.specs.Space.AddressSpaces.{Spaces, without_region}
 use Rattle.vm_model.specs.Space.Mappings.{entry_of, with_mapping, unmapped}
 use Rattle.vm_model.specs.declared.names.Target.{Target}
 use Rattle.vm_model.specs.Naming.Pins.{is_pinned}
-use Rattle.vm_model.specs.Machine.State.{State, is_given, target_of, koid_of, place_of, IsGoodState}
+use Rattle.vm_model.specs.Machine.State.{State, is_given, is_open, target_of, koid_of, place_of, IsGoodState}
 use Rattle.vm_model.specs.Machine.Leaving.{pruned}
 use Rattle.vm_model.specs.Machine.Refusals.{refusals, first_of}
 use Rattle.vm_model.specs.Machine.Step.{with_vmo, seen_pages, with_snapshot, with_alias, Effect}
 use Rattle.vm_model.specs.Machine.MachineStep.{ready_after}
+use Rattle.vm_model.proofs.LeavingLaws.{name_vmo}
+use Rattle.vm_model.proofs.NamesLaws.{names-open}
 use Rattle.vm_model.proofs.RegionLaws.{region_of-at}
 use Rattle.vm_model.proofs.StepLaws.{AllOff-from_none}
 use Rattle.fault.specs.declared.translation.Translation.{Translation}
 use Rattle.fault.specs.Table.{Places, ready_of, AreTrue, without, is_stale, is_at, with_read_only}
-use Rattle.vm_core.specs.Resets.{reset_of, after_reset, IsNoAccess}
+use Rattle.vm_core.specs.Resets.{left_after, IsNoAccess}
 use Rattle.vm_core.proofs.AgreeLaws.{machine_with}
 use Rattle.vm_core.proofs.OutsideLaws.{ChangesWithin, ChangesWithin-wider, ChangesWithin-zeroed, touched_reaches, ChangesWithin-writes, ChangesWithin-owns, ChangesWithin-zeroes}
 use Rattle.vm_core.proofs.LeftLaws.{StaysAt, Fits, Fits-all, Fits-read_only}
-use Rattle.vm_core.proofs.StaysLaws.{StaysAt-same, StaysAt-created, StaysAt-snapshotted, entry_place, StaysAt-pruned, Fits-changed, Fits-resized}
+use Rattle.vm_core.proofs.StaysLaws.{name_pages-snapshotted, StaysAt-same, StaysAt-created, StaysAt-snapshotted, entry_place, StaysAt-pruned, Fits-changed, Fits-resized}
 use Rattle.vm_core.proofs.SpacesLeftLaws.{Fits-mapped, Fits-unmapped, Fits-destroyed, Fits-protected}
 
 -- what is left of the translations fits to the machine after the command
 abbrev pub Settles : State → Places → Command → Reply → State → Type 0
 Settles old places command reply new =
     Fits new.content new.spaces.table (ready_after (machine_with old places) command reply new)
-    (after_reset new.content reply (reset_of old command) places)
+    (left_after old command new.content reply places)
 
 module _ (old : State) (places : Places) (good : IsGoodState old) (true_of : AreTrue old.content old.spaces.table places) where
   -- the reply and the new state are told by equations
@@ -91,16 +94,20 @@ module _ (old : State) (places : Places) (good : IsGoodState old) (true_of : Are
       (sym same) (Fits-changed old.content old.spaces.table places true_of v first (first + count) new.content changes)
 
   -- a snapshot
-  snapshot_settles : (name : ℕ) (target : Target) (start pages : ℕ) (resizable no_write : Bool) → let new = with_snapshot old name target start pages resizable no_write in
+  snapshot_settles : (name : ℕ) (target : Target) (start pages : ℕ) (resizable no_write : Bool) → IsSome (old.content.count target.koid.0)
+      → let new = with_snapshot old name target start pages resizable no_write in
       let first = target.first + start in let seen = seen_pages old.content target start pages in
       Fits new.content new.spaces.table (read_only old.spaces.table target.koid.0 first (first + seen) (settled old.content new.content new.spaces.table (ready_of places)))
-      (with_read_only target.koid.0 first (first + seen) places)
+      (with_read_only target.koid.0 first (first + seen_pages new.content target start pages) places)
   unfolding with_snapshot
-  snapshot_settles name target start pages resizable no_write =
+  snapshot_settles name target start pages resizable no_write there =
       let first = target.first + start in
       let seen = seen_pages old.content target start pages in
-      Fits-read_only old.content _ old.spaces.table old.spaces.table places true_of target.koid.0 first (first + seen) (λ root p x e.
-      StaysAt-snapshotted old.content old.spaces.table root p x.entry good.content (true_of.entry root p x e) (true_of.below root p x e) target.koid.0 first seen pages)
+      let new = with_snapshot old name target start pages resizable no_write in
+      subst (λ (n : ℕ). Fits new.content new.spaces.table (read_only old.spaces.table target.koid.0 first (first + seen) (settled old.content new.content new.spaces.table (ready_of places)))
+      (with_read_only target.koid.0 first (first + min pages (n - start)) places)) (sym (name_pages-snapshotted old.content target target.koid.0 first seen pages good.content there))
+      (Fits-read_only old.content _ old.spaces.table old.spaces.table places true_of target.koid.0 first (first + seen) (λ root p x e.
+      StaysAt-snapshotted old.content old.spaces.table root p x.entry good.content (true_of.entry root p x e) (true_of.below root p x e) target.koid.0 first seen pages))
 
   -- ---- where address spaces change
 
@@ -134,7 +141,9 @@ module _ (old : State) (places : Places) (good : IsGoodState old) (true_of : Are
   effect_settles (VmoCreate name size resizable) reply new access none effect =
       told (VmoCreate name size resizable) _ _ _ _ effect.0 effect.1 (all_created name.0 (rounded size / PAGE) resizable)
   effect_settles (VmoChild name parent Snapshot offset size resizable no_write) reply new access none effect =
-      told (VmoChild name parent Snapshot offset size resizable no_write) _ _ _ _ effect.0 effect.1 (snapshot_settles name.0 (target_of old parent.0) (offset / PAGE) (rounded size / PAGE) resizable no_write)
+      let off = AllOff-from_none (refusals old (VmoChild name parent Snapshot offset size resizable no_write)) none in
+      let there = name_vmo old parent.0 (target_of old parent.0) good (names-open old parent.0 (not-false (is_open old parent.0) off.0)) in
+      told (VmoChild name parent Snapshot offset size resizable no_write) _ _ _ _ effect.0 effect.1 (snapshot_settles name.0 (target_of old parent.0) (offset / PAGE) (rounded size / PAGE) resizable no_write there)
   effect_settles (VmoChild name parent Slice offset size resizable no_write) reply new access none effect =
       told (VmoChild name parent Slice offset size resizable no_write) _ _ _ _ effect.0 effect.1 (all_alias name.0 _)
   effect_settles (VmoChild name parent Reference offset size resizable no_write) reply new access none effect =

@@ -1,6 +1,6 @@
 mod AskingLaws
 mod CallLaws
-mod ResettingLaws
+mod LeavesLaws
 mod BoundLaws
 mod AnswerLaws
 pub mod StartLaws

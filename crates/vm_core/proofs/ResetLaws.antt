@@ -16,7 +16,7 @@ use Rattle.vm_model.specs.Machine.MachineStep.{MachineStep}
 use Rattle.vm_model.proofs.MachineLaws.{machine_step, MachineStep-keeps}
 use Rattle.fault.specs.declared.translation.Translation.{Translation}
 use Rattle.fault.specs.Table.{Places, ready_of, frame_in, AreTrue}
-use Rattle.vm_core.specs.Resets.{reset_of, after_reset, IsNoAccess}
+use Rattle.vm_core.specs.Resets.{left_after, IsNoAccess}
 use Rattle.vm_core.proofs.AgreeLaws.{machine_with, readiness_of, IsGoodMachine-from}
 use Rattle.vm_core.proofs.EffectLaws.{effect_settles}
 
@@ -45,20 +45,20 @@ module _ (old : State) (places : Places) (command : Command) (reply : Reply) (ne
     (gives : GivesName command) (access : IsNoAccess command) (step : Step old command reply new) where
   -- what is left of the translations
   abbrev left : Places
-  left = after_reset new.content reply (reset_of old command) places
+  left = left_after old command new.content reply places
 
   -- the step of the machine
   steps_so : MachineStep (machine_with old places) command reply (machine_with new left)
   steps_so =
       machine_step (machine_with old places) command reply (machine_with new left) step
-      (λ refusal e same. ap (λ (r : Reply). ready_of (after_reset new.content r (reset_of old command) places)) e)
+      (λ refusal e same. ap (λ (r : Reply). ready_of (left_after old command new.content r places)) e)
       (λ none effect. (effect_settles old places good true_of command reply new access none effect).are_ready)
 
   -- with a refusal all translations are left
   true_of_same : (refusal : Refusal) → IsRefused old refusal reply new → AreTrue new.content new.spaces.table left
   true_of_same refusal refused =
-      subst (λ (s : State). AreTrue s.content s.spaces.table (after_reset s.content reply (reset_of old command) places)) (sym refused.same)
-      (subst (λ (r : Reply). AreTrue old.content old.spaces.table (after_reset old.content r (reset_of old command) places)) (sym refused.answer) true_of)
+      subst (λ (s : State). AreTrue s.content s.spaces.table (left_after old command s.content reply places)) (sym refused.same)
+      (subst (λ (r : Reply). AreTrue old.content old.spaces.table (left_after old command old.content r places)) (sym refused.answer) true_of)
 
   -- what is left is true of the new state
   true_of_new : AreTrue new.content new.spaces.table left
@@ -74,7 +74,7 @@ module _ (old : State) (places : Places) (command : Command) (reply : Reply) (ne
 -- The step of the machine, and what is left of the translations
 pub reset_steps : (old : State) (places : Places) (command : Command) (reply : Reply) (new : State) → IsGoodState old → AreTrue old.content old.spaces.table places
     → GivesName command → IsNoAccess command → Step old command reply new
-    → MachineStep (record { state = old; ready = ready_of places }) command reply (record { state = new; ready = ready_of (after_reset new.content reply (reset_of old command) places) })
-    × AreTrue new.content new.spaces.table (after_reset new.content reply (reset_of old command) places)
+    → MachineStep (record { state = old; ready = ready_of places }) command reply (record { state = new; ready = ready_of (left_after old command new.content reply places) })
+    × AreTrue new.content new.spaces.table (left_after old command new.content reply places)
 reset_steps old places command reply new good true_of gives access step =
     (steps_so old places command reply new good true_of gives access step, true_of_new old places command reply new good true_of gives access step)

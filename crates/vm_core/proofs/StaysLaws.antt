@@ -1,5 +1,6 @@
 -- Laws of entries that stay where a content or the address spaces change, and of those that a translation is of no more.
 use Rattle.std.proofs.Common.{◌≡◌, ◌≢◌, ℕ, ◌+◌, ◌<◌, ◌≤◌, Bool, true, false, not, cond, ◌&&◌, ◌==◌, Option, None, Some, refl, sym, ap, subst, ◌∙◌, inl, inr, arith}
+use Rattle.std.specs.Prelude.{IsSome, unwrap_or}
 use Rattle.std.proofs.lemmas.Bool.{cases_Bool, cases_eq, cases_lt, and_parts, and_from, both_ways, not-true, not-false, eq-eqb}
 use Rattle.vm_base.specs.declared.limits.TheConstants.{NAMES, ROOT_END, VMO_PAGES}
 use Rattle.vm_base.specs.Search.{any_below}
@@ -12,10 +13,11 @@ use Rattle.vm_model.specs.Contents.Sharing.{snapshotted, only}
 use Rattle.vm_model.specs.Contents.Zeroing.{is_within, resized}
 use Rattle.vm_model.specs.Space.Readiness.{frame_at, is_same_frame, settled, shows_in}
 use Rattle.vm_model.specs.Space.AddressSpaces.{Spaces, shows, is_mapped, AreGoodSpaces}
-use Rattle.vm_model.specs.Machine.State.{State, is_live}
+use Rattle.vm_model.specs.declared.names.Target.{Target}
+use Rattle.vm_model.specs.Machine.State.{State, is_live, name_pages}
 use Rattle.vm_model.specs.Machine.Leaving.{pruned}
 use Rattle.vm_model.proofs.ContentLaws.{pages_of-at, pages_of-same, count_from_page, koid_below}
-use Rattle.vm_model.proofs.SharingLaws.{page-snapshotted_other, page-only_stays}
+use Rattle.vm_model.proofs.SharingLaws.{koid_some, page-snapshotted_other, page-only_stays}
 use Rattle.vm_model.proofs.ZeroingLaws.{is_within-true, is_within-parts, cases_zeroed, count-resized_here, count-resized_other, page-resized_stays}
 use Rattle.vm_model.proofs.ReadinessLaws.{is_same_frame-is}
 use Rattle.vm_model.proofs.LiveLaws.{is_live-mapped}
@@ -55,6 +57,17 @@ module _ (c : Content) (table : ℕ → ℕ → Option Entry) (root p : ℕ) (en
   unfolding only
   StaysAt-only stays kept =
       StaysAt-same c (only c stays) table root p entry e h (ap (λ (b : Bool). cond b (c.count entry.koid.0) None) kept) (page-only_stays c stays entry.koid.0 entry.page kept)
+
+-- beside a snapshot a VMO is there as before
+pub count-snapshotted : (c : Content) (w v first seen pages : ℕ) → IsGood c → IsSome (c.count w) → (snapshotted c v first seen pages).count w ≡ c.count w
+unfolding snapshotted with_key
+count-snapshotted c w v first seen pages good there =
+    let older : w ≢ c.next = λ same. omega (arith, koid_some c w good there, same) in with_key-other c.count c.next pages w older
+
+-- and a name has as many pages
+pub name_pages-snapshotted : (c : Content) (target : Target) (v first seen pages : ℕ) → IsGood c → IsSome (c.count target.koid.0) → name_pages (snapshotted c v first seen pages) target ≡ name_pages c target
+name_pages-snapshotted c target v first seen pages good there =
+    ap (unwrap_or target.limit) (pages_of-same (snapshotted c v first seen pages) c target.koid.0 (count-snapshotted c target.koid.0 v first seen pages good there))
 
 -- ---- VMOs that are not live leave
 

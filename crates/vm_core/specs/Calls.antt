@@ -1,5 +1,6 @@
 -- What the handlers of commands promise of the content of their store and of the tables that they are given, as they
 -- begin and as they end. What else the machine has is that of any state s.
+use Rattle.std.specs.Prelude.{◌≡◌}
 use Rattle.vm_model.specs.declared.command.Command.{Command}
 use Rattle.vm_model.specs.declared.reply.Reply.{Reply}
 use Rattle.vm_model.specs.Contents.Content.{Content}
@@ -15,6 +16,7 @@ use Rattle.vmo_ops.specs.Targets.{with_tables}
 use Rattle.region_ops.specs.Spaces.{Does}
 use Rattle.fault.specs.Table.{Places, ready_of, AreTrue}
 use Rattle.vm_core.specs.Vm.{bare_state}
+use Rattle.vm_core.specs.Resets.{left_after}
 
 -- A store and the two tables are parts of one good state, and the table of VMOs counts right what keeps each VMO of it.
 pub record AreCounted (c : Content) (vmos : Vmos) (pins : Pins) : Type 0 where
@@ -42,34 +44,47 @@ pub record Steps (old : Content) (vmos_old : Vmos) (pins_old : Pins) (command : 
 pub record StepsSpaces (old : Spaces) (command : Command) (reply : Reply) (new : Spaces) : Type 0 where
   pub step : (s : State) → IsGoodState (record s { spaces = old }) → Step (record s { spaces = old }) command reply (record s { spaces = new })
 
--- A store and the two tables do a command: it is a step, what keeps each VMO is counted as before, and the name that it gives
--- is one that there is.
-pub record DoesTables (old : Content) (vmos_old : Vmos) (pins_old : Pins) (command : Command) (reply : Reply)
-    (new : Content) (vmos_new : Vmos) (pins_new : Pins) : Type 0 where
+-- The translations that are left are those that a command on VMOs leaves of the old ones, whatever else the machine has.
+pub record LeavesVmos (old : Content) (vmos_old : Vmos) (places_old : Places) (command : Command) (reply : Reply)
+    (new : Content) (places_new : Places) : Type 0 where
+  pub left : (s : State) → places_new ≡ left_after (with_vmos s old vmos_old) command new reply places_old
+
+-- the same of a command on address spaces
+pub record LeavesSpaces (spaces_old : Spaces) (places_old : Places) (command : Command) (reply : Reply) (places_new : Places) : Type 0 where
+  pub left : (s : State) (new : Content) → places_new ≡ left_after (record s { spaces = spaces_old }) command new reply places_old
+
+-- A store, the two tables and the translations do a command: it is a step, these translations are left, what keeps each VMO is
+-- counted as before, and the name that it gives is one that there is.
+pub record DoesTables (old : Content) (vmos_old : Vmos) (pins_old : Pins) (places_old : Places) (command : Command) (reply : Reply)
+    (new : Content) (vmos_new : Vmos) (pins_new : Pins) (places_new : Places) : Type 0 where
   pub steps : Steps old vmos_old pins_old command reply new vmos_new pins_new
+  pub leaves : LeavesVmos old vmos_old places_old command reply new places_new
   pub counts : KeepsCounts vmos_old pins_old vmos_new pins_new
   pub name : GivesName command
 
--- the same of a store, the table of VMOs and the address spaces
-pub record DoesSpaces (old : Content) (vmos_old : Vmos) (spaces_old : Spaces) (command : Command) (reply : Reply)
-    (new : Content) (vmos_new : Vmos) (spaces_new : Spaces) : Type 0 where
+-- the same of a store, the table of VMOs, the address spaces and the translations
+pub record DoesSpaces (old : Content) (vmos_old : Vmos) (spaces_old : Spaces) (places_old : Places) (command : Command) (reply : Reply)
+    (new : Content) (vmos_new : Vmos) (spaces_new : Spaces) (places_new : Places) : Type 0 where
   pub does : Does old vmos_old spaces_old command reply new vmos_new spaces_new
+  pub leaves : LeavesSpaces spaces_old places_old command reply places_new
   pub name : GivesName command
 
 -- A store does a command that changes nothing, whatever else the machine has.
 pub record StepsSame (c : Content) (command : Command) (reply : Reply) : Type 0 where
   pub step : (s : State) → Step (record s { content = c }) command reply (record s { content = c })
+  pub leaves : (s : State) (places : Places) → places ≡ left_after (record s { content = c }) command c reply places
   pub name : GivesName command
 
 -- the state of a store, the two tables and the address spaces, which keep all of it
 abbrev pub state_with : Content → Vmos → Pins → Spaces → State
 state_with c vmos pins spaces = record (with_tables (bare_state c) c vmos pins) { spaces = spaces }
 
--- All that keeps the state does a command: it is a step of the state, what keeps each VMO is counted right afterwards, and the
--- name that it gives is one that there is.
-pub record Handles (old : Content) (vmos_old : Vmos) (pins_old : Pins) (spaces_old : Spaces) (command : Command) (reply : Reply)
-    (new : Content) (vmos_new : Vmos) (pins_new : Pins) (spaces_new : Spaces) : Type 0 where
+-- All that keeps the state does a command, with the translations: it is a step of the state, these translations are left, what
+-- keeps each VMO is counted right afterwards, and the name that it gives is one that there is.
+pub record Handles (old : Content) (vmos_old : Vmos) (pins_old : Pins) (spaces_old : Spaces) (places_old : Places) (command : Command) (reply : Reply)
+    (new : Content) (vmos_new : Vmos) (pins_new : Pins) (spaces_new : Spaces) (places_new : Places) : Type 0 where
   pub step : Step (state_with old vmos_old pins_old spaces_old) command reply (state_with new vmos_new pins_new spaces_new)
+  pub left : places_new ≡ left_after (state_with old vmos_old pins_old spaces_old) command new reply places_old
   pub counted : CountsKeepers vmos_new (state_with new vmos_new pins_new spaces_new)
   pub name : GivesName command
 

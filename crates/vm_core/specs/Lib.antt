@@ -1,6 +1,5 @@
 pub mod Vm
 pub mod VmFields
 pub mod Calls
-pub mod Subjects
+pub mod Groups
 pub mod Resets
-pub mod Resetting

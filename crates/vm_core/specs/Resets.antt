@@ -1,63 +1,94 @@
--- What a command may make untrue of the translations, and what is left of them.
-use Rattle.std.specs.Prelude.{ℕ, ◌+◌, ◌/◌, length}
+-- What a command leaves of the translations, and what the calls that forget them ask for.
+use Rattle.std.specs.Prelude.{ℕ, ◌+◌, ◌*◌, ◌/◌, ◌≤◌, length, IsSome}
 use Rattle.vm_base.specs.Pages.{rounded}
 use Rattle.vm_base.specs.declared.limits.TheConstants.{PAGE, VMO_PAGES}
+use Rattle.vm_base.specs.declared.names.RegionName.{RegionName}
 use Rattle.vm_model.specs.declared.command.Command.{Command}
 use Rattle.vm_model.specs.declared.command.Command.TheVariants.{VmoChild, VmoSetSize, VmoWrite, VmoFill, VmoCommit, VmoDecommit, VmoZero, VmoPin, VmarMap, VmarUnmap, VmarProtect, VmarDestroy, MemRead, MemWrite}
+use Rattle.vm_model.specs.declared.command.ChildKind.{ChildKind}
 use Rattle.vm_model.specs.declared.command.ChildKind.TheVariants.{Snapshot}
+use Rattle.vm_model.specs.declared.names.Target.{Target}
 use Rattle.vm_model.specs.declared.reply.Reply.{Reply}
 use Rattle.vm_model.specs.declared.reply.Reply.TheVariants.{Address, Refused}
-use Rattle.vm_model.specs.Contents.Content.{Content}
+use Rattle.vm_model.specs.Contents.Content.{Content, pages_of}
 use Rattle.vm_model.specs.Contents.Writing.{touched}
 use Rattle.vm_model.specs.Space.Regions.{region_of}
-use Rattle.vm_model.specs.Machine.State.{State, target_of, place_of}
+use Rattle.vm_model.specs.Machine.State.{State, target_of, name_pages}
 use Rattle.vm_model.specs.Machine.Step.{seen_pages}
+use Rattle.page_store.specs.Names.{IsInside}
 use Rattle.fault.specs.Table.{Places, without, is_of, is_stale, is_at, with_read_only}
-use Rattle.vm_core.specs.declared.resets.Reset.{Reset}
-use Rattle.vm_core.specs.declared.resets.Reset.TheVariants.{Nothing, Changed, Shrunk, ReadOnly, Mapped, Unmapped}
 
--- the pages of its VMO that a range of a name touches may have other frames
-abbrev pub range_changed : State → (name offset len : ℕ) → Reset
-range_changed s name offset len =
-    Changed (target_of s name).koid (place_of s name offset / PAGE) (length (touched (place_of s name offset) len))
+-- ---- what is left
 
--- pages of the address space of a region
-abbrev pub pages_unmapped : State → (region first count : ℕ) → Reset
-pages_unmapped s region first count = Unmapped (region_of s.spaces.regions region).root first count
+-- the translations, without those of pages that a range of a name touches and that have another frame now
+abbrev pub without_changed : Content → Target → (offset len : ℕ) → Places → Places
+without_changed c target offset len places =
+    let at = target.first * PAGE + offset in
+    without (is_stale c target.koid.0 (at / PAGE) (at / PAGE + length (touched at len))) places
 
--- what a command that nothing refuses may make untrue
-abbrev pub reset_of : State → Command → Reset
-reset_of s (VmoChild name parent Snapshot offset size resizable no_write) =
-    let target = target_of s parent.0 in
-    ReadOnly target.koid (target.first + offset / PAGE) (seen_pages s.content target (offset / PAGE) (rounded size / PAGE))
-reset_of s (VmoSetSize name size) = Shrunk (target_of s name.0).koid (rounded size / PAGE)
-reset_of s (VmoWrite name offset bytes) = range_changed s name.0 offset (length bytes)
-reset_of s (VmoFill name offset len byte) = range_changed s name.0 offset len
-reset_of s (VmoCommit name offset len) = range_changed s name.0 offset len
-reset_of s (VmoDecommit name offset len) = range_changed s name.0 offset len
-reset_of s (VmoZero name offset len) = range_changed s name.0 offset len
-reset_of s (VmoPin pin name offset len) = range_changed s name.0 offset len
-reset_of s (VmarMap region offset name vmo_offset len perm flags) = Mapped (region_of s.spaces.regions region.0).root (rounded len / PAGE)
-reset_of s (VmarUnmap region addr len) = pages_unmapped s region.0 (addr / PAGE) (rounded len / PAGE)
-reset_of s (VmarProtect region addr len perm) = pages_unmapped s region.0 (addr / PAGE) (rounded len / PAGE)
-reset_of s (VmarDestroy region) =
+-- without those of pages of its VMO past this size
+abbrev pub without_past : Target → (size : ℕ) → Places → Places
+without_past target size places = without (is_of target.koid.0 (rounded size / PAGE) VMO_PAGES) places
+
+-- with those of pages that a snapshot of a part of it shows for reading alone
+abbrev pub with_shared : Content → Target → (offset size : ℕ) → Places → Places
+with_shared c target offset size places =
+    let first = target.first + offset / PAGE in
+    with_read_only target.koid.0 first (first + seen_pages c target (offset / PAGE) (rounded size / PAGE)) places
+
+-- the same, where the child is a snapshot
+abbrev pub shared_by : ChildKind → Content → Target → (offset size : ℕ) → Places → Places
+shared_by Snapshot c target offset size places = with_shared c target offset size places
+shared_by kind c target offset size places = places
+
+-- without those of `count` pages of an address space from the page `first` on
+abbrev pub without_pages : RegionName → (first count : ℕ) → Places → Places
+without_pages root first count places = without (is_at root.0 first (first + count)) places
+
+-- what a command that nothing refuses in this state leaves, where the store contains this afterwards, and this is the reply
+abbrev pub left_by : State → Command → Content → Reply → Places → Places
+left_by s (VmoChild name parent kind offset size resizable no_write) c reply places = shared_by kind c (target_of s parent.0) offset size places
+left_by s (VmoSetSize name size) c reply places = without_past (target_of s name.0) size places
+left_by s (VmoWrite name offset bytes) c reply places = without_changed c (target_of s name.0) offset (length bytes) places
+left_by s (VmoFill name offset len byte) c reply places = without_changed c (target_of s name.0) offset len places
+left_by s (VmoCommit name offset len) c reply places = without_changed c (target_of s name.0) offset len places
+left_by s (VmoDecommit name offset len) c reply places = without_changed c (target_of s name.0) offset len places
+left_by s (VmoZero name offset len) c reply places = without_changed c (target_of s name.0) offset len places
+left_by s (VmoPin pin name offset len) c reply places = without_changed c (target_of s name.0) offset len places
+left_by s (VmarMap region offset name vmo_offset len perm flags) c (Address addr) places =
+    without_pages (region_of s.spaces.regions region.0).root (addr / PAGE) (rounded len / PAGE) places
+left_by s (VmarUnmap region addr len) c reply places = without_pages (region_of s.spaces.regions region.0).root (addr / PAGE) (rounded len / PAGE) places
+left_by s (VmarProtect region addr len perm) c reply places = without_pages (region_of s.spaces.regions region.0).root (addr / PAGE) (rounded len / PAGE) places
+left_by s (VmarDestroy region) c reply places =
     let dying = region_of s.spaces.regions region.0 in
-    pages_unmapped s region.0 dying.first dying.count
-reset_of s command = Nothing
+    without_pages dying.root dying.first dying.count places
+left_by s command c reply places = places
 
--- what is left of the translations, where the store contains this afterwards
-abbrev pub after_reset : Content → Reply → Reset → Places → Places
-after_reset c (Refused refusal) reset places = places
-after_reset c reply Nothing places = places
-after_reset c reply (Changed v first count) places = without (is_stale c v.0 first (first + count)) places
-after_reset c reply (Shrunk v first) places = without (is_of v.0 first VMO_PAGES) places
-after_reset c reply (ReadOnly v first count) places = with_read_only v.0 first (first + count) places
-after_reset c (Address addr) (Mapped root count) places = without (is_at root.0 (addr / PAGE) (addr / PAGE + count)) places
-after_reset c reply (Mapped root count) places = places
-after_reset c reply (Unmapped root first count) places = without (is_at root.0 first (first + count)) places
+-- what is left, but all of it with a refusal
+abbrev pub unless_refused : Reply → (left places : Places) → Places
+unless_refused (Refused refusal) left places = places
+unless_refused reply left places = left
+
+-- what a command with this reply leaves
+abbrev pub left_after : State → Command → Content → Reply → Places → Places
+left_after s command c reply places = unless_refused reply (left_by s command c reply places) places
 
 -- the command is no access through mappings
 abbrev pub IsNoAccess : Command → Type 0
 IsNoAccess (MemRead region addr len) = ⊥
 IsNoAccess (MemWrite region addr bytes) = ⊥
 IsNoAccess command = Unit {0}
+
+-- ---- what is asked for
+
+-- A range of a name lies in its VMO, which has no more pages than one may have.
+pub record IsReached (c : Content) (target : Target) (offset len : ℕ) : Type 0 where
+  pub vmo : IsSome (c.count target.koid.0)
+  pub inside : target.first * PAGE + offset + len ≤ pages_of c target.koid.0 * PAGE
+  pub few : pages_of c target.koid.0 ≤ VMO_PAGES
+
+-- A name lies in its VMO, and a snapshot of so many bytes of it has no more pages than a VMO may have.
+pub record IsShared (c : Content) (target : Target) (offset size : ℕ) : Type 0 where
+  pub inside : IsInside c target
+  pub few : target.first + name_pages c target ≤ VMO_PAGES
+  pub range : offset + rounded size ≤ VMO_PAGES * PAGE

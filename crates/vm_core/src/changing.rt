@@ -1,6 +1,7 @@
 //! The commands that change the pages of a VMO or its size: `vmo_write`, `vmo_fill`, `vmo_commit`,
 //! `vmo_zero`, `vmo_decommit`, `vmo_set_size`. Each is the operation of that name, where the VMO's name is
-//! open.
+//! open, and
+//! the translations of the pages that it changed are forgotten.
 
 ghost use Rattle.std.specs.Prelude.{◌≡◌};
 ghost use Rattle.vm_model.specs.declared.command.Command.{Command};
@@ -9,28 +10,45 @@ ghost use Rattle.vm_model.specs.Machine.Lent.{reply_for};
 ghost use Rattle.vm_model.specs.Machine.Step.{reply_of};
 ghost use Rattle.vmo_table.specs.Table.{AreParts};
 ghost use Rattle.vmo_ops.specs.Targets.{AreTogether};
-ghost use Rattle.vm_core.specs.Calls.{Steps, StepsVmos};
+ghost use Rattle.fault.specs.Table.{places_of};
+ghost use Rattle.vm_core.specs.Calls.{LeavesVmos, Steps, StepsVmos};
+ghost use Rattle.vm_core.specs.Resets.{unless_refused, without_changed, IsReached};
 
+use crate::resets::{forget_changed, forget_past};
+use fault::Translations;
 use page_store::PageStore;
 use pin_table::PinTable;
 use vm_base::{Refusal, VmoName};
-use vm_model::Answer;
+use vm_model::{Answer, Target};
 use vmo_table::VmoTable;
 
 /// Writes bytes from `offset` bytes into the name on.
 pub(crate) fn vmo_write<P: PageStore>(
     store: &mut P,
     vmos: &VmoTable,
+    translations: &mut Translations,
     name: VmoName,
     offset: u64,
     bytes: &[u8],
 ) -> Answer<'static>
     requires { AreParts (P.content store.old) vmos.now }
-    ensures { StepsVmos (P.content store.old) vmos.now (Command.VmoWrite name offset bytes.now) (reply_for result)
+    ensures step { StepsVmos (P.content store.old) vmos.now (Command.VmoWrite name offset bytes.now) (reply_for result)
         (P.content store.new) vmos.now }
+    ensures left { LeavesVmos (P.content store.old) vmos.now (places_of translations.old) (Command.VmoWrite name offset bytes.now) (reply_for result)
+        (P.content store.new) (places_of translations.new) }
 {
     match vmos.resolve(name) {
-        Some(target) => done(vmo_ops::write(store, &target, offset, bytes)),
+        Some(target) => {
+            let outcome = vmo_ops::write(store, &target, offset, bytes);
+            changed(
+                translations,
+                store,
+                &target,
+                offset,
+                bytes.len() as u64,
+                outcome,
+            )
+        }
         None => Answer::Refused(Refusal::BadHandle),
     }
 }
@@ -39,17 +57,23 @@ pub(crate) fn vmo_write<P: PageStore>(
 pub(crate) fn vmo_fill<P: PageStore>(
     store: &mut P,
     vmos: &VmoTable,
+    translations: &mut Translations,
     name: VmoName,
     offset: u64,
     len: u64,
     byte: u8,
 ) -> Answer<'static>
     requires { AreParts (P.content store.old) vmos.now }
-    ensures { StepsVmos (P.content store.old) vmos.now (Command.VmoFill name offset len byte) (reply_for result)
+    ensures step { StepsVmos (P.content store.old) vmos.now (Command.VmoFill name offset len byte) (reply_for result)
         (P.content store.new) vmos.now }
+    ensures left { LeavesVmos (P.content store.old) vmos.now (places_of translations.old) (Command.VmoFill name offset len byte) (reply_for result)
+        (P.content store.new) (places_of translations.new) }
 {
     match vmos.resolve(name) {
-        Some(target) => done(vmo_ops::fill(store, &target, offset, len, byte)),
+        Some(target) => {
+            let outcome = vmo_ops::fill(store, &target, offset, len, byte);
+            changed(translations, store, &target, offset, len, outcome)
+        }
         None => Answer::Refused(Refusal::BadHandle),
     }
 }
@@ -58,16 +82,22 @@ pub(crate) fn vmo_fill<P: PageStore>(
 pub(crate) fn vmo_commit<P: PageStore>(
     store: &mut P,
     vmos: &VmoTable,
+    translations: &mut Translations,
     name: VmoName,
     offset: u64,
     len: u64,
 ) -> Answer<'static>
     requires { AreParts (P.content store.old) vmos.now }
-    ensures { StepsVmos (P.content store.old) vmos.now (Command.VmoCommit name offset len) (reply_for result)
+    ensures step { StepsVmos (P.content store.old) vmos.now (Command.VmoCommit name offset len) (reply_for result)
         (P.content store.new) vmos.now }
+    ensures left { LeavesVmos (P.content store.old) vmos.now (places_of translations.old) (Command.VmoCommit name offset len) (reply_for result)
+        (P.content store.new) (places_of translations.new) }
 {
     match vmos.resolve(name) {
-        Some(target) => done(vmo_ops::commit(store, &target, offset, len)),
+        Some(target) => {
+            let outcome = vmo_ops::commit(store, &target, offset, len);
+            changed(translations, store, &target, offset, len, outcome)
+        }
         None => Answer::Refused(Refusal::BadHandle),
     }
 }
@@ -77,16 +107,22 @@ pub(crate) fn vmo_zero<P: PageStore>(
     store: &mut P,
     vmos: &VmoTable,
     pins: &PinTable,
+    translations: &mut Translations,
     name: VmoName,
     offset: u64,
     len: u64,
 ) -> Answer<'static>
     requires { AreTogether (P.content store.old) vmos.now pins.now }
-    ensures { Steps (P.content store.old) vmos.now pins.now (Command.VmoZero name offset len) (reply_for result)
+    ensures step { Steps (P.content store.old) vmos.now pins.now (Command.VmoZero name offset len) (reply_for result)
         (P.content store.new) vmos.now pins.now }
+    ensures left { LeavesVmos (P.content store.old) vmos.now (places_of translations.old) (Command.VmoZero name offset len) (reply_for result)
+        (P.content store.new) (places_of translations.new) }
 {
     match vmos.resolve(name) {
-        Some(target) => done(vmo_ops::zero(store, pins, &target, offset, len)),
+        Some(target) => {
+            let outcome = vmo_ops::zero(store, pins, &target, offset, len);
+            changed(translations, store, &target, offset, len, outcome)
+        }
         None => Answer::Refused(Refusal::BadHandle),
     }
 }
@@ -96,16 +132,22 @@ pub(crate) fn vmo_decommit<P: PageStore>(
     store: &mut P,
     vmos: &VmoTable,
     pins: &PinTable,
+    translations: &mut Translations,
     name: VmoName,
     offset: u64,
     len: u64,
 ) -> Answer<'static>
     requires { AreTogether (P.content store.old) vmos.now pins.now }
-    ensures { Steps (P.content store.old) vmos.now pins.now (Command.VmoDecommit name offset len) (reply_for result)
+    ensures step { Steps (P.content store.old) vmos.now pins.now (Command.VmoDecommit name offset len) (reply_for result)
         (P.content store.new) vmos.now pins.now }
+    ensures left { LeavesVmos (P.content store.old) vmos.now (places_of translations.old) (Command.VmoDecommit name offset len) (reply_for result)
+        (P.content store.new) (places_of translations.new) }
 {
     match vmos.resolve(name) {
-        Some(target) => done(vmo_ops::decommit(store, vmos, pins, &target, offset, len)),
+        Some(target) => {
+            let outcome = vmo_ops::decommit(store, vmos, pins, &target, offset, len);
+            changed(translations, store, &target, offset, len, outcome)
+        }
         None => Answer::Refused(Refusal::BadHandle),
     }
 }
@@ -115,25 +157,48 @@ pub(crate) fn vmo_set_size<P: PageStore>(
     store: &mut P,
     vmos: &VmoTable,
     pins: &PinTable,
+    translations: &mut Translations,
     name: VmoName,
     size: u64,
 ) -> Answer<'static>
     requires { AreTogether (P.content store.old) vmos.now pins.now }
-    ensures { Steps (P.content store.old) vmos.now pins.now (Command.VmoSetSize name size) (reply_for result)
+    ensures step { Steps (P.content store.old) vmos.now pins.now (Command.VmoSetSize name size) (reply_for result)
         (P.content store.new) vmos.now pins.now }
+    ensures left { LeavesVmos (P.content store.old) vmos.now (places_of translations.old) (Command.VmoSetSize name size) (reply_for result)
+        (P.content store.new) (places_of translations.new) }
 {
-    match vmos.resolve(name) {
-        Some(target) => done(vmo_ops::resize(store, pins, &target, size)),
-        None => Answer::Refused(Refusal::BadHandle),
+    let Some(target) = vmos.resolve(name) else {
+        return Answer::Refused(Refusal::BadHandle);
+    };
+    match vmo_ops::resize(store, pins, &target, size) {
+        Ok(()) => {
+            forget_past(translations, &target, size);
+            Answer::Done
+        }
+        Err(refusal) => Answer::Refused(refusal),
     }
 }
 
-// The answer to a command that is done, or why it is refused.
-fn done(outcome: Result<(), Refusal>) -> Answer<'static>
-    ensures { reply_for result ≡ reply_of (λ _. Reply.Done) outcome }
+// The answer to a command that changed a range of a name, or why it was refused. Where it was done, the translations of pages
+// of the range that have another frame now are forgotten.
+fn changed<P: PageStore>(
+    translations: &mut Translations,
+    store: &P,
+    target: &Target,
+    offset: u64,
+    len: u64,
+    outcome: Result<(), Refusal>,
+) -> Answer<'static>
+    requires { reply_of (λ _. Reply.Done) outcome ≡ Reply.Done → IsReached (P.content store.now) target.now offset len }
+    ensures reply { reply_for result ≡ reply_of (λ _. Reply.Done) outcome }
+    ensures left { places_of translations.new ≡ unless_refused (reply_for result)
+        (without_changed (P.content store.now) target.now offset len (places_of translations.old)) (places_of translations.old) }
 {
     match outcome {
-        Ok(()) => Answer::Done,
+        Ok(()) => {
+            forget_changed(translations, store, target, offset, len);
+            Answer::Done
+        }
         Err(refusal) => Answer::Refused(refusal),
     }
 }

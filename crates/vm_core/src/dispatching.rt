@@ -1,5 +1,5 @@
-//! Which handler does a command. `dispatch` finds what a call is about, and one function for each subject finds the
-//! handler, so that each of them is a short `match`.
+//! Which handler does a command. `dispatch` finds the group of a call, and one function for each group finds the handler,
+//! so that each of them is a short `match`. Their `ready` are the translations, of the pages that are ready for an access.
 
 ghost use Rattle.std.specs.Prelude.{◌≡◌, ◌≢◌, ◌<◌, ◌≤◌, length};
 ghost use Rattle.mapping_set.specs.Tables.{table_of};
@@ -10,17 +10,17 @@ ghost use Rattle.vmo_table.specs.Table.{IsWellCounted};
 ghost use Rattle.region_ops.specs.Spaces.{AreAllWell};
 ghost use Rattle.fault.specs.Table.{places_of, AreBacked, AreTrue};
 ghost use Rattle.vm_core.specs.Calls.{state_with, AreCounted, DoesTables, DoesSpaces, DoesAccess, Handles, StepsSame};
-ghost use Rattle.vm_core.specs.Subjects.{subject_of};
-ghost use Rattle.vm_core.specs.declared.subjects.Subject.{Subject};
+ghost use Rattle.vm_core.specs.Groups.{group_of};
+ghost use Rattle.vm_core.specs.declared.groups.Group.{Group};
 
 use crate::accessing::{mem_read, mem_write};
 use crate::asking::{vmo_info, vmo_read, vmo_size};
 use crate::changing::{vmo_commit, vmo_decommit, vmo_fill, vmo_set_size, vmo_write, vmo_zero};
+use crate::groups::{Group, group_of};
 use crate::mappings::{list_maps, vmar_map, vmar_protect, vmar_unmap};
 use crate::naming::{vmo_close, vmo_create, vmo_create_child};
 use crate::pinning::{vmo_pin, vmo_unpin};
 use crate::spaces::{root_create, vmar_allocate, vmar_destroy};
-use crate::subjects::{Subject, subject_of};
 use attribution::stat;
 use fault::Translations;
 use mapping_set::MappingSet;
@@ -41,27 +41,28 @@ pub(crate) fn dispatch<'a, P: PageStore>(
     pins: &mut PinTable,
     regions: &mut Regions,
     maps: &mut MappingSet,
+    ready: &mut Translations,
     call: &Call<'_>,
     bytes: &'a mut [u8],
     numbers: &'a mut [u64],
 ) -> Answer<'a>
-    requires subject { subject_of call.now ≢ Subject.Memory }
+    requires group { group_of call.now ≢ Group.Memory }
     requires well { IsWellCounted vmos.old (state_with (P.content store.old) vmos.old pins.old
         (spaces_of (regions_of regions.old) (table_of maps.old))) }
     requires next { (P.content store.old).next < KOIDS }
     requires bytes { DATA_BYTES ≤ length bytes.old }
     requires numbers { PIN_PAGES ≤ length numbers.old }
     ensures { Handles (P.content store.old) vmos.old pins.old (spaces_of (regions_of regions.old) (table_of maps.old))
-        (command_of call.now) (reply_for result)
-        (P.content store.new) vmos.new pins.new (spaces_of (regions_of regions.new) (table_of maps.new)) }
+        (places_of ready.old) (command_of call.now) (reply_for result) (P.content store.new) vmos.new pins.new
+        (spaces_of (regions_of regions.new) (table_of maps.new)) (places_of ready.new) }
 {
-    match subject_of(call) {
-        Subject::Vmo => on_vmo(store, vmos, pins, call),
-        Subject::Pages => on_pages(store, vmos, pins, call, bytes),
-        Subject::Pin => on_pin(store, vmos, pins, call, numbers),
-        Subject::Region => on_region(alloc, store, vmos, regions, maps, call),
-        Subject::Machine => on_machine(store, call),
-        Subject::Memory => unreachable!(),
+    match group_of(call) {
+        Group::Vmo => on_vmo(store, vmos, pins, ready, call),
+        Group::Pages => on_pages(store, vmos, pins, ready, call, bytes),
+        Group::Pin => on_pin(store, vmos, pins, ready, call, numbers),
+        Group::Region => on_region(alloc, store, vmos, regions, maps, ready, call),
+        Group::Machine => on_machine(store, call),
+        Group::Memory => unreachable!(),
     }
 }
 
@@ -70,13 +71,14 @@ fn on_vmo<P: PageStore>(
     store: &mut P,
     vmos: &mut VmoTable,
     pins: &PinTable,
+    ready: &mut Translations,
     call: &Call<'_>,
 ) -> Answer<'static>
-    requires subject { subject_of call.now ≡ Subject.Vmo }
+    requires group { group_of call.now ≡ Group.Vmo }
     requires counted { AreCounted (P.content store.old) vmos.old pins.now }
     requires next { (P.content store.old).next < KOIDS }
-    ensures { DoesTables (P.content store.old) vmos.old pins.now (command_of call.now) (reply_for result)
-        (P.content store.new) vmos.new pins.now }
+    ensures { DoesTables (P.content store.old) vmos.old pins.now (places_of ready.old) (command_of call.now)
+        (reply_for result) (P.content store.new) vmos.new pins.now (places_of ready.new) }
 {
     match call {
         Call::VmoCreate {
@@ -93,11 +95,11 @@ fn on_vmo<P: PageStore>(
             resizable,
             no_write,
         } => vmo_create_child(
-            store, vmos, pins, *name, *parent, *kind, *offset, *size, *resizable, *no_write,
+            store, vmos, pins, ready, *name, *parent, *kind, *offset, *size, *resizable, *no_write,
         ),
         Call::VmoClose { name } => vmo_close(store, vmos, *name),
         Call::VmoSize { name } => vmo_size(store, vmos, *name),
-        Call::VmoSetSize { name, size } => vmo_set_size(store, vmos, pins, *name, *size),
+        Call::VmoSetSize { name, size } => vmo_set_size(store, vmos, pins, ready, *name, *size),
         Call::VmoInfo { name } => vmo_info(store, vmos, *name),
         _ => unreachable!(),
     }
@@ -108,14 +110,15 @@ fn on_pages<'a, P: PageStore>(
     store: &mut P,
     vmos: &VmoTable,
     pins: &PinTable,
+    ready: &mut Translations,
     call: &Call<'_>,
     bytes: &'a mut [u8],
 ) -> Answer<'a>
-    requires subject { subject_of call.now ≡ Subject.Pages }
+    requires group { group_of call.now ≡ Group.Pages }
     requires counted { AreCounted (P.content store.old) vmos.now pins.now }
     requires bytes { DATA_BYTES ≤ length bytes.old }
-    ensures { DoesTables (P.content store.old) vmos.now pins.now (command_of call.now) (reply_for result)
-        (P.content store.new) vmos.now pins.now }
+    ensures { DoesTables (P.content store.old) vmos.now pins.now (places_of ready.old) (command_of call.now)
+        (reply_for result) (P.content store.new) vmos.now pins.now (places_of ready.new) }
 {
     match call {
         Call::VmoRead { name, offset, len } => vmo_read(store, vmos, *name, *offset, *len, bytes),
@@ -123,17 +126,21 @@ fn on_pages<'a, P: PageStore>(
             name,
             offset,
             bytes: written,
-        } => vmo_write(store, vmos, *name, *offset, written.as_slice()),
+        } => vmo_write(store, vmos, ready, *name, *offset, written.as_slice()),
         Call::VmoFill {
             name,
             offset,
             len,
             byte,
-        } => vmo_fill(store, vmos, *name, *offset, *len, *byte),
-        Call::VmoCommit { name, offset, len } => vmo_commit(store, vmos, *name, *offset, *len),
-        Call::VmoZero { name, offset, len } => vmo_zero(store, vmos, pins, *name, *offset, *len),
+        } => vmo_fill(store, vmos, ready, *name, *offset, *len, *byte),
+        Call::VmoCommit { name, offset, len } => vmo_commit(
+            store, vmos, ready, *name, *offset, *len,
+        ),
+        Call::VmoZero { name, offset, len } => vmo_zero(
+            store, vmos, pins, ready, *name, *offset, *len,
+        ),
         Call::VmoDecommit { name, offset, len } => vmo_decommit(
-            store, vmos, pins, *name, *offset, *len,
+            store, vmos, pins, ready, *name, *offset, *len,
         ),
         _ => unreachable!(),
     }
@@ -144,14 +151,15 @@ fn on_pin<'a, P: PageStore>(
     store: &mut P,
     vmos: &mut VmoTable,
     pins: &mut PinTable,
+    ready: &mut Translations,
     call: &Call<'_>,
     numbers: &'a mut [u64],
 ) -> Answer<'a>
-    requires subject { subject_of call.now ≡ Subject.Pin }
+    requires group { group_of call.now ≡ Group.Pin }
     requires counted { AreCounted (P.content store.old) vmos.old pins.old }
     requires numbers { PIN_PAGES ≤ length numbers.old }
-    ensures { DoesTables (P.content store.old) vmos.old pins.old (command_of call.now) (reply_for result)
-        (P.content store.new) vmos.new pins.new }
+    ensures { DoesTables (P.content store.old) vmos.old pins.old (places_of ready.old) (command_of call.now)
+        (reply_for result) (P.content store.new) vmos.new pins.new (places_of ready.new) }
 {
     match call {
         Call::VmoPin {
@@ -159,7 +167,9 @@ fn on_pin<'a, P: PageStore>(
             name,
             offset,
             len,
-        } => vmo_pin(store, vmos, pins, *pin, *name, *offset, *len, numbers),
+        } => vmo_pin(
+            store, vmos, pins, ready, *pin, *name, *offset, *len, numbers,
+        ),
         Call::VmoUnpin { pin } => vmo_unpin(store, vmos, pins, *pin),
         _ => unreachable!(),
     }
@@ -172,13 +182,14 @@ fn on_region<P: PageStore>(
     vmos: &mut VmoTable,
     regions: &mut Regions,
     maps: &mut MappingSet,
+    ready: &mut Translations,
     call: &Call<'_>,
 ) -> Answer<'static>
-    requires subject { subject_of call.now ≡ Subject.Region }
+    requires group { group_of call.now ≡ Group.Region }
     requires well { AreAllWell (P.content store.old) vmos.old (spaces_of (regions_of regions.old) (table_of maps.old)) }
     ensures { DoesSpaces (P.content store.old) vmos.old (spaces_of (regions_of regions.old) (table_of maps.old))
-        (command_of call.now) (reply_for result)
-        (P.content store.new) vmos.new (spaces_of (regions_of regions.new) (table_of maps.new)) }
+        (places_of ready.old) (command_of call.now) (reply_for result) (P.content store.new) vmos.new
+        (spaces_of (regions_of regions.new) (table_of maps.new)) (places_of ready.new) }
 {
     match call {
         Call::RootCreate { region } => root_create(regions, maps, *region),
@@ -205,6 +216,7 @@ fn on_region<P: PageStore>(
             vmos,
             regions,
             maps,
+            ready,
             *region,
             *offset,
             *name,
@@ -214,15 +226,15 @@ fn on_region<P: PageStore>(
             *flags,
         ),
         Call::VmarUnmap { region, addr, len } => vmar_unmap(
-            store, vmos, regions, maps, *region, *addr, *len,
+            store, vmos, regions, maps, ready, *region, *addr, *len,
         ),
         Call::VmarProtect {
             region,
             addr,
             len,
             perm,
-        } => vmar_protect(regions, maps, *region, *addr, *len, *perm),
-        Call::VmarDestroy { region } => vmar_destroy(store, vmos, regions, maps, *region),
+        } => vmar_protect(regions, maps, ready, *region, *addr, *len, *perm),
+        Call::VmarDestroy { region } => vmar_destroy(store, vmos, regions, maps, ready, *region),
         Call::Maps { region } => list_maps(alloc, regions, maps, *region),
         _ => unreachable!(),
     }
@@ -230,7 +242,7 @@ fn on_region<P: PageStore>(
 
 /// Tells of the machine.
 fn on_machine<P: PageStore>(store: &P, call: &Call<'_>) -> Answer<'static>
-    requires { subject_of call.now ≡ Subject.Machine }
+    requires { group_of call.now ≡ Group.Machine }
     ensures { StepsSame (P.content store.now) (command_of call.now) (reply_for result) }
 {
     match call {
@@ -248,7 +260,7 @@ pub(crate) fn on_memory<'a, P: PageStore>(
     call: &Call<'_>,
     bytes: &'a mut [u8],
 ) -> Answer<'a>
-    requires subject { subject_of call.now ≡ Subject.Memory }
+    requires group { group_of call.now ≡ Group.Memory }
     requires backed { AreBacked (P.content store.old) (table_of maps.now) }
     requires translations { AreTrue (P.content store.old) (table_of maps.now) (places_of translations.old) }
     requires bytes { DATA_BYTES ≤ length bytes.old }

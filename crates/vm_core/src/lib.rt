@@ -12,12 +12,12 @@ mod accessing;
 mod asking;
 mod changing;
 mod dispatching;
+mod groups;
 mod mappings;
 mod naming;
 mod pinning;
 mod resets;
 mod spaces;
-mod subjects;
 mod vm;
 
 pub use vm::Vm;

@@ -1,19 +1,24 @@
-//! The commands on the mappings in a region: `vmar_map`, `vmar_unmap`, `vmar_protect`, `maps`.
+//! The commands on the mappings in a region: `vmar_map`, `vmar_unmap`, `vmar_protect`, `maps`. The translations of pages that
+//! show something else, or may be accessed otherwise, are forgotten.
 
 ghost use Rattle.std.specs.Prelude.{◌≡◌, ℕ};
 ghost use Rattle.vm_model.specs.declared.command.Command.{Command};
 ghost use Rattle.vm_model.specs.Machine.Lent.{reply_for};
+ghost use Rattle.vm_model.specs.Machine.State.{State, IsGoodState};
 ghost use Rattle.vm_model.specs.Space.AddressSpaces.{mapped_count};
 ghost use Rattle.mapping_set.specs.Tables.{table_of};
 ghost use Rattle.region_tree.specs.Tree.{regions_of, spaces_of};
 ghost use Rattle.region_ops.specs.Spaces.{AreAllWell, Does};
-ghost use Rattle.vm_core.specs.Calls.{StepsSpaces};
+ghost use Rattle.fault.specs.Table.{places_of};
+ghost use Rattle.vm_core.specs.Calls.{LeavesSpaces, StepsSpaces};
 
+use crate::resets::forget_pages;
+use fault::Translations;
 use mapping_set::MappingSet;
 use page_store::PageStore;
 use region_tree::Regions;
 use std::alloc::Global;
-use vm_base::{MapFlags, Perm, Refusal, RegionName, VmoName};
+use vm_base::{MapFlags, Perm, Refusal, RegionName, VmoName, page_count, page_of};
 use vm_model::Answer;
 use vmo_table::VmoTable;
 
@@ -24,6 +29,7 @@ pub(crate) fn vmar_map<P: PageStore>(
     vmos: &mut VmoTable,
     regions: &Regions,
     maps: &mut MappingSet,
+    translations: &mut Translations,
     region: RegionName,
     offset: u64,
     name: VmoName,
@@ -33,9 +39,11 @@ pub(crate) fn vmar_map<P: PageStore>(
     flags: MapFlags,
 ) -> Answer<'static>
     requires { AreAllWell (P.content store.old) vmos.old (spaces_of (regions_of regions.now) (table_of maps.old)) }
-    ensures { Does (P.content store.old) vmos.old (spaces_of (regions_of regions.now) (table_of maps.old))
+    ensures step { Does (P.content store.old) vmos.old (spaces_of (regions_of regions.now) (table_of maps.old))
         (Command.VmarMap region offset name vmo_offset len perm flags) (reply_for result)
         (P.content store.new) vmos.new (spaces_of (regions_of regions.now) (table_of maps.new)) }
+    ensures left { LeavesSpaces (spaces_of (regions_of regions.now) (table_of maps.old)) (places_of translations.old)
+        (Command.VmarMap region offset name vmo_offset len perm flags) (reply_for result) (places_of translations.new) }
 {
     let Some(above) = regions.get(region) else {
         return Answer::Refused(Refusal::BadHandle);
@@ -49,7 +57,10 @@ pub(crate) fn vmar_map<P: PageStore>(
     match region_ops::map(
         store, vmos, regions, maps, region, offset, &target, vmo_offset, len, perm, flags,
     ) {
-        Ok(address) => Answer::Address(address),
+        Ok(address) => {
+            forget_pages(translations, above.root, page_of(address), page_count(len));
+            Answer::Address(address)
+        }
         Err(refusal) => Answer::Refused(refusal),
     }
 }
@@ -61,14 +72,17 @@ pub(crate) fn vmar_unmap<P: PageStore>(
     vmos: &mut VmoTable,
     regions: &mut Regions,
     maps: &mut MappingSet,
+    translations: &mut Translations,
     region: RegionName,
     addr: u64,
     len: u64,
 ) -> Answer<'static>
     requires { AreAllWell (P.content store.old) vmos.old (spaces_of (regions_of regions.old) (table_of maps.old)) }
-    ensures { Does (P.content store.old) vmos.old (spaces_of (regions_of regions.old) (table_of maps.old))
+    ensures step { Does (P.content store.old) vmos.old (spaces_of (regions_of regions.old) (table_of maps.old))
         (Command.VmarUnmap region addr len) (reply_for result)
         (P.content store.new) vmos.new (spaces_of (regions_of regions.new) (table_of maps.new)) }
+    ensures left { LeavesSpaces (spaces_of (regions_of regions.old) (table_of maps.old)) (places_of translations.old)
+        (Command.VmarUnmap region addr len) (reply_for result) (places_of translations.new) }
 {
     let Some(above) = regions.get(region) else {
         return Answer::Refused(Refusal::BadHandle);
@@ -77,7 +91,10 @@ pub(crate) fn vmar_unmap<P: PageStore>(
         return Answer::Refused(Refusal::BadState);
     }
     match region_ops::unmap(store, vmos, regions, maps, region, addr, len) {
-        Ok(()) => Answer::Done,
+        Ok(()) => {
+            forget_pages(translations, above.root, page_of(addr), page_count(len));
+            Answer::Done
+        }
         Err(refusal) => Answer::Refused(refusal),
     }
 }
@@ -87,14 +104,18 @@ pub(crate) fn vmar_unmap<P: PageStore>(
 pub(crate) fn vmar_protect(
     regions: &Regions,
     maps: &mut MappingSet,
+    translations: &mut Translations,
     region: RegionName,
     addr: u64,
     len: u64,
     perm: Perm,
 ) -> Answer<'static>
+    requires { (s : State) × IsGoodState (record s { spaces = spaces_of (regions_of regions.now) (table_of maps.old) }) }
     ensures step { StepsSpaces (spaces_of (regions_of regions.now) (table_of maps.old))
         (Command.VmarProtect region addr len perm) (reply_for result)
         (spaces_of (regions_of regions.now) (table_of maps.new)) }
+    ensures left { LeavesSpaces (spaces_of (regions_of regions.now) (table_of maps.old)) (places_of translations.old)
+        (Command.VmarProtect region addr len perm) (reply_for result) (places_of translations.new) }
     ensures mapped { (v : ℕ) → mapped_count (spaces_of (regions_of regions.now) (table_of maps.new)) v
         ≡ mapped_count (spaces_of (regions_of regions.now) (table_of maps.old)) v }
 {
@@ -105,7 +126,10 @@ pub(crate) fn vmar_protect(
         return Answer::Refused(Refusal::BadState);
     }
     match region_ops::protect(regions, maps, region, addr, len, perm) {
-        Ok(()) => Answer::Done,
+        Ok(()) => {
+            forget_pages(translations, above.root, page_of(addr), page_count(len));
+            Answer::Done
+        }
         Err(refusal) => Answer::Refused(refusal),
     }
 }

@@ -8,8 +8,11 @@ ghost use Rattle.vm_model.specs.Machine.Lent.{reply_for};
 ghost use Rattle.vm_model.specs.Machine.State.{State};
 ghost use Rattle.vmo_table.specs.Table.{keepers_of, with_vmos, AreParts, IsWellCounted};
 ghost use Rattle.vmo_ops.specs.Targets.{AreTogether};
-ghost use Rattle.vm_core.specs.Calls.{Steps, StepsVmos};
+ghost use Rattle.fault.specs.Table.{places_of};
+ghost use Rattle.vm_core.specs.Calls.{LeavesVmos, Steps, StepsVmos};
 
+use crate::resets::child_made;
+use fault::Translations;
 use page_store::PageStore;
 use pin_table::PinTable;
 use vm_base::{Refusal, VmoName};
@@ -40,11 +43,13 @@ pub(crate) fn vmo_create<P: PageStore>(
     }
 }
 
-/// Makes a child of what `parent` stands for, where `parent` is open and the name is not.
+/// Makes a child of what `parent` stands for, where `parent` is open and the name is not. The translations of pages that a
+/// snapshot shows are left for reading alone.
 pub(crate) fn vmo_create_child<P: PageStore>(
     store: &mut P,
     vmos: &mut VmoTable,
     pins: &PinTable,
+    translations: &mut Translations,
     name: VmoName,
     parent: VmoName,
     kind: ChildKind,
@@ -58,6 +63,9 @@ pub(crate) fn vmo_create_child<P: PageStore>(
     ensures step { Steps (P.content store.old) vmos.old pins.now
         (Command.VmoChild name parent kind offset size resizable no_write) (reply_for result)
         (P.content store.new) vmos.new pins.now }
+    ensures left { LeavesVmos (P.content store.old) vmos.old (places_of translations.old)
+        (Command.VmoChild name parent kind offset size resizable no_write) (reply_for result)
+        (P.content store.new) (places_of translations.new) }
     ensures keepers { keepers_of vmos.new ≡ keepers_of vmos.old }
     ensures name { name.0 < NAMES }
 {
@@ -70,7 +78,10 @@ pub(crate) fn vmo_create_child<P: PageStore>(
     match vmo_ops::create_child(
         store, vmos, pins, name, &target, kind, offset, size, resizable, no_write,
     ) {
-        Ok(_) => Answer::Done,
+        Ok(_) => {
+            child_made(translations, store, &target, kind, offset, size);
+            Answer::Done
+        }
         Err(refusal) => Answer::Refused(refusal),
     }
 }

@@ -5,8 +5,11 @@ ghost use Rattle.std.specs.Prelude.{◌<◌, ◌≤◌, length};
 ghost use Rattle.vm_base.specs.declared.limits.TheConstants.{NAMES, PIN_PAGES};
 ghost use Rattle.vm_model.specs.declared.command.Command.{Command};
 ghost use Rattle.vm_model.specs.Machine.Lent.{reply_for};
-ghost use Rattle.vm_core.specs.Calls.{AreCounted, KeepsCounts, Steps};
+ghost use Rattle.fault.specs.Table.{places_of};
+ghost use Rattle.vm_core.specs.Calls.{AreCounted, KeepsCounts, LeavesVmos, Steps};
 
+use crate::resets::forget_changed;
+use fault::Translations;
 use page_store::PageStore;
 use pin_table::PinTable;
 use vm_base::{PinName, Refusal, VmoName};
@@ -14,11 +17,12 @@ use vm_model::Answer;
 use vmo_table::VmoTable;
 
 /// Pins the pages of a range, where the name is open and the pin is not there, with room for the numbers of
-/// `PIN_PAGES` frames.
+/// `PIN_PAGES` frames. The translations of pages that it gave frames are forgotten.
 pub(crate) fn vmo_pin<'a, P: PageStore>(
     store: &mut P,
     vmos: &mut VmoTable,
     pins: &mut PinTable,
+    translations: &mut Translations,
     pin: PinName,
     name: VmoName,
     offset: u64,
@@ -30,6 +34,8 @@ pub(crate) fn vmo_pin<'a, P: PageStore>(
     ensures step { Steps (P.content store.old) vmos.old pins.old (Command.VmoPin pin name offset len)
         (reply_for result) (P.content store.new) vmos.new pins.new }
     ensures counted { KeepsCounts vmos.old pins.old vmos.new pins.new }
+    ensures left { LeavesVmos (P.content store.old) vmos.old (places_of translations.old) (Command.VmoPin pin name offset len)
+        (reply_for result) (P.content store.new) (places_of translations.new) }
     ensures pin { pin.0 < NAMES }
 {
     let Some(target) = vmos.resolve(name) else {
@@ -39,7 +45,10 @@ pub(crate) fn vmo_pin<'a, P: PageStore>(
         return Answer::Refused(Refusal::NameInUse);
     }
     match vmo_ops::pin_into(store, vmos, pins, pin, &target, offset, len, room) {
-        Ok(numbers) => Answer::Pins(numbers),
+        Ok(numbers) => {
+            forget_changed(translations, store, &target, offset, len);
+            Answer::Pins(numbers)
+        }
         Err(refusal) => Answer::Refused(refusal),
     }
 }

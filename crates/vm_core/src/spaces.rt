@@ -8,8 +8,11 @@ ghost use Rattle.vm_model.specs.Machine.Lent.{reply_for};
 ghost use Rattle.mapping_set.specs.Tables.{table_of};
 ghost use Rattle.region_tree.specs.Tree.{regions_of, spaces_of};
 ghost use Rattle.region_ops.specs.Spaces.{AreAllWell, Does};
-ghost use Rattle.vm_core.specs.Calls.{StepsSpaces};
+ghost use Rattle.fault.specs.Table.{places_of};
+ghost use Rattle.vm_core.specs.Calls.{LeavesSpaces, StepsSpaces};
 
+use crate::resets::forget_pages;
+use fault::Translations;
 use mapping_set::MappingSet;
 use page_store::PageStore;
 use region_tree::Regions;
@@ -68,19 +71,23 @@ pub(crate) fn vmar_allocate(
     }
 }
 
-/// Destroys a region and all below it, where it was given and is live. What is mapped in them is unmapped.
+/// Destroys a region and all below it, where it was given and is live. What is mapped in them is unmapped,
+/// and the translations of their pages are forgotten.
 #[tactic(auto, unfolding(vm_model::specs::Space::Regions::region_of, vm_base::specs::Entries::passes))]
 pub(crate) fn vmar_destroy<P: PageStore>(
     store: &mut P,
     vmos: &mut VmoTable,
     regions: &mut Regions,
     maps: &mut MappingSet,
+    translations: &mut Translations,
     region: RegionName,
 ) -> Answer<'static>
     requires { AreAllWell (P.content store.old) vmos.old (spaces_of (regions_of regions.old) (table_of maps.old)) }
-    ensures { Does (P.content store.old) vmos.old (spaces_of (regions_of regions.old) (table_of maps.old))
+    ensures step { Does (P.content store.old) vmos.old (spaces_of (regions_of regions.old) (table_of maps.old))
         (Command.VmarDestroy region) (reply_for result)
         (P.content store.new) vmos.new (spaces_of (regions_of regions.new) (table_of maps.new)) }
+    ensures left { LeavesSpaces (spaces_of (regions_of regions.old) (table_of maps.old)) (places_of translations.old)
+        (Command.VmarDestroy region) (reply_for result) (places_of translations.new) }
 {
     let Some(dying) = regions.get(region) else {
         return Answer::Refused(Refusal::BadHandle);
@@ -89,5 +96,6 @@ pub(crate) fn vmar_destroy<P: PageStore>(
         return Answer::Refused(Refusal::BadState);
     }
     region_ops::destroy(store, vmos, regions, maps, region);
+    forget_pages(translations, dying.root, dying.first, dying.count);
     Answer::Done
 }

@@ -5,8 +5,7 @@ ghost use Rattle.vm_base.specs.declared.limits.TheConstants.{DATA_BYTES, KOIDS, 
 ghost use Rattle.vm_model.specs.Machine.Lent.{command_of, reply_for};
 
 use crate::dispatching::{dispatch, on_memory};
-use crate::resets;
-use crate::subjects::{Subject, subject_of};
+use crate::groups::{Group, group_of};
 use fault::Translations;
 use mapping_set::MappingSet;
 use page_store::PageStore;
@@ -106,7 +105,7 @@ impl Vm {
         ensures good { IsGoodMachine (machine_of (P.content store.new) self.new) }
         ensures next { (P.content store.new).next ≤ (P.content store.old).next + 1 }
     {
-        if let Subject::Memory = subject_of(call) {
+        if let Group::Memory = group_of(call) {
             return on_memory(
                 store,
                 &self.regions,
@@ -116,19 +115,17 @@ impl Vm {
                 bytes,
             );
         }
-        let reset = resets::reset_for(&self.translations, store, &self.vmos, &self.regions, call);
-        let answer = dispatch(
+        dispatch(
             self.alloc,
             store,
             &mut self.vmos,
             &mut self.pins,
             &mut self.regions,
             &mut self.maps,
+            &mut self.translations,
             call,
             bytes,
             numbers,
-        );
-        resets::apply(&mut self.translations, store, reset, &answer);
-        answer
+        )
     }
 }

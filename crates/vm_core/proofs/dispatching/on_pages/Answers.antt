@@ -1,5 +1,5 @@
 use Rattle.std.proofs.Common.{refl}
-use Rattle.vm_core.proofs.CallLaws.{parts_counted, together_of, does_steps, does_vmos}
+use Rattle.vm_core.proofs.CallLaws.{parts_counted, together_of, does_steps, does_vmos, leaves_all}
 use Rattle.vm_core.proofs.dispatching.on_pages.Goals as goal
 
 pub vmo_read-requires-clause-parts : goal.vmo_read-requires-clause-parts
@@ -21,19 +21,19 @@ pub vmo_decommit-requires : goal.vmo_decommit-requires
 vmo_decommit-requires g c = together_of c.requires.counted
 
 pub returns-in-VmoRead : goal.returns-in-VmoRead
-returns-in-VmoRead g c = rw c.in-VmoRead.is (does_vmos c.vmo_read.ensures refl tt)
+returns-in-VmoRead g c = rw c.in-VmoRead.is (does_vmos c.vmo_read.ensures (leaves_all (λ s r. refl)) refl tt)
 
 pub returns-in-VmoWrite : goal.returns-in-VmoWrite
-returns-in-VmoWrite g c = rw c.in-VmoWrite.is (rw (← c.as_slice.ensures.value) (does_vmos c.vmo_write.ensures refl tt))
+returns-in-VmoWrite g c = rw c.in-VmoWrite.is (rw (← c.as_slice.ensures.value) (does_vmos c.vmo_write.ensures.step c.vmo_write.ensures.left refl tt))
 
 pub returns-in-VmoFill : goal.returns-in-VmoFill
-returns-in-VmoFill g c = rw c.in-VmoFill.is (does_vmos c.vmo_fill.ensures refl tt)
+returns-in-VmoFill g c = rw c.in-VmoFill.is (does_vmos c.vmo_fill.ensures.step c.vmo_fill.ensures.left refl tt)
 
 pub returns-in-VmoCommit : goal.returns-in-VmoCommit
-returns-in-VmoCommit g c = rw c.in-VmoCommit.is (does_vmos c.vmo_commit.ensures refl tt)
+returns-in-VmoCommit g c = rw c.in-VmoCommit.is (does_vmos c.vmo_commit.ensures.step c.vmo_commit.ensures.left refl tt)
 
 pub returns-in-VmoZero : goal.returns-in-VmoZero
-returns-in-VmoZero g c = rw c.in-VmoZero.is (does_steps c.vmo_zero.ensures refl tt)
+returns-in-VmoZero g c = rw c.in-VmoZero.is (does_steps c.vmo_zero.ensures.step c.vmo_zero.ensures.left refl tt)
 
 pub returns-in-VmoDecommit : goal.returns-in-VmoDecommit
-returns-in-VmoDecommit g c = rw c.in-VmoDecommit.is (does_steps c.vmo_decommit.ensures refl tt)
+returns-in-VmoDecommit g c = rw c.in-VmoDecommit.is (does_steps c.vmo_decommit.ensures.step c.vmo_decommit.ensures.left refl tt)

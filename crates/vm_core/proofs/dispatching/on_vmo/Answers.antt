@@ -1,5 +1,5 @@
 use Rattle.std.proofs.Common.{refl}
-use Rattle.vm_core.proofs.CallLaws.{parts_counted, together_of, kept_counted, does_steps, does_vmos}
+use Rattle.vm_core.proofs.CallLaws.{parts_counted, together_of, kept_counted, does_steps, does_vmos, leaves_all}
 use Rattle.vm_core.proofs.dispatching.on_vmo.Goals as goal
 
 pub vmo_create-requires-clause-parts : goal.vmo_create-requires-clause-parts
@@ -21,19 +21,19 @@ pub vmo_info-requires : goal.vmo_info-requires
 vmo_info-requires g c = parts_counted c.requires.counted
 
 pub returns-in-VmoCreate : goal.returns-in-VmoCreate
-returns-in-VmoCreate g c = rw c.in-VmoCreate.is (does_vmos c.vmo_create.ensures.step c.vmo_create.ensures.keepers c.vmo_create.ensures.name)
+returns-in-VmoCreate g c = rw c.in-VmoCreate.is (does_vmos c.vmo_create.ensures.step (leaves_all (λ s r. refl)) c.vmo_create.ensures.keepers c.vmo_create.ensures.name)
 
 pub returns-in-VmoChild : goal.returns-in-VmoChild
-returns-in-VmoChild g c = rw c.in-VmoChild.is (does_steps c.vmo_create_child.ensures.step c.vmo_create_child.ensures.keepers c.vmo_create_child.ensures.name)
+returns-in-VmoChild g c = rw c.in-VmoChild.is (does_steps c.vmo_create_child.ensures.step c.vmo_create_child.ensures.left c.vmo_create_child.ensures.keepers c.vmo_create_child.ensures.name)
 
 pub returns-in-VmoClose : goal.returns-in-VmoClose
-returns-in-VmoClose g c = rw c.in-VmoClose.is (does_vmos c.vmo_close.ensures.step c.vmo_close.ensures.keepers tt)
+returns-in-VmoClose g c = rw c.in-VmoClose.is (does_vmos c.vmo_close.ensures.step (leaves_all (λ s r. refl)) c.vmo_close.ensures.keepers tt)
 
 pub returns-in-VmoSize : goal.returns-in-VmoSize
-returns-in-VmoSize g c = rw c.in-VmoSize.is (does_vmos c.vmo_size.ensures refl tt)
+returns-in-VmoSize g c = rw c.in-VmoSize.is (does_vmos c.vmo_size.ensures (leaves_all (λ s r. refl)) refl tt)
 
 pub returns-in-VmoSetSize : goal.returns-in-VmoSetSize
-returns-in-VmoSetSize g c = rw c.in-VmoSetSize.is (does_steps c.vmo_set_size.ensures refl tt)
+returns-in-VmoSetSize g c = rw c.in-VmoSetSize.is (does_steps c.vmo_set_size.ensures.step c.vmo_set_size.ensures.left refl tt)
 
 pub returns-in-VmoInfo : goal.returns-in-VmoInfo
-returns-in-VmoInfo g c = rw c.in-VmoInfo.is (does_vmos c.vmo_info.ensures refl tt)
+returns-in-VmoInfo g c = rw c.in-VmoInfo.is (does_vmos c.vmo_info.ensures (leaves_all (λ s r. refl)) refl tt)

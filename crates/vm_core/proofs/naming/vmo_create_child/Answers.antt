@@ -1,9 +1,34 @@
-use Rattle.std.proofs.Common.{sym}
+use Rattle.std.proofs.Common.{sym, subst}
+use Rattle.vm_model.specs.declared.command.ChildKind.{ChildKind}
+use Rattle.vm_model.specs.declared.command.Command.TheVariants.{VmoChild}
+use Rattle.vm_model.specs.declared.names.Target.{Target}
+use Rattle.vm_model.specs.declared.reply.Reply.TheVariants.{Done}
+use Rattle.vmo_table.specs.Table.{with_vmos}
+use Rattle.vmo_ops.specs.Targets.{with_tables}
+use Rattle.fault.specs.Table.{places_of}
+use Rattle.vm_core.specs.Resets.{shared_by, IsShared}
+use Rattle.vm_core.proofs.BoundLaws.{bounds_of}
+use Rattle.vm_core.proofs.LeavesLaws.{asked_named, left_named}
 use Rattle.vm_core.proofs.naming.vmo_create_child.Goals as goal
+
+pub child_made-requires : goal.child_made-requires
+child_made-requires g c = λ snapshot.
+    let s = with_tables c.requires.good.rest (g.P.PageStore.content c.args.store.now) c.args.vmos.now c.args.pins.now in
+    let new = g.P.PageStore.content c.create_child.new.store in
+    let command = λ (kind : ChildKind). VmoChild c.args.name c.args.parent kind c.args.offset c.args.size c.args.resizable c.args.no_write in
+    asked_named s c.args.parent.0 (command c.args.kind) c.requires.good.good (c.in-Ok.ensures.step s c.args.parent (sym c.in-Some.ensures))
+    (λ (target : Target). IsShared new target c.args.offset c.args.size) c.in-Some.ensures (λ refusal e. cc) (λ asked. subst (λ (kind : ChildKind). bounds_of s (command kind) new Done) snapshot asked)
 
 pub returns-in-Ok-clause-step : goal.returns-in-Ok-clause-step
 returns-in-Ok-clause-step g c =
     record { step = λ s good. c.in-Ok.ensures.step s c.args.parent (sym c.in-Some.ensures) }
+
+pub returns-in-Ok-clause-left : goal.returns-in-Ok-clause-left
+returns-in-Ok-clause-left g c = record {
+  left = λ s.
+      left_named (with_vmos s (g.P.PageStore.content c.args.store.now) c.args.vmos.now) c.args.parent.0
+      (λ (target : Target). shared_by c.args.kind (g.P.PageStore.content c.create_child.new.store) target c.args.offset c.args.size (places_of c.args.translations.now)) c.in-Some.ensures c.child_made.ensures;
+}
 
 pub returns-in-Err-clause-step : goal.returns-in-Err-clause-step
 returns-in-Err-clause-step g c =

@@ -2,7 +2,7 @@ use Rattle.std.proofs.Common.{◌∙◌}
 use Rattle.vm_model.specs.Machine.Lent.{command_of, reply_for}
 use Rattle.vm_core.specs.Vm.{Parts}
 use Rattle.vm_core.specs.VmFields.{parts_of}
-use Rattle.vm_core.proofs.AnswerLaws.{no_access, parts_of_agrees, reset_bounded, Answers, command_answered, access_answered}
+use Rattle.vm_core.proofs.AnswerLaws.{no_access, Answers, command_answered, access_answered}
 use Rattle.vm_core.proofs.vm.Vm.answer.Given as given
 use Rattle.vm_core.proofs.vm.Vm.answer.Goals as goal
 
@@ -24,19 +24,10 @@ returns-in-Memory-clause-good g c = (accessed g c).keeps.good
 pub returns-in-Memory-clause-next : goal.returns-in-Memory-clause-next
 returns-in-Memory-clause-next g c = (accessed g c).keeps.next
 
-pub reset_for-reset-requires : goal.reset_for-reset-requires
-reset_for-reset-requires g c = parts_of_agrees _ _ (rw (← c.self.view_is) at c.requires.agrees)
-
-pub apply-requires : goal.apply-requires
-apply-requires g c =
-    reset_bounded _ (parts_of c.self.inside) (command_of c.args.call.now) (reply_for c.dispatch-answer.result) c.reset_for-reset.result c.reset_for-reset.ensures _
-    (rw (← c.self.view_is) at c.requires.agrees.good) c.dispatch-answer.ensures.step
-
 pub returns : goal.returns
 returns g c =
-    let new = c.dispatch-answer.new in
-    let vm : Parts = record { vmos = new.vmos; pins = new.pins; regions = new.regions; maps = new.maps; translations = c.apply.new.translations } in
-    let answers = command_answered _ (parts_of c.self.inside) (command_of c.args.call.now) (reply_for c.dispatch-answer.result) (g.P.PageStore.content new.store) vm
-    (rw (← c.self.view_is) at c.requires.agrees) c.reset_for-reset.result (no_access c.args.call.now (λ e. c.in_default.not-Memory (c.subject_of.ensures ∙ e)))
-    c.reset_for-reset.ensures c.dispatch-answer.ensures c.apply.ensures in
+    let new = c.dispatch.new in
+    let vm : Parts = record { vmos = new.vmos; pins = new.pins; regions = new.regions; maps = new.maps; translations = new.ready } in
+    let answers = command_answered _ (parts_of c.self.inside) (command_of c.args.call.now) (reply_for c.dispatch.result) (g.P.PageStore.content new.store) vm
+    (rw (← c.self.view_is) at c.requires.agrees) (no_access c.args.call.now (λ e. c.in_default.not-Memory (c.group_of.ensures ∙ e))) c.dispatch.ensures in
     record { step = rw (← c.self.view_is) answers.step; agrees = answers.agrees; good = answers.keeps.good; next = answers.keeps.next }

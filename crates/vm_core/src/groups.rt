@@ -1,13 +1,13 @@
-//! What a command is about.
+//! The groups of commands, by which they are handled.
 
 ghost use Rattle.std.specs.Prelude.{◌≡◌};
-ghost use Rattle.vm_core.specs.Subjects.{subject_of};
+ghost use Rattle.vm_core.specs.Groups.{group_of};
 
 use vm_model::Call;
 
-/// What a command is about, by which it is handled.
+/// A group of commands, which one function of `dispatching.rt` hands to their handlers: those on one thing.
 #[derive(Clone, Copy, Debug)]
-pub(crate) enum Subject {
+pub(crate) enum Group {
     /// A VMO as a whole.
     Vmo,
     /// Pages of a VMO.
@@ -22,10 +22,10 @@ pub(crate) enum Subject {
     Machine,
 }
 
-/// What a command is about.
+/// The group of a command.
 #[inline(always)]
-pub(crate) fn subject_of(call: &Call<'_>) -> Subject
-    ensures { result ≡ subject_of call.now }
+pub(crate) fn group_of(call: &Call<'_>) -> Group
+    ensures { result ≡ group_of call.now }
 {
     match call {
         Call::VmoCreate { .. }
@@ -33,22 +33,22 @@ pub(crate) fn subject_of(call: &Call<'_>) -> Subject
         | Call::VmoClose { .. }
         | Call::VmoSize { .. }
         | Call::VmoSetSize { .. }
-        | Call::VmoInfo { .. } => Subject::Vmo,
+        | Call::VmoInfo { .. } => Group::Vmo,
         Call::VmoRead { .. }
         | Call::VmoWrite { .. }
         | Call::VmoFill { .. }
         | Call::VmoCommit { .. }
         | Call::VmoDecommit { .. }
-        | Call::VmoZero { .. } => Subject::Pages,
-        Call::VmoPin { .. } | Call::VmoUnpin { .. } => Subject::Pin,
+        | Call::VmoZero { .. } => Group::Pages,
+        Call::VmoPin { .. } | Call::VmoUnpin { .. } => Group::Pin,
         Call::RootCreate { .. }
         | Call::VmarAllocate { .. }
         | Call::VmarMap { .. }
         | Call::VmarUnmap { .. }
         | Call::VmarProtect { .. }
         | Call::VmarDestroy { .. }
-        | Call::Maps { .. } => Subject::Region,
-        Call::MemRead { .. } | Call::MemWrite { .. } => Subject::Memory,
-        Call::Stat => Subject::Machine,
+        | Call::Maps { .. } => Group::Region,
+        Call::MemRead { .. } | Call::MemWrite { .. } => Group::Memory,
+        Call::Stat => Group::Machine,
     }
 }

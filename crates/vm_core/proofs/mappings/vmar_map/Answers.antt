@@ -1,0 +1,29 @@
+use Rattle.std.proofs.Common.{◌/◌, refl, sym, arith}
+use Rattle.vm_base.specs.Pages.{rounded}
+use Rattle.vm_base.specs.declared.limits.TheConstants.{PAGE}
+use Rattle.vm_model.specs.declared.command.Command.TheVariants.{VmarMap}
+use Rattle.vm_model.specs.declared.space.Region.{Region}
+use Rattle.vm_model.specs.declared.reply.Reply.TheVariants.{Address}
+use Rattle.mapping_set.specs.Tables.{table_of}
+use Rattle.region_tree.specs.Tree.{regions_of, spaces_of}
+use Rattle.region_ops.specs.Spaces.{with_all, with_spaces}
+use Rattle.fault.specs.Table.{places_of}
+use Rattle.vm_core.specs.Resets.{without_pages}
+use Rattle.vm_core.proofs.BoundLaws.{done_bounds}
+use Rattle.vm_core.proofs.LeavesLaws.{left_region}
+use Rattle.vm_core.proofs.mappings.vmar_map.Goals as goal
+
+pub forget_pages-requires : goal.forget_pages-requires
+forget_pages-requires g c =
+    let s = with_all c.requires.rest (g.P.PageStore.content c.args.store.now) c.args.vmos.now (spaces_of (regions_of c.args.regions.now) (table_of c.args.maps.now)) in
+    let does = c.in-Ok.ensures c.args.name (sym c.in-Some-resolve.ensures) in
+    let bound = done_bounds s (VmarMap c.args.region c.args.offset c.args.name c.args.vmo_offset c.args.len c.args.perm c.args.flags) (Address c.in-Ok.address) _ c.requires.well.good (does.step c.requires.rest c.requires.well) (λ refusal e. cc) c.in-Ok.address refl in
+    omega (arith, bound, c.page_of.ensures, c.page_count.ensures)
+
+pub returns-in-Ok-clause-left : goal.returns-in-Ok-clause-left
+returns-in-Ok-clause-left g c = record {
+  left = λ s d.
+      left_region (with_spaces s (spaces_of (regions_of c.args.regions.now) (table_of c.args.maps.now))) c.args.region.0
+      (λ (above : Region). without_pages above.root (c.in-Ok.address / PAGE) (rounded c.args.len / PAGE) (places_of c.args.translations.now)) c.in-Some.ensures.region
+      (rw (c.page_of.ensures, c.page_count.ensures) at c.forget_pages.ensures);
+}

@@ -1,0 +1,28 @@
+use Rattle.std.proofs.Common.{◌/◌, arith}
+use Rattle.vm_base.specs.Pages.{rounded}
+use Rattle.vm_base.specs.declared.limits.TheConstants.{PAGE}
+use Rattle.vm_model.specs.declared.command.Command.TheVariants.{VmarProtect}
+use Rattle.vm_model.specs.declared.space.Region.{Region}
+use Rattle.vm_model.specs.declared.reply.Reply.TheVariants.{Done}
+use Rattle.mapping_set.specs.Tables.{table_of}
+use Rattle.region_tree.specs.Tree.{regions_of, spaces_of}
+use Rattle.region_ops.specs.Spaces.{with_spaces}
+use Rattle.fault.specs.Table.{places_of}
+use Rattle.vm_core.specs.Resets.{without_pages}
+use Rattle.vm_core.proofs.BoundLaws.{done_bounds}
+use Rattle.vm_core.proofs.LeavesLaws.{left_region}
+use Rattle.vm_core.proofs.mappings.vmar_protect.Goals as goal
+
+pub forget_pages-requires : goal.forget_pages-requires
+forget_pages-requires c =
+    let s = with_spaces c.requires.0 (spaces_of (regions_of c.args.regions.now) (table_of c.args.maps.now)) in
+    let bound = done_bounds s (VmarProtect c.args.region c.args.addr c.args.len c.args.perm) Done _ c.requires.1 (c.in-Ok.ensures.step c.requires.0) (λ refusal e. cc) in
+    omega (arith, bound, c.page_of.ensures, c.page_count.ensures)
+
+pub returns-in-Ok-clause-left : goal.returns-in-Ok-clause-left
+returns-in-Ok-clause-left c = record {
+  left = λ s d.
+      left_region (with_spaces s (spaces_of (regions_of c.args.regions.now) (table_of c.args.maps.now))) c.args.region.0
+      (λ (above : Region). without_pages above.root (c.args.addr / PAGE) (rounded c.args.len / PAGE) (places_of c.args.translations.now)) c.in-Some.ensures.region
+      (rw (c.page_of.ensures, c.page_count.ensures) at c.forget_pages.ensures);
+}

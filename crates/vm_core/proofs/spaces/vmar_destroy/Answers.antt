@@ -1,0 +1,25 @@
+use Rattle.std.proofs.Common.{◌≤◌}
+use Rattle.vm_base.specs.declared.limits.TheConstants.{PAGES_END}
+use Rattle.vm_model.specs.declared.command.Command.TheVariants.{VmarDestroy}
+use Rattle.vm_model.specs.declared.space.Region.{Region}
+use Rattle.vm_model.specs.Space.Regions.{end_of}
+use Rattle.mapping_set.specs.Tables.{table_of}
+use Rattle.region_tree.specs.Tree.{regions_of, spaces_of}
+use Rattle.region_ops.specs.Spaces.{with_all, with_spaces}
+use Rattle.fault.specs.Table.{places_of}
+use Rattle.vm_core.specs.Resets.{without_pages}
+use Rattle.vm_core.proofs.LeavesLaws.{asked_region, left_region}
+use Rattle.vm_core.proofs.spaces.vmar_destroy.Goals as goal
+
+pub forget_pages-requires : goal.forget_pages-requires
+forget_pages-requires g c =
+    let s = with_all c.requires.rest (g.P.PageStore.content c.args.store.now) c.args.vmos.now (spaces_of (regions_of c.args.regions.now) (table_of c.args.maps.now)) in
+    asked_region s c.args.region.0 (VmarDestroy c.args.region) c.requires.well.good (c.destroy.ensures.step c.requires.rest c.requires.well)
+    (λ (dying : Region). end_of dying ≤ PAGES_END) c.in-Some.ensures.region (λ refusal e. cc) (λ asked. asked)
+
+pub returns-clause-left : goal.returns-clause-left
+returns-clause-left g c = record {
+  left = λ s d.
+      left_region (with_spaces s (spaces_of (regions_of c.args.regions.now) (table_of c.args.maps.now))) c.args.region.0
+      (λ (dying : Region). without_pages dying.root dying.first dying.count (places_of c.args.translations.now)) c.in-Some.ensures.region c.forget_pages.ensures;
+}
