@@ -2,7 +2,10 @@
 use Rattle.std.proofs.Common.{◌≡◌, ◌≢◌, ℕ, zero, suc, ◌+◌, ◌-◌, ◌<◌, ◌≤◌, Bool, true, false, cond, ◌==◌, List, [], ◌∷◌, ◌++◌, length, get_or, set, reverse, slice_get, Option, None, Some, IsSome, is_some, refl, sym, ap, subst, ◌∙◌, arith, length-set}
 use Rattle.std.specs.Vec.{vec_len, with_item}
 use Rattle.std.proofs.lemmas.Bool.Decides.{nat_tests}
-use Rattle.std.proofs.lemmas.List.{length_push, append-nil, reverse-append, length-reverse}
+use Rattle.std.specs.Prelude.{if◌then◌else◌}
+use Rattle.std.proofs.lemmas.Bool.{eqb-true, eqb-false}
+use Rattle.std.proofs.lemmas.Grind.{get_or-set_at}
+use Rattle.std.proofs.lemmas.List.{get_or-set_other, length_push, append-nil, reverse-append, length-reverse}
 use Rattle.std.proofs.lemmas.Option.{slice_get-get_or, slice_get_past, slice_get_within}
 use Rattle.vm_base.specs.declared.limits.TheConstants.{FRAMES}
 use Rattle.vm_base.specs.declared.names.Tag.{Tag}
@@ -12,7 +15,8 @@ use Rattle.vm_base.proofs.SearchLaws.{count_below_same, bit-true}
 use Rattle.vm_base.proofs.EntryLaws.{some_is, with_key-other, with_key-stays, entry_count-empty, entry_count-change, entry_count-with_key, entry_count-without_key}
 use Rattle.frame_pool.specs.declared.frame_pool.FramePool.TheInside.{Inside}
 use Rattle.frame_pool.specs.PoolFields.{pool_of, ArePool}
-use Rattle.frame_pool.specs.Pool.{Pool, is_idle, taken_frames, frame_bytes, taken_count, Takes, AreDistinctBelow, IsPool}
+use Rattle.frame_pool.specs.declared.frame_pool.Backlink.{Backlink}
+use Rattle.frame_pool.specs.Pool.{Pool, is_idle, taken_frames, frame_bytes, taken_count, links_of, no_link, Takes, AreDistinctBelow, IsPool}
 
 -- ---- how many frames are taken
 
@@ -108,7 +112,7 @@ same_map m n same = λ i t. same t i
 -- ---- what holds of every pool
 
 abbrev empty_pool : Pool
-empty_pool = record { frames = 0; buffer = []; idle = [] }
+empty_pool = record { frames = 0; buffer = []; links = []; idle = [] }
 
 pub IsPool-empty : IsPool empty_pool
 unfolding AreDistinctBelow
@@ -121,18 +125,18 @@ IsPool-empty = record {
       omega (arith, entry_count-empty 0 (λ (b : List ℕ). true) (taken_frames empty_pool) each);
 }
 
--- a pool with no frames gets some, and all are free
-module _ (p : Pool) (frames : ℕ) (pool : IsPool p) (none : p.frames ≡ 0) where
-  pub all_free : (t : ℕ) → taken_frames (record p { frames = frames }) t ≡ None
-  all_free t = past_buffer (record p { frames = frames }) t (omega (arith, pool.fits))
+-- a pool with no frames gets some, with these backlinks, and all are free
+module _ (p : Pool) (frames : ℕ) (links : List Backlink) (pool : IsPool p) (none : p.frames ≡ 0) where
+  pub all_free : (t : ℕ) → taken_frames (record p { frames = frames; links = links }) t ≡ None
+  all_free t = past_buffer (record p { frames = frames; links = links }) t (omega (arith, pool.fits))
 
-  pub IsPool-filled : frames ≤ FRAMES → IsPool (record p { frames = frames })
+  pub IsPool-filled : frames ≤ FRAMES → IsPool (record p { frames = frames; links = links })
   IsPool-filled bound = record {
     bound = bound;
     fits = omega (arith, pool.fits);
     idle = pool.idle;
     counted =
-        let now = taken_frames (record p { frames = frames }) in
+        let now = taken_frames (record p { frames = frames; links = links }) in
         omega (arith, pool.fits, pool.counted, entry_count-empty frames (λ (b : List ℕ). true) now all_free);
   }
 
@@ -301,6 +305,7 @@ ArePool-written a t bytes are taken = record {
   pool = IsPool-written (pool_of a) t bytes are.pool taken;
   buffer_room = are.buffer_room;
   idle_room = are.idle_room;
+  linked = are.linked;
 }
 
 -- its bytes stand in the buffer
@@ -310,6 +315,39 @@ in_range a t taken = omega (arith, a.buffer.ok.0, (in_buffer (pool_of a) t taken
 -- how many frames are free
 pub free_frames : (p : Pool) → IsPool p → p.frames - length p.buffer + length p.idle + taken_count p ≡ p.frames
 free_frames p pool = omega (arith, pool.counted, pool.fits)
+
+-- ---- backlinks
+
+-- the frames are the same with other backlinks
+module _ (p : Pool) (links : List Backlink) where
+  pub taken_frames-linked : taken_frames (record p { links = links }) ≡ taken_frames p
+  unfolding taken_frames
+  taken_frames-linked = refl
+
+  pub IsPool-linked : IsPool p → IsPool (record p { links = links })
+  IsPool-linked pool = record {
+    bound = pool.bound;
+    fits = pool.fits;
+    idle = pool.idle;
+    counted = rw taken_frames-linked pool.counted;
+  }
+
+-- a taken frame has a backlink
+module _ (a : Inside) (t : ℕ) (are : ArePool a) (taken : IsSome (taken_frames (pool_of a) t)) where
+  pub has_link : t < vec_len a.links
+  has_link = omega (arith, are.linked, taken_below (pool_of a) t are.pool taken)
+
+  pub has_link_at : t < length a.links.items
+  has_link_at = omega (arith, a.links.ok.0, has_link)
+
+  pub links_of-noted : (link : Backlink) → links_of (record (pool_of a) { links = set a.links.items t link })
+      ≡ (λ u. if u == t then link else links_of (pool_of a) u)
+  links_of-noted link = λ i u. noted u (u == t) refl i
+    where
+      noted : (u : ℕ) (b : Bool) → (u == t) ≡ b →
+          get_or (set a.links.items t link) u no_link ≡ (if u == t then link else get_or a.links.items u no_link)
+      noted u true same = rw same (get_or-set_at a.links.items t u link no_link (eqb-true u t same) has_link_at)
+      noted u false other = rw other (get_or-set_other a.links.items t u link no_link (eqb-false u t other))
 
 -- ---- for callers
 

@@ -1,15 +1,17 @@
 -- The pool of page frames as plain lists, and what it is to its callers: a number of frames, and a map from the tags of
 -- those that are taken to their bytes.
-use Rattle.std.specs.Prelude.{◌≡◌, ℕ, ◌+◌, ◌<◌, ◌≤◌, Bool, true, false, ◌||◌, ◌==◌, List, [], ◌∷◌, length, slice_get, if◌then◌else◌, Option, None, unwrap_or}
+use Rattle.std.specs.Prelude.{◌≡◌, ℕ, ◌+◌, ◌<◌, ◌≤◌, Bool, true, false, ◌||◌, ◌==◌, List, [], ◌∷◌, length, slice_get, slice_index_or, if◌then◌else◌, Option, None, unwrap_or}
 use Rattle.vm_base.specs.declared.limits.TheConstants.{FRAMES}
 use Rattle.vm_base.specs.declared.names.Tag.{Tag}
 use Rattle.vm_base.specs.Entries.{with_key, entry_count}
+use Rattle.frame_pool.specs.declared.frame_pool.Backlink.{Backlink}
 
--- the number of frames, the bytes of those that were taken at some time, by tag, and those of them that were given back,
--- the last one first
+-- the number of frames, the bytes of those that were taken at some time, by tag, the backlinks of all, and those of the
+-- frames that were taken at some time that were given back, the last one first
 pub record Pool : Type 0 where
   pub frames : ℕ
   pub buffer : List (List ℕ)
+  pub links : List Backlink
   pub idle : List Tag
 
 -- the tag t is in the list
@@ -24,6 +26,14 @@ taken_frames p t = if is_idle p.idle t then None else slice_get p.buffer t
 -- the bytes of a frame that is taken
 abbrev pub frame_bytes : Pool → ℕ → List ℕ
 frame_bytes p t = unwrap_or (taken_frames p t) []
+
+-- the backlink of a frame that none was given
+abbrev pub no_link : Backlink
+no_link = record { list = 0; page = 0 }
+
+-- the backlink of each frame
+abbrev pub links_of : Pool → ℕ → Backlink
+links_of p t = slice_index_or p.links t no_link
 
 -- how many frames are taken
 abbrev pub taken_count : Pool → ℕ

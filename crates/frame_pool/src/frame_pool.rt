@@ -1,13 +1,25 @@
 //! The pool of page frames.
 
-ghost use Rattle.std.specs.Prelude.{◌≡◌, ℕ, ◌+◌, ◌<◌, ◌≤◌, ◌≢◌, length, take, drop, None, IsSome, IfSome, IfNone, OnOk, OnErr};
+ghost use Rattle.std.specs.Prelude.{◌≡◌, ℕ, ◌+◌, ◌<◌, ◌≤◌, ◌≢◌, ◌==◌, if◌then◌else◌, length, take, drop, None, IsSome, IfSome, IfNone, OnOk, OnErr};
 ghost use Rattle.vm_base.specs.Entries.{with_key, without_key};
 ghost use Rattle.vm_base.specs.Pages.{zeros, replaced};
-ghost use Rattle.frame_pool.specs.Pool.{Pool, taken_frames, frame_bytes, taken_count, Takes};
+ghost use Rattle.frame_pool.specs.Pool.{Pool, taken_frames, frame_bytes, taken_count, links_of, Takes};
 
 use std::alloc::Global;
 use std::marker::Model;
-use vm_base::{FRAMES, HostMemory, PAGE, PAGE_BYTES, Tag};
+use vm_base::{FRAMES, HostMemory, PAGE, PAGE_BYTES, PageNo, Tag};
+
+/// No list: the backlink of a frame that was given none.
+const NO_LINK: Backlink = Backlink { list: 0, page: 0 };
+
+/// The row of a table of pages that has a frame: the backlink of the kernel's `vm_page`.
+#[derive(Clone, Copy, Debug, PartialEq, Eq)]
+pub struct Backlink {
+    /// The number of the list of pages.
+    pub list: u64,
+    /// The page of the list.
+    pub page: PageNo,
+}
 
 /// The page frames of the machine: each is free, or taken with its bytes. A frame has `PAGE_BYTES` bytes
 /// and a tag, a number below the number of frames. No call but `fill` answers want of memory.
@@ -17,6 +29,8 @@ pub struct FramePool {
     frames: u32,
     /// The bytes of the frames that were taken at some time, by tag.
     buffer: Vec<[u8; PAGE_BYTES]>,
+    /// The backlink of each frame, by tag.
+    links: Vec<Backlink>,
     /// The frames of the buffer that were given back, the last one last.
     idle: Vec<Tag>,
 }
@@ -42,6 +56,7 @@ impl FramePool {
         FramePool {
             frames: 0,
             buffer: Vec::new(alloc),
+            links: Vec::new(alloc),
             idle: Vec::new(alloc),
         }
     }
@@ -60,9 +75,13 @@ impl FramePool {
         let Ok(()) = self.buffer.reserve_exact(count) else {
             return Err(HostMemory);
         };
+        let Ok(()) = self.links.reserve_exact(count) else {
+            return Err(HostMemory);
+        };
         let Ok(()) = self.idle.reserve_exact(count) else {
             return Err(HostMemory);
         };
+        let _ = self.links.resize(count, NO_LINK);
         self.frames = frames;
         Ok(())
     }
@@ -70,6 +89,7 @@ impl FramePool {
     /// Takes a free frame, whose bytes are zeros then. `None` exactly where no frame is free.
     pub fn take(&mut self) -> Option<Tag>
         ensures frames { self.new.frames ≡ self.old.frames }
+        ensures links { links_of self.new ≡ links_of self.old }
         ensures some { IfSome result (λ tag. Takes self.old self.new tag.0 zeros) }
         ensures none { IfNone result ((taken_count self.old ≡ self.old.frames) × (self.new ≡ self.old)) }
     {
@@ -90,6 +110,7 @@ impl FramePool {
     pub fn take_copy(&mut self, from: Tag) -> Option<Tag>
         requires { IsSome (taken_frames self.old from.0) }
         ensures frames { self.new.frames ≡ self.old.frames }
+        ensures links { links_of self.new ≡ links_of self.old }
         ensures some { IfSome result (λ tag. Takes self.old self.new tag.0 (frame_bytes self.old from.0)) }
         ensures none { IfNone result ((taken_count self.old ≡ self.old.frames) × (self.new ≡ self.old)) }
     {
@@ -111,6 +132,7 @@ impl FramePool {
     pub fn give_back(&mut self, tag: Tag)
         requires { IsSome (taken_frames self.old tag.0) }
         ensures frames { self.new.frames ≡ self.old.frames }
+        ensures links { links_of self.new ≡ links_of self.old }
         ensures taken { taken_frames self.new ≡ without_key (taken_frames self.old) tag.0 }
     {
         self.idle.push_reserved(tag);
@@ -132,6 +154,7 @@ impl FramePool {
         requires taken { IsSome (taken_frames self.old tag.0) }
         requires range { at + length bytes.now ≤ PAGE }
         ensures frames { self.new.frames ≡ self.old.frames }
+        ensures links { links_of self.new ≡ links_of self.old }
         ensures taken { taken_frames self.new
             ≡ with_key (taken_frames self.old) tag.0 (replaced (frame_bytes self.old tag.0) at bytes.now) }
     {
@@ -144,6 +167,7 @@ impl FramePool {
         requires to { IsSome (taken_frames self.old to.0) }
         requires apart { from.0 ≢ to.0 }
         ensures frames { self.new.frames ≡ self.old.frames }
+        ensures links { links_of self.new ≡ links_of self.old }
         ensures taken { taken_frames self.new
             ≡ with_key (taken_frames self.old) to.0 (frame_bytes self.old from.0) }
     {
@@ -155,9 +179,28 @@ impl FramePool {
     pub fn clear(&mut self, tag: Tag)
         requires { IsSome (taken_frames self.old tag.0) }
         ensures frames { self.new.frames ≡ self.old.frames }
+        ensures links { links_of self.new ≡ links_of self.old }
         ensures taken { taken_frames self.new ≡ with_key (taken_frames self.old) tag.0 zeros }
     {
         self.buffer[tag.0 as usize] = blank_frame();
+    }
+
+    /// Notes where a taken frame is kept.
+    pub fn set_backlink(&mut self, tag: Tag, link: Backlink)
+        requires { IsSome (taken_frames self.old tag.0) }
+        ensures frames { self.new.frames ≡ self.old.frames }
+        ensures taken { taken_frames self.new ≡ taken_frames self.old }
+        ensures links { links_of self.new ≡ λ t. if t == tag.0 then link else links_of self.old t }
+    {
+        self.links[tag.0 as usize] = link;
+    }
+
+    /// Where a taken frame is kept, as it was noted last.
+    pub fn backlink(&self, tag: Tag) -> Backlink
+        requires { IsSome (taken_frames self.now tag.0) }
+        ensures { result ≡ links_of self.now tag.0 }
+    {
+        self.links[tag.0 as usize]
     }
 
     /// How many frames are free.

@@ -7,7 +7,7 @@
 
 mod frame_pool;
 
-pub use frame_pool::FramePool;
+pub use frame_pool::{Backlink, FramePool};
 
 #[cfg(test)]
 mod tests;

@@ -118,7 +118,7 @@ impl PageLists {
     }
 
     /// Gives a page of a list that has a row another slot.
-    fn replace(&mut self, list: ListId, page: PageNo, slot: Slot)
+    pub fn replace(&mut self, list: ListId, page: PageNo, slot: Slot)
         requires { IsSome (slots_of self.old list.0 page) }
         ensures slots { slots_of self.new ≡ with_pair (slots_of self.old) list.0 page (Some slot) }
         ensures count { row_count self.new ≡ row_count self.old }

@@ -8,7 +8,7 @@ use balanced_tree::{Child, TreeRow, link_to, pair_rank};
 use vm_base::{PageNo, Tag};
 
 /// The number of a list of pages.
-#[derive(Clone, Copy, Debug, PartialEq, Eq)]
+#[derive(Clone, Copy, Debug, PartialEq, Eq, Hash)]
 pub struct ListId(pub u64);
 
 /// What a row says of its page.

@@ -14,6 +14,7 @@ invariant_of-self c = record {
       (IsPool-returned _ c.args.tag c.self.invariant.pool (rw (← c.self.view_is) at c.requires));
   buffer_room = c.self.invariant.buffer_room;
   idle_room = omega (arith, c.self.invariant.idle_room, c.push_reserved.ensures.capacity);
+  linked = c.self.invariant.linked;
 }
 
 pub returns-clause-taken : goal.returns-clause-taken

@@ -12,6 +12,7 @@ invariant_of-self c = record {
   pool = (popped _ _ _ _ c.self.invariant.pool c.in-Some.ensures.items refl _).pool;
   buffer_room = c.self.invariant.buffer_room;
   idle_room = omega (arith, c.self.invariant.idle_room, c.pop.ensures.capacity);
+  linked = c.self.invariant.linked;
 }
 
 pub returns-in-Some-clause-some : goal.returns-in-Some-clause-some
@@ -37,6 +38,7 @@ invariant_of-self-2 c = record {
   pool = rw c.push_reserved.ensures.items (fresh c).pool;
   buffer_room = omega (arith, c.self.invariant.buffer_room, c.push_reserved.ensures.capacity);
   idle_room = omega (arith, c.self.invariant.idle_room, c.pop.ensures.capacity);
+  linked = c.self.invariant.linked;
 }
 
 pub returns-clause-some : goal.returns-clause-some

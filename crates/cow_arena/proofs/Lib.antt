@@ -1,0 +1,15 @@
+pub mod LinkLaws
+pub mod SlotLaws
+pub mod ForestLaws
+pub mod CountLaws
+pub mod PairForestLaws
+pub mod SpliceForestLaws
+pub mod ArenaLaws
+pub mod WalkLaws
+pub mod ReachLaws
+pub mod AlikeLaws
+pub mod MovedLaws
+pub mod RelinkLaws
+pub mod PairWalkLaws
+pub mod SpliceWalkLaws
+pub mod WindowWalkLaws

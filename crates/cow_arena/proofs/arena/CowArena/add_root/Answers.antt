@@ -1,0 +1,41 @@
+use Rattle.std.proofs.Common.{ap, ◌+◌}
+use Rattle.slab.specs.Slab.{Slab, get}
+use Rattle.cow_arena.specs.declared.node.Node.{Node}
+use Rattle.cow_arena.proofs.SlotLaws.{nodes_with}
+use Rattle.cow_arena.proofs.ArenaLaws.{IsAfter, Same, More, grown_after, rooted_after}
+use Rattle.cow_arena.proofs.arena.CowArena.add_root.Goals as goal
+
+unchanged : (c : goal.In_default) → IsAfter c.args.self.now (record (c.self.inside) { nodes = c.insert.new.self }) Same Same
+unchanged c = grown_after c.self.inside c.self.invariant c.args.self.now c.self.view_is c.insert.new.self c.insert.ensures.capacity
+    (ap (λ (s : Slab Node). get s) c.in_default.ensures.err)
+
+after : (c : goal.After-self-1) → IsAfter c.args.self.now (record (c.self.inside) { nodes = c.insert.new.self; lists = c.self.inside.lists + 1 }) Same More
+after c = rooted_after c.self.inside c.self.invariant c.args.self.now c.self.view_is c.insert.new.self c.in-Ok.at c.in-Ok.ensures.was_vacant c.args.koid c.args.count
+    c.insert.ensures.capacity c.in-Ok.ensures.key_in_range (nodes_with c.self.inside.nodes c.insert.new.self c.in-Ok.at _ c.in-Ok.ensures.updates)
+
+pub invariant_of-self : goal.invariant_of-self
+invariant_of-self c = (unchanged c).arena
+
+pub returns-in_default-clause-hidden : goal.returns-in_default-clause-hidden
+returns-in_default-clause-hidden c = (unchanged c).hidden
+
+pub returns-in_default-clause-forest : goal.returns-in_default-clause-forest
+returns-in_default-clause-forest c = (unchanged c).arena.forest
+
+pub returns-in_default-clause-err_visible : goal.returns-in_default-clause-err_visible
+returns-in_default-clause-err_visible c = (unchanged c).visible
+
+pub invariant_of-self-2 : goal.invariant_of-self-2
+invariant_of-self-2 c = (after c).arena
+
+pub returns-clause-nodes : goal.returns-clause-nodes
+returns-clause-nodes c = rw (← c.self.view_is) (nodes_with c.self.inside.nodes c.insert.new.self c.in-Ok.at _ c.in-Ok.ensures.updates)
+
+pub returns-clause-hidden : goal.returns-clause-hidden
+returns-clause-hidden c = (after c).hidden
+
+pub returns-clause-visible : goal.returns-clause-visible
+returns-clause-visible c = (after c).visible
+
+pub returns-clause-forest : goal.returns-clause-forest
+returns-clause-forest c = (after c).arena.forest
