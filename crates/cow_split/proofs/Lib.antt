@@ -1,0 +1,11 @@
+pub mod CostLaws
+pub mod ClimbLaws
+pub mod SearchLaws
+pub mod WayLaws
+pub mod WeightLaws
+pub mod SeenLaws
+pub mod ExactLaws
+pub mod RowLaws
+pub mod ExampleLaws
+pub mod CutLaws
+pub mod HolderLaws

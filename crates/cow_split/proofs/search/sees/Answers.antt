@@ -1,0 +1,32 @@
+use Rattle.std.proofs.Common.{◌≡◌, sym, ap, ◌∙◌, arith}
+use Rattle.vm_base.proofs.EntryLaws.{some_same}
+use Rattle.page_list.specs.Lists.{slots_of}
+use Rattle.cow_split.specs.Searching.{is_row_of}
+use Rattle.cow_split.proofs.SeenLaws.{comes-of-seen, seen-of-answer, answer-of-seen, seen-below}
+use Rattle.cow_split.proofs.search.sees.Goals as goal
+
+pub returns-in_default : goal.returns-in_default
+returns-in_default c = (
+  λ wrong. absurd (cc),
+  λ s. absurd (let none = c.in_default.ensures (slots_of c.args.lists.now) s.p (comes-of-seen _ c.requires.forest _ _ _ s) in cc),
+)
+
+pub returns-then-node-own : goal.returns-then-node-own
+returns-then-node-own c = (
+  λ wrong. absurd (cc),
+  λ s.
+      let same : c.in-Some.own ≡ s.p = some_same (c.in-Some.ensures (slots_of c.args.lists.now) s.p (comes-of-seen _ c.requires.forest _ _ _ s)) in
+      let below = seen-below _ c.requires.forest _ _ _ s _ c.node.ensures in
+      absurd (omega arith),
+)
+
+pub returns : goal.returns
+returns c =
+    let answer = c.is_row.ensures ∙ ap (λ found. is_row_of c.args.leaf.0 c.in-Some.own found c.args.node.0 c.args.page) c.holder-found.ensures in (
+      λ holds. seen-of-answer _ c.requires.forest _ _ _ _
+          (record { node = c.node.result; visible = record { at = c.node.ensures; koid = rw c.node.ensures at c.requires.leaf }; below = c.if-node-own.false })
+          (sym answer ∙ holds),
+      λ s.
+          let same : c.in-Some.own ≡ s.p = some_same (c.in-Some.ensures (slots_of c.args.lists.now) s.p (comes-of-seen _ c.requires.forest _ _ _ s)) in
+          answer ∙ answer-of-seen _ c.requires.forest _ _ _ _ s (sym same),
+    )

@@ -1,0 +1,7 @@
+pub mod Trees
+pub mod Search
+pub mod Sight
+pub mod Exact
+pub mod Cutting
+pub mod Cost
+pub mod Searching

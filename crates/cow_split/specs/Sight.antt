@@ -1,0 +1,41 @@
+-- Which visible nodes see a row.
+use Rattle.std.specs.Prelude.{◌≡◌, ℕ, ◌<◌, Bool, false, Option, Some}
+use Rattle.page_list.specs.declared.row.Slot.{Slot}
+use Rattle.cow_arena.specs.declared.node.Node.{Node}
+use Rattle.cow_arena.specs.declared.node.Side.{Side}
+use Rattle.cow_arena.specs.Nodes.{IsVisible}
+use Rattle.cow_arena.specs.Walk.{Tree, walk, frame_at}
+
+-- p is a page of the visible node v
+pub record IsPage (t : Tree) (v p : ℕ) : Type 0 where
+  pub node : Node
+  pub visible : IsVisible t.nodes v node
+  pub below : p < node.count
+
+-- the visible node v sees the row of page q of node h by its page p: the walk from there ends at the row. `side` says from
+-- which side it comes, where h isn't v
+pub record Sees (t : Tree) (v p : ℕ) (side : Option Side) (h q : ℕ) : Type 0 where
+  pub page : IsPage t v p
+  pub slot : Slot
+  pub found : walk t v p ≡ Some (record { node = h; page = q; side = side; slot = slot })
+
+-- the visible node v sees the row of page q of node h by some page
+pub record IsSeenBy (t : Tree) (v h q : ℕ) : Type 0 where
+  pub p : ℕ
+  pub side : Option Side
+  pub sees : Sees t v p side h q
+
+-- Some visible node sees the row of page q of node h from this side, by a page that is not left out of sight.
+pub record IsSeenFrom (t : Tree) (out : ℕ → ℕ → Bool) (side : Side) (h q : ℕ) : Type 0 where
+  pub v : ℕ
+  pub p : ℕ
+  pub sees : Sees t v p (Some side) h q
+  pub in_sight : out v p ≡ false
+
+-- no visible node but v shows the frame
+abbrev pub IsLastViewer : Tree → (v tag : ℕ) → Type 0
+IsLastViewer t v tag = (w p : ℕ) → IsPage t w p → frame_at t w p ≡ Some tag → w ≡ v
+
+-- each page of a visible node but page p of v shows the frame that it showed before, or is zero as before
+abbrev pub OthersShowSame : (old new : Tree) → (v p : ℕ) → Type 0
+OthersShowSame old new v p = (w q : ℕ) → IsPage old w q → ((w ≡ v) × (q ≡ p) → ⊥) → frame_at new w q ≡ frame_at old w q

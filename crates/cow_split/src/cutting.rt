@@ -1,0 +1,183 @@
+//! Cutting a page off from the row above it.
+
+ghost use Rattle.std.specs.Prelude.{◌≡◌, ◌↔◌, ◌≤◌, ℕ, Bool, false, None, Some, IsSome, IsSomeAnd};
+ghost use Rattle.vm_base.specs.declared.names.Tag.{Tag};
+ghost use Rattle.page_list.specs.Lists.{slots_of, row_count};
+ghost use Rattle.balanced_tree.specs.Pairs.{with_pair};
+ghost use Rattle.cow_arena.specs.Nodes.{nodes_of};
+ghost use Rattle.cow_arena.specs.Walk.{walk, frame_at};
+ghost use Rattle.cow_arena.specs.Forest.{IsForest};
+ghost use Rattle.cow_arena.specs.Ways.{HasRow};
+ghost use Rattle.cow_split.specs.Trees.{tree_of, holder_of};
+ghost use Rattle.cow_split.specs.Sight.{IsLastViewer};
+ghost use Rattle.cow_split.specs.Exact.{IsExact, IsOnlyOf, leaving_out, without_frame};
+ghost use Rattle.cow_split.specs.Cutting.{split_on, answer_on, slots_from, answer_from, HasCut, frame_left, cut_answer, leaves_frame};
+ghost use Rattle.cow_split.specs.declared.answers.Cut.TheVariants as cut;
+
+use crate::answers::{Cut, Holder};
+use crate::climbing::holder;
+use crate::search::reached_from;
+use cow_arena::{CowArena, NodeId, Side};
+use page_list::{ListId, PageLists, Slot};
+use vm_base::{PageNo, Tag};
+
+/// Ends the sight that a page of a VMO's node has of the row above it. The node has no row of its own there. Where no
+/// other VMO on its side sees the row, the row's bit of the side is set; a row whose bits would both be true is taken
+/// away.
+///
+/// In an exact tree in which only pages of this node are left out of sight, the tree is exact afterwards with this page
+/// left out too. The answer is `LastViewer` exactly where a frame was seen that no other VMO shows, `NothingThere`
+/// exactly where no frame was seen, and else `StillSeen`.
+pub fn cut(arena: &CowArena, lists: &mut PageLists, leaf: NodeId, page: PageNo) -> Cut
+    requires forest { IsForest (nodes_of arena.now) arena.now.lists }
+    requires leaf { IsSomeAnd (nodes_of arena.now leaf.0)
+        (λ node. IsSome node.koid × (slots_of lists.old node.list.0 page ≡ None)) }
+    ensures cut { HasCut arena.now lists.old lists.new leaf.0 page result }
+    ensures exact { (out : ℕ → ℕ → Bool) (in_use : ℕ → Bool) → IsExact (tree_of arena.now lists.old) out in_use →
+        IsOnlyOf out leaf.0 → IsExact (tree_of arena.now lists.new) (leaving_out out leaf.0 page)
+        (without_frame in_use (frame_left result)) }
+    ensures nothing { (result ≡ cut.NothingThere) ↔ (frame_at (tree_of arena.now lists.old) leaf.0 page ≡ None) }
+    ensures last { (out : ℕ → ℕ → Bool) (in_use : ℕ → Bool) → IsExact (tree_of arena.now lists.old) out in_use →
+        IsOnlyOf out leaf.0 → (tag : Tag) → (result ≡ cut.LastViewer tag) ↔
+        ((frame_at (tree_of arena.now lists.old) leaf.0 page ≡ Some tag.0)
+        × IsLastViewer (tree_of arena.now lists.old) leaf.0 tag.0) }
+{
+    let found = holder(arena, lists, leaf, page);
+    cut_holder(arena, lists, leaf, page, found)
+}
+
+/// Does what `cut` does, where this is what `holder` answers for the page.
+pub fn cut_holder(
+    arena: &CowArena,
+    lists: &mut PageLists,
+    leaf: NodeId,
+    page: PageNo,
+    found: Holder,
+) -> Cut
+    requires forest { IsForest (nodes_of arena.now) arena.now.lists }
+    requires found { found ≡ holder_of (walk (tree_of arena.now lists.old) leaf.0 page) }
+    ensures cut { HasCut arena.now lists.old lists.new leaf.0 page result }
+{
+    match found {
+        Holder::Above {
+            node,
+            page: row,
+            side,
+            slot,
+        } => cut_row(arena, lists, leaf, node, row, side, slot),
+        Holder::Own(_) => Cut::NothingThere,
+        Holder::Nothing => Cut::NothingThere,
+    }
+}
+
+/// Cuts off the page of the leaf that sees this row of a hidden node from this side.
+fn cut_row(
+    arena: &CowArena,
+    lists: &mut PageLists,
+    leaf: NodeId,
+    node: NodeId,
+    page: PageNo,
+    side: Side,
+    slot: Slot,
+) -> Cut
+    requires forest { IsForest (nodes_of arena.now) arena.now.lists }
+    requires row { HasRow (tree_of arena.now lists.old) node.0 page slot }
+    ensures slots { slots_of lists.new ≡ slots_from (tree_of arena.now lists.old) leaf.0 node.0 page slot (Some side) }
+    ensures answer { result ≡ answer_from (tree_of arena.now lists.old) leaf.0 node.0 page slot (Some side) }
+    ensures spare { lists.old.spare ≤ lists.new.spare }
+    ensures count { row_count lists.new ≤ row_count lists.old }
+{
+    let Slot::Frame { tag, left, right } = slot else {
+        return Cut::NothingThere;
+    };
+    if reached_from(arena, lists, Some(leaf), side, node, page) {
+        return Cut::StillSeen;
+    }
+    let list = arena.node(node).list;
+    split(lists, list, page, side, tag, left, right)
+}
+
+/// Sets the bit of a side in the row of a frame that no VMO on that side sees any more. Where the other bit is true, the
+/// row is taken away.
+fn split(
+    lists: &mut PageLists,
+    list: ListId,
+    page: PageNo,
+    side: Side,
+    tag: Tag,
+    left: bool,
+    right: bool,
+) -> Cut
+    requires { slots_of lists.old list.0 page ≡ Some (Slot.Frame tag left right) }
+    ensures slots { slots_of lists.new ≡ with_pair (slots_of lists.old) list.0 page (split_on side tag left right) }
+    ensures answer { result ≡ answer_on side tag left right }
+    ensures spare { lists.old.spare ≤ lists.new.spare }
+    ensures count { row_count lists.new ≤ row_count lists.old }
+{
+    match side {
+        Side::Left if !right => {
+            lists.set_bits(list, page, true, false);
+            Cut::StillSeen
+        }
+        Side::Right if !left => {
+            lists.set_bits(list, page, false, true);
+            Cut::StillSeen
+        }
+        _ => {
+            lists.remove(list, page);
+            Cut::LastViewer(tag)
+        }
+    }
+}
+
+/// Whether no other VMO shows the frame that a page of a VMO's node sees in a row above it, where this is what `holder`
+/// answers for the page: whether `cut` would answer `LastViewer`. Nothing is changed.
+pub fn is_last(arena: &CowArena, lists: &PageLists, leaf: NodeId, page: PageNo, found: Holder) -> bool
+    requires forest { IsForest (nodes_of arena.now) arena.now.lists }
+    requires found { found ≡ holder_of (walk (tree_of arena.now lists.now) leaf.0 page) }
+    ensures { result ≡ leaves_frame (cut_answer (tree_of arena.now lists.now) leaf.0 page) }
+{
+    match found {
+        Holder::Above {
+            node,
+            page: row,
+            side,
+            slot,
+        } => is_last_from(arena, lists, leaf, node, row, side, slot),
+        Holder::Own(_) => false,
+        Holder::Nothing => false,
+    }
+}
+
+/// Whether the leaf alone sees the frame of this row of a hidden node, from this side.
+fn is_last_from(
+    arena: &CowArena,
+    lists: &PageLists,
+    leaf: NodeId,
+    node: NodeId,
+    page: PageNo,
+    side: Side,
+    slot: Slot,
+) -> bool
+    requires forest { IsForest (nodes_of arena.now) arena.now.lists }
+    requires row { HasRow (tree_of arena.now lists.now) node.0 page slot }
+    ensures { result ≡ leaves_frame (answer_from (tree_of arena.now lists.now) leaf.0 node.0 page slot (Some side)) }
+{
+    let Slot::Frame { tag, left, right } = slot else {
+        return false;
+    };
+    if reached_from(arena, lists, Some(leaf), side, node, page) {
+        return false;
+    }
+    is_gone(side, tag, left, right)
+}
+
+/// Whether a row whose bits are these is seen from no side, where it is not from this one.
+fn is_gone(side: Side, tag: Tag, left: bool, right: bool) -> bool
+    ensures { result ≡ leaves_frame (answer_on side tag left right) }
+{
+    match side {
+        Side::Left => right,
+        Side::Right => left,
+    }
+}

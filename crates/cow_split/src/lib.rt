@@ -1,0 +1,17 @@
+//! Who sees a row of the clone tree: the walk upwards from a node to the row that shows its page, the search downwards for
+//! the visible nodes that see a row, and the split bits, which say of a hidden node's row that no VMO on a side sees it.
+//!
+//! It stands on `cow_arena` and `page_list`, and changes nothing but a row's bits, or takes a row away that nobody sees
+//! (`cut`). Of the contracts, the layer above uses that a tree is exact (`IsExact`) over the frames that are taken, where
+//! some pages of visible nodes may be left out of sight, and how `cut` leaves one out more.
+#![tactic(auto)]
+
+mod answers;
+mod climbing;
+mod cutting;
+mod search;
+
+pub use answers::{Cut, Holder};
+pub use climbing::{holder, holder_counted};
+pub use cutting::{cut, cut_holder, is_last};
+pub use search::{reached_from, sees, side_seen};
