@@ -34,7 +34,7 @@ roots_apart nodes n k h a b here there child root same =
     let one = ap (λ (x : Node). x.parent) (some_same (sym there ∙ (ap nodes (sym same) ∙ here))) in
     absurd (let no : ◌≡◌ {A = Option NodeId} None (link_to h) = sym root ∙ (one ∙ child) in cc)
 
--- no forest is empty of laws: one without nodes
+-- without nodes there is a forest
 pub no_nodes : (rank : ℕ → ℕ) → IsForestBy (λ k. None) 0 rank
 no_nodes rank = record {
   leaves = λ k node v. absurd (let no = v.at in cc);

@@ -12,3 +12,6 @@ mod node;
 
 pub use arena::CowArena;
 pub use node::{Node, NodeId, Pair, Side};
+
+#[cfg(test)]
+mod tests;

@@ -1,0 +1,105 @@
+-- What a cut leaves of the tree and of the frames, where a page had no row of its own.
+use Rattle.std.proofs.Common.{◌≡◌, ◌⊎◌, ◌↔◌, ℕ, Bool, true, Option, None, Some, IsSome, refl, sym, ap, ◌∙◌, subst, inl, inr}
+use Rattle.std.specs.Prelude.{is_some}
+use Rattle.vm_base.specs.declared.names.Tag.{Tag}
+use Rattle.balanced_tree.specs.Rows.{Rows}
+use Rattle.page_list.specs.declared.row.Row.{Row}
+use Rattle.page_list.specs.Lists.{slots_of}
+use Rattle.frame_pool.specs.Pool.{Pool}
+use Rattle.cow_arena.specs.declared.node.Node.{Node}
+use Rattle.cow_arena.specs.Nodes.{Arena, nodes_of}
+use Rattle.cow_arena.specs.Walk.{Slots, Tree, walk, frame_at}
+use Rattle.cow_split.specs.declared.answers.Cut.{Cut}
+use Rattle.cow_split.specs.declared.answers.Cut.TheVariants as cut
+use Rattle.cow_split.specs.declared.answers.Holder.{Holder}
+use Rattle.cow_split.specs.Trees.{tree_of, holder_of}
+use Rattle.cow_split.specs.Sight.{OthersShowSame}
+use Rattle.cow_split.specs.Exact.{IsExact, all_in_sight, leaving_out, without_frame}
+use Rattle.cow_split.specs.Cutting.{HasCut, cut_slots, frame_left}
+use Rattle.cow_split.proofs.RowLaws.{only-none, frame-in_use}
+use Rattle.cow_split.proofs.CutLaws.{cut-nothing, cut-own, exact-cut, cut-last, cut-others}
+use Rattle.cow_fork.specs.Frames.{IsSole, HasSole, HasFree, frame_held, LeavesFrame}
+use Rattle.cow_fork.proofs.LeafLaws.{IsLeaf, tree-with, leaf-row}
+use Rattle.cow_fork.proofs.HolderLaws.{held-shown}
+
+-- A page without a row of its own was cut off from the row that it saw.
+module _ {arena : Arena} {old mid : Rows Row} {v p : ℕ} {node : Node} {answer : Cut} (leaf : IsLeaf arena old v p node)
+    (none : slots_of old node.list.0 p ≡ None) (is : HasCut arena old mid v p answer) where
+  pub cut-free : slots_of mid node.list.0 p ≡ None
+  cut-free = ap (λ (s : Slots). s node.list.0 p) is.slots
+      ∙ (cut-own (tree_of arena old) leaf.forest v p node leaf.visible none v p node leaf.visible ∙ none)
+
+  pub cut-bare : (n : Node) → nodes_of arena v ≡ Some n → slots_of mid n.list.0 p ≡ None
+  cut-bare = leaf-row leaf mid None cut-free
+
+  cut-tree : tree_of arena mid ≡ record (tree_of arena old) { slots = cut_slots (tree_of arena old) v p }
+  cut-tree = tree-with arena old mid (cut_slots (tree_of arena old) v p) is.slots
+
+  -- the tree is exact, with the page out of sight
+  pub cut-exact : (in_use : ℕ → Bool) → IsExact (tree_of arena old) all_in_sight in_use →
+      IsExact (tree_of arena mid) (leaving_out all_in_sight v p) (without_frame in_use (frame_left answer))
+  cut-exact in_use exact =
+      let t = tree_of arena old in
+      subst (λ (u : Tree). IsExact u (leaving_out all_in_sight v p) (without_frame in_use (frame_left answer))) (sym cut-tree)
+      (subst (λ (a : Cut). IsExact (record t { slots = cut_slots t v p }) (leaving_out all_in_sight v p) (without_frame in_use (frame_left a)))
+      (sym is.answers) (exact-cut t all_in_sight in_use exact v p (only-none v) node leaf.visible none))
+
+  pub cut-other : (in_use : ℕ → Bool) → IsExact (tree_of arena old) all_in_sight in_use →
+      OthersShowSame (tree_of arena old) (tree_of arena mid) v p
+  cut-other in_use exact =
+      let t = tree_of arena old in
+      subst (λ (u : Tree). OthersShowSame t u v p) (sym cut-tree)
+      (cut-others t all_in_sight in_use exact v p (only-none v) node leaf.visible none)
+
+-- What the answer says of a page that was cut off from the row which held it, where these frames were in use.
+pub record IsCutOff (t : Tree) (v p : ℕ) (in_use : ℕ → Bool) (found : Holder) (answer : Cut) : Type 0 where
+  pub held : frame_held found ≡ frame_at t v p
+  pub used : (tag : ℕ) → frame_at t v p ≡ Some tag → in_use tag ≡ true
+  pub nothing : (answer ≡ cut.NothingThere) ↔ (frame_at t v p ≡ None)
+  pub last : (tag : Tag) → (answer ≡ cut.LastViewer tag) ↔ IsSole t v p tag.0
+
+pub cut_off : {arena : Arena} {old mid : Rows Row} {v p : ℕ} {node : Node} {answer : Cut} (leaf : IsLeaf arena old v p node)
+    (none : slots_of old node.list.0 p ≡ None) (is : HasCut arena old mid v p answer) (in_use : ℕ → Bool) (found : Holder) →
+    IsExact (tree_of arena old) all_in_sight in_use → found ≡ holder_of (walk (tree_of arena old) v p) →
+    IsCutOff (tree_of arena old) v p in_use found answer
+cut_off {arena} {old} {mid} {v} {p} {node} {answer} leaf none is in_use found exact held =
+    let t = tree_of arena old in
+    record {
+      held = held-shown t v p found held;
+      used = frame-in_use t all_in_sight in_use exact v p;
+      nothing = rw is.answers (cut-nothing t leaf.forest v p node leaf.visible none);
+      last = λ tag.
+          let ways = cut-last t all_in_sight in_use exact v p (only-none v) node leaf.visible none tag in
+          rw is.answers (λ e. let both = ways.0 e in record { shows = both.0; last = both.1 }, λ sole. ways.1 (sole.shows, sole.last));
+    }
+
+-- an answer leaves a frame or none
+pub leaves_cases : (answer : Cut) → LeavesFrame answer ⊎ ((LeavesFrame answer → ⊥) × (frame_left answer ≡ None))
+leaves_cases (cut.LastViewer tag) = inl (record { tag = tag; last = refl })
+leaves_cases cut.StillSeen = inr (λ leaves. let last = leaves.last in absurd (cc), refl)
+leaves_cases cut.NothingThere = inr (λ leaves. let last = leaves.last in absurd (cc), refl)
+
+module _ {t : Tree} {v p : ℕ} {in_use : ℕ → Bool} {found : Holder} {answer : Cut} (off : IsCutOff t v p in_use found answer) where
+  -- what is left is what the page showed alone
+  sole-leaves : (tag : ℕ) → IsSole t v p tag → LeavesFrame answer
+  sole-leaves tag sole = let it : Tag = record { 0 = tag } in record { tag = it; last = (off.last it).1 sole }
+
+  pub leaves-sole : (leaves : LeavesFrame answer) → IsSole t v p leaves.tag.0
+  leaves-sole leaves = (off.last leaves.tag).0 leaves.last
+
+  -- the frame for the page can be had: a free one, or the one that is left
+  pub free-cut : (pool : Pool) → HasFree pool ⊎ HasSole t v p → HasFree pool ⊎ LeavesFrame answer
+  free-cut pool free = elim free [ inl some ↦ inl some | inr sole ↦ inr (sole-leaves sole.tag sole.sole) ]
+
+  pub held-used : (tag : ℕ) → frame_held found ≡ Some tag → in_use tag ≡ true
+  held-used tag e = off.used tag (sym off.held ∙ e)
+
+  pub held-seen : answer ≡ cut.StillSeen → IsSome (frame_held found)
+  held-seen seen = with_frame_held (frame_held found) refl
+    where
+      with_frame_held : (o : Option ℕ) → frame_held found ≡ o → IsSome (frame_held found)
+      with_frame_held None e = let nothing = off.nothing.1 (sym off.held ∙ e) in absurd (cc)
+      with_frame_held (Some tag) e = ap is_some e
+
+  pub held-nothing : answer ≡ cut.NothingThere → frame_held found ≡ None
+  held-nothing nothing = off.held ∙ off.nothing.0 nothing

@@ -1,0 +1,64 @@
+-- What a page of a visible node is, and what a row of its own changes.
+use Rattle.std.proofs.Common.{◌≡◌, ℕ, ◌<◌, Option, Some, sym, ap, ◌∙◌, subst}
+use Rattle.vm_base.proofs.EntryLaws.{some_same}
+use Rattle.balanced_tree.specs.Rows.{Rows}
+use Rattle.balanced_tree.specs.Pairs.{with_pair}
+use Rattle.page_list.specs.declared.row.Row.{Row}
+use Rattle.page_list.specs.declared.row.Slot.{Slot}
+use Rattle.page_list.specs.Lists.{slots_of}
+use Rattle.cow_arena.specs.declared.node.Node.{Node}
+use Rattle.cow_arena.specs.Nodes.{Arena, IsVisible, nodes_of}
+use Rattle.cow_arena.specs.Walk.{Slots, Tree}
+use Rattle.cow_arena.specs.Forest.{IsForest}
+use Rattle.cow_arena.proofs.AlikeLaws.{with_pair-same}
+use Rattle.cow_split.specs.Trees.{tree_of, with_row}
+use Rattle.cow_split.specs.Sight.{IsPage, OthersShowSame}
+use Rattle.cow_split.proofs.RowLaws.{own-shows}
+
+-- p is a page of the visible node v, which is this, in the tree of these rows
+pub record IsLeaf (arena : Arena) (rows : Rows Row) (v p : ℕ) (node : Node) : Type 0 where
+  pub forest : IsForest (nodes_of arena) arena.lists
+  pub visible : IsVisible (nodes_of arena) v node
+  pub below : p < node.count
+
+pub leaf-is : (arena : Arena) (rows : Rows Row) (v p : ℕ) (node : Node) → IsForest (nodes_of arena) arena.lists →
+    IsPage (tree_of arena rows) v p → nodes_of arena v ≡ Some node → IsLeaf arena rows v p node
+leaf-is arena rows v p node forest page at =
+    let same = some_same (sym page.visible.at ∙ at) in
+    record {
+      forest = forest;
+      visible = subst (IsVisible (nodes_of arena) v) same page.visible;
+      below = subst (λ (n : Node). p < n.count) same page.below;
+    }
+
+-- the tree of rows that are these
+pub tree-with : (arena : Arena) (old new : Rows Row) (slots : Slots) → slots_of new ≡ slots →
+    tree_of arena new ≡ record (tree_of arena old) { slots = slots }
+tree-with arena old new slots is = ap (λ (s : Slots). record (tree_of arena old) { slots = s }) is
+
+-- others show what they showed over two changes
+pub others-on : (t u w : Tree) (v p : ℕ) → u.nodes ≡ t.nodes → OthersShowSame t u v p → OthersShowSame u w v p → OthersShowSame t w v p
+others-on t u w v p nodes first second k q page differs =
+    second k q (record { node = page.node; visible = rw nodes page.visible; below = page.below }) differs ∙ first k q page differs
+
+module _ {arena : Arena} {old : Rows Row} {v p : ℕ} {node : Node} (leaf : IsLeaf arena old v p node) where
+  -- other rows do not change what it is
+  pub leaf-on : (new : Rows Row) → IsLeaf arena new v p node
+  leaf-on new = record { forest = leaf.forest; visible = leaf.visible; below = leaf.below }
+
+  -- the row of the page, by any look-up of the node
+  pub leaf-row : (new : Rows Row) (row : Option Slot) → slots_of new node.list.0 p ≡ row →
+      (n : Node) → nodes_of arena v ≡ Some n → slots_of new n.list.0 p ≡ row
+  leaf-row new row is n at = subst (λ (m : Node). slots_of new m.list.0 p ≡ row) (some_same (sym leaf.visible.at ∙ at)) is
+
+  -- the page has this row, or none, and no other row changed
+  module _ (new : Rows Row) (row : Option Slot) (put : slots_of new ≡ with_pair (slots_of old) node.list.0 p row) where
+    pub put-tree : tree_of arena new ≡ with_row (tree_of arena old) node.list.0 p row
+    put-tree = tree-with arena old new (with_pair (slots_of old) node.list.0 p row) put
+
+    pub put-row : (n : Node) → nodes_of arena v ≡ Some n → slots_of new n.list.0 p ≡ row
+    put-row = leaf-row new row (ap (λ (s : Slots). s node.list.0 p) put ∙ with_pair-same (slots_of old) node.list.0 p row)
+
+    pub put-others : OthersShowSame (tree_of arena old) (tree_of arena new) v p
+    put-others = subst (λ (u : Tree). OthersShowSame (tree_of arena old) u v p) (sym put-tree)
+        (own-shows (tree_of arena old) v p node leaf.visible leaf.forest row)

@@ -1,0 +1,6 @@
+pub mod PoolLaws
+pub mod LeafLaws
+pub mod HolderLaws
+pub mod CutOffLaws
+pub mod ForkLaws
+pub mod ZeroLaws

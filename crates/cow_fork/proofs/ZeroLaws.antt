@@ -1,0 +1,166 @@
+-- What becomes of the clone tree and of the pool where a page is made zero.
+use Rattle.std.proofs.Common.{◌≡◌, ◌↔◌, ℕ, ◌+◌, ◌≤◌, Bool, true, false, Option, None, Some, refl, sym, ap, ◌∙◌, subst, inl, inr, arith}
+use Rattle.std.specs.Prelude.{is_some}
+use Rattle.vm_base.proofs.EntryLaws.{some_same, none_is}
+use Rattle.vm_base.specs.Entries.{without_key}
+use Rattle.vm_base.specs.declared.names.Tag.{Tag}
+use Rattle.balanced_tree.specs.Rows.{Rows}
+use Rattle.balanced_tree.specs.Pairs.{with_pair}
+use Rattle.page_list.specs.declared.row.Row.{Row}
+use Rattle.page_list.specs.declared.row.Slot.{Slot}
+use Rattle.page_list.specs.declared.row.Slot.TheVariants as slot
+use Rattle.page_list.specs.Lists.{slots_of}
+use Rattle.frame_pool.specs.Pool.{Pool, taken_frames}
+use Rattle.cow_arena.specs.declared.node.Node.{Node}
+use Rattle.cow_arena.specs.declared.node.Side.{Side}
+use Rattle.cow_arena.specs.Nodes.{Arena, IsVisible}
+use Rattle.cow_arena.specs.Walk.{Tree, walk, frame_at, frame_in}
+use Rattle.cow_arena.specs.Ways.{Arrives}
+use Rattle.cow_arena.proofs.WalkLaws.{walk-own}
+use Rattle.cow_arena.proofs.ReachLaws.{walk-ends, reach-hidden, hidden-apart}
+use Rattle.cow_split.specs.declared.answers.Cut.{Cut}
+use Rattle.cow_split.specs.declared.answers.Cut.TheVariants as cut
+use Rattle.cow_split.specs.declared.answers.Holder.{Holder}
+use Rattle.cow_split.specs.Trees.{tree_of, with_row, holder_of}
+use Rattle.cow_split.specs.Sight.{IsLastViewer}
+use Rattle.cow_split.specs.Exact.{IsExact, all_in_sight, leaving_out, with_frame, without_frame}
+use Rattle.cow_split.specs.Cutting.{HasCut, frame_left}
+use Rattle.cow_split.proofs.RowLaws.{without_frame-none, with_frame-none, exact-in_use_alike, exact-in_sight, own_comes-shows, exact-own_gone, exact-own_comes, frame-once, frame-shown}
+use Rattle.cow_fork.specs.Frames.{is_taken, IsSole, frame_held, LeavesFrame}
+use Rattle.cow_fork.specs.Zeroing.{HasZeroed}
+use Rattle.cow_fork.proofs.PoolLaws.{given-without, taken-same}
+use Rattle.cow_fork.proofs.HolderLaws.{own-shown, held-shown}
+use Rattle.cow_fork.proofs.LeafLaws.{IsLeaf, others-on, put-tree, put-row, put-others}
+use Rattle.cow_fork.specs.ZeroSteps.{HasLetGo, HasHidden}
+use Rattle.cow_fork.proofs.CutOffLaws.{cut-bare, cut-exact, cut-other, cut_off, leaves_cases}
+
+-- ---- an own frame goes
+
+-- v alone shows the frame of its own row: nobody is below it
+own-last : (t : Tree) (in_use : ℕ → Bool) (v p : ℕ) (node : Node) (row : Slot) (tag : ℕ) → IsExact t all_in_sight in_use →
+    IsVisible t.nodes v node → t.slots node.list.0 p ≡ Some row → frame_in row ≡ Some tag → IsLastViewer t v tag
+own-last t in_use v p node row tag exact visible own frame w q page shows =
+    let shown = frame-shown t w q tag shows in
+    let here = walk-own t exact.forest v p node row visible.at own in
+    let same = frame-once t all_in_sight in_use exact v p w q tag _ shown.it here shown.found frame shown.frame in
+    let way = (walk-ends t exact.forest w q shown.it shown.found).way in
+    from shown.it.side shown.it.page (subst (λ h. Arrives t w q shown.it.side h shown.it.page) (sym same.0) way)
+  where
+    from : (side : Option Side) (r : ℕ) → Arrives t w q side v r → w ≡ v
+    from None r way = way.0
+    from (Some side) r way =
+        let above = reach-hidden t exact.forest w q side v r way in
+        absurd (hidden-apart t exact.forest v v above.0 node above.1 above.2 visible refl)
+
+-- an own row goes, which has this frame
+module _ {arena : Arena} {old : Rows Row} {v p : ℕ} {node : Node} (leaf : IsLeaf arena old v p node) (in_use : ℕ → Bool)
+    (exact : IsExact (tree_of arena old) all_in_sight in_use) (row : Slot) (own : slots_of old node.list.0 p ≡ Some row) (tag : Tag)
+    (frame : frame_in row ≡ Some tag.0) where
+  own-left : (other : Tag) → (cut.LastViewer tag ≡ cut.LastViewer other) ↔ IsSole (tree_of arena old) v p other.0
+  own-left other =
+      let t = tree_of arena old in
+      let shows : frame_at t v p ≡ Some tag.0 = own-shown leaf row own ∙ frame in
+      let last = own-last t in_use v p node row tag.0 exact leaf.visible own frame in (
+        λ e.
+            let same : tag ≡ other = cc in
+            subst (λ (x : Tag). IsSole t v p x.0) same (record { shows = shows; last = last }),
+        λ sole.
+            let same : tag.0 ≡ other.0 = some_same (sym shows ∙ sole.shows) in
+            ap (λ n. let x : Tag = record { 0 = n } in cut.LastViewer x) same,
+      )
+
+  pub let_go-own : (new : Rows Row) → slots_of new ≡ with_pair (slots_of old) node.list.0 p None → old.spare ≤ new.spare →
+      HasLetGo arena old new in_use v p (cut.LastViewer tag)
+  let_go-own new gone spare = record {
+    exact = subst (λ left. IsExact (tree_of arena new) (leaving_out all_in_sight v p) (without_frame in_use left)) frame
+        (subst (λ (u : Tree). IsExact u (leaving_out all_in_sight v p) (without_frame in_use (frame_in row))) (sym (put-tree leaf new None gone))
+        (exact-own_gone (tree_of arena old) v p node leaf.visible all_in_sight in_use row exact own));
+    last = own-left;
+    bare = put-row leaf new None gone;
+    others = put-others leaf new None gone;
+    spare = spare;
+  }
+
+-- the page is cut off from the row that it sees
+pub let_go-cut : {arena : Arena} {old mid : Rows Row} {v p : ℕ} {node : Node} {answer : Cut} (leaf : IsLeaf arena old v p node)
+    (none : slots_of old node.list.0 p ≡ None) (is : HasCut arena old mid v p answer) (in_use : ℕ → Bool) (found : Holder) →
+    IsExact (tree_of arena old) all_in_sight in_use → found ≡ holder_of (walk (tree_of arena old) v p) →
+    HasLetGo arena old mid in_use v p answer
+let_go-cut leaf none is in_use found exact held = record {
+  exact = cut-exact leaf none is in_use exact;
+  last = (cut_off leaf none is in_use found exact held).last;
+  bare = cut-bare leaf none is;
+  others = cut-other leaf none is in_use exact;
+  spare = is.spare;
+}
+
+-- ---- the page comes back into sight
+
+-- a marker hides the frame above
+pub hidden-marked : {arena : Arena} {old : Rows Row} {v p : ℕ} {node : Node} (leaf : IsLeaf arena old v p node) (new : Rows Row)
+    (in_use : ℕ → Bool) → IsExact (tree_of arena old) (leaving_out all_in_sight v p) in_use → slots_of old node.list.0 p ≡ None →
+    slots_of new ≡ with_pair (slots_of old) node.list.0 p (Some slot.Zero) → new.spare + 1 ≡ old.spare →
+    HasHidden arena old new in_use v p
+hidden-marked {arena} {old} {v} {p} {node} leaf new in_use exact free put spare =
+    let t = tree_of arena old in
+    let marked = put-tree leaf new (Some slot.Zero) put in
+    record {
+      exact = subst (λ (u : Tree). IsExact u all_in_sight in_use) (sym marked)
+          (exact-in_use_alike (with_row t node.list.0 p (Some slot.Zero)) all_in_sight (with_frame in_use None) in_use
+          (λ tag. ap (λ (used : ℕ → Bool). used tag) (with_frame-none in_use))
+          (exact-own_comes t v p node leaf.visible all_in_sight in_use slot.Zero exact free leaf.below tt (λ tag e. absurd (cc))));
+      zero = ap (λ (u : Tree). frame_at u v p) marked ∙ own_comes-shows t v p node leaf.visible leaf.forest slot.Zero;
+      others = put-others leaf new (Some slot.Zero) put;
+      spare = omega (arith, spare);
+    }
+
+-- no marker is needed where nothing is shown
+pub hidden-bare : (arena : Arena) (old : Rows Row) (in_use : ℕ → Bool) (v p : ℕ) (found : Holder) →
+    found ≡ holder_of (walk (tree_of arena old) v p) → is_some (frame_held found) ≡ false →
+    IsExact (tree_of arena old) (leaving_out all_in_sight v p) in_use → HasHidden arena old old in_use v p
+hidden-bare arena old in_use v p found is none exact =
+    let t = tree_of arena old in
+    let zero : frame_at t v p ≡ None = sym (held-shown t v p found is) ∙ none_is (frame_held found) none in
+    record {
+      exact = exact-in_sight t all_in_sight in_use v p (λ page. zero) exact;
+      zero = zero;
+      others = λ w q page differs. refl;
+      spare = omega arith;
+    }
+
+-- ---- all of it
+
+-- the frames in use are those that are taken after one was given back, if one was left
+given-used : (before after : Pool) (answer : Cut) →
+    ((tag : Tag) → answer ≡ cut.LastViewer tag → taken_frames after ≡ without_key (taken_frames before) tag.0) →
+    ((LeavesFrame answer → ⊥) → after ≡ before) → (n : ℕ) → without_frame (is_taken before) (frame_left answer) n ≡ is_taken after n
+given-used before after answer given kept n = elim (leaves_cases answer) [
+  | inl leaves ↦
+      let it = leaves.last in
+      ap (λ (a : Cut). without_frame (is_taken before) (frame_left a) n) it ∙ given-without before after leaves.tag.0 (given leaves.tag it) n
+  | inr stays ↦
+      ap (λ frame. without_frame (is_taken before) frame n) stays.1
+      ∙ (ap (λ (used : ℕ → Bool). used n) (without_frame-none (is_taken before)) ∙ taken-same before after (ap taken_frames (kept stays.0)) n)
+]
+
+pub zeroed : {arena : Arena} {old mid new : Rows Row} {v p : ℕ} {answer : Cut} (before after : Pool) (found : Holder) →
+    found ≡ holder_of (walk (tree_of arena old) v p) → is_some (frame_held found) ≡ true →
+    HasLetGo arena old mid (is_taken before) v p answer →
+    HasHidden arena mid new (without_frame (is_taken before) (frame_left answer)) v p →
+    ((tag : Tag) → answer ≡ cut.LastViewer tag → taken_frames after ≡ without_key (taken_frames before) tag.0) →
+    ((LeavesFrame answer → ⊥) → after ≡ before) → after.frames ≡ before.frames → HasZeroed arena old new before after v p
+zeroed {arena} {old} {mid} {new} {v} {p} {answer} before after found is shown gone hidden given kept frames =
+    let t = tree_of arena old in
+    let shows : frame_at t v p ≡ None → ⊥ = λ none. let some = ap is_some (held-shown t v p found is ∙ none) in absurd (cc) in
+    record {
+      exact = exact-in_use_alike (tree_of arena new) all_in_sight (without_frame (is_taken before) (frame_left answer)) (is_taken after)
+          (given-used before after answer given kept) hidden.exact;
+      zero = hidden.zero;
+      others = others-on t (tree_of arena mid) (tree_of arena new) v p refl gone.others hidden.others;
+      given = λ tag sole. let it : Tag = record { 0 = tag } in given it ((gone.last it).1 sole);
+      kept = λ shared. ap taken_frames (kept (λ leaves. shared leaves.tag.0 ((gone.last leaves.tag).0 leaves.last)));
+      frames = frames;
+      slots = λ none. absurd (shows none);
+      count = λ none. absurd (shows none);
+      spare = let room = gone.spare in let spare = hidden.spare in omega (arith, room, spare);
+    }

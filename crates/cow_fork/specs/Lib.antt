@@ -1,0 +1,4 @@
+pub mod Frames
+pub mod Forking
+pub mod Zeroing
+pub mod ZeroSteps

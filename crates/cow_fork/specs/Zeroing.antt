@@ -1,0 +1,25 @@
+-- What it is to make a page of a VMO's node zero.
+use Rattle.std.specs.Prelude.{◌≡◌, ℕ, ◌+◌, ◌≤◌, None}
+use Rattle.balanced_tree.specs.Rows.{Rows}
+use Rattle.page_list.specs.declared.row.Row.{Row}
+use Rattle.page_list.specs.Lists.{slots_of, row_count}
+use Rattle.vm_base.specs.Entries.{without_key}
+use Rattle.frame_pool.specs.Pool.{Pool, taken_frames}
+use Rattle.cow_arena.specs.Nodes.{Arena}
+use Rattle.cow_arena.specs.Walk.{frame_at}
+use Rattle.cow_split.specs.Trees.{tree_of}
+use Rattle.cow_split.specs.Sight.{OthersShowSame}
+use Rattle.cow_split.specs.Exact.{IsExact, all_in_sight}
+use Rattle.cow_fork.specs.Frames.{is_taken, IsSole}
+
+-- Page p of the visible node v is zero. A frame that v alone showed is given back. Nothing changes where the page was zero.
+pub record HasZeroed (arena : Arena) (old new : Rows Row) (before after : Pool) (v p : ℕ) : Type 0 where
+  pub exact : IsExact (tree_of arena new) all_in_sight (is_taken after)
+  pub zero : frame_at (tree_of arena new) v p ≡ None
+  pub others : OthersShowSame (tree_of arena old) (tree_of arena new) v p
+  pub given : (t : ℕ) → IsSole (tree_of arena old) v p t → taken_frames after ≡ without_key (taken_frames before) t
+  pub kept : ((t : ℕ) → IsSole (tree_of arena old) v p t → ⊥) → taken_frames after ≡ taken_frames before
+  pub frames : after.frames ≡ before.frames
+  pub slots : frame_at (tree_of arena old) v p ≡ None → slots_of new ≡ slots_of old
+  pub count : frame_at (tree_of arena old) v p ≡ None → row_count new ≡ row_count old
+  pub spare : old.spare ≤ new.spare + 1
