@@ -1,6 +1,6 @@
 -- What a cut leaves of the tree and of the frames, where a page had no row of its own.
 use Rattle.std.proofs.Common.{◌≡◌, ◌⊎◌, ◌↔◌, ℕ, Bool, true, Option, None, Some, IsSome, refl, sym, ap, ◌∙◌, subst, inl, inr}
-use Rattle.std.specs.Prelude.{is_some}
+use Rattle.std.specs.Prelude.{is_some, IsSomeAnd}
 use Rattle.vm_base.specs.declared.names.Tag.{Tag}
 use Rattle.balanced_tree.specs.Rows.{Rows}
 use Rattle.page_list.specs.declared.row.Row.{Row}
@@ -17,7 +17,8 @@ use Rattle.cow_split.specs.Sight.{OthersShowSame}
 use Rattle.cow_split.specs.Exact.{IsExact, all_in_sight, leaving_out, without_frame}
 use Rattle.cow_split.specs.Cutting.{HasCut, cut_slots, frame_left}
 use Rattle.cow_split.proofs.RowLaws.{only-none, frame-in_use}
-use Rattle.cow_split.proofs.CutLaws.{cut-nothing, cut-own, exact-cut, cut-last, cut-others}
+use Rattle.cow_split.proofs.HolderLaws.{cut-exactly, cut-found_nothing, cut-last_viewer}
+use Rattle.cow_split.proofs.CutLaws.{cut-own, cut-others}
 use Rattle.cow_fork.specs.Frames.{IsSole, HasSole, HasFree, frame_held, LeavesFrame}
 use Rattle.cow_fork.proofs.LeafLaws.{IsLeaf, tree-with, leaf-row}
 use Rattle.cow_fork.proofs.HolderLaws.{held-shown}
@@ -32,23 +33,29 @@ module _ {arena : Arena} {old mid : Rows Row} {v p : ℕ} {node : Node} {answer 
   pub cut-bare : (n : Node) → nodes_of arena v ≡ Some n → slots_of mid n.list.0 p ≡ None
   cut-bare = leaf-row leaf mid None cut-free
 
-  cut-tree : tree_of arena mid ≡ record (tree_of arena old) { slots = cut_slots (tree_of arena old) v p }
-  cut-tree = tree-with arena old mid (cut_slots (tree_of arena old) v p) is.slots
+  cut-leaf : IsSomeAnd (nodes_of arena v) (λ n. IsSome n.koid × (slots_of old n.list.0 p ≡ None))
+  cut-leaf = subst (λ (o : Option Node). IsSomeAnd o (λ n. IsSome n.koid × (slots_of old n.list.0 p ≡ None))) (sym leaf.visible.at)
+      (leaf.visible.koid, none)
 
   -- the tree is exact, with the page out of sight
   pub cut-exact : (in_use : ℕ → Bool) → IsExact (tree_of arena old) all_in_sight in_use →
       IsExact (tree_of arena mid) (leaving_out all_in_sight v p) (without_frame in_use (frame_left answer))
-  cut-exact in_use exact =
-      let t = tree_of arena old in
-      subst (λ (u : Tree). IsExact u (leaving_out all_in_sight v p) (without_frame in_use (frame_left answer))) (sym cut-tree)
-      (subst (λ (a : Cut). IsExact (record t { slots = cut_slots t v p }) (leaving_out all_in_sight v p) (without_frame in_use (frame_left a)))
-      (sym is.answers) (exact-cut t all_in_sight in_use exact v p (only-none v) node leaf.visible none))
+  cut-exact in_use exact = cut-exactly arena old mid v p answer leaf.forest cut-leaf is all_in_sight in_use exact (only-none v)
+
+  cut-none : (answer ≡ cut.NothingThere) ↔ (frame_at (tree_of arena old) v p ≡ None)
+  cut-none = cut-found_nothing arena old mid v p answer leaf.forest cut-leaf is
+
+  cut-sole : (in_use : ℕ → Bool) → IsExact (tree_of arena old) all_in_sight in_use → (tag : Tag) →
+      (answer ≡ cut.LastViewer tag) ↔ IsSole (tree_of arena old) v p tag.0
+  cut-sole in_use exact tag =
+      let ways = cut-last_viewer arena old mid v p answer leaf.forest cut-leaf is all_in_sight in_use exact (only-none v) tag in
+      (λ e. let both = ways.0 e in record { shows = both.0; last = both.1 }, λ sole. ways.1 (sole.shows, sole.last))
 
   pub cut-other : (in_use : ℕ → Bool) → IsExact (tree_of arena old) all_in_sight in_use →
       OthersShowSame (tree_of arena old) (tree_of arena mid) v p
   cut-other in_use exact =
       let t = tree_of arena old in
-      subst (λ (u : Tree). OthersShowSame t u v p) (sym cut-tree)
+      subst (λ (u : Tree). OthersShowSame t u v p) (sym (tree-with arena old mid (cut_slots t v p) is.slots))
       (cut-others t all_in_sight in_use exact v p (only-none v) node leaf.visible none)
 
 -- What the answer says of a page that was cut off from the row which held it, where these frames were in use.
@@ -63,14 +70,11 @@ pub cut_off : {arena : Arena} {old mid : Rows Row} {v p : ℕ} {node : Node} {an
     IsExact (tree_of arena old) all_in_sight in_use → found ≡ holder_of (walk (tree_of arena old) v p) →
     IsCutOff (tree_of arena old) v p in_use found answer
 cut_off {arena} {old} {mid} {v} {p} {node} {answer} leaf none is in_use found exact held =
-    let t = tree_of arena old in
     record {
-      held = held-shown t v p found held;
-      used = frame-in_use t all_in_sight in_use exact v p;
-      nothing = rw is.answers (cut-nothing t leaf.forest v p node leaf.visible none);
-      last = λ tag.
-          let ways = cut-last t all_in_sight in_use exact v p (only-none v) node leaf.visible none tag in
-          rw is.answers (λ e. let both = ways.0 e in record { shows = both.0; last = both.1 }, λ sole. ways.1 (sole.shows, sole.last));
+      held = held-shown (tree_of arena old) v p found held;
+      used = frame-in_use (tree_of arena old) all_in_sight in_use exact v p;
+      nothing = cut-none leaf none is;
+      last = cut-sole leaf none is in_use exact;
     }
 
 -- an answer leaves a frame or none

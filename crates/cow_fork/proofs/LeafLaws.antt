@@ -1,5 +1,5 @@
 -- What a page of a visible node is, and what a row of its own changes.
-use Rattle.std.proofs.Common.{◌≡◌, ℕ, ◌<◌, Option, Some, sym, ap, ◌∙◌, subst}
+use Rattle.std.proofs.Common.{◌≡◌, ℕ, ◌<◌, Option, Some, sym, ap, ◌∙◌, subst, inl, inr}
 use Rattle.vm_base.proofs.EntryLaws.{some_same}
 use Rattle.balanced_tree.specs.Rows.{Rows}
 use Rattle.balanced_tree.specs.Pairs.{with_pair}
@@ -10,9 +10,10 @@ use Rattle.cow_arena.specs.declared.node.Node.{Node}
 use Rattle.cow_arena.specs.Nodes.{Arena, IsVisible, nodes_of}
 use Rattle.cow_arena.specs.Walk.{Slots, Tree}
 use Rattle.cow_arena.specs.Forest.{IsForest}
-use Rattle.cow_arena.proofs.AlikeLaws.{with_pair-same}
+use Rattle.cow_arena.proofs.AlikeLaws.{with_pair-same, with_pair-other}
 use Rattle.cow_split.specs.Trees.{tree_of, with_row}
 use Rattle.cow_split.specs.Sight.{IsPage, OthersShowSame}
+use Rattle.cow_split.proofs.ExactLaws.{cases_place}
 use Rattle.cow_split.proofs.RowLaws.{own-shows}
 
 -- p is a page of the visible node v, which is this, in the tree of these rows
@@ -35,6 +36,16 @@ leaf-is arena rows v p node forest page at =
 pub tree-with : (arena : Arena) (old new : Rows Row) (slots : Slots) → slots_of new ≡ slots →
     tree_of arena new ≡ record (tree_of arena old) { slots = slots }
 tree-with arena old new slots is = ap (λ (s : Slots). record (tree_of arena old) { slots = s }) is
+
+-- a row that is put where it is
+pub with_row-there : (t : Tree) (l p : ℕ) (row : Option Slot) → t.slots l p ≡ row → with_row t l p row ≡ t
+with_row-there t l p row there = λ i. record t { slots = λ m r. same m r i }
+  where
+    same : (m r : ℕ) → with_pair t.slots l p row m r ≡ t.slots m r
+    same m r = elim (cases_place l p m r) [
+      | inl here ↦ rw (here.0, here.1) (with_pair-same t.slots l p row ∙ sym there)
+      | inr apart ↦ with_pair-other t.slots l p row m r (λ list page. apart (list, page))
+    ]
 
 -- others show what they showed over two changes
 pub others-on : (t u w : Tree) (v p : ℕ) → u.nodes ≡ t.nodes → OthersShowSame t u v p → OthersShowSame u w v p → OthersShowSame t w v p

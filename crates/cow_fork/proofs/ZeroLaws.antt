@@ -13,7 +13,7 @@ use Rattle.page_list.specs.Lists.{slots_of}
 use Rattle.frame_pool.specs.Pool.{Pool, taken_frames}
 use Rattle.cow_arena.specs.declared.node.Node.{Node}
 use Rattle.cow_arena.specs.declared.node.Side.{Side}
-use Rattle.cow_arena.specs.Nodes.{Arena, IsVisible}
+use Rattle.cow_arena.specs.Nodes.{Arena, IsVisible, nodes_of}
 use Rattle.cow_arena.specs.Walk.{Tree, walk, frame_at, frame_in}
 use Rattle.cow_arena.specs.Ways.{Arrives}
 use Rattle.cow_arena.proofs.WalkLaws.{walk-own}
@@ -25,12 +25,12 @@ use Rattle.cow_split.specs.Trees.{tree_of, with_row, holder_of}
 use Rattle.cow_split.specs.Sight.{IsLastViewer}
 use Rattle.cow_split.specs.Exact.{IsExact, all_in_sight, leaving_out, with_frame, without_frame}
 use Rattle.cow_split.specs.Cutting.{HasCut, frame_left}
-use Rattle.cow_split.proofs.RowLaws.{without_frame-none, with_frame-none, exact-in_use_alike, exact-in_sight, own_comes-shows, exact-own_gone, exact-own_comes, frame-once, frame-shown}
+use Rattle.cow_split.proofs.RowLaws.{without_frame-none, with_frame-none, exact-in_use_alike, exact-in_sight, own_comes-shows, exact-own_gone, exact-own_comes, with_row-twice, frame-once, frame-shown}
 use Rattle.cow_fork.specs.Frames.{is_taken, IsSole, frame_held, LeavesFrame}
 use Rattle.cow_fork.specs.Zeroing.{HasZeroed}
 use Rattle.cow_fork.proofs.PoolLaws.{given-without, taken-same}
 use Rattle.cow_fork.proofs.HolderLaws.{own-shown, held-shown}
-use Rattle.cow_fork.proofs.LeafLaws.{IsLeaf, others-on, put-tree, put-row, put-others}
+use Rattle.cow_fork.proofs.LeafLaws.{IsLeaf, with_row-there, others-on, put-tree, put-row, put-others}
 use Rattle.cow_fork.specs.ZeroSteps.{HasLetGo, HasHidden}
 use Rattle.cow_fork.proofs.CutOffLaws.{cut-bare, cut-exact, cut-other, cut_off, leaves_cases}
 
@@ -96,12 +96,18 @@ let_go-cut leaf none is in_use found exact held = record {
 
 -- ---- the page comes back into sight
 
+-- a page whose holder has a frame is not zero
+shown-frame : (t : Tree) (v p : ℕ) (found : Holder) → found ≡ holder_of (walk t v p) → is_some (frame_held found) ≡ true →
+    frame_at t v p ≡ None → ⊥
+shown-frame t v p found is shown none = let some = ap is_some (held-shown t v p found is ∙ none) in absurd (cc)
+
 -- a marker hides the frame above
 pub hidden-marked : {arena : Arena} {old : Rows Row} {v p : ℕ} {node : Node} (leaf : IsLeaf arena old v p node) (new : Rows Row)
-    (in_use : ℕ → Bool) → IsExact (tree_of arena old) (leaving_out all_in_sight v p) in_use → slots_of old node.list.0 p ≡ None →
+    (in_use : ℕ → Bool) (found : Holder) → found ≡ holder_of (walk (tree_of arena old) v p) → is_some (frame_held found) ≡ true →
+    IsExact (tree_of arena old) (leaving_out all_in_sight v p) in_use → slots_of old node.list.0 p ≡ None →
     slots_of new ≡ with_pair (slots_of old) node.list.0 p (Some slot.Zero) → new.spare + 1 ≡ old.spare →
     HasHidden arena old new in_use v p
-hidden-marked {arena} {old} {v} {p} {node} leaf new in_use exact free put spare =
+hidden-marked {arena} {old} {v} {p} {node} leaf new in_use found is shown exact free put spare =
     let t = tree_of arena old in
     let marked = put-tree leaf new (Some slot.Zero) put in
     record {
@@ -110,6 +116,13 @@ hidden-marked {arena} {old} {v} {p} {node} leaf new in_use exact free put spare 
           (λ tag. ap (λ (used : ℕ → Bool). used tag) (with_frame-none in_use))
           (exact-own_comes t v p node leaf.visible all_in_sight in_use slot.Zero exact free leaf.below tt (λ tag e. absurd (cc))));
       zero = ap (λ (u : Tree). frame_at u v p) marked ∙ own_comes-shows t v p node leaf.visible leaf.forest slot.Zero;
+      needed = λ n at own none.
+          let back : with_row (tree_of arena new) node.list.0 p None ≡ t =
+          ap (λ (u : Tree). with_row u node.list.0 p None) marked
+          ∙ (with_row-twice t node.list.0 p (Some slot.Zero) None ∙ with_row-there t node.list.0 p None free) in
+          shown-frame t v p found is shown
+          (sym (ap (λ (u : Tree). frame_at u v p) back)
+          ∙ subst (λ (m : Node). frame_at (with_row (tree_of arena new) m.list.0 p None) v p ≡ None) (some_same (sym at ∙ leaf.visible.at)) none);
       others = put-others leaf new (Some slot.Zero) put;
       spare = omega (arith, spare);
     }
@@ -117,13 +130,15 @@ hidden-marked {arena} {old} {v} {p} {node} leaf new in_use exact free put spare 
 -- no marker is needed where nothing is shown
 pub hidden-bare : (arena : Arena) (old : Rows Row) (in_use : ℕ → Bool) (v p : ℕ) (found : Holder) →
     found ≡ holder_of (walk (tree_of arena old) v p) → is_some (frame_held found) ≡ false →
+    ((node : Node) → nodes_of arena v ≡ Some node → slots_of old node.list.0 p ≡ None) →
     IsExact (tree_of arena old) (leaving_out all_in_sight v p) in_use → HasHidden arena old old in_use v p
-hidden-bare arena old in_use v p found is none exact =
+hidden-bare arena old in_use v p found is none bare exact =
     let t = tree_of arena old in
     let zero : frame_at t v p ≡ None = sym (held-shown t v p found is) ∙ none_is (frame_held found) none in
     record {
       exact = exact-in_sight t all_in_sight in_use v p (λ page. zero) exact;
       zero = zero;
+      needed = λ n at own. let free = bare n at in absurd (cc);
       others = λ w q page differs. refl;
       spare = omega arith;
     }
@@ -151,7 +166,7 @@ pub zeroed : {arena : Arena} {old mid new : Rows Row} {v p : ℕ} {answer : Cut}
     ((LeavesFrame answer → ⊥) → after ≡ before) → after.frames ≡ before.frames → HasZeroed arena old new before after v p
 zeroed {arena} {old} {mid} {new} {v} {p} {answer} before after found is shown gone hidden given kept frames =
     let t = tree_of arena old in
-    let shows : frame_at t v p ≡ None → ⊥ = λ none. let some = ap is_some (held-shown t v p found is ∙ none) in absurd (cc) in
+    let shows = shown-frame t v p found is shown in
     record {
       exact = exact-in_use_alike (tree_of arena new) all_in_sight (without_frame (is_taken before) (frame_left answer)) (is_taken after)
           (given-used before after answer given kept) hidden.exact;
@@ -162,5 +177,6 @@ zeroed {arena} {old} {mid} {new} {v} {p} {answer} before after found is shown go
       frames = frames;
       slots = λ none. absurd (shows none);
       count = λ none. absurd (shows none);
+      needed = λ some. hidden.needed;
       spare = let room = gone.spare in let spare = hidden.spare in omega (arith, room, spare);
     }

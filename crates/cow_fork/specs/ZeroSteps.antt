@@ -14,6 +14,7 @@ use Rattle.cow_split.specs.Sight.{OthersShowSame}
 use Rattle.cow_split.specs.Exact.{IsExact, all_in_sight, leaving_out, without_frame}
 use Rattle.cow_split.specs.Cutting.{frame_left}
 use Rattle.cow_fork.specs.Frames.{IsSole}
+use Rattle.cow_fork.specs.Zeroing.{IsNeeded}
 
 -- Page p of v is out of sight, and has no row of its own. The answer says who shows its frame now.
 pub record HasLetGo (arena : Arena) (old new : Rows Row) (in_use : ℕ → Bool) (v p : ℕ) (answer : Cut) : Type 0 where
@@ -27,5 +28,6 @@ pub record HasLetGo (arena : Arena) (old new : Rows Row) (in_use : ℕ → Bool)
 pub record HasHidden (arena : Arena) (old new : Rows Row) (in_use : ℕ → Bool) (v p : ℕ) : Type 0 where
   pub exact : IsExact (tree_of arena new) all_in_sight in_use
   pub zero : frame_at (tree_of arena new) v p ≡ None
+  pub needed : IsNeeded arena new v p
   pub others : OthersShowSame (tree_of arena old) (tree_of arena new) v p
   pub spare : old.spare ≤ new.spare + 1

@@ -1,16 +1,23 @@
 -- What it is to make a page of a VMO's node zero.
-use Rattle.std.specs.Prelude.{◌≡◌, ℕ, ◌+◌, ◌≤◌, None}
+use Rattle.std.specs.Prelude.{◌≡◌, ◌≢◌, ℕ, ◌+◌, ◌≤◌, None, Some}
 use Rattle.balanced_tree.specs.Rows.{Rows}
 use Rattle.page_list.specs.declared.row.Row.{Row}
+use Rattle.page_list.specs.declared.row.Slot.TheVariants as slot
 use Rattle.page_list.specs.Lists.{slots_of, row_count}
 use Rattle.vm_base.specs.Entries.{without_key}
 use Rattle.frame_pool.specs.Pool.{Pool, taken_frames}
-use Rattle.cow_arena.specs.Nodes.{Arena}
+use Rattle.cow_arena.specs.declared.node.Node.{Node}
+use Rattle.cow_arena.specs.Nodes.{Arena, nodes_of}
 use Rattle.cow_arena.specs.Walk.{frame_at}
-use Rattle.cow_split.specs.Trees.{tree_of}
+use Rattle.cow_split.specs.Trees.{tree_of, with_row}
 use Rattle.cow_split.specs.Sight.{OthersShowSame}
 use Rattle.cow_split.specs.Exact.{IsExact, all_in_sight}
 use Rattle.cow_fork.specs.Frames.{is_taken, IsSole}
+
+-- if page p of v has a row that says zero, then it would show a frame without it
+abbrev pub IsNeeded : (arena : Arena) → Rows Row → (v p : ℕ) → Type 0
+IsNeeded arena rows v p = (node : Node) → nodes_of arena v ≡ Some node → slots_of rows node.list.0 p ≡ Some slot.Zero →
+    frame_at (with_row (tree_of arena rows) node.list.0 p None) v p ≢ None
 
 -- Page p of the visible node v is zero. A frame that v alone showed is given back. Nothing changes where the page was zero.
 pub record HasZeroed (arena : Arena) (old new : Rows Row) (before after : Pool) (v p : ℕ) : Type 0 where
@@ -23,3 +30,5 @@ pub record HasZeroed (arena : Arena) (old new : Rows Row) (before after : Pool) 
   pub slots : frame_at (tree_of arena old) v p ≡ None → slots_of new ≡ slots_of old
   pub count : frame_at (tree_of arena old) v p ≡ None → row_count new ≡ row_count old
   pub spare : old.spare ≤ new.spare + 1
+  -- a row that says zero stands there then only where the page would else show a frame
+  pub needed : frame_at (tree_of arena old) v p ≢ None → IsNeeded arena new v p
