@@ -1,13 +1,13 @@
 //! What owning pages takes (copy on write).
 
-ghost use Rattle.std.specs.Prelude.{◌≡◌, ◌+◌, ◌-◌, ◌^◌, if◌then◌else◌, ◌<◌, ◌≤◌, ◌⊎◌, IsSome, OnOk, OnErr};
+ghost use Rattle.std.specs.Prelude.{◌≡◌, ◌+◌, ◌-◌, ◌^◌, if◌then◌else◌, ◌<◌, ◌≤◌, ◌⊎◌, true, IsSome, IfSome, OnOk, OnErr};
 ghost use Rattle.std.specs.List.{range_with_len};
 ghost use Rattle.vm_model.specs.Contents.Content.{pages_of, sole, IsGood};
-ghost use Rattle.vm_model.specs.Contents.Owning.{need};
+ghost use Rattle.vm_model.specs.Contents.Owning.{Owns, need};
 
 use crate::held_pages::next_held_below;
 use page_store::{Look, PageStore};
-use vm_base::{HostMemory, Koid, PageNo};
+use vm_base::{HostMemory, Koid, PageNo, Tag};
 
 /// How many frames owning the pages from `first` to below `end` takes: as many as are not sole. Most ranges lie in
 /// one page, which is looked at once.
@@ -60,6 +60,19 @@ pub(crate) fn is_sole<P: PageStore>(store: &P, v: Koid, page: PageNo) -> bool
     match store.look(v, page) {
         Look::Zero => false,
         Look::Held { sole, .. } => sole,
+    }
+}
+
+/// The frame of a page that is held, where no other VMO shows it. The page may be written as it is.
+#[tactic(auto, using(crate::proofs::LookLaws::look_laws, crate::proofs::LookLaws::owns_sole))]
+pub(crate) fn sole_frame<P: PageStore>(store: &P, v: Koid, page: PageNo) -> Option<Tag>
+    requires { page < pages_of (P.content store.now) v.0 }
+    ensures sole { IfSome result (λ _. sole (P.content store.now) v.0 page ≡ true) }
+    ensures owns { IfSome result (λ tag. Owns (P.content store.now) (P.content store.now) v.0 page tag.0) }
+{
+    match store.look(v, page) {
+        Look::Held { tag, sole: true } => Some(tag),
+        _ => None,
     }
 }
 
