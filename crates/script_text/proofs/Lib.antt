@@ -1,5 +1,6 @@
 pub mod Bases
 pub mod Cutting
+pub mod FrequentLaws
 pub mod Horner
 pub mod Many
 pub mod SpacedLaws

@@ -1,10 +1,10 @@
 -- The arguments of commands of one shape, and the flags of regions and mappings.
-use Rattle.std.specs.Prelude.{ℕ, ◌+◌, List, [], ◌∷◌, codes, Option, Some, None}
+use Rattle.std.specs.Prelude.{ℕ, ◌+◌, Bool, false, List, [], ◌∷◌, length, slice_index, codes, Option, Some, None}
 use Rattle.vm_base.specs.declared.names.VmoName.{VmoName}
 use Rattle.vm_base.specs.declared.names.RegionName.{RegionName}
 use Rattle.vm_base.specs.declared.flags.MapFlags.{MapFlags}
 use Rattle.vm_base.specs.declared.flags.Perm.{Perm}
-use Rattle.vm_model.specs.Language.Reading.{◌>>=◌, vmo, region, number, bit, stands}
+use Rattle.vm_model.specs.Language.Reading.{◌>>=◌, vmo, region, number, byte_data, bit, is_blank, stands}
 
 -- the argument of a command of one VMO
 abbrev pub one_vmo : List (List ℕ) → Option VmoName
@@ -19,6 +19,16 @@ vmo_range (a ∷ b ∷ c ∷ []) = do
   len ← number c
   Some (name, offset, len)
 vmo_range _ = None
+
+-- the byte data that is the only word
+abbrev pub only_data : List (List ℕ) → Option (List ℕ)
+only_data (w ∷ []) = byte_data w
+only_data _ = None
+
+-- the last byte is a blank
+abbrev pub ends_blank : List ℕ → Bool
+ends_blank [] = false
+ends_blank (b ∷ bs) = is_blank (slice_index (b ∷ bs) (length bs))
 
 -- the argument of a command of one region
 abbrev pub one_region : List (List ℕ) → Option RegionName

@@ -11,13 +11,15 @@
 //! scripts hands commands to `write_command`.
 //!
 //! `words` cuts a line, `fields` and `flags` read its words, `command_words` finds a command by its
-//! word, and `vmo_commands` and `region_commands` have the commands one by one. `writing` spells a
+//! word, and `vmo_commands` and `region_commands` have the commands one by one. `frequent` reads the lines of two
+//! commands without a list of their words. `writing` spells a
 //! command, by `vmo_arguments` and `region_arguments` for its arguments, and `parts` for their words.
 #![tactic(auto)]
 
 mod command_words;
 mod fields;
 mod flags;
+mod frequent;
 mod parts;
 mod reading;
 mod region_arguments;

@@ -6,6 +6,7 @@ ghost use Rattle.vm_model.specs.Machine.Lent.{command_of};
 ghost use Rattle.script_text.specs.Lines.{is_silent, order_in, reading_of, reading_of_call};
 
 use crate::command_words::call;
+use crate::frequent::{behind_word, read_of, write_of};
 use crate::words::{behind_blanks, next_word};
 use arrayvec::ArrayVec;
 use vm_base::{DATA_BYTES, LINE_BYTES};
@@ -74,10 +75,23 @@ fn is_silent(line: &[u8]) -> bool
     matches!(line, [] | [b'#', ..])
 }
 
-/// The command of a line, or `None` where it has none. The line is cut into its words once, whatever its
-/// command is.
-#[tactic(auto, using(crate::proofs::Many::order_of_many))]
+/// The command of a line, or `None` where it has none. Most lines begin with one of two words.
 fn order<'a>(line: &[u8], room: &'a mut [u8]) -> Option<Call<'a>>
+    requires { DATA_BYTES ≤ length room.old }
+    ensures { option_map command_of result ≡ order_in (words line.now) }
+{
+    if let Some(arguments) = behind_word(b"vmo_read", line) {
+        read_of(arguments)
+    } else if let Some(arguments) = behind_word(b"vmo_write", line) {
+        write_of(arguments, room)
+    } else {
+        order_of_words(line, room)
+    }
+}
+
+/// The same of any line, which is cut into its words once, whatever its command is.
+#[tactic(auto, using(crate::proofs::Many::order_of_many))]
+fn order_of_words<'a>(line: &[u8], room: &'a mut [u8]) -> Option<Call<'a>>
     requires { DATA_BYTES ≤ length room.old }
     ensures { option_map command_of result ≡ order_in (words line.now) }
 {

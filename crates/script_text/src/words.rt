@@ -9,7 +9,8 @@ ghost use Rattle.script_text.specs.Places.{IsWordFrom};
 use memchr::memchr3;
 
 /// A space, a tab or a carriage return.
-fn is_blank(byte: u8) -> bool
+#[inline(always)]
+pub fn is_blank(byte: u8) -> bool
     ensures { result ≡ is_blank byte }
 {
     matches!(byte, b' ' | b'\t' | b'\r')
@@ -22,6 +23,9 @@ fn word_start(line: &[u8]) -> Option<usize>
     line.iter().position(|byte| !is_blank(*byte))
 }
 
+/// The most bytes of a word that are looked at one by one.
+const SHORT_WORD: usize = 8;
+
 /// How many bytes stand before the first blank of a line.
 #[tactic(auto, using(crate::proofs::Cutting::len_by_search))]
 fn word_len(line: &[u8]) -> usize
@@ -29,6 +33,36 @@ fn word_len(line: &[u8]) -> usize
     ensures at_most { result ≤ length line.now }
 {
     memchr3(b' ', b'\t', b'\r', line).unwrap_or(line.len())
+}
+
+/// The same of a line that begins with no blank, for words that are likely to be short: their bytes are looked at one by
+/// one, which costs less than a search of many at a time.
+#[inline(always)]
+fn short_word_len(line: &[u8]) -> usize
+    requires some { 0 < length line.now }
+    requires begun { IfSome (slice_get line.now 0) (λ byte. is_blank byte ≡ false) }
+    ensures len { result ≡ position_or_len is_blank line.now }
+    ensures at_most { result ≤ length line.now }
+{
+    for place in 1..line.len().min(SHORT_WORD) {
+        if is_blank(line[place]) {
+            return place;
+        }
+    }
+    if line.len() <= SHORT_WORD {
+        line.len()
+    } else {
+        long_word_len(line)
+    }
+}
+
+/// The same of any line. It is not inlined, so that a short word pays nothing for it.
+#[inline(never)]
+fn long_word_len(line: &[u8]) -> usize
+    ensures len { result ≡ position_or_len is_blank line.now }
+    ensures at_most { result ≤ length line.now }
+{
+    word_len(line)
 }
 
 /// A line from its first word on, or no byte where it has no word.
@@ -57,6 +91,19 @@ pub fn next_word(line: &[u8]) -> Option<(&[u8], &[u8])>
         return None;
     }
     Some(line.split_at(word_len(line)))
+}
+
+/// The same, for words that are likely to be short.
+#[inline(always)]
+pub fn next_short_word(line: &[u8]) -> Option<(&[u8], &[u8])>
+    ensures words { MatchOption result (words line.now ≡ []) (λ r. words line.now ≡ r.0.now ∷ words r.1.now) }
+    ensures shorter { IfSome result (λ r. length r.1.now < length line.now) }
+{
+    let line = behind_blanks(line);
+    if line.is_empty() {
+        return None;
+    }
+    Some(line.split_at(short_word_len(line)))
 }
 
 /// The first word at or behind a place of a line: where it begins, and the place behind its last

@@ -1,0 +1,109 @@
+//! The lines that most scripts are made of: `vmo_read` and `vmo_write`. They are read word by word, with no list of their
+//! words.
+
+ghost use Rattle.std.specs.Prelude.{◌≡◌, ◌≤◌, ◌==◌, ◌++◌, length, option_map, true, IfSome};
+ghost use Rattle.vm_model.specs.Language.Reading.{words, begins_blank, of_vmo_range, vmo_write};
+ghost use Rattle.vm_model.specs.declared.command.Command.TheVariants.{VmoRead};
+ghost use Rattle.vm_model.specs.Machine.Lent.{command_of};
+ghost use Rattle.script_text.specs.Shapes.{only_data, ends_blank};
+
+use crate::fields::{byte_data_into, number, vmo};
+use crate::vmo_commands::vmo_read;
+use crate::words::{behind_blanks, is_blank, next_short_word, next_word};
+use vm_base::DATA_BYTES;
+use vm_model::{Call, LentBytes};
+
+/// What stands behind a word of five bytes or more, where a line begins with it. Two bytes tell most other lines from one
+/// that does, so that those pay little.
+#[inline(always)]
+#[tactic(auto, using(crate::proofs::FrequentLaws::begins_with))]
+pub fn behind_word<'a>(word: &[u8], line: &'a [u8]) -> Option<&'a [u8]>
+    ensures line { IfSome result (λ behind. line.now ≡ word.now ++ behind.now) }
+    ensures cut { IfSome result (λ behind. begins_blank behind.now ≡ true) }
+{
+    let ([first, _, _, _, fifth, ..], [its_first, _, _, _, its_fifth, ..]) = (line, word) else {
+        return None;
+    };
+    if *first != *its_first || *fifth != *its_fifth {
+        return None;
+    }
+    let behind = line.strip_prefix(word)?;
+    if is_cut(behind) { Some(behind) } else { None }
+}
+
+/// Whether a word may end before these bytes: a blank is the first, or there are none.
+#[inline(always)]
+fn is_cut(behind: &[u8]) -> bool
+    ensures { result ≡ begins_blank behind.now }
+{
+    match behind {
+        [byte, ..] => is_blank(*byte),
+        [] => true,
+    }
+}
+
+/// Whether a line has no word.
+#[inline(always)]
+#[tactic(auto, using(crate::proofs::FrequentLaws::no_word))]
+fn has_no_word(line: &[u8]) -> bool
+    ensures { result ≡ (length (words line.now) == 0) }
+{
+    behind_blanks(line).is_empty()
+}
+
+/// The command `vmo_read` of these arguments. It is not inlined, since the machine has registers enough for it alone.
+#[inline(never)]
+pub fn read_of(arguments: &[u8]) -> Option<Call<'static>>
+    ensures { option_map command_of result ≡ of_vmo_range VmoRead (words arguments.now) }
+{
+    let (name, rest) = next_short_word(arguments)?;
+    let (offset, rest) = next_short_word(rest)?;
+    let (len, rest) = next_short_word(rest)?;
+    if !has_no_word(rest) {
+        return None;
+    }
+    vmo_read(&[name, offset, len])
+}
+
+/// The command `vmo_write` of these arguments, whose data is lent from `room`.
+pub fn write_of<'a>(arguments: &[u8], room: &'a mut [u8]) -> Option<Call<'a>>
+    requires { DATA_BYTES ≤ length room.old }
+    ensures { option_map command_of result ≡ vmo_write (words arguments.now) }
+{
+    let (name, rest) = next_short_word(arguments)?;
+    let (offset, rest) = next_short_word(rest)?;
+    Some(Call::VmoWrite {
+        name: vmo(name)?,
+        offset: number(offset)?,
+        bytes: only_data(rest, room)?,
+    })
+}
+
+/// The byte data that is the one word of a line. Where the line does not end with a blank, nothing has to be searched
+/// for one, since data with a blank in it is none.
+#[inline(always)]
+fn only_data<'a>(line: &[u8], room: &'a mut [u8]) -> Option<LentBytes<'a>>
+    requires { DATA_BYTES ≤ length room.old }
+    ensures { result ≡ only_data (words line.now) }
+{
+    let text = behind_blanks(line);
+    if ends_blank(text) {
+        let (word, rest) = next_word(text)?;
+        if !has_no_word(rest) {
+            return None;
+        }
+        return byte_data_into(word, room);
+    }
+    byte_data_into(text, room)
+}
+
+/// Whether the last byte of a line is a blank.
+#[inline(always)]
+fn ends_blank(line: &[u8]) -> bool
+    ensures { result ≡ ends_blank line.now }
+{
+    match line {
+        [.., byte] => is_blank(*byte),
+        [] => false,
+    }
+}
