@@ -1,6 +1,6 @@
 -- What looking at a page says of it.
 use Rattle.vm_model.proofs.ContentLaws.{sole-zero, bytes_of-none, bytes_of-some}
-use Rattle.std.proofs.Common.{◌≡◌, ℕ, Bool, true, Option, None, Some, refl, ◌-◌, arith}
+use Rattle.std.proofs.Common.{◌≡◌, ℕ, Bool, true, Option, None, Some, refl, arith}
 use Rattle.std.proofs.lemmas.Bool.{both_ways}
 use Rattle.vm_base.specs.declared.names.Tag.{Tag}
 use Rattle.vm_model.specs.Contents.Content.{Page, Content, is_sole_page, sole}

@@ -2,14 +2,13 @@
 use Rattle.vm_model.proofs.OwningLaws.{Owned-from_Owns}
 use Rattle.std.proofs.Common.{arith}
 use Rattle.std.proofs.Common.{◌≡◌, ℕ, ◌/◌, ◌%◌, ◌+◌, ◌-◌, ◌*◌, ◌<◌, ◌≤◌, Bool, true, false, cond, List, length, map}
-use Rattle.std.proofs.Common.{refl, sym, ap, inl, ◌∙◌}
+use Rattle.std.proofs.Common.{refl, ap, inl, ◌∙◌}
 use Rattle.std.specs.Prelude.{MatchBool}
 use Rattle.std.specs.List.{range_with_len}
 use Rattle.vm_base.proofs.SearchLaws.{count_below_le}
 use Rattle.vm_base.specs.declared.limits.TheConstants.{PAGE}
-use Rattle.vm_base.specs.Pages.{replaced}
-use Rattle.vm_model.specs.Contents.Content.{Page, Content, shown, pages_of, in_use, used, sole, hold, IsGood}
-use Rattle.vm_model.specs.Contents.Owning.{Owns, need}
+use Rattle.vm_model.specs.Contents.Content.{Content, pages_of, in_use, used, sole, IsGood}
+use Rattle.vm_model.specs.Contents.Owning.{need}
 use Rattle.vm_model.specs.Contents.Writing.{touched, piece, part_at, part_bytes, pieces, WritesPiece, Writes}
 use Rattle.vm_model.proofs.RangeLaws.{part_fits}
 use Rattle.vm_model.proofs.WritingLaws.{Written-from_WritesPiece}
