@@ -1,5 +1,4 @@
-//! From a command word to the reader of its arguments. The word is compared with the two that most lines
-//! begin with, and then with those of its own length alone.
+//! From a command word to the reader of its arguments. The word is compared with those of its own length alone.
 
 ghost use Rattle.std.specs.Prelude.{◌≡◌, ◌≤◌, length, map, option_map};
 ghost use Rattle.vm_model.specs.Language.Reading.{by_word, command};
@@ -17,25 +16,10 @@ use crate::vmo_commands::{
 use vm_base::DATA_BYTES;
 use vm_model::Call;
 
-/// The command of this word and these arguments, or `None` where there is none. Byte data is lent from `room`.
-#[tactic(auto, unfolding(vm_model::specs::Language::Reading::command))]
-pub fn call<'a>(word: &[u8], arguments: &[&[u8]], room: &'a mut [u8]) -> Option<Call<'a>>
-    requires { DATA_BYTES ≤ length room.old }
-    ensures { option_map command_of result ≡ command word.now (map (λ a. a.now) arguments.now) }
-{
-    if word == b"vmo_read".as_slice() {
-        vmo_read(arguments)
-    } else if word == b"vmo_write".as_slice() {
-        vmo_write(arguments, room)
-    } else {
-        call_by_length(word, arguments, room)
-    }
-}
-
-/// The same, of any word. It is not inlined, since a function writes all of its locals, and a read or a write
-/// is not to pay for those of all commands.
+/// The command of this word and these arguments, or `None` where there is none. Byte data is lent from `room`. It is not
+/// inlined, since a function writes all of its locals, and a read or a write is not to pay for those of all commands.
 #[inline(never)]
-fn call_by_length<'a>(word: &[u8], arguments: &[&[u8]], room: &'a mut [u8]) -> Option<Call<'a>>
+pub fn call<'a>(word: &[u8], arguments: &[&[u8]], room: &'a mut [u8]) -> Option<Call<'a>>
     requires { DATA_BYTES ≤ length room.old }
     ensures { option_map command_of result ≡ command word.now (map (λ a. a.now) arguments.now) }
 {

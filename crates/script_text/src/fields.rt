@@ -46,6 +46,7 @@ impl Radix {
 
 /// The number that a word of digits spells. `None` where the word is empty, a byte is no digit, or
 /// the number does not fit.
+#[inline(always)]
 #[tactic(auto, unfolding(vm_model::specs::Language::Reading::digits_from))]
 fn digits(radix: Radix, word: &[u8]) -> Option<u64>
     ensures { result ≡ below (2 ^ 64) (digits (base_of radix) (value_in radix) word.now) }
@@ -63,6 +64,7 @@ fn digits(radix: Radix, word: &[u8]) -> Option<u64>
 
 /// A number: decimal digits, or `0x` and hexadecimal digits of either case. `None` where it is
 /// spelled otherwise, or is not below 2^64.
+#[inline(always)]
 #[tactic(auto, unfolding(vm_model::specs::Language::Reading::number))]
 pub fn number(word: &[u8]) -> Option<u64>
     ensures { result ≡ number word.now }

@@ -9,7 +9,7 @@ ghost use Rattle.script_text.specs.Shapes.{only_data, ends_blank};
 
 use crate::fields::{byte_data_into, number, vmo};
 use crate::vmo_commands::vmo_read;
-use crate::words::{behind_blanks, is_blank, next_short_word, next_word};
+use crate::words::{behind_blanks, is_blank, next_short_word};
 use vm_base::DATA_BYTES;
 use vm_model::{Call, LentBytes};
 
@@ -88,7 +88,7 @@ fn only_data<'a>(line: &[u8], room: &'a mut [u8]) -> Option<LentBytes<'a>>
 {
     let text = behind_blanks(line);
     if ends_blank(text) {
-        let (word, rest) = next_word(text)?;
+        let (word, rest) = next_short_word(text)?;
         if !has_no_word(rest) {
             return None;
         }

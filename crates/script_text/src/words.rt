@@ -23,10 +23,8 @@ fn word_start(line: &[u8]) -> Option<usize>
     line.iter().position(|byte| !is_blank(*byte))
 }
 
-/// The most bytes of a word that are looked at one by one.
-const SHORT_WORD: usize = 8;
-
 /// How many bytes stand before the first blank of a line.
+#[inline(always)]
 #[tactic(auto, using(crate::proofs::Cutting::len_by_search))]
 fn word_len(line: &[u8]) -> usize
     ensures len { result ≡ position_or_len is_blank line.now }
@@ -44,28 +42,16 @@ fn short_word_len(line: &[u8]) -> usize
     ensures len { result ≡ position_or_len is_blank line.now }
     ensures at_most { result ≤ length line.now }
 {
-    for place in 1..line.len().min(SHORT_WORD) {
+    for place in 1..line.len() {
         if is_blank(line[place]) {
             return place;
         }
     }
-    if line.len() <= SHORT_WORD {
-        line.len()
-    } else {
-        long_word_len(line)
-    }
-}
-
-/// The same of any line. It is not inlined, so that a short word pays nothing for it.
-#[inline(never)]
-fn long_word_len(line: &[u8]) -> usize
-    ensures len { result ≡ position_or_len is_blank line.now }
-    ensures at_most { result ≤ length line.now }
-{
-    word_len(line)
+    line.len()
 }
 
 /// A line from its first word on, or no byte where it has no word.
+#[inline(always)]
 pub fn behind_blanks(line: &[u8]) -> &[u8]
     ensures words { words result.now ≡ words line.now }
     ensures begun { IfSome (slice_get result.now 0) (λ byte. is_blank byte ≡ false) }
@@ -82,6 +68,7 @@ pub fn behind_blanks(line: &[u8]) -> &[u8]
 }
 
 /// The first word of a line and what stands behind it, or `None` where the line has no word.
+#[inline(always)]
 pub fn next_word(line: &[u8]) -> Option<(&[u8], &[u8])>
     ensures words { MatchOption result (words line.now ≡ []) (λ r. words line.now ≡ r.0.now ∷ words r.1.now) }
     ensures shorter { IfSome result (λ r. length r.1.now < length line.now) }

@@ -5,12 +5,11 @@ use Rattle.script_text.proofs.words.short_word_len.Goals as goal
 
 pub returns-then-is_blank-clause-len : goal.returns-then-is_blank-clause-len
 returns-then-is_blank-clause-len c =
-    sym (position_or_len_is is_blank c.args.line.now c.loop-place.place 0
-    (omega (arith, c.loop-place-test.true, c.min-place-end.ensures)) c.loop-place.invariant
-    (λ _. sym c.is_blank.ensures ∙ c.if-is_blank.true))
+    sym (position_or_len_is is_blank c.args.line.now c.loop-place.place 0 (omega (arith, c.loop-place-test.true))
+    c.loop-place.invariant (λ _. sym c.is_blank.ensures ∙ c.if-is_blank.true))
 
-pub returns-then-line-le-SHORT_WORD-clause-len : goal.returns-then-line-le-SHORT_WORD-clause-len
-returns-then-line-le-SHORT_WORD-clause-len c =
+pub returns-clause-len : goal.returns-clause-len
+returns-clause-len c =
     sym (position_or_len_is is_blank c.args.line.now _ 0 (omega arith)
-    (λ k less. c.loop-place.invariant k (omega (arith, less, c.loop-place-test.false, c.min-place-end.ensures)))
+    (λ k less. c.loop-place.invariant k (omega (arith, less, c.loop-place-test.false)))
     (λ less. absurd (omega (arith, less))))

@@ -1,7 +1,7 @@
 -- The word is looked for among those of its length.
 use Rattle.std.proofs.Common.{sym, ◌∙◌, arith}
 use Rattle.script_text.proofs.RowLaws.{command_of_length, command_of_other_length}
-use Rattle.script_text.proofs.command_words.call_by_length.Goals as goal
+use Rattle.script_text.proofs.command_words.call.Goals as goal
 
 pub returns-in-4 : goal.returns-in-4
 returns-in-4 c = c.call_of_four.ensures ∙ sym (command_of_length 4 _ _ c.in-4.is)
