@@ -1,7 +1,8 @@
 -- What a node says after another node took the place of one of its children.
-use Rattle.std.proofs.Common.{◌≡◌, ◌≢◌, ℕ, Option, None, Some, inl, inr, refl, sym, ap, ◌∙◌}
+use Rattle.std.proofs.Common.{◌≡◌, ◌≢◌, ℕ, Option, None, Some, inl, inr, refl, sym, ap, subst, ◌∙◌}
 use Rattle.std.proofs.lemmas.Bool.{cases_eq}
 use Rattle.vm_base.specs.Entries.{passes}
+use Rattle.vm_base.proofs.EntryLaws.{some_same}
 use Rattle.vm_base.proofs.SearchLaws.{eqb_same, eqb_apart}
 use Rattle.cow_arena.specs.declared.node.NodeId.{NodeId}
 use Rattle.cow_arena.specs.declared.node.Node.{Node}
@@ -59,3 +60,23 @@ relinked-here nodes k j n a s at e = (links_moved k j a, rw (eqb_same n, at) ref
     child : (s : Side) → child_on a s ≡ link_to k → child_on (links_moved k j a) s ≡ link_to j
     child side.Left e = moved-here k j a.left e
     child side.Right e = moved-here k j a.right e
+
+-- no node comes so
+relinked-absent : (nodes : Nodes) (parent : Option NodeId) (k j n : ℕ) → nodes n ≡ None → relinked nodes parent k j n ≡ None
+unfolding relinked
+relinked-absent nodes None k j n e = e
+relinked-absent nodes (Some parent) k j n e = elim (cases_eq n parent.0) [
+  | inl here ↦ rw (here, eqb_same parent.0, sym (ap nodes here) ∙ e) refl
+  | inr there ↦ rw (eqb_apart n parent.0 there) e
+]
+
+-- a node that is there after a node took the place of another was there before
+pub relinked-was : (nodes : Nodes) (parent : Option NodeId) (k j n : ℕ) (b : Node) → relinked nodes parent k j n ≡ Some b →
+    (a : Node) × (nodes n ≡ Some a) × IsRelinked k a b
+relinked-was nodes parent k j n b at = was (nodes n) refl
+  where
+    was : (o : Option Node) → nodes n ≡ o → (a : Node) × (nodes n ≡ Some a) × IsRelinked k a b
+    was None e = absurd (let none = relinked-absent nodes parent k j n e in cc)
+    was (Some a) e =
+        let now = relinked-stays nodes parent k j n a e in
+        (a, e, subst (IsRelinked k a) (some_same (sym now.1 ∙ at)) now.2)

@@ -4,3 +4,4 @@ pub mod HolderLaws
 pub mod CutOffLaws
 pub mod ForkLaws
 pub mod ZeroLaws
+pub mod SnapshotLaws

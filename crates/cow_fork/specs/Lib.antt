@@ -2,3 +2,4 @@ pub mod Frames
 pub mod Forking
 pub mod Zeroing
 pub mod ZeroSteps
+pub mod Snapshots

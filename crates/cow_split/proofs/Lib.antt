@@ -9,3 +9,4 @@ pub mod RowLaws
 pub mod ExampleLaws
 pub mod CutLaws
 pub mod HolderLaws
+pub mod NodeLaws

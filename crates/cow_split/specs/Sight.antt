@@ -3,7 +3,7 @@ use Rattle.std.specs.Prelude.{◌≡◌, ℕ, ◌<◌, Bool, false, Option, Some
 use Rattle.page_list.specs.declared.row.Slot.{Slot}
 use Rattle.cow_arena.specs.declared.node.Node.{Node}
 use Rattle.cow_arena.specs.declared.node.Side.{Side}
-use Rattle.cow_arena.specs.Nodes.{IsVisible}
+use Rattle.cow_arena.specs.Nodes.{Nodes, IsVisible}
 use Rattle.cow_arena.specs.Walk.{Tree, walk, frame_at}
 
 -- p is a page of the visible node v
@@ -39,3 +39,10 @@ IsLastViewer t v tag = (w p : ℕ) → IsPage t w p → frame_at t w p ≡ Some 
 -- each page of a visible node but page p of v shows the frame that it showed before, or is zero as before
 abbrev pub OthersShowSame : (old new : Tree) → (v p : ℕ) → Type 0
 OthersShowSame old new v p = (w q : ℕ) → IsPage old w q → ((w ≡ v) × (q ≡ p) → ⊥) → frame_at new w q ≡ frame_at old w q
+
+-- node w is as visible as it was, with its koid and its count
+pub record StaysVisible (old new : Nodes) (w : ℕ) (node : Node) : Type 0 where
+  pub after : Node
+  pub at : new w ≡ Some after
+  pub koid : after.koid ≡ node.koid
+  pub count : after.count ≡ node.count
