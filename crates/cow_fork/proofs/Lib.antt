@@ -5,3 +5,6 @@ pub mod CutOffLaws
 pub mod ForkLaws
 pub mod ZeroLaws
 pub mod SnapshotLaws
+pub mod BitLaws
+pub mod ShareLaws
+pub mod RootLaws

@@ -7,7 +7,9 @@
 #![tactic(auto)]
 
 mod forking;
+mod sharing;
 mod zeroing;
 
 pub use forking::fork;
+pub use sharing::share;
 pub use zeroing::mark_zero;

@@ -1,0 +1,99 @@
+//! What a snapshot does to the tree.
+
+ghost use Rattle.std.specs.Prelude.{◌≡◌, ℕ, ◌+◌, ◌≤◌, ◌<◌, ◌^◌, Bool, IsSome, IsSomeAnd, IfOk, OnErr, IfSome, IfNone};
+ghost use Rattle.balanced_tree.specs.Pairs.{IsNext};
+ghost use Rattle.page_list.specs.Lists.{slots_of, row_count};
+ghost use Rattle.cow_arena.specs.Nodes.{nodes_of};
+ghost use Rattle.cow_arena.specs.Counts.{hidden_count, visible_count};
+ghost use Rattle.cow_split.specs.Trees.{tree_of};
+ghost use Rattle.cow_split.specs.Exact.{IsExact, all_in_sight};
+ghost use Rattle.cow_fork.specs.Snapshots.{ArePlain, split_slots, hidden_slots, HasNoneIn, IsFirstIn};
+ghost use Rattle.cow_fork.specs.Sharing.{HasShared};
+
+use cow_arena::{CowArena, NodeId, Pair};
+use page_list::{ListId, PageLists, Slot};
+use vm_base::{HostMemory, Koid, PageNo};
+
+/// Puts a hidden node over the node of a VMO and the new node of a snapshot of it, which has `count` pages and sees `seen`
+/// pages of the VMO from page `first` on. Two nodes are added and no row. The rows of the VMO's list are the hidden node's
+/// then: each is noted as seen from the left, and as seen from the right where the snapshot sees it. It looks only at
+/// rows outside the pages that the snapshot sees.
+///
+/// `HostMemory` where the host has too little memory: nothing has changed then. Fewer than 2^64 - 2 lists were given before.
+pub fn share(
+    arena: &mut CowArena,
+    lists: &mut PageLists,
+    leaf: NodeId,
+    koid: Koid,
+    first: PageNo,
+    seen: PageNo,
+    count: PageNo,
+) -> Result<Pair, HostMemory>
+    requires exact { (in_use : ℕ → Bool) × IsExact (tree_of arena.old lists.old) all_in_sight in_use }
+    requires leaf { IsSomeAnd (nodes_of arena.old leaf.0) (λ node. IsSome node.koid × (first + seen ≤ node.count)) }
+    requires seen { seen ≤ count }
+    requires lists { arena.old.lists + 2 < 2 ^ 64 }
+    ensures ok { IfOk result (λ pair.
+        HasShared arena.old arena.new lists.old lists.new leaf.0 pair koid first seen count) }
+    ensures err { OnErr result (nodes_of arena.new ≡ nodes_of arena.old) }
+    ensures err_lists { OnErr result (arena.new.lists ≡ arena.old.lists) }
+    ensures err_hidden { OnErr result (hidden_count arena.new ≡ hidden_count arena.old) }
+    ensures err_visible { OnErr result (visible_count arena.new ≡ visible_count arena.old) }
+    ensures err_rows { OnErr result (lists.new ≡ lists.old) }
+{
+    let node = arena.node(leaf);
+    let pair = arena.add_pair(leaf, koid, first, seen, count)?;
+    split_rows(lists, node.list, first, seen, node.count);
+    Ok(pair)
+}
+
+/// Sets the bits of the rows of a list of `count` pages, whose node got two children: the left one sees all of them, and
+/// the right one `seen` pages from page `first` on. It looks only at rows outside these.
+fn split_rows(lists: &mut PageLists, list: ListId, first: PageNo, seen: PageNo, count: PageNo)
+    requires plain { ArePlain (slots_of lists.old) list.0 count }
+    requires window { first + seen ≤ count }
+    ensures slots { slots_of lists.new ≡ split_slots (slots_of lists.old) list.0 first seen }
+    ensures count { row_count lists.new ≡ row_count lists.old }
+    ensures spare { lists.new.spare ≡ lists.old.spare }
+{
+    hide_rows(lists, list, 0, first);
+    hide_rows(lists, list, first + seen, count);
+}
+
+/// Notes of the rows of the pages from `from` to below `end` that no VMO on the right sees them.
+fn hide_rows(lists: &mut PageLists, list: ListId, from: PageNo, end: PageNo)
+    ensures slots { slots_of lists.new ≡ hidden_slots (slots_of lists.old) list.0 from end }
+    ensures count { row_count lists.new ≡ row_count lists.old }
+    ensures spare { lists.new.spare ≡ lists.old.spare }
+{
+    let mut at = from;
+    while let Some(page) = next_below(lists, list, at, end) {
+        hide_row(lists, list, page);
+        at = page + 1;
+    }
+}
+
+/// The first page from `from` to below `end` that has a row.
+fn next_below(lists: &PageLists, list: ListId, from: PageNo, end: PageNo) -> Option<PageNo>
+    ensures some { IfSome result (λ page. IsFirstIn (slots_of lists.now list.0) from end page) }
+    ensures none { IfNone result (HasNoneIn (slots_of lists.now list.0) from end) }
+{
+    match lists.next(list, from) {
+        Some(page) if page < end => Some(page),
+        _ => None,
+    }
+}
+
+/// Notes of the row of a page, if it has one, that no VMO on the right sees it.
+fn hide_row(lists: &mut PageLists, list: ListId, page: PageNo)
+    ensures slots { slots_of lists.new ≡ hidden_slots (slots_of lists.old) list.0 page (page + 1) }
+    ensures count { row_count lists.new ≡ row_count lists.old }
+    ensures spare { lists.new.spare ≡ lists.old.spare }
+{
+    let Some(slot) = lists.find(list, page) else {
+        return;
+    };
+    if let Slot::Frame { left, .. } = slot {
+        lists.set_bits(list, page, left, true);
+    }
+}
