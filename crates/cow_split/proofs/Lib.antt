@@ -10,3 +10,4 @@ pub mod ExampleLaws
 pub mod CutLaws
 pub mod HolderLaws
 pub mod NodeLaws
+pub mod ChainLaws

@@ -10,7 +10,12 @@ pub enum Holder {
     /// The node's own row.
     Own(Slot),
     /// The row of a page of a hidden node above it, and the side from which the walk comes there.
-    Above { node: NodeId, page: PageNo, side: Side, slot: Slot },
+    Above {
+        node: NodeId,
+        page: PageNo,
+        side: Side,
+        slot: Slot,
+    },
     /// There is none: the page is zero.
     Nothing,
 }

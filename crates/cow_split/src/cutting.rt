@@ -132,7 +132,13 @@ fn split(
 
 /// Whether no other VMO shows the frame that a page of a VMO's node sees in a row above it, where this is what `holder`
 /// answers for the page: whether `cut` would answer `LastViewer`. Nothing is changed.
-pub fn is_last(arena: &CowArena, lists: &PageLists, leaf: NodeId, page: PageNo, found: Holder) -> bool
+pub fn is_last(
+    arena: &CowArena,
+    lists: &PageLists,
+    leaf: NodeId,
+    page: PageNo,
+    found: Holder,
+) -> bool
     requires forest { IsForest (nodes_of arena.now) arena.now.lists }
     requires found { found ≡ holder_of (walk (tree_of arena.now lists.now) leaf.0 page) }
     ensures { result ≡ leaves_frame (cut_answer (tree_of arena.now lists.now) leaf.0 page) }

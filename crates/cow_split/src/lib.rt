@@ -15,3 +15,6 @@ pub use answers::{Cut, Holder};
 pub use climbing::{holder, holder_counted};
 pub use cutting::{cut, cut_holder, is_last};
 pub use search::{reached_from, sees, side_seen};
+
+#[cfg(test)]
+mod tests;
