@@ -1,0 +1,653 @@
+-- A range of pages of one visible node is left out of sight: first its own rows go, and then each page is cut off from the
+-- rows of the nodes above, one node after another.
+use Rattle.std.proofs.Common.{◌≡◌, ◌≢◌, ℕ, ◌+◌, ◌-◌, ◌<◌, ◌≤◌, min, zero, suc, Bool, true, false, Option, None, Some, inl, inr, IsSome, IsSomeAnd}
+use Rattle.std.proofs.Common.{refl, sym, ap, subst, ◌∙◌, arith}
+use Rattle.std.specs.Prelude.{◌&&◌, ◌||◌, ◌==◌, nat_le, nat_lt, not, is_some}
+use Rattle.std.proofs.lemmas.Bool.{cases_Bool, cases_eq, cases_lt, and_from, eq-eqb, ne_eqb, le-leb, lt-ltb}
+use Rattle.balanced_tree.specs.Rows.{Rows}
+use Rattle.balanced_tree.specs.Pairs.{with_pair, IsNext}
+use Rattle.vm_base.specs.Entries.{without_key}
+use Rattle.vm_base.specs.declared.names.Tag.{Tag}
+use Rattle.vm_base.proofs.EntryLaws.{some_same, without_key-same, without_key-other}
+use Rattle.vm_base.proofs.SearchLaws.{eqb_same}
+use Rattle.page_list.specs.declared.row.Row.{Row}
+use Rattle.page_list.specs.declared.row.Slot.{Slot}
+use Rattle.page_list.specs.declared.row.Slot.TheVariants as slot
+use Rattle.page_list.specs.Lists.{slots_of, row_count}
+use Rattle.frame_pool.specs.Pool.{Pool, taken_frames, links_of}
+use Rattle.cow_arena.specs.declared.node.Node.{Node}
+use Rattle.cow_arena.specs.declared.node.NodeId.{NodeId}
+use Rattle.cow_arena.specs.declared.node.Side.{Side}
+use Rattle.cow_arena.specs.declared.node.Side.TheVariants as side
+use Rattle.cow_arena.specs.Nodes.{Arena, Nodes, nodes_of, IsVisible, link_to}
+use Rattle.cow_arena.specs.Walk.{Slots, Tree, Found, walk, frame_in, frame_found, frame_at, from_side}
+use Rattle.cow_arena.specs.Forest.{IsForest}
+use Rattle.cow_arena.specs.Ways.{Climbs, Reaches, Arrives}
+use Rattle.cow_arena.proofs.WalkLaws.{walk-past}
+use Rattle.cow_arena.proofs.ReachLaws.{reach-one, reach-more, reach-each, reach-after, climb-side, walk-from, walk-ends}
+use Rattle.cow_arena.proofs.AlikeLaws.{with_pair-same, with_pair-other}
+use Rattle.cow_split.specs.declared.answers.Cut.{Cut}
+use Rattle.cow_split.specs.declared.answers.Cut.TheVariants as cut
+use Rattle.cow_split.specs.Trees.{tree_of}
+use Rattle.cow_split.specs.Cost.{nodes_up}
+use Rattle.cow_split.specs.Sight.{IsPage, Sees}
+use Rattle.cow_split.specs.Exact.{IsExact, IsOnlyOf, all_in_sight, leaving_out, without_frame}
+use Rattle.cow_split.specs.Cutting.{split_on, cut_slots, cut_answer, frame_left, HasCut}
+use Rattle.cow_split.proofs.CostLaws.{depth-up, depth-some}
+use Rattle.cow_split.proofs.ExactLaws.{cases_place, exact-seen_alike, seen-carried}
+use Rattle.cow_split.proofs.RowLaws.{left_out-in_sight, left_out-other, only-more, only-none, exact-in_use_alike, exact-own_gone, own-shows, frame-in_use}
+use Rattle.cow_split.proofs.CutLaws.{CutBy, sees_nothing, sees_shared, sees_alone, cut-by, exact-cut, cut-last, cut-shows}
+use Rattle.cow_merge.specs.Ranges.{leaving_range, is_taken, AreLinked, GivesBack, HadRow, IsPartOf, HasGiven, HasLeftPageOut, IsLeaving, IsDropping, IsBare, CameTo, IsPassing, HasLeftOut, IsExactFor}
+use Rattle.cow_merge.proofs.CountLaws.{in_sight-outside, outside-other, outside-before}
+
+-- ---- rows that go
+
+pub part-same : (slots : Slots) → IsPartOf slots slots
+part-same slots = record { had = λ l q row at. record { row = row; at = at; frame = refl } }
+
+-- the row of one place goes, or keeps its frame
+part-with_pair : (slots : Slots) (l q : ℕ) (now : Option Slot) → ((row : Slot) → now ≡ Some row → HadRow slots l q row) →
+    IsPartOf slots (with_pair slots l q now)
+part-with_pair slots l q now here = record {
+  had = λ m r row at. elim (cases_place l q m r) [
+    | inl same ↦
+        let there : with_pair slots l q now m r ≡ now =
+        ap (λ k. with_pair slots l q now k r) same.0 ∙ (ap (with_pair slots l q now l) same.1 ∙ with_pair-same slots l q now) in
+        subst (λ k. HadRow slots k r row) (sym same.0) (subst (λ k. HadRow slots l k row) (sym same.1) (here row (sym there ∙ at)))
+    | inr apart ↦ record { row = row; at = sym (with_pair-other slots l q now m r (λ a b. apart (a, b))) ∙ at; frame = refl }
+  ];
+}
+
+part-then : (old mid new : Slots) → IsPartOf old mid → IsPartOf mid new → IsPartOf old new
+part-then old mid new first second = record {
+  had = λ l q row at.
+      let late = second.had l q row at in
+      let early = first.had l q late.row late.at in
+      record { row = early.row; at = early.at; frame = late.frame ∙ early.frame };
+}
+
+-- a page without a row gets none
+pub part-none : (old new : Slots) → IsPartOf old new → (l q : ℕ) → old l q ≡ None → new l q ≡ None
+part-none old new part l q none = go (new l q) refl
+  where
+    go : (now : Option Slot) → new l q ≡ now → now ≡ None
+    go None is = refl
+    go (Some row) is = let had = part.had l q row is in let at = had.at in absurd (cc)
+
+-- the row that is split by a cut has its frame
+split-had : (slots : Slots) (l q : ℕ) (from : Side) (tag : Tag) (left right : Bool) → slots l q ≡ Some (slot.Frame tag left right) →
+    (row : Slot) → split_on from tag left right ≡ Some row → HadRow slots l q row
+split-had slots l q from tag left right at row is =
+    record { row = slot.Frame tag left right; at = at; frame = frame from left right is }
+  where
+    frame : (from : Side) (left right : Bool) → split_on from tag left right ≡ Some row → frame_in row ≡ Some tag.0
+    frame side.Left left true e = absurd (cc)
+    frame side.Left left false e = ap frame_in (some_same (sym e))
+    frame side.Right true right e = absurd (cc)
+    frame side.Right false right e = ap frame_in (some_same (sym e))
+
+part-by : (t : Tree) (v p : ℕ) (slots : Slots) (answer : Cut) → CutBy t v p slots answer → IsPartOf t.slots slots
+part-by t v p slots answer (sees_nothing none) = part-same t.slots
+part-by t v p slots answer (sees_shared side h q node tag left right sees seen) = part-same t.slots
+part-by t v p slots answer (sees_alone side h q node tag left right sees seen) =
+    part-with_pair t.slots node.list.0 q (split_on side tag left right) (split-had t.slots node.list.0 q side tag left right sees.row)
+
+-- a way stays where rows go
+module _ (t : Tree) (slots : Slots) (part : IsPartOf t.slots slots) where
+  climbs-part : (k p h q : ℕ) → Climbs t k p h q → Climbs (record t { slots = slots }) k p h q
+  climbs-part k p h q c = record {
+    node = c.node;
+    at = c.at;
+    free = part-none t.slots slots part c.node.list.0 p c.free;
+    inside = c.inside;
+    parent = c.parent;
+    page = c.page;
+  }
+
+  reach-part : (k p : ℕ) (side : Side) (h q : ℕ) → Reaches t k p side h q → Reaches (record t { slots = slots }) k p side h q
+  reach-part k p side h q = reach-each t side h q (λ j r. Reaches (record t { slots = slots }) j r side h q)
+      (λ j r c from. reach-one (record t { slots = slots }) j r side h q (climbs-part j r h q c) from)
+      (λ j r i x c way further. reach-more (record t { slots = slots }) j r i x side h q (climbs-part j r i x c) further)
+      k p
+
+  arrives-part : (k p : ℕ) (side : Option Side) (h q : ℕ) → Arrives t k p side h q → Arrives (record t { slots = slots }) k p side h q
+  arrives-part k p None h q way = way
+  arrives-part k p (Some side) h q way = reach-part k p side h q way
+
+-- ---- frames that are given back
+
+gives-then : (before between after : Pool) → GivesBack before between → GivesBack between after → GivesBack before after
+gives-then before between after first second = record {
+  frames = second.frames ∙ first.frames;
+  kept = λ t. elim (second.kept t) [
+    | inl same ↦ elim (first.kept t) [ inl was ↦ inl (same ∙ was) | inr none ↦ inr (same ∙ none) ]
+    | inr none ↦ inr none
+  ];
+}
+
+pub gives-same : (pool : Pool) → GivesBack pool pool
+gives-same pool = record { frames = refl; kept = λ t. inl refl }
+
+pub given-none : (pool : Pool) → HasGiven pool pool None
+unfolding without_frame
+given-none pool = record { taken = λ t. kept t; links = refl; gives = gives-same pool }
+  where
+    kept : (t : ℕ) → is_taken pool t ≡ without_frame (is_taken pool) None t
+    kept t = refl
+
+without-one : (pool : Pool) (tag t : ℕ) → is_some (without_key (taken_frames pool) tag t) ≡ without_frame (is_taken pool) (Some tag) t
+unfolding without_frame
+without-one pool tag t = elim (cases_eq t tag) [
+  | inl same ↦
+      ap is_some (ap (without_key (taken_frames pool) tag) same ∙ without_key-same (taken_frames pool) tag)
+      ∙ sym (ap (λ b. not b && is_taken pool t) (eq-eqb t tag same))
+  | inr apart ↦
+      ap is_some (without_key-other (taken_frames pool) tag t apart) ∙ sym (ap (λ b. not b && is_taken pool t) (ne_eqb t tag apart))
+]
+
+pub given-one : (before after : Pool) (tag : ℕ) → after.frames ≡ before.frames → links_of after ≡ links_of before →
+    taken_frames after ≡ without_key (taken_frames before) tag → HasGiven before after (Some tag)
+given-one before after tag frames links taken = record {
+  taken = λ t. ap (λ f. is_some (f t)) taken ∙ without-one before tag t;
+  links = links;
+  gives = record {
+    frames = frames;
+    kept = λ t. elim (cases_eq t tag) [
+      | inl same ↦ inr (ap (λ f. f t) taken ∙ (ap (without_key (taken_frames before) tag) same ∙ without_key-same (taken_frames before) tag))
+      | inr apart ↦ inl (ap (λ f. f t) taken ∙ without_key-other (taken_frames before) tag t apart)
+    ];
+  };
+}
+
+-- no frame is given back but that of a last viewer
+pub given-kept : (pool : Pool) (answer : Cut) → ((tag : Tag) → answer ≡ cut.LastViewer tag → ⊥) → HasGiven pool pool (frame_left answer)
+given-kept pool (cut.LastViewer tag) other = absurd (other tag refl)
+given-kept pool cut.StillSeen other = given-none pool
+given-kept pool cut.NothingThere other = given-none pool
+
+-- ---- one page
+
+module _ (arena : Arena) (old new : Rows Row) (v p : ℕ) (node : Node) (visible : IsVisible (nodes_of arena) v node) where
+  -- the frame that is to be given back is taken
+  pub cut-taken : (pool : Pool) (out : ℕ → ℕ → Bool) (answer : Cut) (tag : Tag) → IsExact (tree_of arena old) out (is_taken pool) →
+      IsOnlyOf out v → slots_of old node.list.0 p ≡ None → HasCut arena old new v p answer → answer ≡ cut.LastViewer tag →
+      IsSome (taken_frames pool tag.0)
+  cut-taken pool out answer tag exact only none has is =
+      let last = cut-last (tree_of arena old) out (is_taken pool) exact v p only node visible none tag in
+      let shown = last.0 (sym has.answers ∙ is) in
+      frame-in_use (tree_of arena old) out (is_taken pool) exact v p tag.0 shown.0
+
+  pub cut-left_out : (before after : Pool) (answer : Cut) → IsForest (nodes_of arena) arena.lists → slots_of old node.list.0 p ≡ None →
+      HasCut arena old new v p answer → HasGiven before after (frame_left answer) → HasLeftPageOut arena old new before after v p
+  cut-left_out before after answer forest none has given = record {
+    exact = λ out exact only.
+        exact-in_use_alike (tree_of arena new) (leaving_out out v p) (without_frame (is_taken before) (frame_left answer)) (is_taken after)
+        (λ t. sym (given.taken t))
+        (subst
+        (λ s. IsExact (record (tree_of arena old) { slots = s }) (leaving_out out v p) (without_frame (is_taken before) (frame_left answer)))
+        (sym has.slots)
+        (subst
+        (λ a. IsExact (record (tree_of arena old) { slots = cut_slots (tree_of arena old) v p }) (leaving_out out v p) (without_frame (is_taken before) (frame_left a)))
+        (sym has.answers)
+        (exact-cut (tree_of arena old) out (is_taken before) exact v p only node visible none)));
+    shows = λ out exact only w q page in_sight.
+        ap (λ s. frame_at (record (tree_of arena old) { slots = s }) w q) has.slots
+        ∙ cut-shows (tree_of arena old) out (is_taken before) exact v p only node visible none w q page in_sight;
+    part = subst (λ s. IsPartOf (slots_of old) s) (sym has.slots)
+        (part-by (tree_of arena old) v p (cut_slots (tree_of arena old) v p) (cut_answer (tree_of arena old) v p)
+        (cut-by (tree_of arena old) forest v p node visible none));
+    links = given.links;
+    gives = given.gives;
+    spare = has.spare;
+    count = has.count;
+  }
+
+  drop-left_out : (before after : Pool) (row : Slot) → IsForest (nodes_of arena) arena.lists → slots_of old node.list.0 p ≡ Some row →
+      slots_of new ≡ with_pair (slots_of old) node.list.0 p None → HasGiven before after (frame_in row) → old.spare ≤ new.spare →
+      row_count new ≤ row_count old → HasLeftPageOut arena old new before after v p
+  drop-left_out before after row forest at slots given spare count = record {
+    exact = λ out exact only.
+        exact-in_use_alike (tree_of arena new) (leaving_out out v p) (without_frame (is_taken before) (frame_in row)) (is_taken after)
+        (λ t. sym (given.taken t))
+        (subst
+        (λ s. IsExact (record (tree_of arena old) { slots = s }) (leaving_out out v p) (without_frame (is_taken before) (frame_in row)))
+        (sym slots)
+        (exact-own_gone (tree_of arena old) v p node visible out (is_taken before) row exact at));
+    shows = λ out exact only w q page in_sight.
+        ap (λ s. frame_at (record (tree_of arena old) { slots = s }) w q) slots
+        ∙ own-shows (tree_of arena old) v p node visible forest None w q page (left_out-in_sight out v p w q in_sight).0;
+    part = subst (λ s. IsPartOf (slots_of old) s) (sym slots)
+        (part-with_pair (slots_of old) node.list.0 p None (λ row e. absurd (cc)));
+    links = given.links;
+    gives = given.gives;
+    spare = spare;
+    count = count;
+  }
+
+-- ---- pages, one after another
+
+-- a page is one whatever the rows are
+page-there : (arena : Arena) (old new : Rows Row) (w q : ℕ) → IsPage (tree_of arena old) w q → IsPage (tree_of arena new) w q
+page-there arena old new w q page = record { node = page.node; visible = page.visible; below = page.below }
+
+pub leaving-start : (arena : Arena) (rows : Rows Row) (pool : Pool) (v first : ℕ) → IsExact (tree_of arena rows) all_in_sight (is_taken pool) →
+    IsLeaving arena rows rows pool pool v first all_in_sight
+leaving-start arena rows pool v first exact = record {
+  exact = exact;
+  only = only-none v;
+  within = λ q e. absurd (cc);
+  shows = λ w q page e. refl;
+  part = part-same (slots_of rows);
+  links = refl;
+  gives = gives-same pool;
+  spare = omega arith;
+  count = omega arith;
+}
+
+-- they are left out whenever it began
+leaving-again : (arena : Arena) (old new : Rows Row) (before after : Pool) (v first : ℕ) (out : ℕ → ℕ → Bool) →
+    IsLeaving arena old new before after v first out → IsLeaving arena new new after after v first out
+leaving-again arena old new before after v first out leaving = record {
+  exact = leaving.exact;
+  only = leaving.only;
+  within = leaving.within;
+  shows = λ w q page e. refl;
+  part = part-same (slots_of new);
+  links = refl;
+  gives = gives-same after;
+  spare = omega arith;
+  count = omega arith;
+}
+
+-- one page more
+module _ (arena : Arena) (old mid new : Rows Row) (before between after : Pool) (v first p : ℕ) (out : ℕ → ℕ → Bool) where
+  leaving-more : IsLeaving arena old mid before between v first out → HasLeftPageOut arena mid new between after v p → first ≤ p →
+      IsLeaving arena old new before after v first (leaving_out out v p)
+  leaving-more leaving step from = record {
+    exact = step.exact out leaving.exact leaving.only;
+    only = only-more out v p leaving.only;
+    within = λ q e. elim (cases_eq q p) [
+      | inl same ↦ omega arith
+      | inr apart ↦ leaving.within q (sym (left_out-other out v p v q (λ both. apart both.1)) ∙ e)
+    ];
+    shows = λ w q page e.
+        step.shows out leaving.exact leaving.only w q (page-there arena old mid w q page) e
+        ∙ leaving.shows w q page (left_out-in_sight out v p w q e).1;
+    part = part-then (slots_of old) (slots_of mid) (slots_of new) leaving.part step.part;
+    links = step.links ∙ leaving.links;
+    gives = gives-then before between after leaving.gives step.gives;
+    spare = omega (arith, leaving.spare, step.spare);
+    count = omega (arith, leaving.count, step.count);
+  }
+
+-- ---- the own rows
+
+-- what a caller says of the node
+pub visible-of : (arena : Arena) (v : ℕ) (node : Node) → IsSomeAnd (nodes_of arena v) (λ (node : Node). IsSome node.koid) →
+    nodes_of arena v ≡ Some node → IsVisible (nodes_of arena) v node
+visible-of arena v node some at =
+    record { at = at; koid = subst (λ (o : Option Node). IsSomeAnd o (λ (node : Node). IsSome node.koid)) at some }
+
+pub dropping-start : (arena : Arena) (rows : Rows Row) (pool : Pool) (v : ℕ) (node : Node) (first : ℕ) →
+    IsExact (tree_of arena rows) all_in_sight (is_taken pool) → IsVisible (nodes_of arena) v node →
+    IsDropping arena rows rows pool pool v node first first
+dropping-start arena rows pool v node first exact visible = record {
+  out = all_in_sight;
+  leaving = leaving-start arena rows pool v first exact;
+  visible = visible;
+  bare = λ p from to. absurd (omega arith);
+}
+
+-- the own row of one page more goes
+module _ (arena : Arena) (old mid new : Rows Row) (before between after : Pool) (v : ℕ) (node : Node) (first end page : ℕ) (row : Slot)
+    (was : IsDropping arena old mid before between v node first end) (at : slots_of mid node.list.0 page ≡ Some row) where
+  pub dropping-taken : (tag : ℕ) → frame_in row ≡ Some tag → IsSome (taken_frames between tag)
+  dropping-taken tag frame = was.leaving.exact.used node.list.0 page row tag at frame
+
+  pub dropping-more : first ≤ end → IsNext (slots_of mid node.list.0) end (Some page) →
+      slots_of new ≡ with_pair (slots_of mid) node.list.0 page None → HasGiven between after (frame_in row) → mid.spare ≤ new.spare →
+      row_count new ≤ row_count mid → IsDropping arena old new before after v node first page
+  dropping-more from next slots given spare count =
+      let least = next.least page refl in
+      let step = drop-left_out arena mid new v page node was.visible between after row was.leaving.exact.forest at slots given spare count in
+      record {
+        out = leaving_out was.out v page;
+        leaving = leaving-more arena old mid new before between after v first page was.out was.leaving step (omega (arith, least.0));
+        visible = was.visible;
+        bare = λ p start to. part-none (slots_of mid) (slots_of new) step.part node.list.0 p (elim (cases_lt p end) [
+          | inl before ↦ was.bare p start before
+          | inr past ↦ least.2 p past to
+        ]);
+      }
+
+pub dropping-end : (arena : Arena) (old new : Rows Row) (before after : Pool) (v : ℕ) (node : Node) (first end : ℕ) →
+    IsDropping arena old new before after v node first end → first ≤ end → IsNext (slots_of new node.list.0) end None →
+    IsBare arena old new before after v first
+dropping-end arena old new before after v node first end was from next = record {
+  out = was.out;
+  leaving = was.leaving;
+  node = node;
+  visible = was.visible;
+  bare = λ p start. elim (cases_lt p end) [ inl before ↦ was.bare p start before | inr past ↦ next.none refl p past ];
+}
+
+-- ---- the rows above
+
+-- what was found from a side has its frame
+frame-from : (side : Option Side) (o : Option Found) → frame_found (from_side side o) ≡ frame_found o
+frame-from side None = refl
+frame-from side (Some it) = refl
+
+module _ (t : Tree) (f : IsForest t.nodes t.lists) (v q h list shift to upto tag : ℕ) (shown : frame_at t v q ≡ Some tag)
+    (came : CameTo t v q h list shift to upto) where
+  -- the page to which it comes shows the same frame
+  came-shows : frame_at t h came.page ≡ Some tag
+  came-shows =
+      sym (ap frame_found (walk-from t f v q came.side h came.page came.way) ∙ frame-from came.side (walk t h came.page)) ∙ shown
+
+  -- without a row there, it is in the window
+  came-inside : (above : Node) → t.nodes h ≡ Some above → t.slots above.list.0 came.page ≡ None → came.page < above.seen
+  came-inside above at free = elim (cases_lt came.page above.seen) [
+    | inl less ↦ less
+    | inr past ↦
+        let nothing = ap frame_found (walk-past t f h came.page above at free past) in
+        let shows = came-shows in
+        absurd (cc)
+  ]
+
+pub passing-again : (arena : Arena) (old new : Rows Row) (before after : Pool) (v first : ℕ) (above : Node) (shift to upto : ℕ) →
+    IsPassing arena old new before after v first above shift to upto → IsPassing arena new new after after v first above shift to upto
+passing-again arena old new before after v first above shift to upto was = record {
+  bare = record {
+    out = was.bare.out;
+    leaving = leaving-again arena old new before after v first was.bare.out was.bare.leaving;
+    node = was.bare.node;
+    visible = was.bare.visible;
+    bare = was.bare.bare;
+  };
+  h = was.h;
+  at = was.at;
+  came = was.came;
+}
+
+-- it begins at the node itself
+pub passing-start : (arena : Arena) (old new : Rows Row) (before after : Pool) (v first : ℕ) (node : Node) →
+    IsBare arena old new before after v first → nodes_of arena v ≡ Some node →
+    IsPassing arena old new before after v first node 0 node.seen node.seen
+passing-start arena old new before after v first node was at = record {
+  bare = was;
+  h = v;
+  at = at;
+  came = λ q tag from below sight shown.
+      let same : was.node ≡ node = some_same (sym was.visible.at ∙ at) in
+      let free : slots_of new node.list.0 q ≡ None = subst (λ (n : Node). slots_of new n.list.0 q ≡ None) same (was.bare q from) in
+      record {
+        side = None;
+        page = q;
+        is = omega arith;
+        way = (refl, refl);
+        below = elim (cases_lt q node.seen) [
+          | inl less ↦ less
+          | inr past ↦
+              let nothing = ap frame_found (walk-past (tree_of arena new) was.leaving.exact.forest v q node at free past) in
+              absurd (cc)
+        ];
+        free = λ less. free;
+      };
+}
+
+module _ (arena : Arena) (old new : Rows Row) (before after : Pool) (v first : ℕ) (above : Node) (shift to : ℕ) where
+  -- it goes on at the parent
+  pub passing-up : IsPassing arena old new before after v first above shift to to → (parent : NodeId) (up : Node) →
+      above.parent ≡ Some parent → nodes_of arena parent.0 ≡ Some up → (end : ℕ) → end ≡ min to above.seen →
+      IsPassing arena old new before after v first up (shift + above.first) (end + above.first) (first + (shift + above.first))
+  passing-up was parent up parent_is up_at end end_is =
+      let f = was.bare.leaving.exact.forest in
+      record {
+        bare = was.bare;
+        h = parent.0;
+        at = up_at;
+        came = λ q tag from below sight shown.
+            let came = was.came q tag from below sight shown in
+            let free = came.free came.below in
+            let inside = came-inside (tree_of arena new) f v q was.h above.list.0 shift to to tag shown came above was.at free in
+            let climbs : Climbs (tree_of arena new) was.h came.page parent.0 (above.first + came.page) =
+            record { node = above; at = was.at; free = free; inside = inside; parent = parent_is; page = refl } in
+            let last = climb-side (tree_of arena new) f was.h came.page parent.0 (above.first + came.page) climbs in
+            record {
+              side = Some last.1;
+              page = above.first + came.page;
+              is = omega (arith, came.is);
+              way = reach-after (tree_of arena new) f v q came.side was.h came.page last.1 parent.0 (above.first + came.page) came.way climbs last.4;
+              below = omega (arith, inside, came.below);
+              free = λ less. absurd (omega (arith, came.is));
+            };
+      }
+
+module _ (arena : Arena) (old mid new : Rows Row) (before between after : Pool) (v first : ℕ) (above : Node) (shift to upto row : ℕ) where
+  -- the page that comes to a row is cut off
+  pub passing-cut : IsPassing arena old mid before between v first above shift to upto → first + shift ≤ upto →
+      IsNext (slots_of mid above.list.0) upto (Some row) → HasLeftPageOut arena mid new between after v (row - shift) →
+      IsPassing arena old new before after v first above shift to (row + 1)
+  passing-cut was from next step =
+      let least = next.least row refl in
+      let out = was.bare.out in
+      record {
+        bare = record {
+          out = leaving_out out v (row - shift);
+          leaving = leaving-more arena old mid new before between after v first (row - shift) out was.bare.leaving step (omega (arith, least.0));
+          node = was.bare.node;
+          visible = was.bare.visible;
+          bare = λ p start. part-none (slots_of mid) (slots_of new) step.part was.bare.node.list.0 p (was.bare.bare p start);
+        };
+        h = was.h;
+        at = was.at;
+        came = λ q tag start below sight shown.
+            let parts = left_out-in_sight out v (row - shift) v q sight in
+            let apart : q ≢ row - shift = λ same. parts.0 (refl, same) in
+            let page : IsPage (tree_of arena mid) v q = record { node = was.bare.node; visible = was.bare.visible; below = below } in
+            let showed = sym (step.shows out was.bare.leaving.exact was.bare.leaving.only v q page sight) ∙ shown in
+            let came = was.came q tag start below parts.1 showed in
+            record {
+              side = came.side;
+              page = came.page;
+              is = came.is;
+              way = arrives-part (tree_of arena mid) (slots_of new) step.part v q came.side was.h came.page came.way;
+              below = came.below;
+              free = λ less. part-none (slots_of mid) (slots_of new) step.part above.list.0 came.page (elim (cases_lt came.page upto) [
+                | inl before ↦ came.free before
+                | inr past ↦ least.2 came.page past (omega (arith, came.is))
+              ]);
+            };
+      }
+
+module _ (arena : Arena) (old new : Rows Row) (before after : Pool) (v first : ℕ) (above : Node) (shift to upto : ℕ) where
+  -- no row is left that they could come to
+  pub passing-end : (answer : Option ℕ) → IsPassing arena old new before after v first above shift to upto →
+      IsNext (slots_of new above.list.0) upto answer → ((row : ℕ) → answer ≡ Some row → to ≤ row) →
+      IsPassing arena old new before after v first above shift to to
+  passing-end answer was next ends = record {
+    bare = was.bare;
+    h = was.h;
+    at = was.at;
+    came = λ q tag start below sight shown.
+        let came = was.came q tag start below sight shown in
+        record {
+          side = came.side;
+          page = came.page;
+          is = came.is;
+          way = came.way;
+          below = came.below;
+          free = λ less. elim (cases_lt came.page upto) [
+            | inl before ↦ came.free before
+            | inr past ↦ rest came.page past less answer refl
+          ];
+        };
+  }
+    where
+      rest : (page : ℕ) → upto ≤ page → page < to → (o : Option ℕ) → answer ≡ o → slots_of new above.list.0 page ≡ None
+      rest page past less None is = next.none is page past
+      rest page past less (Some row) is = (next.least row is).2 page past (omega (arith, ends row is))
+
+-- ---- the range
+
+-- exact where the pages that show a frame are out of sight as before
+exact-shown_alike : (t : Tree) (out now : ℕ → ℕ → Bool) (in_use : ℕ → Bool) → IsExact t out in_use →
+    ((w q tag : ℕ) → IsPage t w q → frame_at t w q ≡ Some tag → out w q ≡ now w q) → IsExact t now in_use
+exact-shown_alike t out now in_use exact alike = exact-seen_alike t out now in_use exact
+    (λ k r node tag left right at hidden row side. (
+      seen-carried t t out now side k r refl (λ w q sees in_sight. (refl, sym (seen k r node tag left right at row w q side sees) ∙ in_sight)),
+      seen-carried t t now out side k r refl (λ w q sees in_sight. (refl, seen k r node tag left right at row w q side sees ∙ in_sight)),
+    ))
+  where
+    seen : (k r : ℕ) (node : Node) (tag : Tag) (left right : Bool) → t.nodes k ≡ Some node →
+        t.slots node.list.0 r ≡ Some (slot.Frame tag left right) → (w q : ℕ) (side : Side) → Sees t w q (Some side) k r → out w q ≡ now w q
+    seen k r node tag left right at row w q side sees =
+        let ends = walk-ends t exact.forest w q _ sees.found in
+        let same : ends.row.node ≡ node = some_same (sym ends.row.at ∙ at) in
+        let slot_is : sees.slot ≡ slot.Frame tag left right =
+        some_same (sym (subst (λ (n : Node). t.slots n.list.0 r ≡ Some sees.slot) same ends.row.row) ∙ row) in
+        alike w q tag.0 sees.page (ap frame_found sees.found ∙ ap frame_in slot_is)
+
+-- a page of the range is left out
+pub inside-range : (out : ℕ → ℕ → Bool) (v first end q : ℕ) → first ≤ q → q < end → leaving_range out v first end v q ≡ true
+unfolding leaving_range
+inside-range out v first end q from to =
+    ap (λ (b : Bool). b || out v q)
+    (and_from ((v == v) && nat_le first q) (nat_lt q end)
+    (and_from (v == v) (nat_le first q) (eqb_same v) (le-leb first q from))
+    (lt-ltb q end to))
+
+-- rows that are left keep the places that their frames tell
+linked-part : (old new : Rows Row) (before after : Pool) → IsPartOf (slots_of old) (slots_of new) → links_of after ≡ links_of before →
+    AreLinked old before → AreLinked new after
+linked-part old new before after part links was = record {
+  linked = λ l q row tag at frame.
+      let had = part.had l q row at in
+      ap (λ f. f tag) links ∙ was.linked l q had.row tag had.at (sym had.frame ∙ frame);
+}
+
+module _ (arena : Arena) (old new : Rows Row) (before after : Pool) (v first : ℕ) (above : Node) (shift to : ℕ)
+    (was : IsPassing arena old new before after v first above shift to to)
+    (top : (parent : NodeId) → above.parent ≡ Some parent → min to above.seen ≤ first + shift) (node : Node) (at : nodes_of arena v ≡ Some node) where
+  abbrev t : Tree
+  t = tree_of arena new
+
+  abbrev out : ℕ → ℕ → Bool
+  out = was.bare.out
+
+  node_is : was.bare.node ≡ node
+  node_is = some_same (sym was.bare.visible.at ∙ at)
+
+  below-count : (q : ℕ) → IsPage t v q → q < node.count
+  below-count q page = subst (λ (n : Node). q < n.count) (some_same (sym page.visible.at ∙ at)) page.below
+
+  -- a page of the range that is in sight shows nothing
+  shows-none : (q tag : ℕ) → first ≤ q → q < node.count → out v q ≡ false → frame_at t v q ≡ Some tag → ⊥
+  shows-none q tag from below sight shown =
+      let f = was.bare.leaving.exact.forest in
+      let came = was.came q tag from (subst (λ (n : Node). q < n.count) (sym node_is) below) sight shown in
+      let inside = came-inside t f v q was.h above.list.0 shift to to tag shown came above was.at (came.free came.below) in
+      go came.page came.is came.below inside above.parent refl
+    where
+      go : (page : ℕ) → page ≡ q + shift → page < to → page < above.seen → (up : Option NodeId) → above.parent ≡ up → ⊥
+      go page is less inside None up_is =
+          let none = was.bare.leaving.exact.forest.by.root was.h above was.at up_is in absurd (omega arith)
+      go page is less inside (Some parent) up_is = let end = top parent up_is in absurd (omega arith)
+
+  out-mine : (q tag : ℕ) → IsPage t v q → frame_at t v q ≡ Some tag → out v q ≡ leaving_range all_in_sight v first node.count v q
+  out-mine q tag page shown = elim (cases_lt q first) [
+    | inl before ↦ elim (cases_Bool (out v q)) [
+      | inl hidden ↦ let from = was.bare.leaving.within q hidden in absurd (omega arith)
+      | inr seen ↦ seen ∙ sym (outside-before v first node.count v q before)
+    ]
+    | inr from ↦ elim (cases_Bool (out v q)) [
+      | inl hidden ↦ hidden ∙ sym (inside-range all_in_sight v first node.count q from (below-count q page))
+      | inr seen ↦ absurd (shows-none q tag from (below-count q page) seen shown)
+    ]
+  ]
+
+  out-same : (w q tag : ℕ) → IsPage t w q → frame_at t w q ≡ Some tag → out w q ≡ leaving_range all_in_sight v first node.count w q
+  out-same w q tag page shown = elim (cases_eq w v) [
+    | inl same ↦
+        subst (λ k. out k q ≡ leaving_range all_in_sight v first node.count k q) (sym same)
+        (out-mine q tag (subst (λ k. IsPage t k q) same page) (ap (λ k. frame_at t k q) (sym same) ∙ shown))
+    | inr apart ↦ elim (cases_Bool (out w q)) [
+      | inl hidden ↦ absurd (apart (was.bare.leaving.only w q hidden))
+      | inr seen ↦ seen ∙ sym (outside-other v first node.count w q apart)
+    ]
+  ]
+
+  in_sight-before : (w q : ℕ) → IsPage t w q → leaving_range all_in_sight v first node.count w q ≡ false → out w q ≡ false
+  in_sight-before w q page sight = elim (cases_Bool (out w q)) [
+    | inl hidden ↦
+        let same = was.bare.leaving.only w q hidden in
+        let from = was.bare.leaving.within q (ap (λ k. out k q) (sym same) ∙ hidden) in
+        absurd (in_sight-outside v first node.count w q sight same from (below-count q (subst (λ k. IsPage t k q) same page)))
+    | inr seen ↦ seen
+  ]
+
+  -- at the top, and where no page goes on, none of them shows a frame
+  pub passing-top : HasLeftOut arena old new before after v node first
+  passing-top = record {
+    exact = exact-shown_alike t out (leaving_range all_in_sight v first node.count) (is_taken after) was.bare.leaving.exact out-same;
+    shows = λ w q page sight. was.bare.leaving.shows w q page (in_sight-before w q (page-there arena old new w q page) sight);
+    bare = λ p from. subst (λ (n : Node). slots_of new n.list.0 p ≡ None) node_is (was.bare.bare p from);
+    gives = was.bare.leaving.gives;
+    linked = linked-part old new before after was.bare.leaving.part was.bare.leaving.links;
+    spare = was.bare.leaving.spare;
+    count = was.bare.leaving.count;
+  }
+
+-- ---- the way upwards ends
+
+up-none : (nodes : Nodes) (n : ℕ) → nodes_up nodes n None ≡ 0
+unfolding nodes_up
+up-none nodes zero = refl
+up-none nodes (suc n) = refl
+
+-- there are fewer nodes from a node's parent on than from the node on
+pub up-less : (nodes : Nodes) (lists : ℕ) (f : IsForest nodes lists) (k : ℕ) (above : Node) → nodes k ≡ Some above →
+    nodes_up nodes lists above.parent < nodes_up nodes lists (link_to k)
+up-less nodes lists f k above at = go above.parent refl
+  where
+    go : (up : Option NodeId) → above.parent ≡ up → nodes_up nodes lists up < nodes_up nodes lists (link_to k)
+    go None is = let some = depth-some nodes lists f k above at in let none = up-none nodes lists in omega arith
+    go (Some parent) is = let more = depth-up nodes lists f k parent.0 above at is in omega arith
+
+-- ---- what the code asks on the way
+
+module _ (arena : Arena) (old new : Rows Row) (before after : Pool) (v first : ℕ) (above : Node) (shift to upto : ℕ)
+    (was : IsPassing arena old new before after v first above shift to upto) where
+  -- the tree is exact now, with some pages of the node left out
+  pub passing-exact : IsExactFor arena new after v
+  passing-exact = record {
+    out = was.bare.out;
+    exact = was.bare.leaving.exact;
+    only = was.bare.leaving.only;
+    node = was.bare.node;
+    visible = was.bare.visible;
+  }
+
+  pub passing-bare : (p : ℕ) → first ≤ p → (node : Node) → nodes_of arena v ≡ Some node → slots_of new node.list.0 p ≡ None
+  passing-bare p from node at =
+      subst (λ (n : Node). slots_of new n.list.0 p ≡ None) (some_same (sym was.bare.visible.at ∙ at)) (was.bare.bare p from)
+
+  pub passing-there : (parent : NodeId) → above.parent ≡ Some parent → IsSome (nodes_of arena parent.0)
+  passing-there parent is =
+      ap is_some (was.bare.leaving.exact.forest.by.below parent.0 was.h above was.at is).at
+
+  -- the window ends inside the parent
+  pub passing-fits : (parent : NodeId) (up : Node) → above.parent ≡ Some parent → nodes_of arena parent.0 ≡ Some up →
+      above.first + above.seen ≤ up.count
+  passing-fits parent up is at =
+      let below = was.bare.leaving.exact.forest.by.below parent.0 was.h above was.at is in
+      subst (λ (n : Node). above.first + above.seen ≤ n.count) (some_same (sym below.at ∙ at)) below.window
+
+  pub passing-less : (parent : NodeId) (up : Node) → above.parent ≡ Some parent → nodes_of arena parent.0 ≡ Some up →
+      nodes_up (nodes_of arena) arena.lists up.parent < nodes_up (nodes_of arena) arena.lists above.parent
+  passing-less parent up is at =
+      subst
+      (λ o. nodes_up (nodes_of arena) arena.lists up.parent < nodes_up (nodes_of arena) arena.lists o)
+      (sym is)
+      (up-less (nodes_of arena) arena.lists was.bare.leaving.exact.forest parent.0 up at)

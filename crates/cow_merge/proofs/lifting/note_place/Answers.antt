@@ -1,0 +1,8 @@
+use Rattle.std.proofs.Common.{ℕ, ap}
+use Rattle.vm_base.specs.Entries.{passes}
+use Rattle.frame_pool.specs.declared.frame_pool.Backlink.{Backlink}
+use Rattle.cow_merge.proofs.lifting.note_place.Goals as goal
+
+pub returns-in-Frame-clause-links : goal.returns-in-Frame-clause-links
+unfolding passes
+returns-in-Frame-clause-links c t = rw c.in-Frame.is (ap (λ (links : ℕ → Backlink). links t) c.set_backlink.ensures.links)

@@ -1,0 +1,32 @@
+-- Each row that goes leaves its page out.
+use Rattle.std.proofs.Common.{refl, arith}
+use Rattle.cow_merge.proofs.RangeLaws.{visible-of, dropping-start, dropping-taken, dropping-more, dropping-end}
+use Rattle.cow_merge.proofs.ranges.drop_rows.Goals as goal
+
+pub loop-page-init : goal.loop-page-init
+loop-page-init c = record {
+  from = omega arith;
+  dropping = dropping-start c.args.arena.now c.args.lists.now c.args.frames.now c.args.leaf.0 c.node-node.result c.args.first c.requires.exact
+      (visible-of c.args.arena.now c.args.leaf.0 c.node-node.result c.requires.leaf c.node-node.ensures);
+}
+
+pub give_back_frame-requires : goal.give_back_frame-requires
+give_back_frame-requires c =
+    dropping-taken c.args.arena.now c.args.lists.now c.loop-page.lists c.remove-slot.new.self c.args.frames.now c.loop-page.frames c.loop-page.frames
+    c.args.leaf.0 c.node-node.result c.args.first c.loop-page.from c.in-Some.page c.remove-slot.result c.loop-page.invariant.dropping c.remove-slot.ensures.slot
+
+pub loop-page-preserved : goal.loop-page-preserved
+loop-page-preserved c =
+    let least = c.in-Some.ensures.least c.in-Some.page refl in
+    record {
+      from = omega (arith, least.0);
+      dropping = dropping-more c.args.arena.now c.args.lists.now c.loop-page.lists c.remove-slot.new.self c.args.frames.now c.loop-page.frames
+          c.give_back_frame.new.frames c.args.leaf.0 c.node-node.result c.args.first c.loop-page.from c.in-Some.page c.remove-slot.result
+          c.loop-page.invariant.dropping c.remove-slot.ensures.slot c.loop-page.invariant.from c.in-Some.ensures c.remove-slot.ensures.slots
+          c.give_back_frame.ensures (omega arith) (omega arith);
+    }
+
+pub returns : goal.returns
+returns c =
+    dropping-end c.args.arena.now c.args.lists.now c.loop-page.lists c.args.frames.now c.loop-page.frames c.args.leaf.0 c.node-node.result c.args.first
+    c.loop-page.from c.loop-page.invariant.dropping c.loop-page.invariant.from c.in_default.ensures

@@ -1,0 +1,13 @@
+-- A node without a parent has no window, and one that is narrowed still ends inside the parent.
+use Rattle.cow_merge.proofs.ShrinkLaws.{narrowed-none, narrowed-inside}
+use Rattle.cow_merge.proofs.shrinking.narrow.Goals as goal
+
+pub returns-then-is_none : goal.returns-then-is_none
+returns-then-is_none c =
+    narrowed-none c.args.arena.now c.args.leaf.0 c.node-node.result c.args.count c.requires.forest c.node-node.ensures c.is_none.result c.is_none.ensures
+    c.if-is_none.true
+
+pub set_window-requires-clause-parent : goal.set_window-requires-clause-parent
+set_window-requires-clause-parent c =
+    narrowed-inside c.args.arena.now c.args.leaf.0 c.node-node.result c.args.count c.requires.forest c.node-node.ensures c.is_none.result c.is_none.ensures
+    c.if-is_none.false c.first_of.result c.min-seen.result c.first_of.ensures c.min-seen.ensures

@@ -1,0 +1,3 @@
+pub mod Ranges
+pub mod Lifting
+pub mod Merging

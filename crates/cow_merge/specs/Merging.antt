@@ -1,0 +1,56 @@
+-- What it is to shrink a VMO's node, and to close one.
+use Rattle.std.specs.Prelude.{◌≡◌, ◌≢◌, ℕ, ◌≤◌, suc, min, None, Some}
+use Rattle.balanced_tree.specs.Rows.{Rows}
+use Rattle.page_list.specs.declared.row.Row.{Row}
+use Rattle.page_list.specs.Lists.{row_count}
+use Rattle.vm_base.specs.Entries.{with_key}
+use Rattle.frame_pool.specs.Pool.{Pool}
+use Rattle.cow_arena.specs.declared.node.Node.{Node}
+use Rattle.cow_arena.specs.Nodes.{Arena, Nodes, nodes_of, IsVisible}
+use Rattle.cow_arena.specs.Changes.{with_window}
+use Rattle.cow_arena.specs.Counts.{hidden_count, visible_count}
+use Rattle.cow_arena.specs.Walk.{frame_at}
+use Rattle.cow_split.specs.Trees.{tree_of}
+use Rattle.cow_split.specs.Sight.{IsPage, StaysVisible}
+use Rattle.cow_split.specs.Exact.{IsExact, all_in_sight}
+use Rattle.cow_merge.specs.Ranges.{is_taken, GivesBack, AreLinked}
+
+-- a visible node that has `count` pages, of which the window is no longer
+abbrev pub with_count : Node → ℕ → Node
+with_count node count = record (with_window node node.first (min node.seen count)) { count = count }
+
+-- the window of node v, which was this, has at most `count` pages
+pub record IsNarrowed (old new : Arena) (v : ℕ) (node : Node) (count : ℕ) : Type 0 where
+  pub nodes : nodes_of new ≡ with_key (nodes_of old) v (with_window node node.first (min node.seen count))
+  pub lists : new.lists ≡ old.lists
+  pub hidden : hidden_count new ≡ hidden_count old
+  pub visible : visible_count new ≡ visible_count old
+
+-- The visible node v has `count` pages, of those that it had. It shows the same there, and each other VMO everywhere.
+pub record HasShrunk (old new : Arena) (rows rows_after : Rows Row) (before after : Pool) (v count : ℕ) : Type 0 where
+  pub exact : IsExact (tree_of new rows_after) all_in_sight (is_taken after)
+  pub nodes : (node : Node) → nodes_of old v ≡ Some node → nodes_of new ≡ with_key (nodes_of old) v (with_count node count)
+  pub lists : new.lists ≡ old.lists
+  pub hidden : hidden_count new ≡ hidden_count old
+  pub visible : visible_count new ≡ visible_count old
+  pub shows : (w q : ℕ) → IsPage (tree_of new rows_after) w q →
+      frame_at (tree_of new rows_after) w q ≡ frame_at (tree_of old rows) w q
+  pub pool : GivesBack before after
+  pub linked : AreLinked rows before → AreLinked rows_after after
+  pub spare : rows.spare ≤ rows_after.spare
+  pub fewer : row_count rows_after ≤ row_count rows
+
+-- The visible node v is gone. Each other VMO has its node, and shows what it showed.
+pub record HasClosed (old new : Arena) (rows rows_after : Rows Row) (before after : Pool) (v : ℕ) : Type 0 where
+  pub exact : IsExact (tree_of new rows_after) all_in_sight (is_taken after)
+  pub gone : nodes_of new v ≡ None
+  pub stays : (w : ℕ) (node : Node) → w ≢ v → IsVisible (nodes_of old) w node → StaysVisible (nodes_of old) (nodes_of new) w node
+  pub no_more : (w : ℕ) (node : Node) → IsVisible (nodes_of new) w node → StaysVisible (nodes_of new) (nodes_of old) w node
+  pub lists : new.lists ≡ old.lists
+  pub visible : suc (visible_count new) ≡ visible_count old
+  pub shows : (w q : ℕ) → IsPage (tree_of new rows_after) w q →
+      frame_at (tree_of new rows_after) w q ≡ frame_at (tree_of old rows) w q
+  pub pool : GivesBack before after
+  pub linked : AreLinked rows before → AreLinked rows_after after
+  pub spare : rows.spare ≤ rows_after.spare
+  pub fewer : row_count rows_after ≤ row_count rows

@@ -1,0 +1,135 @@
+-- A range of pages of one visible node that are left out of sight, and what leaving them out changes.
+use Rattle.std.specs.Prelude.{◌≡◌, ◌⊎◌, ℕ, ◌+◌, ◌<◌, ◌≤◌, Bool, true, false, ◌&&◌, ◌||◌, ◌==◌, nat_le, nat_lt, Option, None, Some, is_some}
+use Rattle.balanced_tree.specs.Rows.{Rows}
+use Rattle.page_list.specs.declared.row.Row.{Row}
+use Rattle.page_list.specs.Lists.{slots_of, row_count}
+use Rattle.frame_pool.specs.Pool.{Pool, taken_frames, links_of}
+use Rattle.page_list.specs.declared.row.Slot.{Slot}
+use Rattle.cow_arena.specs.declared.node.Node.{Node}
+use Rattle.cow_arena.specs.declared.node.Side.{Side}
+use Rattle.cow_arena.specs.Nodes.{Arena, nodes_of, IsVisible}
+use Rattle.cow_arena.specs.Walk.{Slots, Tree, frame_at, frame_in}
+use Rattle.cow_arena.specs.Ways.{Arrives}
+use Rattle.cow_split.specs.Trees.{tree_of}
+use Rattle.cow_split.specs.Sight.{IsPage}
+use Rattle.cow_split.specs.Exact.{IsExact, IsOnlyOf, all_in_sight, leaving_out, without_frame}
+
+-- the frame of this tag is taken
+abbrev pub is_taken : Pool → ℕ → Bool
+is_taken pool t = is_some (taken_frames pool t)
+
+-- the pages of v from `first` to below `end` are left out too
+unfoldable pub leaving_range : (ℕ → ℕ → Bool) → (v first end : ℕ) → ℕ → ℕ → Bool
+leaving_range out v first end w q = (w == v) && nat_le first q && nat_lt q end || out w q
+
+-- the backlink of the frame of each row leads to the row
+pub record AreLinked (rows : Rows Row) (pool : Pool) : Type 0 where
+  pub linked : (l q : ℕ) (row : Slot) (tag : ℕ) → slots_of rows l q ≡ Some row → frame_in row ≡ Some tag →
+      links_of pool tag ≡ record { list = l; page = q }
+
+-- frames may be free that were taken, and no other frame changes
+pub record GivesBack (before after : Pool) : Type 0 where
+  pub frames : after.frames ≡ before.frames
+  pub kept : (t : ℕ) → (taken_frames after t ≡ taken_frames before t) ⊎ (taken_frames after t ≡ None)
+
+-- Each visible node shows what it showed, at the pages that are in sight.
+abbrev pub ShowsSame : (old new : Tree) → (out : ℕ → ℕ → Bool) → Type 0
+ShowsSame old new out = (w q : ℕ) → IsPage old w q → out w q ≡ false → frame_at new w q ≡ frame_at old w q
+
+-- each page of v is left out
+abbrev pub IsAllOut : Tree → (ℕ → ℕ → Bool) → ℕ → Type 0
+IsAllOut t out v = (p : ℕ) → IsPage t v p → out v p ≡ true
+
+-- the page had a row with the frame of this one
+pub record HadRow (old : Slots) (l q : ℕ) (now : Slot) : Type 0 where
+  pub row : Slot
+  pub at : old l q ≡ Some row
+  pub frame : frame_in now ≡ frame_in row
+
+-- rows may be gone, and those that are left have the frames that they had
+pub record IsPartOf (old new : Slots) : Type 0 where
+  pub had : (l q : ℕ) (row : Slot) → new l q ≡ Some row → HadRow old l q row
+
+-- this frame is free that was taken, if it is one, and no other frame changes
+pub record HasGiven (before after : Pool) (frame : Option ℕ) : Type 0 where
+  pub taken : (t : ℕ) → is_taken after t ≡ without_frame (is_taken before) frame t
+  pub links : links_of after ≡ links_of before
+  pub gives : GivesBack before after
+
+-- Page p of v is out of sight: a row that only it saw is gone, and its frame is given back. The tree is exact with this
+-- page left out too, and the others show what they showed.
+pub record HasLeftPageOut (arena : Arena) (old new : Rows Row) (before after : Pool) (v p : ℕ) : Type 0 where
+  pub exact : (out : ℕ → ℕ → Bool) → IsExact (tree_of arena old) out (is_taken before) → IsOnlyOf out v →
+      IsExact (tree_of arena new) (leaving_out out v p) (is_taken after)
+  pub shows : (out : ℕ → ℕ → Bool) → IsExact (tree_of arena old) out (is_taken before) → IsOnlyOf out v →
+      ShowsSame (tree_of arena old) (tree_of arena new) (leaving_out out v p)
+  pub part : IsPartOf (slots_of old) (slots_of new)
+  pub links : links_of after ≡ links_of before
+  pub gives : GivesBack before after
+  pub spare : old.spare ≤ new.spare
+  pub count : row_count new ≤ row_count old
+
+-- These pages of v, all from `first` on, were left out of sight, since the rows and the pool were the old ones.
+pub record IsLeaving (arena : Arena) (old new : Rows Row) (before after : Pool) (v first : ℕ) (out : ℕ → ℕ → Bool) : Type 0 where
+  pub exact : IsExact (tree_of arena new) out (is_taken after)
+  pub only : IsOnlyOf out v
+  pub within : (q : ℕ) → out v q ≡ true → first ≤ q
+  pub shows : ShowsSame (tree_of arena old) (tree_of arena new) out
+  pub part : IsPartOf (slots_of old) (slots_of new)
+  pub links : links_of after ≡ links_of before
+  pub gives : GivesBack before after
+  pub spare : old.spare ≤ new.spare
+  pub count : row_count new ≤ row_count old
+
+-- some pages of the visible node v, all from `first` on, are left out, and it has no rows from there to below `end`
+pub record IsDropping (arena : Arena) (old new : Rows Row) (before after : Pool) (v : ℕ) (node : Node) (first end : ℕ) : Type 0 where
+  pub out : ℕ → ℕ → Bool
+  pub leaving : IsLeaving arena old new before after v first out
+  pub visible : IsVisible (nodes_of arena) v node
+  pub bare : (p : ℕ) → first ≤ p → p < end → slots_of new node.list.0 p ≡ None
+
+-- some pages of the visible node v, all from `first` on, are left out, and it has no rows from there on
+pub record IsBare (arena : Arena) (old new : Rows Row) (before after : Pool) (v first : ℕ) : Type 0 where
+  pub out : ℕ → ℕ → Bool
+  pub leaving : IsLeaving arena old new before after v first out
+  pub node : Node
+  pub visible : IsVisible (nodes_of arena) v node
+  pub bare : (p : ℕ) → first ≤ p → slots_of new node.list.0 p ≡ None
+
+-- Page q of v comes to the page `shift` pages further on of node h, which is below `to` and has no row in the node's list,
+-- where it is below `upto`.
+pub record CameTo (t : Tree) (v q h list shift to upto : ℕ) : Type 0 where
+  pub side : Option Side
+  pub page : ℕ
+  pub is : page ≡ q + shift
+  pub way : Arrives t v q side h page
+  pub below : page < to
+  pub free : page < upto → t.slots list page ≡ None
+
+-- Each page of v from `first` on that still shows a frame comes to a page of this node, below `to`, and to no row of it
+-- below `upto`.
+pub record IsPassing (arena : Arena) (old new : Rows Row) (before after : Pool) (v first : ℕ) (above : Node) (shift to upto : ℕ) : Type 0 where
+  pub bare : IsBare arena old new before after v first
+  pub h : ℕ
+  pub at : nodes_of arena h ≡ Some above
+  pub came : (q tag : ℕ) → first ≤ q → q < bare.node.count → bare.out v q ≡ false → frame_at (tree_of arena new) v q ≡ Some tag →
+      CameTo (tree_of arena new) v q h above.list.0 shift to upto
+
+-- The pages of v, which is this visible node, are out of sight from `first` on: rows that only they saw are gone, and their
+-- frames are given back. The tree is exact with these pages left out, and the others show what they showed.
+pub record HasLeftOut (arena : Arena) (old new : Rows Row) (before after : Pool) (v : ℕ) (node : Node) (first : ℕ) : Type 0 where
+  pub exact : IsExact (tree_of arena new) (leaving_range all_in_sight v first node.count) (is_taken after)
+  pub shows : ShowsSame (tree_of arena old) (tree_of arena new) (leaving_range all_in_sight v first node.count)
+  pub bare : (p : ℕ) → first ≤ p → slots_of new node.list.0 p ≡ None
+  pub gives : GivesBack before after
+  pub linked : AreLinked old before → AreLinked new after
+  pub spare : old.spare ≤ new.spare
+  pub count : row_count new ≤ row_count old
+
+-- the tree of a visible node v is exact with some of its pages, and no others, left out
+pub record IsExactFor (arena : Arena) (rows : Rows Row) (pool : Pool) (v : ℕ) : Type 0 where
+  pub out : ℕ → ℕ → Bool
+  pub exact : IsExact (tree_of arena rows) out (is_taken pool)
+  pub only : IsOnlyOf out v
+  pub node : Node
+  pub visible : IsVisible (nodes_of arena) v node

@@ -1,0 +1,33 @@
+//! Closing a VMO.
+
+ghost use Rattle.std.specs.Prelude.{IsSomeAnd, IsSome};
+ghost use Rattle.cow_arena.specs.Nodes.{nodes_of};
+ghost use Rattle.cow_split.specs.Trees.{tree_of};
+ghost use Rattle.cow_split.specs.Exact.{IsExact, all_in_sight};
+ghost use Rattle.cow_merge.specs.Ranges.{is_taken};
+ghost use Rattle.cow_merge.specs.Merging.{HasClosed};
+
+use crate::lifting::lift_rows;
+use crate::ranges::leave_out;
+use cow_arena::{CowArena, NodeId};
+use frame_pool::FramePool;
+use page_list::PageLists;
+
+/// Takes a VMO's node away. The frames that only it showed are given back. Where it has a parent, this goes too: its rows
+/// move into the sibling, where the sibling sees them, and the sibling takes its place. It takes no memory, and costs the
+/// rows that the node's pages reach, in its list and in those of the nodes above it, and the rows of the parent.
+///
+/// The tree is exact over the frames that are taken, before and after, and each other VMO shows what it showed.
+pub fn close(arena: &mut CowArena, lists: &mut PageLists, frames: &mut FramePool, leaf: NodeId)
+    requires exact { IsExact (tree_of arena.old lists.old) all_in_sight (is_taken frames.old) }
+    requires leaf { IsSomeAnd (nodes_of arena.old leaf.0) (λ node. IsSome node.koid) }
+    ensures { HasClosed arena.old arena.new lists.old lists.new frames.old frames.new leaf.0 }
+{
+    leave_out(arena, lists, frames, leaf, 0);
+    let (Some(hidden), Some(sibling)) = (arena.node(leaf).parent, arena.sibling(leaf)) else {
+        arena.remove_root(leaf);
+        return;
+    };
+    lift_rows(arena, lists, frames, leaf, hidden, sibling);
+    arena.splice(leaf);
+}

@@ -1,0 +1,16 @@
+//! Shrinking a VMO in the clone tree, and closing one: what only it showed is given back, and a hidden node that is left
+//! with one child is merged into this child.
+//!
+//! It stands on `cow_split`, by which pages are cut off from the rows that they see, and on `frame_pool`. Ranges are gone
+//! over by the rows of the lists on the way upwards, through the windows, and never page by page. Of the contracts, the
+//! layer above uses that the tree stays exact over the frames that are taken, and that every other VMO shows what it showed
+//! (`HasShrunk`, `HasClosed`).
+#![tactic(auto)]
+
+mod closing;
+mod lifting;
+mod ranges;
+mod shrinking;
+
+pub use closing::close;
+pub use shrinking::shrink;

@@ -1,0 +1,149 @@
+//! Leaving a range of pages of a VMO's node out of sight.
+
+ghost use Rattle.std.specs.Prelude.{◌≡◌, ◌+◌, ◌<◌, ◌≤◌, ℕ, None, Some, IsSome, IsSomeAnd};
+ghost use Rattle.balanced_tree.specs.Rows.{Rows};
+ghost use Rattle.page_list.specs.declared.row.Row.{Row};
+ghost use Rattle.page_list.specs.Lists.{slots_of};
+ghost use Rattle.frame_pool.specs.Pool.{Pool, taken_frames};
+ghost use Rattle.vm_base.specs.declared.names.Tag.{Tag};
+ghost use Rattle.cow_arena.specs.declared.node.Node.{Node};
+ghost use Rattle.cow_arena.specs.Nodes.{nodes_of};
+ghost use Rattle.cow_arena.specs.Walk.{frame_in};
+ghost use Rattle.cow_split.specs.Trees.{tree_of};
+ghost use Rattle.cow_split.specs.Exact.{IsExact, all_in_sight};
+ghost use Rattle.cow_split.specs.Cutting.{frame_left};
+ghost use Rattle.cow_split.specs.declared.answers.Cut.TheVariants as cut;
+ghost use Rattle.cow_merge.specs.Ranges.{is_taken, HasGiven, HasLeftPageOut, IsBare, IsPassing, HasLeftOut, IsExactFor};
+
+use cow_arena::{CowArena, Node, NodeId};
+use cow_split::{Cut, cut};
+use frame_pool::FramePool;
+use page_list::{PageLists, Slot};
+use vm_base::PageNo;
+
+/// Leaves the pages of a VMO's node out of sight, from page `first` on. Its own rows there go, and its pages are cut off
+/// from the frames that they see in rows above it. The frames that no other VMO shows are given back. It goes once up the
+/// nodes above, and on each through the rows that the range reaches.
+pub(crate) fn leave_out(
+    arena: &CowArena,
+    lists: &mut PageLists,
+    frames: &mut FramePool,
+    leaf: NodeId,
+    first: PageNo,
+)
+    requires exact { IsExact (tree_of arena.now lists.old) all_in_sight (is_taken frames.old) }
+    requires leaf { IsSomeAnd (nodes_of arena.now leaf.0) (λ node. IsSome node.koid) }
+    ensures { (node : Node) → nodes_of arena.now leaf.0 ≡ Some node →
+        HasLeftOut arena.now lists.old lists.new frames.old frames.new leaf.0 node first }
+{
+    drop_rows(arena, lists, frames, leaf, first);
+    let mut at = arena.node(leaf);
+    let mut from = first;
+    let mut to = at.seen;
+    let mut shift = 0;
+    loop {
+        let Some(parent) = at.parent else {
+            return;
+        };
+        let end = to.min(at.seen);
+        if end <= from {
+            return;
+        }
+        let above = arena.node(parent);
+        prove!(above.count <= u64::MAX);
+        from += at.first;
+        shift += at.first;
+        to = end + at.first;
+        at = above;
+        cut_rows(arena, lists, frames, leaf, first, above, shift, to);
+    }
+}
+
+/// Takes the own rows of a VMO's node away, from page `first` on, and gives their frames back.
+fn drop_rows(
+    arena: &CowArena,
+    lists: &mut PageLists,
+    frames: &mut FramePool,
+    leaf: NodeId,
+    first: PageNo,
+)
+    requires exact { IsExact (tree_of arena.now lists.old) all_in_sight (is_taken frames.old) }
+    requires leaf { IsSomeAnd (nodes_of arena.now leaf.0) (λ node. IsSome node.koid) }
+    ensures { IsBare arena.now lists.old lists.new frames.old frames.new leaf.0 first }
+{
+    let node = arena.node(leaf);
+    let mut from = first;
+    while let Some(page) = lists.next(node.list, from) {
+        let slot = lists.remove(node.list, page);
+        give_back_frame(frames, slot);
+        from = page;
+    }
+}
+
+/// Gives the frame of a row back, if it has one.
+fn give_back_frame(frames: &mut FramePool, slot: Slot)
+    requires { (tag : ℕ) → frame_in slot ≡ Some tag → IsSome (taken_frames frames.old tag) }
+    ensures { HasGiven frames.old frames.new (frame_in slot) }
+{
+    if let Slot::Frame { tag, .. } = slot {
+        frames.give_back(tag);
+    }
+}
+
+/// Cuts the pages of a VMO's node from `first` on off from the frames that they see in the rows of a node above it, below
+/// its page `to`. They come to its pages that are `shift` pages further on, and to no rows before.
+fn cut_rows(
+    arena: &CowArena,
+    lists: &mut PageLists,
+    frames: &mut FramePool,
+    leaf: NodeId,
+    first: PageNo,
+    above: Node,
+    shift: PageNo,
+    to: PageNo,
+)
+    requires passing { IsPassing arena.now lists.old lists.old frames.old frames.old leaf.0 first above shift to (first + shift) }
+    requires range { first + shift < to }
+    ensures { (old : Rows Row) (before : Pool) →
+        IsPassing arena.now old lists.old before frames.old leaf.0 first above shift to (first + shift) →
+        IsPassing arena.now old lists.new before frames.new leaf.0 first above shift to to }
+{
+    let mut from = first + shift;
+    loop {
+        let Some(row) = lists.next(above.list, from) else {
+            return;
+        };
+        if to <= row {
+            return;
+        }
+        cut_page(arena, lists, frames, leaf, row - shift);
+        from = row + 1;
+    }
+}
+
+/// Cuts a page of a VMO's node off from the frame that it sees in a row above it, and gives this back, if no other VMO
+/// shows it. The node has no row of its own there.
+fn cut_page(
+    arena: &CowArena,
+    lists: &mut PageLists,
+    frames: &mut FramePool,
+    leaf: NodeId,
+    page: PageNo,
+)
+    requires exact { IsExactFor arena.now lists.old frames.old leaf.0 }
+    requires bare { (node : Node) → nodes_of arena.now leaf.0 ≡ Some node → slots_of lists.old node.list.0 page ≡ None }
+    ensures { HasLeftPageOut arena.now lists.old lists.new frames.old frames.new leaf.0 page }
+{
+    let answer = cut(arena, lists, leaf, page);
+    give_back_last(frames, answer);
+}
+
+/// Gives the frame of a row back that a cut has taken away.
+fn give_back_last(frames: &mut FramePool, answer: Cut)
+    requires { (tag : Tag) → answer ≡ cut.LastViewer tag → IsSome (taken_frames frames.old tag.0) }
+    ensures { HasGiven frames.old frames.new (frame_left answer) }
+{
+    if let Cut::LastViewer(tag) = answer {
+        frames.give_back(tag);
+    }
+}

@@ -1,0 +1,60 @@
+//! Shrinking a VMO.
+
+ghost use Rattle.std.specs.Prelude.{◌≡◌, ◌≤◌, min, Some, IsSomeAnd, IsSome};
+ghost use Rattle.vm_base.specs.Entries.{with_key};
+ghost use Rattle.cow_arena.specs.declared.node.Node.{Node};
+ghost use Rattle.cow_arena.specs.Nodes.{nodes_of};
+ghost use Rattle.cow_arena.specs.Forest.{IsForest};
+ghost use Rattle.cow_arena.specs.Changes.{window_first};
+ghost use Rattle.cow_split.specs.Trees.{tree_of};
+ghost use Rattle.cow_split.specs.Exact.{IsExact, all_in_sight};
+ghost use Rattle.cow_merge.specs.Ranges.{is_taken};
+ghost use Rattle.cow_merge.specs.Merging.{HasShrunk, IsNarrowed};
+
+use crate::ranges::leave_out;
+use cow_arena::{CowArena, NodeId};
+use frame_pool::FramePool;
+use page_list::PageLists;
+use vm_base::PageNo;
+
+/// Lets a VMO's node have `count` pages, which are not more than it had. The frames that only its pages past the new end
+/// showed are given back. It takes no memory, and costs the rows that those pages reach, in the node's list and in those
+/// of the nodes above it.
+///
+/// The tree is exact over the frames that are taken, before and after, and each page that is left shows what it showed.
+pub fn shrink(
+    arena: &mut CowArena,
+    lists: &mut PageLists,
+    frames: &mut FramePool,
+    leaf: NodeId,
+    count: PageNo,
+)
+    requires exact { IsExact (tree_of arena.old lists.old) all_in_sight (is_taken frames.old) }
+    requires leaf { IsSomeAnd (nodes_of arena.old leaf.0) (λ node. IsSome node.koid × (count ≤ node.count)) }
+    ensures { HasShrunk arena.old arena.new lists.old lists.new frames.old frames.new leaf.0 count }
+{
+    leave_out(arena, lists, frames, leaf, count);
+    narrow(arena, leaf, count);
+    arena.set_count(leaf, count);
+}
+
+/// Lets the window of a VMO's node have at most `count` pages.
+fn narrow(arena: &mut CowArena, leaf: NodeId, count: PageNo)
+    requires forest { IsForest (nodes_of arena.old) arena.old.lists }
+    requires leaf { IsSome (nodes_of arena.old leaf.0) }
+    ensures { (node : Node) → nodes_of arena.old leaf.0 ≡ Some node → IsNarrowed arena.old arena.new leaf.0 node count }
+{
+    let node = arena.node(leaf);
+    if node.parent.is_none() {
+        return;
+    }
+    let seen = node.seen.min(count);
+    arena.set_window(leaf, first_of(node.first, seen), seen);
+}
+
+/// Where a window of this many pages begins.
+fn first_of(first: PageNo, seen: PageNo) -> PageNo
+    ensures { result ≡ window_first first seen }
+{
+    if seen == 0 { 0 } else { first }
+}
