@@ -13,3 +13,6 @@ mod zeroing;
 pub use forking::fork;
 pub use sharing::share;
 pub use zeroing::mark_zero;
+
+#[cfg(test)]
+mod tests;

@@ -6,7 +6,7 @@ use Rattle.page_list.specs.Lists.{row_count}
 use Rattle.vm_base.specs.Entries.{with_key}
 use Rattle.frame_pool.specs.Pool.{Pool}
 use Rattle.cow_arena.specs.declared.node.Node.{Node}
-use Rattle.cow_arena.specs.Nodes.{Arena, Nodes, nodes_of, IsVisible}
+use Rattle.cow_arena.specs.Nodes.{Arena, nodes_of, IsVisible}
 use Rattle.cow_arena.specs.Changes.{with_window}
 use Rattle.cow_arena.specs.Counts.{hidden_count, visible_count}
 use Rattle.cow_arena.specs.Walk.{frame_at}

@@ -1,8 +1,7 @@
 -- A node that is there stays there after a snapshot, and has a koid after it as before.
-use Rattle.std.proofs.Common.{◌≡◌, ◌≢◌, ℕ, ◌==◌, Bool, true, false, cond, Option, None, Some, ◌⊎◌, refl, sym, ap, ◌∙◌, inl, inr}
+use Rattle.std.proofs.Common.{◌≡◌, ◌≢◌, ℕ, ◌==◌, Bool, true, false, Option, None, Some, refl, sym, ap, ◌∙◌}
 use Rattle.std.specs.Prelude.{IsSome, IsSomeAnd, is_some}
-use Rattle.std.proofs.lemmas.Bool.{cases_eq}
-use Rattle.vm_base.proofs.EntryLaws.{with_key-same, with_key-other, with_key-here}
+use Rattle.vm_base.proofs.EntryLaws.{with_key-same, with_key-other}
 use Rattle.vm_base.specs.declared.names.Koid.{Koid}
 use Rattle.cow_arena.specs.declared.node.NodeId.{NodeId}
 use Rattle.cow_arena.specs.declared.node.Node.{Node}

@@ -11,7 +11,7 @@ use Rattle.cow_arena.specs.declared.node.Node.{Node}
 use Rattle.cow_arena.specs.declared.node.Side.{Side}
 use Rattle.cow_arena.specs.declared.node.Side.TheVariants as side
 use Rattle.cow_arena.specs.Nodes.{Nodes, link_to, leads_to, child_on, side_in}
-use Rattle.cow_arena.specs.Walk.{Slots, Tree, walk}
+use Rattle.cow_arena.specs.Walk.{Slots, Tree}
 use Rattle.cow_arena.specs.Forest.{IsForest}
 use Rattle.cow_arena.specs.Ways.{Climbs, Reaches}
 use Rattle.cow_arena.proofs.ReachLaws.{hidden-of-child, reach-one, reach-each, reach-on, child-there, climb-from-child, side-of-child, climb-side, found-of-reach, walk-ends}

@@ -73,6 +73,13 @@ fn make_chain(arena: &mut CowArena, seen: PageNo) -> Option<Chain>
     })
 }
 
+/// How many pages a snapshot sees that sees some, or none.
+fn width(wide: bool) -> PageNo
+    ensures { result ≤ 5 }
+{
+    if wide { 4 } else { 0 }
+}
+
 /// The node of a VMO of the chain.
 fn vmo_of(arena: &CowArena, chain: Chain, which: Vmo) -> NodeId
     requires first { IsSomeAnd (nodes_of arena.now chain.first.0) (λ node. IsSome node.koid) }
@@ -223,23 +230,23 @@ fn viewers(
 #[test]
 fn viewers_are_found_downwards(rt: HostRuntime) -> Result<(), Fail> {
     let rows = [
-        (4, Upper, 2, (true, false), [true, false, false]),
-        (4, Upper, 3, (true, false), [true, false, false]),
-        (4, Upper, 4, (true, true), [true, true, true]),
-        (4, Upper, 5, (true, true), [true, true, false]),
-        (4, Upper, 6, (true, false), [true, false, false]),
-        (4, Upper, 7, (false, false), [false, false, false]),
-        (4, Lower, 0, (true, false), [false, true, false]),
-        (4, Lower, 1, (false, true), [false, false, true]),
-        (4, Lower, 5, (true, false), [false, true, false]),
-        (4, Middle, 1, (false, false), [false, true, false]),
-        (4, Middle, 8, (false, false), [false, false, false]),
-        (0, Upper, 4, (true, true), [true, true, false]),
-        (0, Lower, 1, (false, false), [false, false, false]),
+        (true, Upper, 2, (true, false), [true, false, false]),
+        (true, Upper, 3, (true, false), [true, false, false]),
+        (true, Upper, 4, (true, true), [true, true, true]),
+        (true, Upper, 5, (true, true), [true, true, false]),
+        (true, Upper, 6, (true, false), [true, false, false]),
+        (true, Upper, 7, (false, false), [false, false, false]),
+        (true, Lower, 0, (true, false), [false, true, false]),
+        (true, Lower, 1, (false, true), [false, false, true]),
+        (true, Lower, 5, (true, false), [false, true, false]),
+        (true, Middle, 1, (false, false), [false, true, false]),
+        (true, Middle, 8, (false, false), [false, false, false]),
+        (false, Upper, 4, (true, true), [true, true, false]),
+        (false, Lower, 1, (false, false), [false, false, false]),
     ];
-    for (seen, place, page, sides, vmos) in rows {
+    for (wide, place, page, sides, vmos) in rows {
         let mut arena = CowArena::new(rt.alloc());
-        let chain = make_chain(&mut arena, seen).ok_or("room for nodes")?;
+        let chain = make_chain(&mut arena, width(wide)).ok_or("room for nodes")?;
         let mut lists = PageLists::new(rt.alloc());
         lists.reserve(11)?;
         fill(&arena, &mut lists, chain);
