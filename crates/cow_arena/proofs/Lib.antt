@@ -14,3 +14,4 @@ pub mod RelinkLaws
 pub mod PairWalkLaws
 pub mod SpliceWalkLaws
 pub mod WindowWalkLaws
+pub mod ViewLaws

@@ -1,7 +1,6 @@
 -- What a node says after another node took the place of one of its children.
 use Rattle.std.proofs.Common.{◌≡◌, ◌≢◌, ℕ, Option, None, Some, inl, inr, refl, sym, ap, subst, ◌∙◌}
 use Rattle.std.proofs.lemmas.Bool.{cases_eq}
-use Rattle.vm_base.specs.Entries.{passes}
 use Rattle.vm_base.proofs.EntryLaws.{some_same}
 use Rattle.vm_base.proofs.SearchLaws.{eqb_same, eqb_apart}
 use Rattle.cow_arena.specs.declared.node.NodeId.{NodeId}
@@ -9,7 +8,8 @@ use Rattle.cow_arena.specs.declared.node.Node.{Node}
 use Rattle.cow_arena.specs.declared.node.Side.{Side}
 use Rattle.cow_arena.specs.declared.node.Side.TheVariants as side
 use Rattle.cow_arena.specs.Nodes.{Nodes, link_to, child_on}
-use Rattle.cow_arena.specs.Changes.{moved_link, relinked}
+use Rattle.cow_arena.specs.Changes.{relinked}
+use Rattle.cow_arena.proofs.LinkLaws.{moved, moved_link-here, moved_link-other}
 
 -- the node but for its links, of which those to other nodes than k stay
 pub record IsRelinked (k : ℕ) (old new : Node) : Type 0 where
@@ -21,33 +21,22 @@ pub record IsRelinked (k : ℕ) (old new : Node) : Type 0 where
   pub seen : new.seen ≡ old.seen
   pub child : (s : Side) (l : ℕ) → l ≢ k → child_on old s ≡ link_to l → child_on new s ≡ link_to l
 
-moved-other : (k j l : ℕ) (link : Option NodeId) → l ≢ k → link ≡ link_to l → moved_link k j link ≡ link_to l
-unfolding passes
-moved-other k j l link apart e = rw (e, eqb_apart l k apart) refl
-
-moved-here : (k j : ℕ) (link : Option NodeId) → link ≡ link_to k → moved_link k j link ≡ link_to j
-unfolding passes
-moved-here k j link e = rw (e, eqb_same k) refl
-
-abbrev links_moved : (k j : ℕ) → Node → Node
-links_moved k j a = record a { left = moved_link k j a.left; right = moved_link k j a.right }
-
 relinked-same : (k : ℕ) (a : Node) → IsRelinked k a a
 relinked-same k a = record { koid = refl; list = refl; parent = refl; count = refl; first = refl; seen = refl; child = λ s l apart e. e }
 
-relinked-moved : (k j : ℕ) (a : Node) → IsRelinked k a (links_moved k j a)
+relinked-moved : (k j : ℕ) (a : Node) → IsRelinked k a (moved k j a)
 relinked-moved k j a = record { koid = refl; list = refl; parent = refl; count = refl; first = refl; seen = refl; child = child }
   where
-    child : (s : Side) (l : ℕ) → l ≢ k → child_on a s ≡ link_to l → child_on (links_moved k j a) s ≡ link_to l
-    child side.Left l apart e = moved-other k j l a.left apart e
-    child side.Right l apart e = moved-other k j l a.right apart e
+    child : (s : Side) (l : ℕ) → l ≢ k → child_on a s ≡ link_to l → child_on (moved k j a) s ≡ link_to l
+    child side.Left l apart e = moved_link-other k j l a.left apart e
+    child side.Right l apart e = moved_link-other k j l a.right apart e
 
 -- a node after node j came below the parent in place of its child k
 pub relinked-stays : (nodes : Nodes) (parent : Option NodeId) (k j n : ℕ) (a : Node) → nodes n ≡ Some a → (b : Node) × (relinked nodes parent k j n ≡ Some b) × IsRelinked k a b
 unfolding relinked
 relinked-stays nodes None k j n a at = (a, at, relinked-same k a)
 relinked-stays nodes (Some parent) k j n a at = elim (cases_eq n parent.0) [
-  | inl here ↦ (links_moved k j a, rw (here, eqb_same parent.0, sym (ap nodes here) ∙ at) refl, relinked-moved k j a)
+  | inl here ↦ (moved k j a, rw (here, eqb_same parent.0, sym (ap nodes here) ∙ at) refl, relinked-moved k j a)
   | inr there ↦ (a, rw (eqb_apart n parent.0 there) at, relinked-same k a)
 ]
 
@@ -55,14 +44,14 @@ relinked-stays nodes (Some parent) k j n a at = elim (cases_eq n parent.0) [
 pub relinked-here : (nodes : Nodes) (k j n : ℕ) (a : Node) (s : Side) → nodes n ≡ Some a → child_on a s ≡ link_to k →
     (b : Node) × (relinked nodes (link_to n) k j n ≡ Some b) × (child_on b s ≡ link_to j)
 unfolding relinked
-relinked-here nodes k j n a s at e = (links_moved k j a, rw (eqb_same n, at) refl, child s e)
+relinked-here nodes k j n a s at e = (moved k j a, rw (eqb_same n, at) refl, child s e)
   where
-    child : (s : Side) → child_on a s ≡ link_to k → child_on (links_moved k j a) s ≡ link_to j
-    child side.Left e = moved-here k j a.left e
-    child side.Right e = moved-here k j a.right e
+    child : (s : Side) → child_on a s ≡ link_to k → child_on (moved k j a) s ≡ link_to j
+    child side.Left e = moved_link-here k j a.left e
+    child side.Right e = moved_link-here k j a.right e
 
--- no node comes so
-relinked-absent : (nodes : Nodes) (parent : Option NodeId) (k j n : ℕ) → nodes n ≡ None → relinked nodes parent k j n ≡ None
+-- a key without a node stays without one
+pub relinked-absent : (nodes : Nodes) (parent : Option NodeId) (k j n : ℕ) → nodes n ≡ None → relinked nodes parent k j n ≡ None
 unfolding relinked
 relinked-absent nodes None k j n e = e
 relinked-absent nodes (Some parent) k j n e = elim (cases_eq n parent.0) [

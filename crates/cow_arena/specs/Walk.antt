@@ -18,6 +18,10 @@ pub record Tree : Type 0 where
   pub slots : Slots
   pub lists : ℕ
 
+-- the tree of these nodes with these rows
+abbrev pub tree_with : Nodes → (lists : ℕ) → Slots → Tree
+tree_with nodes lists slots = record { nodes = nodes; slots = slots; lists = lists }
+
 -- Where a walk ends: the node and the page there, the side from which it came, if it began below this node, and the slot
 -- of the page's row.
 pub record Found : Type 0 where

@@ -61,6 +61,16 @@ pub record SameElsewhere (old new : Slots) (l q : ℕ) : Type 0 where
 pub record SameFrames (old new : Slots) : Type 0 where
   pub same : (l p : ℕ) → option_map frame_in (new l p) ≡ option_map frame_in (old l p)
 
+-- the page had a row with the frame of this one
+pub record HadRow (old : Slots) (l q : ℕ) (now : Slot) : Type 0 where
+  pub row : Slot
+  pub at : old l q ≡ Some row
+  pub frame : frame_in now ≡ frame_in row
+
+-- rows may be gone, and those that are left have the frames that they had
+pub record IsPartOf (old new : Slots) : Type 0 where
+  pub had : (l q : ℕ) (row : Slot) → new l q ≡ Some row → HadRow old l q row
+
 -- what was found, but for what its row says of sides
 pub record Sight : Type 0 where
   pub node : ℕ

@@ -5,7 +5,9 @@ ghost use Rattle.slab.specs.Slab.{get, ContainsKey, HasRoomFor};
 ghost use Rattle.vm_base.specs.Entries.{with_key, without_key};
 ghost use Rattle.cow_arena.specs.declared.node.Node.{Node};
 ghost use Rattle.cow_arena.specs.Nodes.{nodes_of, leads_to, link_to, child_on, other_side, side_of, node_above, side_in, sibling_in, AreFamily};
-ghost use Rattle.cow_arena.specs.Forest.{IsForest};
+ghost use Rattle.cow_arena.specs.Walk.{Slots, tree_with};
+ghost use Rattle.cow_arena.specs.Views.{ShowsSnapshot, KeepsWalks};
+ghost use Rattle.cow_arena.specs.Forest.{IsForest, AreListed};
 ghost use Rattle.cow_arena.specs.Changes.{root_node, window_first, moved_link, hidden_over, below_hidden, paired, relinked, lifted, spliced};
 ghost use Rattle.cow_arena.specs.Counts.{hidden_count, visible_count, HasFewerHidden};
 
@@ -90,8 +92,8 @@ impl CowArena {
 
     /// Puts a hidden node in the place of the node of a VMO, with its list, its count and its window, and below it that
     /// node, which sees all of it, and the node of a snapshot of `count` pages, which sees `seen` of its pages from page
-    /// `first` on. The two have new lists. `HostMemory` where the host has too little memory. Fewer than 2^64 - 2 lists
-    /// were given before.
+    /// `first` on. The two have new lists, without rows, so each page that was there shows what it showed. `HostMemory`
+    /// where the host has too little memory. Fewer than 2^64 - 2 lists were given before.
     pub fn add_pair(
         &mut self,
         leaf: NodeId,
@@ -108,6 +110,9 @@ impl CowArena {
         ensures nodes { IfOk result (λ pair. (node : Node) → nodes_of self.old leaf.0 ≡ Some node →
             nodes_of self.new ≡ paired (nodes_of self.old) leaf.0 node pair.hidden.0 pair.child.0 self.old.lists
             koid first seen count) }
+        ensures shows { IfOk result (λ pair. (slots : Slots) → AreListed (tree_with (nodes_of self.old) self.old.lists slots) →
+            ShowsSnapshot (tree_with (nodes_of self.old) self.old.lists slots) (tree_with (nodes_of self.new) self.new.lists slots)
+            leaf.0 pair.child.0 first seen) }
         ensures lists { OnOk result (self.new.lists ≡ self.old.lists + 2) }
         ensures hidden { OnOk result (hidden_count self.new ≡ hidden_count self.old + 1) }
         ensures visible { OnOk result (visible_count self.new ≡ visible_count self.old + 1) }
@@ -135,6 +140,14 @@ impl CowArena {
         self.lists += 2;
         self.hidden += 1;
         Ok(pair)
+    }
+
+    /// For how many nodes there is room. The number of each node is below it.
+    pub fn capacity(&self) -> usize
+        ensures capacity { result ≡ self.now.slots.capacity }
+        ensures below { (k : ℕ) → IsSome (nodes_of self.now k) → k < result }
+    {
+        self.nodes.capacity()
     }
 
     /// A node.
@@ -207,12 +220,16 @@ impl CowArena {
     }
 
     /// Takes the node of a VMO that has a parent away, and its parent with it. The sibling is in the parent's place, and
-    /// sees what it saw through both windows.
+    /// sees what it saw through both windows. Where the parent's list has no rows, each node that is left shows what it
+    /// showed.
     pub fn splice(&mut self, leaf: NodeId)
         requires { IsSomeAnd (nodes_of self.old leaf.0) (λ node. IsSome node.koid × IsSome node.parent) }
         ensures nodes { (h s : ℕ) (node parent sibling : Node) →
             AreFamily (nodes_of self.old) leaf.0 h s node parent sibling →
             nodes_of self.new ≡ spliced (nodes_of self.old) leaf.0 h s parent sibling }
+        ensures walks { (slots : Slots) (h s : ℕ) (node parent sibling : Node) →
+            AreFamily (nodes_of self.old) leaf.0 h s node parent sibling → ((p : ℕ) → slots parent.list.0 p ≡ None) →
+            KeepsWalks (tree_with (nodes_of self.old) self.old.lists slots) (tree_with (nodes_of self.new) self.new.lists slots) leaf.0 h }
         ensures lists { self.new.lists ≡ self.old.lists }
         ensures hidden { hidden_count self.new + 1 ≡ hidden_count self.old }
         ensures visible { visible_count self.new + 1 ≡ visible_count self.old }
@@ -247,8 +264,8 @@ impl CowArena {
     }
 }
 
-/// Where a window begins.
-fn window_first(first: PageNo, seen: PageNo) -> PageNo
+/// Where a window of this many pages begins, which is to begin at `first` where it has a page.
+pub fn window_first(first: PageNo, seen: PageNo) -> PageNo
     ensures { result ≡ window_first first seen }
 {
     if seen == 0 { 0 } else { first }

@@ -10,7 +10,7 @@
 mod arena;
 mod node;
 
-pub use arena::CowArena;
+pub use arena::{CowArena, window_first};
 pub use node::{Node, NodeId, Pair, Side};
 
 #[cfg(test)]

@@ -12,14 +12,14 @@ use Rattle.cow_arena.specs.Walk.{Slots, Tree, walk, frame_at}
 use Rattle.cow_split.specs.declared.answers.Cut.{Cut}
 use Rattle.cow_split.specs.declared.answers.Cut.TheVariants as cut
 use Rattle.cow_split.specs.declared.answers.Holder.{Holder}
-use Rattle.cow_split.specs.Trees.{tree_of, holder_of}
+use Rattle.cow_split.specs.Trees.{tree_of, holder_of, frame_held}
 use Rattle.cow_split.specs.Sight.{OthersShowSame}
 use Rattle.cow_split.specs.Exact.{IsExact, all_in_sight, leaving_out, without_frame}
 use Rattle.cow_split.specs.Cutting.{HasCut, cut_slots, frame_left}
 use Rattle.cow_split.proofs.RowLaws.{only-none, frame-in_use}
 use Rattle.cow_split.proofs.HolderLaws.{cut-exactly, cut-found_nothing, cut-last_viewer}
 use Rattle.cow_split.proofs.CutLaws.{cut-own, cut-others}
-use Rattle.cow_fork.specs.Frames.{IsSole, HasSole, HasFree, frame_held, LeavesFrame}
+use Rattle.cow_fork.specs.Frames.{IsSole, HasSole, HasFree, LeavesFrame}
 use Rattle.cow_fork.proofs.LeafLaws.{IsLeaf, tree-with, leaf-row}
 use Rattle.cow_fork.proofs.HolderLaws.{held-shown}
 

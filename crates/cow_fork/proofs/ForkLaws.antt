@@ -1,5 +1,5 @@
 -- What a fork makes of the clone tree and of the pool.
-use Rattle.std.proofs.Common.{◌≡◌, ◌⊎◌, ℕ, ◌+◌, Bool, false, Option, None, Some, refl, sym, ap, ◌∙◌, subst, inl, inr, arith}
+use Rattle.std.proofs.Common.{◌≡◌, ◌≢◌, ◌⊎◌, ℕ, ◌+◌, Bool, false, Option, None, Some, refl, sym, ap, ◌∙◌, subst, inl, inr, arith}
 use Rattle.vm_base.proofs.EntryLaws.{some_same}
 use Rattle.vm_base.specs.Pages.{zeros}
 use Rattle.vm_base.specs.declared.names.Tag.{Tag}
@@ -9,23 +9,31 @@ use Rattle.page_list.specs.declared.row.Row.{Row}
 use Rattle.page_list.specs.declared.row.Slot.{Slot}
 use Rattle.page_list.specs.declared.row.Slot.TheVariants as slot
 use Rattle.page_list.specs.Lists.{slots_of}
-use Rattle.frame_pool.specs.Pool.{Pool, Takes, taken_frames}
+use Rattle.frame_pool.specs.Pool.{Pool, Takes, taken_frames, is_taken, links_of}
 use Rattle.cow_arena.specs.declared.node.Node.{Node}
 use Rattle.cow_arena.specs.Nodes.{Arena}
-use Rattle.cow_arena.specs.Walk.{Tree, frame_at}
+use Rattle.cow_arena.specs.Walk.{Slots, Tree, frame_at, frame_in}
 use Rattle.cow_split.specs.declared.answers.Cut.{Cut}
 use Rattle.cow_split.specs.declared.answers.Cut.TheVariants as cut
 use Rattle.cow_split.specs.declared.answers.Holder.{Holder}
-use Rattle.cow_split.specs.Trees.{tree_of, with_row}
+use Rattle.cow_split.specs.Trees.{tree_of, with_row, frame_held}
 use Rattle.cow_split.specs.Exact.{IsExact, all_in_sight, with_frame, without_frame}
 use Rattle.cow_split.specs.Cutting.{HasCut, frame_left}
 use Rattle.cow_split.proofs.RowLaws.{without_frame-none, exact-in_use_alike, exact-own_comes, exact-own_filled}
-use Rattle.cow_fork.specs.Frames.{is_taken, bytes_shown, IsSole, HasSole, HasFree, frame_held, LeavesFrame}
+use Rattle.cow_fork.specs.Frames.{bytes_shown, IsSole, HasSole, HasFree, LeavesFrame}
+use Rattle.cow_split.proofs.PartLaws.{part-cut, stood-with_pair}
 use Rattle.cow_fork.specs.Forking.{HasForked}
 use Rattle.cow_fork.proofs.PoolLaws.{with_frame-back, without_frame-same, taken-with, taken-unused}
 use Rattle.cow_fork.proofs.LeafLaws.{IsLeaf, others-on, leaf-on, put-tree, put-row, put-others}
 use Rattle.cow_fork.proofs.CutOffLaws.{IsCutOff, cut-free, cut-exact, cut-other, leaves_cases, leaves-sole}
 use Rattle.cow_fork.proofs.HolderLaws.{own-shown}
+
+-- where a page gets a row of this frame, the row of each other frame stood where it stands
+stood-put : (slots now : Slots) (l p : ℕ) (tag : Tag) → now ≡ with_pair slots l p (Some (slot.Frame tag false false)) →
+    (m q : ℕ) (row : Slot) (t : ℕ) → now m q ≡ Some row → frame_in row ≡ Some t → t ≢ tag.0 → slots m q ≡ Some row
+stood-put slots now l p tag put m q row t at frame apart =
+    stood-with_pair slots l p (slot.Frame tag false false) m q row t (ap (λ (s : Slots). s m q) (sym put) ∙ at) frame
+    (λ same. apart (sym (some_same same)))
 
 -- ---- over an own zero row
 
@@ -43,8 +51,9 @@ module _ {arena : Arena} {old : Rows Row} {v p : ℕ} {node : Node} (leaf : IsLe
 
   pub forked-own : (new : Rows Row) (before after : Pool) (tag : Tag) → IsExact (tree_of arena old) all_in_sight (is_taken before) →
       slots_of new ≡ with_pair (slots_of old) node.list.0 p (Some (slot.Frame tag false false)) → new.spare ≡ old.spare →
-      Takes before after tag.0 zeros → after.frames ≡ before.frames → HasForked arena old new before after v p tag.0
-  forked-own new before after tag exact put spare takes frames =
+      Takes before after tag.0 zeros → links_of after ≡ links_of before → after.frames ≡ before.frames →
+      HasForked arena old new before after v p tag.0
+  forked-own new before after tag exact put spare takes links frames =
       let t = tree_of arena old in
       let row : Option Slot = Some (slot.Frame tag false false) in
       let zero = own-shown leaf slot.Zero own in
@@ -57,6 +66,12 @@ module _ {arena : Arena} {old : Rows Row} {v p : ℕ} {node : Node} (leaf : IsLe
         others = put-others leaf new row put;
         moved = λ other sole. absurd (none-sole t v p zero other sole);
         taken = λ shared. subst (λ shown. Takes before after tag.0 (bytes_shown before shown)) (sym zero) takes;
+        stood = λ l q its n at frame apart. record {
+          row = its;
+          at = stood-put (slots_of old) (slots_of new) node.list.0 p tag put l q its n at frame apart;
+          frame = refl;
+        };
+        links = links;
         frames = frames;
         spare = omega (arith, spare);
       }
@@ -67,6 +82,7 @@ module _ {arena : Arena} {old : Rows Row} {v p : ℕ} {node : Node} (leaf : IsLe
 pub record HasTaken (before after : Pool) (found : Holder) (answer : Cut) (tag : Tag) : Type 0 where
   pub last : (left : Tag) → answer ≡ cut.LastViewer left → (tag ≡ left) × (after ≡ before)
   pub taken : (LeavesFrame answer → ⊥) → Takes before after tag.0 (bytes_shown before (frame_held found))
+  pub links : links_of after ≡ links_of before
   pub frames : after.frames ≡ before.frames
 
 module _ {t : Tree} {v p : ℕ} {before after : Pool} {found : Holder} {answer : Cut} {tag : Tag}
@@ -131,6 +147,10 @@ forked-cut {arena} {old} {mid} {v} {p} {node} {answer} leaf none is new before a
           (put-others (leaf-on leaf mid) new row put);
       moved = frame-moved off has;
       taken = frame-copied off has;
+      stood = λ l q its n at frame apart.
+          (part-cut arena old mid v p answer leaf.forest node leaf.visible none is).had l q its
+          (stood-put (slots_of mid) (slots_of new) node.list.0 p tag put l q its n at frame apart);
+      links = has.links;
       frames = has.frames;
       spare = let kept = is.spare in omega (arith, spare, kept);
     }

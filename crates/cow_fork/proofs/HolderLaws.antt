@@ -15,8 +15,7 @@ use Rattle.cow_arena.proofs.WalkLaws.{walk-own}
 use Rattle.cow_arena.proofs.ReachLaws.{walk-ends}
 use Rattle.cow_split.specs.declared.answers.Holder.{Holder}
 use Rattle.cow_split.specs.declared.answers.Holder.TheVariants as holder
-use Rattle.cow_split.specs.Trees.{tree_of, holder_of}
-use Rattle.cow_fork.specs.Frames.{frame_held}
+use Rattle.cow_split.specs.Trees.{tree_of, holder_of, frame_held}
 use Rattle.cow_fork.proofs.LeafLaws.{IsLeaf}
 
 held-own : (it : Found) → it.side ≡ None → holder_of (Some it) ≡ holder.Own it.slot

@@ -5,9 +5,8 @@ use Rattle.std.proofs.lemmas.Bool.{cases_eq, eq-eqb}
 use Rattle.vm_base.proofs.SearchLaws.{eqb_apart}
 use Rattle.vm_base.specs.Entries.{without_key}
 use Rattle.vm_base.proofs.EntryLaws.{with_key-here, with_key-other, without_key-same, without_key-other}
-use Rattle.frame_pool.specs.Pool.{Pool, Takes, taken_frames}
+use Rattle.frame_pool.specs.Pool.{Pool, Takes, taken_frames, is_taken}
 use Rattle.cow_split.specs.Exact.{with_frame, without_frame}
-use Rattle.cow_fork.specs.Frames.{is_taken}
 
 -- a frame comes or goes
 pub with_frame-same : (in_use : ℕ → Bool) (tag : ℕ) → with_frame in_use (Some tag) tag ≡ true

@@ -10,23 +10,24 @@ use Rattle.page_list.specs.declared.row.Row.{Row}
 use Rattle.page_list.specs.declared.row.Slot.{Slot}
 use Rattle.page_list.specs.declared.row.Slot.TheVariants as slot
 use Rattle.page_list.specs.Lists.{slots_of}
-use Rattle.frame_pool.specs.Pool.{Pool, taken_frames}
+use Rattle.frame_pool.specs.Pool.{Pool, taken_frames, is_taken, links_of}
 use Rattle.cow_arena.specs.declared.node.Node.{Node}
 use Rattle.cow_arena.specs.declared.node.Side.{Side}
 use Rattle.cow_arena.specs.Nodes.{Arena, IsVisible, nodes_of}
-use Rattle.cow_arena.specs.Walk.{Tree, walk, frame_at, frame_in}
-use Rattle.cow_arena.specs.Ways.{Arrives}
+use Rattle.cow_arena.specs.Walk.{Slots, Tree, walk, frame_at, frame_in}
+use Rattle.cow_arena.specs.Ways.{Arrives, IsPartOf}
 use Rattle.cow_arena.proofs.WalkLaws.{walk-own}
 use Rattle.cow_arena.proofs.ReachLaws.{walk-ends, reach-hidden, hidden-apart}
 use Rattle.cow_split.specs.declared.answers.Cut.{Cut}
 use Rattle.cow_split.specs.declared.answers.Cut.TheVariants as cut
 use Rattle.cow_split.specs.declared.answers.Holder.{Holder}
-use Rattle.cow_split.specs.Trees.{tree_of, with_row, holder_of}
+use Rattle.cow_split.specs.Trees.{tree_of, with_row, holder_of, frame_held}
 use Rattle.cow_split.specs.Sight.{IsLastViewer}
 use Rattle.cow_split.specs.Exact.{IsExact, all_in_sight, leaving_out, with_frame, without_frame}
 use Rattle.cow_split.specs.Cutting.{HasCut, frame_left}
 use Rattle.cow_split.proofs.RowLaws.{without_frame-none, with_frame-none, exact-in_use_alike, exact-in_sight, own_comes-shows, exact-own_gone, exact-own_comes, with_row-twice, frame-once, frame-shown}
-use Rattle.cow_fork.specs.Frames.{is_taken, IsSole, frame_held, LeavesFrame}
+use Rattle.cow_fork.specs.Frames.{IsSole, LeavesFrame}
+use Rattle.cow_split.proofs.PartLaws.{part-with_pair, part-cut, stood-with_pair}
 use Rattle.cow_fork.specs.Zeroing.{HasZeroed}
 use Rattle.cow_fork.proofs.PoolLaws.{given-without, taken-same}
 use Rattle.cow_fork.proofs.HolderLaws.{own-shown, held-shown}
@@ -37,7 +38,7 @@ use Rattle.cow_fork.proofs.CutOffLaws.{cut-bare, cut-exact, cut-other, cut_off, 
 -- ---- an own frame goes
 
 -- v alone shows the frame of its own row: nobody is below it
-own-last : (t : Tree) (in_use : ℕ → Bool) (v p : ℕ) (node : Node) (row : Slot) (tag : ℕ) → IsExact t all_in_sight in_use →
+pub own-last : (t : Tree) (in_use : ℕ → Bool) (v p : ℕ) (node : Node) (row : Slot) (tag : ℕ) → IsExact t all_in_sight in_use →
     IsVisible t.nodes v node → t.slots node.list.0 p ≡ Some row → frame_in row ≡ Some tag → IsLastViewer t v tag
 own-last t in_use v p node row tag exact visible own frame w q page shows =
     let shown = frame-shown t w q tag shows in
@@ -78,6 +79,7 @@ module _ {arena : Arena} {old : Rows Row} {v p : ℕ} {node : Node} (leaf : IsLe
     last = own-left;
     bare = put-row leaf new None gone;
     others = put-others leaf new None gone;
+    part = subst (λ (s : Slots). IsPartOf (slots_of old) s) (sym gone) (part-with_pair (slots_of old) node.list.0 p None (λ its e. absurd (cc)));
     spare = spare;
   }
 
@@ -86,11 +88,12 @@ pub let_go-cut : {arena : Arena} {old mid : Rows Row} {v p : ℕ} {node : Node} 
     (none : slots_of old node.list.0 p ≡ None) (is : HasCut arena old mid v p answer) (in_use : ℕ → Bool) (found : Holder) →
     IsExact (tree_of arena old) all_in_sight in_use → found ≡ holder_of (walk (tree_of arena old) v p) →
     HasLetGo arena old mid in_use v p answer
-let_go-cut leaf none is in_use found exact held = record {
+let_go-cut {arena} {old} {mid} {v} {p} {node} {answer} leaf none is in_use found exact held = record {
   exact = cut-exact leaf none is in_use exact;
   last = (cut_off leaf none is in_use found exact held).last;
   bare = cut-bare leaf none is;
   others = cut-other leaf none is in_use exact;
+  part = part-cut arena old mid v p answer leaf.forest node leaf.visible none is;
   spare = is.spare;
 }
 
@@ -124,6 +127,8 @@ hidden-marked {arena} {old} {v} {p} {node} leaf new in_use found is shown exact 
           (sym (ap (λ (u : Tree). frame_at u v p) back)
           ∙ subst (λ (m : Node). frame_at (with_row (tree_of arena new) m.list.0 p None) v p ≡ None) (some_same (sym at ∙ leaf.visible.at)) none);
       others = put-others leaf new (Some slot.Zero) put;
+      stood = λ l q row tag at frame.
+          stood-with_pair (slots_of old) node.list.0 p slot.Zero l q row tag (ap (λ (s : Slots). s l q) (sym put) ∙ at) frame (λ e. absurd (cc));
       spare = omega (arith, spare);
     }
 
@@ -140,6 +145,7 @@ hidden-bare arena old in_use v p found is none bare exact =
       zero = zero;
       needed = λ n at own. let free = bare n at in absurd (cc);
       others = λ w q page differs. refl;
+      stood = λ l q row tag at frame. at;
       spare = omega arith;
     }
 
@@ -163,8 +169,9 @@ pub zeroed : {arena : Arena} {old mid new : Rows Row} {v p : ℕ} {answer : Cut}
     HasLetGo arena old mid (is_taken before) v p answer →
     HasHidden arena mid new (without_frame (is_taken before) (frame_left answer)) v p →
     ((tag : Tag) → answer ≡ cut.LastViewer tag → taken_frames after ≡ without_key (taken_frames before) tag.0) →
-    ((LeavesFrame answer → ⊥) → after ≡ before) → after.frames ≡ before.frames → HasZeroed arena old new before after v p
-zeroed {arena} {old} {mid} {new} {v} {p} {answer} before after found is shown gone hidden given kept frames =
+    ((LeavesFrame answer → ⊥) → after ≡ before) → links_of after ≡ links_of before → after.frames ≡ before.frames →
+    HasZeroed arena old new before after v p
+zeroed {arena} {old} {mid} {new} {v} {p} {answer} before after found is shown gone hidden given kept links frames =
     let t = tree_of arena old in
     let shows = shown-frame t v p found is shown in
     record {
@@ -174,6 +181,8 @@ zeroed {arena} {old} {mid} {new} {v} {p} {answer} before after found is shown go
       others = others-on t (tree_of arena mid) (tree_of arena new) v p refl gone.others hidden.others;
       given = λ tag sole. let it : Tag = record { 0 = tag } in given it ((gone.last it).1 sole);
       kept = λ shared. ap taken_frames (kept (λ leaves. shared leaves.tag.0 ((gone.last leaves.tag).0 leaves.last)));
+      stood = λ l q row tag at frame. gone.part.had l q row (hidden.stood l q row tag at frame);
+      links = links;
       frames = frames;
       slots = λ none. absurd (shows none);
       count = λ none. absurd (shows none);

@@ -1,17 +1,19 @@
 -- What it is to give a page of a VMO's node a row of its own with a frame.
-use Rattle.std.specs.Prelude.{◌≡◌, ℕ, ◌+◌, ◌≤◌, false, Some}
+use Rattle.std.specs.Prelude.{◌≡◌, ◌≢◌, ℕ, ◌+◌, ◌≤◌, false, Some}
 use Rattle.balanced_tree.specs.Rows.{Rows}
 use Rattle.page_list.specs.declared.row.Row.{Row}
+use Rattle.page_list.specs.declared.row.Slot.{Slot}
 use Rattle.page_list.specs.declared.row.Slot.TheVariants as slot
 use Rattle.page_list.specs.Lists.{slots_of}
-use Rattle.frame_pool.specs.Pool.{Pool, Takes, taken_frames}
+use Rattle.frame_pool.specs.Pool.{Pool, Takes, taken_frames, is_taken, links_of}
 use Rattle.cow_arena.specs.declared.node.Node.{Node}
 use Rattle.cow_arena.specs.Nodes.{Arena, nodes_of}
-use Rattle.cow_arena.specs.Walk.{frame_at}
+use Rattle.cow_arena.specs.Walk.{frame_at, frame_in}
+use Rattle.cow_arena.specs.Ways.{HadRow}
 use Rattle.cow_split.specs.Trees.{tree_of}
 use Rattle.cow_split.specs.Sight.{OthersShowSame}
 use Rattle.cow_split.specs.Exact.{IsExact, all_in_sight}
-use Rattle.cow_fork.specs.Frames.{is_taken, bytes_shown, IsSole}
+use Rattle.cow_fork.specs.Frames.{bytes_shown, IsSole}
 
 -- Page p of the visible node v has a row of its own with the frame of this tag. A frame that v alone showed moves there;
 -- else a free frame is taken, with the bytes that the page showed.
@@ -23,5 +25,9 @@ pub record HasForked (arena : Arena) (old new : Rows Row) (before after : Pool) 
   pub moved : (t : ℕ) → IsSole (tree_of arena old) v p t → (tag ≡ t) × (taken_frames after ≡ taken_frames before)
   pub taken : ((t : ℕ) → IsSole (tree_of arena old) v p t → ⊥) →
       Takes before after tag (bytes_shown before (frame_at (tree_of arena old) v p))
+  -- the row of each other frame stood where it stands, and no backlink changes
+  pub stood : (l q : ℕ) (row : Slot) (t : ℕ) → slots_of new l q ≡ Some row → frame_in row ≡ Some t → t ≢ tag →
+      HadRow (slots_of old) l q row
+  pub links : links_of after ≡ links_of before
   pub frames : after.frames ≡ before.frames
   pub spare : old.spare ≤ new.spare + 1

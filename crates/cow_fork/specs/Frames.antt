@@ -1,18 +1,12 @@
 -- The frames of a pool behind the rows of a clone tree.
-use Rattle.std.specs.Prelude.{◌≡◌, ℕ, ◌<◌, Bool, List, Option, None, Some, is_some}
+use Rattle.std.specs.Prelude.{◌≡◌, ℕ, ◌<◌, List, Option, None, Some}
 use Rattle.vm_base.specs.Pages.{zeros}
-use Rattle.frame_pool.specs.Pool.{Pool, taken_frames, frame_bytes, taken_count}
-use Rattle.cow_arena.specs.Walk.{Tree, frame_at, frame_in}
+use Rattle.frame_pool.specs.Pool.{Pool, frame_bytes, taken_count}
+use Rattle.cow_arena.specs.Walk.{Tree, frame_at}
 use Rattle.cow_split.specs.Sight.{IsLastViewer}
 use Rattle.vm_base.specs.declared.names.Tag.{Tag}
 use Rattle.cow_split.specs.declared.answers.Cut.{Cut}
 use Rattle.cow_split.specs.declared.answers.Cut.TheVariants as cut
-use Rattle.cow_split.specs.declared.answers.Holder.{Holder}
-use Rattle.cow_split.specs.declared.answers.Holder.TheVariants as holder
-
--- the frame of this tag is taken
-abbrev pub is_taken : Pool → ℕ → Bool
-is_taken pool t = is_some (taken_frames pool t)
 
 -- the bytes that a page shows by this frame, or zeros
 abbrev pub bytes_shown : Pool → Option ℕ → List ℕ
@@ -32,12 +26,6 @@ pub record HasSole (t : Tree) (v p : ℕ) : Type 0 where
 -- some frame is free
 abbrev pub HasFree : Pool → Type 0
 HasFree pool = taken_count pool < pool.frames
-
--- the frame of the row that holds a page
-abbrev pub frame_held : Holder → Option ℕ
-frame_held (holder.Own row) = frame_in row
-frame_held (holder.Above node page side row) = frame_in row
-frame_held holder.Nothing = None
 
 -- the answer leaves a frame to the one who asked
 pub record LeavesFrame (answer : Cut) : Type 0 where

@@ -3,10 +3,12 @@ use Rattle.std.specs.Prelude.{◌≡◌, ◌↔◌, ℕ, ◌+◌, ◌≤◌, Boo
 use Rattle.balanced_tree.specs.Rows.{Rows}
 use Rattle.vm_base.specs.declared.names.Tag.{Tag}
 use Rattle.page_list.specs.declared.row.Row.{Row}
+use Rattle.page_list.specs.declared.row.Slot.{Slot}
 use Rattle.page_list.specs.Lists.{slots_of}
 use Rattle.cow_arena.specs.declared.node.Node.{Node}
 use Rattle.cow_arena.specs.Nodes.{Arena, nodes_of}
-use Rattle.cow_arena.specs.Walk.{frame_at}
+use Rattle.cow_arena.specs.Walk.{frame_at, frame_in}
+use Rattle.cow_arena.specs.Ways.{IsPartOf}
 use Rattle.cow_split.specs.declared.answers.Cut.{Cut}
 use Rattle.cow_split.specs.declared.answers.Cut.TheVariants as cut
 use Rattle.cow_split.specs.Trees.{tree_of}
@@ -22,6 +24,7 @@ pub record HasLetGo (arena : Arena) (old new : Rows Row) (in_use : ℕ → Bool)
   pub last : (tag : Tag) → (answer ≡ cut.LastViewer tag) ↔ IsSole (tree_of arena old) v p tag.0
   pub bare : (node : Node) → nodes_of arena v ≡ Some node → slots_of new node.list.0 p ≡ None
   pub others : OthersShowSame (tree_of arena old) (tree_of arena new) v p
+  pub part : IsPartOf (slots_of old) (slots_of new)
   pub spare : old.spare ≤ new.spare
 
 -- Page p of v is back in sight, and zero.
@@ -30,4 +33,5 @@ pub record HasHidden (arena : Arena) (old new : Rows Row) (in_use : ℕ → Bool
   pub zero : frame_at (tree_of arena new) v p ≡ None
   pub needed : IsNeeded arena new v p
   pub others : OthersShowSame (tree_of arena old) (tree_of arena new) v p
+  pub stood : (l q : ℕ) (row : Slot) (t : ℕ) → slots_of new l q ≡ Some row → frame_in row ≡ Some t → slots_of old l q ≡ Some row
   pub spare : old.spare ≤ new.spare + 1

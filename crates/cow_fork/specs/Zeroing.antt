@@ -2,17 +2,19 @@
 use Rattle.std.specs.Prelude.{◌≡◌, ◌≢◌, ℕ, ◌+◌, ◌≤◌, None, Some}
 use Rattle.balanced_tree.specs.Rows.{Rows}
 use Rattle.page_list.specs.declared.row.Row.{Row}
+use Rattle.page_list.specs.declared.row.Slot.{Slot}
 use Rattle.page_list.specs.declared.row.Slot.TheVariants as slot
 use Rattle.page_list.specs.Lists.{slots_of, row_count}
 use Rattle.vm_base.specs.Entries.{without_key}
-use Rattle.frame_pool.specs.Pool.{Pool, taken_frames}
+use Rattle.frame_pool.specs.Pool.{Pool, taken_frames, is_taken, links_of}
 use Rattle.cow_arena.specs.declared.node.Node.{Node}
 use Rattle.cow_arena.specs.Nodes.{Arena, nodes_of}
-use Rattle.cow_arena.specs.Walk.{frame_at}
+use Rattle.cow_arena.specs.Walk.{frame_at, frame_in}
+use Rattle.cow_arena.specs.Ways.{HadRow}
 use Rattle.cow_split.specs.Trees.{tree_of, with_row}
 use Rattle.cow_split.specs.Sight.{OthersShowSame}
 use Rattle.cow_split.specs.Exact.{IsExact, all_in_sight}
-use Rattle.cow_fork.specs.Frames.{is_taken, IsSole}
+use Rattle.cow_fork.specs.Frames.{IsSole}
 
 -- if page p of v has a row that says zero, then it would show a frame without it
 abbrev pub IsNeeded : (arena : Arena) → Rows Row → (v p : ℕ) → Type 0
@@ -26,6 +28,10 @@ pub record HasZeroed (arena : Arena) (old new : Rows Row) (before after : Pool) 
   pub others : OthersShowSame (tree_of arena old) (tree_of arena new) v p
   pub given : (t : ℕ) → IsSole (tree_of arena old) v p t → taken_frames after ≡ without_key (taken_frames before) t
   pub kept : ((t : ℕ) → IsSole (tree_of arena old) v p t → ⊥) → taken_frames after ≡ taken_frames before
+  -- the row of each frame stood where it stands, and no backlink changes
+  pub stood : (l q : ℕ) (row : Slot) (t : ℕ) → slots_of new l q ≡ Some row → frame_in row ≡ Some t →
+      HadRow (slots_of old) l q row
+  pub links : links_of after ≡ links_of before
   pub frames : after.frames ≡ before.frames
   pub slots : frame_at (tree_of arena old) v p ≡ None → slots_of new ≡ slots_of old
   pub count : frame_at (tree_of arena old) v p ≡ None → row_count new ≡ row_count old

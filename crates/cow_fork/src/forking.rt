@@ -4,17 +4,17 @@ ghost use Rattle.std.specs.Prelude.{◌≡◌, ◌⊎◌, ◌≤◌, ℕ, true, 
 ghost use Rattle.page_list.specs.declared.row.Slot.{Slot};
 ghost use Rattle.page_list.specs.declared.row.Slot.TheVariants as slot;
 ghost use Rattle.page_list.specs.Lists.{slots_of};
-ghost use Rattle.frame_pool.specs.Pool.{Takes, frame_bytes};
+ghost use Rattle.frame_pool.specs.Pool.{Takes, frame_bytes, is_taken, links_of};
 ghost use Rattle.vm_base.specs.declared.names.Tag.{Tag};
 ghost use Rattle.vm_base.specs.Pages.{zeros};
 ghost use Rattle.cow_arena.specs.declared.node.Node.{Node};
 ghost use Rattle.cow_arena.specs.Nodes.{nodes_of};
-ghost use Rattle.cow_arena.specs.Walk.{frame_in};
-ghost use Rattle.cow_split.specs.Trees.{tree_of};
+ghost use Rattle.cow_arena.specs.Walk.{walk, frame_in};
+ghost use Rattle.cow_split.specs.Trees.{tree_of, holder_of, frame_held};
 ghost use Rattle.cow_split.specs.Sight.{IsPage};
 ghost use Rattle.cow_split.specs.Exact.{IsExact, all_in_sight};
 ghost use Rattle.cow_split.specs.declared.answers.Cut.TheVariants as cut;
-ghost use Rattle.cow_fork.specs.Frames.{is_taken, bytes_shown, frame_held, HasSole, HasFree, LeavesFrame};
+ghost use Rattle.cow_fork.specs.Frames.{bytes_shown, HasSole, HasFree, LeavesFrame};
 ghost use Rattle.cow_fork.specs.Forking.{HasForked};
 
 use cow_arena::{CowArena, NodeId};
@@ -43,8 +43,29 @@ pub fn fork(
     requires free { HasFree frames.old ⊎ HasSole (tree_of arena.now lists.old) leaf.0 page }
     ensures { HasForked arena.now lists.old lists.new frames.old frames.new leaf.0 page result.0 }
 {
-    let list = arena.node(leaf).list;
     let found = holder(arena, lists, leaf, page);
+    fork_holder(arena, lists, frames, leaf, page, found)
+}
+
+/// Does what `fork` does, where this is what `holder` answers for the page.
+pub fn fork_holder(
+    arena: &CowArena,
+    lists: &mut PageLists,
+    frames: &mut FramePool,
+    leaf: NodeId,
+    page: PageNo,
+    found: Holder,
+) -> Tag
+    requires exact { IsExact (tree_of arena.now lists.old) all_in_sight (is_taken frames.old) }
+    requires page { IsPage (tree_of arena.now lists.old) leaf.0 page }
+    requires found { found ≡ holder_of (walk (tree_of arena.now lists.old) leaf.0 page) }
+    requires unowned { (node : Node) (row : Slot) → nodes_of arena.now leaf.0 ≡ Some node →
+        slots_of lists.old node.list.0 page ≡ Some row → frame_in row ≡ None }
+    requires room { 1 ≤ lists.old.spare }
+    requires free { HasFree frames.old ⊎ HasSole (tree_of arena.now lists.old) leaf.0 page }
+    ensures { HasForked arena.now lists.old lists.new frames.old frames.new leaf.0 page result.0 }
+{
+    let list = arena.node(leaf).list;
     if let Holder::Own(_) = found {
         let tag = take_blank(frames);
         lists.replace(list, page, row_of(tag));
@@ -71,6 +92,7 @@ fn row_of(tag: Tag) -> Slot
 fn take_blank(frames: &mut FramePool) -> Tag
     requires { HasFree frames.old }
     ensures takes { Takes frames.old frames.new result.0 zeros }
+    ensures links { links_of frames.new ≡ links_of frames.old }
     ensures frames { frames.new.frames ≡ frames.old.frames }
 {
     match frames.take() {
@@ -84,6 +106,7 @@ fn take_copy(frames: &mut FramePool, from: Tag) -> Tag
     requires free { HasFree frames.old }
     requires taken { is_taken frames.old from.0 ≡ true }
     ensures takes { Takes frames.old frames.new result.0 (frame_bytes frames.old from.0) }
+    ensures links { links_of frames.new ≡ links_of frames.old }
     ensures frames { frames.new.frames ≡ frames.old.frames }
 {
     match frames.take_copy(from) {
@@ -102,6 +125,7 @@ fn take_after(frames: &mut FramePool, found: Holder, answer: Cut) -> Tag
     ensures last { (tag : Tag) → answer ≡ cut.LastViewer tag → (result ≡ tag) × (frames.new ≡ frames.old) }
     ensures taken { (LeavesFrame answer → ⊥) →
         Takes frames.old frames.new result.0 (bytes_shown frames.old (frame_held found)) }
+    ensures links { links_of frames.new ≡ links_of frames.old }
     ensures frames { frames.new.frames ≡ frames.old.frames }
 {
     match answer {

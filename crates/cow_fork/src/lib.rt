@@ -10,7 +10,7 @@ mod forking;
 mod sharing;
 mod zeroing;
 
-pub use forking::fork;
+pub use forking::{fork, fork_holder};
 pub use sharing::share;
 pub use zeroing::mark_zero;
 

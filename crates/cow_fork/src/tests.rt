@@ -4,7 +4,7 @@ ghost use Rattle.std.specs.Prelude.{◌≡◌, ℕ, ◌+◌, ◌<◌, ◌^◌, I
 ghost use Rattle.cow_arena.specs.Nodes.{nodes_of};
 ghost use Rattle.cow_split.specs.Trees.{tree_of};
 ghost use Rattle.cow_split.specs.Exact.{IsExact, all_in_sight};
-ghost use Rattle.cow_fork.specs.Frames.{is_taken};
+ghost use Rattle.frame_pool.specs.Pool.{is_taken};
 ghost use Rattle.cow_fork.specs.Examples.{HasFirstPage, HaveFirstPages};
 
 use super::*;

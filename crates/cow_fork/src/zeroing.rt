@@ -4,17 +4,17 @@ ghost use Rattle.std.specs.Prelude.{◌≡◌, ◌↔◌, ◌+◌, ◌≤◌, �
 ghost use Rattle.vm_base.specs.declared.names.Tag.{Tag};
 ghost use Rattle.vm_base.specs.Entries.{without_key};
 ghost use Rattle.page_list.specs.Lists.{slots_of};
-ghost use Rattle.frame_pool.specs.Pool.{taken_frames};
+ghost use Rattle.frame_pool.specs.Pool.{taken_frames, is_taken, links_of};
 ghost use Rattle.cow_arena.specs.declared.node.Node.{Node};
 ghost use Rattle.cow_arena.specs.Nodes.{nodes_of};
 ghost use Rattle.cow_arena.specs.Walk.{walk, frame_at, frame_in};
 ghost use Rattle.cow_arena.specs.Forest.{IsForest};
-ghost use Rattle.cow_split.specs.Trees.{tree_of, holder_of};
+ghost use Rattle.cow_split.specs.Trees.{tree_of, holder_of, frame_held};
 ghost use Rattle.cow_split.specs.Sight.{IsPage, OthersShowSame};
 ghost use Rattle.cow_split.specs.Exact.{IsExact, all_in_sight, leaving_out, without_frame};
 ghost use Rattle.cow_split.specs.Cutting.{frame_left};
 ghost use Rattle.cow_split.specs.declared.answers.Cut.TheVariants as cut;
-ghost use Rattle.cow_fork.specs.Frames.{is_taken, frame_held, IsSole, LeavesFrame};
+ghost use Rattle.cow_fork.specs.Frames.{IsSole, LeavesFrame};
 ghost use Rattle.cow_fork.specs.Zeroing.{HasZeroed};
 ghost use Rattle.cow_fork.specs.ZeroSteps.{HasLetGo, HasHidden};
 
@@ -54,14 +54,7 @@ pub fn mark_zero(
 fn has_frame(found: Holder) -> bool
     ensures { result ≡ is_some (frame_held found) }
 {
-    match found {
-        Holder::Own(Slot::Frame { .. })
-        | Holder::Above {
-            slot: Slot::Frame { .. },
-            ..
-        } => true,
-        _ => false,
-    }
+    found.frame().is_some()
 }
 
 /// Takes a page of a VMO's node out of sight, which shows a frame: its own row goes, or it is cut off from the row above
@@ -101,6 +94,7 @@ fn give_left(frames: &mut FramePool, answer: Cut)
     ensures given { (tag : Tag) → answer ≡ cut.LastViewer tag →
         taken_frames frames.new ≡ without_key (taken_frames frames.old) tag.0 }
     ensures kept { (LeavesFrame answer → ⊥) → frames.new ≡ frames.old }
+    ensures links { links_of frames.new ≡ links_of frames.old }
     ensures frames { frames.new.frames ≡ frames.old.frames }
 {
     if let Cut::LastViewer(tag) = answer {

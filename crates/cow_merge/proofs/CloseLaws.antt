@@ -8,25 +8,26 @@ use Rattle.vm_base.specs.Entries.{without_key}
 use Rattle.vm_base.proofs.EntryLaws.{some_same, without_key-same}
 use Rattle.page_list.specs.declared.row.Row.{Row}
 use Rattle.page_list.specs.Lists.{slots_of, row_count}
-use Rattle.frame_pool.specs.Pool.{Pool}
+use Rattle.frame_pool.specs.Pool.{Pool, is_taken}
 use Rattle.cow_arena.specs.declared.node.Node.{Node}
 use Rattle.cow_arena.specs.declared.node.NodeId.{NodeId}
-use Rattle.cow_arena.specs.Nodes.{Arena, Nodes, nodes_of, IsVisible, AreFamily, other_side, side_of, sibling_in}
+use Rattle.cow_arena.specs.Nodes.{Arena, Nodes, nodes_of, IsVisible, AreFamily, link_to, other_side, side_of, sibling_in}
 use Rattle.cow_arena.specs.Walk.{Tree, frame_at}
-use Rattle.cow_arena.specs.Forest.{IsForest}
+use Rattle.cow_arena.specs.Forest.{IsForest, IsChild}
 use Rattle.cow_arena.specs.Changes.{spliced}
 use Rattle.cow_arena.specs.Counts.{visible_count}
+use Rattle.cow_arena.proofs.WalkLaws.{link_same}
 use Rattle.cow_arena.proofs.ReachLaws.{child-there}
 use Rattle.cow_split.specs.Trees.{tree_of}
 use Rattle.cow_split.specs.Sight.{IsPage}
 use Rattle.cow_split.specs.Exact.{IsExact, IsOnlyOf, all_in_sight}
 use Rattle.cow_split.proofs.RowLaws.{exact-in_use_alike}
-use Rattle.cow_merge.specs.Ranges.{is_taken, leaving_range, AreLinked, GivesBack, IsAllOut, HasLeftOut}
+use Rattle.cow_merge.specs.Ranges.{leaving_range, AreLinked, GivesBack, IsAllOut, HasLeftOut}
 use Rattle.cow_merge.specs.Lifting.{HasLifted, IsFamilyOf, AreTaken}
 use Rattle.cow_merge.specs.Merging.{HasClosed}
 use Rattle.cow_split.specs.Sight.{StaysVisible}
 use Rattle.cow_merge.proofs.CountLaws.{outside-other}
-use Rattle.cow_merge.proofs.SpliceLaws.{IsWithout, without-page, without-showed, without-stays, without-no_more, family-apart, spliced-gone, spliced-without, exact-spliced, removed_root-without, exact-removed_root}
+use Rattle.cow_merge.proofs.SpliceLaws.{IsWithout, without-page, without-showed, without-stays, without-no_more, family-apart, spliced-gone, spliced-parent_gone, spliced-without, exact-spliced, removed_root-without, exact-removed_root}
 use Rattle.cow_merge.proofs.RangeLaws.{inside-range}
 use Rattle.cow_merge.proofs.ShrinkLaws.{tree-now}
 
@@ -56,11 +57,12 @@ module _ (arena : Arena) (rows late : Rows Row) (before after : Pool) (v : ℕ) 
 module _ (arena new : Arena) (rows late : Rows Row) (before after : Pool) (v : ℕ) (nodes : Nodes) where
   closed-by : nodes_of new ≡ nodes → new.lists ≡ arena.lists → visible_count new + 1 ≡ visible_count arena →
       IsWithout (tree_of arena late) (record (tree_of arena late) { nodes = nodes }) v → nodes v ≡ None →
+      ((h : ℕ) → IsChild (nodes_of arena) h v → nodes h ≡ None) →
       IsExact (record (tree_of arena late) { nodes = nodes }) all_in_sight (is_taken after) →
       ((w q : ℕ) → IsPage (tree_of arena late) w q → w ≢ v → frame_at (tree_of arena late) w q ≡ frame_at (tree_of arena rows) w q) →
       GivesBack before after → (AreLinked rows before → AreLinked late after) → rows.spare ≤ late.spare → row_count late ≤ row_count rows →
       HasClosed arena new rows late before after v
-  closed-by is lists shown without gone exact shows gives linked spare count =
+  closed-by is lists shown without gone parent_gone exact shows gives linked spare count =
       let t : Tree = tree_of arena late in
       let u : Tree = record (tree_of arena late) { nodes = nodes } in
       let now = tree-now arena new late nodes is lists in
@@ -75,6 +77,16 @@ module _ (arena new : Arena) (rows late : Rows Row) (before after : Pool) (v : �
             (λ (f : Nodes). (w : ℕ) (node : Node) → IsVisible f w node → StaysVisible f (nodes_of arena) w node)
             (sym is)
             (without-no_more t u v without);
+        came = λ k node at.
+            let was = without.came k node (ap (λ f. f k) (sym is) ∙ at) in
+            let one : was.3.now ≡ node = some_same (sym was.3.at ∙ (ap (λ f. f k) (sym is) ∙ at)) in
+            record {
+              node = was.0;
+              at = was.1;
+              koid = sym (ap (λ (n : Node). n.koid) one) ∙ was.3.koid;
+              list = sym (ap (λ (n : Node). n.list) one) ∙ was.3.list;
+            };
+        parent_gone = λ h child. ap (λ f. f h) is ∙ parent_gone h child;
         lists = lists;
         visible = omega (arith, shown);
         shows = subst (λ (x : Tree). (w q : ℕ) → IsPage x w q → frame_at x w q ≡ frame_at (tree_of arena rows) w q) (sym now)
@@ -92,9 +104,9 @@ page-before arena rows late w q page = record { node = page.node; visible = page
 
 -- the node has no parent
 pub closed-root : (arena new : Arena) (rows late : Rows Row) (before after : Pool) (v : ℕ) (node : Node) → IsVisible (nodes_of arena) v node →
-    HasLeftOut arena rows late before after v node 0 → nodes_of new ≡ without_key (nodes_of arena) v → new.lists ≡ arena.lists →
+    node.parent ≡ None → HasLeftOut arena rows late before after v node 0 → nodes_of new ≡ without_key (nodes_of arena) v → new.lists ≡ arena.lists →
     visible_count new + 1 ≡ visible_count arena → IsForest (nodes_of new) new.lists → HasClosed arena new rows late before after v
-closed-root arena new rows late before after v node visible left is lists shown forest =
+closed-root arena new rows late before after v node visible root left is lists shown forest =
     let t : Tree = tree_of arena late in
     let f = left.exact.forest in
     let g : IsForest (without_key (nodes_of arena) v) arena.lists =
@@ -102,6 +114,7 @@ closed-root arena new rows late before after v node visible left is lists shown 
     closed-by arena new rows late before after v (without_key (nodes_of arena) v) is lists shown
     (removed_root-without t f v node visible g)
     (without_key-same (nodes_of arena) v)
+    (λ h child. let up : node.parent ≡ link_to h = ap (λ (n : Node). n.parent) (some_same (sym visible.at ∙ child.at)) ∙ child.parent in absurd (cc))
     (exact-removed_root t f v node visible g (out arena rows late before after v node visible left) (is_taken after)
     (λ p. left.bare p (omega arith)) left.exact
     (out-only arena rows late before after v node visible left) (out-all arena rows late before after v node visible left))
@@ -146,6 +159,10 @@ module _ (arena new : Arena) (rows mid late : Rows Row) (before between after : 
       closed-by arena new rows late before after v (spliced (nodes_of arena) v h s parent sibling) is lists shown
       (spliced-without t f v h s node parent sibling family visible empty g)
       (spliced-gone (nodes_of arena) arena.lists f v h s node parent sibling family)
+      (λ above child.
+      let up : node.parent ≡ link_to above = ap (λ (n : Node). n.parent) (some_same (sym visible.at ∙ child.at)) ∙ child.parent in
+      ap (spliced (nodes_of arena) v h s parent sibling) (link_same (sym up ∙ family.parent_is))
+      ∙ spliced-parent_gone (nodes_of arena) arena.lists f v h s node parent sibling family)
       (exact-spliced t f v h s node parent sibling family visible empty g out (is_taken after)
       (λ p. moved.elsewhere node parent sibling family node.list.0 p lists-apart.0 lists-apart.1 ∙ left.bare p (omega arith))
       (exact-in_use_alike t out (is_taken between) (is_taken after) taken-same (moved.exact out (is_taken between) left.exact only all))

@@ -14,11 +14,11 @@ use Rattle.cow_arena.specs.Walk.{Tree, walk, frame_found, frame_at}
 use Rattle.cow_arena.specs.Forest.{IsForest, AreListed, IsListed}
 use Rattle.cow_arena.proofs.WalkLaws.{walk-past}
 use Rattle.cow_arena.proofs.WindowWalkLaws.{walk-leaf-changed, walk-leaf-changed-other}
-use Rattle.cow_split.specs.Sight.{IsPage, IsSeenFrom}
+use Rattle.cow_split.specs.Sight.{IsPage, IsSeenFrom, CameFrom}
 use Rattle.cow_split.specs.Exact.{IsExact, all_in_sight}
 use Rattle.cow_merge.specs.Ranges.{leaving_range}
 use Rattle.cow_merge.specs.Merging.{with_count}
-use Rattle.cow_split.proofs.NodeLaws.{CameFrom, seen-moved, exact-moved}
+use Rattle.cow_split.proofs.NodeLaws.{seen-moved, exact-moved}
 
 -- ---- pages of a range
 

@@ -14,83 +14,30 @@ use Rattle.page_list.specs.declared.row.Row.{Row}
 use Rattle.page_list.specs.declared.row.Slot.{Slot}
 use Rattle.page_list.specs.declared.row.Slot.TheVariants as slot
 use Rattle.page_list.specs.Lists.{slots_of, row_count}
-use Rattle.frame_pool.specs.Pool.{Pool, taken_frames, links_of}
+use Rattle.frame_pool.specs.Pool.{Pool, taken_frames, links_of, is_taken}
 use Rattle.cow_arena.specs.declared.node.Node.{Node}
 use Rattle.cow_arena.specs.declared.node.NodeId.{NodeId}
 use Rattle.cow_arena.specs.declared.node.Side.{Side}
-use Rattle.cow_arena.specs.declared.node.Side.TheVariants as side
 use Rattle.cow_arena.specs.Nodes.{Arena, Nodes, nodes_of, IsVisible, link_to}
 use Rattle.cow_arena.specs.Walk.{Slots, Tree, Found, walk, frame_in, frame_found, frame_at, from_side}
 use Rattle.cow_arena.specs.Forest.{IsForest}
-use Rattle.cow_arena.specs.Ways.{Climbs, Reaches, Arrives}
+use Rattle.cow_arena.specs.Ways.{Climbs, Reaches, Arrives, IsPartOf}
 use Rattle.cow_arena.proofs.WalkLaws.{walk-past}
 use Rattle.cow_arena.proofs.ReachLaws.{reach-one, reach-more, reach-each, reach-after, climb-side, walk-from, walk-ends}
-use Rattle.cow_arena.proofs.AlikeLaws.{with_pair-same, with_pair-other}
 use Rattle.cow_split.specs.declared.answers.Cut.{Cut}
 use Rattle.cow_split.specs.declared.answers.Cut.TheVariants as cut
 use Rattle.cow_split.specs.Trees.{tree_of}
 use Rattle.cow_split.specs.Cost.{nodes_up}
 use Rattle.cow_split.specs.Sight.{IsPage, Sees}
 use Rattle.cow_split.specs.Exact.{IsExact, IsOnlyOf, all_in_sight, leaving_out, without_frame}
-use Rattle.cow_split.specs.Cutting.{split_on, cut_slots, cut_answer, frame_left, HasCut}
+use Rattle.cow_split.specs.Cutting.{cut_slots, frame_left, HasCut}
 use Rattle.cow_split.proofs.CostLaws.{depth-up, depth-some}
-use Rattle.cow_split.proofs.ExactLaws.{cases_place, exact-seen_alike, seen-carried}
+use Rattle.cow_split.proofs.ExactLaws.{exact-seen_alike, seen-carried}
 use Rattle.cow_split.proofs.RowLaws.{left_out-in_sight, left_out-other, only-more, only-none, exact-in_use_alike, exact-own_gone, own-shows, frame-in_use}
-use Rattle.cow_split.proofs.CutLaws.{CutBy, sees_nothing, sees_shared, sees_alone, cut-by, exact-cut, cut-last, cut-shows}
-use Rattle.cow_merge.specs.Ranges.{leaving_range, is_taken, AreLinked, GivesBack, HadRow, IsPartOf, HasGiven, HasLeftPageOut, IsLeaving, IsDropping, IsBare, CameTo, IsPassing, HasLeftOut, IsExactFor}
+use Rattle.cow_split.proofs.CutLaws.{exact-cut, cut-last, cut-shows}
+use Rattle.cow_split.proofs.PartLaws.{part-same, part-with_pair, part-then, part-none, part-cut}
+use Rattle.cow_merge.specs.Ranges.{leaving_range, AreLinked, GivesBack, HasGiven, HasLeftPageOut, IsLeaving, IsDropping, IsBare, CameTo, IsPassing, HasLeftOut, IsExactFor}
 use Rattle.cow_merge.proofs.CountLaws.{in_sight-outside, outside-other, outside-before}
-
--- ---- rows that go
-
-pub part-same : (slots : Slots) → IsPartOf slots slots
-part-same slots = record { had = λ l q row at. record { row = row; at = at; frame = refl } }
-
--- the row of one place goes, or keeps its frame
-part-with_pair : (slots : Slots) (l q : ℕ) (now : Option Slot) → ((row : Slot) → now ≡ Some row → HadRow slots l q row) →
-    IsPartOf slots (with_pair slots l q now)
-part-with_pair slots l q now here = record {
-  had = λ m r row at. elim (cases_place l q m r) [
-    | inl same ↦
-        let there : with_pair slots l q now m r ≡ now =
-        ap (λ k. with_pair slots l q now k r) same.0 ∙ (ap (with_pair slots l q now l) same.1 ∙ with_pair-same slots l q now) in
-        subst (λ k. HadRow slots k r row) (sym same.0) (subst (λ k. HadRow slots l k row) (sym same.1) (here row (sym there ∙ at)))
-    | inr apart ↦ record { row = row; at = sym (with_pair-other slots l q now m r (λ a b. apart (a, b))) ∙ at; frame = refl }
-  ];
-}
-
-part-then : (old mid new : Slots) → IsPartOf old mid → IsPartOf mid new → IsPartOf old new
-part-then old mid new first second = record {
-  had = λ l q row at.
-      let late = second.had l q row at in
-      let early = first.had l q late.row late.at in
-      record { row = early.row; at = early.at; frame = late.frame ∙ early.frame };
-}
-
--- a page without a row gets none
-pub part-none : (old new : Slots) → IsPartOf old new → (l q : ℕ) → old l q ≡ None → new l q ≡ None
-part-none old new part l q none = go (new l q) refl
-  where
-    go : (now : Option Slot) → new l q ≡ now → now ≡ None
-    go None is = refl
-    go (Some row) is = let had = part.had l q row is in let at = had.at in absurd (cc)
-
--- the row that is split by a cut has its frame
-split-had : (slots : Slots) (l q : ℕ) (from : Side) (tag : Tag) (left right : Bool) → slots l q ≡ Some (slot.Frame tag left right) →
-    (row : Slot) → split_on from tag left right ≡ Some row → HadRow slots l q row
-split-had slots l q from tag left right at row is =
-    record { row = slot.Frame tag left right; at = at; frame = frame from left right is }
-  where
-    frame : (from : Side) (left right : Bool) → split_on from tag left right ≡ Some row → frame_in row ≡ Some tag.0
-    frame side.Left left true e = absurd (cc)
-    frame side.Left left false e = ap frame_in (some_same (sym e))
-    frame side.Right true right e = absurd (cc)
-    frame side.Right false right e = ap frame_in (some_same (sym e))
-
-part-by : (t : Tree) (v p : ℕ) (slots : Slots) (answer : Cut) → CutBy t v p slots answer → IsPartOf t.slots slots
-part-by t v p slots answer (sees_nothing none) = part-same t.slots
-part-by t v p slots answer (sees_shared side h q node tag left right sees seen) = part-same t.slots
-part-by t v p slots answer (sees_alone side h q node tag left right sees seen) =
-    part-with_pair t.slots node.list.0 q (split_on side tag left right) (split-had t.slots node.list.0 q side tag left right sees.row)
 
 -- a way stays where rows go
 module _ (t : Tree) (slots : Slots) (part : IsPartOf t.slots slots) where
@@ -193,9 +140,7 @@ module _ (arena : Arena) (old new : Rows Row) (v p : ℕ) (node : Node) (visible
     shows = λ out exact only w q page in_sight.
         ap (λ s. frame_at (record (tree_of arena old) { slots = s }) w q) has.slots
         ∙ cut-shows (tree_of arena old) out (is_taken before) exact v p only node visible none w q page in_sight;
-    part = subst (λ s. IsPartOf (slots_of old) s) (sym has.slots)
-        (part-by (tree_of arena old) v p (cut_slots (tree_of arena old) v p) (cut_answer (tree_of arena old) v p)
-        (cut-by (tree_of arena old) forest v p node visible none));
+    part = part-cut arena old new v p answer forest node visible none has;
     links = given.links;
     gives = given.gives;
     spare = has.spare;
@@ -334,7 +279,7 @@ dropping-end arena old new before after v node first end was from next = record 
 -- ---- the rows above
 
 -- what was found from a side has its frame
-frame-from : (side : Option Side) (o : Option Found) → frame_found (from_side side o) ≡ frame_found o
+pub frame-from : (side : Option Side) (o : Option Found) → frame_found (from_side side o) ≡ frame_found o
 frame-from side None = refl
 frame-from side (Some it) = refl
 

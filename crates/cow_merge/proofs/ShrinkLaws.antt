@@ -8,7 +8,7 @@ use Rattle.vm_base.specs.Entries.{with_key}
 use Rattle.vm_base.proofs.EntryLaws.{some_same, with_key-same, with_key-other, with_key-here}
 use Rattle.page_list.specs.declared.row.Row.{Row}
 use Rattle.page_list.specs.Lists.{slots_of}
-use Rattle.frame_pool.specs.Pool.{Pool}
+use Rattle.frame_pool.specs.Pool.{Pool, is_taken}
 use Rattle.cow_arena.specs.declared.node.Node.{Node}
 use Rattle.cow_arena.specs.declared.node.NodeId.{NodeId}
 use Rattle.cow_arena.specs.Nodes.{Arena, Nodes, nodes_of, node_above, IsVisible}
@@ -19,7 +19,7 @@ use Rattle.cow_arena.specs.Counts.{hidden_count, visible_count}
 use Rattle.cow_split.specs.Trees.{tree_of}
 use Rattle.cow_split.specs.Sight.{IsPage}
 use Rattle.cow_split.specs.Exact.{IsExact, all_in_sight}
-use Rattle.cow_merge.specs.Ranges.{is_taken, leaving_range, HasLeftOut}
+use Rattle.cow_merge.specs.Ranges.{leaving_range, HasLeftOut}
 use Rattle.cow_merge.specs.Merging.{with_count, IsNarrowed, HasShrunk}
 use Rattle.cow_merge.proofs.CountLaws.{outside-other, outside-before, narrowed-page, narrowed-shows, exact-narrowed}
 

@@ -1,51 +1,29 @@
 -- A VMO's node goes, alone or with its parent: the tree stays exact, and the others show what they showed.
-use Rattle.std.proofs.Common.{◌≡◌, ◌≢◌, ◌↔◌, ℕ, ◌<◌, Bool, Option, None, Some, inl, inr}
+use Rattle.std.proofs.Common.{◌≡◌, ◌≢◌, ◌↔◌, ℕ, ◌<◌, Bool, None, Some, inl, inr}
 use Rattle.std.proofs.Common.{refl, sym, ap, subst, ◌∙◌, arith}
 use Rattle.std.specs.Prelude.{IsSome}
 use Rattle.std.proofs.lemmas.Bool.{cases_eq, both_ways, false_from_ne_true}
 use Rattle.vm_base.specs.Entries.{without_key}
 use Rattle.vm_base.proofs.EntryLaws.{some_same, with_key-same, with_key-other, with_key-cases, without_key-same, without_key-other, without_key-some}
-use Rattle.vm_base.proofs.SearchLaws.{eqb_same, eqb_apart}
 use Rattle.page_list.specs.declared.row.ListId.{ListId}
 use Rattle.page_list.specs.declared.row.Slot.{Slot}
-use Rattle.cow_arena.specs.declared.node.NodeId.{NodeId}
 use Rattle.cow_arena.specs.declared.node.Node.{Node}
 use Rattle.cow_arena.specs.declared.node.Side.{Side}
-use Rattle.cow_arena.specs.declared.node.Side.TheVariants as side
-use Rattle.cow_arena.specs.Nodes.{Nodes, IsVisible, link_to, child_on, other_side, side_of, AreFamily}
+use Rattle.cow_arena.specs.Nodes.{Nodes, IsVisible, AreFamily}
 use Rattle.cow_arena.specs.Walk.{Tree, walk, frame_found, frame_at}
-use Rattle.cow_arena.specs.Forest.{IsForest, HasPair, AreListed}
-use Rattle.cow_arena.specs.Changes.{relinked, lifted, spliced}
-use Rattle.cow_arena.proofs.WalkLaws.{link_same}
+use Rattle.cow_arena.specs.Forest.{IsForest, AreListed}
+use Rattle.cow_arena.specs.Changes.{lifted, spliced}
 use Rattle.cow_arena.proofs.ReachLaws.{hidden-apart}
-use Rattle.cow_arena.proofs.RelinkLaws.{IsRelinked, relinked-stays}
-use Rattle.cow_arena.proofs.SpliceWalkLaws.{family-side, family-parent, walk-spliced, spliced-listed, walk-removed, removed-listed}
-use Rattle.cow_split.specs.Sight.{IsPage, IsSeenFrom}
+use Rattle.cow_arena.proofs.RelinkLaws.{relinked-stays, relinked-was}
+use Rattle.cow_arena.proofs.SpliceForestLaws.{s_k, s_h, k_h}
+use Rattle.cow_arena.proofs.SpliceWalkLaws.{walk-spliced, spliced-listed, walk-removed, removed-listed}
+use Rattle.cow_split.specs.Sight.{IsPage, IsSeenFrom, CameFrom}
 use Rattle.cow_split.specs.Exact.{IsExact, IsOnlyOf, all_in_sight}
 use Rattle.cow_merge.specs.Ranges.{IsAllOut}
 use Rattle.cow_split.specs.Sight.{StaysVisible}
-use Rattle.cow_split.proofs.NodeLaws.{stays-page, CameFrom, seen-moved, exact-moved}
+use Rattle.cow_split.proofs.NodeLaws.{stays-page, seen-moved, exact-moved}
 
 -- ---- nodes that stay
-
-relinked-none : (nodes : Nodes) (parent : Option NodeId) (k j n : ℕ) → nodes n ≡ None → relinked nodes parent k j n ≡ None
-unfolding relinked
-relinked-none nodes None k j n e = e
-relinked-none nodes (Some parent) k j n e = elim (cases_eq n parent.0) [
-  | inl here ↦ rw (here, eqb_same parent.0, sym (ap nodes here) ∙ e) refl
-  | inr there ↦ rw (eqb_apart n parent.0 there) e
-]
-
--- a node that is there after a node took the place of another was there before
-pub relinked-was : (nodes : Nodes) (parent : Option NodeId) (k j n : ℕ) (b : Node) → relinked nodes parent k j n ≡ Some b →
-    (a : Node) × (nodes n ≡ Some a) × IsRelinked k a b
-relinked-was nodes parent k j n b at = was (nodes n) refl
-  where
-    was : (o : Option Node) → nodes n ≡ o → (a : Node) × (nodes n ≡ Some a) × IsRelinked k a b
-    was None e = absurd (let none = relinked-none nodes parent k j n e in cc)
-    was (Some a) e =
-        let now = relinked-stays nodes parent k j n a e in
-        (a, e, subst (IsRelinked k a) (some_same (sym now.1 ∙ at)) now.2)
 
 -- a node is there as it was, with its koid, its list and its count
 pub record IsKept (new : Nodes) (j : ℕ) (node : Node) : Type 0 where
@@ -65,20 +43,11 @@ kept-page t u j p page kept = stays-page t u j p page (kept-visible t.nodes u.no
 module _ (nodes : Nodes) (lists : ℕ) (f : IsForest nodes lists) (k h s : ℕ) (leaf parent sibling : Node) (family : AreFamily nodes k h s leaf parent sibling) where
   -- node, parent and sibling are three
   pub family-apart : (k ≢ s) × (h ≢ s) × (k ≢ h)
-  family-apart =
-      let below = f.by.below h k leaf family.at family.parent_is in
-      let one : below.above ≡ parent = some_same (sym below.at ∙ family.parent_at) in
-      let pair = f.by.pairs h parent family.parent_at (ap (λ (n : Node). n.koid) (sym one) ∙ below.hidden) in
-      let deeper = below.deeper in
-      let sibling_deeper = (f.by.below h s sibling family.sibling_at (family-parent nodes lists f k h s leaf parent sibling family)).deeper in (
-        λ same. two (side_of parent k) pair (family-side nodes lists f k h s leaf parent sibling family) same,
-        λ same. let r = ap f.rank same in absurd (omega arith),
-        λ same. let r = ap f.rank same in absurd (omega arith),
-      )
-    where
-      two : (a : Side) → HasPair nodes h parent → (child_on parent a ≡ link_to k) × (child_on parent (other_side a) ≡ link_to s) → k ≢ s
-      two side.Left pair both same = pair.apart (link_same (sym pair.left_is ∙ both.0) ∙ (same ∙ link_same (sym both.1 ∙ pair.right_is)))
-      two side.Right pair both same = pair.apart (link_same (sym pair.left_is ∙ both.1) ∙ (sym same ∙ link_same (sym both.0 ∙ pair.right_is)))
+  family-apart = (
+    λ same. s_k nodes lists f.rank f.by k h s leaf parent sibling family (sym same),
+    λ same. s_h nodes lists f.rank f.by k h s leaf parent sibling family (sym same),
+    k_h nodes lists f.rank f.by k h s leaf parent sibling family,
+  )
 
   -- what is left is kept
   pub spliced-kept : (j : ℕ) (node : Node) → nodes j ≡ Some node → j ≢ k → j ≢ h → IsKept (spliced nodes k h s parent sibling) j node
@@ -125,6 +94,11 @@ module _ (nodes : Nodes) (lists : ℕ) (f : IsForest nodes lists) (k h s : ℕ) 
   pub spliced-gone : spliced nodes k h s parent sibling k ≡ None
   unfolding spliced
   spliced-gone = with_key-other _ s _ k family-apart.0 ∙ without_key-same _ k
+
+  pub spliced-parent_gone : spliced nodes k h s parent sibling h ≡ None
+  unfolding spliced
+  spliced-parent_gone =
+      with_key-other _ s _ h family-apart.1 ∙ (without_key-other _ k h (λ same. family-apart.2 (sym same)) ∙ without_key-same _ h)
 
 -- where a node is kept, this one is kept the other way round
 pub kept-back : (old new : Nodes) (j : ℕ) (node now : Node) → old j ≡ Some node → new j ≡ Some now → IsKept new j node → IsKept old j now

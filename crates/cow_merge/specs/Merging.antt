@@ -4,16 +4,17 @@ use Rattle.balanced_tree.specs.Rows.{Rows}
 use Rattle.page_list.specs.declared.row.Row.{Row}
 use Rattle.page_list.specs.Lists.{row_count}
 use Rattle.vm_base.specs.Entries.{with_key}
-use Rattle.frame_pool.specs.Pool.{Pool}
+use Rattle.frame_pool.specs.Pool.{Pool, is_taken}
 use Rattle.cow_arena.specs.declared.node.Node.{Node}
 use Rattle.cow_arena.specs.Nodes.{Arena, nodes_of, IsVisible}
+use Rattle.cow_arena.specs.Forest.{IsChild}
 use Rattle.cow_arena.specs.Changes.{with_window}
 use Rattle.cow_arena.specs.Counts.{hidden_count, visible_count}
 use Rattle.cow_arena.specs.Walk.{frame_at}
 use Rattle.cow_split.specs.Trees.{tree_of}
-use Rattle.cow_split.specs.Sight.{IsPage, StaysVisible}
+use Rattle.cow_split.specs.Sight.{IsPage, StaysVisible, CameFrom}
 use Rattle.cow_split.specs.Exact.{IsExact, all_in_sight}
-use Rattle.cow_merge.specs.Ranges.{is_taken, GivesBack, AreLinked}
+use Rattle.cow_merge.specs.Ranges.{GivesBack, AreLinked}
 
 -- a visible node that has `count` pages, of which the window is no longer
 abbrev pub with_count : Node → ℕ → Node
@@ -40,12 +41,14 @@ pub record HasShrunk (old new : Arena) (rows rows_after : Rows Row) (before afte
   pub spare : rows.spare ≤ rows_after.spare
   pub fewer : row_count rows_after ≤ row_count rows
 
--- The visible node v is gone. Each other VMO has its node, and shows what it showed.
+-- The visible node v is gone, and its parent. Each other VMO has its node, and shows what it showed.
 pub record HasClosed (old new : Arena) (rows rows_after : Rows Row) (before after : Pool) (v : ℕ) : Type 0 where
   pub exact : IsExact (tree_of new rows_after) all_in_sight (is_taken after)
   pub gone : nodes_of new v ≡ None
   pub stays : (w : ℕ) (node : Node) → w ≢ v → IsVisible (nodes_of old) w node → StaysVisible (nodes_of old) (nodes_of new) w node
   pub no_more : (w : ℕ) (node : Node) → IsVisible (nodes_of new) w node → StaysVisible (nodes_of new) (nodes_of old) w node
+  pub came : (k : ℕ) (node : Node) → nodes_of new k ≡ Some node → CameFrom (nodes_of old) k node
+  pub parent_gone : (h : ℕ) → IsChild (nodes_of old) h v → nodes_of new h ≡ None
   pub lists : new.lists ≡ old.lists
   pub visible : suc (visible_count new) ≡ visible_count old
   pub shows : (w q : ℕ) → IsPage (tree_of new rows_after) w q →

@@ -1,22 +1,18 @@
 -- A range of pages of one visible node that are left out of sight, and what leaving them out changes.
-use Rattle.std.specs.Prelude.{◌≡◌, ◌⊎◌, ℕ, ◌+◌, ◌<◌, ◌≤◌, Bool, true, false, ◌&&◌, ◌||◌, ◌==◌, nat_le, nat_lt, Option, None, Some, is_some}
+use Rattle.std.specs.Prelude.{◌≡◌, ◌⊎◌, ℕ, ◌+◌, ◌<◌, ◌≤◌, Bool, true, false, ◌&&◌, ◌||◌, ◌==◌, nat_le, nat_lt, Option, None, Some}
 use Rattle.balanced_tree.specs.Rows.{Rows}
 use Rattle.page_list.specs.declared.row.Row.{Row}
 use Rattle.page_list.specs.Lists.{slots_of, row_count}
-use Rattle.frame_pool.specs.Pool.{Pool, taken_frames, links_of}
+use Rattle.frame_pool.specs.Pool.{Pool, taken_frames, links_of, is_taken}
 use Rattle.page_list.specs.declared.row.Slot.{Slot}
 use Rattle.cow_arena.specs.declared.node.Node.{Node}
 use Rattle.cow_arena.specs.declared.node.Side.{Side}
 use Rattle.cow_arena.specs.Nodes.{Arena, nodes_of, IsVisible}
-use Rattle.cow_arena.specs.Walk.{Slots, Tree, frame_at, frame_in}
-use Rattle.cow_arena.specs.Ways.{Arrives}
+use Rattle.cow_arena.specs.Walk.{Tree, frame_at, frame_in}
+use Rattle.cow_arena.specs.Ways.{Arrives, IsPartOf}
 use Rattle.cow_split.specs.Trees.{tree_of}
 use Rattle.cow_split.specs.Sight.{IsPage}
 use Rattle.cow_split.specs.Exact.{IsExact, IsOnlyOf, all_in_sight, leaving_out, without_frame}
-
--- the frame of this tag is taken
-abbrev pub is_taken : Pool → ℕ → Bool
-is_taken pool t = is_some (taken_frames pool t)
 
 -- the pages of v from `first` to below `end` are left out too
 unfoldable pub leaving_range : (ℕ → ℕ → Bool) → (v first end : ℕ) → ℕ → ℕ → Bool
@@ -39,16 +35,6 @@ ShowsSame old new out = (w q : ℕ) → IsPage old w q → out w q ≡ false →
 -- each page of v is left out
 abbrev pub IsAllOut : Tree → (ℕ → ℕ → Bool) → ℕ → Type 0
 IsAllOut t out v = (p : ℕ) → IsPage t v p → out v p ≡ true
-
--- the page had a row with the frame of this one
-pub record HadRow (old : Slots) (l q : ℕ) (now : Slot) : Type 0 where
-  pub row : Slot
-  pub at : old l q ≡ Some row
-  pub frame : frame_in now ≡ frame_in row
-
--- rows may be gone, and those that are left have the frames that they had
-pub record IsPartOf (old new : Slots) : Type 0 where
-  pub had : (l q : ℕ) (row : Slot) → new l q ≡ Some row → HadRow old l q row
 
 -- this frame is free that was taken, if it is one, and no other frame changes
 pub record HasGiven (before after : Pool) (frame : Option ℕ) : Type 0 where

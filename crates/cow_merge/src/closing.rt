@@ -4,7 +4,7 @@ ghost use Rattle.std.specs.Prelude.{IsSomeAnd, IsSome};
 ghost use Rattle.cow_arena.specs.Nodes.{nodes_of};
 ghost use Rattle.cow_split.specs.Trees.{tree_of};
 ghost use Rattle.cow_split.specs.Exact.{IsExact, all_in_sight};
-ghost use Rattle.cow_merge.specs.Ranges.{is_taken};
+ghost use Rattle.frame_pool.specs.Pool.{is_taken};
 ghost use Rattle.cow_merge.specs.Merging.{HasClosed};
 
 use crate::lifting::lift_rows;

@@ -4,7 +4,7 @@ ghost use Rattle.std.specs.Prelude.{◌≡◌, ◌+◌, ◌<◌, ◌≤◌, ℕ,
 ghost use Rattle.balanced_tree.specs.Rows.{Rows};
 ghost use Rattle.page_list.specs.declared.row.Row.{Row};
 ghost use Rattle.page_list.specs.Lists.{slots_of};
-ghost use Rattle.frame_pool.specs.Pool.{Pool, taken_frames};
+ghost use Rattle.frame_pool.specs.Pool.{Pool, taken_frames, is_taken};
 ghost use Rattle.vm_base.specs.declared.names.Tag.{Tag};
 ghost use Rattle.cow_arena.specs.declared.node.Node.{Node};
 ghost use Rattle.cow_arena.specs.Nodes.{nodes_of};
@@ -13,7 +13,7 @@ ghost use Rattle.cow_split.specs.Trees.{tree_of};
 ghost use Rattle.cow_split.specs.Exact.{IsExact, all_in_sight};
 ghost use Rattle.cow_split.specs.Cutting.{frame_left};
 ghost use Rattle.cow_split.specs.declared.answers.Cut.TheVariants as cut;
-ghost use Rattle.cow_merge.specs.Ranges.{is_taken, HasGiven, HasLeftPageOut, IsBare, IsPassing, HasLeftOut, IsExactFor};
+ghost use Rattle.cow_merge.specs.Ranges.{HasGiven, HasLeftPageOut, IsBare, IsPassing, HasLeftOut, IsExactFor};
 
 use cow_arena::{CowArena, Node, NodeId};
 use cow_split::{Cut, cut};

@@ -5,14 +5,13 @@ ghost use Rattle.vm_base.specs.Entries.{with_key};
 ghost use Rattle.cow_arena.specs.declared.node.Node.{Node};
 ghost use Rattle.cow_arena.specs.Nodes.{nodes_of};
 ghost use Rattle.cow_arena.specs.Forest.{IsForest};
-ghost use Rattle.cow_arena.specs.Changes.{window_first};
 ghost use Rattle.cow_split.specs.Trees.{tree_of};
 ghost use Rattle.cow_split.specs.Exact.{IsExact, all_in_sight};
-ghost use Rattle.cow_merge.specs.Ranges.{is_taken};
+ghost use Rattle.frame_pool.specs.Pool.{is_taken};
 ghost use Rattle.cow_merge.specs.Merging.{HasShrunk, IsNarrowed};
 
 use crate::ranges::leave_out;
-use cow_arena::{CowArena, NodeId};
+use cow_arena::{CowArena, NodeId, window_first};
 use frame_pool::FramePool;
 use page_list::PageLists;
 use vm_base::PageNo;
@@ -49,12 +48,5 @@ fn narrow(arena: &mut CowArena, leaf: NodeId, count: PageNo)
         return;
     }
     let seen = node.seen.min(count);
-    arena.set_window(leaf, first_of(node.first, seen), seen);
-}
-
-/// Where a window of this many pages begins.
-fn first_of(first: PageNo, seen: PageNo) -> PageNo
-    ensures { result ≡ window_first first seen }
-{
-    if seen == 0 { 0 } else { first }
+    arena.set_window(leaf, window_first(node.first, seen), seen);
 }

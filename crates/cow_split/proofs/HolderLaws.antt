@@ -24,7 +24,7 @@ use Rattle.cow_split.specs.Cutting.{slots_from, answer_from, slots_after, answer
 use Rattle.cow_split.proofs.CutLaws.{cut-nothing, exact-cut, cut-last}
 
 -- what was found, where this is the holder of the page
-found-above : (o : Option Found) (h : NodeId) (q : ℕ) (side : Side) (slot : Slot) → holder.Above h q side slot ≡ holder_of o →
+pub found-above : (o : Option Found) (h : NodeId) (q : ℕ) (side : Side) (slot : Slot) → holder.Above h q side slot ≡ holder_of o →
     o ≡ Some (record { node = h.0; page = q; side = Some side; slot = slot })
 found-above None h q side slot e = absurd (cc)
 found-above (Some it) h q side slot e = found it.node it.page it.side it.slot e

@@ -1,13 +1,17 @@
 pub mod CostLaws
+pub mod DepthLaws
 pub mod ClimbLaws
 pub mod SearchLaws
 pub mod WayLaws
 pub mod WeightLaws
 pub mod SeenLaws
+pub mod ViewersLaws
+pub mod FoundLaws
 pub mod ExactLaws
 pub mod RowLaws
 pub mod ExampleLaws
 pub mod CutLaws
+pub mod PartLaws
 pub mod HolderLaws
 pub mod NodeLaws
 pub mod ChainLaws

@@ -10,16 +10,9 @@ use Rattle.cow_arena.specs.declared.node.Side.TheVariants as side
 use Rattle.cow_arena.specs.Nodes.{Nodes, IsVisible}
 use Rattle.cow_arena.specs.Walk.{Tree, walk}
 use Rattle.cow_arena.specs.Forest.{IsForest, AreListed}
-use Rattle.cow_split.specs.Sight.{IsPage, Sees, IsSeenFrom, StaysVisible}
+use Rattle.cow_split.specs.Sight.{IsPage, Sees, IsSeenFrom, StaysVisible, CameFrom}
 use Rattle.cow_split.specs.Exact.{IsExact}
 use Rattle.cow_split.proofs.ExactLaws.{denies-alike}
-
--- node j was there, with the koid and the list that it has now
-pub record CameFrom (old : Nodes) (j : ℕ) (now : Node) : Type 0 where
-  pub node : Node
-  pub at : old j ≡ Some node
-  pub koid : now.koid ≡ node.koid
-  pub list : now.list ≡ node.list
 
 pub came-visible : (old new : Nodes) (j : ℕ) (now : Node) (c : CameFrom old j now) → IsVisible new j now → IsVisible old j c.node
 came-visible old new j now c visible = record { at = c.at; koid = subst IsSome c.koid visible.koid }

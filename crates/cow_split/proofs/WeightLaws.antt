@@ -1,5 +1,5 @@
 -- Laws of what a search has still to enter: it gets less with each step.
-use Rattle.std.proofs.Common.{◌≡◌, ℕ, zero, suc, ◌+◌, ◌-◌, ◌*◌, ◌^◌, ◌<◌, ◌≤◌, Some, refl, sym, ap, ◌∙◌, arith}
+use Rattle.std.proofs.Common.{◌≡◌, ℕ, zero, suc, ◌+◌, ◌-◌, ◌*◌, ◌^◌, ◌<◌, ◌≤◌, Option, Some, refl, sym, ap, ◌∙◌, arith}
 use Rattle.std.proofs.Math.Nat.{pow-zero, pow-suc}
 use Rattle.cow_arena.specs.declared.node.Node.{Node}
 use Rattle.cow_arena.specs.declared.node.Side.{Side}
@@ -7,8 +7,9 @@ use Rattle.cow_arena.specs.declared.node.Side.TheVariants as side
 use Rattle.cow_arena.specs.Nodes.{Nodes, link_to, side_of, side_in}
 use Rattle.cow_arena.specs.Forest.{IsForest}
 use Rattle.cow_arena.proofs.ReachLaws.{child-there, side-of-child}
+use Rattle.cow_split.specs.declared.viewers.Cursor.{Cursor}
 use Rattle.cow_split.specs.Cost.{depth}
-use Rattle.cow_split.specs.Searching.{weight, weight_beside, weight_after, weight_ahead}
+use Rattle.cow_split.specs.Searching.{weight_from, weight, weight_beside, weight_after, weight_ahead}
 use Rattle.cow_split.proofs.CostLaws.{sum-step, depth-up, depth-few}
 
 third : (n up down : ℕ) → down ≡ up + 1 → down ≤ n → 3 ^ (n - up) ≡ 3 * 3 ^ (n - down)
@@ -70,6 +71,10 @@ module _ (nodes : Nodes) (lists : ℕ) (f : IsForest nodes lists) where
     -- from a right child on up to its parent
     pub same-right : side_of above k ≡ side.Right → weight_after nodes lists h ≡ weight_after nodes lists k
     same-right is = sym (after-right k h node at parent (side-is side.Right is))
+
+  -- where a search goes on at a cursor
+  pub weight-here : (o : Option Cursor) (from : Cursor) → o ≡ Some from → weight_from nodes lists o ≡ weight_ahead nodes lists from.at.0
+  weight-here o from is = ap (weight_from nodes lists) is
 
   pub less-after : (k n : ℕ) → n ≤ weight_after nodes lists k → n < weight_ahead nodes lists k
   less-after k n h = let some = weight-some k in omega arith

@@ -4,4 +4,5 @@ pub mod Sight
 pub mod Exact
 pub mod Cutting
 pub mod Cost
+pub mod Viewers
 pub mod Searching

@@ -1,26 +1,25 @@
 -- A search below a node, and how far it has come.
-use Rattle.std.specs.Prelude.{◌≡◌, ℕ, zero, suc, ◌+◌, ◌-◌, ◌<◌, ◌==◌, ◌&&◌, ◌^◌, Bool, true, false, Option, None, Some}
+use Rattle.std.specs.Prelude.{◌≡◌, ℕ, zero, suc, ◌+◌, ◌-◌, ◌<◌, ◌==◌, ◌&&◌, ◌^◌, Bool, true, false, List, [], ◌∷◌, ◌++◌, length, Option, None, Some, MatchOption}
+use Rattle.vm_base.specs.declared.names.Koid.{Koid}
 use Rattle.cow_arena.specs.declared.node.NodeId.{NodeId}
 use Rattle.cow_arena.specs.declared.node.Node.{Node}
 use Rattle.cow_arena.specs.declared.node.Side.{Side}
 use Rattle.cow_arena.specs.declared.node.Side.TheVariants as side
 use Rattle.cow_arena.specs.Nodes.{Nodes, link_to, parent_in, side_in}
-use Rattle.cow_arena.specs.Walk.{Tree, Slots}
+use Rattle.cow_arena.specs.Walk.{Tree, Slots, tree_with}
 use Rattle.cow_arena.specs.Ways.{Arrives}
 use Rattle.cow_split.specs.Cost.{depth}
-use Rattle.cow_split.specs.Search.{reached_over}
+use Rattle.cow_split.specs.Search.{viewers_over}
+use Rattle.cow_split.specs.Viewers.{IsLeastKoid}
 use Rattle.cow_split.specs.declared.answers.Holder.{Holder}
 use Rattle.cow_split.specs.declared.answers.Holder.TheVariants as holder
-use Rattle.cow_split.specs.declared.search.Met.{Met}
-use Rattle.cow_split.specs.declared.search.Met.TheVariants as met
+use Rattle.cow_split.specs.declared.viewers.Cursor.{Cursor}
+use Rattle.cow_split.specs.declared.viewers.Met.{Met}
+use Rattle.cow_split.specs.declared.viewers.Met.TheVariants as met
 
--- page q of its parent is a page of a visible node at or below this child, other than the one that is excepted
-abbrev pub reached_at : Tree → (except child : Option NodeId) → (q : ℕ) → Bool
-reached_at t except child q = reached_over t.nodes t.slots except t.lists child q
-
--- the tree of these nodes with these rows
-abbrev pub tree_with : Nodes → (lists : ℕ) → Slots → Tree
-tree_with nodes lists slots = record { nodes = nodes; slots = slots; lists = lists }
+-- the visible nodes at or below this child of which page q of its parent is a page, other than the one that is excepted
+abbrev pub viewers_at : Tree → (except child : Option NodeId) → (q : ℕ) → List ℕ
+viewers_at t except child q = viewers_over t.nodes t.slots except t.lists child q
 
 -- page p of the hidden node k is a page of its parent, and the node has no row there: a search goes on below it
 pub record IsThrough (t : Tree) (k p : ℕ) (node : Node) : Type 0 where
@@ -37,32 +36,74 @@ pub record IsOnward (t : Tree) (k q l p : ℕ) : Type 0 where
   pub left : node.left ≡ link_to l
 
 -- A search from left to right, which began at node `start` with page `whole` of its parent, may come to node k with page q
--- of its parent: nobody is found below the left child of each node at which the way down to k goes to the right.
-pub data OnWay (t : Tree) (except : Option NodeId) (start whole : ℕ) : ℕ → ℕ → Type 0 where
-  at_start : (k q : ℕ) (node : Node) → t.nodes k ≡ Some node → k ≡ start → q ≡ whole → OnWay t except start whole k q
-  to_left : (l p k : ℕ) (node : Node) → OnWay t except start whole k (p + node.first) → IsThrough t k p node →
-      node.left ≡ link_to l → OnWay t except start whole l p
-  to_right : (r p k : ℕ) (node : Node) → OnWay t except start whole k (p + node.first) → IsThrough t k p node →
-      node.right ≡ link_to r → reached_at t except node.left p ≡ false → OnWay t except start whole r p
+-- of its parent. After all that is at and below k it finds these: those below the right child of each node at which the
+-- way down to k goes to the left.
+pub data OnWay (t : Tree) (except : Option NodeId) (start whole : ℕ) : ℕ → ℕ → List ℕ → Type 0 where
+  at_start : (k q : ℕ) (after : List ℕ) (node : Node) → t.nodes k ≡ Some node → k ≡ start → q ≡ whole → after ≡ [] →
+      OnWay t except start whole k q after
+  to_left : (l p : ℕ) (after : List ℕ) (k : ℕ) (node : Node) (rest : List ℕ) → OnWay t except start whole k (p + node.first) rest →
+      IsThrough t k p node → node.left ≡ link_to l → after ≡ viewers_at t except node.right p ++ rest → OnWay t except start whole l p after
+  to_right : (r p : ℕ) (after : List ℕ) (k : ℕ) (node : Node) → OnWay t except start whole k (p + node.first) after → IsThrough t k p node →
+      node.right ≡ link_to r → OnWay t except start whole r p after
 
--- a search has come to node k, and nobody is found there or below it
-pub record IsPassed (t : Tree) (except : Option NodeId) (start whole k q : ℕ) : Type 0 where
-  pub way : OnWay t except start whole k q
-  pub nobody : reached_at t except (link_to k) q ≡ false
+-- a search has come to node k, and finds these after all that is there and below it
+pub record IsPassed (t : Tree) (except : Option NodeId) (start k q : ℕ) (after : List ℕ) : Type 0 where
+  pub whole : ℕ
+  pub fits : whole < 2 ^ 64
+  pub way : OnWay t except start whole k q after
 
 -- some search has
 pub record IsPassedBySome (nodes : Nodes) (lists start k q : ℕ) : Type 0 where
   pub slots : Slots
   pub except : Option NodeId
-  pub whole : ℕ
-  pub fits : whole < 2 ^ 64
-  pub passed : IsPassed (tree_with nodes lists slots) except start whole k q
+  pub after : List ℕ
+  pub passed : IsPassed (tree_with nodes lists slots) except start k q after
+
+-- a search goes on at node k, with page q of its parent, and finds these there, below it and after it
+pub record GoesOn (t : Tree) (except : Option NodeId) (start k q : ℕ) (ahead : List ℕ) : Type 0 where
+  pub after : List ℕ
+  pub passed : IsPassed t except start k q after
+  pub ahead_is : ahead ≡ viewers_at t except (link_to k) q ++ after
+
+-- a search finds these from there on. Where it goes on nowhere, it finds nobody
+abbrev pub Finds : Tree → (except : Option NodeId) → Option Cursor → (ahead : List ℕ) → Type 0
+Finds t except None ahead = ahead ≡ []
+Finds t except (Some from) ahead = GoesOn t except from.start.0 from.at.0 from.page ahead
+
+-- a search goes on from there
+pub record IsSearch (t : Tree) (except : Option NodeId) (from : Option Cursor) : Type 0 where
+  pub ahead : List ℕ
+  pub finds : Finds t except from ahead
+
+-- of these it finds node v first, and the others from here on
+pub record FindsFirst (t : Tree) (except : Option NodeId) (v : ℕ) (from : Option Cursor) (ahead : List ℕ) : Type 0 where
+  pub rest : List ℕ
+  pub finds : Finds t except from rest
+  pub ahead_is : ahead ≡ v ∷ rest
+
+-- of all these a search found the first ones, and the others are ahead of it
+pub record IsAmid (t : Tree) (except : Option NodeId) (all found : List ℕ) (from : Option Cursor) : Type 0 where
+  pub ahead : List ℕ
+  pub finds : Finds t except from ahead
+  pub all_is : all ≡ found ++ ahead
+
+-- and it counted those that it found
+pub record HasCounted (t : Tree) (except : Option NodeId) (all : List ℕ) (count : ℕ) (from : Option Cursor) : Type 0 where
+  pub found : List ℕ
+  pub amid : IsAmid t except all found from
+  pub count_is : count ≡ length found
+
+-- and this is the least koid of those that it found
+pub record HasLeast (t : Tree) (except : Option NodeId) (all : List ℕ) (least : Option Koid) (from : Option Cursor) : Type 0 where
+  pub found : List ℕ
+  pub amid : IsAmid t except all found from
+  pub least_is : MatchOption least (found ≡ []) (λ koid. IsLeastKoid t.nodes found koid)
 
 -- what a search meets at node k, at page q of its parent
 abbrev pub IsMet : Tree → (except : Option NodeId) → (k q : ℕ) → Met → Type 0
-IsMet t except k q met.Viewer = reached_at t except (link_to k) q ≡ true
+IsMet t except k q met.Viewer = viewers_at t except (link_to k) q ≡ k ∷ []
 IsMet t except k q (met.Below left p) = IsOnward t k q left.0 p
-IsMet t except k q met.Nobody = reached_at t except (link_to k) q ≡ false
+IsMet t except k q met.Nobody = viewers_at t except (link_to k) q ≡ []
 
 -- what a search meets at a visible node, which may be excepted
 abbrev pub viewer_met : (excepted : Bool) → Met
@@ -95,6 +136,11 @@ weight_after nodes lists k = sum_up nodes (weight_beside nodes lists) lists (lin
 -- what weighs all that it enters from node k on
 abbrev pub weight_ahead : Nodes → (lists k : ℕ) → ℕ
 weight_ahead nodes lists k = weight nodes lists k + weight_after nodes lists k
+
+-- what weighs all that a search enters from here on
+abbrev pub weight_from : Nodes → (lists : ℕ) → Option Cursor → ℕ
+weight_from nodes lists None = 0
+weight_from nodes lists (Some from) = weight_ahead nodes lists from.at.0
 
 -- a walk from page p of node k comes to page q of node h, or begins there
 pub record ComesTo (t : Tree) (k p h q : ℕ) : Type 0 where

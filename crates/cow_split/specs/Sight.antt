@@ -46,3 +46,10 @@ pub record StaysVisible (old new : Nodes) (w : ℕ) (node : Node) : Type 0 where
   pub at : new w ≡ Some after
   pub koid : after.koid ≡ node.koid
   pub count : after.count ≡ node.count
+
+-- node j was there, with the koid and the list that it has now
+pub record CameFrom (old : Nodes) (j : ℕ) (now : Node) : Type 0 where
+  pub node : Node
+  pub at : old j ≡ Some node
+  pub koid : now.koid ≡ node.koid
+  pub list : now.list ≡ node.list

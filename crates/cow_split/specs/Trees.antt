@@ -8,7 +8,7 @@ use Rattle.page_list.specs.Lists.{slots_of}
 use Rattle.cow_arena.specs.declared.node.Node.{Node}
 use Rattle.cow_arena.specs.declared.node.Side.{Side}
 use Rattle.cow_arena.specs.Nodes.{Arena, nodes_of}
-use Rattle.cow_arena.specs.Walk.{Tree, Found}
+use Rattle.cow_arena.specs.Walk.{Tree, Found, frame_in}
 use Rattle.cow_split.specs.declared.answers.Holder.{Holder}
 use Rattle.cow_split.specs.declared.answers.Holder.TheVariants as holder
 
@@ -32,3 +32,9 @@ holder_of (Some it) = held_at it it.side
     held_at : Found → Option Side → Holder
     held_at it None = holder.Own it.slot
     held_at it (Some side) = holder.Above (record { 0 = it.node }) it.page side it.slot
+
+-- the frame of the row that holds a page
+abbrev pub frame_held : Holder → Option ℕ
+frame_held (holder.Own row) = frame_in row
+frame_held (holder.Above node page side row) = frame_in row
+frame_held holder.Nothing = None

@@ -1,5 +1,8 @@
 //! What is answered about a page of a node.
 
+ghost use Rattle.std.specs.Prelude.{◌≡◌, None, Some, IfSome, IfNone};
+ghost use Rattle.cow_split.specs.Trees.{frame_held};
+
 use cow_arena::{NodeId, Side};
 use page_list::Slot;
 use vm_base::{PageNo, Tag};
@@ -18,6 +21,23 @@ pub enum Holder {
     },
     /// There is none: the page is zero.
     Nothing,
+}
+
+impl Holder {
+    /// The frame of the page. `None` exactly where the page is zero.
+    pub fn frame(self) -> Option<Tag>
+        ensures some { IfSome result (λ tag. frame_held self ≡ Some tag.0) }
+        ensures none { IfNone result (frame_held self ≡ None) }
+    {
+        match self {
+            Holder::Own(Slot::Frame { tag, .. })
+            | Holder::Above {
+                slot: Slot::Frame { tag, .. },
+                ..
+            } => Some(tag),
+            _ => None,
+        }
+    }
 }
 
 /// Who sees the frame of a page after it was cut off from the row that it saw.

@@ -10,11 +10,13 @@ mod answers;
 mod climbing;
 mod cutting;
 mod search;
+mod viewers;
 
 pub use answers::{Cut, Holder};
 pub use climbing::{holder, holder_counted};
 pub use cutting::{cut, cut_holder, is_last};
 pub use search::{reached_from, sees, side_seen};
+pub use viewers::{least_koid, lesser, viewer_count};
 
 #[cfg(test)]
 mod tests;

@@ -1,6 +1,6 @@
 -- The pool of page frames as plain lists, and what it is to its callers: a number of frames, and a map from the tags of
 -- those that are taken to their bytes.
-use Rattle.std.specs.Prelude.{◌≡◌, ℕ, ◌+◌, ◌<◌, ◌≤◌, Bool, true, false, ◌||◌, ◌==◌, List, [], ◌∷◌, length, slice_get, slice_index_or, if◌then◌else◌, Option, None, unwrap_or}
+use Rattle.std.specs.Prelude.{◌≡◌, ℕ, ◌+◌, ◌<◌, ◌≤◌, Bool, true, false, ◌||◌, ◌==◌, List, [], ◌∷◌, length, slice_get, slice_index_or, if◌then◌else◌, Option, None, is_some, unwrap_or}
 use Rattle.vm_base.specs.declared.limits.TheConstants.{FRAMES}
 use Rattle.vm_base.specs.declared.names.Tag.{Tag}
 use Rattle.vm_base.specs.Entries.{with_key, entry_count}
@@ -22,6 +22,10 @@ is_idle (tag ∷ tags) t = (tag.0 == t) || is_idle tags t
 -- the frames that are taken, with their bytes. None where a frame is free, or no frame of the machine
 unfoldable pub taken_frames : Pool → ℕ → Option (List ℕ)
 taken_frames p t = if is_idle p.idle t then None else slice_get p.buffer t
+
+-- the frame of this tag is taken
+abbrev pub is_taken : Pool → ℕ → Bool
+is_taken p t = is_some (taken_frames p t)
 
 -- the bytes of a frame that is taken
 abbrev pub frame_bytes : Pool → ℕ → List ℕ

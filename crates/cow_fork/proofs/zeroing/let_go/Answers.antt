@@ -1,7 +1,7 @@
 use Rattle.std.proofs.Common.{IsSome, sym, ap, subst, ◌∙◌, arith}
 use Rattle.std.specs.Prelude.{is_some}
 use Rattle.cow_split.specs.declared.answers.Holder.{Holder}
-use Rattle.cow_fork.specs.Frames.{frame_held}
+use Rattle.cow_split.specs.Trees.{frame_held}
 use Rattle.cow_fork.proofs.LeafLaws.{leaf-is}
 use Rattle.cow_fork.proofs.HolderLaws.{own-row, bare-row}
 use Rattle.cow_fork.proofs.ZeroLaws.{let_go-own, let_go-cut}

@@ -18,4 +18,5 @@ pub returns : goal.returns
 returns c =
     let gone = c.let_go-answer.ensures _ c.requires.exact in
     zeroed _ _ c.holder-found.result c.holder-found.ensures (sym c.has_frame.ensures ∙ c.if-not-has_frame.false) gone
-    (c.hide_above.ensures _ gone.exact) c.give_left.ensures.given c.give_left.ensures.kept c.give_left.ensures.frames
+    (c.hide_above.ensures _ gone.exact) c.give_left.ensures.given c.give_left.ensures.kept c.give_left.ensures.links
+    c.give_left.ensures.frames

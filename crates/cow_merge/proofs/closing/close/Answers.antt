@@ -17,7 +17,12 @@ pub returns-in_default : goal.returns-in_default
 returns-in_default c =
     let visible = visible-of c.args.arena.now c.args.leaf.0 c.node.result c.requires.leaf c.node.ensures in
     closed-root c.args.arena.now c.remove_root.new.self c.args.lists.now c.leave_out.new.lists c.args.frames.now c.leave_out.new.frames c.args.leaf.0
-    c.node.result visible (c.leave_out.ensures c.node.result c.node.ensures) c.remove_root.ensures.nodes c.remove_root.ensures.lists
+    c.node.result visible (elim c.in_default.branch [
+      | in_default-via-in-Some+in_default w ↦
+          root-of c.node.result c.sibling.result (c.sibling.ensures.root c.node.result c.node.ensures) w.in_default.is-1
+      | in_default-via-in_default w ↦ w.in_default.is-0
+    ])
+    (c.leave_out.ensures c.node.result c.node.ensures) c.remove_root.ensures.nodes c.remove_root.ensures.lists
     c.remove_root.ensures.visible c.remove_root.ensures.forest
 
 pub lift_rows-requires-clause-family : goal.lift_rows-requires-clause-family

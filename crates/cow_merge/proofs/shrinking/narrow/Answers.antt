@@ -10,4 +10,4 @@ returns-then-is_none c =
 pub set_window-requires-clause-parent : goal.set_window-requires-clause-parent
 set_window-requires-clause-parent c =
     narrowed-inside c.args.arena.now c.args.leaf.0 c.node-node.result c.args.count c.requires.forest c.node-node.ensures c.is_none.result c.is_none.ensures
-    c.if-is_none.false c.first_of.result c.min-seen.result c.first_of.ensures c.min-seen.ensures
+    c.if-is_none.false c.window_first.result c.min-seen.result c.window_first.ensures c.min-seen.ensures

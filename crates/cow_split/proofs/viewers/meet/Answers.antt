@@ -3,7 +3,7 @@ use Rattle.cow_split.specs.Trees.{tree_of}
 use Rattle.cow_split.specs.Searching.{IsMet}
 use Rattle.vm_base.proofs.EntryLaws.{none_is}
 use Rattle.cow_split.proofs.WayLaws.{met-before, met-past, met-row, met-viewer, met-below}
-use Rattle.cow_split.proofs.search.meet.Goals as goal
+use Rattle.cow_split.proofs.viewers.meet.Goals as goal
 
 pub returns-in_default : goal.returns-in_default
 returns-in_default c = met-before _ c.requires.forest _ _ _ _ c.node-node.ensures (omega (arith, c.in_default.ensures))

@@ -1,0 +1,14 @@
+use Rattle.std.proofs.Common.{ℕ, ◌≤◌, List}
+use Rattle.cow_arena.specs.Nodes.{nodes_of}
+use Rattle.cow_split.specs.Trees.{tree_of}
+use Rattle.cow_split.specs.Searching.{Finds, weight_from}
+use Rattle.cow_split.proofs.viewers.next_viewer.Given as goal
+
+abbrev pub invariant-loop-next : goal.invariant-loop-next
+invariant-loop-next l = record {
+  finds : (ahead : List ℕ) → Finds (tree_of l.arena l.lists) l.except l.fn.from ahead → Finds (tree_of l.arena l.lists) l.except l.next ahead;
+  less : weight_from (nodes_of l.arena) l.arena.lists l.next ≤ weight_from (nodes_of l.arena) l.arena.lists l.fn.from;
+}
+
+abbrev pub decreases-loop-next : goal.decreases-loop-next
+decreases-loop-next l = weight_from (nodes_of l.arena) l.arena.lists l.next

@@ -1,0 +1,220 @@
+//! The search downwards, for the visible nodes from which a page of a node is reached, one after another from left to
+//! right.
+
+ghost use Rattle.std.specs.Prelude.{◌≡◌, ℕ, ◌<◌, List, [], length, Option, None, IsSome, IfSome, MatchOption};
+ghost use Rattle.cow_arena.specs.Nodes.{nodes_of, leads_to};
+ghost use Rattle.cow_arena.specs.declared.node.NodeId.{NodeId};
+ghost use Rattle.cow_arena.specs.Walk.{Slots, tree_with};
+ghost use Rattle.cow_arena.specs.Forest.{IsForest};
+ghost use Rattle.cow_split.specs.Trees.{tree_of};
+ghost use Rattle.cow_split.specs.Search.{viewers_from};
+ghost use Rattle.cow_split.specs.Searching.{viewer_met, IsPassed, IsPassedBySome, Finds, FindsFirst, IsSearch, IsMet, weight_ahead, weight_from};
+ghost use Rattle.cow_split.specs.Viewers.{IsLeastKoid, lesser_of};
+
+use cow_arena::{CowArena, NodeId, Side};
+use page_list::PageLists;
+use vm_base::{Koid, PageNo};
+
+/// How many visible nodes there are on this side of a node from which its page is reached: that see its row there, where
+/// it has one.
+pub fn viewer_count(
+    arena: &CowArena,
+    lists: &PageLists,
+    side: Side,
+    node: NodeId,
+    page: PageNo,
+) -> u64
+    requires forest { IsForest (nodes_of arena.now) arena.now.lists }
+    requires node { IsSome (nodes_of arena.now node.0) }
+    ensures { result ≡ length (viewers_from (tree_of arena.now lists.now) None side node.0 page) }
+{
+    let _room = arena.capacity();
+    let mut count = 0;
+    let mut from = search_below(arena, side, node, page);
+    while let Some((_, after)) = next_viewer(arena, lists, None, from) {
+        count += 1;
+        from = after;
+    }
+    count
+}
+
+/// The least koid of these nodes. `None` exactly where there are none.
+pub fn least_koid(
+    arena: &CowArena,
+    lists: &PageLists,
+    side: Side,
+    node: NodeId,
+    page: PageNo,
+) -> Option<Koid>
+    requires forest { IsForest (nodes_of arena.now) arena.now.lists }
+    requires node { IsSome (nodes_of arena.now node.0) }
+    ensures { MatchOption result (viewers_from (tree_of arena.now lists.now) None side node.0 page ≡ [])
+        (λ koid. IsLeastKoid (nodes_of arena.now) (viewers_from (tree_of arena.now lists.now) None side node.0 page) koid) }
+{
+    let mut least = None;
+    let mut from = search_below(arena, side, node, page);
+    while let Some((viewer, after)) = next_viewer(arena, lists, None, from) {
+        least = lesser(least, arena.node(viewer).koid);
+        from = after;
+    }
+    least
+}
+
+/// The lesser of two koids, where there are two.
+pub fn lesser(one: Option<Koid>, other: Option<Koid>) -> Option<Koid>
+    ensures { result ≡ lesser_of one other }
+{
+    let Some(least) = one else {
+        return other;
+    };
+    match other {
+        Some(koid) if koid.0 < least.0 => Some(koid),
+        _ => Some(least),
+    }
+}
+
+/// Where a search goes on: at this node, with this page of the node's parent. It began at `start`.
+#[derive(Clone, Copy)]
+pub(crate) struct Cursor {
+    start: NodeId,
+    at: NodeId,
+    page: PageNo,
+}
+
+/// Where a search begins for the visible nodes on a side of a node from which its page is reached.
+pub(crate) fn search_below(
+    arena: &CowArena,
+    side: Side,
+    node: NodeId,
+    page: PageNo,
+) -> Option<Cursor>
+    requires forest { IsForest (nodes_of arena.now) arena.now.lists }
+    requires node { IsSome (nodes_of arena.now node.0) }
+    ensures { (slots : Slots) (except : Option NodeId) → Finds (tree_with (nodes_of arena.now) arena.now.lists slots) except result
+        (viewers_from (tree_with (nodes_of arena.now) arena.now.lists slots) except side node.0 page) }
+{
+    let Some(start) = arena.node(node).child_on(side) else {
+        return None;
+    };
+    Some(Cursor {
+        start,
+        at: start,
+        page,
+    })
+}
+
+/// The first node that a search finds from here on, other than the one that is excepted, and where the search goes on
+/// after it. `None` where it finds none.
+pub(crate) fn next_viewer(
+    arena: &CowArena,
+    lists: &PageLists,
+    except: Option<NodeId>,
+    from: Option<Cursor>,
+) -> Option<(NodeId, Option<Cursor>)>
+    requires forest { IsForest (nodes_of arena.now) arena.now.lists }
+    requires from { IsSearch (tree_of arena.now lists.now) except from }
+    ensures next { (ahead : List ℕ) → Finds (tree_of arena.now lists.now) except from ahead →
+        MatchOption result (ahead ≡ []) (λ next. FindsFirst (tree_of arena.now lists.now) except next.0.0 next.1 ahead) }
+    ensures less { IfSome result (λ next. weight_from (nodes_of arena.now) arena.now.lists next.1
+        < weight_from (nodes_of arena.now) arena.now.lists from) }
+{
+    let mut next = from;
+    while let Some(here) = next {
+        match meet(arena, lists, except, here.at, here.page) {
+            Met::Viewer => return Some((here.at, next_after(arena, here))),
+            Met::Below(left, page) => {
+                next = Some(Cursor {
+                    at: left,
+                    page,
+                    ..here
+                });
+            }
+            Met::Nobody => next = next_after(arena, here),
+        }
+    }
+    None
+}
+
+/// What a search meets at a node.
+#[derive(Clone, Copy)]
+pub(crate) enum Met {
+    /// The node is visible, and counts.
+    Viewer,
+    /// The node is hidden. The search goes on with its left child, at this page of the node.
+    Below(NodeId, PageNo),
+    /// The page lies outside the node's window, the node has a row there, or it is excepted.
+    Nobody,
+}
+
+/// What a search meets at a node, at a page of its parent.
+fn meet(
+    arena: &CowArena,
+    lists: &PageLists,
+    except: Option<NodeId>,
+    at: NodeId,
+    page: PageNo,
+) -> Met
+    requires forest { IsForest (nodes_of arena.now) arena.now.lists }
+    requires node { IsSome (nodes_of arena.now at.0) }
+    ensures { IsMet (tree_of arena.now lists.now) except at.0 page result }
+{
+    let node = arena.node(at);
+    let Some(here) = page.checked_sub(node.first) else {
+        return Met::Nobody;
+    };
+    if node.seen <= here {
+        return Met::Nobody;
+    }
+    if lists.find(node.list, here).is_some() {
+        return Met::Nobody;
+    }
+    let Some(left) = node.left else {
+        return viewer(except, at);
+    };
+    Met::Below(left, here)
+}
+
+/// What a search meets at a visible node.
+#[tactic(auto, unfolding(vm_base::specs::Entries::passes))]
+fn viewer(except: Option<NodeId>, at: NodeId) -> Met
+    ensures { result ≡ viewer_met (leads_to except at.0) }
+{
+    match except {
+        Some(excepted) if excepted.0 == at.0 => Met::Nobody,
+        _ => Met::Viewer,
+    }
+}
+
+/// Where a search goes on that is done with a node and all below it: the next node to the right, and the page of that
+/// node's parent. `None` where all is entered that is at and below the node at which the search began.
+fn next_after(arena: &CowArena, passed: Cursor) -> Option<Cursor>
+    requires forest { IsForest (nodes_of arena.now) arena.now.lists }
+    requires passed { IsPassedBySome (nodes_of arena.now) arena.now.lists passed.start.0 passed.at.0 passed.page }
+    ensures next { (slots : Slots) (except : Option NodeId) (after : List ℕ) →
+        IsPassed (tree_with (nodes_of arena.now) arena.now.lists slots) except passed.start.0 passed.at.0 passed.page after →
+        Finds (tree_with (nodes_of arena.now) arena.now.lists slots) except result after }
+    ensures less { weight_from (nodes_of arena.now) arena.now.lists result
+        < weight_ahead (nodes_of arena.now) arena.now.lists passed.at.0 }
+{
+    let mut at = passed.at;
+    let mut here = passed.page;
+    while at.0 != passed.start.0 {
+        let Some(parent) = arena.node(at).parent else {
+            unreachable!()
+        };
+        let above = arena.node(parent);
+        if let Side::Left = above.side_of(at) {
+            let Some(right) = above.right else {
+                unreachable!()
+            };
+            return Some(Cursor {
+                at: right,
+                page: here,
+                ..passed
+            });
+        }
+        here += above.first;
+        at = parent;
+    }
+    None
+}
