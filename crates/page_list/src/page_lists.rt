@@ -4,8 +4,9 @@ ghost use Rattle.std.specs.Prelude.{◌≡◌, ◌≢◌, ◌⊎◌, ◌+◌, �
 ghost use Rattle.std.specs.Option.{option_map};
 ghost use Rattle.vm_base.specs.declared.names.Tag.{Tag};
 ghost use Rattle.page_list.specs.declared.row.Slot.{Slot};
+ghost use Rattle.balanced_tree.specs.Rows.{IsRising};
 ghost use Rattle.balanced_tree.specs.Pairs.{with_pair, IsNext};
-ghost use Rattle.page_list.specs.Order.{slot_of};
+ghost use Rattle.page_list.specs.Order.{row_functions, slot_of};
 ghost use Rattle.page_list.specs.Lists.{slots_of, row_count, page_in};
 
 use crate::row::{ListId, Row, Slot};
@@ -59,9 +60,10 @@ impl PageLists {
         }
     }
 
-    /// How many rows there are.
+    /// How many rows there are. They rise by list and page.
     pub fn rows(&self) -> u64
-        ensures { result ≡ row_count self.now }
+        ensures count { result ≡ row_count self.now }
+        ensures rising { IsRising row_functions self.now.rows }
     {
         self.tree.len() as u64
     }

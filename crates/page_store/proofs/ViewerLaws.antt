@@ -157,9 +157,13 @@ vmos_of-created c n =
     let old = count_below_same c.next test (λ v. is_some (c.count v)) (λ v h. ap is_some (with_key-other c.count c.next n v (λ e. absurd (omega arith)))) in
     omega (arith, count_below-suc c.next test, new, old)
 
-pub vmos_of-without : (c : Content) (v : ℕ) → IsGood c → IsSome (c.count v) → vmos_of (without c v) + 1 ≡ vmos_of c
+-- a VMO whose koid is below the next leaves
+pub vmos_of-less : (c : Content) (v : ℕ) → v < c.next → IsSome (c.count v) → vmos_of (without c v) + 1 ≡ vmos_of c
 unfolding vmos_of only
-vmos_of-without c v good some =
+vmos_of-less c v below some =
     let test : ℕ → Bool = λ w. is_some ((without c v).count w) in
-    let change = count_below_change c.next v (λ w. is_some (c.count w)) test (koid_some c v good some) (λ w h apart. ap is_some (count-without_other c v w apart)) in
+    let change = count_below_change c.next v (λ w. is_some (c.count w)) test below (λ w h apart. ap is_some (count-without_other c v w apart)) in
     omega (arith, change, bit-true (is_some (c.count v)) some, bit-false (test v) (ap is_some (count-without_here c v)))
+
+pub vmos_of-without : (c : Content) (v : ℕ) → IsGood c → IsSome (c.count v) → vmos_of (without c v) + 1 ≡ vmos_of c
+vmos_of-without c v good some = vmos_of-less c v (koid_some c v good some) some

@@ -1,0 +1,99 @@
+-- Looking at pages, and reading and writing the bytes of a frame.
+use Rattle.std.proofs.Common.{◌≡◌, ◌≢◌, ℕ, List, [], Option, Some, IsSome, refl, sym, ap, subst, ◌∙◌, arith}
+use Rattle.std.specs.Prelude.{unwrap_or}
+use Rattle.std.specs.Cmp.{both_ways}
+use Rattle.std.proofs.lemmas.Bool.Decides.{nat_tests}
+use Rattle.vm_base.specs.Entries.{with_key}
+use Rattle.vm_base.specs.Pages.{replaced}
+use Rattle.vm_base.proofs.EntryLaws.{with_key-same, with_key-other}
+use Rattle.vm_model.specs.Contents.Content.{Page, is_sole_page, sole, hold}
+use Rattle.frame_pool.specs.declared.frame_pool.Backlink.{Backlink}
+use Rattle.frame_pool.specs.Pool.{Pool, taken_frames, is_taken, frame_bytes, links_of}
+use Rattle.cow_arena.specs.Walk.{frame_at}
+use Rattle.cow_split.specs.Exact.{IsExact, all_in_sight}
+use Rattle.cow_split.specs.Sight.{IsPage}
+use Rattle.cow_split.proofs.RowLaws.{frame-in_use, exact-in_use_alike}
+use Rattle.cow_merge.specs.Ranges.{AreLinked}
+use Rattle.page_store.specs.Pages.{look_at, ShowsTag, IsShown, IsShownOnce, Overwrites}
+use Rattle.page_store.specs.declared.page_store.Look.{Look}
+use Rattle.page_store.specs.declared.page_store.Look.TheVariants as look
+use Rattle.page_store.proofs.FlatOwning.{is_some-with_key}
+use Rattle.cow_forest.specs.Looking.{IsLook}
+use Rattle.cow_forest.specs.Store.{Forest, tree, content_of, page_with, page_showing, HasNode, IsStore}
+use Rattle.cow_forest.proofs.ContentLaws.{HasPage, ShownBy, page-of, page-shown, shown-page, vmo-shows, sole-last, one-node}
+use Rattle.cow_forest.proofs.StoreLaws.{IsChangedAt, store-kept, content-held}
+
+module _ (f : Forest) (s : IsStore f) where
+  -- what a look at the VMO's node answers
+  pub look-of : (v k p : ℕ) (answer : Look) → HasPage f v k p → IsLook (tree f) k p answer → answer ≡ look_at (content_of f) v ((content_of f).page v p)
+  look-of v k p look.Zero h zero = ap (look_at (content_of f) v) (sym (page-of f s v k p h.node ∙ ap (page_showing f.pool) zero))
+  look-of v k p (look.Held tag alone) h held =
+      let shown : ShownBy f v k p tag.0 = record { page = h; frame = held.0 } in
+      let page_is : (content_of f).page v p ≡ Some (page_with f.pool tag.0) = page-of f s v k p h.node ∙ ap (page_showing f.pool) held.0 in
+      let last = sole-last f s v k p tag.0 shown in
+      let same : alone ≡ sole (content_of f) v p = both_ways alone (sole (content_of f) v p) (λ e. last.1 (held.1.0 e)) (λ e. held.1.1 (last.0 e)) in
+      ap (look.Held tag) (same ∙ ap (is_sole_page (content_of f) v) page_is) ∙ ap (look_at (content_of f) v) (sym page_is)
+
+  -- the frame of a page that is held is taken
+  pub held-taken : (v p t : ℕ) (held : Page) → ShowsTag (content_of f) t v p held → IsSome (taken_frames f.pool t)
+  held-taken v p t held shows =
+      let it = shown-page f s v p held shows.page in
+      subst (λ u. IsSome (taken_frames f.pool u)) shows.tag (frame-in_use (tree f) all_in_sight (is_taken f.pool) s.exact it.0 p held.tag it.1.frame)
+
+  pub shown-taken : (t : ℕ) → IsShown (content_of f) t → IsSome (taken_frames f.pool t)
+  shown-taken t shown = held-taken shown.v shown.p t shown.held shown.shows
+
+  pub once-taken : (t : ℕ) → IsShownOnce (content_of f) t → IsSome (taken_frames f.pool t)
+  once-taken t once = held-taken once.v once.p t once.held once.shows.shows
+
+-- bytes are written to a frame that one page shows
+module _ (f : Forest) (s : IsStore f) (pool : Pool) (t at : ℕ) (bytes : List ℕ) (once : IsShownOnce (content_of f) t)
+    (frames : pool.frames ≡ f.pool.frames) (links : links_of pool ≡ links_of f.pool)
+    (taken : taken_frames pool ≡ with_key (taken_frames f.pool) t (replaced (frame_bytes f.pool t) at bytes)) where
+  abbrev written : List ℕ
+  written = replaced (frame_bytes f.pool t) at bytes
+
+  as-taken : (u : ℕ) → is_taken f.pool u ≡ is_taken pool u
+  as-taken u = let here = once-taken f s t once in rw (taken, is_some-with_key (taken_frames f.pool) t written u) (grind (arith, nat_tests))
+
+  still-exact : IsExact (tree f) all_in_sight (is_taken pool)
+  still-exact = exact-in_use_alike (tree f) all_in_sight (is_taken f.pool) (is_taken pool) as-taken s.exact
+
+  still-linked : AreLinked f.rows pool
+  still-linked = record { linked = λ l q row tag at frame. ap (λ (link : ℕ → Backlink). link tag) links ∙ s.linked.linked l q row tag at frame }
+
+  pub store-written : IsStore (record f { pool = pool })
+  store-written = store-kept f f.rows pool s still-exact still-linked
+
+  -- the page that shows the frame changes alone
+  changed : (v k p : ℕ) → ShownBy f v k p t → IsChangedAt f f.rows pool k p
+  changed v k p shown = record {
+    exact = still-exact;
+    linked = still-linked;
+    frames = frames;
+    others = λ w q page away. refl;
+    bytes = λ w q u page away frame.
+        let apart : u ≢ t = λ same. away (one-page w q page (frame ∙ ap (λ x. Some x) same)) in
+        ap (λ (map : ℕ → Option (List ℕ)). unwrap_or (map u) []) taken
+        ∙ ap (λ (o : Option (List ℕ)). unwrap_or o []) (with_key-other (taken_frames f.pool) t written u apart);
+  }
+    where
+      one-page : (w q : ℕ) → IsPage (tree f) w q → frame_at (tree f) w q ≡ Some t → (w ≡ k) × (q ≡ p)
+      one-page w q page frame =
+          let other = vmo-shows f s w q t page frame in
+          let its = page-shown f s other.0 w q t other.1 in
+          let held = page-shown f s v k p t shown in
+          let there = once.shows.alone other.0 q its.0 its.1 in
+          let here = once.shows.alone v p held.0 held.1 in
+          (one-node f s v w k (subst (λ x. HasNode f x w) (there.0 ∙ sym here.0) other.1.page.node) shown.page.node, there.1 ∙ sym here.1)
+
+  pub overwrites : Overwrites (content_of f) (content_of (record f { pool = pool })) t at bytes
+  overwrites v p held shows =
+      let it = shown-page f s v p held shows.page in
+      let shown : ShownBy f v it.0 p t = subst (λ u. ShownBy f v it.0 p u) shows.tag it.1 in
+      let same : frame_bytes f.pool t ≡ held.bytes = sym (it.2 ∙ ap (frame_bytes f.pool) shows.tag) in
+      let now : frame_bytes pool t ≡ replaced held.bytes at bytes =
+      ap (λ (map : ℕ → Option (List ℕ)). unwrap_or (map t) []) taken
+      ∙ (ap (λ (o : Option (List ℕ)). unwrap_or o []) (with_key-same (taken_frames f.pool) t written) ∙ ap (λ xs. replaced xs at bytes) same) in
+      let page : page_with pool t ≡ record held { bytes = replaced held.bytes at bytes } = λ i. record { tag = sym shows.tag i; bytes = now i } in
+      content-held f f.rows pool v it.0 p s shown.page.node (changed v it.0 p shown) t shown.frame ∙ ap (hold (content_of f) v p) page

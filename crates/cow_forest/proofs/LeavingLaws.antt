@@ -1,0 +1,157 @@
+-- A VMO leaves the forest: its node is closed, and the tables no longer lead to it.
+use Rattle.std.proofs.Common.{◌≡◌, ◌≢◌, ℕ, ◌+◌, ◌-◌, ◌*◌, ◌≤◌, ◌==◌, not, cond, List, Option, None, Some, refl, sym, ap, subst, ◌∙◌, inl, inr, arith}
+use Rattle.std.specs.Prelude.{is_some}
+use Rattle.std.proofs.lemmas.Bool.{cases_eq, cases_lt, eq-eqb}
+use Rattle.balanced_tree.specs.Rows.{Rows}
+use Rattle.vm_base.specs.declared.names.Koid.{Koid}
+use Rattle.vm_base.specs.Entries.{without_key}
+use Rattle.vm_base.proofs.EntryLaws.{without_key-same, without_key-other, without_key-some}
+use Rattle.vm_base.proofs.SearchLaws.{eqb_apart}
+use Rattle.vm_model.specs.Contents.Content.{Page, vmos_of}
+use Rattle.vm_model.specs.Contents.Sharing.{only, without}
+use Rattle.vm_model.proofs.SharingLaws.{page-only_stays, count-without_here, count-without_other}
+use Rattle.frame_pool.specs.Pool.{Pool}
+use Rattle.page_list.specs.declared.row.ListId.{ListId}
+use Rattle.page_list.specs.declared.row.Row.{Row}
+use Rattle.cow_arena.specs.declared.node.Node.{Node}
+use Rattle.cow_arena.specs.declared.node.NodeId.{NodeId}
+use Rattle.cow_arena.specs.Nodes.{Arena, nodes_of}
+use Rattle.cow_arena.specs.Walk.{frame_at}
+use Rattle.cow_arena.specs.Forest.{IsChild}
+use Rattle.cow_split.specs.Sight.{IsPage}
+use Rattle.cow_merge.specs.Merging.{HasClosed}
+use Rattle.page_store.proofs.HeldLaws.{same_content}
+use Rattle.page_store.proofs.ViewerLaws.{vmos_of-same, vmos_of-less}
+use Rattle.cow_forest.specs.Tables.{node_in, owner_in, IsDisowned}
+use Rattle.cow_forest.specs.Store.{Forest, tree, content_of, count_from, pages_in, frame_from, page_showing, HasNode, IsNodeOf, IsStore}
+use Rattle.cow_forest.proofs.ContentLaws.{node-visible, node-of, one-node, one-vmo, vmo-below, page-of, count-of, frame-past}
+use Rattle.cow_forest.proofs.ResizingLaws.{showing-given}
+
+-- the forest with one VMO less, and these nodes, rows, frames and tables
+abbrev pub with_less : Forest → Arena → Rows Row → Pool → List (Koid × NodeId) → List (ListId × NodeId) → Forest
+with_less f arena rows pool nodes owners =
+    record f { arena = arena; rows = rows; pool = pool; nodes = nodes; owners = owners; vmos = f.vmos - 1 }
+
+-- a VMO that stays has its node, with as many pages
+record NodeStays (f g : Forest) (w j : ℕ) (was : HasNode f w j) : Type 0 where
+  now : HasNode g w j
+  count : now.node.count ≡ was.node.count
+
+-- the node of a VMO that is left was its node, and it is not v
+record NodeWas (f : Forest) (v w j : ℕ) (now : Node) : Type 0 where
+  was : HasNode f w j
+  count : was.node.count ≡ now.count
+  apart : w ≢ v
+
+module _ (f : Forest) (arena : Arena) (rows : Rows Row) (pool : Pool) (nodes : List (Koid × NodeId)) (owners : List (ListId × NodeId)) (v k : ℕ)
+    (s : IsStore f) (h : HasNode f v k) (c : HasClosed f.arena arena f.rows rows f.pool pool k)
+    (d : IsDisowned (nodes_of f.arena) (owner_in f.owners) (owner_in owners) k) (left : node_in nodes ≡ without_key (node_in f.nodes) v) where
+  abbrev g : Forest
+  g = with_less f arena rows pool nodes owners
+
+  entry-gone : node_in nodes v ≡ None
+  entry-gone = ap (λ m. m v) left ∙ without_key-same (node_in f.nodes) v
+
+  entry-stays : (w : ℕ) → w ≢ v → node_in nodes w ≡ node_in f.nodes w
+  entry-stays w apart = ap (λ m. m w) left ∙ without_key-other (node_in f.nodes) v w apart
+
+  node-stays : (w j : ℕ) (its : HasNode f w j) → w ≢ v → NodeStays f g w j its
+  node-stays w j its apart =
+      let away : j ≢ k = λ same. apart (one-vmo f s w v k (subst (HasNode f w) same its) h) in
+      let now = c.stays j its.node away (node-visible f s w j its) in
+      record {
+        now = record { node = now.after; is = record { at = now.at; koid = its.is.koid; has_koid = now.koid ∙ its.is.has_koid; number = its.is.number } };
+        count = now.count;
+      }
+
+  node-was : (w j : ℕ) (node : Node) → IsNodeOf (nodes_of arena) w j node → NodeWas f v w j node
+  node-was w j node is =
+      let before = c.no_more j node (record { at = is.at; koid = ap is_some is.has_koid }) in
+      let was : HasNode f w j =
+      record { node = before.after; is = record { at = before.at; koid = is.koid; has_koid = before.koid ∙ is.has_koid; number = is.number } } in
+      record {
+        was = was;
+        count = before.count;
+        apart = λ same.
+            let gone = ap (nodes_of arena) (one-node f s v j k (subst (λ u. HasNode f u j) same was) h) ∙ c.gone in
+            let there = is.at in absurd (cc);
+      }
+
+  -- ---- the counts
+
+  counts-now : (w : ℕ) → (content_of g).count w ≡ (without (content_of f) v).count w
+  counts-now w = elim (cases_eq w v) [
+    | inl same ↦
+        ap (content_of g).count same
+        ∙ (ap (count_from (nodes_of arena)) entry-gone ∙ sym (ap (without (content_of f) v).count same ∙ count-without_here (content_of f) v))
+    | inr apart ↦ stays apart (node_in f.nodes w) refl ∙ sym (count-without_other (content_of f) v w apart)
+  ]
+    where
+      stays : w ≢ v → (o : Option NodeId) → node_in f.nodes w ≡ o → (content_of g).count w ≡ (content_of f).count w
+      stays apart None is = ap (count_from (nodes_of arena)) (entry-stays w apart ∙ is) ∙ sym (ap (count_from (nodes_of f.arena)) is)
+      stays apart (Some at) is =
+          let its = s.named w at is in
+          let now = node-stays w at.0 its apart in
+          ap (count_from (nodes_of arena)) (entry-stays w apart ∙ is)
+          ∙ (ap pages_in now.now.is.at ∙ (ap (λ n. Some n) now.count ∙ sym (count-of f s w at.0 its)))
+
+  vmos-less : f.vmos - 1 ≡ vmos_of (content_of g)
+  unfolding only
+  vmos-less =
+      let same = vmos_of-same (without (content_of f) v) (content_of g) refl (λ w. ap is_some (counts-now w)) in
+      let less = vmos_of-less (content_of f) v (vmo-below f s v k h) (ap is_some (count-of f s v k h)) in
+      omega (arith, same, less, s.vmos)
+
+  pub store-left : IsStore (with_less f arena rows pool nodes owners)
+  store-left = record {
+    exact = c.exact;
+    linked = c.linked s.linked;
+    named = λ w at is.
+        let was = without_key-some (node_in f.nodes) v w at (ap (λ m. m w) (sym left) ∙ is) in (node-stays w at.0 (s.named w at was.1) was.0).now;
+    nodes = λ w j node is. let it = node-was w j node is in entry-stays w it.apart ∙ node-of f s w j it.was;
+    owners = λ j node at.
+        let came = c.came j node at in
+        let away : j ≢ k = λ same. let gone = ap (nodes_of arena) same ∙ c.gone in absurd (cc) in
+        let below : IsChild (nodes_of f.arena) j k → ⊥ = λ child. let gone = c.parent_gone j child in absurd (cc) in
+        ap (λ (list : ListId). owner_in owners list.0) came.list ∙ (d.kept j came.node came.at away below ∙ s.owners j came.node came.at);
+    counts = λ w j node is. let it = node-was w j node is in let bound = s.counts w j it.was.node it.was.is in omega (arith, bound, it.count);
+    koids = λ w j node is. let it = node-was w j node is in s.koids w j it.was.node it.was.is;
+    first_koid = s.first_koid;
+    lists = subst (λ n. n + 2 ≤ 2 * f.next) (sym c.lists) s.lists;
+    vmos = vmos-less;
+    visible = let less = c.visible in let all = s.visible in omega arith;
+  }
+
+  -- ---- the pages
+
+  pages-now : (w q : ℕ) → (content_of g).page w q ≡ (without (content_of f) v).page w q
+  unfolding only
+  pages-now w q = elim (cases_eq w v) [
+    | inl same ↦
+        ap (λ o. page_showing pool (frame_from (tree g) o q)) (ap (node_in nodes) same ∙ entry-gone)
+        ∙ sym (ap (λ b. cond {A = Option Page} (not b) ((content_of f).page w q) None) (eq-eqb w v same))
+    | inr apart ↦ stays apart (node_in f.nodes w) refl ∙ sym (page-only_stays (content_of f) (λ u. not (u == v)) w q (ap not (eqb_apart w v apart)))
+  ]
+    where
+      stays : w ≢ v → (o : Option NodeId) → node_in f.nodes w ≡ o → (content_of g).page w q ≡ (content_of f).page w q
+      stays apart None is =
+          ap (λ o. page_showing pool (frame_from (tree g) o q)) (entry-stays w apart ∙ is)
+          ∙ sym (ap (λ o. page_showing f.pool (frame_from (tree f) o q)) is)
+      stays apart (Some at) is =
+          let its = s.named w at is in
+          let now = node-stays w at.0 its apart in
+          let visible = node-visible g store-left w at.0 now.now in
+          page-of g store-left w at.0 q now.now
+          ∙ (elim (cases_lt q now.now.node.count) [
+            | inl less ↦
+                let page : IsPage (tree g) at.0 q = record { node = now.now.node; visible = visible; below = less } in
+                showing-given (tree g) f.pool pool c.exact c.pool at.0 q (frame_at (tree f) at.0 q) (c.shows at.0 q page)
+            | inr past ↦
+                ap (page_showing pool) (frame-past g store-left at.0 q now.now.node visible past)
+                ∙ sym (ap (page_showing f.pool) (frame-past f s at.0 q its.node (node-visible f s w at.0 its) (omega (arith, now.count))))
+          ]
+          ∙ sym (page-of f s w at.0 q its))
+
+  pub content-left : content_of (with_less f arena rows pool nodes owners) ≡ without (content_of f) v
+  unfolding only
+  content-left = same_content _ _ c.pool.frames refl counts-now pages-now

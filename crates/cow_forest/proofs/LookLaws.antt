@@ -1,0 +1,108 @@
+-- What a page of a visible node shows, and whether it alone shows it, told by the row that holds the page.
+use Rattle.std.proofs.Common.{◌≡◌, ◌↔◌, ℕ, ◌≤◌, Bool, true, Option, None, Some, refl, sym, ap, ◌∙◌, subst, arith}
+use Rattle.vm_base.proofs.EntryLaws.{some_same}
+use Rattle.vm_base.specs.declared.names.Tag.{Tag}
+use Rattle.balanced_tree.specs.Rows.{Rows}
+use Rattle.page_list.specs.declared.row.Row.{Row}
+use Rattle.page_list.specs.declared.row.Slot.{Slot}
+use Rattle.page_list.specs.declared.row.Slot.TheVariants as slot
+use Rattle.page_list.specs.Lists.{slots_of}
+use Rattle.cow_arena.specs.declared.node.Node.{Node}
+use Rattle.cow_arena.specs.declared.node.NodeId.{NodeId}
+use Rattle.cow_arena.specs.declared.node.Side.{Side}
+use Rattle.cow_arena.specs.Nodes.{Arena, nodes_of, IsVisible}
+use Rattle.cow_arena.specs.Walk.{Tree, walk, frame_at, frame_found}
+use Rattle.cow_arena.specs.Ways.{Arrives}
+use Rattle.cow_arena.proofs.WalkLaws.{walk-own, walk-past}
+use Rattle.cow_arena.proofs.ReachLaws.{reach-hidden, hidden-apart, walk-ends}
+use Rattle.cow_split.specs.declared.answers.Cut.{Cut}
+use Rattle.cow_split.specs.declared.answers.Cut.TheVariants as cut
+use Rattle.cow_split.specs.declared.answers.Holder.TheVariants as holder
+use Rattle.cow_split.specs.Trees.{tree_of, holder_of}
+use Rattle.cow_split.specs.Sight.{IsPage, IsLastViewer}
+use Rattle.cow_split.specs.Exact.{IsExact, all_in_sight}
+use Rattle.cow_split.specs.Cutting.{cut_answer, leaves_frame}
+use Rattle.cow_split.proofs.RowLaws.{only-none, frame-shown, frame-once}
+use Rattle.cow_split.proofs.CutLaws.{cut-last}
+use Rattle.cow_forest.specs.Looking.{look_in, IsLook}
+use Rattle.cow_fork.proofs.LeafLaws.{IsLeaf, leaf-is}
+use Rattle.cow_fork.proofs.HolderLaws.{held-shown, own-row, bare-row}
+
+-- a page past the count of a visible node shows nothing
+pub page-past : (t : Tree) → (in_use : ℕ → Bool) × IsExact t all_in_sight in_use → (v : ℕ) (node : Node) → IsVisible t.nodes v node → (p : ℕ) →
+    node.count ≤ p → frame_at t v p ≡ None
+page-past t exact v node visible p past =
+    let seen = exact.1.forest.by.seen v node visible.at in
+    ap frame_found (walk-past t exact.1.forest v p node visible.at (free (t.slots node.list.0 p) refl) (omega arith))
+  where
+    free : (row : Option Slot) → t.slots node.list.0 p ≡ row → t.slots node.list.0 p ≡ None
+    free None is = is
+    free (Some row) is = absurd (let below = exact.1.below v p node row visible is in omega arith)
+
+-- an answer that leaves a frame is of a last viewer
+leaves-last : (answer : Cut) → leaves_frame answer ≡ true → (tag : Tag) × (answer ≡ cut.LastViewer tag)
+leaves-last (cut.LastViewer tag) e = (tag, refl)
+leaves-last cut.StillSeen e = absurd (cc)
+leaves-last cut.NothingThere e = absurd (cc)
+
+module _ (arena : Arena) (rows : Rows Row) (v p : ℕ) (exact : (in_use : ℕ → Bool) × IsExact (tree_of arena rows) all_in_sight in_use)
+    (page : IsPage (tree_of arena rows) v p) where
+  leaf : IsLeaf arena rows v p page.node
+  leaf = leaf-is arena rows v p page.node exact.1.forest page page.visible.at
+
+  -- a frame in a row of the node's own list is shown by no other node
+  pub own-look : (tag : Tag) (left right : Bool) → holder.Own (slot.Frame tag left right) ≡ holder_of (walk (tree_of arena rows) v p) →
+      (frame_at (tree_of arena rows) v p ≡ Some tag.0) × IsLastViewer (tree_of arena rows) v tag.0
+  own-look tag left right held = (shown, last)
+    where
+      shown : frame_at (tree_of arena rows) v p ≡ Some tag.0
+      shown = sym (held-shown (tree_of arena rows) v p _ held)
+
+      found : walk (tree_of arena rows) v p ≡ Some (record { node = v; page = p; side = None; slot = slot.Frame tag left right })
+      found = walk-own (tree_of arena rows) exact.1.forest v p page.node _ page.visible.at (own-row leaf _ held)
+
+      -- a walk from another node comes to hidden ones alone
+      from_side : (w q : ℕ) (side : Option Side) (h r : ℕ) → h ≡ v → Arrives (tree_of arena rows) w q side h r → w ≡ v
+      from_side w q None h r same way = way.0 ∙ same
+      from_side w q (Some side) h r same way =
+          let above = reach-hidden (tree_of arena rows) exact.1.forest w q side h r way in
+          absurd (hidden-apart (tree_of arena rows) exact.1.forest h v above.0 page.node above.1 above.2 page.visible same)
+
+      last : IsLastViewer (tree_of arena rows) v tag.0
+      last w q other shows =
+          let it = frame-shown (tree_of arena rows) w q tag.0 shows in
+          let one = frame-once (tree_of arena rows) all_in_sight exact.0 exact.1 w q v p tag.0 it.it _ it.found found it.frame refl in
+          from_side w q it.it.side it.it.node it.it.page one.0 (walk-ends (tree_of arena rows) exact.1.forest w q it.it it.found).way
+
+  -- a page with a row of its own
+  pub row-look : (node : Node) (row : Slot) → nodes_of arena v ≡ Some node → slots_of rows node.list.0 p ≡ Some row → IsLook (tree_of arena rows) v p (look_in row)
+  row-look node (slot.Frame tag left right) at row =
+      let it = own-look tag left right (sym (ap holder_of (walk-own (tree_of arena rows) exact.1.forest v p node _ at row))) in
+      (it.0, (λ e. it.1, λ last. refl))
+  row-look node slot.Zero at row = ap frame_found (walk-own (tree_of arena rows) exact.1.forest v p node slot.Zero at row)
+
+  -- one in a row above is shown by no other node exactly where a cut would answer so
+  pub above-look : (h : NodeId) (q : ℕ) (side : Side) (tag : Tag) (left right : Bool) →
+      holder.Above h q side (slot.Frame tag left right) ≡ holder_of (walk (tree_of arena rows) v p) → (answer : Bool) →
+      answer ≡ leaves_frame (cut_answer (tree_of arena rows) v p) →
+      (frame_at (tree_of arena rows) v p ≡ Some tag.0) × ((answer ≡ true) ↔ IsLastViewer (tree_of arena rows) v tag.0)
+  above-look h q side tag left right held answer is = (shown, (forth, back))
+    where
+      shown : frame_at (tree_of arena rows) v p ≡ Some tag.0
+      shown = sym (held-shown (tree_of arena rows) v p _ held)
+
+      free : slots_of rows page.node.list.0 p ≡ None
+      free = bare-row leaf _ held (λ row e. cc)
+
+      ways : (other : Tag) → (cut_answer (tree_of arena rows) v p ≡ cut.LastViewer other)
+          ↔ ((frame_at (tree_of arena rows) v p ≡ Some other.0) × IsLastViewer (tree_of arena rows) v other.0)
+      ways = cut-last (tree_of arena rows) all_in_sight exact.0 exact.1 v p (only-none v) page.node page.visible free
+
+      forth : answer ≡ true → IsLastViewer (tree_of arena rows) v tag.0
+      forth e =
+          let leaves = leaves-last (cut_answer (tree_of arena rows) v p) (sym is ∙ e) in
+          let both = (ways leaves.0).0 leaves.1 in
+          subst (IsLastViewer (tree_of arena rows) v) (some_same (sym both.0 ∙ shown)) both.1
+
+      back : IsLastViewer (tree_of arena rows) v tag.0 → answer ≡ true
+      back last = is ∙ ap leaves_frame ((ways tag).1 (shown, last))

@@ -1,0 +1,34 @@
+use Rattle.std.proofs.Common.{refl}
+use Rattle.cow_forest.specs.Store.{Forest}
+use Rattle.cow_forest.proofs.EmptyLaws.{HasNothing, store-empty, content-empty}
+use Rattle.cow_forest.proofs.forest.CowForest.new.Goals as goal
+
+abbrev made : goal.After-new-5 → Forest
+made c = record {
+  arena = c.new.result;
+  rows = c.new-2.result;
+  pool = c.new-3.result;
+  nodes = c.new-4.result.entries;
+  owners = c.new-5.result.entries;
+  next = 1;
+  vmos = 0;
+}
+
+nothing-there : (c : goal.After-new-5) → HasNothing (made c)
+nothing-there c = record {
+  nodes = c.new.ensures.nodes;
+  lists = c.new.ensures.lists;
+  forest = c.new.ensures.forest;
+  visible = c.new.ensures.visible;
+  slots = c.new-2.ensures.slots;
+  free = c.new-3.ensures.taken;
+  table = c.new-4.ensures.empty;
+  next = refl;
+  vmos = refl;
+}
+
+pub invariant_of-result : goal.invariant_of-result
+invariant_of-result c = record { store = store-empty (made c) (nothing-there c) }
+
+pub returns : goal.returns
+returns c = record { content = content-empty (made c) (nothing-there c) c.new-3.ensures.frames }

@@ -1,0 +1,6 @@
+use Rattle.cow_forest.specs.Fields.{forest_of}
+use Rattle.cow_forest.proofs.EmptyLaws.{store-roomy}
+use Rattle.cow_forest.proofs.forest.CowForestPageStore.reserve.Goals as goal
+
+pub invariant_of-self : goal.invariant_of-self
+invariant_of-self c = record { store = store-roomy (forest_of c.self.inside) c.reserve.new.self c.self.invariant.store c.reserve.ensures.rows }

@@ -1,0 +1,78 @@
+use Rattle.std.proofs.Common.{ℕ, Option, refl, ap, ◌∙◌, arith}
+use Rattle.std.specs.Prelude.{is_some}
+use Rattle.vm_base.specs.Entries.{with_key}
+use Rattle.cow_arena.specs.declared.node.NodeId.{NodeId}
+use Rattle.cow_forest.specs.Fields.{forest_of}
+use Rattle.cow_forest.proofs.ContentLaws.{pages-of}
+use Rattle.cow_forest.proofs.EnterLaws.{found-node, store-alike, vmos_le}
+use Rattle.cow_forest.proofs.SnapshotLaws.{hidden-held, leaf-held, HasPair, store-shared, content-shared}
+use Rattle.cow_forest.proofs.forest.CowForestPageStore.snapshot.Goals as goal
+
+-- nothing came where there was no room
+pub invariant_of-self : goal.invariant_of-self
+invariant_of-self c = record {
+  store = store-alike (forest_of c.self.inside) _ _ _
+      (record { arena_nodes = refl; lists = refl; visible = refl; nodes_in = c.make_room.ensures.nodes; owners_in = c.make_room.ensures.owners })
+      c.self.invariant.store;
+}
+
+pub invariant_of-self-in_err-pair : goal.invariant_of-self-in_err-pair
+invariant_of-self-in_err-pair c = rw c.in_err-pair.ensures.err_rows (record {
+  store = store-alike (forest_of c.self.inside) _ _ _
+      (record {
+        arena_nodes = c.in_err-pair.ensures.err;
+        lists = c.in_err-pair.ensures.err_lists;
+        visible = c.in_err-pair.ensures.err_visible;
+        nodes_in = c.make_room.ensures.nodes;
+        owners_in = c.make_room.ensures.owners;
+      })
+      c.self.invariant.store;
+})
+
+pub share-requires-clause-leaf : goal.share-requires-clause-leaf
+share-requires-clause-leaf c =
+    let h = found-node (forest_of c.self.inside) c.self.invariant.store _ c.make_room.ensures.nodes c.args.of.0 _ c.node_of-node.ensures in
+    let range = rw (← c.self.view_is) at c.requires.range in
+    rw h.is.at (ap is_some h.is.has_koid, omega (arith, range, pages-of (forest_of c.self.inside) c.self.invariant.store c.args.of.0 _ h))
+
+pub node-requires : goal.node-requires
+node-requires c =
+    let h = found-node (forest_of c.self.inside) c.self.invariant.store _ c.make_room.ensures.nodes c.args.of.0 _ c.node_of-node.ensures in
+    hidden-held (forest_of c.self.inside) c.self.invariant.store _ _ c.args.of.0 _ c.in_ok-pair.pair _ _ _ h c.in_ok-pair.ensures.ok
+
+pub node-requires-2 : goal.node-requires-2
+node-requires-2 c =
+    let h = found-node (forest_of c.self.inside) c.self.invariant.store _ c.make_room.ensures.nodes c.args.of.0 _ c.node_of-node.ensures in
+    leaf-held (forest_of c.self.inside) c.self.invariant.store _ _ c.args.of.0 _ c.in_ok-pair.pair _ _ _ h c.in_ok-pair.ensures.ok
+
+pub overflow_add-self-2 : goal.overflow_add-self-2
+overflow_add-self-2 c = let few = rw (← c.self.view_is) at c.requires.next in omega (arith, few, vmos_le (forest_of c.self.inside) c.self.invariant.store)
+
+-- the two nodes came, and the entries
+came : (c : goal.After-self-2-1) → HasPair (forest_of c.self.inside) c.share.new.arena c.share.new.lists c.enter.new.nodes.entries c.enter_list-3.new.owners.entries
+    c.node_of-node.result.0 c.in_ok-pair.pair c.args.first c.args.seen c.args.count
+came c = record {
+  shared = c.in_ok-pair.ensures.ok;
+  nodes_in = c.enter.ensures ∙ ap (λ (map : ℕ → Option NodeId). with_key map c.self.inside.next c.in_ok-pair.pair.child) c.make_room.ensures.nodes;
+  hidden = c.node.result;
+  leaf = c.node-2.result;
+  child = c.node-3.result;
+  hidden_at = c.node.ensures;
+  leaf_at = c.node-2.ensures;
+  child_at = c.node-3.ensures;
+  owners_in = c.enter_list-3.ensures.owners
+      ∙ ap (λ (map : ℕ → Option NodeId). with_key map c.node-3.result.list.0 c.in_ok-pair.pair.child) (c.enter_list-2.ensures.owners
+      ∙ ap (λ (map : ℕ → Option NodeId). with_key map c.node-2.result.list.0 c.node_of-node.result) (c.enter_list.ensures.owners
+      ∙ ap (λ (map : ℕ → Option NodeId). with_key map c.node.result.list.0 c.in_ok-pair.pair.hidden) c.make_room.ensures.owners));
+  below = c.requires.count;
+}
+
+pub invariant_of-self-2 : goal.invariant_of-self-2
+invariant_of-self-2 c =
+    let h = found-node (forest_of c.self.inside) c.self.invariant.store _ c.make_room.ensures.nodes c.args.of.0 _ c.node_of-node.ensures in
+    record { store = store-shared (forest_of c.self.inside) c.self.invariant.store _ _ _ _ c.args.of.0 _ _ _ _ _ h (came c) }
+
+pub returns-clause-ok : goal.returns-clause-ok
+returns-clause-ok c =
+    let h = found-node (forest_of c.self.inside) c.self.invariant.store _ c.make_room.ensures.nodes c.args.of.0 _ c.node_of-node.ensures in
+    rw (← c.self.view_is) (content-shared (forest_of c.self.inside) c.self.invariant.store _ _ _ _ c.args.of.0 _ _ _ _ _ h (came c))

@@ -1,0 +1,13 @@
+use Rattle.std.proofs.Common.{◌-◌, ◌^◌, ◌≤◌}
+use Rattle.cow_split.specs.Trees.{tree_of}
+use Rattle.cow_forest.specs.Looking.{ShowsNoneIn}
+use Rattle.cow_forest.proofs.looking.next_shown.Given as goal
+
+abbrev pub invariant-loop-page : goal.invariant-loop-page
+invariant-loop-page l = record {
+  from : l.from ≤ l.at;
+  none : ShowsNoneIn (tree_of l.arena l.lists) l.leaf.0 l.from l.at;
+}
+
+abbrev pub decreases-loop-page : goal.decreases-loop-page
+decreases-loop-page l = 2 ^ 64 - l.at

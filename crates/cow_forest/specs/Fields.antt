@@ -1,0 +1,18 @@
+-- How the fields of the forest are seen, and what holds of them.
+use Rattle.cow_forest.specs.declared.forest.CowForest.TheInside.{Inside}
+use Rattle.cow_forest.specs.Store.{Forest, IsStore}
+
+abbrev pub forest_of : Inside → Forest
+forest_of a = record {
+  arena = a.arena;
+  rows = a.lists;
+  pool = a.frames;
+  nodes = a.nodes.entries;
+  owners = a.owners.entries;
+  next = a.next;
+  vmos = a.vmos;
+}
+
+-- the fields are a store
+pub record AreStore (a : Inside) : Type 0 where
+  pub store : IsStore (forest_of a)

@@ -1,0 +1,311 @@
+//! The clone tree as a store of pages.
+
+ghost use Rattle.std.specs.Prelude.{◌≡◌, ◌≢◌, ℕ, ◌+◌, ◌*◌, ◌<◌, ◌≤◌, ◌⊎◌, true, length, IsSome, None, Some, IfSome, IfNone, IfOk, OnOk, OnErr};
+ghost use Rattle.vm_base.specs.declared.limits.TheConstants.{VMO_PAGES, KOIDS};
+ghost use Rattle.vm_model.specs.Contents.Content.{nothing, used, sole, pages_of, created, vmos_of};
+ghost use Rattle.vm_model.specs.Contents.Owning.{Owns};
+ghost use Rattle.vm_model.specs.Contents.Sharing.{snapshotted, without};
+ghost use Rattle.vm_model.specs.Contents.Zeroing.{zeroed, resized};
+ghost use Rattle.page_list.specs.Lists.{slots_of, row_count};
+ghost use Rattle.frame_pool.specs.Pool.{is_taken};
+ghost use Rattle.cow_arena.specs.Nodes.{nodes_of};
+ghost use Rattle.cow_arena.specs.Counts.{hidden_count};
+ghost use Rattle.cow_split.specs.Exact.{IsExact, all_in_sight};
+ghost use Rattle.cow_split.specs.Cost.{IsMostOfLookUp, depth};
+ghost use Rattle.page_store.specs.Pages.{look_at};
+ghost use Rattle.cow_forest.specs.Store.{Forest, tree, content_of, HasNode};
+ghost use Rattle.cow_forest.specs.Owning.{HasOwnRow};
+ghost use Rattle.cow_forest.specs.Counting.{frame_row_count};
+
+use crate::looking::{look_at, look_at_counted, next_shown};
+use crate::owning::own_page;
+use crate::tables::{disown, enter, enter_list, leave, make_room, node_of, owner_of};
+use crate::viewing::{least_koid_of, viewer_count_of};
+use cow_arena::{CowArena, NodeId};
+use cow_fork::{mark_zero, share};
+use cow_merge::{close, shrink};
+use frame_pool::FramePool;
+use page_list::{ListId, PageLists, Steps};
+use page_store::{Look, PageStore};
+use std::alloc::Global;
+use std::collections::HashMap;
+use std::marker::Model;
+use std::sync::ledger::Ledger;
+use vm_base::{HostMemory, Koid, PageNo, Tag};
+
+/// A page store whose VMOs share their pages through the clone tree. A snapshot adds two nodes, whatever its VMO holds, and
+/// no row; a page changes its frame only for the VMO that writes it. `spare` is the room for rows.
+#[derive(Drop)]
+pub struct CowForest {
+    arena: CowArena,
+    lists: PageLists,
+    /// The page frames. A frame is taken while some row has it, and its backlink leads to the row.
+    frames: FramePool,
+    /// The node of each VMO.
+    nodes: HashMap<Koid, NodeId>,
+    /// The node that has each list.
+    owners: HashMap<ListId, NodeId>,
+    /// The koid of the next VMO. The first has koid 1, and none is given twice.
+    next: u64,
+    /// How many VMOs there are.
+    vmos: u64,
+}
+
+impl Model for CowForest {
+    ghost use Rattle.cow_forest.specs.Store.{Forest};
+
+    ghost Value = { Forest };
+
+    ghost use Rattle.cow_forest.specs.Fields.{forest_of, AreStore};
+
+    ghost view = { forest_of };
+
+    ghost invariant = { AreStore };
+}
+
+impl CowForest {
+    /// A store with no frames and no VMO.
+    pub fn new(alloc: Global) -> CowForest
+        ensures content { ⟦<CowForest as PageStore>⟧.content result ≡ nothing }
+    {
+        CowForest {
+            arena: CowArena::new(alloc),
+            lists: PageLists::new(alloc),
+            frames: FramePool::new(alloc),
+            nodes: HashMap::new(alloc),
+            owners: HashMap::new(alloc),
+            next: 1,
+            vmos: 0,
+        }
+    }
+
+    /// How many rows have a frame: as many as frames are in use, since the tree is exact over the frames that are taken.
+    pub fn frame_rows(&self) -> u64
+        ensures used { result ≡ used (content_of self.now) }
+        ensures rows { result ≡ frame_row_count self.now.rows }
+        ensures exact { IsExact (tree self.now) all_in_sight (is_taken self.now.pool) }
+    {
+        // No two rows are of one page.
+        let _rising = self.lists.rows();
+        (self.frames.frames() - self.frames.free()) as u64
+    }
+
+    /// How many rows there are, with frames and without.
+    pub fn rows(&self) -> u64
+        ensures { result ≡ row_count self.now.rows }
+    {
+        self.lists.rows()
+    }
+
+    /// How many nodes are hidden: fewer than there are VMOs, or none. No way up to a root has more nodes than there are VMOs.
+    pub fn hidden(&self) -> u64
+        ensures count { result ≡ hidden_count self.now.arena }
+        ensures fewer { (result < vmos_of (content_of self.now)) ⊎ ((result ≡ 0) × (vmos_of (content_of self.now) ≡ 0)) }
+        ensures deep { (v k : ℕ) → HasNode self.now v k →
+            depth (nodes_of self.now.arena) self.now.arena.lists k ≤ vmos_of (content_of self.now) }
+    {
+        // The number of each node is below this.
+        let _room = self.arena.capacity();
+        self.arena.hidden()
+    }
+
+    /// Does what `look` does, and counts the steps of its look-ups on the way from the VMO's node upwards: for each node up
+    /// to its root at most the greatest look-up in the table of rows.
+    pub fn look_counted<L: Ledger>(&self, v: Koid, page: PageNo, steps: &mut Steps<L>) -> Look
+        requires page { page < pages_of (content_of self.now) v.0 }
+        ensures look { result ≡ look_at (content_of self.now) v.0 ((content_of self.now).page v.0 page) }
+        ensures cost { (most k : ℕ) → IsMostOfLookUp (row_count self.now.rows) most → HasNode self.now v.0 k →
+            steps.new ≤ steps.old + depth (nodes_of self.now.arena) self.now.arena.lists k * most }
+    {
+        look_at_counted(
+            &self.arena,
+            &self.lists,
+            node_of(&self.nodes, v),
+            page,
+            steps,
+        )
+    }
+}
+
+impl PageStore for CowForest {
+    ghost content = { content_of };
+
+    ghost spare = { λ f. f.rows.spare };
+
+    fn fill(&mut self, frames: u32) -> Result<(), HostMemory> {
+        // None of no frames is taken.
+        let _none = self.frames.frames();
+        self.frames.fill(frames)
+    }
+
+    fn create(&mut self, count: PageNo) -> Result<Koid, HostMemory>
+        requires count { count ≤ VMO_PAGES }
+        requires next { (content_of self.old).next < KOIDS }
+        ensures koid { IfOk result (λ v. v.0 ≡ (content_of self.old).next) }
+        ensures ok { OnOk result (content_of self.new ≡ created (content_of self.old) count) }
+        ensures err { OnErr result (content_of self.new ≡ content_of self.old) }
+        ensures kept { OnErr result (self.old.rows.spare ≤ self.new.rows.spare) }
+        ensures rows { row_count self.new.rows ≡ row_count self.old.rows }
+        ensures hidden { hidden_count self.new.arena ≡ hidden_count self.old.arena }
+    {
+        make_room(&mut self.nodes, &mut self.owners, 1)?;
+        let koid = Koid(self.next);
+        let node = self.arena.add_root(koid, count)?;
+        enter(&mut self.nodes, koid, node);
+        enter_list(&mut self.owners, self.arena.node(node).list, node);
+        self.next += 1;
+        self.vmos += 1;
+        Ok(koid)
+    }
+
+    fn snapshot(
+        &mut self,
+        of: Koid,
+        first: PageNo,
+        seen: PageNo,
+        count: PageNo,
+    ) -> Result<Koid, HostMemory>
+        requires vmo { IsSome ((content_of self.old).count of.0) }
+        requires count { count ≤ VMO_PAGES }
+        requires seen { seen ≤ count }
+        requires range { first + seen ≤ pages_of (content_of self.old) of.0 }
+        requires next { (content_of self.old).next < KOIDS }
+        ensures koid { IfOk result (λ v. v.0 ≡ (content_of self.old).next) }
+        ensures ok { OnOk result (content_of self.new ≡ snapshotted (content_of self.old) of.0 first seen count) }
+        ensures err { OnErr result (content_of self.new ≡ content_of self.old) }
+        ensures kept { OnErr result (self.old.rows.spare ≤ self.new.rows.spare) }
+        ensures rows { row_count self.new.rows ≡ row_count self.old.rows }
+        ensures hidden { OnOk result (hidden_count self.new.arena ≡ hidden_count self.old.arena + 1) }
+        ensures err_hidden { OnErr result (hidden_count self.new.arena ≡ hidden_count self.old.arena) }
+    {
+        make_room(&mut self.nodes, &mut self.owners, 3)?;
+        let koid = Koid(self.next);
+        let node = node_of(&self.nodes, of);
+        let pair = share(
+            &mut self.arena,
+            &mut self.lists,
+            node,
+            koid,
+            first,
+            seen,
+            count,
+        )?;
+        enter(&mut self.nodes, koid, pair.child);
+        enter_list(
+            &mut self.owners,
+            self.arena.node(pair.hidden).list,
+            pair.hidden,
+        );
+        enter_list(&mut self.owners, self.arena.node(node).list, node);
+        enter_list(
+            &mut self.owners,
+            self.arena.node(pair.child).list,
+            pair.child,
+        );
+        self.next += 1;
+        self.vmos += 1;
+        Ok(koid)
+    }
+
+    fn reserve(&mut self, n: u64) -> Result<(), HostMemory> {
+        self.lists.reserve(n)
+    }
+
+    fn look(&self, v: Koid, page: PageNo) -> Look {
+        look_at(&self.arena, &self.lists, node_of(&self.nodes, v), page)
+    }
+
+    fn own(&mut self, v: Koid, page: PageNo) -> Tag
+        requires page { page < pages_of (content_of self.old) v.0 }
+        requires room { (sole (content_of self.old) v.0 page ≡ true)
+            ⊎ ((1 ≤ self.old.rows.spare) × (used (content_of self.old) < (content_of self.old).frames)) }
+        ensures owns { Owns (content_of self.old) (content_of self.new) v.0 page result.0 }
+        ensures spare { self.old.rows.spare ≤ self.new.rows.spare + 1 }
+        ensures row { (k : ℕ) → 1 ≤ self.old.rows.spare → HasNode self.new v.0 k →
+            HasOwnRow self.new.arena self.new.rows k page result.0 }
+    {
+        let node = node_of(&self.nodes, v);
+        own_page(&self.arena, &mut self.lists, &mut self.frames, node, page)
+    }
+
+    fn zero(&mut self, v: Koid, page: PageNo)
+        requires page { page < pages_of (content_of self.old) v.0 }
+        requires room { 1 ≤ self.old.rows.spare }
+        ensures zero { content_of self.new ≡ zeroed (content_of self.old) v.0 page (page + 1) }
+        ensures spare { self.old.rows.spare ≤ self.new.rows.spare + 1 }
+        ensures rows { (content_of self.old).page v.0 page ≡ None → row_count self.new.rows ≡ row_count self.old.rows }
+    {
+        let node = node_of(&self.nodes, v);
+        mark_zero(&self.arena, &mut self.lists, &mut self.frames, node, page);
+    }
+
+    fn count(&self, v: Koid) -> PageNo {
+        self.arena.node(node_of(&self.nodes, v)).count
+    }
+
+    fn set_count(&mut self, v: Koid, count: PageNo)
+        requires vmo { IsSome ((content_of self.old).count v.0) }
+        requires count { count ≤ VMO_PAGES }
+        ensures content { content_of self.new ≡ resized (content_of self.old) v.0 count }
+        ensures rows { row_count self.new.rows ≤ row_count self.old.rows }
+    {
+        let node = node_of(&self.nodes, v);
+        if count < self.arena.node(node).count {
+            shrink(
+                &mut self.arena,
+                &mut self.lists,
+                &mut self.frames,
+                node,
+                count,
+            );
+        } else {
+            self.arena.set_count(node, count);
+        }
+    }
+
+    fn drop_vmo(&mut self, v: Koid)
+        requires { IsSome ((content_of self.old).count v.0) }
+        ensures content { content_of self.new ≡ without (content_of self.old) v.0 }
+        ensures rows { row_count self.new.rows ≤ row_count self.old.rows }
+    {
+        let node = node_of(&self.nodes, v);
+        disown(&mut self.owners, &self.arena, node);
+        close(&mut self.arena, &mut self.lists, &mut self.frames, node);
+        leave(&mut self.nodes, v);
+        self.vmos -= 1;
+    }
+
+    fn read(&self, tag: Tag, at: u64, out: &mut [u8]) {
+        self.frames.read(tag, at, out);
+    }
+
+    fn write(&mut self, tag: Tag, at: u64, bytes: &[u8]) {
+        self.frames.write(tag, at, bytes);
+    }
+
+    fn next_held(&self, v: Koid, from: PageNo) -> Option<PageNo> {
+        next_shown(&self.arena, &self.lists, node_of(&self.nodes, v), from)
+    }
+
+    fn least_viewer(&self, tag: Tag) -> Koid {
+        let link = self.frames.backlink(tag);
+        let node = owner_of(&self.owners, ListId(link.list));
+        least_koid_of(&self.arena, &self.lists, node, link.page)
+    }
+
+    fn viewers(&self, v: Koid, page: PageNo) -> u64 {
+        viewer_count_of(&self.arena, &self.lists, node_of(&self.nodes, v), page)
+    }
+
+    fn frames(&self) -> u32 {
+        self.frames.frames()
+    }
+
+    fn free(&self) -> u32 {
+        self.frames.free()
+    }
+
+    fn vmos(&self) -> u64 {
+        self.vmos
+    }
+}

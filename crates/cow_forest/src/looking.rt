@@ -1,0 +1,175 @@
+//! Looking at pages: what one is, and which is the next that is held.
+
+ghost use Rattle.std.specs.Prelude.{◌≡◌, ◌+◌, ◌*◌, ◌^◌, ◌<◌, ◌≤◌, ℕ, Bool, IsSome, IsSomeAnd, IfSome, IfNone};
+ghost use Rattle.page_list.specs.Lists.{row_count, slots_of};
+ghost use Rattle.cow_arena.specs.Nodes.{nodes_of};
+ghost use Rattle.cow_arena.specs.Walk.{walk, frame_at};
+ghost use Rattle.cow_arena.specs.Forest.{IsForest};
+ghost use Rattle.cow_split.specs.Trees.{tree_of, holder_of};
+ghost use Rattle.cow_split.specs.Cost.{IsMostOfLookUp, depth};
+ghost use Rattle.cow_split.specs.Sight.{IsPage};
+ghost use Rattle.cow_split.specs.Exact.{IsExact, all_in_sight};
+ghost use Rattle.cow_forest.specs.Looking.{look_in, IsLook, ShowsNoneIn, ShowsNoneFrom, IsNextBelow, nearer_page};
+
+use cow_arena::{CowArena, NodeId};
+use cow_split::{Holder, holder, holder_counted, is_last};
+use page_list::{ListId, PageLists, Slot, Steps};
+use page_store::Look;
+use std::sync::ledger::Ledger;
+use vm_base::PageNo;
+
+/// What a page of a VMO's node is. One with a row of its own, or outside the node's window,
+/// costs one look-up in the lists.
+pub(crate) fn look_at(arena: &CowArena, lists: &PageLists, leaf: NodeId, page: PageNo) -> Look
+    requires exact { (in_use : ℕ → Bool) × IsExact (tree_of arena.now lists.now) all_in_sight in_use }
+    requires page { IsPage (tree_of arena.now lists.now) leaf.0 page }
+    ensures { IsLook (tree_of arena.now lists.now) leaf.0 page result }
+{
+    let node = arena.node(leaf);
+    if let Some(slot) = lists.find(node.list, page) {
+        return look_in(slot);
+    }
+    if node.seen <= page {
+        return Look::Zero;
+    }
+    look_upwards(arena, lists, leaf, page)
+}
+
+/// What a page is that has this row of its own.
+fn look_in(slot: Slot) -> Look
+    ensures { result ≡ look_in slot }
+{
+    match slot {
+        Slot::Frame { tag, .. } => Look::Held { tag, sole: true },
+        Slot::Zero => Look::Zero,
+    }
+}
+
+/// Does what `look_at` does, by the walk upwards.
+#[inline(never)]
+fn look_upwards(arena: &CowArena, lists: &PageLists, leaf: NodeId, page: PageNo) -> Look
+    requires exact { (in_use : ℕ → Bool) × IsExact (tree_of arena.now lists.now) all_in_sight in_use }
+    requires page { IsPage (tree_of arena.now lists.now) leaf.0 page }
+    ensures { IsLook (tree_of arena.now lists.now) leaf.0 page result }
+{
+    let found = holder(arena, lists, leaf, page);
+    look_found(arena, lists, leaf, page, found)
+}
+
+/// Does what `look_at` does, and counts the steps of the walk upwards: one look-up for each node on the way.
+pub(crate) fn look_at_counted<L: Ledger>(
+    arena: &CowArena,
+    lists: &PageLists,
+    leaf: NodeId,
+    page: PageNo,
+    steps: &mut Steps<L>,
+) -> Look
+    requires exact { (in_use : ℕ → Bool) × IsExact (tree_of arena.now lists.now) all_in_sight in_use }
+    requires page { IsPage (tree_of arena.now lists.now) leaf.0 page }
+    ensures look { IsLook (tree_of arena.now lists.now) leaf.0 page result }
+    ensures cost { (most : ℕ) → IsMostOfLookUp (row_count lists.now) most →
+        steps.new ≤ steps.old + depth (nodes_of arena.now) arena.now.lists leaf.0 * most }
+{
+    let found = holder_counted(arena, lists, leaf, page, steps);
+    look_found(arena, lists, leaf, page, found)
+}
+
+/// What a page of a VMO's node is, where this row is found for it.
+fn look_found(
+    arena: &CowArena,
+    lists: &PageLists,
+    leaf: NodeId,
+    page: PageNo,
+    found: Holder,
+) -> Look
+    requires exact { (in_use : ℕ → Bool) × IsExact (tree_of arena.now lists.now) all_in_sight in_use }
+    requires page { IsPage (tree_of arena.now lists.now) leaf.0 page }
+    requires found { found ≡ holder_of (walk (tree_of arena.now lists.now) leaf.0 page) }
+    ensures { IsLook (tree_of arena.now lists.now) leaf.0 page result }
+{
+    match found {
+        Holder::Own(Slot::Frame { tag, .. }) => Look::Held { tag, sole: true },
+        Holder::Above {
+            slot: Slot::Frame { tag, .. },
+            ..
+        } => Look::Held {
+            tag,
+            sole: is_last(arena, lists, leaf, page, found),
+        },
+        _ => Look::Zero,
+    }
+}
+
+/// The first page from `from` on of a VMO's node that shows a frame. It goes by the rows of the node and of those above it.
+pub(crate) fn next_shown(
+    arena: &CowArena,
+    lists: &PageLists,
+    leaf: NodeId,
+    from: PageNo,
+) -> Option<PageNo>
+    requires exact { (in_use : ℕ → Bool) × IsExact (tree_of arena.now lists.now) all_in_sight in_use }
+    requires leaf { IsSomeAnd (nodes_of arena.now leaf.0) (λ node. IsSome node.koid) }
+    ensures some { IfSome result (λ page. (from ≤ page) × IsSome (frame_at (tree_of arena.now lists.now) leaf.0 page)
+        × ShowsNoneIn (tree_of arena.now lists.now) leaf.0 from page) }
+    ensures none { IfNone result (ShowsNoneFrom (tree_of arena.now lists.now) leaf.0 from) }
+{
+    let mut at = from;
+    while let Some(page) = next_row(arena, lists, leaf, at) {
+        if holder(arena, lists, leaf, page).frame().is_some() {
+            return Some(page);
+        }
+        at = page + 1;
+    }
+    None
+}
+
+/// The first page from `from` on of a VMO's node that comes to a row, of the node or of one above it. No page before it
+/// shows a frame. It costs one look-up for each node on the way upwards.
+fn next_row(arena: &CowArena, lists: &PageLists, leaf: NodeId, from: PageNo) -> Option<PageNo>
+    requires exact { (in_use : ℕ → Bool) × IsExact (tree_of arena.now lists.now) all_in_sight in_use }
+    requires leaf { IsSomeAnd (nodes_of arena.now leaf.0) (λ node. IsSome node.koid) }
+    ensures some { IfSome result (λ page. (from ≤ page) × IsPage (tree_of arena.now lists.now) leaf.0 page
+        × ShowsNoneIn (tree_of arena.now lists.now) leaf.0 from page) }
+    ensures none { IfNone result (ShowsNoneFrom (tree_of arena.now lists.now) leaf.0 from) }
+    ensures fits { IfSome result (λ page. page + 1 < 2 ^ 64) }
+{
+    let mut at = arena.node(leaf);
+    let mut here = from;
+    let mut to = at.count;
+    let mut best = None;
+    loop {
+        let row = next_below(lists, at.list, here, to);
+        best = nearer(best, row, here - from);
+        let end = row.unwrap_or(to).min(at.seen);
+        if end <= here {
+            return best;
+        }
+        let Some(parent) = at.parent else {
+            return best;
+        };
+        let above = arena.node(parent);
+        prove!(above.count <= u64::MAX);
+        here += at.first;
+        to = end + at.first;
+        at = above;
+    }
+}
+
+/// The least page of a list from `from` to below `to` that has a row.
+fn next_below(lists: &PageLists, list: ListId, from: PageNo, to: PageNo) -> Option<PageNo>
+    ensures { IsNextBelow (slots_of lists.now list.0) from to result }
+{
+    let row = lists.next(list, from)?;
+    if row < to { Some(row) } else { None }
+}
+
+/// The page that comes to this row, `shift` pages further on, or else the best page so far.
+fn nearer(best: Option<PageNo>, row: Option<PageNo>, shift: PageNo) -> Option<PageNo>
+    requires { IfSome row (λ page. shift ≤ page) }
+    ensures { result ≡ nearer_page best row shift }
+{
+    match row {
+        Some(page) => Some(page - shift),
+        None => best,
+    }
+}

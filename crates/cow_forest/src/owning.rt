@@ -1,0 +1,55 @@
+//! Owning a page before it is written.
+
+ghost use Rattle.std.specs.Prelude.{◌≡◌, ◌≤◌, ◌⊎◌};
+ghost use Rattle.frame_pool.specs.Pool.{is_taken};
+ghost use Rattle.cow_split.specs.Trees.{tree_of};
+ghost use Rattle.cow_split.specs.Sight.{IsPage};
+ghost use Rattle.cow_split.specs.Exact.{IsExact, all_in_sight};
+ghost use Rattle.cow_fork.specs.Frames.{HasSole, HasFree};
+ghost use Rattle.cow_merge.specs.Ranges.{AreLinked};
+ghost use Rattle.cow_forest.specs.Owning.{own_frame, HasOwned};
+
+use cow_arena::{CowArena, NodeId};
+use cow_fork::fork_holder;
+use cow_split::{Holder, holder};
+use frame_pool::{Backlink, FramePool};
+use page_list::{PageLists, Slot};
+use vm_base::{PageNo, Tag};
+
+/// The frame of the row that holds a page, where the row is the page's own.
+fn own_tag(found: Holder) -> Option<Tag>
+    ensures { result ≡ own_frame found }
+{
+    match found {
+        Holder::Own(Slot::Frame { tag, .. }) => Some(tag),
+        _ => None,
+    }
+}
+
+/// Gives a page of a VMO's node a frame that no other VMO shows, and answers the frame. One that the VMO shows alone stays.
+/// With room for a row the page has a row of its own then; without, a page that is sole is left where it stands.
+pub(crate) fn own_page(
+    arena: &CowArena,
+    lists: &mut PageLists,
+    frames: &mut FramePool,
+    leaf: NodeId,
+    page: PageNo,
+) -> Tag
+    requires exact { IsExact (tree_of arena.now lists.old) all_in_sight (is_taken frames.old) }
+    requires linked { AreLinked lists.old frames.old }
+    requires page { IsPage (tree_of arena.now lists.old) leaf.0 page }
+    requires room { HasSole (tree_of arena.now lists.old) leaf.0 page ⊎ ((1 ≤ lists.old.spare) × HasFree frames.old) }
+    ensures { HasOwned arena.now lists.old lists.new frames.old frames.new leaf.0 page result.0 }
+{
+    let found = holder(arena, lists, leaf, page);
+    if let Some(tag) = own_tag(found) {
+        return tag;
+    }
+    if lists.spare() == 0 {
+        return found.frame().unwrap();
+    }
+    let tag = fork_holder(arena, lists, frames, leaf, page, found);
+    let list = arena.node(leaf).list.0;
+    frames.set_backlink(tag, Backlink { list, page });
+    tag
+}

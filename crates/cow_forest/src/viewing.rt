@@ -1,0 +1,62 @@
+//! The VMOs that show a frame.
+
+ghost use Rattle.std.specs.Prelude.{◌≡◌, ℕ, Bool, IsSomeAnd, Some, None};
+ghost use Rattle.cow_arena.specs.Nodes.{nodes_of};
+ghost use Rattle.cow_arena.specs.Walk.{frame_at};
+ghost use Rattle.cow_split.specs.Trees.{tree_of};
+ghost use Rattle.cow_split.specs.Sight.{IsPage};
+ghost use Rattle.cow_split.specs.Exact.{IsExact, all_in_sight};
+ghost use Rattle.cow_forest.specs.Viewing.{HasFrameRow, IsViewerCount, IsLeastKoidOf};
+
+use cow_arena::{CowArena, NodeId, Side};
+use cow_split::{Holder, holder, least_koid, lesser, viewer_count};
+use page_list::PageLists;
+use vm_base::{Koid, PageNo};
+
+/// The least koid of the VMOs that see the row of a page of a node. The row has a frame.
+pub(crate) fn least_koid_of(arena: &CowArena, lists: &PageLists, node: NodeId, page: PageNo) -> Koid
+    requires exact { (in_use : ℕ → Bool) × IsExact (tree_of arena.now lists.now) all_in_sight in_use }
+    requires row { (tag : ℕ) × HasFrameRow (tree_of arena.now lists.now) node.0 page tag }
+    ensures { (tag : ℕ) → HasFrameRow (tree_of arena.now lists.now) node.0 page tag → IsLeastKoidOf (tree_of arena.now lists.now) tag result }
+{
+    if let Some(koid) = arena.node(node).koid {
+        return koid;
+    }
+    let left = least_koid(arena, lists, Side::Left, node, page);
+    let right = least_koid(arena, lists, Side::Right, node, page);
+    let Some(koid) = lesser(left, right) else {
+        unreachable!()
+    };
+    koid
+}
+
+/// How many VMOs show the frame that a page of a VMO's node shows.
+pub(crate) fn viewer_count_of(
+    arena: &CowArena,
+    lists: &PageLists,
+    leaf: NodeId,
+    page: PageNo,
+) -> u64
+    requires exact { (in_use : ℕ → Bool) × IsExact (tree_of arena.now lists.now) all_in_sight in_use }
+    requires page { IsPage (tree_of arena.now lists.now) leaf.0 page }
+    ensures { (tag : ℕ) → frame_at (tree_of arena.now lists.now) leaf.0 page ≡ Some tag →
+        IsViewerCount (tree_of arena.now lists.now) tag result }
+{
+    match holder(arena, lists, leaf, page) {
+        Holder::Above { node, page, .. } => viewers_of(arena, lists, node, page),
+        Holder::Own(_) => 1,
+        Holder::Nothing => 0,
+    }
+}
+
+/// How many VMOs see the row of a page of a hidden node.
+fn viewers_of(arena: &CowArena, lists: &PageLists, node: NodeId, page: PageNo) -> u64
+    requires exact { (in_use : ℕ → Bool) × IsExact (tree_of arena.now lists.now) all_in_sight in_use }
+    requires hidden { IsSomeAnd (nodes_of arena.now node.0) (λ at. at.koid ≡ None) }
+    ensures { (tag : ℕ) → HasFrameRow (tree_of arena.now lists.now) node.0 page tag → IsViewerCount (tree_of arena.now lists.now) tag result }
+{
+    // All of them have different numbers, below the arena's room.
+    let _room = arena.capacity();
+    viewer_count(arena, lists, Side::Left, node, page)
+        + viewer_count(arena, lists, Side::Right, node, page)
+}
