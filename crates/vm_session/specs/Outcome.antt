@@ -74,6 +74,13 @@ task_in (verb ∷ behind) =
 abbrev pub task_asked : List (String Global) → Option Task
 task_asked words = task_in (map string_bytes words)
 
+-- the words ask for a workload
+pub record AskForWork (words : List (String Global)) : Type 0 where
+  pub number : ℕ
+  pub count : ℕ
+  pub frames : ℕ
+  pub asked : task_asked words ≡ Some (Task.Work number count frames)
+
 -- ---- what was answered
 
 -- a call that may fail writing: the sink took all of these bytes, or a part of them

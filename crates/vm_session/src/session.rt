@@ -1,10 +1,9 @@
 //! The call that the program makes.
 
-ghost use Rattle.std.specs.Prelude.{◌≡◌, ◌↔◌, ℕ, None, Some, IfSome};
+ghost use Rattle.std.specs.Prelude.{◌≡◌, ◌↔◌, None, IfSome};
 ghost use Rattle.script_io.specs.Faults.{HasFailed};
 ghost use Rattle.vm_model.specs.Contents.Content.{nothing};
-ghost use Rattle.vm_session.specs.Outcome.{task_asked, TaskEndsAs};
-ghost use Rattle.vm_session.specs.declared.words.Task.{Task};
+ghost use Rattle.vm_session.specs.Outcome.{task_asked, AskForWork, TaskEndsAs};
 
 use crate::serving::serve;
 use crate::words::{Task, task_asked};
@@ -43,8 +42,7 @@ pub fn run<P: PageStore, S: Source, K: Sink>(
         (K.contents sink.old) (K.contents sink.new) (P.content store.new)) }
 
     // A workload is done without reading.
-    ensures unread { (number count frames : ℕ) → task_asked words.now ≡ Some (Task.Work number count frames)
-        → source.new ≡ source.old }
+    ensures unread { AskForWork words.now → source.new ≡ source.old }
 
     // A fault is answered only where the source or the sink failed.
     ensures read_cause { result ≡ Status.ReadFault → HasFailed (S.faults source.old) (S.faults source.new) }

@@ -1,15 +1,21 @@
 //! The program: the machine over standard input and output.
 //!
-//! It makes the store, hands standard input and output to `vm_session`'s `run` as a source and a
-//! sink, and ends with the status of the run. Nothing is written on standard error.
+//! It makes the clone tree (`cow_forest`) as the store, hands it with standard input and output as a source and a sink to
+//! `top`, and ends with the status of the run. Nothing is written on standard error.
 #![tactic(auto)]
 
-use page_store::FlatStore;
+mod top;
+
+use crate::top::top;
+use cow_forest::CowForest;
 use script_io::{ReadSource, WriteSink};
 use std::process::ExitCode;
 use std::rt::Env;
 use std::{env, io};
-use vm_session::{Status, code, run};
+use vm_session::{Status, code};
+
+#[cfg(test)]
+mod tests;
 
 /// The words of the command line behind the program's name. Without memory for them the program ends
 /// for want of memory, and where one is no text the words are none of its own.
@@ -34,9 +40,9 @@ fn main(rt: HostRuntime) -> ExitCode {
         Ok(words) => words,
         Err(status) => return ExitCode::from(code(status)),
     };
-    let mut store = FlatStore::new(rt.alloc());
+    let mut store = CowForest::new(rt.alloc());
     let mut source = ReadSource::new(rt.stdin());
     let mut sink = WriteSink::new(rt.stdout());
-    let status = run(rt.alloc(), &words, &mut store, &mut source, &mut sink);
+    let status = top(rt.alloc(), &words, &mut store, &mut source, &mut sink);
     ExitCode::from(code(status))
 }
