@@ -23,17 +23,14 @@ is_shared-zero c v p zero = ap (λ (b : Bool). b && not (sole c v p)) (is_held-z
 pub is_shared-some : (c : Content) (v p : ℕ) (held : Page) → c.page v p ≡ Some held → is_shared c v p ≡ not (sole c v p)
 is_shared-some c v p held e = ap (λ (b : Bool). b && not (sole c v p)) (is_held-some c v p held e)
 
-pub is_charged_page-zero : (c : Content) (v : ℕ) → is_charged_page c v None ≡ false
-unfolding is_charged_page
-is_charged_page-zero c v = refl
-
 pub is_charged_page-some : (c : Content) (v : ℕ) (held : Page)
     → is_charged_page c v (Some held) ≡ not (any_below v (views c held.tag))
 unfolding is_charged_page
 is_charged_page-some c v held = refl
 
 pub is_charged-zero : (c : Content) (v p : ℕ) → c.page v p ≡ None → is_charged c v p ≡ false
-is_charged-zero c v p zero = ap (is_charged_page c v) zero ∙ is_charged_page-zero c v
+unfolding is_charged_page
+is_charged-zero c v p zero = ap (is_charged_page c v) zero
 
 pub is_charged-at : (c : Content) (v p : ℕ) (held : Page) → c.page v p ≡ Some held
     → is_charged c v p ≡ is_charged_page c v (Some held)
@@ -42,11 +39,11 @@ is_charged-at c v p held e = ap (is_charged_page c v) e
 -- ---- who is charged
 
 -- a VMO that shows a frame is charged for it exactly where its koid is the least that does
-pub is_charged_page-least : (c : Content) (v p w : ℕ) (held : Page) → IsGood c → c.page v p ≡ Some held
-    → IsLeastViewer c held.tag w → is_charged_page c v (Some held) ≡ (w == v)
-is_charged_page-least c v p w held good e least =
+pub is_charged-least : (c : Content) (v p w : ℕ) (held : Page) → IsGood c → c.page v p ≡ Some held
+    → IsLeastViewer c held.tag w → is_charged c v p ≡ (w == v)
+is_charged-least c v p w held good e least =
     let shows : ℕ → Bool = views c held.tag in
-    is_charged_page-some c v held
+    is_charged-at c v p held e ∙ is_charged_page-some c v held
     ∙ elim (cases_order w v) [
       | inl same ↦
           let none : any_below v shows ≡ false = none_below v shows (λ k h. least.least k (omega arith)) in
@@ -59,12 +56,6 @@ is_charged_page-least c v p w held good e least =
         | inr more ↦ absurd (both_ways (shows v) (least.least v more) (views_held c held.tag v p held good e refl))
       ]
     ]
-
--- the same of a page
-pub is_charged-least : (c : Content) (v p w : ℕ) (held : Page) → IsGood c → c.page v p ≡ Some held
-    → IsLeastViewer c held.tag w → is_charged c v p ≡ (w == v)
-is_charged-least c v p w held good e least =
-    is_charged-at c v p held e ∙ is_charged_page-least c v p w held good e least
 
 -- ---- tests of held pages
 

@@ -125,45 +125,18 @@ AreCounts-gap c v m n counts h zero are = record {
   same : (test : ℕ → Bool) → IsOfHeld c v test → count_below m test ≡ count_below n test
   same test of = sym (count_below_gap m n test h (λ k low high. of.zero_fails k (zero k low high)))
 
+-- one page more, which passes the test or does not
+count-more : (test : ℕ → Bool) (p old new : ℕ) (b : Bool) → old ≡ count_below p test → new ≡ old + bool_byte b → test p ≡ b → new ≡ count_below (p + 1) test
+count-more test p old new b was more is = omega (arith, was, more, byte_bit b, count_below-suc p test, bit_same (test p) b is)
+
 -- a held page
 pub AreCounts-page : (c : Content) (v p : ℕ) (tag : Tag) (alone charged : Bool) (old new : Counts)
     → IsHeldSo c v p tag alone → charged ≡ is_charged c v p → AreCounts c v p old →
     new.held ≡ old.held + 1 → new.sole ≡ old.sole + bool_byte alone → new.shared ≡ old.shared + bool_byte (not alone)
     → new.charged ≡ old.charged + bool_byte charged → AreCounts c v (p + 1) new
 AreCounts-page c v p tag alone charged old new is charge are h s r g = record {
-  held = omega (
-    arith,
-    h,
-    are.held,
-    count_below-suc p (is_held c v),
-    bit_same (is_held c v p) true
-        (is_held-some c v p is.held is.page),
-  );
-  alone = omega (
-    arith,
-    s,
-    byte_bit alone,
-    are.alone,
-    count_below-suc p (sole c v),
-    bit_same (sole c v p)
-        alone is.sharing,
-  );
-  shared = omega (
-    arith,
-    r,
-    byte_bit (not alone),
-    are.shared,
-    count_below-suc p (is_shared c v),
-    bit_same
-        (is_shared c v p) (not alone) (is_shared-some c v p is.held is.page ∙ ap not is.sharing),
-  );
-  charged = omega (
-    arith,
-    g,
-    byte_bit charged,
-    are.charged,
-    count_below-suc p (is_charged c v),
-    bit_same charged
-        (is_charged c v p) charge,
-  );
+  held = count-more (is_held c v) p old.held new.held true are.held h (is_held-some c v p is.held is.page);
+  alone = count-more (sole c v) p old.sole new.sole alone are.alone s is.sharing;
+  shared = count-more (is_shared c v) p old.shared new.shared (not alone) are.shared r (is_shared-some c v p is.held is.page ∙ ap not is.sharing);
+  charged = count-more (is_charged c v) p old.charged new.charged charged are.charged g (sym charge);
 }

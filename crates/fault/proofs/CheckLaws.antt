@@ -1,37 +1,12 @@
--- Why an access is refused on a page, by what was found of the page.
-use Rattle.std.proofs.Common.{◌≡◌, ℕ, ◌<◌, ◌≤◌, true, false, List, [], ◌∷◌, Option, None, Some, refl, arith}
+-- Why an access is refused, by what refuses it on each page.
+use Rattle.std.proofs.Common.{◌≡◌, ℕ, ◌<◌, List, [], ◌∷◌, Option, None, Some, refl, arith}
 use Rattle.std.proofs.lemmas.Grind.{common_steps}
 use Rattle.std.proofs.lemmas.Bool.Decides.{nat_tests}
 use Rattle.vm_base.specs.declared.refusal.Refusal.{Refusal}
-use Rattle.vm_base.specs.declared.refusal.Refusal.TheVariants.{NotFound, AccessDenied, OutOfRange}
 use Rattle.vm_model.proofs.ContentLaws.{pages_of-at}
 use Rattle.vm_model.specs.declared.space.Entry.{Entry}
 use Rattle.vm_model.specs.Contents.Content.{Content, pages_of}
-use Rattle.vm_model.specs.Space.Rights.{has}
 use Rattle.vm_model.specs.Machine.Access.{refusal_at, access_refusal}
-
-module _ (c : Content) (right : ℕ) (o : Option Entry) where
-  -- the page has no entry
-  pub refusal_at-none : o ≡ None → refusal_at c right o ≡ Some NotFound
-  unfolding refusal_at
-  refusal_at-none is = rw is refl
-
-  -- its entry lacks the right
-  pub refusal_at-denied : (entry : Entry) → o ≡ Some entry → has entry.perm.0 right ≡ false → refusal_at c right o ≡ Some AccessDenied
-  unfolding refusal_at
-  refusal_at-denied entry is lacks = rw (is, lacks) refl
-
-  -- its entry shows a page past the end of the VMO
-  pub refusal_at-past : (entry : Entry) → o ≡ Some entry → has entry.perm.0 right ≡ true → pages_of c entry.koid.0 ≤ entry.page
-      → refusal_at c right o ≡ Some OutOfRange
-  unfolding refusal_at
-  refusal_at-past entry is allows past = grind (arith, common_steps, nat_tests)
-
--- nothing refuses it
-pub refusal_at-free : (c : Content) (right : ℕ) (entry : Entry) → has entry.perm.0 right ≡ true → entry.page < pages_of c entry.koid.0
-    → refusal_at c right (Some entry) ≡ None
-unfolding refusal_at
-refusal_at-free c right entry allows below = grind (arith, common_steps, nat_tests)
 
 -- where nothing refuses it, the page that the entry shows lies in its VMO
 pub below-free : (c : Content) (right : ℕ) (entry : Entry) → refusal_at c right (Some entry) ≡ None → entry.page < pages_of c entry.koid.0
@@ -56,4 +31,4 @@ unfolding access_refusal
 access_refusal-nil c right entries = refl
 
 -- what a check finds
-pub ruleset check_laws = (refusal_at-none, refusal_at-denied, refusal_at-past, refusal_at-free, pages_of-at)
+pub ruleset check_laws = (pages_of-at)

@@ -15,7 +15,6 @@ use Rattle.fault.specs.Table.{Places, without, with_translation, with_read_only,
 use Rattle.fault.specs.declared.translation.Change.{Change}
 use Rattle.fault.specs.declared.translation.Change.TheVariants.{Forget, ForgetOther, Restrict}
 use Rattle.fault.specs.Walks.{Keeping, become, changed_where, dropped, restricted, change_by, is_place}
-use Rattle.fault.proofs.PairLaws.{missing}
 
 -- a change that leaves what it made
 abbrev pub IsOnce : (Kept → Option Kept) → Type 0
@@ -165,35 +164,26 @@ places-set new old root p k e =
 -- ---- one page, where it holds another frame
 
 module _ (kept : Keeping) (root p : ℕ) (test : Kept → Bool) where
-  -- the page passes as what is kept of it does
-  here : (k : Kept) → kept root p ≡ Some k → (r q : ℕ) (y : Kept) → kept r q ≡ Some y → is_place root p r q ≡ true → test y ≡ test k
-  here k at r q y is place =
+  -- what is kept of the place is kept of the page
+  here : (r q : ℕ) (y : Kept) → kept r q ≡ Some y → is_place root p r q ≡ true → kept root p ≡ Some y
+  here r q y is place =
       let both = and_parts (r == root) (q == p) place in
-      ap test (some_same (sym is ∙ (ap (λ n. kept n q) (eqb_is r root both.0) ∙ (ap (kept root) (eqb_is q p both.1) ∙ at))))
+      ap (kept root) (sym (eqb_is q p both.1)) ∙ (ap (λ n. kept n q) (sym (eqb_is r root both.0)) ∙ is)
 
-  -- it goes
+  -- it goes, where it passes
   pub dropped-passing : (k : Kept) (new : Keeping) → kept root p ≡ Some k → test k ≡ true → new ≡ changed_where dropped (λ r q y. is_place root p r q) kept
       → new ≡ changed_where dropped (λ r q y. is_place root p r q && test y) kept
   dropped-passing k new at passing e =
       changed-then dropped dropped-once kept kept (λ r q y. false) (changed-none dropped kept (λ r q y. false) (λ r q y h. refl)) new _ (λ r q y. is_place root p r q && test y) e
       (λ r q y h. absurd cc)
       (λ r q y is h. elim (cases_Bool (is_place root p r q)) [
-        | inl place ↦ place ∙ sym (and_from (is_place root p r q) (test y) place (here k at r q y is place ∙ passing))
+        | inl place ↦ place ∙ sym (and_from (is_place root p r q) (test y) place (ap test (some_same (sym (here r q y is place) ∙ at)) ∙ passing))
         | inr apart ↦ apart ∙ sym (and_left (is_place root p r q) (test y) apart)
       ])
 
-  -- it stays
-  pub dropped-failing : (k : Kept) → kept root p ≡ Some k → test k ≡ false → kept ≡ changed_where dropped (λ r q y. is_place root p r q && test y) kept
-  dropped-failing k at failing = changed-none dropped kept (λ r q y. is_place root p r q && test y) (λ r q y is. elim (cases_Bool (is_place root p r q)) [
-    | inl place ↦ and_right (is_place root p r q) (test y) (here k at r q y is place ∙ failing)
-    | inr apart ↦ and_left (is_place root p r q) (test y) apart
-  ])
-
-  -- it is not there
-  pub dropped-missing : kept root p ≡ None → kept ≡ changed_where dropped (λ r q y. is_place root p r q && test y) kept
-  dropped-missing none = changed-none dropped kept (λ r q y. is_place root p r q && test y) (λ r q y is. elim (cases_Bool (is_place root p r q)) [
-    | inl place ↦
-        let both = and_parts (r == root) (q == p) place in
-        absurd (missing (sym (ap (λ n. kept n q) (eqb_is r root both.0) ∙ ap (kept root) (eqb_is q p both.1)) ∙ is) none)
+  -- it stays, where nothing there passes
+  pub dropped-failing : ((k : Kept) → kept root p ≡ Some k → test k ≡ false) → kept ≡ changed_where dropped (λ r q y. is_place root p r q && test y) kept
+  dropped-failing failing = changed-none dropped kept (λ r q y. is_place root p r q && test y) (λ r q y is. elim (cases_Bool (is_place root p r q)) [
+    | inl place ↦ and_right (is_place root p r q) (test y) (failing y (here r q y is place))
     | inr apart ↦ and_left (is_place root p r q) (test y) apart
   ])

@@ -1,5 +1,5 @@
 -- Laws of the translations once a page was translated.
-use Rattle.std.proofs.Common.{◌≡◌, ◌≢◌, ℕ, ◌<◌, Bool, true, false, cond, Option, Some, ◌⊎◌, refl, sym, ap, inl, inr}
+use Rattle.std.proofs.Common.{◌≡◌, ◌≢◌, ℕ, ◌<◌, Bool, true, false, cond, Option, Some, ◌⊎◌, refl, sym, inl, inr}
 use Rattle.std.proofs.lemmas.Bool.{and_parts}
 use Rattle.std.specs.Prelude.{◌==◌, ◌&&◌}
 use Rattle.std.specs.Option.{option_map}
@@ -43,20 +43,14 @@ pub AreTrue-with_translation : (c : Content) (table : ℕ → ℕ → Option Ent
     → (x.readiness ≡ Write → sole c x.entry.koid.0 x.entry.page ≡ true)
     → AreTrue c table places → AreTrue c table (with_translation places root page x)
 AreTrue-with_translation c table places root page x entry frame below alone old = record {
-  entry = λ r p y is. elim (with_translation-cases places root page x r p y is) [
-    | inl here ↦ rw (here.0, here.1, sym (ap (λ (z : Translation). z.entry) here.2)) entry
-    | inr was ↦ old.entry r p y was
-  ];
-  frame = λ r p y is. elim (with_translation-cases places root page x r p y is) [
-    | inl here ↦ rw (sym here.2) frame
-    | inr was ↦ old.frame r p y was
-  ];
-  below = λ r p y is. elim (with_translation-cases places root page x r p y is) [
-    | inl here ↦ rw (sym here.2) below
-    | inr was ↦ old.below r p y was
-  ];
-  alone = λ r p y is. elim (with_translation-cases places root page x r p y is) [
-    | inl here ↦ rw (sym here.2) alone
-    | inr was ↦ old.alone r p y was
-  ];
-}
+  entry = each (λ r p y. table r p ≡ Some y.entry) entry old.entry;
+  frame = each (λ r p y. frame_in y ≡ frame_at c y.entry.koid.0 y.entry.page) frame old.frame;
+  below = each (λ r p y. y.entry.page < pages_of c y.entry.koid.0) below old.below;
+  alone = each (λ r p y. y.readiness ≡ Write → sole c y.entry.koid.0 y.entry.page ≡ true) alone old.alone;
+} where
+  each : (P : ℕ → ℕ → Translation → Type 0) → P root page x → ((r p : ℕ) (y : Translation) → places r p ≡ Some y → P r p y)
+      → (r p : ℕ) (y : Translation) → with_translation places root page x r p ≡ Some y → P r p y
+  each P new was r p y is = elim (with_translation-cases places root page x r p y is) [
+    | inl here ↦ rw (here.0, here.1, sym here.2) new
+    | inr stood ↦ was r p y stood
+  ]

@@ -40,7 +40,7 @@ shows_other : (v p : ℕ) (entry : Entry) → shows_in v p (p + 1) entry ≡ fal
 shows_other = grind (arith, nat_tests)
 
 -- a page that is ready has a translation
-ready_of-some : (places : Places) (r s : ℕ) (readiness : Readiness) → ready_of places r s ≡ Some readiness
+pub ready_of-some : (places : Places) (r s : ℕ) (readiness : Readiness) → ready_of places r s ≡ Some readiness
     → (x : Translation) × (places r s ≡ Some x) × (x.readiness ≡ readiness)
 ready_of-some places r s readiness e = go (places r s) e where
   go : (o : Option Translation) → option_map (λ (x : Translation). x.readiness) o ≡ Some readiness → (x : Translation) × (o ≡ Some x) × (x.readiness ≡ readiness)
@@ -57,7 +57,7 @@ keeps_frame-below old new entry below = rw (lt-ltb entry.page (pages_of new entr
   go false = refl
 
 -- a translation that is left stood before, and does not pass
-without-some : (goes : ℕ → ℕ → Translation → Bool) (places : Places) (r s : ℕ) (x : Translation) → without goes places r s ≡ Some x
+pub without-some : (goes : ℕ → ℕ → Translation → Bool) (places : Places) (r s : ℕ) (x : Translation) → without goes places r s ≡ Some x
     → (places r s ≡ Some x) × (goes r s x ≡ false)
 unfolding without passes
 without-some goes places r s x e = go (places r s) e where

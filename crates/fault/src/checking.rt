@@ -37,7 +37,7 @@ impl Translations {
     /// What an access with this right finds of a page that it may touch. Refusals, in their order: `NotFound` where the
     /// page has no entry, `AccessDenied` where that lacks the right, `OutOfRange` where it shows a page past the end of
     /// the VMO. Neither the mappings nor the store are asked where the page has a translation.
-    #[tactic(auto, using(crate::proofs::CheckLaws::check_laws))]
+    #[tactic(auto, using(crate::proofs::CheckLaws::check_laws), unfolding(vm_model::specs::Machine::Access::refusal_at))]
     pub(crate) fn check<P: PageStore>(
         &self,
         store: &P,

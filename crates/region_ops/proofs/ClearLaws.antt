@@ -1,7 +1,7 @@
 -- Entries go piece by piece: what is left to take out, and what went so far.
-use Rattle.std.proofs.Common.{◌≡◌, ℕ, ◌+◌, ◌<◌, ◌≤◌, Bool, true, false, cond, ◌==◌, ◌&&◌, Option, None, ◌⊎◌, refl, sym, ap, subst, ◌∙◌, inl, inr, arith}
+use Rattle.std.proofs.Common.{◌≡◌, ℕ, ◌+◌, ◌<◌, ◌≤◌, true, false, cond, ◌==◌, ◌&&◌, Option, None, ◌⊎◌, refl, sym, ap, subst, ◌∙◌, inl, inr, arith}
 use Rattle.std.specs.Prelude.{is_some}
-use Rattle.std.proofs.lemmas.Bool.{cases_Bool, cases_eq, cases_lt, cond-true, cond-false, and_parts, and_from, both_ways, eq-eqb}
+use Rattle.std.proofs.lemmas.Bool.{cases_Bool, cases_eq, cases_lt, cond-true, cond-false, and_parts, and_from, and_right, both_ways, eq-eqb}
 use Rattle.vm_base.specs.Search.{count_below}
 use Rattle.vm_base.specs.Entries.{passes}
 use Rattle.vm_base.specs.declared.limits.TheConstants.{PAGES_END}
@@ -68,11 +68,8 @@ module _ (table : ℕ → ℕ → Option Entry) (root : ℕ) (piece : Piece) whe
         ap (λ (k : ℕ). without_piece table root piece k p) same ∙ with_pages-in table root piece.first (piece.first + piece.count) (λ q. None) p low high in
         let its : passes (is_in region) (table r p) ≡ true =
         passes-some (is_in region) (table r p) _ (ap (λ (k : ℕ). table k p) same ∙ of.is.entries p low high) ∙ eq-eqb piece.entry.region.0 region of.region_is in
-        cond-false _ _ _ (and_miss (r == root) _ (passes-none (is_in region) _ none)) ∙ (none
-        ∙ sym (cond-true _ _ _ (and_from (r == root) _ (eq-eqb r root same) its))) where
-          and_miss : (a b : Bool) → b ≡ false → (a && b) ≡ false
-          and_miss true b e = e
-          and_miss false b e = refl
+        cond-false _ _ _ (and_right (r == root) _ (passes-none (is_in region) _ none)) ∙ (none
+        ∙ sym (cond-true _ _ _ (and_from (r == root) _ (eq-eqb r root same) its)))
 
     at : (r p : ℕ) → without_entries (without_piece table root piece) root region r p ≡ without_entries table root region r p
     at r p = elim (cases_range root piece.first (piece.first + piece.count) r p) [

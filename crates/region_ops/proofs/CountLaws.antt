@@ -2,6 +2,7 @@
 use Rattle.std.proofs.Common.{◌≡◌, ◌≢◌, ℕ, zero, suc, ◌+◌, ◌-◌, ◌<◌, ◌≤◌, Bool, true, false, cond, ◌==◌, Option, None, Some, IsSome, refl, sym, ap, subst, ◌∙◌, inl, inr, arith}
 use Rattle.std.specs.Prelude.{nat_lt}
 use Rattle.std.proofs.lemmas.Bool.{cases_eq}
+use Rattle.std.proofs.lemmas.Bool.Decides.{nat_tests}
 use Rattle.vm_base.specs.Search.{count_below, sum_below}
 use Rattle.vm_base.specs.Entries.{passes}
 use Rattle.vm_base.specs.declared.limits.TheConstants.{NAMES, ROOT_END}
@@ -37,10 +38,7 @@ sum_below_change (suc n) k f g h others = elim (below_next k n h) [
 
 -- which of two numbers comes first makes no difference
 pub eqb_turned : (m n : ℕ) → (m == n) ≡ (n == m)
-eqb_turned m n = elim (cases_eq m n) [
-  | inl same ↦ ap (λ (k : ℕ). k == n) same ∙ sym (ap (λ (k : ℕ). n == k) same)
-  | inr apart ↦ eqb_apart m n apart ∙ sym (eqb_apart n m (λ same. apart (sym same)))
-]
+eqb_turned m n = grind (arith, nat_tests)
 
 -- so many for each of no numbers, and of one number more
 each_none : (b : Bool) → ◌≡◌ {A = ℕ} (cond b 0 0) 0

@@ -27,18 +27,18 @@ killed-none regions = λ i n. one (regions n) i where
   one None = refl
   one (Some r) = refl
 
-pub underway_start : (regions : ℕ → Option Region) (test : ℕ → Bool) → IsUnderWay regions regions test
+abbrev pub underway_start : (regions : ℕ → Option Region) (test : ℕ → Bool) → IsUnderWay regions regions test
 underway_start regions test = record { dies = λ n. false; dead = killed-none regions; each = λ n e. absurd cc }
 
--- one more dies
-pub underway_next : (old now new : ℕ → Option Region) (test : ℕ → Bool) (leaf : ℕ) → IsUnderWay old now test → test leaf ≡ true → new ≡ with_one_dead now leaf
-    → IsUnderWay old new test
-underway_next old now new test leaf under passed e = record {
+-- one more dies, which passes as those do that passed before
+abbrev pub underway_next : (old now new : ℕ → Option Region) (test too : ℕ → Bool) (leaf : ℕ) → IsUnderWay old now test → ((n : ℕ) → test n ≡ true → too n ≡ true)
+    → too leaf ≡ true → new ≡ with_one_dead now leaf → IsUnderWay old new too
+underway_next old now new test too leaf under wider passed e = record {
   dies = λ n. under.dies n || (n == leaf);
   dead = e ∙ (ap (λ (r : ℕ → Option Region). killed r (λ n. n == leaf)) under.dead ∙ killed-twice old under.dies (λ n. n == leaf));
   each = λ n h. elim (or_cases (under.dies n) (n == leaf) h) [
-    | inl before ↦ under.each n before
-    | inr here ↦ ap test (eqb_is n leaf here) ∙ passed
+    | inl before ↦ wider n (under.each n before)
+    | inr here ↦ ap too (eqb_is n leaf here) ∙ passed
   ];
 }
 
@@ -101,7 +101,7 @@ module _ (old now : ℕ → Option Region) (name first end : ℕ) (good : AreGoo
   -- the next one that dies
   pub within_next : (new : ℕ → Option Region) (leaf : ℕ) → IsWithin now name first end leaf → new ≡ with_one_dead now leaf
       → IsUnderWay old new (lies_below_in old name first end)
-  within_next new leaf within e = underway_next old now new (lies_below_in old name first end) leaf under (within_was leaf within) e
+  within_next new leaf within e = let test = lies_below_in old name first end in underway_next old now new test test leaf under (λ n h. h) (within_was leaf within) e
 
   pub within_fewer : (new : ℕ → Option Region) (leaf : ℕ) → IsWithin now name first end leaf → new ≡ with_one_dead now leaf → live_count new < live_count now
   within_fewer new leaf within e =

@@ -1,6 +1,7 @@
 -- The step of a mapping: why it is refused, what its place is, and what it does.
-use Rattle.std.proofs.Common.{◌≡◌, ℕ, ◌+◌, ◌*◌, ◌/◌, ◌≤◌, Bool, true, false, not, ◌&&◌, ◌||◌, List, [], ◌∷◌, Option, None, Some, refl, sym, ap, subst, ◌∙◌, arith}
+use Rattle.std.proofs.Common.{◌≡◌, ℕ, ◌+◌, ◌*◌, ◌/◌, ◌≤◌, Bool, true, false, not, ◌&&◌, ◌||◌, List, [], ◌∷◌, ◌++◌, Option, None, Some, refl, sym, ap, subst, ◌∙◌, arith}
 use Rattle.std.specs.Prelude.{nat_lt}
+use Rattle.std.specs.Option.{option_or}
 use Rattle.std.proofs.lemmas.Bool.{ltb-false, both_ways, and_from}
 use Rattle.vm_base.specs.Pages.{rounded}
 use Rattle.vm_base.specs.declared.flags.MapFlags.{MapFlags}
@@ -38,21 +39,10 @@ use Rattle.region_ops.proofs.HolderLaws.{free_bare}
 use Rattle.region_ops.proofs.PlaceLaws.{has_place_at}
 
 -- the first of these refusals, or else the first of those behind
-first_else : (a b c d : Bool) (p q r t : Refusal) (rest : List (Bool × Refusal)) → first_of ((a, p) ∷ (b, q) ∷ (c, r) ∷ (d, t) ∷ []) ≡ None
-    → first_of ((a, p) ∷ (b, q) ∷ (c, r) ∷ (d, t) ∷ rest) ≡ first_of rest
-first_else true b c d p q r t rest e = absurd cc
-first_else false true c d p q r t rest e = absurd cc
-first_else false false true d p q r t rest e = absurd cc
-first_else false false false true p q r t rest e = absurd cc
-first_else false false false false p q r t rest e = refl
-
-first_too : (a b c d : Bool) (p q r t : Refusal) (rest : List (Bool × Refusal)) (refusal : Refusal) → first_of ((a, p) ∷ (b, q) ∷ (c, r) ∷ (d, t) ∷ []) ≡ Some refusal
-    → first_of ((a, p) ∷ (b, q) ∷ (c, r) ∷ (d, t) ∷ rest) ≡ Some refusal
-first_too true b c d p q r t rest refusal e = e
-first_too false true c d p q r t rest refusal e = e
-first_too false false true d p q r t rest refusal e = e
-first_too false false false true p q r t rest refusal e = e
-first_too false false false false p q r t rest refusal e = absurd cc
+first_append : (rows rest : List (Bool × Refusal)) → first_of (rows ++ rest) ≡ option_or (first_of rows) (first_of rest)
+first_append [] rest = refl
+first_append ((true, refusal) ∷ rows) rest = refl
+first_append ((false, refusal) ∷ rows) rest = first_append rows rest
 
 module _ (s : State) (region : RegionName) (offset : ℕ) (name : VmoName) (vmo_offset len : ℕ) (perm : Perm) (flags : MapFlags) (above : Region) (t : Target)
     (given : s.spaces.regions region.0 ≡ Some above) (live : above.live ≡ true) (named : s.names name.0 ≡ Some t) where
@@ -110,11 +100,11 @@ module _ (s : State) (region : RegionName) (offset : ℕ) (name : VmoName) (vmo_
   -- what refuses the mapping before a place is looked for refuses it
   pub refused_by : (refusal : Refusal) → first_of rows ≡ Some refusal → Step s command (Refused refusal) s
   refused_by refusal e =
-      refused_step refusal (rows_left ∙ first_too denied wrong past short AccessDenied InvalidArgs OutOfRange BufferTooSmall place_rows refusal e)
+      refused_step refusal (rows_left ∙ rw e at (first_append rows place_rows))
 
   -- where nothing does, the place decides
   by_place : first_of rows ≡ None → first_of (refusals s command) ≡ first_of place_rows
-  by_place e = rows_left ∙ first_else denied wrong past short AccessDenied InvalidArgs OutOfRange BufferTooSmall place_rows e
+  by_place e = rows_left ∙ rw e at (first_append rows place_rows)
 
   -- there is no place for it
   pub refused_place : (refusal : Refusal) → first_of rows ≡ None → over ≡ false → HasNoPlace s.spaces region.0 fixed limited offset count refusal → Step s command (Refused refusal) s

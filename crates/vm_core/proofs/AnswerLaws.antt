@@ -16,7 +16,7 @@ use Rattle.vm_core.specs.Resets.{IsNoAccess}
 use Rattle.vm_core.specs.Groups.{group_of}
 use Rattle.vm_core.specs.Vm.{Parts, spaces_in, state_of, machine_of, Agrees}
 use Rattle.vm_core.proofs.AgreeLaws.{agrees_good}
-use Rattle.vm_core.proofs.ResetLaws.{reset_steps}
+use Rattle.vm_core.proofs.ResetLaws.{steps_so, true_of_new}
 
 -- a call that is about no access is none
 pub no_access : (call : Call) → group_of call ≢ Group.Memory → IsNoAccess (command_of call)
@@ -46,10 +46,11 @@ module _ (c : Content) (vm : Parts) (command : Command) (reply : Reply) (d : Con
       → Answers c vm command reply d vm_new
   command_answered access handles =
       let new = state_of d vm_new in
-      let steps = reset_steps (state_of c vm) (places_of vm.translations) command reply new agrees.good agrees.translations handles.name access handles.step in
+      let step = steps_so (state_of c vm) (places_of vm.translations) command reply new agrees.good agrees.translations handles.name access handles.step in
+      let true_of = true_of_new (state_of c vm) (places_of vm.translations) command reply new agrees.good agrees.translations handles.name access handles.step in
       answered handles.name
-      (subst (λ (places : Places). MachineStep (machine_of c vm) command reply (record { state = new; ready = ready_of places })) (sym handles.left) steps.0)
-      (subst (λ (places : Places). AreTrue d (table_of vm_new.maps) places) (sym handles.left) steps.1)
+      (subst (λ (places : Places). MachineStep (machine_of c vm) command reply (record { state = new; ready = ready_of places })) (sym handles.left) step)
+      (subst (λ (places : Places). AreTrue d (table_of vm_new.maps) places) (sym handles.left) true_of)
 
 -- an access
 pub access_answered : (c : Content) (vm : Parts) (command : Command) (reply : Reply) (d : Content) (translations : Translations) → Agrees c vm

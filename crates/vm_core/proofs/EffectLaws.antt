@@ -18,8 +18,8 @@ use Rattle.vm_model.specs.Contents.Writing.{touched}
 use Rattle.vm_model.specs.Contents.Zeroing.{zeroed}
 use Rattle.vm_model.specs.Space.Readiness.{settled, unready, read_only}
 use Rattle.vm_model.specs.Space.Regions.{region_of}
-use Rattle.vm_model.specs.Space.AddressSpaces.{Spaces, without_region}
-use Rattle.vm_model.specs.Space.Mappings.{entry_of, with_mapping, unmapped}
+use Rattle.vm_model.specs.Space.AddressSpaces.{Spaces}
+use Rattle.vm_model.specs.Space.Mappings.{entry_of, with_mapping}
 use Rattle.vm_model.specs.declared.names.Target.{Target}
 use Rattle.vm_model.specs.Naming.Pins.{is_pinned}
 use Rattle.vm_model.specs.Machine.State.{State, is_given, is_open, target_of, koid_of, place_of, IsGoodState}
@@ -36,8 +36,9 @@ use Rattle.fault.specs.Table.{Places, ready_of, AreTrue, without, is_stale, is_a
 use Rattle.vm_core.specs.Resets.{left_after, IsNoAccess}
 use Rattle.vm_core.proofs.AgreeLaws.{machine_with}
 use Rattle.vm_core.proofs.OutsideLaws.{ChangesWithin, ChangesWithin-wider, ChangesWithin-zeroed, touched_reaches, ChangesWithin-writes, ChangesWithin-owns, ChangesWithin-zeroes}
+use Rattle.region_ops.proofs.CountLaws.{entry_bounds}
 use Rattle.vm_core.proofs.LeftLaws.{StaysAt, Fits, Fits-all, Fits-read_only}
-use Rattle.vm_core.proofs.StaysLaws.{name_pages-snapshotted, StaysAt-same, StaysAt-created, StaysAt-snapshotted, entry_place, StaysAt-pruned, Fits-changed, Fits-resized}
+use Rattle.vm_core.proofs.StaysLaws.{name_pages-snapshotted, StaysAt-same, StaysAt-created, StaysAt-snapshotted, StaysAt-pruned, Fits-changed, Fits-resized}
 use Rattle.vm_core.proofs.SpacesLeftLaws.{Fits-mapped, Fits-unmapped, Fits-destroyed, Fits-protected}
 
 -- what is left of the translations fits to the machine after the command
@@ -79,7 +80,7 @@ module _ (old : State) (places : Places) (good : IsGoodState old) (true_of : Are
   unfolding pruned
   all_pruned s content spaces =
       Fits-all old.content _ old.spaces.table _ places true_of (λ root p x e.
-      let place = entry_place old.content old.spaces good.spaces root p x.entry (true_of.entry root p x e) in
+      let place = entry_bounds old.content old.spaces good.spaces root p x.entry (true_of.entry root p x e) in
       subst (λ (c : Content). StaysAt c (pruned s).content s.spaces.table root p x.entry) content
       (StaysAt-pruned s root p x.entry (subst IsGood (sym content) good.content) place.0 place.1
       (ap (λ (t : Spaces). t.table root p) spaces ∙ true_of.entry root p x e) (omega (arith, true_of.below root p x e, ap (λ (c : Content). pages_of c x.entry.koid.0) content))))
@@ -119,19 +120,6 @@ module _ (old : State) (places : Places) (good : IsGoodState old) (true_of : Are
       subst (λ (n : ℕ). let new = pruned (record old { spaces = with_mapping old.spaces root first count entry }) in
       Fits new.content new.spaces.table (unready (settled old.content new.content new.spaces.table (ready_of places)) root n (n + count)) (without (is_at root n (n + count)) places)) is
       (Fits-mapped old places good true_of root first count entry)
-
-  -- pages that are unmapped
-  unmap_settles : (name first end : ℕ) → let new = pruned (record old { spaces = unmapped old.spaces name first end }) in
-      Fits new.content new.spaces.table (settled old.content new.content new.spaces.table (ready_of places)) (without (is_at (region_of old.spaces.regions name).root.0 first end) places)
-  unfolding pruned
-  unmap_settles name first end = Fits-unmapped old places good true_of name first end
-
-  -- a region that is destroyed
-  destroy_settles : (name : ℕ) → let dying = region_of old.spaces.regions name in let new = pruned (record old { spaces = without_region old.spaces name }) in
-      old.spaces.regions name ≡ Some dying → dying.live ≡ true
-      → Fits new.content new.spaces.table (settled old.content new.content new.spaces.table (ready_of places)) (without (is_at dying.root.0 dying.first (dying.first + dying.count)) places)
-  unfolding pruned
-  destroy_settles name given live = Fits-destroyed old places good true_of name given live
 
   -- ---- each command
 
@@ -186,7 +174,7 @@ module _ (old : State) (places : Places) (good : IsGoodState old) (true_of : Are
       let place : first ≡ first * PAGE / PAGE = omega arith in
       told (VmarMap region offset name vmo_offset len perm flags) _ _ _ _ effect.1 effect.3 (map_settles above.root.0 first (first * PAGE / PAGE) (rounded len / PAGE) (entry_of above region.0 (target_of old name.0) (vmo_offset / PAGE) perm) place)
   effect_settles (VmarUnmap region addr len) reply new access none effect =
-      told (VmarUnmap region addr len) _ _ _ _ effect.0 effect.1 (unmap_settles region.0 (addr / PAGE) (addr / PAGE + rounded len / PAGE))
+      told (VmarUnmap region addr len) _ _ _ _ effect.0 effect.1 (Fits-unmapped old places good true_of region.0 (addr / PAGE) (addr / PAGE + rounded len / PAGE))
   effect_settles (VmarProtect region addr len perm) reply new access none effect =
       told (VmarProtect region addr len perm) _ _ _ _ effect.0 effect.1 (Fits-protected old places good true_of (region_of old.spaces.regions region.0).root.0 (addr / PAGE) (addr / PAGE + rounded len / PAGE) perm)
   effect_settles (VmarDestroy region) reply new access none effect =
@@ -194,7 +182,7 @@ module _ (old : State) (places : Places) (good : IsGoodState old) (true_of : Are
       let there = some_is (old.spaces.regions region.0) (not-false (is_given old region.0) off.0) in
       let given : old.spaces.regions region.0 ≡ Some (region_of old.spaces.regions region.0) =
       there.1 ∙ ap (λ (r : Region). Some r) (sym (region_of-at old.spaces.regions region.0 there.0 there.1)) in
-      told (VmarDestroy region) _ _ _ _ effect.0 effect.1 (destroy_settles region.0 given (not-false (region_of old.spaces.regions region.0).live off.1.0))
+      told (VmarDestroy region) _ _ _ _ effect.0 effect.1 (Fits-destroyed old places good true_of region.0 given (not-false (region_of old.spaces.regions region.0).live off.1.0))
   effect_settles (Maps region) reply new access none effect = told (Maps region) _ _ _ _ effect.0 effect.1 all_same
   effect_settles Stat reply new access none effect = told Stat _ _ _ _ effect.0 effect.1 all_same
   effect_settles (MemRead region addr len) reply new access none effect = absurd access

@@ -1,9 +1,9 @@
 -- Laws of what is left of the translations: each is true still, and what is ready by them is what a step of the machine says.
-use Rattle.std.proofs.Common.{◌≡◌, ℕ, ◌<◌, ◌≤◌, Bool, true, false, cond, ◌&&◌, ◌==◌, Option, None, Some, ◌⊎◌, refl, sym, ap, subst, ◌∙◌, inl, inr}
+use Rattle.std.proofs.Common.{◌≡◌, ℕ, ◌<◌, ◌≤◌, Bool, true, false, cond, ◌&&◌, ◌==◌, Option, None, Some, ◌⊎◌, refl, sym, ap, ◌∙◌, inl, inr}
 use Rattle.std.specs.Option.{option_map}
 use Rattle.std.proofs.lemmas.Bool.{cases_Bool, and_left, and_right, cond-true, cond-false, le-ltb}
 use Rattle.vm_base.specs.Entries.{passes}
-use Rattle.vm_base.proofs.EntryLaws.{passes-some, passes-none}
+use Rattle.vm_base.proofs.EntryLaws.{passes-some, passes-none, some_same}
 use Rattle.vm_model.specs.declared.space.Entry.{Entry}
 use Rattle.vm_model.specs.declared.space.Readiness.{Readiness}
 use Rattle.vm_model.specs.declared.space.Readiness.TheVariants.{Read}
@@ -14,6 +14,7 @@ use Rattle.vm_model.proofs.ReadinessLaws.{keeps_frame-from, settled-kept, settle
 use Rattle.fault.specs.declared.translation.Translation.{Translation}
 use Rattle.vm_core.proofs.AgreeLaws.{readiness_of}
 use Rattle.fault.specs.Table.{Places, ready_of, frame_in, AreTrue, without, is_at, restricted, with_read_only}
+use Rattle.fault.proofs.WrittenLaws.{without-some}
 
 -- a page that is the same has the same frame
 pub frame_at-same : (c d : Content) (v p : ℕ) → d.page v p ≡ c.page v p → frame_at d v p ≡ frame_at c v p
@@ -99,19 +100,6 @@ module _ (goes : ℕ → ℕ → Translation → Bool) (places : Places) (root p
   unfolding without
   without-stays x e off = cond-false _ _ _ (passes-some (goes root p) (places root p) x e ∙ off) ∙ e
 
-  -- what is left was there, and does not go
-  without-was : (x : Translation) → without goes places root p ≡ Some x → (places root p ≡ Some x) × (goes root p x ≡ false)
-  without-was x e = go (places root p) refl where
-    go : (o : Option Translation) → places root p ≡ o → (places root p ≡ Some x) × (goes root p x ≡ false)
-    go None f = absurd (let none = without-none f in let none_too : ◌≡◌ {A = Option Translation} None (Some x) = sym none ∙ e in cc)
-    go (Some y) f = elim (cases_Bool (goes root p y)) [
-      | inl on ↦ absurd (let none : ◌≡◌ {A = Option Translation} None (Some x) = sym (without-gone y f on) ∙ e in cc)
-      | inr off ↦
-          let both : ◌≡◌ {A = Option Translation} (Some y) (Some x) = sym (without-stays y f off) ∙ e in
-          let same : y ≡ x = cc in
-          (f ∙ ap (λ (z : Translation). Some z) same, ap (goes root p) (sym same) ∙ off)
-    ]
-
 module _ (c d : Content) (old table : ℕ → ℕ → Option Entry) (places : Places) (good : AreTrue c old places) where
   -- a translation that stays holds the frame of its page
   frame_left : (root p : ℕ) (x : Translation) → places root p ≡ Some x → StaysAt c d table root p x.entry → frame_in x ≡ frame_at d x.entry.koid.0 x.entry.page
@@ -124,8 +112,8 @@ module _ (c d : Content) (old table : ℕ → ℕ → Option Entry) (places : Pl
       → Fits d table ready (without goes places)
   Fits-without goes ready none gone stays = record {
     are_ready = λ i root p. each root p (places root p) refl i;
-    entry = λ root p x e. let was = without-was goes places root p x e in (stays root p x was.0 was.1).0.is;
-    frame = λ root p x e. let was = without-was goes places root p x e in frame_left root p x was.0 (stays root p x was.0 was.1).0;
+    entry = λ root p x e. let was = without-some goes places root p x e in (stays root p x was.0 was.1).0.is;
+    frame = λ root p x e. let was = without-some goes places root p x e in frame_left root p x was.0 (stays root p x was.0 was.1).0;
   } where
     each : (root p : ℕ) (o : Option Translation) → places root p ≡ o → ready_of (without goes places) root p ≡ ready root p
     each root p None e = ap readiness_of (without-none goes places root p e) ∙ sym (none root p e)
@@ -173,40 +161,29 @@ module _ (c d : Content) (old table : ℕ → ℕ → Option Entry) (places : Pl
   unfolding read_only with_read_only
   Fits-read_only v first end stays = record {
     are_ready = λ i root p. each root p (places root p) refl i;
-    entry = λ root p x e. let was = from root p (places root p) x refl e in was.2 (λ (entry : Entry). table root p ≡ Some entry) (stays root p was.0 was.1).is;
-    frame = λ root p x e. from_frame root p (places root p) x refl e;
+    entry = λ root p x e. let was = from root p x e in (stays root p was.0 was.1).is ∙ ap (λ (entry : Entry). Some entry) was.2;
+    frame = λ root p x e.
+        let was = from root p x e in
+        sym was.3 ∙ (frame_left root p was.0 was.1 (stays root p was.0 was.1) ∙ ap (λ (entry : Entry). frame_at d entry.koid.0 entry.page) was.2);
   } where
     kept : Ready
     kept = settled c d table (ready_of places)
 
-    same_entry : (x : Translation) → (restricted v first end x).entry ≡ x.entry
-    same_entry x = go (shows_in v first end x.entry) where
-      go : (b : Bool) → (cond b (record x { readiness = Read }) x).entry ≡ x.entry
-      go true = refl
-      go false = refl
+    keeps : (x : Translation) → (x.entry ≡ (restricted v first end x).entry) × (frame_in x ≡ frame_in (restricted v first end x))
+    keeps x = go (shows_in v first end x.entry) where
+      go : (b : Bool) → let y : Translation = cond b (record x { readiness = Read }) x in (x.entry ≡ y.entry) × (frame_in x ≡ frame_in y)
+      go true = (refl, refl)
+      go false = (refl, refl)
 
-    same_frame : (x : Translation) → frame_in (restricted v first end x) ≡ frame_in x
-    same_frame x = go (shows_in v first end x.entry) where
-      go : (b : Bool) → frame_in (cond b (record x { readiness = Read }) x) ≡ frame_in x
-      go true = refl
-      go false = refl
-
-    from : (root p : ℕ) (o : Option Translation) (x : Translation) → places root p ≡ o → option_map (restricted v first end) (places root p) ≡ Some x
-        → (was : Translation) × (places root p ≡ Some was) × ((P : Entry → Type 0) → P was.entry → P x.entry)
-    from root p None x f e = absurd (let none : ◌≡◌ {A = Option Translation} None (Some x) = sym (ap (option_map (restricted v first end)) f) ∙ e in cc)
-    from root p (Some y) x f e =
-        let both : ◌≡◌ {A = Option Translation} (Some (restricted v first end y)) (Some x) = sym (ap (option_map (restricted v first end)) f) ∙ e in
-        let same : restricted v first end y ≡ x = cc in
-        (y, f, λ P h. subst P (sym (same_entry y) ∙ ap (λ (z : Translation). z.entry) same) h)
-
-    from_frame : (root p : ℕ) (o : Option Translation) (x : Translation) → places root p ≡ o → option_map (restricted v first end) (places root p) ≡ Some x
-        → frame_in x ≡ frame_at d x.entry.koid.0 x.entry.page
-    from_frame root p None x f e = absurd (let none : ◌≡◌ {A = Option Translation} None (Some x) = sym (ap (option_map (restricted v first end)) f) ∙ e in cc)
-    from_frame root p (Some y) x f e =
-        let both : ◌≡◌ {A = Option Translation} (Some (restricted v first end y)) (Some x) = sym (ap (option_map (restricted v first end)) f) ∙ e in
-        let same : restricted v first end y ≡ x = cc in
-        subst (λ (z : Translation). frame_in z ≡ frame_at d z.entry.koid.0 z.entry.page) same
-        (same_frame y ∙ (frame_left root p y f (stays root p y f) ∙ ap (λ (entry : Entry). frame_at d entry.koid.0 entry.page) (sym (same_entry y))))
+    from : (root p : ℕ) (x : Translation) → option_map (restricted v first end) (places root p) ≡ Some x
+        → (was : Translation) × (places root p ≡ Some was) × (was.entry ≡ x.entry) × (frame_in was ≡ frame_in x)
+    from root p x e = go (places root p) refl e where
+      go : (o : Option Translation) → places root p ≡ o → option_map (restricted v first end) o ≡ Some x
+          → (was : Translation) × (places root p ≡ Some was) × (was.entry ≡ x.entry) × (frame_in was ≡ frame_in x)
+      go None f g = absurd cc
+      go (Some y) f g =
+          let same : restricted v first end y ≡ x = some_same g in
+          (y, f, (keeps y).0 ∙ ap (λ (z : Translation). z.entry) same, (keeps y).1 ∙ ap frame_in same)
 
     each : (root p : ℕ) (o : Option Translation) → places root p ≡ o
         → readiness_of (option_map (restricted v first end) (places root p)) ≡ cond (passes (shows_in v first end) (old root p)) (option_map (λ (r : Readiness). Read) (kept root p)) (kept root p)

@@ -48,7 +48,7 @@ module _ (old : State) (places : Places) (command : Command) (reply : Reply) (ne
   left = left_after old command new.content reply places
 
   -- the step of the machine
-  steps_so : MachineStep (machine_with old places) command reply (machine_with new left)
+  pub steps_so : MachineStep (machine_with old places) command reply (machine_with new left)
   steps_so =
       machine_step (machine_with old places) command reply (machine_with new left) step
       (λ refusal e same. ap (λ (r : Reply). ready_of (left_after old command new.content r places)) e)
@@ -61,7 +61,7 @@ module _ (old : State) (places : Places) (command : Command) (reply : Reply) (ne
       (subst (λ (r : Reply). AreTrue old.content old.spaces.table (left_after old command old.content r places)) (sym refused.answer) true_of)
 
   -- what is left is true of the new state
-  true_of_new : AreTrue new.content new.spaces.table left
+  pub true_of_new : AreTrue new.content new.spaces.table left
   true_of_new = go (first_of (refusals old command)) refl step.outcome where
     go : (o : Option Refusal) → first_of (refusals old command) ≡ o → StepAfter o old command reply new → AreTrue new.content new.spaces.table left
     go (Some refusal) e refused = true_of_same refusal refused
@@ -70,11 +70,3 @@ module _ (old : State) (places : Places) (command : Command) (reply : Reply) (ne
         let fits = effect_settles old places good true_of command reply new access e effect in
         let machine = IsGoodMachine-from old places good true_of in
         AreTrue-from new left (MachineStep-keeps (machine_with old places) command reply (machine_with new left) machine gives steps_so).good fits.entry fits.frame
-
--- The step of the machine, and what is left of the translations
-pub reset_steps : (old : State) (places : Places) (command : Command) (reply : Reply) (new : State) → IsGoodState old → AreTrue old.content old.spaces.table places
-    → GivesName command → IsNoAccess command → Step old command reply new
-    → MachineStep (record { state = old; ready = ready_of places }) command reply (record { state = new; ready = ready_of (left_after old command new.content reply places) })
-    × AreTrue new.content new.spaces.table (left_after old command new.content reply places)
-reset_steps old places command reply new good true_of gives access step =
-    (steps_so old places command reply new good true_of gives access step, true_of_new old places command reply new good true_of gives access step)

@@ -13,8 +13,9 @@ use Rattle.vm_model.specs.Machine.State.{State, IsGoodState}
 use Rattle.vm_model.specs.Machine.Leaving.{pruned}
 use Rattle.fault.specs.declared.translation.Translation.{Translation}
 use Rattle.fault.specs.Table.{Places, ready_of, AreTrue, without, is_at}
+use Rattle.region_ops.proofs.CountLaws.{entry_bounds}
 use Rattle.vm_core.proofs.LeftLaws.{StaysAt, settled-bare, Fits, Fits-settled, Fits-unready}
-use Rattle.vm_core.proofs.StaysLaws.{StaysAt-same, entry_place, StaysAt-pruned}
+use Rattle.vm_core.proofs.StaysLaws.{StaysAt-same, StaysAt-pruned}
 use Rattle.vm_core.proofs.DestroyedLaws.{destroyed-in, destroyed-out}
 
 -- ---- the changed range of a table
@@ -39,7 +40,7 @@ module _ (old : State) (places : Places) (good : IsGoodState old) (true_of : Are
     -- an entry that stands in them stays
     stays_in : (r p : ℕ) (x : Translation) → places r p ≡ Some x → spaces.table r p ≡ Some x.entry → StaysAt old.content after.content spaces.table r p x.entry
     stays_in r p x e is =
-        let place = entry_place old.content old.spaces good.spaces r p x.entry (true_of.entry r p x e) in
+        let place = entry_bounds old.content old.spaces good.spaces r p x.entry (true_of.entry r p x e) in
         StaysAt-pruned (record old { spaces = spaces }) r p x.entry good.content place.0 place.1 is (true_of.below r p x e)
 
   -- a mapping
@@ -60,19 +61,21 @@ module _ (old : State) (places : Places) (good : IsGoodState old) (true_of : Are
       (λ r p x e off. stays_in spaces r p x e (other r p x.entry (true_of.entry r p x e) off))
 
   -- pages that are unmapped
-  pub Fits-unmapped : (name first end : ℕ) → let spaces = unmapped old.spaces name first end in
-      Fits (after spaces).content spaces.table (settled old.content (after spaces).content spaces.table (ready_of places))
+  pub Fits-unmapped : (name first end : ℕ) → let new = after (unmapped old.spaces name first end) in
+      Fits new.content new.spaces.table (settled old.content new.content new.spaces.table (ready_of places))
       (without (is_at (region_of old.spaces.regions name).root.0 first end) places)
+  unfolding pruned
   Fits-unmapped name first end =
       let root = (region_of old.spaces.regions name).root.0 in
       cleared (unmapped old.spaces name first end) root first end (λ r p on. with_pages-at old.spaces.table root first end _ r p on)
       (λ r p entry e off. with_pages-off old.spaces.table root first end _ r p off ∙ e)
 
   -- a region that is destroyed
-  pub Fits-destroyed : (name : ℕ) → let spaces = without_region old.spaces name in let dying = region_of old.spaces.regions name in
+  pub Fits-destroyed : (name : ℕ) → let new = after (without_region old.spaces name) in let dying = region_of old.spaces.regions name in
       old.spaces.regions name ≡ Some dying → dying.live ≡ true
-      → Fits (after spaces).content spaces.table (settled old.content (after spaces).content spaces.table (ready_of places))
+      → Fits new.content new.spaces.table (settled old.content new.content new.spaces.table (ready_of places))
       (without (is_at dying.root.0 dying.first (dying.first + dying.count)) places)
+  unfolding pruned
   Fits-destroyed name given live =
       let dying = region_of old.spaces.regions name in
       cleared (without_region old.spaces name) dying.root.0 dying.first (dying.first + dying.count)

@@ -1,5 +1,5 @@
 -- Laws of entries that stay where a content or the address spaces change, and of those that a translation is of no more.
-use Rattle.std.proofs.Common.{◌≡◌, ◌≢◌, ℕ, ◌+◌, ◌<◌, ◌≤◌, Bool, true, false, not, cond, ◌&&◌, ◌==◌, Option, None, Some, refl, sym, ap, subst, ◌∙◌, inl, inr, arith}
+use Rattle.std.proofs.Common.{◌≡◌, ◌≢◌, ℕ, ◌<◌, ◌≤◌, Bool, true, false, not, cond, ◌&&◌, ◌==◌, Option, None, Some, refl, sym, ap, ◌∙◌, inl, inr, arith}
 use Rattle.std.specs.Prelude.{IsSome, unwrap_or}
 use Rattle.std.proofs.lemmas.Bool.{cases_Bool, cases_eq, cases_lt, and_parts, and_from, both_ways, not-true, not-false, eq-eqb}
 use Rattle.vm_base.specs.declared.limits.TheConstants.{NAMES, ROOT_END, VMO_PAGES}
@@ -12,7 +12,7 @@ use Rattle.vm_model.specs.Contents.Content.{Content, pages_of, created, IsGood}
 use Rattle.vm_model.specs.Contents.Sharing.{snapshotted, only}
 use Rattle.vm_model.specs.Contents.Zeroing.{is_within, resized}
 use Rattle.vm_model.specs.Space.Readiness.{frame_at, is_same_frame, settled, shows_in}
-use Rattle.vm_model.specs.Space.AddressSpaces.{Spaces, shows, is_mapped, AreGoodSpaces}
+use Rattle.vm_model.specs.Space.AddressSpaces.{Spaces, shows, is_mapped}
 use Rattle.vm_model.specs.declared.names.Target.{Target}
 use Rattle.vm_model.specs.Machine.State.{State, is_live, name_pages}
 use Rattle.vm_model.specs.Machine.Leaving.{pruned}
@@ -21,7 +21,6 @@ use Rattle.vm_model.proofs.SharingLaws.{koid_some, page-snapshotted_other, page-
 use Rattle.vm_model.proofs.ZeroingLaws.{is_within-true, is_within-parts, cases_zeroed, count-resized_here, count-resized_other, page-resized_stays}
 use Rattle.vm_model.proofs.ReadinessLaws.{is_same_frame-is}
 use Rattle.vm_model.proofs.LiveLaws.{is_live-mapped}
-use Rattle.vm_model.proofs.RegionLaws.{region_bounds, reaches_over_parts}
 use Rattle.fault.specs.declared.translation.Translation.{Translation}
 use Rattle.fault.specs.Table.{Places, ready_of, frame_in, AreTrue, without, is_of, is_stale}
 use Rattle.vm_core.proofs.OutsideLaws.{ChangesWithin}
@@ -70,14 +69,6 @@ name_pages-snapshotted c target v first seen pages good there =
     ap (unwrap_or target.limit) (pages_of-same (snapshotted c v first seen pages) c target.koid.0 (count-snapshotted c target.koid.0 v first seen pages good there))
 
 -- ---- VMOs that are not live leave
-
--- an entry is of a name that there is, and below the end of a root region
-pub entry_place : (c : Content) (spaces : Spaces) → AreGoodSpaces c spaces → (root p : ℕ) (entry : Entry) → spaces.table root p ≡ Some entry → (root < NAMES) × (p < ROOT_END)
-entry_place c spaces good root p entry e =
-    let fine = good.entries root p entry e in
-    let bounds = region_bounds spaces.regions good.regions entry.region.0 fine.region fine.given fine.live in
-    let inside = reaches_over_parts p (p + 1) fine.region fine.inside in
-    (subst (λ (n : ℕ). n < NAMES) fine.root_is bounds.1, omega (arith, inside.1, bounds.0))
 
 -- the VMO of an entry there is mapped
 mapped_by : (spaces : Spaces) (root p : ℕ) (entry : Entry) → root < NAMES → p < ROOT_END → spaces.table root p ≡ Some entry → is_mapped spaces entry.koid.0 ≡ true

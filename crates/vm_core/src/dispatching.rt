@@ -67,6 +67,7 @@ pub(crate) fn dispatch<'a, P: PageStore>(
 }
 
 /// Does a command on a VMO as a whole.
+#[tactic(auto, using(crate::proofs::CallLaws::together_of))]
 fn on_vmo<P: PageStore>(
     store: &mut P,
     vmos: &mut VmoTable,
@@ -106,6 +107,7 @@ fn on_vmo<P: PageStore>(
 }
 
 /// Does a command on pages of a VMO.
+#[tactic(auto, using(crate::proofs::CallLaws::together_of))]
 fn on_pages<'a, P: PageStore>(
     store: &mut P,
     vmos: &VmoTable,

@@ -15,6 +15,7 @@ use vm_model::{ChildKind, Target};
 
 /// A range of a name was changed: the translations of its pages that have another frame now are forgotten.
 #[inline]
+#[tactic(auto, using(crate::proofs::LeavesLaws::without_none))]
 pub(crate) fn forget_changed<P: PageStore>(
     translations: &mut Translations,
     store: &P,
@@ -45,6 +46,7 @@ fn touched_count(at: u64, len: u64) -> u64
 }
 
 /// A VMO has this size in bytes now, rounded up to whole pages: the translations of pages past its end are forgotten.
+#[tactic(auto, using(crate::proofs::LeavesLaws::without_none))]
 pub(crate) fn forget_past(translations: &mut Translations, target: &Target, size: u64)
     requires { rounded size ≤ VMO_PAGES * PAGE }
     ensures { places_of translations.new ≡ without_past target.now size (places_of translations.old) }
@@ -77,6 +79,7 @@ pub(crate) fn child_made<P: PageStore>(
 }
 
 // A snapshot was made of a part of a name.
+#[tactic(auto, using(crate::proofs::LeavesLaws::read_only_none))]
 fn share<P: PageStore>(
     translations: &mut Translations,
     store: &P,
@@ -102,6 +105,7 @@ fn share<P: PageStore>(
 
 /// Pages of an address space show something else or nothing now, or may be accessed otherwise: their translations are
 /// forgotten.
+#[tactic(auto, using(crate::proofs::LeavesLaws::without_none))]
 pub(crate) fn forget_pages(
     translations: &mut Translations,
     root: RegionName,

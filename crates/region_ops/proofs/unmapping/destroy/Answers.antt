@@ -2,21 +2,21 @@ use Rattle.std.proofs.Common.{refl}
 use Rattle.mapping_set.specs.Tables.{table_of}
 use Rattle.region_tree.specs.Tree.{regions_of, spaces_of}
 use Rattle.region_ops.proofs.DyingLaws.{within_live, within_fewer}
-use Rattle.region_ops.proofs.DestroyLaws.{going_start, going_under, going_well, going_next, going_childless, going_end}
+use Rattle.region_ops.proofs.DestroyLaws.{going_start, going_well, going_next, going_childless, going_end}
 use Rattle.region_ops.proofs.unmapping.destroy.Goals as goal
 
 pub loop-leaf-init : goal.loop-leaf-init
 loop-leaf-init g c = going_start _ _ _ _
 
 pub destroy_next-requires : goal.destroy_next-requires
-destroy_next-requires g c = within_live _ _ _ _ _ c.requires.well.well.good.spaces.regions (going_under _ _ _ _ _ _ _ c.loop-leaf.invariant) c.requires.live
+destroy_next-requires g c = within_live _ _ _ _ _ c.requires.well.well.good.spaces.regions c.loop-leaf.invariant.under c.requires.live
 
 pub clear_region-requires : goal.clear_region-requires
 clear_region-requires g c = record { well = going_well _ _ _ _ _ _ _ c.loop-leaf.invariant c.requires.well }
 
 pub loop-leaf-smaller : goal.loop-leaf-smaller
 loop-leaf-smaller g c =
-    within_fewer _ _ _ _ _ c.requires.well.well.good.spaces.regions (going_under _ _ _ _ _ _ _ c.loop-leaf.invariant) _ _ c.in-Some.ensures.within c.in-Some.ensures.regions
+    within_fewer _ _ _ _ _ c.requires.well.well.good.spaces.regions c.loop-leaf.invariant.under _ _ c.in-Some.ensures.within c.in-Some.ensures.regions
 
 pub loop-leaf-preserved : goal.loop-leaf-preserved
 loop-leaf-preserved g c =
@@ -26,7 +26,7 @@ loop-leaf-preserved g c =
 pub destroy_one-requires-clause-live : goal.destroy_one-requires-clause-live
 destroy_one-requires-clause-live g c =
     rw c.in_default.ensures.regions
-    (within_live _ _ _ _ _ c.requires.well.well.good.spaces.regions (going_under _ _ _ _ _ _ _ c.loop-leaf.invariant) c.requires.live)
+    (within_live _ _ _ _ _ c.requires.well.well.good.spaces.regions c.loop-leaf.invariant.under c.requires.live)
 
 pub destroy_one-requires-clause-childless : goal.destroy_one-requires-clause-childless
 destroy_one-requires-clause-childless g c =

@@ -1,5 +1,5 @@
 use Rattle.std.proofs.Common.{refl}
-use Rattle.vm_core.proofs.CallLaws.{parts_counted, together_of, does_steps, does_vmos, leaves_all}
+use Rattle.vm_core.proofs.CallLaws.{parts_counted, does_steps, does_vmos, leaves_all}
 use Rattle.vm_core.proofs.dispatching.on_pages.Goals as goal
 
 pub vmo_read-requires-clause-parts : goal.vmo_read-requires-clause-parts
@@ -13,12 +13,6 @@ vmo_fill-requires g c = parts_counted c.requires.counted
 
 pub vmo_commit-requires : goal.vmo_commit-requires
 vmo_commit-requires g c = parts_counted c.requires.counted
-
-pub vmo_zero-requires : goal.vmo_zero-requires
-vmo_zero-requires g c = together_of c.requires.counted
-
-pub vmo_decommit-requires : goal.vmo_decommit-requires
-vmo_decommit-requires g c = together_of c.requires.counted
 
 pub returns-in-VmoRead : goal.returns-in-VmoRead
 returns-in-VmoRead g c = rw c.in-VmoRead.is (does_vmos c.vmo_read.ensures (leaves_all (λ s r. refl)) refl tt)

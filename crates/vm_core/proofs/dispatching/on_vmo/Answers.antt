@@ -1,21 +1,15 @@
 use Rattle.std.proofs.Common.{refl}
-use Rattle.vm_core.proofs.CallLaws.{parts_counted, together_of, kept_counted, does_steps, does_vmos, leaves_all}
+use Rattle.vm_core.proofs.CallLaws.{parts_counted, kept_counted, does_steps, does_vmos, leaves_all}
 use Rattle.vm_core.proofs.dispatching.on_vmo.Goals as goal
 
 pub vmo_create-requires-clause-parts : goal.vmo_create-requires-clause-parts
 vmo_create-requires-clause-parts g c = parts_counted c.requires.counted
-
-pub vmo_create_child-requires-clause-good : goal.vmo_create_child-requires-clause-good
-vmo_create_child-requires-clause-good g c = together_of c.requires.counted
 
 pub vmo_close-requires : goal.vmo_close-requires
 vmo_close-requires g c = kept_counted c.requires.counted
 
 pub vmo_size-requires : goal.vmo_size-requires
 vmo_size-requires g c = parts_counted c.requires.counted
-
-pub vmo_set_size-requires : goal.vmo_set_size-requires
-vmo_set_size-requires g c = together_of c.requires.counted
 
 pub vmo_info-requires : goal.vmo_info-requires
 vmo_info-requires g c = parts_counted c.requires.counted

@@ -1,10 +1,7 @@
 use Rattle.std.proofs.Common.{◌+◌, ◌*◌, arith}
 use Rattle.vm_base.specs.declared.limits.TheConstants.{PAGE}
-use Rattle.vm_core.proofs.LeavesLaws.{touched_fit, without_none}
+use Rattle.vm_core.proofs.LeavesLaws.{touched_fit}
 use Rattle.vm_core.proofs.resets.forget_changed.Goals as goal
-
-pub returns-then-is_empty : goal.returns-then-is_empty
-returns-then-is_empty g c = without_none _ _ (c.is_empty.ensures c.if-is_empty.true)
 
 pub forget_changed-requires : goal.forget_changed-requires
 forget_changed-requires g c = record {
