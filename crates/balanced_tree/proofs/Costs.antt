@@ -52,19 +52,19 @@ module _ {R : Type 0} (f : Functions R) where
       let e2 = pow-times (length (rows_of f t) + 1) 2 each in
       omega arith
 
-  -- ten steps for each row from top to bottom, and one more
-  pub change_cost : (t : Tree R) (before after : ℕ) → IsBalanced t → after ≤ before + 10 * height t + 1 → 2 ^ (after - before) ≤ (length (rows_of f t) + 2) ^ 32
+  -- thirteen steps for each row from top to bottom, and one more
+  pub change_cost : (t : Tree R) (before after : ℕ) → IsBalanced t → after ≤ before + 13 * height t + 1 → 2 ^ (after - before) ≤ (length (rows_of f t) + 2) ^ 32
   change_cost t before after h steps =
       let n = length (rows_of f t) + 2 in
       let bound = height-rows t h in
       let wide = pow-le-pow_left {n = length (rows_of f t) + 1} {m = n} (omega arith) 2 in
       let tall : 2 ^ height t ≤ n ^ 2 = omega arith in
-      let tens = pow-le-pow_left {n = 2 ^ height t} {m = n ^ 2} tall 10 in
-      let few = pow-le-pow_left {n = 2} {m = n} (omega arith) 12 in
-      let up = pow_mono {i = after - before} {j = height t * 10 + 12} (omega arith) in
-      let e1 = pow-add 2 (height t * 10) 12 in
-      let e2 = pow-times 2 (height t) 10 in
-      let e3 = pow-times n 2 10 in
-      let e4 = pow-add n 20 12 in
-      let all : 2 ^ (height t * 10) * 2 ^ 12 ≤ n ^ 20 * n ^ 12 = mul-le-mul (omega arith) few in
+      let all_rows = pow-le-pow_left {n = 2 ^ height t} {m = n ^ 2} tall 13 in
+      let few = pow-le-pow_left {n = 2} {m = n} (omega arith) 6 in
+      let up = pow_mono {i = after - before} {j = height t * 13 + 6} (omega arith) in
+      let e1 = pow-add 2 (height t * 13) 6 in
+      let e2 = pow-times 2 (height t) 13 in
+      let e3 = pow-times n 2 13 in
+      let e4 = pow-add n 26 6 in
+      let all : 2 ^ (height t * 13) * 2 ^ 6 ≤ n ^ 26 * n ^ 6 = mul-le-mul (omega arith) few in
       omega arith

@@ -2,12 +2,11 @@
 use Rattle.std.proofs.Common.{◌≡◌, ℕ, ◌+◌, ◌<◌, ◌≤◌, cond, ltb, Option, None, Some, refl, sym, ap, ◌∙◌, subst, arith}
 use Rattle.std.proofs.lemmas.Bool.{lt-ltb, le-ltb, cond-true, cond-false}
 use Rattle.slab.specs.Slab.{Slab, get, slab_len, Updates}
-use Rattle.balanced_tree.specs.declared.children.Child.{Child}
 use Rattle.balanced_tree.specs.Row.{Functions, AreLawful}
-use Rattle.balanced_tree.specs.Tree.{Tree, Leaf, Node, child_of, balanced, inserted}
+use Rattle.balanced_tree.specs.Tree.{Tree, Leaf, Node, place_of, balanced, inserted}
 use Rattle.balanced_tree.specs.Standing.{child_at, Same, IsStanding, Becomes, IsSplit, HasInserted}
 use Rattle.balanced_tree.proofs.Spelling.{Keeps-trans, Same-refl, split_over, split_with, place_over-tree}
-use Rattle.balanced_tree.proofs.Nodes.{IsNode, rank_here, height-left, height-right, right_is, left_is, right_kept, left_kept, split_left, split_right, kept_wider_left, kept_wider_right, has_rank-left, has_rank-right, has_rank-here}
+use Rattle.balanced_tree.proofs.Nodes.{IsNode, rank_here, height-left, height-right, right_is, left_is, same_again, left_again, right_again, again_left, again_right, split_left, split_right, kept_wider_left, kept_wider_right, has_rank-left, has_rank-right, has_rank-here}
 
 module _ {R : Type 0} (f : Functions R) where
   pub inserted-left : (q : ℕ) (w : R) (l : Tree R) (p : ℕ) (x : R) (r : Tree R) → f.rank w < f.rank x → inserted f q w (Node l p x r) ≡ balanced f (inserted f q w l) p x r
@@ -23,10 +22,10 @@ module _ {R : Type 0} (f : Functions R) where
   inserted-here q w l p x r h = cond-false (ltb (f.rank w) (f.rank x)) _ _ (le-ltb _ _ (omega arith)) ∙ cond-false (ltb (f.rank x) (f.rank w)) _ _ (le-ltb _ _ (omega arith))
 
   -- what `balance` says of the trees that it is given
-  abbrev pub Balances : Slab R → Slab R → ℕ → R → Option (Child R) → Option (Child R) → Child R → Type 0
+  abbrev pub Balances : Slab R → Slab R → ℕ → R → Option ℕ → Option ℕ → ℕ → Type 0
   Balances s s1 p w left right root =
-      (l : Tree R) (x : R) (r : Tree R) (low high : ℕ) → IsSplit f s l p x r low high → Same f x w → left ≡ child_of f l → right ≡ child_of f r
-      → Becomes f s s1 (balanced f l p x r) low high × (Some root ≡ child_of f (balanced f l p x r))
+      (l : Tree R) (x : R) (r : Tree R) (low high : ℕ) → IsSplit f s l p x r low high → Same f x w → place_of l ≡ left → place_of r ≡ right
+      → Becomes f s s1 (balanced f l p x r) low high × (place_of (balanced f l p x r) ≡ Some root)
 
   -- a change of a part, and then one of the whole
   pub Becomes-left : {s s1 s2 : Slab R} {p : ℕ} {here : R} {t u l : Tree R} {low high : ℕ} (n : IsNode f s p here t low high) → Becomes f s s1 l low (f.rank n.row) → Becomes f s1 s2 u low high → Becomes f s s2 u low high
@@ -36,59 +35,61 @@ module _ {R : Type 0} (f : Functions R) where
   Becomes-right n one two = record { spelled = two.spelled; ordered = two.ordered; kept = Keeps-trans f (kept_wider_right f n one.kept) two.kept }
 
   pub insert-left :
-      {s s1 s2 : Slab R} {p : ℕ} {here w : R} {t : Tree R} {low high before b1 b2 b3 after : ℕ} {left root : Child R} {right : Option (Child R)}
+      {s s1 s2 : Slab R} {p : ℕ} {here again w : R} {t : Tree R} {low high before b1 b2 b3 after left root : ℕ} {right : Option ℕ}
       → AreLawful f → (n : IsNode f s p here t low high) → f.rank w < f.rank here
       → HasInserted f s s1 w n.left low (f.rank n.row) left b1 b2
-      → right ≡ child_at s1 (f.right here)
-      → Balances s1 s2 p here (Some left) right root
-      → slab_len s2 ≡ slab_len s1 → b1 ≤ before + 1 → b3 ≤ b2 + 1 → after ≤ b3 + 7
+      → get s1 p ≡ Some again → right ≡ f.right again
+      → Balances s1 s2 p again (Some left) right root
+      → slab_len s2 ≡ slab_len s1 → b1 ≤ before + 1 → b3 ≤ b2 + 1 → after ≤ b3 + 11
       → HasInserted f s s2 w t low high root before after
-  insert-left {s} {s1} {s2} {p} {here} {w} {t} {low} {high} {before} {b1} {b2} {b3} {after} {left} {root} laws n less sub on_right balance len g1 g2 g3 =
+  insert-left {s} {s1} {s2} {p} {here} {w = w} {low = low} {high} laws n less sub e on_right balance len g1 g2 g3 =
       let q = s.vacant_key in
-      let made = balance _ n.row n.right low high (split_left f n laws sub.becomes) n.same sub.child (right_is f n s1 (right_kept f n laws sub.becomes.kept) on_right) in
+      let again_is = again_left f n sub.becomes.kept e in
+      let made = balance _ n.row n.right low high (split_left f n laws sub.becomes) (same_again f n again_is) sub.root (right_again f n again_is on_right) in
       let is = ap (inserted f q w) n.is ∙ inserted-left q w n.left p n.row n.right (omega (arith, rank_here f n)) in
       record {
         becomes = Becomes-left n sub.becomes (subst (λ u. Becomes f s1 s2 u low high) (sym is) made.0);
-        child = made.1 ∙ ap (child_of f) (sym is);
+        root = ap place_of is ∙ made.1;
         len = len ∙ sub.len ∙ ap (λ b. slab_len s + cond b 0 1) (sym (has_rank-left f n (f.rank w) less));
         steps = omega (arith, sub.steps, height-left f n);
       }
 
   pub insert-right :
-      {s s1 s2 : Slab R} {p : ℕ} {here w : R} {t : Tree R} {low high before b1 b2 b3 after : ℕ} {right root : Child R} {left : Option (Child R)}
+      {s s1 s2 : Slab R} {p : ℕ} {here again w : R} {t : Tree R} {low high before b1 b2 b3 after right root : ℕ} {left : Option ℕ}
       → AreLawful f → (n : IsNode f s p here t low high) → f.rank here < f.rank w
       → HasInserted f s s1 w n.right (f.rank n.row + 1) high right b1 b2
-      → left ≡ child_at s1 (f.left here)
-      → Balances s1 s2 p here left (Some right) root
-      → slab_len s2 ≡ slab_len s1 → b1 ≤ before + 1 → b3 ≤ b2 + 1 → after ≤ b3 + 7
+      → get s1 p ≡ Some again → left ≡ f.left again
+      → Balances s1 s2 p again left (Some right) root
+      → slab_len s2 ≡ slab_len s1 → b1 ≤ before + 1 → b3 ≤ b2 + 1 → after ≤ b3 + 11
       → HasInserted f s s2 w t low high root before after
-  insert-right {s} {s1} {s2} {p} {here} {w} {t} {low} {high} {before} {b1} {b2} {b3} {after} {right} {root} laws n more sub on_left balance len g1 g2 g3 =
+  insert-right {s} {s1} {s2} {p} {here} {w = w} {low = low} {high} laws n more sub e on_left balance len g1 g2 g3 =
       let q = s.vacant_key in
-      let made = balance n.left n.row _ low high (split_right f n laws sub.becomes) n.same (left_is f n s1 (left_kept f n laws sub.becomes.kept) on_left) sub.child in
+      let again_is = again_right f n sub.becomes.kept e in
+      let made = balance n.left n.row _ low high (split_right f n laws sub.becomes) (same_again f n again_is) (left_again f n again_is on_left) sub.root in
       let is = ap (inserted f q w) n.is ∙ inserted-right q w n.left p n.row n.right (omega (arith, rank_here f n)) in
       record {
         becomes = Becomes-right n sub.becomes (subst (λ u. Becomes f s1 s2 u low high) (sym is) made.0);
-        child = made.1 ∙ ap (child_of f) (sym is);
+        root = ap place_of is ∙ made.1;
         len = len ∙ sub.len ∙ ap (λ b. slab_len s + cond b 0 1) (sym (has_rank-right f n (f.rank w) more));
         steps = omega (arith, sub.steps, height-right f n);
       }
 
   pub insert-here :
-      {s s2 : Slab R} {p : ℕ} {here w : R} {t : Tree R} {low high before after : ℕ} {root : Child R} {left right : Option (Child R)}
+      {s s2 : Slab R} {p : ℕ} {here w : R} {t : Tree R} {low high before after root : ℕ} {left right : Option ℕ}
       → AreLawful f → (n : IsNode f s p here t low high) → f.rank here ≤ f.rank w → f.rank w ≤ f.rank here
-      → left ≡ child_at s (f.left here) → right ≡ child_at s (f.right here)
-      → Updates s s2 p (Some (f.linked w left right)) → root ≡ record { link = p; row = f.linked w left right }
+      → left ≡ f.left here → right ≡ f.right here
+      → Updates s s2 p (Some (f.linked w (child_at s left) (child_at s right))) → root ≡ p
       → slab_len s2 ≡ slab_len s → after ≤ before + 4
       → HasInserted f s s2 w t low high root before after
   insert-here {s} {s2} {p} {here} {w} {t} {low} {high} {before} {after} {root} laws n g h on_left on_right u root_is len steps =
       let q = s.vacant_key in
       let had : IsSplit f s n.left p n.row n.right low high = split_over f n.at (rank_here f n) n.left_standing.spelled n.right_standing.spelled n.left_standing.ordered n.right_standing.ordered in
       let split : IsSplit f s n.left p w n.right low high = split_with f had (omega (arith, rank_here f n)) had.at had.left had.right had.left_ordered had.right_ordered in
-      let made = place_over-tree f laws split (Same-refl f w) (left_is f n s n.left_standing.spelled on_left) (right_is f n s n.right_standing.spelled on_right) refl u root_is in
+      let made = place_over-tree f laws split (Same-refl f w) (left_is f n on_left) (right_is f n on_right) refl u refl in
       let is = ap (inserted f q w) n.is ∙ inserted-here q w n.left p n.row n.right (omega (arith, rank_here f n)) in
       record {
         becomes = subst (λ u. Becomes f s s2 u low high) (sym is) made.becomes;
-        child = made.child ∙ ap (child_of f) (sym is);
+        root = ap place_of is ∙ ap Some (sym root_is);
         len = omega (arith, len, ap (λ b. slab_len s + cond b 0 1) (has_rank-here f n (f.rank w) g h));
         steps = omega (arith, height-left f n);
       }
@@ -98,13 +99,12 @@ module _ {R : Type 0} (f : Functions R) where
   insert-leaf_tree q w = refl
 
   pub insert-leaf :
-      {s s2 : Slab R} {w : R} {low high before after : ℕ} {root : Child R} {link : ℕ}
+      {s s2 : Slab R} {w : R} {low high before after link : ℕ}
       (t : Tree R) → IsStanding f s None t low high → low ≤ f.rank w → f.rank w < high
       → get s link ≡ None → link ≡ s.vacant_key
-      → Updates s s2 link (Some (f.linked w None None)) → root ≡ record { link = link; row = f.linked w None None }
-      → slab_len s2 ≡ slab_len s + 1 → after ≤ before + 1
-      → HasInserted f s s2 w t low high root before after
-  insert-leaf {s} {s2} {w} {low} {high} {root = root} {link} Leaf h from below vacant is_key u root_is len steps =
+      → Updates s s2 link (Some (f.linked w None None)) → slab_len s2 ≡ slab_len s + 1 → after ≤ before + 1
+      → HasInserted f s s2 w t low high link before after
+  insert-leaf {s} {s2} {w} {low} {high} {link = link} Leaf h from below vacant is_key u len steps =
       let key_is : inserted f s.vacant_key w Leaf ≡ Node Leaf link w Leaf = insert-leaf_tree s.vacant_key w ∙ ap (λ k. Node Leaf k w Leaf) (sym is_key) in
       record {
         becomes = subst (λ u. Becomes f s s2 u low high) (sym key_is) (record {
@@ -112,10 +112,10 @@ module _ {R : Type 0} (f : Functions R) where
           ordered = (from, below_next);
           kept = record { kept = λ p x at out. u.others p (λ same. (let clash : None ≡ Some x = sym vacant ∙ ap (get s) (sym same) ∙ at in cc)) ∙ at };
         });
-        child = ap Some root_is ∙ ap (child_of f) (sym key_is);
+        root = ap place_of key_is;
         len = len;
         steps = omega arith;
       } where
         below_next : f.rank w + 1 ≤ high
         below_next = omega arith
-  insert-leaf {s} (Node l p x r) h from below vacant is_key u root_is len steps = let none : Some p ≡ None = h.is_at in cc
+  insert-leaf {s} (Node l p x r) h from below vacant is_key u len steps = let none : Some p ≡ None = h.is_at in cc

@@ -1,6 +1,7 @@
 pub mod Spelling
 pub mod Turns
 pub mod Nodes
+pub mod DescentLaws
 pub mod Insertions
 pub mod Removals
 pub mod TreeLaws

@@ -1,13 +1,12 @@
 -- The root of a tree that stands in a slab, and its parts.
-use Rattle.std.proofs.Common.{◌≡◌, ◌⊎◌, ℕ, ◌+◌, ◌<◌, ◌≤◌, ◌^◌, max, Bool, true, false, not, cond, Option, None, Some, IsTrue, refl, sym, ap, ◌∙◌, subst, inl, inr, arith}
+use Rattle.std.proofs.Common.{◌≡◌, ◌⊎◌, ℕ, ◌+◌, ◌<◌, ◌≤◌, ◌^◌, max, Bool, true, false, not, cond, Option, None, Some, is_some, IsTrue, refl, sym, ap, ◌∙◌, subst, inl, inr, arith}
 use Rattle.std.proofs.lemmas.Grind.{common_steps}
 use Rattle.std.proofs.lemmas.Option.{same_Some}
 use Rattle.slab.specs.Slab.{Slab, get, ContainsKey, HasRoomFor}
-use Rattle.balanced_tree.specs.declared.children.Child.{Child}
 use Rattle.std.specs.Option.{option_map}
 use Rattle.balanced_tree.specs.Row.{Functions, AreLawful, height_in, plain}
-use Rattle.balanced_tree.specs.Tree.{Tree, Leaf, Node, height, child_of, stored, has_rank, found}
-use Rattle.balanced_tree.specs.Standing.{child_at, Spells, Same, IsStanding, Stands, StandsFor, Keeps, Becomes, IsSplit, height_at}
+use Rattle.balanced_tree.specs.Tree.{Tree, Leaf, Node, place_of, height, child_of, stored, has_rank, row_in, found}
+use Rattle.balanced_tree.specs.Standing.{child_at, Spells, Same, IsStanding, Stands, StandsFor, Keeps, Becomes, IsSplit, Splits, height_at}
 use Rattle.balanced_tree.proofs.Spelling.{link_of-child_of, child_at-place_of, IsOrdered-bounds, Same-linked, Spells-kept, split_over, split_with, ContainsKey-place_of}
 
 module _ {R : Type 0} (f : Functions R) where
@@ -67,6 +66,29 @@ module _ {R : Type 0} (f : Functions R) where
     pub falls-right : AreLawful f → height_at f s (f.right here) + 1 ≤ height t
     falls-right laws = omega (arith, height_at-standing laws n.right_standing, height-right)
 
+    -- what is read of the row again
+    pub same_again : {again : R} → again ≡ here → Same f n.row again
+    same_again e = subst (Same f n.row) (sym e) n.same
+
+    pub left_again : {again : R} {link : Option ℕ} → again ≡ here → link ≡ f.left again → place_of n.left ≡ link
+    left_again e is = n.left_standing.is_at ∙ ap f.left (sym e) ∙ sym is
+
+    pub right_again : {again : R} {link : Option ℕ} → again ≡ here → link ≡ f.right again → place_of n.right ≡ link
+    right_again e is = n.right_standing.is_at ∙ ap f.right (sym e) ∙ sym is
+
+    -- a change of one part leaves the row under its place
+    pub stays_left : {s1 : Slab R} → Keeps f low (f.rank n.row) s s1 → get s1 p ≡ Some here
+    stays_left k = k.kept p here n.at (inr (omega (arith, rank_here)))
+
+    pub stays_right : {s1 : Slab R} → Keeps f (f.rank n.row + 1) high s s1 → get s1 p ≡ Some here
+    stays_right k = k.kept p here n.at (inl (omega (arith, rank_here)))
+
+    pub again_left : {s1 : Slab R} {again : R} → Keeps f low (f.rank n.row) s s1 → get s1 p ≡ Some again → again ≡ here
+    again_left k e = same_Some _ _ (sym e ∙ stays_left k)
+
+    pub again_right : {s1 : Slab R} {again : R} → Keeps f (f.rank n.row + 1) high s s1 → get s1 p ≡ Some again → again ≡ here
+    again_right k e = same_Some _ _ (sym e ∙ stays_right k)
+
     -- the part that a link leads to can be read in a slab where it stands
     pub readable-right_part : (s1 : Slab R) (q : ℕ) → Spells f s1 n.right → f.right here ≡ Some q → ContainsKey s1 q
     readable-right_part s1 q h e = ContainsKey-place_of f s1 n.right q h (n.right_standing.is_at ∙ e)
@@ -83,17 +105,18 @@ module _ {R : Type 0} (f : Functions R) where
 
     pub split_left : {s1 : Slab R} {l : Tree R} → AreLawful f → Becomes f s s1 l low (f.rank n.row) → IsSplit f s1 l p n.row n.right low high
     split_left laws h =
-        split_over f (h.kept.kept p here n.at (inr (omega (arith, rank_here)))) rank_here h.spelled (right_kept laws h.kept) h.ordered n.right_standing.ordered
+        split_over f (stays_left h.kept) rank_here h.spelled (right_kept laws h.kept) h.ordered n.right_standing.ordered
 
     pub split_right : {s1 : Slab R} {r : Tree R} → AreLawful f → Becomes f s s1 r (f.rank n.row + 1) high → IsSplit f s1 n.left p n.row r low high
     split_right laws h =
-        split_over f (h.kept.kept p here n.at (inl (omega (arith, rank_here)))) rank_here (left_kept laws h.kept) h.spelled n.left_standing.ordered h.ordered
+        split_over f (stays_right h.kept) rank_here (left_kept laws h.kept) h.spelled n.left_standing.ordered h.ordered
 
-    pub right_is : (s1 : Slab R) {c : Option (Child R)} → Spells f s1 n.right → c ≡ child_at s1 (f.right here) → c ≡ child_of f n.right
-    right_is s1 h e = e ∙ ap (child_at s1) (sym n.right_standing.is_at) ∙ child_at-place_of f s1 n.right h
+    -- what stands under the link to a part
+    pub left_is : {link : Option ℕ} → link ≡ f.left here → child_at s link ≡ child_of f n.left
+    left_is e = ap (child_at s) (e ∙ sym n.left_standing.is_at) ∙ child_at-place_of f s n.left n.left_standing.spelled
 
-    pub left_is : (s1 : Slab R) {c : Option (Child R)} → Spells f s1 n.left → c ≡ child_at s1 (f.left here) → c ≡ child_of f n.left
-    left_is s1 h e = e ∙ ap (child_at s1) (sym n.left_standing.is_at) ∙ child_at-place_of f s1 n.left h
+    pub right_is : {link : Option ℕ} → link ≡ f.right here → child_at s link ≡ child_of f n.right
+    right_is e = ap (child_at s) (e ∙ sym n.right_standing.is_at) ∙ child_at-place_of f s n.right n.right_standing.spelled
 
     pub in_low : low ≤ f.rank n.row
     in_low = IsOrdered-bounds f low (f.rank n.row) n.left n.left_standing.ordered
@@ -121,14 +144,23 @@ module _ {R : Type 0} (f : Functions R) where
     pub found-here : (down : Bool) (m : ℕ) (best : Option R) → f.rank here ≤ m → m ≤ f.rank here → found f down m best t ≡ Some (f.linked here None None)
     found-here down m best g h = rw n.is (grind (arith, common_steps, rank_here, n.same.linked None None))
 
+    pub row_in-left : (m : ℕ) → m < f.rank here → row_in f m t ≡ row_in f m n.left
+    row_in-left m h = rw n.is (grind (arith, common_steps, rank_here))
+
+    pub row_in-right : (m : ℕ) → f.rank here < m → row_in f m t ≡ row_in f m n.right
+    row_in-right m h = rw n.is (grind (arith, common_steps, rank_here))
+
+    pub row_in-here : (m : ℕ) → f.rank here ≤ m → m ≤ f.rank here → row_in f m t ≡ Some (plain f here)
+    row_in-here m g h = rw n.is (grind (arith, common_steps, rank_here, n.same.linked None None))
+
     pub has_rank-left : (m : ℕ) → m < f.rank here → has_rank f m t ≡ has_rank f m n.left
-    has_rank-left m h = rw n.is (grind (arith, common_steps, rank_here))
+    has_rank-left m h = ap is_some (row_in-left m h)
 
     pub has_rank-right : (m : ℕ) → f.rank here < m → has_rank f m t ≡ has_rank f m n.right
-    has_rank-right m h = rw n.is (grind (arith, common_steps, rank_here))
+    has_rank-right m h = ap is_some (row_in-right m h)
 
     pub has_rank-here : (m : ℕ) → f.rank here ≤ m → m ≤ f.rank here → has_rank f m t ≡ true
-    has_rank-here m g h = rw n.is (grind (arith, common_steps, rank_here))
+    has_rank-here m g h = ap is_some (row_in-here m g h)
 
   pub standing-at : {s : Slab R} {at link : Option ℕ} {t : Tree R} {low high : ℕ} → at ≡ link → IsStanding f s at t low high → IsStanding f s link t low high
   standing-at {s} {at} {link} {t} {low} {high} e h = subst (λ q. IsStanding f s q t low high) e h
@@ -152,28 +184,30 @@ module _ {R : Type 0} (f : Functions R) where
       split_with f h same.rank h.at h.left h.right h.left_ordered h.right_ordered
 
   module _ {s s1 : Slab R} {p : ℕ} {here : R} {t : Tree R} {low high : ℕ} (laws : AreLawful f) (n : IsNode s p here t low high) where
-    -- what `balance` asks after a change of the left part
-    pub Splits-left : {l : Tree R} {left right : Option (Child R)} → Becomes f s s1 l low (f.rank n.row) → left ≡ child_of f l → right ≡ child_at s1 (f.right here) → Rattle.balanced_tree.specs.Standing.Splits f s1 left p here right
-    Splits-left {l} h on_left on_right =
+    -- what `balance` asks after a change of one part, where the row was read again
+    pub Splits-left : {l : Tree R} {again : R} {left right : Option ℕ} → Becomes f s s1 l low (f.rank n.row) → get s1 p ≡ Some again → place_of l ≡ left → right ≡ f.right again → Splits f s1 left p again right
+    Splits-left {l} h e on_left on_right =
+        let is = again_left n h.kept e in
         record {
           left_tree = l;
           right_tree = n.right;
           low = low;
           high = high;
-          split = IsSplit-Same n.same (split_left n laws h);
+          split = IsSplit-Same (same_again n is) (split_left n laws h);
           left_is = on_left;
-          right_is = right_is n s1 (right_kept n laws h.kept) on_right;
+          right_is = right_again n is on_right;
         }
 
-    pub Splits-right : {r : Tree R} {left right : Option (Child R)} → Becomes f s s1 r (f.rank n.row + 1) high → left ≡ child_at s1 (f.left here) → right ≡ child_of f r → Rattle.balanced_tree.specs.Standing.Splits f s1 left p here right
-    Splits-right {r} h on_left on_right =
+    pub Splits-right : {r : Tree R} {again : R} {left right : Option ℕ} → Becomes f s s1 r (f.rank n.row + 1) high → get s1 p ≡ Some again → left ≡ f.left again → place_of r ≡ right → Splits f s1 left p again right
+    Splits-right {r} h e on_left on_right =
+        let is = again_right n h.kept e in
         record {
           left_tree = n.left;
           right_tree = r;
           low = low;
           high = high;
-          split = IsSplit-Same n.same (split_right n laws h);
-          left_is = left_is n s1 (left_kept n laws h.kept) on_left;
+          split = IsSplit-Same (same_again n is) (split_right n laws h);
+          left_is = left_again n is on_left;
           right_is = on_right;
         }
 

@@ -1,5 +1,5 @@
 -- The rows of a tree as a list: what insertion, removal and look-up are of it.
-use Rattle.std.proofs.Common.{◌≡◌, ℕ, ◌+◌, ◌<◌, ◌≤◌, Bool, true, false, not, cond, ltb, leb, eqb, List, [], ◌∷◌, ◌++◌, length, Option, None, Some, is_some, refl, sym, ap, ◌∙◌, subst, inl, inr, arith}
+use Rattle.std.proofs.Common.{◌≡◌, ℕ, ◌+◌, ◌<◌, ◌≤◌, Bool, true, false, not, cond, ltb, leb, eqb, List, [], ◌∷◌, ◌++◌, length, Option, None, Some, refl, sym, ap, ◌∙◌, subst, inl, inr, arith}
 use Rattle.std.specs.List.{filter, find}
 use Rattle.std.specs.Option.{option_or}
 use Rattle.std.proofs.lemmas.Bool.{lt-ltb, le-ltb, le-leb, lt-leb, ne_eqb, cond-true, cond-false, cases_order}
@@ -9,7 +9,7 @@ use Rattle.std.proofs.lemmas.List.Elements.{filter-append}
 use Rattle.std.proofs.lemmas.List.Folds.{find-append}
 use Rattle.balanced_tree.specs.Row.{Functions, AreLawful, plain}
 use Rattle.balanced_tree.specs.Rows.{if_at, row_at, row_from, row_to, with_row, without_rank, RisesWithin}
-use Rattle.balanced_tree.specs.Tree.{Tree, Leaf, Node, is_leaf, rows_of, IsOrdered, has_rank, found, inserted, least, without_least, without_root, removed}
+use Rattle.balanced_tree.specs.Tree.{Tree, Leaf, Node, is_leaf, rows_of, IsOrdered, has_rank, row_in, found, inserted, least, without_least, without_root, removed}
 use Rattle.balanced_tree.proofs.TreeLaws.{rows-balanced}
 
 pub option_or-none : {A : Type 0} (o : Option A) → option_or o None ≡ o
@@ -249,14 +249,14 @@ module _ {R : Type 0} (f : Functions R) where
               ∙ option_or-some (row_to f n (rows_of f r)) (plain f x) best)
         ]
 
-    pub has_rank-row_at : (n low high : ℕ) (t : Tree R) → IsOrdered f low high t → has_rank f n t ≡ is_some (row_at f n (rows_of f t))
-    has_rank-row_at n low high Leaf h = refl
-    has_rank-row_at n low high (Node l p x r) h =
+    pub row_in-row_at : (n low high : ℕ) (t : Tree R) → IsOrdered f low high t → row_in f n t ≡ row_at f n (rows_of f t)
+    row_in-row_at n low high Leaf h = refl
+    row_in-row_at n low high (Node l p x r) h =
         let s = sides low high l p x r h in
         let here = row_at-here n (plain f x) low high (rows_of f l) (rows_of f r) s.left s.right in
         let left = row_at-left n (plain f x) low high (rows_of f l) (rows_of f r) s.left s.right in
         let right = row_at-right n (plain f x) low high (rows_of f l) (rows_of f r) s.left s.right in
-        grind (arith, common_steps, rank-plain, has_rank-row_at n low (f.rank x) l h.0, has_rank-row_at n (f.rank x + 1) high r h.1)
+        grind (arith, common_steps, rank-plain, row_in-row_at n low (f.rank x) l h.0, row_in-row_at n (f.rank x + 1) high r h.1)
 
     pub length-inserted : (q : ℕ) (w : R) (t : Tree R) → length (rows_of f (inserted f q w t)) ≡ length (rows_of f t) + cond (has_rank f (f.rank w) t) 0 1
     unfolding inserted

@@ -2,11 +2,12 @@
 use Rattle.std.proofs.Common.{◌≡◌, ◌⊎◌, ℕ, ◌+◌, ◌<◌, ◌≤◌, Bool, true, false, cond, Option, None, Some, is_some, refl, sym, ap, ◌∙◌, subst, inl, inr, arith}
 use Rattle.std.proofs.lemmas.Bool.{cases_eq}
 use Rattle.std.proofs.lemmas.Option.{same_Some}
+use Rattle.std.specs.Option.{ForSome}
 use Rattle.slab.specs.Slab.{Slab, get, ContainsKey, Updates}
 use Rattle.balanced_tree.specs.declared.children.Child.{Child}
-use Rattle.balanced_tree.specs.Row.{Functions, AreLawful, link_of}
-use Rattle.balanced_tree.specs.Tree.{Tree, Leaf, Node, place_of, child_of, IsOrdered}
-use Rattle.balanced_tree.specs.Standing.{child_under, child_at, Spells, Same, Keeps, Becomes, IsSplit, Splits}
+use Rattle.balanced_tree.specs.Row.{Functions, AreLawful, link_of, height_in}
+use Rattle.balanced_tree.specs.Tree.{Tree, Leaf, Node, place_of, child_of, stored, IsOrdered}
+use Rattle.balanced_tree.specs.Standing.{child_under, child_at, Spells, Same, Keeps, Becomes, IsSplit, height_at}
 
 -- what is picked of one thing or none is that thing
 pub picked-is : {A : Type 0} (b : Bool) (o picked : Option A) (m : A) → picked ≡ cond b o None → picked ≡ Some m → o ≡ Some m
@@ -21,15 +22,6 @@ pub not_picked : {A : Type 0} (b : Bool) (o picked : Option A) (m : A) → o ≡
 not_picked true o picked m is e h = cc
 not_picked false o picked m is e h = refl
 
-pub none_from : {A : Type 0} (o : Option A) → ((x : A) → o ≡ Some x → ⊥) → o ≡ None
-none_from None h = refl
-none_from (Some x) h = absurd (h x refl)
-
--- a write elsewhere leaves the place with a row
-pub ContainsKey-Updates : {R : Type 0} {old new : Slab R} {place : ℕ} {x : R} (q : ℕ) → Updates old new place (Some x) → ContainsKey old q → ContainsKey new q
-ContainsKey-Updates {old = old} {new = new} {place = place} q u h =
-    elim (cases_eq q place) [ inl same ↦ rw same (ap is_some u.changed) | inr differs ↦ ap is_some (u.others q differs) ∙ h ]
-
 module _ {R : Type 0} (f : Functions R) where
   pub link_of-child_of : (t : Tree R) → link_of (child_of f t) ≡ place_of t
   link_of-child_of Leaf = refl
@@ -38,6 +30,13 @@ module _ {R : Type 0} (f : Functions R) where
   pub child_at-place_of : (s : Slab R) (t : Tree R) → Spells f s t → child_at s (place_of t) ≡ child_of f t
   child_at-place_of s Leaf h = refl
   child_at-place_of s (Node l p x r) h = ap (child_under p) h.0
+
+  -- the same under a link to the tree
+  pub child_at-link : (s : Slab R) (t : Tree R) {at : Option ℕ} → Spells f s t → place_of t ≡ at → child_at s at ≡ child_of f t
+  child_at-link s t h is = ap (child_at s) (sym is) ∙ child_at-place_of s t h
+
+  pub height_at-link : (s : Slab R) (t : Tree R) {at : Option ℕ} → Spells f s t → place_of t ≡ at → height_at f s at ≡ stored f t
+  height_at-link s t h is = ap (height_in f.height) (child_at-link s t h is)
 
   -- the ranks between the bounds of a tree are some or none
   pub IsOrdered-bounds : (low high : ℕ) (t : Tree R) → IsOrdered f low high t → low ≤ high
@@ -157,36 +156,33 @@ module _ {R : Type 0} (f : Functions R) where
         child = ap Some (child ∙ rw (is_p, row_is) refl);
       }
 
-  -- a row in the slab, and what stands under its links
+  -- the link to the root of what was put
+  pub IsPlaced-root : {old new : Slab R} {t : Tree R} {low high : ℕ} {c : Child R} → IsPlaced old new t low high c → place_of t ≡ Some c.link
+  IsPlaced-root {t = t} h = sym (link_of-child_of t) ∙ ap link_of (sym h.child)
+
+  -- what stands under the links of a row
   pub record HasParts (s : Slab R) (c : Child R) : Type 0 where
     pub left : Tree R
     pub right : Tree R
-    pub at : get s c.link ≡ Some c.row
-    pub left_is : f.left c.row ≡ place_of left
-    pub right_is : f.right c.row ≡ place_of right
+    pub left_is : place_of left ≡ f.left c.row
+    pub right_is : place_of right ≡ f.right c.row
     pub left_spelled : Spells f s left
     pub right_spelled : Spells f s right
 
-  pub HasParts-child_of : AreLawful f → (s : Slab R) (t : Tree R) (c : Child R) → Spells f s t → Some c ≡ child_of f t → HasParts s c
-  HasParts-child_of laws s Leaf c h e = cc
-  HasParts-child_of laws s (Node l p x r) c h e =
-      subst (HasParts s) (sym (same_Some _ _ e)) (record {
-        left = l;
-        right = r;
-        at = h.0;
-        left_is = laws.left_set x _ _ ∙ link_of-child_of l;
-        right_is = laws.right_set x _ _ ∙ link_of-child_of r;
-        left_spelled = h.1;
-        right_spelled = h.2;
-      })
-
-  pub HasParts-left : AreLawful f → (s : Slab R) (c m : Child R) → HasParts s c → child_at s (f.left c.row) ≡ Some m → HasParts s m
-  HasParts-left laws s c m h e =
-      HasParts-child_of laws s h.left m h.left_spelled (sym e ∙ ap (child_at s) h.left_is ∙ child_at-place_of s h.left h.left_spelled)
-
-  pub HasParts-right : AreLawful f → (s : Slab R) (c m : Child R) → HasParts s c → child_at s (f.right c.row) ≡ Some m → HasParts s m
-  HasParts-right laws s c m h e =
-      HasParts-child_of laws s h.right m h.right_spelled (sym e ∙ ap (child_at s) h.right_is ∙ child_at-place_of s h.right h.right_spelled)
+  -- a child that was read under the link to a tree
+  pub HasParts-link : AreLawful f → (s : Slab R) (t : Tree R) {at : Option ℕ} {o : Option (Child R)} {c : Child R} → Spells f s t → place_of t ≡ at → o ≡ child_at s at → o ≡ Some c → HasParts s c
+  HasParts-link laws s t {c = c} h is read some = from t h (sym some ∙ read ∙ child_at-link s t h is) where
+    from : (t : Tree R) → Spells f s t → Some c ≡ child_of f t → HasParts s c
+    from Leaf h e = cc
+    from (Node l p x r) h e =
+        subst (HasParts s) (sym (same_Some _ _ e)) (record {
+          left = l;
+          right = r;
+          left_is = sym (laws.left_set x _ _ ∙ link_of-child_of l);
+          right_is = sym (laws.right_set x _ _ ∙ link_of-child_of r);
+          left_spelled = h.1;
+          right_spelled = h.2;
+        })
 
   pub ContainsKey-at : (s : Slab R) (p : ℕ) (x : R) → get s p ≡ Some x → ContainsKey s p
   ContainsKey-at s p x e = ap is_some e
@@ -195,23 +191,8 @@ module _ {R : Type 0} (f : Functions R) where
   ContainsKey-place_of s Leaf q h e = cc
   ContainsKey-place_of s (Node l p x r) q h e = subst (ContainsKey s) (same_Some p q e) (ContainsKey-at s p _ h.0)
 
-  pub readable-left : (s : Slab R) (c : Child R) (q : ℕ) → HasParts s c → f.left c.row ≡ Some q → ContainsKey s q
-  readable-left s c q h e = ContainsKey-place_of s h.left q h.left_spelled (sym h.left_is ∙ e)
+  pub readable-left : {s : Slab R} {c : Child R} {at : Option ℕ} → HasParts s c → at ≡ f.left c.row → ForSome at (ContainsKey s)
+  readable-left {s} h e = λ q some. ContainsKey-place_of s h.left q h.left_spelled (h.left_is ∙ sym e ∙ some)
 
-  pub readable-right : (s : Slab R) (c : Child R) (q : ℕ) → HasParts s c → f.right c.row ≡ Some q → ContainsKey s q
-  readable-right s c q h e = ContainsKey-place_of s h.right q h.right_spelled (sym h.right_is ∙ e)
-
-  pub HasParts-Splits_left : AreLawful f → (s : Slab R) (c : Child R) (p : ℕ) (x : R) (r : Option (Child R)) → Splits f s (Some c) p x r → HasParts s c
-  HasParts-Splits_left laws s c p x r h = HasParts-child_of laws s h.left_tree c h.split.left h.left_is
-
-  pub HasParts-Splits_right : AreLawful f → (s : Slab R) (c : Child R) (p : ℕ) (x : R) (l : Option (Child R)) → Splits f s l p x (Some c) → HasParts s c
-  HasParts-Splits_right laws s c p x l h = HasParts-child_of laws s h.right_tree c h.split.right h.right_is
-
-  -- a child of a child that was picked
-  pub HasParts-picked_right : AreLawful f → (s : Slab R) (c m : Child R) (p : ℕ) (x : R) (r inner picked : Option (Child R)) (b : Bool) → Splits f s (Some c) p x r → inner ≡ child_at s (f.right c.row) → picked ≡ cond b inner None → picked ≡ Some m → HasParts s m
-  HasParts-picked_right laws s c m p x r inner picked b h is e g =
-      HasParts-right laws s c m (HasParts-Splits_left laws s c p x r h) (sym is ∙ picked-is b inner picked m e g)
-
-  pub HasParts-picked_left : AreLawful f → (s : Slab R) (c m : Child R) (p : ℕ) (x : R) (l inner picked : Option (Child R)) (b : Bool) → Splits f s l p x (Some c) → inner ≡ child_at s (f.left c.row) → picked ≡ cond b inner None → picked ≡ Some m → HasParts s m
-  HasParts-picked_left laws s c m p x l inner picked b h is e g =
-      HasParts-left laws s c m (HasParts-Splits_right laws s c p x l h) (sym is ∙ picked-is b inner picked m e g)
+  pub readable-right : {s : Slab R} {c : Child R} {at : Option ℕ} → HasParts s c → at ≡ f.right c.row → ForSome at (ContainsKey s)
+  readable-right {s} h e = λ q some. ContainsKey-place_of s h.right q h.right_spelled (h.right_is ∙ sym e ∙ some)

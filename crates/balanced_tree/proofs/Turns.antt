@@ -1,13 +1,13 @@
 -- The rotations: rows that are put over their parts one after another spell the tree that is turned.
-use Rattle.std.proofs.Common.{◌≡◌, ℕ, ◌+◌, ◌<◌, ◌≤◌, false, cond, ltb, Option, None, Some, refl, sym, ap, ◌∙◌, subst, inl, inr, arith, add-zero}
-use Rattle.std.proofs.lemmas.Bool.{cond-true, cond-false, le-ltb}
+use Rattle.std.proofs.Common.{◌≡◌, ℕ, ◌+◌, ◌<◌, ◌≤◌, cond, ltb, Option, None, Some, refl, sym, ap, ◌∙◌, subst, inl, inr, arith}
+use Rattle.std.proofs.lemmas.Bool.{cond-true, cond-false, lt-ltb, le-ltb}
 use Rattle.std.proofs.lemmas.Option.{same_Some}
 use Rattle.slab.specs.Slab.{Slab, Updates}
 use Rattle.balanced_tree.specs.declared.children.Child.{Child}
 use Rattle.balanced_tree.specs.Row.{Functions, AreLawful, height_in}
-use Rattle.balanced_tree.specs.Tree.{Tree, Leaf, Node, child_of, stored, leaned_right, leaned_left, balanced}
-use Rattle.balanced_tree.specs.Standing.{child_at, Spells, Same, Keeps, IsSplit}
-use Rattle.balanced_tree.proofs.Spelling.{link_of-child_of, child_at-place_of, IsOrdered-bounds, Spells-kept, Keeps-trans, Keeps-wider, Same-linked, IsPlaced, split_over, split_with, place_over-tree, picked-is, picked-test, not_picked}
+use Rattle.balanced_tree.specs.Tree.{Tree, Leaf, Node, place_of, child_of, stored, leaned_right, leaned_left, balanced}
+use Rattle.balanced_tree.specs.Standing.{child_at, Spells, Same, Keeps, IsSplit, height_at}
+use Rattle.balanced_tree.proofs.Spelling.{link_of-child_of, child_at-place_of, height_at-link, IsOrdered-bounds, Spells-kept, Keeps-trans, Keeps-wider, Same-linked, IsPlaced, split_over, split_with, place_over-tree, picked-is, picked-test, not_picked}
 
 module _ {R : Type 0} (f : Functions R) where
   -- a second row is put over parts among which the first was put
@@ -133,7 +133,7 @@ module _ {R : Type 0} (f : Functions R) where
       (l r : Tree R) → AreLawful f
       → IsSplit f s l p x r low high → Same f x w → Some left ≡ child_of f l → cr ≡ child_of f r
       → cl ≡ child_at s (f.left left.row) → cm ≡ child_at s (f.right left.row)
-      → picked ≡ cond (ltb (height_in f.height cl + 0) (height_in f.height cm)) cm None → picked ≡ None
+      → picked ≡ cond (ltb (height_in f.height cl) (height_in f.height cm)) cm None → picked ≡ None
       → Updates s s1 p (Some (f.linked w cm cr)) → lower ≡ record { link = p; row = f.linked w cm cr }
       → Updates s1 s2 left.link (Some (f.linked left.row cl (Some lower))) → upper ≡ record { link = left.link; row = f.linked left.row cl (Some lower) }
       → IsPlaced f s s2 (leaned_right f l p x r) low high upper
@@ -144,7 +144,7 @@ module _ {R : Type 0} (f : Functions R) where
       once_right laws split same root.same root.link refl (on_l ∙ root.left) (on_m ∙ root.right) right_is u1 lower_is u2 upper_is
   leaned_right-once {s} {s2 = s2} {p} {low} {high} {x} {cl = cl} {cm} {picked} {left = left} {upper = upper} (Node a j y (Node c k z d)) r laws split same left_is right_is on_l on_m e none u1 lower_is u2 upper_is =
       let root = IsRoot-child_of laws s a j y (Node c k z d) left split.left left_is in
-      let test : ltb (height_in f.height cl + 0) (height_in f.height cm) ≡ ltb (stored f a) (stored f (Node c k z d)) = rw (on_l ∙ root.left, on_m ∙ root.right, add-zero) refl in
+      let test : ltb (height_in f.height cl) (height_in f.height cm) ≡ ltb (stored f a) (stored f (Node c k z d)) = rw (on_l ∙ root.left, on_m ∙ root.right) refl in
       let turn = sym test ∙ not_picked _ cm picked _ (on_m ∙ root.right) e none in
       subst (λ t. IsPlaced f s s2 t low high upper) (sym (cond-false (ltb (stored f a) (stored f (Node c k z d))) (Node (Node a j y c) k z (Node d p x r)) (Node a j y (Node (Node c k z d) p x r)) turn))
       (once_right laws split same root.same root.link refl (on_l ∙ root.left) (on_m ∙ root.right) right_is u1 lower_is u2 upper_is)
@@ -154,7 +154,7 @@ module _ {R : Type 0} (f : Functions R) where
       (l r : Tree R) → AreLawful f
       → IsSplit f s l p x r low high → Same f x w → Some left ≡ child_of f l → cr ≡ child_of f r
       → cl ≡ child_at s (f.left left.row) → cm ≡ child_at s (f.right left.row)
-      → picked ≡ cond (ltb (height_in f.height cl + 0) (height_in f.height cm)) cm None → picked ≡ Some middle
+      → picked ≡ cond (ltb (height_in f.height cl) (height_in f.height cm)) cm None → picked ≡ Some middle
       → cc ≡ child_at s (f.left middle.row) → cd ≡ child_at s (f.right middle.row)
       → Updates s s1 left.link (Some (f.linked left.row cl cc)) → first ≡ record { link = left.link; row = f.linked left.row cl cc }
       → Updates s1 s2 p (Some (f.linked w cd cr)) → last ≡ record { link = p; row = f.linked w cd cr }
@@ -168,7 +168,7 @@ module _ {R : Type 0} (f : Functions R) where
   leaned_right-twice {s} {s3 = s3} {p} {low} {high} {x} {cl = cl} {cm} {picked} {left = left} {middle} {upper = upper} (Node a j y (Node c k z d)) r laws split same left_is right_is on_l on_m e some on_c on_d u1 first_is u2 last_is u3 upper_is =
       let root = IsRoot-child_of laws s a j y (Node c k z d) left split.left left_is in
       let inner = IsRoot-child_of laws s c k z d middle split.left.2 (sym (picked-is _ cm picked middle e some) ∙ on_m ∙ root.right) in
-      let test : ltb (height_in f.height cl + 0) (height_in f.height cm) ≡ ltb (stored f a) (stored f (Node c k z d)) = rw (on_l ∙ root.left, on_m ∙ root.right, add-zero) refl in
+      let test : ltb (height_in f.height cl) (height_in f.height cm) ≡ ltb (stored f a) (stored f (Node c k z d)) = rw (on_l ∙ root.left, on_m ∙ root.right) refl in
       let turn = sym test ∙ picked-test _ cm picked middle e some in
       subst (λ t. IsPlaced f s s3 t low high upper) (sym (cond-true (ltb (stored f a) (stored f (Node c k z d))) (Node (Node a j y c) k z (Node d p x r)) (Node a j y (Node (Node c k z d) p x r)) turn))
       (twice_right laws split same root.same inner.same root.link inner.link refl (on_l ∙ root.left) (on_c ∙ inner.left) (on_d ∙ inner.right) right_is u1 first_is u2 last_is u3 upper_is)
@@ -178,7 +178,7 @@ module _ {R : Type 0} (f : Functions R) where
       (l r : Tree R) → AreLawful f
       → IsSplit f s l p x r low high → Same f x w → cl ≡ child_of f l → Some right ≡ child_of f r
       → cr ≡ child_at s (f.right right.row) → cm ≡ child_at s (f.left right.row)
-      → picked ≡ cond (ltb (height_in f.height cr + 0) (height_in f.height cm)) cm None → picked ≡ None
+      → picked ≡ cond (ltb (height_in f.height cr) (height_in f.height cm)) cm None → picked ≡ None
       → Updates s s1 p (Some (f.linked w cl cm)) → lower ≡ record { link = p; row = f.linked w cl cm }
       → Updates s1 s2 right.link (Some (f.linked right.row (Some lower) cr)) → upper ≡ record { link = right.link; row = f.linked right.row (Some lower) cr }
       → IsPlaced f s s2 (leaned_left f l p x r) low high upper
@@ -189,7 +189,7 @@ module _ {R : Type 0} (f : Functions R) where
       once_left laws split same root.same root.link refl left_is (on_m ∙ root.left) (on_r ∙ root.right) u1 lower_is u2 upper_is
   leaned_left-once {s} {s2 = s2} {p} {low} {high} {x} {cm = cm} {picked} {cr} {right} {upper = upper} l (Node (Node c k z d) j y b) laws split same left_is right_is on_r on_m e none u1 lower_is u2 upper_is =
       let root = IsRoot-child_of laws s (Node c k z d) j y b right split.right right_is in
-      let test : ltb (height_in f.height cr + 0) (height_in f.height cm) ≡ ltb (stored f b) (stored f (Node c k z d)) = rw (on_r ∙ root.right, on_m ∙ root.left, add-zero) refl in
+      let test : ltb (height_in f.height cr) (height_in f.height cm) ≡ ltb (stored f b) (stored f (Node c k z d)) = rw (on_r ∙ root.right, on_m ∙ root.left) refl in
       let turn = sym test ∙ not_picked _ cm picked _ (on_m ∙ root.left) e none in
       subst (λ t. IsPlaced f s s2 t low high upper) (sym (cond-false (ltb (stored f b) (stored f (Node c k z d))) (Node (Node l p x c) k z (Node d j y b)) (Node (Node l p x (Node c k z d)) j y b) turn))
       (once_left laws split same root.same root.link refl left_is (on_m ∙ root.left) (on_r ∙ root.right) u1 lower_is u2 upper_is)
@@ -199,7 +199,7 @@ module _ {R : Type 0} (f : Functions R) where
       (l r : Tree R) → AreLawful f
       → IsSplit f s l p x r low high → Same f x w → cl ≡ child_of f l → Some right ≡ child_of f r
       → cr ≡ child_at s (f.right right.row) → cm ≡ child_at s (f.left right.row)
-      → picked ≡ cond (ltb (height_in f.height cr + 0) (height_in f.height cm)) cm None → picked ≡ Some middle
+      → picked ≡ cond (ltb (height_in f.height cr) (height_in f.height cm)) cm None → picked ≡ Some middle
       → cc ≡ child_at s (f.left middle.row) → cd ≡ child_at s (f.right middle.row)
       → Updates s s1 p (Some (f.linked w cl cc)) → first ≡ record { link = p; row = f.linked w cl cc }
       → Updates s1 s2 right.link (Some (f.linked right.row cd cr)) → last ≡ record { link = right.link; row = f.linked right.row cd cr }
@@ -213,34 +213,29 @@ module _ {R : Type 0} (f : Functions R) where
   leaned_left-twice {s} {s3 = s3} {p} {low} {high} {x} {cm = cm} {picked} {cr = cr} {right} {middle} {upper = upper} l (Node (Node c k z d) j y b) laws split same left_is right_is on_r on_m e some on_c on_d u1 first_is u2 last_is u3 upper_is =
       let root = IsRoot-child_of laws s (Node c k z d) j y b right split.right right_is in
       let inner = IsRoot-child_of laws s c k z d middle split.right.1 (sym (picked-is _ cm picked middle e some) ∙ on_m ∙ root.left) in
-      let test : ltb (height_in f.height cr + 0) (height_in f.height cm) ≡ ltb (stored f b) (stored f (Node c k z d)) = rw (on_r ∙ root.right, on_m ∙ root.left, add-zero) refl in
+      let test : ltb (height_in f.height cr) (height_in f.height cm) ≡ ltb (stored f b) (stored f (Node c k z d)) = rw (on_r ∙ root.right, on_m ∙ root.left) refl in
       let turn = sym test ∙ picked-test _ cm picked middle e some in
       subst (λ t. IsPlaced f s s3 t low high upper) (sym (cond-true (ltb (stored f b) (stored f (Node c k z d))) (Node (Node l p x c) k z (Node d j y b)) (Node (Node l p x (Node c k z d)) j y b) turn))
       (twice_left laws split same root.same inner.same root.link inner.link refl left_is (on_c ∙ inner.left) (on_d ∙ inner.right) (on_r ∙ root.right) u1 first_is u2 last_is u3 upper_is)
 
-  -- a child that is not picked is not higher
-  not_higher : (a b picked : Option (Child R)) (by : ℕ) → picked ≡ cond (ltb (height_in f.height b + by) (height_in f.height a)) a None → picked ≡ None → ltb (height_in f.height b + by) (height_in f.height a) ≡ false
-  not_higher None b picked by e h = le-ltb (height_in f.height b + by) 0 (omega arith)
-  not_higher (Some m) b picked by e h = not_picked _ (Some m) picked m refl e h
+  -- the heights under the links to the parts say which turn it is
+  module _ {s : Slab R} {l r : Tree R} {p low high : ℕ} {x : R} {left right : Option ℕ} (split : IsSplit f s l p x r low high) (left_is : place_of l ≡ left) (right_is : place_of r ≡ right) where
+    height_left : height_at f s left ≡ stored f l
+    height_left = height_at-link f s l split.left left_is
 
-  pub balanced-right : (P : Tree R → Type 0) (l : Tree R) (p : ℕ) (x : R) (r : Tree R) (cl cr picked : Option (Child R)) (m : Child R) → cl ≡ child_of f l → cr ≡ child_of f r → picked ≡ cond (ltb (height_in f.height cr + 1) (height_in f.height cl)) cl None → picked ≡ Some m → P (leaned_right f l p x r) → P (balanced f l p x r)
-  unfolding balanced
-  balanced-right P l p x r cl cr picked m left_is right_is e some h =
-      let same : ltb (height_in f.height cr + 1) (height_in f.height cl) ≡ ltb (stored f r + 1) (stored f l) = rw (left_is, right_is) refl in
-      subst P (sym (cond-true (ltb (stored f r + 1) (stored f l)) (leaned_right f l p x r) (cond (ltb (stored f l + 1) (stored f r)) (leaned_left f l p x r) (Node l p x r)) (sym same ∙ picked-test _ cl picked m e some))) h
+    height_right : height_at f s right ≡ stored f r
+    height_right = height_at-link f s r split.right right_is
 
-  balanced-not_right : (P : Tree R → Type 0) (l : Tree R) (p : ℕ) (x : R) (r : Tree R) (cl cr picked : Option (Child R)) → cl ≡ child_of f l → cr ≡ child_of f r → picked ≡ cond (ltb (height_in f.height cr + 1) (height_in f.height cl)) cl None → picked ≡ None → P (cond (ltb (stored f l + 1) (stored f r)) (leaned_left f l p x r) (Node l p x r)) → P (balanced f l p x r)
-  unfolding balanced
-  balanced-not_right P l p x r cl cr picked left_is right_is e none h =
-      let same : ltb (height_in f.height cr + 1) (height_in f.height cl) ≡ ltb (stored f r + 1) (stored f l) = rw (left_is, right_is) refl in
-      subst P (sym (cond-false (ltb (stored f r + 1) (stored f l)) (leaned_right f l p x r) (cond (ltb (stored f l + 1) (stored f r)) (leaned_left f l p x r) (Node l p x r)) (sym same ∙ not_higher cl cr picked 1 e none))) h
+    pub balanced-right : height_at f s right + 1 < height_at f s left → balanced f l p x r ≡ leaned_right f l p x r
+    unfolding balanced
+    balanced-right h = cond-true (ltb (stored f r + 1) (stored f l)) _ _ (lt-ltb _ _ (omega (arith, height_left, height_right)))
 
-  pub balanced-left : (P : Tree R → Type 0) (l : Tree R) (p : ℕ) (x : R) (r : Tree R) (cl cr first picked : Option (Child R)) (m : Child R) → cl ≡ child_of f l → cr ≡ child_of f r → first ≡ cond (ltb (height_in f.height cr + 1) (height_in f.height cl)) cl None → first ≡ None → picked ≡ cond (ltb (height_in f.height cl + 1) (height_in f.height cr)) cr None → picked ≡ Some m → P (leaned_left f l p x r) → P (balanced f l p x r)
-  balanced-left P l p x r cl cr first picked m left_is right_is e none g some h =
-      let same : ltb (height_in f.height cl + 1) (height_in f.height cr) ≡ ltb (stored f l + 1) (stored f r) = rw (left_is, right_is) refl in
-      balanced-not_right P l p x r cl cr first left_is right_is e none (subst P (sym (cond-true (ltb (stored f l + 1) (stored f r)) (leaned_left f l p x r) (Node l p x r) (sym same ∙ picked-test _ cr picked m g some))) h)
+    pub balanced-left : height_at f s left + 1 < height_at f s right → balanced f l p x r ≡ leaned_left f l p x r
+    unfolding balanced
+    balanced-left h =
+        cond-false (ltb (stored f r + 1) (stored f l)) _ _ (le-ltb _ _ (omega (arith, height_left, height_right))) ∙ cond-true (ltb (stored f l + 1) (stored f r)) _ _ (lt-ltb _ _ (omega (arith, height_left, height_right)))
 
-  pub balanced-level : (P : Tree R → Type 0) (l : Tree R) (p : ℕ) (x : R) (r : Tree R) (cl cr first picked : Option (Child R)) → cl ≡ child_of f l → cr ≡ child_of f r → first ≡ cond (ltb (height_in f.height cr + 1) (height_in f.height cl)) cl None → first ≡ None → picked ≡ cond (ltb (height_in f.height cl + 1) (height_in f.height cr)) cr None → picked ≡ None → P (Node l p x r) → P (balanced f l p x r)
-  balanced-level P l p x r cl cr first picked left_is right_is e none g still h =
-      let same : ltb (height_in f.height cl + 1) (height_in f.height cr) ≡ ltb (stored f l + 1) (stored f r) = rw (left_is, right_is) refl in
-      balanced-not_right P l p x r cl cr first left_is right_is e none (subst P (sym (cond-false (ltb (stored f l + 1) (stored f r)) (leaned_left f l p x r) (Node l p x r) (sym same ∙ not_higher cr cl picked 1 g still))) h)
+    pub balanced-level : height_at f s left ≤ height_at f s right + 1 → height_at f s right ≤ height_at f s left + 1 → balanced f l p x r ≡ Node l p x r
+    unfolding balanced
+    balanced-level g h =
+        cond-false (ltb (stored f r + 1) (stored f l)) _ _ (le-ltb _ _ (omega (arith, height_left, height_right))) ∙ cond-false (ltb (stored f l + 1) (stored f r)) _ _ (le-ltb _ _ (omega (arith, height_left, height_right)))

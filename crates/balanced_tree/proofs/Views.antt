@@ -1,15 +1,14 @@
 -- The rows that a slab and a link show are those of the tree that stands there.
-use Rattle.std.proofs.Common.{◌≡◌, inl, ℕ, zero, suc, ◌+◌, ◌-◌, ◌*◌, ◌<◌, ◌≤◌, ◌^◌, Bool, true, false, cond, [], length, Option, None, Some, is_some, IsSome, IsNone, eqb, slice_index_or, count_by, refl, sym, ap, ◌∙◌, subst, arith}
+use Rattle.std.proofs.Common.{◌≡◌, inl, ℕ, zero, suc, ◌+◌, ◌-◌, ◌*◌, ◌<◌, ◌≤◌, ◌^◌, true, false, [], length, Option, None, Some, is_some, IsSome, IsNone, slice_index_or, count_by, refl, sym, ap, ◌∙◌, subst, arith}
 use Rattle.slab.specs.Slab.{Slab, slab_len}
-use Rattle.balanced_tree.specs.declared.children.Child.{Child}
-use Rattle.balanced_tree.specs.Row.{Functions, AreLawful, plain, link_of}
+use Rattle.balanced_tree.specs.Row.{Functions, AreLawful, plain}
 use Rattle.balanced_tree.specs.Rows.{if_at, row_at, row_from, row_to, with_row, without_rank, IsRising}
-use Rattle.balanced_tree.specs.Tree.{Tree, Leaf, Node, place_of, height, child_of, rows_of, has_rank, found, inserted, removed}
+use Rattle.balanced_tree.specs.Tree.{Tree, Leaf, Node, place_of, height, child_of, rows_of, has_rank, row_in, found, inserted, removed}
 use Rattle.balanced_tree.specs.Standing.{Spells, IsStanding, StandsFor, HasInserted, HasRemoved, height_at, rows_down, rows_in, IsTree}
 use Rattle.balanced_tree.proofs.Spelling.{link_of-child_of, child_at-place_of}
 use Rattle.balanced_tree.proofs.Nodes.{height_at-standing}
 use Rattle.balanced_tree.proofs.TreeLaws.{IsGrown, IsShrunk, grown-inserted, shrunk-removed}
-use Rattle.balanced_tree.proofs.RowLaws.{option_or-none, rises-rows, rows-inserted, rows-removed, found-row_from, found-row_to, has_rank-row_at, length-inserted, length-removed, row_at-row_from}
+use Rattle.balanced_tree.proofs.RowLaws.{option_or-none, rises-rows, rows-inserted, rows-removed, found-row_from, found-row_to, row_in-row_at, length-inserted, length-removed, row_at-row_from}
 use Rattle.balanced_tree.proofs.Costs.{height-short, look_cost, change_cost}
 
 module _ {R : Type 0} (f : Functions R) (laws : AreLawful f) where
@@ -81,30 +80,30 @@ module _ {R : Type 0} (f : Functions R) (laws : AreLawful f) where
   pub row_at-IsTree : {s : Slab R} {root : Option ℕ} (n : ℕ) → (h : IsTree f s root) → row_at f n (rows_in f s root).rows ≡ if_at f n (found f false n None h.tree)
   row_at-IsTree n h = row_at-row_from f n 0 (2 ^ 128) _ (rising-rows h) ∙ ap (if_at f n) (sym (row_from-IsTree n h))
 
+  row_in-IsTree : {s : Slab R} {root : Option ℕ} (n : ℕ) → (h : IsTree f s root) → row_in f n h.tree ≡ row_at f n (rows_in f s root).rows
+  row_in-IsTree n h = row_in-row_at f laws n 0 (2 ^ 128) h.tree h.standing.ordered ∙ ap (row_at f n) (sym (rows_in-standing h.standing))
+
   pub has_rank-IsTree : {s : Slab R} {root : Option ℕ} (n : ℕ) → (h : IsTree f s root) → has_rank f n h.tree ≡ is_some (row_at f n (rows_in f s root).rows)
-  has_rank-IsTree n h = has_rank-row_at f laws n 0 (2 ^ 128) h.tree h.standing.ordered ∙ ap (λ u. is_some (row_at f n u)) (sym (rows_in-standing h.standing))
+  has_rank-IsTree n h = ap is_some (row_in-IsTree n h)
 
   pub look_cost-IsTree : {s : Slab R} {root : Option ℕ} (each before after : ℕ) → (h : IsTree f s root) → after ≤ before + each * height h.tree → 2 ^ (after - before) ≤ (length (rows_in f s root).rows + 1) ^ (2 * each)
   look_cost-IsTree each before after h steps = subst (λ u. 2 ^ (after - before) ≤ (length u + 1) ^ (2 * each)) (sym (rows_in-standing h.standing)) (look_cost f h.tree each before after h.balanced steps)
 
-  pub change_cost-IsTree : {s : Slab R} {root : Option ℕ} (before after : ℕ) → (h : IsTree f s root) → after ≤ before + 10 * height h.tree + 1 → 2 ^ (after - before) ≤ (length (rows_in f s root).rows + 2) ^ 32
+  pub change_cost-IsTree : {s : Slab R} {root : Option ℕ} (before after : ℕ) → (h : IsTree f s root) → after ≤ before + 13 * height h.tree + 1 → 2 ^ (after - before) ≤ (length (rows_in f s root).rows + 2) ^ 32
   change_cost-IsTree before after h steps = subst (λ u. 2 ^ (after - before) ≤ (length u + 2) ^ 32) (sym (rows_in-standing h.standing)) (change_cost f h.tree before after h.balanced steps)
 
   -- the height of a tree in a slab that fits the machine
   height-IsTree : {s : Slab R} {root : Option ℕ} → (h : IsTree f s root) → height h.tree < 2 ^ 31 - 1
   height-IsTree h = height-short f h.tree h.balanced (omega (arith, h.count, h.holds, h.fits))
 
-  module _ {s s1 : Slab R} {root : Option ℕ} (w : R) {c : Child R} {before after : ℕ} (h : IsTree f s root) (made : HasInserted f s s1 w h.tree 0 (2 ^ 128) c before after) where
-    placed_at : Some c.link ≡ place_of (inserted f s.vacant_key w h.tree)
-    placed_at = ap link_of made.child ∙ link_of-child_of f (inserted f s.vacant_key w h.tree)
-
+  module _ {s s1 : Slab R} {root : Option ℕ} (w : R) {c before after : ℕ} (h : IsTree f s root) (made : HasInserted f s s1 w h.tree 0 (2 ^ 128) c before after) where
     grown : IsGrown f h.tree (inserted f s.vacant_key w h.tree)
     grown = grown-inserted f laws s.vacant_key w h.tree h.balanced (omega (arith, height-IsTree h))
 
-    inserted_standing : IsStanding f s1 (Some c.link) (inserted f s.vacant_key w h.tree) 0 (2 ^ 128)
-    inserted_standing = record { spelled = made.becomes.spelled; is_at = sym placed_at; ordered = made.becomes.ordered; short = omega (arith, grown.at_most, height-IsTree h) }
+    inserted_standing : IsStanding f s1 (Some c) (inserted f s.vacant_key w h.tree) 0 (2 ^ 128)
+    inserted_standing = record { spelled = made.becomes.spelled; is_at = made.root; ordered = made.becomes.ordered; short = omega (arith, grown.at_most, height-IsTree h) }
 
-    pub IsTree-inserted : s1.capacity ≡ s.capacity → slab_len s1 ≤ s.capacity → IsTree f s1 (Some c.link)
+    pub IsTree-inserted : s1.capacity ≡ s.capacity → slab_len s1 ≤ s.capacity → IsTree f s1 (Some c)
     IsTree-inserted same holds =
         record {
           tree = inserted f s.vacant_key w h.tree;
@@ -115,11 +114,11 @@ module _ {R : Type 0} (f : Functions R) (laws : AreLawful f) where
           fits = omega (arith, h.fits);
         }
 
-    pub rows-IsTree_inserted : (rows_in f s1 (Some c.link)).rows ≡ with_row f (plain f w) (rows_in f s root).rows
+    pub rows-IsTree_inserted : (rows_in f s1 (Some c)).rows ≡ with_row f (plain f w) (rows_in f s root).rows
     rows-IsTree_inserted =
         rows_in-standing inserted_standing ∙ rows-inserted f laws s.vacant_key w 0 (2 ^ 128) h.tree h.standing.ordered ∙ ap (with_row f (plain f w)) (sym (rows_in-standing h.standing))
 
-  module _ {s s1 : Slab R} {root link : Option ℕ} (n : ℕ) {c : Option (Child R)} {before after : ℕ} (h : IsTree f s root) (made : HasRemoved f s s1 n h.tree 0 (2 ^ 128) c before after) (at : link ≡ link_of c) where
+  module _ {s s1 : Slab R} {root link : Option ℕ} (n : ℕ) {y : Option R} {before after : ℕ} (h : IsTree f s root) (made : HasRemoved f s s1 n h.tree 0 (2 ^ 128) y link before after) where
     shrunk : IsShrunk f h.tree (removed f n h.tree)
     shrunk = shrunk-removed f laws n h.tree h.balanced (omega (arith, height-IsTree h))
 
@@ -127,7 +126,7 @@ module _ {R : Type 0} (f : Functions R) (laws : AreLawful f) where
     removed_standing =
         record {
           spelled = made.becomes.spelled;
-          is_at = sym (at ∙ ap link_of made.child ∙ link_of-child_of f (removed f n h.tree));
+          is_at = made.root;
           ordered = made.becomes.ordered;
           short = omega (arith, shrunk.at_most, height-IsTree h);
         }
@@ -147,20 +146,13 @@ module _ {R : Type 0} (f : Functions R) (laws : AreLawful f) where
     rows-IsTree_removed =
         rows_in-standing removed_standing ∙ rows-removed f laws n 0 (2 ^ 128) h.tree h.standing.ordered ∙ ap (without_rank f n) (sym (rows_in-standing h.standing))
 
+    pub row_at-removed : row_at f n (rows_in f s root).rows ≡ y
+    row_at-removed = sym (made.row ∙ row_in-IsTree n h)
+
   -- what a look-up by rank answers, from what the way down finds
   module _ {s : Slab R} {root : Option ℕ} (n : ℕ) (o : Option R) (h : IsTree f s root) (is : o ≡ found f false n None h.tree) where
     pub at_found : row_at f n (rows_in f s root).rows ≡ if_at f n o
     at_found = row_at-IsTree n h ∙ ap (if_at f n) (sym is)
-
-    -- where there is a row of the rank, the way down finds it
-    pub find-present : IsSome (row_at f n (rows_in f s root).rows) → row_at f n (rows_in f s root).rows ≡ o
-    find-present some = at_found ∙ if_at-is o (subst IsSome at_found some) where
-      if_at-is : (p : Option R) → IsSome (if_at f n p) → if_at f n p ≡ p
-      if_at-is None q = refl
-      if_at-is (Some x) q = if_at-cond (eqb (f.rank x) n) x q where
-        if_at-cond : (b : Bool) (x : R) → IsSome (cond b (Some x) None) → cond b (Some x) None ≡ Some x
-        if_at-cond true x q = refl
-        if_at-cond false x q = cc
 
   -- an insertion where a row has the rank needs no room
   pub StandsFor-present : {s : Slab R} {root : Option ℕ} (n : ℕ) → n < 2 ^ 128 → IsTree f s root → IsSome (row_at f n (rows_in f s root).rows) → StandsFor f s root n

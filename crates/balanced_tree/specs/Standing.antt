@@ -4,7 +4,7 @@ use Rattle.slab.specs.Slab.{Slab, get, slab_len, HasRoomFor}
 use Rattle.balanced_tree.specs.declared.children.Child.{Child}
 use Rattle.balanced_tree.specs.Row.{Functions, height_in, plain}
 use Rattle.balanced_tree.specs.Rows.{Rows}
-use Rattle.balanced_tree.specs.Tree.{Tree, Leaf, Node, place_of, height, IsBalanced, child_of, rows_of, IsOrdered, has_rank, inserted, removed, least, without_least, without_root}
+use Rattle.balanced_tree.specs.Tree.{Tree, Leaf, Node, place_of, height, IsBalanced, child_of, rows_of, IsOrdered, has_rank, row_in, inserted, removed, least, without_least, without_root}
 
 module _ {R : Type 0} where
   -- a row with the link to it, if there is one
@@ -83,53 +83,54 @@ module _ {R : Type 0} (f : Functions R) where
     pub row_from : middle ≤ f.rank x
     pub row_below : f.rank x < past
 
-  -- some trees stand so, with these roots
-  pub record Splits (s : Slab R) (left : Option (Child R)) (p : ℕ) (x : R) (right : Option (Child R)) : Type 0 where
+  -- some trees stand so, under these links
+  pub record Splits (s : Slab R) (left : Option ℕ) (p : ℕ) (x : R) (right : Option ℕ) : Type 0 where
     pub left_tree : Tree R
     pub right_tree : Tree R
     pub low : ℕ
     pub high : ℕ
     pub split : IsSplit s left_tree p x right_tree low high
-    pub left_is : left ≡ child_of f left_tree
-    pub right_is : right ≡ child_of f right_tree
+    pub left_is : place_of left_tree ≡ left
+    pub right_is : place_of right_tree ≡ right
 
-  -- The new slab has the tree with the row w, and c is its root. It has a row more where no row had this rank. The
-  -- count of steps went from `before` to `after`.
-  pub record HasInserted (old new : Slab R) (w : R) (t : Tree R) (low high : ℕ) (c : Child R)
+  -- The new slab has the tree with the row w, and c is the link to its root. It has a row more where no row had this
+  -- rank. The count of steps went from `before` to `after`.
+  pub record HasInserted (old new : Slab R) (w : R) (t : Tree R) (low high c : ℕ)
       (before after : ℕ) : Type 0 where
     pub becomes : Becomes old new (inserted f old.vacant_key w t) low high
-    pub child : Some c ≡ child_of f (inserted f old.vacant_key w t)
+    pub root : place_of (inserted f old.vacant_key w t) ≡ Some c
     pub len : slab_len new ≡ slab_len old + cond (has_rank f (f.rank w) t) 0 1
-    pub steps : after ≤ before + 9 * height t + 1
+    pub steps : after ≤ before + 13 * height t + 1
 
-  -- The new slab has the tree without the row of rank n, and c is its root. It has a row less where a row had this
-  -- rank.
-  pub record HasRemoved (old new : Slab R) (n : ℕ) (t : Tree R) (low high : ℕ) (c : Option (Child R))
+  -- The new slab has the tree without the row of rank n, which is y with no children, and c is the link to its root. It
+  -- has a row less where a row had this rank.
+  pub record HasRemoved (old new : Slab R) (n : ℕ) (t : Tree R) (low high : ℕ) (y : Option R) (c : Option ℕ)
       (before after : ℕ) : Type 0 where
     pub becomes : Becomes old new (removed f n t) low high
-    pub child : c ≡ child_of f (removed f n t)
+    pub row : y ≡ row_in f n t
+    pub root : place_of (removed f n t) ≡ c
     pub len : slab_len new + cond (has_rank f n t) 1 0 ≡ slab_len old
-    pub steps : after ≤ before + 9 * height t
+    pub steps : after ≤ before + 13 * height t
 
-  -- The new slab has the tree without its first row, which is y, and c is the root of what is left.
-  pub record HasTakenLeast (old new : Slab R) (t : Tree R) (low high : ℕ) (y : R) (c : Option (Child R))
+  -- The new slab has the tree without its first row, which is y, and c is the link to the root of what is left.
+  pub record HasTakenLeast (old new : Slab R) (t : Tree R) (low high : ℕ) (y : R) (c : Option ℕ)
       (before after : ℕ) : Type 0 where
     pub spelled : Spells new (without_least f t)
     pub ordered : IsOrdered f (f.rank (least f t y) + 1) high (without_least f t)
     pub kept : Keeps low high old new
-    pub child : c ≡ child_of f (without_least f t)
+    pub root : place_of (without_least f t) ≡ c
     pub row : Same (least f t y) y
     pub from_low : low ≤ f.rank (least f t y)
     pub len : slab_len new + 1 ≡ slab_len old
-    pub steps : after ≤ before + 9 * height t
+    pub steps : after ≤ before + 13 * height t
 
-  -- The new slab has the tree without its root, and c is the new root.
-  pub record HasTakenRoot (old new : Slab R) (t : Tree R) (low high : ℕ) (c : Option (Child R))
+  -- The new slab has the tree without its root, and c is the link to the new root.
+  pub record HasTakenRoot (old new : Slab R) (t : Tree R) (low high : ℕ) (c : Option ℕ)
       (before after : ℕ) : Type 0 where
     pub becomes : Becomes old new (without_root f t) low high
-    pub child : c ≡ child_of f (without_root f t)
+    pub root : place_of (without_root f t) ≡ c
     pub len : slab_len new + 1 ≡ slab_len old
-    pub steps : after + 1 ≤ before + 9 * height t
+    pub steps : after + 1 ≤ before + 13 * height t
 
   -- the height that is stored in the row under a link
   abbrev pub height_at : Slab R → Option ℕ → ℕ

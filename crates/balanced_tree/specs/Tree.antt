@@ -1,5 +1,5 @@
 -- A tree of rows, each under a place of the slab, and what is done to it, as functions of trees.
-use Rattle.std.specs.Prelude.{ℕ, ◌+◌, ◌≤◌, max, Bool, true, false, not, cond, nat_lt, List, [], ◌∷◌, ◌++◌, Option, None, Some}
+use Rattle.std.specs.Prelude.{ℕ, ◌+◌, ◌≤◌, max, Bool, true, false, not, cond, nat_lt, List, [], ◌∷◌, ◌++◌, Option, None, Some, is_some}
 use Rattle.balanced_tree.specs.declared.children.Child.{Child}
 use Rattle.balanced_tree.specs.Row.{Functions, height_in, plain}
 
@@ -47,10 +47,15 @@ module _ {R : Type 0} (f : Functions R) where
   IsOrdered low high Leaf = low ≤ high
   IsOrdered low high (Node l p x r) = IsOrdered low (f.rank x) l × IsOrdered (f.rank x + 1) high r
 
+  -- the row of this rank on the way down by rank, with no children
+  abbrev pub row_in : ℕ → Tree R → Option R
+  row_in n Leaf = None
+  row_in n (Node l p x r) =
+      cond (nat_lt n (f.rank x)) (row_in n l) (cond (nat_lt (f.rank x) n) (row_in n r) (Some (plain f x)))
+
   -- some row on the way down by rank has this rank
   abbrev pub has_rank : ℕ → Tree R → Bool
-  has_rank n Leaf = false
-  has_rank n (Node l p x r) = cond (nat_lt n (f.rank x)) (has_rank n l) (cond (nat_lt (f.rank x) n) (has_rank n r) true)
+  has_rank n t = is_some (row_in n t)
 
   -- the last row on the way down by rank that lies at this rank or past it, or, with `down`, at it or before it, and else what
   -- was found above

@@ -6,7 +6,6 @@ ghost use Rattle.balanced_tree.specs.Gaps.{AreApart, HasNoGap, IsFirstGap};
 ghost use Rattle.balanced_tree.specs.Row.{plain};
 ghost use Rattle.balanced_tree.specs.Rows.{if_at, row_at, row_from, row_to, with_row, without_rank, IsRising};
 
-use crate::children::link_to;
 use crate::descent::find_below;
 use crate::extent_row::ExtentRow;
 use crate::gaps::gap_below;
@@ -116,8 +115,8 @@ impl<R: TreeRow> BalancedTree<R> {
         ensures cost { 2 ^ (steps.new - steps.old) ≤ (length self.old.rows + 2) ^ 32 }
     {
         let _rank = row.rank();
-        let root = insert_below(&mut self.rows, self.root, row, steps);
-        self.root = Some(root.link);
+        let root = insert_below(&mut self.rows, self.root, &row, steps);
+        self.root = Some(root);
     }
 
     /// Puts a row in place of the one of its rank, under the place in the slab where that one stood.
@@ -128,8 +127,8 @@ impl<R: TreeRow> BalancedTree<R> {
         ensures cost { 2 ^ (steps.new - steps.old) ≤ (length self.old.rows + 2) ^ 32 }
     {
         let _rank = row.rank();
-        let root = insert_below(&mut self.rows, self.root, row, steps);
-        self.root = Some(root.link);
+        let root = insert_below(&mut self.rows, self.root, &row, steps);
+        self.root = Some(root);
     }
 
     /// Takes the row of this rank out, and answers it.
@@ -140,11 +139,9 @@ impl<R: TreeRow> BalancedTree<R> {
         ensures spare { self.new.spare ≡ self.old.spare + 1 }
         ensures cost { 2 ^ (steps.new - steps.old) ≤ (length self.old.rows + 2) ^ 32 }
     {
-        let Some(row) = find_below(&self.rows, self.root, rank, false, steps) else {
-            unreachable!()
-        };
-        let root = remove_below(&mut self.rows, self.root, rank, steps);
-        self.root = link_to(root);
+        let mut taken = None;
+        self.root = remove_below(&mut self.rows, self.root, rank, &mut taken, steps);
+        let Some(row) = taken else { unreachable!() };
         row
     }
 

@@ -1,7 +1,6 @@
 //! The way down to a row.
 
-ghost use Rattle.std.specs.Prelude.{◌≡◌, ℕ, ◌+◌, ◌≤◌, Some, None, cond, option_map, option_copied};
-ghost use Rattle.balanced_tree.specs.Row.{plain};
+ghost use Rattle.std.specs.Prelude.{◌≡◌, ℕ, ◌+◌, ◌≤◌, Some, None, cond, option_copied};
 ghost use Rattle.balanced_tree.specs.Standing.{IsStanding, Stands};
 ghost use Rattle.balanced_tree.specs.Tree.{Tree, height, found};
 
@@ -10,8 +9,8 @@ use crate::steps::Steps;
 use crate::tree_row::TreeRow;
 use std::sync::ledger::Ledger;
 
-/// The row of this rank in the tree under a link, with no children. Where there is none, it is the first row of a higher
-/// rank, and with `down` the last row of a lower one. It is copied once, where it is found.
+/// The row of this rank in the tree under a link, with no children. Where there is none, it is the first row of a
+/// higher rank, and with `down` the last row of a lower one. It is copied once, where it is found.
 pub fn find_below<R: TreeRow, L: Ledger>(
     rows: &RowSlab<R>,
     at: Option<usize>,
@@ -25,51 +24,23 @@ pub fn find_below<R: TreeRow, L: Ledger>(
     ensures steps { (t : Tree R) (low high : ℕ) → IsStanding R.functions rows.now at t low high
         → steps.new ≤ steps.old + height t }
 {
-    let row = nearest(rows, at, rank, down, None, steps)?;
-    Some(row.linked(None, None))
-}
-
-/// The same row, where it stands, and `best` where there is none.
-fn nearest<'a, R: TreeRow, L: Ledger>(
-    rows: &'a RowSlab<R>,
-    at: Option<usize>,
-    rank: u128,
-    down: bool,
-    best: Option<&'a R>,
-    steps: &mut Steps<L>,
-) -> Option<&'a R>
-    requires { Stands R.functions rows.now at }
-    ensures row { (t : Tree R) (low high : ℕ) → IsStanding R.functions rows.now at t low high
-        → option_map (plain R.functions) (option_copied result)
-        ≡ found R.functions down rank (option_map (plain R.functions) (option_copied best.entry)) t }
-    ensures steps { (t : Tree R) (low high : ℕ) → IsStanding R.functions rows.now at t low high
-        → steps.new ≤ steps.old + height t }
-{
-    let Some(place) = at else {
-        return best;
-    };
-    let here = rows.look(place, steps);
-    if rank < here.rank() {
-        nearest(
-            rows,
-            here.left(),
-            rank,
-            down,
-            nearer(best, here, !down),
-            steps,
-        )
-    } else if here.rank() < rank {
-        nearest(
-            rows,
-            here.right(),
-            rank,
-            down,
-            nearer(best, here, down),
-            steps,
-        )
-    } else {
-        Some(here)
+    let mut at = at;
+    let mut best = None;
+    while let Some(place) = at {
+        let here = rows.look(place, steps);
+        let there = here.rank();
+        if rank < there {
+            best = nearer(best, here, !down);
+            at = here.left();
+        } else if there < rank {
+            best = nearer(best, here, down);
+            at = here.right();
+        } else {
+            best = Some(here);
+            at = None;
+        }
     }
+    Some(best?.linked(None, None))
 }
 
 /// This row where it lies on the side that is looked at, and else what was found before.

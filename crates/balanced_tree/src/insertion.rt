@@ -4,43 +4,42 @@ ghost use Rattle.std.specs.Prelude.{◌≡◌, ℕ, ◌<◌, ◌≤◌};
 ghost use Rattle.balanced_tree.specs.Tree.{Tree};
 ghost use Rattle.balanced_tree.specs.Standing.{IsStanding, StandsFor, HasInserted};
 
-use crate::children::Child;
-use crate::rotation::{balance, left_child, place_over, right_child};
+use crate::rotation::{balance, put_over};
 use crate::row_slab::RowSlab;
 use crate::steps::Steps;
 use crate::tree_row::TreeRow;
 use std::sync::ledger::Ledger;
 
-/// Puts a row into the tree under a link, in place of the row of its rank if there is one, and answers the root.
+/// Puts a row into the tree under a link, in place of the row of its rank if there is one, and answers the link to the
+/// root.
 pub fn insert_below<R: TreeRow, L: Ledger>(
     rows: &mut RowSlab<R>,
     at: Option<usize>,
-    row: R,
+    row: &R,
     steps: &mut Steps<L>,
-) -> Child<R>
-    requires { StandsFor R.functions rows.old at (R.functions.rank row) }
+) -> usize
+    requires { StandsFor R.functions rows.old at (R.functions.rank row.now) }
     ensures inserted { (t : Tree R) (low high : ℕ) → IsStanding R.functions rows.old at t low high
-        → low ≤ R.functions.rank row → R.functions.rank row < high
-        → HasInserted R.functions rows.old rows.new row t low high result steps.old steps.new }
+        → low ≤ R.functions.rank row.now → R.functions.rank row.now < high
+        → HasInserted R.functions rows.old rows.new row.now t low high result steps.old steps.new }
     ensures capacity { rows.new.capacity ≡ rows.old.capacity }
 {
     let Some(place) = at else {
-        let row = row.linked(None, None);
-        let link = rows.add(row, steps);
-        return Child { link, row };
+        return rows.add(row.linked(None, None), steps);
     };
-    let here = rows.row(place, steps);
+    let here = rows.look(place, steps);
     if row.rank() < here.rank() {
-        let left = insert_below(rows, here.left(), row, steps);
-        let right = right_child(rows, here, steps);
-        balance(rows, place, here, Some(left), right, steps)
+        let below = here.left();
+        let left = insert_below(rows, below, row, steps);
+        let here = rows.row(place, steps);
+        balance(rows, place, here, Some(left), here.right(), steps)
     } else if here.rank() < row.rank() {
-        let right = insert_below(rows, here.right(), row, steps);
-        let left = left_child(rows, here, steps);
-        balance(rows, place, here, left, Some(right), steps)
+        let below = here.right();
+        let right = insert_below(rows, below, row, steps);
+        let here = rows.row(place, steps);
+        balance(rows, place, here, here.left(), Some(right), steps)
     } else {
-        let left = left_child(rows, here, steps);
-        let right = right_child(rows, here, steps);
-        place_over(rows, place, row, left, right, steps)
+        let (left, right) = (here.left(), here.right());
+        put_over(rows, place, *row, left, right, steps)
     }
 }

@@ -1,22 +1,20 @@
 //! A row that is taken out of the tree.
 
 ghost use Rattle.std.specs.Prelude.{◌≡◌, ℕ, Some};
-ghost use Rattle.slab.specs.Slab.{get};
 ghost use Rattle.balanced_tree.specs.Tree.{Tree};
 ghost use Rattle.balanced_tree.specs.Standing.{IsStanding, Stands, HasRemoved, HasTakenLeast, HasTakenRoot};
 
-use crate::children::Child;
-use crate::rotation::{balance, left_child, right_child};
+use crate::rotation::balance;
 use crate::row_slab::RowSlab;
 use crate::steps::Steps;
 use crate::tree_row::TreeRow;
 use std::sync::ledger::Ledger;
 
-/// A row that was the first of a tree, and the root of the rest.
+/// A row that was the first of a tree, and the link to the root of the rest.
 #[derive(Clone, Copy)]
 struct Least<R> {
     row: R,
-    rest: Option<Child<R>>,
+    rest: Option<usize>,
 }
 
 /// Takes the first row out of the tree at a place.
@@ -30,68 +28,74 @@ fn take_least<R: TreeRow, L: Ledger>(
         → HasTakenLeast R.functions rows.old rows.new t low high result.row result.rest steps.old steps.new }
     ensures capacity { rows.new.capacity ≡ rows.old.capacity }
 {
-    let here = rows.row(place, steps);
+    let here = rows.look(place, steps);
     let Some(left) = here.left() else {
-        let rest = right_child(rows, here, steps);
-        rows.take(place, steps);
-        return Least { row: here, rest };
+        let rest = here.right();
+        let row = rows.take(place, steps);
+        return Least { row, rest };
     };
     let Least { row, rest } = take_least(rows, left, steps);
-    let right = right_child(rows, here, steps);
-    let root = balance(rows, place, here, rest, right, steps);
+    let here = rows.row(place, steps);
+    let root = balance(rows, place, here, rest, here.right(), steps);
     Least {
         row,
         rest: Some(root),
     }
 }
 
-/// Takes the row at a place out of the tree there, and answers the root of its two children as one tree. Where there
-/// is a right child, the first row below it goes to this place.
+/// Takes the row at a place out of the tree there, and answers the link to the root of its two children as one tree.
+/// Where there is a right child, the first row below it goes to this place.
 fn take_root<R: TreeRow, L: Ledger>(
     rows: &mut RowSlab<R>,
     place: usize,
-    here: R,
     steps: &mut Steps<L>,
-) -> Option<Child<R>>
-    requires stands { Stands R.functions rows.old (Some place) }
-    requires at { get rows.old place ≡ Some here }
+) -> Option<usize>
+    requires { Stands R.functions rows.old (Some place) }
     ensures taken { (t : Tree R) (low high : ℕ) → IsStanding R.functions rows.old (Some place) t low high
         → HasTakenRoot R.functions rows.old rows.new t low high result steps.old steps.new }
     ensures capacity { rows.new.capacity ≡ rows.old.capacity }
 {
+    let here = rows.look(place, steps);
+    let left = here.left();
     let Some(next) = here.right() else {
-        let rest = left_child(rows, here, steps);
         rows.take(place, steps);
-        return rest;
+        return left;
     };
-    let Least { row, rest } = take_least(rows, next, steps);
-    let left = left_child(rows, here, steps);
-    Some(balance(rows, place, row, left, rest, steps))
+    let Least { row, rest: right } = take_least(rows, next, steps);
+    Some(balance(rows, place, row, left, right, steps))
 }
 
-/// Takes the row of this rank out of the tree under a link, if there is one, and answers the root.
+/// Takes the row of this rank out of the tree under a link, if there is one, and answers the link to the root. The row
+/// goes to `taken`, with no children.
 pub fn remove_below<R: TreeRow, L: Ledger>(
     rows: &mut RowSlab<R>,
     at: Option<usize>,
     rank: u128,
+    taken: &mut Option<R>,
     steps: &mut Steps<L>,
-) -> Option<Child<R>>
+) -> Option<usize>
     requires { Stands R.functions rows.old at }
     ensures removed { (t : Tree R) (low high : ℕ) → IsStanding R.functions rows.old at t low high
-        → HasRemoved R.functions rows.old rows.new rank t low high result steps.old steps.new }
+        → HasRemoved R.functions rows.old rows.new rank t low high taken.new result steps.old steps.new }
     ensures capacity { rows.new.capacity ≡ rows.old.capacity }
 {
-    let place = at?;
-    let here = rows.row(place, steps);
+    let Some(place) = at else {
+        *taken = None;
+        return None;
+    };
+    let here = rows.look(place, steps);
     if rank < here.rank() {
-        let left = remove_below(rows, here.left(), rank, steps);
-        let right = right_child(rows, here, steps);
-        Some(balance(rows, place, here, left, right, steps))
+        let below = here.left();
+        let left = remove_below(rows, below, rank, taken, steps);
+        let here = rows.row(place, steps);
+        Some(balance(rows, place, here, left, here.right(), steps))
     } else if here.rank() < rank {
-        let right = remove_below(rows, here.right(), rank, steps);
-        let left = left_child(rows, here, steps);
-        Some(balance(rows, place, here, left, right, steps))
+        let below = here.right();
+        let right = remove_below(rows, below, rank, taken, steps);
+        let here = rows.row(place, steps);
+        Some(balance(rows, place, here, here.left(), right, steps))
     } else {
-        take_root(rows, place, here, steps)
+        *taken = Some(here.linked(None, None));
+        take_root(rows, place, steps)
     }
 }

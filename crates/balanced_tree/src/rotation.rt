@@ -1,11 +1,11 @@
 //! A row over its two children, with a rotation where their heights differ by two.
 
-ghost use Rattle.std.specs.Prelude.{◌≡◌, ℕ, ◌+◌, ◌^◌, ◌<◌, ◌≤◌, IsTrue, nat_lt, if◌then◌else◌, Some, None};
+ghost use Rattle.std.specs.Prelude.{◌≡◌, ℕ, ◌+◌, ◌^◌, ◌<◌, ◌≤◌, nat_lt, if◌then◌else◌, Some, None};
 ghost use Rattle.std.specs.Option.{ForSome};
 ghost use Rattle.slab.specs.Slab.{get, slab_len, ContainsKey, Updates};
 ghost use Rattle.balanced_tree.specs.Row.{height_in};
-ghost use Rattle.balanced_tree.specs.Tree.{Tree, Node, child_of, leaned_right, leaned_left, balanced};
-ghost use Rattle.balanced_tree.specs.Standing.{child_at, IsSplit, Splits, Becomes, Same};
+ghost use Rattle.balanced_tree.specs.Tree.{Tree, Node, place_of, leaned_right, leaned_left, balanced};
+ghost use Rattle.balanced_tree.specs.Standing.{child_at, height_at, IsSplit, Splits, Becomes, Same};
 
 use crate::children::Child;
 use crate::row_slab::RowSlab;
@@ -13,34 +13,38 @@ use crate::steps::Steps;
 use crate::tree_row::TreeRow;
 use std::sync::ledger::Ledger;
 
-/// The left child of a row.
-pub fn left_child<R: TreeRow, L: Ledger>(
+/// The child under a link, if there is one.
+#[inline(always)]
+fn child_under<R: TreeRow, L: Ledger>(
     rows: &RowSlab<R>,
-    row: R,
+    at: Option<usize>,
     steps: &mut Steps<L>,
 ) -> Option<Child<R>>
-    requires { ForSome (R.functions.left row) (ContainsKey rows.now) }
-    ensures child { result ≡ child_at rows.now (R.functions.left row) }
+    requires { ForSome at (ContainsKey rows.now) }
+    ensures child { result ≡ child_at rows.now at }
     ensures steps { steps.new ≤ steps.old + 1 }
 {
-    let link = row.left()?;
+    let link = at?;
     let row = rows.row(link, steps);
     Some(Child { link, row })
 }
 
-/// The right child of a row.
-pub fn right_child<R: TreeRow, L: Ledger>(
+/// The height that is stored under a link; under no link it is 0.
+#[inline(always)]
+fn height_under<R: TreeRow, L: Ledger>(
     rows: &RowSlab<R>,
-    row: R,
+    at: Option<usize>,
     steps: &mut Steps<L>,
-) -> Option<Child<R>>
-    requires { ForSome (R.functions.right row) (ContainsKey rows.now) }
-    ensures child { result ≡ child_at rows.now (R.functions.right row) }
+) -> u64
+    requires { ForSome at (ContainsKey rows.now) }
+    ensures height { result ≡ height_at R.functions rows.now at }
+    ensures fits { result < 2 ^ 32 }
     ensures steps { steps.new ≤ steps.old + 1 }
 {
-    let link = row.right()?;
-    let row = rows.row(link, steps);
-    Some(Child { link, row })
+    match at {
+        None => 0,
+        Some(place) => u64::from(rows.look(place, steps).height()),
+    }
 }
 
 /// The height of a child; no child has the height 0.
@@ -54,23 +58,19 @@ fn height_of<R: TreeRow>(child: Option<Child<R>>) -> u64
     }
 }
 
-/// The child, if it is higher than the other one by more than this.
-fn if_higher<R: TreeRow>(
-    child: Option<Child<R>>,
-    other: Option<Child<R>>,
-    by: u32,
-) -> Option<Child<R>>
+/// The child, if it is higher than the other one.
+fn if_higher<R: TreeRow>(child: Option<Child<R>>, other: Option<Child<R>>) -> Option<Child<R>>
     ensures { result ≡
-        (if nat_lt (height_in R.functions.height other + by) (height_in R.functions.height child) then child else None) }
+        (if nat_lt (height_in R.functions.height other) (height_in R.functions.height child) then child else None) }
 {
-    if height_of(other) + u64::from(by) < height_of(child) {
+    if height_of(other) < height_of(child) {
         return child;
     }
     None
 }
 
 /// Puts a row under a place, over these children.
-pub fn place_over<R: TreeRow, L: Ledger>(
+fn place_over<R: TreeRow, L: Ledger>(
     rows: &mut RowSlab<R>,
     place: usize,
     row: R,
@@ -90,109 +90,141 @@ pub fn place_over<R: TreeRow, L: Ledger>(
     Child { link: place, row }
 }
 
+/// Puts a row under a place, over the children under these links, and answers the place.
+#[inline(always)]
+pub fn put_over<R: TreeRow, L: Ledger>(
+    rows: &mut RowSlab<R>,
+    place: usize,
+    row: R,
+    left: Option<usize>,
+    right: Option<usize>,
+    steps: &mut Steps<L>,
+) -> usize
+    requires place { ContainsKey rows.old place }
+    requires left { ForSome left (ContainsKey rows.old) }
+    requires right { ForSome right (ContainsKey rows.old) }
+    ensures place { result ≡ place }
+    ensures updates { Updates rows.old rows.new place
+        (Some (R.functions.linked row (child_at rows.old left) (child_at rows.old right))) }
+    ensures len { slab_len rows.new ≡ slab_len rows.old }
+    ensures capacity { rows.new.capacity ≡ rows.old.capacity }
+    ensures steps { steps.new ≤ steps.old + 3 }
+{
+    let left = child_under(rows, left, steps);
+    let right = child_under(rows, right, steps);
+    place_over(rows, place, row, left, right, steps).link
+}
+
 /// The row with the left child as its parent: the left child is too high.
+#[inline(never)]
 fn lean_right<R: TreeRow, L: Ledger>(
     rows: &mut RowSlab<R>,
     place: usize,
     row: R,
-    left: Child<R>,
-    right: Option<Child<R>>,
+    left: Option<usize>,
+    right: Option<usize>,
     steps: &mut Steps<L>,
-) -> Child<R>
-    requires { Splits R.functions rows.old (Some left) place row right }
+) -> usize
+    requires split { Splits R.functions rows.old left place row right }
+    requires high { height_at R.functions rows.old right < height_at R.functions rows.old left }
     ensures tree { (l : Tree R) (x : R) (r : Tree R) (low high : ℕ) → IsSplit R.functions rows.old l place x r low high
-        → Same R.functions x row → Some left ≡ child_of R.functions l → right ≡ child_of R.functions r
+        → Same R.functions x row → place_of l ≡ left → place_of r ≡ right
         → Becomes R.functions rows.old rows.new (leaned_right R.functions l place x r) low high
-        × (Some result ≡ child_of R.functions (leaned_right R.functions l place x r)) }
+        × (place_of (leaned_right R.functions l place x r) ≡ Some result) }
     ensures len { slab_len rows.new ≡ slab_len rows.old }
     ensures capacity { rows.new.capacity ≡ rows.old.capacity }
-    ensures steps { steps.new ≤ steps.old + 7 }
+    ensures steps { steps.new ≤ steps.old + 9 }
 {
-    let Child { link, row: parent } = left;
-    let outer = left_child(rows, parent, steps);
-    let inner = right_child(rows, parent, steps);
-    match if_higher(inner, outer, 0) {
-        Some(middle) => {
-            let Child {
-                link: top,
-                row: middle,
-            } = middle;
-            let low = left_child(rows, middle, steps);
-            let high = right_child(rows, middle, steps);
-            let first = place_over(rows, link, parent, outer, low, steps);
+    let right = child_under(rows, right, steps);
+    let Some(parent) = child_under(rows, left, steps) else {
+        unreachable!()
+    };
+    let outer = child_under(rows, parent.row.left(), steps);
+    let inner = child_under(rows, parent.row.right(), steps);
+    match if_higher(inner, outer) {
+        Some(top) => {
+            let low = child_under(rows, top.row.left(), steps);
+            let high = child_under(rows, top.row.right(), steps);
+            let first = place_over(rows, parent.link, parent.row, outer, low, steps);
             let last = place_over(rows, place, row, high, right, steps);
-            place_over(rows, top, middle, Some(first), Some(last), steps)
+            place_over(rows, top.link, top.row, Some(first), Some(last), steps).link
         }
         None => {
             let last = place_over(rows, place, row, inner, right, steps);
-            place_over(rows, link, parent, outer, Some(last), steps)
+            place_over(rows, parent.link, parent.row, outer, Some(last), steps).link
         }
     }
 }
 
 /// The row with the right child as its parent: the right child is too high.
+#[inline(never)]
 fn lean_left<R: TreeRow, L: Ledger>(
     rows: &mut RowSlab<R>,
     place: usize,
     row: R,
-    left: Option<Child<R>>,
-    right: Child<R>,
+    left: Option<usize>,
+    right: Option<usize>,
     steps: &mut Steps<L>,
-) -> Child<R>
-    requires { Splits R.functions rows.old left place row (Some right) }
+) -> usize
+    requires split { Splits R.functions rows.old left place row right }
+    requires high { height_at R.functions rows.old left < height_at R.functions rows.old right }
     ensures tree { (l : Tree R) (x : R) (r : Tree R) (low high : ℕ) → IsSplit R.functions rows.old l place x r low high
-        → Same R.functions x row → left ≡ child_of R.functions l → Some right ≡ child_of R.functions r
+        → Same R.functions x row → place_of l ≡ left → place_of r ≡ right
         → Becomes R.functions rows.old rows.new (leaned_left R.functions l place x r) low high
-        × (Some result ≡ child_of R.functions (leaned_left R.functions l place x r)) }
+        × (place_of (leaned_left R.functions l place x r) ≡ Some result) }
     ensures len { slab_len rows.new ≡ slab_len rows.old }
     ensures capacity { rows.new.capacity ≡ rows.old.capacity }
-    ensures steps { steps.new ≤ steps.old + 7 }
+    ensures steps { steps.new ≤ steps.old + 9 }
 {
-    let Child { link, row: parent } = right;
-    let outer = right_child(rows, parent, steps);
-    let inner = left_child(rows, parent, steps);
-    match if_higher(inner, outer, 0) {
-        Some(middle) => {
-            let Child {
-                link: top,
-                row: middle,
-            } = middle;
-            let low = left_child(rows, middle, steps);
-            let high = right_child(rows, middle, steps);
+    let left = child_under(rows, left, steps);
+    let Some(parent) = child_under(rows, right, steps) else {
+        unreachable!()
+    };
+    let outer = child_under(rows, parent.row.right(), steps);
+    let inner = child_under(rows, parent.row.left(), steps);
+    match if_higher(inner, outer) {
+        Some(top) => {
+            let low = child_under(rows, top.row.left(), steps);
+            let high = child_under(rows, top.row.right(), steps);
             let first = place_over(rows, place, row, left, low, steps);
-            let last = place_over(rows, link, parent, high, outer, steps);
-            place_over(rows, top, middle, Some(first), Some(last), steps)
+            let last = place_over(rows, parent.link, parent.row, high, outer, steps);
+            place_over(rows, top.link, top.row, Some(first), Some(last), steps).link
         }
         None => {
             let first = place_over(rows, place, row, left, inner, steps);
-            place_over(rows, link, parent, Some(first), outer, steps)
+            place_over(rows, parent.link, parent.row, Some(first), outer, steps).link
         }
     }
 }
 
 /// The row over two children whose heights may differ by two: one of them, or a child of it, becomes its parent there.
+/// It answers the link to what stands there then. Where the heights differ by at most one, only the stored heights of the
+/// two are looked at.
+#[inline(always)]
 pub fn balance<R: TreeRow, L: Ledger>(
     rows: &mut RowSlab<R>,
     place: usize,
     row: R,
-    left: Option<Child<R>>,
-    right: Option<Child<R>>,
+    left: Option<usize>,
+    right: Option<usize>,
     steps: &mut Steps<L>,
-) -> Child<R>
+) -> usize
     requires { Splits R.functions rows.old left place row right }
     ensures tree { (l : Tree R) (x : R) (r : Tree R) (low high : ℕ) → IsSplit R.functions rows.old l place x r low high
-        → Same R.functions x row → left ≡ child_of R.functions l → right ≡ child_of R.functions r
+        → Same R.functions x row → place_of l ≡ left → place_of r ≡ right
         → Becomes R.functions rows.old rows.new (balanced R.functions l place x r) low high
-        × (Some result ≡ child_of R.functions (balanced R.functions l place x r)) }
+        × (place_of (balanced R.functions l place x r) ≡ Some result) }
     ensures len { slab_len rows.new ≡ slab_len rows.old }
     ensures capacity { rows.new.capacity ≡ rows.old.capacity }
-    ensures steps { steps.new ≤ steps.old + 7 }
+    ensures steps { steps.new ≤ steps.old + 11 }
 {
-    if let Some(child) = if_higher(left, right, 1) {
-        return lean_right(rows, place, row, child, right, steps);
+    let left_height = height_under(rows, left, steps);
+    let right_height = height_under(rows, right, steps);
+    if right_height + 1 < left_height {
+        return lean_right(rows, place, row, left, right, steps);
     }
-    match if_higher(right, left, 1) {
-        Some(child) => lean_left(rows, place, row, left, child, steps),
-        None => place_over(rows, place, row, left, right, steps),
+    if left_height + 1 < right_height {
+        return lean_left(rows, place, row, left, right, steps);
     }
+    put_over(rows, place, row, left, right, steps)
 }

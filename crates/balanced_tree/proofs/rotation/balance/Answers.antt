@@ -1,27 +1,21 @@
-use Rattle.std.proofs.Common.{sym, ◌∙◌, refl, ◌≡◌, Some}
-use Rattle.balanced_tree.specs.Tree.{child_of}
-use Rattle.balanced_tree.specs.Standing.{Becomes}
-use Rattle.balanced_tree.proofs.Spelling.{none_from, picked-is, place_over-tree}
+use Rattle.std.proofs.Common.{refl, sym, ap, arith, Some}
+use Rattle.balanced_tree.proofs.Spelling.{child_at-link, place_over-tree}
 use Rattle.balanced_tree.proofs.Turns.{balanced-right, balanced-left, balanced-level}
 use Rattle.balanced_tree.proofs.rotation.balance.Goals as goal
 
-pub returns-in-Some-clause-tree : goal.returns-in-Some-clause-tree
-returns-in-Some-clause-tree g c =
-    let f = g.R.TreeRow.functions in
+pub returns-then-right_height-left_height-clause-tree : goal.returns-then-right_height-left_height-clause-tree
+returns-then-right_height-left_height-clause-tree g c =
     λ l x r low high split same left_is right_is.
-    let made = c.lean_right.ensures.tree l x r low high split same (sym (picked-is _ _ _ _ c.if_higher.ensures c.in-Some.is) ∙ left_is) right_is in
-    balanced-right f (λ t. Becomes f c.args.rows.now c.lean_right.new.rows t low high × (Some c.lean_right.result ≡ child_of f t)) l _ x r _ _ _ _ left_is right_is c.if_higher.ensures c.in-Some.is made
+    rw (balanced-right g.R.TreeRow.functions split left_is right_is (omega (arith, c.height_under-left_height.ensures.height, c.height_under-right_height.ensures.height, c.if-right_height-left_height.true))) (c.lean_right.ensures.tree l x r low high split same left_is right_is)
 
-pub returns-in-Some-if_higher-clause-tree : goal.returns-in-Some-if_higher-clause-tree
-returns-in-Some-if_higher-clause-tree g c =
-    let f = g.R.TreeRow.functions in
+pub returns-then-left_height-right_height-clause-tree : goal.returns-then-left_height-right_height-clause-tree
+returns-then-left_height-right_height-clause-tree g c =
     λ l x r low high split same left_is right_is.
-    let made = c.lean_left.ensures.tree l x r low high split same left_is (sym (picked-is _ _ _ _ c.if_higher-2.ensures c.in-Some-if_higher.is) ∙ right_is) in
-    balanced-left f (λ t. Becomes f c.args.rows.now c.lean_left.new.rows t low high × (Some c.lean_left.result ≡ child_of f t)) l _ x r _ _ _ _ _ left_is right_is c.if_higher.ensures (none_from _ c.in_default.not-Some) c.if_higher-2.ensures c.in-Some-if_higher.is made
+    rw (balanced-left g.R.TreeRow.functions split left_is right_is (omega (arith, c.height_under-left_height.ensures.height, c.height_under-right_height.ensures.height, c.if-left_height-right_height.true))) (c.lean_left.ensures.tree l x r low high split same left_is right_is)
 
-pub returns-in-None-clause-tree : goal.returns-in-None-clause-tree
-returns-in-None-clause-tree g c =
+pub returns-clause-tree : goal.returns-clause-tree
+returns-clause-tree g c =
     let f = g.R.TreeRow.functions in
     λ l x r low high split same left_is right_is.
-    let placed = place_over-tree f g.met.R.TreeRow.lawful split same left_is right_is refl c.place_over.ensures.updates c.place_over.ensures.child in
-    balanced-level f (λ t. Becomes f c.args.rows.now c.place_over.new.rows t low high × (Some c.place_over.result ≡ child_of f t)) l _ x r _ _ _ _ left_is right_is c.if_higher.ensures (none_from _ c.in_default.not-Some) c.if_higher-2.ensures c.in-None.is (placed.becomes, placed.child)
+    let placed = place_over-tree f g.met.R.TreeRow.lawful split same (child_at-link f c.args.rows.now l split.left left_is) (child_at-link f c.args.rows.now r split.right right_is) refl c.put_over.ensures.updates refl in
+    rw (balanced-level f split left_is right_is (omega (arith, c.height_under-left_height.ensures.height, c.height_under-right_height.ensures.height, c.if-right_height-left_height.false)) (omega (arith, c.height_under-left_height.ensures.height, c.height_under-right_height.ensures.height, c.if-left_height-right_height.false))) (placed.becomes, ap Some (sym c.put_over.ensures.place))

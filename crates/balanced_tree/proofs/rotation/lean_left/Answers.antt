@@ -1,47 +1,45 @@
-use Rattle.balanced_tree.proofs.Spelling.{HasParts-Splits_right, HasParts-picked_left, readable-left, readable-right, ContainsKey-at, ContainsKey-Updates}
+use Rattle.std.proofs.Common.{sym, ap, ◌∙◌}
+use Rattle.balanced_tree.specs.Standing.{child_at}
+use Rattle.balanced_tree.proofs.Spelling.{picked-is, child_at-link, HasParts-link, readable-left, readable-right, IsPlaced-root}
 use Rattle.balanced_tree.proofs.Turns.{leaned_left-once, leaned_left-twice}
 use Rattle.balanced_tree.proofs.rotation.lean_left.Goals as goal
 
-pub right_child-outer-requires : goal.right_child-outer-requires
-right_child-outer-requires g c =
+pub child_under-outer-requires : goal.child_under-outer-requires
+child_under-outer-requires g c =
     let f = g.R.TreeRow.functions in let law = g.met.R.TreeRow.lawful in
-    λ q e. readable-right f _ _ q (HasParts-Splits_right f law _ _ _ _ _ c.requires) e
+    readable-right f (HasParts-link f law c.args.rows.now c.requires.split.right_tree c.requires.split.split.right c.requires.split.right_is c.child_under.ensures.child c.in-Some.is) c.right.ensures
 
-pub left_child-inner-requires : goal.left_child-inner-requires
-left_child-inner-requires g c =
+pub child_under-inner-requires : goal.child_under-inner-requires
+child_under-inner-requires g c =
     let f = g.R.TreeRow.functions in let law = g.met.R.TreeRow.lawful in
-    λ q e. readable-left f _ _ q (HasParts-Splits_right f law _ _ _ _ _ c.requires) e
+    readable-left f (HasParts-link f law c.args.rows.now c.requires.split.right_tree c.requires.split.split.right c.requires.split.right_is c.child_under.ensures.child c.in-Some.is) c.left.ensures
 
-pub left_child-low-requires : goal.left_child-low-requires
-left_child-low-requires g c =
+pub child_under-low-requires : goal.child_under-low-requires
+child_under-low-requires g c =
     let f = g.R.TreeRow.functions in let law = g.met.R.TreeRow.lawful in
-    λ q e. readable-left f _ _ q (HasParts-picked_left f law _ _ _ _ _ _ _ _ _ c.requires c.left_child-inner.ensures.child c.if_higher.ensures c.in-Some.is) e
+    let parent = HasParts-link f law c.args.rows.now c.requires.split.right_tree c.requires.split.split.right c.requires.split.right_is c.child_under.ensures.child c.in-Some.is in
+    let middle = HasParts-link f law c.args.rows.now parent.left parent.left_spelled (parent.left_is ∙ sym c.left.ensures) c.child_under-inner.ensures.child (picked-is _ _ _ _ c.if_higher.ensures c.in-Some-if_higher.is) in
+    readable-left f middle c.left-in-Some-if_higher.ensures
 
-pub right_child-high-requires : goal.right_child-high-requires
-right_child-high-requires g c =
+pub child_under-high-requires : goal.child_under-high-requires
+child_under-high-requires g c =
     let f = g.R.TreeRow.functions in let law = g.met.R.TreeRow.lawful in
-    λ q e. readable-right f _ _ q (HasParts-picked_left f law _ _ _ _ _ _ _ _ _ c.requires c.left_child-inner.ensures.child c.if_higher.ensures c.in-Some.is) e
+    let parent = HasParts-link f law c.args.rows.now c.requires.split.right_tree c.requires.split.split.right c.requires.split.right_is c.child_under.ensures.child c.in-Some.is in
+    let middle = HasParts-link f law c.args.rows.now parent.left parent.left_spelled (parent.left_is ∙ sym c.left.ensures) c.child_under-inner.ensures.child (picked-is _ _ _ _ c.if_higher.ensures c.in-Some-if_higher.is) in
+    readable-right f middle c.right-in-Some-if_higher.ensures
 
-pub place_over-last-requires : goal.place_over-last-requires
-place_over-last-requires g c =
+pub returns-in-Some-if_higher-clause-tree : goal.returns-in-Some-if_higher-clause-tree
+returns-in-Some-if_higher-clause-tree g c =
     let f = g.R.TreeRow.functions in let law = g.met.R.TreeRow.lawful in
-    ContainsKey-Updates c.args.right.link c.place_over-first.ensures.updates (ContainsKey-at f c.args.rows.now c.args.right.link c.args.right.row (HasParts-Splits_right f law _ _ _ _ _ c.requires).at)
-
-pub place_over-requires-in-None : goal.place_over-requires-in-None
-place_over-requires-in-None g c =
-    let f = g.R.TreeRow.functions in let law = g.met.R.TreeRow.lawful in
-    ContainsKey-Updates c.args.right.link c.place_over-first-in-None.ensures.updates (ContainsKey-at f c.args.rows.now c.args.right.link c.args.right.row (HasParts-Splits_right f law _ _ _ _ _ c.requires).at)
-
-pub returns-in-Some-clause-tree : goal.returns-in-Some-clause-tree
-returns-in-Some-clause-tree g c =
-    let f = g.R.TreeRow.functions in let law = g.met.R.TreeRow.lawful in
+    let s = c.args.rows.now in
     λ l x r low high split same left_is right_is.
-    let placed = leaned_left-twice f l r law split same left_is right_is c.right_child-outer.ensures.child c.left_child-inner.ensures.child c.if_higher.ensures c.in-Some.is c.left_child-low.ensures.child c.right_child-high.ensures.child c.place_over-first.ensures.updates c.place_over-first.ensures.child c.place_over-last.ensures.updates c.place_over-last.ensures.child c.place_over.ensures.updates c.place_over.ensures.child in
-    (placed.becomes, placed.child)
+    let placed = leaned_left-twice f l r law split same (c.child_under-left.ensures.child ∙ child_at-link f s l split.left left_is) (sym c.in-Some.is ∙ c.child_under.ensures.child ∙ child_at-link f s r split.right right_is) (c.child_under-outer.ensures.child ∙ ap (child_at s) c.right.ensures) (c.child_under-inner.ensures.child ∙ ap (child_at s) c.left.ensures) c.if_higher.ensures c.in-Some-if_higher.is (c.child_under-low.ensures.child ∙ ap (child_at s) c.left-in-Some-if_higher.ensures) (c.child_under-high.ensures.child ∙ ap (child_at s) c.right-in-Some-if_higher.ensures) c.place_over-first.ensures.updates c.place_over-first.ensures.child c.place_over-last.ensures.updates c.place_over-last.ensures.child c.place_over.ensures.updates c.place_over.ensures.child in
+    (placed.becomes, IsPlaced-root f placed)
 
 pub returns-in-None-clause-tree : goal.returns-in-None-clause-tree
 returns-in-None-clause-tree g c =
     let f = g.R.TreeRow.functions in let law = g.met.R.TreeRow.lawful in
+    let s = c.args.rows.now in
     λ l x r low high split same left_is right_is.
-    let placed = leaned_left-once f l r law split same left_is right_is c.right_child-outer.ensures.child c.left_child-inner.ensures.child c.if_higher.ensures c.in-None.is c.place_over-first-in-None.ensures.updates c.place_over-first-in-None.ensures.child c.place_over-in-None.ensures.updates c.place_over-in-None.ensures.child in
-    (placed.becomes, placed.child)
+    let placed = leaned_left-once f l r law split same (c.child_under-left.ensures.child ∙ child_at-link f s l split.left left_is) (sym c.in-Some.is ∙ c.child_under.ensures.child ∙ child_at-link f s r split.right right_is) (c.child_under-outer.ensures.child ∙ ap (child_at s) c.right.ensures) (c.child_under-inner.ensures.child ∙ ap (child_at s) c.left.ensures) c.if_higher.ensures c.in-None.is c.place_over-first-in-None.ensures.updates c.place_over-first-in-None.ensures.child c.place_over-in-None.ensures.updates c.place_over-in-None.ensures.child in
+    (placed.becomes, IsPlaced-root f placed)

@@ -1,47 +1,45 @@
-use Rattle.balanced_tree.proofs.Spelling.{HasParts-Splits_left, HasParts-picked_right, readable-left, readable-right, ContainsKey-at, ContainsKey-Updates}
+use Rattle.std.proofs.Common.{sym, ap, ◌∙◌}
+use Rattle.balanced_tree.specs.Standing.{child_at}
+use Rattle.balanced_tree.proofs.Spelling.{picked-is, child_at-link, HasParts-link, readable-left, readable-right, IsPlaced-root}
 use Rattle.balanced_tree.proofs.Turns.{leaned_right-once, leaned_right-twice}
 use Rattle.balanced_tree.proofs.rotation.lean_right.Goals as goal
 
-pub left_child-outer-requires : goal.left_child-outer-requires
-left_child-outer-requires g c =
+pub child_under-outer-requires : goal.child_under-outer-requires
+child_under-outer-requires g c =
     let f = g.R.TreeRow.functions in let law = g.met.R.TreeRow.lawful in
-    λ q e. readable-left f _ _ q (HasParts-Splits_left f law _ _ _ _ _ c.requires) e
+    readable-left f (HasParts-link f law c.args.rows.now c.requires.split.left_tree c.requires.split.split.left c.requires.split.left_is c.child_under.ensures.child c.in-Some.is) c.left.ensures
 
-pub right_child-inner-requires : goal.right_child-inner-requires
-right_child-inner-requires g c =
+pub child_under-inner-requires : goal.child_under-inner-requires
+child_under-inner-requires g c =
     let f = g.R.TreeRow.functions in let law = g.met.R.TreeRow.lawful in
-    λ q e. readable-right f _ _ q (HasParts-Splits_left f law _ _ _ _ _ c.requires) e
+    readable-right f (HasParts-link f law c.args.rows.now c.requires.split.left_tree c.requires.split.split.left c.requires.split.left_is c.child_under.ensures.child c.in-Some.is) c.right.ensures
 
-pub left_child-low-requires : goal.left_child-low-requires
-left_child-low-requires g c =
+pub child_under-low-requires : goal.child_under-low-requires
+child_under-low-requires g c =
     let f = g.R.TreeRow.functions in let law = g.met.R.TreeRow.lawful in
-    λ q e. readable-left f _ _ q (HasParts-picked_right f law _ _ _ _ _ _ _ _ _ c.requires c.right_child-inner.ensures.child c.if_higher.ensures c.in-Some.is) e
+    let parent = HasParts-link f law c.args.rows.now c.requires.split.left_tree c.requires.split.split.left c.requires.split.left_is c.child_under.ensures.child c.in-Some.is in
+    let middle = HasParts-link f law c.args.rows.now parent.right parent.right_spelled (parent.right_is ∙ sym c.right.ensures) c.child_under-inner.ensures.child (picked-is _ _ _ _ c.if_higher.ensures c.in-Some-if_higher.is) in
+    readable-left f middle c.left-in-Some-if_higher.ensures
 
-pub right_child-high-requires : goal.right_child-high-requires
-right_child-high-requires g c =
+pub child_under-high-requires : goal.child_under-high-requires
+child_under-high-requires g c =
     let f = g.R.TreeRow.functions in let law = g.met.R.TreeRow.lawful in
-    λ q e. readable-right f _ _ q (HasParts-picked_right f law _ _ _ _ _ _ _ _ _ c.requires c.right_child-inner.ensures.child c.if_higher.ensures c.in-Some.is) e
+    let parent = HasParts-link f law c.args.rows.now c.requires.split.left_tree c.requires.split.split.left c.requires.split.left_is c.child_under.ensures.child c.in-Some.is in
+    let middle = HasParts-link f law c.args.rows.now parent.right parent.right_spelled (parent.right_is ∙ sym c.right.ensures) c.child_under-inner.ensures.child (picked-is _ _ _ _ c.if_higher.ensures c.in-Some-if_higher.is) in
+    readable-right f middle c.right-in-Some-if_higher.ensures
 
-pub place_over-first-requires : goal.place_over-first-requires
-place_over-first-requires g c =
+pub returns-in-Some-if_higher-clause-tree : goal.returns-in-Some-if_higher-clause-tree
+returns-in-Some-if_higher-clause-tree g c =
     let f = g.R.TreeRow.functions in let law = g.met.R.TreeRow.lawful in
-    ContainsKey-at f c.args.rows.now c.args.left.link c.args.left.row (HasParts-Splits_left f law _ _ _ _ _ c.requires).at
-
-pub place_over-requires-in-None : goal.place_over-requires-in-None
-place_over-requires-in-None g c =
-    let f = g.R.TreeRow.functions in let law = g.met.R.TreeRow.lawful in
-    ContainsKey-Updates c.args.left.link c.place_over-last-in-None.ensures.updates (ContainsKey-at f c.args.rows.now c.args.left.link c.args.left.row (HasParts-Splits_left f law _ _ _ _ _ c.requires).at)
-
-pub returns-in-Some-clause-tree : goal.returns-in-Some-clause-tree
-returns-in-Some-clause-tree g c =
-    let f = g.R.TreeRow.functions in let law = g.met.R.TreeRow.lawful in
+    let s = c.args.rows.now in
     λ l x r low high split same left_is right_is.
-    let placed = leaned_right-twice f l r law split same left_is right_is c.left_child-outer.ensures.child c.right_child-inner.ensures.child c.if_higher.ensures c.in-Some.is c.left_child-low.ensures.child c.right_child-high.ensures.child c.place_over-first.ensures.updates c.place_over-first.ensures.child c.place_over-last.ensures.updates c.place_over-last.ensures.child c.place_over.ensures.updates c.place_over.ensures.child in
-    (placed.becomes, placed.child)
+    let placed = leaned_right-twice f l r law split same (sym c.in-Some.is ∙ c.child_under.ensures.child ∙ child_at-link f s l split.left left_is) (c.child_under-right.ensures.child ∙ child_at-link f s r split.right right_is) (c.child_under-outer.ensures.child ∙ ap (child_at s) c.left.ensures) (c.child_under-inner.ensures.child ∙ ap (child_at s) c.right.ensures) c.if_higher.ensures c.in-Some-if_higher.is (c.child_under-low.ensures.child ∙ ap (child_at s) c.left-in-Some-if_higher.ensures) (c.child_under-high.ensures.child ∙ ap (child_at s) c.right-in-Some-if_higher.ensures) c.place_over-first.ensures.updates c.place_over-first.ensures.child c.place_over-last.ensures.updates c.place_over-last.ensures.child c.place_over.ensures.updates c.place_over.ensures.child in
+    (placed.becomes, IsPlaced-root f placed)
 
 pub returns-in-None-clause-tree : goal.returns-in-None-clause-tree
 returns-in-None-clause-tree g c =
     let f = g.R.TreeRow.functions in let law = g.met.R.TreeRow.lawful in
+    let s = c.args.rows.now in
     λ l x r low high split same left_is right_is.
-    let placed = leaned_right-once f l r law split same left_is right_is c.left_child-outer.ensures.child c.right_child-inner.ensures.child c.if_higher.ensures c.in-None.is c.place_over-last-in-None.ensures.updates c.place_over-last-in-None.ensures.child c.place_over-in-None.ensures.updates c.place_over-in-None.ensures.child in
-    (placed.becomes, placed.child)
+    let placed = leaned_right-once f l r law split same (sym c.in-Some.is ∙ c.child_under.ensures.child ∙ child_at-link f s l split.left left_is) (c.child_under-right.ensures.child ∙ child_at-link f s r split.right right_is) (c.child_under-outer.ensures.child ∙ ap (child_at s) c.left.ensures) (c.child_under-inner.ensures.child ∙ ap (child_at s) c.right.ensures) c.if_higher.ensures c.in-None.is c.place_over-last-in-None.ensures.updates c.place_over-last-in-None.ensures.child c.place_over-in-None.ensures.updates c.place_over-in-None.ensures.child in
+    (placed.becomes, IsPlaced-root f placed)

@@ -1,0 +1,48 @@
+use Rattle.std.proofs.Common.{Some, ap, ◌∙◌, arith}
+use Rattle.std.specs.Prelude.{option_copied}
+use Rattle.balanced_tree.proofs.DescentLaws.{descends-start, descends-end, descends-steps, descends-place, descends-left, descends-right, descends-here, lower-descends-left, lower-descends-right, lower-descends-here}
+use Rattle.balanced_tree.proofs.descent.find_below.Goals as goal
+
+pub loop-at-init : goal.loop-at-init
+loop-at-init g c = descends-start g.R.TreeRow.functions
+
+pub look-here-requires : goal.look-here-requires
+look-here-requires g c = descends-place g.R.TreeRow.functions c.loop-at.invariant c.requires c.in-Some.is
+
+pub loop-at-smaller-then-rank-there : goal.loop-at-smaller-then-rank-there
+loop-at-smaller-then-rank-there g c =
+    lower-descends-left g.R.TreeRow.functions c.loop-at.invariant g.met.R.TreeRow.lawful c.in-Some.is c.look-here.ensures.row c.requires c.left-at.ensures
+
+pub loop-at-preserved-then-rank-there : goal.loop-at-preserved-then-rank-there
+loop-at-preserved-then-rank-there g c =
+    descends-left g.R.TreeRow.functions c.loop-at.invariant g.met.R.TreeRow.lawful c.in-Some.is c.look-here.ensures.row c.nearer-best.ensures c.left-at.ensures (omega (arith, c.rank-there.ensures)) c.look-here.ensures.step
+
+pub loop-at-smaller-then-there-rank : goal.loop-at-smaller-then-there-rank
+loop-at-smaller-then-there-rank g c =
+    lower-descends-right g.R.TreeRow.functions c.loop-at.invariant g.met.R.TreeRow.lawful c.in-Some.is c.look-here.ensures.row c.requires c.right-at.ensures
+
+pub loop-at-preserved-then-there-rank : goal.loop-at-preserved-then-there-rank
+loop-at-preserved-then-there-rank g c =
+    descends-right g.R.TreeRow.functions c.loop-at.invariant g.met.R.TreeRow.lawful c.in-Some.is c.look-here.ensures.row c.nearer-best-then-there-rank.ensures c.right-at.ensures (omega (arith, c.rank-there.ensures)) c.look-here.ensures.step
+
+pub loop-at-smaller : goal.loop-at-smaller
+loop-at-smaller g c =
+    lower-descends-here g.R.TreeRow.functions c.loop-at.invariant g.met.R.TreeRow.lawful c.in-Some.is c.look-here.ensures.row c.requires
+
+pub loop-at-preserved : goal.loop-at-preserved
+loop-at-preserved g c =
+    descends-here g.R.TreeRow.functions c.loop-at.invariant g.met.R.TreeRow.lawful c.in-Some.is c.look-here.ensures.row (omega (arith, c.rank-there.ensures)) (omega (arith, c.rank-there.ensures)) c.look-here.ensures.step
+
+pub returns-in_err-best-clause-row : goal.returns-in_err-best-clause-row
+returns-in_err-best-clause-row g c = λ tree low high h.
+    c.from_residual.ensures ∙ descends-end g.R.TreeRow.functions c.loop-at.invariant c.in_default.is (ap option_copied c.in_err-best.was) tree low high h
+
+pub returns-in_err-best-clause-steps : goal.returns-in_err-best-clause-steps
+returns-in_err-best-clause-steps g c = descends-steps g.R.TreeRow.functions c.loop-at.invariant
+
+pub returns-clause-row : goal.returns-clause-row
+returns-clause-row g c = λ tree low high h.
+    ap Some c.linked.ensures ∙ descends-end g.R.TreeRow.functions c.loop-at.invariant c.in_default.is (ap option_copied c.in_ok-best.was) tree low high h
+
+pub returns-clause-steps : goal.returns-clause-steps
+returns-clause-steps g c = descends-steps g.R.TreeRow.functions c.loop-at.invariant
