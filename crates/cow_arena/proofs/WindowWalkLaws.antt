@@ -1,15 +1,17 @@
--- Walks after a leaf got another count or window, and where a root comes.
-use Rattle.std.proofs.Common.{◌≡◌, ◌≢◌, ℕ, ◌<◌, ◌≤◌, None, Some, sym, ap, ◌∙◌, subst, arith}
+-- Walks after a leaf got another count or window, and where a root comes; and which lists have rows then.
+use Rattle.std.proofs.Common.{◌≡◌, ◌≢◌, ℕ, ◌<◌, ◌≤◌, None, Some, inl, inr, sym, ap, ◌∙◌, subst, arith}
 use Rattle.std.specs.Prelude.{IsSome, ◌↔◌}
+use Rattle.std.proofs.lemmas.Bool.{cases_eq}
 use Rattle.vm_base.specs.Entries.{with_key}
 use Rattle.vm_base.proofs.EntryLaws.{some_same, with_key-same, with_key-other}
 use Rattle.page_list.specs.declared.row.ListId.{ListId}
 use Rattle.cow_arena.specs.declared.node.Node.{Node}
 use Rattle.cow_arena.specs.declared.node.Side.{Side}
 use Rattle.cow_arena.specs.Nodes.{Nodes, IsVisible, side_in}
-use Rattle.cow_arena.specs.Walk.{Tree, from_side, walk}
-use Rattle.cow_arena.specs.Forest.{IsForest}
+use Rattle.cow_arena.specs.Walk.{Tree, tree_with, from_side, walk}
+use Rattle.cow_arena.specs.Forest.{IsForest, IsListed}
 use Rattle.cow_arena.specs.Ways.{Climbs, Reaches, absent_node, own_row, past_window, on_upwards}
+use Rattle.cow_arena.specs.Views.{KeepsListed}
 use Rattle.cow_arena.proofs.WalkLaws.{climb_below, begins, walk-row, walk-past, walk-climbs}
 use Rattle.cow_arena.proofs.ReachLaws.{hidden-of-child, hidden-apart}
 use Rattle.cow_arena.proofs.MovedLaws.{IsChangeOf, same-side, walk-stays, reach-stays}
@@ -20,6 +22,24 @@ leaf-changed nodes k leaf new visible = record {
   leaf = λ node at. subst (λ (n : Node). IsSome n.koid) (some_same (sym visible.at ∙ at)) visible.koid;
   stay = λ j node at apart. with_key-other nodes k new j apart ∙ at;
 }
+
+-- where a node comes, or one keeps its list, rows still stand in lists of nodes alone
+pub put-listed : (t : Tree) (nodes : Nodes) (lists k : ℕ) (new : Node) → nodes ≡ with_key t.nodes k new → ((node : Node) → t.nodes k ≡ Some node → new.list ≡ node.list) →
+    KeepsListed t (tree_with nodes lists t.slots)
+put-listed t nodes lists k new is list = record { listed = λ rows. record { listed = λ l p slot e. here l (rows.listed l p slot e) } }
+  where
+    here : (l : ℕ) → IsListed t.nodes l → IsListed nodes l
+    here l of = elim (cases_eq of.k k) [
+      | inl same ↦
+          let kept = list of.node (ap t.nodes (sym same) ∙ of.at) in
+          record { k = k; node = new; at = ap (λ (map : Nodes). map k) is ∙ with_key-same t.nodes k new; named = ap (λ (i : ListId). i.0) kept ∙ of.named }
+      | inr apart ↦ record {
+        k = of.k;
+        node = of.node;
+        at = ap (λ (map : Nodes). map of.k) is ∙ (with_key-other t.nodes k new of.k apart ∙ of.at);
+        named = of.named;
+      }
+    ]
 
 -- a node comes
 pub node-added : (nodes : Nodes) (k : ℕ) (new : Node) → nodes k ≡ None → IsChangeOf nodes (with_key nodes k new) k

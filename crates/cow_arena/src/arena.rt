@@ -6,7 +6,7 @@ ghost use Rattle.vm_base.specs.Entries.{with_key, without_key};
 ghost use Rattle.cow_arena.specs.declared.node.Node.{Node};
 ghost use Rattle.cow_arena.specs.Nodes.{nodes_of, leads_to, link_to, child_on, other_side, side_of, node_above, side_in, sibling_in, AreFamily};
 ghost use Rattle.cow_arena.specs.Walk.{Slots, tree_with};
-ghost use Rattle.cow_arena.specs.Views.{ShowsSnapshot, KeepsWalks};
+ghost use Rattle.cow_arena.specs.Views.{ShowsSnapshot, KeepsWalks, KeepsListed};
 ghost use Rattle.cow_arena.specs.Forest.{IsForest, AreListed};
 ghost use Rattle.cow_arena.specs.Changes.{root_node, window_first, moved_link, hidden_over, below_hidden, paired, relinked, lifted, spliced};
 ghost use Rattle.cow_arena.specs.Counts.{hidden_count, visible_count, HasFewerHidden};
@@ -19,7 +19,8 @@ use std::marker::Model;
 use vm_base::{HostMemory, Koid, PageNo};
 
 /// The nodes of all clone trees. Contracts see the node of each number (`nodes_of`) and how many lists were given to
-/// nodes so far. They are a forest at every moment (`IsForest`). Only `add_root` and `add_pair` ask the host for
+/// nodes so far. They are a forest at every moment (`IsForest`). Where rows stood in lists of nodes alone, they do after
+/// each call (`KeepsListed`), if the lists of nodes that go have none. Only `add_root` and `add_pair` ask the host for
 /// memory. No call goes over more than four nodes.
 #[derive(Drop)]
 pub struct CowArena {
@@ -68,6 +69,8 @@ impl CowArena {
         ensures hidden { hidden_count self.new ≡ hidden_count self.old }
         ensures visible { OnOk result (visible_count self.new ≡ visible_count self.old + 1) }
         ensures forest { IsForest (nodes_of self.new) self.new.lists }
+        ensures listed { OnOk result ((slots : Slots) → KeepsListed (tree_with (nodes_of self.old) self.old.lists slots)
+            (tree_with (nodes_of self.new) self.new.lists slots)) }
         ensures err { OnErr result (nodes_of self.new ≡ nodes_of self.old) }
         ensures err_lists { OnErr result (self.new.lists ≡ self.old.lists) }
         ensures err_visible { OnErr result (visible_count self.new ≡ visible_count self.old) }
@@ -92,8 +95,9 @@ impl CowArena {
 
     /// Puts a hidden node in the place of the node of a VMO, with its list, its count and its window, and below it that
     /// node, which sees all of it, and the node of a snapshot of `count` pages, which sees `seen` of its pages from page
-    /// `first` on. The two have new lists, without rows, so each page that was there shows what it showed. `HostMemory`
-    /// where the host has too little memory. Fewer than 2^64 - 2 lists were given before.
+    /// `first` on. The two have new lists, without rows, so each page of that node shows what it showed, and the walk
+    /// from a page of another node finds what it found. `HostMemory` where the host has too little memory. Fewer than
+    /// 2^64 - 2 lists were given before.
     pub fn add_pair(
         &mut self,
         leaf: NodeId,
@@ -117,6 +121,8 @@ impl CowArena {
         ensures hidden { OnOk result (hidden_count self.new ≡ hidden_count self.old + 1) }
         ensures visible { OnOk result (visible_count self.new ≡ visible_count self.old + 1) }
         ensures forest { IsForest (nodes_of self.new) self.new.lists }
+        ensures listed { OnOk result ((slots : Slots) → KeepsListed (tree_with (nodes_of self.old) self.old.lists slots)
+            (tree_with (nodes_of self.new) self.new.lists slots)) }
         ensures err { OnErr result (nodes_of self.new ≡ nodes_of self.old) }
         ensures err_lists { OnErr result (self.new.lists ≡ self.old.lists) }
         ensures err_hidden { OnErr result (hidden_count self.new ≡ hidden_count self.old) }
@@ -188,6 +194,8 @@ impl CowArena {
         ensures hidden { hidden_count self.new ≡ hidden_count self.old }
         ensures visible { visible_count self.new ≡ visible_count self.old }
         ensures forest { IsForest (nodes_of self.new) self.new.lists }
+        ensures listed { (slots : Slots) → KeepsListed (tree_with (nodes_of self.old) self.old.lists slots)
+            (tree_with (nodes_of self.new) self.new.lists slots) }
     {
         let node = &mut self.nodes[at.0];
         node.first = first;
@@ -203,6 +211,8 @@ impl CowArena {
         ensures hidden { hidden_count self.new ≡ hidden_count self.old }
         ensures visible { visible_count self.new ≡ visible_count self.old }
         ensures forest { IsForest (nodes_of self.new) self.new.lists }
+        ensures listed { (slots : Slots) → KeepsListed (tree_with (nodes_of self.old) self.old.lists slots)
+            (tree_with (nodes_of self.new) self.new.lists slots) }
     {
         self.nodes[at.0].count = count;
     }
@@ -215,13 +225,16 @@ impl CowArena {
         ensures hidden { hidden_count self.new ≡ hidden_count self.old }
         ensures visible { visible_count self.new + 1 ≡ visible_count self.old }
         ensures forest { IsForest (nodes_of self.new) self.new.lists }
+        ensures listed { (slots : Slots) (node : Node) → nodes_of self.old leaf.0 ≡ Some node → ((p : ℕ) → slots node.list.0 p ≡ None) →
+            KeepsListed (tree_with (nodes_of self.old) self.old.lists slots)
+            (tree_with (nodes_of self.new) self.new.lists slots) }
     {
         self.nodes.try_remove(leaf.0);
     }
 
     /// Takes the node of a VMO that has a parent away, and its parent with it. The sibling is in the parent's place, and
-    /// sees what it saw through both windows. Where the parent's list has no rows, each node that is left shows what it
-    /// showed.
+    /// sees what it saw through both windows. Where the parent's list has no rows, the walk from each page of a node that
+    /// is left finds what it found.
     pub fn splice(&mut self, leaf: NodeId)
         requires { IsSomeAnd (nodes_of self.old leaf.0) (λ node. IsSome node.koid × IsSome node.parent) }
         ensures nodes { (h s : ℕ) (node parent sibling : Node) →
@@ -234,6 +247,11 @@ impl CowArena {
         ensures hidden { hidden_count self.new + 1 ≡ hidden_count self.old }
         ensures visible { visible_count self.new + 1 ≡ visible_count self.old }
         ensures forest { IsForest (nodes_of self.new) self.new.lists }
+        ensures listed { (slots : Slots) (h s : ℕ) (node parent sibling : Node) →
+            AreFamily (nodes_of self.old) leaf.0 h s node parent sibling →
+            ((p : ℕ) → slots parent.list.0 p ≡ None) → ((p : ℕ) → slots node.list.0 p ≡ None) →
+            KeepsListed (tree_with (nodes_of self.old) self.old.lists slots)
+            (tree_with (nodes_of self.new) self.new.lists slots) }
     {
         let Some(hidden) = self.nodes[leaf.0].parent else {
             unreachable!()

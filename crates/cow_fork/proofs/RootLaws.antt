@@ -1,6 +1,6 @@
 -- A tree without nodes is exact, and one to which a root comes stays so.
 use Rattle.std.proofs.Common.{◌≡◌, ◌≢◌, ℕ, ◌+◌, Bool, false, None, Some, inl, inr}
-use Rattle.std.proofs.Common.{sym, ap, ◌∙◌, arith}
+use Rattle.std.proofs.Common.{refl, sym, ap, ◌∙◌, arith}
 use Rattle.vm_base.specs.Entries.{with_key}
 use Rattle.vm_base.specs.declared.names.Koid.{Koid}
 use Rattle.vm_base.proofs.EntryLaws.{with_key-same, with_key-other, with_key-cases}
@@ -12,7 +12,7 @@ use Rattle.cow_arena.specs.Forest.{IsForest}
 use Rattle.cow_arena.specs.Changes.{root_node}
 use Rattle.cow_arena.proofs.WalkLaws.{walk-past}
 use Rattle.cow_arena.proofs.MovedLaws.{walk-stays}
-use Rattle.cow_arena.proofs.WindowWalkLaws.{node-added}
+use Rattle.cow_arena.proofs.WindowWalkLaws.{put-listed, node-added}
 use Rattle.cow_arena.proofs.PairWalkLaws.{rows-fresh}
 use Rattle.cow_split.specs.Sight.{IsPage, IsSeenFrom}
 use Rattle.cow_split.specs.Exact.{IsExact}
@@ -92,11 +92,7 @@ module _ (t : Tree) (out : ℕ → ℕ → Bool) (in_use : ℕ → Bool) (exact 
   pub exact-rooted : IsExact rooted out in_use
   exact-rooted = record {
     forest = g;
-    listed = record {
-      listed = λ l p row e.
-          let it = exact.listed.listed l p row e in
-          record { k = it.k; node = it.node; at = stays it.k it.node it.at; named = it.named };
-    };
+    listed = (put-listed t rooted.nodes rooted.lists k (root_node koid t.lists count) refl (λ node at. absurd (apart k node at refl))).listed exact.listed;
     below = λ v p node row visible e. elim (with_key-cases t.nodes k (root_node koid t.lists count) v node visible.at) [
       | inl here ↦ absurd (let none = bare p in let found = ap (λ (n : Node). t.slots n.list.0 p) here.1 ∙ e in cc)
       | inr there ↦ exact.below v p node row (record { at = there.1; koid = visible.koid }) e

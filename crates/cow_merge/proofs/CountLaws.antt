@@ -11,9 +11,9 @@ use Rattle.cow_arena.specs.declared.node.Node.{Node}
 use Rattle.cow_arena.specs.declared.node.Side.{Side}
 use Rattle.cow_arena.specs.Nodes.{IsVisible}
 use Rattle.cow_arena.specs.Walk.{Tree, walk, frame_found, frame_at}
-use Rattle.cow_arena.specs.Forest.{IsForest, AreListed, IsListed}
+use Rattle.cow_arena.specs.Forest.{IsForest, AreListed}
 use Rattle.cow_arena.proofs.WalkLaws.{walk-past}
-use Rattle.cow_arena.proofs.WindowWalkLaws.{walk-leaf-changed, walk-leaf-changed-other}
+use Rattle.cow_arena.proofs.WindowWalkLaws.{put-listed, walk-leaf-changed, walk-leaf-changed-other}
 use Rattle.cow_split.specs.Sight.{IsPage, IsSeenFrom, CameFrom}
 use Rattle.cow_split.specs.Exact.{IsExact, all_in_sight}
 use Rattle.cow_merge.specs.Ranges.{leaving_range}
@@ -64,15 +64,7 @@ module _ (t : Tree) (v : ℕ) (leaf new : Node) (visible : IsVisible t.nodes v l
   ]
 
   changed_listed : AreListed t → AreListed after
-  changed_listed rows = record { listed = λ l p slot e. here l (rows.listed l p slot e) }
-    where
-      here : (l : ℕ) → IsListed t.nodes l → IsListed after.nodes l
-      here l of = elim (cases_eq of.k v) [
-        | inl same ↦
-            let one : leaf ≡ of.node = some_same (sym visible.at ∙ (sym (ap t.nodes same) ∙ of.at)) in
-            record { k = v; node = new; at = with_key-same t.nodes v new; named = ap (λ i. i.0) list ∙ (ap (λ (n : Node). n.list.0) one ∙ of.named) }
-        | inr apart ↦ record { k = of.k; node = of.node; at = with_key-other t.nodes v new of.k apart ∙ of.at; named = of.named }
-      ]
+  changed_listed = (put-listed t after.nodes t.lists v new refl (λ node at. list ∙ ap (λ (n : Node). n.list) (some_same (sym visible.at ∙ at)))).listed
 
   -- pages of other nodes are pages as before
   changed_page : (w p : ℕ) → IsPage t w p → (w ≡ v → p < new.count) → IsPage after w p

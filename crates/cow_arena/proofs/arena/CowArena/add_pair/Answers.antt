@@ -5,7 +5,7 @@ use Rattle.cow_arena.specs.Nodes.{Nodes, Arena, nodes_of}
 use Rattle.cow_arena.specs.Changes.{paired}
 use Rattle.cow_arena.proofs.LinkLaws.{parents_held, parents_apart}
 use Rattle.cow_arena.proofs.ArenaLaws.{IsAfter, Same, More, grown_after, hidden_room, paired_is, grown_forest, pair_nodes, pair_after}
-use Rattle.cow_arena.proofs.ViewLaws.{forest_seen, shows-snapshot}
+use Rattle.cow_arena.proofs.ViewLaws.{forest_seen, shows-snapshot, snapshot-listed}
 use Rattle.cow_arena.proofs.arena.CowArena.add_pair.Goals as goal
 
 -- ---- no memory
@@ -76,10 +76,19 @@ returns-clause-visible c = (after c).visible
 pub returns-clause-forest : goal.returns-clause-forest
 returns-clause-forest c = (after c).arena.forest
 
+free : (c : goal.After-self-2-1) → (nodes_of c.args.self.now c.put_pair-pair.result.hidden.0 ≡ None) × (nodes_of c.args.self.now c.put_pair-pair.result.child.0 ≡ None)
+    × (c.put_pair-pair.result.hidden.0 ≢ c.put_pair-pair.result.child.0)
+free c = subst (λ (f : Nodes). (f c.put_pair-pair.result.hidden.0 ≡ None) × (f c.put_pair-pair.result.child.0 ≡ None) × (c.put_pair-pair.result.hidden.0 ≢ c.put_pair-pair.result.child.0))
+    (ap (λ (s : Slab Node). get s) c.reserve.ensures.rest_kept ∙ ap (λ (v : Arena). nodes_of v) c.self.view_is) c.put_pair-pair.ensures.free
+
 pub returns-clause-shows : goal.returns-clause-shows
 returns-clause-shows c = shows-snapshot c.args.self.now (get c.put_pair-pair.new.nodes) (c.self.inside.lists + 2)
     (forest_seen c.self.inside c.self.invariant c.args.self.now c.self.view_is) (after c).arena.forest (ap (λ (v : Arena). v.lists + 2) c.self.view_is)
     c.args.leaf.0 c.put_pair-pair.result.hidden.0 c.put_pair-pair.result.child.0 c.args.koid c.args.first c.args.seen c.args.count c.requires.leaf
-    (subst (λ (f : Nodes). (f c.put_pair-pair.result.hidden.0 ≡ None) × (f c.put_pair-pair.result.child.0 ≡ None) × (c.put_pair-pair.result.hidden.0 ≢ c.put_pair-pair.result.child.0))
-    (ap (λ (s : Slab Node). get s) c.reserve.ensures.rest_kept ∙ ap (λ (v : Arena). nodes_of v) c.self.view_is) c.put_pair-pair.ensures.free)
-    (returns-clause-nodes c)
+    (free c) (returns-clause-nodes c)
+
+pub returns-clause-listed : goal.returns-clause-listed
+returns-clause-listed c = snapshot-listed c.args.self.now (get c.put_pair-pair.new.nodes) (c.self.inside.lists + 2)
+    (forest_seen c.self.inside c.self.invariant c.args.self.now c.self.view_is) (after c).arena.forest (ap (λ (v : Arena). v.lists + 2) c.self.view_is)
+    c.args.leaf.0 c.put_pair-pair.result.hidden.0 c.put_pair-pair.result.child.0 c.args.koid c.args.first c.args.seen c.args.count c.requires.leaf
+    (free c) (returns-clause-nodes c)

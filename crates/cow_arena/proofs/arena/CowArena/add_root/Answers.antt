@@ -1,8 +1,10 @@
-use Rattle.std.proofs.Common.{ap, ◌+◌}
+use Rattle.std.proofs.Common.{sym, ap, ◌∙◌, ◌+◌}
 use Rattle.slab.specs.Slab.{Slab, get}
 use Rattle.cow_arena.specs.declared.node.Node.{Node}
+use Rattle.cow_arena.specs.Walk.{tree_with}
 use Rattle.cow_arena.proofs.SlotLaws.{nodes_with}
 use Rattle.cow_arena.proofs.ArenaLaws.{IsAfter, Same, More, grown_after, rooted_after}
+use Rattle.cow_arena.proofs.WindowWalkLaws.{put-listed}
 use Rattle.cow_arena.proofs.arena.CowArena.add_root.Goals as goal
 
 unchanged : (c : goal.In_default) → IsAfter c.args.self.now (record (c.self.inside) { nodes = c.insert.new.self }) Same Same
@@ -39,3 +41,9 @@ returns-clause-visible c = (after c).visible
 
 pub returns-clause-forest : goal.returns-clause-forest
 returns-clause-forest c = (after c).arena.forest
+
+pub returns-clause-listed : goal.returns-clause-listed
+returns-clause-listed c = rw (← c.self.view_is) (λ slots.
+    put-listed (tree_with (get c.self.inside.nodes) c.self.inside.lists slots) (get c.insert.new.self) (c.self.inside.lists + 1) c.in-Ok.at _
+    (nodes_with c.self.inside.nodes c.insert.new.self c.in-Ok.at _ c.in-Ok.ensures.updates)
+    (λ node at. absurd (let none = sym at ∙ c.in-Ok.ensures.was_vacant in cc)))

@@ -1,5 +1,9 @@
+use Rattle.std.proofs.Common.{ap}
+use Rattle.slab.specs.Slab.{get}
+use Rattle.cow_arena.specs.Nodes.{Arena}
 use Rattle.cow_arena.proofs.SlotLaws.{nodes_without}
 use Rattle.cow_arena.proofs.ArenaLaws.{IsAfter, Same, Less, gone_after}
+use Rattle.cow_arena.proofs.ViewLaws.{forest_seen, root-keeps-listed}
 use Rattle.cow_arena.proofs.arena.CowArena.remove_root.Goals as goal
 
 after : (c : goal.After-try_remove) → IsAfter c.args.self.now (record (c.self.inside) { nodes = c.try_remove.new.self }) Same Less
@@ -20,3 +24,9 @@ returns-clause-visible c = (after c).visible
 
 pub returns-clause-forest : goal.returns-clause-forest
 returns-clause-forest c = (after c).arena.forest
+
+pub returns-clause-listed : goal.returns-clause-listed
+returns-clause-listed c = λ slots node at.
+    root-keeps-listed c.args.self.now (get c.try_remove.new.self) c.self.inside.lists
+    (forest_seen c.self.inside c.self.invariant c.args.self.now c.self.view_is) (after c).arena.forest (ap (λ (v : Arena). v.lists) c.self.view_is)
+    c.args.leaf.0 node c.requires (returns-clause-nodes c) slots at

@@ -1,6 +1,8 @@
+use Rattle.std.proofs.Common.{refl}
 use Rattle.slab.specs.Slab.{with_value}
 use Rattle.cow_arena.specs.declared.node.Node.{Node}
 use Rattle.cow_arena.proofs.ArenaLaws.{IsAfter, Same, count_after, nodes_changed}
+use Rattle.cow_arena.proofs.ViewLaws.{listed-changed}
 use Rattle.cow_arena.proofs.arena.CowArena.set_count.Goals as goal
 
 after : (c : goal.After-self-1) → IsAfter c.args.self.now (record (c.self.inside) {
@@ -24,3 +26,7 @@ returns-clause-visible c = (after c).visible
 
 pub returns-clause-forest : goal.returns-clause-forest
 returns-clause-forest c = (after c).arena.forest
+
+pub returns-clause-listed : goal.returns-clause-listed
+returns-clause-listed c =
+    listed-changed c.self.inside c.args.self.now c.args.at.0 c.index_mut.result.now (λ (node : Node). record node { count = c.args.count }) (λ node. refl) c.self.view_is c.index_mut.ensures.value

@@ -4,7 +4,7 @@ use Rattle.cow_arena.specs.Nodes.{Arena, AreFamily, other_side, side_of}
 use Rattle.cow_arena.specs.Changes.{spliced}
 use Rattle.cow_arena.proofs.LinkLaws.{parent_held, parents_held, parents_apart, child_there, child_some, kin, room_fits}
 use Rattle.cow_arena.proofs.ArenaLaws.{IsAfter, Less, spliced_is, some_hidden, sibling_apart, splice_nodes, splice_after}
-use Rattle.cow_arena.proofs.ViewLaws.{forest_seen, keeps-walks}
+use Rattle.cow_arena.proofs.ViewLaws.{forest_seen, keeps-walks, keeps-listed}
 use Rattle.cow_arena.proofs.arena.CowArena.splice.Goals as goal
 
 -- ---- what is found
@@ -91,5 +91,11 @@ returns-clause-forest c = (after c).arena.forest
 pub returns-clause-walks : goal.returns-clause-walks
 returns-clause-walks c = λ slots h s node parent sibling kin.
     keeps-walks c.args.self.now (get c.splice_nodes.new.nodes) c.self.inside.lists
+    (forest_seen c.self.inside c.self.invariant c.args.self.now c.self.view_is) (after c).arena.forest (ap (λ (v : Arena). v.lists) c.self.view_is)
+    c.args.leaf.0 h s node parent sibling c.requires kin (returns-clause-nodes c h s node parent sibling kin) slots
+
+pub returns-clause-listed : goal.returns-clause-listed
+returns-clause-listed c = λ slots h s node parent sibling kin.
+    keeps-listed c.args.self.now (get c.splice_nodes.new.nodes) c.self.inside.lists
     (forest_seen c.self.inside c.self.invariant c.args.self.now c.self.view_is) (after c).arena.forest (ap (λ (v : Arena). v.lists) c.self.view_is)
     c.args.leaf.0 h s node parent sibling c.requires kin (returns-clause-nodes c h s node parent sibling kin) slots
