@@ -93,7 +93,12 @@ fn hide_row(lists: &mut PageLists, list: ListId, page: PageNo)
     let Some(slot) = lists.find(list, page) else {
         return;
     };
-    if let Slot::Frame { left, .. } = slot {
-        lists.set_bits(list, page, left, true);
+    if let Slot::Frame { tag, left, .. } = slot {
+        let hidden = Slot::Frame {
+            tag,
+            left,
+            right: true,
+        };
+        lists.replace(list, page, hidden);
     }
 }

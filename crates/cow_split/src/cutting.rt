@@ -116,11 +116,27 @@ fn split(
 {
     match side {
         Side::Left if !right => {
-            lists.set_bits(list, page, true, false);
+            lists.replace(
+                list,
+                page,
+                Slot::Frame {
+                    tag,
+                    left: true,
+                    right: false,
+                },
+            );
             Cut::StillSeen
         }
         Side::Right if !left => {
-            lists.set_bits(list, page, false, true);
+            lists.replace(
+                list,
+                page,
+                Slot::Frame {
+                    tag,
+                    left: false,
+                    right: true,
+                },
+            );
             Cut::StillSeen
         }
         _ => {

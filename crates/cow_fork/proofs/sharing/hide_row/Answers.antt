@@ -12,7 +12,7 @@ returns-in_default-clause-slots c =
 pub returns-in-Frame-clause-slots : goal.returns-in-Frame-clause-slots
 returns-in-Frame-clause-slots c =
     let e = sym c.find.ensures ∙ (c.in-Some.is ∙ ap Some c.in-Frame.is) in
-    hidden-frame _ _ _ _ _ _ _ e (c.set_bits.ensures.slots _ _ _ e)
+    hidden-frame _ _ _ _ _ _ _ e (c.replace.ensures.slots)
 
 pub returns-in_default-slot-clause-slots : goal.returns-in_default-slot-clause-slots
 returns-in_default-slot-clause-slots c =
