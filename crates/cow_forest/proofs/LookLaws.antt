@@ -28,6 +28,11 @@ use Rattle.cow_forest.specs.Looking.{look_in, IsLook}
 use Rattle.cow_fork.proofs.LeafLaws.{IsLeaf, leaf-is}
 use Rattle.cow_fork.proofs.HolderLaws.{held-shown, own-row, bare-row}
 
+-- what is no Some is None
+pub none-from : {A : Type 0} (o : Option A) → ((x : A) → o ≡ Some x → ⊥) → o ≡ None
+none-from None h = refl
+none-from (Some x) h = absurd (h x refl)
+
 -- a page past the count of a visible node shows nothing
 pub page-past : (t : Tree) → (in_use : ℕ → Bool) × IsExact t all_in_sight in_use → (v : ℕ) (node : Node) → IsVisible t.nodes v node → (p : ℕ) →
     node.count ≤ p → frame_at t v p ≡ None

@@ -8,6 +8,11 @@ use Rattle.cow_arena.specs.declared.node.NodeId.{NodeId}
 use Rattle.cow_arena.specs.Nodes.{Nodes}
 use Rattle.cow_arena.specs.Forest.{IsChild}
 
+-- the nodes by koid, and how many more koids can be entered with no memory from the host
+pub record Koids : Type 0 where
+  pub entries : List (Koid × NodeId)
+  pub spare : ℕ
+
 -- the node of the VMO with this koid
 unfoldable pub node_in : List (Koid × NodeId) → ℕ → Option NodeId
 node_in entries v = lookup (λ (koid : Koid). v == koid.0) entries

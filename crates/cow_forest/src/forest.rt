@@ -19,8 +19,9 @@ ghost use Rattle.cow_forest.specs.Counting.{frame_row_count};
 
 use crate::looking::{look_at, look_at_counted, next_shown};
 use crate::owning::own_page;
-use crate::tables::{disown, enter, enter_list, leave, make_room, node_of, owner_of};
+use crate::tables::{disown, enter_list, make_room, owner_of};
 use crate::viewing::{least_koid_of, viewer_count_of};
+use crate::vmo_nodes::VmoNodes;
 use cow_arena::{CowArena, NodeId};
 use cow_fork::{mark_zero, share};
 use cow_merge::{close, shrink};
@@ -42,7 +43,7 @@ pub struct CowForest {
     /// The page frames. A frame is taken while some row has it, and its backlink leads to the row.
     frames: FramePool,
     /// The node of each VMO.
-    nodes: HashMap<Koid, NodeId>,
+    nodes: VmoNodes,
     /// The node that has each list.
     owners: HashMap<ListId, NodeId>,
     /// The koid of the next VMO. The first has koid 1, and none is given twice.
@@ -72,7 +73,7 @@ impl CowForest {
             arena: CowArena::new(alloc),
             lists: PageLists::new(alloc),
             frames: FramePool::new(alloc),
-            nodes: HashMap::new(alloc),
+            nodes: VmoNodes::new(alloc),
             owners: HashMap::new(alloc),
             next: 1,
             vmos: 0,
@@ -117,13 +118,7 @@ impl CowForest {
         ensures cost { (most k : ℕ) → IsMostOfLookUp (row_count self.now.rows) most → HasNode self.now v.0 k →
             steps.new ≤ steps.old + depth (nodes_of self.now.arena) self.now.arena.lists k * most }
     {
-        look_at_counted(
-            &self.arena,
-            &self.lists,
-            node_of(&self.nodes, v),
-            page,
-            steps,
-        )
+        look_at_counted(&self.arena, &self.lists, self.nodes.get(v), page, steps)
     }
 }
 
@@ -151,7 +146,7 @@ impl PageStore for CowForest {
         make_room(&mut self.nodes, &mut self.owners, 1)?;
         let koid = Koid(self.next);
         let node = self.arena.add_root(koid, count)?;
-        enter(&mut self.nodes, koid, node);
+        self.nodes.enter(koid, node);
         enter_list(&mut self.owners, self.arena.node(node).list, node);
         self.next += 1;
         self.vmos += 1;
@@ -180,7 +175,7 @@ impl PageStore for CowForest {
     {
         make_room(&mut self.nodes, &mut self.owners, 3)?;
         let koid = Koid(self.next);
-        let node = node_of(&self.nodes, of);
+        let node = self.nodes.get(of);
         let pair = share(
             &mut self.arena,
             &mut self.lists,
@@ -190,7 +185,7 @@ impl PageStore for CowForest {
             seen,
             count,
         )?;
-        enter(&mut self.nodes, koid, pair.child);
+        self.nodes.enter(koid, pair.child);
         enter_list(
             &mut self.owners,
             self.arena.node(pair.hidden).list,
@@ -212,7 +207,7 @@ impl PageStore for CowForest {
     }
 
     fn look(&self, v: Koid, page: PageNo) -> Look {
-        look_at(&self.arena, &self.lists, node_of(&self.nodes, v), page)
+        look_at(&self.arena, &self.lists, self.nodes.get(v), page)
     }
 
     fn own(&mut self, v: Koid, page: PageNo) -> Tag
@@ -224,7 +219,7 @@ impl PageStore for CowForest {
         ensures row { (k : ℕ) → 1 ≤ self.old.rows.spare → HasNode self.new v.0 k →
             HasOwnRow self.new.arena self.new.rows k page result.0 }
     {
-        let node = node_of(&self.nodes, v);
+        let node = self.nodes.get(v);
         own_page(&self.arena, &mut self.lists, &mut self.frames, node, page)
     }
 
@@ -235,12 +230,12 @@ impl PageStore for CowForest {
         ensures spare { self.old.rows.spare ≤ self.new.rows.spare + 1 }
         ensures rows { (content_of self.old).page v.0 page ≡ None → row_count self.new.rows ≡ row_count self.old.rows }
     {
-        let node = node_of(&self.nodes, v);
+        let node = self.nodes.get(v);
         mark_zero(&self.arena, &mut self.lists, &mut self.frames, node, page);
     }
 
     fn count(&self, v: Koid) -> PageNo {
-        self.arena.node(node_of(&self.nodes, v)).count
+        self.arena.node(self.nodes.get(v)).count
     }
 
     fn set_count(&mut self, v: Koid, count: PageNo)
@@ -249,7 +244,7 @@ impl PageStore for CowForest {
         ensures content { content_of self.new ≡ resized (content_of self.old) v.0 count }
         ensures rows { row_count self.new.rows ≤ row_count self.old.rows }
     {
-        let node = node_of(&self.nodes, v);
+        let node = self.nodes.get(v);
         if count < self.arena.node(node).count {
             shrink(
                 &mut self.arena,
@@ -268,10 +263,10 @@ impl PageStore for CowForest {
         ensures content { content_of self.new ≡ without (content_of self.old) v.0 }
         ensures rows { row_count self.new.rows ≤ row_count self.old.rows }
     {
-        let node = node_of(&self.nodes, v);
+        let node = self.nodes.get(v);
         disown(&mut self.owners, &self.arena, node);
         close(&mut self.arena, &mut self.lists, &mut self.frames, node);
-        leave(&mut self.nodes, v);
+        self.nodes.leave(v);
         self.vmos -= 1;
     }
 
@@ -284,7 +279,7 @@ impl PageStore for CowForest {
     }
 
     fn next_held(&self, v: Koid, from: PageNo) -> Option<PageNo> {
-        next_shown(&self.arena, &self.lists, node_of(&self.nodes, v), from)
+        next_shown(&self.arena, &self.lists, self.nodes.get(v), from)
     }
 
     fn least_viewer(&self, tag: Tag) -> Koid {
@@ -294,7 +289,7 @@ impl PageStore for CowForest {
     }
 
     fn viewers(&self, v: Koid, page: PageNo) -> u64 {
-        viewer_count_of(&self.arena, &self.lists, node_of(&self.nodes, v), page)
+        viewer_count_of(&self.arena, &self.lists, self.nodes.get(v), page)
     }
 
     fn frames(&self) -> u32 {

@@ -11,5 +11,6 @@ mod looking;
 mod owning;
 mod tables;
 mod viewing;
+mod vmo_nodes;
 
 pub use forest::CowForest;

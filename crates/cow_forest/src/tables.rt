@@ -1,4 +1,4 @@
-//! The tables that lead into the tree: the node of each koid, and of each list.
+//! The tables that lead into the tree: room in both, and the node of each list.
 
 ghost use Rattle.std.specs.Prelude.{◌≡◌, ◌+◌, ◌≤◌, None, Some, IsSome, OnOk};
 ghost use Rattle.std.specs.HashMap.{spare};
@@ -7,21 +7,11 @@ ghost use Rattle.cow_arena.specs.Nodes.{nodes_of};
 ghost use Rattle.cow_arena.specs.Forest.{IsForest};
 ghost use Rattle.cow_forest.specs.Tables.{node_in, owner_in, IsDisowned};
 
+use crate::vmo_nodes::VmoNodes;
 use cow_arena::{CowArena, NodeId};
 use page_list::ListId;
 use std::collections::HashMap;
-use vm_base::{HostMemory, Koid};
-
-/// The node of a VMO.
-pub(crate) fn node_of(nodes: &HashMap<Koid, NodeId>, v: Koid) -> NodeId
-    requires { IsSome (node_in nodes.now.entries v.0) }
-    ensures { node_in nodes.now.entries v.0 ≡ Some result }
-{
-    match nodes.get(&v) {
-        Some(node) => *node,
-        None => unreachable!(),
-    }
-}
+use vm_base::HostMemory;
 
 /// The node that has a list.
 pub(crate) fn owner_of(owners: &HashMap<ListId, NodeId>, list: ListId) -> NodeId
@@ -37,30 +27,20 @@ pub(crate) fn owner_of(owners: &HashMap<ListId, NodeId>, list: ListId) -> NodeId
 /// Makes room for one koid more and for this many lists. `HostMemory` where the host has too little memory. No entry
 /// changes.
 pub(crate) fn make_room(
-    nodes: &mut HashMap<Koid, NodeId>,
+    nodes: &mut VmoNodes,
     owners: &mut HashMap<ListId, NodeId>,
     lists: usize,
 ) -> Result<(), HostMemory>
     ensures nodes { node_in nodes.new.entries ≡ node_in nodes.old.entries }
     ensures owners { owner_in owners.new.entries ≡ owner_in owners.old.entries }
-    ensures nodes_room { OnOk result (1 ≤ spare nodes.new) }
+    ensures nodes_room { OnOk result (1 ≤ nodes.new.spare) }
     ensures owners_room { OnOk result (lists ≤ spare owners.new) }
 {
-    let Ok(()) = nodes.reserve(1) else {
-        return Err(HostMemory);
-    };
+    nodes.reserve()?;
     let Ok(()) = owners.reserve(lists) else {
         return Err(HostMemory);
     };
     Ok(())
-}
-
-/// Enters the node of a koid. There is room for it.
-pub(crate) fn enter(nodes: &mut HashMap<Koid, NodeId>, v: Koid, node: NodeId)
-    requires { 1 ≤ spare nodes.old }
-    ensures { node_in nodes.new.entries ≡ with_key (node_in nodes.old.entries) v.0 node }
-{
-    let _entered = nodes.insert(v, node);
 }
 
 /// Enters the node that has a list. There is room for it.
@@ -72,15 +52,8 @@ pub(crate) fn enter_list(owners: &mut HashMap<ListId, NodeId>, list: ListId, nod
     let _entered = owners.insert(list, node);
 }
 
-/// Takes a koid out.
-pub(crate) fn leave(nodes: &mut HashMap<Koid, NodeId>, v: Koid)
-    ensures { node_in nodes.new.entries ≡ without_key (node_in nodes.old.entries) v.0 }
-{
-    let _left = nodes.remove(&v);
-}
-
 /// Takes a list out.
-pub(crate) fn leave_list(owners: &mut HashMap<ListId, NodeId>, list: ListId)
+fn leave_list(owners: &mut HashMap<ListId, NodeId>, list: ListId)
     ensures { owner_in owners.new.entries ≡ without_key (owner_in owners.old.entries) list.0 }
 {
     let _left = owners.remove(&list);

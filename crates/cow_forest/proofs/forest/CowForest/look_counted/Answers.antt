@@ -6,20 +6,20 @@ use Rattle.cow_forest.proofs.ContentLaws.{page-found, page-at, node-at}
 use Rattle.cow_forest.proofs.FrameLaws.{look-of}
 use Rattle.cow_forest.proofs.forest.CowForest.look_counted.Goals as goal
 
-pub node_of-requires : goal.node_of-requires
-node_of-requires g c = page-found (forest_of c.self.inside) c.self.invariant.store c.args.v.0 c.args.page (rw (← c.self.view_is) at c.requires.page)
+pub get-requires : goal.get-requires
+get-requires g c = page-found (forest_of c.self.inside) c.self.invariant.store c.args.v.0 c.args.page (rw (← c.self.view_is) at c.requires.page)
 
 pub look_at_counted-requires-clause-page : goal.look_at_counted-requires-clause-page
 look_at_counted-requires-clause-page g c =
-    (page-at (forest_of c.self.inside) c.self.invariant.store c.args.v.0 c.args.page c.node_of.result (rw (← c.self.view_is) at c.requires.page) c.node_of.ensures).page
+    (page-at (forest_of c.self.inside) c.self.invariant.store c.args.v.0 c.args.page c.get.result (rw (← c.self.view_is) at c.requires.page) c.get.ensures).page
 
 pub returns-clause-look : goal.returns-clause-look
 returns-clause-look g c =
-    let here = page-at (forest_of c.self.inside) c.self.invariant.store c.args.v.0 c.args.page c.node_of.result (rw (← c.self.view_is) at c.requires.page) c.node_of.ensures in
-    rw (← c.self.view_is) (look-of (forest_of c.self.inside) c.self.invariant.store c.args.v.0 c.node_of.result.0 c.args.page c.look_at_counted.result here c.look_at_counted.ensures.look)
+    let here = page-at (forest_of c.self.inside) c.self.invariant.store c.args.v.0 c.args.page c.get.result (rw (← c.self.view_is) at c.requires.page) c.get.ensures in
+    rw (← c.self.view_is) (look-of (forest_of c.self.inside) c.self.invariant.store c.args.v.0 c.get.result.0 c.args.page c.look_at_counted.result here c.look_at_counted.ensures.look)
 
 pub returns-clause-cost : goal.returns-clause-cost
 returns-clause-cost g c = rw (← c.self.view_is) (λ most k m h.
-    let same = node-at (forest_of c.self.inside) c.self.invariant.store c.args.v.0 k c.node_of.result h c.node_of.ensures in
+    let same = node-at (forest_of c.self.inside) c.self.invariant.store c.args.v.0 k c.get.result h c.get.ensures in
     subst (λ j. c.look_at_counted.new.steps ≤ c.args.steps.now + depth (nodes_of c.self.inside.arena) c.self.inside.arena.lists j * most) same
     (c.look_at_counted.ensures.cost most m))

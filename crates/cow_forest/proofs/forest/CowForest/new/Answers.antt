@@ -22,7 +22,7 @@ nothing-there c = record {
   visible = c.new.ensures.visible;
   slots = c.new-2.ensures.slots;
   free = c.new-3.ensures.taken;
-  table = c.new-4.ensures.empty;
+  table = c.new-4.ensures;
   next = refl;
   vmos = refl;
 }

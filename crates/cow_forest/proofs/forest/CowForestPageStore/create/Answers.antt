@@ -37,7 +37,7 @@ pub overflow_add-self-2 : goal.overflow_add-self-2
 overflow_add-self-2 c = let few = rw (← c.self.view_is) at c.requires.next in omega (arith, few, vmos_le (forest_of c.self.inside) c.self.invariant.store)
 
 -- the root came, and its entries
-came : (c : goal.After-self-2-1) → HasRoot (forest_of c.self.inside) c.add_root.new.self c.enter.new.nodes.entries c.enter_list.new.owners.entries c.in_ok-node.node.0 c.args.count
+came : (c : goal.After-self-2-1) → HasRoot (forest_of c.self.inside) c.add_root.new.self c.enter.new.self.entries c.enter_list.new.owners.entries c.in_ok-node.node.0 c.args.count
 came c = record {
   forest = c.add_root.ensures.forest;
   free = c.in_ok-node.ensures.new;

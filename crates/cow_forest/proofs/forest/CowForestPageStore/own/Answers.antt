@@ -3,25 +3,25 @@ use Rattle.cow_forest.proofs.ContentLaws.{page-found, page-at}
 use Rattle.cow_forest.proofs.OwnedLaws.{room-own, store-owned, owns, owned-row}
 use Rattle.cow_forest.proofs.forest.CowForestPageStore.own.Goals as goal
 
-pub node_of-node-requires : goal.node_of-node-requires
-node_of-node-requires c = page-found (forest_of c.self.inside) c.self.invariant.store c.args.v.0 c.args.page (rw (← c.self.view_is) at c.requires.page)
+pub get-node-requires : goal.get-node-requires
+get-node-requires c = page-found (forest_of c.self.inside) c.self.invariant.store c.args.v.0 c.args.page (rw (← c.self.view_is) at c.requires.page)
 
 pub own_page-requires-clause-page : goal.own_page-requires-clause-page
 own_page-requires-clause-page c =
-    (page-at (forest_of c.self.inside) c.self.invariant.store c.args.v.0 c.args.page _ (rw (← c.self.view_is) at c.requires.page) c.node_of-node.ensures).page
+    (page-at (forest_of c.self.inside) c.self.invariant.store c.args.v.0 c.args.page _ (rw (← c.self.view_is) at c.requires.page) c.get-node.ensures).page
 
 pub own_page-requires-clause-room : goal.own_page-requires-clause-room
 own_page-requires-clause-room c =
-    room-own (forest_of c.self.inside) c.self.invariant.store c.args.v.0 c.args.page (rw (← c.self.view_is) at c.requires.page) _ c.node_of-node.ensures (rw (← c.self.view_is) at c.requires.room)
+    room-own (forest_of c.self.inside) c.self.invariant.store c.args.v.0 c.args.page (rw (← c.self.view_is) at c.requires.page) _ c.get-node.ensures (rw (← c.self.view_is) at c.requires.room)
 
 pub invariant_of-self : goal.invariant_of-self
 invariant_of-self c =
-    record { store = store-owned (forest_of c.self.inside) c.self.invariant.store c.args.v.0 c.args.page (rw (← c.self.view_is) at c.requires.page) _ c.node_of-node.ensures _ _ _ c.own_page.ensures }
+    record { store = store-owned (forest_of c.self.inside) c.self.invariant.store c.args.v.0 c.args.page (rw (← c.self.view_is) at c.requires.page) _ c.get-node.ensures _ _ _ c.own_page.ensures }
 
 pub returns-clause-owns : goal.returns-clause-owns
 returns-clause-owns c =
-    rw (← c.self.view_is) (owns (forest_of c.self.inside) c.self.invariant.store c.args.v.0 c.args.page (rw (← c.self.view_is) at c.requires.page) _ c.node_of-node.ensures _ _ _ c.own_page.ensures)
+    rw (← c.self.view_is) (owns (forest_of c.self.inside) c.self.invariant.store c.args.v.0 c.args.page (rw (← c.self.view_is) at c.requires.page) _ c.get-node.ensures _ _ _ c.own_page.ensures)
 
 pub returns-clause-row : goal.returns-clause-row
 returns-clause-row c =
-    rw (← c.self.view_is) (owned-row (forest_of c.self.inside) c.self.invariant.store c.args.v.0 c.args.page (rw (← c.self.view_is) at c.requires.page) _ c.node_of-node.ensures _ _ _ c.own_page.ensures)
+    rw (← c.self.view_is) (owned-row (forest_of c.self.inside) c.self.invariant.store c.args.v.0 c.args.page (rw (← c.self.view_is) at c.requires.page) _ c.get-node.ensures _ _ _ c.own_page.ensures)

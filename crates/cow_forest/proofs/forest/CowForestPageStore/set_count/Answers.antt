@@ -10,46 +10,46 @@ use Rattle.cow_forest.proofs.forest.CowForestPageStore.set_count.Goals as goal
 
 pub shrink-requires-clause-leaf : goal.shrink-requires-clause-leaf
 shrink-requires-clause-leaf c =
-    let h = c.self.invariant.store.named c.args.v.0 c.node_of-node.result c.node_of-node.ensures in
+    let h = c.self.invariant.store.named c.args.v.0 c.get-node.result c.get-node.ensures in
     let count = ap (λ (n : Node). n.count) (some_same (sym h.is.at ∙ c.node.ensures)) in
     rw h.is.at (ap is_some h.is.has_koid, omega (arith, count, c.if-count-node.true))
 
 pub set_count-requires : goal.set_count-requires
 set_count-requires c =
-    let h = c.self.invariant.store.named c.args.v.0 c.node_of-node.result c.node_of-node.ensures in
+    let h = c.self.invariant.store.named c.args.v.0 c.get-node.result c.get-node.ensures in
     let count = ap (λ (n : Node). n.count) (some_same (sym h.is.at ∙ c.node.ensures)) in
-    let seen = c.self.invariant.store.exact.forest.by.seen c.node_of-node.result.0 h.node h.is.at in
+    let seen = c.self.invariant.store.exact.forest.by.seen c.get-node.result.0 h.node h.is.at in
     rw h.is.at (ap is_some h.is.has_koid, omega (arith, count, seen, c.if-count-node.false))
 
 pub invariant_of-self : goal.invariant_of-self
 invariant_of-self c =
     let s = c.self.invariant.store in
-    let h = s.named c.args.v.0 c.node_of-node.result c.node_of-node.ensures in
-    record { store = store-resized (forest_of c.self.inside) _ _ _ c.args.v.0 c.node_of-node.result.0 c.args.count s h c.shrink.ensures c.requires.count }
+    let h = s.named c.args.v.0 c.get-node.result c.get-node.ensures in
+    record { store = store-resized (forest_of c.self.inside) _ _ _ c.args.v.0 c.get-node.result.0 c.args.count s h c.shrink.ensures c.requires.count }
 
 pub returns-then-count-node-clause-content : goal.returns-then-count-node-clause-content
 returns-then-count-node-clause-content c =
     let s = c.self.invariant.store in
-    let h = s.named c.args.v.0 c.node_of-node.result c.node_of-node.ensures in
-    rw (← c.self.view_is) (content-resized (forest_of c.self.inside) _ _ _ c.args.v.0 c.node_of-node.result.0 c.args.count s h c.shrink.ensures c.requires.count)
+    let h = s.named c.args.v.0 c.get-node.result c.get-node.ensures in
+    rw (← c.self.view_is) (content-resized (forest_of c.self.inside) _ _ _ c.args.v.0 c.get-node.result.0 c.args.count s h c.shrink.ensures c.requires.count)
 
 -- a node that grows
-grown : (c : goal.After-set_count) → HasShrunk c.self.inside.arena c.set_count.new.self c.self.inside.lists c.self.inside.lists c.self.inside.frames c.self.inside.frames c.node_of-node.result.0 c.args.count
+grown : (c : goal.After-set_count) → HasShrunk c.self.inside.arena c.set_count.new.self c.self.inside.lists c.self.inside.lists c.self.inside.frames c.self.inside.frames c.get-node.result.0 c.args.count
 grown c =
     let s = c.self.invariant.store in
-    let h = s.named c.args.v.0 c.node_of-node.result c.node_of-node.ensures in
+    let h = s.named c.args.v.0 c.get-node.result c.get-node.ensures in
     let count = ap (λ (n : Node). n.count) (some_same (sym h.is.at ∙ c.node.ensures)) in
-    shrunk-grown _ _ c.self.inside.lists c.self.inside.frames _ c.args.count h.node s.exact (node-visible (forest_of c.self.inside) s c.args.v.0 c.node_of-node.result.0 h)
+    shrunk-grown _ _ c.self.inside.lists c.self.inside.frames _ c.args.count h.node s.exact (node-visible (forest_of c.self.inside) s c.args.v.0 c.get-node.result.0 h)
     (omega (arith, count, c.if-count-node.false)) c.set_count.ensures.nodes c.set_count.ensures.lists c.set_count.ensures.hidden c.set_count.ensures.visible c.set_count.ensures.forest
 
 pub invariant_of-self-else-count-node : goal.invariant_of-self-else-count-node
 invariant_of-self-else-count-node c =
     let s = c.self.invariant.store in
-    let h = s.named c.args.v.0 c.node_of-node.result c.node_of-node.ensures in
-    record { store = store-resized (forest_of c.self.inside) _ _ _ c.args.v.0 c.node_of-node.result.0 c.args.count s h (grown c) c.requires.count }
+    let h = s.named c.args.v.0 c.get-node.result c.get-node.ensures in
+    record { store = store-resized (forest_of c.self.inside) _ _ _ c.args.v.0 c.get-node.result.0 c.args.count s h (grown c) c.requires.count }
 
 pub returns-else-count-node-clause-content : goal.returns-else-count-node-clause-content
 returns-else-count-node-clause-content c =
     let s = c.self.invariant.store in
-    let h = s.named c.args.v.0 c.node_of-node.result c.node_of-node.ensures in
-    rw (← c.self.view_is) (content-resized (forest_of c.self.inside) _ _ _ c.args.v.0 c.node_of-node.result.0 c.args.count s h (grown c) c.requires.count)
+    let h = s.named c.args.v.0 c.get-node.result c.get-node.ensures in
+    rw (← c.self.view_is) (content-resized (forest_of c.self.inside) _ _ _ c.args.v.0 c.get-node.result.0 c.args.count s h (grown c) c.requires.count)

@@ -31,26 +31,26 @@ invariant_of-self-in_err-pair c = rw c.in_err-pair.ensures.err_rows (record {
 
 pub share-requires-clause-leaf : goal.share-requires-clause-leaf
 share-requires-clause-leaf c =
-    let h = found-node (forest_of c.self.inside) c.self.invariant.store _ c.make_room.ensures.nodes c.args.of.0 _ c.node_of-node.ensures in
+    let h = found-node (forest_of c.self.inside) c.self.invariant.store _ c.make_room.ensures.nodes c.args.of.0 _ c.get-node.ensures in
     let range = rw (← c.self.view_is) at c.requires.range in
     rw h.is.at (ap is_some h.is.has_koid, omega (arith, range, pages-of (forest_of c.self.inside) c.self.invariant.store c.args.of.0 _ h))
 
 pub node-requires : goal.node-requires
 node-requires c =
-    let h = found-node (forest_of c.self.inside) c.self.invariant.store _ c.make_room.ensures.nodes c.args.of.0 _ c.node_of-node.ensures in
+    let h = found-node (forest_of c.self.inside) c.self.invariant.store _ c.make_room.ensures.nodes c.args.of.0 _ c.get-node.ensures in
     hidden-held (forest_of c.self.inside) c.self.invariant.store _ _ c.args.of.0 _ c.in_ok-pair.pair _ _ _ h c.in_ok-pair.ensures.ok
 
 pub node-requires-2 : goal.node-requires-2
 node-requires-2 c =
-    let h = found-node (forest_of c.self.inside) c.self.invariant.store _ c.make_room.ensures.nodes c.args.of.0 _ c.node_of-node.ensures in
+    let h = found-node (forest_of c.self.inside) c.self.invariant.store _ c.make_room.ensures.nodes c.args.of.0 _ c.get-node.ensures in
     leaf-held (forest_of c.self.inside) c.self.invariant.store _ _ c.args.of.0 _ c.in_ok-pair.pair _ _ _ h c.in_ok-pair.ensures.ok
 
 pub overflow_add-self-2 : goal.overflow_add-self-2
 overflow_add-self-2 c = let few = rw (← c.self.view_is) at c.requires.next in omega (arith, few, vmos_le (forest_of c.self.inside) c.self.invariant.store)
 
 -- the two nodes came, and the entries
-came : (c : goal.After-self-2-1) → HasPair (forest_of c.self.inside) c.share.new.arena c.share.new.lists c.enter.new.nodes.entries c.enter_list-3.new.owners.entries
-    c.node_of-node.result.0 c.in_ok-pair.pair c.args.first c.args.seen c.args.count
+came : (c : goal.After-self-2-1) → HasPair (forest_of c.self.inside) c.share.new.arena c.share.new.lists c.enter.new.self.entries c.enter_list-3.new.owners.entries
+    c.get-node.result.0 c.in_ok-pair.pair c.args.first c.args.seen c.args.count
 came c = record {
   shared = c.in_ok-pair.ensures.ok;
   nodes_in = c.enter.ensures ∙ ap (λ (map : ℕ → Option NodeId). with_key map c.self.inside.next c.in_ok-pair.pair.child) c.make_room.ensures.nodes;
@@ -62,17 +62,17 @@ came c = record {
   child_at = c.node-3.ensures;
   owners_in = c.enter_list-3.ensures.owners
       ∙ ap (λ (map : ℕ → Option NodeId). with_key map c.node-3.result.list.0 c.in_ok-pair.pair.child) (c.enter_list-2.ensures.owners
-      ∙ ap (λ (map : ℕ → Option NodeId). with_key map c.node-2.result.list.0 c.node_of-node.result) (c.enter_list.ensures.owners
+      ∙ ap (λ (map : ℕ → Option NodeId). with_key map c.node-2.result.list.0 c.get-node.result) (c.enter_list.ensures.owners
       ∙ ap (λ (map : ℕ → Option NodeId). with_key map c.node.result.list.0 c.in_ok-pair.pair.hidden) c.make_room.ensures.owners));
   below = c.requires.count;
 }
 
 pub invariant_of-self-2 : goal.invariant_of-self-2
 invariant_of-self-2 c =
-    let h = found-node (forest_of c.self.inside) c.self.invariant.store _ c.make_room.ensures.nodes c.args.of.0 _ c.node_of-node.ensures in
+    let h = found-node (forest_of c.self.inside) c.self.invariant.store _ c.make_room.ensures.nodes c.args.of.0 _ c.get-node.ensures in
     record { store = store-shared (forest_of c.self.inside) c.self.invariant.store _ _ _ _ c.args.of.0 _ _ _ _ _ h (came c) }
 
 pub returns-clause-ok : goal.returns-clause-ok
 returns-clause-ok c =
-    let h = found-node (forest_of c.self.inside) c.self.invariant.store _ c.make_room.ensures.nodes c.args.of.0 _ c.node_of-node.ensures in
+    let h = found-node (forest_of c.self.inside) c.self.invariant.store _ c.make_room.ensures.nodes c.args.of.0 _ c.get-node.ensures in
     rw (← c.self.view_is) (content-shared (forest_of c.self.inside) c.self.invariant.store _ _ _ _ c.args.of.0 _ _ _ _ _ h (came c))

@@ -3,17 +3,17 @@ use Rattle.cow_forest.proofs.ContentLaws.{page-found, page-at}
 use Rattle.cow_forest.proofs.OwnedLaws.{store-zeroed, content-zero}
 use Rattle.cow_forest.proofs.forest.CowForestPageStore.zero.Goals as goal
 
-pub node_of-node-requires : goal.node_of-node-requires
-node_of-node-requires c = page-found (forest_of c.self.inside) c.self.invariant.store c.args.v.0 c.args.page (rw (← c.self.view_is) at c.requires.page)
+pub get-node-requires : goal.get-node-requires
+get-node-requires c = page-found (forest_of c.self.inside) c.self.invariant.store c.args.v.0 c.args.page (rw (← c.self.view_is) at c.requires.page)
 
 pub mark_zero-requires-clause-page : goal.mark_zero-requires-clause-page
 mark_zero-requires-clause-page c =
-    (page-at (forest_of c.self.inside) c.self.invariant.store c.args.v.0 c.args.page _ (rw (← c.self.view_is) at c.requires.page) c.node_of-node.ensures).page
+    (page-at (forest_of c.self.inside) c.self.invariant.store c.args.v.0 c.args.page _ (rw (← c.self.view_is) at c.requires.page) c.get-node.ensures).page
 
 pub invariant_of-self : goal.invariant_of-self
 invariant_of-self c =
-    record { store = store-zeroed (forest_of c.self.inside) c.self.invariant.store c.args.v.0 c.args.page (rw (← c.self.view_is) at c.requires.page) _ c.node_of-node.ensures _ _ c.mark_zero.ensures }
+    record { store = store-zeroed (forest_of c.self.inside) c.self.invariant.store c.args.v.0 c.args.page (rw (← c.self.view_is) at c.requires.page) _ c.get-node.ensures _ _ c.mark_zero.ensures }
 
 pub returns-clause-zero : goal.returns-clause-zero
 returns-clause-zero c =
-    rw (← c.self.view_is) (content-zero (forest_of c.self.inside) c.self.invariant.store c.args.v.0 c.args.page (rw (← c.self.view_is) at c.requires.page) _ c.node_of-node.ensures _ _ c.mark_zero.ensures)
+    rw (← c.self.view_is) (content-zero (forest_of c.self.inside) c.self.invariant.store c.args.v.0 c.args.page (rw (← c.self.view_is) at c.requires.page) _ c.get-node.ensures _ _ c.mark_zero.ensures)

@@ -1,6 +1,6 @@
 use Rattle.std.proofs.Common.{◌≡◌, true, false, is_some, sym, ap, ◌∙◌}
 use Rattle.cow_forest.specs.Tables.{node_in}
-use Rattle.cow_forest.proofs.tables.node_of.Goals as goal
+use Rattle.cow_forest.proofs.vmo_nodes.find.Goals as goal
 
 pub returns : goal.returns
 unfolding node_in
