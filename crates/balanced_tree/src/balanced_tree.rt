@@ -1,12 +1,12 @@
 //! The balanced tree as its callers see it.
 
-ghost use Rattle.std.specs.Prelude.{◌≡◌, ℕ, ◌+◌, ◌-◌, ◌^◌, ◌<◌, ◌≤◌, [], length, IsNone, IsSome, Some, OnOk};
-ghost use Rattle.std.specs.Option.{MatchOption};
+ghost use Rattle.std.specs.Prelude.{◌≡◌, ℕ, ◌+◌, ◌-◌, ◌^◌, ◌<◌, ◌≤◌, [], length, option_copied, IsNone, IsSome, Some, OnOk};
+ghost use Rattle.std.specs.Option.{MatchOption, option_map};
 ghost use Rattle.balanced_tree.specs.Gaps.{AreApart, HasNoGap, IsFirstGap};
 ghost use Rattle.balanced_tree.specs.Row.{plain};
 ghost use Rattle.balanced_tree.specs.Rows.{if_at, row_at, row_from, row_to, with_row, without_rank, IsRising};
 
-use crate::descent::find_below;
+use crate::descent::{find_below, first_below};
 use crate::extent_row::ExtentRow;
 use crate::gaps::gap_below;
 use crate::insertion::insert_below;
@@ -82,20 +82,22 @@ impl<R: TreeRow> BalancedTree<R> {
     }
 
     /// The row of this rank.
+    #[inline(always)]
     pub fn find_counted<L: Ledger>(&self, rank: u128, steps: &mut Steps<L>) -> Option<R>
         ensures row { result ≡ row_at R.functions rank self.now.rows }
         ensures cost { 2 ^ (steps.new - steps.old) ≤ (length self.now.rows + 1) ^ 2 }
     {
-        let row = find_below(&self.rows, self.root, rank, false, steps);
+        let row = first_below(&self.rows, self.root, rank, steps);
         if_of_rank(row, rank)
     }
 
     /// The first row of this rank or a higher one.
+    #[inline(always)]
     pub fn next_counted<L: Ledger>(&self, rank: u128, steps: &mut Steps<L>) -> Option<R>
         ensures row { result ≡ row_from R.functions rank self.now.rows }
         ensures cost { 2 ^ (steps.new - steps.old) ≤ (length self.now.rows + 1) ^ 2 }
     {
-        find_below(&self.rows, self.root, rank, false, steps)
+        alone(first_below(&self.rows, self.root, rank, steps))
     }
 
     /// The last row of this rank or a lower one.
@@ -103,7 +105,7 @@ impl<R: TreeRow> BalancedTree<R> {
         ensures row { result ≡ row_to R.functions rank self.now.rows }
         ensures cost { 2 ^ (steps.new - steps.old) ≤ (length self.now.rows + 1) ^ 2 }
     {
-        find_below(&self.rows, self.root, rank, true, steps)
+        alone(find_below(&self.rows, self.root, rank, true, steps))
     }
 
     /// Puts a row of a rank that no row has yet.
@@ -146,6 +148,7 @@ impl<R: TreeRow> BalancedTree<R> {
     }
 
     /// The row of this rank.
+    #[inline(always)]
     pub fn find(&self, rank: u128) -> Option<R>
         ensures { result ≡ row_at R.functions rank self.now.rows }
     {
@@ -153,6 +156,7 @@ impl<R: TreeRow> BalancedTree<R> {
     }
 
     /// The first row of this rank or a higher one.
+    #[inline(always)]
     pub fn next(&self, rank: u128) -> Option<R>
         ensures { result ≡ row_from R.functions rank self.now.rows }
     {
@@ -225,12 +229,25 @@ impl<R: ExtentRow> BalancedTree<R> {
     }
 }
 
-/// The row, if it has this rank.
-fn if_of_rank<R: TreeRow>(row: Option<R>, rank: u128) -> Option<R>
-    ensures { result ≡ if_at R.functions rank row }
+/// The row with no children, if there is one.
+#[inline(always)]
+fn alone<R: TreeRow>(row: Option<&R>) -> Option<R>
+    ensures { result ≡ option_map (plain R.functions) (option_copied row.entry) }
+{
+    Some(row?.linked(None, None))
+}
+
+/// The row with no children, if it has this rank.
+#[inline(always)]
+fn if_of_rank<R: TreeRow>(row: Option<&R>, rank: u128) -> Option<R>
+    ensures { result ≡ if_at R.functions rank (option_map (plain R.functions) (option_copied row.entry)) }
 {
     let row = row?;
-    if row.rank() == rank { Some(row) } else { None }
+    if row.rank() == rank {
+        Some(row.linked(None, None))
+    } else {
+        None
+    }
 }
 
 // The counted calls over a ledger that is thrown away.
@@ -251,6 +268,7 @@ fn first_gap_with<R: ExtentRow, L: Ledger>(
     tree.first_gap_counted(from, size, limit, &mut steps)
 }
 
+#[inline(always)]
 fn find_with<R: TreeRow, L: Ledger>(tree: &BalancedTree<R>, rank: u128, blank: Blank) -> Option<R>
     requires ledger { (blank.name ≡ L.name) × (blank.parts ≡ L.parts) × (0 < blank.parts) }
     ensures { result ≡ row_at R.functions rank tree.now.rows }
@@ -259,6 +277,7 @@ fn find_with<R: TreeRow, L: Ledger>(tree: &BalancedTree<R>, rank: u128, blank: B
     tree.find_counted(rank, &mut steps)
 }
 
+#[inline(always)]
 fn next_with<R: TreeRow, L: Ledger>(tree: &BalancedTree<R>, rank: u128, blank: Blank) -> Option<R>
     requires ledger { (blank.name ≡ L.name) × (blank.parts ≡ L.parts) × (0 < blank.parts) }
     ensures { result ≡ row_from R.functions rank tree.now.rows }

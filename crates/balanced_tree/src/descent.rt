@@ -1,6 +1,8 @@
 //! The way down to a row.
 
-ghost use Rattle.std.specs.Prelude.{◌≡◌, ℕ, ◌+◌, ◌≤◌, Some, None, cond, option_copied};
+ghost use Rattle.std.specs.Prelude.{◌≡◌, ℕ, ◌+◌, ◌≤◌, false, Some, None, cond, option_copied};
+ghost use Rattle.std.specs.Option.{option_map};
+ghost use Rattle.balanced_tree.specs.Row.{plain};
 ghost use Rattle.balanced_tree.specs.Standing.{IsStanding, Stands};
 ghost use Rattle.balanced_tree.specs.Tree.{Tree, height, found};
 
@@ -9,18 +11,19 @@ use crate::steps::Steps;
 use crate::tree_row::TreeRow;
 use std::sync::ledger::Ledger;
 
-/// The row of this rank in the tree under a link, with no children. Where there is none, it is the first row of a
-/// higher rank, and with `down` the last row of a lower one. It is copied once, where it is found.
-pub fn find_below<R: TreeRow, L: Ledger>(
-    rows: &RowSlab<R>,
+/// The row of this rank in the tree under a link, where it stands. Where there is none, it is the first row of a higher
+/// rank, and with `down` the last row of a lower one.
+#[inline(always)]
+pub fn find_below<'a, R: TreeRow, L: Ledger>(
+    rows: &'a RowSlab<R>,
     at: Option<usize>,
     rank: u128,
     down: bool,
     steps: &mut Steps<L>,
-) -> Option<R>
+) -> Option<&'a R>
     requires { Stands R.functions rows.now at }
     ensures row { (t : Tree R) (low high : ℕ) → IsStanding R.functions rows.now at t low high
-        → result ≡ found R.functions down rank None t }
+        → option_map (plain R.functions) (option_copied result) ≡ found R.functions down rank None t }
     ensures steps { (t : Tree R) (low high : ℕ) → IsStanding R.functions rows.now at t low high
         → steps.new ≤ steps.old + height t }
 {
@@ -40,10 +43,29 @@ pub fn find_below<R: TreeRow, L: Ledger>(
             at = None;
         }
     }
-    Some(best?.linked(None, None))
+    best
+}
+
+/// The row of this rank, or else the first one of a higher rank. It is not inlined, so that a look-up is a call that
+/// answers where the row stands, and the caller reads no more of it than it wants.
+#[inline(never)]
+pub fn first_below<'a, R: TreeRow, L: Ledger>(
+    rows: &'a RowSlab<R>,
+    at: Option<usize>,
+    rank: u128,
+    steps: &mut Steps<L>,
+) -> Option<&'a R>
+    requires { Stands R.functions rows.now at }
+    ensures row { (t : Tree R) (low high : ℕ) → IsStanding R.functions rows.now at t low high
+        → option_map (plain R.functions) (option_copied result) ≡ found R.functions false rank None t }
+    ensures steps { (t : Tree R) (low high : ℕ) → IsStanding R.functions rows.now at t low high
+        → steps.new ≤ steps.old + height t }
+{
+    find_below(rows, at, rank, false, steps)
 }
 
 /// This row where it lies on the side that is looked at, and else what was found before.
+#[inline(always)]
 fn nearer<'a, R: TreeRow>(best: Option<&'a R>, here: &'a R, on_side: bool) -> Option<&'a R>
     ensures { option_copied result ≡ cond on_side (Some here.now) (option_copied best.entry) }
 {

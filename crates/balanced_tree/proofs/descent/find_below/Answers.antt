@@ -1,5 +1,4 @@
-use Rattle.std.proofs.Common.{Some, ap, ◌∙◌, arith}
-use Rattle.std.specs.Prelude.{option_copied}
+use Rattle.std.proofs.Common.{refl, arith}
 use Rattle.balanced_tree.proofs.DescentLaws.{descends-start, descends-end, descends-steps, descends-place, descends-left, descends-right, descends-here, lower-descends-left, lower-descends-right, lower-descends-here}
 use Rattle.balanced_tree.proofs.descent.find_below.Goals as goal
 
@@ -33,16 +32,8 @@ pub loop-at-preserved : goal.loop-at-preserved
 loop-at-preserved g c =
     descends-here g.R.TreeRow.functions c.loop-at.invariant g.met.R.TreeRow.lawful c.in-Some.is c.look-here.ensures.row (omega (arith, c.rank-there.ensures)) (omega (arith, c.rank-there.ensures)) c.look-here.ensures.step
 
-pub returns-in_err-best-clause-row : goal.returns-in_err-best-clause-row
-returns-in_err-best-clause-row g c = λ tree low high h.
-    c.from_residual.ensures ∙ descends-end g.R.TreeRow.functions c.loop-at.invariant c.in_default.is (ap option_copied c.in_err-best.was) tree low high h
-
-pub returns-in_err-best-clause-steps : goal.returns-in_err-best-clause-steps
-returns-in_err-best-clause-steps g c = descends-steps g.R.TreeRow.functions c.loop-at.invariant
-
 pub returns-clause-row : goal.returns-clause-row
-returns-clause-row g c = λ tree low high h.
-    ap Some c.linked.ensures ∙ descends-end g.R.TreeRow.functions c.loop-at.invariant c.in_default.is (ap option_copied c.in_ok-best.was) tree low high h
+returns-clause-row g c = λ tree low high h. descends-end g.R.TreeRow.functions c.loop-at.invariant c.in_default.is refl tree low high h
 
 pub returns-clause-steps : goal.returns-clause-steps
 returns-clause-steps g c = descends-steps g.R.TreeRow.functions c.loop-at.invariant

@@ -9,7 +9,7 @@ returns-clause-row g c =
     let law = g.met.R.TreeRow.lawful in
     let h = c.self.invariant in
     c.if_of_rank.ensures
-    ∙ sym (at_found f law c.args.rank _ h (c.find_below-row.ensures.row h.tree 0 (2 ^ 128) h.standing))
+    ∙ sym (at_found f law c.args.rank _ h (c.first_below-row.ensures.row h.tree 0 (2 ^ 128) h.standing))
     ∙ ap (λ v. row_at f c.args.rank v.rows) c.self.view_is
 
 pub returns-clause-cost : goal.returns-clause-cost
@@ -17,6 +17,6 @@ returns-clause-cost g c =
     let f = g.R.TreeRow.functions in
     let law = g.met.R.TreeRow.lawful in
     let h = c.self.invariant in
-    let steps = c.find_below-row.ensures.steps h.tree 0 (2 ^ 128) h.standing in
-    subst (λ v. 2 ^ (c.find_below-row.new.steps - c.args.steps.now) ≤ (length v.rows + 1) ^ 2) c.self.view_is
+    let steps = c.first_below-row.ensures.steps h.tree 0 (2 ^ 128) h.standing in
+    subst (λ v. 2 ^ (c.first_below-row.new.steps - c.args.steps.now) ≤ (length v.rows + 1) ^ 2) c.self.view_is
     (look_cost-IsTree f law 1 _ _ h (omega (arith, steps)))

@@ -8,7 +8,7 @@ returns-clause-row g c =
     let f = g.R.TreeRow.functions in
     let law = g.met.R.TreeRow.lawful in
     let h = c.self.invariant in
-    c.find_below.ensures.row h.tree 0 (2 ^ 128) h.standing ∙ row_to-IsTree f law c.args.rank h ∙ ap (λ v. row_to f c.args.rank v.rows) c.self.view_is
+    c.alone.ensures ∙ c.find_below.ensures.row h.tree 0 (2 ^ 128) h.standing ∙ row_to-IsTree f law c.args.rank h ∙ ap (λ v. row_to f c.args.rank v.rows) c.self.view_is
 
 pub returns-clause-cost : goal.returns-clause-cost
 returns-clause-cost g c =
