@@ -1,6 +1,6 @@
 //! Looking at pages: what one is, and which is the next that is held.
 
-ghost use Rattle.std.specs.Prelude.{◌≡◌, ◌+◌, ◌*◌, ◌^◌, ◌<◌, ◌≤◌, ℕ, Bool, IsSome, IsSomeAnd, IfSome, IfNone};
+ghost use Rattle.std.specs.Prelude.{◌≡◌, ◌+◌, ◌*◌, ◌^◌, ◌<◌, ◌≤◌, ℕ, Bool, None, IsSome, IsSomeAnd, IfSome, IfNone};
 ghost use Rattle.page_list.specs.Lists.{row_count, slots_of};
 ghost use Rattle.cow_arena.specs.Nodes.{nodes_of};
 ghost use Rattle.cow_arena.specs.Walk.{walk, frame_at};
@@ -12,7 +12,7 @@ ghost use Rattle.cow_split.specs.Exact.{IsExact, all_in_sight};
 ghost use Rattle.cow_forest.specs.Looking.{look_in, IsLook, ShowsNoneIn, ShowsNoneFrom, IsNextBelow, nearer_page};
 
 use cow_arena::{CowArena, NodeId};
-use cow_split::{Holder, holder, holder_counted, is_last};
+use cow_split::{Holder, holder, holder_above, holder_counted, is_last};
 use page_list::{ListId, PageLists, Slot, Steps};
 use page_store::Look;
 use std::sync::ledger::Ledger;
@@ -45,14 +45,15 @@ fn look_in(slot: Slot) -> Look
     }
 }
 
-/// Does what `look_at` does, by the walk upwards.
+/// Does what `look_at` does, by the walk upwards. The page has no row of its own.
 #[inline(never)]
 fn look_upwards(arena: &CowArena, lists: &PageLists, leaf: NodeId, page: PageNo) -> Look
     requires exact { (in_use : ℕ → Bool) × IsExact (tree_of arena.now lists.now) all_in_sight in_use }
     requires page { IsPage (tree_of arena.now lists.now) leaf.0 page }
+    requires bare { IsSomeAnd (nodes_of arena.now leaf.0) (λ node. slots_of lists.now node.list.0 page ≡ None) }
     ensures { IsLook (tree_of arena.now lists.now) leaf.0 page result }
 {
-    let found = holder(arena, lists, leaf, page);
+    let found = holder_above(arena, lists, leaf, page);
     look_found(arena, lists, leaf, page, found)
 }
 

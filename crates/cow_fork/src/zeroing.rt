@@ -19,7 +19,7 @@ ghost use Rattle.cow_fork.specs.Zeroing.{HasZeroed};
 ghost use Rattle.cow_fork.specs.ZeroSteps.{HasLetGo, HasHidden};
 
 use cow_arena::{CowArena, NodeId};
-use cow_split::{Cut, Holder, cut_holder, holder};
+use cow_split::{Cut, Holder, cut_holder, holder, holder_above};
 use frame_pool::FramePool;
 use page_list::{PageLists, Slot};
 use vm_base::{PageNo, Tag};
@@ -112,7 +112,7 @@ fn hide_above(arena: &CowArena, lists: &mut PageLists, leaf: NodeId, page: PageN
     ensures { (in_use : ℕ → Bool) → IsExact (tree_of arena.now lists.old) (leaving_out all_in_sight leaf.0 page) in_use →
         HasHidden arena.now lists.old lists.new in_use leaf.0 page }
 {
-    let above = holder(arena, lists, leaf, page);
+    let above = holder_above(arena, lists, leaf, page);
     if has_frame(above) {
         lists.insert(arena.node(leaf).list, page, Slot::Zero);
     }

@@ -6,7 +6,9 @@ use Rattle.std.proofs.lemmas.Bool.{lt-ltb, le-leb}
 use Rattle.std.proofs.lemmas.Bool.Decides.{nat_tests}
 use Rattle.std.proofs.lemmas.List.Elements.{Contains-append_left, Contains-append_right, Contains-append_cases, Contains-push, Contains-push_cases}
 use Rattle.vm_base.specs.declared.names.Koid.{Koid}
+use Rattle.vm_base.specs.Entries.{passes}
 use Rattle.vm_base.proofs.EntryLaws.{some_same}
+use Rattle.vm_base.proofs.SearchLaws.{eqb_same}
 use Rattle.page_list.specs.declared.row.Slot.{Slot}
 use Rattle.cow_arena.specs.declared.node.NodeId.{NodeId}
 use Rattle.cow_arena.specs.declared.node.Node.{Node}
@@ -21,7 +23,7 @@ use Rattle.cow_arena.proofs.AlikeLaws.{with_pair-other}
 use Rattle.cow_split.specs.Trees.{with_row}
 use Rattle.balanced_tree.specs.Pairs.{with_pair}
 use Rattle.cow_split.specs.Search.{in_window, ends, meets, viewers_over, viewers_from, has_some, reached_from}
-use Rattle.cow_split.specs.Searching.{viewers_at}
+use Rattle.cow_split.specs.Searching.{viewers_at, IsLeafOn}
 use Rattle.cow_split.specs.Sight.{IsPage, Sees}
 
 -- ---- lists of nodes
@@ -429,3 +431,27 @@ reached-with_row t f except side h q above r row at =
     (λ k c node s below k_at child. let deeper = deeper-child t.nodes t.slots t.lists f except k c node s k_at child in omega arith)
     (λ k p node below k_at. with_pair-other t.slots above.list.0 r row node.list.0 p
     (λ list _. let one = ap f.rank (f.by.own k h node above k_at at list) in absurd (omega arith)))
+
+-- ---- a leaf that is the child on a side
+
+leads_here : (k : ℕ) → leads_to (link_to k) k ≡ true
+unfolding passes
+leads_here k = eqb_same k
+
+-- nobody else is on that side
+pub leaf-alone : (t : Tree) → IsForest t.nodes t.lists → (k h q : ℕ) (s : Side) → IsLeafOn t.nodes k s h → reached_from t (link_to k) s h q ≡ false
+leaf-alone t f k h q s leaf =
+    let nobody = down-step t.nodes t.slots t.lists f (link_to k) k q leaf.node leaf.visible.at ∙ outside (in_window leaf.node q) (met (t.slots leaf.node.list.0 (q - leaf.node.first))) in
+    rw (leaf.above_at, leaf.child) (ap has_some nobody)
+  where
+    met : (row : Option Slot) → meets t.nodes t.slots (link_to k) (viewers_over t.nodes t.slots (link_to k) t.lists) k leaf.node (q - leaf.node.first) row ≡ []
+    met (Some slot) = refl
+    met None = with_koid leaf.node.koid leaf.visible.koid
+      where
+        with_koid : (o : Option Koid) → IsSome o → ends t.nodes t.slots (link_to k) (viewers_over t.nodes t.slots (link_to k) t.lists) k leaf.node (q - leaf.node.first) o ≡ []
+        with_koid (Some koid) some = ap (λ b. if b then [] else k ∷ []) (leads_here k)
+        with_koid None none = absurd (cc)
+
+    outside : {list : List ℕ} (inside : Bool) → list ≡ [] → (if inside then list else []) ≡ []
+    outside true none = none
+    outside false none = refl

@@ -5,7 +5,7 @@ use Rattle.cow_arena.specs.declared.node.NodeId.{NodeId}
 use Rattle.cow_arena.specs.declared.node.Node.{Node}
 use Rattle.cow_arena.specs.declared.node.Side.{Side}
 use Rattle.cow_arena.specs.declared.node.Side.TheVariants as side
-use Rattle.cow_arena.specs.Nodes.{Nodes, link_to, parent_in, side_in}
+use Rattle.cow_arena.specs.Nodes.{Nodes, link_to, child_on, parent_in, side_in, IsVisible}
 use Rattle.cow_arena.specs.Walk.{Tree, Slots, tree_with}
 use Rattle.cow_arena.specs.Ways.{Arrives}
 use Rattle.cow_split.specs.Cost.{depth}
@@ -152,3 +152,11 @@ abbrev pub is_row_of : (k p : ℕ) → Holder → (h q : ℕ) → Bool
 is_row_of k p (holder.Own slot) h q = (k == h) && (p == q)
 is_row_of k p (holder.Above node page side slot) h q = (node.0 == h) && (page == q)
 is_row_of k p holder.Nothing h q = false
+
+-- the child of node h on this side is the visible node k
+pub record IsLeafOn (nodes : Nodes) (k : ℕ) (s : Side) (h : ℕ) : Type 0 where
+  pub above : Node
+  pub above_at : nodes h ≡ Some above
+  pub child : child_on above s ≡ link_to k
+  pub node : Node
+  pub visible : IsVisible nodes k node

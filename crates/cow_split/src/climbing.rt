@@ -1,7 +1,7 @@
 //! The walk upwards, to the row that says what a page of a node shows.
 
-ghost use Rattle.std.specs.Prelude.{◌≡◌, ◌+◌, ◌*◌, ◌<◌, ◌≤◌, ℕ, Some, IsSome};
-ghost use Rattle.page_list.specs.Lists.{row_count};
+ghost use Rattle.std.specs.Prelude.{◌≡◌, ◌+◌, ◌*◌, ◌<◌, ◌≤◌, ℕ, None, IsSome, IsSomeAnd};
+ghost use Rattle.page_list.specs.Lists.{row_count, slots_of};
 ghost use Rattle.cow_arena.specs.Nodes.{nodes_of};
 ghost use Rattle.cow_arena.specs.Walk.{walk};
 ghost use Rattle.cow_arena.specs.Forest.{IsForest};
@@ -9,8 +9,8 @@ ghost use Rattle.cow_split.specs.Trees.{tree_of, holder_of};
 ghost use Rattle.cow_split.specs.Cost.{IsMostOfLookUp, depth};
 
 use crate::answers::Holder;
-use cow_arena::{CowArena, NodeId, Side};
-use page_list::{PageLists, Slot, Steps};
+use cow_arena::{CowArena, NodeId};
+use page_list::{PageLists, Steps};
 use std::marker::Brand;
 use std::sync::ledger::{Blank, Ledger};
 use vm_base::PageNo;
@@ -21,11 +21,23 @@ pub fn holder(arena: &CowArena, lists: &PageLists, leaf: NodeId, page: PageNo) -
     requires node { IsSome (nodes_of arena.now leaf.0) }
     ensures { result ≡ holder_of (walk (tree_of arena.now lists.now) leaf.0 page) }
 {
-    holder_with::<Brand>(arena, lists, leaf, page, Blank::new(1))
+    if let Some(slot) = lists.find(arena.node(leaf).list, page) {
+        return Holder::Own(slot);
+    }
+    holder_above(arena, lists, leaf, page)
 }
 
-/// Does what `holder` does, over a count that is thrown away.
-fn holder_with<L: Ledger>(
+/// Does what `holder` does for a page that has no row of its own, with no look-up in the node's own list.
+pub fn holder_above(arena: &CowArena, lists: &PageLists, leaf: NodeId, page: PageNo) -> Holder
+    requires forest { IsForest (nodes_of arena.now) arena.now.lists }
+    requires bare { IsSomeAnd (nodes_of arena.now leaf.0) (λ node. slots_of lists.now node.list.0 page ≡ None) }
+    ensures { result ≡ holder_of (walk (tree_of arena.now lists.now) leaf.0 page) }
+{
+    climb_with::<Brand>(arena, lists, leaf, page, Blank::new(1))
+}
+
+/// Does what `holder_above` does, over a count that is thrown away.
+fn climb_with<L: Ledger>(
     arena: &CowArena,
     lists: &PageLists,
     leaf: NodeId,
@@ -34,11 +46,11 @@ fn holder_with<L: Ledger>(
 ) -> Holder
     requires ledger { (blank.name ≡ L.name) × (blank.parts ≡ L.parts) × (0 < blank.parts) }
     requires forest { IsForest (nodes_of arena.now) arena.now.lists }
-    requires node { IsSome (nodes_of arena.now leaf.0) }
+    requires bare { IsSomeAnd (nodes_of arena.now leaf.0) (λ node. slots_of lists.now node.list.0 page ≡ None) }
     ensures { result ≡ holder_of (walk (tree_of arena.now lists.now) leaf.0 page) }
 {
     let mut steps = Steps::<L>::new(blank);
-    holder_counted(arena, lists, leaf, page, &mut steps)
+    climb(arena, lists, leaf, page, &mut steps)
 }
 
 /// Does what `holder` does, and counts the steps of its look-ups in the lists: one look-up for each node on the way.
@@ -55,14 +67,30 @@ pub fn holder_counted<L: Ledger>(
     ensures cost { (most : ℕ) → IsMostOfLookUp (row_count lists.now) most →
         steps.new ≤ steps.old + depth (nodes_of arena.now) arena.now.lists leaf.0 * most }
 {
+    if let Some(slot) = lists.find_counted(arena.node(leaf).list, page, steps) {
+        return Holder::Own(slot);
+    }
+    climb(arena, lists, leaf, page, steps)
+}
+
+/// Goes up from a page that has no row in its node's list, and counts the steps of a look-up for each node above.
+fn climb<L: Ledger>(
+    arena: &CowArena,
+    lists: &PageLists,
+    leaf: NodeId,
+    page: PageNo,
+    steps: &mut Steps<L>,
+) -> Holder
+    requires forest { IsForest (nodes_of arena.now) arena.now.lists }
+    requires bare { IsSomeAnd (nodes_of arena.now leaf.0) (λ node. slots_of lists.now node.list.0 page ≡ None) }
+    ensures holder { result ≡ holder_of (walk (tree_of arena.now lists.now) leaf.0 page) }
+    ensures cost { (most : ℕ) → IsMostOfLookUp (row_count lists.now) most →
+        steps.new + most ≤ steps.old + depth (nodes_of arena.now) arena.now.lists leaf.0 * most }
+{
     let mut at = leaf;
     let mut here = page;
-    let mut from = None;
     let mut node = arena.node(leaf);
     loop {
-        if let Some(slot) = lists.find_counted(node.list, here, steps) {
-            return held(at, here, from, slot);
-        }
         let Some(parent) = node.parent else {
             return Holder::Nothing;
         };
@@ -70,24 +98,17 @@ pub fn holder_counted<L: Ledger>(
             return Holder::Nothing;
         }
         let above = arena.node(parent);
-        from = Some(above.side_of(at));
+        let side = above.side_of(at);
         here += node.first;
+        if let Some(slot) = lists.find_counted(above.list, here, steps) {
+            return Holder::Above {
+                node: parent,
+                page: here,
+                side,
+                slot,
+            };
+        }
         at = parent;
         node = above;
-    }
-}
-
-/// What is answered where a walk ends at this page of this node, and comes there from this side.
-fn held(node: NodeId, page: PageNo, from: Option<Side>, slot: Slot) -> Holder
-    ensures { result ≡ holder_of (Some (record { node = node.0; page = page; side = from; slot = slot })) }
-{
-    match from {
-        None => Holder::Own(slot),
-        Some(side) => Holder::Above {
-            node,
-            page,
-            side,
-            slot,
-        },
     }
 }

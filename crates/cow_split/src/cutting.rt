@@ -15,8 +15,8 @@ ghost use Rattle.cow_split.specs.Cutting.{split_on, answer_on, slots_from, answe
 ghost use Rattle.cow_split.specs.declared.answers.Cut.TheVariants as cut;
 
 use crate::answers::{Cut, Holder};
-use crate::climbing::holder;
-use crate::search::reached_from;
+use crate::climbing::holder_above;
+use crate::search::reached_by_others;
 use cow_arena::{CowArena, NodeId, Side};
 use page_list::{ListId, PageLists, Slot};
 use vm_base::{PageNo, Tag};
@@ -42,7 +42,7 @@ pub fn cut(arena: &CowArena, lists: &mut PageLists, leaf: NodeId, page: PageNo) 
         ((frame_at (tree_of arena.now lists.old) leaf.0 page ≡ Some tag.0)
         × IsLastViewer (tree_of arena.now lists.old) leaf.0 tag.0) }
 {
-    let found = holder(arena, lists, leaf, page);
+    let found = holder_above(arena, lists, leaf, page);
     cut_holder(arena, lists, leaf, page, found)
 }
 
@@ -90,7 +90,7 @@ fn cut_row(
     let Slot::Frame { tag, left, right } = slot else {
         return Cut::NothingThere;
     };
-    if reached_from(arena, lists, Some(leaf), side, node, page) {
+    if reached_by_others(arena, lists, leaf, side, node, page) {
         return Cut::StillSeen;
     }
     let list = arena.node(node).list;
@@ -188,7 +188,7 @@ fn is_last_from(
     let Slot::Frame { tag, left, right } = slot else {
         return false;
     };
-    if reached_from(arena, lists, Some(leaf), side, node, page) {
+    if reached_by_others(arena, lists, leaf, side, node, page) {
         return false;
     }
     is_gone(side, tag, left, right)

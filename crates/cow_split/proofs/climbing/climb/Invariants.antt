@@ -1,0 +1,13 @@
+use Rattle.page_list.specs.Lists.{row_count}
+use Rattle.cow_arena.specs.Nodes.{nodes_of}
+use Rattle.cow_split.specs.Trees.{tree_of}
+use Rattle.cow_split.specs.Cost.{depth}
+use Rattle.cow_split.proofs.ClimbLaws.{IsClimbing}
+use Rattle.cow_split.proofs.climbing.climb.Given as goal
+
+abbrev pub invariant-loop-node : goal.invariant-loop-node
+invariant-loop-node g l =
+    IsClimbing (tree_of l.arena l.lists) (row_count l.lists) l.fn.leaf.0 l.fn.page l.initial.steps l.steps l.at.0 l.here l.node
+
+abbrev pub decreases-loop-node : goal.decreases-loop-node
+decreases-loop-node g l = depth (nodes_of l.arena) l.arena.lists l.at.0
