@@ -7,14 +7,13 @@ ghost use Rattle.vm_core.specs.Vm.{Agrees, machine_of};
 ghost use Rattle.vm_session.specs.Outcome.{AnswersLine, EndsAs};
 ghost use Rattle.vm_session.specs.Serving.{IsServed, IsReady, FetchesOnce, bytes_left};
 
-use crate::replies::push_answer;
+use crate::replies::{push_answer, push_syntax};
 use crate::rooms::Rooms;
 use page_store::PageStore;
 use script_io::{Fetch, Lines, Sink, Source, Status};
 use script_text::read_call;
-use vm_base::{Failed, KOIDS, Refusal};
+use vm_base::{Failed, KOIDS};
 use vm_core::Vm;
-use vm_model::Answer;
 
 /// Answers one line. `Failed` where the sink failed; the line was done all the same.
 fn answer_line<P: PageStore, K: Sink>(
@@ -39,7 +38,7 @@ fn answer_line<P: PageStore, K: Sink>(
             let answer = vm.answer(store, &call, &mut rooms.read, &mut rooms.pinned);
             push_answer(sink, &answer, &mut rooms.reply)
         }
-        Err(_) => push_answer(sink, &Answer::Refused(Refusal::Syntax), &mut rooms.reply),
+        Err(_) => push_syntax(sink, &mut rooms.reply),
     }
 }
 
@@ -77,7 +76,7 @@ pub fn answer_next<P: PageStore, S: Source, K: Sink>(
 {
     let answered = match lines.next(source) {
         Fetch::Line => answer_line(store, vm, sink, rooms, lines.line()),
-        Fetch::TooLong => push_answer(sink, &Answer::Refused(Refusal::Syntax), &mut rooms.reply),
+        Fetch::TooLong => push_syntax(sink, &mut rooms.reply),
         Fetch::End => return Some(Status::Done),
         Fetch::Fault => return Some(Status::ReadFault),
         Fetch::Limit => return Some(Status::ScriptLimit),

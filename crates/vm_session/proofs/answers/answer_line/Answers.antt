@@ -10,5 +10,5 @@ returns-in-Ok-Some-clause-answer g c =
 
 pub returns-in-Err-clause-answer : goal.returns-in-Err-clause-answer
 returns-in-Err-clause-answer g c =
-    AnswersLine-outside c.args.line.now _ _ _ c.push_answer-in-Err.result (c.in-Err.ensures)
-    c.push_answer-in-Err.ensures.ok c.push_answer-in-Err.ensures.err
+    AnswersLine-outside c.args.line.now _ _ _ c.push_syntax.result (c.in-Err.ensures)
+    c.push_syntax.ensures.ok c.push_syntax.ensures.err

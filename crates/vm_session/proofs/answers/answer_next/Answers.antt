@@ -51,7 +51,7 @@ returns-in-Ok-clause-served g c = elim c.match-next.branch [
       (w.in-Line.ensures.fetches s.pending s.still) w.line.ensures.bytes line.ensures.answer line.ensures.good
       line.ensures.next) w.in-Line.ensures.limit (λ e. (w.in-Line.ensures.ended e).1) c.in-Ok.field-0 (sym w.answered-is ∙ c.in-Ok.is))))
   | in-TooLong w ↦ λ frames limit source_old sink_old s.
-      let push = w.push_answer-answered in
+      let push = w.push_syntax-answered in
       rw w.sink-is (rw w.store-is (rw w.vm-is (IsServed-answered frames limit c.args.lines.now c.next.new.self
       source_old _ _ sink_old _ _ _ _ push.result s
       (IsAnswered-long _ _ _ _ _ _ _ s.pending push.result (w.in-TooLong.ensures.fetches s.pending s.still)
@@ -70,7 +70,7 @@ returns-in-Ok-clause-ready g c =
           (w.in-Line.ensures.fetches ready.pending ready.still) w.line.ensures.bytes line.ensures.answer
           line.ensures.good line.ensures.next))
       | in-TooLong w ↦
-          let push = w.push_answer-answered in
+          let push = w.push_syntax-answered in
           let now = (machine_of (g.P.PageStore.content c.args.store.now) c.args.vm.now) in
           rw w.store-is (IsReady-answered c.args.lines.now c.next.new.self _ _ _ _ now now push.result ready
           (IsAnswered-long _ _ _ _ _ _ now ready.pending push.result
@@ -88,7 +88,7 @@ returns-in-Ok-clause-falls g c =
           (w.in-Line.ensures.fetches ready.pending ready.still) w.line.ensures.bytes line.ensures.answer
           line.ensures.good line.ensures.next) w.in-Line.ensures.limit
       | in-TooLong w ↦
-          let push = w.push_answer-answered in
+          let push = w.push_syntax-answered in
           let now = (machine_of (g.P.PageStore.content c.args.store.now) c.args.vm.now) in
           bytes_left-answered c.args.lines.now c.next.new.self _ _ _ _ now now push.result ready
           (IsAnswered-long _ _ _ _ _ _ now ready.pending push.result
@@ -106,7 +106,7 @@ returns-in-Err-clause-served g c = elim c.match-next.branch [
       (w.in-Line.ensures.fetches s.pending s.still) w.line.ensures.bytes line.ensures.answer line.ensures.good
       line.ensures.next) w.in-Line.ensures.limit (λ e. (w.in-Line.ensures.ended e).1) c.in-Err.field-0 (sym w.answered-is ∙ c.in-Err.is)))
   | in-TooLong w ↦ λ frames limit source_old sink_old s.
-      let push = w.push_answer-answered in
+      let push = w.push_syntax-answered in
       rw w.sink-is (rw w.store-is (BreaksOff-answered frames limit c.args.lines.now c.next.new.self source_old _ _
       sink_old _ _ _ _ push.result s
       (IsAnswered-long _ _ _ _ _ _ _ s.pending push.result (w.in-TooLong.ensures.fetches s.pending s.still)
