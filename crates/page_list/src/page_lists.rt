@@ -1,6 +1,6 @@
 //! The table of all page lists.
 
-ghost use Rattle.std.specs.Prelude.{◌≡◌, ◌≢◌, ◌⊎◌, ◌+◌, ◌-◌, ◌^◌, ◌≤◌, ◌<◌, None, Some, Bool, OnOk, IsSome, IfSome};
+ghost use Rattle.std.specs.Prelude.{◌≡◌, ◌≢◌, ◌⊎◌, ◌+◌, ◌-◌, ◌^◌, ◌≤◌, ◌<◌, None, Some, Bool, OnOk, IsSome, IfSome, IfNone};
 ghost use Rattle.std.specs.Option.{option_map};
 ghost use Rattle.vm_base.specs.declared.names.Tag.{Tag};
 ghost use Rattle.page_list.specs.declared.row.Slot.{Slot};
@@ -136,6 +136,22 @@ impl PageLists {
     {
         let _rising = self.tree.len();
         page_in(list, self.tree.next(pair_rank(list.0, from)))
+    }
+
+    /// Takes the row of the least page of a list from `from` on out, and answers the page and its slot. `None` exactly
+    /// where there is none.
+    pub fn take_next(&mut self, list: ListId, from: PageNo) -> Option<(PageNo, Slot)>
+        ensures page { IsNext (slots_of self.old list.0) from (option_map (λ taken. taken.0) result) }
+        ensures slot { IfSome result (λ taken. slots_of self.old list.0 taken.0 ≡ Some taken.1) }
+        ensures slots { IfSome result (λ taken. slots_of self.new ≡ with_pair (slots_of self.old) list.0 taken.0 None) }
+        ensures count { IfSome result (λ taken. row_count self.new + 1 ≡ row_count self.old) }
+        ensures spare { IfSome result (λ taken. self.new.spare ≡ self.old.spare + 1) }
+        ensures none { IfNone result (self.new ≡ self.old) }
+        ensures fits { IfSome result (λ taken. taken.0 < 2 ^ 64) }
+    {
+        let page = self.next(list, from)?;
+        let slot = self.remove(list, page);
+        Some((page, slot))
     }
 
     /// Moves the row of a page of a list to a page of a list that has none.

@@ -21,15 +21,16 @@ pub enum Slot {
     Zero,
 }
 
-/// A row as it stands in the tree: under a list and a page a slot, the links to the two children, and the height.
+/// A row as it stands in the tree: under a list and a page a slot, the height, and the links to the two children. The height
+/// fills the room that the slot leaves, so that a row has 64 bytes.
 #[derive(Clone, Copy, Debug)]
 pub struct Row {
     pub list: ListId,
     pub page: PageNo,
     pub slot: Slot,
+    pub height: u32,
     pub left: Option<usize>,
     pub right: Option<usize>,
-    pub height: u32,
 }
 
 /// Rows under their places, each look, change, addition and removal one step.
@@ -90,13 +91,12 @@ impl TreeRow for Row {
           height = height_over (λ y. y.height) left right;
         } }
     {
-        let height = height_of(left).max(height_of(right)).saturating_add(1);
-        Row {
-            left: link_to(left),
-            right: link_to(right),
-            height,
-            ..self
-        }
+        // A changed copy keeps the list, the page and the slot in one piece, where a new row is put together field by field.
+        let mut row = self;
+        row.height = height_of(left).max(height_of(right)).saturating_add(1);
+        row.left = link_to(left);
+        row.right = link_to(right);
+        row
     }
 
     ghost lawful = { record {
