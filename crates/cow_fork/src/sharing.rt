@@ -78,6 +78,9 @@ fn next_below(lists: &PageLists, list: ListId, from: PageNo, end: PageNo) -> Opt
     ensures some { IfSome result (λ page. IsFirstIn (slots_of lists.now list.0) from end page) }
     ensures none { IfNone result (HasNoneIn (slots_of lists.now list.0) from end) }
 {
+    if end <= from {
+        return None;
+    }
     match lists.next(list, from) {
         Some(page) if page < end => Some(page),
         _ => None,
