@@ -1,7 +1,7 @@
 -- A VMO's node goes, whose pages are all out of sight: alone, or with its parent, whose rows were lifted into the sibling.
 use Rattle.std.proofs.Common.{◌≡◌, ◌≢◌, ℕ, ◌+◌, ◌<◌, ◌≤◌, Bool, Option, None, Some, inl, inr, IsSome, IsSomeAnd}
 use Rattle.std.proofs.Common.{refl, sym, ap, subst, ◌∙◌, arith}
-use Rattle.std.specs.Prelude.{is_some, is_none}
+use Rattle.std.specs.Prelude.{is_none}
 use Rattle.std.proofs.lemmas.Bool.{cases_eq}
 use Rattle.balanced_tree.specs.Rows.{Rows}
 use Rattle.vm_base.specs.Entries.{without_key}
@@ -21,13 +21,12 @@ use Rattle.cow_arena.proofs.ReachLaws.{child-there}
 use Rattle.cow_split.specs.Trees.{tree_of}
 use Rattle.cow_split.specs.Sight.{IsPage}
 use Rattle.cow_split.specs.Exact.{IsExact, IsOnlyOf, all_in_sight}
-use Rattle.cow_split.proofs.RowLaws.{exact-in_use_alike}
 use Rattle.cow_merge.specs.Ranges.{leaving_range, AreLinked, GivesBack, IsAllOut, HasLeftOut}
-use Rattle.cow_merge.specs.Lifting.{HasLifted, IsFamilyOf, AreTaken}
+use Rattle.cow_merge.specs.Lifting.{IsFamilyOf}
 use Rattle.cow_merge.specs.Merging.{HasClosed}
 use Rattle.cow_split.specs.Sight.{StaysVisible}
 use Rattle.cow_merge.proofs.CountLaws.{outside-other}
-use Rattle.cow_merge.proofs.SpliceLaws.{IsWithout, without-page, without-showed, without-stays, without-no_more, family-apart, spliced-gone, spliced-parent_gone, spliced-without, exact-spliced, removed_root-without, exact-removed_root}
+use Rattle.cow_merge.proofs.SpliceLaws.{IsWithout, without-page, without-showed, without-stays, without-no_more, spliced-gone, spliced-parent_gone, spliced-without, exact-spliced, removed_root-without, exact-removed_root}
 use Rattle.cow_merge.proofs.RangeLaws.{inside-range}
 use Rattle.cow_merge.proofs.ShrinkLaws.{tree-now}
 
@@ -47,10 +46,6 @@ module _ (arena : Arena) (rows late : Rows Row) (before after : Pool) (v : ℕ) 
   out-all : IsAllOut (tree_of arena late) out v
   out-all q page =
       inside-range all_in_sight v 0 node.count q (omega arith) (subst (λ (n : Node). q < n.count) (some_same (sym page.visible.at ∙ visible.at)) page.below)
-
-  -- the frames of the rows that are left are taken
-  pub left-taken : AreTaken late after
-  left-taken l q row tag at frame = left.exact.used l q row tag at frame
 
 -- ---- the node goes
 
@@ -122,38 +117,15 @@ closed-root arena new rows late before after v node visible root left is lists s
     left.gives left.linked left.spare left.count
 
 -- the node and its parent go
-module _ (arena new : Arena) (rows mid late : Rows Row) (before between after : Pool) (v h s : ℕ) (node parent sibling : Node)
+module _ (arena new : Arena) (rows late : Rows Row) (before after : Pool) (v h s : ℕ) (node parent sibling : Node)
     (visible : IsVisible (nodes_of arena) v node) (family : AreFamily (nodes_of arena) v h s node parent sibling)
-    (left : HasLeftOut arena rows mid before between v node 0) (moved : HasLifted arena mid late between after v h s) where
-  taken-same : (t : ℕ) → is_taken between t ≡ is_taken after t
-  taken-same t = ap (λ f. is_some (f t)) (sym moved.taken)
-
-  lists-apart : (node.list.0 ≢ parent.list.0) × (node.list.0 ≢ sibling.list.0)
-  lists-apart =
-      let f = left.exact.forest in
-      let apart = family-apart (nodes_of arena) arena.lists f v h s node parent sibling family in (
-        λ same. apart.2 (f.by.own v h node parent family.at family.parent_at same),
-        λ same. apart.0 (f.by.own v s node sibling family.at family.sibling_at same),
-      )
-
-  gives-still : GivesBack before after
-  gives-still = record {
-    frames = moved.frames ∙ left.gives.frames;
-    kept = λ t. elim (left.gives.kept t) [
-      | inl same ↦ inl (ap (λ f. f t) moved.taken ∙ same)
-      | inr none ↦ inr (ap (λ f. f t) moved.taken ∙ none)
-    ];
-  }
-
+    (left : HasLeftOut arena rows late before after v node 0) where
   pub closed-spliced : ((p : ℕ) → slots_of late parent.list.0 p ≡ None) → nodes_of new ≡ spliced (nodes_of arena) v h s parent sibling →
       new.lists ≡ arena.lists → visible_count new + 1 ≡ visible_count arena → IsForest (nodes_of new) new.lists →
       HasClosed arena new rows late before after v
   closed-spliced empty is lists shown forest =
       let t : Tree = tree_of arena late in
       let f = left.exact.forest in
-      let out = leaving_range all_in_sight v 0 node.count in
-      let only = out-only arena rows mid before between v node visible left in
-      let all = out-all arena rows mid before between v node visible left in
       let g : IsForest (spliced (nodes_of arena) v h s parent sibling) arena.lists =
       subst (λ l. IsForest (spliced (nodes_of arena) v h s parent sibling) l) lists (subst (λ n. IsForest n new.lists) is forest) in
       closed-by arena new rows late before after v (spliced (nodes_of arena) v h s parent sibling) is lists shown
@@ -163,19 +135,11 @@ module _ (arena new : Arena) (rows mid late : Rows Row) (before between after : 
       let up : node.parent ≡ link_to above = ap (λ (n : Node). n.parent) (some_same (sym visible.at ∙ child.at)) ∙ child.parent in
       ap (spliced (nodes_of arena) v h s parent sibling) (link_same (sym up ∙ family.parent_is))
       ∙ spliced-parent_gone (nodes_of arena) arena.lists f v h s node parent sibling family)
-      (exact-spliced t f v h s node parent sibling family visible empty g out (is_taken after)
-      (λ p. moved.elsewhere node parent sibling family node.list.0 p lists-apart.0 lists-apart.1 ∙ left.bare p (omega arith))
-      (exact-in_use_alike t out (is_taken between) (is_taken after) taken-same (moved.exact out (is_taken between) left.exact only all))
-      only
-      (λ p page. all p (page-before arena mid late v p page)))
-      (λ w q page apart.
-      let sight = outside-other v 0 node.count w q apart in
-      moved.shows out (is_taken between) left.exact only all w q (page-before arena mid late w q page) sight
-      ∙ left.shows w q (page-before arena rows late w q page) sight)
-      gives-still
-      (λ linked. moved.linked (left.linked linked))
-      (omega (arith, left.spare, moved.spare))
-      (omega (arith, left.count, moved.count))
+      (exact-spliced t f v h s node parent sibling family visible empty g (out arena rows late before after v node visible left) (is_taken after)
+      (λ p. left.bare p (omega arith)) left.exact
+      (out-only arena rows late before after v node visible left) (out-all arena rows late before after v node visible left))
+      (λ w q page apart. left.shows w q (page-before arena rows late w q page) (outside-other v 0 node.count w q apart))
+      left.gives left.linked left.spare left.count
 
 -- ---- what the code asks on the way
 
@@ -186,6 +150,12 @@ root-of node sibling same none = go node.parent refl
     go : (up : Option NodeId) → node.parent ≡ up → up ≡ None
     go None e = refl
     go (Some parent) e = let here = ap is_none none in let there = ap is_none e in absurd (cc)
+
+-- the parent of the node, as it was found
+pub child-ready : (arena : Arena) (v : ℕ) (node : Node) (hidden : NodeId) → IsVisible (nodes_of arena) v node → node.parent ≡ Some hidden →
+    IsSomeAnd (nodes_of arena v) (λ (node : Node). IsSome node.koid × (node.parent ≡ Some hidden))
+child-ready arena v node hidden visible up =
+    subst (λ o. IsSomeAnd o (λ (node : Node). IsSome node.koid × (node.parent ≡ Some hidden))) (sym visible.at) (visible.koid, up)
 
 pub root-ready : (arena : Arena) (v : ℕ) (node : Node) → IsVisible (nodes_of arena) v node → node.parent ≡ None →
     IsSomeAnd (nodes_of arena v) (λ (node : Node). IsSome node.koid × (node.parent ≡ None))

@@ -28,8 +28,9 @@ use Rattle.cow_split.specs.Exact.{Denies, AreSplitBits, IsExact, IsOnlyOf, with_
 use Rattle.cow_split.proofs.SearchLaws.{reached-seen, seen-reached, reached-kept}
 use Rattle.cow_split.proofs.ExactLaws.{with_row-changes, frame-stays, frame-gone, frame-comes, exact-changed, seen-carried, Fits, FollowFrame}
 use Rattle.cow_split.proofs.RowLaws.{exact-in_use_alike, with_row-twice}
-use Rattle.cow_merge.specs.Ranges.{ShowsSame, IsAllOut}
-use Rattle.cow_merge.specs.Lifting.{IsMoved}
+use Rattle.cow_merge.specs.Ranges.{ShowsSame}
+use Rattle.cow_merge.specs.Lifting.{IsMoved, IsAside}
+use Rattle.cow_merge.proofs.SpliceLaws.{family-apart}
 
 -- ---- rows that are moved
 
@@ -123,7 +124,7 @@ module _ (t : Tree) (f : IsForest t.nodes t.lists) (k h s : ℕ) (leaf parent si
   abbrev its_side : Side
   its_side = other_side (side_of parent k)
 
-  hidden : parent.koid ≡ None
+  pub hidden : parent.koid ≡ None
   hidden =
       let below = f.by.below h k leaf family.at family.parent_is in
       ap (λ (n : Node). n.koid) (some_same (sym family.parent_at ∙ below.at)) ∙ below.hidden
@@ -140,13 +141,6 @@ module _ (t : Tree) (f : IsForest t.nodes t.lists) (k h s : ℕ) (leaf parent si
   sibling_side : side_in t.nodes s ≡ Some its_side
   sibling_side =
       side-of-child t.nodes t.lists f h s parent its_side family.parent_at (family-side t.nodes t.lists f k h s leaf parent sibling family).1
-
-  -- a page in sight is of another node
-  sight-other : (out : ℕ → ℕ → Bool) → IsAllOut t out k → (w p : ℕ) → IsPage t w p → out w p ≡ false → w ≢ k
-  sight-other out all w p page sight same =
-      let gone = all p (subst (λ x. IsPage t x p) same page) in
-      let seen : out k p ≡ false = subst (λ x. out x p ≡ false) same sight in
-      absurd (cc)
 
   -- Whatever comes from another visible node to the parent comes through the sibling.
   comes-through : (w p : ℕ) (from : Option Side) (q : ℕ) → IsPage t w p → w ≢ k → Arrives t w p from h q →
@@ -189,27 +183,70 @@ module _ (t : Tree) (f : IsForest t.nodes t.lists) (k h s : ℕ) (leaf parent si
       up : (j : ℕ) (node : Node) → t.nodes k ≡ Some node → node.parent ≡ link_to j → j ≡ h
       up j node at parent_is = link_same (sym parent_is ∙ (ap (λ (n : Node). n.parent) (some_same (sym at ∙ family.at)) ∙ family.parent_is))
 
+  -- nobody comes through the leaf but itself
+  at-leaf : (w p : ℕ) (before : Option Side) (r : ℕ) → Arrives t w p before k r → p ≡ r
+  at-leaf w p None r way = way.1
+  at-leaf w p (Some side) r way =
+      let above = reach-hidden t f w p side k r way in
+      absurd (hidden-apart t f k k above.0 leaf above.1 above.2 visible refl)
+
+  -- a step of the leaf goes as many pages further as its window begins, from a page in the window
+  pub leaf-step : (r q : ℕ) → Climbs t k r h q → (q ≡ leaf.first + r) × (r < leaf.seen)
+  leaf-step r q step =
+      let same : step.node ≡ leaf = some_same (sym step.at ∙ family.at) in
+      let first = ap (λ (n : Node). n.first) same in
+      let seen = ap (λ (n : Node). n.seen) same in
+      (omega (arith, step.page), omega (arith, step.inside))
+
+  -- a page of the leaf that comes to the parent lies in the window
+  from-leaf : (p : ℕ) (from : Option Side) (q : ℕ) → Arrives t k p from h q → (q ≡ leaf.first + p) × (p < leaf.seen)
+  from-leaf p None q way = absurd (hidden-apart t f h k parent leaf family.parent_at hidden visible (sym way.0))
+  from-leaf p (Some side) q way =
+      let last = reach-last t f k p side h q way in
+      elim (family-both t.nodes t.lists f k h s leaf parent sibling family last.0 (last.4).node (last.4).at (last.4).parent) [
+        | inl same ↦
+            let one = at-leaf k p last.2 last.1 (subst (λ i. Arrives t k p last.2 i last.1) same last.3) in
+            let step = leaf-step last.1 q (subst (λ i. Climbs t i last.1 h q) same last.4) in
+            (omega (arith, step.0), omega (arith, step.1))
+        | inr same ↦ absurd (below last.2 last.1 (subst (λ i. Arrives t k p last.2 i last.1) same last.3))
+      ]
+    where
+      below : (before : Option Side) (r : ℕ) → Arrives t k p before s r → ⊥
+      below None r way = (family-apart t.nodes t.lists f k h s leaf parent sibling family).0 way.0
+      below (Some side) r way = not-below p side r way
+
+  -- a page in sight that comes to a page of the parent is of another node, where the page of the leaf that does is out of sight
+  sight-apart : (out : ℕ → ℕ → Bool) (q : ℕ) → IsAside out k leaf q → (w p : ℕ) (from : Option Side) → out w p ≡ false →
+      Arrives t w p from h q → w ≢ k
+  sight-apart out q aside w p from sight way same =
+      let came = from-leaf p from q (subst (λ x. Arrives t x p from h q) same way) in
+      let gone = aside p came.0 came.1 in
+      let seen : out k p ≡ false = subst (λ x. out x p ≡ false) same sight in
+      absurd (cc)
+
   -- ---- a row that the sibling does not see
 
   module _ (q : ℕ) (closed : (r : ℕ) → Climbs t s r h q → ⊥) where
-    dropped-walks : (w p : ℕ) → IsPage t w p → w ≢ k → walk (with_row t parent.list.0 q None) w p ≡ walk t w p
+    dropped-walks : (w p : ℕ) → IsPage t w p → ((from : Option Side) → Arrives t w p from h q → w ≢ k) →
+        walk (with_row t parent.list.0 q None) w p ≡ walk t w p
     dropped-walks w p page other =
         walk-but t f (with_pair t.slots parent.list.0 q None) parent.list.0 q w p (with_pair-elsewhere t.slots parent.list.0 q None)
         (λ from i n at list way.
         let one = f.by.own i h n parent at family.parent_at list in
-        let it = comes-through w p from q page other (subst (λ x. Arrives t w p from x q) one way) in
+        let there = subst (λ x. Arrives t w p from x q) one way in
+        let it = comes-through w p from q page (other from there) there in
         closed it.0 it.3)
 
-    module _ (out : ℕ → ℕ → Bool) (all : IsAllOut t out k) where
+    module _ (out : ℕ → ℕ → Bool) (aside : IsAside out k leaf q) where
       pub dropped-shows : ShowsSame t (with_row t parent.list.0 q None) out
-      dropped-shows w p page sight = ap frame_found (dropped-walks w p page (sight-other out all w p page sight))
+      dropped-shows w p page sight = ap frame_found (dropped-walks w p page (λ from way. sight-apart out q aside w p from sight way))
 
       module _ (in_use : ℕ → Bool) (exact : IsExact t out in_use) (row : Slot) (has : t.slots parent.list.0 q ≡ Some row) where
         -- nobody sees it
         unseen : (side : Side) → IsSeenFrom t out side h q → ⊥
         unseen side seen =
             let way = (walk-ends t f seen.v seen.p _ seen.sees.found).way in
-            let it = comes-through seen.v seen.p (Some side) q seen.sees.page (sight-other out all seen.v seen.p seen.sees.page seen.in_sight) way in
+            let it = comes-through seen.v seen.p (Some side) q seen.sees.page (sight-apart out q aside seen.v seen.p (Some side) seen.in_sight way) way in
             closed it.0 it.3
 
         -- so it has no frame
@@ -234,11 +271,11 @@ module _ (t : Tree) (f : IsForest t.nodes t.lists) (k h s : ℕ) (leaf parent si
             (record {
               alike = λ j r n tag left right at none e differs side. (
                 seen-carried t (with_row t parent.list.0 q None) out out side j r refl
-                    (λ v p sees sight. (dropped-walks v p sees.page (sight-other out all v p sees.page sight), sight)),
+                    (λ v p sees sight. (dropped-walks v p sees.page (λ from way. sight-apart out q aside v p from sight way), sight)),
                 seen-carried (with_row t parent.list.0 q None) t out out side j r refl
                     (λ v p sees sight.
                     let page = page-over (with_row t parent.list.0 q None) t.slots v p sees.page in
-                    (sym (dropped-walks v p page (sight-other out all v p page sight)), sight)),
+                    (sym (dropped-walks v p page (λ from way. sight-apart out q aside v p from sight way)), sight)),
               );
             })
             (λ none tag left right e. absurd (cc))
@@ -385,13 +422,12 @@ module _ (t : Tree) (f : IsForest t.nodes t.lists) (k h s : ℕ) (leaf parent si
         none from (subst (λ x. Arrives t w p from x to) (f.by.own i s n sibling at family.sibling_at list) way)))
   ]
 
-  pub moved-shows : (out : ℕ → ℕ → Bool) → IsAllOut t out k → ShowsSame t (record t { slots = moved }) out
-  moved-shows out all w p page_of sight =
+  pub moved-shows : (out : ℕ → ℕ → Bool) → IsAside out k leaf q → ShowsSame t (record t { slots = moved }) out
+  moved-shows out aside w p page_of sight =
       let closed = closed-by both f k h s leaf parent sibling family visible q to now (with_pair-same t.slots sibling.list.0 to (Some now)) page in
-      let all_both : IsAllOut both out k = λ r there. all r (page-over both t.slots k r there) in
       subst (λ (slots : Slots). frame_at (record t { slots = slots }) w p ≡ frame_at t w p)
       (rows-swapped t.slots parent.list.0 q sibling.list.0 to (Some now) apart)
-      (dropped-shows both f k h s leaf parent sibling family visible q closed out all_both w p (page-over t both.slots w p page_of) sight ∙ both-shows w p)
+      (dropped-shows both f k h s leaf parent sibling family visible q closed out aside w p (page-over t both.slots w p page_of) sight ∙ both-shows w p)
 
   -- ---- the bits
 
@@ -412,7 +448,7 @@ module _ (t : Tree) (f : IsForest t.nodes t.lists) (k h s : ℕ) (leaf parent si
   filled-row : filled.slots sibling.list.0 to ≡ Some now
   filled-row = with_pair-same emptied.slots sibling.list.0 to (Some now)
 
-  module _ (out : ℕ → ℕ → Bool) (in_use : ℕ → Bool) (exact : IsExact t out in_use) (only : IsOnlyOf out k) (all : IsAllOut t out k) where
+  module _ (out : ℕ → ℕ → Bool) (in_use : ℕ → Bool) (exact : IsExact t out in_use) (only : IsOnlyOf out k) (aside : IsAside out k leaf q) where
     denies : (side : Side) (bit : Bool) → bit ≡ not (reached_from (with_row t parent.list.0 q None) None side s to) →
         Denies bit (IsSeenFrom filled out side s to)
     denies side bit is = record {
@@ -439,7 +475,7 @@ module _ (t : Tree) (f : IsForest t.nodes t.lists) (k h s : ℕ) (leaf parent si
         (below : Side) × (reached_from (with_row t parent.list.0 q None) None below s to ≡ true)
     below-seen none side seen =
         let way = (walk-ends t f seen.v seen.p _ seen.sees.found).way in
-        let other = sight-other t f k h s leaf parent sibling family visible out all seen.v seen.p seen.sees.page seen.in_sight in
+        let other = sight-apart t f k h s leaf parent sibling family visible out q aside seen.v seen.p (Some side) seen.in_sight way in
         let it = comes-through t f k h s leaf parent sibling family visible seen.v seen.p (Some side) q seen.sees.page other way in
         let here : it.0 ≡ to = omega (arith, (climbs-same t f s it.0 h q to h q it.3 (on-up t.slots free)).1) in
         by_side it.1 (subst (λ r. Arrives t seen.v seen.p it.1 s r) here it.2)
@@ -508,8 +544,7 @@ module _ (t : Tree) (f : IsForest t.nodes t.lists) (k h s : ℕ) (leaf parent si
           let zero : filled.slots parent.list.0 q ≡ Some slot.Zero =
           with_pair-other emptied.slots sibling.list.0 to (Some now) parent.list.0 q (λ list _. apart list)
           ∙ with_pair-same t.slots parent.list.0 q (Some slot.Zero) in
-          let all_filled : IsAllOut filled out k = λ r there. all r (page-over filled t.slots k r there) in
-          let dropped = dropped-exact filled f k h s leaf parent sibling family visible q (closed-by filled f k h s leaf parent sibling family visible q to now filled-row page) out all_filled
+          let dropped = dropped-exact filled f k h s leaf parent sibling family visible q (closed-by filled f k h s leaf parent sibling family visible q to now filled-row page) out aside
           (with_frame (without_frame in_use (frame_in was)) (frame_in now)) filled-is slot.Zero zero in
           subst (λ (slots : Slots). IsExact (record t { slots = slots }) out in_use)
           (rows-swapped emptied.slots parent.list.0 q sibling.list.0 to (Some now) apart

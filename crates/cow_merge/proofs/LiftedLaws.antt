@@ -1,11 +1,13 @@
--- The rows of an arena after one of a hidden node went, or moved into the list of a child.
-use Rattle.std.proofs.Common.{◌≡◌, ◌⊎◌, ℕ, ◌+◌, ◌-◌, ◌*◌, ◌^◌, ◌<◌, ◌≤◌, if◌then◌else◌, Bool, true, ◌&&◌, Option, None, Some}
+-- Rows of a hidden node go, or move into the list of a child, where the other child, a VMO's node, goes: the page of this node
+-- that comes to a row is left out of sight first, as if it were cut off, and then the row goes or moves.
+use Rattle.std.proofs.Common.{◌≡◌, ◌≢◌, ◌⊎◌, ℕ, ◌+◌, ◌-◌, ◌*◌, ◌^◌, ◌<◌, ◌≤◌, if◌then◌else◌, Bool, true, false, ◌&&◌, not, Option, None, Some, IsSome}
 use Rattle.std.proofs.Common.{refl, sym, ap, subst, ◌∙◌, inl, inr, arith}
-use Rattle.std.specs.Prelude.{◌==◌, cond, is_some}
-use Rattle.std.proofs.lemmas.Bool.{cases_Bool, cond-true, cond-false, eq-eqb, ne_eqb, cases_lt}
+use Rattle.std.specs.Prelude.{◌==◌, ◌||◌, cond, is_some}
+use Rattle.std.proofs.lemmas.Bool.{cases_Bool, cond-true, cond-false, eq-eqb, ne_eqb, cases_lt, cases_eq, and_from}
 use Rattle.balanced_tree.specs.Pairs.{with_pair, IsNext}
 use Rattle.balanced_tree.specs.Rows.{Rows}
 use Rattle.vm_base.specs.Entries.{passes}
+use Rattle.vm_base.specs.declared.names.Tag.{Tag}
 use Rattle.vm_base.proofs.EntryLaws.{some_same}
 use Rattle.vm_base.proofs.SearchLaws.{eqb_is, eqb_same}
 use Rattle.page_list.specs.Lists.{slots_of, row_count}
@@ -13,19 +15,34 @@ use Rattle.page_list.specs.declared.row.Row.{Row}
 use Rattle.page_list.specs.declared.row.Slot.{Slot}
 use Rattle.page_list.specs.declared.row.Slot.TheVariants as slot
 use Rattle.cow_arena.specs.declared.node.Node.{Node}
-use Rattle.cow_arena.specs.Nodes.{Arena, Nodes, nodes_of, AreFamily}
-use Rattle.cow_arena.specs.Walk.{Slots, frame_in, frame_at}
+use Rattle.cow_arena.specs.declared.node.NodeId.{NodeId}
+use Rattle.cow_arena.specs.declared.node.Side.{Side}
+use Rattle.cow_arena.specs.declared.node.Side.TheVariants as side
+use Rattle.cow_arena.specs.Nodes.{Arena, nodes_of, IsVisible, AreFamily, link_to, other_side, side_of, side_in, child_on}
+use Rattle.cow_arena.specs.Walk.{Slots, Tree, Found, walk, frame_in, frame_at}
 use Rattle.cow_arena.specs.Forest.{IsForest}
 use Rattle.cow_arena.specs.Ways.{Climbs}
+use Rattle.cow_arena.proofs.ReachLaws.{side-is, side-of-child, reach-one, reach-through, found-of-reach, walk-ends}
 use Rattle.cow_arena.proofs.AlikeLaws.{with_pair-same, with_pair-other}
+use Rattle.cow_arena.proofs.SpliceWalkLaws.{family-side, family-parent}
+use Rattle.cow_split.specs.declared.answers.Cut.{Cut}
+use Rattle.cow_split.specs.declared.answers.Cut.TheVariants as cut
 use Rattle.cow_split.specs.Trees.{tree_of, with_row}
-use Rattle.cow_split.specs.Exact.{IsExact}
+use Rattle.cow_split.specs.Search.{reached_from}
+use Rattle.cow_split.specs.Sight.{IsPage, IsSeenFrom}
+use Rattle.cow_split.specs.Exact.{Denies, AreSplitBits, IsExact, IsOnlyOf, leaving_out, without_frame}
+use Rattle.cow_split.specs.Cutting.{split_on, answer_on, slots_from, answer_from, slots_after, answer_after, cut_slots, cut_answer, frame_left}
+use Rattle.cow_split.proofs.SearchLaws.{leaf-alone}
+use Rattle.cow_split.proofs.RowLaws.{left_out-in_sight, only-more, exact-in_use_alike, with_row-twice}
 use Rattle.cow_split.proofs.ExactLaws.{cases_place}
+use Rattle.cow_split.proofs.CutLaws.{exact-cut, cut-shows}
 use Rattle.frame_pool.specs.declared.frame_pool.Backlink.{Backlink}
-use Rattle.frame_pool.specs.Pool.{Pool, taken_frames, links_of}
-use Rattle.cow_merge.specs.Ranges.{ShowsSame, IsAllOut, AreLinked}
-use Rattle.cow_merge.specs.Lifting.{HasLifted, IsFamilyOf, AreTaken, SeesRow, IsMoved, has_frame}
-use Rattle.cow_merge.proofs.LiftLaws.{page-over, lists-apart, dropped-shows, dropped-exact, moved-shows, moved-exact}
+use Rattle.frame_pool.specs.Pool.{Pool, taken_frames, is_taken}
+use Rattle.cow_merge.specs.Ranges.{ShowsSame, AreLinked, GivesBack, HasLeftOut, IsHeldBy, IsSparing}
+use Rattle.cow_merge.specs.Lifting.{IsAside, IsLifting, IsFamilyOf, SeesRow, IsMoved, TellsSeen, HasGone, HasMoved, HasSettled, bit_on, has_frame}
+use Rattle.cow_merge.proofs.RangeLaws.{gives-then, gives-same, linked-part, range-exact, range-shows}
+use Rattle.cow_merge.proofs.SpliceLaws.{family-apart}
+use Rattle.cow_merge.proofs.LiftLaws.{page-over, lists-apart, leaf-step, hidden, dropped-shows, dropped-exact, moved-shows, moved-exact}
 
 -- a slot that has a frame, by the test
 has-frame : (t : ℕ) (row : Slot) → frame_in row ≡ Some t → has_frame t row ≡ true
@@ -41,31 +58,6 @@ of-has-frame t (slot.Frame tag left right) e = ap Some (sym (eqb_is t tag.0 e))
 link-same : (a b x y : ℕ) → a ≡ b → x ≡ y → ◌≡◌ {A = Backlink} (record { list = a; page = x }) (record { list = b; page = y })
 link-same a b x y e f i = record { list = e i; page = f i }
 
--- one change after another
-pub lifted-on : (arena : Arena) (first second third : Rows Row) (a b c : Pool) (k h s : ℕ) → HasLifted arena first second a b k h s →
-    HasLifted arena second third b c k h s → HasLifted arena first third a c k h s
-lifted-on arena first second third a b c k h s one two = record {
-  exact = λ out in_use exact only all. two.exact out in_use (one.exact out in_use exact only all) only (all_now out all);
-  shows = λ out in_use exact only all w q page sight.
-      two.shows out in_use (one.exact out in_use exact only all) only (all_now out all) w q
-      (page-over (tree_of arena first) (slots_of second) w q page) sight
-      ∙ one.shows out in_use exact only all w q page sight;
-  elsewhere = λ node parent sibling family l p x y. two.elsewhere node parent sibling family l p x y ∙ one.elsewhere node parent sibling family l p x y;
-  taken = two.taken ∙ one.taken;
-  frames = two.frames ∙ one.frames;
-  linked = λ linked. two.linked (one.linked linked);
-  spare = let x = one.spare in let y = two.spare in omega arith;
-  count = let x = one.count in let y = two.count in omega arith;
-}
-  where
-    all_now : (out : ℕ → ℕ → Bool) → IsAllOut (tree_of arena first) out k → IsAllOut (tree_of arena second) out k
-    all_now out all p page = all p (page-over (tree_of arena second) (slots_of first) k p page)
-
--- the families of one node are one
-same-family : (nodes : Nodes) (k h s : ℕ) (node parent sibling a b c : Node) → AreFamily nodes k h s node parent sibling →
-    AreFamily nodes k h s a b c → (b ≡ parent) × (c ≡ sibling)
-same-family nodes k h s node parent sibling a b c one two = (some_same (sym two.parent_at ∙ one.parent_at), some_same (sym two.sibling_at ∙ one.sibling_at))
-
 -- a row that is there was there, if its place is not the one that lost its row
 was-there : (slots : Slots) (l q m r : ℕ) (row : Slot) → with_pair slots l q None m r ≡ Some row →
     ((m ≡ l) × (r ≡ q) → ⊥) × (slots m r ≡ Some row)
@@ -74,29 +66,6 @@ was-there slots l q m r row e = elim (cases_place l q m r) [
       let none : with_pair slots l q None m r ≡ None = rw (here.0, here.1) (with_pair-same slots l q None) in cc)
   | inr differs ↦ (differs, sym (with_pair-other slots l q None m r (λ x y. differs (x, y))) ∙ e)
 ]
-
--- the family, with its parent and its sibling as they were found
-abbrev pub family-found : (arena : Arena) (k h s : ℕ) → IsFamilyOf arena k h s → (parent sibling : Node) → nodes_of arena h ≡ Some parent →
-    nodes_of arena s ≡ Some sibling → IsFamilyOf arena k h s
-family-found arena k h s it parent sibling parent_at sibling_at = record {
-  node = it.node;
-  parent = parent;
-  sibling = sibling;
-  family = record {
-    at = it.family.at;
-    parent_is = it.family.parent_is;
-    parent_at = parent_at;
-    sibling_is = it.family.sibling_is;
-    sibling_at = sibling_at;
-  };
-  visible = it.visible;
-}
-
--- the lists of the two are not one
-pub family-lists : (arena : Arena) (k h s : ℕ) → IsForest (nodes_of arena) arena.lists → (it : IsFamilyOf arena k h s) →
-    it.parent.list.0 ≡ it.sibling.list.0 → ⊥
-family-lists arena k h s forest it =
-    lists-apart (record { nodes = nodes_of arena; slots = λ l p. None; lists = arena.lists }) forest k h s it.node it.parent it.sibling it.family it.visible
 
 -- the rows of a list after one went
 pub rows-gone : (old new : Slots) (l q p : ℕ) → new ≡ with_pair old l q None → new l p ≡ (if p == q then None else old l p)
@@ -121,116 +90,662 @@ passed-more old new from page below next gone p less =
 abbrev pub still_ahead : (from : ℕ) → Option Slot → ℕ
 still_ahead from row = 2 * (2 ^ 64 - from) + cond (is_some row) 1 0
 
--- The row goes, where the sibling does not see it.
-module _ (arena : Arena) (old new : Rows Row) (pool : Pool) (k h s : ℕ) (it : IsFamilyOf arena k h s) (q : ℕ) (was : Slot)
-    (has : slots_of old it.parent.list.0 q ≡ Some was) (slots : slots_of new ≡ with_pair (slots_of old) it.parent.list.0 q None) where
-  pub gone-taken : AreTaken old pool → AreTaken new pool
-  gone-taken taken m r row tag e frame =
-      taken m r row tag (was-there (slots_of old) it.parent.list.0 q m r row (sym (ap (λ (x : Slots). x m r) slots) ∙ e)).1 frame
+-- the row that went is gone
+pub gone-here : (o : Option Slot) (page : ℕ) → (if page == page then None else o) ≡ None
+gone-here o page = cond-true _ _ _ (eqb_same page)
 
-  module _ (forest : IsForest (nodes_of arena) arena.lists) (spare : old.spare ≤ new.spare) (count : row_count new ≤ row_count old) where
-    pub gone-lifted : (SeesRow (slots_of old) it.sibling q → ⊥) → HasLifted arena old new pool pool k h s
-    gone-lifted unseen = record {
-      exact = λ out in_use exact only all. subst (λ (x : Slots). IsExact (record (tree_of arena old) { slots = x }) out in_use) (sym slots)
-          (dropped-exact (tree_of arena old) forest k h s it.node it.parent it.sibling it.family it.visible q closed out all in_use exact was has);
-      shows = λ out in_use exact only all w p page sight. subst
-          (λ (x : Slots). frame_at (record (tree_of arena old) { slots = x }) w p ≡ frame_at (tree_of arena old) w p) (sym slots)
-          (dropped-shows (tree_of arena old) forest k h s it.node it.parent it.sibling it.family it.visible q closed out all w p page sight);
-      elsewhere = λ node parent sibling family l p one two.
-          let same = (same-family (nodes_of arena) k h s it.node it.parent it.sibling node parent sibling it.family family).0 in
-          ap (λ (x : Slots). x l p) slots
-          ∙ with_pair-other (slots_of old) it.parent.list.0 q None l p (λ e _. one (e ∙ ap (λ (n : Node). n.list.0) (sym same)));
-      taken = refl;
-      frames = refl;
-      linked = λ linked. record {
-        linked = λ m r row tag e frame. linked.linked m r row tag
-            (was-there (slots_of old) it.parent.list.0 q m r row (sym (ap (λ (x : Slots). x m r) slots) ∙ e)).1 frame;
-      };
-      spare = spare;
-      count = count;
+-- it is less far behind a row that went
+pub ahead-less : (old new : ℕ → Option Slot) (from page : ℕ) (row : Slot) → from ≤ page → page < 2 ^ 64 → old page ≡ Some row → new page ≡ None →
+    still_ahead page (new page) < still_ahead from (old from)
+ahead-less old new from page row least fits had gone =
+    let after : ◌≡◌ {A = ℕ} (cond (is_some (new page)) 1 0) 0 = ap (λ (o : Option Slot). cond (is_some o) 1 0) gone in
+    elim (cases_eq from page) [
+      | inl same ↦
+          let before : ◌≡◌ {A = ℕ} (cond (is_some (old from)) 1 0) 1 = ap (λ (o : Option Slot). cond (is_some o) 1 0) (ap old same ∙ had) in
+          omega arith
+      | inr apart ↦ omega arith
+    ]
+
+-- ---- bits
+
+-- where the other bit is set, the row goes
+split-none : (from : Side) (tag : Tag) (left right : Bool) → bit_on (other_side from) left right ≡ true →
+    (split_on from tag left right ≡ None) × (answer_on from tag left right ≡ cut.LastViewer tag)
+split-none side.Left tag left true e = (refl, refl)
+split-none side.Left tag left false e = absurd (cc)
+split-none side.Right tag true right e = (refl, refl)
+split-none side.Right tag false right e = absurd (cc)
+
+-- and else it stays, with its frame
+split-some : (from : Side) (tag : Tag) (left right : Bool) → bit_on (other_side from) left right ≡ false →
+    (row : Slot) × (split_on from tag left right ≡ Some row) × (answer_on from tag left right ≡ cut.StillSeen) × (frame_in row ≡ Some tag.0)
+split-some side.Left tag left true e = absurd (cc)
+split-some side.Left tag left false e = (slot.Frame tag true false, refl, refl, refl)
+split-some side.Right tag true right e = absurd (cc)
+split-some side.Right tag false right e = (slot.Frame tag false true, refl, refl, refl)
+
+denies-on : (t : Tree) (out : ℕ → ℕ → Bool) (h q : ℕ) (left right : Bool) (from : Side) → AreSplitBits t out h q left right →
+    Denies (bit_on from left right) (IsSeenFrom t out from h q)
+denies-on t out h q left right side.Left bits = bits.left_bit
+denies-on t out h q left right side.Right bits = bits.right_bit
+
+-- not both bits are set
+one-bit : (left right : Bool) (from : Side) → (left && right) ≡ false → bit_on from left right ≡ true → bit_on (other_side from) left right ≡ true → ⊥
+one-bit true true from none one two = absurd (cc)
+one-bit true false side.Left none one two = absurd (cc)
+one-bit true false side.Right none one two = absurd (cc)
+one-bit false right side.Left none one two = absurd (cc)
+one-bit false right side.Right none one two = absurd (cc)
+
+-- ---- one row
+
+-- The rows are these, and the tree is exact over the frames but one; each page of k that comes to page q of its parent is left
+-- out too, and the others show what they showed.
+pub record IsCut (t : Tree) (k : ℕ) (leaf : Node) (q : ℕ) (slots : Slots) (out now : ℕ → ℕ → Bool) (in_use : ℕ → Bool) (left : Option ℕ) : Type 0 where
+  pub exact : IsExact (record t { slots = slots }) now (without_frame in_use left)
+  pub only : IsOnlyOf now k
+  pub aside : IsAside now k leaf q
+  pub more : (w p : ℕ) → now w p ≡ false → out w p ≡ false
+  pub shows : ShowsSame t (record t { slots = slots }) now
+
+-- the row is still there, with its frame, and no other row has changed
+pub record StillThere (t : Tree) (k : ℕ) (leaf : Node) (list q : ℕ) (row : Slot) (out : ℕ → ℕ → Bool) (in_use : ℕ → Bool) : Type 0 where
+  pub now : ℕ → ℕ → Bool
+  pub slots : Slots
+  pub is_cut : IsCut t k leaf q slots out now in_use None
+  pub there : Slot
+  pub at : slots list q ≡ Some there
+  pub frame : frame_in there ≡ frame_in row
+  pub same : with_pair slots list q None ≡ with_pair t.slots list q None
+  pub beside : (l p : ℕ) → l ≢ list → slots l p ≡ t.slots l p
+
+left_out-here : (out : ℕ → ℕ → Bool) (v p : ℕ) → leaving_out out v p v p ≡ true
+unfolding leaving_out
+left_out-here out v p = ap (λ (b : Bool). b || out v p) (and_from (v == v) (p == p) (eqb_same v) (eqb_same p))
+
+without-none : (in_use : ℕ → Bool) (tag : ℕ) → in_use tag ≡ without_frame in_use None tag
+unfolding without_frame
+without-none in_use tag = refl
+
+module _ (t : Tree) (k h s : ℕ) (leaf parent sibling : Node) (family : AreFamily t.nodes k h s leaf parent sibling) (visible : IsVisible t.nodes k leaf)
+    (q : ℕ) (row : Slot) (has : t.slots parent.list.0 q ≡ Some row) (out : ℕ → ℕ → Bool) (in_use : ℕ → Bool) (exact : IsExact t out in_use)
+    (only : IsOnlyOf out k) (bare : (p : ℕ) → t.slots leaf.list.0 p ≡ None) where
+  abbrev f : IsForest t.nodes t.lists
+  f = exact.forest
+
+  abbrev leaf_side : Side
+  leaf_side = side_of parent k
+
+  sides : (child_on parent leaf_side ≡ link_to k) × (child_on parent (other_side leaf_side) ≡ link_to s)
+  sides = family-side t.nodes t.lists f k h s leaf parent sibling family
+
+  -- a page of the leaf comes there, or none does
+  in-window : ((p : ℕ) × (q ≡ leaf.first + p) × (p < leaf.seen)) ⊎ ((p : ℕ) → q ≡ leaf.first + p → p < leaf.seen → ⊥)
+  in-window = elim (cases_lt q leaf.first) [
+    | inl less ↦ inr (λ p is inside. absurd (omega arith))
+    | inr from ↦ elim (cases_lt (q - leaf.first) leaf.seen) [
+      | inl inside ↦ inl (q - leaf.first, omega arith, inside)
+      | inr past ↦ inr (λ p is inside. absurd (omega arith))
+    ]
+  ]
+
+  module _ (p : ℕ) (is : q ≡ leaf.first + p) (inside : p < leaf.seen) where
+    step : Climbs t k p h q
+    step = record { node = leaf; at = family.at; free = bare p; inside = inside; parent = family.parent_is; page = is }
+
+    side_is : side_in t.nodes k ≡ Some leaf_side
+    side_is = side-is t.nodes t.lists f h k parent leaf family.parent_at family.at family.parent_is
+
+    found : walk t k p ≡ Some (record { node = h; page = q; side = Some leaf_side; slot = row })
+    found = found-of-reach t f k p leaf_side h q parent row (reach-one t k p leaf_side h q step side_is) family.parent_at has
+
+    alone : reached_from t (link_to k) leaf_side h q ≡ false
+    alone = leaf-alone t f k h q leaf_side
+        (record { above = parent; above_at = family.parent_at; child = sides.0; node = leaf; visible = visible })
+
+    cut-slots : cut_slots t k p ≡ slots_from t k h q row (Some leaf_side)
+    unfolding cut_slots
+    cut-slots = ap (λ (it : Option Found). slots_after t k it) found
+
+    cut-answer : cut_answer t k p ≡ answer_from t k h q row (Some leaf_side)
+    unfolding cut_answer
+    cut-answer = ap (λ (it : Option Found). answer_after t k it) found
+
+    slots-frame : (tag : Tag) (left right : Bool) →
+        slots_from t k h q (slot.Frame tag left right) (Some leaf_side) ≡ with_pair t.slots parent.list.0 q (split_on leaf_side tag left right)
+    slots-frame tag left right = rw (alone, family.parent_at) refl
+
+    answer-frame : (tag : Tag) (left right : Bool) → answer_from t k h q (slot.Frame tag left right) (Some leaf_side) ≡ answer_on leaf_side tag left right
+    answer-frame tag left right = rw alone refl
+
+    cut-off : (slots : Slots) (answer : Cut) → slots_from t k h q row (Some leaf_side) ≡ slots → answer_from t k h q row (Some leaf_side) ≡ answer →
+        IsCut t k leaf q slots out (leaving_out out k p) in_use (frame_left answer)
+    cut-off slots answer slots_is answer_is = record {
+      exact = subst (λ (x : Slots). IsExact (record t { slots = x }) (leaving_out out k p) (without_frame in_use (frame_left answer))) (cut-slots ∙ slots_is)
+          (subst (λ (a : Cut). IsExact (record t { slots = cut_slots t k p }) (leaving_out out k p) (without_frame in_use (frame_left a))) (cut-answer ∙ answer_is)
+          (exact-cut t out in_use exact k p only leaf visible (bare p)));
+      only = only-more out k p only;
+      aside = λ r at within.
+          let same : r ≡ p = omega (arith, is) in
+          subst (λ x. leaving_out out k p k x ≡ true) (sym same) (left_out-here out k p);
+      more = λ w r sight. (left_out-in_sight out k p w r sight).1;
+      shows = λ w r page sight.
+          sym (ap (λ (x : Slots). frame_at (record t { slots = x }) w r) (cut-slots ∙ slots_is))
+          ∙ cut-shows t out in_use exact k p only leaf visible (bare p) w r page sight;
+    }
+
+  -- no page of the leaf comes there, so that none has to be left out
+  none-cut : ((p : ℕ) → q ≡ leaf.first + p → p < leaf.seen → ⊥) → IsCut t k leaf q t.slots out out in_use None
+  none-cut none = record {
+    exact = exact-in_use_alike t out in_use (without_frame in_use None) (without-none in_use) exact;
+    only = only;
+    aside = λ p is inside. absurd (none p is inside);
+    more = λ w p sight. sight;
+    shows = λ w p page sight. refl;
+  }
+
+  -- and no page in sight comes there from the side of the leaf
+  none-seen : ((p : ℕ) → q ≡ leaf.first + p → p < leaf.seen → ⊥) → IsSeenFrom t out leaf_side h q → ⊥
+  none-seen none seen =
+      let way = (walk-ends t f seen.v seen.p _ seen.sees.found).way in
+      let it = reach-through t f seen.v seen.p leaf_side h q k parent way family.parent_at sides.0 in
+      let one = leaf-step t f k h s leaf parent sibling family visible it.0 q it.3 in
+      none it.0 one.0 one.1
+
+  module _ (tag : Tag) (left right : Bool) (is_row : row ≡ slot.Frame tag left right) where
+    bits : AreSplitBits t out h q left right
+    bits = exact.bits h q parent tag left right family.parent_at (hidden t f k h s leaf parent sibling family visible) (has ∙ ap Some is_row)
+
+    -- a row that is not seen through the sibling goes, with its frame
+    pub row-gone : bit_on (other_side leaf_side) left right ≡ true →
+        (now : ℕ → ℕ → Bool) × IsCut t k leaf q (with_pair t.slots parent.list.0 q None) out now in_use (Some tag.0)
+    row-gone off = elim in-window [
+      | inl it ↦
+          let split = split-none leaf_side tag left right off in (
+            leaving_out out k it.0,
+            cut-off it.0 it.1 it.2 (with_pair t.slots parent.list.0 q None) (cut.LastViewer tag)
+                (ap (λ (r : Slot). slots_from t k h q r (Some leaf_side)) is_row ∙ (slots-frame it.0 it.1 it.2 tag left right
+                ∙ ap (λ (r : Option Slot). with_pair t.slots parent.list.0 q r) split.0))
+                (ap (λ (r : Slot). answer_from t k h q r (Some leaf_side)) is_row ∙ (answer-frame it.0 it.1 it.2 tag left right ∙ split.1)),
+          )
+      | inr none ↦ elim (cases_Bool (bit_on leaf_side left right)) [
+        | inl on ↦ absurd (one-bit left right leaf_side bits.is_seen on off)
+        | inr seen ↦ absurd (none-seen none ((denies-on t out h q left right leaf_side bits).is_false seen))
+      ]
+    ]
+
+    -- one that is seen through the sibling is still there
+    row-there : bit_on (other_side leaf_side) left right ≡ false → StillThere t k leaf parent.list.0 q row out in_use
+    row-there seen = elim in-window [
+      | inl it ↦
+          let split = split-some leaf_side tag left right seen in
+          record {
+            now = leaving_out out k it.0;
+            slots = with_pair t.slots parent.list.0 q (Some split.0);
+            is_cut = cut-off it.0 it.1 it.2 (with_pair t.slots parent.list.0 q (Some split.0)) cut.StillSeen
+                (ap (λ (r : Slot). slots_from t k h q r (Some leaf_side)) is_row ∙ (slots-frame it.0 it.1 it.2 tag left right
+                ∙ ap (λ (r : Option Slot). with_pair t.slots parent.list.0 q r) split.1))
+                (ap (λ (r : Slot). answer_from t k h q r (Some leaf_side)) is_row ∙ (answer-frame it.0 it.1 it.2 tag left right ∙ split.2));
+            there = split.0;
+            at = with_pair-same t.slots parent.list.0 q (Some split.0);
+            frame = split.3 ∙ sym (ap frame_in is_row);
+            same = ap (λ (u : Tree). u.slots) (with_row-twice t parent.list.0 q (Some split.0) None);
+            beside = λ l p apart. with_pair-other t.slots parent.list.0 q (Some split.0) l p (λ list _. apart list);
+          }
+      | inr none ↦ record {
+        now = out;
+        slots = t.slots;
+        is_cut = none-cut none;
+        there = row;
+        at = has;
+        frame = refl;
+        same = refl;
+        beside = λ l p apart. refl;
+      }
+    ]
+
+    -- and the sibling sees it
+    pub row-sees : bit_on (other_side leaf_side) left right ≡ false → SeesRow t.slots sibling q
+    row-sees on =
+        let seen = (denies-on t out h q left right (other_side leaf_side) bits).is_false on in
+        let way = (walk-ends t f seen.v seen.p _ seen.sees.found).way in
+        let it = reach-through t f seen.v seen.p (other_side leaf_side) h q s parent way family.parent_at sides.1 in
+        let step = it.3 in
+        let same : step.node ≡ sibling = some_same (sym step.at ∙ family.sibling_at) in
+        let first = ap (λ (n : Node). n.first) same in
+        let seen_is = ap (λ (n : Node). n.seen) same in
+        let here : it.0 ≡ q - sibling.first = omega (arith, step.page) in
+        record {
+          from = omega (arith, step.page);
+          inside = omega (arith, step.inside);
+          free = subst (λ x. t.slots sibling.list.0 x ≡ None) here (subst (λ (n : Node). t.slots n.list.0 it.0 ≡ None) same step.free);
+        }
+
+  -- a zero row is still there
+  zero-there : row ≡ slot.Zero → StillThere t k leaf parent.list.0 q row out in_use
+  zero-there is_row = elim in-window [
+    | inl it ↦ record {
+      now = leaving_out out k it.0;
+      slots = t.slots;
+      is_cut = cut-off it.0 it.1 it.2 t.slots cut.NothingThere
+          (ap (λ (r : Slot). slots_from t k h q r (Some leaf_side)) is_row)
+          (ap (λ (r : Slot). answer_from t k h q r (Some leaf_side)) is_row);
+      there = row;
+      at = has;
+      frame = refl;
+      same = refl;
+      beside = λ l p apart. refl;
+    }
+    | inr none ↦ record {
+      now = out;
+      slots = t.slots;
+      is_cut = none-cut none;
+      there = row;
+      at = has;
+      frame = refl;
+      same = refl;
+      beside = λ l p apart. refl;
+    }
+  ]
+
+  module _ (still : StillThere t k leaf parent.list.0 q row out in_use) where
+    abbrev u : Tree
+    u = record t { slots = still.slots }
+
+    -- a zero row that the sibling does not see goes
+    zero-gone : (SeesRow t.slots sibling q → ⊥) → IsCut t k leaf q (with_pair t.slots parent.list.0 q None) out still.now in_use None
+    zero-gone unseen = record {
+      exact = subst (λ (x : Slots). IsExact (record t { slots = x }) still.now (without_frame in_use None)) still.same
+          (dropped-exact u f k h s leaf parent sibling family visible q closed still.now still.is_cut.aside (without_frame in_use None) still.is_cut.exact still.there still.at);
+      only = still.is_cut.only;
+      aside = still.is_cut.aside;
+      more = still.is_cut.more;
+      shows = λ w p page sight.
+          sym (ap (λ (x : Slots). frame_at (record t { slots = x }) w p) still.same)
+          ∙ (dropped-shows u f k h s leaf parent sibling family visible q closed still.now still.is_cut.aside w p (page-over t still.slots w p page) sight
+          ∙ still.is_cut.shows w p page sight);
     }
       where
-        closed : (r : ℕ) → Climbs (tree_of arena old) s r h q → ⊥
+        closed : (r : ℕ) → Climbs u s r h q → ⊥
         closed r step =
-            let same : step.node ≡ it.sibling = some_same (sym step.at ∙ it.family.sibling_at) in
+            let same : step.node ≡ sibling = some_same (sym step.at ∙ family.sibling_at) in
             let first = ap (λ (n : Node). n.first) same in
             let seen = ap (λ (n : Node). n.seen) same in
-            let here : r ≡ q - it.sibling.first = omega (arith, step.page) in
-            unseen
-            (record {
+            let here : r ≡ q - sibling.first = omega (arith, step.page) in
+            let apart = lists-apart t f k h s leaf parent sibling family visible in
+            unseen (record {
               from = omega (arith, step.page);
               inside = omega (arith, step.inside);
-              free = subst (λ x. slots_of old it.sibling.list.0 x ≡ None) here (subst (λ (n : Node). slots_of old n.list.0 r ≡ None) same step.free);
+              free = sym (still.beside sibling.list.0 (q - sibling.first) (λ list. apart (sym list)))
+                  ∙ subst (λ x. still.slots sibling.list.0 x ≡ None) here (subst (λ (n : Node). still.slots n.list.0 r ≡ None) same step.free);
             })
 
--- The row moves into the list of the sibling, which sees it.
-module _ (arena : Arena) (old new : Rows Row) (before after : Pool) (k h s : ℕ) (it : IsFamilyOf arena k h s) (q : ℕ) (was : Slot)
-    (has : slots_of old it.parent.list.0 q ≡ Some was) (now : Slot) (sees : SeesRow (slots_of old) it.sibling q)
-    (moved : IsMoved (with_row (tree_of arena old) it.parent.list.0 q None) s (q - it.sibling.first) it.sibling was now)
-    (slots : slots_of new ≡ with_pair (with_pair (slots_of old) it.parent.list.0 q None) it.sibling.list.0 (q - it.sibling.first) (Some now))
-    (taken_is : taken_frames after ≡ taken_frames before) where
-  -- a row is the one that moved, or it was there
-  came-or-was : (m r : ℕ) (row : Slot) → slots_of new m r ≡ Some row →
-      ((m ≡ it.sibling.list.0) × (r ≡ q - it.sibling.first) × (row ≡ now)) ⊎
-      (((m ≡ it.parent.list.0) × (r ≡ q) → ⊥) × (slots_of old m r ≡ Some row))
-  came-or-was m r row e =
-      let e' = sym (ap (λ (x : Slots). x m r) slots) ∙ e in
-      elim (cases_place it.sibling.list.0 (q - it.sibling.first) m r) [
-        | inl here ↦
-            let same : with_pair (with_pair (slots_of old) it.parent.list.0 q None) it.sibling.list.0 (q - it.sibling.first) (Some now) m r ≡ Some now =
-            rw (here.0, here.1) (with_pair-same _ it.sibling.list.0 (q - it.sibling.first) (Some now)) in
-            inl (here.0, here.1, some_same (sym e' ∙ same))
-        | inr differs ↦ inr (was-there (slots_of old) it.parent.list.0 q m r row
-            (sym (with_pair-other _ it.sibling.list.0 (q - it.sibling.first) (Some now) m r (λ x y. differs (x, y))) ∙ e'))
-      ]
+    -- a row that the sibling sees moves
+    row-moved : (now : Slot) → SeesRow t.slots sibling q →
+        IsMoved (with_row t parent.list.0 q None) s (q - sibling.first) sibling row now →
+        IsCut t k leaf q (with_pair (with_pair t.slots parent.list.0 q None) sibling.list.0 (q - sibling.first) (Some now)) out still.now in_use None
+    row-moved now sees bits = record {
+      exact = subst (λ (x : Slots). IsExact (record t { slots = with_pair x sibling.list.0 (q - sibling.first) (Some now) }) still.now (without_frame in_use None)) still.same
+          (moved-exact u f k h s leaf parent sibling family visible q (q - sibling.first) still.there now still.at free sees.inside to_page frames
+          still.now (without_frame in_use None) still.is_cut.exact still.is_cut.only still.is_cut.aside bits_there);
+      only = still.is_cut.only;
+      aside = still.is_cut.aside;
+      more = still.is_cut.more;
+      shows = λ w p page sight.
+          sym (ap (λ (x : Slots). frame_at (record t { slots = with_pair x sibling.list.0 (q - sibling.first) (Some now) }) w p) still.same)
+          ∙ (moved-shows u f k h s leaf parent sibling family visible q (q - sibling.first) still.there now still.at free sees.inside to_page frames
+          still.now still.is_cut.aside w p (page-over t still.slots w p page) sight
+          ∙ still.is_cut.shows w p page sight);
+    }
+      where
+        to_page : q ≡ sibling.first + (q - sibling.first)
+        to_page = omega (arith, sees.from)
 
-  pub moved-taken : AreTaken old before → AreTaken new after
-  moved-taken taken m r row tag e frame = rw taken_is (elim (came-or-was m r row e) [
-    | inl here ↦ taken it.parent.list.0 q was tag has (sym moved.frame ∙ (ap frame_in (sym here.2) ∙ frame))
-    | inr there ↦ taken m r row tag there.1 frame
-  ])
+        free : still.slots sibling.list.0 (q - sibling.first) ≡ None
+        free =
+            let apart = lists-apart t f k h s leaf parent sibling family visible in
+            still.beside sibling.list.0 (q - sibling.first) (λ list. apart (sym list)) ∙ sees.free
 
-  module _ (forest : IsForest (nodes_of arena) arena.lists) (spare : old.spare ≤ new.spare) (count : row_count new ≤ row_count old)
-      (frames_is : after.frames ≡ before.frames)
-      (links : (t : ℕ) → links_of after t ≡
-      (if has_frame t now then record { list = it.sibling.list.0; page = q - it.sibling.first } else links_of before t)) where
-    linked-now : AreLinked old before → AreLinked new after
-    linked-now linked = record {
-      linked = λ m r row tag e frame. elim (came-or-was m r row e) [
+        frames : frame_in now ≡ frame_in still.there
+        frames = bits.frame ∙ sym still.frame
+
+        bits_there : IsMoved (with_row u parent.list.0 q None) s (q - sibling.first) sibling still.there now
+        bits_there = record {
+          frame = frames;
+          plain = bits.plain;
+          split = subst (λ (x : Slots). (tag : Tag) (left right : Bool) → now ≡ slot.Frame tag left right → sibling.koid ≡ None →
+              (left ≡ not (reached_from (record t { slots = x }) None side.Left s (q - sibling.first)))
+              × (right ≡ not (reached_from (record t { slots = x }) None side.Right s (q - sibling.first))))
+              (sym still.same) bits.split;
+        }
+
+-- ---- the rows of an arena
+
+-- nothing changes
+pub lifting-again : (arena : Arena) (old new : Rows Row) (before after : Pool) (k h s : ℕ) → IsLifting arena old new before after k h s →
+    IsLifting arena new new after after k h s
+lifting-again arena old new before after k h s was = record {
+  of = was.of;
+  out = was.out;
+  exact = was.exact;
+  only = was.only;
+  shows = λ w p page sight. refl;
+  bare = was.bare;
+  held = was.held;
+  gives = gives-same after;
+  linked = λ linked. linked;
+  spare = omega arith;
+  count = omega arith;
+}
+
+-- the parent, as it was found
+abbrev pub lifting-found : (arena : Arena) (old new : Rows Row) (before after : Pool) (k h s : ℕ) → IsLifting arena old new before after k h s →
+    (parent : Node) → nodes_of arena h ≡ Some parent → IsLifting arena old new before after k h s
+lifting-found arena old new before after k h s was parent at = record {
+  of = record {
+    node = was.of.node;
+    parent = parent;
+    sibling = was.of.sibling;
+    family = record {
+      at = was.of.family.at;
+      parent_is = was.of.family.parent_is;
+      parent_at = at;
+      sibling_is = was.of.family.sibling_is;
+      sibling_at = was.of.family.sibling_at;
+    };
+    visible = was.of.visible;
+  };
+  out = was.out;
+  exact = was.exact;
+  only = was.only;
+  shows = was.shows;
+  bare = was.bare;
+  held = was.held;
+  gives = was.gives;
+  linked = was.linked;
+  spare = was.spare;
+  count = was.count;
+}
+
+-- it begins where the pages of the node that are not out of sight are held by its parent
+pub lifting-start : (arena : Arena) (old new : Rows Row) (before after : Pool) (k s : ℕ) (hidden : NodeId) → IsSparing arena old new before after k 0 (Some hidden) →
+    IsFamilyOf arena k hidden.0 s → IsLifting arena old new before after k hidden.0 s
+lifting-start arena old new before after k s hidden was of =
+    let leaving = was.bare.leaving in
+    let same : was.bare.node ≡ of.node = some_same (sym was.bare.visible.at ∙ of.family.at) in
+    record {
+      of = of;
+      out = was.bare.out;
+      exact = leaving.exact;
+      only = leaving.only;
+      shows = leaving.shows;
+      bare = λ p. subst (λ (n : Node). slots_of new n.list.0 p ≡ None) same (was.bare.bare p (omega arith));
+      held = λ p tag below sight shown. subst (λ n. IsHeldBy (nodes_of arena) (slots_of new) hidden.0 n p) same
+          (was.spares p tag (omega arith) (subst (λ (n : Node). p < n.count) (sym same) below) sight shown);
+      gives = leaving.gives;
+      linked = linked-part old new before after leaving.part leaving.links;
+      spare = leaving.spare;
+      count = leaving.count;
+    }
+
+-- it ends where the parent has no rows: all pages of the node are left out
+pub lifting-end : (arena : Arena) (old new : Rows Row) (before after : Pool) (k h s : ℕ) (was : IsLifting arena old new before after k h s) →
+    ((p : ℕ) → slots_of new was.of.parent.list.0 p ≡ None) → HasLeftOut arena old new before after k was.of.node 0
+lifting-end arena old new before after k h s was empty =
+    let none : (q tag : ℕ) → 0 ≤ q → q < was.of.node.count → was.out k q ≡ false → frame_at (tree_of arena new) k q ≡ Some tag → ⊥ =
+    λ q tag from below sight shown.
+    let held = was.held q tag below sight shown in
+    let same : held.above ≡ was.of.parent = some_same (sym held.at ∙ was.of.family.parent_at) in
+    let nothing : slots_of new held.above.list.0 (was.of.node.first + q) ≡ None =
+    subst (λ (n : Node). slots_of new n.list.0 (was.of.node.first + q) ≡ None) (sym same) (empty (was.of.node.first + q)) in
+    let gone = ap is_some nothing in
+    let some = held.row in
+    absurd (cc) in
+    record {
+      exact = range-exact arena old new before after k 0 was.of.node was.of.family.at was.out was.exact was.only (λ q e. omega arith) was.shows none;
+      shows = range-shows arena old new before after k 0 was.of.node was.of.family.at was.out was.exact was.only (λ q e. omega arith) was.shows none;
+      bare = λ p from. was.bare p;
+      gives = was.gives;
+      linked = was.linked;
+      spare = was.spare;
+      count = was.count;
+    }
+
+-- the three lists are three
+family-lists : (arena : Arena) (k h s : ℕ) → IsForest (nodes_of arena) arena.lists → (it : IsFamilyOf arena k h s) →
+    (it.node.list.0 ≢ it.parent.list.0) × (it.node.list.0 ≢ it.sibling.list.0) × (it.parent.list.0 ≢ it.sibling.list.0)
+family-lists arena k h s f it =
+    let apart = family-apart (nodes_of arena) arena.lists f k h s it.node it.parent it.sibling it.family in (
+      λ same. apart.2 (f.by.own k h it.node it.parent it.family.at it.family.parent_at same),
+      λ same. apart.0 (f.by.own k s it.node it.sibling it.family.at it.family.sibling_at same),
+      λ same. apart.1 (f.by.own h s it.parent it.sibling it.family.parent_at it.family.sibling_at same),
+    )
+
+-- the side of the sibling is the other one
+family-other : (arena : Arena) (k h s : ℕ) → IsForest (nodes_of arena) arena.lists → (it : IsFamilyOf arena k h s) →
+    side_of it.parent s ≡ other_side (side_of it.parent k)
+family-other arena k h s f it =
+    let up = family-parent (nodes_of arena) arena.lists f k h s it.node it.parent it.sibling it.family in
+    some_same (sym (side-is (nodes_of arena) arena.lists f h s it.parent it.sibling it.family.parent_at it.family.sibling_at up)
+    ∙ side-of-child (nodes_of arena) arena.lists f h s it.parent (other_side (side_of it.parent k)) it.family.parent_at
+    (family-side (nodes_of arena) arena.lists f k h s it.node it.parent it.sibling it.family).1)
+
+untold : (bit seen : Bool) → seen ≡ not bit → seen ≡ false → bit ≡ true
+untold true seen is e = refl
+untold false seen is e = absurd (cc)
+
+told : (bit seen : Bool) → seen ≡ not bit → seen ≡ true → bit ≡ false
+told true seen is e = absurd (cc)
+told false seen is e = refl
+
+-- a row that is seen through a node is seen by the node
+pub settle-sees : (slots : Slots) (parent : Node) (s : ℕ) (node : Node) (q : ℕ) (row : Slot) (seen : Bool) → TellsSeen slots parent s node q row seen →
+    ((tag : Tag) (left right : Bool) → row ≡ slot.Frame tag left right → bit_on (side_of parent s) left right ≡ false → SeesRow slots node q) →
+    seen ≡ true → SeesRow slots node q
+settle-sees slots parent s node q row seen tells bits on = by_row row refl
+  where
+    by_row : (r : Slot) → row ≡ r → SeesRow slots node q
+    by_row slot.Zero e = (tells.zero e).0 on
+    by_row (slot.Frame tag left right) e = bits tag left right e (told _ _ (tells.frame tag left right e) on)
+
+module _ (arena : Arena) (old first mid new : Rows Row) (before between after : Pool) (k h s q : ℕ) (row : Slot)
+    (was : IsLifting arena old first before between k h s) (has : slots_of first was.of.parent.list.0 q ≡ Some row)
+    (taken_out : slots_of mid ≡ with_pair (slots_of first) was.of.parent.list.0 q None) where
+  abbrev t : Tree
+  t = tree_of arena first
+
+  abbrev node : Node
+  node = was.of.node
+
+  abbrev parent : Node
+  parent = was.of.parent
+
+  abbrev sibling : Node
+  sibling = was.of.sibling
+
+  lists : (node.list.0 ≢ parent.list.0) × (node.list.0 ≢ sibling.list.0) × (parent.list.0 ≢ sibling.list.0)
+  lists = family-lists arena k h s was.exact.forest was.of
+
+  -- the sibling's row there is as it was
+  beside-mid : (p : ℕ) → slots_of mid sibling.list.0 p ≡ slots_of first sibling.list.0 p
+  beside-mid p = ap (λ (x : Slots). x sibling.list.0 p) taken_out ∙ with_pair-other (slots_of first) parent.list.0 q None sibling.list.0 p (λ list _. lists.2 (sym list))
+
+  sees-first : SeesRow (slots_of mid) sibling q → SeesRow (slots_of first) sibling q
+  sees-first sees = record { from = sees.from; inside = sees.inside; free = sym (beside-mid (q - sibling.first)) ∙ sees.free }
+
+  sees-mid : SeesRow (slots_of first) sibling q → SeesRow (slots_of mid) sibling q
+  sees-mid sees = record { from = sees.from; inside = sees.inside; free = beside-mid (q - sibling.first) ∙ sees.free }
+
+  -- the frame of the row is taken
+  pub row-taken : (tag : ℕ) → frame_in row ≡ Some tag → IsSome (taken_frames between tag)
+  row-taken tag frame = was.exact.used parent.list.0 q row tag has frame
+
+  -- what its bits tell of the sibling's side holds
+  pub row-sees-mid : (tag : Tag) (left right : Bool) → row ≡ slot.Frame tag left right → bit_on (side_of parent s) left right ≡ false → SeesRow (slots_of mid) sibling q
+  row-sees-mid tag left right e seen = sees-mid
+      (row-sees t k h s node parent sibling was.of.family was.of.visible q row has was.out (is_taken between) was.exact was.only was.bare tag left right e
+      (ap (λ (from : Side). bit_on from left right) (sym (family-other arena k h s was.exact.forest was.of)) ∙ seen))
+
+  -- the rows and the pool are these now
+  lifting-next : (slots : Slots) (left : Option ℕ) (now : ℕ → ℕ → Bool) → IsCut t k node q slots was.out now (is_taken between) left → slots_of new ≡ slots →
+      ((x : ℕ) → is_taken after x ≡ without_frame (is_taken between) left x) → GivesBack between after → (AreLinked first between → AreLinked new after) →
+      ((l p : ℕ) → l ≢ sibling.list.0 → ((l ≡ parent.list.0) × (p ≡ q) → ⊥) → slots l p ≡ slots_of first l p) → first.spare ≤ new.spare →
+      row_count new ≤ row_count first → IsLifting arena old new before after k h s
+  lifting-next slots left now is_cut is taken gives linked beside spare count = record {
+    of = was.of;
+    out = now;
+    exact = subst (λ (x : Slots). IsExact (record t { slots = x }) now (is_taken after)) (sym is)
+        (exact-in_use_alike (record t { slots = slots }) now (without_frame (is_taken between) left) (is_taken after) (λ x. sym (taken x)) is_cut.exact);
+    only = is_cut.only;
+    shows = λ w p page sight.
+        ap (λ (x : Slots). frame_at (record t { slots = x }) w p) is
+        ∙ (is_cut.shows w p (page-over (tree_of arena old) (slots_of first) w p page) sight ∙ was.shows w p page (is_cut.more w p sight));
+    bare = λ p. ap (λ (x : Slots). x node.list.0 p) is ∙ (beside node.list.0 p lists.1 (λ both. lists.0 both.0) ∙ was.bare p);
+    held = λ p tag below sight shown.
+        let page : IsPage t k p = record { node = node; visible = was.of.visible; below = below } in
+        let showed : frame_at t k p ≡ Some tag =
+        sym (is_cut.shows k p page sight) ∙ (ap (λ (x : Slots). frame_at (record t { slots = x }) k p) (sym is) ∙ shown) in
+        let held = was.held p tag below (is_cut.more k p sight) showed in
+        let same : held.above ≡ parent = some_same (sym held.at ∙ was.of.family.parent_at) in
+        let list = ap (λ (n : Node). n.list.0) same in
+        let off : node.first + p ≡ q → ⊥ = λ here. let gone = is_cut.aside p (sym here) held.inside in absurd (cc) in
+        record {
+          above = held.above;
+          at = held.at;
+          row = ap is_some (ap (λ (x : Slots). x held.above.list.0 (node.first + p)) is
+              ∙ beside held.above.list.0 (node.first + p) (λ one. lists.2 (sym list ∙ one)) (λ both. off both.1)) ∙ held.row;
+          inside = held.inside;
+        };
+    gives = gives-then before between after was.gives gives;
+    linked = λ ok. linked (was.linked ok);
+    spare = omega (arith, was.spare);
+    count = omega (arith, was.count);
+  }
+
+  -- ---- the row is gone
+
+  module _ (gone : HasGone mid new between after row) where
+    gone-slots : slots_of new ≡ with_pair (slots_of first) parent.list.0 q None
+    gone-slots = ap (λ (r : Rows Row). slots_of r) gone.rows ∙ taken_out
+
+    gone-linked : AreLinked first between → AreLinked new after
+    gone-linked linked = record {
+      linked = λ m r other tag e frame.
+          ap (λ (f : ℕ → Backlink). f tag) gone.given.links
+          ∙ linked.linked m r other tag (was-there (slots_of first) parent.list.0 q m r other (sym (ap (λ (x : Slots). x m r) gone-slots) ∙ e)).1 frame;
+    }
+
+    gone-next : (left : Option ℕ) (now : ℕ → ℕ → Bool) → frame_in row ≡ left →
+        IsCut t k node q (with_pair (slots_of first) parent.list.0 q None) was.out now (is_taken between) left → row_count mid + 1 ≡ row_count first →
+        mid.spare ≡ first.spare + 1 → IsLifting arena old new before after k h s
+    gone-next left now frame is_cut count spare =
+        let spare_is = ap (λ (r : Rows Row). r.spare) gone.rows in
+        let count_is = ap (λ (r : Rows Row). row_count r) gone.rows in
+        lifting-next (with_pair (slots_of first) parent.list.0 q None) left now is_cut gone-slots
+        (λ x. gone.given.taken x ∙ ap (λ (o : Option ℕ). without_frame (is_taken between) o x) frame) gone.given.gives gone-linked
+        (λ l p _ apart. with_pair-other (slots_of first) parent.list.0 q None l p (λ a b. apart (a, b)))
+        (omega arith) (omega arith)
+
+  -- ---- the row has moved
+
+  module _ (moved : HasMoved arena mid new between after s sibling q row) where
+    abbrev to : ℕ
+    to = q - sibling.first
+
+    abbrev both : Slots
+    both = with_pair (with_pair (slots_of first) parent.list.0 q None) sibling.list.0 to (Some moved.now)
+
+    moved-slots : slots_of new ≡ both
+    moved-slots = moved.slots ∙ ap (λ (x : Slots). with_pair x sibling.list.0 to (Some moved.now)) taken_out
+
+    -- a row is the one that moved, or it was there
+    came-or-was : (m r : ℕ) (other : Slot) → slots_of new m r ≡ Some other →
+        ((m ≡ sibling.list.0) × (r ≡ to) × (other ≡ moved.now)) ⊎ (((m ≡ parent.list.0) × (r ≡ q) → ⊥) × (slots_of first m r ≡ Some other))
+    came-or-was m r other e =
+        let e' = sym (ap (λ (x : Slots). x m r) moved-slots) ∙ e in
+        elim (cases_place sibling.list.0 to m r) [
+          | inl here ↦
+              let same : both m r ≡ Some moved.now = rw (here.0, here.1) (with_pair-same _ sibling.list.0 to (Some moved.now)) in
+              inl (here.0, here.1, some_same (sym e' ∙ same))
+          | inr differs ↦ inr (was-there (slots_of first) parent.list.0 q m r other
+              (sym (with_pair-other _ sibling.list.0 to (Some moved.now) m r (λ x y. differs (x, y))) ∙ e'))
+        ]
+
+    moved-linked : AreLinked first between → AreLinked new after
+    moved-linked linked = record {
+      linked = λ m r other tag e frame. elim (came-or-was m r other e) [
         | inl here ↦
-            let on = has-frame tag now (ap frame_in (sym here.2) ∙ frame) in
-            links tag ∙ (cond-true _ _ _ on ∙ link-same it.sibling.list.0 m (q - it.sibling.first) r (sym here.0) (sym here.1))
+            let on = has-frame tag moved.now (ap frame_in (sym here.2) ∙ frame) in
+            moved.links tag ∙ (cond-true _ _ _ on ∙ link-same sibling.list.0 m to r (sym here.0) (sym here.1))
         | inr there ↦
-            let was_linked = linked.linked m r row tag there.1 frame in
-            elim (cases_Bool (has_frame tag now)) [
-              | inr off ↦ links tag ∙ (cond-false _ _ _ off ∙ was_linked)
+            let was_linked = linked.linked m r other tag there.1 frame in
+            elim (cases_Bool (has_frame tag moved.now)) [
+              | inr off ↦ moved.links tag ∙ (cond-false _ _ _ off ∙ was_linked)
               | inl on ↦
-                  let one = linked.linked it.parent.list.0 q was tag has (sym moved.frame ∙ of-has-frame tag now on) in
+                  let one = linked.linked parent.list.0 q row tag has (sym moved.moved.frame ∙ of-has-frame tag moved.now on) in
                   let same = sym was_linked ∙ one in
                   absurd (there.0 (ap (λ (b : Backlink). b.list) same, ap (λ (b : Backlink). b.page) same))
             ]
       ];
     }
 
-    pub moved-lifted : HasLifted arena old new before after k h s
-    moved-lifted =
-        let to_page : q ≡ it.sibling.first + (q - it.sibling.first) = omega (arith, sees.from) in
-        record {
-          exact = λ out in_use exact only all. subst (λ (x : Slots). IsExact (record (tree_of arena old) { slots = x }) out in_use) (sym slots)
-              (moved-exact (tree_of arena old) forest k h s it.node it.parent it.sibling it.family it.visible q (q - it.sibling.first) was now
-              has sees.free sees.inside to_page moved.frame out in_use exact only all moved);
-          shows = λ out in_use exact only all. subst
-              (λ (x : Slots). ShowsSame (tree_of arena old) (record (tree_of arena old) { slots = x }) out) (sym slots)
-              (moved-shows (tree_of arena old) forest k h s it.node it.parent it.sibling it.family it.visible q (q - it.sibling.first) was now
-              has sees.free sees.inside to_page moved.frame out all);
-          elsewhere = λ node parent sibling family l p one two.
-              let same = same-family (nodes_of arena) k h s it.node it.parent it.sibling node parent sibling it.family family in
-              ap (λ (x : Slots). x l p) slots
-              ∙ (with_pair-other _ it.sibling.list.0 (q - it.sibling.first) (Some now) l p (λ e _. two (e ∙ ap (λ (n : Node). n.list.0) (sym same.1)))
-              ∙ with_pair-other (slots_of old) it.parent.list.0 q None l p (λ e _. one (e ∙ ap (λ (n : Node). n.list.0) (sym same.0))));
-          taken = taken_is;
-          frames = frames_is;
-          linked = linked-now;
-          spare = spare;
-          count = count;
-        }
+    moved-next : StillThere t k node parent.list.0 q row was.out (is_taken between) → SeesRow (slots_of first) sibling q → row_count mid + 1 ≡ row_count first →
+        mid.spare ≡ first.spare + 1 → IsLifting arena old new before after k h s
+    moved-next still sees count spare =
+        let bits = subst (λ (x : Slots). IsMoved (record (tree_of arena first) { slots = x }) s to sibling row moved.now) taken_out moved.moved in
+        lifting-next both None still.now
+        (row-moved t k h s node parent sibling was.of.family was.of.visible q row has was.out (is_taken between) was.exact was.only was.bare still moved.now sees bits)
+        moved-slots
+        (λ x. ap (λ f. is_some (f x)) moved.taken ∙ without-none (is_taken between) x)
+        (record { frames = moved.frames; kept = λ x. inl (ap (λ f. f x) moved.taken) })
+        moved-linked
+        (λ l p list apart.
+        with_pair-other _ sibling.list.0 to (Some moved.now) l p (λ a _. list a)
+        ∙ with_pair-other (slots_of first) parent.list.0 q None l p (λ a b. apart (a, b)))
+        (omega (arith, moved.spare)) (omega (arith, moved.count))
+
+  -- the row is gone, or has moved
+  pub lifting-settled : HasSettled arena mid new between after parent s sibling q row → row_count mid + 1 ≡ row_count first → mid.spare ≡ first.spare + 1 →
+      IsLifting arena old new before after k h s
+  lifting-settled done count spare = elim (cases_Bool done.seen) [
+    | inl on ↦ moves row refl on (done.moves on)
+    | inr off ↦ goes row refl off (done.gone off)
+  ]
+    where
+      other : side_of parent s ≡ other_side (side_of parent k)
+      other = family-other arena k h s was.exact.forest was.of
+
+      goes : (r : Slot) → row ≡ r → done.seen ≡ false → HasGone mid new between after row → IsLifting arena old new before after k h s
+      goes slot.Zero e off gone = gone-next gone None _ (ap frame_in e)
+          (zero-gone t k h s node parent sibling was.of.family was.of.visible q row has was.out (is_taken between) was.exact was.only was.bare
+          (zero-there t k h s node parent sibling was.of.family was.of.visible q row has was.out (is_taken between) was.exact was.only was.bare e)
+          (λ sees. let seen = (done.tells.zero e).1 (sees-mid sees) in absurd (cc)))
+          count spare
+      goes (slot.Frame tag left right) e off gone =
+          let it = row-gone t k h s node parent sibling was.of.family was.of.visible q row has was.out (is_taken between) was.exact was.only was.bare tag left right e
+          (ap (λ (from : Side). bit_on from left right) (sym other) ∙ untold _ _ (done.tells.frame tag left right e) off) in
+          gone-next gone (Some tag.0) it.0 (ap frame_in e) it.1 count spare
+
+      moves : (r : Slot) → row ≡ r → done.seen ≡ true → HasMoved arena mid new between after s sibling q row → IsLifting arena old new before after k h s
+      moves slot.Zero e on moved = moved-next moved
+          (zero-there t k h s node parent sibling was.of.family was.of.visible q row has was.out (is_taken between) was.exact was.only was.bare e)
+          (sees-first ((done.tells.zero e).0 on)) count spare
+      moves (slot.Frame tag left right) e on moved =
+          let bit = ap (λ (from : Side). bit_on from left right) (sym other) ∙ told _ _ (done.tells.frame tag left right e) on in
+          moved-next moved
+          (row-there t k h s node parent sibling was.of.family was.of.visible q row has was.out (is_taken between) was.exact was.only was.bare tag left right e bit)
+          (row-sees t k h s node parent sibling was.of.family was.of.visible q row has was.out (is_taken between) was.exact was.only was.bare tag left right e bit)
+          count spare
+
+  -- the parent's list has lost this row alone
+  pub settled-list : HasSettled arena mid new between after parent s sibling q row → (p : ℕ) →
+      slots_of new parent.list.0 p ≡ (if p == q then None else slots_of first parent.list.0 p)
+  settled-list done p = same ∙ rows-gone (slots_of first) (slots_of mid) parent.list.0 q p taken_out
+    where
+      same : slots_of new parent.list.0 p ≡ slots_of mid parent.list.0 p
+      same = elim (cases_Bool done.seen) [
+        | inl on ↦
+            let moved = done.moves on in
+            rows-beside (slots_of mid) (slots_of new) parent.list.0 sibling.list.0 (q - sibling.first) p (Some moved.now) moved.slots lists.2
+        | inr off ↦ ap (λ (r : Rows Row). slots_of r parent.list.0 p) ((done.gone off).rows)
+      ]

@@ -1,6 +1,6 @@
 -- A range of pages of one visible node is left out of sight: first its own rows go, and then each page is cut off from the
 -- rows of the nodes above, one node after another.
-use Rattle.std.proofs.Common.{◌≡◌, ◌≢◌, ℕ, ◌+◌, ◌-◌, ◌<◌, ◌≤◌, min, zero, suc, Bool, true, false, Option, None, Some, inl, inr, IsSome, IsSomeAnd}
+use Rattle.std.proofs.Common.{◌≡◌, ◌≢◌, ◌⊎◌, ℕ, ◌+◌, ◌-◌, ◌<◌, ◌≤◌, min, zero, suc, Bool, true, false, Option, None, Some, inl, inr, IsSome, IsSomeAnd}
 use Rattle.std.proofs.Common.{refl, sym, ap, subst, ◌∙◌, arith}
 use Rattle.std.specs.Prelude.{◌&&◌, ◌||◌, ◌==◌, nat_le, nat_lt, not, is_some}
 use Rattle.std.proofs.lemmas.Bool.{cases_Bool, cases_eq, cases_lt, and_from, eq-eqb, ne_eqb, le-leb, lt-ltb}
@@ -23,7 +23,7 @@ use Rattle.cow_arena.specs.Walk.{Slots, Tree, Found, walk, frame_in, frame_found
 use Rattle.cow_arena.specs.Forest.{IsForest}
 use Rattle.cow_arena.specs.Ways.{Climbs, Reaches, Arrives, IsPartOf}
 use Rattle.cow_arena.proofs.WalkLaws.{walk-past}
-use Rattle.cow_arena.proofs.ReachLaws.{reach-one, reach-more, reach-each, reach-after, climb-side, walk-from, walk-ends}
+use Rattle.cow_arena.proofs.ReachLaws.{reach-one, reach-more, reach-each, reach-after, climb-side, walk-from, walk-ends, found-of-reach}
 use Rattle.cow_split.specs.declared.answers.Cut.{Cut}
 use Rattle.cow_split.specs.declared.answers.Cut.TheVariants as cut
 use Rattle.cow_split.specs.Trees.{tree_of}
@@ -33,10 +33,10 @@ use Rattle.cow_split.specs.Exact.{IsExact, IsOnlyOf, all_in_sight, leaving_out, 
 use Rattle.cow_split.specs.Cutting.{cut_slots, frame_left, HasCut}
 use Rattle.cow_split.proofs.CostLaws.{depth-up, depth-some}
 use Rattle.cow_split.proofs.ExactLaws.{exact-seen_alike, seen-carried}
-use Rattle.cow_split.proofs.RowLaws.{left_out-in_sight, left_out-other, only-more, only-none, exact-in_use_alike, exact-own_gone, own-shows, frame-in_use}
+use Rattle.cow_split.proofs.RowLaws.{left_out-in_sight, left_out-other, only-more, only-none, exact-in_use_alike, exact-own_gone, own-shows, frame-in_use, frame-shown}
 use Rattle.cow_split.proofs.CutLaws.{exact-cut, cut-last, cut-shows}
 use Rattle.cow_split.proofs.PartLaws.{part-same, part-with_pair, part-then, part-none, part-cut}
-use Rattle.cow_merge.specs.Ranges.{leaving_range, AreLinked, GivesBack, HasGiven, HasLeftPageOut, IsLeaving, IsDropping, IsBare, CameTo, IsPassing, HasLeftOut, IsExactFor}
+use Rattle.cow_merge.specs.Ranges.{leaving_range, AreLinked, GivesBack, HasGiven, HasLeftPageOut, IsLeaving, IsDropping, IsBare, CameTo, ShowsSame, IsHeldBy, IsSpared, IsParent, IsLeft, IsPassing, IsSparing, HasLeftOut, IsExactFor}
 use Rattle.cow_merge.proofs.CountLaws.{in_sight-outside, outside-other, outside-before}
 
 -- a way stays where rows go
@@ -63,7 +63,7 @@ module _ (t : Tree) (slots : Slots) (part : IsPartOf t.slots slots) where
 
 -- ---- frames that are given back
 
-gives-then : (before between after : Pool) → GivesBack before between → GivesBack between after → GivesBack before after
+pub gives-then : (before between after : Pool) → GivesBack before between → GivesBack between after → GivesBack before after
 gives-then before between after first second = record {
   frames = second.frames ∙ first.frames;
   kept = λ t. elim (second.kept t) [
@@ -300,9 +300,9 @@ module _ (t : Tree) (f : IsForest t.nodes t.lists) (v q h list shift to upto tag
         absurd (cc)
   ]
 
-pub passing-again : (arena : Arena) (old new : Rows Row) (before after : Pool) (v first : ℕ) (above : Node) (shift to upto : ℕ) →
-    IsPassing arena old new before after v first above shift to upto → IsPassing arena new new after after v first above shift to upto
-passing-again arena old new before after v first above shift to upto was = record {
+pub passing-again : (arena : Arena) (old new : Rows Row) (before after : Pool) (v first : ℕ) (spared : Option NodeId) (above : Node) (shift to upto : ℕ) →
+    IsPassing arena old new before after v first spared above shift to upto → IsPassing arena new new after after v first spared above shift to upto
+passing-again arena old new before after v first spared above shift to upto was = record {
   bare = record {
     out = was.bare.out;
     leaving = leaving-again arena old new before after v first was.bare.out was.bare.leaving;
@@ -310,72 +310,154 @@ passing-again arena old new before after v first above shift to upto was = recor
     visible = was.bare.visible;
     bare = was.bare.bare;
   };
+  parent = was.parent;
   h = was.h;
   at = was.at;
   came = was.came;
 }
 
+-- what is bare shows a frame through its window alone
+bare-inside : (arena : Arena) (rows : Rows Row) (f : IsForest (nodes_of arena) arena.lists) (v p tag : ℕ) (node : Node) → nodes_of arena v ≡ Some node →
+    slots_of rows node.list.0 p ≡ None → frame_at (tree_of arena rows) v p ≡ Some tag → p < node.seen
+bare-inside arena rows f v p tag node at free shown = elim (cases_lt p node.seen) [
+  | inl less ↦ less
+  | inr past ↦ let nothing = ap frame_found (walk-past (tree_of arena rows) f v p node at free past) in absurd (cc)
+]
+
 -- it begins at the node itself
 pub passing-start : (arena : Arena) (old new : Rows Row) (before after : Pool) (v first : ℕ) (node : Node) →
     IsBare arena old new before after v first → nodes_of arena v ≡ Some node →
-    IsPassing arena old new before after v first node 0 node.seen node.seen
+    IsPassing arena old new before after v first None node 0 node.seen node.seen
 passing-start arena old new before after v first node was at = record {
   bare = was;
+  parent = λ h e. absurd (cc);
   h = v;
   at = at;
   came = λ q tag from below sight shown.
       let same : was.node ≡ node = some_same (sym was.visible.at ∙ at) in
       let free : slots_of new node.list.0 q ≡ None = subst (λ (n : Node). slots_of new n.list.0 q ≡ None) same (was.bare q from) in
-      record {
+      inr (record {
         side = None;
         page = q;
         is = omega arith;
         way = (refl, refl);
-        below = elim (cases_lt q node.seen) [
-          | inl less ↦ less
-          | inr past ↦
-              let nothing = ap frame_found (walk-past (tree_of arena new) was.leaving.exact.forest v q node at free past) in
-              absurd (cc)
-        ];
+        below = bare-inside arena new was.leaving.exact.forest v q tag node at free shown;
         free = λ less. free;
-      };
+      });
 }
 
-module _ (arena : Arena) (old new : Rows Row) (before after : Pool) (v first : ℕ) (above : Node) (shift to : ℕ) where
+-- it begins at the parent, which is spared
+pub passing-above : (arena : Arena) (old new : Rows Row) (before after : Pool) (v : ℕ) (node : Node) (hidden : NodeId) (above : Node) →
+    IsBare arena old new before after v 0 → nodes_of arena v ≡ Some node → node.parent ≡ Some hidden → nodes_of arena hidden.0 ≡ Some above →
+    IsPassing arena old new before after v 0 (Some hidden) above node.first (node.first + node.seen) (node.first + node.seen)
+passing-above arena old new before after v node hidden above was at up above_at = record {
+  bare = was;
+  parent = λ h e. ap (λ (n : Node). n.parent) same ∙ (up ∙ e);
+  h = hidden.0;
+  at = above_at;
+  came = λ q tag from below sight shown. subst (λ n. IsHeldBy (nodes_of arena) (slots_of new) hidden.0 n q ⊎ Comes q) (sym same)
+      (comes q (bare_here q) (bare-inside arena new was.leaving.exact.forest v q tag node at (bare_here q) shown) (slots_of new above.list.0 (node.first + q)) refl);
+}
+  where
+    same : was.node ≡ node
+    same = some_same (sym was.visible.at ∙ at)
+
+    bare_here : (q : ℕ) → slots_of new node.list.0 q ≡ None
+    bare_here q = subst (λ (n : Node). slots_of new n.list.0 q ≡ None) same (was.bare q (omega arith))
+
+    Comes : ℕ → Type 0
+    Comes q = CameTo (tree_of arena new) v q hidden.0 above.list.0 node.first (node.first + node.seen) (node.first + node.seen)
+
+    comes : (q : ℕ) → slots_of new node.list.0 q ≡ None → q < node.seen → (o : Option Slot) → slots_of new above.list.0 (node.first + q) ≡ o →
+        IsHeldBy (nodes_of arena) (slots_of new) hidden.0 node q ⊎ Comes q
+    comes q free inside (Some row) is = inl (record { above = above; at = above_at; row = ap is_some is; inside = inside })
+    comes q free inside None is =
+        let step : Climbs (tree_of arena new) v q hidden.0 (node.first + q) =
+        record { node = node; at = at; free = free; inside = inside; parent = up; page = refl } in
+        let last = climb-side (tree_of arena new) was.leaving.exact.forest v q hidden.0 (node.first + q) step in
+        inr (record {
+          side = Some last.1;
+          page = node.first + q;
+          is = omega arith;
+          way = reach-one (tree_of arena new) v q last.1 hidden.0 (node.first + q) step last.4;
+          below = omega arith;
+          free = λ less. is;
+        })
+
+module _ (arena : Arena) (old new : Rows Row) (before after : Pool) (v first : ℕ) (spared : Option NodeId) (above : Node) (shift to : ℕ) where
   -- it goes on at the parent
-  pub passing-up : IsPassing arena old new before after v first above shift to to → (parent : NodeId) (up : Node) →
+  pub passing-up : IsPassing arena old new before after v first spared above shift to to → (parent : NodeId) (up : Node) →
       above.parent ≡ Some parent → nodes_of arena parent.0 ≡ Some up → (end : ℕ) → end ≡ min to above.seen →
-      IsPassing arena old new before after v first up (shift + above.first) (end + above.first) (first + (shift + above.first))
+      IsPassing arena old new before after v first spared up (shift + above.first) (end + above.first) (first + (shift + above.first))
   passing-up was parent up parent_is up_at end end_is =
       let f = was.bare.leaving.exact.forest in
       record {
         bare = was.bare;
+        parent = was.parent;
         h = parent.0;
         at = up_at;
-        came = λ q tag from below sight shown.
-            let came = was.came q tag from below sight shown in
-            let free = came.free came.below in
-            let inside = came-inside (tree_of arena new) f v q was.h above.list.0 shift to to tag shown came above was.at free in
-            let climbs : Climbs (tree_of arena new) was.h came.page parent.0 (above.first + came.page) =
-            record { node = above; at = was.at; free = free; inside = inside; parent = parent_is; page = refl } in
-            let last = climb-side (tree_of arena new) f was.h came.page parent.0 (above.first + came.page) climbs in
-            record {
-              side = Some last.1;
-              page = above.first + came.page;
-              is = omega (arith, came.is);
-              way = reach-after (tree_of arena new) f v q came.side was.h came.page last.1 parent.0 (above.first + came.page) came.way climbs last.4;
-              below = omega (arith, inside, came.below);
-              free = λ less. absurd (omega (arith, came.is));
-            };
+        came = λ q tag from below sight shown. elim (was.came q tag from below sight shown) [
+          | inl held ↦ inl held
+          | inr came ↦ inr (
+              let free = came.free came.below in
+              let inside = came-inside (tree_of arena new) f v q was.h above.list.0 shift to to tag shown came above was.at free in
+              let climbs : Climbs (tree_of arena new) was.h came.page parent.0 (above.first + came.page) =
+              record { node = above; at = was.at; free = free; inside = inside; parent = parent_is; page = refl } in
+              let last = climb-side (tree_of arena new) f was.h came.page parent.0 (above.first + came.page) climbs in
+              record {
+                side = Some last.1;
+                page = above.first + came.page;
+                is = omega (arith, came.is);
+                way = reach-after (tree_of arena new) f v q came.side was.h came.page last.1 parent.0 (above.first + came.page) came.way climbs last.4;
+                below = omega (arith, inside, came.below);
+                free = λ less. absurd (omega (arith, came.is));
+              })
+        ];
       }
 
-module _ (arena : Arena) (old mid new : Rows Row) (before between after : Pool) (v first : ℕ) (above : Node) (shift to upto row : ℕ) where
+-- A page that was held stays so, where rows went and it shows the frame that it showed.
+module _ (arena : Arena) (old new : Rows Row) (v : ℕ) (node : Node) (visible : IsVisible (nodes_of arena) v node) (out : ℕ → ℕ → Bool)
+    (in_use : ℕ → Bool) (exact : IsExact (tree_of arena old) out in_use) (part : IsPartOf (slots_of old) (slots_of new)) where
+  held-stays : (h : NodeId) (p tag : ℕ) → node.parent ≡ Some h → slots_of old node.list.0 p ≡ None → frame_at (tree_of arena old) v p ≡ Some tag →
+      frame_at (tree_of arena new) v p ≡ Some tag → IsHeldBy (nodes_of arena) (slots_of old) h.0 node p → IsHeldBy (nodes_of arena) (slots_of new) h.0 node p
+  held-stays h p tag up free showed shows held = by_row (slots_of old held.above.list.0 (node.first + p)) refl
+    where
+      by_row : (o : Option Slot) → slots_of old held.above.list.0 (node.first + p) ≡ o → IsHeldBy (nodes_of arena) (slots_of new) h.0 node p
+      by_row None is = absurd (let none = ap is_some is in let some = held.row in cc)
+      by_row (Some row) is =
+          let t : Tree = tree_of arena old in
+          let step : Climbs t v p h.0 (node.first + p) =
+          record { node = node; at = visible.at; free = free; inside = held.inside; parent = up; page = refl } in
+          let last = climb-side t exact.forest v p h.0 (node.first + p) step in
+          let found = found-of-reach t exact.forest v p last.1 h.0 (node.first + p) held.above row
+          (reach-one t v p last.1 h.0 (node.first + p) step last.4) held.at is in
+          let frame : frame_in row ≡ Some tag = sym (ap frame_found found) ∙ showed in
+          let now = frame-shown (tree_of arena new) v p tag shows in
+          let there = (walk-ends (tree_of arena new) exact.forest v p now.it now.found).row in
+          let had = part.had there.node.list.0 now.it.page now.it.slot there.row in
+          let place = exact.once held.above.list.0 (node.first + p) there.node.list.0 now.it.page tag row had.row is had.at frame (sym had.frame ∙ now.frame) in
+          record {
+            above = held.above;
+            at = held.at;
+            row = ap is_some (ap (λ l. slots_of new l (node.first + p)) place.0 ∙ (ap (λ q. slots_of new there.node.list.0 q) place.1 ∙ there.row));
+            inside = held.inside;
+          }
+
+  spared-stays : (spared : Option NodeId) (p tag : ℕ) → IsParent spared node → slots_of old node.list.0 p ≡ None →
+      frame_at (tree_of arena old) v p ≡ Some tag → frame_at (tree_of arena new) v p ≡ Some tag →
+      IsSpared (nodes_of arena) (slots_of old) spared node p → IsSpared (nodes_of arena) (slots_of new) spared node p
+  spared-stays None p tag up free showed shows held = absurd held
+  spared-stays (Some h) p tag up free showed shows held = held-stays h p tag (up h refl) free showed shows held
+
+module _ (arena : Arena) (old mid new : Rows Row) (before between after : Pool) (v first : ℕ) (spared : Option NodeId) (above : Node) (shift to upto row : ℕ)
+    (was : IsPassing arena old mid before between v first spared above shift to upto) (from : first + shift ≤ upto)
+    (next : IsNext (slots_of mid above.list.0) upto (Some row)) where
+  least : (upto ≤ row) × ((r : ℕ) → upto ≤ r → r < row → slots_of mid above.list.0 r ≡ None)
+  least = let it = next.least row refl in (it.0, it.2)
+
   -- the page that comes to a row is cut off
-  pub passing-cut : IsPassing arena old mid before between v first above shift to upto → first + shift ≤ upto →
-      IsNext (slots_of mid above.list.0) upto (Some row) → HasLeftPageOut arena mid new between after v (row - shift) →
-      IsPassing arena old new before after v first above shift to (row + 1)
-  passing-cut was from next step =
-      let least = next.least row refl in
+  passing-out : HasLeftPageOut arena mid new between after v (row - shift) → IsPassing arena old new before after v first spared above shift to (row + 1)
+  passing-out step =
       let out = was.bare.out in
       record {
         bare = record {
@@ -385,6 +467,7 @@ module _ (arena : Arena) (old mid new : Rows Row) (before between after : Pool) 
           visible = was.bare.visible;
           bare = λ p start. part-none (slots_of mid) (slots_of new) step.part was.bare.node.list.0 p (was.bare.bare p start);
         };
+        parent = was.parent;
         h = was.h;
         at = was.at;
         came = λ q tag start below sight shown.
@@ -392,42 +475,80 @@ module _ (arena : Arena) (old mid new : Rows Row) (before between after : Pool) 
             let apart : q ≢ row - shift = λ same. parts.0 (refl, same) in
             let page : IsPage (tree_of arena mid) v q = record { node = was.bare.node; visible = was.bare.visible; below = below } in
             let showed = sym (step.shows out was.bare.leaving.exact was.bare.leaving.only v q page sight) ∙ shown in
-            let came = was.came q tag start below parts.1 showed in
-            record {
+            elim (was.came q tag start below parts.1 showed) [
+              | inl held ↦ inl (spared-stays arena mid new v was.bare.node was.bare.visible out (is_taken between) was.bare.leaving.exact step.part
+                  spared q tag was.parent (was.bare.bare q start) showed shown held)
+              | inr came ↦ inr (record {
+                side = came.side;
+                page = came.page;
+                is = came.is;
+                way = arrives-part (tree_of arena mid) (slots_of new) step.part v q came.side was.h came.page came.way;
+                below = came.below;
+                free = λ less. part-none (slots_of mid) (slots_of new) step.part above.list.0 came.page (elim (cases_lt came.page upto) [
+                  | inl before ↦ came.free before
+                  | inr past ↦ least.1 came.page past (omega (arith, came.is, least.0))
+                ]);
+              })
+            ];
+      }
+
+  -- it is held by the node that is spared, and left
+  passing-held : IsLeft arena mid new between after was.bare.node (row - shift) spared → IsPassing arena old new before after v first spared above shift to (row + 1)
+  passing-held left =
+      subst (λ (rows : Rows Row). IsPassing arena old rows before after v first spared above shift to (row + 1)) (sym left.rows)
+      (subst (λ (pool : Pool). IsPassing arena old mid before pool v first spared above shift to (row + 1)) (sym left.pool)
+      (record {
+        bare = was.bare;
+        parent = was.parent;
+        h = was.h;
+        at = was.at;
+        came = λ q tag start below sight shown. elim (was.came q tag start below sight shown) [
+          | inl held ↦ inl held
+          | inr came ↦ elim (cases_eq q (row - shift)) [
+            | inl same ↦ inl (subst (λ x. IsSpared (nodes_of arena) (slots_of mid) spared was.bare.node x) (sym same) left.held)
+            | inr apart ↦ inr (record {
               side = came.side;
               page = came.page;
               is = came.is;
-              way = arrives-part (tree_of arena mid) (slots_of new) step.part v q came.side was.h came.page came.way;
+              way = came.way;
               below = came.below;
-              free = λ less. part-none (slots_of mid) (slots_of new) step.part above.list.0 came.page (elim (cases_lt came.page upto) [
+              free = λ less. elim (cases_lt came.page upto) [
                 | inl before ↦ came.free before
-                | inr past ↦ least.2 came.page past (omega (arith, came.is))
-              ]);
-            };
-      }
+                | inr past ↦ least.1 came.page past (omega (arith, came.is, least.0))
+              ];
+            })
+          ]
+        ];
+      }))
 
-module _ (arena : Arena) (old new : Rows Row) (before after : Pool) (v first : ℕ) (above : Node) (shift to upto : ℕ) where
+  pub passing-cut : ((node : Node) → nodes_of arena v ≡ Some node → IsLeft arena mid new between after node (row - shift) spared
+      ⊎ HasLeftPageOut arena mid new between after v (row - shift)) → IsPassing arena old new before after v first spared above shift to (row + 1)
+  passing-cut step = elim (step was.bare.node was.bare.visible.at) [ inl left ↦ passing-held left | inr out ↦ passing-out out ]
+
+module _ (arena : Arena) (old new : Rows Row) (before after : Pool) (v first : ℕ) (spared : Option NodeId) (above : Node) (shift to upto : ℕ) where
   -- no row is left that they could come to
-  pub passing-end : (answer : Option ℕ) → IsPassing arena old new before after v first above shift to upto →
+  pub passing-end : (answer : Option ℕ) → IsPassing arena old new before after v first spared above shift to upto →
       IsNext (slots_of new above.list.0) upto answer → ((row : ℕ) → answer ≡ Some row → to ≤ row) →
-      IsPassing arena old new before after v first above shift to to
+      IsPassing arena old new before after v first spared above shift to to
   passing-end answer was next ends = record {
     bare = was.bare;
+    parent = was.parent;
     h = was.h;
     at = was.at;
-    came = λ q tag start below sight shown.
-        let came = was.came q tag start below sight shown in
-        record {
-          side = came.side;
-          page = came.page;
-          is = came.is;
-          way = came.way;
-          below = came.below;
-          free = λ less. elim (cases_lt came.page upto) [
-            | inl before ↦ came.free before
-            | inr past ↦ rest came.page past less answer refl
-          ];
-        };
+    came = λ q tag start below sight shown. elim (was.came q tag start below sight shown) [
+      | inl held ↦ inl held
+      | inr came ↦ inr (record {
+        side = came.side;
+        page = came.page;
+        is = came.is;
+        way = came.way;
+        below = came.below;
+        free = λ less. elim (cases_lt came.page upto) [
+          | inl before ↦ came.free before
+          | inr past ↦ rest came.page past less answer refl
+        ];
+      })
+    ];
   }
     where
       rest : (page : ℕ) → upto ≤ page → page < to → (o : Option ℕ) → answer ≡ o → slots_of new above.list.0 page ≡ None
@@ -464,7 +585,7 @@ inside-range out v first end q from to =
     (lt-ltb q end to))
 
 -- rows that are left keep the places that their frames tell
-linked-part : (old new : Rows Row) (before after : Pool) → IsPartOf (slots_of old) (slots_of new) → links_of after ≡ links_of before →
+pub linked-part : (old new : Rows Row) (before after : Pool) → IsPartOf (slots_of old) (slots_of new) → links_of after ≡ links_of before →
     AreLinked old before → AreLinked new after
 linked-part old new before after part links was = record {
   linked = λ l q row tag at frame.
@@ -472,43 +593,26 @@ linked-part old new before after part links was = record {
       ap (λ f. f tag) links ∙ was.linked l q had.row tag had.at (sym had.frame ∙ frame);
 }
 
-module _ (arena : Arena) (old new : Rows Row) (before after : Pool) (v first : ℕ) (above : Node) (shift to : ℕ)
-    (was : IsPassing arena old new before after v first above shift to to)
-    (top : (parent : NodeId) → above.parent ≡ Some parent → min to above.seen ≤ first + shift) (node : Node) (at : nodes_of arena v ≡ Some node) where
+-- What is left out is each page of the range, where the others of it show nothing.
+module _ (arena : Arena) (old new : Rows Row) (before after : Pool) (v first : ℕ) (node : Node) (at : nodes_of arena v ≡ Some node) (out : ℕ → ℕ → Bool)
+    (exact : IsExact (tree_of arena new) out (is_taken after)) (only : IsOnlyOf out v) (within : (q : ℕ) → out v q ≡ true → first ≤ q)
+    (shows : ShowsSame (tree_of arena old) (tree_of arena new) out)
+    (none : (q tag : ℕ) → first ≤ q → q < node.count → out v q ≡ false → frame_at (tree_of arena new) v q ≡ Some tag → ⊥) where
   abbrev t : Tree
   t = tree_of arena new
-
-  abbrev out : ℕ → ℕ → Bool
-  out = was.bare.out
-
-  node_is : was.bare.node ≡ node
-  node_is = some_same (sym was.bare.visible.at ∙ at)
 
   below-count : (q : ℕ) → IsPage t v q → q < node.count
   below-count q page = subst (λ (n : Node). q < n.count) (some_same (sym page.visible.at ∙ at)) page.below
 
-  -- a page of the range that is in sight shows nothing
-  shows-none : (q tag : ℕ) → first ≤ q → q < node.count → out v q ≡ false → frame_at t v q ≡ Some tag → ⊥
-  shows-none q tag from below sight shown =
-      let f = was.bare.leaving.exact.forest in
-      let came = was.came q tag from (subst (λ (n : Node). q < n.count) (sym node_is) below) sight shown in
-      let inside = came-inside t f v q was.h above.list.0 shift to to tag shown came above was.at (came.free came.below) in
-      go came.page came.is came.below inside above.parent refl
-    where
-      go : (page : ℕ) → page ≡ q + shift → page < to → page < above.seen → (up : Option NodeId) → above.parent ≡ up → ⊥
-      go page is less inside None up_is =
-          let none = was.bare.leaving.exact.forest.by.root was.h above was.at up_is in absurd (omega arith)
-      go page is less inside (Some parent) up_is = let end = top parent up_is in absurd (omega arith)
-
   out-mine : (q tag : ℕ) → IsPage t v q → frame_at t v q ≡ Some tag → out v q ≡ leaving_range all_in_sight v first node.count v q
   out-mine q tag page shown = elim (cases_lt q first) [
     | inl before ↦ elim (cases_Bool (out v q)) [
-      | inl hidden ↦ let from = was.bare.leaving.within q hidden in absurd (omega arith)
+      | inl hidden ↦ let from = within q hidden in absurd (omega arith)
       | inr seen ↦ seen ∙ sym (outside-before v first node.count v q before)
     ]
     | inr from ↦ elim (cases_Bool (out v q)) [
       | inl hidden ↦ hidden ∙ sym (inside-range all_in_sight v first node.count q from (below-count q page))
-      | inr seen ↦ absurd (shows-none q tag from (below-count q page) seen shown)
+      | inr seen ↦ absurd (none q tag from (below-count q page) seen shown)
     ]
   ]
 
@@ -518,7 +622,7 @@ module _ (arena : Arena) (old new : Rows Row) (before after : Pool) (v first : �
         subst (λ k. out k q ≡ leaving_range all_in_sight v first node.count k q) (sym same)
         (out-mine q tag (subst (λ k. IsPage t k q) same page) (ap (λ k. frame_at t k q) (sym same) ∙ shown))
     | inr apart ↦ elim (cases_Bool (out w q)) [
-      | inl hidden ↦ absurd (apart (was.bare.leaving.only w q hidden))
+      | inl hidden ↦ absurd (apart (only w q hidden))
       | inr seen ↦ seen ∙ sym (outside-other v first node.count w q apart)
     ]
   ]
@@ -526,23 +630,60 @@ module _ (arena : Arena) (old new : Rows Row) (before after : Pool) (v first : �
   in_sight-before : (w q : ℕ) → IsPage t w q → leaving_range all_in_sight v first node.count w q ≡ false → out w q ≡ false
   in_sight-before w q page sight = elim (cases_Bool (out w q)) [
     | inl hidden ↦
-        let same = was.bare.leaving.only w q hidden in
-        let from = was.bare.leaving.within q (ap (λ k. out k q) (sym same) ∙ hidden) in
+        let same = only w q hidden in
+        let from = within q (ap (λ k. out k q) (sym same) ∙ hidden) in
         absurd (in_sight-outside v first node.count w q sight same from (below-count q (subst (λ k. IsPage t k q) same page)))
     | inr seen ↦ seen
   ]
 
-  -- at the top, and where no page goes on, none of them shows a frame
-  pub passing-top : HasLeftOut arena old new before after v node first
+  pub range-exact : IsExact t (leaving_range all_in_sight v first node.count) (is_taken after)
+  range-exact = exact-shown_alike t out (leaving_range all_in_sight v first node.count) (is_taken after) exact out-same
+
+  pub range-shows : ShowsSame (tree_of arena old) t (leaving_range all_in_sight v first node.count)
+  range-shows w q page sight = shows w q page (in_sight-before w q (page-there arena old new w q page) sight)
+
+module _ (arena : Arena) (old new : Rows Row) (before after : Pool) (v first : ℕ) (spared : Option NodeId) (above : Node) (shift to : ℕ)
+    (was : IsPassing arena old new before after v first spared above shift to to)
+    (top : (parent : NodeId) → above.parent ≡ Some parent → min to above.seen ≤ first + shift) where
+  -- a page that came to the last node shows nothing
+  shows-none : (q tag : ℕ) → first ≤ q → frame_at (tree_of arena new) v q ≡ Some tag → CameTo (tree_of arena new) v q was.h above.list.0 shift to to → ⊥
+  shows-none q tag from shown came =
+      let f = was.bare.leaving.exact.forest in
+      let inside = came-inside (tree_of arena new) f v q was.h above.list.0 shift to to tag shown came above was.at (came.free came.below) in
+      go came.page came.is came.below inside above.parent refl
+    where
+      go : (page : ℕ) → page ≡ q + shift → page < to → page < above.seen → (up : Option NodeId) → above.parent ≡ up → ⊥
+      go page is less inside None up_is =
+          let none = was.bare.leaving.exact.forest.by.root was.h above was.at up_is in absurd (omega arith)
+      go page is less inside (Some parent) up_is = let end = top parent up_is in absurd (omega arith)
+
+  -- at the top, and where no page goes on, those that are held alone show a frame
+  pub passing-top : IsSparing arena old new before after v first spared
   passing-top = record {
-    exact = exact-shown_alike t out (leaving_range all_in_sight v first node.count) (is_taken after) was.bare.leaving.exact out-same;
-    shows = λ w q page sight. was.bare.leaving.shows w q page (in_sight-before w q (page-there arena old new w q page) sight);
-    bare = λ p from. subst (λ (n : Node). slots_of new n.list.0 p ≡ None) node_is (was.bare.bare p from);
-    gives = was.bare.leaving.gives;
-    linked = linked-part old new before after was.bare.leaving.part was.bare.leaving.links;
-    spare = was.bare.leaving.spare;
-    count = was.bare.leaving.count;
+    bare = was.bare;
+    spares = λ q tag from below sight shown. elim (was.came q tag from below sight shown) [
+      | inl held ↦ held
+      | inr came ↦ absurd (shows-none q tag from shown came)
+    ];
   }
+
+-- where none is spared, all pages of the range are left out
+pub sparing-none : (arena : Arena) (old new : Rows Row) (before after : Pool) (v first : ℕ) (node : Node) → nodes_of arena v ≡ Some node →
+    IsSparing arena old new before after v first None → HasLeftOut arena old new before after v node first
+sparing-none arena old new before after v first node at was =
+    let leaving = was.bare.leaving in
+    let same : was.bare.node ≡ node = some_same (sym was.bare.visible.at ∙ at) in
+    let none : (q tag : ℕ) → first ≤ q → q < node.count → was.bare.out v q ≡ false → frame_at (tree_of arena new) v q ≡ Some tag → ⊥ =
+    λ q tag from below. was.spares q tag from (subst (λ (n : Node). q < n.count) (sym same) below) in
+    record {
+      exact = range-exact arena old new before after v first node at was.bare.out leaving.exact leaving.only leaving.within leaving.shows none;
+      shows = range-shows arena old new before after v first node at was.bare.out leaving.exact leaving.only leaving.within leaving.shows none;
+      bare = λ p from. subst (λ (n : Node). slots_of new n.list.0 p ≡ None) same (was.bare.bare p from);
+      gives = leaving.gives;
+      linked = linked-part old new before after leaving.part leaving.links;
+      spare = leaving.spare;
+      count = leaving.count;
+    }
 
 -- ---- the way upwards ends
 
@@ -562,8 +703,8 @@ up-less nodes lists f k above at = go above.parent refl
 
 -- ---- what the code asks on the way
 
-module _ (arena : Arena) (old new : Rows Row) (before after : Pool) (v first : ℕ) (above : Node) (shift to upto : ℕ)
-    (was : IsPassing arena old new before after v first above shift to upto) where
+module _ (arena : Arena) (old new : Rows Row) (before after : Pool) (v first : ℕ) (spared : Option NodeId) (above : Node) (shift to upto : ℕ)
+    (was : IsPassing arena old new before after v first spared above shift to upto) where
   -- the tree is exact now, with some pages of the node left out
   pub passing-exact : IsExactFor arena new after v
   passing-exact = record {
@@ -577,6 +718,10 @@ module _ (arena : Arena) (old new : Rows Row) (before after : Pool) (v first : �
   pub passing-bare : (p : ℕ) → first ≤ p → (node : Node) → nodes_of arena v ≡ Some node → slots_of new node.list.0 p ≡ None
   passing-bare p from node at =
       subst (λ (n : Node). slots_of new n.list.0 p ≡ None) (some_same (sym was.bare.visible.at ∙ at)) (was.bare.bare p from)
+
+  -- what is spared is the parent of the node
+  pub passing-parent : (node : Node) → nodes_of arena v ≡ Some node → IsParent spared node
+  passing-parent node at = subst (λ n. IsParent spared n) (some_same (sym was.bare.visible.at ∙ at)) was.parent
 
   pub passing-there : (parent : NodeId) → above.parent ≡ Some parent → IsSome (nodes_of arena parent.0)
   passing-there parent is =
@@ -596,3 +741,35 @@ module _ (arena : Arena) (old new : Rows Row) (before after : Pool) (v first : �
       (λ o. nodes_up (nodes_of arena) arena.lists up.parent < nodes_up (nodes_of arena) arena.lists o)
       (sym is)
       (up-less (nodes_of arena) arena.lists was.bare.leaving.exact.forest parent.0 up at)
+
+-- what is spared is there
+pub spared-there : (arena : Arena) (f : IsForest (nodes_of arena) arena.lists) (v : ℕ) (node : Node) (spared : Option NodeId) → nodes_of arena v ≡ Some node →
+    IsParent spared node → (h : NodeId) → spared ≡ Some h → IsSome (nodes_of arena h.0)
+spared-there arena f v node spared at up h e = ap is_some (f.by.below h.0 v node at (up h e)).at
+
+-- what a caller says of the node and of its parent
+module _ (arena : Arena) (v : ℕ) (hidden : NodeId) where
+  abbrev IsChildOf : Type 0
+  IsChildOf = IsSomeAnd (nodes_of arena v) (λ (node : Node). IsSome node.koid × (node.parent ≡ Some hidden))
+
+  both : IsChildOf → (o : Option Node) → nodes_of arena v ≡ o → IsSomeAnd o (λ (node : Node). IsSome node.koid × (node.parent ≡ Some hidden))
+  both some o e = subst (λ (o : Option Node). IsSomeAnd o (λ (node : Node). IsSome node.koid × (node.parent ≡ Some hidden))) e some
+
+  pub above-visible : IsChildOf → IsSomeAnd (nodes_of arena v) (λ (node : Node). IsSome node.koid)
+  above-visible some = go (nodes_of arena v) refl
+    where
+      go : (o : Option Node) → nodes_of arena v ≡ o → IsSomeAnd (nodes_of arena v) (λ (node : Node). IsSome node.koid)
+      go None e = absurd (both some None e)
+      go (Some node) e = subst (λ (o : Option Node). IsSomeAnd o (λ (node : Node). IsSome node.koid)) (sym e) ((both some (Some node) e).0)
+
+  pub above-parent : (node : Node) → IsChildOf → nodes_of arena v ≡ Some node → node.parent ≡ Some hidden
+  above-parent node some at = (both some (Some node) at).1
+
+  module _ (f : IsForest (nodes_of arena) arena.lists) (node : Node) where
+    pub above-there : IsChildOf → nodes_of arena v ≡ Some node → IsSome (nodes_of arena hidden.0)
+    above-there some at = ap is_some (f.by.below hidden.0 v node at (above-parent node some at)).at
+
+    pub above-fits : (above : Node) → IsChildOf → nodes_of arena v ≡ Some node → nodes_of arena hidden.0 ≡ Some above → node.first + node.seen ≤ above.count
+    above-fits above some at above_at =
+        let below = f.by.below hidden.0 v node at (above-parent node some at) in
+        subst (λ (n : Node). node.first + node.seen ≤ n.count) (some_same (sym below.at ∙ above_at)) below.window

@@ -1,5 +1,6 @@
--- The rows of a hidden node, one child of which is out of sight, go into the list of its other child.
-use Rattle.std.specs.Prelude.{◌≡◌, ◌≢◌, ℕ, ◌-◌, ◌<◌, ◌≤◌, ◌==◌, Bool, false, not, None, Some, IsSome}
+-- The rows of a hidden node, one child of which goes: they go too, or move into the list of its other child.
+use Rattle.std.specs.Prelude.{◌≡◌, ◌↔◌, ℕ, ◌+◌, ◌-◌, ◌<◌, ◌≤◌, ◌==◌, Bool, true, false, not, if◌then◌else◌, None, Some, IsSome, IsTrue}
+use Rattle.balanced_tree.specs.Pairs.{with_pair}
 use Rattle.balanced_tree.specs.Rows.{Rows}
 use Rattle.vm_base.specs.Entries.{passes}
 use Rattle.vm_base.specs.declared.names.Tag.{Tag}
@@ -7,35 +8,20 @@ use Rattle.page_list.specs.declared.row.Row.{Row}
 use Rattle.page_list.specs.declared.row.Slot.{Slot}
 use Rattle.page_list.specs.declared.row.Slot.TheVariants as slot
 use Rattle.page_list.specs.Lists.{slots_of, row_count}
-use Rattle.frame_pool.specs.Pool.{Pool, taken_frames}
+use Rattle.frame_pool.specs.Pool.{Pool, taken_frames, links_of, is_taken}
 use Rattle.cow_arena.specs.declared.node.Node.{Node}
+use Rattle.cow_arena.specs.declared.node.Side.{Side}
 use Rattle.cow_arena.specs.declared.node.Side.TheVariants as side
-use Rattle.cow_arena.specs.Nodes.{Arena, nodes_of, AreFamily, IsVisible}
-use Rattle.cow_arena.specs.Walk.{Slots, Tree, frame_in}
+use Rattle.cow_arena.specs.Nodes.{Arena, nodes_of, AreFamily, IsVisible, side_of}
+use Rattle.cow_arena.specs.Walk.{Slots, Tree, frame_in, frame_at}
 use Rattle.cow_split.specs.Trees.{tree_of}
 use Rattle.cow_split.specs.Search.{reached_from}
 use Rattle.cow_split.specs.Exact.{IsExact, IsOnlyOf}
-use Rattle.cow_merge.specs.Ranges.{ShowsSame, IsAllOut, AreLinked}
+use Rattle.cow_merge.specs.Ranges.{ShowsSame, AreLinked, GivesBack, HasGiven, IsHeldBy}
 
--- The rows of the lists of h and of its child s change. The other child k is a VMO's node. Where the tree was exact with
--- all pages of k left out, and no others, it is so afterwards, and the other VMOs show what they showed.
-pub record HasLifted (arena : Arena) (old new : Rows Row) (before after : Pool) (k h s : ℕ) : Type 0 where
-  pub exact : (out : ℕ → ℕ → Bool) (in_use : ℕ → Bool) → IsExact (tree_of arena old) out in_use → IsOnlyOf out k →
-      IsAllOut (tree_of arena old) out k → IsExact (tree_of arena new) out in_use
-  pub shows : (out : ℕ → ℕ → Bool) (in_use : ℕ → Bool) → IsExact (tree_of arena old) out in_use → IsOnlyOf out k →
-      IsAllOut (tree_of arena old) out k → ShowsSame (tree_of arena old) (tree_of arena new) out
-  pub elsewhere : (node parent sibling : Node) → AreFamily (nodes_of arena) k h s node parent sibling → (l p : ℕ) →
-      l ≢ parent.list.0 → l ≢ sibling.list.0 → slots_of new l p ≡ slots_of old l p
-  pub taken : taken_frames after ≡ taken_frames before
-  pub frames : after.frames ≡ before.frames
-  pub linked : AreLinked old before → AreLinked new after
-  pub spare : old.spare ≤ new.spare
-  pub count : row_count new ≤ row_count old
-
--- the frame of each row is taken
-abbrev pub AreTaken : Rows Row → Pool → Type 0
-AreTaken rows pool = (l q : ℕ) (row : Slot) (tag : ℕ) → slots_of rows l q ≡ Some row → frame_in row ≡ Some tag →
-    IsSome (taken_frames pool tag)
+-- each page of node k, which is this, that comes to page q of its parent is left out of sight
+abbrev pub IsAside : (ℕ → ℕ → Bool) → (k : ℕ) → Node → (q : ℕ) → Type 0
+IsAside out k node q = (p : ℕ) → q ≡ node.first + p → p < node.seen → out k p ≡ true
 
 -- the node sees the row of page q of its parent: the page lies in its window, and it has no row of its own there
 pub record SeesRow (slots : Slots) (node : Node) (q : ℕ) : Type 0 where
@@ -63,3 +49,56 @@ pub record IsFamilyOf (arena : Arena) (k h s : ℕ) : Type 0 where
   pub sibling : Node
   pub family : AreFamily (nodes_of arena) k h s node parent sibling
   pub visible : IsVisible (nodes_of arena) k node
+
+-- Rows of h, the parent of the VMO's node k, went or moved into the list of s, its other child, since the rows and the pool
+-- were the old ones. The tree is exact with some pages of k left out, and each other page that shows a frame is held by h.
+pub record IsLifting (arena : Arena) (old new : Rows Row) (before after : Pool) (k h s : ℕ) : Type 0 where
+  pub of : IsFamilyOf arena k h s
+  pub out : ℕ → ℕ → Bool
+  pub exact : IsExact (tree_of arena new) out (is_taken after)
+  pub only : IsOnlyOf out k
+  pub shows : ShowsSame (tree_of arena old) (tree_of arena new) out
+  pub bare : (p : ℕ) → slots_of new of.node.list.0 p ≡ None
+  pub held : (p tag : ℕ) → p < of.node.count → out k p ≡ false → frame_at (tree_of arena new) k p ≡ Some tag →
+      IsHeldBy (nodes_of arena) (slots_of new) h of.node p
+  pub gives : GivesBack before after
+  pub linked : AreLinked old before → AreLinked new after
+  pub spare : old.spare ≤ new.spare
+  pub count : row_count new ≤ row_count old
+
+-- the bit of this side
+abbrev pub bit_on : Side → (left right : Bool) → Bool
+bit_on side.Left left right = left
+bit_on side.Right left right = right
+
+-- Whether the row of page q of a hidden node is seen through its child s: the bit of the side says so of a row with a frame,
+-- and a zero row is where the child sees it.
+pub record TellsSeen (slots : Slots) (parent : Node) (s : ℕ) (node : Node) (q : ℕ) (row : Slot) (seen : Bool) : Type 0 where
+  pub frame : (tag : Tag) (left right : Bool) → row ≡ slot.Frame tag left right → seen ≡ not (bit_on (side_of parent s) left right)
+  pub zero : row ≡ slot.Zero → IsTrue seen ↔ SeesRow slots node q
+
+-- the row, which was taken out, is gone, and its frame is free
+pub record HasGone (old new : Rows Row) (before after : Pool) (row : Slot) : Type 0 where
+  pub rows : new ≡ old
+  pub given : HasGiven before after (frame_in row)
+
+-- the row, which was taken out, is in the list of node s, at the page that came to it
+pub record HasMoved (arena : Arena) (old new : Rows Row) (before after : Pool) (s : ℕ) (node : Node) (q : ℕ) (row : Slot) : Type 0 where
+  pub now : Slot
+  pub moved : IsMoved (tree_of arena old) s (q - node.first) node row now
+  pub slots : slots_of new ≡ with_pair (slots_of old) node.list.0 (q - node.first) (Some now)
+  pub taken : taken_frames after ≡ taken_frames before
+  pub frames : after.frames ≡ before.frames
+  pub links : (t : ℕ) → links_of after t ≡
+      (if has_frame t now then record { list = node.list.0; page = q - node.first } else links_of before t)
+  pub spare : old.spare ≤ new.spare + 1
+  pub count : row_count new ≤ row_count old + 1
+
+-- the row of page q of a hidden node, which was taken out, has moved into the list of its child s, where it is seen through this
+-- child, and is gone else
+pub record HasSettled (arena : Arena) (old new : Rows Row) (before after : Pool) (parent : Node) (s : ℕ) (node : Node) (q : ℕ)
+    (row : Slot) : Type 0 where
+  pub seen : Bool
+  pub tells : TellsSeen (slots_of old) parent s node q row seen
+  pub gone : seen ≡ false → HasGone old new before after row
+  pub moves : seen ≡ true → HasMoved arena old new before after s node q row

@@ -1,5 +1,5 @@
 -- A range of pages of one visible node that are left out of sight, and what leaving them out changes.
-use Rattle.std.specs.Prelude.{◌≡◌, ◌⊎◌, ℕ, ◌+◌, ◌<◌, ◌≤◌, Bool, true, false, ◌&&◌, ◌||◌, ◌==◌, nat_le, nat_lt, Option, None, Some}
+use Rattle.std.specs.Prelude.{◌≡◌, ◌⊎◌, ℕ, ◌+◌, ◌<◌, ◌≤◌, Bool, true, false, ◌&&◌, ◌||◌, ◌==◌, nat_le, nat_lt, Option, None, Some, IsSome}
 use Rattle.balanced_tree.specs.Rows.{Rows}
 use Rattle.page_list.specs.declared.row.Row.{Row}
 use Rattle.page_list.specs.Lists.{slots_of, row_count}
@@ -7,8 +7,9 @@ use Rattle.frame_pool.specs.Pool.{Pool, taken_frames, links_of, is_taken}
 use Rattle.page_list.specs.declared.row.Slot.{Slot}
 use Rattle.cow_arena.specs.declared.node.Node.{Node}
 use Rattle.cow_arena.specs.declared.node.Side.{Side}
-use Rattle.cow_arena.specs.Nodes.{Arena, nodes_of, IsVisible}
-use Rattle.cow_arena.specs.Walk.{Tree, frame_at, frame_in}
+use Rattle.cow_arena.specs.declared.node.NodeId.{NodeId}
+use Rattle.cow_arena.specs.Nodes.{Arena, Nodes, nodes_of, IsVisible}
+use Rattle.cow_arena.specs.Walk.{Slots, Tree, frame_at, frame_in}
 use Rattle.cow_arena.specs.Ways.{Arrives, IsPartOf}
 use Rattle.cow_split.specs.Trees.{tree_of}
 use Rattle.cow_split.specs.Sight.{IsPage}
@@ -92,14 +93,44 @@ pub record CameTo (t : Tree) (v q h list shift to upto : ℕ) : Type 0 where
   pub below : page < to
   pub free : page < upto → t.slots list page ≡ None
 
+-- page p of this node lies in its window over node h, whose list has a row there
+pub record IsHeldBy (nodes : Nodes) (slots : Slots) (h : ℕ) (node : Node) (p : ℕ) : Type 0 where
+  pub above : Node
+  pub at : nodes h ≡ Some above
+  pub row : IsSome (slots above.list.0 (node.first + p))
+  pub inside : p < node.seen
+
+-- the page is held by the node that is spared, if one is
+abbrev pub IsSpared : Nodes → Slots → Option NodeId → Node → ℕ → Type 0
+IsSpared nodes slots None node p = ⊥
+IsSpared nodes slots (Some h) node p = IsHeldBy nodes slots h.0 node p
+
+-- the node that is spared, if one is, is the parent of this one
+abbrev pub IsParent : Option NodeId → Node → Type 0
+IsParent spared node = (h : NodeId) → spared ≡ Some h → node.parent ≡ Some h
+
 -- Each page of v from `first` on that still shows a frame comes to a page of this node, below `to`, and to no row of it
--- below `upto`.
-pub record IsPassing (arena : Arena) (old new : Rows Row) (before after : Pool) (v first : ℕ) (above : Node) (shift to upto : ℕ) : Type 0 where
+-- below `upto`; or it is held by the node that is spared.
+pub record IsPassing (arena : Arena) (old new : Rows Row) (before after : Pool) (v first : ℕ) (spared : Option NodeId) (above : Node)
+    (shift to upto : ℕ) : Type 0 where
   pub bare : IsBare arena old new before after v first
+  pub parent : IsParent spared bare.node
   pub h : ℕ
   pub at : nodes_of arena h ≡ Some above
   pub came : (q tag : ℕ) → first ≤ q → q < bare.node.count → bare.out v q ≡ false → frame_at (tree_of arena new) v q ≡ Some tag →
-      CameTo (tree_of arena new) v q h above.list.0 shift to upto
+      IsSpared (nodes_of arena) (slots_of new) spared bare.node q ⊎ CameTo (tree_of arena new) v q h above.list.0 shift to upto
+
+-- Each page of v from `first` on that still shows a frame is held by the node that is spared.
+pub record IsSparing (arena : Arena) (old new : Rows Row) (before after : Pool) (v first : ℕ) (spared : Option NodeId) : Type 0 where
+  pub bare : IsBare arena old new before after v first
+  pub spares : (q tag : ℕ) → first ≤ q → q < bare.node.count → bare.out v q ≡ false → frame_at (tree_of arena new) v q ≡ Some tag →
+      IsSpared (nodes_of arena) (slots_of new) spared bare.node q
+
+-- page p of v, which is this node, is held by the node that is spared, and nothing has changed
+pub record IsLeft (arena : Arena) (old new : Rows Row) (before after : Pool) (node : Node) (p : ℕ) (spared : Option NodeId) : Type 0 where
+  pub held : IsSpared (nodes_of arena) (slots_of old) spared node p
+  pub rows : new ≡ old
+  pub pool : after ≡ before
 
 -- The pages of v, which is this visible node, are out of sight from `first` on: rows that only they saw are gone, and their
 -- frames are given back. The tree is exact with these pages left out, and the others show what they showed.

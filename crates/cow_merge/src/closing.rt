@@ -8,14 +8,14 @@ ghost use Rattle.frame_pool.specs.Pool.{is_taken};
 ghost use Rattle.cow_merge.specs.Merging.{HasClosed};
 
 use crate::lifting::lift_rows;
-use crate::ranges::leave_out;
+use crate::ranges::{leave_out, leave_out_above};
 use cow_arena::{CowArena, NodeId};
 use frame_pool::FramePool;
 use page_list::PageLists;
 
 /// Takes a VMO's node away. The frames that only it showed are given back. Where it has a parent, this goes too: its rows
-/// move into the sibling, where the sibling sees them, and the sibling takes its place. It takes no memory, and costs the
-/// rows that the node's pages reach, in its list and in those of the nodes above it, and the rows of the parent.
+/// move into the sibling, where they are seen through the sibling, and the sibling takes its place. It takes no memory, and
+/// costs the rows that the node's pages reach, in its list and in those of the nodes above it, and the rows of the parent.
 ///
 /// The tree is exact over the frames that are taken, before and after, and each other VMO shows what it showed.
 pub fn close(arena: &mut CowArena, lists: &mut PageLists, frames: &mut FramePool, leaf: NodeId)
@@ -23,11 +23,12 @@ pub fn close(arena: &mut CowArena, lists: &mut PageLists, frames: &mut FramePool
     requires leaf { IsSomeAnd (nodes_of arena.old leaf.0) (λ node. IsSome node.koid) }
     ensures { HasClosed arena.old arena.new lists.old lists.new frames.old frames.new leaf.0 }
 {
-    leave_out(arena, lists, frames, leaf, 0);
     let (Some(hidden), Some(sibling)) = (arena.node(leaf).parent, arena.sibling(leaf)) else {
+        leave_out(arena, lists, frames, leaf, 0);
         arena.remove_root(leaf);
         return;
     };
+    leave_out_above(arena, lists, frames, leaf, hidden);
     lift_rows(arena, lists, frames, leaf, hidden, sibling);
     arena.splice(leaf);
 }

@@ -1,23 +1,30 @@
 //! Moving the rows of a hidden node into one of its children, before the two are merged.
 
-ghost use Rattle.std.specs.Prelude.{◌≡◌, ◌==◌, ◌↔◌, ℕ, if◌then◌else◌, None, Some, IsSome, IsTrue};
+ghost use Rattle.std.specs.Prelude.{◌≡◌, ◌≤◌, ◌==◌, ◌↔◌, ℕ, if◌then◌else◌, Bool, false, not, None, Some, IsSome, IsTrue};
+ghost use Rattle.balanced_tree.specs.Rows.{Rows};
+ghost use Rattle.vm_base.specs.declared.names.Tag.{Tag};
+ghost use Rattle.page_list.specs.declared.row.Row.{Row};
+ghost use Rattle.page_list.specs.declared.row.Slot.{Slot};
 ghost use Rattle.page_list.specs.Lists.{slots_of};
 ghost use Rattle.cow_arena.specs.declared.node.Node.{Node};
-ghost use Rattle.cow_arena.specs.Nodes.{nodes_of};
+ghost use Rattle.cow_arena.specs.Nodes.{nodes_of, side_of};
 ghost use Rattle.cow_arena.specs.Forest.{IsForest};
 ghost use Rattle.cow_arena.specs.Walk.{frame_in};
 ghost use Rattle.cow_split.specs.Trees.{tree_of};
-ghost use Rattle.frame_pool.specs.Pool.{taken_frames, links_of};
-ghost use Rattle.cow_merge.specs.Lifting.{HasLifted, IsFamilyOf, AreTaken, SeesRow, IsMoved, has_frame};
+ghost use Rattle.frame_pool.specs.Pool.{Pool, taken_frames, links_of};
+ghost use Rattle.cow_merge.specs.Lifting.{IsLifting, HasSettled, SeesRow, IsMoved, bit_on, has_frame};
 
+use crate::ranges::give_back_frame;
 use cow_arena::{CowArena, Node, NodeId, Side};
 use cow_split::reached_from;
 use frame_pool::{Backlink, FramePool};
 use page_list::{ListId, PageLists, Slot};
 use vm_base::PageNo;
 
-/// Moves the rows of a hidden node that its child sees into the child's list, and takes the others away. The hidden node's
-/// other child is a VMO's node whose pages are all out of sight, so that the rows that are taken away have no frames.
+/// Empties the list of a hidden node, one of whose children is a VMO's node that goes: rows that are seen through the other
+/// child move into the child's list, and the frames of the others are given back. The VMO's node has no rows, and its pages
+/// show frames of this hidden node alone. The split bits say of a row with a frame whether it is seen, so that the going
+/// node's pages need not be cut off from it before.
 pub(crate) fn lift_rows(
     arena: &CowArena,
     lists: &mut PageLists,
@@ -26,51 +33,67 @@ pub(crate) fn lift_rows(
     hidden: NodeId,
     child: NodeId,
 )
-    requires forest { IsForest (nodes_of arena.now) arena.now.lists }
-    requires family { IsFamilyOf arena.now leaf.0 hidden.0 child.0 }
-    requires taken { AreTaken lists.old frames.old }
-    ensures lifted { HasLifted arena.now lists.old lists.new frames.old frames.new leaf.0 hidden.0 child.0 }
+    requires { IsLifting arena.now lists.old lists.old frames.old frames.old leaf.0 hidden.0 child.0 }
+    ensures lifting { (old : Rows Row) (before : Pool) →
+        IsLifting arena.now old lists.old before frames.old leaf.0 hidden.0 child.0 →
+        IsLifting arena.now old lists.new before frames.new leaf.0 hidden.0 child.0 }
     ensures empty { (parent : Node) → nodes_of arena.now hidden.0 ≡ Some parent →
         (p : ℕ) → slots_of lists.new parent.list.0 p ≡ None }
 {
     let list = arena.node(hidden).list;
     let mut from = 0;
-    while let Some(page) = lists.next(list, from) {
-        lift_row(arena, lists, frames, leaf, hidden, child, page);
+    while let Some((page, slot)) = lists.take_next(list, from) {
+        settle(arena, lists, frames, hidden, child, page, slot);
         from = page;
     }
 }
 
-/// Moves a row of a hidden node into the child's list, where the child sees it: in its window and with no row of its own
-/// there. A row that it does not see is taken away.
-fn lift_row(
+/// Moves a row that was taken out of the list of a hidden node into its child's list, if it is seen through this child. The
+/// frame of another row is given back.
+fn settle(
     arena: &CowArena,
     lists: &mut PageLists,
     frames: &mut FramePool,
-    leaf: NodeId,
     hidden: NodeId,
     child: NodeId,
     page: PageNo,
+    slot: Slot,
 )
     requires forest { IsForest (nodes_of arena.now) arena.now.lists }
-    requires family { IsFamilyOf arena.now leaf.0 hidden.0 child.0 }
-    requires taken { AreTaken lists.old frames.old }
-    requires row { (parent : Node) → nodes_of arena.now hidden.0 ≡ Some parent →
-        IsSome (slots_of lists.old parent.list.0 page) }
-    ensures lifted { HasLifted arena.now lists.old lists.new frames.old frames.new leaf.0 hidden.0 child.0 }
-    ensures taken { AreTaken lists.new frames.new }
-    ensures gone { (parent : Node) → nodes_of arena.now hidden.0 ≡ Some parent →
-        (p : ℕ) → slots_of lists.new parent.list.0 p ≡ (if p == page then None else slots_of lists.old parent.list.0 p) }
+    requires parent { IsSome (nodes_of arena.now hidden.0) }
+    requires child { IsSome (nodes_of arena.now child.0) }
+    requires room { 1 ≤ lists.old.spare }
+    requires taken { (tag : ℕ) → frame_in slot ≡ Some tag → IsSome (taken_frames frames.old tag) }
+    requires seen { (parent node : Node) → nodes_of arena.now hidden.0 ≡ Some parent → nodes_of arena.now child.0 ≡ Some node →
+        (tag : Tag) (left right : Bool) → slot ≡ Slot.Frame tag left right →
+        bit_on (side_of parent child.0) left right ≡ false → SeesRow (slots_of lists.old) node page }
+    ensures { (parent node : Node) → nodes_of arena.now hidden.0 ≡ Some parent → nodes_of arena.now child.0 ≡ Some node →
+        HasSettled arena.now lists.old lists.new frames.old frames.new parent child.0 node page slot }
 {
-    let list = arena.node(hidden).list;
+    let side = arena.node(hidden).side_of(child);
     let node = arena.node(child);
-    let seen = sees_row(lists, node, page);
-    let slot = lists.remove(list, page);
-    if seen {
-        let to = page - node.first;
-        let moved = slot_in(arena, lists, child, to, slot);
-        lists.insert(node.list, to, moved);
-        note_place(frames, moved, node.list, to);
+    if !is_seen_through(lists, side, node, page, slot) {
+        give_back_frame(frames, slot);
+        return;
+    }
+    let to = page - node.first;
+    let moved = slot_in(arena, lists, child, to, slot);
+    lists.insert(node.list, to, moved);
+    note_place(frames, moved, node.list, to);
+}
+
+/// Whether a row of a page of a hidden node is seen through its child on this side: the bit of the side says so of a row with a
+/// frame, and a zero row is where the child sees it.
+fn is_seen_through(lists: &PageLists, side: Side, node: Node, page: PageNo, slot: Slot) -> bool
+    ensures frame { (tag : Tag) (left right : Bool) → slot ≡ Slot.Frame tag left right → result ≡ not (bit_on side left right) }
+    ensures zero { slot ≡ Slot.Zero → IsTrue result ↔ SeesRow (slots_of lists.now) node page }
+{
+    match slot {
+        Slot::Frame { left, right, .. } => match side {
+            Side::Left => !left,
+            Side::Right => !right,
+        },
+        Slot::Zero => sees_row(lists, node, page),
     }
 }
 

@@ -1,19 +1,20 @@
 //! Leaving a range of pages of a VMO's node out of sight.
 
-ghost use Rattle.std.specs.Prelude.{◌≡◌, ◌+◌, ◌<◌, ◌≤◌, ℕ, None, Some, IsSome, IsSomeAnd};
+ghost use Rattle.std.specs.Prelude.{◌≡◌, ◌⊎◌, ◌+◌, ◌^◌, ◌<◌, ◌≤◌, ℕ, true, None, Some, IsSome, IsSomeAnd};
 ghost use Rattle.balanced_tree.specs.Rows.{Rows};
 ghost use Rattle.page_list.specs.declared.row.Row.{Row};
 ghost use Rattle.page_list.specs.Lists.{slots_of};
 ghost use Rattle.frame_pool.specs.Pool.{Pool, taken_frames, is_taken};
 ghost use Rattle.vm_base.specs.declared.names.Tag.{Tag};
 ghost use Rattle.cow_arena.specs.declared.node.Node.{Node};
+ghost use Rattle.cow_arena.specs.declared.node.NodeId.{NodeId};
 ghost use Rattle.cow_arena.specs.Nodes.{nodes_of};
 ghost use Rattle.cow_arena.specs.Walk.{frame_in};
 ghost use Rattle.cow_split.specs.Trees.{tree_of};
 ghost use Rattle.cow_split.specs.Exact.{IsExact, all_in_sight};
 ghost use Rattle.cow_split.specs.Cutting.{frame_left};
 ghost use Rattle.cow_split.specs.declared.answers.Cut.TheVariants as cut;
-ghost use Rattle.cow_merge.specs.Ranges.{HasGiven, HasLeftPageOut, IsBare, IsPassing, HasLeftOut, IsExactFor};
+ghost use Rattle.cow_merge.specs.Ranges.{HasGiven, HasLeftPageOut, IsBare, IsPassing, IsSparing, IsSpared, IsParent, IsLeft, HasLeftOut, IsExactFor};
 
 use cow_arena::{CowArena, Node, NodeId};
 use cow_split::{Cut, cut};
@@ -37,10 +38,65 @@ pub(crate) fn leave_out(
         HasLeftOut arena.now lists.old lists.new frames.old frames.new leaf.0 node first }
 {
     drop_rows(arena, lists, frames, leaf, first);
-    let mut at = arena.node(leaf);
-    let mut from = first;
-    let mut to = at.seen;
-    let mut shift = 0;
+    let node = arena.node(leaf);
+    cut_upwards(arena, lists, frames, leaf, None, first, node, 0, node.seen);
+}
+
+/// Does what `leave_out` does with all pages of a VMO's node, but for those that the parent holds: nothing is done with the
+/// rows of the parent. The others are cut off from the rows of the nodes above the parent.
+pub(crate) fn leave_out_above(
+    arena: &CowArena,
+    lists: &mut PageLists,
+    frames: &mut FramePool,
+    leaf: NodeId,
+    hidden: NodeId,
+)
+    requires exact { IsExact (tree_of arena.now lists.old) all_in_sight (is_taken frames.old) }
+    requires leaf { IsSomeAnd (nodes_of arena.now leaf.0) (λ node. IsSome node.koid × (node.parent ≡ Some hidden)) }
+    ensures { IsSparing arena.now lists.old lists.new frames.old frames.new leaf.0 0 (Some hidden) }
+{
+    drop_rows(arena, lists, frames, leaf, 0);
+    let node = arena.node(leaf);
+    let above = arena.node(hidden);
+    prove!(above.count <= u64::MAX);
+    let to = node.first + node.seen;
+    cut_upwards(
+        arena,
+        lists,
+        frames,
+        leaf,
+        Some(hidden),
+        0,
+        above,
+        node.first,
+        to,
+    );
+}
+
+/// Cuts the pages of a VMO's node from `first` on off from the frames that they see in rows above the node `start`, to whose
+/// pages below `to` they come, `shift` pages further on. Those that the spared node holds are left, and the others come to no
+/// row of `start`.
+fn cut_upwards(
+    arena: &CowArena,
+    lists: &mut PageLists,
+    frames: &mut FramePool,
+    leaf: NodeId,
+    spared: Option<NodeId>,
+    first: PageNo,
+    start: Node,
+    shift: PageNo,
+    to: PageNo,
+)
+    requires passing { IsPassing arena.now lists.old lists.old frames.old frames.old leaf.0 first spared start shift to to }
+    requires range { first + shift < 2 ^ 64 }
+    ensures { (old : Rows Row) (before : Pool) →
+        IsPassing arena.now old lists.old before frames.old leaf.0 first spared start shift to to →
+        IsSparing arena.now old lists.new before frames.new leaf.0 first spared }
+{
+    let mut at = start;
+    let mut from = first + shift;
+    let mut to = to;
+    let mut shift = shift;
     loop {
         let Some(parent) = at.parent else {
             return;
@@ -55,7 +111,7 @@ pub(crate) fn leave_out(
         shift += at.first;
         to = end + at.first;
         at = above;
-        cut_rows(arena, lists, frames, leaf, first, above, shift, to);
+        cut_rows(arena, lists, frames, leaf, spared, first, above, shift, to);
     }
 }
 
@@ -73,15 +129,14 @@ fn drop_rows(
 {
     let node = arena.node(leaf);
     let mut from = first;
-    while let Some(page) = lists.next(node.list, from) {
-        let slot = lists.remove(node.list, page);
+    while let Some((page, slot)) = lists.take_next(node.list, from) {
         give_back_frame(frames, slot);
         from = page;
     }
 }
 
 /// Gives the frame of a row back, if it has one.
-fn give_back_frame(frames: &mut FramePool, slot: Slot)
+pub(crate) fn give_back_frame(frames: &mut FramePool, slot: Slot)
     requires { (tag : ℕ) → frame_in slot ≡ Some tag → IsSome (taken_frames frames.old tag) }
     ensures { HasGiven frames.old frames.new (frame_in slot) }
 {
@@ -91,22 +146,24 @@ fn give_back_frame(frames: &mut FramePool, slot: Slot)
 }
 
 /// Cuts the pages of a VMO's node from `first` on off from the frames that they see in the rows of a node above it, below
-/// its page `to`. They come to its pages that are `shift` pages further on, and to no rows before.
+/// its page `to`. They come to its pages that are `shift` pages further on, and to no rows before, but for those that the
+/// spared node holds.
 fn cut_rows(
     arena: &CowArena,
     lists: &mut PageLists,
     frames: &mut FramePool,
     leaf: NodeId,
+    spared: Option<NodeId>,
     first: PageNo,
     above: Node,
     shift: PageNo,
     to: PageNo,
 )
-    requires passing { IsPassing arena.now lists.old lists.old frames.old frames.old leaf.0 first above shift to (first + shift) }
+    requires passing { IsPassing arena.now lists.old lists.old frames.old frames.old leaf.0 first spared above shift to (first + shift) }
     requires range { first + shift < to }
     ensures { (old : Rows Row) (before : Pool) →
-        IsPassing arena.now old lists.old before frames.old leaf.0 first above shift to (first + shift) →
-        IsPassing arena.now old lists.new before frames.new leaf.0 first above shift to to }
+        IsPassing arena.now old lists.old before frames.old leaf.0 first spared above shift to (first + shift) →
+        IsPassing arena.now old lists.new before frames.new leaf.0 first spared above shift to to }
 {
     let mut from = first + shift;
     loop {
@@ -116,14 +173,60 @@ fn cut_rows(
         if to <= row {
             return;
         }
-        cut_page(arena, lists, frames, leaf, row - shift);
+        cut_page(arena, lists, frames, leaf, spared, row - shift);
         from = row + 1;
     }
 }
 
 /// Cuts a page of a VMO's node off from the frame that it sees in a row above it, and gives this back, if no other VMO
-/// shows it. The node has no row of its own there.
+/// shows it; but for a page that the spared node holds. The node has no row of its own there.
 fn cut_page(
+    arena: &CowArena,
+    lists: &mut PageLists,
+    frames: &mut FramePool,
+    leaf: NodeId,
+    spared: Option<NodeId>,
+    page: PageNo,
+)
+    requires exact { IsExactFor arena.now lists.old frames.old leaf.0 }
+    requires bare { (node : Node) → nodes_of arena.now leaf.0 ≡ Some node → slots_of lists.old node.list.0 page ≡ None }
+    requires spared { (node : Node) → nodes_of arena.now leaf.0 ≡ Some node → IsParent spared node }
+    ensures { (node : Node) → nodes_of arena.now leaf.0 ≡ Some node →
+        IsLeft arena.now lists.old lists.new frames.old frames.new node page spared
+        ⊎ HasLeftPageOut arena.now lists.old lists.new frames.old frames.new leaf.0 page }
+{
+    if is_spared(arena, lists, leaf, spared, page) {
+        return;
+    }
+    cut_off(arena, lists, frames, leaf, page);
+}
+
+/// Whether a page of a VMO's node is held by the node that is spared, its parent.
+fn is_spared(
+    arena: &CowArena,
+    lists: &PageLists,
+    leaf: NodeId,
+    spared: Option<NodeId>,
+    page: PageNo,
+) -> bool
+    requires leaf { IsSome (nodes_of arena.now leaf.0) }
+    requires spared { (h : NodeId) → spared ≡ Some h → IsSome (nodes_of arena.now h.0) }
+    ensures { (node : Node) → nodes_of arena.now leaf.0 ≡ Some node → result ≡ true →
+        IsSpared (nodes_of arena.now) (slots_of lists.now) spared node page }
+{
+    let Some(hidden) = spared else {
+        return false;
+    };
+    let node = arena.node(leaf);
+    match node.first.checked_add(page) {
+        Some(there) if page < node.seen => lists.find(arena.node(hidden).list, there).is_some(),
+        _ => false,
+    }
+}
+
+/// Cuts a page of a VMO's node off from the frame that it sees in a row above it, and gives this back, if no other VMO
+/// shows it. The node has no row of its own there.
+fn cut_off(
     arena: &CowArena,
     lists: &mut PageLists,
     frames: &mut FramePool,

@@ -1,6 +1,7 @@
 -- All pages are out of sight, so that the node goes, with its parent where it has one.
 use Rattle.cow_merge.proofs.RangeLaws.{visible-of}
-use Rattle.cow_merge.proofs.CloseLaws.{closed-root, closed-spliced, root-of, root-ready, family-of}
+use Rattle.cow_merge.proofs.CloseLaws.{closed-root, closed-spliced, root-of, root-ready, child-ready, family-of}
+use Rattle.cow_merge.proofs.LiftedLaws.{lifting-start, lifting-again, lifting-end}
 use Rattle.cow_merge.proofs.closing.close.Goals as goal
 use Rattle.cow_merge.proofs.closing.close.Goals.{in_default-via-in-Some+in_default, in_default-via-in_default}
 
@@ -25,19 +26,34 @@ returns-in_default c =
     (c.leave_out.ensures c.node.result c.node.ensures) c.remove_root.ensures.nodes c.remove_root.ensures.lists
     c.remove_root.ensures.visible c.remove_root.ensures.forest
 
-pub lift_rows-requires-clause-family : goal.lift_rows-requires-clause-family
-lift_rows-requires-clause-family c =
+pub leave_out_above-requires-clause-leaf : goal.leave_out_above-requires-clause-leaf
+leave_out_above-requires-clause-leaf c =
+    child-ready c.args.arena.now c.args.leaf.0 c.node.result c.in-Some-Some.hidden
+    (visible-of c.args.arena.now c.args.leaf.0 c.node.result c.requires.leaf c.node.ensures) c.in-Some-Some.is-0
+
+pub lift_rows-requires : goal.lift_rows-requires
+lift_rows-requires c =
     let visible = visible-of c.args.arena.now c.args.leaf.0 c.node.result c.requires.leaf c.node.ensures in
-    family-of c.args.arena.now c.requires.exact.forest c.args.leaf.0 c.node.result visible c.in-Some-Some.hidden c.in-Some-Some.sibling
-    c.in-Some-Some.is-0 c.in-Some-Some.ensures.sibling
+    lifting-again c.args.arena.now c.args.lists.now c.leave_out_above.new.lists c.args.frames.now c.leave_out_above.new.frames c.args.leaf.0
+    c.in-Some-Some.hidden.0 c.in-Some-Some.sibling.0
+    (lifting-start c.args.arena.now c.args.lists.now c.leave_out_above.new.lists c.args.frames.now c.leave_out_above.new.frames c.args.leaf.0
+    c.in-Some-Some.sibling.0 c.in-Some-Some.hidden c.leave_out_above.ensures
+    (family-of c.args.arena.now c.requires.exact.forest c.args.leaf.0 c.node.result visible c.in-Some-Some.hidden c.in-Some-Some.sibling
+    c.in-Some-Some.is-0 c.in-Some-Some.ensures.sibling))
 
 pub returns : goal.returns
 returns c =
     let visible = visible-of c.args.arena.now c.args.leaf.0 c.node.result c.requires.leaf c.node.ensures in
-    let of = family-of c.args.arena.now c.requires.exact.forest c.args.leaf.0 c.node.result visible c.in-Some-Some.hidden c.in-Some-Some.sibling
-    c.in-Some-Some.is-0 c.in-Some-Some.ensures.sibling in
-    closed-spliced c.args.arena.now c.splice.new.self c.args.lists.now c.leave_out.new.lists c.lift_rows.new.lists c.args.frames.now c.leave_out.new.frames
-    c.lift_rows.new.frames c.args.leaf.0 c.in-Some-Some.hidden.0 c.in-Some-Some.sibling.0 of.node of.parent of.sibling of.visible of.family
-    (c.leave_out.ensures of.node of.visible.at) c.lift_rows.ensures.lifted (c.lift_rows.ensures.empty of.parent of.family.parent_at)
+    let was = c.lift_rows.ensures.lifting c.args.lists.now c.args.frames.now
+    (lifting-start c.args.arena.now c.args.lists.now c.leave_out_above.new.lists c.args.frames.now c.leave_out_above.new.frames c.args.leaf.0
+    c.in-Some-Some.sibling.0 c.in-Some-Some.hidden c.leave_out_above.ensures
+    (family-of c.args.arena.now c.requires.exact.forest c.args.leaf.0 c.node.result visible c.in-Some-Some.hidden c.in-Some-Some.sibling
+    c.in-Some-Some.is-0 c.in-Some-Some.ensures.sibling)) in
+    let of = was.of in
+    let empty = c.lift_rows.ensures.empty of.parent of.family.parent_at in
+    closed-spliced c.args.arena.now c.splice.new.self c.args.lists.now c.lift_rows.new.lists c.args.frames.now c.lift_rows.new.frames c.args.leaf.0
+    c.in-Some-Some.hidden.0 c.in-Some-Some.sibling.0 of.node of.parent of.sibling of.visible of.family
+    (lifting-end c.args.arena.now c.args.lists.now c.lift_rows.new.lists c.args.frames.now c.lift_rows.new.frames c.args.leaf.0 c.in-Some-Some.hidden.0
+    c.in-Some-Some.sibling.0 was empty) empty
     (c.splice.ensures.nodes c.in-Some-Some.hidden.0 c.in-Some-Some.sibling.0 of.node of.parent of.sibling of.family)
     c.splice.ensures.lists c.splice.ensures.visible c.splice.ensures.forest

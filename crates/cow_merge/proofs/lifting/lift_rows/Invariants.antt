@@ -1,13 +1,17 @@
 use Rattle.std.proofs.Common.{◌≡◌, ℕ, ◌<◌, None}
+use Rattle.balanced_tree.specs.Rows.{Rows}
+use Rattle.page_list.specs.declared.row.Row.{Row}
 use Rattle.page_list.specs.Lists.{slots_of}
-use Rattle.cow_merge.specs.Lifting.{HasLifted, AreTaken}
+use Rattle.frame_pool.specs.Pool.{Pool}
+use Rattle.cow_merge.specs.Lifting.{IsLifting}
 use Rattle.cow_merge.proofs.LiftedLaws.{still_ahead}
 use Rattle.cow_merge.proofs.lifting.lift_rows.Given as goal
 
 abbrev pub invariant-loop-page : goal.invariant-loop-page
 invariant-loop-page l = record {
-  lifted : HasLifted l.arena l.fn.lists l.lists l.fn.frames l.frames l.leaf.0 l.hidden.0 l.child.0;
-  taken : AreTaken l.lists l.frames;
+  lifting : (old : Rows Row) (before : Pool) →
+      IsLifting l.arena old l.fn.lists before l.fn.frames l.fn.leaf.0 l.hidden.0 l.child.0 →
+      IsLifting l.arena old l.lists before l.frames l.fn.leaf.0 l.hidden.0 l.child.0;
   below : (p : ℕ) → p < l.from → slots_of l.lists l.list.0 p ≡ None;
 }
 

@@ -10,8 +10,8 @@ invariant-loop-row l = record {
   from : l.first + l.shift ≤ l.from;
   below : l.from ≤ l.to;
   passing : (old : Rows Row) (before : Pool) →
-      IsPassing l.arena old l.fn.lists before l.fn.frames l.leaf.0 l.first l.above l.shift l.to (l.first + l.shift) →
-      IsPassing l.arena old l.lists before l.frames l.leaf.0 l.first l.above l.shift l.to l.from;
+      IsPassing l.arena old l.fn.lists before l.fn.frames l.leaf.0 l.first l.spared l.above l.shift l.to (l.first + l.shift) →
+      IsPassing l.arena old l.lists before l.frames l.leaf.0 l.first l.spared l.above l.shift l.to l.from;
 }
 
 abbrev pub decreases-loop-row : goal.decreases-loop-row

@@ -1,5 +1,8 @@
 -- Each row that goes leaves its page out.
-use Rattle.std.proofs.Common.{refl, arith}
+use Rattle.std.proofs.Common.{refl, sym, subst, arith}
+use Rattle.balanced_tree.specs.Rows.{Rows}
+use Rattle.page_list.specs.declared.row.Row.{Row}
+use Rattle.cow_merge.specs.Ranges.{IsBare}
 use Rattle.cow_merge.proofs.RangeLaws.{visible-of, dropping-start, dropping-taken, dropping-more, dropping-end}
 use Rattle.cow_merge.proofs.ranges.drop_rows.Goals as goal
 
@@ -12,21 +15,23 @@ loop-page-init c = record {
 
 pub give_back_frame-requires : goal.give_back_frame-requires
 give_back_frame-requires c =
-    dropping-taken c.args.arena.now c.args.lists.now c.loop-page.lists c.remove-slot.new.self c.args.frames.now c.loop-page.frames c.loop-page.frames
-    c.args.leaf.0 c.node-node.result c.args.first c.loop-page.from c.in-Some.page c.remove-slot.result c.loop-page.invariant.dropping c.remove-slot.ensures.slot
+    dropping-taken c.args.arena.now c.args.lists.now c.loop-page.lists c.take_next.new.self c.args.frames.now c.loop-page.frames c.loop-page.frames
+    c.args.leaf.0 c.node-node.result c.args.first c.loop-page.from c.in-Some.page c.in-Some.slot c.loop-page.invariant.dropping c.in-Some.ensures.slot
 
 pub loop-page-preserved : goal.loop-page-preserved
 loop-page-preserved c =
-    let least = c.in-Some.ensures.least c.in-Some.page refl in
+    let least = c.in-Some.ensures.page.least c.in-Some.page refl in
     record {
       from = omega (arith, least.0);
-      dropping = dropping-more c.args.arena.now c.args.lists.now c.loop-page.lists c.remove-slot.new.self c.args.frames.now c.loop-page.frames
-          c.give_back_frame.new.frames c.args.leaf.0 c.node-node.result c.args.first c.loop-page.from c.in-Some.page c.remove-slot.result
-          c.loop-page.invariant.dropping c.remove-slot.ensures.slot c.loop-page.invariant.from c.in-Some.ensures c.remove-slot.ensures.slots
-          c.give_back_frame.ensures (omega arith) (omega arith);
+      dropping = dropping-more c.args.arena.now c.args.lists.now c.loop-page.lists c.take_next.new.self c.args.frames.now c.loop-page.frames
+          c.give_back_frame.new.frames c.args.leaf.0 c.node-node.result c.args.first c.loop-page.from c.in-Some.page c.in-Some.slot
+          c.loop-page.invariant.dropping c.in-Some.ensures.slot c.loop-page.invariant.from c.in-Some.ensures.page c.in-Some.ensures.slots
+          c.give_back_frame.ensures (omega (arith, c.in-Some.ensures.spare)) (omega (arith, c.in-Some.ensures.count));
     }
 
 pub returns : goal.returns
 returns c =
-    dropping-end c.args.arena.now c.args.lists.now c.loop-page.lists c.args.frames.now c.loop-page.frames c.args.leaf.0 c.node-node.result c.args.first
-    c.loop-page.from c.loop-page.invariant.dropping c.loop-page.invariant.from c.in_default.ensures
+    subst (λ (rows : Rows Row). IsBare c.args.arena.now c.args.lists.now rows c.args.frames.now c.loop-page.frames c.args.leaf.0 c.args.first)
+    (sym c.in_default.ensures.none)
+    (dropping-end c.args.arena.now c.args.lists.now c.loop-page.lists c.args.frames.now c.loop-page.frames c.args.leaf.0 c.node-node.result c.args.first
+    c.loop-page.from c.loop-page.invariant.dropping c.loop-page.invariant.from c.in_default.ensures.page)

@@ -1,63 +1,15 @@
--- On each node on the way up, what the pages of the range still show is further up.
-use Rattle.std.proofs.Common.{arith}
-use Rattle.cow_merge.proofs.RangeLaws.{passing-start, passing-again, passing-up, passing-top, passing-there, passing-fits, passing-less}
+use Rattle.cow_merge.proofs.RangeLaws.{passing-start, passing-again, sparing-none}
 use Rattle.cow_merge.proofs.ranges.leave_out.Goals as goal
 
-pub loop-at-init : goal.loop-at-init
-loop-at-init c = record {
-  from = omega arith;
-  passing = passing-start c.args.arena.now c.args.lists.now c.drop_rows.new.lists c.args.frames.now c.drop_rows.new.frames c.args.leaf.0 c.args.first
-      c.node-at.result c.drop_rows.ensures c.node-at.ensures;
-}
+pub cut_upwards-requires-clause-passing : goal.cut_upwards-requires-clause-passing
+cut_upwards-requires-clause-passing c =
+    passing-again c.args.arena.now c.args.lists.now c.drop_rows.new.lists c.args.frames.now c.drop_rows.new.frames c.args.leaf.0 c.args.first _ _ _ _ _
+    (passing-start c.args.arena.now c.args.lists.now c.drop_rows.new.lists c.args.frames.now c.drop_rows.new.frames c.args.leaf.0 c.args.first
+    c.node-node.result c.drop_rows.ensures c.node-node.ensures)
 
-pub returns-in_default : goal.returns-in_default
-returns-in_default c =
-    passing-top c.args.arena.now c.args.lists.now c.loop-at.lists c.args.frames.now c.loop-at.frames c.args.leaf.0 c.args.first c.loop-at.at c.loop-at.shift
-    c.loop-at.to c.loop-at.invariant.passing (λ parent is. let none = c.in_default.is in absurd (cc))
-
-pub returns-then-end-from : goal.returns-then-end-from
-returns-then-end-from c =
-    passing-top c.args.arena.now c.args.lists.now c.loop-at.lists c.args.frames.now c.loop-at.frames c.args.leaf.0 c.args.first c.loop-at.at c.loop-at.shift
-    c.loop-at.to c.loop-at.invariant.passing (λ parent is. omega arith)
-
-pub node-above-requires : goal.node-above-requires
-node-above-requires c =
-    passing-there c.args.arena.now c.args.lists.now c.loop-at.lists c.args.frames.now c.loop-at.frames c.args.leaf.0 c.args.first c.loop-at.at c.loop-at.shift
-    c.loop-at.to c.loop-at.to c.loop-at.invariant.passing c.in-Some.parent c.in-Some.is
-
-pub overflow_add-from : goal.overflow_add-from
-overflow_add-from c =
-    let fits = passing-fits c.args.arena.now c.args.lists.now c.loop-at.lists c.args.frames.now c.loop-at.frames c.args.leaf.0 c.args.first c.loop-at.at
-    c.loop-at.shift c.loop-at.to c.loop-at.to c.loop-at.invariant.passing c.in-Some.parent c.node-above.result c.in-Some.is c.node-above.ensures in
-    omega arith
-
-pub overflow_add-shift : goal.overflow_add-shift
-overflow_add-shift c =
-    let fits = passing-fits c.args.arena.now c.args.lists.now c.loop-at.lists c.args.frames.now c.loop-at.frames c.args.leaf.0 c.args.first c.loop-at.at
-    c.loop-at.shift c.loop-at.to c.loop-at.to c.loop-at.invariant.passing c.in-Some.parent c.node-above.result c.in-Some.is c.node-above.ensures in
-    omega arith
-
-pub overflow_add-to : goal.overflow_add-to
-overflow_add-to c =
-    let fits = passing-fits c.args.arena.now c.args.lists.now c.loop-at.lists c.args.frames.now c.loop-at.frames c.args.leaf.0 c.args.first c.loop-at.at
-    c.loop-at.shift c.loop-at.to c.loop-at.to c.loop-at.invariant.passing c.in-Some.parent c.node-above.result c.in-Some.is c.node-above.ensures in
-    omega arith
-
-pub cut_rows-requires-clause-passing : goal.cut_rows-requires-clause-passing
-cut_rows-requires-clause-passing c =
-    passing-again c.args.arena.now c.args.lists.now c.loop-at.lists c.args.frames.now c.loop-at.frames c.args.leaf.0 c.args.first c.node-above.result _ _ _
-    (passing-up c.args.arena.now c.args.lists.now c.loop-at.lists c.args.frames.now c.loop-at.frames c.args.leaf.0 c.args.first c.loop-at.at c.loop-at.shift
-    c.loop-at.to c.loop-at.invariant.passing c.in-Some.parent c.node-above.result c.in-Some.is c.node-above.ensures c.min-end.result c.min-end.ensures)
-
-pub loop-at-smaller : goal.loop-at-smaller
-loop-at-smaller c =
-    passing-less c.args.arena.now c.args.lists.now c.loop-at.lists c.args.frames.now c.loop-at.frames c.args.leaf.0 c.args.first c.loop-at.at c.loop-at.shift
-    c.loop-at.to c.loop-at.to c.loop-at.invariant.passing c.in-Some.parent c.node-above.result c.in-Some.is c.node-above.ensures
-
-pub loop-at-preserved : goal.loop-at-preserved
-loop-at-preserved c = record {
-  from = omega (arith, c.loop-at.invariant.from);
-  passing = c.cut_rows.ensures c.args.lists.now c.args.frames.now
-      (passing-up c.args.arena.now c.args.lists.now c.loop-at.lists c.args.frames.now c.loop-at.frames c.args.leaf.0 c.args.first c.loop-at.at c.loop-at.shift
-      c.loop-at.to c.loop-at.invariant.passing c.in-Some.parent c.node-above.result c.in-Some.is c.node-above.ensures c.min-end.result c.min-end.ensures);
-}
+pub returns : goal.returns
+returns c = λ node at.
+    sparing-none c.args.arena.now c.args.lists.now c.cut_upwards.new.lists c.args.frames.now c.cut_upwards.new.frames c.args.leaf.0 c.args.first node at
+    (c.cut_upwards.ensures c.args.lists.now c.args.frames.now
+    (passing-start c.args.arena.now c.args.lists.now c.drop_rows.new.lists c.args.frames.now c.drop_rows.new.frames c.args.leaf.0 c.args.first
+    c.node-node.result c.drop_rows.ensures c.node-node.ensures))

@@ -1,0 +1,30 @@
+-- What the parent holds is spared, and the others come to no row of it.
+use Rattle.std.proofs.Common.{arith}
+use Rattle.cow_merge.proofs.RangeLaws.{passing-above, passing-again, above-there, above-fits, above-parent, above-visible}
+use Rattle.cow_merge.proofs.ranges.leave_out_above.Goals as goal
+
+pub drop_rows-requires-clause-leaf : goal.drop_rows-requires-clause-leaf
+drop_rows-requires-clause-leaf c = above-visible c.args.arena.now c.args.leaf.0 c.args.hidden c.requires.leaf
+
+pub node-above-requires : goal.node-above-requires
+node-above-requires c = above-there c.args.arena.now c.args.leaf.0 c.args.hidden c.requires.exact.forest c.node-node.result c.requires.leaf c.node-node.ensures
+
+pub overflow_add-to : goal.overflow_add-to
+overflow_add-to c =
+    let fits = above-fits c.args.arena.now c.args.leaf.0 c.args.hidden c.requires.exact.forest c.node-node.result c.node-above.result c.requires.leaf c.node-node.ensures
+    c.node-above.ensures in
+    omega arith
+
+pub cut_upwards-requires-clause-passing : goal.cut_upwards-requires-clause-passing
+cut_upwards-requires-clause-passing c =
+    passing-again c.args.arena.now c.args.lists.now c.drop_rows.new.lists c.args.frames.now c.drop_rows.new.frames c.args.leaf.0 0 _ _ _ _ _
+    (passing-above c.args.arena.now c.args.lists.now c.drop_rows.new.lists c.args.frames.now c.drop_rows.new.frames c.args.leaf.0
+    c.node-node.result c.args.hidden c.node-above.result c.drop_rows.ensures c.node-node.ensures
+    (above-parent c.args.arena.now c.args.leaf.0 c.args.hidden c.node-node.result c.requires.leaf c.node-node.ensures) c.node-above.ensures)
+
+pub returns : goal.returns
+returns c =
+    c.cut_upwards.ensures c.args.lists.now c.args.frames.now
+    (passing-above c.args.arena.now c.args.lists.now c.drop_rows.new.lists c.args.frames.now c.drop_rows.new.frames c.args.leaf.0
+    c.node-node.result c.args.hidden c.node-above.result c.drop_rows.ensures c.node-node.ensures
+    (above-parent c.args.arena.now c.args.leaf.0 c.args.hidden c.node-node.result c.requires.leaf c.node-node.ensures) c.node-above.ensures)
