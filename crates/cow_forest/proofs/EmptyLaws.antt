@@ -1,5 +1,5 @@
 -- A forest with nothing, one that gets its frames, and one with more room for rows.
-use Rattle.std.proofs.Common.{◌≡◌, ℕ, false, List, [], Option, None, Some, refl, sym, ap, ◌∙◌, arith}
+use Rattle.std.proofs.Common.{◌≡◌, ℕ, false, List, Option, None, Some, refl, sym, ap, ◌∙◌, arith}
 use Rattle.std.specs.Prelude.{is_some}
 use Rattle.std.proofs.lemmas.Bool.{false_from_ne_true}
 use Rattle.balanced_tree.specs.Rows.{Rows}
@@ -36,7 +36,7 @@ pub record HasNothing (f : Forest) : Type 0 where
   pub visible : visible_count f.arena ≡ 0
   pub slots : slots_of f.rows ≡ λ l p. None
   pub free : (t : ℕ) → taken_frames f.pool t ≡ None
-  pub table : f.nodes ≡ []
+  pub table : (v : ℕ) → node_in f.nodes v ≡ None
   pub next : f.next ≡ 1
   pub vmos : f.vmos ≡ 0
 
@@ -47,22 +47,18 @@ module _ (f : Forest) (h : HasNothing f) where
   no-row : (l p : ℕ) → slots_of f.rows l p ≡ None
   no-row l p = ap (λ (slots : Slots). slots l p) h.slots
 
-  no-vmo : (v : ℕ) → node_in f.nodes v ≡ None
-  unfolding node_in
-  no-vmo v = ap (λ entries. node_in entries v) h.table
-
   none-named : (v k : ℕ) (node : Node) → IsNodeOf (nodes_of f.arena) v k node → ⊥
   none-named v k node is = let none = no-node k in let some = is.at in absurd cc
 
   no-count : (v : ℕ) → (content_of f).count v ≡ None
-  no-count v = ap (count_from (nodes_of f.arena)) (no-vmo v)
+  no-count v = ap (count_from (nodes_of f.arena)) (h.table v)
 
   pub store-empty : IsStore f
   unfolding vmos_of
   store-empty = record {
     exact = exact-empty (tree f) all_in_sight (is_taken f.pool) h.forest no-node no-row (λ t. ap is_some (h.free t));
     linked = record { linked = λ l q row tag at frame. let none = no-row l q in absurd cc };
-    named = λ v at is. let none = no-vmo v in absurd cc;
+    named = λ v at is. let none = h.table v in absurd cc;
     nodes = λ v k node is. absurd (none-named v k node is);
     owners = λ k node at. let none = no-node k in absurd cc;
     counts = λ v k node is. absurd (none-named v k node is);
@@ -75,7 +71,7 @@ module _ (f : Forest) (h : HasNothing f) where
 
   pub content-empty : f.pool.frames ≡ 0 → content_of f ≡ nothing
   unfolding nothing
-  content-empty frames = same_content _ _ frames h.next no-count (λ v p. ap (λ (o : Option NodeId). page_showing f.pool (frame_from (tree f) o p)) (no-vmo v))
+  content-empty frames = same_content _ _ frames h.next no-count (λ v p. ap (λ (o : Option NodeId). page_showing f.pool (frame_from (tree f) o p)) (h.table v))
 
 -- ---- it gets its frames
 

@@ -1,5 +1,5 @@
 -- A forest that gets one more VMO stays a store, and one whose tables get room does.
-use Rattle.std.proofs.Common.{◌≡◌, ◌≢◌, ℕ, ◌+◌, ◌≤◌, List, Option, None, Some, refl, sym, ap, subst, ◌∙◌, inl, inr, arith}
+use Rattle.std.proofs.Common.{◌≡◌, ◌≢◌, ℕ, ◌+◌, ◌≤◌, Option, None, Some, refl, sym, ap, subst, ◌∙◌, inl, inr, arith}
 use Rattle.std.specs.Prelude.{is_some}
 use Rattle.std.proofs.lemmas.Bool.{cases_lt, cases_eq}
 use Rattle.balanced_tree.specs.Rows.{Rows}
@@ -10,7 +10,6 @@ use Rattle.vm_base.proofs.SearchLaws.{count_below_le}
 use Rattle.vm_base.proofs.EntryLaws.{some_same, with_key-here, with_key-other, with_key-cases}
 use Rattle.vm_model.specs.Contents.Content.{Content, vmos_of, created}
 use Rattle.frame_pool.specs.Pool.{is_taken}
-use Rattle.page_list.specs.declared.row.ListId.{ListId}
 use Rattle.page_list.specs.declared.row.Row.{Row}
 use Rattle.cow_arena.specs.declared.node.Node.{Node}
 use Rattle.cow_arena.specs.declared.node.NodeId.{NodeId}
@@ -23,7 +22,7 @@ use Rattle.cow_split.specs.Exact.{IsExact, all_in_sight}
 use Rattle.cow_merge.specs.Ranges.{AreLinked}
 use Rattle.page_store.proofs.HeldLaws.{same_content}
 use Rattle.page_store.proofs.ViewerLaws.{vmos_of-same, vmos_of-created}
-use Rattle.cow_forest.specs.Tables.{node_in, owner_in}
+use Rattle.cow_forest.specs.Tables.{NodeEntries, node_in}
 use Rattle.cow_forest.specs.Store.{Forest, tree, content_of, count_from, pages_in, frame_from, page_showing, HasNode, IsNodeOf, IsStore}
 use Rattle.cow_forest.proofs.ContentLaws.{node-visible, frame-past}
 
@@ -33,21 +32,21 @@ unfolding vmos_of
 vmos_le f s = let same = s.vmos in omega (arith, same, count_below_le f.next (λ v. is_some ((content_of f).count v)))
 
 -- a VMO is found in a table with the same nodes
-pub found-node : (f : Forest) → IsStore f → (nodes : List (Koid × NodeId)) → node_in nodes ≡ node_in f.nodes → (v : ℕ) (at : NodeId) → node_in nodes v ≡ Some at →
+pub found-node : (f : Forest) → IsStore f → (nodes : NodeEntries) → node_in nodes ≡ node_in f.nodes → (v : ℕ) (at : NodeId) → node_in nodes v ≡ Some at →
     HasNode f v at.0
 found-node f s nodes same v at is = s.named v at (ap (λ (map : ℕ → Option NodeId). map v) (sym same) ∙ is)
 
 -- ---- nothing comes
 
 -- the arena and the tables of g say the same as those of f
-pub record IsAlike (f : Forest) (arena : Arena) (nodes : List (Koid × NodeId)) (owners : List (ListId × NodeId)) : Type 0 where
+pub record IsAlike (f : Forest) (arena : Arena) (nodes owners : NodeEntries) : Type 0 where
   pub arena_nodes : nodes_of arena ≡ nodes_of f.arena
   pub lists : arena.lists ≡ f.arena.lists
   pub visible : visible_count arena ≡ visible_count f.arena
   pub nodes_in : node_in nodes ≡ node_in f.nodes
-  pub owners_in : owner_in owners ≡ owner_in f.owners
+  pub owners_in : node_in owners ≡ node_in f.owners
 
-module _ (f : Forest) (arena : Arena) (nodes : List (Koid × NodeId)) (owners : List (ListId × NodeId)) (a : IsAlike f arena nodes owners) where
+module _ (f : Forest) (arena : Arena) (nodes owners : NodeEntries) (a : IsAlike f arena nodes owners) where
   abbrev pub alike : Forest
   alike = record f { arena = arena; nodes = nodes; owners = owners }
 
@@ -83,7 +82,7 @@ module _ (f : Forest) (arena : Arena) (nodes : List (Koid × NodeId)) (owners : 
 -- ---- a VMO comes
 
 -- the forest with a VMO more
-abbrev pub with_vmo : Forest → Arena → Rows Row → List (Koid × NodeId) → List (ListId × NodeId) → Forest
+abbrev pub with_vmo : Forest → Arena → Rows Row → NodeEntries → NodeEntries → Forest
 with_vmo f arena rows nodes owners = record f {
   arena = arena;
   rows = rows;
@@ -94,7 +93,7 @@ with_vmo f arena rows nodes owners = record f {
 }
 
 -- The node k is new, and that of the next VMO. The VMOs that there were have their nodes, and show what they showed.
-pub record HasNewVmo (f : Forest) (arena : Arena) (rows : Rows Row) (nodes : List (Koid × NodeId)) (owners : List (ListId × NodeId)) (k : ℕ) (node : Node) : Type 0 where
+pub record HasNewVmo (f : Forest) (arena : Arena) (rows : Rows Row) (nodes owners : NodeEntries) (k : ℕ) (node : Node) : Type 0 where
   pub exact : IsExact (tree_of arena rows) all_in_sight (is_taken f.pool)
   pub linked : AreLinked rows f.pool
   pub comes : IsNodeOf (nodes_of arena) f.next k node
@@ -103,11 +102,11 @@ pub record HasNewVmo (f : Forest) (arena : Arena) (rows : Rows Row) (nodes : Lis
   pub no_more : (w : ℕ) (n : Node) → IsVisible (nodes_of arena) w n → w ≢ k → StaysVisible (nodes_of arena) (nodes_of f.arena) w n
   pub shows : (w q : ℕ) → IsPage (tree f) w q → frame_at (tree_of arena rows) w q ≡ frame_at (tree f) w q
   pub nodes_in : node_in nodes ≡ with_key (node_in f.nodes) f.next (record { 0 = k })
-  pub owners_in : (j : ℕ) (n : Node) → nodes_of arena j ≡ Some n → owner_in owners n.list.0 ≡ link_to j
+  pub owners_in : (j : ℕ) (n : Node) → nodes_of arena j ≡ Some n → node_in owners n.list.0 ≡ link_to j
   pub lists : arena.lists ≤ f.arena.lists + 2
   pub visible : visible_count arena ≡ visible_count f.arena + 1
 
-module _ (f : Forest) (s : IsStore f) (arena : Arena) (rows : Rows Row) (nodes : List (Koid × NodeId)) (owners : List (ListId × NodeId)) (k : ℕ) (node : Node)
+module _ (f : Forest) (s : IsStore f) (arena : Arena) (rows : Rows Row) (nodes owners : NodeEntries) (k : ℕ) (node : Node)
     (has : HasNewVmo f arena rows nodes owners k node) where
   -- the next koid is no VMO's
   next-free : node_in f.nodes f.next ≡ None

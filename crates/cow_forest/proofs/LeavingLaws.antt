@@ -1,9 +1,8 @@
 -- A VMO leaves the forest: its node is closed, and the tables no longer lead to it.
-use Rattle.std.proofs.Common.{◌≡◌, ◌≢◌, ℕ, ◌+◌, ◌-◌, ◌*◌, ◌≤◌, ◌==◌, not, cond, List, Option, None, Some, refl, sym, ap, subst, ◌∙◌, inl, inr, arith}
+use Rattle.std.proofs.Common.{◌≡◌, ◌≢◌, ℕ, ◌+◌, ◌-◌, ◌*◌, ◌≤◌, ◌==◌, not, cond, Option, None, Some, refl, sym, ap, subst, ◌∙◌, inl, inr, arith}
 use Rattle.std.specs.Prelude.{is_some}
 use Rattle.std.proofs.lemmas.Bool.{cases_eq, cases_lt, eq-eqb}
 use Rattle.balanced_tree.specs.Rows.{Rows}
-use Rattle.vm_base.specs.declared.names.Koid.{Koid}
 use Rattle.vm_base.specs.Entries.{without_key}
 use Rattle.vm_base.proofs.EntryLaws.{without_key-same, without_key-other, without_key-some}
 use Rattle.vm_base.proofs.SearchLaws.{eqb_apart}
@@ -22,13 +21,13 @@ use Rattle.cow_split.specs.Sight.{IsPage}
 use Rattle.cow_merge.specs.Merging.{HasClosed}
 use Rattle.page_store.proofs.HeldLaws.{same_content}
 use Rattle.page_store.proofs.ViewerLaws.{vmos_of-same, vmos_of-less}
-use Rattle.cow_forest.specs.Tables.{node_in, owner_in, IsDisowned}
+use Rattle.cow_forest.specs.Tables.{NodeEntries, node_in, IsDisowned}
 use Rattle.cow_forest.specs.Store.{Forest, tree, content_of, count_from, pages_in, frame_from, page_showing, HasNode, IsNodeOf, IsStore}
 use Rattle.cow_forest.proofs.ContentLaws.{node-visible, node-of, one-node, one-vmo, vmo-below, page-of, count-of, frame-past}
 use Rattle.cow_forest.proofs.ResizingLaws.{showing-given}
 
 -- the forest with one VMO less, and these nodes, rows, frames and tables
-abbrev pub with_less : Forest → Arena → Rows Row → Pool → List (Koid × NodeId) → List (ListId × NodeId) → Forest
+abbrev pub with_less : Forest → Arena → Rows Row → Pool → NodeEntries → NodeEntries → Forest
 with_less f arena rows pool nodes owners =
     record f { arena = arena; rows = rows; pool = pool; nodes = nodes; owners = owners; vmos = f.vmos - 1 }
 
@@ -43,9 +42,9 @@ record NodeWas (f : Forest) (v w j : ℕ) (now : Node) : Type 0 where
   count : was.node.count ≡ now.count
   apart : w ≢ v
 
-module _ (f : Forest) (arena : Arena) (rows : Rows Row) (pool : Pool) (nodes : List (Koid × NodeId)) (owners : List (ListId × NodeId)) (v k : ℕ)
+module _ (f : Forest) (arena : Arena) (rows : Rows Row) (pool : Pool) (nodes owners : NodeEntries) (v k : ℕ)
     (s : IsStore f) (h : HasNode f v k) (c : HasClosed f.arena arena f.rows rows f.pool pool k)
-    (d : IsDisowned (nodes_of f.arena) (owner_in f.owners) (owner_in owners) k) (left : node_in nodes ≡ without_key (node_in f.nodes) v) where
+    (d : IsDisowned (nodes_of f.arena) (node_in f.owners) (node_in owners) k) (left : node_in nodes ≡ without_key (node_in f.nodes) v) where
   abbrev g : Forest
   g = with_less f arena rows pool nodes owners
 
@@ -113,7 +112,7 @@ module _ (f : Forest) (arena : Arena) (rows : Rows Row) (pool : Pool) (nodes : L
         let came = c.came j node at in
         let away : j ≢ k = λ same. let gone = ap (nodes_of arena) same ∙ c.gone in absurd (cc) in
         let below : IsChild (nodes_of f.arena) j k → ⊥ = λ child. let gone = c.parent_gone j child in absurd (cc) in
-        ap (λ (list : ListId). owner_in owners list.0) came.list ∙ (d.kept j came.node came.at away below ∙ s.owners j came.node came.at);
+        ap (λ (list : ListId). node_in owners list.0) came.list ∙ (d.kept j came.node came.at away below ∙ s.owners j came.node came.at);
     counts = λ w j node is. let it = node-was w j node is in let bound = s.counts w j it.was.node it.was.is in omega (arith, bound, it.count);
     koids = λ w j node is. let it = node-was w j node is in s.koids w j it.was.node it.was.is;
     first_koid = s.first_koid;

@@ -3,7 +3,7 @@ pub mod ContentLaws
 pub mod DepthLaws
 pub mod NextLaws
 pub mod TableLaws
-pub mod KoidLaws
+pub mod PlaceLaws
 pub mod ResizingLaws
 pub mod LeavingLaws
 pub mod CountLaws

@@ -1,12 +1,10 @@
 -- A root that is added for a new VMO makes a VMO of zero pages.
-use Rattle.std.proofs.Common.{◌≡◌, ◌≢◌, ℕ, ◌+◌, ◌≤◌, ◌⊎◌, List, Option, None, Some, refl, sym, ap, subst, ◌∙◌, inl, inr, arith}
+use Rattle.std.proofs.Common.{◌≡◌, ◌≢◌, ℕ, ◌+◌, ◌≤◌, ◌⊎◌, Option, None, Some, refl, sym, ap, subst, ◌∙◌, inl, inr, arith}
 use Rattle.vm_base.specs.declared.limits.TheConstants.{VMO_PAGES}
-use Rattle.vm_base.specs.declared.names.Koid.{Koid}
 use Rattle.vm_base.specs.Entries.{with_key}
 use Rattle.vm_base.proofs.EntryLaws.{some_same, with_key-same, with_key-here, with_key-other, with_key-cases}
 use Rattle.vm_model.specs.Contents.Content.{created}
 use Rattle.frame_pool.specs.Pool.{is_taken}
-use Rattle.page_list.specs.declared.row.ListId.{ListId}
 use Rattle.cow_arena.specs.declared.node.Node.{Node}
 use Rattle.cow_arena.specs.declared.node.NodeId.{NodeId}
 use Rattle.cow_arena.specs.Nodes.{Arena, Nodes, nodes_of, link_to}
@@ -17,12 +15,12 @@ use Rattle.cow_arena.specs.Walk.{Tree, frame_at}
 use Rattle.cow_split.specs.Trees.{tree_of}
 use Rattle.cow_split.specs.Exact.{IsExact, all_in_sight}
 use Rattle.cow_fork.proofs.RootLaws.{rooted, rooted-zero, rooted-shows, exact-rooted}
-use Rattle.cow_forest.specs.Tables.{node_in, owner_in}
+use Rattle.cow_forest.specs.Tables.{NodeEntries, node_in}
 use Rattle.cow_forest.specs.Store.{Forest, tree, content_of, page_showing, IsStore}
 use Rattle.cow_forest.proofs.EnterLaws.{with_vmo, HasNewVmo, store-new, content-new, next-bare}
 
 -- the arena has a root more, and the tables have its node by its koid and by its list
-pub record HasRoot (f : Forest) (arena : Arena) (nodes : List (Koid × NodeId)) (owners : List (ListId × NodeId)) (k count : ℕ) : Type 0 where
+pub record HasRoot (f : Forest) (arena : Arena) (nodes owners : NodeEntries) (k count : ℕ) : Type 0 where
   pub forest : IsForest (nodes_of arena) arena.lists
   pub free : nodes_of f.arena k ≡ None
   pub arena_nodes : nodes_of arena ≡ with_key (nodes_of f.arena) k (root_node (record { 0 = f.next }) f.arena.lists count)
@@ -31,10 +29,10 @@ pub record HasRoot (f : Forest) (arena : Arena) (nodes : List (Koid × NodeId)) 
   pub nodes_in : node_in nodes ≡ with_key (node_in f.nodes) f.next (record { 0 = k })
   pub node : Node
   pub at : nodes_of arena k ≡ Some node
-  pub owners_in : owner_in owners ≡ with_key (owner_in f.owners) node.list.0 (record { 0 = k })
+  pub owners_in : node_in owners ≡ with_key (node_in f.owners) node.list.0 (record { 0 = k })
   pub below : count ≤ VMO_PAGES
 
-module _ (f : Forest) (s : IsStore f) (arena : Arena) (nodes : List (Koid × NodeId)) (owners : List (ListId × NodeId)) (k count : ℕ)
+module _ (f : Forest) (s : IsStore f) (arena : Arena) (nodes owners : NodeEntries) (k count : ℕ)
     (has : HasRoot f arena nodes owners k count) where
   forest-with : IsForest (with_key (nodes_of f.arena) k (root_node (record { 0 = f.next }) f.arena.lists count)) (f.arena.lists + 1)
   forest-with = subst (IsForest (with_key (nodes_of f.arena) k (root_node (record { 0 = f.next }) f.arena.lists count))) has.lists
@@ -63,14 +61,14 @@ module _ (f : Forest) (s : IsStore f) (arena : Arena) (nodes : List (Koid × Nod
   list-is : has.node.list.0 ≡ f.arena.lists
   list-is = ap (λ (n : Node). n.list.0) (some_same (sym has.at ∙ root-at))
 
-  owner-now : (j : ℕ) (n : Node) → nodes_of arena j ≡ Some n → owner_in owners n.list.0 ≡ link_to j
+  owner-now : (j : ℕ) (n : Node) → nodes_of arena j ≡ Some n → node_in owners n.list.0 ≡ link_to j
   owner-now j n at = ap (λ (map : ℕ → Option NodeId). map n.list.0) has.owners_in ∙ elim (node-cases j n at) [
     | inl here ↦
-        with_key-here (owner_in f.owners) has.node.list.0 (record { 0 = k }) n.list.0
+        with_key-here (node_in f.owners) has.node.list.0 (record { 0 = k }) n.list.0
         (ap (λ (m : Node). m.list.0) (sym here.1) ∙ sym list-is) ∙ ap link_to (sym here.0)
     | inr there ↦
         let given = s.exact.forest.by.given j n there.1 in
-        with_key-other (owner_in f.owners) has.node.list.0 (record { 0 = k }) n.list.0 (λ same. absurd (omega (arith, given, list-is, same))) ∙ s.owners j n there.1
+        with_key-other (node_in f.owners) has.node.list.0 (record { 0 = k }) n.list.0 (λ same. absurd (omega (arith, given, list-is, same))) ∙ s.owners j n there.1
   ]
 
   new-root : HasNewVmo f arena f.rows nodes owners k (root_node (record { 0 = f.next }) f.arena.lists count)

@@ -31,7 +31,7 @@ use Rattle.cow_merge.proofs.CountLaws.{walk-grown, exact-grown}
 use Rattle.cow_merge.proofs.ShrinkLaws.{tree-now}
 use Rattle.page_store.proofs.HeldLaws.{same_content}
 use Rattle.page_store.proofs.ViewerLaws.{vmos_of-same}
-use Rattle.cow_forest.specs.Tables.{node_in, owner_in}
+use Rattle.cow_forest.specs.Tables.{node_in}
 use Rattle.cow_forest.specs.Store.{Forest, tree, content_of, count_from, pages_in, frame_from, page_showing, HasNode, IsNodeOf, IsStore}
 use Rattle.cow_forest.proofs.ContentLaws.{node-visible, node-of, one-vmo, page-of, pages-of, count-of, frame-past}
 use Rattle.cow_forest.proofs.StoreLaws.{showing-same}
@@ -218,7 +218,7 @@ module _ (f : Forest) (arena : Arena) (rows : Rows Row) (pool : Pool) (v k count
     nodes = λ w j node is. s.nodes w j (node-was j node is.at).before (named-was w j node is);
     owners = λ j node at.
         let was = node-was j node at in
-        ap (λ (list : ListId). owner_in f.owners list.0) was.list ∙ s.owners j was.before was.at;
+        ap (λ (list : ListId). node_in f.owners list.0) was.list ∙ s.owners j was.before was.at;
     counts = λ w j node is.
         let bound = s.counts w j (node-was j node is.at).before (named-was w j node is) in
         elim ((node-was j node is.at).which) [ inl new ↦ omega arith | inr same ↦ omega arith ];

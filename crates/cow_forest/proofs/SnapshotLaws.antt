@@ -1,11 +1,10 @@
 -- A VMO's node that was shared with a new one makes a snapshot of the VMO.
-use Rattle.std.proofs.Common.{◌≡◌, ◌≢◌, ℕ, ◌+◌, ◌<◌, ◌≤◌, ◌==◌, List, Option, Some, IsSome, refl, sym, ap, subst, ◌∙◌, inl, inr, arith}
+use Rattle.std.proofs.Common.{◌≡◌, ◌≢◌, ℕ, ◌+◌, ◌<◌, ◌≤◌, ◌==◌, Option, Some, IsSome, refl, sym, ap, subst, ◌∙◌, inl, inr, arith}
 use Rattle.std.specs.Prelude.{is_some}
 use Rattle.std.proofs.lemmas.Bool.{cases_lt, lt-ltb, le-ltb, cond-true, cond-false}
 use Rattle.vm_base.proofs.SearchLaws.{eqb_same, eqb_apart}
 use Rattle.balanced_tree.specs.Rows.{Rows}
 use Rattle.vm_base.specs.declared.limits.TheConstants.{VMO_PAGES}
-use Rattle.vm_base.specs.declared.names.Koid.{Koid}
 use Rattle.vm_base.specs.Entries.{with_key}
 use Rattle.vm_base.proofs.EntryLaws.{some_same, with_key-here, with_key-other}
 use Rattle.vm_model.specs.Contents.Sharing.{page_seen, snapshotted}
@@ -27,7 +26,7 @@ use Rattle.cow_fork.specs.Sharing.{HasShared}
 use Rattle.cow_fork.specs.Snapshots.{split_slots}
 use Rattle.cow_fork.proofs.SnapshotLaws.{Origin, from_hidden, from_leaf, from_child, from_other, origin-of, split-frames}
 use Rattle.cow_merge.specs.Ranges.{AreLinked}
-use Rattle.cow_forest.specs.Tables.{node_in, owner_in}
+use Rattle.cow_forest.specs.Tables.{NodeEntries, node_in}
 use Rattle.cow_forest.specs.Store.{Forest, tree, content_of, page_showing, HasNode, IsStore}
 use Rattle.cow_forest.proofs.ContentLaws.{node-visible, page-of}
 use Rattle.cow_forest.proofs.EnterLaws.{with_vmo, HasNewVmo, store-new, content-new}
@@ -48,7 +47,7 @@ module _ (f : Forest) (s : IsStore f) (arena : Arena) (rows : Rows Row) (v k : �
   leaf-held = ap is_some (shared.stays k h.node (node-visible f s v k h)).at
 
 -- The node k was shared with a new one, and the tables have the three nodes: the snapshot's by its koid, and each by its list.
-pub record HasPair (f : Forest) (arena : Arena) (rows : Rows Row) (nodes : List (Koid × NodeId)) (owners : List (ListId × NodeId)) (k : ℕ) (pair : Pair)
+pub record HasPair (f : Forest) (arena : Arena) (rows : Rows Row) (nodes owners : NodeEntries) (k : ℕ) (pair : Pair)
     (first seen count : ℕ) : Type 0 where
   pub shared : HasShared f.arena arena f.rows rows k pair (record { 0 = f.next }) first seen count
   pub nodes_in : node_in nodes ≡ with_key (node_in f.nodes) f.next pair.child
@@ -58,10 +57,10 @@ pub record HasPair (f : Forest) (arena : Arena) (rows : Rows Row) (nodes : List 
   pub hidden_at : nodes_of arena pair.hidden.0 ≡ Some hidden
   pub leaf_at : nodes_of arena k ≡ Some leaf
   pub child_at : nodes_of arena pair.child.0 ≡ Some child
-  pub owners_in : owner_in owners ≡ with_key (with_key (with_key (owner_in f.owners) hidden.list.0 pair.hidden) leaf.list.0 (record { 0 = k })) child.list.0 pair.child
+  pub owners_in : node_in owners ≡ with_key (with_key (with_key (node_in f.owners) hidden.list.0 pair.hidden) leaf.list.0 (record { 0 = k })) child.list.0 pair.child
   pub below : count ≤ VMO_PAGES
 
-module _ (f : Forest) (s : IsStore f) (arena : Arena) (rows : Rows Row) (nodes : List (Koid × NodeId)) (owners : List (ListId × NodeId)) (v k : ℕ) (pair : Pair)
+module _ (f : Forest) (s : IsStore f) (arena : Arena) (rows : Rows Row) (nodes owners : NodeEntries) (v k : ℕ) (pair : Pair)
     (first seen count : ℕ) (h : HasNode f v k) (has : HasPair f arena rows nodes owners k pair first seen count) where
   origin : (j : ℕ) (n : Node) → nodes_of arena j ≡ Some n →
       Origin (tree f) k h.node pair.hidden.0 pair.child.0 (record { 0 = f.next }) first seen count j n
@@ -101,38 +100,38 @@ module _ (f : Forest) (s : IsStore f) (arena : Arena) (rows : Rows Row) (nodes :
   child-list = ap (λ (n : Node). n.list.0) (some_same (sym has.child_at ∙ has.shared.comes))
 
   -- the owner of a list, by which of the three it is
-  owner-is : (l : ℕ) → owner_in owners l ≡ with_key (with_key (with_key (owner_in f.owners) has.hidden.list.0 pair.hidden) has.leaf.list.0 (record { 0 = k })) has.child.list.0 pair.child l
+  owner-is : (l : ℕ) → node_in owners l ≡ with_key (with_key (with_key (node_in f.owners) has.hidden.list.0 pair.hidden) has.leaf.list.0 (record { 0 = k })) has.child.list.0 pair.child l
   owner-is l = ap (λ (map : ℕ → Option NodeId). map l) has.owners_in
 
-  owner-child : (l : ℕ) → l ≡ f.arena.lists + 1 → owner_in owners l ≡ Some pair.child
+  owner-child : (l : ℕ) → l ≡ f.arena.lists + 1 → node_in owners l ≡ Some pair.child
   owner-child l same = owner-is l ∙ with_key-here _ has.child.list.0 pair.child l (same ∙ sym child-list)
 
-  owner-leaf : (l : ℕ) → l ≡ f.arena.lists → owner_in owners l ≡ link_to k
+  owner-leaf : (l : ℕ) → l ≡ f.arena.lists → node_in owners l ≡ link_to k
   owner-leaf l same = owner-is l
       ∙ (with_key-other _ has.child.list.0 pair.child l (λ e. absurd (omega (arith, same, e, child-list)))
       ∙ with_key-here _ has.leaf.list.0 (record { 0 = k }) l (same ∙ sym leaf-list))
 
-  owner-before : (l : ℕ) → l < f.arena.lists → owner_in owners l ≡ with_key (owner_in f.owners) has.hidden.list.0 pair.hidden l
+  owner-before : (l : ℕ) → l < f.arena.lists → node_in owners l ≡ with_key (node_in f.owners) has.hidden.list.0 pair.hidden l
   owner-before l less = owner-is l
       ∙ (with_key-other _ has.child.list.0 pair.child l (λ e. absurd (omega (arith, less, e, child-list)))
       ∙ with_key-other _ has.leaf.list.0 (record { 0 = k }) l (λ e. absurd (omega (arith, less, e, leaf-list))))
 
-  owner-now : (j : ℕ) (n : Node) → nodes_of arena j ≡ Some n → owner_in owners n.list.0 ≡ link_to j
+  owner-now : (j : ℕ) (n : Node) → nodes_of arena j ≡ Some n → node_in owners n.list.0 ≡ link_to j
   owner-now j n at = elim (origin j n at) [
     | from_hidden same is ↦
         let list : n.list.0 ≡ h.node.list.0 = ap (λ (m : Node). m.list.0) is in
         let given = s.exact.forest.by.given k h.node h.is.at in
         owner-before n.list.0 (omega (arith, list, given))
-        ∙ (with_key-here (owner_in f.owners) has.hidden.list.0 pair.hidden n.list.0 (list ∙ sym hidden-list) ∙ ap link_to (sym same))
+        ∙ (with_key-here (node_in f.owners) has.hidden.list.0 pair.hidden n.list.0 (list ∙ sym hidden-list) ∙ ap link_to (sym same))
     | from_leaf same is ↦ owner-leaf n.list.0 (ap (λ (m : Node). m.list.0) is) ∙ ap link_to (sym same)
     | from_child same is ↦ owner-child n.list.0 (ap (λ (m : Node). m.list.0) is) ∙ ap link_to (sym same)
     | from_other m there apart koid list pages ↦
         let given = s.exact.forest.by.given j m there in
         let number : n.list.0 ≡ m.list.0 = ap (λ (l : ListId). l.0) list in
         owner-before n.list.0 (omega (arith, number, given))
-        ∙ (with_key-other (owner_in f.owners) has.hidden.list.0 pair.hidden n.list.0
+        ∙ (with_key-other (node_in f.owners) has.hidden.list.0 pair.hidden n.list.0
         (λ e. apart (s.exact.forest.by.own j k m h.node there h.is.at (sym number ∙ (e ∙ hidden-list))))
-        ∙ (ap (owner_in f.owners) number ∙ s.owners j m there))
+        ∙ (ap (node_in f.owners) number ∙ s.owners j m there))
   ]
 
   -- each row is where it was

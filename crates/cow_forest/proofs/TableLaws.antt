@@ -1,66 +1,54 @@
--- What the two tables are as maps from numbers, after a call of the library.
-use Rattle.std.proofs.Common.{◌≡◌, ◌≢◌, ℕ, ◌==◌, cond, List, Option, None, Some, Result, Ok, Err, sym, ap, ◌∙◌, arith}
+-- What the map of a table of nodes says after a call of the library, and what a VMO that leaves takes out of its table.
+use Rattle.std.proofs.Common.{◌≡◌, ◌≢◌, ℕ, ◌==◌, cond, List, [], ◌∷◌, length, Option, None, Some, Result, Ok, Err, sym, ap, ◌∙◌, arith}
 use Rattle.std.specs.Prelude.{IsOk, OnOk}
 use Rattle.std.specs.Map.{lookup}
 use Rattle.std.proofs.lemmas.Grind.{common_steps}
-use Rattle.vm_base.specs.declared.names.Koid.{Koid}
 use Rattle.vm_base.specs.Entries.{with_key, without_key}
 use Rattle.vm_base.proofs.EntryLaws.{without_key-other}
-use Rattle.page_list.specs.declared.row.ListId.{ListId}
 use Rattle.cow_arena.specs.declared.node.NodeId.{NodeId}
 use Rattle.cow_arena.specs.declared.node.Node.{Node}
 use Rattle.cow_arena.specs.Nodes.{Nodes, link_to}
 use Rattle.cow_arena.specs.Forest.{IsForest}
-use Rattle.cow_forest.specs.Tables.{node_in, owner_in, IsDisowned}
+use Rattle.cow_forest.specs.Tables.{displaced_in, IsDisowned}
 
--- an entry of the table of koids
-abbrev koid_at : List (Koid × NodeId) → ℕ → Option NodeId
-koid_at entries v = lookup (λ (koid : Koid). v == koid.0) entries
-
--- an entry of the table of lists
-abbrev list_at : List (ListId × NodeId) → ℕ → Option NodeId
-list_at entries l = lookup (λ (list : ListId). l == list.0) entries
-
--- maps are equal that are so at each number
-pub same_map : {A : Type 0} {f g : ℕ → A} → ((n : ℕ) → f n ≡ g n) → f ≡ g
-same_map each = λ i n. each n i
+-- an entry of the map
+abbrev node_at : List (ℕ × NodeId) → ℕ → Option NodeId
+node_at entries n = lookup (λ (number : ℕ). n == number) entries
 
 -- what holds on success holds
 pub from_ok : {T E P : Type 0} (r : Result T E) → IsOk r → OnOk r P → P
 from_ok (Ok x) e h = h
 from_ok (Err d) e h = absurd cc
 
--- ---- the table of koids
+module _ (old new : List (ℕ × NodeId)) where
+  pub displaced-same : ((q : ℕ) → node_at new q ≡ node_at old q) → displaced_in new ≡ displaced_in old
+  unfolding displaced_in
+  displaced-same each = λ i n. each n i
 
-pub node_in-same : (old new : List (Koid × NodeId)) → ((q : Koid) → koid_at new q.0 ≡ koid_at old q.0) → node_in new ≡ node_in old
-unfolding node_in
-node_in-same old new each = same_map (λ v. each (record { 0 = v }))
+  pub displaced-put : (k : ℕ) (at : NodeId) → ((q : ℕ) → node_at new q ≡ cond (k == q) (Some at) (node_at old q)) →
+      displaced_in new ≡ with_key (displaced_in old) k at
+  unfolding displaced_in with_key
+  displaced-put k at each = λ i n. same n i
+    where
+      same : (n : ℕ) → node_at new n ≡ cond (n == k) (Some at) (node_at old n)
+      same n = grind (arith, common_steps, each n)
 
-pub node_in-put : (old new : List (Koid × NodeId)) (k : ℕ) (at : NodeId) → ((q : Koid) →
-    koid_at new q.0 ≡ cond (k == q.0) (Some at) (koid_at old q.0)) → node_in new ≡ with_key (node_in old) k at
-unfolding node_in with_key
-node_in-put old new k at each = same_map (λ v. grind (arith, common_steps, each (record { 0 = v })))
+  pub displaced-removed : (k : ℕ) → ((q : ℕ) → node_at new q ≡ cond (k == q) None (node_at old q)) →
+      displaced_in new ≡ without_key (displaced_in old) k
+  unfolding displaced_in without_key
+  displaced-removed k each = λ i n. same n i
+    where
+      same : (n : ℕ) → node_at new n ≡ cond (n == k) None (node_at old n)
+      same n = grind (arith, common_steps, each n)
 
-pub node_in-removed : (old new : List (Koid × NodeId)) (k : ℕ) → ((q : Koid) →
-    koid_at new q.0 ≡ cond (k == q.0) None (koid_at old q.0)) → node_in new ≡ without_key (node_in old) k
-unfolding node_in without_key
-node_in-removed old new k each = same_map (λ v. grind (arith, common_steps, each (record { 0 = v })))
-
--- ---- the table of lists
-
-pub owner_in-same : (old new : List (ListId × NodeId)) → ((q : ListId) → list_at new q.0 ≡ list_at old q.0) → owner_in new ≡ owner_in old
-unfolding owner_in
-owner_in-same old new each = same_map (λ l. each (record { 0 = l }))
-
-pub owner_in-put : (old new : List (ListId × NodeId)) (k : ℕ) (at : NodeId) → ((q : ListId) →
-    list_at new q.0 ≡ cond (k == q.0) (Some at) (list_at old q.0)) → owner_in new ≡ with_key (owner_in old) k at
-unfolding owner_in with_key
-owner_in-put old new k at each = same_map (λ l. grind (arith, common_steps, each (record { 0 = l })))
-
-pub owner_in-removed : (old new : List (ListId × NodeId)) (k : ℕ) → ((q : ListId) →
-    list_at new q.0 ≡ cond (k == q.0) None (list_at old q.0)) → owner_in new ≡ without_key (owner_in old) k
-unfolding owner_in without_key
-owner_in-removed old new k each = same_map (λ l. grind (arith, common_steps, each (record { 0 = l })))
+-- nothing is taken out of a map of nothing
+pub none-removed : (entries : List (ℕ × NodeId)) (k : ℕ) → length entries ≡ 0 → displaced_in entries ≡ without_key (displaced_in entries) k
+unfolding displaced_in without_key
+none-removed [] k none = λ i n. same n i
+  where
+    same : (n : ℕ) → ◌≡◌ {A = Option NodeId} None (cond (n == k) None None)
+    same n = grind (arith, common_steps)
+none-removed (e ∷ es) k none = absurd cc
 
 -- ---- the lists of a node and its parent
 

@@ -40,7 +40,7 @@ use Rattle.cow_split.proofs.SearchLaws.{contains-none, contains-one, contains-fi
 use Rattle.cow_split.proofs.ViewersLaws.{distinct-append, distinct-one, viewer-visible, viewer-sees, viewer-side, viewers-distinct}
 use Rattle.cow_fork.proofs.HolderLaws.{held-shown}
 use Rattle.cow_forest.specs.Viewing.{ShowsFrame, AreViewers, IsViewerCount, IsLeastKoidOf, HasFrameRow}
-use Rattle.cow_forest.specs.Tables.{owner_in}
+use Rattle.cow_forest.specs.Tables.{node_in}
 use Rattle.cow_forest.specs.Store.{Forest, tree, content_of, page_showing, HasNode, IsStore}
 use Rattle.cow_forest.proofs.ContentLaws.{ShownBy, frame-showing, page-of, one-node, vmo-shows, shown-views, views-shown, vmo-below}
 use Rattle.cow_forest.proofs.CountLaws.{AreNumbered, count_below_numbered}
@@ -337,7 +337,7 @@ module _ (f : Forest) (s : IsStore f) (tag : ℕ) (list : List ℕ) (are : AreVi
 module _ (f : Forest) (s : IsStore f) where
   -- a frame that is taken stands in a row, to which its backlink leads: its list is that of a node
   owned-row : (tag : ℕ) (link : Backlink) → IsSome (taken_frames f.pool tag) → link ≡ links_of f.pool tag →
-      (k : ℕ) × (owner_in f.owners link.list ≡ link_to k) × HasFrameRow (tree f) k link.page tag
+      (k : ℕ) × (node_in f.owners link.list ≡ link_to k) × HasFrameRow (tree f) k link.page tag
   owned-row tag link taken is =
       let it = s.exact.stands tag taken in
       let owner = s.exact.listed.listed it.l it.q it.row it.at in
@@ -345,7 +345,7 @@ module _ (f : Forest) (s : IsStore f) where
       let list : link.list ≡ owner.node.list.0 = ap (λ (b : Backlink). b.list) place ∙ sym owner.named in
       let page : link.page ≡ it.q = ap (λ (b : Backlink). b.page) place in (
         owner.k,
-        ap (owner_in f.owners) list ∙ s.owners owner.k owner.node owner.at,
+        ap (node_in f.owners) list ∙ s.owners owner.k owner.node owner.at,
         record {
           slot = it.row;
           row = record {
@@ -357,11 +357,11 @@ module _ (f : Forest) (s : IsStore f) where
         },
       )
 
-  pub link-owned : (tag : ℕ) (link : Backlink) → IsSome (taken_frames f.pool tag) → link ≡ links_of f.pool tag → IsSome (owner_in f.owners link.list)
+  pub link-owned : (tag : ℕ) (link : Backlink) → IsSome (taken_frames f.pool tag) → link ≡ links_of f.pool tag → IsSome (node_in f.owners link.list)
   link-owned tag link taken is = ap is_some (owned-row tag link taken is).1
 
   pub link-row : (tag : ℕ) (link : Backlink) (node : NodeId) → IsSome (taken_frames f.pool tag) → link ≡ links_of f.pool tag →
-      owner_in f.owners link.list ≡ Some node → HasFrameRow (tree f) node.0 link.page tag
+      node_in f.owners link.list ≡ Some node → HasFrameRow (tree f) node.0 link.page tag
   link-row tag link node taken is owner =
       let it = owned-row tag link taken is in subst (λ k. HasFrameRow (tree f) k link.page tag) (link_same (sym it.1 ∙ owner)) it.2
 

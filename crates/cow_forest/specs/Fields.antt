@@ -7,8 +7,8 @@ forest_of a = record {
   arena = a.arena;
   rows = a.lists;
   pool = a.frames;
-  nodes = a.nodes.entries;
-  owners = a.owners.entries;
+  nodes = a.nodes;
+  owners = a.owners;
   next = a.next;
   vmos = a.vmos;
 }

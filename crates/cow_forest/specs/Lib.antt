@@ -1,7 +1,7 @@
 pub mod Store
 pub mod Fields
 pub mod Tables
-pub mod KoidFields
+pub mod TableFields
 pub mod Owning
 pub mod Looking
 pub mod Counting

@@ -1,11 +1,10 @@
 -- The clone tree as the values of its fields, the content that it stands for, and what always holds of it.
-use Rattle.std.specs.Prelude.{◌≡◌, ℕ, ◌+◌, ◌*◌, ◌<◌, ◌≤◌, List, Option, None, Some}
+use Rattle.std.specs.Prelude.{◌≡◌, ℕ, ◌+◌, ◌*◌, ◌<◌, ◌≤◌, Option, None, Some}
 use Rattle.balanced_tree.specs.Rows.{Rows}
 use Rattle.vm_base.specs.declared.limits.TheConstants.{VMO_PAGES}
 use Rattle.vm_base.specs.declared.names.Koid.{Koid}
 use Rattle.vm_model.specs.Contents.Content.{Content, Page, vmos_of}
 use Rattle.frame_pool.specs.Pool.{Pool, frame_bytes, is_taken}
-use Rattle.page_list.specs.declared.row.ListId.{ListId}
 use Rattle.page_list.specs.declared.row.Row.{Row}
 use Rattle.cow_arena.specs.declared.node.Node.{Node}
 use Rattle.cow_arena.specs.declared.node.NodeId.{NodeId}
@@ -15,7 +14,7 @@ use Rattle.cow_arena.specs.Walk.{Tree, frame_at}
 use Rattle.cow_split.specs.Trees.{tree_of}
 use Rattle.cow_split.specs.Exact.{IsExact, all_in_sight}
 use Rattle.cow_merge.specs.Ranges.{AreLinked}
-use Rattle.cow_forest.specs.Tables.{node_in, owner_in}
+use Rattle.cow_forest.specs.Tables.{NodeEntries, node_in}
 
 -- the nodes, the rows of their lists, the page frames, the nodes by koid and by list, the next koid, and how many VMOs there
 -- are
@@ -23,8 +22,8 @@ pub record Forest : Type 0 where
   pub arena : Arena
   pub rows : Rows Row
   pub pool : Pool
-  pub nodes : List (Koid × NodeId)
-  pub owners : List (ListId × NodeId)
+  pub nodes : NodeEntries
+  pub owners : NodeEntries
   pub next : ℕ
   pub vmos : ℕ
 
@@ -83,7 +82,7 @@ pub record IsStore (f : Forest) : Type 0 where
   -- the visible nodes are those of the VMOs, by koid, and each node is found by its list
   pub named : (v : ℕ) (at : NodeId) → node_in f.nodes v ≡ Some at → HasNode f v at.0
   pub nodes : (v k : ℕ) (node : Node) → IsNodeOf (nodes_of f.arena) v k node → node_in f.nodes v ≡ link_to k
-  pub owners : (k : ℕ) (node : Node) → nodes_of f.arena k ≡ Some node → owner_in f.owners node.list.0 ≡ link_to k
+  pub owners : (k : ℕ) (node : Node) → nodes_of f.arena k ≡ Some node → node_in f.owners node.list.0 ≡ link_to k
   -- page counts and koids are in their bounds, and no more than two lists are given for each koid
   pub counts : (v k : ℕ) (node : Node) → IsNodeOf (nodes_of f.arena) v k node → node.count ≤ VMO_PAGES
   pub koids : (v k : ℕ) (node : Node) → IsNodeOf (nodes_of f.arena) v k node → (1 ≤ v) × (v < f.next)

@@ -1,25 +1,36 @@
--- The two tables that lead into the tree: from koids, and from the numbers of lists, to nodes.
-use Rattle.std.specs.Prelude.{◌≡◌, ◌≢◌, ℕ, ◌==◌, List, Option, Some}
+-- The tables that lead into the tree: from numbers to nodes.
+use Rattle.std.specs.Prelude.{◌≡◌, ◌≢◌, ℕ, ◌%◌, ◌==◌, cond, List, Option, None, Some, slice_index_or}
+use Rattle.std.specs.Option.{option_or}
 use Rattle.std.specs.Map.{lookup}
-use Rattle.vm_base.specs.declared.names.Koid.{Koid}
-use Rattle.page_list.specs.declared.row.ListId.{ListId}
 use Rattle.cow_arena.specs.declared.node.Node.{Node}
 use Rattle.cow_arena.specs.declared.node.NodeId.{NodeId}
 use Rattle.cow_arena.specs.Nodes.{Nodes}
 use Rattle.cow_arena.specs.Forest.{IsChild}
+use Rattle.cow_forest.specs.declared.node_table.TheConstants.{PLACES}
 
--- the nodes by koid, and how many more koids can be entered with no memory from the host
-pub record Koids : Type 0 where
-  pub entries : List (Koid × NodeId)
+-- the entries in the array, those in the map, and how many more numbers can be entered with no memory from the host
+pub record NodeEntries : Type 0 where
+  pub recent : List (Option (ℕ × NodeId))
+  pub displaced : List (ℕ × NodeId)
   pub spare : ℕ
 
--- the node of the VMO with this koid
-unfoldable pub node_in : List (Koid × NodeId) → ℕ → Option NodeId
-node_in entries v = lookup (λ (koid : Koid). v == koid.0) entries
+-- the node of the number n, where this entry is its own
+abbrev pub own_node : Option (ℕ × NodeId) → ℕ → Option NodeId
+own_node None n = None
+own_node (Some e) n = cond (n == e.0) (Some e.1) None
 
--- the node whose list has this number
-unfoldable pub owner_in : List (ListId × NodeId) → ℕ → Option NodeId
-owner_in entries l = lookup (λ (list : ListId). l == list.0) entries
+-- the entry, unless it is the number's own
+abbrev pub unless_own : Option (ℕ × NodeId) → ℕ → Option (ℕ × NodeId)
+unless_own None n = None
+unless_own (Some e) n = cond (n == e.0) None (Some e)
+
+-- the node of the number n in the map
+unfoldable pub displaced_in : List (ℕ × NodeId) → ℕ → Option NodeId
+displaced_in entries n = lookup (λ (number : ℕ). n == number) entries
+
+-- the node of a number: of its entry in the array, at the number's place, or else in the map
+unfoldable pub node_in : NodeEntries → ℕ → Option NodeId
+node_in e n = option_or (own_node (slice_index_or e.recent (n % PLACES) None) n) (displaced_in e.displaced n)
 
 -- each node but v and its parent owns the list that it owned
 pub record IsDisowned (nodes : Nodes) (old new : ℕ → Option NodeId) (v : ℕ) : Type 0 where

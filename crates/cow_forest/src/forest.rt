@@ -18,18 +18,17 @@ ghost use Rattle.cow_forest.specs.Owning.{HasOwnRow};
 ghost use Rattle.cow_forest.specs.Counting.{frame_row_count};
 
 use crate::looking::{look_at, look_at_counted, next_shown};
+use crate::node_table::NodeTable;
 use crate::owning::own_page;
-use crate::tables::{disown, enter_list, make_room, owner_of};
+use crate::tables::{disown, make_room};
 use crate::viewing::{least_koid_of, viewer_count_of};
-use crate::vmo_nodes::VmoNodes;
-use cow_arena::{CowArena, NodeId};
+use cow_arena::CowArena;
 use cow_fork::{mark_zero, share};
 use cow_merge::{close, shrink};
 use frame_pool::FramePool;
-use page_list::{ListId, PageLists, Steps};
+use page_list::{PageLists, Steps};
 use page_store::{Look, PageStore};
 use std::alloc::Global;
-use std::collections::HashMap;
 use std::marker::Model;
 use std::sync::ledger::Ledger;
 use vm_base::{HostMemory, Koid, PageNo, Tag};
@@ -42,10 +41,10 @@ pub struct CowForest {
     lists: PageLists,
     /// The page frames. A frame is taken while some row has it, and its backlink leads to the row.
     frames: FramePool,
-    /// The node of each VMO.
-    nodes: VmoNodes,
-    /// The node that has each list.
-    owners: HashMap<ListId, NodeId>,
+    /// The node of each VMO, by its koid.
+    nodes: NodeTable,
+    /// The node that has each list, by the list's number.
+    owners: NodeTable,
     /// The koid of the next VMO. The first has koid 1, and none is given twice.
     next: u64,
     /// How many VMOs there are.
@@ -73,8 +72,8 @@ impl CowForest {
             arena: CowArena::new(alloc),
             lists: PageLists::new(alloc),
             frames: FramePool::new(alloc),
-            nodes: VmoNodes::new(alloc),
-            owners: HashMap::new(alloc),
+            nodes: NodeTable::new(alloc),
+            owners: NodeTable::new(alloc),
             next: 1,
             vmos: 0,
         }
@@ -118,7 +117,7 @@ impl CowForest {
         ensures cost { (most k : ℕ) → IsMostOfLookUp (row_count self.now.rows) most → HasNode self.now v.0 k →
             steps.new ≤ steps.old + depth (nodes_of self.now.arena) self.now.arena.lists k * most }
     {
-        look_at_counted(&self.arena, &self.lists, self.nodes.get(v), page, steps)
+        look_at_counted(&self.arena, &self.lists, self.nodes.get(v.0), page, steps)
     }
 }
 
@@ -146,8 +145,8 @@ impl PageStore for CowForest {
         make_room(&mut self.nodes, &mut self.owners, 1)?;
         let koid = Koid(self.next);
         let node = self.arena.add_root(koid, count)?;
-        self.nodes.enter(koid, node);
-        enter_list(&mut self.owners, self.arena.node(node).list, node);
+        self.nodes.enter(koid.0, node);
+        self.owners.enter(self.arena.node(node).list.0, node);
         self.next += 1;
         self.vmos += 1;
         Ok(koid)
@@ -175,7 +174,7 @@ impl PageStore for CowForest {
     {
         make_room(&mut self.nodes, &mut self.owners, 3)?;
         let koid = Koid(self.next);
-        let node = self.nodes.get(of);
+        let node = self.nodes.get(of.0);
         let pair = share(
             &mut self.arena,
             &mut self.lists,
@@ -185,18 +184,12 @@ impl PageStore for CowForest {
             seen,
             count,
         )?;
-        self.nodes.enter(koid, pair.child);
-        enter_list(
-            &mut self.owners,
-            self.arena.node(pair.hidden).list,
-            pair.hidden,
-        );
-        enter_list(&mut self.owners, self.arena.node(node).list, node);
-        enter_list(
-            &mut self.owners,
-            self.arena.node(pair.child).list,
-            pair.child,
-        );
+        self.nodes.enter(koid.0, pair.child);
+        self.owners
+            .enter(self.arena.node(pair.hidden).list.0, pair.hidden);
+        self.owners.enter(self.arena.node(node).list.0, node);
+        self.owners
+            .enter(self.arena.node(pair.child).list.0, pair.child);
         self.next += 1;
         self.vmos += 1;
         Ok(koid)
@@ -207,7 +200,7 @@ impl PageStore for CowForest {
     }
 
     fn look(&self, v: Koid, page: PageNo) -> Look {
-        look_at(&self.arena, &self.lists, self.nodes.get(v), page)
+        look_at(&self.arena, &self.lists, self.nodes.get(v.0), page)
     }
 
     fn own(&mut self, v: Koid, page: PageNo) -> Tag
@@ -219,7 +212,7 @@ impl PageStore for CowForest {
         ensures row { (k : ℕ) → 1 ≤ self.old.rows.spare → HasNode self.new v.0 k →
             HasOwnRow self.new.arena self.new.rows k page result.0 }
     {
-        let node = self.nodes.get(v);
+        let node = self.nodes.get(v.0);
         own_page(&self.arena, &mut self.lists, &mut self.frames, node, page)
     }
 
@@ -230,12 +223,12 @@ impl PageStore for CowForest {
         ensures spare { self.old.rows.spare ≤ self.new.rows.spare + 1 }
         ensures rows { (content_of self.old).page v.0 page ≡ None → row_count self.new.rows ≡ row_count self.old.rows }
     {
-        let node = self.nodes.get(v);
+        let node = self.nodes.get(v.0);
         mark_zero(&self.arena, &mut self.lists, &mut self.frames, node, page);
     }
 
     fn count(&self, v: Koid) -> PageNo {
-        self.arena.node(self.nodes.get(v)).count
+        self.arena.node(self.nodes.get(v.0)).count
     }
 
     fn set_count(&mut self, v: Koid, count: PageNo)
@@ -244,7 +237,7 @@ impl PageStore for CowForest {
         ensures content { content_of self.new ≡ resized (content_of self.old) v.0 count }
         ensures rows { row_count self.new.rows ≤ row_count self.old.rows }
     {
-        let node = self.nodes.get(v);
+        let node = self.nodes.get(v.0);
         if count < self.arena.node(node).count {
             shrink(
                 &mut self.arena,
@@ -263,10 +256,10 @@ impl PageStore for CowForest {
         ensures content { content_of self.new ≡ without (content_of self.old) v.0 }
         ensures rows { row_count self.new.rows ≤ row_count self.old.rows }
     {
-        let node = self.nodes.get(v);
+        let node = self.nodes.get(v.0);
         disown(&mut self.owners, &self.arena, node);
         close(&mut self.arena, &mut self.lists, &mut self.frames, node);
-        self.nodes.leave(v);
+        self.nodes.leave(v.0);
         self.vmos -= 1;
     }
 
@@ -279,17 +272,17 @@ impl PageStore for CowForest {
     }
 
     fn next_held(&self, v: Koid, from: PageNo) -> Option<PageNo> {
-        next_shown(&self.arena, &self.lists, self.nodes.get(v), from)
+        next_shown(&self.arena, &self.lists, self.nodes.get(v.0), from)
     }
 
     fn least_viewer(&self, tag: Tag) -> Koid {
         let link = self.frames.backlink(tag);
-        let node = owner_of(&self.owners, ListId(link.list));
+        let node = self.owners.get(link.list);
         least_koid_of(&self.arena, &self.lists, node, link.page)
     }
 
     fn viewers(&self, v: Koid, page: PageNo) -> u64 {
-        viewer_count_of(&self.arena, &self.lists, self.nodes.get(v), page)
+        viewer_count_of(&self.arena, &self.lists, self.nodes.get(v.0), page)
     }
 
     fn frames(&self) -> u32 {

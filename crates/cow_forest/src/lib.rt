@@ -8,9 +8,9 @@
 
 mod forest;
 mod looking;
+mod node_table;
 mod owning;
 mod tables;
 mod viewing;
-mod vmo_nodes;
 
 pub use forest::CowForest;

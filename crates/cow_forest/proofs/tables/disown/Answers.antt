@@ -10,9 +10,9 @@ node-requires c =
 
 pub returns-in-Some : goal.returns-in-Some
 returns-in-Some c =
-    disowned-pair (nodes_of c.args.arena.now) _ c.requires.forest _ _ c.args.leaf.0 c.node-node.result c.node-node.ensures c.leave_list.ensures _
-    c.in-Some.parent.0 c.node.result c.in-Some.is c.node.ensures c.leave_list-in-Some.ensures
+    disowned-pair (nodes_of c.args.arena.now) _ c.requires.forest _ _ c.args.leaf.0 c.node-node.result c.node-node.ensures c.leave.ensures _
+    c.in-Some.parent.0 c.node.result c.in-Some.is c.node.ensures c.leave-in-Some.ensures
 
 pub returns-in_default : goal.returns-in_default
 returns-in_default c =
-    disowned-root (nodes_of c.args.arena.now) _ c.requires.forest _ _ c.args.leaf.0 c.node-node.result c.node-node.ensures c.leave_list.ensures
+    disowned-root (nodes_of c.args.arena.now) _ c.requires.forest _ _ c.args.leaf.0 c.node-node.result c.node-node.ensures c.leave.ensures

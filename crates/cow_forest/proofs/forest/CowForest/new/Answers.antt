@@ -8,8 +8,8 @@ made c = record {
   arena = c.new.result;
   rows = c.new-2.result;
   pool = c.new-3.result;
-  nodes = c.new-4.result.entries;
-  owners = c.new-5.result.entries;
+  nodes = c.new-4.result;
+  owners = c.new-5.result;
   next = 1;
   vmos = 0;
 }

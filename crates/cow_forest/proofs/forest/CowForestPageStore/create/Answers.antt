@@ -37,17 +37,17 @@ pub overflow_add-self-2 : goal.overflow_add-self-2
 overflow_add-self-2 c = let few = rw (← c.self.view_is) at c.requires.next in omega (arith, few, vmos_le (forest_of c.self.inside) c.self.invariant.store)
 
 -- the root came, and its entries
-came : (c : goal.After-self-2-1) → HasRoot (forest_of c.self.inside) c.add_root.new.self c.enter.new.self.entries c.enter_list.new.owners.entries c.in_ok-node.node.0 c.args.count
+came : (c : goal.After-self-2-1) → HasRoot (forest_of c.self.inside) c.add_root.new.self c.enter.new.self c.enter-2.new.self c.in_ok-node.node.0 c.args.count
 came c = record {
   forest = c.add_root.ensures.forest;
   free = c.in_ok-node.ensures.new;
   arena_nodes = c.in_ok-node.ensures.nodes;
   lists = c.in_ok-node.ensures.lists;
   visible = c.in_ok-node.ensures.visible;
-  nodes_in = c.enter.ensures ∙ ap (λ (map : ℕ → Option NodeId). with_key map c.self.inside.next c.in_ok-node.node) c.make_room.ensures.nodes;
+  nodes_in = c.enter.ensures.nodes ∙ ap (λ (map : ℕ → Option NodeId). with_key map c.self.inside.next c.in_ok-node.node) c.make_room.ensures.nodes;
   node = c.node.result;
   at = c.node.ensures;
-  owners_in = c.enter_list.ensures.owners ∙ ap (λ (map : ℕ → Option NodeId). with_key map c.node.result.list.0 c.in_ok-node.node) c.make_room.ensures.owners;
+  owners_in = c.enter-2.ensures.nodes ∙ ap (λ (map : ℕ → Option NodeId). with_key map c.node.result.list.0 c.in_ok-node.node) c.make_room.ensures.owners;
   below = c.requires.count;
 }
 

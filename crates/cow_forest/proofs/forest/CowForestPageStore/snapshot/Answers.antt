@@ -49,20 +49,20 @@ pub overflow_add-self-2 : goal.overflow_add-self-2
 overflow_add-self-2 c = let few = rw (← c.self.view_is) at c.requires.next in omega (arith, few, vmos_le (forest_of c.self.inside) c.self.invariant.store)
 
 -- the two nodes came, and the entries
-came : (c : goal.After-self-2-1) → HasPair (forest_of c.self.inside) c.share.new.arena c.share.new.lists c.enter.new.self.entries c.enter_list-3.new.owners.entries
+came : (c : goal.After-self-2-1) → HasPair (forest_of c.self.inside) c.share.new.arena c.share.new.lists c.enter.new.self c.enter-4.new.self
     c.get-node.result.0 c.in_ok-pair.pair c.args.first c.args.seen c.args.count
 came c = record {
   shared = c.in_ok-pair.ensures.ok;
-  nodes_in = c.enter.ensures ∙ ap (λ (map : ℕ → Option NodeId). with_key map c.self.inside.next c.in_ok-pair.pair.child) c.make_room.ensures.nodes;
+  nodes_in = c.enter.ensures.nodes ∙ ap (λ (map : ℕ → Option NodeId). with_key map c.self.inside.next c.in_ok-pair.pair.child) c.make_room.ensures.nodes;
   hidden = c.node.result;
   leaf = c.node-2.result;
   child = c.node-3.result;
   hidden_at = c.node.ensures;
   leaf_at = c.node-2.ensures;
   child_at = c.node-3.ensures;
-  owners_in = c.enter_list-3.ensures.owners
-      ∙ ap (λ (map : ℕ → Option NodeId). with_key map c.node-3.result.list.0 c.in_ok-pair.pair.child) (c.enter_list-2.ensures.owners
-      ∙ ap (λ (map : ℕ → Option NodeId). with_key map c.node-2.result.list.0 c.get-node.result) (c.enter_list.ensures.owners
+  owners_in = c.enter-4.ensures.nodes
+      ∙ ap (λ (map : ℕ → Option NodeId). with_key map c.node-3.result.list.0 c.in_ok-pair.pair.child) (c.enter-3.ensures.nodes
+      ∙ ap (λ (map : ℕ → Option NodeId). with_key map c.node-2.result.list.0 c.get-node.result) (c.enter-2.ensures.nodes
       ∙ ap (λ (map : ℕ → Option NodeId). with_key map c.node.result.list.0 c.in_ok-pair.pair.hidden) c.make_room.ensures.owners));
   below = c.requires.count;
 }
