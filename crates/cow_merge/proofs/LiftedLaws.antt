@@ -244,7 +244,20 @@ module _ (t : Tree) (k h s : ℕ) (leaf parent sibling : Node) (family : AreFami
     shows = λ w p page sight. refl;
   }
 
-  -- and no page in sight comes there from the side of the leaf
+  -- where no row changes, this one is still there
+  untouched : (now : ℕ → ℕ → Bool) → IsCut t k leaf q t.slots out now in_use None → StillThere t k leaf parent.list.0 q row out in_use
+  untouched now is_cut = record {
+    now = now;
+    slots = t.slots;
+    is_cut = is_cut;
+    there = row;
+    at = has;
+    frame = refl;
+    same = refl;
+    beside = λ l p apart. refl;
+  }
+
+  -- where no page of the leaf comes there, nobody comes there from its side
   none-seen : ((p : ℕ) → q ≡ leaf.first + p → p < leaf.seen → ⊥) → IsSeenFrom t out leaf_side h q → ⊥
   none-seen none seen =
       let way = (walk-ends t f seen.v seen.p _ seen.sees.found).way in
@@ -292,16 +305,7 @@ module _ (t : Tree) (k h s : ℕ) (leaf parent sibling : Node) (family : AreFami
             same = ap (λ (u : Tree). u.slots) (with_row-twice t parent.list.0 q (Some split.0) None);
             beside = λ l p apart. with_pair-other t.slots parent.list.0 q (Some split.0) l p (λ list _. apart list);
           }
-      | inr none ↦ record {
-        now = out;
-        slots = t.slots;
-        is_cut = none-cut none;
-        there = row;
-        at = has;
-        frame = refl;
-        same = refl;
-        beside = λ l p apart. refl;
-      }
+      | inr none ↦ untouched out (none-cut none)
     ]
 
     -- and the sibling sees it
@@ -324,28 +328,11 @@ module _ (t : Tree) (k h s : ℕ) (leaf parent sibling : Node) (family : AreFami
   -- a zero row is still there
   zero-there : row ≡ slot.Zero → StillThere t k leaf parent.list.0 q row out in_use
   zero-there is_row = elim in-window [
-    | inl it ↦ record {
-      now = leaving_out out k it.0;
-      slots = t.slots;
-      is_cut = cut-off it.0 it.1 it.2 t.slots cut.NothingThere
-          (ap (λ (r : Slot). slots_from t k h q r (Some leaf_side)) is_row)
-          (ap (λ (r : Slot). answer_from t k h q r (Some leaf_side)) is_row);
-      there = row;
-      at = has;
-      frame = refl;
-      same = refl;
-      beside = λ l p apart. refl;
-    }
-    | inr none ↦ record {
-      now = out;
-      slots = t.slots;
-      is_cut = none-cut none;
-      there = row;
-      at = has;
-      frame = refl;
-      same = refl;
-      beside = λ l p apart. refl;
-    }
+    | inl it ↦
+        untouched (leaving_out out k it.0) (cut-off it.0 it.1 it.2 t.slots cut.NothingThere
+        (ap (λ (r : Slot). slots_from t k h q r (Some leaf_side)) is_row)
+        (ap (λ (r : Slot). answer_from t k h q r (Some leaf_side)) is_row))
+    | inr none ↦ untouched out (none-cut none)
   ]
 
   module _ (still : StillThere t k leaf parent.list.0 q row out in_use) where
