@@ -36,7 +36,7 @@ use Rattle.cow_split.proofs.ExactLaws.{exact-seen_alike, seen-carried}
 use Rattle.cow_split.proofs.RowLaws.{left_out-in_sight, left_out-other, only-more, only-none, exact-in_use_alike, exact-own_gone, own-shows, frame-in_use, frame-shown}
 use Rattle.cow_split.proofs.CutLaws.{exact-cut, cut-last, cut-shows}
 use Rattle.cow_split.proofs.PartLaws.{part-same, part-with_pair, part-then, part-none, part-cut}
-use Rattle.cow_merge.specs.Ranges.{leaving_range, AreLinked, GivesBack, HasGiven, HasLeftPageOut, IsLeaving, IsDropping, IsBare, CameTo, ShowsSame, IsHeldBy, IsSpared, IsParent, IsLeft, IsPassing, IsSparing, HasLeftOut, IsExactFor}
+use Rattle.cow_merge.specs.Ranges.{leaving_range, AreLinked, GivesBack, HasGiven, HasLeftPageOut, IsLeaving, IsDropping, IsBare, CameTo, ShowsSame, IsHeldBy, IsSpared, IsParent, HasSkippedPage, IsPassing, IsSparing, HasLeftOut, IsExactFor}
 use Rattle.cow_merge.proofs.CountLaws.{in_sight-outside, outside-other, outside-before}
 
 -- a way stays where rows go
@@ -493,7 +493,7 @@ module _ (arena : Arena) (old mid new : Rows Row) (before between after : Pool) 
       }
 
   -- it is held by the node that is spared, and left
-  passing-held : IsLeft arena mid new between after was.bare.node (row - shift) spared → IsPassing arena old new before after v first spared above shift to (row + 1)
+  passing-held : HasSkippedPage arena mid new between after was.bare.node (row - shift) spared → IsPassing arena old new before after v first spared above shift to (row + 1)
   passing-held left =
       subst (λ (rows : Rows Row). IsPassing arena old rows before after v first spared above shift to (row + 1)) (sym left.rows)
       (subst (λ (pool : Pool). IsPassing arena old mid before pool v first spared above shift to (row + 1)) (sym left.pool)
@@ -521,7 +521,7 @@ module _ (arena : Arena) (old mid new : Rows Row) (before between after : Pool) 
         ];
       }))
 
-  pub passing-cut : ((node : Node) → nodes_of arena v ≡ Some node → IsLeft arena mid new between after node (row - shift) spared
+  pub passing-cut : ((node : Node) → nodes_of arena v ≡ Some node → HasSkippedPage arena mid new between after node (row - shift) spared
       ⊎ HasLeftPageOut arena mid new between after v (row - shift)) → IsPassing arena old new before after v first spared above shift to (row + 1)
   passing-cut step = elim (step was.bare.node was.bare.visible.at) [ inl left ↦ passing-held left | inr out ↦ passing-out out ]
 

@@ -71,8 +71,8 @@ abbrev pub bit_on : Side → (left right : Bool) → Bool
 bit_on side.Left left right = left
 bit_on side.Right left right = right
 
--- Whether the row of page q of a hidden node is seen through its child s: the bit of the side says so of a row with a frame,
--- and a zero row is where the child sees it.
+-- Whether the row of page q of a hidden node is seen through its child s: of a row with a frame the bit of that side says so,
+-- and a zero row is seen through the child exactly where the child itself sees it.
 pub record TellsSeen (slots : Slots) (parent : Node) (s : ℕ) (node : Node) (q : ℕ) (row : Slot) (seen : Bool) : Type 0 where
   pub frame : (tag : Tag) (left right : Bool) → row ≡ slot.Frame tag left right → seen ≡ not (bit_on (side_of parent s) left right)
   pub zero : row ≡ slot.Zero → IsTrue seen ↔ SeesRow slots node q

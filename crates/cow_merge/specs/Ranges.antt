@@ -126,8 +126,8 @@ pub record IsSparing (arena : Arena) (old new : Rows Row) (before after : Pool) 
   pub spares : (q tag : ℕ) → first ≤ q → q < bare.node.count → bare.out v q ≡ false → frame_at (tree_of arena new) v q ≡ Some tag →
       IsSpared (nodes_of arena) (slots_of new) spared bare.node q
 
--- page p of v, which is this node, is held by the node that is spared, and nothing has changed
-pub record IsLeft (arena : Arena) (old new : Rows Row) (before after : Pool) (node : Node) (p : ℕ) (spared : Option NodeId) : Type 0 where
+-- Page p of this node is skipped: the node that is spared holds it, and nothing has changed.
+pub record HasSkippedPage (arena : Arena) (old new : Rows Row) (before after : Pool) (node : Node) (p : ℕ) (spared : Option NodeId) : Type 0 where
   pub held : IsSpared (nodes_of arena) (slots_of old) spared node p
   pub rows : new ≡ old
   pub pool : after ≡ before

@@ -48,8 +48,8 @@ pub(crate) fn lift_rows(
     }
 }
 
-/// Moves a row that was taken out of the list of a hidden node into its child's list, if it is seen through this child. The
-/// frame of another row is given back.
+/// Moves a row that was taken out of the list of a hidden node into its child's list, if it is seen through this child. Else
+/// the frame of the row is given back, if it has one.
 fn settle(
     arena: &CowArena,
     lists: &mut PageLists,
@@ -82,8 +82,8 @@ fn settle(
     note_place(frames, moved, node.list, to);
 }
 
-/// Whether a row of a page of a hidden node is seen through its child on this side: the bit of the side says so of a row with a
-/// frame, and a zero row is where the child sees it.
+/// Whether a row of a page of a hidden node is seen through its child on this side: of a row with a frame the bit of the side
+/// says so, and a zero row is seen through the child exactly where the child itself sees it.
 fn is_seen_through(lists: &PageLists, side: Side, node: Node, page: PageNo, slot: Slot) -> bool
     ensures frame { (tag : Tag) (left right : Bool) → slot ≡ Slot.Frame tag left right → result ≡ not (bit_on side left right) }
     ensures zero { slot ≡ Slot.Zero → IsTrue result ↔ SeesRow (slots_of lists.now) node page }

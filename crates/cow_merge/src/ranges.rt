@@ -14,7 +14,7 @@ ghost use Rattle.cow_split.specs.Trees.{tree_of};
 ghost use Rattle.cow_split.specs.Exact.{IsExact, all_in_sight};
 ghost use Rattle.cow_split.specs.Cutting.{frame_left};
 ghost use Rattle.cow_split.specs.declared.answers.Cut.TheVariants as cut;
-ghost use Rattle.cow_merge.specs.Ranges.{HasGiven, HasLeftPageOut, IsBare, IsPassing, IsSparing, IsSpared, IsParent, IsLeft, HasLeftOut, IsExactFor};
+ghost use Rattle.cow_merge.specs.Ranges.{HasGiven, HasLeftPageOut, IsBare, IsPassing, IsSparing, IsSpared, IsParent, HasSkippedPage, HasLeftOut, IsExactFor};
 
 use cow_arena::{CowArena, Node, NodeId};
 use cow_split::{Cut, cut};
@@ -192,7 +192,7 @@ fn cut_page(
     requires bare { (node : Node) → nodes_of arena.now leaf.0 ≡ Some node → slots_of lists.old node.list.0 page ≡ None }
     requires spared { (node : Node) → nodes_of arena.now leaf.0 ≡ Some node → IsParent spared node }
     ensures { (node : Node) → nodes_of arena.now leaf.0 ≡ Some node →
-        IsLeft arena.now lists.old lists.new frames.old frames.new node page spared
+        HasSkippedPage arena.now lists.old lists.new frames.old frames.new node page spared
         ⊎ HasLeftPageOut arena.now lists.old lists.new frames.old frames.new leaf.0 page }
 {
     if is_spared(arena, lists, leaf, spared, page) {
