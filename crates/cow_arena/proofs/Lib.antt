@@ -5,7 +5,6 @@ pub mod CountLaws
 pub mod PairForestLaws
 pub mod SpliceForestLaws
 pub mod ArenaLaws
-pub mod ExampleLaws
 pub mod WalkLaws
 pub mod ReachLaws
 pub mod AlikeLaws

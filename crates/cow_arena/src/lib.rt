@@ -13,6 +13,3 @@ mod node;
 
 pub use arena::{CowArena, window_first};
 pub use node::{Node, NodeId, Pair, Side};
-
-#[cfg(test)]
-mod tests;

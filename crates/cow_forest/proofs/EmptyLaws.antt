@@ -1,5 +1,5 @@
 -- A forest with nothing, one that gets its frames, and one with more room for rows.
-use Rattle.std.proofs.Common.{◌≡◌, ℕ, false, List, Option, None, Some, refl, sym, ap, ◌∙◌, arith}
+use Rattle.std.proofs.Common.{◌≡◌, ℕ, Bool, false, List, Option, None, Some, refl, sym, ap, subst, ◌∙◌, arith}
 use Rattle.std.specs.Prelude.{is_some}
 use Rattle.std.proofs.lemmas.Bool.{false_from_ne_true}
 use Rattle.balanced_tree.specs.Rows.{Rows}
@@ -12,14 +12,14 @@ use Rattle.page_list.specs.Lists.{slots_of}
 use Rattle.page_list.specs.Order.{row_functions, slot_of}
 use Rattle.cow_arena.specs.declared.node.Node.{Node}
 use Rattle.cow_arena.specs.declared.node.NodeId.{NodeId}
-use Rattle.cow_arena.specs.Nodes.{Nodes, nodes_of}
+use Rattle.cow_arena.specs.Nodes.{Arena, Nodes, nodes_of}
 use Rattle.cow_arena.specs.Walk.{Slots}
 use Rattle.cow_arena.specs.Forest.{IsForest}
 use Rattle.cow_arena.specs.Counts.{visible_count}
-use Rattle.cow_split.specs.Exact.{all_in_sight}
+use Rattle.cow_split.specs.Trees.{tree_of}
+use Rattle.cow_split.specs.Exact.{IsExact, all_in_sight}
 use Rattle.cow_split.proofs.RowLaws.{exact-in_use_alike}
 use Rattle.cow_fork.proofs.RootLaws.{exact-empty}
-use Rattle.cow_fork.proofs.ExampleLaws.{exact-roomy}
 use Rattle.page_store.proofs.HeldLaws.{same_content}
 use Rattle.cow_forest.specs.Tables.{node_in}
 use Rattle.cow_forest.specs.Store.{Forest, tree, content_of, count_from, frame_from, page_showing, IsNodeOf, IsStore}
@@ -105,6 +105,12 @@ module _ (f : Forest) (pool : Pool) (s : IsStore f) (empty : content_of f ≡ no
   content-filled n frames = same_content _ _ frames refl (λ v. refl) (λ v p. showing-none f.pool pool (frame_from (tree f) (node_in f.nodes v) p) (none-held v p))
 
 -- ---- more room for rows
+
+-- the tree is exact as before
+exact-roomy : (arena : Arena) (old new : Rows Row) (in_use : ℕ → Bool) → new.rows ≡ old.rows → IsExact (tree_of arena old) all_in_sight in_use →
+    IsExact (tree_of arena new) all_in_sight in_use
+exact-roomy arena old new in_use same = subst (λ (r : List Row).
+    IsExact (record { nodes = nodes_of arena; slots = value_at row_functions slot_of r; lists = arena.lists }) all_in_sight in_use) (sym same)
 
 pub store-roomy : (f : Forest) (rows : Rows Row) → IsStore f → rows.rows ≡ f.rows.rows → IsStore (record f { rows = rows })
 store-roomy f rows s same = store-kept f rows f.pool s (exact-roomy f.arena f.rows rows (is_taken f.pool) same s.exact)

@@ -8,4 +8,3 @@ pub mod SnapshotLaws
 pub mod BitLaws
 pub mod ShareLaws
 pub mod RootLaws
-pub mod ExampleLaws

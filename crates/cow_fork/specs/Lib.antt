@@ -4,4 +4,3 @@ pub mod Zeroing
 pub mod ZeroSteps
 pub mod Snapshots
 pub mod Sharing
-pub mod Examples

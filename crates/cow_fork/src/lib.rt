@@ -13,6 +13,3 @@ mod zeroing;
 pub use forking::{fork, fork_holder};
 pub use sharing::share;
 pub use zeroing::mark_zero;
-
-#[cfg(test)]
-mod tests;

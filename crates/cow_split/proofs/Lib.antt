@@ -14,4 +14,3 @@ pub mod CutLaws
 pub mod PartLaws
 pub mod HolderLaws
 pub mod NodeLaws
-pub mod ChainLaws

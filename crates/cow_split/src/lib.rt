@@ -17,6 +17,3 @@ pub use climbing::{holder, holder_above, holder_counted};
 pub use cutting::{cut, cut_holder, is_last};
 pub use search::{reached_from, sees, side_seen};
 pub use viewers::{least_koid, lesser, viewer_count};
-
-#[cfg(test)]
-mod tests;

@@ -8,6 +8,3 @@
 mod frame_pool;
 
 pub use frame_pool::{Backlink, FramePool};
-
-#[cfg(test)]
-mod tests;

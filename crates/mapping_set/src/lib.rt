@@ -14,6 +14,3 @@ mod piece;
 pub use mapping_set::MappingSet;
 pub use piece::Piece;
 pub use vm_model::Entry;
-
-#[cfg(test)]
-mod tests;

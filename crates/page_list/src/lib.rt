@@ -11,6 +11,3 @@ mod row;
 pub use balanced_tree::Steps;
 pub use page_lists::PageLists;
 pub use row::{ListId, Row, RowSlab, Slot};
-
-#[cfg(test)]
-mod tests;

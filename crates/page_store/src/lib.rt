@@ -15,6 +15,3 @@ pub use flat_store::FlatStore;
 pub use leaving::drop_gone;
 pub use names::{pages_of_name, size_of_name};
 pub use page_store::{Look, PageStore};
-
-#[cfg(test)]
-mod tests;

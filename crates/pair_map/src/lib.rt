@@ -15,6 +15,3 @@ mod stretch_row;
 pub use extent_map::ExtentMap;
 pub use pair_map::PairMap;
 pub use stretch_row::Extent;
-
-#[cfg(test)]
-mod tests;

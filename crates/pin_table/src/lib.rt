@@ -9,6 +9,3 @@ mod pages;
 mod pin_table;
 
 pub use pin_table::PinTable;
-
-#[cfg(test)]
-mod tests;

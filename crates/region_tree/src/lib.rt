@@ -12,6 +12,3 @@ mod tree;
 
 pub use tree::Regions;
 pub use vm_model::Region;
-
-#[cfg(test)]
-mod tests;

@@ -8,6 +8,3 @@ mod lines;
 mod parts;
 
 pub use lines::{answer_line_count, line_count, write_answer_line, write_line};
-
-#[cfg(test)]
-mod tests;

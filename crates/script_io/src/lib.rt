@@ -32,6 +32,3 @@ pub use source::Source;
 pub use status::{Status, code};
 pub use sure_source::SureSource;
 pub use write_sink::WriteSink;
-
-#[cfg(test)]
-mod tests;

@@ -89,11 +89,6 @@ filled_fresh frames new old filled e =
     let is : new ≡ record nothing { frames = frames } = filled ∙ ap with_frames e in
     (subst IsGood (sym is) (IsGood-nothing frames), λ v. ap (λ (c : Content). c.count v) is)
 
--- and its first koid is 1
-pub filled_next : (frames : ℕ) (new old : Content) → new ≡ record old { frames = frames } → old ≡ nothing → new.next ≡ 1
-unfolding nothing
-filled_next frames new old filled e = ap (λ (c : Content). c.next) filled ∙ ap (λ (c : Content). c.next) e
-
 -- in a table of VMOs without keepers no pin is counted
 pub counts_none : (vm : Parts) → ((v : ℕ) → keepers_of vm.vmos v ≡ 0) → ((n : ℕ) → pins_of vm.pins n ≡ None)
     → table_of vm.maps ≡ (λ root p. None) → CountsKeepers vm.vmos (state_of nothing vm)

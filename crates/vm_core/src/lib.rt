@@ -21,6 +21,3 @@ mod spaces;
 mod vm;
 
 pub use vm::Vm;
-
-#[cfg(test)]
-mod tests;

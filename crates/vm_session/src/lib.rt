@@ -19,6 +19,3 @@ mod workload;
 pub use script_io::{Status, code};
 pub use serving::serve;
 pub use session::run;
-
-#[cfg(test)]
-mod tests;

@@ -15,6 +15,3 @@ mod vmos;
 
 pub use vm_model::{NameKind, Origin, Target};
 pub use vmo_table::VmoTable;
-
-#[cfg(test)]
-mod tests;

@@ -13,6 +13,3 @@
 mod parts;
 
 pub use parts::{put, put_data, put_decimal, put_field, put_number, put_perm, put_word};
-
-#[cfg(test)]
-mod tests;

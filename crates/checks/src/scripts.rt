@@ -1,0 +1,82 @@
+//! Scripts and their replies, told as texts, in one file for each subject.
+//!
+//! A text has these lines:
+//!
+//!     == WORDS       a script begins, which is run under these words of the command line
+//!     # ..           for the reader, as a blank line is
+//!     > LINE         the next line of the script; > alone is an empty one
+//!     >N LINE        the same, with the last character of LINE again and again, up to N bytes
+//!     REPLY          the next line that the machine is to write: OK .., + .., or the name of a refusal
+//!     tree COUNTS    how many hidden nodes, rows and rows with a page frame the clone tree is to have in the end
+//!
+//! Each script is run over the clone tree and over the plain store, on an empty machine each. Both must write exactly the
+//! replies.
+
+use self::reading::read_script;
+use self::runs::{Counts, compare, written};
+use self::text_fault::Fault;
+use std::alloc::Global;
+use std::test::Fail;
+
+mod accesses;
+mod alike;
+mod creating;
+mod endings;
+mod forks;
+mod lines;
+mod mapping_refusals;
+mod mappings;
+mod naming;
+mod pins;
+mod protecting;
+mod ranges;
+mod reading;
+mod regions;
+mod runs;
+mod sharing;
+mod sizes;
+mod text_fault;
+mod texts;
+mod trees;
+mod unmapping;
+mod words;
+
+/// Fails where the clone tree has not the counts that are wanted.
+fn compare_counts(alloc: Global, wanted: &str, counts: Counts) -> Result<(), Fault> {
+    let Counts {
+        hidden,
+        rows,
+        frame_rows,
+        ..
+    } = counts;
+    let told = format!(in alloc; "hidden={hidden} rows={rows} frame_rows={frame_rows}")?;
+    if wanted.is_empty() || wanted == told.as_str() {
+        Ok(())
+    } else {
+        Err(Fault::OtherTree(told))
+    }
+}
+
+/// Checks one script of a text, without the `== ` before its words.
+fn check_script(alloc: Global, text: &str) -> Result<(), Fault> {
+    let script = read_script(alloc, text)?;
+    let (written, counts) = written(alloc, script.words.as_slice(), script.lines.as_str())?;
+    compare(alloc, script.replies.as_str(), written.as_str())?;
+    compare_counts(alloc, script.counts.as_str(), counts)
+}
+
+/// Checks each script of a text. Answers how it fails.
+fn check_text(alloc: Global, text: &str) -> Result<(), Fault> {
+    let Some(scripts) = text.strip_prefix("== ") else {
+        return Err(Fault::NoScript);
+    };
+    for script in scripts.split("\n== ") {
+        check_script(alloc, script)?;
+    }
+    Ok(())
+}
+
+/// Checks each script of a text. This is what a test does.
+fn check(alloc: Global, text: &str) -> Result<(), Fail> {
+    Ok(check_text(alloc, text)?)
+}

@@ -1,0 +1,189 @@
+//! Runs of a script over the clone tree and over the plain store, on an empty machine each.
+
+ghost use Rattle.std.specs.Prelude.{◌≡◌};
+ghost use Rattle.vm_model.specs.Contents.Content.{nothing};
+
+use super::text_fault::Fault;
+use cow_forest::CowForest;
+use page_store::{FlatStore, PageStore};
+use script_io::{MemSink, MemSource, SureSource};
+use std::alloc::Global;
+use vm_session::{Status, run, serve};
+
+/// The room of a sink that is never full here, in bytes.
+const ROOM: usize = 262_144;
+
+/// How a script is run.
+#[derive(Clone, Copy)]
+pub(crate) enum Way<'a> {
+    /// Under these words of the command line. No call fails.
+    Sure(&'a [String]),
+    /// Under these words, from a source that gives at most 7 bytes a call to a sink that takes at most 4. The pull and the
+    /// push with these numbers fail, both counted from 1.
+    Failing {
+        words: &'a [String],
+        pull: u64,
+        push: u64,
+    },
+    /// Served on one page frame, with a limit of ten bytes.
+    Limited,
+}
+
+/// How a run ends.
+#[derive(Drop)]
+pub(crate) struct End {
+    pub(crate) status: Status,
+    pub(crate) written: String,
+}
+
+/// Counts of the clone tree.
+#[derive(Clone, Copy)]
+pub(crate) struct Counts {
+    pub(crate) hidden: u64,
+    pub(crate) rows: u64,
+    pub(crate) frame_rows: u64,
+    pub(crate) vmos: u64,
+    pub(crate) free: u32,
+}
+
+/// The end of a run with this status, whose sink took these bytes.
+fn end_of(alloc: Global, status: Status, sink: &MemSink) -> Result<End, Fault> {
+    let Ok(written) = str::from_utf8(sink.bytes()) else {
+        return Err(Fault::NoText);
+    };
+    let written = String::from_str(alloc, written)?;
+    Ok(End { status, written })
+}
+
+/// Runs a script where no call fails.
+fn run_sure<P: PageStore>(
+    alloc: Global,
+    words: &[String],
+    script: &str,
+    store: &mut P,
+) -> Result<End, Fault>
+    requires { P.content store.old ≡ nothing }
+{
+    let mut source = SureSource::new(script.as_bytes());
+    let Ok(mut sink) = MemSink::new(alloc, ROOM, ROOM, &[]) else {
+        return Err(Fault::HostMemory);
+    };
+    let status = run(alloc, words, store, &mut source, &mut sink);
+    end_of(alloc, status, &sink)
+}
+
+/// Runs a script where a pull and a push fail.
+fn run_failing<P: PageStore>(
+    alloc: Global,
+    words: &[String],
+    script: &str,
+    pull: u64,
+    push: u64,
+    store: &mut P,
+) -> Result<End, Fault>
+    requires { P.content store.old ≡ nothing }
+{
+    let Ok(mut source) = MemSource::new(alloc, script.as_bytes(), 7, &[pull]) else {
+        return Err(Fault::HostMemory);
+    };
+    let Ok(mut sink) = MemSink::new(alloc, ROOM, 4, &[push]) else {
+        return Err(Fault::HostMemory);
+    };
+    let status = run(alloc, words, store, &mut source, &mut sink);
+    end_of(alloc, status, &sink)
+}
+
+/// Serves a script under a limit.
+fn serve_limited<P: PageStore>(alloc: Global, script: &str, store: &mut P) -> Result<End, Fault>
+    requires { P.content store.old ≡ nothing }
+{
+    let mut source = SureSource::new(script.as_bytes());
+    let Ok(mut sink) = MemSink::new(alloc, ROOM, ROOM, &[]) else {
+        return Err(Fault::HostMemory);
+    };
+    let status = serve(alloc, 1, 10, store, &mut source, &mut sink);
+    end_of(alloc, status, &sink)
+}
+
+/// Runs a script over an empty store.
+fn run_over<P: PageStore>(
+    alloc: Global,
+    way: Way<'_>,
+    script: &str,
+    store: &mut P,
+) -> Result<End, Fault>
+    requires { P.content store.old ≡ nothing }
+{
+    match way {
+        Way::Sure(words) => run_sure(alloc, words, script, store),
+        Way::Failing { words, pull, push } => {
+            run_failing(alloc, words, script, pull, push, store)
+        }
+        Way::Limited => serve_limited(alloc, script, store),
+    }
+}
+
+/// Runs a script over the plain store.
+fn run_over_plain(alloc: Global, way: Way<'_>, script: &str) -> Result<End, Fault> {
+    let mut store = FlatStore::new(alloc);
+    let end = run_over(alloc, way, script, &mut store);
+    // By one call, here and below: at the end of a body the store would be let go, and that proved, part by part.
+    drop(store);
+    end
+}
+
+/// Runs a script over the clone tree, and counts what is left in it.
+fn run_over_tree(alloc: Global, way: Way<'_>, script: &str) -> (Result<End, Fault>, Counts) {
+    let mut tree = CowForest::new(alloc);
+    let end = run_over(alloc, way, script, &mut tree);
+    let counts = Counts {
+        hidden: tree.hidden(),
+        rows: tree.rows(),
+        frame_rows: tree.frame_rows(),
+        vmos: tree.vmos(),
+        free: tree.free(),
+    };
+    drop(tree);
+    (end, counts)
+}
+
+/// Fails where lines that were written are not those that are wanted.
+pub(crate) fn compare(alloc: Global, wanted: &str, written: &str) -> Result<(), Fault> {
+    if wanted == written {
+        return Ok(());
+    }
+    for (wanted, written) in wanted.lines().zip(written.lines()) {
+        if wanted != written {
+            let wanted = String::from_str(alloc, wanted)?;
+            let written = String::from_str(alloc, written)?;
+            return Err(Fault::OtherReply { wanted, written });
+        }
+    }
+    Err(Fault::OtherLength)
+}
+
+/// Runs a script over both stores, which must end in the same way. Answers that, and the counts of the clone tree.
+pub(crate) fn run_both(alloc: Global, way: Way<'_>, script: &str) -> Result<(End, Counts), Fault> {
+    let (by_tree, counts) = run_over_tree(alloc, way, script);
+    let by_tree = by_tree?;
+    let by_plain = run_over_plain(alloc, way, script)?;
+    if by_tree.status != by_plain.status {
+        return Err(Fault::Ended(by_tree.status));
+    }
+    compare(alloc, by_plain.written.as_str(), by_tree.written.as_str())?;
+    Ok((by_tree, counts))
+}
+
+/// Runs a script, or a workload, to its end over both stores. Answers what is written, and the counts of the clone tree.
+pub(crate) fn written(
+    alloc: Global,
+    words: &[String],
+    script: &str,
+) -> Result<(String, Counts), Fault> {
+    let (end, counts) = run_both(alloc, Way::Sure(words), script)?;
+    if end.status == Status::Done {
+        Ok((end.written, counts))
+    } else {
+        Err(Fault::Ended(end.status))
+    }
+}

@@ -1,0 +1,188 @@
+//! What is left in the clone tree: its hidden nodes, its rows, and its rows with a page frame.
+
+use super::reading::words_of;
+use super::runs::{Counts, compare, written};
+use super::text_fault::Fault;
+use super::{check, compare_counts};
+use std::alloc::{AllocError, Global};
+use std::test::Fail;
+
+#[test]
+fn snapshots_leave_few_nodes(rt: HostRuntime) -> Result<(), Fail> {
+    check(
+        rt.alloc(),
+        "\
+== run
+# One snapshot leaves one hidden node, which has the page that both show.
+> vmo_create v1 4096
+OK
+> vmo_write v1 0 11
+OK
+> vmo_create_child v2 v1 snapshot 0 4096
+OK
+tree hidden=1 rows=1 frame_rows=1
+
+== run
+# A VMO that shrinks and grows between snapshots shows no old page.
+> vmo_create v1 16384 resizable
+OK
+> vmo_fill v1 0 16384 0x11
+OK
+> vmo_create_child v2 v1 snapshot 0 16384 resizable
+OK
+> vmo_set_size v1 4096
+OK
+> vmo_set_size v1 16384
+OK
+> vmo_read v1 4095 2
+OK 1100
+> vmo_create_child v3 v1 snapshot 0 16384
+OK
+> vmo_set_size v2 8192
+OK
+> stat
+OK frames=1024 used=2 free=1022 vmos=3
+> vmo_set_size v2 16384
+OK
+> vmo_read v2 8191 2
+OK 1100
+> vmo_write v1 8192 22
+OK
+> vmo_read v3 8192 1
+OK 00
+> vmo_close v1
+OK
+> vmo_read v3 4095 2
+OK 1100
+> vmo_read v2 4096 1
+OK 11
+> stat
+OK frames=1024 used=2 free=1022 vmos=2
+tree hidden=1 rows=2 frame_rows=2
+
+== run
+# A pinned page keeps its frame in a family.
+> vmo_create v1 8192
+OK
+> vmo_write v1 0 11
+OK
+> vmo_create_child v2 v1 snapshot 0 8192
+OK
+> vmo_pin p1 v2 0 4096
+OK 1
+> vmo_create_child v3 v1 snapshot 0 8192
+OK
+> vmo_write v1 0 22
+OK
+> vmo_close v1
+OK
+> vmo_write v2 0 33
+OK
+> vmo_pin p2 v2 0 4096
+OK 1
+> vmo_unpin p1
+OK
+> vmo_unpin p2
+OK
+> vmo_read v3 0 1
+OK 11
+> vmo_read v2 0 1
+OK 33
+> stat
+OK frames=1024 used=2 free=1022 vmos=2
+tree hidden=1 rows=2 frame_rows=2
+",
+    )
+}
+
+/// How a family is made and closed. It has 100 VMOs of 16 pages, each of which is a snapshot of the one whose number is
+/// `branch` times less (of the first, where `branch` is 0), and writes a page of its own. They are closed one after another,
+/// `step` numbers on from `first`.
+#[derive(Clone, Copy)]
+struct Family {
+    branch: u64,
+    first: u64,
+    step: u64,
+}
+
+/// The page that number `k` of a family writes, in bytes from the start.
+fn page_of(k: u64) -> u64 {
+    k % 16 * 4096
+}
+
+/// The lines that make VMO number `k`.
+fn making(alloc: Global, family: Family, k: u64) -> Result<String, AllocError> {
+    let parent = k.saturating_sub(1).checked_div(family.branch).unwrap_or(0);
+    let (offset, byte) = (page_of(k), 10 + k % 90);
+    format!(in alloc;
+        "vmo_create_child v{k} v{parent} snapshot 0 65536\nvmo_write v{k} {offset} {byte}\n"
+    )
+}
+
+/// The lines that close the VMO whose turn comes after `k` others. Another is read before, and now and then told of.
+fn closing(alloc: Global, family: Family, k: u64) -> Result<String, AllocError> {
+    let closed = family.first.wrapping_add(family.step.wrapping_mul(k)) % 100;
+    let other = (closed + 50) % 100;
+    let offset = page_of(k);
+    if k % 16 == 0 {
+        format!(in alloc; "vmo_info v{other}\nvmo_read v{other} {offset} 1\nvmo_close v{closed}\n")
+    } else {
+        format!(in alloc; "vmo_read v{other} {offset} 1\nvmo_close v{closed}\n")
+    }
+}
+
+/// The script of a family.
+fn script_of(alloc: Global, family: Family) -> Result<String, Fault> {
+    let mut script = String::from_str(alloc, "vmo_create v0 65536\nvmo_fill v0 0 65536 0x11\n")?;
+    for k in 1..100 {
+        let lines = making(alloc, family, k)?;
+        script.push_str(lines.as_str())?;
+    }
+    for k in 0..100 {
+        let lines = closing(alloc, family, k)?;
+        script.push_str(lines.as_str())?;
+    }
+    script.push_str("stat\n")?;
+    Ok(script)
+}
+
+/// Checks that a family is told alike by both stores, and that nothing is left of it.
+fn check_family(alloc: Global, family: Family) -> Result<(), Fault> {
+    let script = script_of(alloc, family)?;
+    let words = words_of(alloc, "run")?;
+    let (_, counts) = written(alloc, words.as_slice(), script.as_str())?;
+    let Counts { vmos, free, .. } = counts;
+    let left = format!(in alloc; "vmos={vmos} free={free}")?;
+    compare(alloc, "vmos=0 free=1024", left.as_str())?;
+    compare_counts(alloc, "hidden=0 rows=0 frame_rows=0", counts)
+}
+
+/// A family leaves nothing once it is closed in rising, falling and mixed order.
+fn check_families(alloc: Global, branch: u64) -> Result<(), Fail> {
+    for (first, step) in [(0, 1), (99, 99), (50, 37)] {
+        check_family(
+            alloc,
+            Family {
+                branch,
+                first,
+                step,
+            },
+        )?;
+    }
+    Ok(())
+}
+
+#[test]
+fn a_hundred_siblings_leave_nothing_once_closed(rt: HostRuntime) -> Result<(), Fail> {
+    check_families(rt.alloc(), 0)
+}
+
+#[test]
+fn a_chain_of_a_hundred_leaves_nothing_once_closed(rt: HostRuntime) -> Result<(), Fail> {
+    check_families(rt.alloc(), 1)
+}
+
+#[test]
+fn a_hundred_snapshots_of_snapshots_leave_nothing_once_closed(rt: HostRuntime) -> Result<(), Fail> {
+    check_families(rt.alloc(), 2)
+}
