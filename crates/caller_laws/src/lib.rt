@@ -1,0 +1,19 @@
+//! What a caller of the lower crates knows at plain arguments, by their contracts alone.
+//!
+//! Each law stands in place of wrong bodies: where a contract let another answer through at its arguments, the law would be
+//! proved no more. No crate stands on this one.
+#![tactic(auto)]
+
+mod numbers;
+mod pins;
+mod scripts;
+
+pub use numbers::{
+    a_page_begins_at_its_number, codes_differ, one_byte_more_is_a_page_more, whole_pages_stay,
+};
+pub use pins::{a_pin_is_told, a_removed_pin_is_told};
+pub use scripts::{
+    a_flag_stands_once, a_leading_zero_is_no_name, a_tab_parts_words,
+    a_word_of_a_byte_more_is_no_data, bytes_are_read_from_the_word, data_may_end_before_a_tab,
+    offset_comes_before_length, the_greatest_number_is_read, two_to_the_64_is_no_number,
+};

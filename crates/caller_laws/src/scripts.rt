@@ -1,0 +1,93 @@
+//! Words and lines of scripts.
+
+ghost use Rattle.std.specs.Prelude.{◌≡◌, ◌≤◌, ◌+◌, ◌-◌, ◌*◌, ◌^◌, ◌∷◌, [], Some, None, length};
+ghost use Rattle.vm_base.specs.declared.limits.TheConstants.{DATA_BYTES};
+ghost use Rattle.vm_model.specs.Language.Reading.{Order, Outside};
+ghost use Rattle.vm_model.specs.declared.command.Command.TheVariants.{VmoZero, VmoSize, VmoWrite};
+ghost use Rattle.script_text.specs.Lines.{reading_of_call};
+
+use script_text::{SyntaxFault, byte_data_into, number, read_call, vmo};
+use vm_base::VmoName;
+use vm_model::{Call, LentBytes};
+
+/// A number of 2^64 is refused.
+#[tactic(auto, unfolding(vm_model::specs::Language::Reading::number, vm_model::specs::Language::Reading::digits_from))]
+pub fn two_to_the_64_is_no_number() -> Option<u64>
+    ensures { result ≡ None }
+{
+    number(b"18446744073709551616")
+}
+
+/// The number before it is read.
+#[tactic(auto, unfolding(vm_model::specs::Language::Reading::number, vm_model::specs::Language::Reading::digits_from))]
+pub fn the_greatest_number_is_read() -> Option<u64>
+    ensures { result ≡ Some (2 ^ 64 - 1) }
+{
+    number(b"18446744073709551615")
+}
+
+/// A number of a name has no leading zero.
+#[tactic(auto, unfolding(vm_model::specs::Language::Reading::vmo, vm_model::specs::Language::Reading::digits_from))]
+pub fn a_leading_zero_is_no_name() -> Option<VmoName>
+    ensures { result ≡ None }
+{
+    vmo(b"v01")
+}
+
+/// Byte data is what the digits of this word say, and as long.
+#[tactic(auto, unfolding(hex::specs::Hex::decode_pairs, vm_model::specs::Language::Reading::byte_data))]
+pub fn bytes_are_read_from_the_word<'a>(room: &'a mut [u8]) -> Option<LentBytes<'a>>
+    requires { DATA_BYTES ≤ length room.old }
+    ensures { result ≡ Some (10 ∷ 255 ∷ []) }
+{
+    byte_data_into(b"0aff", room)
+}
+
+/// A word of two digits more than fit is no data.
+#[tactic(auto, unfolding(vm_model::specs::Language::Reading::byte_data))]
+pub fn a_word_of_a_byte_more_is_no_data<'a>(
+    word: &[u8],
+    room: &'a mut [u8],
+) -> Option<LentBytes<'a>>
+    requires word { length word.now ≡ 2 * DATA_BYTES + 2 }
+    requires room { DATA_BYTES ≤ length room.old }
+    ensures { result ≡ None }
+{
+    byte_data_into(word, room)
+}
+
+/// The offset of a range comes before its length.
+#[tactic(auto, unfolding(vm_model::specs::Language::Reading::command, vm_model::specs::Language::Reading::reading, vm_model::specs::Language::Reading::words, vm_model::specs::Language::Reading::number, vm_model::specs::Language::Reading::digits_from, vm_model::specs::Language::Reading::vmo))]
+pub fn offset_comes_before_length<'a>(room: &'a mut [u8]) -> Result<Option<Call<'a>>, SyntaxFault>
+    requires { DATA_BYTES ≤ length room.old }
+    ensures { reading_of_call result ≡ Order (VmoZero (record { 0 = 1 }) 4096 8192) }
+{
+    read_call(b"vmo_zero v1 4096 8192", room)
+}
+
+/// A tab parts words as a space does.
+#[tactic(auto, unfolding(vm_model::specs::Language::Reading::command, vm_model::specs::Language::Reading::reading, vm_model::specs::Language::Reading::words, vm_model::specs::Language::Reading::number, vm_model::specs::Language::Reading::digits_from, vm_model::specs::Language::Reading::vmo))]
+pub fn a_tab_parts_words<'a>(room: &'a mut [u8]) -> Result<Option<Call<'a>>, SyntaxFault>
+    requires { DATA_BYTES ≤ length room.old }
+    ensures { reading_of_call result ≡ Order (VmoSize (record { 0 = 1 })) }
+{
+    read_call(b"vmo_size\tv1", room)
+}
+
+/// A flag stands once.
+#[tactic(auto, unfolding(vm_model::specs::Language::Reading::command, vm_model::specs::Language::Reading::reading, vm_model::specs::Language::Reading::words, vm_model::specs::Language::Reading::number, vm_model::specs::Language::Reading::digits_from, vm_model::specs::Language::Reading::vmo))]
+pub fn a_flag_stands_once<'a>(room: &'a mut [u8]) -> Result<Option<Call<'a>>, SyntaxFault>
+    requires { DATA_BYTES ≤ length room.old }
+    ensures { reading_of_call result ≡ Outside }
+{
+    read_call(b"vmo_create v1 0 resizable resizable", room)
+}
+
+/// Data at the end of a line may be followed by a tab.
+#[tactic(auto, unfolding(hex::specs::Hex::decode_pairs, vm_model::specs::Language::Reading::command, vm_model::specs::Language::Reading::reading, vm_model::specs::Language::Reading::words, vm_model::specs::Language::Reading::number, vm_model::specs::Language::Reading::digits_from, vm_model::specs::Language::Reading::vmo, vm_model::specs::Language::Reading::byte_data))]
+pub fn data_may_end_before_a_tab<'a>(room: &'a mut [u8]) -> Result<Option<Call<'a>>, SyntaxFault>
+    requires { DATA_BYTES ≤ length room.old }
+    ensures { reading_of_call result ≡ Order (VmoWrite (record { 0 = 1 }) 0 (10 ∷ [])) }
+{
+    read_call(b"vmo_write v1 0 0a\t", room)
+}
