@@ -10,7 +10,7 @@ use vm_base::Refusal;
 
 /// A reply with the bytes or the numbers that were read lent to it, so that they are not moved with it. Each variant
 /// stands for the variant of `Reply` of its name. Runs of mappings are its own.
-#[derive(Debug, Drop)]
+#[derive(Drop)]
 pub enum Answer<'a> {
     Done,
     Number(u64),

@@ -9,7 +9,7 @@ use vm_base::{MapFlags, Perm, PinName, RegionName, VmoName};
 
 /// A command with the bytes that it writes lent to it, so that they are not moved with it. Each variant stands for
 /// the variant of `Command` of its name.
-#[derive(Debug, Drop)]
+#[derive(Drop)]
 pub enum Call<'a> {
     VmoCreate {
         name: VmoName,

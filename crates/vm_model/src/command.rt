@@ -16,7 +16,7 @@ pub enum ChildKind {
 
 /// A command, one call on the kernel. Offsets, lengths, sizes and addresses are in bytes; an offset is
 /// counted from the first byte of its VMO or region.
-#[derive(Debug, Drop)]
+#[derive(Drop)]
 pub enum Command {
     /// Makes a VMO whose pages are all zeros (`zx_vmo_create`). Its size is rounded up to whole pages.
     VmoCreate {

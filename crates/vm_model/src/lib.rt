@@ -31,6 +31,3 @@ pub use numbers::PinNumbers;
 pub use reply::{Info, Reply, Stat};
 pub use runs::{Run, Runs};
 pub use space::{Entry, Readiness, Region};
-
-#[cfg(test)]
-mod tests;

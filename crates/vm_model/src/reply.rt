@@ -33,7 +33,7 @@ pub struct Stat {
 }
 
 /// What the machine answers to a command.
-#[derive(Debug, Drop)]
+#[derive(Drop)]
 pub enum Reply {
     /// It is done.
     Done,
