@@ -1,3 +1,4 @@
+pub mod PlainLaws
 pub mod Spelling
 pub mod Turns
 pub mod Nodes

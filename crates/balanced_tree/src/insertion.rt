@@ -28,12 +28,14 @@ pub fn insert_below<R: TreeRow, L: Ledger>(
         return rows.add(row.linked(None, None), steps);
     };
     let here = rows.look(place, steps);
-    if row.rank() < here.rank() {
+    let rank = row.rank();
+    let there = here.rank();
+    if rank < there {
         let below = here.left();
         let left = insert_below(rows, below, row, steps);
         let here = rows.row(place, steps);
         balance(rows, place, here, Some(left), here.right(), steps)
-    } else if here.rank() < row.rank() {
+    } else if there < rank {
         let below = here.right();
         let right = insert_below(rows, below, row, steps);
         let here = rows.row(place, steps);

@@ -29,6 +29,3 @@ pub use row_slab::RowSlab;
 pub use spans::{Span, span_over};
 pub use steps::Steps;
 pub use tree_row::TreeRow;
-
-#[cfg(test)]
-mod tests;

@@ -11,7 +11,7 @@ use crate::tree_row::TreeRow;
 use std::sync::ledger::Ledger;
 
 /// A row that was the first of a tree, and the link to the root of the rest.
-#[derive(Clone, Copy)]
+#[derive(Drop)]
 struct Least<R> {
     row: R,
     rest: Option<usize>,
@@ -84,12 +84,13 @@ pub fn remove_below<R: TreeRow, L: Ledger>(
         return None;
     };
     let here = rows.look(place, steps);
-    if rank < here.rank() {
+    let there = here.rank();
+    if rank < there {
         let below = here.left();
         let left = remove_below(rows, below, rank, taken, steps);
         let here = rows.row(place, steps);
         Some(balance(rows, place, here, left, here.right(), steps))
-    } else if here.rank() < rank {
+    } else if there < rank {
         let below = here.right();
         let right = remove_below(rows, below, rank, taken, steps);
         let here = rows.row(place, steps);

@@ -1,5 +1,6 @@
 use Rattle.std.proofs.Common.{◌+◌, sym, ap, ◌∙◌, min, max, arith}
 use Rattle.balanced_tree.specs.Row.{plain}
+use Rattle.balanced_tree.proofs.PlainLaws.{refuted}
 use Rattle.balanced_tree.proofs.Nodes.{node_of, standing-at, lower-left, lower-right, Stands-left, Stands-right}
 use Rattle.balanced_tree.proofs.GapTrees.{extent_node, searched-passed, searched-left, searched-both}
 use Rattle.balanced_tree.proofs.gaps.+gap_below.Goals as goal
@@ -59,7 +60,7 @@ returns-in-Some-before g t c = λ tree low high first last h apart.
     let left = c.in-Some-before.ensures m.left low (f.rank m.row) first (f.rank (plain f c.row-here.result))
     (standing-at f (sym c.left.ensures) m.left_standing) n.apart.left in
     searched-left f e law spans n c.args.from c.args.size c.args.limit (c.fits.ensures.0 c.if-not-fits.false)
-    (λ p. let yes = c.is_passed.ensures.1 p in cc) c.row-here.ensures.step
+    (refuted c.is_passed.ensures.1 c.if-is_passed.false) c.row-here.ensures.step
     (c.min.ensures ∙ ap (min c.args.limit) c.rank.ensures) left
 
 pub returns : goal.returns
@@ -75,6 +76,6 @@ returns g t c = λ tree low high first last h apart.
     let right = c.gap_below.ensures m.right (f.rank m.row + 1) high (e.end (plain f c.row-here.result)) last
     (standing-at f (sym c.right.ensures) m.right_standing) n.apart.right in
     searched-both f e law spans n c.args.from c.args.size c.args.limit (c.fits.ensures.0 c.if-not-fits.false)
-    (λ p. let yes = c.is_passed.ensures.1 p in cc) c.row-here.ensures.step
+    (refuted c.is_passed.ensures.1 c.if-is_passed.false) c.row-here.ensures.step
     (c.min.ensures ∙ ap (min c.args.limit) c.rank.ensures) left (c.max-2.ensures ∙ ap (max c.args.from) c.end.ensures)
     right

@@ -1,4 +1,5 @@
 use Rattle.std.proofs.Common.{is_some, refl, sym, ap, ◌∙◌, arith}
+use Rattle.balanced_tree.proofs.PlainLaws.{to_next, to_second}
 use Rattle.balanced_tree.proofs.Nodes.{node_of, standing-at, lower-left, stays_left, Stands-left}
 use Rattle.balanced_tree.proofs.Removals.{take-first, take-later, Splits-least}
 use Rattle.balanced_tree.proofs.removal.+take_least.Goals as goal
@@ -9,7 +10,7 @@ returns-in_default-clause-taken g t c =
     let law = g.met.R.TreeRow.lawful in
     λ tree low high h.
     let n = node_of f law h refl c.look-here.ensures.row in
-    take-first f law n (sym c.left.ensures ∙ c.in_default.is) c.right-rest.ensures c.take-row.ensures.row c.take-row.ensures.updates c.take-row.ensures.len (omega (arith, c.look-here.ensures.step, c.take-row.ensures.step))
+    take-first f law n (sym c.left.ensures ∙ c.in_default.is) c.right-rest.ensures c.take-row.ensures.row c.take-row.ensures.updates c.take-row.ensures.len (to_second c.args.steps.now c.look-here.ensures.step c.take-row.ensures.step)
 
 pub take_least-row-requires : goal.take_least-row-requires
 take_least-row-requires g t c κs within =
@@ -43,4 +44,4 @@ returns-clause-taken g t c =
     let n = node_of f law h refl c.look-here.ensures.row in
     let sub = c.take_least-row.ensures.taken n.left low (f.rank n.row) (standing-at f (sym c.left.ensures ∙ c.in-Some.is) n.left_standing) in
     take-later f law n (sym c.left.ensures ∙ c.in-Some.is) sub c.row-here.ensures.row c.right.ensures c.balance-root.ensures.tree c.balance-root.ensures.len
-    (omega (arith, c.look-here.ensures.step)) (omega (arith, c.row-here.ensures.step)) c.balance-root.ensures.steps
+    (to_next c.args.steps.now c.look-here.ensures.step) (to_next c.take_least-row.new.steps c.row-here.ensures.step) c.balance-root.ensures.steps

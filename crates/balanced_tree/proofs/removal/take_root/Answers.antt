@@ -1,4 +1,5 @@
-use Rattle.std.proofs.Common.{◌+◌, refl, sym, ◌∙◌, arith}
+use Rattle.std.proofs.Common.{◌+◌, refl, sym, ◌∙◌}
+use Rattle.balanced_tree.proofs.PlainLaws.{to_next, to_second}
 use Rattle.balanced_tree.proofs.Nodes.{node_of, standing-at, Stands-right}
 use Rattle.balanced_tree.proofs.Removals.{take_root-leaf, take_root-node, Splits-root}
 use Rattle.balanced_tree.proofs.removal.take_root.Goals as goal
@@ -9,7 +10,7 @@ returns-in_default-clause-taken g c =
     let law = g.met.R.TreeRow.lawful in
     λ tree low high h.
     let n = node_of f law h refl c.look-here.ensures.row in
-    take_root-leaf f law n (sym c.right.ensures ∙ c.in_default.is) c.left-left.ensures c.take.ensures.updates c.take.ensures.len (omega (arith, c.look-here.ensures.step, c.take.ensures.step))
+    take_root-leaf f law n (sym c.right.ensures ∙ c.in_default.is) c.left-left.ensures c.take.ensures.updates c.take.ensures.len (to_second c.args.steps.now c.look-here.ensures.step c.take.ensures.step)
 
 pub take_least-row-requires : goal.take_least-row-requires
 take_least-row-requires g c =
@@ -31,4 +32,4 @@ returns-clause-taken g c =
     let n = node_of f law h refl c.look-here.ensures.row in
     let sub = c.take_least-row.ensures.taken n.right (f.rank n.row + 1) high (standing-at f (sym c.right.ensures ∙ c.in-Some.is) n.right_standing) in
     take_root-node f law n (sym c.right.ensures ∙ c.in-Some.is) sub c.left-left.ensures c.balance.ensures.tree c.balance.ensures.len
-    (omega (arith, c.look-here.ensures.step)) c.balance.ensures.steps
+    (to_next c.args.steps.now c.look-here.ensures.step) c.balance.ensures.steps

@@ -1,0 +1,44 @@
+-- Small laws over plain numbers and tests. An answer that cites one needs no search of all that is known there.
+use Rattle.std.proofs.Common.{◌≡◌, ℕ, ◌+◌, ◌<◌, ◌≤◌, Bool, false, IsTrue, ◌∙◌, arith}
+
+pub less_of : {a b x y : ℕ} → x ≡ a → y ≡ b → x < y → a < b
+less_of e g h = omega arith
+
+pub most_of : {a b x y : ℕ} → x ≡ a → y ≡ b → y ≤ x → b ≤ a
+most_of e g h = omega arith
+
+-- where the second number is called another way too
+pub less_there : {a b d x y : ℕ} → x ≡ a → y ≡ b → b ≡ d → x < y → a < d
+less_there e g same h = omega arith
+
+pub past_there : {a b d x y : ℕ} → x ≡ a → y ≡ b → a ≡ d → x < y → d + 1 ≤ b
+past_there e g same h = omega arith
+
+pub to_next : (a : ℕ) {b : ℕ} → b ≡ a + 1 → b ≤ a + 1
+to_next a e = omega arith
+
+pub to_second : (a : ℕ) {b c : ℕ} → b ≡ a + 1 → c ≡ b + 1 → c ≤ a + 2
+to_second a e h = omega arith
+
+pub to_fourth : (a : ℕ) {b c : ℕ} → b ≡ a + 1 → c ≤ b + 3 → c ≤ a + 4
+to_fourth a e h = omega arith
+
+pub same_twice : {A : Type 0} {a b c : A} → b ≡ a → c ≡ b → c ≡ a
+same_twice e g = g ∙ e
+
+pub same_thrice : {A : Type 0} {a b c d : A} → b ≡ a → c ≡ b → d ≡ c → d ≡ a
+same_thrice e g h = h ∙ (g ∙ e)
+
+-- the steps of a rotation
+pub six_steps : (a : ℕ) {b c d e g h : ℕ} → b ≤ a + 1 → c ≤ b + 1 → d ≤ c + 1 → e ≤ d + 1 → g ≡ e + 1 → h ≡ g + 1 → h ≤ a + 9
+six_steps a i j k l m n = omega arith
+
+pub nine_steps :
+    (a : ℕ) {b c d e g h i j k : ℕ}
+    → b ≤ a + 1 → c ≤ b + 1 → d ≤ c + 1 → e ≤ d + 1 → g ≤ e + 1 → h ≤ g + 1
+    → i ≡ h + 1 → j ≡ i + 1 → k ≡ j + 1 → k ≤ a + 9
+nine_steps a l m n o p q r s t = omega arith
+
+-- a test that is false says that what would make it true does not hold
+pub refuted : {b : Bool} {P : Type 0} → (P → IsTrue b) → b ≡ false → P → ⊥
+refuted holds is p = let yes = holds p in cc
