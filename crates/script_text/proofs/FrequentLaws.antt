@@ -1,5 +1,5 @@
 -- Lines of the two commands that most lines are.
-use Rattle.std.proofs.Common.{◌≡◌, ℕ, zero, suc, cond, ◌&&◌, ◌*◌, ◌+◌, ◌-◌, ◌<◌, ◌≤◌, Bool, true, false, List, [], ◌∷◌, ◌++◌, length, take, drop}
+use Rattle.std.proofs.Common.{◌≡◌, ℕ, zero, suc, cond, ◌&&◌, ◌*◌, ◌<◌, ◌≤◌, Bool, true, false, List, [], ◌∷◌, ◌++◌, length, take, drop}
 use Rattle.std.proofs.Common.{get_or, refl, sym, ◌∙◌, ap, subst, inl, inr, arith, length-drop}
 use Rattle.std.specs.Prelude.{Option, Some, None, Ok, Err, Result, codes, nat_eq, nat_lt, nat_le, option_and_then, slice_get, ◌==◌, IfSome}
 use Rattle.std.specs.Result.{result_ok}
@@ -20,6 +20,9 @@ use Rattle.vm_model.specs.declared.command.Command.TheVariants.{VmoRead, VmoWrit
 use Rattle.vm_model.specs.Language.Reading.{words, is_blank, begins_blank, byte_data, vmo, number, of_vmo_range, vmo_write, command}
 use Rattle.script_text.specs.Lines.{order_in}
 use Rattle.script_text.specs.Shapes.{only_data, ends_blank}
+use Rattle.script_text.specs.Groups.{range_of_vmo, vmo_and_number}
+use Rattle.script_text.proofs.GroupLaws.{of_two, joined, behind_two}
+use Rattle.script_text.proofs.ShapeLaws.{steps}
 use Rattle.script_text.proofs.Cutting.{words-blank, words-first, len-solid, len-blank}
 
 -- a line that begins with a word
@@ -77,8 +80,12 @@ module _ (xs ys zs us a b c : List ℕ) (first : words xs ≡ a ∷ words ys) (s
       → of_vmo_range command (words xs) ≡ None
   range-more command more = ap (of_vmo_range command) all ∙ four command a b c (words us) more
 
-  pub three-words : (length (words us) == 0) ≡ true → words xs ≡ a ∷ b ∷ c ∷ []
-  three-words none = all ∙ ap (λ ws. a ∷ b ∷ c ∷ ws) (none_behind (words us) none)
+  pub range-three : (length (words us) == 0) ≡ true → (o : Option (VmoName × ℕ × ℕ)) → o ≡ range_of_vmo a b c
+      → option_and_then (λ (p : VmoName × ℕ × ℕ). Some (VmoRead p.0 p.1 p.2)) o ≡ of_vmo_range VmoRead (words xs)
+  range-three none o is =
+      ap (λ v. option_and_then (λ (p : VmoName × ℕ × ℕ). Some (VmoRead p.0 p.1 p.2)) v) is
+      ∙ sym (ap (of_vmo_range VmoRead) (all ∙ ap (λ ws. a ∷ b ∷ c ∷ ws) (none_behind (words us) none))
+      ∙ steps VmoRead (vmo a) (number b) (number c))
 
 -- one word too many for data
 pub data-more : (w : List ℕ) (ws : List (List ℕ)) → (length ws == 0) ≡ false → only_data (w ∷ ws) ≡ None
@@ -198,11 +205,13 @@ write_by_data a b (c ∷ []) = refl
 write_by_data a b (c ∷ d ∷ ds) = sym (none_after_two (vmo a) (number b))
 
 -- its words, one behind another
-pub write_of_words : (xs ys zs a b : List ℕ) → words xs ≡ a ∷ words ys → words ys ≡ b ∷ words zs → vmo_write (words xs)
-    ≡ option_and_then (λ name. option_and_then (λ offset. option_and_then (λ bytes. Some (VmoWrite name offset bytes))
-    (only_data (words zs))) (number b)) (vmo a)
-write_of_words xs ys zs a b first second =
-    ap vmo_write (first ∙ ap (λ ws. a ∷ ws) second) ∙ write_by_data a b (words zs)
+pub write_of_words : (xs ys zs a b : List ℕ) → words xs ≡ a ∷ words ys → words ys ≡ b ∷ words zs
+    → (o : Option (VmoName × ℕ)) (q : Option (List ℕ)) → o ≡ vmo_and_number a b → q ≡ only_data (words zs)
+    → of_two (λ (p : VmoName × ℕ) x. VmoWrite p.0 p.1 x) o q ≡ vmo_write (words xs)
+write_of_words xs ys zs a b first second o q front last =
+    joined (λ (p : VmoName × ℕ) x. VmoWrite p.0 p.1 x) o _ q _ front last
+    ∙ sym (ap vmo_write (first ∙ ap (λ ws. a ∷ ws) second) ∙ write_by_data a b (words zs)
+    ∙ behind_two VmoWrite (vmo a) (number b) (only_data (words zs)))
 
 -- no name, or no offset
 pub write_of_one : (xs ys a : List ℕ) → words xs ≡ a ∷ words ys → words ys ≡ [] → vmo_write (words xs) ≡ None

@@ -1,6 +1,7 @@
 pub mod Bases
 pub mod Cutting
 pub mod FrequentLaws
+pub mod GroupLaws
 pub mod Horner
 pub mod Many
 pub mod SpacedLaws

@@ -20,7 +20,7 @@ of_region_by_one command (a ∷ []) = refl
 of_region_by_one command (a ∷ b ∷ cs) = refl
 
 -- three steps that may fail, before a command
-steps : {A : Type 0} (command : A → ℕ → ℕ → Command) (a : Option A) (b c : Option ℕ)
+pub steps : {A : Type 0} (command : A → ℕ → ℕ → Command) (a : Option A) (b c : Option ℕ)
     → option_and_then (λ x. option_and_then (λ y. option_and_then (λ z. Some (command x y z)) c) b) a
     ≡ option_and_then (λ (p : A × ℕ × ℕ). Some (command p.0 p.1 p.2))
     (option_and_then (λ x. option_and_then (λ y. option_and_then (λ z. Some (x, y, z)) c) b) a)

@@ -5,3 +5,4 @@ pub mod Spaced
 pub mod Subjects
 pub mod Shapes
 pub mod Places
+pub mod Groups

@@ -1,10 +1,11 @@
 -- The arguments of commands of one shape, and the flags of regions and mappings.
-use Rattle.std.specs.Prelude.{ℕ, ◌+◌, Bool, false, List, [], ◌∷◌, length, slice_index, codes, Option, Some, None}
+use Rattle.std.specs.Prelude.{ℕ, ◌+◌, Bool, false, List, [], ◌∷◌, length, slice_index, codes, Option, None}
 use Rattle.vm_base.specs.declared.names.VmoName.{VmoName}
 use Rattle.vm_base.specs.declared.names.RegionName.{RegionName}
 use Rattle.vm_base.specs.declared.flags.MapFlags.{MapFlags}
 use Rattle.vm_base.specs.declared.flags.Perm.{Perm}
-use Rattle.vm_model.specs.Language.Reading.{◌>>=◌, vmo, region, number, byte_data, bit, is_blank, stands}
+use Rattle.vm_model.specs.Language.Reading.{vmo, region, byte_data, bit, is_blank, stands}
+use Rattle.script_text.specs.Groups.{range_of_vmo, range_of_region}
 
 -- the argument of a command of one VMO
 abbrev pub one_vmo : List (List ℕ) → Option VmoName
@@ -13,11 +14,7 @@ one_vmo _ = None
 
 -- the arguments of a command of a range of a VMO
 abbrev pub vmo_range : List (List ℕ) → Option (VmoName × ℕ × ℕ)
-vmo_range (a ∷ b ∷ c ∷ []) = do
-  name ← vmo a
-  offset ← number b
-  len ← number c
-  Some (name, offset, len)
+vmo_range (a ∷ b ∷ c ∷ []) = range_of_vmo a b c
 vmo_range _ = None
 
 -- the byte data that is the only word
@@ -37,11 +34,7 @@ one_region _ = None
 
 -- the arguments of a command of a range of a region
 abbrev pub region_range : List (List ℕ) → Option (RegionName × ℕ × ℕ)
-region_range (a ∷ b ∷ c ∷ []) = do
-  name ← region a
-  addr ← number b
-  len ← number c
-  Some (name, addr, len)
+region_range (a ∷ b ∷ c ∷ []) = range_of_region a b c
 region_range _ = None
 
 -- the flags of a region

@@ -13,6 +13,7 @@ use crate::vmo_commands::{
     vmo_close, vmo_commit, vmo_create, vmo_create_child, vmo_decommit, vmo_fill, vmo_info, vmo_pin,
     vmo_read, vmo_set_size, vmo_size, vmo_unpin, vmo_write, vmo_zero,
 };
+use crate::words::is_word;
 use vm_base::DATA_BYTES;
 use vm_model::Call;
 
@@ -38,12 +39,12 @@ pub fn call<'a>(word: &[u8], arguments: &[&[u8]], room: &'a mut [u8]) -> Option<
 }
 
 /// The command of a word of four bytes.
-fn call_of_four(word: &[u8], arguments: &[&[u8]]) -> Option<Call<'static>>
+fn call_of_four<'a>(word: &[u8], arguments: &[&[u8]]) -> Option<Call<'a>>
     ensures { option_map command_of result ≡ by_word (rows_of 4) word.now (map (λ a. a.now) arguments.now) }
 {
-    if word == b"stat".as_slice() {
+    if is_word(word, b"stat") {
         stat(arguments)
-    } else if word == b"maps".as_slice() {
+    } else if is_word(word, b"maps") {
         maps(arguments)
     } else {
         None
@@ -51,10 +52,10 @@ fn call_of_four(word: &[u8], arguments: &[&[u8]]) -> Option<Call<'static>>
 }
 
 /// The command of a word of seven bytes.
-fn call_of_seven(word: &[u8], arguments: &[&[u8]]) -> Option<Call<'static>>
+fn call_of_seven<'a>(word: &[u8], arguments: &[&[u8]]) -> Option<Call<'a>>
     ensures { option_map command_of result ≡ by_word (rows_of 7) word.now (map (λ a. a.now) arguments.now) }
 {
-    if word == b"vmo_pin".as_slice() {
+    if is_word(word, b"vmo_pin") {
         vmo_pin(arguments)
     } else {
         None
@@ -62,22 +63,22 @@ fn call_of_seven(word: &[u8], arguments: &[&[u8]]) -> Option<Call<'static>>
 }
 
 /// The command of a word of eight bytes.
-fn call_of_eight(word: &[u8], arguments: &[&[u8]]) -> Option<Call<'static>>
+fn call_of_eight<'a>(word: &[u8], arguments: &[&[u8]]) -> Option<Call<'a>>
     ensures { option_map command_of result ≡ by_word (rows_of 8) word.now (map (λ a. a.now) arguments.now) }
 {
-    if word == b"vmo_size".as_slice() {
+    if is_word(word, b"vmo_size") {
         vmo_size(arguments)
-    } else if word == b"vmo_read".as_slice() {
+    } else if is_word(word, b"vmo_read") {
         vmo_read(arguments)
-    } else if word == b"vmo_fill".as_slice() {
+    } else if is_word(word, b"vmo_fill") {
         vmo_fill(arguments)
-    } else if word == b"vmo_zero".as_slice() {
+    } else if is_word(word, b"vmo_zero") {
         vmo_zero(arguments)
-    } else if word == b"vmo_info".as_slice() {
+    } else if is_word(word, b"vmo_info") {
         vmo_info(arguments)
-    } else if word == b"vmar_map".as_slice() {
+    } else if is_word(word, b"vmar_map") {
         vmar_map(arguments)
-    } else if word == b"mem_read".as_slice() {
+    } else if is_word(word, b"mem_read") {
         mem_read(arguments)
     } else {
         None
@@ -89,13 +90,13 @@ fn call_of_nine<'a>(word: &[u8], arguments: &[&[u8]], room: &'a mut [u8]) -> Opt
     requires { DATA_BYTES ≤ length room.old }
     ensures { option_map command_of result ≡ by_word (rows_of 9) word.now (map (λ a. a.now) arguments.now) }
 {
-    if word == b"vmo_close".as_slice() {
+    if is_word(word, b"vmo_close") {
         vmo_close(arguments)
-    } else if word == b"vmo_write".as_slice() {
+    } else if is_word(word, b"vmo_write") {
         vmo_write(arguments, room)
-    } else if word == b"vmo_unpin".as_slice() {
+    } else if is_word(word, b"vmo_unpin") {
         vmo_unpin(arguments)
-    } else if word == b"mem_write".as_slice() {
+    } else if is_word(word, b"mem_write") {
         mem_write(arguments, room)
     } else {
         None
@@ -103,14 +104,14 @@ fn call_of_nine<'a>(word: &[u8], arguments: &[&[u8]], room: &'a mut [u8]) -> Opt
 }
 
 /// The command of a word of ten bytes.
-fn call_of_ten(word: &[u8], arguments: &[&[u8]]) -> Option<Call<'static>>
+fn call_of_ten<'a>(word: &[u8], arguments: &[&[u8]]) -> Option<Call<'a>>
     ensures { option_map command_of result ≡ by_word (rows_of 10) word.now (map (λ a. a.now) arguments.now) }
 {
-    if word == b"vmo_create".as_slice() {
+    if is_word(word, b"vmo_create") {
         vmo_create(arguments)
-    } else if word == b"vmo_commit".as_slice() {
+    } else if is_word(word, b"vmo_commit") {
         vmo_commit(arguments)
-    } else if word == b"vmar_unmap".as_slice() {
+    } else if is_word(word, b"vmar_unmap") {
         vmar_unmap(arguments)
     } else {
         None
@@ -118,10 +119,10 @@ fn call_of_ten(word: &[u8], arguments: &[&[u8]]) -> Option<Call<'static>>
 }
 
 /// The command of a word of eleven bytes.
-fn call_of_eleven(word: &[u8], arguments: &[&[u8]]) -> Option<Call<'static>>
+fn call_of_eleven<'a>(word: &[u8], arguments: &[&[u8]]) -> Option<Call<'a>>
     ensures { option_map command_of result ≡ by_word (rows_of 11) word.now (map (λ a. a.now) arguments.now) }
 {
-    if word == b"root_create".as_slice() {
+    if is_word(word, b"root_create") {
         root_create(arguments)
     } else {
         None
@@ -129,16 +130,16 @@ fn call_of_eleven(word: &[u8], arguments: &[&[u8]]) -> Option<Call<'static>>
 }
 
 /// The command of a word of twelve bytes.
-fn call_of_twelve(word: &[u8], arguments: &[&[u8]]) -> Option<Call<'static>>
+fn call_of_twelve<'a>(word: &[u8], arguments: &[&[u8]]) -> Option<Call<'a>>
     ensures { option_map command_of result ≡ by_word (rows_of 12) word.now (map (λ a. a.now) arguments.now) }
 {
-    if word == b"vmo_set_size".as_slice() {
+    if is_word(word, b"vmo_set_size") {
         vmo_set_size(arguments)
-    } else if word == b"vmo_decommit".as_slice() {
+    } else if is_word(word, b"vmo_decommit") {
         vmo_decommit(arguments)
-    } else if word == b"vmar_protect".as_slice() {
+    } else if is_word(word, b"vmar_protect") {
         vmar_protect(arguments)
-    } else if word == b"vmar_destroy".as_slice() {
+    } else if is_word(word, b"vmar_destroy") {
         vmar_destroy(arguments)
     } else {
         None
@@ -146,10 +147,10 @@ fn call_of_twelve(word: &[u8], arguments: &[&[u8]]) -> Option<Call<'static>>
 }
 
 /// The command of a word of thirteen bytes.
-fn call_of_thirteen(word: &[u8], arguments: &[&[u8]]) -> Option<Call<'static>>
+fn call_of_thirteen<'a>(word: &[u8], arguments: &[&[u8]]) -> Option<Call<'a>>
     ensures { option_map command_of result ≡ by_word (rows_of 13) word.now (map (λ a. a.now) arguments.now) }
 {
-    if word == b"vmar_allocate".as_slice() {
+    if is_word(word, b"vmar_allocate") {
         vmar_allocate(arguments)
     } else {
         None
@@ -157,10 +158,10 @@ fn call_of_thirteen(word: &[u8], arguments: &[&[u8]]) -> Option<Call<'static>>
 }
 
 /// The command of a word of sixteen bytes.
-fn call_of_sixteen(word: &[u8], arguments: &[&[u8]]) -> Option<Call<'static>>
+fn call_of_sixteen<'a>(word: &[u8], arguments: &[&[u8]]) -> Option<Call<'a>>
     ensures { option_map command_of result ≡ by_word (rows_of 16) word.now (map (λ a. a.now) arguments.now) }
 {
-    if word == b"vmo_create_child".as_slice() {
+    if is_word(word, b"vmo_create_child") {
         vmo_create_child(arguments)
     } else {
         None

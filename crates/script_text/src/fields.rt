@@ -5,6 +5,7 @@ ghost use Rattle.vm_model.specs.Language.Reading.{below, digits, number, byte, n
 ghost use Rattle.vm_model.specs.Language.Reading.{byte_data, perm, child_kind};
 ghost use Rattle.script_text.specs.Radixes.{base_of, value_in};
 
+use crate::words::is_word;
 use vm_base::{DATA_BYTES, Perm, PinName, RegionName, VmoName};
 use vm_model::{Bytes4k, ChildKind, LentBytes};
 
@@ -158,21 +159,21 @@ pub fn byte_data_into<'a>(word: &[u8], room: &'a mut [u8]) -> Option<LentBytes<'
 pub fn perm(word: &[u8]) -> Option<Perm>
     ensures { result ≡ perm word.now }
 {
-    if word == b"none".as_slice() {
+    if is_word(word, b"none") {
         Some(Perm(0))
-    } else if word == b"r".as_slice() {
+    } else if is_word(word, b"r") {
         Some(Perm(1))
-    } else if word == b"w".as_slice() {
+    } else if is_word(word, b"w") {
         Some(Perm(2))
-    } else if word == b"rw".as_slice() {
+    } else if is_word(word, b"rw") {
         Some(Perm(1 + 2))
-    } else if word == b"x".as_slice() {
+    } else if is_word(word, b"x") {
         Some(Perm(4))
-    } else if word == b"rx".as_slice() {
+    } else if is_word(word, b"rx") {
         Some(Perm(1 + 4))
-    } else if word == b"wx".as_slice() {
+    } else if is_word(word, b"wx") {
         Some(Perm(2 + 4))
-    } else if word == b"rwx".as_slice() {
+    } else if is_word(word, b"rwx") {
         Some(Perm(1 + 2 + 4))
     } else {
         None
@@ -185,11 +186,11 @@ pub fn perm(word: &[u8]) -> Option<Perm>
 pub fn child_kind(word: &[u8]) -> Option<ChildKind>
     ensures { result ≡ child_kind word.now }
 {
-    if word == b"snapshot".as_slice() {
+    if is_word(word, b"snapshot") {
         Some(ChildKind::Snapshot)
-    } else if word == b"slice".as_slice() {
+    } else if is_word(word, b"slice") {
         Some(ChildKind::Slice)
-    } else if word == b"reference".as_slice() {
+    } else if is_word(word, b"reference") {
         Some(ChildKind::Reference)
     } else {
         None

@@ -7,8 +7,8 @@ ghost use Rattle.vm_model.specs.declared.command.Command.TheVariants.{VmoRead};
 ghost use Rattle.vm_model.specs.Machine.Lent.{command_of};
 ghost use Rattle.script_text.specs.Shapes.{only_data, ends_blank};
 
-use crate::fields::{byte_data_into, number, vmo};
-use crate::vmo_commands::vmo_read;
+use crate::field_groups::{range_of_vmo, vmo_and_number};
+use crate::fields::byte_data_into;
 use crate::words::{behind_blanks, is_blank, next_short_word};
 use vm_base::DATA_BYTES;
 use vm_model::{Call, LentBytes};
@@ -53,7 +53,7 @@ fn has_no_word(line: &[u8]) -> bool
 
 /// The command `vmo_read` of these arguments. It is not inlined, since the machine has registers enough for it alone.
 #[inline(never)]
-pub fn read_of(arguments: &[u8]) -> Option<Call<'static>>
+pub fn read_of<'a>(arguments: &[u8]) -> Option<Call<'a>>
     ensures { option_map command_of result ≡ of_vmo_range VmoRead (words arguments.now) }
 {
     let (name, rest) = next_short_word(arguments)?;
@@ -62,7 +62,8 @@ pub fn read_of(arguments: &[u8]) -> Option<Call<'static>>
     if !has_no_word(rest) {
         return None;
     }
-    vmo_read(&[name, offset, len])
+    let (name, offset, len) = range_of_vmo(name, offset, len)?;
+    Some(Call::VmoRead { name, offset, len })
 }
 
 /// The command `vmo_write` of these arguments, whose data is lent from `room`.
@@ -72,10 +73,12 @@ pub fn write_of<'a>(arguments: &[u8], room: &'a mut [u8]) -> Option<Call<'a>>
 {
     let (name, rest) = next_short_word(arguments)?;
     let (offset, rest) = next_short_word(rest)?;
+    let (name, offset) = vmo_and_number(name, offset)?;
+    let bytes = only_data(rest, room)?;
     Some(Call::VmoWrite {
-        name: vmo(name)?,
-        offset: number(offset)?,
-        bytes: only_data(rest, room)?,
+        name,
+        offset,
+        bytes,
     })
 }
 

@@ -10,13 +10,14 @@
 //! are there for other front ends, and `word_at` says where a word of a line stands. A program that makes
 //! scripts hands commands to `write_command`.
 //!
-//! `words` cuts a line, `fields` and `flags` read its words, `command_words` finds a command by its
+//! `words` cuts a line, `fields`, `field_groups` and `flags` read its words, `command_words` finds a command by its
 //! word, and `vmo_commands` and `region_commands` have the commands one by one. `frequent` reads the lines of two
 //! commands without a list of their words. `writing` spells a
 //! command, by `vmo_arguments` and `region_arguments` for its arguments, and `parts` for their words.
 #![tactic(auto)]
 
 mod command_words;
+mod field_groups;
 mod fields;
 mod flags;
 mod frequent;
@@ -33,6 +34,3 @@ pub use fields::{byte_data, byte_data_into, number, perm, pin, region, vmo};
 pub use reading::{Line, SyntaxFault, read_call, read_line};
 pub use words::word_at;
 pub use writing::write_command;
-
-#[cfg(test)]
-mod tests;

@@ -20,7 +20,7 @@ const MOST_WORDS: usize = 11;
 pub struct SyntaxFault;
 
 /// What a line says.
-#[derive(Debug, Drop)]
+#[derive(Drop)]
 pub enum Line {
     /// Nothing: it has no word, or it is a comment, whose first word begins with `#`.
     Blank,

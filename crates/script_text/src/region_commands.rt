@@ -1,4 +1,5 @@
-//! The commands of address regions and of the whole machine, from their arguments.
+//! The commands of address regions and of the whole machine, from their arguments. A call that lends nothing lives as long as its
+//! caller wants, so that no caller has to shorten it.
 
 ghost use Rattle.std.specs.Prelude.{◌≡◌, ◌≤◌, length, map, option_map};
 ghost use Rattle.vm_model.specs.Language.Reading.{are_flags, of_region, of_region_range, vmar_allocate, vmar_map};
@@ -9,7 +10,8 @@ ghost use Rattle.vm_model.specs.Machine.Lent.{command_of};
 ghost use Rattle.script_text.specs.Shapes.{map_flag_words, map_flags, one_region, region_caps, region_flag_words};
 ghost use Rattle.script_text.specs.Shapes.{region_flags, region_range};
 
-use crate::fields::{byte_data_into, number, perm, region, vmo};
+use crate::field_groups::{range_of_region, range_of_vmo, region_and_number};
+use crate::fields::{byte_data_into, perm, region};
 use crate::flags::{are_flags, bit, stands};
 use vm_base::{DATA_BYTES, MapFlags, Perm, RegionName};
 use vm_model::Call;
@@ -31,12 +33,12 @@ fn region_range(arguments: &[&[u8]]) -> Option<(RegionName, u64, u64)>
     let [name, addr, len] = arguments else {
         return None;
     };
-    Some((region(name)?, number(addr)?, number(len)?))
+    range_of_region(name, addr, len)
 }
 
 /// `root_create REGION`
 #[tactic(auto, using(crate::proofs::ShapeLaws::of_region_by_one))]
-pub fn root_create(arguments: &[&[u8]]) -> Option<Call<'static>>
+pub fn root_create<'a>(arguments: &[&[u8]]) -> Option<Call<'a>>
     ensures { option_map command_of result ≡ of_region RootCreate (map (λ a. a.now) arguments.now) }
 {
     let region = one_region(arguments)?;
@@ -44,16 +46,14 @@ pub fn root_create(arguments: &[&[u8]]) -> Option<Call<'static>>
 }
 
 /// `vmar_allocate REGION PARENT OFFSET LEN [specific] [upper_limit] [can_read] [can_write] [can_execute]`
-pub fn vmar_allocate(arguments: &[&[u8]]) -> Option<Call<'static>>
+pub fn vmar_allocate<'a>(arguments: &[&[u8]]) -> Option<Call<'a>>
     ensures { option_map command_of result ≡ vmar_allocate (map (λ a. a.now) arguments.now) }
 {
     let [name, parent, offset, len, flags @ ..] = arguments else {
         return None;
     };
     let name = region(name)?;
-    let parent = region(parent)?;
-    let offset = number(offset)?;
-    let len = number(len)?;
+    let (parent, offset, len) = range_of_region(parent, offset, len)?;
     if !are_region_flags(flags) {
         return None;
     }
@@ -100,17 +100,14 @@ fn region_caps(flags: &[&[u8]]) -> Perm
 }
 
 /// `vmar_map REGION OFFSET VMO VMO_OFFSET LEN PERM [specific] [specific_overwrite] [upper_limit] [allow_faults]`
-pub fn vmar_map(arguments: &[&[u8]]) -> Option<Call<'static>>
+pub fn vmar_map<'a>(arguments: &[&[u8]]) -> Option<Call<'a>>
     ensures { option_map command_of result ≡ vmar_map (map (λ a. a.now) arguments.now) }
 {
     let [name, offset, source, vmo_offset, len, allowed, flags @ ..] = arguments else {
         return None;
     };
-    let name = region(name)?;
-    let offset = number(offset)?;
-    let source = vmo(source)?;
-    let vmo_offset = number(vmo_offset)?;
-    let len = number(len)?;
+    let (name, offset) = region_and_number(name, offset)?;
+    let (source, vmo_offset, len) = range_of_vmo(source, vmo_offset, len)?;
     let allowed = perm(allowed)?;
     if !are_map_flags(flags) {
         return None;
@@ -153,7 +150,7 @@ fn map_flags(flags: &[&[u8]]) -> MapFlags
 
 /// `vmar_unmap REGION ADDR LEN`
 #[tactic(auto, using(crate::proofs::ShapeLaws::of_region_range_by_range))]
-pub fn vmar_unmap(arguments: &[&[u8]]) -> Option<Call<'static>>
+pub fn vmar_unmap<'a>(arguments: &[&[u8]]) -> Option<Call<'a>>
     ensures { option_map command_of result ≡ of_region_range VmarUnmap (map (λ a. a.now) arguments.now) }
 {
     let (region, addr, len) = region_range(arguments)?;
@@ -161,23 +158,25 @@ pub fn vmar_unmap(arguments: &[&[u8]]) -> Option<Call<'static>>
 }
 
 /// `vmar_protect REGION ADDR LEN PERM`
-pub fn vmar_protect(arguments: &[&[u8]]) -> Option<Call<'static>>
+pub fn vmar_protect<'a>(arguments: &[&[u8]]) -> Option<Call<'a>>
     ensures { option_map command_of result ≡ vmar_protect (map (λ a. a.now) arguments.now) }
 {
     let [name, addr, len, allowed] = arguments else {
         return None;
     };
+    let (region, addr, len) = range_of_region(name, addr, len)?;
+    let perm = perm(allowed)?;
     Some(Call::VmarProtect {
-        region: region(name)?,
-        addr: number(addr)?,
-        len: number(len)?,
-        perm: perm(allowed)?,
+        region,
+        addr,
+        len,
+        perm,
     })
 }
 
 /// `vmar_destroy REGION`
 #[tactic(auto, using(crate::proofs::ShapeLaws::of_region_by_one))]
-pub fn vmar_destroy(arguments: &[&[u8]]) -> Option<Call<'static>>
+pub fn vmar_destroy<'a>(arguments: &[&[u8]]) -> Option<Call<'a>>
     ensures { option_map command_of result ≡ of_region VmarDestroy (map (λ a. a.now) arguments.now) }
 {
     let region = one_region(arguments)?;
@@ -186,7 +185,7 @@ pub fn vmar_destroy(arguments: &[&[u8]]) -> Option<Call<'static>>
 
 /// `maps REGION`
 #[tactic(auto, using(crate::proofs::ShapeLaws::of_region_by_one))]
-pub fn maps(arguments: &[&[u8]]) -> Option<Call<'static>>
+pub fn maps<'a>(arguments: &[&[u8]]) -> Option<Call<'a>>
     ensures { option_map command_of result ≡ of_region Maps (map (λ a. a.now) arguments.now) }
 {
     let region = one_region(arguments)?;
@@ -195,7 +194,7 @@ pub fn maps(arguments: &[&[u8]]) -> Option<Call<'static>>
 
 /// `mem_read REGION ADDR LEN`
 #[tactic(auto, using(crate::proofs::ShapeLaws::of_region_range_by_range))]
-pub fn mem_read(arguments: &[&[u8]]) -> Option<Call<'static>>
+pub fn mem_read<'a>(arguments: &[&[u8]]) -> Option<Call<'a>>
     ensures { option_map command_of result ≡ of_region_range MemRead (map (λ a. a.now) arguments.now) }
 {
     let (region, addr, len) = region_range(arguments)?;
@@ -210,15 +209,17 @@ pub fn mem_write<'a>(arguments: &[&[u8]], room: &'a mut [u8]) -> Option<Call<'a>
     let [name, addr, data] = arguments else {
         return None;
     };
+    let (region, addr) = region_and_number(name, addr)?;
+    let bytes = byte_data_into(data, room)?;
     Some(Call::MemWrite {
-        region: region(name)?,
-        addr: number(addr)?,
-        bytes: byte_data_into(data, room)?,
+        region,
+        addr,
+        bytes,
     })
 }
 
 /// `stat`
-pub fn stat(arguments: &[&[u8]]) -> Option<Call<'static>>
+pub fn stat<'a>(arguments: &[&[u8]]) -> Option<Call<'a>>
     ensures { option_map command_of result ≡ stat (map (λ a. a.now) arguments.now) }
 {
     if !arguments.is_empty() {

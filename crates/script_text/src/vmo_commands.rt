@@ -1,4 +1,5 @@
-//! The commands of VMOs, from their arguments.
+//! The commands of VMOs, from their arguments. A call that lends nothing lives as long as its
+//! caller wants, so that no caller has to shorten it.
 
 ghost use Rattle.std.specs.Prelude.{◌≡◌, ◌≤◌, length, map, option_map};
 ghost use Rattle.vm_model.specs.Language.Reading.{of_vmo, of_vmo_range, vmo_create, vmo_create_child, vmo_set_size};
@@ -8,7 +9,8 @@ ghost use Rattle.vm_model.specs.declared.command.Command.TheVariants.{VmoDecommi
 ghost use Rattle.vm_model.specs.Machine.Lent.{command_of};
 ghost use Rattle.script_text.specs.Shapes.{one_vmo, vmo_range};
 
-use crate::fields::{byte, byte_data_into, child_kind, number, pin, vmo};
+use crate::field_groups::{child, range, range_of_vmo, vmo_and_number};
+use crate::fields::{byte, byte_data_into, pin, vmo};
 use crate::flags::{are_flags, stands};
 use vm_base::{DATA_BYTES, VmoName};
 use vm_model::Call;
@@ -31,18 +33,17 @@ fn vmo_range(arguments: &[&[u8]]) -> Option<(VmoName, u64, u64)>
     let [name, offset, len] = arguments else {
         return None;
     };
-    Some((vmo(name)?, number(offset)?, number(len)?))
+    range_of_vmo(name, offset, len)
 }
 
 /// `vmo_create VMO SIZE [resizable]`
-pub fn vmo_create(arguments: &[&[u8]]) -> Option<Call<'static>>
+pub fn vmo_create<'a>(arguments: &[&[u8]]) -> Option<Call<'a>>
     ensures { option_map command_of result ≡ vmo_create (map (λ a. a.now) arguments.now) }
 {
     let [name, size, flags @ ..] = arguments else {
         return None;
     };
-    let name = vmo(name)?;
-    let size = number(size)?;
+    let (name, size) = vmo_and_number(name, size)?;
     if !are_flags(&[b"resizable".as_slice()], flags) {
         return None;
     }
@@ -54,17 +55,14 @@ pub fn vmo_create(arguments: &[&[u8]]) -> Option<Call<'static>>
 }
 
 /// `vmo_create_child VMO PARENT KIND OFFSET SIZE [resizable] [no_write]`
-pub fn vmo_create_child(arguments: &[&[u8]]) -> Option<Call<'static>>
+pub fn vmo_create_child<'a>(arguments: &[&[u8]]) -> Option<Call<'a>>
     ensures { option_map command_of result ≡ vmo_create_child (map (λ a. a.now) arguments.now) }
 {
     let [name, parent, kind, offset, size, flags @ ..] = arguments else {
         return None;
     };
-    let name = vmo(name)?;
-    let parent = vmo(parent)?;
-    let kind = child_kind(kind)?;
-    let offset = number(offset)?;
-    let size = number(size)?;
+    let (name, parent, kind) = child(name, parent, kind)?;
+    let (offset, size) = range(offset, size)?;
     if !are_flags(&[b"resizable".as_slice(), b"no_write".as_slice()], flags) {
         return None;
     }
@@ -81,7 +79,7 @@ pub fn vmo_create_child(arguments: &[&[u8]]) -> Option<Call<'static>>
 
 /// `vmo_close VMO`
 #[tactic(auto, using(crate::proofs::ShapeLaws::of_vmo_by_one))]
-pub fn vmo_close(arguments: &[&[u8]]) -> Option<Call<'static>>
+pub fn vmo_close<'a>(arguments: &[&[u8]]) -> Option<Call<'a>>
     ensures { option_map command_of result ≡ of_vmo VmoClose (map (λ a. a.now) arguments.now) }
 {
     let name = one_vmo(arguments)?;
@@ -90,7 +88,7 @@ pub fn vmo_close(arguments: &[&[u8]]) -> Option<Call<'static>>
 
 /// `vmo_size VMO`
 #[tactic(auto, using(crate::proofs::ShapeLaws::of_vmo_by_one))]
-pub fn vmo_size(arguments: &[&[u8]]) -> Option<Call<'static>>
+pub fn vmo_size<'a>(arguments: &[&[u8]]) -> Option<Call<'a>>
     ensures { option_map command_of result ≡ of_vmo VmoSize (map (λ a. a.now) arguments.now) }
 {
     let name = one_vmo(arguments)?;
@@ -98,22 +96,20 @@ pub fn vmo_size(arguments: &[&[u8]]) -> Option<Call<'static>>
 }
 
 /// `vmo_set_size VMO SIZE`
-pub fn vmo_set_size(arguments: &[&[u8]]) -> Option<Call<'static>>
+pub fn vmo_set_size<'a>(arguments: &[&[u8]]) -> Option<Call<'a>>
     ensures { option_map command_of result ≡ vmo_set_size (map (λ a. a.now) arguments.now) }
 {
     let [name, size] = arguments else {
         return None;
     };
-    Some(Call::VmoSetSize {
-        name: vmo(name)?,
-        size: number(size)?,
-    })
+    let (name, size) = vmo_and_number(name, size)?;
+    Some(Call::VmoSetSize { name, size })
 }
 
 /// `vmo_read VMO OFFSET LEN`
 #[inline(always)]
 #[tactic(auto, using(crate::proofs::ShapeLaws::of_vmo_range_by_range))]
-pub fn vmo_read(arguments: &[&[u8]]) -> Option<Call<'static>>
+pub fn vmo_read<'a>(arguments: &[&[u8]]) -> Option<Call<'a>>
     ensures { option_map command_of result ≡ of_vmo_range VmoRead (map (λ a. a.now) arguments.now) }
 {
     let (name, offset, len) = vmo_range(arguments)?;
@@ -128,31 +124,35 @@ pub fn vmo_write<'a>(arguments: &[&[u8]], room: &'a mut [u8]) -> Option<Call<'a>
     let [name, offset, data] = arguments else {
         return None;
     };
+    let (name, offset) = vmo_and_number(name, offset)?;
+    let bytes = byte_data_into(data, room)?;
     Some(Call::VmoWrite {
-        name: vmo(name)?,
-        offset: number(offset)?,
-        bytes: byte_data_into(data, room)?,
+        name,
+        offset,
+        bytes,
     })
 }
 
 /// `vmo_fill VMO OFFSET LEN BYTE`
-pub fn vmo_fill(arguments: &[&[u8]]) -> Option<Call<'static>>
+pub fn vmo_fill<'a>(arguments: &[&[u8]]) -> Option<Call<'a>>
     ensures { option_map command_of result ≡ vmo_fill (map (λ a. a.now) arguments.now) }
 {
     let [name, offset, len, value] = arguments else {
         return None;
     };
+    let (name, offset, len) = range_of_vmo(name, offset, len)?;
+    let byte = byte(value)?;
     Some(Call::VmoFill {
-        name: vmo(name)?,
-        offset: number(offset)?,
-        len: number(len)?,
-        byte: byte(value)?,
+        name,
+        offset,
+        len,
+        byte,
     })
 }
 
 /// `vmo_commit VMO OFFSET LEN`
 #[tactic(auto, using(crate::proofs::ShapeLaws::of_vmo_range_by_range))]
-pub fn vmo_commit(arguments: &[&[u8]]) -> Option<Call<'static>>
+pub fn vmo_commit<'a>(arguments: &[&[u8]]) -> Option<Call<'a>>
     ensures { option_map command_of result ≡ of_vmo_range VmoCommit (map (λ a. a.now) arguments.now) }
 {
     let (name, offset, len) = vmo_range(arguments)?;
@@ -161,7 +161,7 @@ pub fn vmo_commit(arguments: &[&[u8]]) -> Option<Call<'static>>
 
 /// `vmo_decommit VMO OFFSET LEN`
 #[tactic(auto, using(crate::proofs::ShapeLaws::of_vmo_range_by_range))]
-pub fn vmo_decommit(arguments: &[&[u8]]) -> Option<Call<'static>>
+pub fn vmo_decommit<'a>(arguments: &[&[u8]]) -> Option<Call<'a>>
     ensures { option_map command_of result ≡ of_vmo_range VmoDecommit (map (λ a. a.now) arguments.now) }
 {
     let (name, offset, len) = vmo_range(arguments)?;
@@ -170,7 +170,7 @@ pub fn vmo_decommit(arguments: &[&[u8]]) -> Option<Call<'static>>
 
 /// `vmo_zero VMO OFFSET LEN`
 #[tactic(auto, using(crate::proofs::ShapeLaws::of_vmo_range_by_range))]
-pub fn vmo_zero(arguments: &[&[u8]]) -> Option<Call<'static>>
+pub fn vmo_zero<'a>(arguments: &[&[u8]]) -> Option<Call<'a>>
     ensures { option_map command_of result ≡ of_vmo_range VmoZero (map (λ a. a.now) arguments.now) }
 {
     let (name, offset, len) = vmo_range(arguments)?;
@@ -178,22 +178,24 @@ pub fn vmo_zero(arguments: &[&[u8]]) -> Option<Call<'static>>
 }
 
 /// `vmo_pin PIN VMO OFFSET LEN`
-pub fn vmo_pin(arguments: &[&[u8]]) -> Option<Call<'static>>
+pub fn vmo_pin<'a>(arguments: &[&[u8]]) -> Option<Call<'a>>
     ensures { option_map command_of result ≡ vmo_pin (map (λ a. a.now) arguments.now) }
 {
     let [token, name, offset, len] = arguments else {
         return None;
     };
+    let pin = pin(token)?;
+    let (name, offset, len) = range_of_vmo(name, offset, len)?;
     Some(Call::VmoPin {
-        pin: pin(token)?,
-        name: vmo(name)?,
-        offset: number(offset)?,
-        len: number(len)?,
+        pin,
+        name,
+        offset,
+        len,
     })
 }
 
 /// `vmo_unpin PIN`
-pub fn vmo_unpin(arguments: &[&[u8]]) -> Option<Call<'static>>
+pub fn vmo_unpin<'a>(arguments: &[&[u8]]) -> Option<Call<'a>>
     ensures { option_map command_of result ≡ vmo_unpin (map (λ a. a.now) arguments.now) }
 {
     let [token] = arguments else {
@@ -204,7 +206,7 @@ pub fn vmo_unpin(arguments: &[&[u8]]) -> Option<Call<'static>>
 
 /// `vmo_info VMO`
 #[tactic(auto, using(crate::proofs::ShapeLaws::of_vmo_by_one))]
-pub fn vmo_info(arguments: &[&[u8]]) -> Option<Call<'static>>
+pub fn vmo_info<'a>(arguments: &[&[u8]]) -> Option<Call<'a>>
     ensures { option_map command_of result ≡ of_vmo VmoInfo (map (λ a. a.now) arguments.now) }
 {
     let name = one_vmo(arguments)?;

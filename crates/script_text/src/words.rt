@@ -3,7 +3,7 @@
 ghost use Rattle.std.specs.Prelude.{◌≡◌, ◌<◌, ◌≤◌, ◌↔◌, false, [], ◌∷◌, length, take, drop, not, position};
 ghost use Rattle.std.specs.Prelude.{slice_get, slice_range, MatchOption, IfSome, IsNone};
 ghost use Rattle.std.specs.List.{position_or_len};
-ghost use Rattle.vm_model.specs.Language.Reading.{words, is_blank};
+ghost use Rattle.vm_model.specs.Language.Reading.{words, is_blank, is_word};
 ghost use Rattle.script_text.specs.Places.{IsWordFrom};
 
 use memchr::memchr3;
@@ -14,6 +14,14 @@ pub fn is_blank(byte: u8) -> bool
     ensures { result ≡ is_blank byte }
 {
     matches!(byte, b' ' | b'\t' | b'\r')
+}
+
+/// Whether two words are one.
+#[inline(always)]
+pub fn is_word(word: &[u8], known: &[u8]) -> bool
+    ensures { result ≡ is_word word.now known.now }
+{
+    word == known
 }
 
 /// Where the first word of a line begins.

@@ -95,6 +95,3 @@ fn put_arguments(command: &Command, out: &mut [u8], at: usize) -> usize
         Command::Stat => at,
     }
 }
-
-#[cfg(test)]
-mod tests;
