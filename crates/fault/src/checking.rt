@@ -16,7 +16,7 @@ use vm_base::{PageNo, Perm, Refusal, RegionName};
 use vm_model::Entry;
 
 /// A page that an access may touch.
-#[derive(Clone, Copy, Debug, PartialEq, Eq)]
+#[derive(Clone, Copy)]
 pub(crate) struct TouchedPage {
     /// What the page shows.
     pub(crate) entry: Entry,

@@ -24,6 +24,3 @@ mod writing;
 
 pub use translation::Translation;
 pub use translations::Translations;
-
-#[cfg(test)]
-mod tests;

@@ -15,7 +15,7 @@ pub struct Translation {
 }
 
 /// A translation as it is kept, with the list of the page of the VMO, and the number that it has there.
-#[derive(Clone, Copy, Debug, PartialEq, Eq)]
+#[derive(Clone, Copy)]
 pub(crate) struct Kept {
     pub(crate) translation: Translation,
     pub(crate) list: u64,
@@ -23,14 +23,14 @@ pub(crate) struct Kept {
 }
 
 /// The page of an address space that a translation is of.
-#[derive(Clone, Copy, Debug, PartialEq, Eq)]
+#[derive(Clone, Copy)]
 pub(crate) struct Place {
     pub(crate) root: RegionName,
     pub(crate) page: PageNo,
 }
 
 /// What becomes of translations, and of which.
-#[derive(Clone, Copy, Debug, PartialEq, Eq)]
+#[derive(Clone, Copy)]
 pub(crate) enum Change {
     /// They are forgotten.
     Forget,

@@ -15,7 +15,7 @@ use vm_base::{PageNo, Perm, Refusal, RegionName, Tag};
 use vm_model::{Entry, Readiness};
 
 /// A page that a write may touch.
-#[derive(Clone, Copy, Debug, PartialEq, Eq)]
+#[derive(Clone, Copy)]
 pub(crate) struct WritablePage {
     /// What the page shows.
     pub(crate) entry: Entry,

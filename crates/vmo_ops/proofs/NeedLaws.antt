@@ -1,5 +1,4 @@
 -- What owning the pages of a range takes.
-use Rattle.std.proofs.lemmas.List.FromFn.{length-range_with_len}
 use Rattle.vm_model.proofs.RangeLaws.{touched-row, touched-nil, touched_end-is}
 use Rattle.std.proofs.Common.{◌≡◌, ℕ, ◌-◌, cond, arith}
 use Rattle.std.specs.List.{range_with_len}
@@ -7,8 +6,7 @@ use Rattle.vm_model.specs.Contents.Content.{Content, sole}
 use Rattle.vm_model.specs.Contents.Owning.{need}
 use Rattle.vm_model.proofs.ContentLaws.{IsOfHeld, sole-zero}
 use Rattle.vm_model.proofs.OwningLaws.{count_from, unowned, need-row}
-use Rattle.page_store.proofs.NameLaws.{pages_of_le}
-use Rattle.vmo_ops.proofs.ModelLaws.{need_any, count_from-not}
+use Rattle.vmo_ops.proofs.ModelLaws.{count_from-not}
 
 -- no zero page is sole
 pub IsOfHeld-sole : (c : Content) (v : ℕ) → IsOfHeld c v (sole c v)
@@ -29,6 +27,3 @@ need-one = grind (arith, need-row)
 
 -- the pages that a range touches
 pub ruleset touched_laws = (touched-row, touched-nil, touched_end-is)
-
--- and what owning them takes
-pub ruleset need_laws = (need_any, length-range_with_len, pages_of_le)

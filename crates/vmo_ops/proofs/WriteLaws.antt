@@ -1,5 +1,4 @@
 -- Laws of writing a page.
-use Rattle.vm_model.proofs.OwningLaws.{Owned-from_Owns}
 use Rattle.std.proofs.Common.{arith}
 use Rattle.std.proofs.Common.{◌≡◌, ℕ, ◌/◌, ◌%◌, ◌+◌, ◌-◌, ◌*◌, ◌<◌, ◌≤◌, Bool, true, false, cond, List, length, map}
 use Rattle.std.proofs.Common.{refl, ap, inl, ◌∙◌}
@@ -13,7 +12,6 @@ use Rattle.vm_model.specs.Contents.Writing.{touched, piece, part_at, part_bytes,
 use Rattle.vm_model.proofs.RangeLaws.{part_fits}
 use Rattle.vm_model.proofs.WritingLaws.{Written-from_WritesPiece}
 use Rattle.vmo_ops.proofs.RowLaws.{Run}
-use Rattle.page_store.proofs.PartLaws.{IsShownOnce-owned, WritesPiece-from_parts}
 use Rattle.vmo_ops.proofs.OwningLaws.{IsOwning, IsOwning-start, IsOwning-step, IsOwning-end}
 use Rattle.vmo_ops.proofs.NeedLaws.{need-one}
 use Rattle.vmo_ops.proofs.PartLaws.{part_at-one, part_bytes-one}
@@ -66,6 +64,3 @@ Writes-sole v offset bytes old new first end good inside low order last all page
 pub true_case : (b : Bool) (A B C : Type 0) → (A → B) → MatchBool b A C → MatchBool b B C
 true_case true A B C f h = f h
 true_case false A B C f h = h
-
--- a part of a page is written once the page is owned
-pub ruleset part_laws = (Owned-from_Owns, IsShownOnce-owned, WritesPiece-from_parts)

@@ -1,5 +1,5 @@
 -- Laws of zeroing a range by its held pages, from one to the next: what it takes, and what it leads to.
-use Rattle.std.proofs.Common.{min, [], ◌≡◌, ◌≢◌, ℕ, zero, suc, ◌+◌, ◌-◌, ◌*◌, ◌/◌, ◌<◌, ◌≤◌, Bool, true, false, not, ◌&&◌, List, ◌∷◌, length, replicate, Option, None, ◌⊎◌, refl, ap, subst, arith}
+use Rattle.std.proofs.Common.{min, [], ◌≡◌, ◌≢◌, ℕ, zero, suc, ◌+◌, ◌-◌, ◌*◌, ◌/◌, ◌<◌, ◌≤◌, Bool, true, false, not, ◌&&◌, List, ◌∷◌, length, replicate, Option, None, Some, ◌⊎◌, refl, sym, ap, subst, arith}
 use Rattle.std.specs.Prelude.{IsSome, is_some}
 use Rattle.std.specs.List.{range_with_len, list_any, filter}
 use Rattle.std.proofs.lemmas.Bool.{cases_Bool, both_ways, and_left, or_left, or_right}
@@ -9,6 +9,10 @@ use Rattle.vm_model.specs.Contents.Owning.{need}
 use Rattle.vm_model.specs.Contents.Writing.{touched, WritesPiece}
 use Rattle.vm_model.specs.Contents.Zeroing.{is_cleared, ZeroesPage, Zeroes, owned_by_zero}
 use Rattle.vm_model.specs.Naming.Pins.{Pin, is_pinned, any_pinned}
+use Rattle.vm_model.specs.declared.names.Target.{Target}
+use Rattle.vm_model.specs.Machine.State.{State, koid_of}
+use Rattle.vm_model.specs.Machine.Step.{touches_any}
+use Rattle.vm_model.proofs.NamesLaws.{target_of-at}
 use Rattle.vm_model.proofs.ContentLaws.{IsOfHeld, IsOfHeld-held}
 use Rattle.vm_model.proofs.OwningLaws.{count_from, count_from-same}
 use Rattle.vm_model.proofs.WritingLaws.{IsKept-same}
@@ -72,6 +76,16 @@ filter_any test (p ∷ ps) h = grind (arith, filter_any test ps, or_left, or_rig
 pub held_touched_any : (c : Content) (v offset len : ℕ) → 0 < held_touched c v offset len
     → list_any (is_held c v) (touched offset len) ≡ true
 held_touched_any = grind (arith, filter_any)
+
+-- so the command by a name may want memory there
+pub wants_held : (s : State) (name offset len : ℕ) (target : Target) (at : ℕ) → s.names name ≡ Some target
+    → at ≡ target.first * PAGE + offset → 0 < held_touched s.content target.koid.0 at len
+    → touches_any s name offset len (is_held s.content (koid_of s name)) ≡ true
+wants_held s name offset len target at named place some =
+    let here = subst (λ (n : ℕ). list_any (is_held s.content target.koid.0) (touched n len) ≡ true) place
+    (held_touched_any s.content target.koid.0 at len some) in
+    subst (λ (t : Target). list_any (is_held s.content t.koid.0) (touched (t.first * PAGE + offset) len) ≡ true)
+    (sym (target_of-at s name target named)) here
 
 -- ---- zeroing page by page
 

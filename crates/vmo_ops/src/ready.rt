@@ -70,7 +70,6 @@ pub(crate) fn ready_to_own<P: PageStore>(
 
 /// Makes room for owning the pages that a range of a VMO touches. `NoMemory` where there are too few free frames, else
 /// `HostMemory` only where one of these pages is not sole.
-#[tactic(auto, using(crate::proofs::NeedLaws::need_laws))]
 pub(crate) fn reserve_to_own<P: PageStore>(
     store: &mut P,
     v: Koid,

@@ -68,7 +68,6 @@ fn write_sole<P: PageStore>(store: &mut P, v: Koid, offset: u64, bytes: &[u8]) -
 }
 
 // Writes bytes to one page, from `at` bytes into the page on, where the page is sole, and answers whether it is.
-#[tactic(auto, using(crate::proofs::WriteLaws::part_laws))]
 fn write_sole_part<P: PageStore>(
     store: &mut P,
     v: Koid,
@@ -138,7 +137,6 @@ fn write_pages<P: PageStore>(store: &mut P, v: Koid, offset: u64, bytes: &[u8])
 }
 
 /// Writes bytes to one page, from `at` bytes into the page on. The page is owned first.
-#[tactic(auto, using(crate::proofs::WriteLaws::part_laws))]
 pub(crate) fn write_part<P: PageStore>(store: &mut P, v: Koid, page: PageNo, at: u64, bytes: &[u8])
     requires good { IsGood (P.content store.old) }
     requires page { page < pages_of (P.content store.old) v.0 }

@@ -3,7 +3,7 @@ use Rattle.vm_model.specs.Machine.State.{target_of}
 use Rattle.vm_model.specs.Machine.Step.{with_snapshot}
 use Rattle.vmo_ops.proofs.CreateLaws.{snapshotted-first}
 use Rattle.vmo_ops.specs.Targets.{with_tables}
-use Rattle.vmo_ops.proofs.NameLaws.{named_inside}
+use Rattle.vmo_ops.proofs.NameLaws.{named_inside, named_known}
 use Rattle.vmo_ops.proofs.snapshots.snapshot.Goals as goal
 
 pub is_pinned_anywhere-requires-clause-good : goal.is_pinned_anywhere-requires-clause-good
@@ -18,3 +18,13 @@ seen_part-first-requires-clause-inside g c = named_inside _ _ c.requires.parts.g
 pub returns-clause-step : goal.returns-clause-step
 unfolding target_of with_snapshot
 returns-clause-step g c = grind (arith, snapshotted-first)
+
+pub is_pinned_anywhere-requires-clause-vmo : goal.is_pinned_anywhere-requires-clause-vmo
+is_pinned_anywhere-requires-clause-vmo g c = (named_inside _ _ c.requires.parts.good c.requires.named).vmo
+
+pub snapshot-requires-clause-vmo : goal.snapshot-requires-clause-vmo
+snapshot-requires-clause-vmo g c = (named_inside _ _ c.requires.parts.good c.requires.named).vmo
+
+pub enter-requires-clause-parent : goal.enter-requires-clause-parent
+enter-requires-clause-parent g c =
+    rw c.reserve.ensures.lineage (named_known _ _ c.requires.parts.good c.requires.named)

@@ -1,5 +1,5 @@
-use Rattle.std.proofs.Common.{◌≡◌, refl, rules, arith}
-use Rattle.std.specs.declared.result.Result.TheVariants.{Err}
+use Rattle.std.proofs.Common.{refl, arith}
+use Rattle.std.proofs.lemmas.Result.{err_from_is_err_and}
 use Rattle.fault.proofs.AskedLaws.{IsDenied-first, IsDenied-memory}
 use Rattle.fault.proofs.OutcomeLaws.{asked-one, faults-one, Reads-one}
 use Rattle.fault.proofs.TouchedLaws.{touched-one}
@@ -8,16 +8,16 @@ use Rattle.fault.proofs.translations.Translations.read_in_page.Goals as goal
 
 pub returns-in_err-touched-clause-outcome : goal.returns-in_err-touched-clause-outcome
 returns-in_err-touched-clause-outcome g c =
-    let same : c.from_residual.result ≡ Err c.in_err-touched.field-0.0 = search rules in
-    rw same (rw (touched-one c.args.addr _ c.requires.some c.requires.one)
+    let left = err_from_is_err_and c.from_residual.result c.from_residual.ensures.1 in
+    rw (left.1, left.2) (rw (touched-one c.args.addr _ c.requires.some c.requires.one)
     (IsDenied-first _ _ _ _ _ _ _ _ (rw c.page_of-page.ensures at c.in_err-touched.ensures), refl))
 
 pub returns-in_err-reserve_missing-clause-outcome : goal.returns-in_err-reserve_missing-clause-outcome
 returns-in_err-reserve_missing-clause-outcome g c =
-    let same : c.from_residual-in_err-reserve_missing.result ≡ Err c.in_err-reserve_missing.field-0.0 = search rules in
+    let left = err_from_is_err_and c.from_residual-in_err-reserve_missing.result c.from_residual-in_err-reserve_missing.ensures.1 in
     let lacks = c.in_err-reserve_missing.ensures.room in
     let is = rw c.page_of-page.ensures at c.in_ok-touched.ensures in
-    rw same (rw (touched-one c.args.addr _ c.requires.some c.requires.one)
+    rw (left.1, left.2) (rw (touched-one c.args.addr _ c.requires.some c.requires.one)
     (IsDenied-memory (asked-one is) _ _ _ (faults-one is) (omega (arith, lacks.1, c.missing.ensures)) lacks.0, c.reserve_missing.ensures.same))
 
 pub read_page-requires-clause-found : goal.read_page-requires-clause-found

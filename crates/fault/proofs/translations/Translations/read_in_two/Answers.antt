@@ -1,5 +1,5 @@
-use Rattle.std.proofs.Common.{◌≡◌, refl, rules, arith}
-use Rattle.std.specs.declared.result.Result.TheVariants.{Err}
+use Rattle.std.proofs.Common.{refl, arith}
+use Rattle.std.proofs.lemmas.Result.{err_from_is_err_and}
 use Rattle.fault.proofs.AskedLaws.{IsDenied-first, IsDenied-second, IsDenied-memory}
 use Rattle.fault.proofs.OutcomeLaws.{asked-two, faults-two, Reads-two}
 use Rattle.fault.proofs.TouchedLaws.{touched-two}
@@ -8,24 +8,24 @@ use Rattle.fault.proofs.translations.Translations.read_in_two.Goals as goal
 
 pub returns-in_err-first-clause-outcome : goal.returns-in_err-first-clause-outcome
 returns-in_err-first-clause-outcome g c =
-    let same : c.from_residual.result ≡ Err c.in_err-first.field-0.0 = search rules in
-    rw same (rw (touched-two c.args.addr _ c.requires.two c.requires.len)
+    let left = err_from_is_err_and c.from_residual.result c.from_residual.ensures.1 in
+    rw (left.1, left.2) (rw (touched-two c.args.addr _ c.requires.two c.requires.len)
     (IsDenied-first _ _ _ _ _ _ _ _ (rw c.page_of-page.ensures at c.in_err-first.ensures), refl))
 
 pub returns-in_err-second-clause-outcome : goal.returns-in_err-second-clause-outcome
 returns-in_err-second-clause-outcome g c =
-    let same : c.from_residual-in_err-second.result ≡ Err c.in_err-second.field-0.0 = search rules in
+    let left = err_from_is_err_and c.from_residual-in_err-second.result c.from_residual-in_err-second.ensures.1 in
     let free = refusal_at-touched _ _ _ _ _ _ _ c.in_ok-first.ensures in
-    rw same (rw (touched-two c.args.addr _ c.requires.two c.requires.len)
+    rw (left.1, left.2) (rw (touched-two c.args.addr _ c.requires.two c.requires.len)
     (IsDenied-second _ _ _ _ _ _ _ _ (rw c.page_of-page.ensures at free) (rw c.page_of-page.ensures at c.in_err-second.ensures), refl))
 
 pub returns-in_err-reserve_missing-clause-outcome : goal.returns-in_err-reserve_missing-clause-outcome
 returns-in_err-reserve_missing-clause-outcome g c =
-    let same : c.from_residual-in_err-reserve_missing.result ≡ Err c.in_err-reserve_missing.field-0.0 = search rules in
+    let left = err_from_is_err_and c.from_residual-in_err-reserve_missing.result c.from_residual-in_err-reserve_missing.ensures.1 in
     let lacks = c.in_err-reserve_missing.ensures.room in
     let is = rw c.page_of-page.ensures at c.in_ok-first.ensures in
     let next = rw c.page_of-page.ensures at c.in_ok-second.ensures in
-    rw same (rw (touched-two c.args.addr _ c.requires.two c.requires.len) (
+    rw (left.1, left.2) (rw (touched-two c.args.addr _ c.requires.two c.requires.len) (
       IsDenied-memory (asked-two is next) _ _ _ (faults-two is next) (omega (arith, lacks.1, c.missing.ensures, c.missing-2.ensures)) lacks.0,
       c.reserve_missing.ensures.same,
     ))

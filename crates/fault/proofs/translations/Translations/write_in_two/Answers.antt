@@ -92,3 +92,44 @@ returns-clause-translations g c =
     (omega (arith, c.in_page-at.ensures, parts.front_len)) (rw (ready.content, ready.places) at c.write_page.ensures.writes)
     c.in-Ok-check_write.second c.in-Ok-check_write.ensures.0 (rw c.frames_needed-need.ensures at ready.ok.free)
     _ _ _ _ (omega (arith, c.in_page-at.ensures, parts.back_len, c.requires.len)) c.write_page-2.ensures.writes
+
+pub returns-in-Err-clause-translations : goal.returns-in-Err-clause-translations
+returns-in-Err-clause-translations g c = c.requires.translations
+
+pub returns-in-Err-check_write-clause-translations : goal.returns-in-Err-check_write-clause-translations
+returns-in-Err-check_write-clause-translations g c = c.requires.translations
+
+pub returns-in-Err-make_ready-clause-translations : goal.returns-in-Err-make_ready-clause-translations
+returns-in-Err-make_ready-clause-translations g c =
+    let ready = c.in-Err-make_ready.ensures in rw (ready.content, ready.places) c.requires.translations
+
+pub frames_needed-need-requires-clause-first : goal.frames_needed-need-requires-clause-first
+frames_needed-need-requires-clause-first g c = c.in-Ok.ensures.0.store
+
+pub frames_needed-need-requires-clause-second : goal.frames_needed-need-requires-clause-second
+frames_needed-need-requires-clause-second g c = c.in-Ok-check_write.ensures.0.store
+
+pub write_page-requires-clause-good : goal.write_page-requires-clause-good
+write_page-requires-clause-good g c = rw c.in-Ok-make_ready.ensures.content c.requires.backed.good
+
+pub write_page-requires-clause-found : goal.write_page-requires-clause-found
+write_page-requires-clause-found g c = rw c.in-Ok-make_ready.ensures.content c.in-Ok.ensures.0.store
+
+pub write_page-requires-clause-within : goal.write_page-requires-clause-within
+write_page-requires-clause-within g c = omega (arith, c.in_page-at.ensures, c.split_at.ensures.front_len)
+
+pub write_page-requires-clause-spare : goal.write_page-requires-clause-spare
+write_page-requires-clause-spare g c =
+    omega (arith, c.faults.ensures, c.faults-2.ensures, c.in-Ok-make_ready.ensures.ok.rows_fit)
+
+pub write_page-requires-clause-room : goal.write_page-requires-clause-room
+write_page-requires-clause-room g c =
+    omega (arith, c.faults.ensures, c.faults-2.ensures, c.in-Ok-make_ready.ensures.ok.places_fit)
+
+pub write_page-requires-2-clause-spare : goal.write_page-requires-2-clause-spare
+write_page-requires-2-clause-spare g c =
+    omega (arith, c.faults.ensures, c.faults-2.ensures, c.in-Ok-make_ready.ensures.ok.rows_fit, c.write_page.ensures.spare)
+
+pub write_page-requires-2-clause-room : goal.write_page-requires-2-clause-room
+write_page-requires-2-clause-room g c =
+    omega (arith, c.faults.ensures, c.faults-2.ensures, c.in-Ok-make_ready.ensures.ok.places_fit, c.write_page.ensures.room)
