@@ -1,10 +1,11 @@
 -- What a store contains before its first VMO, and how the serving of a script begins.
-use Rattle.std.proofs.Common.{◌≡◌, ℕ, inl, false, List, [], Option, refl, sym, ap, subst, ◌∙◌, arith}
+use Rattle.std.proofs.Common.{◌≡◌, ℕ, ◌≤◌, inl, inr, false, List, [], Option, refl, sym, ap, subst, ◌∙◌, arith}
 use Rattle.std.proofs.KnownBytes.{Appends-nil, Consumes-nil}
 use Rattle.vm_model.specs.Contents.Content.{Content, nothing}
 use Rattle.vm_model.specs.Machine.Machine.{Machine, IsGoodMachine, empty_machine}
 use Rattle.vm_model.proofs.ContentLaws.{count-nothing}
 use Rattle.vm_core.specs.Vm.{HasNoVmo}
+use Rattle.script_io.specs.Faults.{HasFailed}
 use Rattle.script_io.specs.Reader.{Reader}
 use Rattle.script_io.specs.Fetching.{IsPending}
 use Rattle.vm_model.proofs.StepLaws.{next-empty}
@@ -56,3 +57,8 @@ IsReady-fresh frames limit reader source now e f = subst (λ (r : Reader). IsRea
   still = IsPending-fresh limit source;
   koids = omega (arith, first_koid frames now f);
 })
+
+-- a fault that came later came since the start
+pub HasFailed-earlier : (old mid new : ℕ) → old ≤ mid → HasFailed mid new → HasFailed old new
+HasFailed-earlier old mid new le (inl lt) = inl (omega (arith, le, lt))
+HasFailed-earlier old mid new le (inr e) = inr e

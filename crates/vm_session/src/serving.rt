@@ -49,6 +49,8 @@ pub fn serve<P: PageStore, S: Source, K: Sink>(
     loop {
         let next = answer_next(store, &mut vm, &mut lines, source, sink, &mut rooms);
         if let Some(status) = next {
+            // By one call: at the end of the body its tables would be let go, and that proved, one by one.
+            drop(vm);
             return status;
         }
     }

@@ -46,6 +46,8 @@ pub(crate) fn work<P: PageStore, K: Sink>(
     let mut vm = Vm::new(alloc);
     let mut rooms = Rooms::new();
     let tally = work_through(store, &mut vm, number, count, &mut rooms);
+    // By one call: at the end of the body its tables would be let go, and that proved, one by one.
+    drop(vm);
     let end = write_tally(tally, store, &mut rooms.reply);
     match push_all(sink, &rooms.reply[..end]) {
         Ok(()) => Status::Done,

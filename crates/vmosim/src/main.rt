@@ -44,5 +44,7 @@ fn main(rt: HostRuntime) -> ExitCode {
     let mut source = ReadSource::new(rt.stdin());
     let mut sink = WriteSink::new(rt.stdout());
     let status = top(rt.alloc(), &words, &mut store, &mut source, &mut sink);
+    // By one call: at the end of the body its tables would be let go, and that proved, one by one.
+    drop(store);
     ExitCode::from(code(status))
 }

@@ -1,6 +1,7 @@
-use Rattle.std.proofs.Common.{◌∙◌, refl, ap, arith}
+use Rattle.std.proofs.Common.{◌∙◌, Some, refl, ap, arith}
+use Rattle.script_io.specs.declared.status.Status.{Status}
 use Rattle.vm_core.proofs.StartLaws.{filled_fresh, machine_of-filled}
-use Rattle.vm_session.proofs.Beginning.{NothingDone-yet, IsServed-fresh, IsReady-fresh}
+use Rattle.vm_session.proofs.Beginning.{NothingDone-yet, HasFailed-earlier, IsServed-fresh, IsReady-fresh}
 use Rattle.vm_session.proofs.serving.serve.Goals as goal
 
 pub returns-in_default-clause-ends : goal.returns-in_default-clause-ends
@@ -32,3 +33,33 @@ loop-status-preserved g c = record {
   read_later = omega (arith, c.loop-status.invariant.read_later, c.in_default-next.ensures.read_later);
   write_later = omega (arith, c.loop-status.invariant.write_later, c.in_default-next.ensures.write_later);
 }
+
+pub answer_next-next-requires-clause-agrees : goal.answer_next-next-requires-clause-agrees
+answer_next-next-requires-clause-agrees g c = c.loop-status.invariant.agrees
+
+pub answer_next-next-requires-clause-ready : goal.answer_next-next-requires-clause-ready
+answer_next-next-requires-clause-ready g c = c.loop-status.invariant.ready
+
+pub answer_next-next-requires-clause-limit : goal.answer_next-next-requires-clause-limit
+answer_next-next-requires-clause-limit g c = omega (arith, c.loop-status.invariant.limit, c.requires.limit)
+
+pub returns-in-Some-clause-ends : goal.returns-in-Some-clause-ends
+returns-in-Some-clause-ends g c =
+    c.in-Some.ensures.served c.args.frames c.args.limit _ _ c.loop-status.invariant.served
+
+pub returns-in-Some-clause-read_cause : goal.returns-in-Some-clause-read_cause
+returns-in-Some-clause-read_cause g c = λ e.
+    HasFailed-earlier _ _ _ c.loop-status.invariant.read_later
+    (c.in-Some.ensures.read_cause (ap (λ (s : Status). Some s) e))
+
+pub returns-in-Some-clause-write_cause : goal.returns-in-Some-clause-write_cause
+returns-in-Some-clause-write_cause g c = λ e.
+    HasFailed-earlier _ _ _ c.loop-status.invariant.write_later
+    (c.in-Some.ensures.write_cause (ap (λ (s : Status). Some s) e))
+
+pub returns-in-Some-clause-host_memory : goal.returns-in-Some-clause-host_memory
+returns-in-Some-clause-host_memory g c = λ e.
+    absurd (c.in-Some.ensures.host_memory (ap (λ (s : Status). Some s) e))
+
+pub loop-status-smaller : goal.loop-status-smaller
+loop-status-smaller g c = c.in_default-next.ensures.falls

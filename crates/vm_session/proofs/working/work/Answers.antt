@@ -25,8 +25,8 @@ returns-in-Ok-push_all-clause-ends g c =
     λ source. Works-told _ _ _ _ source _ _ _ _ empty c.work_through-tally.ensures.steps
     c.work_through-tally.ensures.good c.write_tally-end.ensures.line c.in-Ok-push_all.ensures.ok
 
-pub returns-clause-ends : goal.returns-clause-ends
-returns-clause-ends g c =
+pub returns-in-Err-clause-ends : goal.returns-in-Err-clause-ends
+returns-in-Err-clause-ends g c =
     let empty = machine_of-filled c.args.frames _ _ c.new-vm.result c.new-vm.ensures.bare c.in-Ok.ensures.ok
     c.requires.empty in
     λ source. Works-told _ _ _ _ source _ _ _ _ empty c.work_through-tally.ensures.steps
