@@ -9,11 +9,12 @@
 //!     REPLY          the next line that the machine is to write: OK .., + .., or the name of a refusal
 //!     tree COUNTS    how many hidden nodes, rows and rows with a page frame the clone tree is to have in the end
 //!
-//! Each script is run over the clone tree and over the plain store, on an empty machine each. Both must write exactly the
-//! replies.
+//! Each script is run over the clone tree and over the plain store, on an empty machine each, and once more over the clone
+//! tree by `Vm::step` in place of `run`. Each must write exactly the replies.
 
 use self::reading::read_script;
 use self::runs::{Counts, compare, written};
+use self::steps::stepped;
 use self::text_fault::Fault;
 use std::alloc::Global;
 use std::test::Fail;
@@ -35,6 +36,7 @@ mod regions;
 mod runs;
 mod sharing;
 mod sizes;
+mod steps;
 mod text_fault;
 mod texts;
 mod trees;
@@ -62,7 +64,11 @@ fn check_script(alloc: Global, text: &str) -> Result<(), Fault> {
     let script = read_script(alloc, text)?;
     let (written, counts) = written(alloc, script.words.as_slice(), script.lines.as_str())?;
     compare(alloc, script.replies.as_str(), written.as_str())?;
-    compare_counts(alloc, script.counts.as_str(), counts)
+    compare_counts(alloc, script.counts.as_str(), counts)?;
+    match stepped(alloc, script.words.as_slice(), script.lines.as_str())? {
+        Some(written) => compare(alloc, script.replies.as_str(), written.as_str()),
+        None => Ok(()),
+    }
 }
 
 /// Checks each script of a text. Answers how it fails.
