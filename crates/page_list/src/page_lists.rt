@@ -9,6 +9,7 @@ ghost use Rattle.balanced_tree.specs.Pairs.{with_pair, IsNext};
 ghost use Rattle.page_list.specs.Order.{row_functions, slot_of};
 ghost use Rattle.page_list.specs.Lists.{slots_of, row_count, page_in};
 
+use crate::filter::Filter;
 use crate::row::{ListId, Row, Slot};
 use balanced_tree::{BalancedTree, Steps, pair_rank};
 use std::alloc::Global;
@@ -20,10 +21,12 @@ use vm_base::{HostMemory, PageNo};
 /// the rows (`row_count`), and `spare`, how many more fit. No call but `reserve` asks the host for memory.
 ///
 /// A step of a counted call is one row that is looked at, put, added or taken. The other calls do the same and count
-/// nothing.
+/// nothing. No call looks at a row for a page or a list of which the filter says that it has none.
 #[derive(Drop)]
 pub struct PageLists {
     tree: BalancedTree<Row>,
+    /// Which pages of which lists may have a row. Contracts do not see it.
+    filter: Filter,
 }
 
 impl Model for PageLists {
@@ -33,6 +36,10 @@ impl Model for PageLists {
     ghost Value = { Rows Row };
 
     ghost view = { λ l. l.tree };
+
+    ghost use Rattle.page_list.specs.Filter.{AreFiltered};
+
+    ghost invariant = { λ l. AreFiltered l.filter l.tree };
 }
 
 impl PageLists {
@@ -44,18 +51,24 @@ impl PageLists {
     {
         PageLists {
             tree: BalancedTree::new(alloc),
+            filter: Filter::new(alloc),
         }
     }
 
-    /// Makes room for `n` rows more. `HostMemory` where the host has too little memory. The rows stay as they are on
-    /// both answers, and no room is lost.
+    /// Makes room for `n` rows more, and makes the filter anew where it is too small for as many, or where many rows went
+    /// since the last time. `HostMemory` where the host has too little memory for the rows, or for a filter that has to grow.
+    /// One that is only to be cleaner takes no memory, and is left out where the host has none for the rows. The rows stay as
+    /// they are on both answers, and no room is lost.
+    ///
+    /// It costs what room for the rows costs. Where the filter is made anew, it costs a look-up for each row and a store for
+    /// each word of the filter more: over all calls a few for each row that came or went, or that room was asked for.
     pub fn reserve(&mut self, n: u64) -> Result<(), HostMemory>
         ensures room { OnOk result (n ≤ self.new.spare) }
         ensures rows { self.new.rows ≡ self.old.rows }
         ensures spare { self.old.spare ≤ self.new.spare }
     {
         match self.tree.reserve(n as usize) {
-            Ok(()) => Ok(()),
+            Ok(()) => self.filter.renew(&self.tree, n),
             Err(_) => Err(HostMemory),
         }
     }
@@ -75,14 +88,18 @@ impl PageLists {
         self.tree.spare() as u64
     }
 
-    /// The slot of a page of a list. `None` exactly where it has no row.
+    /// The slot of a page of a list. `None` exactly where it has no row. It costs one test where the filter says so, else a
+    /// look-up in the tree.
     pub fn find(&self, list: ListId, page: PageNo) -> Option<Slot>
         ensures { result ≡ slots_of self.now list.0 page }
     {
+        if !self.filter.may_have(list.0, page) {
+            return None;
+        }
         slot_in(self.tree.find(pair_rank(list.0, page)))
     }
 
-    /// Adds a row to a page of a list that has none.
+    /// Adds a row to a page of a list that has none. It costs one way down the tree, and sets one bit of the filter.
     pub fn insert(&mut self, list: ListId, page: PageNo, slot: Slot)
         requires absent { slots_of self.old list.0 page ≡ None }
         requires room { 1 ≤ self.old.spare }
@@ -92,9 +109,10 @@ impl PageLists {
     {
         let _rising = self.tree.len();
         self.tree.insert(Row::new(list, page, slot));
+        self.filter.set(list.0, page);
     }
 
-    /// Takes the row of a page of a list out, and answers its slot.
+    /// Takes the row of a page of a list out, and answers its slot. It costs one way down the tree. The filter stays.
     pub fn remove(&mut self, list: ListId, page: PageNo) -> Slot
         requires { IsSome (slots_of self.old list.0 page) }
         ensures slot { slots_of self.old list.0 page ≡ Some result }
@@ -103,6 +121,7 @@ impl PageLists {
         ensures spare { self.new.spare ≡ self.old.spare + 1 }
     {
         let _rising = self.tree.len();
+        self.filter.note_gone();
         self.tree.remove(pair_rank(list.0, page)).slot
     }
 
@@ -130,10 +149,14 @@ impl PageLists {
         self.tree.replace(Row::new(list, page, slot));
     }
 
-    /// The least page of a list from `from` on that has a row. `None` exactly where there is none.
+    /// The least page of a list from `from` on that has a row. `None` exactly where there is none. It costs one test
+    /// where the filter says that the list is empty, else a look-up in the tree.
     pub fn next(&self, list: ListId, from: PageNo) -> Option<PageNo>
         ensures { IsNext (slots_of self.now list.0) from result }
     {
+        if self.filter.word(list.0) == 0 {
+            return None;
+        }
         let _rising = self.tree.len();
         page_in(list, self.tree.next(pair_rank(list.0, from)))
     }
@@ -177,6 +200,9 @@ impl PageLists {
         ensures slot { result ≡ slots_of self.now list.0 page }
         ensures cost { 2 ^ (steps.new - steps.old) ≤ (row_count self.now + 1) ^ 2 }
     {
+        if !self.filter.may_have(list.0, page) {
+            return None;
+        }
         slot_in(self.tree.find_counted(pair_rank(list.0, page), steps))
     }
 
@@ -190,6 +216,9 @@ impl PageLists {
         ensures page { IsNext (slots_of self.now list.0) from result }
         ensures cost { 2 ^ (steps.new - steps.old) ≤ (row_count self.now + 1) ^ 2 }
     {
+        if self.filter.word(list.0) == 0 {
+            return None;
+        }
         let _rising = self.tree.len();
         page_in(list, self.tree.next_counted(pair_rank(list.0, from), steps))
     }
@@ -211,6 +240,7 @@ impl PageLists {
     {
         let _rising = self.tree.len();
         self.tree.insert_counted(Row::new(list, page, slot), steps);
+        self.filter.set(list.0, page);
     }
 
     /// Does what `remove` does, and counts its steps.
@@ -228,6 +258,7 @@ impl PageLists {
         ensures cost { 2 ^ (steps.new - steps.old) ≤ (row_count self.old + 2) ^ 32 }
     {
         let _rising = self.tree.len();
+        self.filter.note_gone();
         self.tree
             .remove_counted(pair_rank(list.0, page), steps)
             .slot

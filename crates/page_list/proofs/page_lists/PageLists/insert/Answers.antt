@@ -4,6 +4,7 @@ use Rattle.balanced_tree.proofs.PairLaws.{values-put, length-inserted}
 use Rattle.page_list.specs.Order.{row_functions, slot_of}
 use Rattle.page_list.specs.Lists.{slots_of}
 use Rattle.page_list.proofs.SlotLaws.{row_pairs, seen_rows, no-row}
+use Rattle.page_list.proofs.FilterLaws.{filtered-put}
 use Rattle.page_list.proofs.page_lists.PageLists.insert.Goals as goal
 
 pub insert-requires-clause-absent : goal.insert-requires-clause-absent
@@ -18,3 +19,8 @@ pub returns-clause-count : goal.returns-clause-count
 returns-clause-count c =
     length-inserted row_pairs _ _ (seen_rows c.self.view_is) c.args.list.0 c.args.page _ c.ranges.page.fits refl c.insert.new.self.rows c.len-rising.ensures.rising c.new.result (ap row_functions.rank c.new.ensures)
     c.insert.ensures.rows c.requires.absent
+
+pub invariant_of-self : goal.invariant_of-self
+invariant_of-self c =
+    filtered-put c.self.invariant c.set.ensures.more c.insert.new.self c.args.list.0 c.args.page c.ranges.page.fits c.new.result (ap row_functions.rank c.new.ensures)
+    c.insert.ensures.rows c.set.ensures.set

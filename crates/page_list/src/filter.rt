@@ -1,0 +1,143 @@
+//! The filter beside the rows: which pages of which lists may have one.
+
+ghost use Rattle.std.specs.Prelude.{◌≡◌, true, OnErr};
+ghost use Rattle.page_list.specs.Filter.{word_in, has_bit, IsMore, AreFiltered};
+
+use crate::row::Row;
+use balanced_tree::{BalancedTree, pair_rank};
+use std::alloc::Global;
+use vm_base::{HostMemory, PageNo};
+
+/// The fewest words of a filter that has any.
+const LEAST_WORDS: u64 = 2048;
+
+/// For each list a word of 64 bits, and for each page a bit of its list's word, by the page's number modulo 64. Where a
+/// page has a row its bit is set. So a clear bit says that the page has none, and a word of 0 that the list is empty. Lists
+/// share words and pages share bits, so a set bit says nothing.
+///
+/// No bit is cleared as a row goes. The filter is made anew where it is too small for the rows, or where more rows went
+/// since the last time than there are words and rows.
+#[derive(Drop)]
+pub(crate) struct Filter {
+    /// The words. None before the first room was made, when there is no row. A word that is not there has all bits set.
+    words: Vec<u64>,
+    /// Which bits of a list's number say where its word stands.
+    mask: u64,
+    /// How many rows went since the filter was made.
+    gone: u64,
+}
+
+impl Filter {
+    /// A filter with no words. It takes no memory.
+    pub(crate) fn new(alloc: Global) -> Filter {
+        Filter {
+            words: Vec::new(alloc),
+            mask: 0,
+            gone: 0,
+        }
+    }
+
+    /// The word of a list: 0 only where no page of it has a row. It costs one load.
+    #[inline(always)]
+    pub(crate) fn word(&self, list: u64) -> u64
+        ensures { result ≡ word_in self.now list }
+    {
+        let at = (list & self.mask) as usize;
+        if at < self.words.len() {
+            self.words[at]
+        } else {
+            u64::MAX
+        }
+    }
+
+    /// Whether the bit of a page of a list is set: false only where the page has no row. It costs one load.
+    #[inline(always)]
+    pub(crate) fn may_have(&self, list: u64, page: PageNo) -> bool
+        ensures { result ≡ has_bit self.now list page }
+    {
+        (self.word(list) >> (page % 64)) & 1 == 1
+    }
+
+    /// Sets the bit of a page of a list, and clears none. It costs one load and one store.
+    pub(crate) fn set(&mut self, list: u64, page: PageNo)
+        ensures set { has_bit self.new list page ≡ true }
+        ensures more { IsMore self.old self.new }
+    {
+        let at = (list & self.mask) as usize;
+        if at < self.words.len() {
+            self.words[at] |= 1 << (page % 64);
+        }
+    }
+
+    /// Notes that a row went. Its bit stays, since other pages may have it too. It costs one addition.
+    pub(crate) fn note_gone(&mut self)
+        ensures { IsMore self.old self.new }
+    {
+        self.gone = self.gone.saturating_add(1);
+    }
+
+    /// Makes the filter anew where it is too small for the rows of a tree and `more` of them, or where many rows went.
+    /// `HostMemory` where it has to grow and the host has too little memory: it stays as it was then. One that is only made
+    /// clean takes no memory.
+    ///
+    /// It costs a look-up for each row and a store for each word where the filter is made anew, else two comparisons.
+    pub(crate) fn renew(&mut self, tree: &BalancedTree<Row>, more: u64) -> Result<(), HostMemory>
+        requires { AreFiltered self.old tree.now }
+        ensures { AreFiltered self.new tree.now }
+    {
+        if let Some(len) = self.wanted(tree.len() as u64, more) {
+            self.clear(len)?;
+            self.fill(tree);
+        }
+        Ok(())
+    }
+
+    /// How many words the filter is to have, where it is to be made anew: two at least for each row and each of `more`. No
+    /// clause says when that is, since a filter is right however many bits more are set. It costs two comparisons.
+    fn wanted(&self, rows: u64, more: u64) -> Option<u64> {
+        let len = self.words.len() as u64;
+        let least = rows.saturating_add(more).saturating_mul(2);
+        if len < least {
+            Some(least.max(LEAST_WORDS).checked_next_power_of_two()?)
+        } else if rows.saturating_add(len) < self.gone {
+            Some(len)
+        } else {
+            None
+        }
+    }
+
+    /// Clears all bits, and gives the filter `len` words. `HostMemory` where the host has too little memory for as many, and
+    /// then no bit is cleared. It costs a store for each word.
+    fn clear(&mut self, len: u64) -> Result<(), HostMemory>
+        ensures { OnErr result (IsMore self.old self.new) }
+    {
+        let count = len as usize;
+        let Ok(()) = self
+            .words
+            .reserve_exact(count.saturating_sub(self.words.len()))
+        else {
+            return Err(HostMemory);
+        };
+        self.words.clear();
+        // The room is there.
+        let _ = self.words.resize(count, 0);
+        self.mask = len.saturating_sub(1);
+        self.gone = 0;
+        Ok(())
+    }
+
+    /// Sets the bit of each row of a tree, whatever bits are set before. It costs a look-up and a store for each row.
+    fn fill(&mut self, tree: &BalancedTree<Row>)
+        ensures { AreFiltered self.new tree.now }
+    {
+        let _rising = tree.len();
+        let mut from = 0;
+        while let Some(row) = tree.next(from) {
+            self.set(row.list.0, row.page);
+            let Some(behind) = pair_rank(row.list.0, row.page).checked_add(1) else {
+                return;
+            };
+            from = behind;
+        }
+    }
+}
