@@ -10,10 +10,9 @@ use Rattle.vm_base.proofs.SearchLaws.{bit-false, count_below_le, any_from_found}
 use Rattle.vm_base.specs.declared.limits.TheConstants.{PAGE}
 use Rattle.vm_model.proofs.OwningLaws.{count_from, length-shown, need-filter, need-row, unowned}
 use Rattle.vm_model.proofs.PinLaws.{any_pinned_at, none_pinned}
-use Rattle.vm_model.proofs.RangeLaws.{touched-nil, touched-row}
 use Rattle.vm_model.proofs.ZeroingLaws.{cases_zeroed, page-zeroed_in, page-zeroed_out, zeroed-none}
 use Rattle.vm_model.specs.Contents.Content.{Content, IsGood, is_held, shown, sole, used}
-use Rattle.vm_model.specs.Contents.Owning.{need, need_from}
+use Rattle.vm_model.specs.Contents.Owning.{need}
 use Rattle.vm_model.specs.Contents.Writing.{bytes_in, touched}
 use Rattle.vm_model.specs.Contents.Zeroing.{Zeroes, ZeroesPage, is_cleared, owned_by_zero, zeroed}
 use Rattle.vm_model.specs.Naming.Pins.{Pin, any_pinned, is_pinned}
@@ -87,11 +86,10 @@ pub bytes_in-page : (c : Content) (v offset n : ℕ) → length (shown c v (offs
 unfolding bytes_in
 bytes_in-page = grind (arith, same_number_lists, length-map-range_with_len, length-take, length-drop, get_or-map-range_with_len, get_or-take, get_or-drop)
 
--- some touched page is not sole where the need is not 0
-pub need_any : (c : Content) (v offset len : ℕ) → 0 < need c v (touched offset len) → list_any (λ p. not (sole c v p)) (touched offset len) ≡ true
-unfolding unowned need_from
-need_any c v offset zero h = grind (arith, touched-nil)
-need_any c v offset (suc len) h = grind (arith, touched-row offset (suc len), need-row, count_from-any)
+-- some page of a row is not sole where the need is not 0
+pub need_any : (c : Content) (v first n : ℕ) → 0 < need c v (range_with_len first n) → list_any (λ p. not (sole c v p)) (range_with_len first n) ≡ true
+unfolding unowned
+need_any = grind (arith, need-row, count_from-any)
 
 -- what was read so far, and more of the page where it stands
 pub bytes_in-more : (c : Content) (v offset done n : ℕ) → IsGood c → (offset + done) % PAGE + n ≤ PAGE

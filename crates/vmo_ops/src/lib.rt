@@ -8,8 +8,8 @@
 #![tactic(auto,
 // no VMO has more pages than fit
 using(page_store::proofs::NameLaws::pages_of_le,
-// where the host may lack memory, some page that is touched is held, or not sole
-crate::proofs::ZeroLaws::held_touched_any, crate::proofs::ModelLaws::need_any),
+// where the host may lack memory, some page that is touched is held
+crate::proofs::ZeroLaws::held_touched_any),
 // what a state says of a name and of a VMO
 unfolding(vm_model::specs::Machine::State::target_of, vm_model::specs::Machine::State::lineage_of,
 // how names and VMOs come into a state

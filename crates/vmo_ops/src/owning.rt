@@ -1,16 +1,16 @@
 //! What owning pages takes (copy on write).
 
-ghost use Rattle.std.specs.Prelude.{◌≡◌, ◌+◌, ◌-◌, ◌^◌, if◌then◌else◌, ◌<◌, ◌≤◌, ◌⊎◌, true, IsSome, IfSome, OnOk, OnErr};
+ghost use Rattle.std.specs.Prelude.{◌≡◌, ◌+◌, ◌-◌, ◌^◌, if◌then◌else◌, ◌<◌, ◌≤◌, ◌⊎◌, IsTrue, IsSome, OnOk, OnErr};
 ghost use Rattle.std.specs.List.{range_with_len};
-ghost use Rattle.vm_model.specs.Contents.Content.{pages_of, sole, IsGood};
-ghost use Rattle.vm_model.specs.Contents.Owning.{Owns, need};
+ghost use Rattle.vm_model.specs.Contents.Content.{pages_of, sole, used, IsGood};
+ghost use Rattle.vm_model.specs.Contents.Owning.{need};
 
 use crate::held_pages::next_held_below;
 use page_store::{Look, PageStore};
-use vm_base::{HostMemory, Koid, PageNo, Tag};
+use vm_base::{HostMemory, Koid, PageNo};
 
-/// How many frames owning the pages from `first` to below `end` takes: as many as are not sole. Most ranges lie in
-/// one page, which is looked at once.
+/// How many frames owning the pages from `first` to below `end` takes: as many as are not sole. One page is looked at
+/// once.
 #[inline(always)]
 pub(crate) fn need_of<P: PageStore>(store: &P, v: Koid, first: PageNo, end: PageNo) -> u64
     requires good { IsGood (P.content store.now) }
@@ -63,19 +63,6 @@ pub(crate) fn is_sole<P: PageStore>(store: &P, v: Koid, page: PageNo) -> bool
     }
 }
 
-/// The frame of a page that is held, where no other VMO shows it. The page may be written as it is.
-#[tactic(auto, using(crate::proofs::LookLaws::look_laws, crate::proofs::LookLaws::owns_sole))]
-pub(crate) fn sole_frame<P: PageStore>(store: &P, v: Koid, page: PageNo) -> Option<Tag>
-    requires { page < pages_of (P.content store.now) v.0 }
-    ensures sole { IfSome result (λ _. sole (P.content store.now) v.0 page ≡ true) }
-    ensures owns { IfSome result (λ tag. Owns (P.content store.now) (P.content store.now) v.0 page tag.0) }
-{
-    match store.look(v, page) {
-        Look::Held { tag, sole: true } => Some(tag),
-        _ => None,
-    }
-}
-
 /// Makes room for owning so many pages, or for zeroing them, where some of them want a row of the store.
 /// `HostMemory` where the host has too little memory, and never where none does.
 pub(crate) fn reserve_rows<P: PageStore>(
@@ -91,4 +78,18 @@ pub(crate) fn reserve_rows<P: PageStore>(
         return Ok(());
     }
     store.reserve(pages)
+}
+
+/// The most pages for which room is made with no look at them, so that no more rows than these stay unused.
+const UNSEEN_PAGES: u64 = 64;
+
+/// Makes room for owning so many pages, whatever they are, and answers whether there are a row and a free frame for each.
+/// No page takes more, so none has to be looked at before. It asks for nothing and answers `false` for more than
+/// `UNSEEN_PAGES` pages, or where fewer frames are free. A page that is sole takes neither, so `false` refuses nothing.
+pub(crate) fn reserve_unseen<P: PageStore>(store: &mut P, pages: u64) -> bool
+    ensures same { P.content store.new ≡ P.content store.old }
+    ensures room { IsTrue result → (pages ≤ P.spare store.new)
+        × (used (P.content store.old) + pages ≤ (P.content store.old).frames) }
+{
+    pages <= UNSEEN_PAGES && pages <= u64::from(store.free()) && store.reserve(pages).is_ok()
 }

@@ -1,7 +1,8 @@
 //! Making a range of a name ready for a change: what may refuse it is looked at, and room is made, before
 //! any page changes.
 
-ghost use Rattle.std.specs.Prelude.{◌≡◌, ℕ, ◌+◌, ◌*◌, ◌≤◌, ◌⊎◌, true, IsSome, IfOk, IfErr, OnOk};
+ghost use Rattle.std.specs.Prelude.{◌≡◌, ℕ, ◌+◌, ◌-◌, ◌*◌, ◌≤◌, ◌⊎◌, true, IsSome, IfOk, IfErr, OnOk};
+ghost use Rattle.std.specs.List.{range_with_len};
 ghost use Rattle.vm_model.specs.Contents.Content.{pages_of, used, IsGood};
 ghost use Rattle.vm_model.specs.Contents.Owning.{need};
 ghost use Rattle.vm_model.specs.Contents.Writing.{touched};
@@ -9,10 +10,10 @@ ghost use Rattle.page_store.specs.Names.{IsInside};
 ghost use Rattle.vmo_ops.specs.Costs.{HasRows, LacksRoom};
 ghost use Rattle.vmo_ops.specs.Targets.{IsPlaced, IsBarred};
 
-use crate::owning::{need_of, reserve_rows};
+use crate::owning::{need_of, reserve_rows, reserve_unseen};
 use crate::ranges::{place_in_vmo, touched_pages};
 use page_store::PageStore;
-use vm_base::{Koid, PAGE, Refusal};
+use vm_base::{Koid, PAGE, PageNo, Refusal};
 use vmo_table::Target;
 
 /// The place in its VMO, in bytes, of a range of a name that may write. `AccessDenied` where the name
@@ -69,7 +70,9 @@ pub(crate) fn ready_to_own<P: PageStore>(
 }
 
 /// Makes room for owning the pages that a range of a VMO touches. `NoMemory` where there are too few free frames, else
-/// `HostMemory` only where one of these pages is not sole.
+/// `HostMemory` only where one of these pages is not sole. Where the range is short and frames are free for all of it, no
+/// page is looked at.
+#[inline(always)]
 pub(crate) fn reserve_to_own<P: PageStore>(
     store: &mut P,
     v: Koid,
@@ -86,6 +89,31 @@ pub(crate) fn reserve_to_own<P: PageStore>(
         ≤ (P.content store.old).frames) }
 {
     let (first, end) = touched_pages(offset, len);
+    if reserve_unseen(store, end - first) {
+        return Ok(());
+    }
+    reserve_needed(store, v, first, end)
+}
+
+/// Makes room for owning the pages from `first` to below `end`, by a look at those that are held. It is refused as
+/// `reserve_to_own` is.
+#[inline(never)]
+fn reserve_needed<P: PageStore>(
+    store: &mut P,
+    v: Koid,
+    first: PageNo,
+    end: PageNo,
+) -> Result<(), Refusal>
+    requires good { IsGood (P.content store.old) }
+    requires vmo { IsSome ((P.content store.old).count v.0) }
+    requires order { first ≤ end }
+    requires pages { end ≤ pages_of (P.content store.old) v.0 }
+    ensures same { P.content store.new ≡ P.content store.old }
+    ensures err { IfErr result (LacksRoom (P.content store.old) v.0 (range_with_len first (end - first))) }
+    ensures rows { OnOk result (HasRows (P.content store.old) v.0 (range_with_len first (end - first)) (P.spare store.new)) }
+    ensures free { OnOk result (used (P.content store.old)
+        + need (P.content store.old) v.0 (range_with_len first (end - first)) ≤ (P.content store.old).frames) }
+{
     let need = need_of(store, v, first, end);
     if need > u64::from(store.free()) {
         return Err(Refusal::NoMemory);

@@ -1,6 +1,6 @@
 //! Writing bytes to a VMO (`zx_vmo_write`).
 
-ghost use Rattle.std.specs.Prelude.{◌≡◌, ◌+◌, ◌*◌, ◌<◌, ◌≤◌, ◌⊎◌, true, length, MatchBool};
+ghost use Rattle.std.specs.Prelude.{◌≡◌, ◌+◌, ◌*◌, ◌<◌, ◌≤◌, ◌⊎◌, true, length};
 ghost use Rattle.vm_model.specs.declared.command.Command.{Command};
 ghost use Rattle.vm_model.specs.declared.reply.Reply.{Reply};
 ghost use Rattle.vm_model.specs.Contents.Content.{pages_of, sole, used, IsGood};
@@ -11,9 +11,8 @@ ghost use Rattle.page_store.specs.Names.{IsInside};
 ghost use Rattle.vmo_ops.specs.Costs.{HasRows};
 ghost use Rattle.vmo_ops.specs.Targets.{Does};
 
-use crate::owning::sole_frame;
 use crate::ranges::{part_in_page, touched_pages};
-use crate::ready::{place_to_change, reserve_to_own};
+use crate::ready::ready_to_own;
 use page_store::PageStore;
 use vm_base::{Koid, PAGE, PageNo, Refusal};
 use vmo_table::Target;
@@ -33,62 +32,12 @@ pub fn write<P: PageStore>(
     ensures { Does (λ name. Command.VmoWrite name offset bytes.now) t.now (P.content store.old)
         (reply_of (λ _. Reply.Done) result) (P.content store.new) }
 {
-    let at = match place_to_change(store, t, offset, bytes.len() as u64) {
-        Ok(at) => at,
-        Err(refusal) => return Err(refusal),
-    };
-    if write_sole(store, t.koid, at, bytes) {
-        return Ok(());
-    }
-    match reserve_to_own(store, t.koid, at, bytes.len() as u64) {
-        Ok(()) => {
+    match ready_to_own(store, t, offset, bytes.len() as u64) {
+        Ok(at) => {
             write_range(store, t.koid, at, bytes);
             Ok(())
         }
         Err(refusal) => Err(refusal),
-    }
-}
-
-// Writes bytes inside the VMO where they lie in one page that is sole, with one look at the page, and answers whether it
-// did so. Most writes are such.
-fn write_sole<P: PageStore>(store: &mut P, v: Koid, offset: u64, bytes: &[u8]) -> bool
-    requires good { IsGood (P.content store.old) }
-    requires inside { offset + length bytes.now ≤ pages_of (P.content store.old) v.0 * PAGE }
-    ensures { MatchBool result
-        ((used (P.content store.old) + need (P.content store.old) v.0 (touched offset (length bytes.now))
-        ≤ (P.content store.old).frames)
-        × Writes (P.content store.old) (pieces v.0 offset bytes.now) (P.content store.new))
-        (P.content store.new ≡ P.content store.old) }
-{
-    let (first, end) = touched_pages(offset, bytes.len() as u64);
-    if end - first != 1 {
-        return false;
-    }
-    write_sole_part(store, v, first, offset % PAGE, bytes)
-}
-
-// Writes bytes to one page, from `at` bytes into the page on, where the page is sole, and answers whether it is.
-fn write_sole_part<P: PageStore>(
-    store: &mut P,
-    v: Koid,
-    page: PageNo,
-    at: u64,
-    bytes: &[u8],
-) -> bool
-    requires good { IsGood (P.content store.old) }
-    requires page { page < pages_of (P.content store.old) v.0 }
-    requires within { at + length bytes.now ≤ PAGE }
-    ensures { MatchBool result
-        ((sole (P.content store.old) v.0 page ≡ true) × WritesPiece (P.content store.old)
-        (record { koid = v.0; page = page; at = at; bytes = bytes.now }) (P.content store.new))
-        (P.content store.new ≡ P.content store.old) }
-{
-    match sole_frame(store, v, page) {
-        Some(tag) => {
-            store.write(tag, at, bytes);
-            true
-        }
-        None => false,
     }
 }
 
