@@ -1,7 +1,7 @@
 -- A machine with no names, pins, regions and translations, over a store without VMOs.
-use Rattle.std.proofs.Common.{◌≡◌, ℕ, ◌<◌, Option, None, Some, refl, sym, ap, subst, ◌∙◌, ◌==◌, arith}
-use Rattle.std.specs.Prelude.{is_some, unwrap_or}
-use Rattle.vm_model.specs.Contents.Content.{Content, Page, nothing, pages_of, IsGood}
+use Rattle.std.proofs.Common.{◌≡◌, ℕ, ◌≤◌, None, sym, ap, subst, ◌∙◌, ◌==◌, arith}
+use Rattle.std.specs.Prelude.{is_some}
+use Rattle.vm_model.specs.Contents.Content.{Content, nothing, IsGood}
 use Rattle.vm_model.specs.Machine.State.{IsGoodState, empty_state}
 use Rattle.vm_base.specs.declared.limits.TheConstants.{NAMES}
 use Rattle.vm_base.proofs.EntryLaws.{entry_count-empty}
@@ -14,7 +14,6 @@ use Rattle.region_tree.specs.Tree.{regions_of}
 use Rattle.vm_model.specs.Machine.Machine.{empty_machine}
 use Rattle.fault.specs.Table.{places_of, ready_of, AreTrue}
 use Rattle.vm_core.specs.Vm.{Parts, spaces_in, HasNoVmo, bare_state, bare_machine, state_of, machine_of, Agrees}
-use Rattle.vm_model.proofs.ContentLaws.{IsGood-nothing}
 use Rattle.vm_model.proofs.SpaceLaws.{AreGoodSpaces-none, mapped_count-none}
 
 -- tables in which nothing stands
@@ -33,13 +32,26 @@ state_of-bare c vm names lineage pins regions table = λ i. record (bare_state c
 pub machine_of-bare : (c : Content) (vm : Parts) → state_of c vm ≡ bare_state c → places_of vm.translations ≡ (λ root p. None) → machine_of c vm ≡ bare_machine c
 machine_of-bare c vm bare none = λ i. record { state = bare i; ready = ready_of (none i) }
 
+-- a content without VMOs and pages is good
+IsGood-none : (c : Content) → HasNoVmo c → 1 ≤ c.next → IsGood c
+IsGood-none c none first = record {
+  koids = λ v n e. let no = none.none v in absurd cc;
+  counts = λ v n e. let no = none.none v in absurd cc;
+  first_koid = first;
+  below = λ v p held e. let no = none.no_page v p in absurd cc;
+  whole = λ v p held e. let no = none.no_page v p in absurd cc;
+  tags = λ v p held e. let no = none.no_page v p in absurd cc;
+  alike = λ v p w q held other e f same. let no = none.no_page v p in absurd cc;
+  apart = λ v p q held other e f same. let no = none.no_page v p in absurd cc;
+}
+
 -- the state is good
-IsGoodState-bare : (c : Content) → IsGood c → HasNoVmo c → IsGoodState (bare_state c)
+IsGoodState-bare : (c : Content) → HasNoVmo c → 1 ≤ c.next → IsGoodState (bare_state c)
 unfolding empty_state
-IsGoodState-bare c good none = record {
-  content = good;
+IsGoodState-bare c none first = record {
+  content = IsGood-none c none first;
   names = λ n target e. absurd cc;
-  known = λ v. ap is_some (sym (none v));
+  known = λ v. ap is_some (sym (none.none v));
   live = λ v h. absurd cc;
   parents = λ v p l e f. absurd cc;
   pins = λ n pin e. absurd cc;
@@ -47,31 +59,23 @@ IsGoodState-bare c good none = record {
 }
 
 -- the parts agree with the store
-pub agrees_bare : (c : Content) (vm : Parts) → state_of c vm ≡ bare_state c → places_of vm.translations ≡ (λ root p. None) → IsGood c → HasNoVmo c → Agrees c vm
-agrees_bare c vm bare none good no_vmo = record {
-  good = subst IsGoodState (sym bare) (IsGoodState-bare c good no_vmo);
+pub agrees_bare : (c : Content) (vm : Parts) → state_of c vm ≡ bare_state c → places_of vm.translations ≡ (λ root p. None) → HasNoVmo c → 1 ≤ c.next → Agrees c vm
+agrees_bare c vm bare none no_vmo first = record {
+  good = subst IsGoodState (sym bare) (IsGoodState-bare c no_vmo first);
   translations = subst (AreTrue c (table_of vm.maps)) (sym none)
       (record { entry = λ root p x e. absurd cc; frame = λ root p x e. absurd cc; below = λ root p x e. absurd cc; alone = λ root p x e. absurd cc });
 }
 
--- in a store without VMOs no page is held
-no_page : (c : Content) (v p : ℕ) → IsGood c → HasNoVmo c → c.page v p ≡ None
-unfolding pages_of
-no_page c v p good none = go (c.page v p) (good.below v p) where
-  go : (o : Option Page) → ((held : Page) → o ≡ Some held → p < pages_of c v) → o ≡ None
-  go None below = refl
-  go (Some held) below = absurd (omega (arith, below held refl, ap (λ (o : Option ℕ). unwrap_or o 0) (none v)))
-
 -- with the first koid to come it is the empty machine
-bare_state-first : (c : Content) → IsGood c → HasNoVmo c → c.next ≡ 1 → bare_state c ≡ empty_state c.frames
+bare_state-first : (c : Content) → HasNoVmo c → c.next ≡ 1 → bare_state c ≡ empty_state c.frames
 unfolding empty_state nothing
-bare_state-first c good none first = λ i. record (bare_state c) {
-  content = record c { next = first i; count = λ v. none v i; page = λ v p. no_page c v p good none i };
+bare_state-first c none first = λ i. record (bare_state c) {
+  content = record c { next = first i; count = λ v. none.none v i; page = λ v p. none.no_page v p i };
 }
 
-pub bare_machine-first : (c : Content) → IsGood c → HasNoVmo c → c.next ≡ 1 → bare_machine c ≡ empty_machine c.frames
+pub bare_machine-first : (c : Content) → HasNoVmo c → c.next ≡ 1 → bare_machine c ≡ empty_machine c.frames
 unfolding empty_machine
-bare_machine-first c good none first = λ i. record { state = bare_state-first c good none first i; ready = λ root p. None }
+bare_machine-first c none first = λ i. record { state = bare_state-first c none first i; ready = λ root p. None }
 
 -- a store that had nothing, with page frames
 pub machine_of-filled : (frames : ℕ) (new old : Content) (vm : Parts) → ((c : Content) → machine_of c vm ≡ bare_machine c)
@@ -81,13 +85,15 @@ machine_of-filled frames new old vm bare filled e =
     let with_frames = λ (c : Content). record c { frames = frames } in
     bare new ∙ ap bare_machine (filled ∙ ap with_frames e)
 
--- it is good, and has no VMO
-pub filled_fresh : (frames : ℕ) (new old : Content) → new ≡ record old { frames = frames } → old ≡ nothing → IsGood new × HasNoVmo new
+-- it has no VMO, and the first koid is still to come
+pub filled_fresh : (frames : ℕ) (new old : Content) → new ≡ record old { frames = frames } → old ≡ nothing → HasNoVmo new × (new.next ≡ 1)
 unfolding nothing
 filled_fresh frames new old filled e =
     let with_frames = λ (c : Content). record c { frames = frames } in
-    let is : new ≡ record nothing { frames = frames } = filled ∙ ap with_frames e in
-    (subst IsGood (sym is) (IsGood-nothing frames), λ v. ap (λ (c : Content). c.count v) is)
+    let is : new ≡ record nothing { frames = frames } = filled ∙ ap with_frames e in (
+      record { none = λ v. ap (λ (c : Content). c.count v) is; no_page = λ v p. ap (λ (c : Content). c.page v p) is },
+      ap (λ (c : Content). c.next) is,
+    )
 
 -- in a table of VMOs without keepers no pin is counted
 pub counts_none : (vm : Parts) → ((v : ℕ) → keepers_of vm.vmos v ≡ 0) → ((n : ℕ) → pins_of vm.pins n ≡ None)

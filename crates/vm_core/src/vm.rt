@@ -46,17 +46,17 @@ impl Model for Vm {
 }
 
 impl Vm {
-    ghost use Rattle.vm_model.specs.Contents.Content.{Content, IsGood};
+    ghost use Rattle.vm_model.specs.Contents.Content.{Content};
     ghost use Rattle.vm_model.specs.Machine.Machine.{IsGoodMachine, empty_machine};
     ghost use Rattle.vm_model.specs.Machine.MachineStep.{MachineStep};
     ghost use Rattle.vm_core.specs.Vm.{Agrees, HasNoVmo, bare_machine, machine_of};
 
-    /// A machine with no names, pins, regions and translations. It agrees with every good store that has no VMO, whatever its
-    /// next koid is. Where that is 1, they are the empty machine.
+    /// A machine with no names, pins, regions and translations. It agrees with every store that has no VMO, whatever its next
+    /// koid is, from 1 on. Where that is 1, they are the empty machine.
     pub fn new(alloc: Global) -> Vm
         ensures bare { (c : Content) → machine_of c result ≡ bare_machine c }
-        ensures agrees { (c : Content) → IsGood c → HasNoVmo c → Agrees c result }
-        ensures empty { (c : Content) → IsGood c → HasNoVmo c → c.next ≡ 1 → machine_of c result ≡ empty_machine c.frames }
+        ensures agrees { (c : Content) → HasNoVmo c → 1 ≤ c.next → Agrees c result }
+        ensures empty { (c : Content) → HasNoVmo c → c.next ≡ 1 → machine_of c result ≡ empty_machine c.frames }
     {
         Vm {
             alloc,

@@ -3,7 +3,6 @@ use Rattle.std.proofs.Common.{◌≡◌, ℕ, ◌≤◌, inl, inr, false, List, 
 use Rattle.std.proofs.KnownBytes.{Appends-nil, Consumes-nil}
 use Rattle.vm_model.specs.Contents.Content.{Content, nothing}
 use Rattle.vm_model.specs.Machine.Machine.{Machine, IsGoodMachine, empty_machine}
-use Rattle.vm_model.proofs.ContentLaws.{count-nothing}
 use Rattle.vm_core.specs.Vm.{HasNoVmo}
 use Rattle.script_io.specs.Faults.{HasFailed}
 use Rattle.script_io.specs.Reader.{Reader}
@@ -15,7 +14,8 @@ use Rattle.vm_session.specs.Serving.{IsServed, IsReady}
 use Rattle.vm_session.proofs.Served.{AreLines-none}
 
 pub HasNoVmo-nothing : (c : Content) → c ≡ nothing → HasNoVmo c
-HasNoVmo-nothing c e v = ap (λ (d : Content). d.count v) e ∙ count-nothing v
+unfolding nothing
+HasNoVmo-nothing c e = record { none = λ v. ap (λ (d : Content). d.count v) e; no_page = λ v p. ap (λ (d : Content). d.page v p) e }
 
 -- nothing was done to a store that contains nothing
 pub NothingDone-yet : (source sink : Option (List ℕ)) (c d : Content) → c ≡ d → d ≡ nothing → NothingDone source source sink sink c

@@ -17,7 +17,7 @@ loop-status-init g c =
     let fresh = filled_fresh c.args.frames _ _ c.in-Ok-fill.ensures.ok c.requires.empty in
     record {
       served = IsServed-fresh c.args.frames c.args.limit _ _ _ _ c.in-Ok.ensures empty;
-      agrees = c.new-vm.ensures.agrees _ fresh.0 fresh.1;
+      agrees = c.new-vm.ensures.agrees _ fresh.0 (omega (arith, fresh.1));
       ready = IsReady-fresh c.args.frames c.args.limit _ _ _ c.in-Ok.ensures empty;
       limit = ap (λ r. r.limit) c.in-Ok.ensures;
       read_later = omega arith;

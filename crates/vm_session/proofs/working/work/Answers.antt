@@ -10,7 +10,7 @@ returns-in_default-clause-ends g c = λ source. NothingDone-yet _ _ _ _ c.in_def
 pub work_through-tally-requires-clause-agrees : goal.work_through-tally-requires-clause-agrees
 work_through-tally-requires-clause-agrees g c =
     let fresh = filled_fresh c.args.frames _ _ c.in-Ok.ensures.ok c.requires.empty in
-    c.new-vm.ensures.agrees _ fresh.0 fresh.1
+    c.new-vm.ensures.agrees _ fresh.0 (omega (arith, fresh.1))
 
 pub work_through-tally-requires-clause-next : goal.work_through-tally-requires-clause-next
 work_through-tally-requires-clause-next g c =

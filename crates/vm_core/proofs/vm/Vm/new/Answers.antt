@@ -19,7 +19,7 @@ pub returns-clause-bare : goal.returns-clause-bare
 returns-clause-bare c = λ d. machine_of-bare d (made c) (bare c d) c.new-5.ensures
 
 pub returns-clause-agrees : goal.returns-clause-agrees
-returns-clause-agrees c = λ d good none. agrees_bare d (made c) (bare c d) c.new-5.ensures good none
+returns-clause-agrees c = λ d none first. agrees_bare d (made c) (bare c d) c.new-5.ensures none first
 
 pub returns-clause-empty : goal.returns-clause-empty
-returns-clause-empty c = λ d good none first. returns-clause-bare c d ∙ bare_machine-first d good none first
+returns-clause-empty c = λ d none first. returns-clause-bare c d ∙ bare_machine-first d none first
