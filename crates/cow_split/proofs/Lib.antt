@@ -4,6 +4,7 @@ pub mod ClimbLaws
 pub mod SearchLaws
 pub mod WayLaws
 pub mod WeightLaws
+pub mod ExistingLaws
 pub mod SeenLaws
 pub mod ViewersLaws
 pub mod FoundLaws

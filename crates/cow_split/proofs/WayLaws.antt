@@ -17,7 +17,7 @@ use Rattle.cow_arena.proofs.WalkLaws.{link_same}
 use Rattle.cow_arena.proofs.ReachLaws.{hidden-of-child, child-there, side-of-child}
 use Rattle.cow_split.specs.Search.{viewers_from}
 use Rattle.cow_split.specs.declared.viewers.Cursor.{Cursor}
-use Rattle.cow_split.specs.Searching.{viewers_at, IsThrough, IsOnward, OnWay, at_start, to_left, to_right, IsPassed, GoesOn, Finds, IsMet, viewer_met}
+use Rattle.cow_split.specs.Searching.{viewers_at, IsThrough, IsOnward, OnWay, at_start, to_left, to_right, Below, IsPassed, GoesOn, IsAhead, IsMet, viewer_met}
 use Rattle.cow_split.proofs.SearchLaws.{IsOpen, viewed, further_down, enters-of-found, found-within, met-viewed, met-excepted, met-through, none-in, down-none, deeper-child}
 
 module _ (t : Tree) (f : IsForest t.nodes t.lists) (except : Option NodeId) where
@@ -71,7 +71,7 @@ module _ (t : Tree) (f : IsForest t.nodes t.lists) (except : Option NodeId) wher
   }
 
   -- what is found at a hidden node through which the search goes on is found below its children
-  found-through : (k p : ℕ) (node : Node) → IsThrough t k p node →
+  pub found-through : (k p : ℕ) (node : Node) → IsThrough t k p node →
       viewers_at t except (link_to k) (p + node.first) ≡ viewers_at t except node.left p ++ viewers_at t except node.right p
   found-through k p node o = found-within t f except k p node o.at o.inside ∙ met-through t f except k p node o.hidden o.free
 
@@ -82,7 +82,7 @@ module _ (t : Tree) (f : IsForest t.nodes t.lists) (except : Option NodeId) wher
   from-none side h q above at none = rw (at, none) (down-none t.nodes t.slots t.lists f except t.lists q)
 
   pub way-begins : (side : Side) (h q : ℕ) (above : Node) (c : NodeId) → q < 2 ^ 64 → t.nodes h ≡ Some above → child_on above side ≡ Some c →
-      GoesOn t except c.0 c.0 q (viewers_from t except side h q)
+      GoesOn t (viewers_at t except) c.0 c.0 q (viewers_from t except side h q)
   way-begins side h q above c fits at child =
       let it = child-there t.nodes t.lists f h c.0 above side at child in
       record {
@@ -91,10 +91,11 @@ module _ (t : Tree) (f : IsForest t.nodes t.lists) (except : Option NodeId) wher
         ahead_is = rw (at, child) (sym (append-nil (viewers_at t except (link_to c.0) q)));
       }
 
+module _ (t : Tree) (f : IsForest t.nodes t.lists) (below : Below) where
   module _ (start : ℕ) where
     module _ (whole : ℕ) where
       abbrev Way : ℕ → ℕ → List ℕ → Type 0
-      Way k q after = OnWay t except start whole k q after
+      Way k q after = OnWay t below start whole k q after
 
       -- the node is there, and its page fits where the first one does
       way-there : (k q : ℕ) (after : List ℕ) → Way k q after → (node : Node) × (t.nodes k ≡ Some node)
@@ -111,11 +112,11 @@ module _ (t : Tree) (f : IsForest t.nodes t.lists) (except : Option NodeId) wher
       way-ranks : (k q : ℕ) (after : List ℕ) → Way k q after → f.rank start ≤ f.rank k
       way-ranks k q after (at_start k' q' after' node at is page last) = let same = ap f.rank is in omega arith
       way-ranks l p after (to_left l' p' after' k node rest way o left more) =
-          let deeper = deeper-child t.nodes t.slots t.lists f except k l node side.Left o.at left in
+          let deeper = deeper-child t.nodes t.slots t.lists f None k l node side.Left o.at left in
           let above = way-ranks k (p + node.first) rest way in
           omega arith
       way-ranks r p after (to_right r' p' after' k node way o right) =
-          let deeper = deeper-child t.nodes t.slots t.lists f except k r node side.Right o.at right in
+          let deeper = deeper-child t.nodes t.slots t.lists f None k r node side.Right o.at right in
           let above = way-ranks k (p + node.first) after way in
           omega arith
 
@@ -123,16 +124,16 @@ module _ (t : Tree) (f : IsForest t.nodes t.lists) (except : Option NodeId) wher
       way-deeper : (k q : ℕ) (after : List ℕ) → Way k q after → (after ≡ []) ⊎ (f.rank start < f.rank k)
       way-deeper k q after (at_start k' q' after' node at is page last) = inl last
       way-deeper l p after (to_left l' p' after' k node rest way o left more) =
-          let deeper = deeper-child t.nodes t.slots t.lists f except k l node side.Left o.at left in
+          let deeper = deeper-child t.nodes t.slots t.lists f None k l node side.Left o.at left in
           inr (let above = way-ranks k (p + node.first) rest way in omega arith)
       way-deeper r p after (to_right r' p' after' k node way o right) =
-          let deeper = deeper-child t.nodes t.slots t.lists f except k r node side.Right o.at right in
+          let deeper = deeper-child t.nodes t.slots t.lists f None k r node side.Right o.at right in
           inr (let above = way-ranks k (p + node.first) after way in omega arith)
 
       -- a node that was passed, but for the first one, is a child of a node on the way
       data Came (k q : ℕ) (after : List ℕ) : Type 0 where
         from_left : (h : ℕ) (a : Node) (rest : List ℕ) → Way h (q + a.first) rest → IsThrough t h q a → a.left ≡ link_to k →
-            after ≡ viewers_at t except a.right q ++ rest → Came k q after
+            after ≡ below a.right q ++ rest → Came k q after
         from_right : (h : ℕ) (a : Node) → Way h (q + a.first) after → IsThrough t h q a → a.right ≡ link_to k → Came k q after
 
       came : (k q : ℕ) (after : List ℕ) → Way k q after → k ≢ start → Came k q after
@@ -140,27 +141,29 @@ module _ (t : Tree) (f : IsForest t.nodes t.lists) (except : Option NodeId) wher
       came l p after (to_left l' p' after' k node rest way o left more) apart = from_left k node rest way o left more
       came r p after (to_right r' p' after' k node way o right) apart = from_right k node way o right
 
-    pub way-some : (k q : ℕ) (after : List ℕ) → IsPassed t except start k q after → IsSome (t.nodes k)
+    pub way-some : (k q : ℕ) (after : List ℕ) → IsPassed t below start k q after → IsSome (t.nodes k)
     way-some k q after h = subst IsSome (sym (way-there h.whole k q after h.way).1) refl
 
-    pub page-fits : (k q : ℕ) (after : List ℕ) → IsPassed t except start k q after → q < 2 ^ 64
+    pub page-fits : (k q : ℕ) (after : List ℕ) → IsPassed t below start k q after → q < 2 ^ 64
     page-fits k q after h = let low = way-page h.whole k q after h.way in let fits = h.fits in omega arith
 
     -- ---- where a search goes on
 
-    pub goes-onward : (k q l p : ℕ) (ahead : List ℕ) → GoesOn t except start k q ahead → IsOnward t k q l p → GoesOn t except start l p ahead
-    goes-onward k q l p ahead h on =
+    -- into a hidden node, where those that are found there are found below its children
+    pub goes-onward_by : (k q l p : ℕ) (ahead : List ℕ) → GoesOn t below start k q ahead → (on : IsOnward t k q l p) →
+        below (link_to k) q ≡ below on.node.left p ++ below on.node.right p → GoesOn t below start l p ahead
+    goes-onward_by k q l p ahead h on children =
         let node = on.node in
-        let right = viewers_at t except node.right p in
-        let here = subst (λ q. OnWay t except start h.passed.whole k q h.after) on.page h.passed.way in
+        let right = below node.right p in
+        let here = subst (λ q. OnWay t below start h.passed.whole k q h.after) on.page h.passed.way in
         record {
           after = right ++ h.after;
           passed = record { whole = h.passed.whole; fits = h.passed.fits; way = to_left l p (right ++ h.after) k node h.after here on.through on.left refl };
-          ahead_is = h.ahead_is ∙ (ap (λ list. list ++ h.after) (ap (viewers_at t except (link_to k)) on.page ∙ found-through k p node on.through)
-              ∙ (append_assoc (viewers_at t except node.left p) right h.after ∙ ap (λ o. viewers_at t except o p ++ (right ++ h.after)) on.left));
+          ahead_is = h.ahead_is ∙ (ap (λ list. list ++ h.after) children
+              ∙ (append_assoc (below node.left p) right h.after ∙ ap (λ o. below o p ++ (right ++ h.after)) on.left));
         }
 
-    pub passed-start : (k q : ℕ) (after : List ℕ) → IsPassed t except start k q after → k ≡ start → after ≡ []
+    pub passed-start : (k q : ℕ) (after : List ℕ) → IsPassed t below start k q after → k ≡ start → after ≡ []
     passed-start k q after h is = elim (way-deeper h.whole k q after h.way) [
       | inl last ↦ last
       | inr lower ↦ absurd (let same = ap f.rank is in omega arith)
@@ -177,7 +180,7 @@ module _ (t : Tree) (f : IsForest t.nodes t.lists) (except : Option NodeId) wher
         let side_is : side_in t.nodes k ≡ Some (side_of above k) = rw (at, parent_is, above_at) refl in
         (here, one, some_same (sym side_is ∙ side-of-child t.nodes t.lists f h k a s a_at child))
 
-    pub passed-parent : (k q : ℕ) (after : List ℕ) (node : Node) → IsPassed t except start k q after → k ≢ start → t.nodes k ≡ Some node → node.parent ≡ None → ⊥
+    pub passed-parent : (k q : ℕ) (after : List ℕ) (node : Node) → IsPassed t below start k q after → k ≢ start → t.nodes k ≡ Some node → node.parent ≡ None → ⊥
     passed-parent k q after node h apart at none =
         elim (came h.whole k q after h.way apart) [
           | from_left j a rest way o left more ↦ no_parent j a side.Left o.at left
@@ -191,10 +194,10 @@ module _ (t : Tree) (f : IsForest t.nodes t.lists) (except : Option NodeId) wher
             let parent = it.parent in
             cc
 
-    module _ (k q : ℕ) (after : List ℕ) (h : IsPassed t except start k q after) (apart : k ≢ start) (parent : ℕ) (node above : Node)
+    module _ (k q : ℕ) (after : List ℕ) (h : IsPassed t below start k q after) (apart : k ≢ start) (parent : ℕ) (node above : Node)
         (at : t.nodes k ≡ Some node) (parent_is : node.parent ≡ link_to parent) (above_at : t.nodes parent ≡ Some above) where
       -- after a left child comes the right one, which is there
-      pub passed-left : (r : ℕ) → side_of above k ≡ side.Left → above.right ≡ link_to r → GoesOn t except start r q after
+      pub passed-left : (r : ℕ) → side_of above k ≡ side.Left → above.right ≡ link_to r → GoesOn t below start r q after
       passed-left r is right =
           elim (came h.whole k q after h.way apart) [
             | from_left j a rest way o left more ↦ (
@@ -203,7 +206,7 @@ module _ (t : Tree) (f : IsForest t.nodes t.lists) (except : Option NodeId) wher
                 record {
                   after = rest;
                   passed = record { whole = h.whole; fits = h.fits; way = to_right r q rest j a way o right_is };
-                  ahead_is = more ∙ ap (λ o. viewers_at t except o q ++ rest) right_is;
+                  ahead_is = more ∙ ap (λ o. below o q ++ rest) right_is;
                 })
             | from_right j a way o child ↦ (
                 let one = one-parent k j parent node a above side.Right o.at child at parent_is above_at in
@@ -220,7 +223,7 @@ module _ (t : Tree) (f : IsForest t.nodes t.lists) (except : Option NodeId) wher
           cc
 
       -- after a right child both children were passed
-      pub passed-right : side_of above k ≡ side.Right → IsPassed t except start parent (q + above.first) after
+      pub passed-right : side_of above k ≡ side.Right → IsPassed t below start parent (q + above.first) after
       passed-right is =
           elim (came h.whole k q after h.way apart) [
             | from_left j a rest way o child more ↦ (
@@ -229,18 +232,29 @@ module _ (t : Tree) (f : IsForest t.nodes t.lists) (except : Option NodeId) wher
                 absurd (cc))
             | from_right j a way o child ↦ (
                 let one = one-parent k j parent node a above side.Right o.at child at parent_is above_at in
-                let both : IsPassed t except start j (q + a.first) after = record { whole = h.whole; fits = h.fits; way = way } in
-                subst (λ (n : Node). IsPassed t except start parent (q + n.first) after) one.1
-                (subst (λ i. IsPassed t except start i (q + a.first) after) one.0 both))
+                let both : IsPassed t below start j (q + a.first) after = record { whole = h.whole; fits = h.fits; way = way } in
+                subst (λ (n : Node). IsPassed t below start parent (q + n.first) after) one.1
+                (subst (λ i. IsPassed t below start i (q + a.first) after) one.0 both))
           ]
 
-  -- ---- what a search finds
+  -- ---- what is ahead of a search
 
   -- where it goes on at a cursor
-  pub finds-here : (o : Option Cursor) (from : Cursor) (ahead : List ℕ) → o ≡ Some from → Finds t except o ahead →
-      GoesOn t except from.start.0 from.at.0 from.page ahead
-  finds-here o from ahead is finds = subst (λ o. Finds t except o ahead) is finds
+  pub finds-here : (o : Option Cursor) (from : Cursor) (ahead : List ℕ) → o ≡ Some from → IsAhead t below o ahead →
+      GoesOn t below from.start.0 from.at.0 from.page ahead
+  finds-here o from ahead is finds = subst (λ o. IsAhead t below o ahead) is finds
+
+  -- where it goes on nowhere
+  pub finds-end : (o : Option Cursor) (ahead : List ℕ) → o ≡ None → IsAhead t below o ahead → ahead ≡ []
+  finds-end o ahead is finds = subst (λ o. IsAhead t below o ahead) is finds
 
   -- there is the node
-  pub goes-some : (start k q : ℕ) (ahead : List ℕ) → GoesOn t except start k q ahead → IsSome (t.nodes k)
+  pub goes-some : (start k q : ℕ) (ahead : List ℕ) → GoesOn t below start k q ahead → IsSome (t.nodes k)
   goes-some start k q ahead h = way-some start k q h.after h.passed
+
+-- a search for all visible nodes goes on with the left child of a hidden node
+pub goes-onward : (t : Tree) (f : IsForest t.nodes t.lists) (except : Option NodeId) (start k q l p : ℕ) (ahead : List ℕ) →
+    GoesOn t (viewers_at t except) start k q ahead → IsOnward t k q l p → GoesOn t (viewers_at t except) start l p ahead
+goes-onward t f except start k q l p ahead h on =
+    goes-onward_by t f (viewers_at t except) start k q l p ahead h on
+    (ap (viewers_at t except (link_to k)) on.page ∙ found-through t f except k p on.node on.through)

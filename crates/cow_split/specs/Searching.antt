@@ -21,6 +21,10 @@ use Rattle.cow_split.specs.declared.viewers.Met.TheVariants as met
 abbrev pub viewers_at : Tree → (except child : Option NodeId) → (q : ℕ) → List ℕ
 viewers_at t except child q = viewers_over t.nodes t.slots except t.lists child q
 
+-- whom a search finds at and below a child, at a page of the child's parent
+abbrev pub Below : Type 0
+Below = Option NodeId → ℕ → List ℕ
+
 -- page p of the hidden node k is a page of its parent, and the node has no row there: a search goes on below it
 pub record IsThrough (t : Tree) (k p : ℕ) (node : Node) : Type 0 where
   pub at : t.nodes k ≡ Some node
@@ -38,37 +42,41 @@ pub record IsOnward (t : Tree) (k q l p : ℕ) : Type 0 where
 -- A search from left to right, which began at node `start` with page `whole` of its parent, may come to node k with page q
 -- of its parent. After all that is at and below k it finds these: those below the right child of each node at which the
 -- way down to k goes to the left.
-pub data OnWay (t : Tree) (except : Option NodeId) (start whole : ℕ) : ℕ → ℕ → List ℕ → Type 0 where
+pub data OnWay (t : Tree) (below : Below) (start whole : ℕ) : ℕ → ℕ → List ℕ → Type 0 where
   at_start : (k q : ℕ) (after : List ℕ) (node : Node) → t.nodes k ≡ Some node → k ≡ start → q ≡ whole → after ≡ [] →
-      OnWay t except start whole k q after
-  to_left : (l p : ℕ) (after : List ℕ) (k : ℕ) (node : Node) (rest : List ℕ) → OnWay t except start whole k (p + node.first) rest →
-      IsThrough t k p node → node.left ≡ link_to l → after ≡ viewers_at t except node.right p ++ rest → OnWay t except start whole l p after
-  to_right : (r p : ℕ) (after : List ℕ) (k : ℕ) (node : Node) → OnWay t except start whole k (p + node.first) after → IsThrough t k p node →
-      node.right ≡ link_to r → OnWay t except start whole r p after
+      OnWay t below start whole k q after
+  to_left : (l p : ℕ) (after : List ℕ) (k : ℕ) (node : Node) (rest : List ℕ) → OnWay t below start whole k (p + node.first) rest →
+      IsThrough t k p node → node.left ≡ link_to l → after ≡ below node.right p ++ rest → OnWay t below start whole l p after
+  to_right : (r p : ℕ) (after : List ℕ) (k : ℕ) (node : Node) → OnWay t below start whole k (p + node.first) after → IsThrough t k p node →
+      node.right ≡ link_to r → OnWay t below start whole r p after
 
 -- a search has come to node k, and finds these after all that is there and below it
-pub record IsPassed (t : Tree) (except : Option NodeId) (start k q : ℕ) (after : List ℕ) : Type 0 where
+pub record IsPassed (t : Tree) (below : Below) (start k q : ℕ) (after : List ℕ) : Type 0 where
   pub whole : ℕ
   pub fits : whole < 2 ^ 64
-  pub way : OnWay t except start whole k q after
+  pub way : OnWay t below start whole k q after
 
 -- some search has
 pub record IsPassedBySome (nodes : Nodes) (lists start k q : ℕ) : Type 0 where
   pub slots : Slots
-  pub except : Option NodeId
+  pub below : Below
   pub after : List ℕ
-  pub passed : IsPassed (tree_with nodes lists slots) except start k q after
+  pub passed : IsPassed (tree_with nodes lists slots) below start k q after
 
 -- a search goes on at node k, with page q of its parent, and finds these there, below it and after it
-pub record GoesOn (t : Tree) (except : Option NodeId) (start k q : ℕ) (ahead : List ℕ) : Type 0 where
+pub record GoesOn (t : Tree) (below : Below) (start k q : ℕ) (ahead : List ℕ) : Type 0 where
   pub after : List ℕ
-  pub passed : IsPassed t except start k q after
-  pub ahead_is : ahead ≡ viewers_at t except (link_to k) q ++ after
+  pub passed : IsPassed t below start k q after
+  pub ahead_is : ahead ≡ below (link_to k) q ++ after
 
--- a search finds these from there on. Where it goes on nowhere, it finds nobody
+-- these are ahead of a search. Where it goes on nowhere, nobody is
+abbrev pub IsAhead : Tree → (below : Below) → Option Cursor → (ahead : List ℕ) → Type 0
+IsAhead t below None ahead = ahead ≡ []
+IsAhead t below (Some from) ahead = GoesOn t below from.start.0 from.at.0 from.page ahead
+
+-- a search for all visible nodes finds these from there on
 abbrev pub Finds : Tree → (except : Option NodeId) → Option Cursor → (ahead : List ℕ) → Type 0
-Finds t except None ahead = ahead ≡ []
-Finds t except (Some from) ahead = GoesOn t except from.start.0 from.at.0 from.page ahead
+Finds t except from ahead = IsAhead t (viewers_at t except) from ahead
 
 -- a search goes on from there
 pub record IsSearch (t : Tree) (except : Option NodeId) (from : Option Cursor) : Type 0 where

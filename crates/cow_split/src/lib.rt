@@ -9,11 +9,13 @@
 mod answers;
 mod climbing;
 mod cutting;
+mod existing;
 mod search;
 mod viewers;
 
 pub use answers::{Cut, Holder};
 pub use climbing::{holder, holder_above, holder_counted};
 pub use cutting::{cut, cut_holder, is_last};
-pub use search::{reached_from, sees, side_seen};
+pub use existing::reached_from;
+pub use search::{sees, side_seen};
 pub use viewers::{least_koid, lesser, viewer_count};

@@ -12,7 +12,7 @@ ghost use Rattle.cow_split.specs.Exact.{all_in_sight};
 
 use crate::answers::Holder;
 use crate::climbing::holder;
-use crate::viewers::{next_viewer, search_below};
+use crate::existing::reached_from;
 use cow_arena::{CowArena, NodeId, Side};
 use page_list::PageLists;
 use vm_base::PageNo;
@@ -91,24 +91,6 @@ fn page_seen(arena: &CowArena, leaf: NodeId, node: NodeId, page: PageNo) -> Opti
         at = parent;
     }
     Some(own)
-}
-
-/// Whether a page of a node is reached from a visible node on this side of it, through the windows and past no row, other
-/// than from the one that is excepted.
-pub fn reached_from(
-    arena: &CowArena,
-    lists: &PageLists,
-    except: Option<NodeId>,
-    side: Side,
-    node: NodeId,
-    page: PageNo,
-) -> bool
-    requires forest { IsForest (nodes_of arena.now) arena.now.lists }
-    requires node { IsSome (nodes_of arena.now node.0) }
-    ensures { result ≡ reached_from (tree_of arena.now lists.now) except side node.0 page }
-{
-    let from = search_below(arena, side, node, page);
-    next_viewer(arena, lists, except, from).is_some()
 }
 
 /// Whether a page of a node is reached from this side of it other than from this leaf. Where the leaf itself is the child

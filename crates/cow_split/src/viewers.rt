@@ -8,7 +8,7 @@ ghost use Rattle.cow_arena.specs.Walk.{Slots, tree_with};
 ghost use Rattle.cow_arena.specs.Forest.{IsForest};
 ghost use Rattle.cow_split.specs.Trees.{tree_of};
 ghost use Rattle.cow_split.specs.Search.{viewers_from};
-ghost use Rattle.cow_split.specs.Searching.{viewer_met, IsPassed, IsPassedBySome, Finds, FindsFirst, IsSearch, IsMet, weight_ahead, weight_from};
+ghost use Rattle.cow_split.specs.Searching.{Below, viewer_met, IsAhead, IsPassed, IsPassedBySome, Finds, FindsFirst, IsSearch, IsMet, weight_ahead, weight_from};
 ghost use Rattle.cow_split.specs.Viewers.{IsLeastKoid, lesser_of};
 
 use cow_arena::{CowArena, NodeId, Side};
@@ -76,18 +76,13 @@ pub fn lesser(one: Option<Koid>, other: Option<Koid>) -> Option<Koid>
 /// Where a search goes on: at this node, with this page of the node's parent. It began at `start`.
 #[derive(Clone, Copy)]
 pub(crate) struct Cursor {
-    start: NodeId,
-    at: NodeId,
-    page: PageNo,
+    pub(crate) start: NodeId,
+    pub(crate) at: NodeId,
+    pub(crate) page: PageNo,
 }
 
 /// Where a search begins for the visible nodes on a side of a node from which its page is reached.
-pub(crate) fn search_below(
-    arena: &CowArena,
-    side: Side,
-    node: NodeId,
-    page: PageNo,
-) -> Option<Cursor>
+fn search_below(arena: &CowArena, side: Side, node: NodeId, page: PageNo) -> Option<Cursor>
     requires forest { IsForest (nodes_of arena.now) arena.now.lists }
     requires node { IsSome (nodes_of arena.now node.0) }
     ensures { (slots : Slots) (except : Option NodeId) → Finds (tree_with (nodes_of arena.now) arena.now.lists slots) except result
@@ -105,7 +100,7 @@ pub(crate) fn search_below(
 
 /// The first node that a search finds from here on, other than the one that is excepted, and where the search goes on
 /// after it. `None` where it finds none.
-pub(crate) fn next_viewer(
+fn next_viewer(
     arena: &CowArena,
     lists: &PageLists,
     except: Option<NodeId>,
@@ -147,7 +142,7 @@ pub(crate) enum Met {
 }
 
 /// What a search meets at a node, at a page of its parent.
-fn meet(
+pub(crate) fn meet(
     arena: &CowArena,
     lists: &PageLists,
     except: Option<NodeId>,
@@ -187,12 +182,12 @@ fn viewer(except: Option<NodeId>, at: NodeId) -> Met
 
 /// Where a search goes on that is done with a node and all below it: the next node to the right, and the page of that
 /// node's parent. `None` where all is entered that is at and below the node at which the search began.
-fn next_after(arena: &CowArena, passed: Cursor) -> Option<Cursor>
+pub(crate) fn next_after(arena: &CowArena, passed: Cursor) -> Option<Cursor>
     requires forest { IsForest (nodes_of arena.now) arena.now.lists }
     requires passed { IsPassedBySome (nodes_of arena.now) arena.now.lists passed.start.0 passed.at.0 passed.page }
-    ensures next { (slots : Slots) (except : Option NodeId) (after : List ℕ) →
-        IsPassed (tree_with (nodes_of arena.now) arena.now.lists slots) except passed.start.0 passed.at.0 passed.page after →
-        Finds (tree_with (nodes_of arena.now) arena.now.lists slots) except result after }
+    ensures next { (slots : Slots) (below : Below) (after : List ℕ) →
+        IsPassed (tree_with (nodes_of arena.now) arena.now.lists slots) below passed.start.0 passed.at.0 passed.page after →
+        IsAhead (tree_with (nodes_of arena.now) arena.now.lists slots) below result after }
     ensures less { weight_from (nodes_of arena.now) arena.now.lists result
         < weight_ahead (nodes_of arena.now) arena.now.lists passed.at.0 }
 {

@@ -7,12 +7,12 @@ use Rattle.cow_split.proofs.viewers.next_after.Goals as goal
 pub node-requires : goal.node-requires
 node-requires c =
     let some = c.requires.passed in
-    way-some _ c.requires.forest some.except _ _ _ _ (c.loop-at.invariant.passed some.slots some.except some.after some.passed)
+    way-some _ c.requires.forest some.below _ _ _ _ (c.loop-at.invariant.passed some.slots some.below some.after some.passed)
 
 pub unreachable-requires : goal.unreachable-requires
 unreachable-requires c =
     let some = c.requires.passed in
-    passed-parent _ c.requires.forest some.except _ _ _ _ _ (c.loop-at.invariant.passed some.slots some.except some.after some.passed)
+    passed-parent _ c.requires.forest some.below _ _ _ _ _ (c.loop-at.invariant.passed some.slots some.below some.after some.passed)
     c.loop-at-test.true c.node.ensures c.in_default.is
 
 pub node-above-requires : goal.node-above-requires
@@ -21,12 +21,12 @@ node-above-requires c = parent-there _ _ c.requires.forest _ _ _ c.node.ensures 
 pub unreachable-requires-in_default-right : goal.unreachable-requires-in_default-right
 unreachable-requires-in_default-right c =
     let some = c.requires.passed in
-    passed-pair _ c.requires.forest some.except _ _ _ _ (c.loop-at.invariant.passed some.slots some.except some.after some.passed)
+    passed-pair _ c.requires.forest some.below _ _ _ _ (c.loop-at.invariant.passed some.slots some.below some.after some.passed)
     c.loop-at-test.true _ _ _ c.node.ensures c.in-Some.is c.node-above.ensures (sym c.in-Left.ensures) c.in_default-right.is
 
 pub returns-in-Left-clause-next : goal.returns-in-Left-clause-next
-returns-in-Left-clause-next c slots except after passed =
-    passed-left _ c.requires.forest except _ _ _ _ (c.loop-at.invariant.passed slots except after passed)
+returns-in-Left-clause-next c slots below after passed =
+    passed-left _ c.requires.forest below _ _ _ _ (c.loop-at.invariant.passed slots below after passed)
     c.loop-at-test.true _ _ _ c.node.ensures c.in-Some.is c.node-above.ensures _ (sym c.in-Left.ensures) c.in-Some-right.is
 
 pub returns-in-Left-clause-less : goal.returns-in-Left-clause-less
@@ -37,9 +37,9 @@ returns-in-Left-clause-less c =
 pub overflow_add-here : goal.overflow_add-here
 overflow_add-here c =
     let some = c.requires.passed in
-    let up = passed-right _ c.requires.forest some.except _ _ _ _ (c.loop-at.invariant.passed some.slots some.except some.after some.passed)
+    let up = passed-right _ c.requires.forest some.below _ _ _ _ (c.loop-at.invariant.passed some.slots some.below some.after some.passed)
     c.loop-at-test.true _ _ _ c.node.ensures c.in-Some.is c.node-above.ensures (sym c.in_default-side_of.ensures) in
-    let fits = page-fits _ c.requires.forest some.except _ _ _ _ up in
+    let fits = page-fits _ c.requires.forest some.below _ _ _ _ up in
     omega arith
 
 pub loop-at-smaller : goal.loop-at-smaller
@@ -47,8 +47,8 @@ loop-at-smaller c = let up = depth-up _ _ c.requires.forest _ _ _ c.node.ensures
 
 pub loop-at-preserved : goal.loop-at-preserved
 loop-at-preserved c = record {
-  passed = λ slots except after passed.
-      passed-right _ c.requires.forest except _ _ _ _ (c.loop-at.invariant.passed slots except after passed)
+  passed = λ slots below after passed.
+      passed-right _ c.requires.forest below _ _ _ _ (c.loop-at.invariant.passed slots below after passed)
       c.loop-at-test.true _ _ _ c.node.ensures c.in-Some.is c.node-above.ensures (sym c.in_default-side_of.ensures);
   less =
       let same = same-right _ _ c.requires.forest _ _ _ _ c.node.ensures c.in-Some.is c.node-above.ensures (sym c.in_default-side_of.ensures) in
@@ -57,8 +57,8 @@ loop-at-preserved c = record {
 }
 
 pub returns-clause-next : goal.returns-clause-next
-returns-clause-next c slots except after passed =
-    passed-start _ c.requires.forest except _ _ _ _ (c.loop-at.invariant.passed slots except after passed) c.loop-at-test.false
+returns-clause-next c slots below after passed =
+    passed-start _ c.requires.forest below _ _ _ _ (c.loop-at.invariant.passed slots below after passed) c.loop-at-test.false
 
 pub returns-clause-less : goal.returns-clause-less
 returns-clause-less c = less-after _ _ c.requires.forest c.args.passed.at.0 0 (omega arith)

@@ -1,0 +1,150 @@
+//! Whether a page of a node is reached from anyone: the search downwards that ends at the first visible node it finds. It
+//! asks both children of a hidden node before it goes further down, so that it goes past no one who is at hand.
+
+ghost use Rattle.std.specs.Prelude.{◌≡◌, true, false, [], ◌∷◌, ◌++◌, IsSome};
+ghost use Rattle.cow_arena.specs.Nodes.{nodes_of, link_to};
+ghost use Rattle.cow_arena.specs.Forest.{IsForest};
+ghost use Rattle.cow_split.specs.Trees.{tree_of};
+ghost use Rattle.cow_split.specs.Search.{has_some, reached_from};
+ghost use Rattle.cow_split.specs.Searching.{viewers_at};
+ghost use Rattle.cow_split.specs.Existing.{hidden_at, IsMetBelow};
+
+use crate::viewers::{Cursor, Met, meet, next_after};
+use cow_arena::{CowArena, NodeId, Side};
+use page_list::PageLists;
+use vm_base::PageNo;
+
+/// Whether a page of a node is reached from a visible node on this side of it, through the windows and past no row, other
+/// than from the one that is excepted. It takes no memory, and costs one look-up in the lists for each node that it asks:
+/// at most for each node on this side.
+pub fn reached_from(
+    arena: &CowArena,
+    lists: &PageLists,
+    except: Option<NodeId>,
+    side: Side,
+    node: NodeId,
+    page: PageNo,
+) -> bool
+    requires forest { IsForest (nodes_of arena.now) arena.now.lists }
+    requires node { IsSome (nodes_of arena.now node.0) }
+    ensures { result ≡ reached_from (tree_of arena.now lists.now) except side node.0 page }
+{
+    let Some(start) = arena.node(node).child_on(side) else {
+        return false;
+    };
+    if is_viewer(arena, lists, except, start, page) {
+        return true;
+    }
+    any_below(arena, lists, except, start, page)
+}
+
+/// Whether a node is visible and counts, and this page of its parent is reached from it.
+pub(crate) fn is_viewer(
+    arena: &CowArena,
+    lists: &PageLists,
+    except: Option<NodeId>,
+    at: NodeId,
+    page: PageNo,
+) -> bool
+    requires forest { IsForest (nodes_of arena.now) arena.now.lists }
+    requires node { IsSome (nodes_of arena.now at.0) }
+    ensures found { result ≡ true → viewers_at (tree_of arena.now lists.now) except (link_to at.0) page ≡ at.0 ∷ [] }
+    ensures hidden { result ≡ false → viewers_at (tree_of arena.now lists.now) except (link_to at.0) page
+        ≡ hidden_at (tree_of arena.now lists.now) except (link_to at.0) page }
+{
+    if arena.node(at).koid.is_none() {
+        return false;
+    }
+    match meet(arena, lists, except, at, page) {
+        Met::Viewer => true,
+        Met::Below(_, _) => false,
+        Met::Nobody => false,
+    }
+}
+
+/// Whether this page of the parent of a hidden node is reached from someone below the node. False of a visible node.
+fn any_below(
+    arena: &CowArena,
+    lists: &PageLists,
+    except: Option<NodeId>,
+    start: NodeId,
+    page: PageNo,
+) -> bool
+    requires forest { IsForest (nodes_of arena.now) arena.now.lists }
+    requires node { IsSome (nodes_of arena.now start.0) }
+    ensures { result ≡ has_some (hidden_at (tree_of arena.now lists.now) except (link_to start.0) page) }
+{
+    let mut next = Some(Cursor {
+        start,
+        at: start,
+        page,
+    });
+    while let Some(here) = next {
+        match look_below(arena, lists, except, here.at, here.page) {
+            Met::Viewer => return true,
+            Met::Below(left, page) => {
+                next = Some(Cursor {
+                    at: left,
+                    page,
+                    ..here
+                });
+            }
+            Met::Nobody => next = next_after(arena, here),
+        }
+    }
+    false
+}
+
+/// What the search meets at the children of a node, which it enters with this page of the node's parent. Of a visible node
+/// its parent's turn has asked.
+pub(crate) fn look_below(
+    arena: &CowArena,
+    lists: &PageLists,
+    except: Option<NodeId>,
+    at: NodeId,
+    page: PageNo,
+) -> Met
+    requires forest { IsForest (nodes_of arena.now) arena.now.lists }
+    requires node { IsSome (nodes_of arena.now at.0) }
+    ensures { IsMetBelow (tree_of arena.now lists.now) except at.0 page result }
+{
+    let Some(right) = arena.node(at).right else {
+        return Met::Nobody;
+    };
+    match meet(arena, lists, except, at, page) {
+        Met::Below(left, here) => {
+            if either_views(arena, lists, except, left, right, here) {
+                Met::Viewer
+            } else {
+                Met::Below(left, here)
+            }
+        }
+        Met::Viewer => Met::Viewer,
+        Met::Nobody => Met::Nobody,
+    }
+}
+
+/// Whether one of the two children of a node is visible and counts, and this page of the node is reached from it.
+fn either_views(
+    arena: &CowArena,
+    lists: &PageLists,
+    except: Option<NodeId>,
+    left: NodeId,
+    right: NodeId,
+    page: PageNo,
+) -> bool
+    requires forest { IsForest (nodes_of arena.now) arena.now.lists }
+    requires left { IsSome (nodes_of arena.now left.0) }
+    requires right { IsSome (nodes_of arena.now right.0) }
+    ensures found { result ≡ true → has_some (viewers_at (tree_of arena.now lists.now) except (link_to left.0) page
+        ++ viewers_at (tree_of arena.now lists.now) except (link_to right.0) page) ≡ true }
+    ensures hidden { result ≡ false → viewers_at (tree_of arena.now lists.now) except (link_to left.0) page
+        ++ viewers_at (tree_of arena.now lists.now) except (link_to right.0) page
+        ≡ hidden_at (tree_of arena.now lists.now) except (link_to left.0) page
+        ++ hidden_at (tree_of arena.now lists.now) except (link_to right.0) page }
+{
+    if is_viewer(arena, lists, except, left, page) {
+        return true;
+    }
+    is_viewer(arena, lists, except, right, page)
+}
