@@ -1,5 +1,5 @@
 -- Laws of the search for anyone: whom it leaves to the turn of the parent, and what is ahead of it.
-use Rattle.std.proofs.Common.{◌≡◌, ℕ, ◌+◌, ◌<◌, ◌^◌, true, false, Bool, List, [], ◌∷◌, ◌++◌, Option, None, Some, refl, sym, ap, ◌∙◌, subst}
+use Rattle.std.proofs.Common.{◌≡◌, ℕ, ◌<◌, ◌^◌, true, false, List, [], ◌∷◌, ◌++◌, Option, None, Some, refl, sym, ap, ◌∙◌, subst}
 use Rattle.std.specs.Prelude.{IsSome, is_some}
 use Rattle.std.proofs.lemmas.List.{append-nil}
 use Rattle.vm_base.specs.declared.names.Koid.{Koid}
@@ -12,13 +12,11 @@ use Rattle.cow_arena.specs.Nodes.{link_to, child_on}
 use Rattle.cow_arena.specs.Walk.{Tree}
 use Rattle.cow_arena.specs.Forest.{IsForest}
 use Rattle.cow_arena.proofs.ReachLaws.{hidden-of-child, child-there}
-use Rattle.cow_split.specs.Search.{viewers_from, has_some, reached_from}
-use Rattle.cow_split.specs.Searching.{viewers_at, Below, IsOnward, at_start, IsPassed, GoesOn, IsAhead, IsMet}
+use Rattle.cow_split.specs.Search.{viewers_from, has_some}
+use Rattle.cow_split.specs.Searching.{viewers_at, Below, IsOnward, at_start, IsPassed, GoesOn, IsAhead}
 use Rattle.cow_split.specs.Existing.{hidden_at, IsOnwardBelow}
 use Rattle.cow_split.specs.declared.viewers.Cursor.{Cursor}
-use Rattle.cow_split.specs.declared.viewers.Met.{Met}
-use Rattle.cow_split.specs.declared.viewers.Met.TheVariants as met
-use Rattle.cow_split.proofs.WayLaws.{from-none, found-through}
+use Rattle.cow_split.proofs.WayLaws.{found-through}
 
 -- who is in one of two lists is in both together
 pub some-left : (a b : List ℕ) → has_some a ≡ true → has_some (a ++ b) ≡ true

@@ -12,7 +12,7 @@ use Rattle.cow_arena.specs.declared.node.Side.{Side}
 use Rattle.cow_arena.specs.Nodes.{Arena, nodes_of, IsVisible}
 use Rattle.cow_arena.specs.Walk.{Slots, Tree, Found, walk, frame_at}
 use Rattle.cow_arena.specs.Forest.{IsForest}
-use Rattle.cow_arena.specs.Ways.{HasRow}
+use Rattle.cow_arena.specs.Ways.{HasRow, Reaches}
 use Rattle.cow_arena.proofs.ReachLaws.{walk-ends}
 use Rattle.cow_split.specs.declared.answers.Cut.{Cut}
 use Rattle.cow_split.specs.declared.answers.Cut.TheVariants as cut
@@ -45,6 +45,12 @@ pub held-row : (t : Tree) → IsForest t.nodes t.lists → (k p : ℕ) (h : Node
     holder.Above h q side slot ≡ holder_of (walk t k p) → HasRow t h.0 q slot
 held-row t forest k p h q side slot e =
     (walk-ends t forest k p (record { node = h.0; page = q; side = Some side; slot = slot }) (found-above (walk t k p) h q side slot e)).row
+
+-- and the page comes to that row
+pub held-way : (t : Tree) → IsForest t.nodes t.lists → (k p : ℕ) (h : NodeId) (q : ℕ) (side : Side) (slot : Slot) →
+    holder.Above h q side slot ≡ holder_of (walk t k p) → Reaches t k p side h.0 q
+held-way t forest k p h q side slot e =
+    (walk-ends t forest k p (record { node = h.0; page = q; side = Some side; slot = slot }) (found-above (walk t k p) h q side slot e)).way
 
 -- the rows and the answer, where the row of a hidden node was found
 pub above-cut : (t : Tree) (k p : ℕ) (h : NodeId) (q : ℕ) (side : Side) (slot : Slot) → holder.Above h q side slot ≡ holder_of (walk t k p) →

@@ -5,6 +5,7 @@ pub mod SearchLaws
 pub mod WayLaws
 pub mod WeightLaws
 pub mod ExistingLaws
+pub mod OthersLaws
 pub mod SeenLaws
 pub mod ViewersLaws
 pub mod FoundLaws

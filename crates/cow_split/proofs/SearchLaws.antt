@@ -51,11 +51,11 @@ none-in [] nobody = refl
 none-in (k ∷ list) nobody = absurd (nobody k (contains-first k list))
 
 -- `has_some` says whether there is an element
-some-in : (list : List ℕ) → has_some list ≡ true → (v : ℕ) × Contains list v
+pub some-in : (list : List ℕ) → has_some list ≡ true → (v : ℕ) × Contains list v
 some-in [] some = absurd (cc)
 some-in (k ∷ list) some = (k, contains-first k list)
 
-some-of : (list : List ℕ) (v : ℕ) → Contains list v → has_some list ≡ true
+pub some-of : (list : List ℕ) (v : ℕ) → Contains list v → has_some list ≡ true
 some-of [] v in_list = absurd (contains-none v in_list)
 some-of (k ∷ list) v in_list = refl
 

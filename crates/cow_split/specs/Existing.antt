@@ -1,10 +1,12 @@
 -- The search for anybody from whom a page is reached: it asks both children of a hidden node before it goes further down.
-use Rattle.std.specs.Prelude.{◌≡◌, ℕ, true, List, [], ◌++◌, Option, None, Some, is_none, if◌then◌else◌}
+use Rattle.std.specs.Prelude.{◌≡◌, ℕ, Bool, true, false, List, [], ◌++◌, Option, None, Some, is_none, if◌then◌else◌}
 use Rattle.cow_arena.specs.declared.node.NodeId.{NodeId}
 use Rattle.cow_arena.specs.declared.node.Node.{Node}
+use Rattle.cow_arena.specs.declared.node.Side.{Side}
 use Rattle.cow_arena.specs.Nodes.{link_to}
 use Rattle.cow_arena.specs.Walk.{Tree}
-use Rattle.cow_split.specs.Search.{has_some}
+use Rattle.cow_arena.specs.Ways.{Reaches}
+use Rattle.cow_split.specs.Search.{has_some, reached_from}
 use Rattle.cow_split.specs.Searching.{viewers_at, IsOnward}
 use Rattle.cow_split.specs.declared.viewers.Met.{Met}
 use Rattle.cow_split.specs.declared.viewers.Met.TheVariants as met
@@ -29,3 +31,9 @@ abbrev pub IsMetBelow : Tree → (except : Option NodeId) → (k q : ℕ) → Me
 IsMetBelow t except k q met.Viewer = has_some (hidden_at t except (link_to k) q) ≡ true
 IsMetBelow t except k q (met.Below left p) = IsOnwardBelow t except k q left.0 p
 IsMetBelow t except k q met.Nobody = hidden_at t except (link_to k) q ≡ []
+
+-- Page x of node k goes on to page r of node g, which it enters from this side, or goes nowhere: whether the page of g is
+-- reached from there other than from k. That it is not holds wherever k goes
+pub record IsReachedByOthers (t : Tree) (k x : ℕ) (from : Side) (g r : ℕ) (answer : Bool) : Type 0 where
+  pub others : answer ≡ true → Reaches t k x from g r → reached_from t (link_to k) from g r ≡ true
+  pub nobody : answer ≡ false → reached_from t (link_to k) from g r ≡ false

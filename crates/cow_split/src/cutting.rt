@@ -7,7 +7,7 @@ ghost use Rattle.balanced_tree.specs.Pairs.{with_pair};
 ghost use Rattle.cow_arena.specs.Nodes.{nodes_of};
 ghost use Rattle.cow_arena.specs.Walk.{walk, frame_at};
 ghost use Rattle.cow_arena.specs.Forest.{IsForest};
-ghost use Rattle.cow_arena.specs.Ways.{HasRow};
+ghost use Rattle.cow_arena.specs.Ways.{HasRow, Reaches};
 ghost use Rattle.cow_split.specs.Trees.{tree_of, holder_of};
 ghost use Rattle.cow_split.specs.Sight.{IsLastViewer};
 ghost use Rattle.cow_split.specs.Exact.{IsExact, IsOnlyOf, leaving_out, without_frame};
@@ -16,7 +16,7 @@ ghost use Rattle.cow_split.specs.declared.answers.Cut.TheVariants as cut;
 
 use crate::answers::{Cut, Holder};
 use crate::climbing::holder_above;
-use crate::search::reached_by_others;
+use crate::others::reached_by_others;
 use cow_arena::{CowArena, NodeId, Side};
 use page_list::{ListId, PageLists, Slot};
 use vm_base::{PageNo, Tag};
@@ -64,17 +64,18 @@ pub fn cut_holder(
             page: row,
             side,
             slot,
-        } => cut_row(arena, lists, leaf, node, row, side, slot),
+        } => cut_row(arena, lists, leaf, page, node, row, side, slot),
         Holder::Own(_) => Cut::NothingThere,
         Holder::Nothing => Cut::NothingThere,
     }
 }
 
-/// Cuts off the page of the leaf that sees this row of a hidden node from this side.
+/// Cuts off page `own` of the leaf, which sees this row of a hidden node from this side.
 fn cut_row(
     arena: &CowArena,
     lists: &mut PageLists,
     leaf: NodeId,
+    own: PageNo,
     node: NodeId,
     page: PageNo,
     side: Side,
@@ -82,6 +83,7 @@ fn cut_row(
 ) -> Cut
     requires forest { IsForest (nodes_of arena.now) arena.now.lists }
     requires row { HasRow (tree_of arena.now lists.old) node.0 page slot }
+    requires way { Reaches (tree_of arena.now lists.old) leaf.0 own side node.0 page }
     ensures slots { slots_of lists.new ≡ slots_from (tree_of arena.now lists.old) leaf.0 node.0 page slot (Some side) }
     ensures answer { result ≡ answer_from (tree_of arena.now lists.old) leaf.0 node.0 page slot (Some side) }
     ensures spare { lists.old.spare ≤ lists.new.spare }
@@ -90,7 +92,7 @@ fn cut_row(
     let Slot::Frame { tag, left, right } = slot else {
         return Cut::NothingThere;
     };
-    if reached_by_others(arena, lists, leaf, side, node, page) {
+    if reached_by_others(arena, lists, leaf, own, side, node, page) {
         return Cut::StillSeen;
     }
     let list = arena.node(node).list;
@@ -165,17 +167,18 @@ pub fn is_last(
             page: row,
             side,
             slot,
-        } => is_last_from(arena, lists, leaf, node, row, side, slot),
+        } => is_last_from(arena, lists, leaf, page, node, row, side, slot),
         Holder::Own(_) => false,
         Holder::Nothing => false,
     }
 }
 
-/// Whether the leaf alone sees the frame of this row of a hidden node, from this side.
+/// Whether the leaf, by its page `own`, alone sees the frame of this row of a hidden node, from this side.
 fn is_last_from(
     arena: &CowArena,
     lists: &PageLists,
     leaf: NodeId,
+    own: PageNo,
     node: NodeId,
     page: PageNo,
     side: Side,
@@ -183,12 +186,13 @@ fn is_last_from(
 ) -> bool
     requires forest { IsForest (nodes_of arena.now) arena.now.lists }
     requires row { HasRow (tree_of arena.now lists.now) node.0 page slot }
+    requires way { Reaches (tree_of arena.now lists.now) leaf.0 own side node.0 page }
     ensures { result ≡ leaves_frame (answer_from (tree_of arena.now lists.now) leaf.0 node.0 page slot (Some side)) }
 {
     let Slot::Frame { tag, left, right } = slot else {
         return false;
     };
-    if reached_by_others(arena, lists, leaf, side, node, page) {
+    if reached_by_others(arena, lists, leaf, own, side, node, page) {
         return false;
     }
     is_gone(side, tag, left, right)

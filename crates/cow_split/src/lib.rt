@@ -10,6 +10,7 @@ mod answers;
 mod climbing;
 mod cutting;
 mod existing;
+mod others;
 mod search;
 mod viewers;
 

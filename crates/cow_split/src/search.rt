@@ -5,8 +5,7 @@ ghost use Rattle.cow_arena.specs.Nodes.{nodes_of};
 ghost use Rattle.cow_arena.specs.Walk.{Slots, tree_with};
 ghost use Rattle.cow_arena.specs.Forest.{IsForest};
 ghost use Rattle.cow_split.specs.Trees.{tree_of};
-ghost use Rattle.cow_split.specs.Search.{reached_from};
-ghost use Rattle.cow_split.specs.Searching.{ComesTo, is_row_of, IsLeafOn};
+ghost use Rattle.cow_split.specs.Searching.{ComesTo, is_row_of};
 ghost use Rattle.cow_split.specs.Sight.{IsSeenBy, IsSeenFrom};
 ghost use Rattle.cow_split.specs.Exact.{all_in_sight};
 
@@ -91,36 +90,4 @@ fn page_seen(arena: &CowArena, leaf: NodeId, node: NodeId, page: PageNo) -> Opti
         at = parent;
     }
     Some(own)
-}
-
-/// Whether a page of a node is reached from this side of it other than from this leaf. Where the leaf itself is the child
-/// on this side, it is alone there.
-pub(crate) fn reached_by_others(
-    arena: &CowArena,
-    lists: &PageLists,
-    leaf: NodeId,
-    side: Side,
-    node: NodeId,
-    page: PageNo,
-) -> bool
-    requires forest { IsForest (nodes_of arena.now) arena.now.lists }
-    requires node { IsSome (nodes_of arena.now node.0) }
-    ensures { result ≡ reached_from (tree_of arena.now lists.now) (Some leaf) side node.0 page }
-{
-    if is_child_on(arena, leaf, side, node) {
-        return false;
-    }
-    reached_from(arena, lists, Some(leaf), side, node, page)
-}
-
-/// Whether the child of a node on this side is this leaf, a visible node.
-fn is_child_on(arena: &CowArena, leaf: NodeId, side: Side, node: NodeId) -> bool
-    requires forest { IsForest (nodes_of arena.now) arena.now.lists }
-    requires node { IsSome (nodes_of arena.now node.0) }
-    ensures { result ≡ true → IsLeafOn (nodes_of arena.now) leaf.0 side node.0 }
-{
-    match arena.node(node).child_on(side) {
-        Some(child) => child.0 == leaf.0 && arena.node(child).koid.is_some(),
-        None => false,
-    }
 }

@@ -1,12 +1,17 @@
 -- A cut goes by the holder of the page: it changes the row of a hidden node alone.
 use Rattle.std.proofs.Common.{sym, ◌∙◌, arith}
 use Rattle.cow_split.specs.Trees.{tree_of}
-use Rattle.cow_split.proofs.HolderLaws.{held-row, above-cut, own-cut, nothing-cut}
+use Rattle.cow_split.proofs.HolderLaws.{held-row, held-way, above-cut, own-cut, nothing-cut}
 use Rattle.cow_split.proofs.cutting.cut_holder.Goals as goal
 
 pub cut_row-requires-clause-row : goal.cut_row-requires-clause-row
 cut_row-requires-clause-row c =
     held-row (tree_of c.args.arena.now c.args.lists.now) c.requires.forest c.args.leaf.0 c.args.page c.in-Above.node c.in-Above.row c.in-Above.side c.in-Above.slot
+    (sym c.in-Above.is ∙ c.requires.found)
+
+pub cut_row-requires-clause-way : goal.cut_row-requires-clause-way
+cut_row-requires-clause-way c =
+    held-way (tree_of c.args.arena.now c.args.lists.now) c.requires.forest c.args.leaf.0 c.args.page c.in-Above.node c.in-Above.row c.in-Above.side c.in-Above.slot
     (sym c.in-Above.is ∙ c.requires.found)
 
 pub returns-in-Above : goal.returns-in-Above

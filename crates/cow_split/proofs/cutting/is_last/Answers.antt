@@ -2,12 +2,17 @@
 use Rattle.std.proofs.Common.{sym, ap, ◌∙◌}
 use Rattle.cow_split.specs.Trees.{tree_of}
 use Rattle.cow_split.specs.Cutting.{leaves_frame}
-use Rattle.cow_split.proofs.HolderLaws.{held-row, above-cut, own-cut, nothing-cut}
+use Rattle.cow_split.proofs.HolderLaws.{held-row, held-way, above-cut, own-cut, nothing-cut}
 use Rattle.cow_split.proofs.cutting.is_last.Goals as goal
 
 pub is_last_from-requires-clause-row : goal.is_last_from-requires-clause-row
 is_last_from-requires-clause-row c =
     held-row (tree_of c.args.arena.now c.args.lists.now) c.requires.forest c.args.leaf.0 c.args.page c.in-Above.node c.in-Above.row c.in-Above.side c.in-Above.slot
+    (sym c.in-Above.is ∙ c.requires.found)
+
+pub is_last_from-requires-clause-way : goal.is_last_from-requires-clause-way
+is_last_from-requires-clause-way c =
+    held-way (tree_of c.args.arena.now c.args.lists.now) c.requires.forest c.args.leaf.0 c.args.page c.in-Above.node c.in-Above.row c.in-Above.side c.in-Above.slot
     (sym c.in-Above.is ∙ c.requires.found)
 
 pub returns-in-Above : goal.returns-in-Above

@@ -1,11 +1,8 @@
 -- What is left of the search is always all that is found.
 use Rattle.std.proofs.Common.{sym, ap, arith}
 use Rattle.page_list.specs.Lists.{slots_of}
-use Rattle.cow_arena.specs.Nodes.{link_to}
-use Rattle.cow_split.specs.declared.viewers.Cursor.{Cursor}
 use Rattle.cow_split.specs.Trees.{tree_of}
 use Rattle.cow_split.specs.Search.{has_some}
-use Rattle.cow_split.specs.Searching.{GoesOn}
 use Rattle.cow_split.specs.Existing.{hidden_at}
 use Rattle.cow_split.proofs.WayLaws.{finds-here, finds-end, goes-some, goes-onward_by}
 use Rattle.cow_split.proofs.WeightLaws.{less-onward, weight-here}

@@ -1,5 +1,4 @@
 use Rattle.cow_split.specs.Trees.{tree_of}
-use Rattle.cow_split.specs.Searching.{IsOnward}
 use Rattle.cow_arena.specs.declared.node.Side.TheVariants as side
 use Rattle.cow_split.proofs.ExistingLaws.{visible-leaf, visible-none, left-some, child-some, children-found, children-left}
 use Rattle.cow_split.proofs.existing.look_below.Goals as goal

@@ -1,7 +1,7 @@
 use Rattle.std.proofs.Common.{is_some, ap, sym}
 use Rattle.cow_arena.specs.Nodes.{nodes_of}
 use Rattle.cow_arena.proofs.ReachLaws.{child-there}
-use Rattle.cow_split.proofs.search.is_child_on.Goals as goal
+use Rattle.cow_split.proofs.others.is_child_on.Goals as goal
 
 pub node-requires-then-child-leaf : goal.node-requires-then-child-leaf
 node-requires-then-child-leaf c =

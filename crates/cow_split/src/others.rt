@@ -1,0 +1,104 @@
+//! Whether a row that a VMO sees is seen by others too.
+
+ghost use Rattle.std.specs.Prelude.{◌≡◌, ℕ, true, Some, IsSome};
+ghost use Rattle.cow_arena.specs.Nodes.{nodes_of, link_to};
+ghost use Rattle.cow_arena.specs.Forest.{IsForest};
+ghost use Rattle.cow_arena.specs.Ways.{Reaches};
+ghost use Rattle.cow_split.specs.Trees.{tree_of};
+ghost use Rattle.cow_split.specs.Search.{has_some, reached_from};
+ghost use Rattle.cow_split.specs.Searching.{viewers_at, IsLeafOn};
+ghost use Rattle.cow_split.specs.Existing.{IsReachedByOthers};
+
+use crate::existing::{is_viewer, look_below, reached_from};
+use crate::viewers::Met;
+use cow_arena::{CowArena, NodeId, Side};
+use page_list::PageLists;
+use vm_base::PageNo;
+
+/// Whether a page of a node, to which page `own` of a leaf comes from this side, is reached from this side other than from
+/// the leaf. Where the leaf is the child on this side, it is alone there. Else its sibling is asked before the search from
+/// the node: it comes to the node as the leaf does, and a young one has no rows of its own yet.
+pub(crate) fn reached_by_others(
+    arena: &CowArena,
+    lists: &PageLists,
+    leaf: NodeId,
+    own: PageNo,
+    side: Side,
+    node: NodeId,
+    page: PageNo,
+) -> bool
+    requires forest { IsForest (nodes_of arena.now) arena.now.lists }
+    requires leaf { IsSome (nodes_of arena.now leaf.0) }
+    requires node { IsSome (nodes_of arena.now node.0) }
+    ensures { IsReachedByOthers (tree_of arena.now lists.now) leaf.0 own side node.0 page result }
+{
+    if is_child_on(arena, leaf, side, node) {
+        return false;
+    }
+    if reached_beside(arena, lists, leaf, own, node) {
+        return true;
+    }
+    reached_from(arena, lists, Some(leaf), side, node, page)
+}
+
+/// Whether the child of a node on this side is this leaf, a visible node.
+fn is_child_on(arena: &CowArena, leaf: NodeId, side: Side, node: NodeId) -> bool
+    requires forest { IsForest (nodes_of arena.now) arena.now.lists }
+    requires node { IsSome (nodes_of arena.now node.0) }
+    ensures { result ≡ true → IsLeafOn (nodes_of arena.now) leaf.0 side node.0 }
+{
+    match arena.node(node).child_on(side) {
+        Some(child) => child.0 == leaf.0 && arena.node(child).koid.is_some(),
+        None => false,
+    }
+}
+
+/// Whether the leaf's sibling, or a child of it, comes to the page of their parent to which page `own` of the leaf comes.
+/// Where the leaf goes on to a row of this node, further up, they do too. False where the node is the parent.
+fn reached_beside(
+    arena: &CowArena,
+    lists: &PageLists,
+    leaf: NodeId,
+    own: PageNo,
+    node: NodeId,
+) -> bool
+    requires forest { IsForest (nodes_of arena.now) arena.now.lists }
+    requires leaf { IsSome (nodes_of arena.now leaf.0) }
+    ensures { result ≡ true → (side : Side) (page : ℕ) → Reaches (tree_of arena.now lists.now) leaf.0 own side node.0 page →
+        reached_from (tree_of arena.now lists.now) (Some leaf) side node.0 page ≡ true }
+{
+    let at = arena.node(leaf);
+    let (Some(parent), Some(sibling)) = (at.parent, arena.sibling(leaf)) else {
+        return false;
+    };
+    if parent.0 == node.0 {
+        return false;
+    }
+    let Some(page) = at.first.checked_add(own) else {
+        return false;
+    };
+    reached_near(arena, lists, Some(leaf), sibling, page)
+}
+
+/// Whether a page of a node's parent is reached from the node or from a child of it, other than from the node that is
+/// excepted.
+fn reached_near(
+    arena: &CowArena,
+    lists: &PageLists,
+    except: Option<NodeId>,
+    at: NodeId,
+    page: PageNo,
+) -> bool
+    requires forest { IsForest (nodes_of arena.now) arena.now.lists }
+    requires node { IsSome (nodes_of arena.now at.0) }
+    ensures { result ≡ true → has_some (viewers_at (tree_of arena.now lists.now) except (link_to at.0) page) ≡ true }
+{
+    if is_viewer(arena, lists, except, at, page) {
+        return true;
+    }
+    match look_below(arena, lists, except, at, page) {
+        Met::Viewer => true,
+        Met::Below(_, _) => false,
+        Met::Nobody => false,
+    }
+}
