@@ -9,8 +9,8 @@ use Rattle.cow_arena.specs.declared.node.Node.{Node}
 use Rattle.cow_arena.specs.declared.node.Side.{Side}
 use Rattle.cow_arena.specs.declared.node.NodeId.{NodeId}
 use Rattle.cow_arena.specs.Nodes.{Arena, Nodes, nodes_of, IsVisible}
-use Rattle.cow_arena.specs.Walk.{Slots, Tree, frame_at, frame_in}
-use Rattle.cow_arena.specs.Ways.{Arrives, IsPartOf}
+use Rattle.cow_arena.specs.Walk.{Slots, Tree, tree_with, frame_at, frame_in}
+use Rattle.cow_arena.specs.Ways.{Reaches, Arrives, IsPartOf}
 use Rattle.cow_split.specs.Trees.{tree_of}
 use Rattle.cow_split.specs.Sight.{IsPage}
 use Rattle.cow_split.specs.Exact.{IsExact, IsOnlyOf, all_in_sight, leaving_out, without_frame}
@@ -126,11 +126,32 @@ pub record IsSparing (arena : Arena) (old new : Rows Row) (before after : Pool) 
   pub spares : (q tag : ℕ) → first ≤ q → q < bare.node.count → bare.out v q ≡ false → frame_at (tree_of arena new) v q ≡ Some tag →
       IsSpared (nodes_of arena) (slots_of new) spared bare.node q
 
--- Page p of this node is skipped: the node that is spared holds it, and nothing has changed.
-pub record HasSkippedPage (arena : Arena) (old new : Rows Row) (before after : Pool) (node : Node) (p : ℕ) (spared : Option NodeId) : Type 0 where
-  pub held : IsSpared (nodes_of arena) (slots_of old) spared node p
-  pub rows : new ≡ old
-  pub pool : after ≡ before
+-- some parent may be spared, and a range of pages of v is on its way up
+pub record IsUnderWay (arena : Arena) (rows : Rows Row) (pool : Pool) (v first : ℕ) (above : Node) (shift to upto : ℕ) : Type 0 where
+  pub spared : Option NodeId
+  pub passing : IsPassing arena rows rows pool pool v first spared above shift to upto
+
+-- the tree without its rows: pages go up in it through the windows alone
+abbrev pub bare_of : Arena → Tree
+bare_of arena = tree_with (nodes_of arena) arena.lists (λ l p. None)
+
+-- no page of v but page p comes to page q of node h, and that from this side
+pub record IsOnlyWay (t : Tree) (v p : ℕ) (from : Side) (h q : ℕ) : Type 0 where
+  pub only : (x : ℕ) (s : Side) → Reaches t v x s h q → (x ≡ p) × (s ≡ from)
+
+-- no row and no frame has changed
+pub record HasKept (old new : Rows Row) (before after : Pool) : Type 0 where
+  pub rows : slots_of new ≡ slots_of old
+  pub taken : (t : ℕ) → is_taken after t ≡ is_taken before t
+  pub links : links_of after ≡ links_of before
+  pub gives : GivesBack before after
+  pub spare : old.spare ≤ new.spare
+  pub count : row_count new ≤ row_count old
+
+-- The row of page q of node h is passed: page p of v is left out, if it comes to the row, and else nothing has changed.
+pub record HasPassedRow (arena : Arena) (old new : Rows Row) (before after : Pool) (v p : ℕ) (from : Side) (h q : ℕ) : Type 0 where
+  pub came : Reaches (tree_of arena old) v p from h q → HasLeftPageOut arena old new before after v p
+  pub stays : (Reaches (tree_of arena old) v p from h q → ⊥) → HasKept old new before after
 
 -- The pages of v, which is this visible node, are out of sight from `first` on: rows that only they saw are gone, and their
 -- frames are given back. The tree is exact with these pages left out, and the others show what they showed.

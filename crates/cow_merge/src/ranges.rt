@@ -1,6 +1,6 @@
 //! Leaving a range of pages of a VMO's node out of sight.
 
-ghost use Rattle.std.specs.Prelude.{◌≡◌, ◌⊎◌, ◌+◌, ◌^◌, ◌<◌, ◌≤◌, ℕ, true, None, Some, IsSome, IsSomeAnd};
+ghost use Rattle.std.specs.Prelude.{◌≡◌, ◌+◌, ◌^◌, ◌<◌, ℕ, Option, None, Some, IsSome, IsSomeAnd};
 ghost use Rattle.balanced_tree.specs.Rows.{Rows};
 ghost use Rattle.page_list.specs.declared.row.Row.{Row};
 ghost use Rattle.page_list.specs.Lists.{slots_of};
@@ -10,14 +10,16 @@ ghost use Rattle.cow_arena.specs.declared.node.Node.{Node};
 ghost use Rattle.cow_arena.specs.declared.node.NodeId.{NodeId};
 ghost use Rattle.cow_arena.specs.Nodes.{nodes_of};
 ghost use Rattle.cow_arena.specs.Walk.{frame_in};
+ghost use Rattle.cow_arena.specs.Ways.{HasRow, Reaches};
 ghost use Rattle.cow_split.specs.Trees.{tree_of};
+ghost use Rattle.cow_split.specs.Searching.{ComesTo};
 ghost use Rattle.cow_split.specs.Exact.{IsExact, all_in_sight};
 ghost use Rattle.cow_split.specs.Cutting.{frame_left};
 ghost use Rattle.cow_split.specs.declared.answers.Cut.TheVariants as cut;
-ghost use Rattle.cow_merge.specs.Ranges.{HasGiven, HasLeftPageOut, IsBare, IsPassing, IsSparing, IsSpared, IsParent, HasSkippedPage, HasLeftOut, IsExactFor};
+ghost use Rattle.cow_merge.specs.Ranges.{bare_of, HasGiven, IsBare, IsPassing, IsUnderWay, IsSparing, IsOnlyWay, HasPassedRow, HasLeftOut, IsExactFor};
 
-use cow_arena::{CowArena, Node, NodeId};
-use cow_split::{Cut, cut};
+use cow_arena::{CowArena, Node, NodeId, Side};
+use cow_split::{Cut, cut_row};
 use frame_pool::FramePool;
 use page_list::{PageLists, Slot};
 use vm_base::PageNo;
@@ -39,7 +41,7 @@ pub(crate) fn leave_out(
 {
     drop_rows(arena, lists, frames, leaf, first);
     let node = arena.node(leaf);
-    cut_upwards(arena, lists, frames, leaf, None, first, node, 0, node.seen);
+    cut_upwards(arena, lists, frames, leaf, first, leaf, node, 0, node.seen);
 }
 
 /// Does what `leave_out` does with all pages of a VMO's node, but for those that the parent holds: nothing is done with the
@@ -60,58 +62,55 @@ pub(crate) fn leave_out_above(
     let above = arena.node(hidden);
     prove!(above.count <= u64::MAX);
     let to = node.first + node.seen;
-    cut_upwards(
-        arena,
-        lists,
-        frames,
-        leaf,
-        Some(hidden),
-        0,
-        above,
-        node.first,
-        to,
-    );
+    cut_upwards(arena, lists, frames, leaf, 0, hidden, above, node.first, to);
 }
 
-/// Cuts the pages of a VMO's node from `first` on off from the frames that they see in rows above the node `start`, to whose
-/// pages below `to` they come, `shift` pages further on. Those that the spared node holds are left, and the others come to no
-/// row of `start`.
+/// Cuts the pages of a VMO's node from `first` on off from the frames that they see in rows above the node `start`, which is
+/// this, to whose pages below `to` they come, `shift` pages further on. Those that the parent holds, if it is spared, are
+/// left, and the others come to no row of `start`.
 fn cut_upwards(
     arena: &CowArena,
     lists: &mut PageLists,
     frames: &mut FramePool,
     leaf: NodeId,
-    spared: Option<NodeId>,
     first: PageNo,
-    start: Node,
+    start: NodeId,
+    node: Node,
     shift: PageNo,
     to: PageNo,
 )
-    requires passing { IsPassing arena.now lists.old lists.old frames.old frames.old leaf.0 first spared start shift to to }
+    requires passing { IsUnderWay arena.now lists.old frames.old leaf.0 first node shift to to }
+    requires start { nodes_of arena.now start.0 ≡ Some node }
+    requires way { first + shift < to → ComesTo (bare_of arena.now) leaf.0 first start.0 (first + shift) }
     requires range { first + shift < 2 ^ 64 }
-    ensures { (old : Rows Row) (before : Pool) →
-        IsPassing arena.now old lists.old before frames.old leaf.0 first spared start shift to to →
+    ensures { (old : Rows Row) (before : Pool) (spared : Option NodeId) →
+        IsPassing arena.now old lists.old before frames.old leaf.0 first spared node shift to to →
         IsSparing arena.now old lists.new before frames.new leaf.0 first spared }
 {
     let mut at = start;
+    let mut node = node;
     let mut from = first + shift;
     let mut to = to;
     let mut shift = shift;
     loop {
-        let Some(parent) = at.parent else {
+        let Some(parent) = node.parent else {
             return;
         };
-        let end = to.min(at.seen);
+        let end = to.min(node.seen);
         if end <= from {
             return;
         }
         let above = arena.node(parent);
         prove!(above.count <= u64::MAX);
-        from += at.first;
-        shift += at.first;
-        to = end + at.first;
-        at = above;
-        cut_rows(arena, lists, frames, leaf, spared, first, above, shift, to);
+        let side = above.side_of(at);
+        from += node.first;
+        shift += node.first;
+        to = end + node.first;
+        at = parent;
+        node = above;
+        cut_rows(
+            arena, lists, frames, leaf, first, parent, above, side, shift, to,
+        );
     }
 }
 
@@ -145,23 +144,26 @@ pub(crate) fn give_back_frame(frames: &mut FramePool, slot: Slot)
     }
 }
 
-/// Cuts the pages of a VMO's node from `first` on off from the frames that they see in the rows of a node above it, below
-/// its page `to`. They come to its pages that are `shift` pages further on, and to no rows before, but for those that the
-/// spared node holds.
+/// Cuts the pages of a VMO's node from `first` on off from the frames that they see in the rows of a node above it, which is
+/// `above`, below its page `to`. They come to it from this side, to its pages that are `shift` pages further on, and to no
+/// rows before, but for those that a spared parent holds.
 fn cut_rows(
     arena: &CowArena,
     lists: &mut PageLists,
     frames: &mut FramePool,
     leaf: NodeId,
-    spared: Option<NodeId>,
     first: PageNo,
+    node: NodeId,
     above: Node,
+    side: Side,
     shift: PageNo,
     to: PageNo,
 )
-    requires passing { IsPassing arena.now lists.old lists.old frames.old frames.old leaf.0 first spared above shift to (first + shift) }
+    requires passing { IsUnderWay arena.now lists.old frames.old leaf.0 first above shift to (first + shift) }
+    requires node { nodes_of arena.now node.0 ≡ Some above }
+    requires way { Reaches (bare_of arena.now) leaf.0 first side node.0 (first + shift) }
     requires range { first + shift < to }
-    ensures { (old : Rows Row) (before : Pool) →
+    ensures { (old : Rows Row) (before : Pool) (spared : Option NodeId) →
         IsPassing arena.now old lists.old before frames.old leaf.0 first spared above shift to (first + shift) →
         IsPassing arena.now old lists.new before frames.new leaf.0 first spared above shift to to }
 {
@@ -173,71 +175,46 @@ fn cut_rows(
         if to <= row {
             return;
         }
-        cut_page(arena, lists, frames, leaf, spared, row - shift);
+        let Some(slot) = lists.find(above.list, row) else {
+            unreachable!()
+        };
+        cut_off(
+            arena,
+            lists,
+            frames,
+            leaf,
+            row - shift,
+            node,
+            row,
+            side,
+            slot,
+        );
         from = row + 1;
     }
 }
 
-/// Cuts a page of a VMO's node off from the frame that it sees in a row above it, and gives this back, if no other VMO
-/// shows it; but for a page that the spared node holds. The node has no row of its own there.
-fn cut_page(
-    arena: &CowArena,
-    lists: &mut PageLists,
-    frames: &mut FramePool,
-    leaf: NodeId,
-    spared: Option<NodeId>,
-    page: PageNo,
-)
-    requires exact { IsExactFor arena.now lists.old frames.old leaf.0 }
-    requires bare { (node : Node) → nodes_of arena.now leaf.0 ≡ Some node → slots_of lists.old node.list.0 page ≡ None }
-    requires spared { (node : Node) → nodes_of arena.now leaf.0 ≡ Some node → IsParent spared node }
-    ensures { (node : Node) → nodes_of arena.now leaf.0 ≡ Some node →
-        HasSkippedPage arena.now lists.old lists.new frames.old frames.new node page spared
-        ⊎ HasLeftPageOut arena.now lists.old lists.new frames.old frames.new leaf.0 page }
-{
-    if is_spared(arena, lists, leaf, spared, page) {
-        return;
-    }
-    cut_off(arena, lists, frames, leaf, page);
-}
-
-/// Whether a page of a VMO's node is held by the node that is spared, its parent.
-fn is_spared(
-    arena: &CowArena,
-    lists: &PageLists,
-    leaf: NodeId,
-    spared: Option<NodeId>,
-    page: PageNo,
-) -> bool
-    requires leaf { IsSome (nodes_of arena.now leaf.0) }
-    requires spared { (h : NodeId) → spared ≡ Some h → IsSome (nodes_of arena.now h.0) }
-    ensures { (node : Node) → nodes_of arena.now leaf.0 ≡ Some node → result ≡ true →
-        IsSpared (nodes_of arena.now) (slots_of lists.now) spared node page }
-{
-    let Some(hidden) = spared else {
-        return false;
-    };
-    let node = arena.node(leaf);
-    match node.first.checked_add(page) {
-        Some(there) if page < node.seen => lists.find(arena.node(hidden).list, there).is_some(),
-        _ => false,
-    }
-}
-
-/// Cuts a page of a VMO's node off from the frame that it sees in a row above it, and gives this back, if no other VMO
-/// shows it. The node has no row of its own there.
+/// Cuts page `own` of a VMO's node off from this row of a hidden node, to which that page alone can come, from this side, and
+/// gives the frame back, if no other VMO shows it. Where the page does not come to the row, nothing changes. The VMO's node
+/// has no row of its own there.
 fn cut_off(
     arena: &CowArena,
     lists: &mut PageLists,
     frames: &mut FramePool,
     leaf: NodeId,
+    own: PageNo,
+    node: NodeId,
     page: PageNo,
+    side: Side,
+    slot: Slot,
 )
     requires exact { IsExactFor arena.now lists.old frames.old leaf.0 }
-    requires bare { (node : Node) → nodes_of arena.now leaf.0 ≡ Some node → slots_of lists.old node.list.0 page ≡ None }
-    ensures { HasLeftPageOut arena.now lists.old lists.new frames.old frames.new leaf.0 page }
+    requires bare { (at : Node) → nodes_of arena.now leaf.0 ≡ Some at → slots_of lists.old at.list.0 own ≡ None }
+    requires row { HasRow (tree_of arena.now lists.old) node.0 page slot }
+    requires hidden { (above : Node) → nodes_of arena.now node.0 ≡ Some above → above.koid ≡ None }
+    requires only { IsOnlyWay (tree_of arena.now lists.old) leaf.0 own side node.0 page }
+    ensures { HasPassedRow arena.now lists.old lists.new frames.old frames.new leaf.0 own side node.0 page }
 {
-    let answer = cut(arena, lists, leaf, page);
+    let answer = cut_row(arena, lists, leaf, own, node, page, side, slot);
     give_back_last(frames, answer);
 }
 

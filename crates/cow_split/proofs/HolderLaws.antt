@@ -1,5 +1,6 @@
 -- What a cut of a page leaves and answers, where the page's row was found, and what a cut in the lists of an arena does.
-use Rattle.std.proofs.Common.{◌≡◌, ◌↔◌, ℕ, Bool, Option, None, Some, IsSome, IsSomeAnd, refl, sym, ap, subst}
+use Rattle.std.proofs.Common.{◌≡◌, ◌↔◌, ℕ, Bool, Option, None, Some, IsSome, IsSomeAnd, inl, inr, refl, sym, ap, subst}
+use Rattle.std.specs.Prelude.{is_some}
 use Rattle.balanced_tree.specs.Rows.{Rows}
 use Rattle.vm_base.specs.declared.names.Tag.{Tag}
 use Rattle.page_list.specs.declared.row.Row.{Row}
@@ -13,7 +14,7 @@ use Rattle.cow_arena.specs.Nodes.{Arena, nodes_of, IsVisible}
 use Rattle.cow_arena.specs.Walk.{Slots, Tree, Found, walk, frame_at}
 use Rattle.cow_arena.specs.Forest.{IsForest}
 use Rattle.cow_arena.specs.Ways.{HasRow, Reaches}
-use Rattle.cow_arena.proofs.ReachLaws.{walk-ends}
+use Rattle.cow_arena.proofs.ReachLaws.{reach-cases, walk-ends}
 use Rattle.cow_split.specs.declared.answers.Cut.{Cut}
 use Rattle.cow_split.specs.declared.answers.Cut.TheVariants as cut
 use Rattle.cow_split.specs.declared.answers.Holder.TheVariants as holder
@@ -51,6 +52,13 @@ pub held-way : (t : Tree) → IsForest t.nodes t.lists → (k p : ℕ) (h : Node
     holder.Above h q side slot ≡ holder_of (walk t k p) → Reaches t k p side h.0 q
 held-way t forest k p h q side slot e =
     (walk-ends t forest k p (record { node = h.0; page = q; side = Some side; slot = slot }) (found-above (walk t k p) h q side slot e)).way
+
+-- there is the node from which it comes
+pub way-node : {t : Tree} {k p : ℕ} {side : Side} {h q : ℕ} → Reaches t k p side h q → IsSome (t.nodes k)
+way-node {t = t} {k = k} {p = p} {side = side} {h = h} {q = q} way = elim (reach-cases t k p side h q way) [
+  | inl one ↦ ap is_some one.0.at
+  | inr on ↦ ap is_some on.2.at
+]
 
 -- the rows and the answer, where the row of a hidden node was found
 pub above-cut : (t : Tree) (k p : ℕ) (h : NodeId) (q : ℕ) (side : Side) (slot : Slot) → holder.Above h q side slot ≡ holder_of (walk t k p) →

@@ -15,4 +15,5 @@ pub mod ExampleLaws
 pub mod CutLaws
 pub mod PartLaws
 pub mod HolderLaws
+pub mod CutRowLaws
 pub mod NodeLaws

@@ -6,11 +6,13 @@ use Rattle.vm_base.specs.declared.names.Tag.{Tag}
 use Rattle.page_list.specs.declared.row.Row.{Row}
 use Rattle.page_list.specs.declared.row.Slot.{Slot}
 use Rattle.page_list.specs.declared.row.Slot.TheVariants as slot
+use Rattle.cow_arena.specs.declared.node.Node.{Node}
 use Rattle.cow_arena.specs.declared.node.Side.{Side}
 use Rattle.cow_arena.specs.declared.node.Side.TheVariants as side
 use Rattle.page_list.specs.Lists.{slots_of, row_count}
 use Rattle.cow_arena.specs.Nodes.{Arena, link_to}
 use Rattle.cow_arena.specs.Walk.{Slots, Tree, Found, walk}
+use Rattle.cow_arena.specs.Ways.{Reaches}
 use Rattle.cow_split.specs.declared.answers.Cut.{Cut}
 use Rattle.cow_split.specs.declared.answers.Cut.TheVariants as cut
 use Rattle.cow_split.specs.Trees.{list_in, tree_of}
@@ -81,3 +83,15 @@ pub record HasCut (arena : Arena) (old new : Rows Row) (leaf p : ℕ) (answer : 
   pub answers : answer ≡ cut_answer (tree_of arena old) leaf p
   pub spare : old.spare ≤ new.spare
   pub count : row_count new ≤ row_count old
+
+-- no page of node v that is in sight comes to page q of the hidden node h from this side
+pub record IsUnseenBy (t : Tree) (out : ℕ → ℕ → Bool) (v : ℕ) (from : Side) (h q : ℕ) : Type 0 where
+  pub above : Node
+  pub at : t.nodes h ≡ Some above
+  pub hidden : above.koid ≡ None
+  pub none : (p : ℕ) → out v p ≡ false → Reaches t v p from h q → ⊥
+
+-- the rows are as before, and no frame is left to the one who asked
+pub record HasStayed (old new : Rows Row) (answer : Cut) : Type 0 where
+  pub rows : slots_of new ≡ slots_of old
+  pub no_frame : frame_left answer ≡ None

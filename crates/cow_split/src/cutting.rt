@@ -11,7 +11,7 @@ ghost use Rattle.cow_arena.specs.Ways.{HasRow, Reaches};
 ghost use Rattle.cow_split.specs.Trees.{tree_of, holder_of};
 ghost use Rattle.cow_split.specs.Sight.{IsLastViewer};
 ghost use Rattle.cow_split.specs.Exact.{IsExact, IsOnlyOf, leaving_out, without_frame};
-ghost use Rattle.cow_split.specs.Cutting.{split_on, answer_on, slots_from, answer_from, HasCut, frame_left, cut_answer, leaves_frame};
+ghost use Rattle.cow_split.specs.Cutting.{split_on, answer_on, answer_from, HasCut, IsUnseenBy, HasStayed, frame_left, cut_answer, leaves_frame};
 ghost use Rattle.cow_split.specs.declared.answers.Cut.TheVariants as cut;
 
 use crate::answers::{Cut, Holder};
@@ -70,8 +70,12 @@ pub fn cut_holder(
     }
 }
 
-/// Cuts off page `own` of the leaf, which sees this row of a hidden node from this side.
-fn cut_row(
+/// Does what `cut` does for page `own` of a node, at the row of a hidden node to which the page comes from this side. It
+/// looks into no list on the way there.
+///
+/// Where no page of the node that is in sight comes to the row, nothing changes, in a tree that is exact: others see the row
+/// from that side, or its bit of the side is set.
+pub fn cut_row(
     arena: &CowArena,
     lists: &mut PageLists,
     leaf: NodeId,
@@ -82,10 +86,12 @@ fn cut_row(
     slot: Slot,
 ) -> Cut
     requires forest { IsForest (nodes_of arena.now) arena.now.lists }
+    requires leaf { IsSome (nodes_of arena.now leaf.0) }
     requires row { HasRow (tree_of arena.now lists.old) node.0 page slot }
-    requires way { Reaches (tree_of arena.now lists.old) leaf.0 own side node.0 page }
-    ensures slots { slots_of lists.new ≡ slots_from (tree_of arena.now lists.old) leaf.0 node.0 page slot (Some side) }
-    ensures answer { result ≡ answer_from (tree_of arena.now lists.old) leaf.0 node.0 page slot (Some side) }
+    ensures seen { Reaches (tree_of arena.now lists.old) leaf.0 own side node.0 page →
+        HasCut arena.now lists.old lists.new leaf.0 own result }
+    ensures unseen { (out : ℕ → ℕ → Bool) (in_use : ℕ → Bool) → IsExact (tree_of arena.now lists.old) out in_use →
+        IsUnseenBy (tree_of arena.now lists.old) out leaf.0 side node.0 page → HasStayed lists.old lists.new result }
     ensures spare { lists.old.spare ≤ lists.new.spare }
     ensures count { row_count lists.new ≤ row_count lists.old }
 {

@@ -2,7 +2,7 @@
 //! the visible nodes that see a row, and the split bits, which say of a hidden node's row that no VMO on a side sees it.
 //!
 //! It stands on `cow_arena` and `page_list`, and changes nothing but a row's bits, or takes a row away that nobody sees
-//! (`cut`). Of the contracts, the layer above uses that a tree is exact (`IsExact`) over the frames that are taken, where
+//! (`cut`, `cut_row`). Of the contracts, the layer above uses that a tree is exact (`IsExact`) over the frames that are taken, where
 //! some pages of visible nodes may be left out of sight, and how `cut` leaves one out more.
 #![tactic(auto)]
 
@@ -16,7 +16,7 @@ mod viewers;
 
 pub use answers::{Cut, Holder};
 pub use climbing::{holder, holder_above, holder_counted};
-pub use cutting::{cut, cut_holder, is_last};
+pub use cutting::{cut, cut_holder, cut_row, is_last};
 pub use existing::reached_from;
 pub use search::{sees, side_seen};
 pub use viewers::{least_koid, lesser, viewer_count};

@@ -1,15 +1,18 @@
--- A frame that a cut takes the last row of is taken, and the page is left out then.
-use Rattle.cow_merge.proofs.RangeLaws.{cut-taken, cut-left_out}
+-- A frame that a cut takes the last row of is taken, and the page is left out then, or nothing has changed.
+use Rattle.cow_merge.proofs.RangeLaws.{row-taken, row-passed}
 use Rattle.cow_merge.proofs.ranges.cut_off.Goals as goal
 
 pub give_back_last-requires : goal.give_back_last-requires
 give_back_last-requires c = λ tag is.
     let has = c.requires.exact in
-    cut-taken c.args.arena.now c.args.lists.now c.cut-answer.new.lists c.args.leaf.0 c.args.page has.node has.visible c.args.frames.now has.out c.cut-answer.result tag
-    has.exact has.only (c.requires.bare has.node has.visible.at) c.cut-answer.ensures.cut is
+    row-taken c.args.arena.now c.args.lists.now c.cut_row-answer.new.lists c.args.leaf.0 c.args.own c.args.side c.args.node.0 c.args.page c.args.slot
+    c.args.frames.now c.cut_row-answer.result has (c.requires.bare has.node has.visible.at) c.requires.row c.requires.hidden c.requires.only
+    c.cut_row-answer.ensures.seen (c.cut_row-answer.ensures.unseen has.out _ has.exact) tag is
 
 pub returns : goal.returns
 returns c =
     let has = c.requires.exact in
-    cut-left_out c.args.arena.now c.args.lists.now c.cut-answer.new.lists c.args.leaf.0 c.args.page has.node has.visible c.args.frames.now c.give_back_last.new.frames
-    c.cut-answer.result has.exact.forest (c.requires.bare has.node has.visible.at) c.cut-answer.ensures.cut c.give_back_last.ensures
+    row-passed c.args.arena.now c.args.lists.now c.cut_row-answer.new.lists c.args.leaf.0 c.args.own c.args.side c.args.node.0 c.args.page c.args.slot
+    c.args.frames.now c.cut_row-answer.result has (c.requires.bare has.node has.visible.at) c.requires.row c.requires.hidden c.requires.only
+    c.cut_row-answer.ensures.seen (c.cut_row-answer.ensures.unseen has.out _ has.exact) c.give_back_last.new.frames c.give_back_last.ensures
+    c.cut_row-answer.ensures.spare c.cut_row-answer.ensures.count

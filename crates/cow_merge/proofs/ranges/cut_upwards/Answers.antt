@@ -1,66 +1,93 @@
 -- On each node on the way up, what the pages of the range still show is further up.
-use Rattle.std.proofs.Common.{arith}
-use Rattle.cow_merge.proofs.RangeLaws.{passing-again, passing-up, passing-top, passing-there, passing-fits, passing-less}
+use Rattle.std.proofs.Common.{◌+◌, Some, sym, subst, arith}
+use Rattle.cow_arena.specs.Nodes.{side_of}
+use Rattle.cow_arena.specs.Ways.{Reaches}
+use Rattle.cow_merge.specs.Ranges.{bare_of}
+use Rattle.cow_merge.proofs.RangeLaws.{passing-again, passing-up, passing-top, passing-there, passing-fits, passing-less, bare-up}
 use Rattle.cow_merge.proofs.ranges.cut_upwards.Goals as goal
 
-pub loop-at-init : goal.loop-at-init
-loop-at-init c = record { from = omega arith; passing = λ old before was. was }
-
 pub returns-in_default : goal.returns-in_default
-returns-in_default c = λ old before was.
-    passing-top c.args.arena.now old c.loop-at.lists before c.loop-at.frames c.args.leaf.0 c.args.first c.args.spared c.loop-at.at c.loop-at.shift
-    c.loop-at.to (c.loop-at.invariant.passing old before was) (λ parent is. let none = c.in_default.is in absurd (cc))
+returns-in_default c = λ old before spared was.
+    passing-top c.args.arena.now old c.loop-node.lists before c.loop-node.frames c.args.leaf.0 c.args.first spared c.loop-node.node c.loop-node.shift
+    c.loop-node.to (c.loop-node.invariant.passing old before spared was) (λ parent is. let none = c.in_default.is in absurd (cc))
 
 pub returns-then-end-from : goal.returns-then-end-from
-returns-then-end-from c = λ old before was.
-    passing-top c.args.arena.now old c.loop-at.lists before c.loop-at.frames c.args.leaf.0 c.args.first c.args.spared c.loop-at.at c.loop-at.shift
-    c.loop-at.to (c.loop-at.invariant.passing old before was) (λ parent is. omega arith)
+returns-then-end-from c = λ old before spared was.
+    passing-top c.args.arena.now old c.loop-node.lists before c.loop-node.frames c.args.leaf.0 c.args.first spared c.loop-node.node c.loop-node.shift
+    c.loop-node.to (c.loop-node.invariant.passing old before spared was) (λ parent is. omega arith)
 
 pub node-above-requires : goal.node-above-requires
 node-above-requires c =
-    passing-there c.args.arena.now c.args.lists.now c.loop-at.lists c.args.frames.now c.loop-at.frames c.args.leaf.0 c.args.first c.args.spared c.loop-at.at
-    c.loop-at.shift c.loop-at.to c.loop-at.to (c.loop-at.invariant.passing c.args.lists.now c.args.frames.now c.requires.passing) c.in-Some.parent c.in-Some.is
+    let under = c.requires.passing in
+    passing-there c.args.arena.now c.args.lists.now c.loop-node.lists c.args.frames.now c.loop-node.frames c.args.leaf.0 c.args.first under.spared c.loop-node.node
+    c.loop-node.shift c.loop-node.to c.loop-node.to (c.loop-node.invariant.passing c.args.lists.now c.args.frames.now under.spared under.passing) c.in-Some.parent c.in-Some.is
 
-pub overflow_add-from-in-loop-at : goal.overflow_add-from-in-loop-at
-overflow_add-from-in-loop-at c =
-    let fits = passing-fits c.args.arena.now c.args.lists.now c.loop-at.lists c.args.frames.now c.loop-at.frames c.args.leaf.0 c.args.first c.args.spared c.loop-at.at
-    c.loop-at.shift c.loop-at.to c.loop-at.to (c.loop-at.invariant.passing c.args.lists.now c.args.frames.now c.requires.passing) c.in-Some.parent
+pub overflow_add-from-in-loop-node : goal.overflow_add-from-in-loop-node
+overflow_add-from-in-loop-node c =
+    let under = c.requires.passing in
+    let fits = passing-fits c.args.arena.now c.args.lists.now c.loop-node.lists c.args.frames.now c.loop-node.frames c.args.leaf.0 c.args.first under.spared c.loop-node.node
+    c.loop-node.shift c.loop-node.to c.loop-node.to (c.loop-node.invariant.passing c.args.lists.now c.args.frames.now under.spared under.passing) c.in-Some.parent
     c.node-above.result c.in-Some.is c.node-above.ensures in
     omega arith
 
 pub overflow_add-shift : goal.overflow_add-shift
 overflow_add-shift c =
-    let fits = passing-fits c.args.arena.now c.args.lists.now c.loop-at.lists c.args.frames.now c.loop-at.frames c.args.leaf.0 c.args.first c.args.spared c.loop-at.at
-    c.loop-at.shift c.loop-at.to c.loop-at.to (c.loop-at.invariant.passing c.args.lists.now c.args.frames.now c.requires.passing) c.in-Some.parent
+    let under = c.requires.passing in
+    let fits = passing-fits c.args.arena.now c.args.lists.now c.loop-node.lists c.args.frames.now c.loop-node.frames c.args.leaf.0 c.args.first under.spared c.loop-node.node
+    c.loop-node.shift c.loop-node.to c.loop-node.to (c.loop-node.invariant.passing c.args.lists.now c.args.frames.now under.spared under.passing) c.in-Some.parent
     c.node-above.result c.in-Some.is c.node-above.ensures in
     omega arith
 
 pub overflow_add-to : goal.overflow_add-to
 overflow_add-to c =
-    let fits = passing-fits c.args.arena.now c.args.lists.now c.loop-at.lists c.args.frames.now c.loop-at.frames c.args.leaf.0 c.args.first c.args.spared c.loop-at.at
-    c.loop-at.shift c.loop-at.to c.loop-at.to (c.loop-at.invariant.passing c.args.lists.now c.args.frames.now c.requires.passing) c.in-Some.parent
+    let under = c.requires.passing in
+    let fits = passing-fits c.args.arena.now c.args.lists.now c.loop-node.lists c.args.frames.now c.loop-node.frames c.args.leaf.0 c.args.first under.spared c.loop-node.node
+    c.loop-node.shift c.loop-node.to c.loop-node.to (c.loop-node.invariant.passing c.args.lists.now c.args.frames.now under.spared under.passing) c.in-Some.parent
     c.node-above.result c.in-Some.is c.node-above.ensures in
     omega arith
 
 pub cut_rows-requires-clause-passing : goal.cut_rows-requires-clause-passing
 cut_rows-requires-clause-passing c =
-    passing-again c.args.arena.now c.args.lists.now c.loop-at.lists c.args.frames.now c.loop-at.frames c.args.leaf.0 c.args.first c.args.spared
-    c.node-above.result _ _ _
-    (passing-up c.args.arena.now c.args.lists.now c.loop-at.lists c.args.frames.now c.loop-at.frames c.args.leaf.0 c.args.first c.args.spared c.loop-at.at
-    c.loop-at.shift c.loop-at.to (c.loop-at.invariant.passing c.args.lists.now c.args.frames.now c.requires.passing) c.in-Some.parent c.node-above.result
-    c.in-Some.is c.node-above.ensures c.min-end.result c.min-end.ensures)
+    let under = c.requires.passing in
+    record {
+      spared = under.spared;
+      passing = passing-again c.args.arena.now c.args.lists.now c.loop-node.lists c.args.frames.now c.loop-node.frames c.args.leaf.0 c.args.first under.spared
+          c.node-above.result _ _ _
+          (passing-up c.args.arena.now c.args.lists.now c.loop-node.lists c.args.frames.now c.loop-node.frames c.args.leaf.0 c.args.first under.spared
+          c.loop-node.node c.loop-node.shift c.loop-node.to
+          (c.loop-node.invariant.passing c.args.lists.now c.args.frames.now under.spared under.passing) c.in-Some.parent c.node-above.result
+          c.in-Some.is c.node-above.ensures c.min-end.result c.min-end.ensures);
+    }
 
-pub loop-at-smaller : goal.loop-at-smaller
-loop-at-smaller c =
-    passing-less c.args.arena.now c.args.lists.now c.loop-at.lists c.args.frames.now c.loop-at.frames c.args.leaf.0 c.args.first c.args.spared c.loop-at.at
-    c.loop-at.shift c.loop-at.to c.loop-at.to (c.loop-at.invariant.passing c.args.lists.now c.args.frames.now c.requires.passing) c.in-Some.parent
+pub cut_rows-requires-clause-way : goal.cut_rows-requires-clause-way
+cut_rows-requires-clause-way c =
+    let page = c.args.first + (c.loop-node.shift + c.loop-node.node.first) in
+    subst (λ s. Reaches (bare_of c.args.arena.now) c.args.leaf.0 c.args.first s c.in-Some.parent.0 page) (sym c.side_of-side.ensures)
+    (bare-up c.args.arena.now c.requires.passing.passing.bare.leaving.exact.forest c.args.leaf.0 c.args.first c.loop-node.at.0 c.in-Some.parent c.loop-node.node
+    c.node-above.result c.loop-node.from page c.loop-node.invariant.here c.in-Some.is c.node-above.ensures (omega arith)
+    (let same = c.loop-node.invariant.from in omega arith) (c.loop-node.invariant.way (omega arith)))
+
+pub loop-node-smaller : goal.loop-node-smaller
+loop-node-smaller c =
+    let under = c.requires.passing in
+    passing-less c.args.arena.now c.args.lists.now c.loop-node.lists c.args.frames.now c.loop-node.frames c.args.leaf.0 c.args.first under.spared c.loop-node.node
+    c.loop-node.shift c.loop-node.to c.loop-node.to (c.loop-node.invariant.passing c.args.lists.now c.args.frames.now under.spared under.passing) c.in-Some.parent
     c.node-above.result c.in-Some.is c.node-above.ensures
 
-pub loop-at-preserved : goal.loop-at-preserved
-loop-at-preserved c = record {
-  from = omega (arith, c.loop-at.invariant.from);
-  passing = λ old before was. c.cut_rows.ensures old before
-      (passing-up c.args.arena.now old c.loop-at.lists before c.loop-at.frames c.args.leaf.0 c.args.first c.args.spared c.loop-at.at c.loop-at.shift
-      c.loop-at.to (c.loop-at.invariant.passing old before was) c.in-Some.parent c.node-above.result c.in-Some.is c.node-above.ensures c.min-end.result
-      c.min-end.ensures);
+pub loop-node-preserved : goal.loop-node-preserved
+loop-node-preserved c = record {
+  from = omega (arith, c.loop-node.invariant.from);
+  here = c.node-above.ensures;
+  way = λ less.
+      let page = c.loop-node.from + c.loop-node.node.first in
+      record {
+        side = Some (side_of c.node-above.result c.loop-node.at.0);
+        way = bare-up c.args.arena.now c.requires.passing.passing.bare.leaving.exact.forest c.args.leaf.0 c.args.first c.loop-node.at.0 c.in-Some.parent
+            c.loop-node.node c.node-above.result c.loop-node.from page c.loop-node.invariant.here c.in-Some.is c.node-above.ensures (omega arith) (omega arith)
+            (c.loop-node.invariant.way (omega arith));
+      };
+  passing = λ old before spared was. c.cut_rows.ensures old before spared
+      (passing-up c.args.arena.now old c.loop-node.lists before c.loop-node.frames c.args.leaf.0 c.args.first spared c.loop-node.node
+      c.loop-node.shift c.loop-node.to (c.loop-node.invariant.passing old before spared was) c.in-Some.parent c.node-above.result c.in-Some.is
+      c.node-above.ensures c.min-end.result c.min-end.ensures);
 }

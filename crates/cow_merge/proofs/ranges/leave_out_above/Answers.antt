@@ -1,6 +1,7 @@
 -- What the parent holds is spared, and the others come to no row of it.
-use Rattle.std.proofs.Common.{arith}
-use Rattle.cow_merge.proofs.RangeLaws.{passing-above, passing-again, above-there, above-fits, above-parent, above-visible}
+use Rattle.std.proofs.Common.{◌+◌, None, Some, refl, arith}
+use Rattle.cow_arena.specs.Nodes.{side_of}
+use Rattle.cow_merge.proofs.RangeLaws.{passing-above, passing-again, above-there, above-fits, above-parent, above-visible, bare-up}
 use Rattle.cow_merge.proofs.ranges.leave_out_above.Goals as goal
 
 pub drop_rows-requires-clause-leaf : goal.drop_rows-requires-clause-leaf
@@ -16,15 +17,26 @@ overflow_add-to c =
     omega arith
 
 pub cut_upwards-requires-clause-passing : goal.cut_upwards-requires-clause-passing
-cut_upwards-requires-clause-passing c =
-    passing-again c.args.arena.now c.args.lists.now c.drop_rows.new.lists c.args.frames.now c.drop_rows.new.frames c.args.leaf.0 0 _ _ _ _ _
-    (passing-above c.args.arena.now c.args.lists.now c.drop_rows.new.lists c.args.frames.now c.drop_rows.new.frames c.args.leaf.0
-    c.node-node.result c.args.hidden c.node-above.result c.drop_rows.ensures c.node-node.ensures
-    (above-parent c.args.arena.now c.args.leaf.0 c.args.hidden c.node-node.result c.requires.leaf c.node-node.ensures) c.node-above.ensures)
+cut_upwards-requires-clause-passing c = record {
+  spared = Some c.args.hidden;
+  passing = passing-again c.args.arena.now c.args.lists.now c.drop_rows.new.lists c.args.frames.now c.drop_rows.new.frames c.args.leaf.0 0 _ _ _ _ _
+      (passing-above c.args.arena.now c.args.lists.now c.drop_rows.new.lists c.args.frames.now c.drop_rows.new.frames c.args.leaf.0
+      c.node-node.result c.args.hidden c.node-above.result c.drop_rows.ensures c.node-node.ensures
+      (above-parent c.args.arena.now c.args.leaf.0 c.args.hidden c.node-node.result c.requires.leaf c.node-node.ensures) c.node-above.ensures);
+}
+
+pub cut_upwards-requires-clause-way : goal.cut_upwards-requires-clause-way
+cut_upwards-requires-clause-way c = λ less. record {
+  side = Some (side_of c.node-above.result c.args.leaf.0);
+  way = bare-up c.args.arena.now c.requires.exact.forest c.args.leaf.0 0 c.args.leaf.0 c.args.hidden c.node-node.result c.node-above.result 0
+      (0 + c.node-node.result.first) c.node-node.ensures
+      (above-parent c.args.arena.now c.args.leaf.0 c.args.hidden c.node-node.result c.requires.leaf c.node-node.ensures) c.node-above.ensures
+      (omega arith) (omega arith) (record { side = None; way = (refl, refl) });
+}
 
 pub returns : goal.returns
 returns c =
-    c.cut_upwards.ensures c.args.lists.now c.args.frames.now
+    c.cut_upwards.ensures c.args.lists.now c.args.frames.now (Some c.args.hidden)
     (passing-above c.args.arena.now c.args.lists.now c.drop_rows.new.lists c.args.frames.now c.drop_rows.new.frames c.args.leaf.0
     c.node-node.result c.args.hidden c.node-above.result c.drop_rows.ensures c.node-node.ensures
     (above-parent c.args.arena.now c.args.leaf.0 c.args.hidden c.node-node.result c.requires.leaf c.node-node.ensures) c.node-above.ensures)

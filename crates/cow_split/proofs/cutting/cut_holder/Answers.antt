@@ -1,7 +1,7 @@
 -- A cut goes by the holder of the page: it changes the row of a hidden node alone.
 use Rattle.std.proofs.Common.{sym, ◌∙◌, arith}
 use Rattle.cow_split.specs.Trees.{tree_of}
-use Rattle.cow_split.proofs.HolderLaws.{held-row, held-way, above-cut, own-cut, nothing-cut}
+use Rattle.cow_split.proofs.HolderLaws.{held-row, held-way, way-node, own-cut, nothing-cut}
 use Rattle.cow_split.proofs.cutting.cut_holder.Goals as goal
 
 pub cut_row-requires-clause-row : goal.cut_row-requires-clause-row
@@ -9,23 +9,17 @@ cut_row-requires-clause-row c =
     held-row (tree_of c.args.arena.now c.args.lists.now) c.requires.forest c.args.leaf.0 c.args.page c.in-Above.node c.in-Above.row c.in-Above.side c.in-Above.slot
     (sym c.in-Above.is ∙ c.requires.found)
 
-pub cut_row-requires-clause-way : goal.cut_row-requires-clause-way
-cut_row-requires-clause-way c =
-    held-way (tree_of c.args.arena.now c.args.lists.now) c.requires.forest c.args.leaf.0 c.args.page c.in-Above.node c.in-Above.row c.in-Above.side c.in-Above.slot
-    (sym c.in-Above.is ∙ c.requires.found)
+pub cut_row-requires-clause-leaf : goal.cut_row-requires-clause-leaf
+cut_row-requires-clause-leaf c =
+    way-node (held-way (tree_of c.args.arena.now c.args.lists.now) c.requires.forest c.args.leaf.0 c.args.page c.in-Above.node c.in-Above.row c.in-Above.side
+    c.in-Above.slot (sym c.in-Above.is ∙ c.requires.found))
 
 pub returns-in-Above : goal.returns-in-Above
-returns-in-Above c =
-    let after = above-cut (tree_of c.args.arena.now c.args.lists.now) c.args.leaf.0 c.args.page c.in-Above.node c.in-Above.row c.in-Above.side c.in-Above.slot
-    (sym c.in-Above.is ∙ c.requires.found) in
-    record {
-      cut = record {
-        slots = c.cut_row.ensures.slots ∙ after.0;
-        answers = c.cut_row.ensures.answer ∙ after.1;
-        spare = c.cut_row.ensures.spare;
-        count = c.cut_row.ensures.count;
-      };
-    }
+returns-in-Above c = record {
+  cut = c.cut_row.ensures.seen
+      (held-way (tree_of c.args.arena.now c.args.lists.now) c.requires.forest c.args.leaf.0 c.args.page c.in-Above.node c.in-Above.row c.in-Above.side c.in-Above.slot
+      (sym c.in-Above.is ∙ c.requires.found));
+}
 
 pub returns-in-Own : goal.returns-in-Own
 returns-in-Own c =
