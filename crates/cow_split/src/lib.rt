@@ -2,8 +2,8 @@
 //! the visible nodes that see a row, and the split bits, which say of a hidden node's row that no VMO on a side sees it.
 //!
 //! It stands on `cow_arena` and `page_list`, and changes nothing but a row's bits, or takes a row away that nobody sees
-//! (`cut`, `cut_row`). Of the contracts, the layer above uses that a tree is exact (`IsExact`) over the frames that are taken, where
-//! some pages of visible nodes may be left out of sight, and how `cut` leaves one out more.
+//! (`cut`, `cut_row`). Of the contracts, the layer above uses that a tree is exact (`IsExact`) over the frames that are
+//! taken, where some pages of visible nodes may be left out of sight, and how a cut leaves one out more.
 #![tactic(auto)]
 
 mod answers;
