@@ -9,6 +9,7 @@ pub mod TouchingLaws
 pub mod FrameLaws
 pub mod ReadLaws
 pub mod FindLaws
+pub mod ForgettingLaws
 pub mod NeedingLaws
 pub mod OwnedLaws
 pub mod WrittenLaws

@@ -1,6 +1,5 @@
 -- The lists of the translations, as one translation changes, comes or goes.
 use Rattle.std.proofs.Common.{◌≡◌, ℕ, ◌+◌, ◌<◌, ◌^◌, Bool, Option, None, Some, IsSome, is_some, ◌⊎◌, refl, sym, ap, ◌∙◌, inl, inr, arith}
-use Rattle.std.specs.Prelude.{unwrap_or}
 use Rattle.std.proofs.lemmas.Bool.{cases_eq}
 use Rattle.vm_base.proofs.EntryLaws.{some_same, some_is}
 use Rattle.vm_model.specs.declared.space.Entry.{Entry}
@@ -9,23 +8,24 @@ use Rattle.mapping_set.proofs.TableLaws.{with_pair-cases}
 use Rattle.fault.specs.declared.translation.Translation.{Translation}
 use Rattle.fault.specs.declared.translation.Kept.{Kept}
 use Rattle.fault.specs.declared.translation.Place.{Place}
-use Rattle.fault.specs.Lists.{place_at, IsListed, AreListed, DropsEmpty}
+use Rattle.fault.specs.declared.translation.FrameList.{FrameList}
+use Rattle.fault.specs.Lists.{place_at, frame_list, list_with, IsListed, AreListed, DropsEmpty}
 use Rattle.fault.specs.Walks.{Keeping}
 use Rattle.fault.proofs.PairLaws.{missing, pair-left, pair-other, pair-here, pair-cases}
 
--- the list of a page is the one that it had, or the new one
-pub list-cases : (old : Option ℕ) (l n : ℕ) → l ≡ unwrap_or old n → (old ≡ Some l) ⊎ ((old ≡ None) × (l ≡ n))
-list-cases None l n e = inr (refl, e)
-list-cases (Some m) l n e = inl (ap {B = Option ℕ} Some (sym e))
+module _ (places : Keeping) (lists : ℕ → ℕ → Option FrameList) (members : ℕ → ℕ → Option Place) (next : ℕ) (h : AreListed places lists members next) where
+  -- the list of the same number and frame
+  same-list : (k y : Kept) → k.list ≡ y.list → k.translation.frame ≡ y.translation.frame → ◌≡◌ {A = Option FrameList} (Some (list_with k)) (Some (list_with y))
+  same-list k y number frame = λ i. Some (frame_list (number i) (frame i))
 
-module _ (places : Keeping) (lists : ℕ → ℕ → Option ℕ) (members : ℕ → ℕ → Option Place) (next : ℕ) (h : AreListed places lists members next) where
   -- ---- a translation changes
 
   module _ (root p : ℕ) (k : Kept) (at : places root p ≡ Some k) (x : Translation) (entry : x.entry ≡ k.translation.entry)
-      (new : Keeping) (e : new ≡ with_pair places root p (Some (record k { translation = x }))) where
+      (frame : x.frame ≡ k.translation.frame) (new : Keeping) (e : new ≡ with_pair places root p (Some (record k { translation = x }))) where
     -- what is kept now stood in the same list before
     was : (r q : ℕ) (y : Kept) → new r q ≡ Some y
         → (z : Kept) × (places r q ≡ Some z) × (y.translation.entry ≡ z.translation.entry) × (y.list ≡ z.list) × (y.serial ≡ z.serial)
+        × (y.translation.frame ≡ z.translation.frame)
     was r q y is = elim (pair-cases places new root p (record k { translation = x }) e r q y is) [
       | inl here ↦ (
         k,
@@ -33,8 +33,9 @@ module _ (places : Keeping) (lists : ℕ → ℕ → Option ℕ) (members : ℕ 
         sym (ap (λ (z : Kept). z.translation.entry) here.2) ∙ entry,
         sym (ap (λ (z : Kept). z.list) here.2),
         sym (ap (λ (z : Kept). z.serial) here.2),
+        sym (ap (λ (z : Kept). z.translation.frame) here.2) ∙ frame,
       )
-      | inr there ↦ (y, there.1, refl, refl, refl)
+      | inr there ↦ (y, there.1, refl, refl, refl, refl)
     ]
 
     -- what a member is of stays in the list
@@ -54,7 +55,7 @@ module _ (places : Keeping) (lists : ℕ → ℕ → Option ℕ) (members : ℕ 
     -- the lists are right, with the other translation
     pub AreListed-put : AreListed new lists members next
     AreListed-put = record {
-      list = λ r q y is. let z = was r q y is in ap (λ (a : Entry). lists a.koid.0 a.page) z.2 ∙ (h.list r q z.0 z.1 ∙ ap {B = Option ℕ} Some (sym z.3));
+      list = λ r q y is. let z = was r q y is in ap (λ (a : Entry). lists a.koid.0 a.page) z.2 ∙ (h.list r q z.0 z.1 ∙ same-list z.0 y (sym z.3) (sym z.5));
       member = λ r q y is. let z = was r q y is in ap (λ l. members l y.serial) z.3 ∙ (ap (members z.0.list) z.4 ∙ h.member r q z.0 z.1);
       place = λ l s y is. listed-still l s y (h.place l s y is);
       apart = h.apart;
@@ -67,20 +68,20 @@ module _ (places : Keeping) (lists : ℕ → ℕ → Option ℕ) (members : ℕ 
   -- ---- a translation comes
 
   module _ (root p : ℕ) (k : Kept) (absent : places root p ≡ None) (serial : k.serial ≡ next) (fits : next + 1 < 2 ^ 64)
-      (list_is : (lists k.translation.entry.koid.0 k.translation.entry.page ≡ Some k.list) ⊎ ((lists k.translation.entry.koid.0 k.translation.entry.page ≡ None) × (k.list ≡ next)))
+      (list_is : (lists k.translation.entry.koid.0 k.translation.entry.page ≡ Some (list_with k)) ⊎ ((lists k.translation.entry.koid.0 k.translation.entry.page ≡ None) × (k.list ≡ next)))
       (new : Keeping) (e : new ≡ with_pair places root p (Some k))
-      (more : ℕ → ℕ → Option ℕ) (l_is : more ≡ with_pair lists k.translation.entry.koid.0 k.translation.entry.page (Some k.list))
+      (more : ℕ → ℕ → Option FrameList) (l_is : more ≡ with_pair lists k.translation.entry.koid.0 k.translation.entry.page (Some (list_with k)))
       (now : ℕ → ℕ → Option Place) (m_is : now ≡ with_pair members k.list next (Some (place_at root p))) where
     -- a page that has the list is that of the translation
-    only : (w q : ℕ) → lists w q ≡ Some k.list → (w ≡ k.translation.entry.koid.0) × (q ≡ k.translation.entry.page)
-    only w q is = elim list_is [
-      | inl old ↦ h.apart w q k.translation.entry.koid.0 k.translation.entry.page k.list is old
-      | inr fresh ↦ let below = h.lists_below w q k.list is in let is_next = fresh.1 in absurd (omega arith)
+    only : (w q : ℕ) (a : FrameList) → lists w q ≡ Some a → a.number ≡ k.list → (w ≡ k.translation.entry.koid.0) × (q ≡ k.translation.entry.page)
+    only w q a is same = elim list_is [
+      | inl old ↦ h.apart w q k.translation.entry.koid.0 k.translation.entry.page a (list_with k) is old same
+      | inr fresh ↦ let below = h.lists_below w q a is in let is_next = fresh.1 in absurd (omega arith)
     ]
 
     -- the page keeps its list
-    keeps : (w q l : ℕ) → lists w q ≡ Some l → more w q ≡ Some l
-    keeps w q l is = elim (with_pair-cases lists k.translation.entry.koid.0 k.translation.entry.page (Some k.list) w q) [
+    keeps : (w q : ℕ) (l : FrameList) → lists w q ≡ Some l → more w q ≡ Some l
+    keeps w q l is = elim (with_pair-cases lists k.translation.entry.koid.0 k.translation.entry.page (Some (list_with k)) w q) [
       | inl here ↦
           let at : lists k.translation.entry.koid.0 k.translation.entry.page ≡ Some l = ap (λ n. lists n k.translation.entry.page) (sym here.0) ∙ (ap (lists w) (sym here.1) ∙ is) in
           ap (λ m. m w q) l_is ∙ (here.2 ∙ elim list_is [
@@ -95,10 +96,10 @@ module _ (places : Keeping) (lists : ℕ → ℕ → Option ℕ) (members : ℕ 
     AreListed-added = record {
       list = λ r q y is. elim (pair-cases places new root p k e r q y is) [
         | inl here ↦
-            pair-here lists more k.translation.entry.koid.0 k.translation.entry.page (Some k.list) l_is y.translation.entry.koid.0 y.translation.entry.page
+            pair-here lists more k.translation.entry.koid.0 k.translation.entry.page (Some (list_with k)) l_is y.translation.entry.koid.0 y.translation.entry.page
             (ap (λ (z : Kept). z.translation.entry.koid.0) (sym here.2)) (ap (λ (z : Kept). z.translation.entry.page) (sym here.2))
-            ∙ ap {B = Option ℕ} (λ (z : Kept). Some z.list) here.2
-        | inr there ↦ keeps y.translation.entry.koid.0 y.translation.entry.page y.list (h.list r q y there.1)
+            ∙ ap {B = Option FrameList} (λ (z : Kept). Some (list_with z)) here.2
+        | inr there ↦ keeps y.translation.entry.koid.0 y.translation.entry.page (list_with y) (h.list r q y there.1)
       ];
       member = λ r q y is. elim (pair-cases places new root p k e r q y is) [
         | inl here ↦
@@ -126,28 +127,28 @@ module _ (places : Keeping) (lists : ℕ → ℕ → Option ℕ) (members : ℕ 
               serial = old.serial;
             }
       ];
-      apart = λ v q w r l one two. elim (pair-cases lists more k.translation.entry.koid.0 k.translation.entry.page k.list l_is v q l one) [
-        | inl here ↦ elim (pair-cases lists more k.translation.entry.koid.0 k.translation.entry.page k.list l_is w r l two) [
+      apart = λ v q w r a b one two same. elim (pair-cases lists more k.translation.entry.koid.0 k.translation.entry.page (list_with k) l_is v q a one) [
+        | inl here ↦ elim (pair-cases lists more k.translation.entry.koid.0 k.translation.entry.page (list_with k) l_is w r b two) [
           | inl also ↦ (here.0 ∙ sym also.0, here.1 ∙ sym also.1)
-          | inr there ↦ let same = only w r (there.1 ∙ ap {B = Option ℕ} Some (sym here.2)) in (here.0 ∙ sym same.0, here.1 ∙ sym same.1)
+          | inr there ↦ let page = only w r b there.1 (sym same ∙ sym (ap (λ (m : FrameList). m.number) here.2)) in (here.0 ∙ sym page.0, here.1 ∙ sym page.1)
         ]
-        | inr there ↦ elim (pair-cases lists more k.translation.entry.koid.0 k.translation.entry.page k.list l_is w r l two) [
-          | inl here ↦ let same = only v q (there.1 ∙ ap {B = Option ℕ} Some (sym here.2)) in (same.0 ∙ sym here.0, same.1 ∙ sym here.1)
-          | inr also ↦ h.apart v q w r l there.1 also.1
+        | inr there ↦ elim (pair-cases lists more k.translation.entry.koid.0 k.translation.entry.page (list_with k) l_is w r b two) [
+          | inl here ↦ let page = only v q a there.1 (same ∙ sym (ap (λ (m : FrameList). m.number) here.2)) in (page.0 ∙ sym here.0, page.1 ∙ sym here.1)
+          | inr also ↦ h.apart v q w r a b there.1 also.1 same
         ]
       ];
-      used = λ v q l is. elim (pair-cases lists more k.translation.entry.koid.0 k.translation.entry.page k.list l_is v q l is) [
-        | inl here ↦ (next, ap {B = Bool} is_some (pair-here members now k.list next (Some (place_at root p)) m_is l next (sym here.2) refl))
+      used = λ v q l is. elim (pair-cases lists more k.translation.entry.koid.0 k.translation.entry.page (list_with k) l_is v q l is) [
+        | inl here ↦ (next, ap {B = Bool} is_some (pair-here members now k.list next (Some (place_at root p)) m_is l.number next (sym (ap (λ (m : FrameList). m.number) here.2)) refl))
         | inr there ↦
             let old = h.used v q l there.1 in
-            let below = h.serials_below l old.0 old.1 in
-            (old.0, ap {B = Bool} is_some (pair-other members now k.list next (Some (place_at root p)) m_is l old.0 (λ one two. absurd (omega arith))) ∙ old.1)
+            let below = h.serials_below l.number old.0 old.1 in
+            (old.0, ap {B = Bool} is_some (pair-other members now k.list next (Some (place_at root p)) m_is l.number old.0 (λ one two. absurd (omega arith))) ∙ old.1)
       ];
-      lists_below = λ v q l is. elim (pair-cases lists more k.translation.entry.koid.0 k.translation.entry.page k.list l_is v q l is) [
+      lists_below = λ v q l is. elim (pair-cases lists more k.translation.entry.koid.0 k.translation.entry.page (list_with k) l_is v q l is) [
         | inl here ↦
-            let same = here.2 in
+            let same : k.list ≡ l.number = ap (λ (m : FrameList). m.number) here.2 in
             elim list_is [
-              | inl old ↦ let below = h.lists_below k.translation.entry.koid.0 k.translation.entry.page k.list old in omega arith
+              | inl old ↦ let below : k.list < next = h.lists_below k.translation.entry.koid.0 k.translation.entry.page (list_with k) old in omega arith
               | inr fresh ↦ let is_next = fresh.1 in omega arith
             ]
         | inr there ↦ let below = h.lists_below v q l there.1 in omega arith
@@ -165,9 +166,9 @@ module _ (places : Keeping) (lists : ℕ → ℕ → Option ℕ) (members : ℕ 
 
   module _ (root p : ℕ) (k : Kept) (at : places root p ≡ Some k) (new : Keeping) (e : new ≡ with_pair places root p None)
       (now : ℕ → ℕ → Option Place) (m_is : now ≡ with_pair members k.list k.serial None)
-      (fewer : ℕ → ℕ → Option ℕ) (l_is : DropsEmpty (now k.list) lists fewer k.translation.entry.koid.0 k.translation.entry.page) where
+      (fewer : ℕ → ℕ → Option FrameList) (l_is : DropsEmpty (now k.list) lists fewer k.translation.entry.koid.0 k.translation.entry.page) where
     -- the list of a page is what it was
-    list-was : (w q l : ℕ) → fewer w q ≡ Some l → lists w q ≡ Some l
+    list-was : (w q : ℕ) (l : FrameList) → fewer w q ≡ Some l → lists w q ≡ Some l
     list-was w q l is = elim l_is.drops [
       | inl dropped ↦ (pair-left lists fewer k.translation.entry.koid.0 k.translation.entry.page dropped.1 w q l is).1
       | inr kept ↦ sym (ap (λ m. m w q) kept.1) ∙ is
@@ -184,18 +185,18 @@ module _ (places : Keeping) (lists : ℕ → ℕ → Option ℕ) (members : ℕ 
         ∙ stands
 
     -- a list that stays has a member still
-    used-still : (w q l : ℕ) → fewer w q ≡ Some l → (s : ℕ) × IsSome (now l s)
-    used-still w q l is = elim (cases_eq l k.list) [
+    used-still : (w q : ℕ) (l : FrameList) → fewer w q ≡ Some l → (s : ℕ) × IsSome (now l.number s)
+    used-still w q l is = elim (cases_eq l.number k.list) [
       | inl same ↦ elim l_is.drops [
         | inl dropped ↦
             let left = pair-left lists fewer k.translation.entry.koid.0 k.translation.entry.page dropped.1 w q l is in
-            let page = h.apart w q k.translation.entry.koid.0 k.translation.entry.page k.list (left.1 ∙ ap {B = Option ℕ} Some same) (h.list root p k at) in
+            let page = h.apart w q k.translation.entry.koid.0 k.translation.entry.page l (list_with k) left.1 (h.list root p k at) same in
             absurd (left.0 page.0 page.1)
         | inr kept ↦ (kept.0.0, ap {B = Bool} (λ n. is_some (now n kept.0.0)) same ∙ kept.0.1)
       ]
       | inr apart ↦
           let old = h.used w q l (list-was w q l is) in
-          (old.0, ap {B = Bool} is_some (pair-other members now k.list k.serial None m_is l old.0 (λ one two. apart one)) ∙ old.1)
+          (old.0, ap {B = Bool} is_some (pair-other members now k.list k.serial None m_is l.number old.0 (λ one two. apart one)) ∙ old.1)
     ]
 
     -- the lists are right, without the translation
@@ -207,8 +208,9 @@ module _ (places : Keeping) (lists : ℕ → ℕ → Option ℕ) (members : ℕ 
           elim l_is.drops [
             | inl dropped ↦
                 pair-other lists fewer k.translation.entry.koid.0 k.translation.entry.page None dropped.1 y.translation.entry.koid.0 y.translation.entry.page (λ one two.
-                let same : y.list ≡ k.list = some_same (sym stands ∙ (ap (λ n. lists n y.translation.entry.page) one ∙ (ap (lists k.translation.entry.koid.0) two ∙ h.list root p k at))) in
-                missing (ap (λ l. now l y.serial) (sym same) ∙ member-still r q y is) (dropped.0 y.serial))
+                let same : list_with y ≡ list_with k = some_same (sym stands ∙ (ap (λ n. lists n y.translation.entry.page) one ∙ (ap (lists k.translation.entry.koid.0) two ∙ h.list root p k at))) in
+                let number : y.list ≡ k.list = ap (λ (m : FrameList). m.number) same in
+                missing (ap (λ l. now l y.serial) (sym number) ∙ member-still r q y is) (dropped.0 y.serial))
                 ∙ stands
             | inr kept ↦ ap (λ m. m y.translation.entry.koid.0 y.translation.entry.page) kept.1 ∙ stands
           ];
@@ -225,7 +227,7 @@ module _ (places : Keeping) (lists : ℕ → ℕ → Option ℕ) (members : ℕ 
             list = old.list;
             serial = old.serial;
           };
-      apart = λ v q w r l one two. h.apart v q w r l (list-was v q l one) (list-was w r l two);
+      apart = λ v q w r a b one two same. h.apart v q w r a b (list-was v q a one) (list-was w r b two) same;
       used = used-still;
       lists_below = λ v q l is. h.lists_below v q l (list-was v q l is);
       serials_below = λ l s some.

@@ -1,10 +1,9 @@
 -- What owning a page of a VMO and writing bytes to it gives.
-use Rattle.std.proofs.Common.{◌≡◌, ℕ, ◌<◌, List, Some, refl, ap, ◌∙◌}
-use Rattle.std.specs.Prelude.{IsSome}
+use Rattle.std.proofs.Common.{◌≡◌, ℕ, List, Some, refl, ap, ◌∙◌}
 use Rattle.std.specs.Option.{option_map}
-use Rattle.vm_model.specs.Contents.Content.{Page, Content, pages_of}
+use Rattle.vm_model.specs.Contents.Content.{Page, Content}
 use Rattle.vm_model.specs.Space.Readiness.{frame_at}
-use Rattle.vm_model.proofs.ContentLaws.{count_from_page, page-hold_here}
+use Rattle.vm_model.proofs.ContentLaws.{page-hold_here}
 use Rattle.vm_model.proofs.OwningLaws.{Owned}
 use Rattle.page_store.specs.Pages.{Overwrites}
 
@@ -18,7 +17,3 @@ pub frame_at-overwritten : (old mid new : Content) (v p tag at : ℕ) (bytes : L
 frame_at-overwritten old mid new v p tag at bytes owned overwrites =
     ap (λ (c : Content). frame_at c v p) (overwrites v p _ (record { page = owned.held; tag = refl }))
     ∙ ap (option_map (λ (held : Page). held.tag)) (page-hold_here mid v p _)
-
--- its VMO is one of the store
-pub IsSome-owned : (old new : Content) (v p tag : ℕ) → p < pages_of old v → Owned old new v p tag → IsSome (new.count v)
-IsSome-owned old new v p tag h owned = rw (owned.count, count_from_page old v p h) refl

@@ -1,7 +1,7 @@
 -- What is kept after several changes in a row, each of what passes, and the translations then.
 use Rattle.std.proofs.Common.{◌≡◌, ℕ, Bool, true, false, cond, ◌&&◌, ◌==◌, Option, None, Some, refl, sym, ap, ◌∙◌, inl, inr}
 use Rattle.std.specs.Option.{option_map}
-use Rattle.std.proofs.lemmas.Bool.{cases_Bool, eq-eqb, and_left, and_right, and_parts, and_from, cond-true, cond-false, false_from_ne_true}
+use Rattle.std.proofs.lemmas.Bool.{cases_Bool, eq-eqb, and_parts, and_from, cond-true, cond-false, false_from_ne_true}
 use Rattle.vm_base.specs.Entries.{passes}
 use Rattle.vm_base.proofs.EntryLaws.{some_same}
 use Rattle.vm_base.proofs.SearchLaws.{eqb_is}
@@ -13,7 +13,7 @@ use Rattle.fault.specs.declared.translation.Translation.{Translation}
 use Rattle.fault.specs.declared.translation.Kept.{Kept}
 use Rattle.fault.specs.Table.{Places, without, with_translation, with_read_only, restricted as restrict_one}
 use Rattle.fault.specs.declared.translation.Change.{Change}
-use Rattle.fault.specs.declared.translation.Change.TheVariants.{Forget, ForgetOther, Restrict}
+use Rattle.fault.specs.declared.translation.Change.TheVariants.{Forget, Restrict}
 use Rattle.fault.specs.Walks.{Keeping, become, changed_where, dropped, restricted, change_by, is_place}
 
 -- a change that leaves what it made
@@ -35,7 +35,6 @@ restricted-once k test = cases (test (record k { translation = record k.translat
 -- so is each change
 pub change_by-once : (change : Change) → IsOnce (change_by change)
 change_by-once Forget = dropped-once
-change_by-once (ForgetOther frame) = dropped-once
 change_by-once Restrict = restricted-once
 
 -- ---- changes in a row
@@ -73,6 +72,16 @@ module _ (change : Kept → Option Kept) where
   unfolding changed_where
   changed-none kept test none = λ i r p. stays (test r p) (kept r p) (none r p) i
 
+  -- only what is kept counts of what passes
+  become-alike : (a b : Kept → Bool) (o : Option Kept) → ((k : Kept) → o ≡ Some k → a k ≡ b k) → become change a o ≡ become change b o
+  become-alike a b None same = refl
+  become-alike a b (Some k) same = rw (same k refl) refl
+
+  pub changed-alike : (new kept : Keeping) (test both : ℕ → ℕ → Kept → Bool) → ((r p : ℕ) (k : Kept) → kept r p ≡ Some k → test r p k ≡ both r p k)
+      → new ≡ changed_where change test kept → new ≡ changed_where change both kept
+  unfolding changed_where
+  changed-alike new kept test both same e = e ∙ (λ i r p. become-alike (test r p) (both r p) (kept r p) (same r p) i)
+
   module _ (once : IsOnce change) where
     -- what changes first, and what changes of the rest
     become-then : (first after both : Kept → Bool) (o : Option Kept) → ((k : Kept) → first k ≡ true → both k ≡ true)
@@ -101,6 +110,28 @@ module _ (change : Kept → Option Kept) where
           → ((r p : ℕ) (k : Kept) → mid r p ≡ Some k → first r p k ≡ false → both r p k ≡ false) → mid ≡ changed_where change both old
       changed-rest both gone rest =
           changed-then mid (λ r p k. false) both (changed-none mid (λ r p k. false) (λ r p k h. refl)) gone (λ r p k h there. sym (rest r p k h there))
+
+-- what is left stood before, and did not pass
+pub dropped-left : (new kept : Keeping) (test : ℕ → ℕ → Kept → Bool) → new ≡ changed_where dropped test kept
+    → (r p : ℕ) (k : Kept) → new r p ≡ Some k → (kept r p ≡ Some k) × (test r p k ≡ false)
+unfolding changed_where
+dropped-left new kept test e r p k is = go (kept r p) (sym (ap (λ (m : Keeping). m r p) e) ∙ is) where
+  go : (o : Option Kept) → become dropped (test r p) o ≡ Some k → (o ≡ Some k) × (test r p k ≡ false)
+  go None f = absurd cc
+  go (Some y) f = elim (cases_Bool (test r p y)) [
+    | inl gone ↦ absurd (let none : ◌≡◌ {A = Option Kept} None (Some k) = rw gone at f in cc)
+    | inr stays ↦ let same : y ≡ k = some_same (rw stays at f) in (ap (λ (z : Kept). Some z) same, ap (test r p) (sym same) ∙ stays)
+  ]
+
+-- where it passes, nothing is left of the place
+pub dropped-gone : (new kept : Keeping) (test : ℕ → ℕ → Kept → Bool) → new ≡ changed_where dropped test kept
+    → (r p : ℕ) → ((k : Kept) → kept r p ≡ Some k → test r p k ≡ true) → new r p ≡ None
+dropped-gone new kept test e r p passing = go (new r p) refl where
+  go : (o : Option Kept) → new r p ≡ o → o ≡ None
+  go None f = refl
+  go (Some k) f =
+      let left = dropped-left new kept test e r p k f in
+      absurd (let no : true ≡ false = sym (passing k left.0) ∙ left.1 in cc)
 
 -- a test that holds adds nothing
 and-true : (b : Bool) → (b && true) ≡ b
@@ -160,30 +191,3 @@ pub places-set : (new old : Keeping) (root p : ℕ) (k : Kept) → new ≡ with_
 unfolding with_pair with_translation
 places-set new old root p k e =
     ap {B = Places} (λ (m : Keeping) r q. option_map translation_of (m r q)) e ∙ (λ i r q. set-seen ((r == root) && (q == p)) k (old r q) i)
-
--- ---- one page, where it holds another frame
-
-module _ (kept : Keeping) (root p : ℕ) (test : Kept → Bool) where
-  -- what is kept of the place is kept of the page
-  here : (r q : ℕ) (y : Kept) → kept r q ≡ Some y → is_place root p r q ≡ true → kept root p ≡ Some y
-  here r q y is place =
-      let both = and_parts (r == root) (q == p) place in
-      ap (kept root) (sym (eqb_is q p both.1)) ∙ (ap (λ n. kept n q) (sym (eqb_is r root both.0)) ∙ is)
-
-  -- it goes, where it passes
-  pub dropped-passing : (k : Kept) (new : Keeping) → kept root p ≡ Some k → test k ≡ true → new ≡ changed_where dropped (λ r q y. is_place root p r q) kept
-      → new ≡ changed_where dropped (λ r q y. is_place root p r q && test y) kept
-  dropped-passing k new at passing e =
-      changed-then dropped dropped-once kept kept (λ r q y. false) (changed-none dropped kept (λ r q y. false) (λ r q y h. refl)) new _ (λ r q y. is_place root p r q && test y) e
-      (λ r q y h. absurd cc)
-      (λ r q y is h. elim (cases_Bool (is_place root p r q)) [
-        | inl place ↦ place ∙ sym (and_from (is_place root p r q) (test y) place (ap test (some_same (sym (here r q y is place) ∙ at)) ∙ passing))
-        | inr apart ↦ apart ∙ sym (and_left (is_place root p r q) (test y) apart)
-      ])
-
-  -- it stays, where nothing there passes
-  pub dropped-failing : ((k : Kept) → kept root p ≡ Some k → test k ≡ false) → kept ≡ changed_where dropped (λ r q y. is_place root p r q && test y) kept
-  dropped-failing failing = changed-none dropped kept (λ r q y. is_place root p r q && test y) (λ r q y is. elim (cases_Bool (is_place root p r q)) [
-    | inl place ↦ and_right (is_place root p r q) (test y) (failing y (here r q y is place))
-    | inr apart ↦ and_left (is_place root p r q) (test y) apart
-  ])

@@ -1,7 +1,7 @@
 -- What is kept while the members of a list, or the pages of a range, are changed one after another.
 use Rattle.std.proofs.Common.{◌≡◌, ℕ, ◌+◌, ◌<◌, ◌≤◌, Bool, true, false, ◌&&◌, ◌==◌, Option, sym, ap, ◌∙◌, inl, inr, arith}
 use Rattle.std.specs.Prelude.{nat_lt}
-use Rattle.std.proofs.lemmas.Bool.{cases_Bool, cases_lt, le-ltb, and_left, and_right}
+use Rattle.std.proofs.lemmas.Bool.{cases_Bool, cases_lt, le-ltb, and_left, and_right, and_parts}
 use Rattle.std.proofs.lemmas.Bool.Decides.{nat_tests}
 use Rattle.vm_base.proofs.EntryLaws.{some_same}
 use Rattle.vm_base.proofs.SearchLaws.{eqb_is}
@@ -9,59 +9,56 @@ use Rattle.vm_model.specs.Contents.Zeroing.{is_within}
 use Rattle.vm_model.specs.Space.Readiness.{shows_in}
 use Rattle.fault.specs.declared.translation.Kept.{Kept}
 use Rattle.fault.specs.declared.translation.Place.{Place}
+use Rattle.fault.specs.declared.translation.FrameList.{FrameList}
 use Rattle.fault.specs.Walks.{Keeping, changed_where, is_place, is_member, HasNoPlace, IsNextPlace, HasNoList, IsNextList, HasNoMember, IsNextMember}
 use Rattle.fault.proofs.PairLaws.{missing}
 use Rattle.fault.proofs.PlaceLaws.{IsOnce, changed-none, changed-then, changed-rest}
 
 -- ---- the members of a list, one after another
 
--- it is of the list, its serial is below `from`, and it passes
-abbrev pub member_below : (list from : ℕ) → (Kept → Bool) → ℕ → ℕ → Kept → Bool
-member_below list from goes r p k = is_member list k && (nat_lt k.serial from && goes k)
+-- it is of the list, and its serial is below `from`
+abbrev pub member_below : (list from : ℕ) → ℕ → ℕ → Kept → Bool
+member_below list from r p k = is_member list k && nat_lt k.serial from
 
--- what passes below a serial passes below a greater one
-below-more : (member goes : Bool) (serial from to : ℕ) → from ≤ to → (member && (nat_lt serial from && goes)) ≡ true → (member && (nat_lt serial to && goes)) ≡ true
-below-more member goes serial from to le e = grind (arith, nat_tests)
+-- what is below a serial is below a greater one
+below-more : (member : Bool) (serial from to : ℕ) → from ≤ to → (member && nat_lt serial from) ≡ true → (member && nat_lt serial to) ≡ true
+below-more member serial from to le e = grind (arith, nat_tests)
 
--- what passes below a serial passes
-below-all : (member goes : Bool) (serial from : ℕ) → (member && (nat_lt serial from && goes)) ≡ true → (member && goes) ≡ true
-below-all member goes serial from e = grind (arith, nat_tests)
+-- what is a member below the serial alone, and is not below it, is none
+below-none : (l list serial from : ℕ) → (l ≡ list → serial < from) → ((l == list) && nat_lt serial from) ≡ false → (l == list) ≡ false
+below-none l list serial from h e = grind (arith, nat_tests)
 
--- what is a member below the serial alone, and did not pass there, does not pass
-below-none : (l list serial from : ℕ) (goes : Bool) → (l ≡ list → serial < from) → ((l == list) && (nat_lt serial from && goes)) ≡ false → ((l == list) && goes) ≡ false
-below-none l list serial from goes h e = grind (arith, nat_tests)
+-- the next member is what is below the serial behind it, and was not before
+below-next : (r p a b l list serial from s : ℕ) → from ≤ s → (l ≡ list → from ≤ serial → serial ≤ s → r ≡ a) → (l ≡ list → from ≤ serial → serial ≤ s → p ≡ b)
+    → (r ≡ a → p ≡ b → l ≡ list) → (r ≡ a → p ≡ b → serial ≡ s) → ((l == list) && nat_lt serial from) ≡ false
+    → ((r == a) && (p == b)) ≡ ((l == list) && nat_lt serial (s + 1))
+below-next r p a b l list serial from s order root page member serial_is e = grind (arith, nat_tests)
 
--- the next member is what passes below the serial behind it, and did not before
-below-next : (r p a b l list serial from s : ℕ) (goes : Bool) → from ≤ s → (l ≡ list → from ≤ serial → serial ≤ s → r ≡ a) → (l ≡ list → from ≤ serial → serial ≤ s → p ≡ b)
-    → (r ≡ a → p ≡ b → l ≡ list) → (r ≡ a → p ≡ b → serial ≡ s) → ((l == list) && (nat_lt serial from && goes)) ≡ false
-    → (((r == a) && (p == b)) && goes) ≡ ((l == list) && (nat_lt serial (s + 1) && goes))
-below-next r p a b l list serial from s goes order root page member serial_is e = grind (arith, nat_tests)
-
-module _ (change : Kept → Option Kept) (once : IsOnce change) (list : ℕ) (goes : Kept → Bool) where
+module _ (change : Kept → Option Kept) (once : IsOnce change) (list : ℕ) where
   -- no member has a serial below 0
-  pub members-start : (kept : Keeping) → kept ≡ changed_where change (member_below list 0 goes) kept
-  members-start kept = changed-none change kept (member_below list 0 goes) (λ r p k h. and_right (is_member list k) (nat_lt k.serial 0 && goes k) (and_left (nat_lt k.serial 0) (goes k) (le-ltb k.serial 0 (omega arith))))
+  pub members-start : (kept : Keeping) → kept ≡ changed_where change (member_below list 0) kept
+  members-start kept = changed-none change kept (member_below list 0) (λ r p k h. and_right (is_member list k) (nat_lt k.serial 0) (le-ltb k.serial 0 (omega arith)))
 
-  module _ (old mid : Keeping) (from : ℕ) (is : mid ≡ changed_where change (member_below list from goes) old) where
-    -- the next member is changed, where it passes
+  module _ (old mid : Keeping) (from : ℕ) (is : mid ≡ changed_where change (member_below list from) old) where
+    -- the next member is changed
     pub members-next : (s : ℕ) (x : Place) (new : Keeping) → IsNextMember mid list from (s, x)
-        → new ≡ changed_where change (λ r p k. is_place x.root.0 x.page r p && goes k) mid → new ≡ changed_where change (member_below list (s + 1) goes) old
-    members-next s x new next e = changed-then change once old mid (member_below list from goes) is new _ (member_below list (s + 1) goes) e
-        (λ r p k h. let order = next.order in below-more (is_member list k) (goes k) k.serial from (s + 1) (omega arith) h)
+        → new ≡ changed_where change (λ r p k. is_place x.root.0 x.page r p) mid → new ≡ changed_where change (member_below list (s + 1)) old
+    members-next s x new next e = changed-then change once old mid (member_below list from) is new _ (member_below list (s + 1)) e
+        (λ r p k h. let order = next.order in below-more (is_member list k) k.serial from (s + 1) (omega arith) h)
         (λ r p k at h.
         let same : r ≡ x.root.0 → p ≡ x.page → next.member ≡ k = λ one two. some_same (sym next.is ∙ (ap (λ n. mid n x.page) (sym one) ∙ (ap (mid r) (sym two) ∙ at))) in
-        below-next r p x.root.0 x.page k.list list k.serial from s (goes k) next.order
+        below-next r p x.root.0 x.page k.list list k.serial from s next.order
         (λ member low high. (next.least r p k at member low high).0)
         (λ member low high. (next.least r p k at member low high).1)
         (λ one two. ap (λ (m : Kept). m.list) (sym (same one two)) ∙ next.listed)
         (λ one two. ap (λ (m : Kept). m.serial) (sym (same one two)) ∙ next.serial)
         h)
 
-    -- where no member is left, all are changed that pass
-    pub members-end : HasNoMember mid list from → mid ≡ changed_where change (λ r p k. is_member list k && goes k) old
-    members-end none = changed-rest change once old mid (member_below list from goes) is (λ r p k. is_member list k && goes k)
-        (λ r p k h. below-all (is_member list k) (goes k) k.serial from h)
-        (λ r p k at h. below-none k.list list k.serial from (goes k) (λ member. elim (cases_lt k.serial from) [ inl less ↦ less | inr more ↦ absurd (none r p k at member more) ]) h)
+    -- where no member is left, all are changed
+    pub members-end : HasNoMember mid list from → mid ≡ changed_where change (λ r p k. is_member list k) old
+    members-end none = changed-rest change once old mid (member_below list from) is (λ r p k. is_member list k)
+        (λ r p k h. (and_parts (is_member list k) (nat_lt k.serial from) h).0)
+        (λ r p k at h. below-none k.list list k.serial from (λ member. elim (cases_lt k.serial from) [ inl less ↦ less | inr more ↦ absurd (none r p k at member more) ]) h)
 
 -- ---- the pages of a VMO, one after another
 
@@ -97,18 +94,18 @@ module _ (change : Kept → Option Kept) (once : IsOnce change) (v first : ℕ) 
 
   module _ (old mid : Keeping) (from end : ℕ) (is : mid ≡ changed_where change (page_below v first from goes) old) where
     -- the members of the list of the next page are changed, where they pass
-    pub pages-next : (page list : ℕ) (now : Kept → Bool) (new : Keeping) → first ≤ from → IsNextList mid v from end (page, list)
+    pub pages-next : (page : ℕ) (list : FrameList) (now : Kept → Bool) (new : Keeping) → first ≤ from → IsNextList mid v from end (page, list)
         → ((k : Kept) → k.translation.entry.page ≡ page → now k ≡ goes k)
-        → new ≡ changed_where change (λ r p k. is_member list k && now k) mid → new ≡ changed_where change (page_below v first (page + 1) goes) old
+        → new ≡ changed_where change (λ r p k. is_member list.number k && now k) mid → new ≡ changed_where change (page_below v first (page + 1) goes) old
     pages-next page list now new low next agree e = changed-then change once old mid (page_below v first from goes) is new _ (page_below v first (page + 1) goes) e
         (λ r p k h. let order = next.order in within-more k.translation.entry.koid.0 v first from (page + 1) k.translation.entry.page (goes k) (omega arith) h)
         (λ r p k at h.
-        asks k.list list (now k) (goes k) (λ member. agree k (next.of r p k at member).1)
-        ∙ within-next k.translation.entry.koid.0 v first from k.translation.entry.page page k.list list (goes k) low next.order
+        asks k.list list.number (now k) (goes k) (λ member. agree k (next.at.of r p k at member).1)
+        ∙ within-next k.translation.entry.koid.0 v first from k.translation.entry.page page k.list list.number (goes k) low next.order
         (λ koid lower upper. next.least r p k at (record { koid = koid; order = lower; below = upper }))
-        (λ member. (next.of r p k at member).0)
-        (λ member. (next.of r p k at member).1)
-        (next.has r p k at)
+        (λ member. (next.at.of r p k at member).0)
+        (λ member. (next.at.of r p k at member).1)
+        (next.at.has r p k at)
         h)
       where
         asks : (l m : ℕ) (a b : Bool) → (l ≡ m → a ≡ b) → ((l == m) && a) ≡ ((l == m) && b)

@@ -1,7 +1,7 @@
 -- What translations are once a page of a VMO was written: those of it that hold another frame are forgotten, and what is ready is
 -- what the writing of one page leaves ready.
 use Rattle.std.proofs.Common.{◌≡◌, ◌≢◌, ℕ, ◌+◌, ◌<◌, ◌≤◌, Bool, true, false, not, cond, ◌&&◌, List, length, Option, None, Some, refl, sym, ap, subst, ◌∙◌, inl, inr, arith}
-use Rattle.std.specs.Prelude.{is_some, IfSome}
+use Rattle.std.specs.Prelude.{is_some}
 use Rattle.std.specs.Option.{option_map}
 use Rattle.std.specs.Cmp.{both_ways}
 use Rattle.std.proofs.lemmas.Bool.{cases_Bool, lt-ltb, not-false}
@@ -24,10 +24,10 @@ use Rattle.vm_model.proofs.AccessLaws.{frame_at-other, frame_at-sole}
 use Rattle.vm_model.proofs.ReadinessLaws.{keeps_frame-from, keeps_frame-parts, settled-same, settled-kept, settled-some, with_ready-same, with_ready-other}
 use Rattle.fault.specs.declared.translation.Translation.{Translation}
 use Rattle.fault.specs.declared.writable.WritablePage.{WritablePage}
-use Rattle.fault.specs.Table.{Places, AreTrue, ready_of, without, is_stale}
+use Rattle.fault.specs.Table.{Places, AreTrue, ready_of, without, is_outdated}
 use Rattle.fault.specs.Writable.{IsWritable, WritesTo}
 use Rattle.page_store.proofs.PartLaws.{WritesPiece-from_parts}
-use Rattle.fault.proofs.OwnedLaws.{frame_at-owned, frame_at-overwritten}
+use Rattle.fault.proofs.OwnedLaws.{frame_at-overwritten}
 use Rattle.fault.proofs.WritableLaws.{is_writable-is}
 use Rattle.fault.proofs.TranslationLaws.{ready_of-with_translation, AreTrue-with_translation}
 
@@ -67,14 +67,6 @@ without-some goes places r s x e = go (places r s) e where
     | inl gone ↦ absurd (let none : ◌≡◌ {A = Option Translation} None (Some x) = rw gone at f in cc)
     | inr stays ↦ let same : y ≡ x = some_same (rw stays at f) in (ap (λ (z : Translation). Some z) same, ap (goes r s) (sym same) ∙ stays)
   ]
-
--- a page that has a translation yet has it for the same entry
-pub entry-left : (goes : ℕ → ℕ → Translation → Bool) (old new : Places) (root p : ℕ) (entry : Entry) → new ≡ without goes old
-    → IfSome (old root p) (λ x. x.entry ≡ entry) → IfSome (new root p) (λ x. x.entry ≡ entry)
-entry-left goes old new root p entry left same = go (new root p) refl where
-  go : (o : Option Translation) → new root p ≡ o → IfSome o (λ x. x.entry ≡ entry)
-  go None e = tt
-  go (Some x) e = let was = without-some goes old root p x (sym (ap (λ (places : Places). places root p) left) ∙ e) in rw was.0 at same
 
 -- a page that is written, below the count, with bytes that lie in it
 module _ (old : Content) (part : Piece) (new : Content) (good : IsGood old) (h : part.page < pages_of old part.koid)
@@ -118,18 +110,18 @@ module _ (old : Content) (part : Piece) (new : Content) (good : IsGood old) (h :
             keeps_frame-from old new found.0.entry (frame_at-sole old new part w written alone found.0.entry.koid.0 found.0.entry.page) (below r s found.0 found.1),
           ))
 
-    -- the page has this frame once it is owned
-    module _ (owned : Content) (same : frame_at owned part.koid part.page ≡ frame_at new part.koid part.page) where
+    -- the page has this frame then
+    module _ (frame : Option ℕ) (same : frame ≡ frame_at new part.koid part.page) where
       -- the translations that are forgotten
       abbrev stale : ℕ → ℕ → Translation → Bool
-      stale = is_stale owned part.koid part.page (part.page + 1)
+      stale = is_outdated part.koid part.page frame
 
       -- a translation is forgotten exactly where what its page shows does not keep its frame
       stale-is : (r s : ℕ) (x : Translation) → places r s ≡ Some x → stale r s x ≡ not (keeps_frame old new x.entry)
       stale-is r s x e = elim (cases_Bool (shows_in part.koid part.page (part.page + 1) x.entry)) [
         | inl here ↦
             let one = shows_one part.koid part.page x.entry here in
-            let now = ap (frame_at owned part.koid) one.1 ∙ (same ∙ sym (λ i. frame_at new (one.0 i) (one.1 i))) in
+            let now = same ∙ sym (λ i. frame_at new (one.0 i) (one.1 i)) in
             rw (here, keeps_frame-below old new x.entry (below r s x e), are.frame r s x e, now) refl
         | inr there ↦
             let keeps = keeps_frame-from old new x.entry
@@ -185,9 +177,9 @@ module _ (c : Content) (table : ℕ → ℕ → Option Entry) (old : Places) (ro
   pub written-here : Written c part.koid part.page d
   written-here = Written-from_WritesPiece c part d good found.store.below fits writes
 
-  -- the page of the VMO had this frame once it was owned
-  same-frame : frame_at w.owned part.koid part.page ≡ frame_at d part.koid part.page
-  same-frame = frame_at-owned c w.owned part.koid part.page w.tag.0 owned ∙ sym (frame_at-overwritten c w.owned d part.koid part.page w.tag.0 at bytes owned w.overwrites)
+  -- the page of the VMO has this frame then
+  same-frame : Some w.tag.0 ≡ frame_at d part.koid part.page
+  same-frame = sym (frame_at-overwritten c w.owned d part.koid part.page w.tag.0 at bytes owned w.overwrites)
 
   -- what is ready then
   pub ready-written : ready_of new ≡ with_ready (settled c d table (ready_of old)) root p Write
@@ -196,7 +188,7 @@ module _ (c : Content) (table : ℕ → ℕ → Option Entry) (old : Places) (ro
     go None e =
         let x : Translation = record { entry = page.entry; frame = Some w.tag; readiness = Write } in
         ap ready_of (rw e at w.places) ∙ (ready_of-with_translation _ root p x
-        ∙ ap (λ (ready : Ready). with_ready ready root p Write) (ready_of-left c part d good found.store.below fits writes table old are w.owned same-frame))
+        ∙ ap (λ (ready : Ready). with_ready ready root p Write) (ready_of-left c part d good found.store.below fits writes table old are (Some w.tag.0) same-frame))
     go (Some tag) e =
         let was : ready_of old root p ≡ Some Write = is_writable-is (ready_of old root p) (sym found.ready ∙ ap is_some e) in
         let same = settled-sole c part d good found.store.below fits writes table old are (found.store.frame tag e).alone in
@@ -208,9 +200,9 @@ module _ (c : Content) (table : ℕ → ℕ → Option Entry) (old : Places) (ro
     go : (o : Option Tag) → page.frame ≡ o → AreTrue d table new
     go None e =
         let x : Translation = record { entry = page.entry; frame = Some w.tag; readiness = Write } in
-        let left = AreTrue-left c part d good found.store.below fits writes table old are w.owned same-frame in
+        let left = AreTrue-left c part d good found.store.below fits writes table old are (Some w.tag.0) same-frame in
         subst (AreTrue d table) (sym (rw e at w.places))
-        (AreTrue-with_translation d table _ root p x found.entry (sym (frame_at-overwritten c w.owned d part.koid part.page w.tag.0 at bytes owned w.overwrites)) (omega (arith, found.store.below, written-here.kept.pages part.koid)) (λ _. written-here.alone) left)
+        (AreTrue-with_translation d table _ root p x found.entry same-frame (omega (arith, found.store.below, written-here.kept.pages part.koid)) (λ _. written-here.alone) left)
     go (Some tag) e =
         subst (AreTrue d table) (sym (rw e at w.places))
         (AreTrue-sole c part d good found.store.below fits writes table old are (found.store.frame tag e).alone)

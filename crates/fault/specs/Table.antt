@@ -1,5 +1,5 @@
 -- The translations as their callers see them, when they are true, and what the resets leave of them.
-use Rattle.std.specs.Prelude.{◌≡◌, ℕ, ◌<◌, Bool, true, not, ◌&&◌, ◌==◌, if◌then◌else◌, Option, None, Some, IsSome, IfSome}
+use Rattle.std.specs.Prelude.{◌≡◌, ℕ, ◌+◌, ◌<◌, Bool, true, not, ◌&&◌, ◌==◌, if◌then◌else◌, Option, None, Some, IsSome, IfSome}
 use Rattle.std.specs.Option.{option_map}
 use Rattle.vm_base.specs.Entries.{passes}
 use Rattle.vm_base.specs.declared.names.Tag.{Tag}
@@ -75,6 +75,10 @@ is_of v first end root p x = shows_in v first end x.entry
 -- and that page has another frame than the one that it holds
 abbrev pub is_stale : Content → (v first end : ℕ) → ℕ → ℕ → Translation → Bool
 is_stale c v first end root p x = shows_in v first end x.entry && not (is_same_frame (frame_in x) (frame_at c v x.entry.page))
+
+-- it is of page p of the VMO v, and holds another frame than this
+abbrev pub is_outdated : (v p : ℕ) → Option ℕ → ℕ → ℕ → Translation → Bool
+is_outdated v p frame root q x = shows_in v p (p + 1) x.entry && not (is_same_frame (frame_in x) frame)
 
 -- it is of a page of the address space from `first` to below `end`
 abbrev pub is_at : (root first end : ℕ) → ℕ → ℕ → Translation → Bool

@@ -24,11 +24,14 @@ pub record IsOf (c : Content) (entry : Entry) (x : Translation) : Type 0 where
   pub same : x.entry ≡ entry
   pub frame : frame_in x ≡ frame_at c entry.koid.0 entry.page
 
--- What the table does not say of it: the page that it shows lies in its VMO, and its translation is of that page.
+-- What the table does not say of it: the page that it shows lies in its VMO, its translation is of that page, and each translation
+-- of that page holds its frame.
 pub record IsFound (c : Content) (places : Places) (root page : ℕ) (touched : TouchedPage) : Type 0 where
   pub translation : places root page ≡ touched.translation
   pub below : touched.entry.page < pages_of c touched.entry.koid.0
   pub of_entry : (x : Translation) → touched.translation ≡ Some x → IsOf c touched.entry x
+  pub alike : (r q : ℕ) (x : Translation) → places r q ≡ Some x → x.entry.koid.0 ≡ touched.entry.koid.0 → x.entry.page ≡ touched.entry.page
+      → frame_in x ≡ frame_at c touched.entry.koid.0 touched.entry.page
 
 -- From old, reading the page leads to new: it is ready for reading at least, and no other page changes.
 pub record ReadsPage (c : Content) (root page : ℕ) (touched : TouchedPage) (old new : Places) : Type 0 where

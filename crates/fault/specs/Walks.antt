@@ -1,13 +1,17 @@
 -- What is kept of each page, how it changes over a list or a range, and what the searches for the next of them answer.
-use Rattle.std.specs.Prelude.{◌≡◌, ℕ, ◌+◌, ◌^◌, ◌<◌, ◌≤◌, ◌&&◌, ◌==◌, Bool, true, not, if◌then◌else◌, Option, None, Some, IsSome}
+use Rattle.std.specs.Prelude.{◌≡◌, ℕ, ◌+◌, ◌^◌, ◌<◌, ◌≤◌, ◌&&◌, ◌==◌, Bool, true, not, if◌then◌else◌, Option, None, Some, IsSome, IfSome}
+use Rattle.std.specs.Option.{MatchOption}
+use Rattle.vm_base.specs.declared.names.Tag.{Tag}
 use Rattle.vm_model.specs.declared.space.Readiness.TheVariants.{Read}
 use Rattle.vm_model.specs.Space.Readiness.{is_same_frame}
 use Rattle.pair_map.specs.Maps.{values_of}
 use Rattle.fault.specs.declared.translation.Kept.{Kept}
 use Rattle.fault.specs.declared.translation.Place.{Place}
+use Rattle.fault.specs.declared.translation.FrameList.{FrameList}
 use Rattle.fault.specs.declared.translation.Change.{Change}
-use Rattle.fault.specs.declared.translation.Change.TheVariants.{Forget, ForgetOther, Restrict}
-use Rattle.fault.specs.Table.{Table, frame_in, number_of}
+use Rattle.fault.specs.declared.translation.Change.TheVariants.{Forget, Restrict}
+use Rattle.fault.specs.Table.{Table, frame_in}
+use Rattle.fault.specs.Lists.{frame_list}
 
 -- what is kept of each page of each address space
 abbrev pub Keeping : Type 0
@@ -46,17 +50,14 @@ is_member list k = k.list == list
 abbrev pub holds_other : Option ℕ → Kept → Bool
 holds_other frame k = not (is_same_frame (frame_in k.translation) frame)
 
+-- what is kept, if something is, holds another frame than this
+abbrev pub HoldsOther : Option ℕ → Option Kept → Type 0
+HoldsOther frame kept = IfSome kept (λ k. holds_other frame k ≡ true)
+
 -- what a change makes of what is kept of a page
 abbrev pub change_by : Change → Kept → Option Kept
 change_by Forget = dropped
-change_by (ForgetOther frame) = dropped
 change_by Restrict = restricted
-
--- whether the change is for it
-abbrev pub is_for : Change → Kept → Bool
-is_for Forget k = true
-is_for (ForgetOther frame) k = holds_other (number_of frame) k
-is_for Restrict k = true
 
 -- no page of the address space from `from` to below `end` is translated
 abbrev pub HasNoPlace : Keeping → (root from end : ℕ) → Type 0
@@ -79,13 +80,42 @@ pub record IsOf (v from end : ℕ) (k : Kept) : Type 0 where
 abbrev pub HasNoList : Keeping → (v from end : ℕ) → Type 0
 HasNoList kept v from end = (root p : ℕ) (k : Kept) → kept root p ≡ Some k → IsOf v from end k → ⊥
 
--- The page is the first of the VMO from `from` to below `end` that may have translations. They are the members of the list.
-pub record IsNextList (kept : Keeping) (v from end : ℕ) (found : ℕ × ℕ) : Type 0 where
+-- each member of the list holds its frame
+abbrev pub HoldFrame : Keeping → FrameList → Type 0
+HoldFrame kept list = (root p : ℕ) (k : Kept) → kept root p ≡ Some k → k.list ≡ list.number → k.translation.frame ≡ list.frame
+
+-- a page of an address space has a member of the list
+pub record HasMember (kept : Keeping) (list : ℕ) : Type 0 where
+  pub root : ℕ
+  pub page : ℕ
+  pub member : Kept
+  pub is : kept root page ≡ Some member
+  pub listed : member.list ≡ list
+
+-- The list is that of page p of the VMO: its members, of which there is one at least, are the translations of that page. They hold
+-- its frame.
+pub record IsListAt (kept : Keeping) (v p : ℕ) (list : FrameList) : Type 0 where
+  pub of : (root q : ℕ) (k : Kept) → kept root q ≡ Some k → k.list ≡ list.number → (k.translation.entry.koid.0 ≡ v) × (k.translation.entry.page ≡ p)
+  pub has : (root q : ℕ) (k : Kept) → kept root q ≡ Some k → k.translation.entry.koid.0 ≡ v → k.translation.entry.page ≡ p → k.list ≡ list.number
+  pub frame : HoldFrame kept list
+  pub used : HasMember kept list.number
+
+-- the translations of page p of the VMO hold this frame and are the members of this list, if there are any
+abbrev pub HasList : Keeping → (v p : ℕ) → Option Tag → Option ℕ → Type 0
+HasList kept v p frame list = MatchOption list (HasNoList kept v p (p + 1)) (λ number. IsListAt kept v p (frame_list number frame))
+
+-- the list stays as it is, and has this frame
+pub record Stays (old new : Keeping) (list : FrameList) (frame : Option Tag) (number : ℕ) : Type 0 where
+  pub is : number ≡ list.number
+  pub frame_is : frame ≡ list.frame
+  pub same : new ≡ old
+
+-- The page is the first of the VMO from `from` to below `end` that has translations. They are the members of the list.
+pub record IsNextList (kept : Keeping) (v from end : ℕ) (found : ℕ × FrameList) : Type 0 where
   pub order : from ≤ found.0
   pub below : found.0 < end
   pub least : (root p : ℕ) (k : Kept) → kept root p ≡ Some k → IsOf v from found.0 k → ⊥
-  pub of : (root p : ℕ) (k : Kept) → kept root p ≡ Some k → k.list ≡ found.1 → (k.translation.entry.koid.0 ≡ v) × (k.translation.entry.page ≡ found.0)
-  pub has : (root p : ℕ) (k : Kept) → kept root p ≡ Some k → k.translation.entry.koid.0 ≡ v → k.translation.entry.page ≡ found.0 → k.list ≡ found.1
+  pub at : IsListAt kept v found.0 found.1
 
 -- no member of the list has a serial from `from` on
 abbrev pub HasNoMember : Keeping → (list from : ℕ) → Type 0

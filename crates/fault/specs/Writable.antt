@@ -1,5 +1,5 @@
 -- A page of an address space that may be written, as it is found before anything is written, and what writing to it does.
-use Rattle.std.specs.Prelude.{◌≡◌, ℕ, ◌+◌, ◌<◌, ◌⊎◌, true, List, if◌then◌else◌, Option, None, Some, is_some}
+use Rattle.std.specs.Prelude.{◌≡◌, ℕ, ◌<◌, ◌⊎◌, true, List, if◌then◌else◌, Option, None, Some, is_some}
 use Rattle.vm_base.specs.declared.names.Tag.{Tag}
 use Rattle.vm_model.specs.declared.space.Entry.{Entry}
 use Rattle.vm_model.specs.declared.space.Readiness.TheVariants.{Write}
@@ -9,7 +9,7 @@ use Rattle.vm_model.specs.Space.Readiness.{frame_at, is_writable}
 use Rattle.page_store.specs.Pages.{Overwrites}
 use Rattle.fault.specs.declared.translation.Translation.{Translation}
 use Rattle.fault.specs.declared.writable.WritablePage.{WritablePage}
-use Rattle.fault.specs.Table.{Places, ready_of, with_translation, without, is_stale}
+use Rattle.fault.specs.Table.{Places, ready_of, with_translation, without, is_outdated}
 
 -- the frame of a page that is translated for writing
 abbrev pub writing_frame : Option Translation → Option Tag
@@ -40,11 +40,11 @@ MayOwn c v p = (sole c v p ≡ true) ⊎ (used c < c.frames)
 abbrev pub fault_of : WritablePage → ℕ
 fault_of page = if is_some page.frame then 0 else 1
 
--- The translations once page p of an address space took a page fault, from which the page of the VMO has this frame in c: those of
--- that page that hold another frame are forgotten, and page p is translated for writing.
-abbrev pub faulted : Content → Places → (root p : ℕ) → Entry → Tag → Places
-faulted c places root p entry tag =
-    with_translation (without (is_stale c entry.koid.0 entry.page (entry.page + 1)) places) root p
+-- The translations once page p of an address space took a page fault, from which the page of the VMO has this frame: those of that
+-- page that hold another frame are forgotten, and page p is translated for writing.
+abbrev pub faulted : Places → (root p : ℕ) → Entry → Tag → Places
+faulted places root p entry tag =
+    with_translation (without (is_outdated entry.koid.0 entry.page (Some tag.0)) places) root p
     (record { entry = entry; frame = Some tag; readiness = Write })
 
 -- From the content c and the translations `old`, writing these bytes to page p of an address space, from a place in the page on,
@@ -54,4 +54,4 @@ pub record WritesTo (root p : ℕ) (page : WritablePage) (at : ℕ) (bytes : Lis
   pub owned : Content
   pub owns : Owns c owned page.entry.koid.0 page.entry.page tag.0
   pub overwrites : Overwrites owned d tag.0 at bytes
-  pub places : new ≡ (if is_some page.frame then old else faulted owned old root p page.entry tag)
+  pub places : new ≡ (if is_some page.frame then old else faulted old root p page.entry tag)

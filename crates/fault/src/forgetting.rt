@@ -1,14 +1,16 @@
 //! How translations are forgotten, or left for reading alone.
 
-ghost use Rattle.std.specs.Prelude.{◌≡◌, ◌+◌, ◌≤◌, ◌<◌, ◌&&◌, IsSome};
+ghost use Rattle.std.specs.Prelude.{◌≡◌, ◌+◌, ◌≤◌, ◌&&◌, IsSome};
+ghost use Rattle.std.specs.Option.{MatchOption};
 ghost use Rattle.vm_base.specs.declared.limits.TheConstants.{PAGES_END};
 ghost use Rattle.vm_model.specs.Contents.Content.{pages_of};
-ghost use Rattle.fault.specs.Table.{number_of, places_of, room_of, without, is_of, is_stale, is_at, with_read_only};
-ghost use Rattle.vm_model.specs.Space.Readiness.{shows_in};
-ghost use Rattle.fault.specs.Walks.{kept_of, changed_where, dropped, restricted, change_by, is_for, is_place, is_member, holds_other};
+ghost use Rattle.fault.specs.Table.{number_of, places_of, room_of, without, is_of, is_stale, is_outdated, is_at, with_read_only};
+ghost use Rattle.vm_model.specs.Space.Readiness.{shows_in, is_same_frame};
+ghost use Rattle.fault.specs.Walks.{kept_of, changed_where, dropped, restricted, change_by, is_place, is_member, holds_other};
+ghost use Rattle.fault.specs.Walks.{HasList, HasNoMember, HoldFrame, Stays};
 
 use crate::frames::frame_of;
-use crate::translation::{Change, Kept, Translation};
+use crate::translation::{Change, FrameList, Translation};
 use crate::translations::Translations;
 use page_store::PageStore;
 use vm_base::{Koid, PageNo, RegionName, Tag};
@@ -16,7 +18,8 @@ use vm_model::Readiness;
 
 impl Translations {
     /// Forgets the translations of `count` pages of a VMO from the page `first` on, those alone that hold another frame
-    /// than the page has now. It costs a look-up, and the translations of these pages.
+    /// than the page has now. It costs a look-up, one look at the store for each of these pages that has translations, and
+    /// a step for each translation that is forgotten. Those of a page that kept its frame cost nothing, however many.
     pub fn forget_changed<P: PageStore>(&mut self, store: &P, v: Koid, first: PageNo, count: u64)
         requires vmo { IsSome ((P.content store.now).count v.0) }
         requires range { first + count ≤ pages_of (P.content store.now) v.0 }
@@ -31,9 +34,40 @@ impl Translations {
         let end = first + count;
         let mut from = first;
         while let Some((page, list)) = self.list_below(v, from, end) {
-            self.change_members(list, Change::ForgetOther(frame_of(store, v, page)));
+            self.forget_other(list, frame_of(store, v, page));
             from = page + 1;
         }
+    }
+
+    /// Forgets the translations of a page of a VMO that hold another frame than this, and answers the list of those that
+    /// stay, where there are some. It costs a look-up, and a step for each that is forgotten.
+    pub(crate) fn forget_others(&mut self, v: Koid, page: PageNo, frame: Option<Tag>) -> Option<u64>
+        ensures at { kept_of self.new
+            ≡ changed_where dropped (λ r p k. is_outdated v.0 page (number_of frame) r p k.translation) (kept_of self.old) }
+        ensures list { HasList (kept_of self.new) v.0 page frame result }
+        ensures room { room_of self.old ≤ room_of self.new }
+    {
+        match self.list_at(v, page) {
+            Some(list) => self.forget_other(list, frame),
+            None => None,
+        }
+    }
+
+    // Forgets the translations of a list where they hold another frame than this, and answers the list where it stays. They
+    // all hold its frame, so that none is looked at where it stays.
+    fn forget_other(&mut self, list: FrameList, frame: Option<Tag>) -> Option<u64>
+        requires frame { HoldFrame (kept_of self.old) list }
+        ensures at { kept_of self.new
+            ≡ changed_where dropped (λ r p k. is_member list.number k && holds_other (number_of frame) k) (kept_of self.old) }
+        ensures stays { MatchOption result (HasNoMember (kept_of self.new) list.number 0)
+            (Stays (kept_of self.old) (kept_of self.new) list frame) }
+        ensures room { room_of self.old ≤ room_of self.new }
+    {
+        if have_same_frame(list, frame) {
+            return Some(list.number);
+        }
+        self.change_members(list.number, Change::Forget);
+        None
     }
 
     /// Forgets the translations of `count` pages of a VMO from the page `first` on.
@@ -68,25 +102,25 @@ impl Translations {
         self.change_pages(v, first, count, Change::Restrict);
     }
 
-    // Changes the translations of `count` pages of a VMO from the page `first` on, those that the change is for.
+    // Changes the translations of `count` pages of a VMO from the page `first` on.
     fn change_pages(&mut self, v: Koid, first: PageNo, count: u64, change: Change)
         requires range { first + count ≤ PAGES_END }
         ensures at { kept_of self.new ≡ changed_where (change_by change)
-            (λ r p k. shows_in v.0 first (first + count) k.translation.entry && is_for change k) (kept_of self.old) }
+            (λ r p k. shows_in v.0 first (first + count) k.translation.entry) (kept_of self.old) }
         ensures room { room_of self.old ≤ room_of self.new }
     {
         let end = first + count;
         let mut from = first;
         while let Some((page, list)) = self.list_below(v, from, end) {
-            self.change_members(list, change);
+            self.change_members(list.number, change);
             from = page + 1;
         }
     }
 
-    // Changes the translations of a list, those that the change is for.
+    // Changes the translations of a list.
     fn change_members(&mut self, list: u64, change: Change)
         ensures at { kept_of self.new
-            ≡ changed_where (change_by change) (λ r p k. is_member list k && is_for change k) (kept_of self.old) }
+            ≡ changed_where (change_by change) (λ r p k. is_member list k) (kept_of self.old) }
         ensures room { room_of self.old ≤ room_of self.new }
     {
         let mut from = 0;
@@ -96,30 +130,16 @@ impl Translations {
         }
     }
 
-    // Changes the translation of a page that has one, where the change is for it.
+    // Changes the translation of a page that has one.
     fn change_place(&mut self, root: RegionName, page: PageNo, change: Change)
         requires { IsSome (kept_of self.old root.0 page) }
         ensures at { kept_of self.new
-            ≡ changed_where (change_by change) (λ r p k. is_place root.0 page r p && is_for change k) (kept_of self.old) }
+            ≡ changed_where (change_by change) (λ r p k. is_place root.0 page r p) (kept_of self.old) }
         ensures room { room_of self.old ≤ room_of self.new }
     {
         match change {
             Change::Forget => self.drop_place(root, page),
-            Change::ForgetOther(frame) => self.drop_other(root, page, frame),
             Change::Restrict => self.restrict(root, page),
-        }
-    }
-
-    // Forgets the translation of a page that has one, where it holds another frame than this.
-    fn drop_other(&mut self, root: RegionName, page: PageNo, frame: Option<Tag>)
-        ensures at { kept_of self.new
-            ≡ changed_where dropped (λ r p k. is_place root.0 page r p && holds_other (number_of frame) k) (kept_of self.old) }
-        ensures room { room_of self.old ≤ room_of self.new }
-    {
-        if let Some(kept) = self.kept(root, page) {
-            if holds_other(kept, frame) {
-                self.drop_place(root, page);
-            }
         }
     }
 
@@ -139,9 +159,9 @@ impl Translations {
     }
 }
 
-/// Whether a translation holds another frame than this.
-fn holds_other(kept: Kept, frame: Option<Tag>) -> bool
-    ensures { result ≡ holds_other (number_of frame) kept }
+/// Whether the translations of a list hold this frame.
+fn have_same_frame(list: FrameList, frame: Option<Tag>) -> bool
+    ensures { result ≡ is_same_frame (number_of list.frame) (number_of frame) }
 {
-    kept.translation.frame != frame
+    list.frame == frame
 }

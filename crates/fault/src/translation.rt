@@ -22,6 +22,15 @@ pub(crate) struct Kept {
     pub(crate) serial: u64,
 }
 
+/// The list of the translations of a page of a VMO.
+#[derive(Clone, Copy)]
+pub(crate) struct FrameList {
+    /// Its number.
+    pub(crate) number: u64,
+    /// The frame that each of them holds, and `None` where they hold none.
+    pub(crate) frame: Option<Tag>,
+}
+
 /// The page of an address space that a translation is of.
 #[derive(Clone, Copy)]
 pub(crate) struct Place {
@@ -29,13 +38,11 @@ pub(crate) struct Place {
     pub(crate) page: PageNo,
 }
 
-/// What becomes of translations, and of which.
+/// What becomes of translations.
 #[derive(Clone, Copy)]
 pub(crate) enum Change {
     /// They are forgotten.
     Forget,
-    /// Those that hold another frame than this are forgotten.
-    ForgetOther(Option<Tag>),
     /// They are left for reading alone.
     Restrict,
 }

@@ -1,29 +1,32 @@
 //! The translations: what is kept of each page, and what is found there.
 
-ghost use Rattle.std.specs.Prelude.{◌≡◌, ℕ, IsTrue, ◌+◌, ◌≤◌, ◌⊎◌, true, None, Some, OnOk, IsSome};
+ghost use Rattle.std.specs.Prelude.{◌≡◌, ℕ, IsTrue, ◌+◌, ◌≤◌, true, None, Some, OnOk, IsSome, IfSome, IfNone};
 ghost use Rattle.std.specs.Option.{option_map, MatchOption};
 ghost use Rattle.balanced_tree.specs.Pairs.{with_pair};
-ghost use Rattle.fault.specs.Table.{places_of, room_of, with_translation, IsOfEntry};
-ghost use Rattle.fault.specs.Walks.{kept_of, changed_where, dropped, is_place};
-ghost use Rattle.fault.specs.Walks.{HasNoPlace, IsNextPlace, HasNoList, IsNextList, HasNoMember, IsNextMember};
+ghost use Rattle.fault.specs.Table.{places_of, room_of, number_of, frame_in, with_translation, without, is_outdated, IsOfEntry};
+ghost use Rattle.fault.specs.Walks.{kept_of, changed_where, dropped, is_place, HasNoPlace, IsNextPlace};
+ghost use Rattle.fault.specs.Walks.{HasList, IsListAt, HasNoList, IsNextList, HasNoMember, IsNextMember, HoldsOther};
+ghost use Rattle.fault.specs.Lists.{list_with};
 
-use crate::lists::{drop_empty, list_of};
-use crate::translation::{Kept, Place, Translation};
+use crate::lists::{drop_empty, list_or_new};
+use crate::translation::{FrameList, Kept, Place, Translation};
 use pair_map::PairMap;
 use std::alloc::Global;
 use std::marker::Model;
-use vm_base::{HostMemory, Koid, PageNo, RegionName};
+use vm_base::{HostMemory, Koid, PageNo, RegionName, Tag};
 
 /// The translations of all address spaces. Contracts see the translation of each page of each of them, and how many more
 /// fit with no memory from the host.
 ///
-/// The translations of a page of a VMO are the members of a list, so that they are found with no look at others.
+/// The translations of a page of a VMO are the members of a list, so that they are found with no look at others. All of
+/// them hold one frame, which the list has too: whether they hold another than the page has now is told by a look at the
+/// list, and not by one at each of them.
 #[derive(Drop)]
 pub struct Translations {
     /// The translation of each page, by the root region and the page.
     places: PairMap<Kept>,
     /// The list of each page of a VMO that has a translation, by the koid and the page.
-    lists: PairMap<u64>,
+    lists: PairMap<FrameList>,
     /// The pages that the translations of each list are of, by the list and the serial.
     members: PairMap<Place>,
     /// The number that the next list or member gets. None is given twice.
@@ -91,17 +94,25 @@ impl Translations {
         Ok(())
     }
 
-    /// Translates a page so. Where it is translated already, it is so for the same entry, and else there is room.
+    /// Translates a page so, and forgets the translations of the page of the VMO that hold another frame. Where the page is
+    /// translated already, it is so for the same entry. There is room. It costs some look-ups, and a step for each
+    /// translation that is forgotten.
     pub(crate) fn set(&mut self, root: RegionName, page: PageNo, translation: Translation)
         requires same { IsOfEntry (places_of self.old) root.0 page translation.entry }
-        requires room { IsSome (places_of self.old root.0 page) ⊎ (1 ≤ room_of self.old) }
-        ensures at { places_of self.new ≡ with_translation (places_of self.old) root.0 page translation }
+        requires room { 1 ≤ room_of self.old }
+        ensures at { places_of self.new
+            ≡ with_translation
+            (without (is_outdated translation.entry.koid.0 translation.entry.page (frame_in translation)) (places_of self.old))
+            root.0 page translation }
         ensures room { room_of self.old ≤ room_of self.new + 1 }
-        ensures kept { IsSome (places_of self.old root.0 page) → room_of self.old ≤ room_of self.new }
     {
-        match self.kept(root, page) {
+        match with_frame(self.kept(root, page), translation.frame) {
             Some(kept) => self.put(root, page, kept, translation),
-            None => self.add(root, page, translation),
+            None => {
+                let entry = translation.entry;
+                let list = self.forget_others(entry.koid, entry.page, translation.frame);
+                self.add(root, page, translation, list);
+            }
         }
     }
 
@@ -112,7 +123,8 @@ impl Translations {
         self.places.find(root.0 as u64, page)
     }
 
-    /// Translates a page that is translated, for the same entry.
+    /// Translates a page that is translated, for the same entry and with the same frame. Its list is that of the page of the
+    /// VMO, so that each translation of that page holds this frame.
     pub(crate) fn put(
         &mut self,
         root: RegionName,
@@ -122,8 +134,10 @@ impl Translations {
     )
         requires kept { kept_of self.old root.0 page ≡ Some kept }
         requires same { translation.entry ≡ kept.translation.entry }
+        requires frame { translation.frame ≡ kept.translation.frame }
         ensures at { kept_of self.new
             ≡ with_pair (kept_of self.old) root.0 page (Some (record kept { translation = translation })) }
+        ensures list { IsListAt (kept_of self.old) kept.translation.entry.koid.0 kept.translation.entry.page (list_with kept) }
         ensures room { room_of self.new ≡ room_of self.old }
     {
         self.places.replace(
@@ -136,20 +150,21 @@ impl Translations {
         );
     }
 
-    // Translates a page that is not translated. There is room.
-    fn add(&mut self, root: RegionName, page: PageNo, translation: Translation)
+    // Translates a page that is not translated. The list is that of the page of the VMO, where it has one. There is room.
+    fn add(&mut self, root: RegionName, page: PageNo, translation: Translation, list: Option<u64>)
         requires absent { kept_of self.old root.0 page ≡ None }
+        requires list { HasList (kept_of self.old) translation.entry.koid.0 translation.entry.page translation.frame list }
         requires room { 1 ≤ room_of self.old }
         ensures at { places_of self.new ≡ with_translation (places_of self.old) root.0 page translation }
         ensures room { room_of self.old ≤ room_of self.new + 1 }
     {
         let serial = self.next;
-        let list = list_of(
-            &mut self.lists,
-            translation.entry.koid,
-            translation.entry.page,
-            serial,
-        );
+        let entry = translation.entry;
+        let new = FrameList {
+            number: serial,
+            frame: translation.frame,
+        };
+        let list = list_or_new(&mut self.lists, entry.koid, entry.page, list, new);
         self.places.insert(
             root.0 as u64,
             page,
@@ -195,8 +210,21 @@ impl Translations {
         }
     }
 
+    /// The list of the translations of a page of a VMO. `None` where it has none.
+    pub(crate) fn list_at(&self, v: Koid, page: PageNo) -> Option<FrameList>
+        ensures { MatchOption result (HasNoList (kept_of self.now) v.0 page (page + 1))
+            (IsListAt (kept_of self.now) v.0 page) }
+    {
+        self.lists.find(v.0, page)
+    }
+
     /// The first page of a VMO from `from` to below `end` that has translations, and their list.
-    pub(crate) fn list_below(&self, v: Koid, from: PageNo, end: PageNo) -> Option<(PageNo, u64)>
+    pub(crate) fn list_below(
+        &self,
+        v: Koid,
+        from: PageNo,
+        end: PageNo,
+    ) -> Option<(PageNo, FrameList)>
         ensures { MatchOption result (HasNoList (kept_of self.now) v.0 from end)
             (IsNextList (kept_of self.now) v.0 from end) }
     {
@@ -214,6 +242,17 @@ impl Translations {
         // The serials are below the next.
         let _next = self.next;
         self.members.next(list, from)
+    }
+}
+
+/// What is kept of a page, where it holds this frame.
+fn with_frame(kept: Option<Kept>, frame: Option<Tag>) -> Option<Kept>
+    ensures some { IfSome result (λ found. (kept ≡ Some found) × (frame ≡ found.translation.frame)) }
+    ensures none { IfNone result (HoldsOther (number_of frame) kept) }
+{
+    match kept {
+        Some(found) if found.translation.frame == frame => Some(found),
+        _ => None,
     }
 }
 

@@ -22,7 +22,8 @@ use vm_model::{Entry, Readiness};
 impl Translations {
     /// Writes bytes, at most `DATA_BYTES`, from an address of the address space of a root region on, and answers how many
     /// page faults that took. Each page that is not translated for writing takes one: the page of the VMO is owned (copy
-    /// on write), other translations of it are forgotten where its frame changed, and it is translated for writing. The
+    /// on write), other translations of it are forgotten where its frame changed, and it is translated for writing. Beside
+    /// some look-ups that costs a step for each translation that is forgotten, and nothing for those that stay. The
     /// first page that is refused decides the refusal: `NotFound` where nothing is mapped, `AccessDenied` where the mapping
     /// may not be written, `OutOfRange` where its page lies past the end of the VMO. Behind these comes `NoMemory` where
     /// too few frames are free. `HostMemory` where the host has too little memory, and only where a page was not
@@ -193,7 +194,7 @@ impl Translations {
         requires room { fault_of found ≤ room_of self.old }
         ensures owns { Owns (P.content store.old) (P.content store.new) found.entry.koid.0 found.entry.page result.0 }
         ensures places { places_of self.new ≡ (if is_some found.frame then places_of self.old
-            else faulted (P.content store.new) (places_of self.old) root.0 page found.entry result) }
+            else faulted (places_of self.old) root.0 page found.entry result) }
         ensures spare { P.spare store.old ≤ P.spare store.new + fault_of found }
         ensures room { room_of self.old ≤ room_of self.new + fault_of found }
     {
@@ -218,12 +219,11 @@ impl Translations {
         requires spare { 1 ≤ P.spare store.old }
         requires room { 1 ≤ room_of self.old }
         ensures owns { Owns (P.content store.old) (P.content store.new) entry.koid.0 entry.page result.0 }
-        ensures places { places_of self.new ≡ faulted (P.content store.new) (places_of self.old) root.0 page entry result }
+        ensures places { places_of self.new ≡ faulted (places_of self.old) root.0 page entry result }
         ensures spare { P.spare store.old ≤ P.spare store.new + 1 }
         ensures room { room_of self.old ≤ room_of self.new + 1 }
     {
         let tag = store.own(entry.koid, entry.page);
-        self.forget_changed(store, entry.koid, entry.page, 1);
         self.set(
             root,
             page,

@@ -1,13 +1,13 @@
 use Rattle.std.proofs.Common.{◌≡◌, ◌≤◌, ◌-◌, ◌^◌}
 use Rattle.fault.specs.Table.{room_of}
-use Rattle.fault.specs.Walks.{kept_of, changed_where, change_by, is_for}
+use Rattle.fault.specs.Walks.{kept_of, changed_where, change_by}
 use Rattle.fault.proofs.WalkLaws.{member_below}
 use Rattle.fault.proofs.translations.Translations.change_members.Given as goal
 
--- the members with a serial below this one are changed, those that the change is for
+-- the members with a serial below this one are changed
 abbrev pub invariant-loop-serial : goal.invariant-loop-serial
 invariant-loop-serial l = record {
-  changed : kept_of l.self ≡ changed_where (change_by l.change) (member_below l.list l.from (is_for l.change)) (kept_of l.initial.self);
+  changed : kept_of l.self ≡ changed_where (change_by l.change) (member_below l.list l.from) (kept_of l.initial.self);
   room : room_of l.initial.self ≤ room_of l.self;
 }
 

@@ -1,15 +1,15 @@
-use Rattle.std.proofs.Common.{◌≡◌, ◌≤◌, ◌-◌}
+use Rattle.std.proofs.Common.{◌≡◌, ◌≤◌, ◌-◌, true}
 use Rattle.fault.specs.Table.{room_of}
-use Rattle.fault.specs.Walks.{kept_of, changed_where, change_by, is_for}
+use Rattle.fault.specs.Walks.{kept_of, changed_where, change_by}
 use Rattle.fault.proofs.WalkLaws.{page_below}
 use Rattle.fault.proofs.translations.Translations.change_pages.Given as goal
 
--- the translations of the pages up to here are changed, those that the change is for
+-- the translations of the pages up to here are changed
 abbrev pub invariant-loop-page : goal.invariant-loop-page
 invariant-loop-page l = record {
   first : l.first ≤ l.from;
   end : l.from ≤ l.end;
-  changed : kept_of l.self ≡ changed_where (change_by l.change) (page_below l.v.0 l.first l.from (is_for l.change)) (kept_of l.initial.self);
+  changed : kept_of l.self ≡ changed_where (change_by l.change) (page_below l.v.0 l.first l.from (λ k. true)) (kept_of l.initial.self);
   room : room_of l.initial.self ≤ room_of l.self;
 }
 

@@ -1,12 +1,7 @@
 use Rattle.std.proofs.Common.{◌+◌}
-use Rattle.vm_model.specs.Space.Readiness.{shows_in}
 use Rattle.fault.specs.Table.{is_of}
-use Rattle.fault.specs.Walks.{dropped}
-use Rattle.fault.proofs.PlaceLaws.{places-without, changed-all}
+use Rattle.fault.proofs.PlaceLaws.{places-without}
 use Rattle.fault.proofs.translations.Translations.forget.Goals as goal
 
 pub returns-clause-at : goal.returns-clause-at
-returns-clause-at c =
-    let end = c.args.first + c.args.count in
-    places-without (is_of c.args.v.0 c.args.first end) _ _
-    (changed-all dropped _ _ (λ r p k. shows_in c.args.v.0 c.args.first end k.translation.entry) c.change_pages.ensures.at)
+returns-clause-at c = places-without (is_of c.args.v.0 c.args.first (c.args.first + c.args.count)) _ _ c.change_pages.ensures.at

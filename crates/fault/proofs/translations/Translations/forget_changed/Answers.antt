@@ -21,8 +21,8 @@ loop-page-preserved g c =
       first = omega (arith, inv.first, next.order);
       end = omega (arith, next.below);
       changed = pages-next dropped dropped-once c.args.v.0 c.args.first (λ k. holds_other (frame_at (g.P.PageStore.content c.args.store.now) c.args.v.0 k.translation.entry.page) k) (kept_of c.args.self.now) (kept_of c.loop-page.self) c.loop-page.from _ inv.changed c.in-Some.page c.in-Some.list
-          (holds_other (number_of c.frame_of.result)) _ inv.first next (λ k same. ap (λ frame. holds_other frame k) (c.frame_of.ensures ∙ ap (frame_at (g.P.PageStore.content c.args.store.now) c.args.v.0) (sym same))) c.change_members.ensures.at;
-      room = omega (arith, inv.room, c.change_members.ensures.room);
+          (holds_other (number_of c.frame_of.result)) _ inv.first next (λ k same. ap (λ frame. holds_other frame k) (c.frame_of.ensures ∙ ap (frame_at (g.P.PageStore.content c.args.store.now) c.args.v.0) (sym same))) c.forget_other.ensures.at;
+      room = omega (arith, inv.room, c.forget_other.ensures.room);
     }
 
 pub returns-clause-at : goal.returns-clause-at

@@ -1,5 +1,6 @@
 use Rattle.std.proofs.Common.{refl, arith}
 use Rattle.std.proofs.lemmas.Result.{err_from_is_err_and}
+use Rattle.mapping_set.specs.Tables.{table_of}
 use Rattle.fault.proofs.AskedLaws.{IsDenied-first, IsDenied-second, IsDenied-memory}
 use Rattle.fault.proofs.OutcomeLaws.{asked-two, faults-two, Reads-two}
 use Rattle.fault.proofs.TouchedLaws.{touched-two}
@@ -36,7 +37,8 @@ read_page-faults-requires-clause-found g c =
 
 pub read_page-requires-clause-found : goal.read_page-requires-clause-found
 read_page-requires-clause-found g c =
-    IsFound-stays (c.read_page-faults.ensures.places.others _ (omega arith))
+    IsFound-stays (table_of c.args.maps.now) (c.read_page-faults.ensures.places.are_true (table_of c.args.maps.now) c.in_ok-first.ensures.entry (rw c.reserve_missing.ensures.same c.requires.translations))
+    (c.read_page-faults.ensures.places.others _ (omega arith))
     (IsFound-from_IsTouched c.reserve_missing.ensures.same c.requires.translations c.in_ok-second.ensures)
 
 pub returns-clause-outcome : goal.returns-clause-outcome
