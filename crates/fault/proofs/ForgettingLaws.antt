@@ -125,6 +125,11 @@ pub entry-kept : (o : Option Kept) (k : Kept) (entry : Entry) → o ≡ Some k �
     → k.translation.entry ≡ entry
 entry-kept o k entry at same = subst (λ (m : Option Kept). IfSome (option_map (λ (y : Kept). y.translation) m) (λ x. x.entry ≡ entry)) at same
 
+-- where nothing is kept, nothing holds another frame, and nothing is of another entry
+pub HoldsOther-none : (o : Option Kept) (frame : Option ℕ) → option_map (λ (y : Kept). y.translation) o ≡ None → HoldsOther frame o
+HoldsOther-none None frame none = tt
+HoldsOther-none (Some k) frame none = absurd cc
+
 module _ (old new : Keeping) (root p : ℕ) (x : Translation) (same : IfSome (option_map (λ (y : Kept). y.translation) (old root p)) (λ y. y.entry ≡ x.entry)) where
   here : (v q : ℕ) → ((v == v) && is_within q (q + 1) q) ≡ true
   here v q = grind (arith, nat_tests)

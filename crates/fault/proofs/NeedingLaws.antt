@@ -17,7 +17,9 @@ use Rattle.vm_model.proofs.WritingLaws.{Written-from_WritesPiece, WritesPiece-ke
 use Rattle.page_store.specs.Pages.{look_at}
 use Rattle.page_store.proofs.ViewerLaws.{in_use-viewers, sole-viewers, IsOneMore-hold, IsOneMore-zeroed, IsOneMore-moved, viewers-more}
 use Rattle.fault.specs.Needing.{need_by, have_one_frame}
-use Rattle.fault.specs.Writable.{MayOwn}
+use Rattle.fault.specs.declared.writable.WritablePage.{WritablePage}
+use Rattle.fault.specs.Writable.{MayOwn, IsLooked}
+use Rattle.vm_model.specs.Machine.Access.{page_shown}
 
 -- ---- a page with a frame that is counted as new
 
@@ -121,6 +123,9 @@ need_by-sole c v (Some held) = refl
 pub need-one : (c : Content) (v p : ℕ) → need_by (look_at c v (c.page v p)) ≡ need_each c (record { koid = v; page = p } ∷ [])
 unfolding need_from
 need-one c v p = need_by-sole c v (c.page v p)
+
+pub need-found : (c : Content) (page : WritablePage) → IsLooked c page → need_by page.look ≡ need_each c (page_shown page.entry ∷ [])
+need-found c page looked = ap need_by looked ∙ need-one c page.entry.koid.0 page.entry.page
 
 -- ---- the need of two pages
 

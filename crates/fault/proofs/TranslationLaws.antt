@@ -1,7 +1,7 @@
 -- Laws of the translations once a page was translated.
-use Rattle.std.proofs.Common.{◌≡◌, ◌≢◌, ℕ, ◌<◌, Bool, true, false, cond, Option, Some, ◌⊎◌, refl, sym, inl, inr}
+use Rattle.std.proofs.Common.{◌≡◌, ◌≢◌, ℕ, ◌<◌, Bool, true, false, cond, Option, None, Some, ◌⊎◌, refl, sym, subst, inl, inr}
 use Rattle.std.proofs.lemmas.Bool.{and_parts}
-use Rattle.std.specs.Prelude.{◌==◌, ◌&&◌}
+use Rattle.std.specs.Prelude.{◌==◌, ◌&&◌, IfSome}
 use Rattle.std.specs.Option.{option_map}
 use Rattle.vm_base.proofs.SearchLaws.{eqb_is, eqb_same, eqb_apart}
 use Rattle.vm_model.specs.declared.space.Entry.{Entry}
@@ -10,7 +10,11 @@ use Rattle.vm_model.specs.declared.space.Readiness.TheVariants.{Write}
 use Rattle.vm_model.specs.Contents.Content.{Content, pages_of, sole}
 use Rattle.vm_model.specs.Space.Readiness.{frame_at, with_ready}
 use Rattle.fault.specs.declared.translation.Translation.{Translation}
-use Rattle.fault.specs.Table.{Places, AreTrue, ready_of, frame_in, with_translation}
+use Rattle.fault.specs.Table.{Places, AreTrue, IsOfEntry, ready_of, frame_in, with_translation}
+
+-- a page that is not translated is not so for another entry
+pub IsOfEntry-none : (places : Places) (root page : ℕ) (entry : Entry) → places root page ≡ None → IsOfEntry places root page entry
+IsOfEntry-none places root page entry none = subst (λ (o : Option Translation). IfSome o (λ x. x.entry ≡ entry)) (sym none) tt
 
 module _ (places : Places) (root page : ℕ) (x : Translation) where
   -- a translation that stands is the new one, or stood before

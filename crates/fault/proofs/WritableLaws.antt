@@ -1,5 +1,5 @@
 -- Laws of a page that may be written, as it is found before anything is written.
-use Rattle.std.proofs.Common.{◌≡◌, ℕ, ◌+◌, ◌≤◌, true, [], ◌∷◌, Option, None, Some, refl, sym, ap, subst, ◌∙◌, inl, inr, arith}
+use Rattle.std.proofs.Common.{◌≡◌, ℕ, ◌+◌, ◌≤◌, Bool, true, false, [], ◌∷◌, Option, None, Some, refl, sym, ap, subst, ◌∙◌, inl, inr, arith}
 use Rattle.std.specs.Prelude.{is_some, IfSome}
 use Rattle.std.specs.Option.{option_map}
 use Rattle.std.proofs.lemmas.Bool.{cases_Bool}
@@ -8,7 +8,7 @@ use Rattle.vm_base.proofs.EntryLaws.{some_same}
 use Rattle.vm_model.specs.declared.space.Entry.{Entry}
 use Rattle.vm_model.specs.declared.space.Readiness.{Readiness}
 use Rattle.vm_model.specs.declared.space.Readiness.TheVariants.{Read, Write}
-use Rattle.vm_model.specs.Contents.Content.{Page, Content, used, sole}
+use Rattle.vm_model.specs.Contents.Content.{Page, Content, used, sole, is_sole_page}
 use Rattle.vm_model.specs.Contents.Owning.{need_from, need_each}
 use Rattle.vm_model.specs.Space.Rights.{writing}
 use Rattle.vm_model.specs.Space.Readiness.{frame_at, is_writable}
@@ -16,9 +16,13 @@ use Rattle.vm_model.specs.Machine.Access.{refusal_at}
 use Rattle.vm_model.proofs.ContentLaws.{sole_held}
 use Rattle.fault.specs.declared.translation.Translation.{Translation}
 use Rattle.fault.specs.declared.checking.TouchedPage.{TouchedPage}
+use Rattle.fault.specs.declared.writable.WritablePage.{WritablePage}
 use Rattle.fault.specs.Table.{Places, AreTrue, ready_of, frame_in, IsOfEntry}
 use Rattle.fault.specs.Touching.{IsTouched}
-use Rattle.fault.specs.Writable.{writing_frame, IsSoleWith, IsWritable, MayOwn}
+use Rattle.page_store.specs.Pages.{look_at}
+use Rattle.page_store.specs.declared.page_store.Look.{Look}
+use Rattle.page_store.specs.declared.page_store.Look.TheVariants.{Held}
+use Rattle.fault.specs.Writable.{writing_frame, sole_frame, IsAbsent, IsSoleWith, IsWritable, MayOwn}
 use Rattle.fault.proofs.CheckLaws.{below-free}
 
 -- a page that is ready for writing is ready for that
@@ -32,6 +36,28 @@ is_held_by : (o : Option Tag) (tag : ℕ) → option_map (λ (t : Tag). t.0) o �
 is_held_by None tag e = absurd cc
 is_held_by (Some t) tag e = refl
 
+-- a page that has no translation has none while the translations stay
+pub IsAbsent-stays : (places now : Places) (root p : ℕ) (page : WritablePage) → now ≡ places → IsAbsent places root p page → IsAbsent now root p page
+IsAbsent-stays places now root p page same absent = λ e. ap (λ (m : Places). m root p) same ∙ absent e
+
+-- where no translation was found, there is none
+none-of : (o : Option Translation) → is_some o ≡ false → o ≡ None
+none-of None e = refl
+none-of (Some x) e = absurd cc
+
+-- a page that was seen to be sole is sole, with the frame that was seen
+sole-looked : (c : Content) (v p : ℕ) (tag : Tag) → sole_frame (look_at c v (c.page v p)) ≡ Some tag → IsSoleWith c v p tag.0
+sole-looked c v p tag seen = go (c.page v p) refl where
+  go : (o : Option Page) → c.page v p ≡ o → IsSoleWith c v p tag.0
+  go None e = absurd (let none : ◌≡◌ {A = Option Tag} None (Some tag) = rw e at seen in cc)
+  go (Some held) e = elim (cases_Bool (is_sole_page c v (Some held))) [
+    | inl alone ↦
+        let same : ◌≡◌ {A = Option Tag} (Some (record { 0 = held.tag })) (Some tag) = rw (e, alone) at seen in
+        let number : held.tag ≡ tag.0 = ap (λ (t : Tag). t.0) (some_same same) in
+        record { alone = rw e alone; frame = rw e (ap (λ (n : ℕ). Some n) number) }
+    | inr shared ↦ absurd (let none : ◌≡◌ {A = Option Tag} None (Some tag) = rw (e, shared) at seen in cc)
+  ]
+
 module _ (c : Content) (table : ℕ → ℕ → Option Entry) (places : Places) (root p : ℕ) (are : AreTrue c table places) where
   -- the translation that the page has, if it has one, is of the entry
   pub entry-found : (entry : Entry) (now : Places) → table root p ≡ Some entry → now ≡ places → IsOfEntry now root p entry
@@ -41,17 +67,8 @@ module _ (c : Content) (table : ℕ → ℕ → Option Entry) (places : Places) 
     go (Some x) e = some_same (sym (are.entry root p x e) ∙ is)
 
   -- what a check finds of a page that may be written
-  pub IsWritable-from_IsTouched : (touched : TouchedPage) (frame : Option Tag) → IsTouched c table places writing root p touched
-      → frame ≡ writing_frame touched.translation
-      → IsWritable c table places root p (record { entry = touched.entry; frame = frame }) × (refusal_at c writing (table root p) ≡ None)
-  IsWritable-from_IsTouched touched frame is same = (
-    record {
-      entry = is.entry;
-      ready = go touched.translation is.translation same;
-      store = record { below = below-free c writing touched.entry is.free; frame = λ tag e. held touched.translation is.translation same tag e };
-    },
-    ap (refusal_at c writing) is.entry ∙ is.free,
-  ) where
+  module _ (touched : TouchedPage) (frame : Option Tag) (is : IsTouched c table places writing root p touched) (same : frame ≡ writing_frame touched.translation) where
+    -- where it is translated for writing, the page of the VMO is sole, with the frame of the translation
     sole_with : (x : Translation) → places root p ≡ Some x → x.readiness ≡ Write
         → (sole c touched.entry.koid.0 touched.entry.page ≡ true) × (frame_in x ≡ frame_at c touched.entry.koid.0 touched.entry.page)
     sole_with x e writes =
@@ -60,9 +77,10 @@ module _ (c : Content) (table : ℕ → ℕ → Option Entry) (places : Places) 
           subst (λ (entry : Entry). frame_in x ≡ frame_at c entry.koid.0 entry.page) one (are.frame root p x e),
         )
 
-    go : (o : Option Translation) → places root p ≡ o → frame ≡ writing_frame o → is_some frame ≡ is_writable (ready_of places root p)
-    go None e f = rw (f, e) refl
-    go (Some x) e f = elim (cases_Bool (is_writable (Some x.readiness))) [
+    -- there is a frame exactly where the page is ready for writing
+    ready-is : (o : Option Translation) → places root p ≡ o → frame ≡ writing_frame o → is_some frame ≡ is_writable (ready_of places root p)
+    ready-is None e f = rw (f, e) refl
+    ready-is (Some x) e f = elim (cases_Bool (is_writable (Some x.readiness))) [
       | inl writes ↦
           let sole_here = sole_with x e (some_same (is_writable-is (Some x.readiness) writes)) in
           let page = sole_held c touched.entry.koid.0 touched.entry.page sole_here.0 in
@@ -71,6 +89,7 @@ module _ (c : Content) (table : ℕ → ℕ → Option Entry) (places : Places) 
       | inr reads ↦ rw (f, e, reads) refl
     ]
 
+    -- and the page of the VMO is sole with it
     held : (o : Option Translation) → places root p ≡ o → frame ≡ writing_frame o → (tag : Tag) → frame ≡ Some tag
         → IsSoleWith c touched.entry.koid.0 touched.entry.page tag.0
     held None e f tag g = absurd cc
@@ -81,6 +100,28 @@ module _ (c : Content) (table : ℕ → ℕ → Option Entry) (places : Places) 
           record { alone = sole_here.0; frame = sym sole_here.1 ∙ ap (option_map (λ (t : Tag). t.0)) is_frame }
       | inr reads ↦ absurd (let none : frame ≡ None = rw reads at f in cc)
     ]
+
+    pub sole_with-touched : (tag : Tag) → frame ≡ Some tag → IsSoleWith c touched.entry.koid.0 touched.entry.page tag.0
+    sole_with-touched tag e = held touched.translation is.translation same tag e
+
+    -- and so it may be written
+    pub IsWritable-from_IsTouched : (translated : Bool) (seen : Look) → translated ≡ is_some touched.translation
+        → seen ≡ look_at c touched.entry.koid.0 (c.page touched.entry.koid.0 touched.entry.page) → ((tag : Tag) → frame ≡ Some tag → seen ≡ Held tag true)
+        → IsWritable c table places root p (record { entry = touched.entry; translated = translated; frame = frame; look = seen })
+        × (refusal_at c writing (table root p) ≡ None)
+    IsWritable-from_IsTouched translated seen translated_is looked ready = (
+      record {
+        entry = is.entry;
+        ready = ready-is touched.translation is.translation same;
+        absent = λ e. is.translation ∙ none-of touched.translation (sym translated_is ∙ e);
+        store = record {
+          below = below-free c writing touched.entry is.free;
+          frame = λ tag e. ap sole_frame (ready tag e);
+          sole = λ tag e. sole-looked c touched.entry.koid.0 touched.entry.page tag (ap sole_frame (sym looked) ∙ e);
+        };
+      },
+      ap (refusal_at c writing) is.entry ∙ is.free,
+    )
 
 -- where the frame is free that owning a page needs, it is there where the page is not sole
 pub one-free : (c : Content) (v p : ℕ) → used c + need_each c (record { koid = v; page = p } ∷ []) ≤ c.frames → MayOwn c v p

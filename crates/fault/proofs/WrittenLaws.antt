@@ -47,6 +47,14 @@ ready_of-some places r s readiness e = go (places r s) e where
   go None f = absurd cc
   go (Some x) f = (x, refl, cc)
 
+-- what is ready for nothing stays so
+settled-none : (old new : Content) (table : ℕ → ℕ → Option Entry) (ready : Ready) (r s : ℕ) → ready r s ≡ None → settled old new table ready r s ≡ None
+unfolding settled
+settled-none old new table ready r s none = rw none (go (passes (keeps_frame old new) (table r s))) where
+  go : (b : Bool) → ◌≡◌ {A = Option Readiness} (cond b None None) None
+  go true = refl
+  go false = refl
+
 -- a page that lies in its VMO keeps its frame where it has the same
 keeps_frame-below : (old new : Content) (entry : Entry) → entry.page < pages_of new entry.koid.0
     → keeps_frame old new entry ≡ is_same_frame (frame_at old entry.koid.0 entry.page) (frame_at new entry.koid.0 entry.page)
@@ -191,7 +199,7 @@ module _ (c : Content) (table : ℕ → ℕ → Option Entry) (old : Places) (ro
         ∙ ap (λ (ready : Ready). with_ready ready root p Write) (ready_of-left c part d good found.store.below fits writes table old are (Some w.tag.0) same-frame))
     go (Some tag) e =
         let was : ready_of old root p ≡ Some Write = is_writable-is (ready_of old root p) (sym found.ready ∙ ap is_some e) in
-        let same = settled-sole c part d good found.store.below fits writes table old are (found.store.frame tag e).alone in
+        let same = settled-sole c part d good found.store.below fits writes table old are (found.store.sole tag (found.store.frame tag e)).alone in
         ap ready_of (rw e at w.places) ∙ sym (ap (λ (ready : Ready). with_ready ready root p Write) same ∙ with_ready-same (ready_of old) root p Write was)
 
   -- and the translations are true
@@ -205,7 +213,7 @@ module _ (c : Content) (table : ℕ → ℕ → Option Entry) (old : Places) (ro
         (AreTrue-with_translation d table _ root p x found.entry same-frame (omega (arith, found.store.below, written-here.kept.pages part.koid)) (λ _. written-here.alone) left)
     go (Some tag) e =
         subst (AreTrue d table) (sym (rw e at w.places))
-        (AreTrue-sole c part d good found.store.below fits writes table old are (found.store.frame tag e).alone)
+        (AreTrue-sole c part d good found.store.below fits writes table old are (found.store.sole tag (found.store.frame tag e)).alone)
 
   -- it is the writing of one page of these bytes that are written from an address on
   pub WritesPage-written : (addr : ℕ) (all : List ℕ) → at ≡ part_at addr p → bytes ≡ part_bytes addr all p
@@ -233,15 +241,27 @@ module _ (c : Content) (table : ℕ → ℕ → Option Entry) (old : Places) (ro
       (omega (arith, below, written-here.kept.pages x.0.entry.koid.0)) in
       ap is_writable (now ∙ settled-kept c d table (ready_of old) root q x.0.entry (are.entry root q x.0 x.1) keeps) ∙ wrote)
 
+  -- and has no translation where it had none
+  absent-other : (q : ℕ) → q ≢ p → old root q ≡ None → new root q ≡ None
+  absent-other q apart none =
+      let now : ready_of new root q ≡ settled c d table (ready_of old) root q =
+      ap (λ (ready : Ready). ready root q) ready-written ∙ with_ready-other (settled c d table (ready_of old)) root p Write root q (λ _ here. apart here) in
+      go (new root q) refl (now ∙ settled-none c d table (ready_of old) root q (ap (option_map (λ (x : Translation). x.readiness)) none)) where
+        go : (o : Option Translation) → new root q ≡ o → ready_of new root q ≡ None → o ≡ None
+        go None e unready = refl
+        go (Some x) e unready = absurd (let some : ◌≡◌ {A = Option Readiness} (Some x.readiness) None = rw e at unready in cc)
+
   -- another page that may be written still may
   pub IsWritable-other : (q : ℕ) (other : WritablePage) → q ≢ p → IsWritable c table old root q other → IsWritable d table new root q other
   IsWritable-other q other apart is = record {
     entry = is.entry;
     ready = is.ready ∙ sym (writable-other q apart);
+    absent = λ e. absent-other q apart (is.absent e);
     store = record {
       below = omega (arith, is.store.below, written-here.kept.pages other.entry.koid.0);
-      frame = λ tag e.
-          let was = is.store.frame tag e in
+      frame = is.store.frame;
+      sole = λ tag e.
+          let was = is.store.sole tag e in
           record {
             alone = keeps c part d good found.store.below fits writes other.entry.koid.0 other.entry.page was.alone;
             frame = frame_at-kept c part d good found.store.below fits writes other.entry.koid.0 other.entry.page was.alone ∙ was.frame;

@@ -1,12 +1,14 @@
 -- A page of an address space that may be written, as it is found before anything is written, and what writing to it does.
-use Rattle.std.specs.Prelude.{◌≡◌, ℕ, ◌<◌, ◌⊎◌, true, List, if◌then◌else◌, Option, None, Some, is_some}
+use Rattle.std.specs.Prelude.{◌≡◌, ℕ, ◌<◌, ◌⊎◌, true, false, List, if◌then◌else◌, Option, None, Some, is_some}
 use Rattle.vm_base.specs.declared.names.Tag.{Tag}
 use Rattle.vm_model.specs.declared.space.Entry.{Entry}
 use Rattle.vm_model.specs.declared.space.Readiness.TheVariants.{Write}
 use Rattle.vm_model.specs.Contents.Content.{Content, sole, used, pages_of}
 use Rattle.vm_model.specs.Contents.Owning.{Owns}
 use Rattle.vm_model.specs.Space.Readiness.{frame_at, is_writable}
-use Rattle.page_store.specs.Pages.{Overwrites}
+use Rattle.page_store.specs.declared.page_store.Look.{Look}
+use Rattle.page_store.specs.declared.page_store.Look.TheVariants.{Zero, Held}
+use Rattle.page_store.specs.Pages.{Overwrites, look_at}
 use Rattle.fault.specs.declared.translation.Translation.{Translation}
 use Rattle.fault.specs.declared.writable.WritablePage.{WritablePage}
 use Rattle.fault.specs.Table.{Places, ready_of, with_translation, without, is_outdated}
@@ -21,15 +23,30 @@ pub record IsSoleWith (c : Content) (v p tag : ℕ) : Type 0 where
   pub alone : sole c v p ≡ true
   pub frame : frame_at c v p ≡ Some tag
 
--- The page of the VMO is one, and sole with the frame, where the page has one.
+-- what was seen of the page of the VMO is what it is
+abbrev pub IsLooked : Content → WritablePage → Type 0
+IsLooked c page = page.look ≡ look_at c page.entry.koid.0 (c.page page.entry.koid.0 page.entry.page)
+
+-- the frame of a page that was seen to be sole
+abbrev pub sole_frame : Look → Option Tag
+sole_frame Zero = None
+sole_frame (Held tag alone) = if alone then Some tag else None
+
+-- The page of the VMO is one, and sole with the frame that it was seen to be sole with. It was so where the page has a frame.
 pub record IsInStore (c : Content) (page : WritablePage) : Type 0 where
   pub below : page.entry.page < pages_of c page.entry.koid.0
-  pub frame : (tag : Tag) → page.frame ≡ Some tag → IsSoleWith c page.entry.koid.0 page.entry.page tag.0
+  pub frame : (tag : Tag) → page.frame ≡ Some tag → sole_frame page.look ≡ Some tag
+  pub sole : (tag : Tag) → sole_frame page.look ≡ Some tag → IsSoleWith c page.entry.koid.0 page.entry.page tag.0
+
+-- the page of the address space has no translation where it was found to have none
+abbrev pub IsAbsent : Places → (root p : ℕ) → WritablePage → Type 0
+IsAbsent places root p page = page.translated ≡ false → places root p ≡ None
 
 -- It is what page p of an address space shows, with a frame exactly where that is ready for writing.
 pub record IsWritable (c : Content) (table : ℕ → ℕ → Option Entry) (places : Places) (root p : ℕ) (page : WritablePage) : Type 0 where
   pub entry : table root p ≡ Some page.entry
   pub ready : is_some page.frame ≡ is_writable (ready_of places root p)
+  pub absent : IsAbsent places root p page
   pub store : IsInStore c page
 
 -- page p of the VMO v is sole, or a frame is free for it

@@ -4,24 +4,15 @@ ghost use Rattle.std.specs.Prelude.{◌≡◌, ◌+◌, Bool, true, false, ◌&&
 ghost use Rattle.vm_model.specs.Contents.Content.{IsGood};
 ghost use Rattle.vm_model.specs.Contents.Owning.{need_each};
 ghost use Rattle.vm_model.specs.Machine.Access.{page_shown};
-ghost use Rattle.page_store.specs.Pages.{look_at};
 ghost use Rattle.fault.specs.Needing.{need_by, have_one_frame};
-ghost use Rattle.fault.specs.Writable.{IsInStore};
+ghost use Rattle.fault.specs.Writable.{IsInStore, IsLooked};
 
 use crate::writable::WritablePage;
 use page_store::{Look, PageStore};
 use vm_model::Entry;
 
-/// How many frames owning a page takes: one where it is not sole.
-pub(crate) fn frame_needed<P: PageStore>(store: &P, page: &WritablePage) -> u64
-    requires page { IsInStore (P.content store.now) page.now }
-    ensures { result ≡ need_each (P.content store.now) (page_shown page.now.entry ∷ []) }
-{
-    need_of(look(store, page))
-}
-
 /// How many frames owning two pages one after another takes. One page of a VMO needs one frame at most. Where two VMOs
-/// show one frame, the second needs one only where a third shows that frame too.
+/// show one frame, the second needs one only where a third shows that frame too, and that alone is asked of the store.
 pub(crate) fn frames_needed<P: PageStore>(
     store: &P,
     first: &WritablePage,
@@ -29,17 +20,17 @@ pub(crate) fn frames_needed<P: PageStore>(
 ) -> u64
     requires good { IsGood (P.content store.now) }
     requires first { IsInStore (P.content store.now) first.now }
+    requires first_look { IsLooked (P.content store.now) first.now }
     requires second { IsInStore (P.content store.now) second.now }
+    requires second_look { IsLooked (P.content store.now) second.now }
     ensures { result ≡ need_each (P.content store.now) (page_shown first.now.entry ∷ page_shown second.now.entry ∷ []) }
 {
-    let look_first = look(store, first);
-    let need = need_of(look_first);
+    let need = need_of(first.look);
     if show_same_page(&first.entry, &second.entry) {
         return need;
     }
-    let look_second = look(store, second);
-    if !have_same_frame(look_first, look_second) {
-        return need + need_of(look_second);
+    if !have_same_frame(first.look, second.look) {
+        return need + need_of(second.look);
     }
     if store.viewers(second.entry.koid, second.entry.page) > 2 {
         2
@@ -48,20 +39,8 @@ pub(crate) fn frames_needed<P: PageStore>(
     }
 }
 
-// What the page of the VMO is. The store is not asked where the page is translated for writing.
-fn look<P: PageStore>(store: &P, page: &WritablePage) -> Look
-    requires page { IsInStore (P.content store.now) page.now }
-    ensures { result ≡ look_at (P.content store.now) page.now.entry.koid.0
-        ((P.content store.now).page page.now.entry.koid.0 page.now.entry.page) }
-{
-    match page.frame {
-        Some(tag) => Look::Held { tag, sole: true },
-        None => store.look(page.entry.koid, page.entry.page),
-    }
-}
-
-// How many frames owning such a page takes.
-fn need_of(look: Look) -> u64
+/// How many frames owning such a page takes: one where it is not sole.
+pub(crate) fn need_of(look: Look) -> u64
     ensures { result ≡ need_by look }
 {
     match look {

@@ -174,8 +174,8 @@ impl Translations {
                 0
             }
             None => {
-                let translation = translate(store, touched.entry);
-                self.set(root, page, translation);
+                let translation = to_read(store, touched.entry);
+                self.translate(root, page, translation);
                 read_frame(store, translation, at, out);
                 1
             }
@@ -184,7 +184,7 @@ impl Translations {
 }
 
 // The translation for reading of a page with this entry.
-fn translate<P: PageStore>(store: &P, entry: Entry) -> Translation
+fn to_read<P: PageStore>(store: &P, entry: Entry) -> Translation
     requires { entry.page < pages_of (P.content store.now) entry.koid.0 }
     ensures of_entry { IsOf (P.content store.now) entry result }
     ensures readiness { result.readiness ≡ Readiness.Read }

@@ -94,9 +94,9 @@ impl Translations {
         Ok(())
     }
 
-    /// Translates a page so, and forgets the translations of the page of the VMO that hold another frame. Where the page is
-    /// translated already, it is so for the same entry. There is room. It costs some look-ups, and a step for each
-    /// translation that is forgotten.
+    /// Translates a page so, which may be translated already for the same entry, and forgets the translations of the page of
+    /// the VMO that hold another frame. There is room. Where the page is translated with this frame, it costs a look-up and
+    /// a change, and else a look-up more than `translate`.
     pub(crate) fn set(&mut self, root: RegionName, page: PageNo, translation: Translation)
         requires same { IsOfEntry (places_of self.old) root.0 page translation.entry }
         requires room { 1 ≤ room_of self.old }
@@ -108,12 +108,26 @@ impl Translations {
     {
         match with_frame(self.kept(root, page), translation.frame) {
             Some(kept) => self.put(root, page, kept, translation),
-            None => {
-                let entry = translation.entry;
-                let list = self.forget_others(entry.koid, entry.page, translation.frame);
-                self.add(root, page, translation, list);
-            }
+            None => self.translate(root, page, translation),
         }
+    }
+
+    /// Translates a page so, which is not translated with this frame, and forgets the translations of the page of the VMO
+    /// that hold another. There is room. It costs a look-up of the list of that page and three insertions at most, and a
+    /// step for each translation that is forgotten.
+    pub(crate) fn translate(&mut self, root: RegionName, page: PageNo, translation: Translation)
+        requires same { IsOfEntry (places_of self.old) root.0 page translation.entry }
+        requires other { HoldsOther (frame_in translation) (kept_of self.old root.0 page) }
+        requires room { 1 ≤ room_of self.old }
+        ensures at { places_of self.new
+            ≡ with_translation
+            (without (is_outdated translation.entry.koid.0 translation.entry.page (frame_in translation)) (places_of self.old))
+            root.0 page translation }
+        ensures room { room_of self.old ≤ room_of self.new + 1 }
+    {
+        let entry = translation.entry;
+        let list = self.forget_others(entry.koid, entry.page, translation.frame);
+        self.add(root, page, translation, list);
     }
 
     /// What is kept of a page. `None` where it is not translated.

@@ -1,26 +1,34 @@
 //! The pages that a write touches, as they are found before anything is written.
 
-ghost use Rattle.std.specs.Prelude.{◌≡◌, None, Some, MatchResult, if◌then◌else◌};
+ghost use Rattle.std.specs.Prelude.{◌≡◌, ◌<◌, true, None, Some, MatchResult, if◌then◌else◌};
+ghost use Rattle.vm_base.specs.declared.names.Tag.{Tag};
 ghost use Rattle.mapping_set.specs.Tables.{table_of};
+ghost use Rattle.page_store.specs.Pages.{look_at};
+ghost use Rattle.page_store.specs.declared.page_store.Look.TheVariants as Look;
+ghost use Rattle.vm_model.specs.Contents.Content.{pages_of};
 ghost use Rattle.vm_model.specs.Space.Rights.{writing};
 ghost use Rattle.vm_model.specs.Machine.Access.{refusal_at};
 ghost use Rattle.fault.specs.Table.{AreBacked, AreTrue, places_of};
-ghost use Rattle.fault.specs.Writable.{IsWritable, fault_of, writing_frame};
+ghost use Rattle.fault.specs.Writable.{IsWritable, IsLooked, IsSoleWith, fault_of, writing_frame};
 
 use crate::translation::Translation;
 use crate::translations::Translations;
 use mapping_set::MappingSet;
-use page_store::PageStore;
+use page_store::{Look, PageStore};
 use vm_base::{PageNo, Perm, Refusal, RegionName, Tag};
 use vm_model::{Entry, Readiness};
 
-/// A page that a write may touch.
+/// A page that a write may touch, with what the write wants to know of it, so that it is not looked up again.
 #[derive(Clone, Copy)]
 pub(crate) struct WritablePage {
     /// What the page shows.
     pub(crate) entry: Entry,
+    /// Whether it is translated.
+    pub(crate) translated: bool,
     /// The frame, where the page is translated for writing. Then no other VMO shows it.
     pub(crate) frame: Option<Tag>,
+    /// What the page of the VMO is, as it was before the write.
+    pub(crate) look: Look,
 }
 
 impl WritablePage {
@@ -36,7 +44,8 @@ impl WritablePage {
 }
 
 impl Translations {
-    /// What a write finds of a page that it may touch. It is refused as `check` refuses it.
+    /// What a write finds of a page that it may touch. It is refused as `check` refuses it. It costs what that costs, and one
+    /// look at the store where the page is not translated for writing.
     pub(crate) fn check_write<P: PageStore>(
         &self,
         store: &P,
@@ -48,16 +57,36 @@ impl Translations {
         requires translations { AreTrue (P.content store.now) (table_of maps.now) (places_of self.now) }
         ensures { MatchResult result
             (λ found. IsWritable (P.content store.now) (table_of maps.now) (places_of self.now) root.0 page found
-            × (refusal_at (P.content store.now) writing (table_of maps.now root.0 page) ≡ None))
+            × (refusal_at (P.content store.now) writing (table_of maps.now root.0 page) ≡ None)
+            × IsLooked (P.content store.now) found)
             (λ refusal. refusal_at (P.content store.now) writing (table_of maps.now root.0 page) ≡ Some refusal) }
     {
         match self.check(store, maps, root, page, Perm::WRITE) {
-            Ok(touched) => Ok(WritablePage {
-                entry: touched.entry,
-                frame: frame_to_write(touched.translation),
-            }),
+            Ok(touched) => {
+                let entry = touched.entry;
+                let frame = frame_to_write(touched.translation);
+                Ok(WritablePage {
+                    entry,
+                    translated: touched.translation.is_some(),
+                    frame,
+                    look: look(store, entry, frame),
+                })
+            }
             Err(refusal) => Err(refusal),
         }
+    }
+}
+
+// What the page of the VMO is. The store is not asked where the page is translated for writing, with this frame.
+fn look<P: PageStore>(store: &P, entry: Entry, frame: Option<Tag>) -> Look
+    requires below { entry.page < pages_of (P.content store.now) entry.koid.0 }
+    requires frame { (tag : Tag) → frame ≡ Some tag → IsSoleWith (P.content store.now) entry.koid.0 entry.page tag.0 }
+    ensures look { result ≡ look_at (P.content store.now) entry.koid.0 ((P.content store.now).page entry.koid.0 entry.page) }
+    ensures ready { (tag : Tag) → frame ≡ Some tag → result ≡ Look.Held tag true }
+{
+    match frame {
+        Some(tag) => Look::Held { tag, sole: true },
+        None => store.look(entry.koid, entry.page),
     }
 }
 

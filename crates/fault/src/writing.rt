@@ -3,21 +3,21 @@
 ghost use Rattle.std.specs.Prelude.{◌≡◌, ◌+◌, ◌%◌, ◌<◌, ◌≤◌, length, IfErr, OnOk, is_some, if◌then◌else◌};
 ghost use Rattle.vm_base.specs.declared.limits.TheConstants.{PAGE, DATA_BYTES};
 ghost use Rattle.mapping_set.specs.Tables.{table_of};
-ghost use Rattle.vm_model.specs.Contents.Content.{pages_of, IsGood};
+ghost use Rattle.vm_model.specs.Contents.Content.{IsGood};
 ghost use Rattle.vm_model.specs.Contents.Owning.{Owns};
 ghost use Rattle.fault.specs.Table.{AreBacked, AreTrue, IsOfEntry, places_of, room_of};
 ghost use Rattle.fault.specs.Access.{AnswersWrite};
-ghost use Rattle.fault.specs.Writable.{IsInStore, MayOwn, WritesTo, fault_of, faulted};
+ghost use Rattle.fault.specs.Writable.{IsInStore, IsAbsent, MayOwn, WritesTo, fault_of, faulted, sole_frame};
 ghost use Rattle.fault.specs.Needing.{IsReady, LacksRoom};
 
-use crate::needing::{frame_needed, frames_needed};
+use crate::needing::{frames_needed, need_of};
 use crate::translation::Translation;
 use crate::translations::Translations;
 use crate::writable::WritablePage;
 use mapping_set::MappingSet;
-use page_store::PageStore;
+use page_store::{Look, PageStore};
 use vm_base::{DATA_BYTES, PAGE, PageNo, Refusal, RegionName, Tag, in_page, page_of};
-use vm_model::{Entry, Readiness};
+use vm_model::Readiness;
 
 impl Translations {
     /// Writes bytes, at most `DATA_BYTES`, from an address of the address space of a root region on, and answers how many
@@ -75,7 +75,7 @@ impl Translations {
             Ok(found) => found,
             Err(refusal) => return Err(refusal),
         };
-        let need = frame_needed(store, &found);
+        let need = need_of(found.look);
         let faults = found.faults();
         match self.make_ready(store, need, faults) {
             Ok(()) => {}
@@ -164,6 +164,7 @@ impl Translations {
         requires good { IsGood (P.content store.old) }
         requires found { IsInStore (P.content store.old) found }
         requires same { IsOfEntry (places_of self.old) root.0 page found.entry }
+        requires absent { IsAbsent (places_of self.old) root.0 page found }
         requires within { at + length bytes.now ≤ PAGE }
         requires free { MayOwn (P.content store.old) found.entry.koid.0 found.entry.page }
         requires spare { fault_of found ≤ P.spare store.old }
@@ -173,66 +174,68 @@ impl Translations {
         ensures spare { P.spare store.old ≤ P.spare store.new + fault_of found }
         ensures room { room_of self.old ≤ room_of self.new + fault_of found }
     {
-        let tag = self.own(store, root, page, found);
+        let tag = own(store, found);
+        self.make_writable(root, page, found, tag);
         store.write(tag, at, bytes);
     }
 
-    // Makes the page of the VMO sole, and answers its frame. That takes a page fault where the page is not translated for
-    // writing.
-    fn own<P: PageStore>(
-        &mut self,
-        store: &mut P,
-        root: RegionName,
-        page: PageNo,
-        found: WritablePage,
-    ) -> Tag
-        requires good { IsGood (P.content store.old) }
-        requires found { IsInStore (P.content store.old) found }
+    // Translates a page for writing with this frame, where it is not.
+    fn make_writable(&mut self, root: RegionName, page: PageNo, found: WritablePage, tag: Tag)
         requires same { IsOfEntry (places_of self.old) root.0 page found.entry }
-        requires free { MayOwn (P.content store.old) found.entry.koid.0 found.entry.page }
-        requires spare { fault_of found ≤ P.spare store.old }
+        requires absent { IsAbsent (places_of self.old) root.0 page found }
         requires room { fault_of found ≤ room_of self.old }
-        ensures owns { Owns (P.content store.old) (P.content store.new) found.entry.koid.0 found.entry.page result.0 }
         ensures places { places_of self.new ≡ (if is_some found.frame then places_of self.old
-            else faulted (places_of self.old) root.0 page found.entry result) }
-        ensures spare { P.spare store.old ≤ P.spare store.new + fault_of found }
+            else faulted (places_of self.old) root.0 page found.entry tag) }
         ensures room { room_of self.old ≤ room_of self.new + fault_of found }
     {
         match found.frame {
-            Some(tag) => tag,
-            None => self.fault(store, root, page, found.entry),
+            Some(_) => {}
+            None => self.fault(root, page, found, tag),
         }
     }
 
-    // Takes a page fault for writing, and answers the frame of the page of the VMO, which is owned then.
-    fn fault<P: PageStore>(
-        &mut self,
-        store: &mut P,
-        root: RegionName,
-        page: PageNo,
-        entry: Entry,
-    ) -> Tag
-        requires good { IsGood (P.content store.old) }
-        requires below { entry.page < pages_of (P.content store.old) entry.koid.0 }
-        requires same { IsOfEntry (places_of self.old) root.0 page entry }
-        requires free { MayOwn (P.content store.old) entry.koid.0 entry.page }
-        requires spare { 1 ≤ P.spare store.old }
+    // Takes a page fault for writing, with the frame of the page of the VMO, which is owned.
+    fn fault(&mut self, root: RegionName, page: PageNo, found: WritablePage, tag: Tag)
+        requires same { IsOfEntry (places_of self.old) root.0 page found.entry }
+        requires absent { IsAbsent (places_of self.old) root.0 page found }
         requires room { 1 ≤ room_of self.old }
-        ensures owns { Owns (P.content store.old) (P.content store.new) entry.koid.0 entry.page result.0 }
-        ensures places { places_of self.new ≡ faulted (places_of self.old) root.0 page entry result }
-        ensures spare { P.spare store.old ≤ P.spare store.new + 1 }
+        ensures places { places_of self.new ≡ faulted (places_of self.old) root.0 page found.entry tag }
         ensures room { room_of self.old ≤ room_of self.new + 1 }
     {
-        let tag = store.own(entry.koid, entry.page);
-        self.set(
-            root,
-            page,
-            Translation {
-                entry,
-                frame: Some(tag),
-                readiness: Readiness::Write,
-            },
-        );
-        tag
+        let translation = Translation {
+            entry: found.entry,
+            frame: Some(tag),
+            readiness: Readiness::Write,
+        };
+        if found.translated {
+            self.set(root, page, translation);
+        } else {
+            self.translate(root, page, translation);
+        }
+    }
+}
+
+// Makes the page of the VMO sole, and answers its frame. The store is not asked where it was seen to be sole.
+fn own<P: PageStore>(store: &mut P, found: WritablePage) -> Tag
+    requires good { IsGood (P.content store.old) }
+    requires found { IsInStore (P.content store.old) found }
+    requires free { MayOwn (P.content store.old) found.entry.koid.0 found.entry.page }
+    requires spare { fault_of found ≤ P.spare store.old }
+    ensures owns { Owns (P.content store.old) (P.content store.new) found.entry.koid.0 found.entry.page result.0 }
+    ensures spare { P.spare store.old ≤ P.spare store.new + fault_of found }
+{
+    match sole_frame(found.look) {
+        Some(tag) => tag,
+        None => store.own(found.entry.koid, found.entry.page),
+    }
+}
+
+// The frame of a page that was seen to be sole.
+fn sole_frame(look: Look) -> Option<Tag>
+    ensures { result ≡ sole_frame look }
+{
+    match look {
+        Look::Held { tag, sole } if sole => Some(tag),
+        _ => None,
     }
 }

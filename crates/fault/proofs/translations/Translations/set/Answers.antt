@@ -1,9 +1,9 @@
 use Rattle.std.proofs.Common.{sym, ap, ◌∙◌, subst}
-use Rattle.fault.specs.Table.{Places, with_translation, is_outdated, frame_in}
+use Rattle.fault.specs.Table.{Places, with_translation, frame_in}
 use Rattle.fault.specs.Lists.{list_with}
 use Rattle.fault.specs.Walks.{kept_of, HoldsOther}
-use Rattle.fault.proofs.ForgettingLaws.{entry-kept, gone-here, same-here}
-use Rattle.fault.proofs.PlaceLaws.{places-set, places-without}
+use Rattle.fault.proofs.ForgettingLaws.{entry-kept, same-here}
+use Rattle.fault.proofs.PlaceLaws.{places-set}
 use Rattle.fault.proofs.translations.Translations.set.Goals as goal
 
 pub put-requires-clause-kept : goal.put-requires-clause-kept
@@ -24,13 +24,5 @@ returns-in-Some-clause-at c =
     (same-here (kept_of c.args.self.now) (kept_of c.args.self.now) c.args.root.0 c.args.page x c.requires.same (list_with c.in-Some.kept) c.in-Some.kept
     (sym c.kept.ensures ∙ c.in-Some.ensures.some.0) c.put.ensures.list c.in-Some.ensures.some.1)
 
-pub add-requires-clause-absent : goal.add-requires-clause-absent
-add-requires-clause-absent c =
-    gone-here (kept_of c.args.self.now) (kept_of c.forget_others-list.new.self) c.args.root.0 c.args.page c.args.translation c.requires.same
-    (subst (HoldsOther (frame_in c.args.translation)) c.kept.ensures c.in-None.ensures.none) c.forget_others-list.ensures.at
-
-pub returns-in-None-clause-at : goal.returns-in-None-clause-at
-returns-in-None-clause-at c =
-    let x = c.args.translation in
-    c.add.ensures.at ∙ ap (λ (places : Places). with_translation places c.args.root.0 c.args.page x)
-    (places-without (is_outdated x.entry.koid.0 x.entry.page (frame_in x)) (kept_of c.forget_others-list.new.self) (kept_of c.args.self.now) c.forget_others-list.ensures.at)
+pub translate-requires-clause-other : goal.translate-requires-clause-other
+translate-requires-clause-other c = subst (HoldsOther (frame_in c.args.translation)) c.kept.ensures c.in-None.ensures.none

@@ -6,7 +6,7 @@ use Rattle.fault.proofs.PartLaws.{part_at-first, part_bytes-first, part_at-secon
 use Rattle.fault.proofs.ThroughLaws.{IsBetween, IsBetween-written, are-after, Writes-two}
 use Rattle.fault.proofs.TouchedLaws.{touched-two}
 use Rattle.fault.proofs.NeedingLaws.{first-free}
-use Rattle.fault.proofs.WritableLaws.{entry-found}
+use Rattle.fault.proofs.WritableLaws.{entry-found, IsAbsent-stays}
 use Rattle.fault.proofs.translations.Translations.write_in_two.Given.{Over}
 use Rattle.fault.proofs.translations.Translations.write_in_two.Goals as goal
 
@@ -62,6 +62,9 @@ write_page-requires-2-clause-good g c = (between g c).good
 pub write_page-requires-2-clause-found : goal.write_page-requires-2-clause-found
 write_page-requires-2-clause-found g c = (between g c).found.store
 
+pub write_page-requires-2-clause-absent : goal.write_page-requires-2-clause-absent
+write_page-requires-2-clause-absent g c = (between g c).found.absent
+
 pub write_page-requires-2-clause-same : goal.write_page-requires-2-clause-same
 write_page-requires-2-clause-same g c = (between g c).same
 
@@ -114,6 +117,16 @@ write_page-requires-clause-good g c = rw c.in-Ok-make_ready.ensures.content c.re
 
 pub write_page-requires-clause-found : goal.write_page-requires-clause-found
 write_page-requires-clause-found g c = rw c.in-Ok-make_ready.ensures.content c.in-Ok.ensures.0.store
+
+pub write_page-requires-clause-absent : goal.write_page-requires-clause-absent
+write_page-requires-clause-absent g c =
+    IsAbsent-stays _ _ c.args.root.0 c.page_of-page.result c.in-Ok.first c.in-Ok-make_ready.ensures.places c.in-Ok.ensures.0.absent
+
+pub frames_needed-need-requires-clause-first_look : goal.frames_needed-need-requires-clause-first_look
+frames_needed-need-requires-clause-first_look g c = c.in-Ok.ensures.2
+
+pub frames_needed-need-requires-clause-second_look : goal.frames_needed-need-requires-clause-second_look
+frames_needed-need-requires-clause-second_look g c = c.in-Ok-check_write.ensures.2
 
 pub write_page-requires-clause-within : goal.write_page-requires-clause-within
 write_page-requires-clause-within g c = omega (arith, c.in_page-at.ensures, c.split_at.ensures.front_len)
