@@ -1,10 +1,9 @@
 -- Laws of regions that die one after another, and of what lies below what.
-use Rattle.std.proofs.Common.{◌≡◌, ℕ, zero, suc, ◌<◌, Bool, true, false, cond, ◌||◌, ◌==◌, Option, None, Some, ◌⊎◌, refl, sym, ap, ◌∙◌, inl, inr, arith}
+use Rattle.std.proofs.Common.{◌≡◌, ℕ, ◌<◌, Bool, true, false, cond, ◌||◌, Option, None, Some, ◌⊎◌, refl, sym, ap, ◌∙◌, inl, inr, arith}
 use Rattle.std.specs.Option.{option_map}
 use Rattle.std.proofs.lemmas.Bool.{false_from_ne_true}
-use Rattle.vm_base.specs.declared.limits.TheConstants.{NAMES}
 use Rattle.vm_model.specs.declared.space.Region.{Region}
-use Rattle.vm_model.specs.Space.Regions.{end_of, lies_in, parent_in, is_above, is_below, killed, AreGoodRegions}
+use Rattle.vm_model.specs.Space.Regions.{end_of, lies_in, is_below, killed, AreGoodRegions}
 use Rattle.vm_model.proofs.RegionLaws.{reaches_over_parts, below_each, lies_in_parts, lies_in_from}
 use Rattle.vm_base.proofs.EntryLaws.{some_same}
 
@@ -37,28 +36,6 @@ killed-alike regions dies too each = λ i n. one n (regions n) refl i where
     | inl same ↦ ap (λ (b : Bool). Some (cond b (record region { live = false }) region)) same
     | inr off ↦ ap (λ (r : Region). Some r) (dead region (dies n) off ∙ sym (dead region (too n) off))
   ]
-
--- a region has the parent that it had
-parent_killed : (regions : ℕ → Option Region) (dies : ℕ → Bool) (m : ℕ) → parent_in (killed regions dies m) ≡ parent_in (regions m)
-unfolding killed
-parent_killed regions dies m = one (regions m) (dies m) where
-  one : (o : Option Region) (b : Bool) → parent_in (option_map (λ (r : Region). cond b (record r { live = false }) r) o) ≡ parent_in o
-  one None b = refl
-  one (Some r) true = refl
-  one (Some r) false = refl
-
-is_above-killed : (regions : ℕ → Option Region) (dies : ℕ → Bool) (name steps : ℕ) (o : Option ℕ) → is_above steps (killed regions dies) name o ≡ is_above steps regions name o
-unfolding is_above
-is_above-killed regions dies name zero o = refl
-is_above-killed regions dies name (suc steps) None = refl
-is_above-killed regions dies name (suc steps) (Some p) =
-    ap (λ (b : Bool). (p == name) || b)
-    (ap (is_above steps (killed regions dies) name) (parent_killed regions dies p) ∙ is_above-killed regions dies name steps (parent_in (regions p)))
-
--- what lies below what is as before
-pub is_below-killed : (regions : ℕ → Option Region) (dies : ℕ → Bool) (name n : ℕ) → is_below (killed regions dies) name n ≡ is_below regions name n
-is_below-killed regions dies name n =
-    ap (is_above NAMES (killed regions dies) name) (parent_killed regions dies n) ∙ is_above-killed regions dies name NAMES (parent_in (regions n))
 
 -- ---- what lies below what
 

@@ -17,7 +17,8 @@ use Rattle.vm_model.specs.Space.Mappings.{lies_below_in}
 use Rattle.vm_model.specs.Machine.Leaving.{pruned}
 use Rattle.vm_model.proofs.RegionLaws.{region_of-at, is_child_parts, is_child-killed, is_below-step, root_below, killed-was, killed-stays}
 use Rattle.vm_model.proofs.SpaceLaws.{none_child, without_regions-was}
-use Rattle.region_ops.proofs.BelowLaws.{killed-alike, is_below-killed, lies_below}
+use Rattle.region_ops.proofs.BelowLaws.{killed-alike, lies_below}
+use Rattle.region_tree.proofs.BelowLaws.{is_below-killed}
 use Rattle.region_tree.specs.Tree.{IsWithin, HasNoneWithin, has_child, with_one_dead}
 use Rattle.vmo_table.specs.Table.{Table as Vmos}
 use Rattle.region_ops.specs.Spaces.{without_entries, with_all, AreWell, AreAllWell, LetsGo, Does}

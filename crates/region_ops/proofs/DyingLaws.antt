@@ -10,7 +10,8 @@ use Rattle.vm_model.specs.declared.space.Region.{Region}
 use Rattle.vm_model.specs.Space.Regions.{region_of, lies_in, is_below, killed, AreGoodRegions}
 use Rattle.vm_model.specs.Space.Mappings.{lies_below_in}
 use Rattle.vm_model.proofs.RegionLaws.{region_of-at, killed-was, killed-stays, killed-at}
-use Rattle.region_ops.proofs.BelowLaws.{not_below_itself, killed-twice, killed-alike, is_below-killed}
+use Rattle.region_ops.proofs.BelowLaws.{not_below_itself, killed-twice, killed-alike}
+use Rattle.region_tree.proofs.BelowLaws.{is_below-killed}
 use Rattle.region_tree.specs.Tree.{IsWithin, HasNoneWithin, is_live_region, with_one_dead}
 
 -- some regions that pass have died, and no other

@@ -72,8 +72,10 @@ pub fn destroy<P: PageStore>(
         (P.content store.new) vmos.new (spaces_of (regions_of regions.new) (table_of maps.new)) }
 {
     let dying = live_region(regions, region);
-    while let Some(leaf) = regions.destroy_next(region, dying.first, dying.count) {
-        clear_region(store, vmos, maps, dying.root, leaf);
+    let mut from = region;
+    while let Some(leaf) = regions.destroy_next_from(region, from, dying.first, dying.count) {
+        clear_region(store, vmos, maps, dying.root, leaf.name);
+        from = leaf.next;
     }
     regions.destroy_one(region);
     clear_region(store, vmos, maps, dying.root, region);
@@ -127,5 +129,8 @@ fn destroy_within(regions: &mut Regions, region: RegionName, first: PageNo, coun
     ensures { regions_of regions.new ≡ killed (regions_of regions.old)
         (lies_below_in (regions_of regions.old) region.0 first (first + count)) }
 {
-    while let Some(_leaf) = regions.destroy_next(region, first, count) {}
+    let mut from = region;
+    while let Some(leaf) = regions.destroy_next_from(region, from, first, count) {
+        from = leaf.next;
+    }
 }

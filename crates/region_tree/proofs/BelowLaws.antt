@@ -1,5 +1,5 @@
 -- What lies below a region, how deep, and what of it lies in a range of pages.
-use Rattle.std.proofs.Common.{◌≡◌, ℕ, zero, suc, ◌+◌, ◌-◌, ◌<◌, ◌≤◌, ◌^◌, ◌⊎◌, Bool, true, false, ◌||◌, ◌==◌, Option, None, Some, refl, sym, ap, subst, ◌∙◌, inl, inr, arith}
+use Rattle.std.proofs.Common.{◌≡◌, ℕ, zero, suc, ◌+◌, ◌-◌, ◌<◌, ◌≤◌, ◌^◌, ◌⊎◌, Bool, true, false, cond, ◌||◌, ◌==◌, Option, None, Some, refl, sym, ap, subst, ◌∙◌, inl, inr, arith}
 use Rattle.std.specs.Prelude.{min}
 use Rattle.std.specs.Option.{option_map, MatchOption}
 use Rattle.std.proofs.lemmas.Bool.{cases_Bool, cases_lt, cases_order, and_from, or_left, or_right, both_ways, false_from_ne_true}
@@ -9,13 +9,13 @@ use Rattle.vm_base.specs.declared.names.RegionName.{RegionName}
 use Rattle.vm_base.proofs.EntryLaws.{entry_count_le, some_same}
 use Rattle.vm_base.proofs.SearchLaws.{eqb_same, eqb_is}
 use Rattle.vm_model.specs.declared.space.Region.{Region}
-use Rattle.vm_model.specs.Space.Regions.{end_of, lies_in, parent_of, is_child, any_child, parent_in, is_above, is_below, given_count, AreGoodRegions}
+use Rattle.vm_model.specs.Space.Regions.{end_of, lies_in, parent_of, is_child, any_child, parent_in, is_above, is_below, killed, given_count, AreGoodRegions}
 use Rattle.vm_model.proofs.RegionLaws.{reaches_over_parts, is_child_parts, region_bounds, is_below-step, is_above-none, lies_in_parts, lies_in_from}
 use Rattle.vm_model.proofs.SpaceLaws.{none_child}
 use Rattle.balanced_tree.specs.Pairs.{IsNext}
 use Rattle.pair_map.specs.declared.stretch_row.Extent.{Extent}
 use Rattle.pair_map.specs.Maps.{Covers, StandApart}
-use Rattle.region_tree.specs.Tree.{has_child, IsWithin, HasNoneWithin}
+use Rattle.region_tree.specs.Tree.{has_child, with_one_dead, IsWithin, HasNoneWithin, IsStart}
 use Rattle.region_tree.specs.TreeFields.{extent_for, IsTree, IsBetween, HasNoneBetween, IsOver, HasNoneOver}
 use Rattle.region_tree.proofs.PlaceLaws.{child_at}
 
@@ -26,6 +26,30 @@ is_child_from name region p live up same =
     and_from region.live (passes (λ (parent : ℕ). parent == name) (parent_of region)) live
     (ap (λ (o : Option RegionName). passes (λ (parent : ℕ). parent == name) (option_map (λ (n : RegionName). n.0) o)) up
     ∙ (ap (λ (n : ℕ). n == name) same ∙ eqb_same name))
+
+-- ---- regions that die
+
+-- a region has the parent that it had
+parent_killed : (regions : ℕ → Option Region) (dies : ℕ → Bool) (m : ℕ) → parent_in (killed regions dies m) ≡ parent_in (regions m)
+unfolding killed
+parent_killed regions dies m = one (regions m) (dies m) where
+  one : (o : Option Region) (b : Bool) → parent_in (option_map (λ (r : Region). cond b (record r { live = false }) r) o) ≡ parent_in o
+  one None b = refl
+  one (Some r) true = refl
+  one (Some r) false = refl
+
+is_above-killed : (regions : ℕ → Option Region) (dies : ℕ → Bool) (name steps : ℕ) (o : Option ℕ) → is_above steps (killed regions dies) name o ≡ is_above steps regions name o
+unfolding is_above
+is_above-killed regions dies name zero o = refl
+is_above-killed regions dies name (suc steps) None = refl
+is_above-killed regions dies name (suc steps) (Some p) =
+    ap (λ (b : Bool). (p == name) || b)
+    (ap (is_above steps (killed regions dies) name) (parent_killed regions dies p) ∙ is_above-killed regions dies name steps (parent_in (regions p)))
+
+-- what lies below what is as before
+pub is_below-killed : (regions : ℕ → Option Region) (dies : ℕ → Bool) (name n : ℕ) → is_below (killed regions dies) name n ≡ is_below regions name n
+is_below-killed regions dies name n =
+    ap (is_above NAMES (killed regions dies) name) (parent_killed regions dies n) ∙ is_above-killed regions dies name NAMES (parent_in (regions n))
 
 -- ---- how deep a region lies
 
@@ -236,6 +260,32 @@ module _ (regions : ℕ → Option Region) (good : AreGoodRegions regions) where
       → MatchOption o (HasNoneWithin regions above first (first + count)) (λ name. IsWithin regions above first (first + count) name.0)
   within-last above first count last is at_first None at_last = none-within above first count last is at_first at_last
   within-last above first count last is at_first (Some name) within = within
+
+-- ---- where the search for the next region that lies within goes on
+
+-- not at the region itself, so at one that lies within
+pub start-within : (regions : ℕ → Option Region) (above first end start : ℕ) → (start == above) ≡ false → IsStart regions above first end start
+    → IsWithin regions above first end start
+start-within regions above first end start apart (inl same) = absurd (both_ways (start == above) apart (ap (λ (k : ℕ). k == above) same ∙ eqb_same above))
+start-within regions above first end start apart (inr within) = within
+
+-- the parent of a region below, where it is live and lies in the range
+pub parent-within : (regions : ℕ → Option Region) → AreGoodRegions regions → (above first end name : ℕ) (region up : Region) (p : RegionName)
+    → is_below regions above name ≡ true → regions name ≡ Some region → region.parent ≡ Some p → (p.0 == above) ≡ false
+    → regions p.0 ≡ Some up → up.live ≡ true → lies_in first end up ≡ true → IsWithin regions above first end p.0
+parent-within regions good above first end name region up p below e f apart given live inside = record {
+  region = up;
+  given = given;
+  live = live;
+  below = sym (ap (λ (b : Bool). b || is_below regions above p.0) apart) ∙ (sym (is_below-step regions good above name region p e f) ∙ below);
+  inside = inside;
+}
+
+-- what died lies below what it lay below
+pub dead-below : (regions new : ℕ → Option Region) (above first end name : ℕ) → IsWithin regions above first end name → new ≡ with_one_dead regions name
+    → is_below new above name ≡ true
+dead-below regions new above first end name within e =
+    ap (λ (r : ℕ → Option Region). is_below r above name) e ∙ (is_below-killed regions (λ n. n == name) above name ∙ within.below)
 
 -- two extents of a list that have one number are the same
 covers-same : (children : ℕ → ℕ → Option (Extent RegionName)) → StandApart children → (p q n m : ℕ) (d e : Extent RegionName) → Covers (children p) q n d → Covers (children p) q m e → d ≡ e

@@ -1,5 +1,5 @@
 -- The regions of address spaces, as the callers of the tree see them.
-use Rattle.std.specs.Prelude.{◌≡◌, ℕ, Bool, true, ◌==◌, Option, Some}
+use Rattle.std.specs.Prelude.{◌≡◌, ℕ, Bool, true, ◌==◌, Option, Some, ◌⊎◌}
 use Rattle.balanced_tree.specs.Rows.{Rows}
 use Rattle.pair_map.specs.declared.pair_row.PairRow.{PairRow}
 use Rattle.pair_map.specs.Maps.{values_of}
@@ -44,3 +44,7 @@ pub record IsWithin (regions : ℕ → Option Region) (above first end name : �
 -- no live region below `above` has all of its pages among those from `first` to below `end`
 abbrev pub HasNoneWithin : (ℕ → Option Region) → (above first end : ℕ) → Type 0
 HasNoneWithin regions above first end = (name : ℕ) → IsWithin regions above first end name → ⊥
+
+-- a region below `above` that lies in the range is looked for from here on: from `above` itself, or from one that is such a region
+abbrev pub IsStart : (ℕ → Option Region) → (above first end start : ℕ) → Type 0
+IsStart regions above first end start = (start ≡ above) ⊎ IsWithin regions above first end start

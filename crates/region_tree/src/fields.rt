@@ -5,7 +5,7 @@ ghost use Rattle.std.specs.Option.{MatchOption};
 ghost use Rattle.vm_base.specs.declared.limits.TheConstants.{PAGES_END};
 ghost use Rattle.balanced_tree.specs.Pairs.{with_pair};
 ghost use Rattle.pair_map.specs.Maps.{values_of, extents_of};
-ghost use Rattle.vm_model.specs.Space.Regions.{end_of, reaches_over};
+ghost use Rattle.vm_model.specs.Space.Regions.{end_of, lies_in, reaches_over};
 ghost use Rattle.mapping_set.specs.Tables.{table_of};
 ghost use Rattle.region_tree.specs.Tree.{is_live_region};
 ghost use Rattle.region_tree.specs.TreeFields.{HasNoClear, IsClearPlace, ReachesOut, IsBetween, HasNoneBetween};
@@ -34,6 +34,13 @@ pub(crate) fn reaches_over(region: Region, first: PageNo, count: u64) -> bool
     ensures { result ≡ (nat_lt first (first + count) && reaches_over first (first + count) region) }
 {
     first < first + count && (region.first <= first && first + count <= region.first + region.count)
+}
+
+/// Whether all pages of a region are among `count` pages from `first` on, which may pass 2^64.
+pub(crate) fn lies_in(region: Region, first: PageNo, count: u64) -> bool
+    ensures { result ≡ lies_in first (first + count) region }
+{
+    first <= region.first && region.count <= count && region.first - first <= count - region.count
 }
 
 /// The first page from `first` on of `count` pages, below the limit, that are in no child of the region and have no

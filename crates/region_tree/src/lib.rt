@@ -10,5 +10,5 @@
 mod fields;
 mod tree;
 
-pub use tree::Regions;
+pub use tree::{Destroyed, Regions};
 pub use vm_model::Region;

@@ -4,15 +4,15 @@ ghost use Rattle.std.specs.Prelude.{◌≡◌, ℕ, ◌+◌, ◌≤◌, true, fa
 ghost use Rattle.std.specs.Option.{MatchOption};
 ghost use Rattle.vm_base.specs.declared.limits.TheConstants.{PAGES_END};
 ghost use Rattle.vm_base.specs.Entries.{with_key};
-ghost use Rattle.vm_model.specs.Space.Regions.{region_of, root_region, region_below, reaches_over, meets_child, cuts_child};
+ghost use Rattle.vm_model.specs.Space.Regions.{region_of, root_region, region_below, reaches_over, meets_child, cuts_child, is_below};
 ghost use Rattle.vm_model.specs.Space.Regions.{AreGoodRegions};
 ghost use Rattle.vm_model.specs.Space.Places.{is_free, has_place};
 ghost use Rattle.mapping_set.specs.Tables.{table_of};
 ghost use Rattle.region_tree.specs.Tree.{regions_of, is_live_region, has_child, with_one_dead, spaces_of};
-ghost use Rattle.region_tree.specs.Tree.{IsWithin, HasNoneWithin};
+ghost use Rattle.region_tree.specs.Tree.{IsWithin, HasNoneWithin, IsStart};
 ghost use Rattle.region_tree.specs.TreeFields.{HasNoneOver};
 
-use crate::fields::{child_in, gap_in, held, leave_parent, reaches_out, reaches_over};
+use crate::fields::{child_in, gap_in, held, leave_parent, lies_in, reaches_out, reaches_over};
 use mapping_set::MappingSet;
 use pair_map::{ExtentMap, PairMap};
 use std::alloc::Global;
@@ -22,6 +22,15 @@ use vm_model::Region;
 
 /// What mappings and regions in a root region may allow.
 const ALL: Perm = Perm(Perm::READ.0 + Perm::WRITE.0 + Perm::EXECUTE.0);
+
+/// A region that was destroyed, and where to look for the next one (`Regions::destroy_next_from`).
+#[derive(Clone, Copy, Debug)]
+pub struct Destroyed {
+    /// What was destroyed.
+    pub name: RegionName,
+    /// Its parent, where that is live and lies in the range too, or else the region that the range is asked for by.
+    pub next: RegionName,
+}
 
 /// The regions of all address spaces, each under its name, dead ones too. Contracts see the region of each name
 /// (`regions_of`). A call takes look-ups, and no walk over the regions or the children of one. Only `add_root` and
@@ -209,8 +218,8 @@ impl Regions {
 
     /// Destroys a live region that lies below a live one, has no page but of `count` pages from `first` on, and has no
     /// live child, and answers its name. `None` exactly where no live region below the region lies in these pages; then
-    /// nothing is changed. It goes down from the region each time, so a caller that goes on from the parent of what was
-    /// destroyed passes each region once.
+    /// nothing is changed. It goes down from the region. A caller that destroys one after another goes on where it was,
+    /// by `destroy_next_from`.
     pub fn destroy_next(
         &mut self,
         region: RegionName,
@@ -224,12 +233,39 @@ impl Regions {
         ensures regions { MatchOption result (regions_of self.new ≡ regions_of self.old)
             (λ name. regions_of self.new ≡ with_one_dead (regions_of self.old) name.0) }
     {
-        let Some(within) = self.within(region, first, count) else {
+        let Some(gone) = self.destroy_next_from(region, region, first, count) else {
+            return None;
+        };
+        Some(gone.name)
+    }
+
+    /// Destroys a region as `destroy_next` does, but begins at `start`: at the region itself, or at a live one that lies
+    /// below it in these pages, of which it destroys one at or below `start`. It answers the name with where the next
+    /// call begins. Where each call begins where the one before said, each region is come down to once.
+    pub fn destroy_next_from(
+        &mut self,
+        region: RegionName,
+        start: RegionName,
+        first: PageNo,
+        count: u64,
+    ) -> Option<Destroyed>
+        requires live { is_live_region (regions_of self.old) region.0 ≡ true }
+        requires start { IsStart (regions_of self.old) region.0 first (first + count) start.0 }
+        ensures within { MatchOption result (HasNoneWithin (regions_of self.old) region.0 first (first + count))
+            (λ gone. IsWithin (regions_of self.old) region.0 first (first + count) gone.name.0) }
+        ensures childless { IfSome result (λ gone. has_child (regions_of self.old) gone.name.0 ≡ false) }
+        ensures regions { MatchOption result (regions_of self.new ≡ regions_of self.old)
+            (λ gone. regions_of self.new ≡ with_one_dead (regions_of self.old) gone.name.0) }
+        ensures next { IfSome result
+            (λ gone. IsStart (regions_of self.new) region.0 first (first + count) gone.next.0) }
+    {
+        let Some(within) = self.within_from(region, start, first, count) else {
             return None;
         };
         let leaf = self.childless(within);
         self.destroy_one(leaf);
-        Some(leaf)
+        let next = self.start_above(region, leaf, first, count);
+        Some(Destroyed { name: leaf, next })
     }
 
     /// Destroys a live region that has no live child.
@@ -245,6 +281,52 @@ impl Regions {
         };
         self.regions.replace(0, region.0 as u64, dead);
         leave_parent(&mut self.children, dying);
+    }
+
+    /// A live region below a live one that has no page but of `count` pages from `first` on: the one to begin at, where
+    /// that is one.
+    fn within_from(
+        &self,
+        region: RegionName,
+        start: RegionName,
+        first: PageNo,
+        count: u64,
+    ) -> Option<RegionName>
+        requires { IsStart (regions_of self.now) region.0 first (first + count) start.0 }
+        ensures { MatchOption result (HasNoneWithin (regions_of self.now) region.0 first (first + count))
+            (λ name. IsWithin (regions_of self.now) region.0 first (first + count) name.0) }
+    {
+        if start != region {
+            return Some(start);
+        }
+        self.within(region, first, count)
+    }
+
+    /// Where to go on above a region below a live one: at its parent, where that is live and has no page but of `count`
+    /// pages from `first` on, or else at the live one.
+    fn start_above(
+        &self,
+        region: RegionName,
+        gone: RegionName,
+        first: PageNo,
+        count: u64,
+    ) -> RegionName
+        requires { is_below (regions_of self.now) region.0 gone.0 ≡ true }
+        ensures { IsStart (regions_of self.now) region.0 first (first + count) result.0 }
+    {
+        let Some(below) = self.regions.find(0, gone.0 as u64) else {
+            return region;
+        };
+        let Some(parent) = below.parent else {
+            return region;
+        };
+        let Some(above) = self.regions.find(0, parent.0 as u64) else {
+            return region;
+        };
+        if parent == region || !above.live || !lies_in(above, first, count) {
+            return region;
+        }
+        parent
     }
 
     /// A live region below a live one that has no page but of `count` pages from `first` on. Those that lie in no other

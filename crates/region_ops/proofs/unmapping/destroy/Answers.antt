@@ -1,4 +1,4 @@
-use Rattle.std.proofs.Common.{refl}
+use Rattle.std.proofs.Common.{refl, inl}
 use Rattle.mapping_set.specs.Tables.{table_of}
 use Rattle.region_tree.specs.Tree.{regions_of, spaces_of}
 use Rattle.region_ops.proofs.DyingLaws.{within_live, within_fewer}
@@ -6,38 +6,40 @@ use Rattle.region_ops.proofs.DestroyLaws.{going_start, going_well, going_next, g
 use Rattle.region_ops.proofs.unmapping.destroy.Goals as goal
 
 pub loop-leaf-init : goal.loop-leaf-init
-loop-leaf-init g c = going_start _ _ _ _
+loop-leaf-init g c = record { going = going_start _ _ _ _; start = inl refl }
 
-pub destroy_next-requires : goal.destroy_next-requires
-destroy_next-requires g c = within_live _ _ _ _ _ c.requires.well.well.good.spaces.regions c.loop-leaf.invariant.under c.requires.live
+pub destroy_next_from-requires-clause-live : goal.destroy_next_from-requires-clause-live
+destroy_next_from-requires-clause-live g c = within_live _ _ _ _ _ c.requires.well.well.good.spaces.regions c.loop-leaf.invariant.going.under c.requires.live
 
 pub clear_region-requires : goal.clear_region-requires
-clear_region-requires g c = record { well = going_well _ _ _ _ _ _ _ c.loop-leaf.invariant c.requires.well }
+clear_region-requires g c = record { well = going_well _ _ _ _ _ _ _ c.loop-leaf.invariant.going c.requires.well }
 
 pub loop-leaf-smaller : goal.loop-leaf-smaller
 loop-leaf-smaller g c =
-    within_fewer _ _ _ _ _ c.requires.well.well.good.spaces.regions c.loop-leaf.invariant.under _ _ c.in-Some.ensures.within c.in-Some.ensures.regions
+    within_fewer _ _ _ _ _ c.requires.well.well.good.spaces.regions c.loop-leaf.invariant.going.under _ _ c.in-Some.ensures.within c.in-Some.ensures.regions
 
 pub loop-leaf-preserved : goal.loop-leaf-preserved
-loop-leaf-preserved g c =
-    going_next _ _ _ c.requires.well.well.good.spaces _ _ c.live_region-dying.ensures.region _ _ _ c.loop-leaf.invariant _ c.in-Some.ensures.within _ _
-    (spaces_of (regions_of c.destroy_next.new.self) (table_of c.clear_region.new.maps)) c.in-Some.ensures.regions c.clear_region.ensures.table c.clear_region.ensures.gone
+loop-leaf-preserved g c = record {
+  going = going_next _ _ _ c.requires.well.well.good.spaces _ _ c.live_region-dying.ensures.region _ _ _ c.loop-leaf.invariant.going _ c.in-Some.ensures.within _ _
+      (spaces_of (regions_of c.destroy_next_from.new.self) (table_of c.clear_region.new.maps)) c.in-Some.ensures.regions c.clear_region.ensures.table c.clear_region.ensures.gone;
+  start = c.in-Some.ensures.next;
+}
 
 pub destroy_one-requires-clause-live : goal.destroy_one-requires-clause-live
 destroy_one-requires-clause-live g c =
     rw c.in_default.ensures.regions
-    (within_live _ _ _ _ _ c.requires.well.well.good.spaces.regions c.loop-leaf.invariant.under c.requires.live)
+    (within_live _ _ _ _ _ c.requires.well.well.good.spaces.regions c.loop-leaf.invariant.going.under c.requires.live)
 
 pub destroy_one-requires-clause-childless : goal.destroy_one-requires-clause-childless
 destroy_one-requires-clause-childless g c =
     rw c.in_default.ensures.regions
-    (going_childless _ _ _ c.requires.well.well.good.spaces _ c.live_region-dying.result c.live_region-dying.ensures.region _ _ _ c.loop-leaf.invariant c.in_default.ensures.within)
+    (going_childless _ _ _ c.requires.well.well.good.spaces _ c.live_region-dying.result c.live_region-dying.ensures.region _ _ _ c.loop-leaf.invariant.going c.in_default.ensures.within)
 
 pub clear_region-requires-2 : goal.clear_region-requires-2
-clear_region-requires-2 g c = record { well = going_well _ _ _ _ _ _ _ c.loop-leaf.invariant c.requires.well }
+clear_region-requires-2 g c = record { well = going_well _ _ _ _ _ _ _ c.loop-leaf.invariant.going c.requires.well }
 
 pub returns : goal.returns
 returns g c =
-    going_end _ _ _ c.requires.well.well.good.spaces _ c.live_region-dying.result c.live_region-dying.ensures.region _ _ _ c.loop-leaf.invariant c.in_default.ensures.within
+    going_end _ _ _ c.requires.well.well.good.spaces _ c.live_region-dying.result c.live_region-dying.ensures.region _ _ _ c.loop-leaf.invariant.going c.in_default.ensures.within
     c.args.region refl c.live_region-dying.ensures.live _ _ (spaces_of (regions_of c.destroy_one.new.self) (table_of c.clear_region-2.new.maps))
     (rw c.in_default.ensures.regions at c.destroy_one.ensures) c.clear_region-2.ensures.table c.clear_region-2.ensures.gone

@@ -1,17 +1,21 @@
+use Rattle.std.proofs.Common.{refl, inl}
 use Rattle.region_ops.proofs.DyingLaws.{underway_start, within_live, within_next, within_fewer, within_end}
 use Rattle.region_ops.proofs.unmapping.destroy_within.Goals as goal
 
 pub loop-leaf-init : goal.loop-leaf-init
-loop-leaf-init c = underway_start _ _
+loop-leaf-init c = record { under = underway_start _ _; start = inl refl }
 
-pub destroy_next-requires : goal.destroy_next-requires
-destroy_next-requires c = within_live _ _ _ _ _ c.requires.good c.loop-leaf.invariant c.requires.live
+pub destroy_next_from-requires-clause-live : goal.destroy_next_from-requires-clause-live
+destroy_next_from-requires-clause-live c = within_live _ _ _ _ _ c.requires.good c.loop-leaf.invariant.under c.requires.live
 
 pub loop-leaf-smaller : goal.loop-leaf-smaller
-loop-leaf-smaller c = within_fewer _ _ _ _ _ c.requires.good c.loop-leaf.invariant _ _ c.in-Some.ensures.within c.in-Some.ensures.regions
+loop-leaf-smaller c = within_fewer _ _ _ _ _ c.requires.good c.loop-leaf.invariant.under _ _ c.in-Some.ensures.within c.in-Some.ensures.regions
 
 pub loop-leaf-preserved : goal.loop-leaf-preserved
-loop-leaf-preserved c = within_next _ _ _ _ _ c.requires.good c.loop-leaf.invariant _ _ c.in-Some.ensures.within c.in-Some.ensures.regions
+loop-leaf-preserved c = record {
+  under = within_next _ _ _ _ _ c.requires.good c.loop-leaf.invariant.under _ _ c.in-Some.ensures.within c.in-Some.ensures.regions;
+  start = c.in-Some.ensures.next;
+}
 
 pub returns : goal.returns
-returns c = rw c.in_default.ensures.regions (within_end _ _ _ _ _ c.requires.good c.loop-leaf.invariant c.in_default.ensures.within)
+returns c = rw c.in_default.ensures.regions (within_end _ _ _ _ _ c.requires.good c.loop-leaf.invariant.under c.in_default.ensures.within)

@@ -1,12 +1,14 @@
 use Rattle.vm_model.specs.Space.Mappings.{lies_below_in}
 use Rattle.std.proofs.Common.{◌+◌}
-use Rattle.region_tree.specs.Tree.{regions_of}
+use Rattle.region_tree.specs.Tree.{regions_of, IsStart}
 use Rattle.region_ops.proofs.DyingLaws.{IsUnderWay, live_count}
 use Rattle.region_ops.proofs.unmapping.destroy_within.Given as goal
 
 abbrev pub invariant-loop-leaf : goal.invariant-loop-leaf
-invariant-loop-leaf l =
-    IsUnderWay (regions_of l.initial.regions) (regions_of l.regions) (lies_below_in (regions_of l.initial.regions) l.region.0 l.first (l.first + l.count))
+invariant-loop-leaf l = record {
+  under : IsUnderWay (regions_of l.initial.regions) (regions_of l.regions) (lies_below_in (regions_of l.initial.regions) l.region.0 l.first (l.first + l.count));
+  start : IsStart (regions_of l.regions) l.region.0 l.first (l.first + l.count) l.from.0;
+}
 
 abbrev pub decreases-loop-leaf : goal.decreases-loop-leaf
 decreases-loop-leaf l = live_count (regions_of l.regions)
