@@ -21,7 +21,6 @@ use Rattle.fault.specs.Table.{Places, AreTrue, ready_of, frame_in, IsOfEntry}
 use Rattle.fault.specs.Touching.{IsTouched}
 use Rattle.page_store.specs.Pages.{look_at}
 use Rattle.page_store.specs.declared.page_store.Look.{Look}
-use Rattle.page_store.specs.declared.page_store.Look.TheVariants.{Held}
 use Rattle.fault.specs.Writable.{writing_frame, sole_frame, IsAbsent, IsSoleWith, IsWritable, MayOwn}
 use Rattle.fault.proofs.CheckLaws.{below-free}
 
@@ -106,17 +105,17 @@ module _ (c : Content) (table : ℕ → ℕ → Option Entry) (places : Places) 
 
     -- and so it may be written
     pub IsWritable-from_IsTouched : (translated : Bool) (seen : Look) → translated ≡ is_some touched.translation
-        → seen ≡ look_at c touched.entry.koid.0 (c.page touched.entry.koid.0 touched.entry.page) → ((tag : Tag) → frame ≡ Some tag → seen ≡ Held tag true)
+        → seen ≡ look_at c touched.entry.koid.0 (c.page touched.entry.koid.0 touched.entry.page)
         → IsWritable c table places root p (record { entry = touched.entry; translated = translated; frame = frame; look = seen })
         × (refusal_at c writing (table root p) ≡ None)
-    IsWritable-from_IsTouched translated seen translated_is looked ready = (
+    IsWritable-from_IsTouched translated seen translated_is looked = (
       record {
         entry = is.entry;
         ready = ready-is touched.translation is.translation same;
         absent = λ e. is.translation ∙ none-of touched.translation (sym translated_is ∙ e);
         store = record {
           below = below-free c writing touched.entry is.free;
-          frame = λ tag e. ap sole_frame (ready tag e);
+          frame = sole_with-touched;
           sole = λ tag e. sole-looked c touched.entry.koid.0 touched.entry.page tag (ap sole_frame (sym looked) ∙ e);
         };
       },

@@ -25,7 +25,7 @@ use Rattle.vm_model.proofs.ReadinessLaws.{keeps_frame-from, keeps_frame-parts, s
 use Rattle.fault.specs.declared.translation.Translation.{Translation}
 use Rattle.fault.specs.declared.writable.WritablePage.{WritablePage}
 use Rattle.fault.specs.Table.{Places, AreTrue, ready_of, without, is_outdated}
-use Rattle.fault.specs.Writable.{IsWritable, WritesTo}
+use Rattle.fault.specs.Writable.{IsSoleWith, IsWritable, WritesTo}
 use Rattle.page_store.proofs.PartLaws.{WritesPiece-from_parts}
 use Rattle.fault.proofs.OwnedLaws.{frame_at-overwritten}
 use Rattle.fault.proofs.WritableLaws.{is_writable-is}
@@ -199,7 +199,7 @@ module _ (c : Content) (table : ℕ → ℕ → Option Entry) (old : Places) (ro
         ∙ ap (λ (ready : Ready). with_ready ready root p Write) (ready_of-left c part d good found.store.below fits writes table old are (Some w.tag.0) same-frame))
     go (Some tag) e =
         let was : ready_of old root p ≡ Some Write = is_writable-is (ready_of old root p) (sym found.ready ∙ ap is_some e) in
-        let same = settled-sole c part d good found.store.below fits writes table old are (found.store.sole tag (found.store.frame tag e)).alone in
+        let same = settled-sole c part d good found.store.below fits writes table old are (found.store.frame tag e).alone in
         ap ready_of (rw e at w.places) ∙ sym (ap (λ (ready : Ready). with_ready ready root p Write) same ∙ with_ready-same (ready_of old) root p Write was)
 
   -- and the translations are true
@@ -213,7 +213,7 @@ module _ (c : Content) (table : ℕ → ℕ → Option Entry) (old : Places) (ro
         (AreTrue-with_translation d table _ root p x found.entry same-frame (omega (arith, found.store.below, written-here.kept.pages part.koid)) (λ _. written-here.alone) left)
     go (Some tag) e =
         subst (AreTrue d table) (sym (rw e at w.places))
-        (AreTrue-sole c part d good found.store.below fits writes table old are (found.store.sole tag (found.store.frame tag e)).alone)
+        (AreTrue-sole c part d good found.store.below fits writes table old are (found.store.frame tag e).alone)
 
   -- it is the writing of one page of these bytes that are written from an address on
   pub WritesPage-written : (addr : ℕ) (all : List ℕ) → at ≡ part_at addr p → bytes ≡ part_bytes addr all p
@@ -251,6 +251,13 @@ module _ (c : Content) (table : ℕ → ℕ → Option Entry) (old : Places) (ro
         go None e unready = refl
         go (Some x) e unready = absurd (let some : ◌≡◌ {A = Option Readiness} (Some x.readiness) None = rw e at unready in cc)
 
+  -- and is sole with its frame where it was
+  sole-still : (other : WritablePage) (tag : ℕ) → IsSoleWith c other.entry.koid.0 other.entry.page tag → IsSoleWith d other.entry.koid.0 other.entry.page tag
+  sole-still other tag was = record {
+    alone = keeps c part d good found.store.below fits writes other.entry.koid.0 other.entry.page was.alone;
+    frame = frame_at-kept c part d good found.store.below fits writes other.entry.koid.0 other.entry.page was.alone ∙ was.frame;
+  }
+
   -- another page that may be written still may
   pub IsWritable-other : (q : ℕ) (other : WritablePage) → q ≢ p → IsWritable c table old root q other → IsWritable d table new root q other
   IsWritable-other q other apart is = record {
@@ -259,12 +266,7 @@ module _ (c : Content) (table : ℕ → ℕ → Option Entry) (old : Places) (ro
     absent = λ e. absent-other q apart (is.absent e);
     store = record {
       below = omega (arith, is.store.below, written-here.kept.pages other.entry.koid.0);
-      frame = is.store.frame;
-      sole = λ tag e.
-          let was = is.store.sole tag e in
-          record {
-            alone = keeps c part d good found.store.below fits writes other.entry.koid.0 other.entry.page was.alone;
-            frame = frame_at-kept c part d good found.store.below fits writes other.entry.koid.0 other.entry.page was.alone ∙ was.frame;
-          };
+      frame = λ tag e. sole-still other tag.0 (is.store.frame tag e);
+      sole = λ tag e. sole-still other tag.0 (is.store.sole tag e);
     };
   }

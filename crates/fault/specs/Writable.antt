@@ -32,10 +32,10 @@ abbrev pub sole_frame : Look → Option Tag
 sole_frame Zero = None
 sole_frame (Held tag alone) = if alone then Some tag else None
 
--- The page of the VMO is one, and sole with the frame that it was seen to be sole with. It was so where the page has a frame.
+-- The page of the VMO is one, and sole with the frame that the page has, or that it was seen to be sole with.
 pub record IsInStore (c : Content) (page : WritablePage) : Type 0 where
   pub below : page.entry.page < pages_of c page.entry.koid.0
-  pub frame : (tag : Tag) → page.frame ≡ Some tag → sole_frame page.look ≡ Some tag
+  pub frame : (tag : Tag) → page.frame ≡ Some tag → IsSoleWith c page.entry.koid.0 page.entry.page tag.0
   pub sole : (tag : Tag) → sole_frame page.look ≡ Some tag → IsSoleWith c page.entry.koid.0 page.entry.page tag.0
 
 -- the page of the address space has no translation where it was found to have none

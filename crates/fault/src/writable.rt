@@ -1,10 +1,9 @@
 //! The pages that a write touches, as they are found before anything is written.
 
-ghost use Rattle.std.specs.Prelude.{◌≡◌, ◌<◌, true, None, Some, MatchResult, if◌then◌else◌};
+ghost use Rattle.std.specs.Prelude.{◌≡◌, ◌<◌, None, Some, MatchResult, if◌then◌else◌};
 ghost use Rattle.vm_base.specs.declared.names.Tag.{Tag};
 ghost use Rattle.mapping_set.specs.Tables.{table_of};
 ghost use Rattle.page_store.specs.Pages.{look_at};
-ghost use Rattle.page_store.specs.declared.page_store.Look.TheVariants as Look;
 ghost use Rattle.vm_model.specs.Contents.Content.{pages_of};
 ghost use Rattle.vm_model.specs.Space.Rights.{writing};
 ghost use Rattle.vm_model.specs.Machine.Access.{refusal_at};
@@ -46,6 +45,7 @@ impl WritablePage {
 impl Translations {
     /// What a write finds of a page that it may touch. It is refused as `check` refuses it. It costs what that costs, and one
     /// look at the store where the page is not translated for writing.
+    #[inline]
     pub(crate) fn check_write<P: PageStore>(
         &self,
         store: &P,
@@ -78,16 +78,25 @@ impl Translations {
 }
 
 // What the page of the VMO is. The store is not asked where the page is translated for writing, with this frame.
+#[inline]
 fn look<P: PageStore>(store: &P, entry: Entry, frame: Option<Tag>) -> Look
     requires below { entry.page < pages_of (P.content store.now) entry.koid.0 }
     requires frame { (tag : Tag) → frame ≡ Some tag → IsSoleWith (P.content store.now) entry.koid.0 entry.page tag.0 }
-    ensures look { result ≡ look_at (P.content store.now) entry.koid.0 ((P.content store.now).page entry.koid.0 entry.page) }
-    ensures ready { (tag : Tag) → frame ≡ Some tag → result ≡ Look.Held tag true }
+    ensures { result ≡ look_at (P.content store.now) entry.koid.0 ((P.content store.now).page entry.koid.0 entry.page) }
 {
     match frame {
         Some(tag) => Look::Held { tag, sole: true },
-        None => store.look(entry.koid, entry.page),
+        None => look_in_store(store, entry),
     }
+}
+
+// What the store says of the page of the VMO.
+#[inline(never)]
+fn look_in_store<P: PageStore>(store: &P, entry: Entry) -> Look
+    requires { entry.page < pages_of (P.content store.now) entry.koid.0 }
+    ensures { result ≡ look_at (P.content store.now) entry.koid.0 ((P.content store.now).page entry.koid.0 entry.page) }
+{
+    store.look(entry.koid, entry.page)
 }
 
 // The frame of a page that is translated for writing.

@@ -174,28 +174,67 @@ impl Translations {
         ensures spare { P.spare store.old ≤ P.spare store.new + fault_of found }
         ensures room { room_of self.old ≤ room_of self.new + fault_of found }
     {
-        let tag = own(store, found);
-        self.make_writable(root, page, found, tag);
+        let tag = self.own(store, root, page, found);
         store.write(tag, at, bytes);
     }
 
-    // Translates a page for writing with this frame, where it is not.
-    fn make_writable(&mut self, root: RegionName, page: PageNo, found: WritablePage, tag: Tag)
+    // Makes the page of the VMO sole, and answers its frame. That takes a page fault where the page is not translated for
+    // writing.
+    #[inline]
+    fn own<P: PageStore>(
+        &mut self,
+        store: &mut P,
+        root: RegionName,
+        page: PageNo,
+        found: WritablePage,
+    ) -> Tag
+        requires good { IsGood (P.content store.old) }
+        requires found { IsInStore (P.content store.old) found }
         requires same { IsOfEntry (places_of self.old) root.0 page found.entry }
         requires absent { IsAbsent (places_of self.old) root.0 page found }
+        requires free { MayOwn (P.content store.old) found.entry.koid.0 found.entry.page }
+        requires spare { fault_of found ≤ P.spare store.old }
         requires room { fault_of found ≤ room_of self.old }
+        ensures owns { Owns (P.content store.old) (P.content store.new) found.entry.koid.0 found.entry.page result.0 }
         ensures places { places_of self.new ≡ (if is_some found.frame then places_of self.old
-            else faulted (places_of self.old) root.0 page found.entry tag) }
+            else faulted (places_of self.old) root.0 page found.entry result) }
+        ensures spare { P.spare store.old ≤ P.spare store.new + fault_of found }
         ensures room { room_of self.old ≤ room_of self.new + fault_of found }
     {
         match found.frame {
-            Some(_) => {}
-            None => self.fault(root, page, found, tag),
+            Some(tag) => tag,
+            None => self.fault(store, root, page, found),
         }
     }
 
-    // Takes a page fault for writing, with the frame of the page of the VMO, which is owned.
-    fn fault(&mut self, root: RegionName, page: PageNo, found: WritablePage, tag: Tag)
+    // Takes a page fault for writing, and answers the frame of the page of the VMO, which is owned then.
+    #[inline(never)]
+    fn fault<P: PageStore>(
+        &mut self,
+        store: &mut P,
+        root: RegionName,
+        page: PageNo,
+        found: WritablePage,
+    ) -> Tag
+        requires good { IsGood (P.content store.old) }
+        requires found { IsInStore (P.content store.old) found }
+        requires same { IsOfEntry (places_of self.old) root.0 page found.entry }
+        requires absent { IsAbsent (places_of self.old) root.0 page found }
+        requires free { MayOwn (P.content store.old) found.entry.koid.0 found.entry.page }
+        requires spare { 1 ≤ P.spare store.old }
+        requires room { 1 ≤ room_of self.old }
+        ensures owns { Owns (P.content store.old) (P.content store.new) found.entry.koid.0 found.entry.page result.0 }
+        ensures places { places_of self.new ≡ faulted (places_of self.old) root.0 page found.entry result }
+        ensures spare { P.spare store.old ≤ P.spare store.new + 1 }
+        ensures room { room_of self.old ≤ room_of self.new + 1 }
+    {
+        let tag = owned_frame(store, found);
+        self.translate_to_write(root, page, found, tag);
+        tag
+    }
+
+    // Translates a page for writing, with the frame of the page of the VMO.
+    fn translate_to_write(&mut self, root: RegionName, page: PageNo, found: WritablePage, tag: Tag)
         requires same { IsOfEntry (places_of self.old) root.0 page found.entry }
         requires absent { IsAbsent (places_of self.old) root.0 page found }
         requires room { 1 ≤ room_of self.old }
@@ -215,14 +254,14 @@ impl Translations {
     }
 }
 
-// Makes the page of the VMO sole, and answers its frame. The store is not asked where it was seen to be sole.
-fn own<P: PageStore>(store: &mut P, found: WritablePage) -> Tag
+// The frame of the page of the VMO, which is owned then. The store is not asked where it was seen to be sole.
+fn owned_frame<P: PageStore>(store: &mut P, found: WritablePage) -> Tag
     requires good { IsGood (P.content store.old) }
     requires found { IsInStore (P.content store.old) found }
     requires free { MayOwn (P.content store.old) found.entry.koid.0 found.entry.page }
-    requires spare { fault_of found ≤ P.spare store.old }
+    requires spare { 1 ≤ P.spare store.old }
     ensures owns { Owns (P.content store.old) (P.content store.new) found.entry.koid.0 found.entry.page result.0 }
-    ensures spare { P.spare store.old ≤ P.spare store.new + fault_of found }
+    ensures spare { P.spare store.old ≤ P.spare store.new + 1 }
 {
     match sole_frame(found.look) {
         Some(tag) => tag,

@@ -11,5 +11,5 @@ look-requires-clause-frame g c = sole_with-touched _ _ _ _ _ c.requires.translat
 pub returns-in-Ok : goal.returns-in-Ok
 returns-in-Ok g c =
     let found = IsWritable-from_IsTouched _ _ _ _ _ c.requires.translations c.in-Ok.touched _ c.in-Ok.ensures c.frame_to_write-frame.ensures
-    _ _ c.is_some.ensures c.look.ensures.look c.look.ensures.ready in
-    (found.0, found.1, c.look.ensures.look)
+    _ _ c.is_some.ensures c.look.ensures in
+    (found.0, found.1, c.look.ensures)

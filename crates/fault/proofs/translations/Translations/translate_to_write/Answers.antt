@@ -1,7 +1,7 @@
 use Rattle.std.proofs.Common.{Some}
 use Rattle.fault.specs.Walks.{kept_of}
 use Rattle.fault.proofs.ForgettingLaws.{HoldsOther-none}
-use Rattle.fault.proofs.translations.Translations.fault.Goals as goal
+use Rattle.fault.proofs.translations.Translations.translate_to_write.Goals as goal
 
 pub translate-requires-clause-other : goal.translate-requires-clause-other
 translate-requires-clause-other c =
