@@ -15,7 +15,9 @@ use std::marker::Brand;
 use std::sync::ledger::{Blank, Ledger};
 use vm_base::PageNo;
 
-/// The first row on the walk from a page of a node upwards, within the windows. `Nothing` exactly where there is none.
+/// The first row on the walk from a page of a node upwards, within the windows. `Nothing` exactly where there is none. It is
+/// inlined, and the walk upwards is not, so that a page with a row of its own costs its look-up alone.
+#[inline(always)]
 pub fn holder(arena: &CowArena, lists: &PageLists, leaf: NodeId, page: PageNo) -> Holder
     requires forest { IsForest (nodes_of arena.now) arena.now.lists }
     requires node { IsSome (nodes_of arena.now leaf.0) }
@@ -28,6 +30,7 @@ pub fn holder(arena: &CowArena, lists: &PageLists, leaf: NodeId, page: PageNo) -
 }
 
 /// Does what `holder` does for a page that has no row of its own, with no look-up in the node's own list.
+#[inline(never)]
 pub fn holder_above(arena: &CowArena, lists: &PageLists, leaf: NodeId, page: PageNo) -> Holder
     requires forest { IsForest (nodes_of arena.now) arena.now.lists }
     requires bare { IsSomeAnd (nodes_of arena.now leaf.0) (λ node. slots_of lists.now node.list.0 page ≡ None) }
