@@ -82,33 +82,32 @@ module _ (a : Inside) (arena : IsArena a) (slots : Slab Node) where
           visible = visible;
         }
 
-  -- ---- another count or window
+  -- ---- another count, window or list
 
-  module _ (k : ℕ) (node new : Node) (at : get a.nodes k ≡ Some node) (place : SamePlace node new) (keeps : (new.count ≡ node.count) ⊎ IsSome node.koid) (fits : IsFit (get a.nodes) new)
-      (room : slots.capacity ≡ a.nodes.capacity) (is : get slots ≡ with_key (get a.nodes) k new) where
-    resized_count : (test : Node → Bool) → test new ≡ test node → entry_count slots.capacity test (get slots) ≡ entry_count a.nodes.capacity test (get a.nodes)
-    resized_count test same = entry_count-at slots.capacity a.nodes.capacity test (get slots) (with_key (get a.nodes) k new) room is
+  module _ (k : ℕ) (node new : Node) (at : get a.nodes k ≡ Some node) (koid : new.koid ≡ node.koid) (parent : new.parent ≡ node.parent)
+      (forest : IsForest (with_key (get a.nodes) k new) a.lists) (room : slots.capacity ≡ a.nodes.capacity) (is : get slots ≡ with_key (get a.nodes) k new) where
+    rewritten_count : (test : Node → Bool) → test new ≡ test node → entry_count slots.capacity test (get slots) ≡ entry_count a.nodes.capacity test (get a.nodes)
+    rewritten_count test same = entry_count-at slots.capacity a.nodes.capacity test (get slots) (with_key (get a.nodes) k new) room is
         ∙ entry_count-kept a.nodes.capacity test (get a.nodes) k node new (arena.held k (ap is_some at)) at same
 
-    resized_held : (n : ℕ) → IsSome (get slots n) → n < slots.capacity
-    resized_held n some =
+    rewritten_held : (n : ℕ) → IsSome (get slots n) → n < slots.capacity
+    rewritten_held n some =
         let b = some_is (with_key (get a.nodes) k new n) (ap (λ (map : Nodes). is_some (map n)) (sym is) ∙ some) in
         elim (with_key-cases (get a.nodes) k new n b.0 b.1) [
           | inl h ↦ omega (arith, arena.held k (ap is_some at), h.0, room)
           | inr h ↦ omega (arith, arena.held n (ap is_some h.1), room)
         ]
 
-    pub resized : IsAfter (arena_of a) (record a { nodes = slots }) Same Same
+    pub rewritten : IsAfter (arena_of a) (record a { nodes = slots }) Same Same
     unfolding hidden_count visible_count root_count
-    resized =
-        let hidden = resized_count is_hidden (ap is_none place.koid) in
-        let visible = resized_count is_visible (ap is_some place.koid) in
-        let roots = resized_count is_root (ap is_none place.parent) in
+    rewritten =
+        let hidden = rewritten_count is_hidden (ap is_none koid) in
+        let visible = rewritten_count is_visible (ap is_some koid) in
+        let roots = rewritten_count is_root (ap is_none parent) in
         record {
           arena = record {
-            forest = forest_at _ (get slots) a.lists arena.forest.rank is
-                (resized_by (get a.nodes) a.lists arena.forest.rank arena.forest.by k node new at place keeps fits);
-            held = resized_held;
+            forest = forest_at _ (get slots) a.lists forest.rank is forest.by;
+            held = rewritten_held;
             hidden = arena.hidden ∙ sym hidden;
             balance = omega (arith, hidden, visible, roots, arena.balance);
           };
@@ -269,7 +268,9 @@ module _ (a : Inside) (arena : IsArena a) (slots : Slab Node) where
 module _ (a : Inside) (arena : IsArena a) (v : Arena) (view : arena_of a ≡ v) (k : ℕ) (node : Node) (at : get a.nodes k ≡ Some node) where
   written : (new : Node) → SamePlace node new → (new.count ≡ node.count) ⊎ IsSome node.koid → IsFit (get a.nodes) new → IsAfter v (record a { nodes = with_value a.nodes k new }) Same Same
   written new place keeps fits = subst (λ (v : Arena). IsAfter v (record a { nodes = with_value a.nodes k new }) Same Same) view
-      (resized a arena (with_value a.nodes k new) k node new at place keeps fits refl (nodes_written a.nodes k new (ap is_some at)))
+      (rewritten a arena (with_value a.nodes k new) k node new at place.koid place.parent
+      (record { rank = arena.forest.rank; by = resized_by (get a.nodes) a.lists arena.forest.rank arena.forest.by k node new at place keeps fits }) refl
+      (nodes_written a.nodes k new (ap is_some at)))
 
   pub window_after : (first seen : ℕ) → IsSomeAnd (nodes_of v k) (λ node. seen ≤ node.count) → IsSomeAnd (node_above (nodes_of v) k) (λ parent. first + seen ≤ parent.count) →
       (seen ≡ 0 → first ≡ 0) → IsAfter v (record a { nodes = with_value a.nodes k (record node { first = first; seen = seen }) }) Same Same
@@ -283,6 +284,14 @@ module _ (a : Inside) (arena : IsArena a) (v : Arena) (view : arena_of a ≡ v) 
       let is = rw (← view, at) at leaf in
       written (record node { count = count }) (record { koid = refl; parent = refl; left = refl; right = refl; list = refl }) (inr is.0)
       (fits_count (get a.nodes) a.lists arena.forest k node count at is.1)
+
+  -- it has another list
+  pub list_after : (new : Node) → new.koid ≡ node.koid → new.parent ≡ node.parent → IsForest (with_key (nodes_of v) k new) v.lists →
+      IsAfter v (record a { nodes = with_value a.nodes k new }) Same Same
+  list_after new koid parent forest = subst (λ (v : Arena). IsForest (with_key (nodes_of v) k new) v.lists → IsAfter v (record a { nodes = with_value a.nodes k new }) Same Same)
+      view
+      (λ forest. rewritten a arena (with_value a.nodes k new) k node new at koid parent forest refl (nodes_written a.nodes k new (ap is_some at)))
+      forest
 
 -- ---- the call that takes a root away
 
@@ -384,15 +393,15 @@ pub spliced_is : (nodes : Nodes) (k h s : ℕ) (parent sibling new : Node) → n
 unfolding spliced
 spliced_is nodes k h s parent sibling new is = λ i. with_key (without_key (without_key (relinked nodes parent.parent h s) h) k) s (is i)
 
--- a node has one family
-family_same : (nodes : Nodes) (k h g s r : ℕ) (node was parent above sibling other : Node) → AreFamily nodes k h s node parent sibling → AreFamily nodes k g r was above other →
-    spliced nodes k h s parent sibling ≡ spliced nodes k g r above other
-family_same nodes k h g s r node was parent above sibling other one two =
+-- a node has one family, whatever the family makes of the nodes
+pub family_same : (make : (h s : ℕ) (parent sibling : Node) → Nodes) (nodes : Nodes) (k h g s r : ℕ) (node was parent above sibling other : Node) →
+    AreFamily nodes k h s node parent sibling → AreFamily nodes k g r was above other → make h s parent sibling ≡ make g r above other
+family_same make nodes k h g s r node was parent above sibling other one two =
     let up = link_same h g (sym one.parent_is ∙ (ap (λ (x : Node). x.parent) (some_same (sym one.at ∙ two.at)) ∙ two.parent_is)) in
     let beside = link_same s r (sym one.sibling_is ∙ two.sibling_is) in
     let parents = some_same (sym one.parent_at ∙ (ap nodes up ∙ two.parent_at)) in
     let siblings = some_same (sym one.sibling_at ∙ (ap nodes beside ∙ two.sibling_at)) in
-    λ i. spliced nodes k (up i) (beside i) (parents i) (siblings i)
+    λ i. make (up i) (beside i) (parents i) (siblings i)
 
 module _ (a : Inside) (arena : IsArena a) (v : Arena) (view : arena_of a ≡ v) (k h s : ℕ) (node parent sibling : Node) (family : AreFamily (get a.nodes) k h s node parent sibling) where
   pub some_hidden : 1 ≤ a.hidden
@@ -410,7 +419,7 @@ module _ (a : Inside) (arena : IsArena a) (v : Arena) (view : arena_of a ≡ v) 
   module _ (slots : Slab Node) (is : get slots ≡ spliced (get a.nodes) k h s parent sibling) where
     pub splice_nodes : (g r : ℕ) (was above other : Node) → AreFamily (nodes_of v) k g r was above other → get slots ≡ spliced (nodes_of v) k g r above other
     splice_nodes g r was above other = subst (λ (v : Arena). AreFamily (nodes_of v) k g r was above other → get slots ≡ spliced (nodes_of v) k g r above other) view
-        (λ two. is ∙ family_same (get a.nodes) k h g s r node was parent above sibling other family two)
+        (λ two. is ∙ family_same (spliced (get a.nodes) k) (get a.nodes) k h g s r node was parent above sibling other family two)
 
     pub splice_after : IsSomeAnd (nodes_of v k) (λ node. IsSome node.koid × IsSome node.parent) → slots.capacity ≡ a.nodes.capacity →
         IsAfter v (record a { nodes = slots; hidden = a.hidden - 1 }) Less Less

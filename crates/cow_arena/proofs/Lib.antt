@@ -14,3 +14,5 @@ pub mod PairWalkLaws
 pub mod SpliceWalkLaws
 pub mod WindowWalkLaws
 pub mod ViewLaws
+pub mod RenamedLaws
+pub mod RenamedOverLaws

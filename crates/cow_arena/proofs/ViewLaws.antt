@@ -98,7 +98,7 @@ spliced-absent nodes k h s leaf parent sibling family j none j_k j_h =
 
 module _ (t : Tree) (f : IsForest t.nodes t.lists) (k h s : ℕ) (leaf parent sibling : Node) (family : AreFamily t.nodes k h s leaf parent sibling)
     (visible : IsVisible t.nodes k leaf) (empty : (p : ℕ) → t.slots parent.list.0 p ≡ None) (g : IsForest (spliced t.nodes k h s parent sibling) t.lists) where
-  spliced-keeps : KeepsWalks t (record t { nodes = spliced t.nodes k h s parent sibling }) k h
+  pub spliced-keeps : KeepsWalks t (record t { nodes = spliced t.nodes k h s parent sibling }) k h
   spliced-keeps = record { walks = λ j p j_k j_h. each j p j_k j_h (t.nodes j) refl }
     where
       each : (j p : ℕ) → j ≢ k → j ≢ h → (o : Option Node) → t.nodes j ≡ o → walk (record t { nodes = spliced t.nodes k h s parent sibling }) j p ≡ walk t j p

@@ -19,17 +19,21 @@ pub link_same : {j k : ℕ} → link_to j ≡ link_to k → j ≡ k
 link_same {j} {k} e = let e' : ◌≡◌ {A = NodeId} (record { 0 = j }) (record { 0 = k }) = some_same e in ap (λ (at : NodeId). at.0) e'
 
 module _ (t : Tree) where
-  over-absent : (n k p : ℕ) → t.nodes k ≡ None → walk_over t.nodes t.slots n k p ≡ None
+  pub over-none : (k p : ℕ) → walk_over t.nodes t.slots 0 k p ≡ None
+  unfolding walk_over
+  over-none k p = refl
+
+  pub over-absent : (n k p : ℕ) → t.nodes k ≡ None → walk_over t.nodes t.slots n k p ≡ None
   unfolding walk_over
   over-absent zero k p e = refl
   over-absent (suc n) k p e = rw e refl
 
-  over-own : (n k p : ℕ) (slot : Slot) (r : HasRow t k p slot) →
+  pub over-own : (n k p : ℕ) (slot : Slot) (r : HasRow t k p slot) →
       walk_over t.nodes t.slots (suc n) k p ≡ Some (record { node = k; page = p; side = None; slot = slot })
   unfolding walk_over
   over-own n k p slot r = rw (r.at, r.row) refl
 
-  over-past : (n k p : ℕ) (node : Node) → t.nodes k ≡ Some node → t.slots node.list.0 p ≡ None → node.seen ≤ p →
+  pub over-past : (n k p : ℕ) (node : Node) → t.nodes k ≡ Some node → t.slots node.list.0 p ≡ None → node.seen ≤ p →
       walk_over t.nodes t.slots (suc n) k p ≡ None
   unfolding walk_over
   over-past n k p node at free outside =
@@ -43,7 +47,7 @@ module _ (t : Tree) where
       let test : nat_lt p c.node.seen ≡ true = lt-ltb p c.node.seen c.inside in
       rw (c.at, c.free, test, c.parent, ← c.page) (ap (λ s. from_side s (walk_over t.nodes t.slots n h q)) is)
 
-  over-up : (n k p h q : ℕ) → Climbs t k p h q →
+  pub over-up : (n k p h q : ℕ) → Climbs t k p h q →
       walk_over t.nodes t.slots (suc n) k p ≡ from_side (side_in t.nodes k) (walk_over t.nodes t.slots n h q)
   over-up n k p h q c = over-side n k p h q (side_in t.nodes k) c refl
 

@@ -79,3 +79,8 @@ lifted parent sibling = record (with_window sibling (sibling.first + parent.firs
 unfoldable pub spliced : Nodes → (k h s : ℕ) → (parent sibling : Node) → Nodes
 spliced nodes k h s parent sibling =
     with_key (without_key (without_key (relinked nodes parent.parent h s) h) k) s (lifted parent sibling)
+
+-- the same, but the sibling has the list of the parent
+unfoldable pub spliced_over : Nodes → (k h s : ℕ) → (parent sibling : Node) → Nodes
+spliced_over nodes k h s parent sibling =
+    with_key (without_key (without_key (relinked nodes parent.parent h s) h) k) s (record (lifted parent sibling) { list = parent.list })

@@ -4,5 +4,6 @@ pub mod Ways
 pub mod Views
 pub mod Forest
 pub mod Changes
+pub mod Renamed
 pub mod Counts
 pub mod Fields

@@ -8,7 +8,8 @@ ghost use Rattle.cow_arena.specs.Nodes.{nodes_of, leads_to, link_to, child_on, o
 ghost use Rattle.cow_arena.specs.Walk.{Slots, tree_with};
 ghost use Rattle.cow_arena.specs.Views.{ShowsSnapshot, KeepsWalks, KeepsListed};
 ghost use Rattle.cow_arena.specs.Forest.{IsForest, AreListed};
-ghost use Rattle.cow_arena.specs.Changes.{root_node, window_first, moved_link, hidden_over, below_hidden, paired, relinked, lifted, spliced};
+ghost use Rattle.cow_arena.specs.Changes.{root_node, window_first, moved_link, hidden_over, below_hidden, paired, relinked, lifted, spliced, spliced_over};
+ghost use Rattle.cow_arena.specs.Renamed.{AreExchanged};
 ghost use Rattle.cow_arena.specs.Counts.{hidden_count, visible_count, HasFewerHidden};
 
 use crate::node::{Node, NodeId, Pair, Side, leads_to};
@@ -271,6 +272,36 @@ impl CowArena {
             lifted(node, parent, room),
         );
         self.hidden -= 1;
+    }
+
+    /// Does what `splice` does, but the sibling has the list of the parent then, and its own list goes with that of the leaf.
+    /// So the rows of the sibling have to stand in the parent's list before, and no row in its own. Then the walk from each
+    /// page of a node that is left finds what it would find after `splice`, had the rows of the two lists been exchanged.
+    pub fn splice_over(&mut self, leaf: NodeId)
+        requires { IsSomeAnd (nodes_of self.old leaf.0) (λ node. IsSome node.koid × IsSome node.parent) }
+        ensures nodes { (h s : ℕ) (node parent sibling : Node) →
+            AreFamily (nodes_of self.old) leaf.0 h s node parent sibling →
+            nodes_of self.new ≡ spliced_over (nodes_of self.old) leaf.0 h s parent sibling }
+        ensures walks { (slots over : Slots) (h s : ℕ) (node parent sibling : Node) →
+            AreFamily (nodes_of self.old) leaf.0 h s node parent sibling →
+            AreExchanged slots over parent.list.0 sibling.list.0 → ((p : ℕ) → slots parent.list.0 p ≡ None) →
+            KeepsWalks (tree_with (nodes_of self.old) self.old.lists slots) (tree_with (nodes_of self.new) self.new.lists over) leaf.0 h }
+        ensures lists { self.new.lists ≡ self.old.lists }
+        ensures hidden { hidden_count self.new + 1 ≡ hidden_count self.old }
+        ensures visible { visible_count self.new + 1 ≡ visible_count self.old }
+        ensures forest { IsForest (nodes_of self.new) self.new.lists }
+        ensures listed { (slots : Slots) (h s : ℕ) (node parent sibling : Node) →
+            AreFamily (nodes_of self.old) leaf.0 h s node parent sibling →
+            ((p : ℕ) → slots sibling.list.0 p ≡ None) → ((p : ℕ) → slots node.list.0 p ≡ None) →
+            KeepsListed (tree_with (nodes_of self.old) self.old.lists slots)
+            (tree_with (nodes_of self.new) self.new.lists slots) }
+    {
+        let (Some(hidden), Some(sibling)) = (self.nodes[leaf.0].parent, self.sibling(leaf)) else {
+            unreachable!()
+        };
+        let list = self.node(hidden).list;
+        self.splice(leaf);
+        self.nodes[sibling.0].list = list;
     }
 
     /// How many nodes are hidden: fewer than there are visible ones, or none.
