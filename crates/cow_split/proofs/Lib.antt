@@ -17,3 +17,4 @@ pub mod PartLaws
 pub mod HolderLaws
 pub mod CutRowLaws
 pub mod NodeLaws
+pub mod RenamedExactLaws

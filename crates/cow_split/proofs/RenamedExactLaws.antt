@@ -1,0 +1,108 @@
+-- A tree under other list numbers is as exact as it was.
+use Rattle.std.proofs.Common.{◌≡◌, ◌↔◌, ℕ, ◌<◌, Bool, false, None, Some, IsSome, sym, ap, subst, ◌∙◌}
+use Rattle.page_list.specs.declared.row.Slot.TheVariants as slot
+use Rattle.cow_arena.specs.declared.node.Node.{Node}
+use Rattle.cow_arena.specs.declared.node.Side.{Side}
+use Rattle.cow_arena.specs.declared.node.Side.TheVariants as side
+use Rattle.cow_arena.specs.Nodes.{Nodes, AreFamily}
+use Rattle.cow_arena.specs.Walk.{Slots, Tree, tree_with}
+use Rattle.cow_arena.specs.Forest.{IsForestBy}
+use Rattle.cow_arena.specs.Changes.{spliced, spliced_over}
+use Rattle.cow_arena.specs.Renamed.{exchanged, renamed_node, renamed, IsExchange, AreExchanged}
+use Rattle.cow_arena.proofs.RenamedLaws.{renamed-at, renamed-was, renamed-each, forest-renamed_by, row-renamed, walk-renamed}
+use Rattle.cow_arena.proofs.RenamedOverLaws.{over-exchange, tree-over}
+use Rattle.cow_split.specs.Sight.{IsPage, IsSeenFrom}
+use Rattle.cow_split.specs.Exact.{AreSplitBits, IsExact}
+use Rattle.cow_split.proofs.ExactLaws.{denies-alike}
+use Rattle.cow_split.proofs.NodeLaws.{seen-moved}
+
+module _ (name : ℕ → ℕ) (t : Tree) (exchange : IsExchange name t.lists) (out : ℕ → ℕ → Bool) (in_use : ℕ → Bool) (exact : IsExact t out in_use) where
+  abbrev now : Tree
+  now = renamed name t
+
+  page-now : (v p : ℕ) → IsPage t v p → IsPage now v p
+  page-now v p page = record {
+    node = renamed_node name page.node;
+    visible = record { at = renamed-at name t.nodes v page.node page.visible.at; koid = page.visible.koid };
+    below = page.below;
+  }
+
+  page-then : (v p : ℕ) → IsPage now v p → IsPage t v p
+  page-then v p page =
+      let was = renamed-was name t.nodes v page.node page.visible.at in
+      record {
+        node = was.0;
+        visible = record { at = was.1; koid = subst IsSome (sym (ap (λ (n : Node). n.koid) was.2)) page.visible.koid };
+        below = subst (λ (n : Node). p < n.count) (sym was.2) page.below;
+      }
+
+  seen-renamed : (s : Side) (h q : ℕ) → IsSeenFrom t out s h q ↔ IsSeenFrom now out s h q
+  seen-renamed s h q = (
+    seen-moved t now out out s h q (λ v p sees in_sight. record {
+      page = page-now v p sees.page;
+      same = walk-renamed name exchange.twice t exact.forest v p;
+      in_sight = in_sight;
+    }),
+    seen-moved now t out out s h q (λ v p sees in_sight. record {
+      page = page-then v p sees.page;
+      same = sym (walk-renamed name exchange.twice t exact.forest v p);
+      in_sight = in_sight;
+    }),
+  )
+
+  bits-renamed : (h q : ℕ) (left right : Bool) → AreSplitBits t out h q left right → AreSplitBits now out h q left right
+  bits-renamed h q left right bits = record {
+    left_bit = denies-alike left _ _ (seen-renamed side.Left h q) bits.left_bit;
+    right_bit = denies-alike right _ _ (seen-renamed side.Right h q) bits.right_bit;
+    is_seen = bits.is_seen;
+  }
+
+  pub exact-renamed : IsExact (renamed name t) out in_use
+  exact-renamed = record {
+    forest = record {
+      rank = exact.forest.rank;
+      by = forest-renamed_by name t.lists exchange t.nodes exact.forest.rank exact.forest.by;
+    };
+    listed = record {
+      listed = λ l p row at.
+          let it = exact.listed.listed (name l) p row at in
+          record {
+            k = it.k;
+            node = renamed_node name it.node;
+            at = renamed-at name t.nodes it.k it.node it.at;
+            named = ap name it.named ∙ exchange.twice l;
+          };
+    };
+    below = λ v p node row visible. renamed-each name t.nodes (λ v node. IsSome node.koid → now.slots node.list.0 p ≡ Some row → p < node.count)
+        (λ v node at koid has.
+        exact.below v p node row (record { at = at; koid = koid }) (sym (row-renamed name exchange.twice t exact.forest node p) ∙ has))
+        v node visible.at visible.koid;
+    plain = λ v p node tag left right visible. renamed-each name t.nodes
+        (λ v node. IsSome node.koid → now.slots node.list.0 p ≡ Some (slot.Frame tag left right) → (left ≡ false) × (right ≡ false))
+        (λ v node at koid has.
+        exact.plain v p node tag left right (record { at = at; koid = koid }) (sym (row-renamed name exchange.twice t exact.forest node p) ∙ has))
+        v node visible.at visible.koid;
+    stands = λ tag used.
+        let it = exact.stands tag used in
+        record { l = name it.l; q = it.q; row = it.row; at = ap (λ l. t.slots l it.q) (exchange.twice it.l) ∙ it.at; frame = it.frame };
+    used = λ l. exact.used (name l);
+    once = λ l q m r tag row other one two frame again.
+        let both = exact.once (name l) q (name m) r tag row other one two frame again in
+        (sym (exchange.twice l) ∙ (ap name both.0 ∙ exchange.twice m), both.1);
+    bits = λ h q node tag left right. renamed-each name t.nodes
+        (λ h node. node.koid ≡ None → now.slots node.list.0 q ≡ Some (slot.Frame tag left right) → AreSplitBits now out h q left right)
+        (λ h node at hidden has. bits-renamed h q left right
+        (exact.bits h q node tag left right at hidden (sym (row-renamed name exchange.twice t exact.forest node q) ∙ has)))
+        h node;
+  }
+
+-- A leaf goes with its parent: where the tree is exact in which the sibling keeps its list, it is with the parent's list and the
+-- rows of the two lists exchanged.
+pub exact-over : (nodes : Nodes) (lists : ℕ) (rank : ℕ → ℕ) (f : IsForestBy nodes lists rank) (k h s : ℕ) (node parent sibling : Node) →
+    AreFamily nodes k h s node parent sibling → (slots over : Slots) → AreExchanged slots over parent.list.0 sibling.list.0 →
+    (out : ℕ → ℕ → Bool) (in_use : ℕ → Bool) → IsExact (tree_with (spliced nodes k h s parent sibling) lists slots) out in_use →
+    IsExact (tree_with (spliced_over nodes k h s parent sibling) lists over) out in_use
+exact-over nodes lists rank f k h s node parent sibling family slots over rows out in_use exact =
+    subst (λ (u : Tree). IsExact u out in_use) (sym (tree-over nodes lists rank f k h s node parent sibling family slots over rows))
+    (exact-renamed (exchanged parent.list.0 sibling.list.0) (tree_with (spliced nodes k h s parent sibling) lists slots)
+    (over-exchange nodes lists rank f k h s node parent sibling family) out in_use exact)
