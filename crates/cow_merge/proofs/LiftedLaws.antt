@@ -19,7 +19,7 @@ use Rattle.cow_arena.specs.declared.node.NodeId.{NodeId}
 use Rattle.cow_arena.specs.declared.node.Side.{Side}
 use Rattle.cow_arena.specs.declared.node.Side.TheVariants as side
 use Rattle.cow_arena.specs.Nodes.{Arena, nodes_of, IsVisible, AreFamily, link_to, other_side, side_of, side_in, child_on}
-use Rattle.cow_arena.specs.Walk.{Slots, Tree, Found, walk, frame_in, frame_at}
+use Rattle.cow_arena.specs.Walk.{Slots, Tree, tree_with, Found, walk, frame_in, frame_at}
 use Rattle.cow_arena.specs.Forest.{IsForest}
 use Rattle.cow_arena.specs.Ways.{Climbs}
 use Rattle.cow_arena.proofs.ReachLaws.{side-is, side-of-child, reach-one, reach-through, found-of-reach, walk-ends}
@@ -30,7 +30,7 @@ use Rattle.cow_split.specs.declared.answers.Cut.TheVariants as cut
 use Rattle.cow_split.specs.Trees.{tree_of, with_row}
 use Rattle.cow_split.specs.Search.{reached_from}
 use Rattle.cow_split.specs.Sight.{IsPage, IsSeenFrom}
-use Rattle.cow_split.specs.Exact.{Denies, AreSplitBits, IsExact, IsOnlyOf, leaving_out, without_frame}
+use Rattle.cow_split.specs.Exact.{Denies, AreSplitBits, IsExact, IsOnlyOf, all_in_sight, leaving_out, without_frame}
 use Rattle.cow_split.specs.Cutting.{split_on, answer_on, slots_from, answer_from, slots_after, answer_after, cut_slots, cut_answer, frame_left}
 use Rattle.cow_split.proofs.SearchLaws.{leaf-alone}
 use Rattle.cow_split.proofs.RowLaws.{left_out-in_sight, only-more, exact-in_use_alike, with_row-twice}
@@ -38,8 +38,8 @@ use Rattle.cow_split.proofs.ExactLaws.{cases_place}
 use Rattle.cow_split.proofs.CutLaws.{exact-cut, cut-shows}
 use Rattle.frame_pool.specs.declared.frame_pool.Backlink.{Backlink}
 use Rattle.frame_pool.specs.Pool.{Pool, taken_frames, is_taken}
-use Rattle.cow_merge.specs.Ranges.{ShowsSame, AreLinked, GivesBack, HasLeftOut, IsHeldBy, IsSparing}
-use Rattle.cow_merge.specs.Lifting.{IsAside, IsLifting, IsFamilyOf, SeesRow, IsMoved, TellsSeen, HasGone, HasMoved, HasSettled, bit_on, has_frame}
+use Rattle.cow_merge.specs.Ranges.{leaving_range, ShowsSame, AreLinked, GivesBack, HasLeftOut, IsHeldBy, IsSparing}
+use Rattle.cow_merge.specs.Lifting.{IsAside, AreLifted, IsLifting, IsFamilyOf, SeesRow, IsMoved, TellsSeen, HasGone, HasMoved, HasSettled, bit_on, has_frame}
 use Rattle.cow_merge.proofs.RangeLaws.{gives-then, gives-same, linked-part, range-exact, range-shows}
 use Rattle.cow_merge.proofs.SpliceLaws.{family-apart}
 use Rattle.cow_merge.proofs.LiftLaws.{page-over, lists-apart, leaf-step, hidden, dropped-shows, dropped-exact, moved-shows, moved-exact}
@@ -325,6 +325,35 @@ module _ (t : Tree) (k h s : ℕ) (leaf parent sibling : Node) (family : AreFami
           free = subst (λ x. t.slots sibling.list.0 x ≡ None) here (subst (λ (n : Node). t.slots n.list.0 it.0 ≡ None) same step.free);
         }
 
+    -- where the sibling is visible and sees it, its bit says so
+    pub row-bit : IsVisible t.nodes s sibling → SeesRow t.slots sibling q → bit_on (other_side leaf_side) left right ≡ false
+    row-bit shown sees = elim (cases_Bool (bit_on (other_side leaf_side) left right)) [
+      | inr off ↦ off
+      | inl on ↦ absurd ((denies-on t out h q left right (other_side leaf_side) bits).is_true on (record {
+        v = s;
+        p = q - sibling.first;
+        sees = record {
+          page = record { node = sibling; visible = shown; below = omega (arith, sees.inside, f.by.seen s sibling family.sibling_at) };
+          slot = row;
+          found = found-of-reach t f s (q - sibling.first) (other_side leaf_side) h q parent row
+              (reach-one t s (q - sibling.first) (other_side leaf_side) h q (record {
+                node = sibling;
+                at = family.sibling_at;
+                free = sees.free;
+                inside = sees.inside;
+                parent = family-parent t.nodes t.lists f k h s leaf parent sibling family;
+                page = omega (arith, sees.from);
+              })
+              (side-of-child t.nodes t.lists f h s parent (other_side leaf_side) family.parent_at sides.1))
+              family.parent_at has;
+        };
+        in_sight = elim (cases_Bool (out s (q - sibling.first))) [
+          | inr sight ↦ sight
+          | inl hides ↦ absurd ((family-apart t.nodes t.lists f k h s leaf parent sibling family).0 (sym (only s (q - sibling.first) hides)))
+        ];
+      }))
+    ]
+
   -- a zero row is still there
   zero-there : row ≡ slot.Zero → StillThere t k leaf parent.list.0 q row out in_use
   zero-there is_row = elim in-window [
@@ -413,13 +442,15 @@ pub lifting-again : (arena : Arena) (old new : Rows Row) (before after : Pool) (
     IsLifting arena new new after after k h s
 lifting-again arena old new before after k h s was = record {
   of = was.of;
-  out = was.out;
-  exact = was.exact;
-  only = was.only;
-  shows = λ w p page sight. refl;
-  bare = was.bare;
-  held = was.held;
-  gives = gives-same after;
+  lifted = record {
+    out = was.lifted.out;
+    exact = was.lifted.exact;
+    only = was.lifted.only;
+    shows = λ w p page sight. refl;
+    bare = was.lifted.bare;
+    held = was.lifted.held;
+    gives = gives-same after;
+  };
   linked = λ linked. linked;
   spare = omega arith;
   count = omega arith;
@@ -442,13 +473,15 @@ lifting-found arena old new before after k h s was parent at = record {
     };
     visible = was.of.visible;
   };
-  out = was.out;
-  exact = was.exact;
-  only = was.only;
-  shows = was.shows;
-  bare = was.bare;
-  held = was.held;
-  gives = was.gives;
+  lifted = record {
+    out = was.lifted.out;
+    exact = was.lifted.exact;
+    only = was.lifted.only;
+    shows = was.lifted.shows;
+    bare = was.lifted.bare;
+    held = was.lifted.held;
+    gives = was.lifted.gives;
+  };
   linked = was.linked;
   spare = was.spare;
   count = was.count;
@@ -462,41 +495,54 @@ lifting-start arena old new before after k s hidden was of =
     let same : was.bare.node ≡ of.node = some_same (sym was.bare.visible.at ∙ of.family.at) in
     record {
       of = of;
-      out = was.bare.out;
-      exact = leaving.exact;
-      only = leaving.only;
-      shows = leaving.shows;
-      bare = λ p. subst (λ (n : Node). slots_of new n.list.0 p ≡ None) same (was.bare.bare p (omega arith));
-      held = λ p tag below sight shown. subst (λ n. IsHeldBy (nodes_of arena) (slots_of new) hidden.0 n p) same
-          (was.spares p tag (omega arith) (subst (λ (n : Node). p < n.count) (sym same) below) sight shown);
-      gives = leaving.gives;
+      lifted = record {
+        out = was.bare.out;
+        exact = leaving.exact;
+        only = leaving.only;
+        shows = leaving.shows;
+        bare = λ p. subst (λ (n : Node). slots_of new n.list.0 p ≡ None) same (was.bare.bare p (omega arith));
+        held = λ p tag below sight shown. subst (λ n. IsHeldBy (nodes_of arena) (slots_of new) hidden.0 n p) same
+            (was.spares p tag (omega arith) (subst (λ (n : Node). p < n.count) (sym same) below) sight shown);
+        gives = leaving.gives;
+      };
       linked = linked-part old new before after leaving.part leaving.links;
       spare = leaving.spare;
       count = leaving.count;
     }
 
--- it ends where the parent has no rows: all pages of the node are left out
+-- It ends where the parent has no rows: all pages of the node are left out.
+module _ (arena : Arena) (old : Rows Row) (slots : Slots) (before after : Pool) (k h s : ℕ) (of : IsFamilyOf arena k h s)
+    (was : AreLifted arena old slots before after k h s of) (empty : (p : ℕ) → slots of.parent.list.0 p ≡ None) where
+  abbrev left_tree : Tree
+  left_tree = tree_with (nodes_of arena) arena.lists slots
+
+  none-left : (q tag : ℕ) → 0 ≤ q → q < of.node.count → was.out k q ≡ false → frame_at left_tree k q ≡ Some tag → ⊥
+  none-left q tag from below sight shown =
+      let held = was.held q tag below sight shown in
+      let same : held.above ≡ of.parent = some_same (sym held.at ∙ of.family.parent_at) in
+      let nothing : slots held.above.list.0 (of.node.first + q) ≡ None =
+      subst (λ (n : Node). slots n.list.0 (of.node.first + q) ≡ None) (sym same) (empty (of.node.first + q)) in
+      let gone = ap is_some nothing in
+      let some = held.row in
+      absurd (cc)
+
+  pub lifted-exact : IsExact left_tree (leaving_range all_in_sight k 0 of.node.count) (is_taken after)
+  lifted-exact = range-exact arena old slots before after k 0 of.node of.family.at was.out was.exact was.only (λ q e. omega arith) was.shows none-left
+
+  pub lifted-shows : ShowsSame (tree_of arena old) left_tree (leaving_range all_in_sight k 0 of.node.count)
+  lifted-shows = range-shows arena old slots before after k 0 of.node of.family.at was.out was.exact was.only (λ q e. omega arith) was.shows none-left
+
 pub lifting-end : (arena : Arena) (old new : Rows Row) (before after : Pool) (k h s : ℕ) (was : IsLifting arena old new before after k h s) →
     ((p : ℕ) → slots_of new was.of.parent.list.0 p ≡ None) → HasLeftOut arena old new before after k was.of.node 0
-lifting-end arena old new before after k h s was empty =
-    let none : (q tag : ℕ) → 0 ≤ q → q < was.of.node.count → was.out k q ≡ false → frame_at (tree_of arena new) k q ≡ Some tag → ⊥ =
-    λ q tag from below sight shown.
-    let held = was.held q tag below sight shown in
-    let same : held.above ≡ was.of.parent = some_same (sym held.at ∙ was.of.family.parent_at) in
-    let nothing : slots_of new held.above.list.0 (was.of.node.first + q) ≡ None =
-    subst (λ (n : Node). slots_of new n.list.0 (was.of.node.first + q) ≡ None) (sym same) (empty (was.of.node.first + q)) in
-    let gone = ap is_some nothing in
-    let some = held.row in
-    absurd (cc) in
-    record {
-      exact = range-exact arena old new before after k 0 was.of.node was.of.family.at was.out was.exact was.only (λ q e. omega arith) was.shows none;
-      shows = range-shows arena old new before after k 0 was.of.node was.of.family.at was.out was.exact was.only (λ q e. omega arith) was.shows none;
-      bare = λ p from. was.bare p;
-      gives = was.gives;
-      linked = was.linked;
-      spare = was.spare;
-      count = was.count;
-    }
+lifting-end arena old new before after k h s was empty = record {
+  exact = lifted-exact arena old (slots_of new) before after k h s was.of was.lifted empty;
+  shows = lifted-shows arena old (slots_of new) before after k h s was.of was.lifted empty;
+  bare = λ p from. was.lifted.bare p;
+  gives = was.lifted.gives;
+  linked = was.linked;
+  spare = was.spare;
+  count = was.count;
+}
 
 -- the three lists are three
 family-lists : (arena : Arena) (k h s : ℕ) → IsForest (nodes_of arena) arena.lists → (it : IsFamilyOf arena k h s) →
@@ -535,6 +581,96 @@ settle-sees slots parent s node q row seen tells bits on = by_row row refl
     by_row slot.Zero e = (tells.zero e).0 on
     by_row (slot.Frame tag left right) e = bits tag left right e (told _ _ (tells.frame tag left right e) on)
 
+-- what a row with a frame says of the sibling's side, and a zero row of what the sibling sees
+abbrev IsUnseen : Slots → (parent : Node) → (k : ℕ) → (sibling : Node) → (q : ℕ) → Slot → Type 0
+IsUnseen slots parent k sibling q row =
+    ((tag : Tag) (left right : Bool) → row ≡ slot.Frame tag left right → bit_on (other_side (side_of parent k)) left right ≡ true)
+    × (row ≡ slot.Zero → SeesRow slots sibling q → ⊥)
+
+-- One row of the parent goes, or moves.
+module _ (arena : Arena) (old : Rows Row) (first : Slots) (before between after : Pool) (k h s : ℕ) (of : IsFamilyOf arena k h s) (q : ℕ) (row : Slot)
+    (was : AreLifted arena old first before between k h s of) (has : first of.parent.list.0 q ≡ Some row) (gives : GivesBack between after) where
+  abbrev first_tree : Tree
+  first_tree = tree_with (nodes_of arena) arena.lists first
+
+  three-lists : (of.node.list.0 ≢ of.parent.list.0) × (of.node.list.0 ≢ of.sibling.list.0) × (of.parent.list.0 ≢ of.sibling.list.0)
+  three-lists = family-lists arena k h s was.exact.forest of
+
+  -- the rows and the pool are these now
+  lifted-next : (slots : Slots) (left : Option ℕ) (now : ℕ → ℕ → Bool) → IsCut first_tree k of.node q slots was.out now (is_taken between) left →
+      ((x : ℕ) → is_taken after x ≡ without_frame (is_taken between) left x) →
+      ((l p : ℕ) → l ≢ of.sibling.list.0 → ((l ≡ of.parent.list.0) × (p ≡ q) → ⊥) → slots l p ≡ first l p) →
+      AreLifted arena old slots before after k h s of
+  lifted-next slots left now is_cut taken beside = record {
+    out = now;
+    exact = exact-in_use_alike (record first_tree { slots = slots }) now (without_frame (is_taken between) left) (is_taken after) (λ x. sym (taken x)) is_cut.exact;
+    only = is_cut.only;
+    shows = λ w p page sight. is_cut.shows w p (page-over (tree_of arena old) first w p page) sight ∙ was.shows w p page (is_cut.more w p sight);
+    bare = λ p. beside of.node.list.0 p three-lists.1 (λ both. three-lists.0 both.0) ∙ was.bare p;
+    held = λ p tag below sight shown.
+        let page : IsPage first_tree k p = record { node = of.node; visible = of.visible; below = below } in
+        let showed : frame_at first_tree k p ≡ Some tag = sym (is_cut.shows k p page sight) ∙ shown in
+        let held = was.held p tag below (is_cut.more k p sight) showed in
+        let same : held.above ≡ of.parent = some_same (sym held.at ∙ of.family.parent_at) in
+        let list = ap (λ (n : Node). n.list.0) same in
+        let off : of.node.first + p ≡ q → ⊥ = λ here. let gone = is_cut.aside p (sym here) held.inside in absurd (cc) in
+        record {
+          above = held.above;
+          at = held.at;
+          row = ap is_some (beside held.above.list.0 (of.node.first + p) (λ one. three-lists.2 (sym list ∙ one)) (λ both. off both.1)) ∙ held.row;
+          inside = held.inside;
+        };
+    gives = gives-then before between after was.gives gives;
+  }
+
+  zero-still : row ≡ slot.Zero → StillThere first_tree k of.node of.parent.list.0 q row was.out (is_taken between)
+  zero-still e = zero-there first_tree k h s of.node of.parent of.sibling of.family of.visible q row has was.out (is_taken between) was.exact was.only was.bare e
+
+  -- a row goes that is not seen through the sibling, with its frame
+  pub lifted-gone : IsUnseen first of.parent k of.sibling q row → ((x : ℕ) → is_taken after x ≡ without_frame (is_taken between) (frame_in row) x) →
+      AreLifted arena old (with_pair first of.parent.list.0 q None) before after k h s of
+  lifted-gone unseen taken = goes row refl
+    where
+      next : (left : Option ℕ) (now : ℕ → ℕ → Bool) → frame_in row ≡ left →
+          IsCut first_tree k of.node q (with_pair first of.parent.list.0 q None) was.out now (is_taken between) left →
+          AreLifted arena old (with_pair first of.parent.list.0 q None) before after k h s of
+      next left now frame is_cut = lifted-next (with_pair first of.parent.list.0 q None) left now is_cut
+          (λ x. taken x ∙ ap (λ (o : Option ℕ). without_frame (is_taken between) o x) frame)
+          (λ l p _ apart. with_pair-other first of.parent.list.0 q None l p (λ a b. apart (a, b)))
+
+      goes : (r : Slot) → row ≡ r → AreLifted arena old (with_pair first of.parent.list.0 q None) before after k h s of
+      goes slot.Zero e = next None _ (ap frame_in e)
+          (zero-gone first_tree k h s of.node of.parent of.sibling of.family of.visible q row has was.out (is_taken between) was.exact was.only was.bare (zero-still e)
+          (unseen.1 e))
+      goes (slot.Frame tag left right) e =
+          let it = row-gone first_tree k h s of.node of.parent of.sibling of.family of.visible q row has was.out (is_taken between) was.exact was.only was.bare tag left right e
+          (unseen.0 tag left right e) in
+          next (Some tag.0) it.0 (ap frame_in e) it.1
+
+  -- one moves that the sibling sees
+  pub lifted-moved : (now : Slot) → SeesRow first of.sibling q →
+      ((tag : Tag) (left right : Bool) → row ≡ slot.Frame tag left right → bit_on (other_side (side_of of.parent k)) left right ≡ false) →
+      IsMoved (with_row first_tree of.parent.list.0 q None) s (q - of.sibling.first) of.sibling row now → ((x : ℕ) → is_taken after x ≡ is_taken between x) →
+      AreLifted arena old (with_pair (with_pair first of.parent.list.0 q None) of.sibling.list.0 (q - of.sibling.first) (Some now)) before after k h s of
+  lifted-moved now sees bit moved taken = moves row refl
+    where
+      next : StillThere first_tree k of.node of.parent.list.0 q row was.out (is_taken between) →
+          AreLifted arena old (with_pair (with_pair first of.parent.list.0 q None) of.sibling.list.0 (q - of.sibling.first) (Some now)) before after k h s of
+      next still = lifted-next (with_pair (with_pair first of.parent.list.0 q None) of.sibling.list.0 (q - of.sibling.first) (Some now)) None still.now
+          (row-moved first_tree k h s of.node of.parent of.sibling of.family of.visible q row has was.out (is_taken between) was.exact was.only was.bare still now sees moved)
+          (λ x. taken x ∙ without-none (is_taken between) x)
+          (λ l p list apart.
+          with_pair-other _ of.sibling.list.0 (q - of.sibling.first) (Some now) l p (λ a _. list a)
+          ∙ with_pair-other first of.parent.list.0 q None l p (λ a b. apart (a, b)))
+
+      moves : (r : Slot) → row ≡ r →
+          AreLifted arena old (with_pair (with_pair first of.parent.list.0 q None) of.sibling.list.0 (q - of.sibling.first) (Some now)) before after k h s of
+      moves slot.Zero e = next (zero-still e)
+      moves (slot.Frame tag left right) e = next
+          (row-there first_tree k h s of.node of.parent of.sibling of.family of.visible q row has was.out (is_taken between) was.exact was.only was.bare tag left right e
+          (bit tag left right e))
+
+-- A row of the parent was taken out.
 module _ (arena : Arena) (old first mid new : Rows Row) (before between after : Pool) (k h s q : ℕ) (row : Slot)
     (was : IsLifting arena old first before between k h s) (has : slots_of first was.of.parent.list.0 q ≡ Some row)
     (taken_out : slots_of mid ≡ with_pair (slots_of first) was.of.parent.list.0 q None) where
@@ -551,7 +687,7 @@ module _ (arena : Arena) (old first mid new : Rows Row) (before between after : 
   sibling = was.of.sibling
 
   lists : (node.list.0 ≢ parent.list.0) × (node.list.0 ≢ sibling.list.0) × (parent.list.0 ≢ sibling.list.0)
-  lists = family-lists arena k h s was.exact.forest was.of
+  lists = family-lists arena k h s was.lifted.exact.forest was.of
 
   -- the sibling's row there is as it was
   beside-mid : (p : ℕ) → slots_of mid sibling.list.0 p ≡ slots_of first sibling.list.0 p
@@ -565,49 +701,13 @@ module _ (arena : Arena) (old first mid new : Rows Row) (before between after : 
 
   -- the frame of the row is taken
   pub row-taken : (tag : ℕ) → frame_in row ≡ Some tag → IsSome (taken_frames between tag)
-  row-taken tag frame = was.exact.used parent.list.0 q row tag has frame
+  row-taken tag frame = was.lifted.exact.used parent.list.0 q row tag has frame
 
   -- what its bits tell of the sibling's side holds
   pub row-sees-mid : (tag : Tag) (left right : Bool) → row ≡ slot.Frame tag left right → bit_on (side_of parent s) left right ≡ false → SeesRow (slots_of mid) sibling q
   row-sees-mid tag left right e seen = sees-mid
-      (row-sees t k h s node parent sibling was.of.family was.of.visible q row has was.out (is_taken between) was.exact was.only was.bare tag left right e
-      (ap (λ (from : Side). bit_on from left right) (sym (family-other arena k h s was.exact.forest was.of)) ∙ seen))
-
-  -- the rows and the pool are these now
-  lifting-next : (slots : Slots) (left : Option ℕ) (now : ℕ → ℕ → Bool) → IsCut t k node q slots was.out now (is_taken between) left → slots_of new ≡ slots →
-      ((x : ℕ) → is_taken after x ≡ without_frame (is_taken between) left x) → GivesBack between after → (AreLinked first between → AreLinked new after) →
-      ((l p : ℕ) → l ≢ sibling.list.0 → ((l ≡ parent.list.0) × (p ≡ q) → ⊥) → slots l p ≡ slots_of first l p) → first.spare ≤ new.spare →
-      row_count new ≤ row_count first → IsLifting arena old new before after k h s
-  lifting-next slots left now is_cut is taken gives linked beside spare count = record {
-    of = was.of;
-    out = now;
-    exact = subst (λ (x : Slots). IsExact (record t { slots = x }) now (is_taken after)) (sym is)
-        (exact-in_use_alike (record t { slots = slots }) now (without_frame (is_taken between) left) (is_taken after) (λ x. sym (taken x)) is_cut.exact);
-    only = is_cut.only;
-    shows = λ w p page sight.
-        ap (λ (x : Slots). frame_at (record t { slots = x }) w p) is
-        ∙ (is_cut.shows w p (page-over (tree_of arena old) (slots_of first) w p page) sight ∙ was.shows w p page (is_cut.more w p sight));
-    bare = λ p. ap (λ (x : Slots). x node.list.0 p) is ∙ (beside node.list.0 p lists.1 (λ both. lists.0 both.0) ∙ was.bare p);
-    held = λ p tag below sight shown.
-        let page : IsPage t k p = record { node = node; visible = was.of.visible; below = below } in
-        let showed : frame_at t k p ≡ Some tag =
-        sym (is_cut.shows k p page sight) ∙ (ap (λ (x : Slots). frame_at (record t { slots = x }) k p) (sym is) ∙ shown) in
-        let held = was.held p tag below (is_cut.more k p sight) showed in
-        let same : held.above ≡ parent = some_same (sym held.at ∙ was.of.family.parent_at) in
-        let list = ap (λ (n : Node). n.list.0) same in
-        let off : node.first + p ≡ q → ⊥ = λ here. let gone = is_cut.aside p (sym here) held.inside in absurd (cc) in
-        record {
-          above = held.above;
-          at = held.at;
-          row = ap is_some (ap (λ (x : Slots). x held.above.list.0 (node.first + p)) is
-              ∙ beside held.above.list.0 (node.first + p) (λ one. lists.2 (sym list ∙ one)) (λ both. off both.1)) ∙ held.row;
-          inside = held.inside;
-        };
-    gives = gives-then before between after was.gives gives;
-    linked = λ ok. linked (was.linked ok);
-    spare = omega (arith, was.spare);
-    count = omega (arith, was.count);
-  }
+      (row-sees t k h s node parent sibling was.of.family was.of.visible q row has was.lifted.out (is_taken between) was.lifted.exact was.lifted.only was.lifted.bare
+      tag left right e (ap (λ (from : Side). bit_on from left right) (sym (family-other arena k h s was.lifted.exact.forest was.of)) ∙ seen))
 
   -- ---- the row is gone
 
@@ -622,16 +722,19 @@ module _ (arena : Arena) (old first mid new : Rows Row) (before between after : 
           ∙ linked.linked m r other tag (was-there (slots_of first) parent.list.0 q m r other (sym (ap (λ (x : Slots). x m r) gone-slots) ∙ e)).1 frame;
     }
 
-    gone-next : (left : Option ℕ) (now : ℕ → ℕ → Bool) → frame_in row ≡ left →
-        IsCut t k node q (with_pair (slots_of first) parent.list.0 q None) was.out now (is_taken between) left → row_count mid + 1 ≡ row_count first →
-        mid.spare ≡ first.spare + 1 → IsLifting arena old new before after k h s
-    gone-next left now frame is_cut count spare =
+    gone-next : IsUnseen (slots_of first) parent k sibling q row → row_count mid + 1 ≡ row_count first → mid.spare ≡ first.spare + 1 →
+        IsLifting arena old new before after k h s
+    gone-next unseen count spare =
         let spare_is = ap (λ (r : Rows Row). r.spare) gone.rows in
         let count_is = ap (λ (r : Rows Row). row_count r) gone.rows in
-        lifting-next (with_pair (slots_of first) parent.list.0 q None) left now is_cut gone-slots
-        (λ x. gone.given.taken x ∙ ap (λ (o : Option ℕ). without_frame (is_taken between) o x) frame) gone.given.gives gone-linked
-        (λ l p _ apart. with_pair-other (slots_of first) parent.list.0 q None l p (λ a b. apart (a, b)))
-        (omega arith) (omega arith)
+        record {
+          of = was.of;
+          lifted = subst (λ (x : Slots). AreLifted arena old x before after k h s was.of) (sym gone-slots)
+              (lifted-gone arena old (slots_of first) before between after k h s was.of q row was.lifted has gone.given.gives unseen gone.given.taken);
+          linked = λ ok. gone-linked (was.linked ok);
+          spare = omega (arith, was.spare);
+          count = omega (arith, was.count);
+        }
 
   -- ---- the row has moved
 
@@ -676,53 +779,38 @@ module _ (arena : Arena) (old first mid new : Rows Row) (before between after : 
       ];
     }
 
-    moved-next : StillThere t k node parent.list.0 q row was.out (is_taken between) → SeesRow (slots_of first) sibling q → row_count mid + 1 ≡ row_count first →
-        mid.spare ≡ first.spare + 1 → IsLifting arena old new before after k h s
-    moved-next still sees count spare =
+    moved-next : SeesRow (slots_of first) sibling q →
+        ((tag : Tag) (left right : Bool) → row ≡ slot.Frame tag left right → bit_on (other_side (side_of parent k)) left right ≡ false) →
+        row_count mid + 1 ≡ row_count first → mid.spare ≡ first.spare + 1 → IsLifting arena old new before after k h s
+    moved-next sees bit count spare =
         let bits = subst (λ (x : Slots). IsMoved (record (tree_of arena first) { slots = x }) s to sibling row moved.now) taken_out moved.moved in
-        lifting-next both None still.now
-        (row-moved t k h s node parent sibling was.of.family was.of.visible q row has was.out (is_taken between) was.exact was.only was.bare still moved.now sees bits)
-        moved-slots
-        (λ x. ap (λ f. is_some (f x)) moved.taken ∙ without-none (is_taken between) x)
-        (record { frames = moved.frames; kept = λ x. inl (ap (λ f. f x) moved.taken) })
-        moved-linked
-        (λ l p list apart.
-        with_pair-other _ sibling.list.0 to (Some moved.now) l p (λ a _. list a)
-        ∙ with_pair-other (slots_of first) parent.list.0 q None l p (λ a b. apart (a, b)))
-        (omega (arith, moved.spare)) (omega (arith, moved.count))
+        record {
+          of = was.of;
+          lifted = subst (λ (x : Slots). AreLifted arena old x before after k h s was.of) (sym moved-slots)
+              (lifted-moved arena old (slots_of first) before between after k h s was.of q row was.lifted has
+              (record { frames = moved.frames; kept = λ x. inl (ap (λ f. f x) moved.taken) })
+              moved.now sees bit bits (λ x. ap (λ f. is_some (f x)) moved.taken));
+          linked = λ ok. moved-linked (was.linked ok);
+          spare = omega (arith, was.spare, moved.spare);
+          count = omega (arith, was.count, moved.count);
+        }
 
   -- the row is gone, or has moved
   pub lifting-settled : HasSettled arena mid new between after parent s sibling q row → row_count mid + 1 ≡ row_count first → mid.spare ≡ first.spare + 1 →
       IsLifting arena old new before after k h s
   lifting-settled done count spare = elim (cases_Bool done.seen) [
-    | inl on ↦ moves row refl on (done.moves on)
-    | inr off ↦ goes row refl off (done.gone off)
+    | inl on ↦ moved-next (done.moves on) (sees-first (settle-sees (slots_of mid) parent s sibling q row done.seen done.tells row-sees-mid on)) (bit-off on) count spare
+    | inr off ↦ gone-next (done.gone off) (
+      (λ tag left right e. ap (λ (from : Side). bit_on from left right) (sym other) ∙ untold _ _ (done.tells.frame tag left right e) off),
+      (λ e sees. let seen = (done.tells.zero e).1 (sees-mid sees) in absurd (cc)),
+    ) count spare
   ]
     where
       other : side_of parent s ≡ other_side (side_of parent k)
-      other = family-other arena k h s was.exact.forest was.of
+      other = family-other arena k h s was.lifted.exact.forest was.of
 
-      goes : (r : Slot) → row ≡ r → done.seen ≡ false → HasGone mid new between after row → IsLifting arena old new before after k h s
-      goes slot.Zero e off gone = gone-next gone None _ (ap frame_in e)
-          (zero-gone t k h s node parent sibling was.of.family was.of.visible q row has was.out (is_taken between) was.exact was.only was.bare
-          (zero-there t k h s node parent sibling was.of.family was.of.visible q row has was.out (is_taken between) was.exact was.only was.bare e)
-          (λ sees. let seen = (done.tells.zero e).1 (sees-mid sees) in absurd (cc)))
-          count spare
-      goes (slot.Frame tag left right) e off gone =
-          let it = row-gone t k h s node parent sibling was.of.family was.of.visible q row has was.out (is_taken between) was.exact was.only was.bare tag left right e
-          (ap (λ (from : Side). bit_on from left right) (sym other) ∙ untold _ _ (done.tells.frame tag left right e) off) in
-          gone-next gone (Some tag.0) it.0 (ap frame_in e) it.1 count spare
-
-      moves : (r : Slot) → row ≡ r → done.seen ≡ true → HasMoved arena mid new between after s sibling q row → IsLifting arena old new before after k h s
-      moves slot.Zero e on moved = moved-next moved
-          (zero-there t k h s node parent sibling was.of.family was.of.visible q row has was.out (is_taken between) was.exact was.only was.bare e)
-          (sees-first ((done.tells.zero e).0 on)) count spare
-      moves (slot.Frame tag left right) e on moved =
-          let bit = ap (λ (from : Side). bit_on from left right) (sym other) ∙ told _ _ (done.tells.frame tag left right e) on in
-          moved-next moved
-          (row-there t k h s node parent sibling was.of.family was.of.visible q row has was.out (is_taken between) was.exact was.only was.bare tag left right e bit)
-          (row-sees t k h s node parent sibling was.of.family was.of.visible q row has was.out (is_taken between) was.exact was.only was.bare tag left right e bit)
-          count spare
+      bit-off : done.seen ≡ true → (tag : Tag) (left right : Bool) → row ≡ slot.Frame tag left right → bit_on (other_side (side_of parent k)) left right ≡ false
+      bit-off on tag left right e = ap (λ (from : Side). bit_on from left right) (sym other) ∙ told _ _ (done.tells.frame tag left right e) on
 
   -- the parent's list has lost this row alone
   pub settled-list : HasSettled arena mid new between after parent s sibling q row → (p : ℕ) →

@@ -19,7 +19,7 @@ use Rattle.cow_arena.specs.declared.node.Node.{Node}
 use Rattle.cow_arena.specs.declared.node.NodeId.{NodeId}
 use Rattle.cow_arena.specs.declared.node.Side.{Side}
 use Rattle.cow_arena.specs.Nodes.{Arena, Nodes, nodes_of, IsVisible, link_to, side_of}
-use Rattle.cow_arena.specs.Walk.{Slots, Tree, Found, walk, frame_in, frame_found, frame_at, from_side}
+use Rattle.cow_arena.specs.Walk.{Slots, Tree, tree_with, Found, walk, frame_in, frame_found, frame_at, from_side}
 use Rattle.cow_arena.specs.Forest.{IsForest}
 use Rattle.cow_arena.specs.Ways.{HasRow, Climbs, Reaches, Arrives, IsPartOf}
 use Rattle.cow_arena.proofs.WalkLaws.{walk-past}
@@ -724,12 +724,13 @@ linked-part old new before after part links was = record {
 }
 
 -- What is left out is each page of the range, where the others of it show nothing.
-module _ (arena : Arena) (old new : Rows Row) (before after : Pool) (v first : ℕ) (node : Node) (at : nodes_of arena v ≡ Some node) (out : ℕ → ℕ → Bool)
-    (exact : IsExact (tree_of arena new) out (is_taken after)) (only : IsOnlyOf out v) (within : (q : ℕ) → out v q ≡ true → first ≤ q)
-    (shows : ShowsSame (tree_of arena old) (tree_of arena new) out)
-    (none : (q tag : ℕ) → first ≤ q → q < node.count → out v q ≡ false → frame_at (tree_of arena new) v q ≡ Some tag → ⊥) where
+module _ (arena : Arena) (old : Rows Row) (slots : Slots) (before after : Pool) (v first : ℕ) (node : Node) (at : nodes_of arena v ≡ Some node) (out : ℕ → ℕ → Bool)
+    (exact : IsExact (tree_with (nodes_of arena) arena.lists slots) out (is_taken after)) (only : IsOnlyOf out v) (within : (q : ℕ) → out v q ≡ true → first ≤ q)
+    (shows : ShowsSame (tree_of arena old) (tree_with (nodes_of arena) arena.lists slots) out)
+    (none : (q tag : ℕ) → first ≤ q → q < node.count → out v q ≡ false →
+    frame_at (tree_with (nodes_of arena) arena.lists slots) v q ≡ Some tag → ⊥) where
   abbrev t : Tree
-  t = tree_of arena new
+  t = tree_with (nodes_of arena) arena.lists slots
 
   below-count : (q : ℕ) → IsPage t v q → q < node.count
   below-count q page = subst (λ (n : Node). q < n.count) (some_same (sym page.visible.at ∙ at)) page.below
@@ -770,7 +771,8 @@ module _ (arena : Arena) (old new : Rows Row) (before after : Pool) (v first : �
   range-exact = exact-shown_alike t out (leaving_range all_in_sight v first node.count) (is_taken after) exact out-same
 
   pub range-shows : ShowsSame (tree_of arena old) t (leaving_range all_in_sight v first node.count)
-  range-shows w q page sight = shows w q page (in_sight-before w q (page-there arena old new w q page) sight)
+  range-shows w q page sight =
+      shows w q page (in_sight-before w q (record { node = page.node; visible = page.visible; below = page.below }) sight)
 
 module _ (arena : Arena) (old new : Rows Row) (before after : Pool) (v first : ℕ) (spared : Option NodeId) (above : Node) (shift to : ℕ)
     (was : IsPassing arena old new before after v first spared above shift to to)
@@ -806,8 +808,8 @@ sparing-none arena old new before after v first node at was =
     let none : (q tag : ℕ) → first ≤ q → q < node.count → was.bare.out v q ≡ false → frame_at (tree_of arena new) v q ≡ Some tag → ⊥ =
     λ q tag from below. was.spares q tag from (subst (λ (n : Node). q < n.count) (sym same) below) in
     record {
-      exact = range-exact arena old new before after v first node at was.bare.out leaving.exact leaving.only leaving.within leaving.shows none;
-      shows = range-shows arena old new before after v first node at was.bare.out leaving.exact leaving.only leaving.within leaving.shows none;
+      exact = range-exact arena old (slots_of new) before after v first node at was.bare.out leaving.exact leaving.only leaving.within leaving.shows none;
+      shows = range-shows arena old (slots_of new) before after v first node at was.bare.out leaving.exact leaving.only leaving.within leaving.shows none;
       bare = λ p from. subst (λ (n : Node). slots_of new n.list.0 p ≡ None) same (was.bare.bare p from);
       gives = leaving.gives;
       linked = linked-part old new before after leaving.part leaving.links;

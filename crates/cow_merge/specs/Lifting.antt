@@ -13,7 +13,7 @@ use Rattle.cow_arena.specs.declared.node.Node.{Node}
 use Rattle.cow_arena.specs.declared.node.Side.{Side}
 use Rattle.cow_arena.specs.declared.node.Side.TheVariants as side
 use Rattle.cow_arena.specs.Nodes.{Arena, nodes_of, AreFamily, IsVisible, side_of}
-use Rattle.cow_arena.specs.Walk.{Slots, Tree, frame_in, frame_at}
+use Rattle.cow_arena.specs.Walk.{Slots, Tree, tree_with, frame_in, frame_at}
 use Rattle.cow_split.specs.Trees.{tree_of}
 use Rattle.cow_split.specs.Search.{reached_from}
 use Rattle.cow_split.specs.Exact.{IsExact, IsOnlyOf}
@@ -51,17 +51,22 @@ pub record IsFamilyOf (arena : Arena) (k h s : ℕ) : Type 0 where
   pub visible : IsVisible (nodes_of arena) k node
 
 -- Rows of h, the parent of the VMO's node k, went or moved into the list of s, its other child, since the rows and the pool
--- were the old ones. The tree is exact with some pages of k left out, and each other page that shows a frame is held by h.
+-- were the old ones, so that these rows are left. The tree is exact with some pages of k left out, and each other page that shows
+-- a frame is held by h.
+pub record AreLifted (arena : Arena) (old : Rows Row) (slots : Slots) (before after : Pool) (k h s : ℕ) (of : IsFamilyOf arena k h s) : Type 0 where
+  pub out : ℕ → ℕ → Bool
+  pub exact : IsExact (tree_with (nodes_of arena) arena.lists slots) out (is_taken after)
+  pub only : IsOnlyOf out k
+  pub shows : ShowsSame (tree_of arena old) (tree_with (nodes_of arena) arena.lists slots) out
+  pub bare : (p : ℕ) → slots of.node.list.0 p ≡ None
+  pub held : (p tag : ℕ) → p < of.node.count → out k p ≡ false →
+      frame_at (tree_with (nodes_of arena) arena.lists slots) k p ≡ Some tag → IsHeldBy (nodes_of arena) slots h of.node p
+  pub gives : GivesBack before after
+
+-- the same of the rows of the lists, whose frames tell their places
 pub record IsLifting (arena : Arena) (old new : Rows Row) (before after : Pool) (k h s : ℕ) : Type 0 where
   pub of : IsFamilyOf arena k h s
-  pub out : ℕ → ℕ → Bool
-  pub exact : IsExact (tree_of arena new) out (is_taken after)
-  pub only : IsOnlyOf out k
-  pub shows : ShowsSame (tree_of arena old) (tree_of arena new) out
-  pub bare : (p : ℕ) → slots_of new of.node.list.0 p ≡ None
-  pub held : (p tag : ℕ) → p < of.node.count → out k p ≡ false → frame_at (tree_of arena new) k p ≡ Some tag →
-      IsHeldBy (nodes_of arena) (slots_of new) h of.node p
-  pub gives : GivesBack before after
+  pub lifted : AreLifted arena old (slots_of new) before after k h s of
   pub linked : AreLinked old before → AreLinked new after
   pub spare : old.spare ≤ new.spare
   pub count : row_count new ≤ row_count old
