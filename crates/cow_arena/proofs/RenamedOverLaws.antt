@@ -1,11 +1,11 @@
 -- A leaf goes with its parent, and its sibling has the parent's list: the tree is the one in which the sibling has its own, with
 -- the two list numbers exchanged.
-use Rattle.std.proofs.Common.{◌≡◌, ◌≢◌, ℕ, Option, None, Some, inl, inr, refl, sym, ap, subst, ◌∙◌}
+use Rattle.std.proofs.Common.{◌≡◌, ◌≢◌, ◌⊎◌, ℕ, Option, None, Some, inl, inr, refl, sym, ap, subst, ◌∙◌}
 use Rattle.std.specs.Prelude.{IsSome, IsSomeAnd}
 use Rattle.std.specs.Option.{option_map}
 use Rattle.std.proofs.lemmas.Bool.{cases_eq}
 use Rattle.vm_base.specs.Entries.{with_key, without_key}
-use Rattle.vm_base.proofs.EntryLaws.{some_same, with_key-here, with_key-same, with_key-other, without_key-some, without_key-other}
+use Rattle.vm_base.proofs.EntryLaws.{some_same, with_key-here, with_key-same, with_key-other, with_key-cases, without_key-some, without_key-other}
 use Rattle.page_list.specs.declared.row.ListId.{ListId}
 use Rattle.page_list.specs.declared.row.Slot.{Slot}
 use Rattle.cow_arena.specs.declared.node.Node.{Node}
@@ -98,6 +98,19 @@ module _ (nodes : Nodes) (lists : ℕ) (rank : ℕ → ℕ) (f : IsForestBy node
   pub tree-over : (slots over : Slots) → AreExchanged slots over parent.list.0 sibling.list.0 →
       tree_with (spliced_over nodes k h s parent sibling) lists over ≡ renamed over_name (tree_with (spliced nodes k h s parent sibling) lists slots)
   tree-over slots over rows = λ i. tree_with (nodes-over i) lists (λ l p. rows l p i)
+
+  -- each node has its list, but the sibling has that of the parent
+  pub over-lists : (n : ℕ) (was now : Node) → nodes n ≡ Some was → spliced_over nodes k h s parent sibling n ≡ Some now →
+      (now.list ≡ was.list) ⊎ ((n ≡ s) × (now.list ≡ parent.list))
+  unfolding spliced_over
+  over-lists n was now at there = elim (with_key-cases others s (record (lifted parent sibling) { list = parent.list }) n now there) [
+    | inl here ↦ inr (here.0, ap (λ (x : Node). x.list) (sym here.1))
+    | inr other ↦
+        let below = without_key-some (without_key (relinked nodes parent.parent h s) h) k n now other.1 in
+        let beside = without_key-some (relinked nodes parent.parent h s) h n now below.1 in
+        let it = relinked-was nodes parent.parent h s n now beside.1 in
+        inl (it.2.list ∙ ap (λ (x : Node). x.list) (some_same (sym it.1 ∙ at)))
+  ]
 
   -- Rows still stand in lists of nodes alone, where the lists that go have none.
   pub over-listed : (slots : Slots) → ((p : ℕ) → slots node.list.0 p ≡ None) → ((p : ℕ) → slots sibling.list.0 p ≡ None) →

@@ -1,7 +1,8 @@
 -- A VMO's node goes, whose pages are all out of sight: alone, or with its parent, whose rows were lifted into the sibling.
-use Rattle.std.proofs.Common.{◌≡◌, ◌≢◌, ℕ, ◌+◌, ◌<◌, ◌≤◌, Bool, Option, None, Some, inl, inr, IsSome, IsSomeAnd}
+use Rattle.std.proofs.Common.{◌≡◌, ◌≢◌, ◌⊎◌, ℕ, ◌+◌, ◌<◌, ◌≤◌, Bool, Option, None, Some, inl, inr, IsSome, IsSomeAnd}
 use Rattle.std.proofs.Common.{refl, sym, ap, subst, ◌∙◌, arith}
 use Rattle.std.specs.Prelude.{is_none}
+use Rattle.std.specs.Option.{option_map}
 use Rattle.std.proofs.lemmas.Bool.{cases_eq}
 use Rattle.balanced_tree.specs.Rows.{Rows}
 use Rattle.vm_base.specs.Entries.{without_key}
@@ -12,90 +13,134 @@ use Rattle.frame_pool.specs.Pool.{Pool, is_taken}
 use Rattle.cow_arena.specs.declared.node.Node.{Node}
 use Rattle.cow_arena.specs.declared.node.NodeId.{NodeId}
 use Rattle.cow_arena.specs.Nodes.{Arena, Nodes, nodes_of, IsVisible, AreFamily, link_to, other_side, side_of, sibling_in}
-use Rattle.cow_arena.specs.Walk.{Tree, frame_at}
+use Rattle.cow_arena.specs.Walk.{Slots, Tree, tree_with, frame_at}
 use Rattle.cow_arena.specs.Forest.{IsForest, IsChild}
-use Rattle.cow_arena.specs.Changes.{spliced}
+use Rattle.cow_arena.specs.Changes.{spliced, spliced_over}
+use Rattle.cow_arena.specs.Renamed.{exchanged, renamed_node, renamed, IsExchange}
 use Rattle.cow_arena.specs.Counts.{visible_count}
 use Rattle.cow_arena.proofs.WalkLaws.{link_same}
 use Rattle.cow_arena.proofs.ReachLaws.{child-there}
+use Rattle.cow_arena.proofs.SpliceForestLaws.{spliced_by}
+use Rattle.cow_arena.proofs.RenamedLaws.{renamed-at, renamed-each, frame-renamed}
+use Rattle.cow_arena.proofs.RenamedOverLaws.{over-exchange, over-renamed_at, over-lists, tree-over}
+use Rattle.cow_split.proofs.RenamedExactLaws.{page-renamed, exact-renamed}
 use Rattle.cow_split.specs.Trees.{tree_of}
 use Rattle.cow_split.specs.Sight.{IsPage}
 use Rattle.cow_split.specs.Exact.{IsExact, IsOnlyOf, all_in_sight}
-use Rattle.cow_merge.specs.Ranges.{leaving_range, AreLinked, GivesBack, IsAllOut, HasLeftOut}
+use Rattle.cow_merge.specs.Ranges.{leaving_range, ShowsSame, AreLinked, GivesBack, IsAllOut, HasLeftOut}
 use Rattle.cow_merge.specs.Lifting.{IsFamilyOf}
-use Rattle.cow_merge.specs.Merging.{HasClosed}
+use Rattle.cow_merge.specs.HandingOver.{HasHandedOver}
+use Rattle.cow_merge.specs.Merging.{WasThere, HasListOfParent, HasClosed}
 use Rattle.cow_split.specs.Sight.{StaysVisible}
 use Rattle.cow_merge.proofs.CountLaws.{outside-other}
 use Rattle.cow_merge.proofs.SpliceLaws.{IsWithout, without-page, without-showed, without-stays, without-no_more, spliced-gone, spliced-parent_gone, spliced-without, exact-spliced, removed_root-without, exact-removed_root}
 use Rattle.cow_merge.proofs.RangeLaws.{inside-range}
 use Rattle.cow_merge.proofs.ShrinkLaws.{tree-now}
+use Rattle.cow_merge.proofs.LiftedLaws.{lifted-exact, lifted-shows}
 
 -- ---- all pages are out of sight
 
-module _ (arena : Arena) (rows late : Rows Row) (before after : Pool) (v : ℕ) (node : Node) (visible : IsVisible (nodes_of arena) v node)
-    (left : HasLeftOut arena rows late before after v node 0) where
-  abbrev out : ℕ → ℕ → Bool
-  out = leaving_range all_in_sight v 0 node.count
+out-only : (v : ℕ) (node : Node) → IsOnlyOf (leaving_range all_in_sight v 0 node.count) v
+out-only v node w q hidden = elim (cases_eq w v) [
+  | inl same ↦ same
+  | inr apart ↦ let seen = outside-other v 0 node.count w q apart in absurd (cc)
+]
 
-  out-only : IsOnlyOf out v
-  out-only w q hidden = elim (cases_eq w v) [
-    | inl same ↦ same
-    | inr apart ↦ let seen = outside-other v 0 node.count w q apart in absurd (cc)
-  ]
-
-  out-all : IsAllOut (tree_of arena late) out v
-  out-all q page =
-      inside-range all_in_sight v 0 node.count q (omega arith) (subst (λ (n : Node). q < n.count) (some_same (sym page.visible.at ∙ visible.at)) page.below)
+out-all : (arena : Arena) (slots : Slots) (v : ℕ) (node : Node) → IsVisible (nodes_of arena) v node →
+    IsAllOut (tree_with (nodes_of arena) arena.lists slots) (leaving_range all_in_sight v 0 node.count) v
+out-all arena slots v node visible q page =
+    inside-range all_in_sight v 0 node.count q (omega arith) (subst (λ (n : Node). q < n.count) (some_same (sym page.visible.at ∙ visible.at)) page.below)
 
 -- ---- the node goes
 
-module _ (arena new : Arena) (rows late : Rows Row) (before after : Pool) (v : ℕ) (nodes : Nodes) where
-  closed-by : nodes_of new ≡ nodes → new.lists ≡ arena.lists → visible_count new + 1 ≡ visible_count arena →
-      IsWithout (tree_of arena late) (record (tree_of arena late) { nodes = nodes }) v → nodes v ≡ None →
-      ((h : ℕ) → IsChild (nodes_of arena) h v → nodes h ≡ None) →
-      IsExact (record (tree_of arena late) { nodes = nodes }) all_in_sight (is_taken after) →
-      ((w q : ℕ) → IsPage (tree_of arena late) w q → w ≢ v → frame_at (tree_of arena late) w q ≡ frame_at (tree_of arena rows) w q) →
-      GivesBack before after → (AreLinked rows before → AreLinked late after) → rows.spare ≤ late.spare → row_count late ≤ row_count rows →
-      HasClosed arena new rows late before after v
-  closed-by is lists shown without gone parent_gone exact shows gives linked spare count =
-      let t : Tree = tree_of arena late in
-      let u : Tree = record (tree_of arena late) { nodes = nodes } in
-      let now = tree-now arena new late nodes is lists in
-      record {
-        exact = subst (λ (x : Tree). IsExact x all_in_sight (is_taken after)) (sym now) exact;
-        gone = ap (λ f. f v) is ∙ gone;
-        stays = subst
-            (λ (f : Nodes). (w : ℕ) (node : Node) → w ≢ v → IsVisible (nodes_of arena) w node → StaysVisible (nodes_of arena) f w node)
-            (sym is)
-            (without-stays t u v without);
-        no_more = subst
-            (λ (f : Nodes). (w : ℕ) (node : Node) → IsVisible f w node → StaysVisible f (nodes_of arena) w node)
-            (sym is)
-            (without-no_more t u v without);
-        came = λ k node at.
-            let was = without.came k node (ap (λ f. f k) (sym is) ∙ at) in
-            let one : was.3.now ≡ node = some_same (sym was.3.at ∙ (ap (λ f. f k) (sym is) ∙ at)) in
-            record {
-              node = was.0;
-              at = was.1;
-              koid = sym (ap (λ (n : Node). n.koid) one) ∙ was.3.koid;
-              list = sym (ap (λ (n : Node). n.list) one) ∙ was.3.list;
-            };
-        parent_gone = λ h child. ap (λ f. f h) is ∙ parent_gone h child;
-        lists = lists;
-        visible = omega (arith, shown);
-        shows = subst (λ (x : Tree). (w q : ℕ) → IsPage x w q → frame_at x w q ≡ frame_at (tree_of arena rows) w q) (sym now)
-            (λ w q page.
-            let was = without-page t u v without w q page in
-            without-showed t u v without w q page ∙ shows w q was.1 was.0);
-        pool = gives;
-        linked = linked;
-        spare = spare;
-        fewer = count;
-      }
+-- The visible node v is gone from the tree, and its parent. Each other VMO has its node, and shows what it showed.
+record IsGoneFrom (old new : Tree) (in_use : ℕ → Bool) (v : ℕ) : Type 0 where
+  exact : IsExact new all_in_sight in_use
+  gone : new.nodes v ≡ None
+  stays : (w : ℕ) (node : Node) → w ≢ v → IsVisible old.nodes w node → StaysVisible old.nodes new.nodes w node
+  no_more : (w : ℕ) (node : Node) → IsVisible new.nodes w node → StaysVisible new.nodes old.nodes w node
+  came : (k : ℕ) (node : Node) → new.nodes k ≡ Some node → WasThere old.nodes k node
+  parent_gone : (h : ℕ) → IsChild old.nodes h v → new.nodes h ≡ None
+  shows : (w q : ℕ) → IsPage new w q → frame_at new w q ≡ frame_at old w q
 
-page-before : (arena : Arena) (rows late : Rows Row) (w q : ℕ) → IsPage (tree_of arena late) w q → IsPage (tree_of arena rows) w q
-page-before arena rows late w q page = record { node = page.node; visible = page.visible; below = page.below }
+gone-by : (arena : Arena) (rows : Rows Row) (slots : Slots) (nodes : Nodes) (in_use : ℕ → Bool) (v : ℕ) →
+    IsWithout (tree_with (nodes_of arena) arena.lists slots) (tree_with nodes arena.lists slots) v → nodes v ≡ None →
+    ((h : ℕ) → IsChild (nodes_of arena) h v → nodes h ≡ None) → IsExact (tree_with nodes arena.lists slots) all_in_sight in_use →
+    ((w q : ℕ) → IsPage (tree_with (nodes_of arena) arena.lists slots) w q → w ≢ v →
+    frame_at (tree_with (nodes_of arena) arena.lists slots) w q ≡ frame_at (tree_of arena rows) w q) →
+    IsGoneFrom (tree_of arena rows) (tree_with nodes arena.lists slots) in_use v
+gone-by arena rows slots nodes in_use v without gone parent_gone exact shows =
+    let t : Tree = tree_with (nodes_of arena) arena.lists slots in
+    let u : Tree = tree_with nodes arena.lists slots in
+    record {
+      exact = exact;
+      gone = gone;
+      stays = without-stays t u v without;
+      no_more = without-no_more t u v without;
+      came = λ k node at.
+          let was = without.came k node at in
+          let one : was.3.now ≡ node = some_same (sym was.3.at ∙ at) in
+          record { node = was.0; at = was.1; koid = sym (ap (λ (n : Node). n.koid) one) ∙ was.3.koid };
+      parent_gone = parent_gone;
+      shows = λ w q page.
+          let was = without-page t u v without w q page in
+          without-showed t u v without w q page ∙ shows w q was.1 was.0;
+    }
+
+-- it is so under other list numbers
+gone-renamed : (name : ℕ → ℕ) (old new : Tree) (in_use : ℕ → Bool) (v : ℕ) → IsExchange name new.lists → IsGoneFrom old new in_use v →
+    IsGoneFrom old (renamed name new) in_use v
+gone-renamed name old new in_use v exchange was = record {
+  exact = exact-renamed name new exchange all_in_sight in_use was.exact;
+  gone = ap (option_map (renamed_node name)) was.gone;
+  stays = λ w node apart shown.
+      let it = was.stays w node apart shown in
+      record { after = renamed_node name it.after; at = renamed-at name new.nodes w it.after it.at; koid = it.koid; count = it.count };
+  no_more = λ w node shown. renamed-each name new.nodes
+      (λ w node. IsSome node.koid → StaysVisible (renamed name new).nodes old.nodes w node)
+      (λ w node at koid. let it = was.no_more w node (record { at = at; koid = koid }) in record { after = it.after; at = it.at; koid = it.koid; count = it.count })
+      w node shown.at shown.koid;
+  came = renamed-each name new.nodes (λ k node. WasThere old.nodes k node)
+      (λ k node at. let it = was.came k node at in record { node = it.node; at = it.at; koid = it.koid });
+  parent_gone = λ h child. ap (option_map (renamed_node name)) (was.parent_gone h child);
+  shows = λ w q page.
+      frame-renamed name exchange.twice new was.exact.forest w q ∙ was.shows w q (page-renamed name new w q page);
+}
+
+-- what the arena and the rows are then
+closed-by : (arena new : Arena) (rows late : Rows Row) (before after : Pool) (v : ℕ) (u : Tree) → tree_of new late ≡ u →
+    IsGoneFrom (tree_of arena rows) u (is_taken after) v →
+    ((k : ℕ) (was now : Node) → nodes_of arena k ≡ Some was → u.nodes k ≡ Some now → (now.list ≡ was.list) ⊎ HasListOfParent (nodes_of arena) v k now) →
+    new.lists ≡ arena.lists → visible_count new + 1 ≡ visible_count arena → GivesBack before after → (AreLinked rows before → AreLinked late after) →
+    rows.spare ≤ late.spare → row_count late ≤ row_count rows → HasClosed arena new rows late before after v
+closed-by arena new rows late before after v u is was own_lists lists shown gives linked spare count =
+    let it = subst (λ (x : Tree). IsGoneFrom (tree_of arena rows) x (is_taken after) v) (sym is) was in
+    record {
+      exact = it.exact;
+      gone = it.gone;
+      stays = it.stays;
+      no_more = it.no_more;
+      came = it.came;
+      own_lists = λ k was now at there. own_lists k was now at (ap (λ (x : Tree). x.nodes k) (sym is) ∙ there);
+      parent_gone = it.parent_gone;
+      lists = lists;
+      visible = omega (arith, shown);
+      shows = it.shows;
+      pool = gives;
+      linked = linked;
+      spare = spare;
+      fewer = count;
+    }
+
+-- each node that is left has its list
+kept-list : (t : Tree) (nodes : Nodes) (v : ℕ) → IsWithout t (record t { nodes = nodes }) v → (k : ℕ) (was now : Node) → t.nodes k ≡ Some was →
+    nodes k ≡ Some now → (now.list ≡ was.list) ⊎ HasListOfParent t.nodes v k now
+kept-list t nodes v without k was now at there =
+    let it = without.came k now there in
+    inl (ap (λ (n : Node). n.list) (some_same (sym there ∙ it.3.at)) ∙ (it.3.list ∙ ap (λ (n : Node). n.list) (some_same (sym it.1 ∙ at))))
+
+page-before : (arena : Arena) (rows : Rows Row) (slots : Slots) (w q : ℕ) → IsPage (tree_with (nodes_of arena) arena.lists slots) w q → IsPage (tree_of arena rows) w q
+page-before arena rows slots w q page = record { node = page.node; visible = page.visible; below = page.below }
 
 -- the node has no parent
 pub closed-root : (arena new : Arena) (rows late : Rows Row) (before after : Pool) (v : ℕ) (node : Node) → IsVisible (nodes_of arena) v node →
@@ -106,40 +151,91 @@ closed-root arena new rows late before after v node visible root left is lists s
     let f = left.exact.forest in
     let g : IsForest (without_key (nodes_of arena) v) arena.lists =
     subst (λ l. IsForest (without_key (nodes_of arena) v) l) lists (subst (λ n. IsForest n new.lists) is forest) in
-    closed-by arena new rows late before after v (without_key (nodes_of arena) v) is lists shown
-    (removed_root-without t f v node visible g)
+    let without = removed_root-without t f v node visible g in
+    closed-by arena new rows late before after v (record t { nodes = without_key (nodes_of arena) v }) (tree-now arena new late (without_key (nodes_of arena) v) is lists)
+    (gone-by arena rows (slots_of late) (without_key (nodes_of arena) v) (is_taken after) v without
     (without_key-same (nodes_of arena) v)
     (λ h child. let up : node.parent ≡ link_to h = ap (λ (n : Node). n.parent) (some_same (sym visible.at ∙ child.at)) ∙ child.parent in absurd (cc))
-    (exact-removed_root t f v node visible g (out arena rows late before after v node visible left) (is_taken after)
-    (λ p. left.bare p (omega arith)) left.exact
-    (out-only arena rows late before after v node visible left) (out-all arena rows late before after v node visible left))
-    (λ w q page apart. left.shows w q (page-before arena rows late w q page) (outside-other v 0 node.count w q apart))
-    left.gives left.linked left.spare left.count
+    (exact-removed_root t f v node visible g (leaving_range all_in_sight v 0 node.count) (is_taken after)
+    (λ p. left.bare p (omega arith)) left.exact (out-only v node) (out-all arena (slots_of late) v node visible))
+    (λ w q page apart. left.shows w q (page-before arena rows (slots_of late) w q page) (outside-other v 0 node.count w q apart)))
+    (kept-list t (without_key (nodes_of arena) v) v without) lists shown left.gives left.linked left.spare left.count
 
--- the node and its parent go
-module _ (arena new : Arena) (rows late : Rows Row) (before after : Pool) (v h s : ℕ) (node parent sibling : Node)
+-- The node and its parent go: all its pages are out of sight in the tree with these slots, in which neither has rows.
+module _ (arena : Arena) (rows : Rows Row) (slots : Slots) (in_use : ℕ → Bool) (v h s : ℕ) (node parent sibling : Node)
     (visible : IsVisible (nodes_of arena) v node) (family : AreFamily (nodes_of arena) v h s node parent sibling)
-    (left : HasLeftOut arena rows late before after v node 0) where
-  pub closed-spliced : ((p : ℕ) → slots_of late parent.list.0 p ≡ None) → nodes_of new ≡ spliced (nodes_of arena) v h s parent sibling →
-      new.lists ≡ arena.lists → visible_count new + 1 ≡ visible_count arena → IsForest (nodes_of new) new.lists →
-      HasClosed arena new rows late before after v
-  closed-spliced empty is lists shown forest =
-      let t : Tree = tree_of arena late in
-      let f = left.exact.forest in
-      let g : IsForest (spliced (nodes_of arena) v h s parent sibling) arena.lists =
-      subst (λ l. IsForest (spliced (nodes_of arena) v h s parent sibling) l) lists (subst (λ n. IsForest n new.lists) is forest) in
-      closed-by arena new rows late before after v (spliced (nodes_of arena) v h s parent sibling) is lists shown
-      (spliced-without t f v h s node parent sibling family visible empty g)
-      (spliced-gone (nodes_of arena) arena.lists f v h s node parent sibling family)
+    (exact : IsExact (tree_with (nodes_of arena) arena.lists slots) (leaving_range all_in_sight v 0 node.count) in_use)
+    (bare : (p : ℕ) → slots node.list.0 p ≡ None) (empty : (p : ℕ) → slots parent.list.0 p ≡ None)
+    (shows : ShowsSame (tree_of arena rows) (tree_with (nodes_of arena) arena.lists slots) (leaving_range all_in_sight v 0 node.count)) where
+  abbrev t : Tree
+  t = tree_with (nodes_of arena) arena.lists slots
+
+  abbrev after : Nodes
+  after = spliced (nodes_of arena) v h s parent sibling
+
+  spliced-forest : IsForest after arena.lists
+  spliced-forest = record {
+    rank = exact.forest.rank;
+    by = spliced_by (nodes_of arena) arena.lists exact.forest.rank exact.forest.by v h s node parent sibling family visible.koid;
+  }
+
+  spliced-whole : IsWithout t (record t { nodes = after }) v
+  spliced-whole = spliced-without t exact.forest v h s node parent sibling family visible empty spliced-forest
+
+  gone-spliced : IsGoneFrom (tree_of arena rows) (tree_with after arena.lists slots) in_use v
+  gone-spliced = gone-by arena rows slots after in_use v spliced-whole
+      (spliced-gone (nodes_of arena) arena.lists exact.forest v h s node parent sibling family)
       (λ above child.
       let up : node.parent ≡ link_to above = ap (λ (n : Node). n.parent) (some_same (sym visible.at ∙ child.at)) ∙ child.parent in
-      ap (spliced (nodes_of arena) v h s parent sibling) (link_same (sym up ∙ family.parent_is))
-      ∙ spliced-parent_gone (nodes_of arena) arena.lists f v h s node parent sibling family)
-      (exact-spliced t f v h s node parent sibling family visible empty g (out arena rows late before after v node visible left) (is_taken after)
-      (λ p. left.bare p (omega arith)) left.exact
-      (out-only arena rows late before after v node visible left) (out-all arena rows late before after v node visible left))
-      (λ w q page apart. left.shows w q (page-before arena rows late w q page) (outside-other v 0 node.count w q apart))
-      left.gives left.linked left.spare left.count
+      ap after (link_same (sym up ∙ family.parent_is)) ∙ spliced-parent_gone (nodes_of arena) arena.lists exact.forest v h s node parent sibling family)
+      (exact-spliced t exact.forest v h s node parent sibling family visible empty spliced-forest (leaving_range all_in_sight v 0 node.count) in_use bare exact
+      (out-only v node) (out-all arena slots v node visible))
+      (λ w q page apart. shows w q (page-before arena rows slots w q page) (outside-other v 0 node.count w q apart))
+
+-- the sibling keeps its list
+pub closed-spliced : (arena new : Arena) (rows late : Rows Row) (before after : Pool) (v h s : ℕ) (node parent sibling : Node)
+    (visible : IsVisible (nodes_of arena) v node) (family : AreFamily (nodes_of arena) v h s node parent sibling)
+    (left : HasLeftOut arena rows late before after v node 0) → ((p : ℕ) → slots_of late parent.list.0 p ≡ None) →
+    nodes_of new ≡ spliced (nodes_of arena) v h s parent sibling → new.lists ≡ arena.lists → visible_count new + 1 ≡ visible_count arena →
+    HasClosed arena new rows late before after v
+closed-spliced arena new rows late before after v h s node parent sibling visible family left empty is lists shown =
+    let bare : (p : ℕ) → slots_of late node.list.0 p ≡ None = λ p. left.bare p (omega arith) in
+    closed-by arena new rows late before after v (record (tree_of arena late) { nodes = spliced (nodes_of arena) v h s parent sibling })
+    (tree-now arena new late (spliced (nodes_of arena) v h s parent sibling) is lists)
+    (gone-spliced arena rows (slots_of late) (is_taken after) v h s node parent sibling visible family left.exact bare empty left.shows)
+    (kept-list (tree_of arena late) (spliced (nodes_of arena) v h s parent sibling) v
+    (spliced-whole arena rows (slots_of late) (is_taken after) v h s node parent sibling visible family left.exact bare empty left.shows))
+    lists shown left.gives left.linked left.spare left.count
+
+-- the sibling has the list of the parent
+pub closed-over : (arena new : Arena) (rows late : Rows Row) (before after : Pool) (v h s : ℕ) (it : HasHandedOver arena rows late before after v h s) →
+    nodes_of new ≡ spliced_over (nodes_of arena) v h s it.of.parent it.of.sibling → new.lists ≡ arena.lists →
+    visible_count new + 1 ≡ visible_count arena → HasClosed arena new rows late before after v
+closed-over arena new rows late before after v h s it is lists shown =
+    let f = it.lifted.exact.forest in
+    let name = exchanged it.of.parent.list.0 it.of.sibling.list.0 in
+    closed-by arena new rows late before after v
+    (renamed name (tree_with (spliced (nodes_of arena) v h s it.of.parent it.of.sibling) arena.lists it.slots))
+    (tree-now arena new late (spliced_over (nodes_of arena) v h s it.of.parent it.of.sibling) is lists
+    ∙ tree-over (nodes_of arena) arena.lists f.rank f.by v h s it.of.node it.of.parent it.of.sibling it.of.family it.slots (slots_of late) it.rows)
+    (gone-renamed name (tree_of arena rows) (tree_with (spliced (nodes_of arena) v h s it.of.parent it.of.sibling) arena.lists it.slots) (is_taken after) v
+    (over-exchange (nodes_of arena) arena.lists f.rank f.by v h s it.of.node it.of.parent it.of.sibling it.of.family)
+    (gone-spliced arena rows it.slots (is_taken after) v h s it.of.node it.of.parent it.of.sibling it.of.visible it.of.family
+    (lifted-exact arena rows it.slots before after v h s it.of it.lifted it.empty) it.lifted.bare it.empty
+    (lifted-shows arena rows it.slots before after v h s it.of it.lifted it.empty)))
+    (λ k was now at there. elim (over-lists (nodes_of arena) arena.lists f.rank f.by v h s it.of.node it.of.parent it.of.sibling it.of.family k was now at
+    (over-renamed_at (nodes_of arena) arena.lists f.rank f.by v h s it.of.node it.of.parent it.of.sibling it.of.family k ∙ there)) [
+      | inl same ↦ inl same
+      | inr own ↦ inr (record {
+        h = h;
+        child = record { node = it.of.node; at = it.of.family.at; parent = it.of.family.parent_is };
+        parent = it.of.parent;
+        parent_at = it.of.family.parent_at;
+        beside = it.of.family.sibling_is ∙ ap link_to (sym own.0);
+        list = own.1;
+      })
+    ])
+    lists shown it.lifted.gives it.linked it.spare it.count
 
 -- ---- what the code asks on the way
 

@@ -5,3 +5,5 @@ pub mod ShrinkLaws
 pub mod LiftLaws
 pub mod LiftedLaws
 pub mod CloseLaws
+pub mod HandLaws
+pub mod SeenLaws

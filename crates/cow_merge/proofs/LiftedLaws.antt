@@ -39,27 +39,27 @@ use Rattle.cow_split.proofs.CutLaws.{exact-cut, cut-shows}
 use Rattle.frame_pool.specs.declared.frame_pool.Backlink.{Backlink}
 use Rattle.frame_pool.specs.Pool.{Pool, taken_frames, is_taken}
 use Rattle.cow_merge.specs.Ranges.{leaving_range, ShowsSame, AreLinked, GivesBack, HasLeftOut, IsHeldBy, IsSparing}
-use Rattle.cow_merge.specs.Lifting.{IsAside, AreLifted, IsLifting, IsFamilyOf, SeesRow, IsMoved, TellsSeen, HasGone, HasMoved, HasSettled, bit_on, has_frame}
+use Rattle.cow_merge.specs.Lifting.{IsAside, AreLifted, IsLifting, IsBefore, IsFamilyOf, SeesRow, IsMoved, TellsSeen, HasGone, HasMoved, HasSettled, bit_on, has_frame}
 use Rattle.cow_merge.proofs.RangeLaws.{gives-then, gives-same, linked-part, range-exact, range-shows}
 use Rattle.cow_merge.proofs.SpliceLaws.{family-apart}
 use Rattle.cow_merge.proofs.LiftLaws.{page-over, lists-apart, leaf-step, hidden, dropped-shows, dropped-exact, moved-shows, moved-exact}
 
 -- a slot that has a frame, by the test
-has-frame : (t : ℕ) (row : Slot) → frame_in row ≡ Some t → has_frame t row ≡ true
+pub has-frame : (t : ℕ) (row : Slot) → frame_in row ≡ Some t → has_frame t row ≡ true
 unfolding passes
 has-frame t slot.Zero e = absurd (cc)
 has-frame t (slot.Frame tag left right) e = eq-eqb t tag.0 (sym (some_same e))
 
-of-has-frame : (t : ℕ) (row : Slot) → has_frame t row ≡ true → frame_in row ≡ Some t
+pub of-has-frame : (t : ℕ) (row : Slot) → has_frame t row ≡ true → frame_in row ≡ Some t
 unfolding passes
 of-has-frame t slot.Zero e = absurd (cc)
 of-has-frame t (slot.Frame tag left right) e = ap Some (sym (eqb_is t tag.0 e))
 
-link-same : (a b x y : ℕ) → a ≡ b → x ≡ y → ◌≡◌ {A = Backlink} (record { list = a; page = x }) (record { list = b; page = y })
+pub link-same : (a b x y : ℕ) → a ≡ b → x ≡ y → ◌≡◌ {A = Backlink} (record { list = a; page = x }) (record { list = b; page = y })
 link-same a b x y e f i = record { list = e i; page = f i }
 
 -- a row that is there was there, if its place is not the one that lost its row
-was-there : (slots : Slots) (l q m r : ℕ) (row : Slot) → with_pair slots l q None m r ≡ Some row →
+pub was-there : (slots : Slots) (l q m r : ℕ) (row : Slot) → with_pair slots l q None m r ≡ Some row →
     ((m ≡ l) × (r ≡ q) → ⊥) × (slots m r ≡ Some row)
 was-there slots l q m r row e = elim (cases_place l q m r) [
   | inl here ↦ absurd (
@@ -77,14 +77,30 @@ rows-gone old new l q p e =
 pub rows-beside : (old new : Slots) (l m r p : ℕ) (row : Option Slot) → new ≡ with_pair old m r row → (l ≡ m → ⊥) → new l p ≡ old l p
 rows-beside old new l m r p row e apart = ap (λ (x : Slots). x l p) e ∙ with_pair-other old m r row l p (λ list _. apart list)
 
--- no row is left below one that was next, and went
-pub passed-more : (old new : ℕ → Option Slot) (from page : ℕ) → ((p : ℕ) → p < from → old p ≡ None) → IsNext old from (Some page) →
-    ((p : ℕ) → new p ≡ (if p == page then None else old p)) → (p : ℕ) → p < page → new p ≡ None
-passed-more old new from page below next gone p less =
+-- no row is left from `start` to one that was next, and went
+pub passed-more : (old new : ℕ → Option Slot) (start from page : ℕ) → ((p : ℕ) → start ≤ p → p < from → old p ≡ None) → IsNext old from (Some page) →
+    ((p : ℕ) → new p ≡ (if p == page then None else old p)) → (p : ℕ) → start ≤ p → p < page → new p ≡ None
+passed-more old new start from page below next gone p least less =
     gone p ∙ (cond-false _ _ _ (ne_eqb p page (λ same. absurd (omega arith))) ∙ elim (cases_lt p from) [
-      | inl before ↦ below p before
+      | inl before ↦ below p least before
       | inr after ↦ (next.least page refl).2 p after less
     ])
+
+-- no row is below an end that the next one is not below
+pub none-below : (rows : ℕ → Option Slot) (from page : ℕ) (to : Option ℕ) → IsNext rows from (Some page) → ((p : ℕ) → page ≤ p → IsBefore to p → ⊥) →
+    (p : ℕ) → from ≤ p → IsBefore to p → rows p ≡ None
+none-below rows from page to next past p least less = elim (cases_lt p page) [
+  | inl before ↦ (next.least page refl).2 p least before
+  | inr after ↦ absurd (past p after less)
+]
+
+-- and a row that is left was there
+pub left-was : (old new : ℕ → Option Slot) (page : ℕ) → ((p : ℕ) → new p ≡ (if p == page then None else old p)) → (p : ℕ) (row : Slot) →
+    new p ≡ Some row → old p ≡ Some row
+left-was old new page gone p row at = elim (cases_eq p page) [
+  | inl same ↦ absurd (let none = gone p ∙ cond-true _ _ _ (eq-eqb p page same) in cc)
+  | inr apart ↦ sym (gone p ∙ cond-false _ _ _ (ne_eqb p page apart)) ∙ at
+]
 
 -- how far a walk over the rows has to go: twice as far as the numbers go, and one more where it stands at a row
 abbrev pub still_ahead : (from : ℕ) → Option Slot → ℕ
@@ -124,7 +140,7 @@ split-some side.Left tag left false e = (slot.Frame tag true false, refl, refl, 
 split-some side.Right tag true right e = absurd (cc)
 split-some side.Right tag false right e = (slot.Frame tag false true, refl, refl, refl)
 
-denies-on : (t : Tree) (out : ℕ → ℕ → Bool) (h q : ℕ) (left right : Bool) (from : Side) → AreSplitBits t out h q left right →
+pub denies-on : (t : Tree) (out : ℕ → ℕ → Bool) (h q : ℕ) (left right : Bool) (from : Side) → AreSplitBits t out h q left right →
     Denies (bit_on from left right) (IsSeenFrom t out from h q)
 denies-on t out h q left right side.Left bits = bits.left_bit
 denies-on t out h q left right side.Right bits = bits.right_bit
@@ -163,7 +179,7 @@ left_out-here : (out : ℕ → ℕ → Bool) (v p : ℕ) → leaving_out out v p
 unfolding leaving_out
 left_out-here out v p = ap (λ (b : Bool). b || out v p) (and_from (v == v) (p == p) (eqb_same v) (eqb_same p))
 
-without-none : (in_use : ℕ → Bool) (tag : ℕ) → in_use tag ≡ without_frame in_use None tag
+pub without-none : (in_use : ℕ → Bool) (tag : ℕ) → in_use tag ≡ without_frame in_use None tag
 unfolding without_frame
 without-none in_use tag = refl
 
@@ -545,7 +561,7 @@ lifting-end arena old new before after k h s was empty = record {
 }
 
 -- the three lists are three
-family-lists : (arena : Arena) (k h s : ℕ) → IsForest (nodes_of arena) arena.lists → (it : IsFamilyOf arena k h s) →
+pub family-lists : (arena : Arena) (k h s : ℕ) → IsForest (nodes_of arena) arena.lists → (it : IsFamilyOf arena k h s) →
     (it.node.list.0 ≢ it.parent.list.0) × (it.node.list.0 ≢ it.sibling.list.0) × (it.parent.list.0 ≢ it.sibling.list.0)
 family-lists arena k h s f it =
     let apart = family-apart (nodes_of arena) arena.lists f k h s it.node it.parent it.sibling it.family in (
@@ -582,7 +598,7 @@ settle-sees slots parent s node q row seen tells bits on = by_row row refl
     by_row (slot.Frame tag left right) e = bits tag left right e (told _ _ (tells.frame tag left right e) on)
 
 -- what a row with a frame says of the sibling's side, and a zero row of what the sibling sees
-abbrev IsUnseen : Slots → (parent : Node) → (k : ℕ) → (sibling : Node) → (q : ℕ) → Slot → Type 0
+abbrev pub IsUnseen : Slots → (parent : Node) → (k : ℕ) → (sibling : Node) → (q : ℕ) → Slot → Type 0
 IsUnseen slots parent k sibling q row =
     ((tag : Tag) (left right : Bool) → row ≡ slot.Frame tag left right → bit_on (other_side (side_of parent k)) left right ≡ true)
     × (row ≡ slot.Zero → SeesRow slots sibling q → ⊥)

@@ -833,6 +833,15 @@ up-less nodes lists f k above at = go above.parent refl
     go None is = let some = depth-some nodes lists f k above at in let none = up-none nodes lists in omega arith
     go (Some parent) is = let more = depth-up nodes lists f k parent.0 above at is in omega arith
 
+-- a node from which fewer are further up has another list
+pub up-list : (nodes : Nodes) (lists : ℕ) (f : IsForest nodes lists) (j k : ℕ) (start above : Node) → nodes j ≡ Some start → nodes k ≡ Some above →
+    nodes_up nodes lists above.parent < nodes_up nodes lists start.parent → start.list.0 ≢ above.list.0
+up-list nodes lists f j k start above at above_at less same =
+    let one = f.by.own j k start above at above_at same in
+    let up : nodes_up nodes lists start.parent ≡ nodes_up nodes lists above.parent =
+    ap (λ (n : Node). nodes_up nodes lists n.parent) (some_same (sym at ∙ (ap nodes one ∙ above_at))) in
+    absurd (omega arith)
+
 -- ---- what the code asks on the way
 
 module _ (arena : Arena) (old new : Rows Row) (before after : Pool) (v first : ℕ) (spared : Option NodeId) (above : Node) (shift to upto : ℕ)
@@ -896,3 +905,11 @@ module _ (arena : Arena) (v : ℕ) (hidden : NodeId) where
     above-fits above some at above_at =
         let below = f.by.below hidden.0 v node at (above-parent node some at) in
         subst (λ (n : Node). node.first + node.seen ≤ n.count) (some_same (sym below.at ∙ above_at)) below.window
+
+    -- the two lists are two
+    pub above-list : (above : Node) → IsChildOf → nodes_of arena v ≡ Some node → nodes_of arena hidden.0 ≡ Some above → above.list.0 ≢ node.list.0
+    above-list above some at above_at same =
+        let below = f.by.below hidden.0 v node at (above-parent node some at) in
+        let deeper = below.deeper in
+        let one = ap f.rank (f.by.own hidden.0 v above node above_at at same) in
+        absurd (omega arith)

@@ -1,3 +1,4 @@
 pub mod Ranges
 pub mod Lifting
+pub mod HandingOver
 pub mod Merging

@@ -1,5 +1,5 @@
 -- The rows of a hidden node, one child of which goes: they go too, or move into the list of its other child.
-use Rattle.std.specs.Prelude.{◌≡◌, ◌↔◌, ℕ, ◌+◌, ◌-◌, ◌<◌, ◌≤◌, ◌==◌, Bool, true, false, not, if◌then◌else◌, None, Some, IsSome, IsTrue}
+use Rattle.std.specs.Prelude.{◌≡◌, ◌↔◌, ℕ, ◌+◌, ◌-◌, ◌<◌, ◌≤◌, ◌==◌, Bool, true, false, not, if◌then◌else◌, Option, None, Some, IsSome, IfSome, IsTrue}
 use Rattle.balanced_tree.specs.Pairs.{with_pair}
 use Rattle.balanced_tree.specs.Rows.{Rows}
 use Rattle.vm_base.specs.Entries.{passes}
@@ -70,6 +70,10 @@ pub record IsLifting (arena : Arena) (old new : Rows Row) (before after : Pool) 
   pub linked : AreLinked old before → AreLinked new after
   pub spare : old.spare ≤ new.spare
   pub count : row_count new ≤ row_count old
+
+-- the page is below this one, if it is one
+abbrev pub IsBefore : Option ℕ → ℕ → Type 0
+IsBefore to p = IfSome to (λ (end : ℕ). p < end)
 
 -- the bit of this side
 abbrev pub bit_on : Side → (left right : Bool) → Bool

@@ -1,18 +1,18 @@
 -- What it is to shrink a VMO's node, and to close one.
-use Rattle.std.specs.Prelude.{◌≡◌, ◌≢◌, ℕ, ◌≤◌, suc, min, None, Some}
+use Rattle.std.specs.Prelude.{◌≡◌, ◌≢◌, ◌⊎◌, ℕ, ◌≤◌, suc, min, None, Some}
 use Rattle.balanced_tree.specs.Rows.{Rows}
 use Rattle.page_list.specs.declared.row.Row.{Row}
 use Rattle.page_list.specs.Lists.{row_count}
 use Rattle.vm_base.specs.Entries.{with_key}
 use Rattle.frame_pool.specs.Pool.{Pool, is_taken}
 use Rattle.cow_arena.specs.declared.node.Node.{Node}
-use Rattle.cow_arena.specs.Nodes.{Arena, nodes_of, IsVisible}
+use Rattle.cow_arena.specs.Nodes.{Arena, Nodes, nodes_of, IsVisible, link_to, sibling_in}
 use Rattle.cow_arena.specs.Forest.{IsChild}
 use Rattle.cow_arena.specs.Changes.{with_window}
 use Rattle.cow_arena.specs.Counts.{hidden_count, visible_count}
 use Rattle.cow_arena.specs.Walk.{frame_at}
 use Rattle.cow_split.specs.Trees.{tree_of}
-use Rattle.cow_split.specs.Sight.{IsPage, StaysVisible, CameFrom}
+use Rattle.cow_split.specs.Sight.{IsPage, StaysVisible}
 use Rattle.cow_split.specs.Exact.{IsExact, all_in_sight}
 use Rattle.cow_merge.specs.Ranges.{GivesBack, AreLinked}
 
@@ -41,13 +41,31 @@ pub record HasShrunk (old new : Arena) (rows rows_after : Rows Row) (before afte
   pub spare : rows.spare ≤ rows_after.spare
   pub fewer : row_count rows_after ≤ row_count rows
 
--- The visible node v is gone, and its parent. Each other VMO has its node, and shows what it showed.
+-- node j was there, with the koid that it has now
+pub record WasThere (old : Nodes) (j : ℕ) (now : Node) : Type 0 where
+  pub node : Node
+  pub at : old j ≡ Some node
+  pub koid : now.koid ≡ node.koid
+
+-- node j was the other child of the parent of node v, whose list it has now
+pub record HasListOfParent (old : Nodes) (v j : ℕ) (now : Node) : Type 0 where
+  pub h : ℕ
+  pub child : IsChild old h v
+  pub parent : Node
+  pub parent_at : old h ≡ Some parent
+  pub beside : sibling_in old v ≡ link_to j
+  pub list : now.list ≡ parent.list
+
+-- The visible node v is gone, and its parent. Each other VMO has its node, and shows what it showed. Each node has the list that
+-- it had, but the sibling may have that of the parent.
 pub record HasClosed (old new : Arena) (rows rows_after : Rows Row) (before after : Pool) (v : ℕ) : Type 0 where
   pub exact : IsExact (tree_of new rows_after) all_in_sight (is_taken after)
   pub gone : nodes_of new v ≡ None
   pub stays : (w : ℕ) (node : Node) → w ≢ v → IsVisible (nodes_of old) w node → StaysVisible (nodes_of old) (nodes_of new) w node
   pub no_more : (w : ℕ) (node : Node) → IsVisible (nodes_of new) w node → StaysVisible (nodes_of new) (nodes_of old) w node
-  pub came : (k : ℕ) (node : Node) → nodes_of new k ≡ Some node → CameFrom (nodes_of old) k node
+  pub came : (k : ℕ) (node : Node) → nodes_of new k ≡ Some node → WasThere (nodes_of old) k node
+  pub own_lists : (k : ℕ) (was now : Node) → nodes_of old k ≡ Some was → nodes_of new k ≡ Some now →
+      (now.list ≡ was.list) ⊎ HasListOfParent (nodes_of old) v k now
   pub parent_gone : (h : ℕ) → IsChild (nodes_of old) h v → nodes_of new h ≡ None
   pub lists : new.lists ≡ old.lists
   pub visible : suc (visible_count new) ≡ visible_count old

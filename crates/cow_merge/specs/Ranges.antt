@@ -1,5 +1,5 @@
 -- A range of pages of one visible node that are left out of sight, and what leaving them out changes.
-use Rattle.std.specs.Prelude.{◌≡◌, ◌⊎◌, ℕ, ◌+◌, ◌<◌, ◌≤◌, Bool, true, false, ◌&&◌, ◌||◌, ◌==◌, nat_le, nat_lt, Option, None, Some, IsSome}
+use Rattle.std.specs.Prelude.{◌≡◌, ◌≢◌, ◌⊎◌, ℕ, ◌+◌, ◌<◌, ◌≤◌, Bool, true, false, ◌&&◌, ◌||◌, ◌==◌, nat_le, nat_lt, Option, None, Some, IsSome}
 use Rattle.balanced_tree.specs.Rows.{Rows}
 use Rattle.page_list.specs.declared.row.Row.{Row}
 use Rattle.page_list.specs.Lists.{slots_of, row_count}
@@ -104,6 +104,14 @@ pub record IsHeldBy (nodes : Nodes) (slots : Slots) (h : ℕ) (node : Node) (p :
 abbrev pub IsSpared : Nodes → Slots → Option NodeId → Node → ℕ → Type 0
 IsSpared nodes slots None node p = ⊥
 IsSpared nodes slots (Some h) node p = IsHeldBy nodes slots h.0 node p
+
+-- the rows of this list are as they were
+abbrev pub KeepsList : (old new : Rows Row) → (list : ℕ) → Type 0
+KeepsList old new list = (q : ℕ) → slots_of new list q ≡ slots_of old list q
+
+-- the rows of all lists but this one are as they were
+abbrev pub KeepsOthers : (old new : Rows Row) → (list : ℕ) → Type 0
+KeepsOthers old new list = (l : ℕ) → l ≢ list → KeepsList old new l
 
 -- the node that is spared, if one is, is the parent of this one
 abbrev pub IsParent : Option NodeId → Node → Type 0

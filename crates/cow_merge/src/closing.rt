@@ -7,6 +7,7 @@ ghost use Rattle.cow_split.specs.Exact.{IsExact, all_in_sight};
 ghost use Rattle.frame_pool.specs.Pool.{is_taken};
 ghost use Rattle.cow_merge.specs.Merging.{HasClosed};
 
+use crate::handing::{goes_over, hand_over, is_empty};
 use crate::lifting::lift_rows;
 use crate::ranges::{leave_out, leave_out_above};
 use cow_arena::{CowArena, NodeId};
@@ -15,7 +16,10 @@ use page_list::PageLists;
 
 /// Takes a VMO's node away. The frames that only it showed are given back. Where it has a parent, this goes too: its rows
 /// move into the sibling, where they are seen through the sibling, and the sibling takes its place. It takes no memory, and
-/// costs the rows that the node's pages reach, in its list and in those of the nodes above it, and the rows of the parent.
+/// costs the rows that the node's pages reach in its list and in those of the nodes above the parent, and the rows of the
+/// parent. But where the node has no rows, and the sibling is a VMO's node that sees the parent from page 0 on and has fewer
+/// rows than it, the parent's list goes over to the sibling, and the rows of the sibling move into it: then it costs these, and
+/// the rows of the parent outside the windows of the two, in place of all rows of the parent.
 ///
 /// The tree is exact over the frames that are taken, before and after, and each other VMO shows what it showed.
 pub fn close(arena: &mut CowArena, lists: &mut PageLists, frames: &mut FramePool, leaf: NodeId)
@@ -28,7 +32,13 @@ pub fn close(arena: &mut CowArena, lists: &mut PageLists, frames: &mut FramePool
         arena.remove_root(leaf);
         return;
     };
+    let bare = is_empty(lists, arena.node(leaf).list);
     leave_out_above(arena, lists, frames, leaf, hidden);
-    lift_rows(arena, lists, frames, leaf, hidden, sibling);
-    arena.splice(leaf);
+    if bare && goes_over(arena, lists, hidden, sibling) {
+        hand_over(arena, lists, frames, leaf, hidden, sibling);
+        arena.splice_over(leaf);
+    } else {
+        lift_rows(arena, lists, frames, leaf, hidden, sibling, 0, None);
+        arena.splice(leaf);
+    }
 }

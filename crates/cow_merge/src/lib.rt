@@ -8,6 +8,7 @@
 #![tactic(auto)]
 
 mod closing;
+mod handing;
 mod lifting;
 mod ranges;
 mod shrinking;

@@ -1,18 +1,19 @@
 //! Moving the rows of a hidden node into one of its children, before the two are merged.
 
-ghost use Rattle.std.specs.Prelude.{◌≡◌, ◌≤◌, ◌==◌, ◌↔◌, ℕ, if◌then◌else◌, Bool, false, not, None, Some, IsSome, IsTrue};
+ghost use Rattle.std.specs.Prelude.{◌≡◌, ◌≤◌, ◌<◌, ◌+◌, ◌^◌, ◌==◌, ◌↔◌, ℕ, if◌then◌else◌, Bool, true, false, not, None, Some, IsSome, IfSome, IfNone, IsTrue};
+ghost use Rattle.balanced_tree.specs.Pairs.{with_pair, IsNext};
 ghost use Rattle.balanced_tree.specs.Rows.{Rows};
 ghost use Rattle.vm_base.specs.declared.names.Tag.{Tag};
 ghost use Rattle.page_list.specs.declared.row.Row.{Row};
 ghost use Rattle.page_list.specs.declared.row.Slot.{Slot};
-ghost use Rattle.page_list.specs.Lists.{slots_of};
+ghost use Rattle.page_list.specs.Lists.{slots_of, row_count};
 ghost use Rattle.cow_arena.specs.declared.node.Node.{Node};
 ghost use Rattle.cow_arena.specs.Nodes.{nodes_of, side_of};
 ghost use Rattle.cow_arena.specs.Forest.{IsForest};
 ghost use Rattle.cow_arena.specs.Walk.{frame_in};
 ghost use Rattle.cow_split.specs.Trees.{tree_of};
 ghost use Rattle.frame_pool.specs.Pool.{Pool, taken_frames, links_of};
-ghost use Rattle.cow_merge.specs.Lifting.{IsLifting, HasSettled, SeesRow, IsMoved, bit_on, has_frame};
+ghost use Rattle.cow_merge.specs.Lifting.{IsLifting, IsBefore, HasSettled, SeesRow, IsMoved, bit_on, has_frame};
 
 use crate::ranges::give_back_frame;
 use cow_arena::{CowArena, Node, NodeId, Side};
@@ -21,10 +22,10 @@ use frame_pool::{Backlink, FramePool};
 use page_list::{ListId, PageLists, Slot};
 use vm_base::PageNo;
 
-/// Empties the list of a hidden node, one of whose children is a VMO's node that goes: rows that are seen through the other
-/// child move into the child's list, and the frames of the others are given back. The VMO's node has no rows, and its pages
-/// show frames of this hidden node alone. The split bits say of a row with a frame whether it is seen, so that the going
-/// node's pages need not be cut off from it before.
+/// Empties the list of a hidden node, one of whose children is a VMO's node that goes, from page `from` to below `to`, or from
+/// there on: rows that are seen through the other child move into the child's list, and the frames of the others are given
+/// back. The VMO's node has no rows, and its pages show frames of this hidden node alone. The split bits say of a row with a
+/// frame whether it is seen, so that the going node's pages need not be cut off from it before.
 pub(crate) fn lift_rows(
     arena: &CowArena,
     lists: &mut PageLists,
@@ -32,19 +33,58 @@ pub(crate) fn lift_rows(
     leaf: NodeId,
     hidden: NodeId,
     child: NodeId,
+    from: PageNo,
+    to: Option<PageNo>,
 )
     requires { IsLifting arena.now lists.old lists.old frames.old frames.old leaf.0 hidden.0 child.0 }
     ensures lifting { (old : Rows Row) (before : Pool) →
         IsLifting arena.now old lists.old before frames.old leaf.0 hidden.0 child.0 →
         IsLifting arena.now old lists.new before frames.new leaf.0 hidden.0 child.0 }
     ensures empty { (parent : Node) → nodes_of arena.now hidden.0 ≡ Some parent →
-        (p : ℕ) → slots_of lists.new parent.list.0 p ≡ None }
+        (p : ℕ) → from ≤ p → IsBefore to p → slots_of lists.new parent.list.0 p ≡ None }
+    ensures others { (parent : Node) → nodes_of arena.now hidden.0 ≡ Some parent →
+        (p : ℕ) (row : Slot) → slots_of lists.new parent.list.0 p ≡ Some row → slots_of lists.old parent.list.0 p ≡ Some row }
 {
     let list = arena.node(hidden).list;
-    let mut from = 0;
-    while let Some((page, slot)) = lists.take_next(list, from) {
+    let mut at = from;
+    while let Some((page, slot)) = take_below(lists, list, at, to) {
         settle(arena, lists, frames, hidden, child, page, slot);
-        from = page;
+        at = page;
+    }
+}
+
+/// Takes the row of the least page of a list from `from` to below `to`, or from there on, out, and answers the page and its slot.
+/// `None` exactly where there is none.
+fn take_below(
+    lists: &mut PageLists,
+    list: ListId,
+    from: PageNo,
+    to: Option<PageNo>,
+) -> Option<(PageNo, Slot)>
+    ensures page { IfSome result (λ taken. IsNext (slots_of lists.old list.0) from (Some taken.0)) }
+    ensures slot { IfSome result (λ taken. slots_of lists.old list.0 taken.0 ≡ Some taken.1) }
+    ensures slots { IfSome result (λ taken. slots_of lists.new ≡ with_pair (slots_of lists.old) list.0 taken.0 None) }
+    ensures count { IfSome result (λ taken. row_count lists.new + 1 ≡ row_count lists.old) }
+    ensures spare { IfSome result (λ taken. lists.new.spare ≡ lists.old.spare + 1) }
+    ensures fits { IfSome result (λ taken. taken.0 < 2 ^ 64) }
+    ensures none { IfNone result (lists.new ≡ lists.old) }
+    ensures end { IfNone result ((p : ℕ) → from ≤ p → IsBefore to p → slots_of lists.old list.0 p ≡ None) }
+{
+    let page = lists.next(list, from)?;
+    if is_past(page, to) {
+        return None;
+    }
+    let slot = lists.remove(list, page);
+    Some((page, slot))
+}
+
+/// Whether a page is none below `to`, if this is a page.
+fn is_past(page: PageNo, to: Option<PageNo>) -> bool
+    ensures { result ≡ true → (p : ℕ) → page ≤ p → IsBefore to p → ⊥ }
+{
+    match to {
+        Some(to) => to <= page,
+        None => false,
     }
 }
 
@@ -131,7 +171,7 @@ fn slot_in(arena: &CowArena, lists: &PageLists, at: NodeId, page: PageNo, slot: 
 
 /// Notes the place of a row with its frame, if it has one.
 #[tactic(auto, unfolding(vm_base::specs::Entries::passes))]
-fn note_place(frames: &mut FramePool, slot: Slot, list: ListId, page: PageNo)
+pub(crate) fn note_place(frames: &mut FramePool, slot: Slot, list: ListId, page: PageNo)
     requires { (tag : ℕ) → frame_in slot ≡ Some tag → IsSome (taken_frames frames.old tag) }
     ensures taken { taken_frames frames.new ≡ taken_frames frames.old }
     ensures frames { frames.new.frames ≡ frames.old.frames }

@@ -16,7 +16,7 @@ ghost use Rattle.cow_split.specs.Searching.{ComesTo};
 ghost use Rattle.cow_split.specs.Exact.{IsExact, all_in_sight};
 ghost use Rattle.cow_split.specs.Cutting.{frame_left};
 ghost use Rattle.cow_split.specs.declared.answers.Cut.TheVariants as cut;
-ghost use Rattle.cow_merge.specs.Ranges.{bare_of, HasGiven, IsBare, IsPassing, IsUnderWay, IsSparing, IsOnlyWay, HasPassedRow, HasLeftOut, IsExactFor};
+ghost use Rattle.cow_merge.specs.Ranges.{bare_of, HasGiven, IsBare, IsPassing, IsUnderWay, IsSparing, IsOnlyWay, HasPassedRow, KeepsList, KeepsOthers, HasLeftOut, IsExactFor};
 
 use cow_arena::{CowArena, Node, NodeId, Side};
 use cow_split::{Cut, cut_row};
@@ -55,7 +55,8 @@ pub(crate) fn leave_out_above(
 )
     requires exact { IsExact (tree_of arena.now lists.old) all_in_sight (is_taken frames.old) }
     requires leaf { IsSomeAnd (nodes_of arena.now leaf.0) (λ node. IsSome node.koid × (node.parent ≡ Some hidden)) }
-    ensures { IsSparing arena.now lists.old lists.new frames.old frames.new leaf.0 0 (Some hidden) }
+    ensures sparing { IsSparing arena.now lists.old lists.new frames.old frames.new leaf.0 0 (Some hidden) }
+    ensures kept { (above : Node) → nodes_of arena.now hidden.0 ≡ Some above → KeepsList lists.old lists.new above.list.0 }
 {
     drop_rows(arena, lists, frames, leaf, 0);
     let node = arena.node(leaf);
@@ -83,9 +84,10 @@ fn cut_upwards(
     requires start { nodes_of arena.now start.0 ≡ Some node }
     requires way { first + shift < to → ComesTo (bare_of arena.now) leaf.0 first start.0 (first + shift) }
     requires range { first + shift < 2 ^ 64 }
-    ensures { (old : Rows Row) (before : Pool) (spared : Option NodeId) →
+    ensures sparing { (old : Rows Row) (before : Pool) (spared : Option NodeId) →
         IsPassing arena.now old lists.old before frames.old leaf.0 first spared node shift to to →
         IsSparing arena.now old lists.new before frames.new leaf.0 first spared }
+    ensures kept { KeepsList lists.old lists.new node.list.0 }
 {
     let mut at = start;
     let mut node = node;
@@ -124,7 +126,8 @@ fn drop_rows(
 )
     requires exact { IsExact (tree_of arena.now lists.old) all_in_sight (is_taken frames.old) }
     requires leaf { IsSomeAnd (nodes_of arena.now leaf.0) (λ node. IsSome node.koid) }
-    ensures { IsBare arena.now lists.old lists.new frames.old frames.new leaf.0 first }
+    ensures bare { IsBare arena.now lists.old lists.new frames.old frames.new leaf.0 first }
+    ensures others { (node : Node) → nodes_of arena.now leaf.0 ≡ Some node → KeepsOthers lists.old lists.new node.list.0 }
 {
     let node = arena.node(leaf);
     let mut from = first;
@@ -163,9 +166,10 @@ fn cut_rows(
     requires node { nodes_of arena.now node.0 ≡ Some above }
     requires way { Reaches (bare_of arena.now) leaf.0 first side node.0 (first + shift) }
     requires range { first + shift < to }
-    ensures { (old : Rows Row) (before : Pool) (spared : Option NodeId) →
+    ensures passing { (old : Rows Row) (before : Pool) (spared : Option NodeId) →
         IsPassing arena.now old lists.old before frames.old leaf.0 first spared above shift to (first + shift) →
         IsPassing arena.now old lists.new before frames.new leaf.0 first spared above shift to to }
+    ensures others { KeepsOthers lists.old lists.new above.list.0 }
 {
     let mut from = first + shift;
     loop {
@@ -212,7 +216,8 @@ fn cut_off(
     requires row { HasRow (tree_of arena.now lists.old) node.0 page slot }
     requires hidden { (above : Node) → nodes_of arena.now node.0 ≡ Some above → above.koid ≡ None }
     requires only { IsOnlyWay (tree_of arena.now lists.old) leaf.0 own side node.0 page }
-    ensures { HasPassedRow arena.now lists.old lists.new frames.old frames.new leaf.0 own side node.0 page }
+    ensures passed { HasPassedRow arena.now lists.old lists.new frames.old frames.new leaf.0 own side node.0 page }
+    ensures others { (above : Node) → nodes_of arena.now node.0 ≡ Some above → KeepsOthers lists.old lists.new above.list.0 }
 {
     let answer = cut_row(arena, lists, leaf, own, node, page, side, slot);
     give_back_last(frames, answer);

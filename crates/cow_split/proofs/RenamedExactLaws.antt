@@ -16,35 +16,37 @@ use Rattle.cow_split.specs.Exact.{AreSplitBits, IsExact}
 use Rattle.cow_split.proofs.ExactLaws.{denies-alike}
 use Rattle.cow_split.proofs.NodeLaws.{seen-moved}
 
+-- a page of a VMO is one
+pub renamed-page : (name : ℕ → ℕ) (t : Tree) (v p : ℕ) → IsPage t v p → IsPage (renamed name t) v p
+renamed-page name t v p page = record {
+  node = renamed_node name page.node;
+  visible = record { at = renamed-at name t.nodes v page.node page.visible.at; koid = page.visible.koid };
+  below = page.below;
+}
+
+-- and was one
+pub page-renamed : (name : ℕ → ℕ) (t : Tree) (v p : ℕ) → IsPage (renamed name t) v p → IsPage t v p
+page-renamed name t v p page =
+    let was = renamed-was name t.nodes v page.node page.visible.at in
+    record {
+      node = was.0;
+      visible = record { at = was.1; koid = subst IsSome (sym (ap (λ (n : Node). n.koid) was.2)) page.visible.koid };
+      below = subst (λ (n : Node). p < n.count) (sym was.2) page.below;
+    }
+
 module _ (name : ℕ → ℕ) (t : Tree) (exchange : IsExchange name t.lists) (out : ℕ → ℕ → Bool) (in_use : ℕ → Bool) (exact : IsExact t out in_use) where
   abbrev now : Tree
   now = renamed name t
 
-  page-now : (v p : ℕ) → IsPage t v p → IsPage now v p
-  page-now v p page = record {
-    node = renamed_node name page.node;
-    visible = record { at = renamed-at name t.nodes v page.node page.visible.at; koid = page.visible.koid };
-    below = page.below;
-  }
-
-  page-then : (v p : ℕ) → IsPage now v p → IsPage t v p
-  page-then v p page =
-      let was = renamed-was name t.nodes v page.node page.visible.at in
-      record {
-        node = was.0;
-        visible = record { at = was.1; koid = subst IsSome (sym (ap (λ (n : Node). n.koid) was.2)) page.visible.koid };
-        below = subst (λ (n : Node). p < n.count) (sym was.2) page.below;
-      }
-
   seen-renamed : (s : Side) (h q : ℕ) → IsSeenFrom t out s h q ↔ IsSeenFrom now out s h q
   seen-renamed s h q = (
     seen-moved t now out out s h q (λ v p sees in_sight. record {
-      page = page-now v p sees.page;
+      page = renamed-page name t v p sees.page;
       same = walk-renamed name exchange.twice t exact.forest v p;
       in_sight = in_sight;
     }),
     seen-moved now t out out s h q (λ v p sees in_sight. record {
-      page = page-then v p sees.page;
+      page = page-renamed name t v p sees.page;
       same = sym (walk-renamed name exchange.twice t exact.forest v p);
       in_sight = in_sight;
     }),

@@ -1,9 +1,10 @@
 //! Cutting a page off from the row above it.
 
-ghost use Rattle.std.specs.Prelude.{◌≡◌, ◌↔◌, ◌≤◌, ℕ, Bool, false, None, Some, IsSome, IsSomeAnd};
+ghost use Rattle.std.specs.Prelude.{◌≡◌, ◌≢◌, ◌↔◌, ◌≤◌, ℕ, Bool, false, None, Some, IsSome, IsSomeAnd};
 ghost use Rattle.vm_base.specs.declared.names.Tag.{Tag};
 ghost use Rattle.page_list.specs.Lists.{slots_of, row_count};
 ghost use Rattle.balanced_tree.specs.Pairs.{with_pair};
+ghost use Rattle.cow_arena.specs.declared.node.Node.{Node};
 ghost use Rattle.cow_arena.specs.Nodes.{nodes_of};
 ghost use Rattle.cow_arena.specs.Walk.{walk, frame_at};
 ghost use Rattle.cow_arena.specs.Forest.{IsForest};
@@ -92,6 +93,8 @@ pub fn cut_row(
         HasCut arena.now lists.old lists.new leaf.0 own result }
     ensures unseen { (out : ℕ → ℕ → Bool) (in_use : ℕ → Bool) → IsExact (tree_of arena.now lists.old) out in_use →
         IsUnseenBy (tree_of arena.now lists.old) out leaf.0 side node.0 page → HasStayed lists.old lists.new result }
+    ensures others { (above : Node) → nodes_of arena.now node.0 ≡ Some above →
+        (l : ℕ) → l ≢ above.list.0 → (q : ℕ) → slots_of lists.new l q ≡ slots_of lists.old l q }
     ensures spare { lists.old.spare ≤ lists.new.spare }
     ensures count { row_count lists.new ≤ row_count lists.old }
 {

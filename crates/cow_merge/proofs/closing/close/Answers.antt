@@ -1,6 +1,14 @@
 -- All pages are out of sight, so that the node goes, with its parent where it has one.
+use Rattle.std.proofs.Common.{◌≡◌, ℕ, ◌+◌, None, Some, sym, ap, subst, ◌∙◌, arith}
+use Rattle.std.specs.Prelude.{is_some}
+use Rattle.vm_base.proofs.EntryLaws.{some_same}
+use Rattle.cow_arena.specs.declared.node.Node.{Node}
+use Rattle.cow_split.specs.Trees.{tree_of}
+use Rattle.frame_pool.specs.Pool.{is_taken}
+use Rattle.page_list.specs.Lists.{slots_of}
 use Rattle.cow_merge.proofs.RangeLaws.{visible-of}
-use Rattle.cow_merge.proofs.CloseLaws.{closed-root, closed-spliced, root-of, root-ready, child-ready, family-of}
+use Rattle.cow_merge.proofs.CloseLaws.{closed-root, closed-spliced, closed-over, root-of, root-ready, child-ready, family-of}
+use Rattle.cow_merge.proofs.SeenLaws.{seen-start, seen-kept}
 use Rattle.cow_merge.proofs.LiftedLaws.{lifting-start, lifting-again, lifting-end}
 use Rattle.cow_merge.proofs.closing.close.Goals as goal
 use Rattle.cow_merge.proofs.closing.close.Goals.{in_default-via-in-Some+in_default, in_default-via-in_default}
@@ -37,23 +45,67 @@ lift_rows-requires c =
     lifting-again c.args.arena.now c.args.lists.now c.leave_out_above.new.lists c.args.frames.now c.leave_out_above.new.frames c.args.leaf.0
     c.in-Some-Some.hidden.0 c.in-Some-Some.sibling.0
     (lifting-start c.args.arena.now c.args.lists.now c.leave_out_above.new.lists c.args.frames.now c.leave_out_above.new.frames c.args.leaf.0
-    c.in-Some-Some.sibling.0 c.in-Some-Some.hidden c.leave_out_above.ensures
+    c.in-Some-Some.sibling.0 c.in-Some-Some.hidden c.leave_out_above.ensures.sparing
     (family-of c.args.arena.now c.requires.exact.forest c.args.leaf.0 c.node.result visible c.in-Some-Some.hidden c.in-Some-Some.sibling
     c.in-Some-Some.is-0 c.in-Some-Some.ensures.sibling))
 
-pub returns : goal.returns
-returns c =
+pub returns-else-bare : goal.returns-else-bare
+returns-else-bare c =
     let visible = visible-of c.args.arena.now c.args.leaf.0 c.node.result c.requires.leaf c.node.ensures in
     let was = c.lift_rows.ensures.lifting c.args.lists.now c.args.frames.now
     (lifting-start c.args.arena.now c.args.lists.now c.leave_out_above.new.lists c.args.frames.now c.leave_out_above.new.frames c.args.leaf.0
-    c.in-Some-Some.sibling.0 c.in-Some-Some.hidden c.leave_out_above.ensures
+    c.in-Some-Some.sibling.0 c.in-Some-Some.hidden c.leave_out_above.ensures.sparing
     (family-of c.args.arena.now c.requires.exact.forest c.args.leaf.0 c.node.result visible c.in-Some-Some.hidden c.in-Some-Some.sibling
     c.in-Some-Some.is-0 c.in-Some-Some.ensures.sibling)) in
     let of = was.of in
-    let empty = c.lift_rows.ensures.empty of.parent of.family.parent_at in
+    let empty : (p : ℕ) → slots_of c.lift_rows.new.lists of.parent.list.0 p ≡ None = λ p. c.lift_rows.ensures.empty of.parent of.family.parent_at p (omega arith) tt in
     closed-spliced c.args.arena.now c.splice.new.self c.args.lists.now c.lift_rows.new.lists c.args.frames.now c.lift_rows.new.frames c.args.leaf.0
     c.in-Some-Some.hidden.0 c.in-Some-Some.sibling.0 of.node of.parent of.sibling of.visible of.family
     (lifting-end c.args.arena.now c.args.lists.now c.lift_rows.new.lists c.args.frames.now c.lift_rows.new.frames c.args.leaf.0 c.in-Some-Some.hidden.0
     c.in-Some-Some.sibling.0 was empty) empty
     (c.splice.ensures.nodes c.in-Some-Some.hidden.0 c.in-Some-Some.sibling.0 of.node of.parent of.sibling of.family)
-    c.splice.ensures.lists c.splice.ensures.visible c.splice.ensures.forest
+    c.splice.ensures.lists c.splice.ensures.visible
+
+-- ---- the parent's list goes over
+
+pub goes_over-requires-clause-child : goal.goes_over-requires-clause-child
+goes_over-requires-clause-child c =
+    let visible = visible-of c.args.arena.now c.args.leaf.0 c.node.result c.requires.leaf c.node.ensures in
+    let of = family-of c.args.arena.now c.requires.exact.forest c.args.leaf.0 c.node.result visible c.in-Some-Some.hidden c.in-Some-Some.sibling
+    c.in-Some-Some.is-0 c.in-Some-Some.ensures.sibling in
+    ap is_some of.family.sibling_at
+
+pub hand_over-requires-clause-lifting : goal.hand_over-requires-clause-lifting
+hand_over-requires-clause-lifting c =
+    let visible = visible-of c.args.arena.now c.args.leaf.0 c.node.result c.requires.leaf c.node.ensures in
+    lifting-again c.args.arena.now c.args.lists.now c.leave_out_above.new.lists c.args.frames.now c.leave_out_above.new.frames c.args.leaf.0
+    c.in-Some-Some.hidden.0 c.in-Some-Some.sibling.0
+    (lifting-start c.args.arena.now c.args.lists.now c.leave_out_above.new.lists c.args.frames.now c.leave_out_above.new.frames c.args.leaf.0
+    c.in-Some-Some.sibling.0 c.in-Some-Some.hidden c.leave_out_above.ensures.sparing
+    (family-of c.args.arena.now c.requires.exact.forest c.args.leaf.0 c.node.result visible c.in-Some-Some.hidden c.in-Some-Some.sibling
+    c.in-Some-Some.is-0 c.in-Some-Some.ensures.sibling))
+
+pub hand_over-requires-clause-seen : goal.hand_over-requires-clause-seen
+hand_over-requires-clause-seen c = λ node parent at parent_at.
+    let visible = visible-of c.args.arena.now c.args.leaf.0 node c.requires.leaf at in
+    let one : c.node-2.result ≡ node = some_same (sym c.node-2.ensures ∙ at) in
+    let up : node.parent ≡ Some c.in-Some-Some.hidden =
+    ap (λ (n : Node). n.parent) (some_same (sym at ∙ c.node.ensures)) ∙ c.in-Some-Some.is-0 in
+    seen-kept (slots_of c.args.lists.now) (slots_of c.leave_out_above.new.lists) parent c.args.leaf.0 node.first (node.first + node.seen)
+    (c.leave_out_above.ensures.kept parent parent_at)
+    (seen-start (tree_of c.args.arena.now c.args.lists.now) (is_taken c.args.frames.now) c.requires.exact c.args.leaf.0 c.in-Some-Some.hidden.0 node parent visible
+    up parent_at
+    (λ p _. subst (λ (n : Node). slots_of c.args.lists.now n.list.0 p ≡ None) one (c.is_empty-bare.ensures c.if-bare.true p)))
+
+pub returns-then-goes_over : goal.returns-then-goes_over
+returns-then-goes_over c =
+    let visible = visible-of c.args.arena.now c.args.leaf.0 c.node.result c.requires.leaf c.node.ensures in
+    let over = c.hand_over.ensures c.args.lists.now c.args.frames.now
+    (lifting-start c.args.arena.now c.args.lists.now c.leave_out_above.new.lists c.args.frames.now c.leave_out_above.new.frames c.args.leaf.0
+    c.in-Some-Some.sibling.0 c.in-Some-Some.hidden c.leave_out_above.ensures.sparing
+    (family-of c.args.arena.now c.requires.exact.forest c.args.leaf.0 c.node.result visible c.in-Some-Some.hidden c.in-Some-Some.sibling
+    c.in-Some-Some.is-0 c.in-Some-Some.ensures.sibling)) in
+    closed-over c.args.arena.now c.splice_over.new.self c.args.lists.now c.hand_over.new.lists c.args.frames.now c.hand_over.new.frames c.args.leaf.0
+    c.in-Some-Some.hidden.0 c.in-Some-Some.sibling.0 over
+    (c.splice_over.ensures.nodes c.in-Some-Some.hidden.0 c.in-Some-Some.sibling.0 over.of.node over.of.parent over.of.sibling over.of.family)
+    c.splice_over.ensures.lists c.splice_over.ensures.visible

@@ -1,5 +1,5 @@
 -- Each row that was taken out is settled, and the parent's list has lost it.
-use Rattle.std.proofs.Common.{◌≡◌, None, refl, sym, ap, subst, ◌∙◌, inl, inr, arith}
+use Rattle.std.proofs.Common.{◌≡◌, None, Some, refl, sym, ap, subst, ◌∙◌, inl, inr, arith}
 use Rattle.std.proofs.lemmas.Bool.{cases_lt}
 use Rattle.vm_base.proofs.EntryLaws.{some_same}
 use Rattle.balanced_tree.specs.Rows.{Rows}
@@ -8,17 +8,17 @@ use Rattle.page_list.specs.Lists.{slots_of}
 use Rattle.cow_arena.specs.declared.node.Node.{Node}
 use Rattle.cow_arena.specs.Nodes.{side_of}
 use Rattle.cow_merge.specs.Lifting.{IsLifting, SeesRow, bit_on}
-use Rattle.cow_merge.proofs.LiftedLaws.{lifting-found, lifting-settled, settled-list, row-taken, row-sees-mid, passed-more, ahead-less, gone-here}
+use Rattle.cow_merge.proofs.LiftedLaws.{lifting-found, lifting-settled, settled-list, row-taken, row-sees-mid, passed-more, left-was, ahead-less, gone-here}
 use Rattle.cow_merge.proofs.lifting.lift_rows.Goals as goal
 
 pub loop-page-init : goal.loop-page-init
-loop-page-init c = record { lifting = λ old before was. was; below = λ p less. absurd (omega arith) }
+loop-page-init c = record { lifting = λ old before was. was; below = λ p least less. absurd (omega arith); others = λ p row at. at }
 
 pub settle-requires-clause-taken : goal.settle-requires-clause-taken
 settle-requires-clause-taken c =
     let was = lifting-found c.args.arena.now c.args.lists.now c.loop-page.lists c.args.frames.now c.loop-page.frames c.args.leaf.0 c.args.hidden.0 c.args.child.0
     (c.loop-page.invariant.lifting c.args.lists.now c.args.frames.now c.requires) c.node.result c.node.ensures in
-    row-taken c.args.arena.now c.args.lists.now c.loop-page.lists c.take_next.new.self c.take_next.new.self c.args.frames.now c.loop-page.frames c.loop-page.frames
+    row-taken c.args.arena.now c.args.lists.now c.loop-page.lists c.take_below.new.lists c.take_below.new.lists c.args.frames.now c.loop-page.frames c.loop-page.frames
     c.args.leaf.0 c.args.hidden.0 c.args.child.0 c.in-Some.page c.in-Some.slot was c.in-Some.ensures.slot c.in-Some.ensures.slots
 
 pub settle-requires-clause-seen : goal.settle-requires-clause-seen
@@ -27,8 +27,8 @@ settle-requires-clause-seen c = λ parent node at there tag left right e seen.
     (c.loop-page.invariant.lifting c.args.lists.now c.args.frames.now c.requires) c.node.result c.node.ensures in
     let same : c.node.result ≡ parent = some_same (sym c.node.ensures ∙ at) in
     let one = some_same (sym was.of.family.sibling_at ∙ there) in
-    subst (λ (n : Node). SeesRow (slots_of c.take_next.new.self) n c.in-Some.page) one
-    (row-sees-mid c.args.arena.now c.args.lists.now c.loop-page.lists c.take_next.new.self c.take_next.new.self c.args.frames.now c.loop-page.frames c.loop-page.frames
+    subst (λ (n : Node). SeesRow (slots_of c.take_below.new.lists) n c.in-Some.page) one
+    (row-sees-mid c.args.arena.now c.args.lists.now c.loop-page.lists c.take_below.new.lists c.take_below.new.lists c.args.frames.now c.loop-page.frames c.loop-page.frames
     c.args.leaf.0 c.args.hidden.0 c.args.child.0 c.in-Some.page c.in-Some.slot was c.in-Some.ensures.slot c.in-Some.ensures.slots tag left right e
     (ap (λ (n : Node). bit_on (side_of n c.args.child.0) left right) same ∙ seen))
 
@@ -37,9 +37,9 @@ loop-page-smaller c =
     let was = lifting-found c.args.arena.now c.args.lists.now c.loop-page.lists c.args.frames.now c.loop-page.frames c.args.leaf.0 c.args.hidden.0 c.args.child.0
     (c.loop-page.invariant.lifting c.args.lists.now c.args.frames.now c.requires) c.node.result c.node.ensures in
     let least = c.in-Some.ensures.page.least c.in-Some.page refl in
-    ahead-less (slots_of c.loop-page.lists c.node.result.list.0) (slots_of c.settle.new.lists c.node.result.list.0) c.loop-page.from c.in-Some.page
+    ahead-less (slots_of c.loop-page.lists c.node.result.list.0) (slots_of c.settle.new.lists c.node.result.list.0) c.loop-page.at c.in-Some.page
     c.in-Some.slot least.0 c.in-Some.ensures.fits c.in-Some.ensures.slot
-    (settled-list c.args.arena.now c.args.lists.now c.loop-page.lists c.take_next.new.self c.settle.new.lists c.args.frames.now c.loop-page.frames c.settle.new.frames
+    (settled-list c.args.arena.now c.args.lists.now c.loop-page.lists c.take_below.new.lists c.settle.new.lists c.args.frames.now c.loop-page.frames c.settle.new.frames
     c.args.leaf.0 c.args.hidden.0 c.args.child.0 c.in-Some.page c.in-Some.slot was c.in-Some.ensures.slot c.in-Some.ensures.slots
     (c.settle.ensures c.node.result was.of.sibling c.node.ensures was.of.family.sibling_at) c.in-Some.page ∙ gone-here _ c.in-Some.page)
 
@@ -51,14 +51,18 @@ loop-page-preserved c =
       lifting = λ old before start.
           let now = lifting-found c.args.arena.now old c.loop-page.lists before c.loop-page.frames c.args.leaf.0 c.args.hidden.0 c.args.child.0
           (c.loop-page.invariant.lifting old before start) c.node.result c.node.ensures in
-          lifting-settled c.args.arena.now old c.loop-page.lists c.take_next.new.self c.settle.new.lists before c.loop-page.frames c.settle.new.frames
+          lifting-settled c.args.arena.now old c.loop-page.lists c.take_below.new.lists c.settle.new.lists before c.loop-page.frames c.settle.new.frames
           c.args.leaf.0 c.args.hidden.0 c.args.child.0 c.in-Some.page c.in-Some.slot now c.in-Some.ensures.slot c.in-Some.ensures.slots
           (c.settle.ensures c.node.result now.of.sibling c.node.ensures now.of.family.sibling_at) c.in-Some.ensures.count c.in-Some.ensures.spare;
-      below = passed-more (slots_of c.loop-page.lists c.node.result.list.0) (slots_of c.settle.new.lists c.node.result.list.0) c.loop-page.from c.in-Some.page
+      below = passed-more (slots_of c.loop-page.lists c.node.result.list.0) (slots_of c.settle.new.lists c.node.result.list.0) c.args.from c.loop-page.at c.in-Some.page
           c.loop-page.invariant.below c.in-Some.ensures.page
-          (settled-list c.args.arena.now c.args.lists.now c.loop-page.lists c.take_next.new.self c.settle.new.lists c.args.frames.now c.loop-page.frames c.settle.new.frames
+          (settled-list c.args.arena.now c.args.lists.now c.loop-page.lists c.take_below.new.lists c.settle.new.lists c.args.frames.now c.loop-page.frames c.settle.new.frames
           c.args.leaf.0 c.args.hidden.0 c.args.child.0 c.in-Some.page c.in-Some.slot was c.in-Some.ensures.slot c.in-Some.ensures.slots
           (c.settle.ensures c.node.result was.of.sibling c.node.ensures was.of.family.sibling_at));
+      others = λ p row at. c.loop-page.invariant.others p row (left-was (slots_of c.loop-page.lists c.node.result.list.0) (slots_of c.settle.new.lists c.node.result.list.0) c.in-Some.page
+          (settled-list c.args.arena.now c.args.lists.now c.loop-page.lists c.take_below.new.lists c.settle.new.lists c.args.frames.now c.loop-page.frames c.settle.new.frames
+          c.args.leaf.0 c.args.hidden.0 c.args.child.0 c.in-Some.page c.in-Some.slot was c.in-Some.ensures.slot c.in-Some.ensures.slots
+          (c.settle.ensures c.node.result was.of.sibling c.node.ensures was.of.family.sibling_at)) p row at);
     }
 
 pub returns-clause-lifting : goal.returns-clause-lifting
@@ -67,9 +71,17 @@ returns-clause-lifting c = λ old before was.
     (sym c.in_default.ensures.none) (c.loop-page.invariant.lifting old before was)
 
 pub returns-clause-empty : goal.returns-clause-empty
-returns-clause-empty c = λ parent at p.
-    subst (λ (n : Node). slots_of c.take_next.new.self n.list.0 p ≡ None) (some_same (sym c.node.ensures ∙ at))
-    (ap (λ (rows : Rows Row). slots_of rows c.node.result.list.0 p) c.in_default.ensures.none ∙ elim (cases_lt p c.loop-page.from) [
-      | inl before ↦ c.loop-page.invariant.below p before
-      | inr past ↦ c.in_default.ensures.page.none refl p past
+returns-clause-empty c = λ parent at p least less.
+    subst (λ (n : Node). slots_of c.take_below.new.lists n.list.0 p ≡ None) (some_same (sym c.node.ensures ∙ at))
+    (ap (λ (rows : Rows Row). slots_of rows c.node.result.list.0 p) c.in_default.ensures.none ∙ elim (cases_lt p c.loop-page.at) [
+      | inl before ↦ c.loop-page.invariant.below p least before
+      | inr past ↦ c.in_default.ensures.end p past less
     ])
+
+pub returns-clause-others : goal.returns-clause-others
+returns-clause-others c = λ parent at p row there.
+    let one : c.node.result ≡ parent = some_same (sym c.node.ensures ∙ at) in
+    subst (λ (n : Node). slots_of c.args.lists.now n.list.0 p ≡ Some row) one
+    (c.loop-page.invariant.others p row
+    (ap (λ (rows : Rows Row). slots_of rows c.node.result.list.0 p) (sym c.in_default.ensures.none)
+    ∙ subst (λ (n : Node). slots_of c.take_below.new.lists n.list.0 p ≡ Some row) (sym one) there))

@@ -1,6 +1,7 @@
-use Rattle.std.proofs.Common.{◌≡◌, ℕ, ◌<◌, None}
+use Rattle.std.proofs.Common.{◌≡◌, ℕ, ◌<◌, ◌≤◌, None, Some}
 use Rattle.balanced_tree.specs.Rows.{Rows}
 use Rattle.page_list.specs.declared.row.Row.{Row}
+use Rattle.page_list.specs.declared.row.Slot.{Slot}
 use Rattle.page_list.specs.Lists.{slots_of}
 use Rattle.frame_pool.specs.Pool.{Pool}
 use Rattle.cow_merge.specs.Lifting.{IsLifting}
@@ -12,8 +13,9 @@ invariant-loop-page l = record {
   lifting : (old : Rows Row) (before : Pool) →
       IsLifting l.arena old l.fn.lists before l.fn.frames l.fn.leaf.0 l.hidden.0 l.child.0 →
       IsLifting l.arena old l.lists before l.frames l.fn.leaf.0 l.hidden.0 l.child.0;
-  below : (p : ℕ) → p < l.from → slots_of l.lists l.list.0 p ≡ None;
+  below : (p : ℕ) → l.from ≤ p → p < l.at → slots_of l.lists l.list.0 p ≡ None;
+  others : (p : ℕ) (row : Slot) → slots_of l.lists l.list.0 p ≡ Some row → slots_of l.fn.lists l.list.0 p ≡ Some row;
 }
 
 abbrev pub decreases-loop-page : goal.decreases-loop-page
-decreases-loop-page l = still_ahead l.from (slots_of l.lists l.list.0 l.from)
+decreases-loop-page l = still_ahead l.at (slots_of l.lists l.list.0 l.at)

@@ -9,8 +9,8 @@ give_back_last-requires c = λ tag is.
     c.args.frames.now c.cut_row-answer.result has (c.requires.bare has.node has.visible.at) c.requires.row c.requires.hidden c.requires.only
     c.cut_row-answer.ensures.seen (c.cut_row-answer.ensures.unseen has.out _ has.exact) tag is
 
-pub returns : goal.returns
-returns c =
+pub returns-clause-passed : goal.returns-clause-passed
+returns-clause-passed c =
     let has = c.requires.exact in
     row-passed c.args.arena.now c.args.lists.now c.cut_row-answer.new.lists c.args.leaf.0 c.args.own c.args.side c.args.node.0 c.args.page c.args.slot
     c.args.frames.now c.cut_row-answer.result has (c.requires.bare has.node has.visible.at) c.requires.row c.requires.hidden c.requires.only

@@ -1,17 +1,17 @@
 -- Each row that is passed has cut off the page that came to it.
-use Rattle.std.proofs.Common.{◌≡◌, ◌-◌, None, Some, refl, sym, arith}
+use Rattle.std.proofs.Common.{◌≡◌, ◌-◌, None, Some, refl, sym, ◌∙◌, arith}
 use Rattle.cow_arena.specs.Nodes.{nodes_of}
 use Rattle.cow_arena.specs.Forest.{IsForest}
 use Rattle.cow_merge.proofs.RangeLaws.{passing-exact, passing-bare, passing-cut, passing-end, bare-only, bare-hidden, bare-apart}
 use Rattle.cow_merge.proofs.ranges.cut_rows.Goals as goal
 
-pub returns-in_default : goal.returns-in_default
-returns-in_default c = λ old before spared was.
+pub returns-in_default-clause-passing : goal.returns-in_default-clause-passing
+returns-in_default-clause-passing c = λ old before spared was.
     passing-end c.args.arena.now old c.loop-row.lists before c.loop-row.frames c.args.leaf.0 c.args.first spared c.args.above c.args.shift c.args.to c.loop-row.from
     None (c.loop-row.invariant.passing old before spared was) c.in_default.ensures (λ row is. absurd (cc))
 
-pub returns-then-to-row : goal.returns-then-to-row
-returns-then-to-row c = λ old before spared was.
+pub returns-then-to-row-clause-passing : goal.returns-then-to-row-clause-passing
+returns-then-to-row-clause-passing c = λ old before spared was.
     passing-end c.args.arena.now old c.loop-row.lists before c.loop-row.frames c.args.leaf.0 c.args.first spared c.args.above c.args.shift c.args.to c.loop-row.from
     (Some c.in-Some.row) (c.loop-row.invariant.passing old before spared was) c.in-Some.ensures (λ row is. let same : c.in-Some.row ≡ row = cc in omega arith)
 
@@ -59,5 +59,6 @@ loop-row-preserved c =
           (bare-apart c.args.arena.now f c.args.leaf.0 c.args.first c.args.shift c.args.node.0 c.args.side c.requires.way)
           (bare-only c.args.arena.now f c.args.leaf.0 c.args.first c.args.shift c.args.node.0 c.args.side c.requires.way
           c.loop-row.lists c.in-Some.row (omega (arith, least.0)))
-          c.cut_off.ensures;
+          c.cut_off.ensures.passed;
+      others = λ l apart q. c.cut_off.ensures.others c.args.above c.requires.node l apart q ∙ c.loop-row.invariant.others l apart q;
     }

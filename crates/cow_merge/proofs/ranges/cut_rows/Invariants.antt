@@ -3,7 +3,7 @@ use Rattle.balanced_tree.specs.Rows.{Rows}
 use Rattle.page_list.specs.declared.row.Row.{Row}
 use Rattle.frame_pool.specs.Pool.{Pool}
 use Rattle.cow_arena.specs.declared.node.NodeId.{NodeId}
-use Rattle.cow_merge.specs.Ranges.{IsPassing}
+use Rattle.cow_merge.specs.Ranges.{IsPassing, KeepsOthers}
 use Rattle.cow_merge.proofs.ranges.cut_rows.Given as goal
 
 abbrev pub invariant-loop-row : goal.invariant-loop-row
@@ -13,6 +13,7 @@ invariant-loop-row l = record {
   passing : (old : Rows Row) (before : Pool) (spared : Option NodeId) →
       IsPassing l.arena old l.fn.lists before l.fn.frames l.leaf.0 l.first spared l.above l.shift l.to (l.first + l.shift) →
       IsPassing l.arena old l.lists before l.frames l.leaf.0 l.first spared l.above l.shift l.to l.from;
+  others : KeepsOthers l.fn.lists l.lists l.above.list.0;
 }
 
 abbrev pub decreases-loop-row : goal.decreases-loop-row

@@ -1,18 +1,18 @@
 -- On each node on the way up, what the pages of the range still show is further up.
-use Rattle.std.proofs.Common.{◌+◌, Some, sym, subst, arith}
-use Rattle.cow_arena.specs.Nodes.{side_of}
+use Rattle.std.proofs.Common.{◌+◌, Some, sym, subst, ◌∙◌, arith}
+use Rattle.cow_arena.specs.Nodes.{nodes_of, side_of}
 use Rattle.cow_arena.specs.Ways.{Reaches}
 use Rattle.cow_merge.specs.Ranges.{bare_of}
-use Rattle.cow_merge.proofs.RangeLaws.{passing-again, passing-up, passing-top, passing-there, passing-fits, passing-less, bare-up}
+use Rattle.cow_merge.proofs.RangeLaws.{passing-again, passing-up, passing-top, passing-there, passing-fits, passing-less, up-list, bare-up}
 use Rattle.cow_merge.proofs.ranges.cut_upwards.Goals as goal
 
-pub returns-in_default : goal.returns-in_default
-returns-in_default c = λ old before spared was.
+pub returns-in_default-clause-sparing : goal.returns-in_default-clause-sparing
+returns-in_default-clause-sparing c = λ old before spared was.
     passing-top c.args.arena.now old c.loop-node.lists before c.loop-node.frames c.args.leaf.0 c.args.first spared c.loop-node.node c.loop-node.shift
     c.loop-node.to (c.loop-node.invariant.passing old before spared was) (λ parent is. let none = c.in_default.is in absurd (cc))
 
-pub returns-then-end-from : goal.returns-then-end-from
-returns-then-end-from c = λ old before spared was.
+pub returns-then-end-from-clause-sparing : goal.returns-then-end-from-clause-sparing
+returns-then-end-from-clause-sparing c = λ old before spared was.
     passing-top c.args.arena.now old c.loop-node.lists before c.loop-node.frames c.args.leaf.0 c.args.first spared c.loop-node.node c.loop-node.shift
     c.loop-node.to (c.loop-node.invariant.passing old before spared was) (λ parent is. omega arith)
 
@@ -75,19 +75,31 @@ loop-node-smaller c =
     c.node-above.result c.in-Some.is c.node-above.ensures
 
 pub loop-node-preserved : goal.loop-node-preserved
-loop-node-preserved c = record {
-  from = omega (arith, c.loop-node.invariant.from);
-  here = c.node-above.ensures;
-  way = λ less.
-      let page = c.loop-node.from + c.loop-node.node.first in
-      record {
-        side = Some (side_of c.node-above.result c.loop-node.at.0);
-        way = bare-up c.args.arena.now c.requires.passing.passing.bare.leaving.exact.forest c.args.leaf.0 c.args.first c.loop-node.at.0 c.in-Some.parent
-            c.loop-node.node c.node-above.result c.loop-node.from page c.loop-node.invariant.here c.in-Some.is c.node-above.ensures (omega arith) (omega arith)
-            (c.loop-node.invariant.way (omega arith));
-      };
-  passing = λ old before spared was. c.cut_rows.ensures old before spared
-      (passing-up c.args.arena.now old c.loop-node.lists before c.loop-node.frames c.args.leaf.0 c.args.first spared c.loop-node.node
-      c.loop-node.shift c.loop-node.to (c.loop-node.invariant.passing old before spared was) c.in-Some.parent c.node-above.result c.in-Some.is
-      c.node-above.ensures c.min-end.result c.min-end.ensures);
-}
+loop-node-preserved c =
+    let under = c.requires.passing in
+    let less = passing-less c.args.arena.now c.args.lists.now c.loop-node.lists c.args.frames.now c.loop-node.frames c.args.leaf.0 c.args.first under.spared
+    c.loop-node.node c.loop-node.shift c.loop-node.to c.loop-node.to
+    (c.loop-node.invariant.passing c.args.lists.now c.args.frames.now under.spared under.passing) c.in-Some.parent c.node-above.result c.in-Some.is
+    c.node-above.ensures in
+    record {
+      from = omega (arith, c.loop-node.invariant.from);
+      here = c.node-above.ensures;
+      way = λ less.
+          let page = c.loop-node.from + c.loop-node.node.first in
+          record {
+            side = Some (side_of c.node-above.result c.loop-node.at.0);
+            way = bare-up c.args.arena.now c.requires.passing.passing.bare.leaving.exact.forest c.args.leaf.0 c.args.first c.loop-node.at.0 c.in-Some.parent
+                c.loop-node.node c.node-above.result c.loop-node.from page c.loop-node.invariant.here c.in-Some.is c.node-above.ensures (omega arith) (omega arith)
+                (c.loop-node.invariant.way (omega arith));
+          };
+      passing = λ old before spared was. c.cut_rows.ensures.passing old before spared
+          (passing-up c.args.arena.now old c.loop-node.lists before c.loop-node.frames c.args.leaf.0 c.args.first spared c.loop-node.node
+          c.loop-node.shift c.loop-node.to (c.loop-node.invariant.passing old before spared was) c.in-Some.parent c.node-above.result c.in-Some.is
+          c.node-above.ensures c.min-end.result c.min-end.ensures);
+      up = omega (arith, c.loop-node.invariant.up);
+      kept = λ q.
+          c.cut_rows.ensures.others c.args.node.list.0
+          (up-list (nodes_of c.args.arena.now) c.args.arena.now.lists under.passing.bare.leaving.exact.forest c.args.start.0 c.in-Some.parent.0 c.args.node
+          c.node-above.result c.requires.start c.node-above.ensures (omega (arith, c.loop-node.invariant.up))) q
+          ∙ c.loop-node.invariant.kept q;
+    }

@@ -1,5 +1,10 @@
 -- Each row that goes leaves its page out.
-use Rattle.std.proofs.Common.{refl, sym, subst, arith}
+use Rattle.std.proofs.Common.{None, refl, sym, ap, subst, ◌∙◌, arith}
+use Rattle.vm_base.proofs.EntryLaws.{some_same}
+use Rattle.page_list.specs.Lists.{slots_of}
+use Rattle.cow_arena.specs.declared.node.Node.{Node}
+use Rattle.cow_arena.specs.Walk.{Slots}
+use Rattle.cow_arena.proofs.AlikeLaws.{with_pair-other}
 use Rattle.balanced_tree.specs.Rows.{Rows}
 use Rattle.page_list.specs.declared.row.Row.{Row}
 use Rattle.cow_merge.specs.Ranges.{IsBare}
@@ -11,6 +16,7 @@ loop-page-init c = record {
   from = omega arith;
   dropping = dropping-start c.args.arena.now c.args.lists.now c.args.frames.now c.args.leaf.0 c.node-node.result c.args.first c.requires.exact
       (visible-of c.args.arena.now c.args.leaf.0 c.node-node.result c.requires.leaf c.node-node.ensures);
+  others = λ m apart p. refl;
 }
 
 pub give_back_frame-requires : goal.give_back_frame-requires
@@ -27,11 +33,20 @@ loop-page-preserved c =
           c.give_back_frame.new.frames c.args.leaf.0 c.node-node.result c.args.first c.loop-page.from c.in-Some.page c.in-Some.slot
           c.loop-page.invariant.dropping c.in-Some.ensures.slot c.loop-page.invariant.from c.in-Some.ensures.page c.in-Some.ensures.slots
           c.give_back_frame.ensures (omega (arith, c.in-Some.ensures.spare)) (omega (arith, c.in-Some.ensures.count));
+      others = λ m apart p.
+          ap (λ (x : Slots). x m p) c.in-Some.ensures.slots
+          ∙ (with_pair-other (slots_of c.loop-page.lists) c.node-node.result.list.0 c.in-Some.page None m p (λ list _. apart list)
+          ∙ c.loop-page.invariant.others m apart p);
     }
 
-pub returns : goal.returns
-returns c =
+pub returns-clause-bare : goal.returns-clause-bare
+returns-clause-bare c =
     subst (λ (rows : Rows Row). IsBare c.args.arena.now c.args.lists.now rows c.args.frames.now c.loop-page.frames c.args.leaf.0 c.args.first)
     (sym c.in_default.ensures.none)
     (dropping-end c.args.arena.now c.args.lists.now c.loop-page.lists c.args.frames.now c.loop-page.frames c.args.leaf.0 c.node-node.result c.args.first
     c.loop-page.from c.loop-page.invariant.dropping c.loop-page.invariant.from c.in_default.ensures.page)
+
+pub returns-clause-others : goal.returns-clause-others
+returns-clause-others c = λ node at l apart p.
+    ap (λ (rows : Rows Row). slots_of rows l p) c.in_default.ensures.none
+    ∙ c.loop-page.invariant.others l (λ same. apart (same ∙ ap (λ (n : Node). n.list.0) (some_same (sym c.node-node.ensures ∙ at)))) p

@@ -7,7 +7,7 @@ cut_upwards-requires-clause-passing c = record {
   spared = None;
   passing = passing-again c.args.arena.now c.args.lists.now c.drop_rows.new.lists c.args.frames.now c.drop_rows.new.frames c.args.leaf.0 c.args.first _ _ _ _ _
       (passing-start c.args.arena.now c.args.lists.now c.drop_rows.new.lists c.args.frames.now c.drop_rows.new.frames c.args.leaf.0 c.args.first
-      c.node-node.result c.drop_rows.ensures c.node-node.ensures);
+      c.node-node.result c.drop_rows.ensures.bare c.node-node.ensures);
 }
 
 pub cut_upwards-requires-clause-way : goal.cut_upwards-requires-clause-way
@@ -16,6 +16,6 @@ cut_upwards-requires-clause-way c = λ less. record { side = None; way = (refl, 
 pub returns : goal.returns
 returns c = λ node at.
     sparing-none c.args.arena.now c.args.lists.now c.cut_upwards.new.lists c.args.frames.now c.cut_upwards.new.frames c.args.leaf.0 c.args.first node at
-    (c.cut_upwards.ensures c.args.lists.now c.args.frames.now None
+    (c.cut_upwards.ensures.sparing c.args.lists.now c.args.frames.now None
     (passing-start c.args.arena.now c.args.lists.now c.drop_rows.new.lists c.args.frames.now c.drop_rows.new.frames c.args.leaf.0 c.args.first
-    c.node-node.result c.drop_rows.ensures c.node-node.ensures))
+    c.node-node.result c.drop_rows.ensures.bare c.node-node.ensures))

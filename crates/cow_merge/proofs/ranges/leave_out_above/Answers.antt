@@ -1,7 +1,10 @@
 -- What the parent holds is spared, and the others come to no row of it.
-use Rattle.std.proofs.Common.{◌+◌, None, Some, refl, arith}
+use Rattle.std.proofs.Common.{◌≡◌, ◌+◌, None, Some, refl, sym, subst, ◌∙◌, arith}
+use Rattle.vm_base.proofs.EntryLaws.{some_same}
+use Rattle.page_list.specs.Lists.{slots_of}
+use Rattle.cow_arena.specs.declared.node.Node.{Node}
 use Rattle.cow_arena.specs.Nodes.{side_of}
-use Rattle.cow_merge.proofs.RangeLaws.{passing-above, passing-again, above-there, above-fits, above-parent, above-visible, bare-up}
+use Rattle.cow_merge.proofs.RangeLaws.{passing-above, passing-again, above-there, above-fits, above-parent, above-visible, above-list, bare-up}
 use Rattle.cow_merge.proofs.ranges.leave_out_above.Goals as goal
 
 pub drop_rows-requires-clause-leaf : goal.drop_rows-requires-clause-leaf
@@ -21,7 +24,7 @@ cut_upwards-requires-clause-passing c = record {
   spared = Some c.args.hidden;
   passing = passing-again c.args.arena.now c.args.lists.now c.drop_rows.new.lists c.args.frames.now c.drop_rows.new.frames c.args.leaf.0 0 _ _ _ _ _
       (passing-above c.args.arena.now c.args.lists.now c.drop_rows.new.lists c.args.frames.now c.drop_rows.new.frames c.args.leaf.0
-      c.node-node.result c.args.hidden c.node-above.result c.drop_rows.ensures c.node-node.ensures
+      c.node-node.result c.args.hidden c.node-above.result c.drop_rows.ensures.bare c.node-node.ensures
       (above-parent c.args.arena.now c.args.leaf.0 c.args.hidden c.node-node.result c.requires.leaf c.node-node.ensures) c.node-above.ensures);
 }
 
@@ -34,9 +37,18 @@ cut_upwards-requires-clause-way c = λ less. record {
       (omega arith) (omega arith) (record { side = None; way = (refl, refl) });
 }
 
-pub returns : goal.returns
-returns c =
-    c.cut_upwards.ensures c.args.lists.now c.args.frames.now (Some c.args.hidden)
+pub returns-clause-sparing : goal.returns-clause-sparing
+returns-clause-sparing c =
+    c.cut_upwards.ensures.sparing c.args.lists.now c.args.frames.now (Some c.args.hidden)
     (passing-above c.args.arena.now c.args.lists.now c.drop_rows.new.lists c.args.frames.now c.drop_rows.new.frames c.args.leaf.0
-    c.node-node.result c.args.hidden c.node-above.result c.drop_rows.ensures c.node-node.ensures
+    c.node-node.result c.args.hidden c.node-above.result c.drop_rows.ensures.bare c.node-node.ensures
     (above-parent c.args.arena.now c.args.leaf.0 c.args.hidden c.node-node.result c.requires.leaf c.node-node.ensures) c.node-above.ensures)
+
+pub returns-clause-kept : goal.returns-clause-kept
+returns-clause-kept c = λ above at q.
+    let same : c.node-above.result ≡ above = some_same (sym c.node-above.ensures ∙ at) in
+    subst (λ (n : Node). slots_of c.cut_upwards.new.lists n.list.0 q ≡ slots_of c.args.lists.now n.list.0 q) same
+    (c.cut_upwards.ensures.kept q
+    ∙ c.drop_rows.ensures.others c.node-node.result c.node-node.ensures c.node-above.result.list.0
+    (above-list c.args.arena.now c.args.leaf.0 c.args.hidden c.requires.exact.forest c.node-node.result c.node-above.result c.requires.leaf c.node-node.ensures
+    c.node-above.ensures) q)

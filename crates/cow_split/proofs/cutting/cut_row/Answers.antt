@@ -1,8 +1,13 @@
 -- What a cut at a row does goes by who else sees the row.
 use Rattle.std.proofs.Common.{refl, sym, ap, ◌∙◌, subst, arith}
+use Rattle.vm_base.proofs.EntryLaws.{some_same}
+use Rattle.page_list.specs.Lists.{slots_of}
+use Rattle.cow_arena.specs.declared.node.Node.{Node}
+use Rattle.cow_arena.specs.Walk.{Slots}
 use Rattle.cow_arena.specs.Ways.{HasRow}
+use Rattle.cow_arena.proofs.AlikeLaws.{with_pair-other}
 use Rattle.cow_split.specs.Trees.{tree_of}
-use Rattle.cow_split.specs.Cutting.{HasCut, frame_left}
+use Rattle.cow_split.specs.Cutting.{HasCut, split_on, frame_left}
 use Rattle.cow_split.proofs.CutRowLaws.{cut-zero, cut-shared_row, cut-own_row, cut-unseen}
 use Rattle.cow_split.proofs.cutting.cut_row.Goals as goal
 
@@ -32,3 +37,9 @@ returns-clause-unseen c = λ out in_use exact unseen.
     (c.reached_by_others.ensures.nobody c.if-reached_by_others.false) c.in-Frame.tag c.in-Frame.left c.in-Frame.right
     (subst (HasRow (tree_of c.args.arena.now c.args.lists.now) c.args.node.0 c.args.page) c.in-Frame.is c.requires.row) c.node.result c.node.ensures in
     record { rows = c.split.ensures.slots ∙ same.0; no_frame = ap frame_left c.split.ensures.answer ∙ same.1 }
+
+pub returns-clause-others : goal.returns-clause-others
+returns-clause-others c = λ above at l apart q.
+    ap (λ (x : Slots). x l q) c.split.ensures.slots
+    ∙ with_pair-other (slots_of c.args.lists.now) c.node.result.list.0 c.args.page (split_on c.args.side c.in-Frame.tag c.in-Frame.left c.in-Frame.right) l q
+    (λ list _. apart (list ∙ ap (λ (n : Node). n.list.0) (some_same (sym c.node.ensures ∙ at))))

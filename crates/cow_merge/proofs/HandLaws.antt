@@ -1,0 +1,558 @@
+-- The list of a hidden node goes over to its visible child: each page of it is as if its row had moved into the child's list.
+use Rattle.std.proofs.Common.{◌≡◌, ◌≢◌, ℕ, zero, suc, ◌+◌, ◌-◌, ◌<◌, ◌≤◌, Bool, true, false, if◌then◌else◌, Option, None, Some, IsSome}
+use Rattle.std.proofs.Common.{◌⊎◌, refl, sym, ap, subst, ◌∙◌, inl, inr, arith}
+use Rattle.std.specs.Prelude.{is_some, not, ◌==◌}
+use Rattle.std.proofs.lemmas.Bool.{and_from, ne_eqb, cases_Bool, cases_eq, cases_lt, cond-true, cond-false}
+use Rattle.balanced_tree.specs.Pairs.{with_pair, IsNext}
+use Rattle.balanced_tree.specs.Rows.{Rows}
+use Rattle.vm_base.specs.declared.names.Tag.{Tag}
+use Rattle.vm_base.proofs.EntryLaws.{some_same}
+use Rattle.page_list.specs.Lists.{slots_of, row_count}
+use Rattle.page_list.specs.declared.row.Row.{Row}
+use Rattle.page_list.specs.declared.row.Slot.{Slot}
+use Rattle.page_list.specs.declared.row.Slot.TheVariants as slot
+use Rattle.cow_arena.specs.declared.node.Node.{Node}
+use Rattle.cow_arena.specs.declared.node.Side.{Side}
+use Rattle.cow_arena.specs.declared.node.Side.TheVariants as side
+use Rattle.cow_arena.specs.Nodes.{Arena, nodes_of, IsVisible, other_side, side_of}
+use Rattle.cow_arena.specs.Renamed.{exchanged}
+use Rattle.cow_arena.specs.Walk.{Slots, Tree, tree_with, frame_in}
+use Rattle.cow_arena.proofs.AlikeLaws.{with_pair-same, with_pair-other}
+use Rattle.cow_arena.proofs.RenamedLaws.{exchanged-first, exchanged-second, exchanged-other}
+use Rattle.cow_split.specs.Trees.{with_row}
+use Rattle.cow_split.specs.Exact.{without_frame}
+use Rattle.cow_split.proofs.ExactLaws.{cases_place}
+use Rattle.cow_split.proofs.RowLaws.{exact-in_use_alike, with_row-twice}
+use Rattle.frame_pool.specs.declared.frame_pool.Backlink.{Backlink}
+use Rattle.frame_pool.specs.Pool.{Pool, taken_frames, is_taken, links_of}
+use Rattle.cow_merge.specs.Ranges.{AreLinked, GivesBack, HasGiven}
+use Rattle.cow_merge.specs.Lifting.{IsLifting, IsBefore, IsFamilyOf, AreLifted, SeesRow, IsMoved, bit_on, has_frame}
+use Rattle.cow_merge.specs.HandingOver.{frame_there, HasNoRow, HasRowPut, SeesFromStart, AreSeenFrom, IsHandingOver, HasHandedOver}
+use Rattle.cow_merge.proofs.RangeLaws.{gives-then, gives-same, given-none}
+use Rattle.cow_merge.proofs.LiftedLaws.{has-frame, of-has-frame, link-same, family-lists, row-sees, row-bit, without-none, lifted-gone, lifted-moved}
+
+-- both bits are clear
+both-clear : (from : Side) (left right : Bool) → bit_on from left right ≡ false → bit_on (other_side from) left right ≡ false → (left ≡ false) × (right ≡ false)
+both-clear side.Left left right one other = (one, other)
+both-clear side.Right left right one other = (other, one)
+
+-- what holds of the two lists, and of each other one, holds of each as it is exchanged
+by-exchange : (P : ℕ → ℕ → Type 0) (a b : ℕ) → P a b → P b a → ((l : ℕ) → l ≢ a → l ≢ b → P l l) → (l : ℕ) → P l (exchanged a b l)
+by-exchange P a b first second other l = elim (cases_eq l a) [
+  | inl here ↦ subst (λ x. P x (exchanged a b x)) (sym here) (subst (P a) (sym (exchanged-first a b)) first)
+  | inr l_a ↦ elim (cases_eq l b) [
+    | inl there ↦ subst (λ x. P x (exchanged a b x)) (sym there) (subst (P b) (sym (exchanged-second a b)) second)
+    | inr l_b ↦ subst (P l) (sym (exchanged-other a b l l_a l_b)) (other l l_a l_b)
+  ]
+]
+
+-- the pool is another, in which the same frames are taken
+lifted-pool : (arena : Arena) (old : Rows Row) (slots : Slots) (before between after : Pool) (k h s : ℕ) (of : IsFamilyOf arena k h s) →
+    AreLifted arena old slots before between k h s of → ((x : ℕ) → is_taken after x ≡ is_taken between x) → GivesBack between after →
+    AreLifted arena old slots before after k h s of
+lifted-pool arena old slots before between after k h s of was taken gives = record {
+  out = was.out;
+  exact = exact-in_use_alike (tree_with (nodes_of arena) arena.lists slots) was.out (is_taken between) (is_taken after) (λ x. sym (taken x)) was.exact;
+  only = was.only;
+  shows = was.shows;
+  bare = was.bare;
+  held = was.held;
+  gives = gives-then before between after was.gives gives;
+}
+
+-- ---- one page
+
+-- One page more has gone over.
+module _ (arena : Arena) (old new late : Rows Row) (before after last : Pool) (k h s q : ℕ) (was : IsHandingOver arena old new before after k h s q)
+    (slots : Slots) (lifted : AreLifted arena old slots before last k h s was.of) (others : (l p : ℕ) → p ≢ q → slots l p ≡ was.slots l p)
+    (gone : slots was.of.parent.list.0 q ≡ None) (beside : (l p : ℕ) → p ≢ q → slots_of late l p ≡ slots_of new l p)
+    (here : (l : ℕ) → slots_of late l q ≡ slots (exchanged was.of.parent.list.0 was.of.sibling.list.0 l) q) where
+  was-row : (p : ℕ) (row : Slot) → slots was.of.parent.list.0 p ≡ Some row → was.slots was.of.parent.list.0 p ≡ Some row
+  was-row p row at = elim (cases_eq p q) [
+    | inl same ↦ absurd (let none = ap (slots was.of.parent.list.0) same ∙ gone in cc)
+    | inr apart ↦ sym (others was.of.parent.list.0 p apart) ∙ at
+  ]
+
+  over-next : (AreLinked new after → AreLinked late last) → new.spare ≤ late.spare → row_count late ≤ row_count new →
+      IsHandingOver arena old late before last k h s (q + 1)
+  over-next linked spare count = record {
+    of = was.of;
+    slots = slots;
+    lifted = lifted;
+    sees = was.sees;
+    passed = λ l p less. elim (cases_eq p q) [
+      | inl same ↦ subst (λ x. slots_of late l x ≡ slots (exchanged was.of.parent.list.0 was.of.sibling.list.0 l) x) (sym same) (here l)
+      | inr apart ↦
+          beside l p apart
+          ∙ (was.passed l p (omega arith) ∙ sym (others (exchanged was.of.parent.list.0 was.of.sibling.list.0 l) p apart))
+    ];
+    ahead = λ l p more.
+        let apart : p ≢ q = λ same. absurd (omega arith) in
+        beside l p apart ∙ (was.ahead l p (omega arith) ∙ sym (others l p apart));
+    empty = λ p less. elim (cases_eq p q) [
+      | inl same ↦ ap (slots was.of.parent.list.0) same ∙ gone
+      | inr apart ↦ others was.of.parent.list.0 p apart ∙ was.empty p (omega arith)
+    ];
+    inside = λ p some. elim (cases_eq p q) [
+      | inl same ↦ absurd (let none = ap is_some (ap (slots was.of.parent.list.0) same ∙ gone) in cc)
+      | inr apart ↦ was.inside p (ap is_some (sym (others was.of.parent.list.0 p apart)) ∙ some)
+    ];
+    seen = λ end. record { bit = λ p tag left right least less at. (was.seen end).bit p tag left right least less (was-row p (slot.Frame tag left right) at) };
+    linked = λ ok. linked (was.linked ok);
+    spare = omega (arith, was.spare);
+    count = omega (arith, was.count);
+  }
+
+module _ (arena : Arena) (old new : Rows Row) (before after : Pool) (k h s q : ℕ) (was : IsHandingOver arena old new before after k h s q) where
+  abbrev up : ℕ
+  up = was.of.parent.list.0
+
+  abbrev own : ℕ
+  own = was.of.sibling.list.0
+
+  abbrev now_tree : Tree
+  now_tree = tree_with (nodes_of arena) arena.lists was.slots
+
+  apart-lists : own ≢ up
+  apart-lists same = (family-lists arena k h s was.lifted.exact.forest was.of).2 (sym same)
+
+  its-page : q - was.of.sibling.first ≡ q
+  its-page = omega (arith, was.sees.first)
+
+  shown : IsVisible (nodes_of arena) s was.of.sibling
+  shown = record { at = was.of.family.sibling_at; koid = was.sees.visible }
+
+  -- the child has no row of its own there
+  module _ (free : slots_of new own q ≡ None) where
+    free-there : was.slots own q ≡ None
+    free-there = sym (was.ahead own q (omega arith)) ∙ free
+
+    sees-it : (row : Slot) → was.slots up q ≡ Some row → SeesRow was.slots was.of.sibling q
+    sees-it row has = record {
+      from = omega (arith, was.sees.first);
+      inside = omega (arith, was.sees.first, was.inside q (ap is_some has));
+      free = subst (λ x. was.slots own x ≡ None) (sym its-page) free-there;
+    }
+
+    its-bit : (row : Slot) → was.slots up q ≡ Some row → (tag : Tag) (left right : Bool) → row ≡ slot.Frame tag left right →
+        bit_on (other_side (side_of was.of.parent k)) left right ≡ false
+    its-bit row has tag left right e =
+        row-bit now_tree k h s was.of.node was.of.parent was.of.sibling was.of.family was.of.visible q row has was.lifted.out (is_taken after) was.lifted.exact
+        was.lifted.only was.lifted.bare tag left right e shown (sees-it row has)
+
+    -- a row with a frame is the one that the child would have
+    same-row : (row : Slot) → was.slots up q ≡ Some row → IsMoved (with_row now_tree up q None) s (q - was.of.sibling.first) was.of.sibling row row
+    same-row row has = record {
+      frame = refl;
+      plain = λ tag left right e _.
+          both-clear (side_of was.of.parent k) left right ((was.seen (q + 1)).bit q tag left right (omega arith) (omega arith) (has ∙ ap Some e)) (its-bit row has tag left right e);
+      split = λ tag left right e none. absurd (let some = was.sees.visible in let no = ap is_some none in cc);
+    }
+
+    abbrev moved : Slot → Slots
+    moved row = with_pair (with_pair was.slots up q None) own q (Some row)
+
+    lifted-same : (row : Slot) → was.slots up q ≡ Some row → AreLifted arena old (moved row) before after k h s was.of
+    lifted-same row has =
+        subst (λ x. AreLifted arena old (with_pair (with_pair was.slots up q None) own x (Some row)) before after k h s was.of) its-page
+        (lifted-moved arena old was.slots before after after k h s was.of q row was.lifted has (gives-same after) row (sees-it row has) (its-bit row has)
+        (same-row row has) (λ x. refl))
+
+    moved-up : (row : Slot) → moved row up q ≡ None
+    moved-up row =
+        with_pair-other (with_pair was.slots up q None) own q (Some row) up q (λ list _. apart-lists (sym list)) ∙ with_pair-same was.slots up q None
+
+    pub over-passed : IsHandingOver arena old new before after k h s (q + 1)
+    over-passed = by_row (was.slots up q) refl
+      where
+        by_row : (o : Option Slot) → was.slots up q ≡ o → IsHandingOver arena old new before after k h s (q + 1)
+        by_row None none = over-next arena old new new before after after k h s q was was.slots was.lifted (λ l p apart. refl) none (λ l p apart. refl)
+            (λ l. was.ahead l q (omega arith)
+            ∙ by-exchange (λ a b. was.slots a q ≡ was.slots b q) up own (none ∙ sym free-there) (free-there ∙ sym none) (λ l l_a l_b. refl) l)
+            (λ ok. ok) (omega arith) (omega arith)
+        by_row (Some row) has = over-next arena old new new before after after k h s q was (moved row) (lifted-same row has)
+            (λ l p apart.
+            with_pair-other (with_pair was.slots up q None) own q (Some row) l p (λ _ page. apart page)
+            ∙ with_pair-other was.slots up q None l p (λ _ page. apart page))
+            (moved-up row) (λ l p apart. refl)
+            (λ l. was.ahead l q (omega arith)
+            ∙ by-exchange (λ a b. was.slots a q ≡ moved row b q) up own
+            (has ∙ sym (with_pair-same (with_pair was.slots up q None) own q (Some row)))
+            (free-there ∙ sym (moved-up row))
+            (λ l l_a l_b. sym (with_pair-other (with_pair was.slots up q None) own q (Some row) l q (λ list _. l_b list)
+            ∙ with_pair-other was.slots up q None l q (λ list _. l_a list))) l)
+            (λ ok. ok) (omega arith) (omega arith)
+
+  -- its own row there was taken out, and put into the list of its parent
+  module _ (mid late : Rows Row) (last : Pool) (row : Slot) (has : slots_of new own q ≡ Some row) (taken_out : slots_of mid ≡ with_pair (slots_of new) own q None)
+      (put : HasRowPut mid late after last up q row) where
+    has-there : was.slots own q ≡ Some row
+    has-there = sym (was.ahead own q (omega arith)) ∙ has
+
+    -- the row of the parent is as it was
+    under : slots_of mid up q ≡ was.slots up q
+    under =
+        ap (λ (x : Slots). x up q) taken_out
+        ∙ (with_pair-other (slots_of new) own q None up q (λ list _. apart-lists (sym list)) ∙ was.ahead up q (omega arith))
+
+    taken-now : (x : ℕ) → is_taken last x ≡ without_frame (is_taken after) (frame_there (was.slots up q)) x
+    taken-now x = put.taken x ∙ ap (λ (o : Option Slot). without_frame (is_taken after) (frame_there o) x) under
+
+    both-lists : Slots
+    both-lists = with_pair (with_pair (slots_of new) own q None) up q (Some row)
+
+    late-is : slots_of late ≡ with_pair (with_pair (slots_of new) own q None) up q (Some row)
+    late-is = put.slots ∙ ap (λ (x : Slots). with_pair x up q (Some row)) taken_out
+
+    late-other : (l p : ℕ) → ((l ≡ up) × (p ≡ q) → ⊥) → ((l ≡ own) × (p ≡ q) → ⊥) → slots_of late l p ≡ slots_of new l p
+    late-other l p not_up not_own =
+        ap (λ (x : Slots). x l p) late-is
+        ∙ (with_pair-other (with_pair (slots_of new) own q None) up q (Some row) l p (λ list page. not_up (list, page))
+        ∙ with_pair-other (slots_of new) own q None l p (λ list page. not_own (list, page)))
+
+    late-up : slots_of late up q ≡ Some row
+    late-up = ap (λ (x : Slots). x up q) late-is ∙ with_pair-same (with_pair (slots_of new) own q None) up q (Some row)
+
+    late-own : slots_of late own q ≡ None
+    late-own =
+        ap (λ (x : Slots). x own q) late-is
+        ∙ (with_pair-other (with_pair (slots_of new) own q None) up q (Some row) own q (λ list _. apart-lists list)
+        ∙ with_pair-same (slots_of new) own q None)
+
+    -- a row is the one that was put, or it was there
+    put-or-was : (m r : ℕ) (other : Slot) → slots_of late m r ≡ Some other →
+        ((m ≡ up) × (r ≡ q) × (other ≡ row)) ⊎ (((m ≡ own) × (r ≡ q) → ⊥) × (slots_of new m r ≡ Some other))
+    put-or-was m r other e = elim (cases_place up q m r) [
+      | inl here ↦ inl (here.0, here.1, some_same (sym e ∙ (ap (λ x. slots_of late x r) here.0 ∙ (ap (slots_of late up) here.1 ∙ late-up))))
+      | inr not_up ↦ elim (cases_place own q m r) [
+        | inl there ↦ absurd (let none = ap (λ x. slots_of late x r) there.0 ∙ (ap (slots_of late own) there.1 ∙ late-own) in cc)
+        | inr not_own ↦ inr (not_own, sym (late-other m r not_up not_own) ∙ e)
+      ]
+    ]
+
+    put-linked : AreLinked new after → AreLinked late last
+    put-linked linked = record {
+      linked = λ m r other tag e frame. elim (put-or-was m r other e) [
+        | inl here ↦
+            let on = has-frame tag row (ap frame_in (sym here.2) ∙ frame) in
+            put.links tag ∙ (cond-true _ _ _ on ∙ link-same up m q r (sym here.0) (sym here.1))
+        | inr there ↦
+            let was_linked = linked.linked m r other tag there.1 frame in
+            elim (cases_Bool (has_frame tag row)) [
+              | inr off ↦ put.links tag ∙ (cond-false _ _ _ off ∙ was_linked)
+              | inl on ↦
+                  let one = linked.linked own q row tag has (of-has-frame tag row on) in
+                  let same = sym was_linked ∙ one in
+                  absurd (there.0 (ap (λ (b : Backlink). b.list) same, ap (λ (b : Backlink). b.page) same))
+            ]
+      ];
+    }
+
+    -- a row of the parent under it goes
+    covers : (other : Slot) → SeesRow was.slots was.of.sibling q → ⊥
+    covers other sees = absurd (let none = subst (λ x. was.slots own x ≡ None) its-page sees.free in let some = has-there in cc)
+
+    here-now : (slots : Slots) → slots own q ≡ Some row → slots up q ≡ None → ((l : ℕ) → l ≢ up → l ≢ own → slots l q ≡ was.slots l q) → (l : ℕ) →
+        slots_of late l q ≡ slots (exchanged up own l) q
+    here-now slots at gone others = by-exchange (λ a b. slots_of late a q ≡ slots b q) up own (late-up ∙ sym at) (late-own ∙ sym gone)
+        (λ l l_a l_b. late-other l q (λ both. l_a both.0) (λ both. l_b both.0) ∙ (was.ahead l q (omega arith) ∙ sym (others l l_a l_b)))
+
+    pub over-put : mid.spare ≡ new.spare + 1 → row_count mid + 1 ≡ row_count new → IsHandingOver arena old late before last k h s (q + 1)
+    over-put spare count = by_row (was.slots up q) refl
+      where
+        next : (slots : Slots) → AreLifted arena old slots before last k h s was.of → ((l p : ℕ) → p ≢ q → slots l p ≡ was.slots l p) →
+            slots up q ≡ None → slots own q ≡ Some row → ((l : ℕ) → l ≢ up → l ≢ own → slots l q ≡ was.slots l q) →
+            IsHandingOver arena old late before last k h s (q + 1)
+        next slots lifted others gone at beside = over-next arena old new late before after last k h s q was slots lifted others gone
+            (λ l p apart. late-other l p (λ both. apart both.1) (λ both. apart both.1)) (here-now slots at gone beside) put-linked
+            (omega (arith, put.spare)) (omega (arith, put.count))
+
+        by_row : (o : Option Slot) → was.slots up q ≡ o → IsHandingOver arena old late before last k h s (q + 1)
+        by_row None none = next was.slots
+            (lifted-pool arena old was.slots before after last k h s was.of was.lifted
+            (λ x. taken-now x ∙ (ap (λ (o : Option Slot). without_frame (is_taken after) (frame_there o) x) none ∙ sym (without-none (is_taken after) x))) put.gives)
+            (λ l p apart. refl) none has-there (λ l l_a l_b. refl)
+        by_row (Some other) there = next (with_pair was.slots up q None)
+            (lifted-gone arena old was.slots before after last k h s was.of q other was.lifted there put.gives
+            ((λ tag left right e. bit-set tag left right e), (λ e sees. covers other sees))
+            (λ x. taken-now x ∙ ap (λ (o : Option Slot). without_frame (is_taken after) (frame_there o) x) there))
+            (λ l p apart. with_pair-other was.slots up q None l p (λ _ page. apart page))
+            (with_pair-same was.slots up q None)
+            (with_pair-other was.slots up q None own q (λ list _. apart-lists list) ∙ has-there)
+            (λ l l_a l_b. with_pair-other was.slots up q None l q (λ list _. l_a list))
+          where
+            bit-set : (tag : Tag) (left right : Bool) → other ≡ slot.Frame tag left right → bit_on (other_side (side_of was.of.parent k)) left right ≡ true
+            bit-set tag left right e = elim (cases_Bool (bit_on (other_side (side_of was.of.parent k)) left right)) [
+              | inl on ↦ on
+              | inr off ↦ absurd (covers other (row-sees now_tree k h s was.of.node was.of.parent was.of.sibling was.of.family was.of.visible q other there
+                  was.lifted.out (is_taken after) was.lifted.exact was.lifted.only was.lifted.bare tag left right e off))
+            ]
+
+-- ---- all pages
+
+-- it begins where the rows of the parent are all seen by both, but where the child has rows
+pub over-start : (arena : Arena) (old new : Rows Row) (before after : Pool) (k h s : ℕ) (was : IsLifting arena old new before after k h s) →
+    SeesFromStart was.of.sibling → ((q : ℕ) → IsSome (slots_of new was.of.parent.list.0 q) → q < was.of.sibling.seen) →
+    ((end : ℕ) → AreSeenFrom (slots_of new) was.of.parent k 0 end) → IsHandingOver arena old new before after k h s 0
+over-start arena old new before after k h s was sees inside seen = record {
+  of = was.of;
+  slots = slots_of new;
+  lifted = was.lifted;
+  sees = sees;
+  passed = λ l p less. absurd (omega arith);
+  ahead = λ l p from. refl;
+  empty = λ p less. absurd (omega arith);
+  inside = inside;
+  seen = seen;
+  linked = was.linked;
+  spare = was.spare;
+  count = was.count;
+}
+
+-- It begins where the rows of the parent were all seen in a window, and those outside of it are gone.
+pub over-ready : (arena : Arena) (old first new : Rows Row) (before after : Pool) (k h s low high end : ℕ) (was : IsLifting arena old new before after k h s) →
+    SeesFromStart was.of.sibling → AreSeenFrom (slots_of first) was.of.parent k low high → end ≤ was.of.sibling.seen → end ≤ high →
+    ((p : ℕ) → p < low → slots_of new was.of.parent.list.0 p ≡ None) → ((p : ℕ) → end ≤ p → slots_of new was.of.parent.list.0 p ≡ None) →
+    ((p : ℕ) (row : Slot) → slots_of new was.of.parent.list.0 p ≡ Some row → slots_of first was.of.parent.list.0 p ≡ Some row) →
+    IsHandingOver arena old new before after k h s 0
+over-ready arena old first new before after k h s low high end was sees seen fits within none_before none_from others =
+    over-start arena old new before after k h s was sees
+    (λ q some. elim (cases_lt q end) [
+      | inl less ↦ omega arith
+      | inr past ↦ absurd (let none = ap is_some (none_from q past) in cc)
+    ])
+    (λ last. record {
+      bit = λ q tag left right _ _ at. elim (cases_lt q end) [
+        | inr past ↦ absurd (let none = none_from q past in cc)
+        | inl less ↦ elim (cases_lt q low) [
+          | inl before ↦ absurd (let none = none_before q before in cc)
+          | inr from ↦ seen.bit q tag left right from (omega arith) (others q (slot.Frame tag left right) at)
+        ]
+      ];
+    })
+
+-- the same of what was found: rows before the window of the leaf went, and then those from the end of the two windows on
+pub over-lifted : (arena : Arena) (old first mid new : Rows Row) (before after : Pool) (k h s end : ℕ) (leaf child : Node) → nodes_of arena k ≡ Some leaf →
+    nodes_of arena s ≡ Some child → IsLifting arena old new before after k h s →
+    ((node : Node) → nodes_of arena s ≡ Some node → SeesFromStart node) →
+    ((node parent : Node) → nodes_of arena k ≡ Some node → nodes_of arena h ≡ Some parent →
+    AreSeenFrom (slots_of first) parent k node.first (node.first + node.seen)) →
+    end ≤ child.seen → end ≤ leaf.first + leaf.seen →
+    ((parent : Node) → nodes_of arena h ≡ Some parent → (p : ℕ) → 0 ≤ p → IsBefore (Some leaf.first) p → slots_of mid parent.list.0 p ≡ None) →
+    ((parent : Node) → nodes_of arena h ≡ Some parent → (p : ℕ) (row : Slot) → slots_of mid parent.list.0 p ≡ Some row →
+    slots_of first parent.list.0 p ≡ Some row) →
+    ((parent : Node) → nodes_of arena h ≡ Some parent → (p : ℕ) → end ≤ p → IsBefore None p → slots_of new parent.list.0 p ≡ None) →
+    ((parent : Node) → nodes_of arena h ≡ Some parent → (p : ℕ) (row : Slot) → slots_of new parent.list.0 p ≡ Some row →
+    slots_of mid parent.list.0 p ≡ Some row) →
+    IsHandingOver arena old new before after k h s 0
+over-lifted arena old first mid new before after k h s end leaf child leaf_at child_at was sees seen short within empty others ended left =
+    let node : leaf ≡ was.of.node = some_same (sym leaf_at ∙ was.of.family.at) in
+    let sibling : child ≡ was.of.sibling = some_same (sym child_at ∙ was.of.family.sibling_at) in
+    let at = was.of.family.parent_at in
+    let low = ap (λ (n : Node). n.first) node in
+    let width = ap (λ (n : Node). n.seen) node in
+    let its = ap (λ (n : Node). n.seen) sibling in
+    over-ready arena old first new before after k h s was.of.node.first (was.of.node.first + was.of.node.seen) end was
+    (sees was.of.sibling was.of.family.sibling_at)
+    (seen was.of.node was.of.parent was.of.family.at at)
+    (omega arith) (omega arith)
+    (λ p before. none-kept (slots_of mid was.of.parent.list.0) (slots_of new was.of.parent.list.0) p (left was.of.parent at p)
+    (empty was.of.parent at p (omega arith) (omega arith)))
+    (λ p from. ended was.of.parent at p from tt)
+    (λ p row there. others was.of.parent at p row (left was.of.parent at p row there))
+  where
+    none-kept : (old new : ℕ → Option Slot) (p : ℕ) → ((row : Slot) → new p ≡ Some row → old p ≡ Some row) → old p ≡ None → new p ≡ None
+    none-kept old new p was none = by_row (new p) refl
+      where
+        by_row : (o : Option Slot) → new p ≡ o → new p ≡ None
+        by_row None e = e
+        by_row (Some row) e = absurd (let some = was row e in cc)
+
+module _ (arena : Arena) (old new : Rows Row) (before after : Pool) (k h s : ℕ) (child : Node) (child_at : nodes_of arena s ≡ Some child) where
+  -- pages at which the child has no rows go over as they are
+  pub over-skipped : (n from : ℕ) → IsHandingOver arena old new before after k h s from →
+      ((p : ℕ) → from ≤ p → p < from + n → slots_of new child.list.0 p ≡ None) → IsHandingOver arena old new before after k h s (from + n)
+  over-skipped zero from was none = subst (λ x. IsHandingOver arena old new before after k h s x) (omega arith) was
+  over-skipped (suc n) from was none =
+      let one : child ≡ was.of.sibling = some_same (sym child_at ∙ was.of.family.sibling_at) in
+      let here = over-passed arena old new before after k h s from was
+      (subst (λ (x : Node). slots_of new x.list.0 from ≡ None) one (none from (omega arith) (omega arith))) in
+      subst (λ x. IsHandingOver arena old new before after k h s x) (omega arith)
+      (over-skipped n (from + 1) here (λ p least less. none p (omega arith) (omega arith)))
+
+  -- and so do all that are left, where it has no more
+  pub over-end : (from : ℕ) → IsHandingOver arena old new before after k h s from → ((p : ℕ) → from ≤ p → slots_of new child.list.0 p ≡ None) →
+      HasHandedOver arena old new before after k h s
+  over-end from was none =
+      let last = over-skipped child.seen from was (λ p least less. none p least) in
+      let one : child ≡ last.of.sibling = some_same (sym child_at ∙ last.of.family.sibling_at) in
+      let count = ap (λ (x : Node). x.seen) one in
+      let empty : (p : ℕ) → last.slots last.of.parent.list.0 p ≡ None = λ p. ended last count p in
+      record {
+        of = last.of;
+        slots = last.slots;
+        lifted = last.lifted;
+        empty = empty;
+        rows = λ l p. elim (cases_lt p (from + child.seen)) [
+          | inl less ↦ last.passed l p less
+          | inr past ↦
+              let own : last.slots last.of.sibling.list.0 p ≡ None =
+              sym (last.ahead last.of.sibling.list.0 p past) ∙ subst (λ (x : Node). slots_of new x.list.0 p ≡ None) one (none p (omega arith)) in
+              last.ahead l p past
+              ∙ by-exchange (λ a b. last.slots a p ≡ last.slots b p) last.of.parent.list.0 last.of.sibling.list.0
+              (empty p ∙ sym own) (own ∙ sym (empty p)) (λ l l_a l_b. refl) l
+        ];
+        linked = last.linked;
+        spare = last.spare;
+        count = last.count;
+      }
+    where
+      ended : (last : IsHandingOver arena old new before after k h s (from + child.seen)) → child.seen ≡ last.of.sibling.seen → (p : ℕ) →
+          last.slots last.of.parent.list.0 p ≡ None
+      ended last count p = elim (cases_lt p (from + child.seen)) [
+        | inl less ↦ last.empty p less
+        | inr past ↦ by_row past (last.slots last.of.parent.list.0 p) refl
+      ]
+        where
+          by_row : from + child.seen ≤ p → (o : Option Slot) → last.slots last.of.parent.list.0 p ≡ o → last.slots last.of.parent.list.0 p ≡ None
+          by_row past None e = e
+          by_row past (Some row) e = absurd (let within = last.inside p (ap is_some e) in omega arith)
+
+-- a row of the child is next
+module _ (arena : Arena) (old new : Rows Row) (before after : Pool) (k h s from : ℕ) (was : IsHandingOver arena old new before after k h s from)
+    (child : Node) (child_at : nodes_of arena s ≡ Some child) (q : ℕ) (row : Slot) (least : from ≤ q) (has : slots_of new child.list.0 q ≡ Some row) where
+  child-is : child ≡ was.of.sibling
+  child-is = some_same (sym child_at ∙ was.of.family.sibling_at)
+
+  its-row : was.slots was.of.sibling.list.0 q ≡ Some row
+  its-row = sym (was.ahead was.of.sibling.list.0 q least) ∙ subst (λ (n : Node). slots_of new n.list.0 q ≡ Some row) child-is has
+
+  -- its frame is taken
+  pub hand-taken : (tag : ℕ) → frame_in row ≡ Some tag → IsSome (taken_frames after tag)
+  hand-taken tag frame = was.lifted.exact.used was.of.sibling.list.0 q row tag its-row frame
+
+  -- and its page is one of the child
+  pub hand-below : q < child.count
+  hand-below =
+      let below = was.lifted.exact.below s q was.of.sibling row (record { at = was.of.family.sibling_at; koid = was.sees.visible }) its-row in
+      let count = ap (λ (n : Node). n.count) child-is in
+      omega arith
+
+  module _ (parent : Node) (parent_at : nodes_of arena h ≡ Some parent) (mid : Rows Row) (taken_out : slots_of mid ≡ with_pair (slots_of new) child.list.0 q None) where
+    parent-is : parent ≡ was.of.parent
+    parent-is = some_same (sym parent_at ∙ was.of.family.parent_at)
+
+    mid-is : slots_of mid ≡ with_pair (slots_of new) was.of.sibling.list.0 q None
+    mid-is = subst (λ (n : Node). slots_of mid ≡ with_pair (slots_of new) n.list.0 q None) child-is taken_out
+
+    two-lists : was.of.sibling.list.0 ≢ was.of.parent.list.0
+    two-lists same = (family-lists arena k h s was.lifted.exact.forest was.of).2 (sym same)
+
+    under-is : slots_of mid parent.list.0 q ≡ was.slots was.of.parent.list.0 q
+    under-is =
+        ap (λ (n : Node). slots_of mid n.list.0 q) parent-is
+        ∙ (ap (λ (x : Slots). x was.of.parent.list.0 q) mid-is
+        ∙ (with_pair-other (slots_of new) was.of.sibling.list.0 q None was.of.parent.list.0 q (λ list _. two-lists (sym list))
+        ∙ was.ahead was.of.parent.list.0 q least))
+
+    frame-under : (o : Option Slot) (tag : ℕ) → frame_there o ≡ Some tag → (other : Slot) × (o ≡ Some other) × (frame_in other ≡ Some tag)
+    frame-under None tag e = absurd (cc)
+    frame-under (Some other) tag e = (other, refl, e)
+
+    -- the frame of the row of the parent there is taken, and is another
+    pub hand-under : (tag : ℕ) → frame_there (slots_of mid parent.list.0 q) ≡ Some tag → IsSome (taken_frames after tag)
+    hand-under tag e =
+        let it = frame-under (was.slots was.of.parent.list.0 q) tag (ap frame_there (sym under-is) ∙ e) in
+        was.lifted.exact.used was.of.parent.list.0 q it.0 tag it.1 it.2
+
+    pub hand-apart : (tag : ℕ) → frame_in row ≡ Some tag → frame_there (slots_of mid parent.list.0 q) ≡ Some tag → ⊥
+    hand-apart tag frame e =
+        let it = frame-under (was.slots was.of.parent.list.0 q) tag (ap frame_there (sym under-is) ∙ e) in
+        two-lists (was.lifted.exact.once was.of.sibling.list.0 q was.of.parent.list.0 q tag row it.0 its-row it.1 frame it.2).0
+
+    -- it was put there, and the pages before it have gone over
+    pub hand-next : IsNext (slots_of new child.list.0) from (Some q) → (late : Rows Row) (last : Pool) → HasRowPut mid late after last parent.list.0 q row →
+        mid.spare ≡ new.spare + 1 → row_count mid + 1 ≡ row_count new → IsHandingOver arena old late before last k h s (q + 1)
+    hand-next next late last put spare count =
+        let here = subst (λ x. IsHandingOver arena old new before after k h s x) (omega arith)
+        (over-skipped arena old new before after k h s child child_at (q - from) from was (λ p from_on less. (next.least q refl).2 p from_on (omega arith))) in
+        put-next here late last put spare count
+      where
+        put-next : (here : IsHandingOver arena old new before after k h s q) (late : Rows Row) (last : Pool) → HasRowPut mid late after last parent.list.0 q row →
+            mid.spare ≡ new.spare + 1 → row_count mid + 1 ≡ row_count new → IsHandingOver arena old late before last k h s (q + 1)
+        put-next here late last put =
+            let up : parent ≡ here.of.parent = some_same (sym parent_at ∙ here.of.family.parent_at) in
+            let own : child ≡ here.of.sibling = some_same (sym child_at ∙ here.of.family.sibling_at) in
+            over-put arena old new before after k h s q here mid late last row
+            (subst (λ (n : Node). slots_of new n.list.0 q ≡ Some row) own has)
+            (subst (λ (n : Node). slots_of mid ≡ with_pair (slots_of new) n.list.0 q None) own taken_out)
+            (subst (λ (n : Node). HasRowPut mid late after last n.list.0 q row) up put)
+
+-- ---- one row that is put
+
+-- no row changes where there is none
+without-none-there : (slots : Slots) (l q : ℕ) → slots l q ≡ None → slots ≡ with_pair slots l q None
+without-none-there slots l q none = λ i m r. each m r i
+  where
+    each : (m r : ℕ) → slots m r ≡ with_pair slots l q None m r
+    each m r = elim (cases_place l q m r) [
+      | inl here ↦
+          (ap (λ x. slots x r) here.0 ∙ (ap (slots l) here.1 ∙ none))
+          ∙ sym (ap (λ x. with_pair slots l q None x r) here.0 ∙ (ap (with_pair slots l q None l) here.1 ∙ with_pair-same slots l q None))
+      | inr differs ↦ sym (with_pair-other slots l q None m r (λ x y. differs (x, y)))
+    ]
+
+-- there was none
+pub no-row : (rows : Rows Row) (pool : Pool) (l q : ℕ) → slots_of rows l q ≡ None → HasNoRow rows rows pool pool l q
+no-row rows pool l q none = record {
+  slots = without-none-there (slots_of rows) l q none;
+  given = subst (HasGiven pool pool) (sym (ap frame_there none)) (given-none pool);
+  spare = omega arith;
+  count = omega arith;
+}
+
+-- there was one, which was taken out
+pub no-row-more : (old new : Rows Row) (before after : Pool) (l q : ℕ) (row : Slot) → slots_of old l q ≡ Some row →
+    slots_of new ≡ with_pair (slots_of old) l q None → HasGiven before after (frame_in row) → new.spare ≡ old.spare + 1 →
+    row_count new + 1 ≡ row_count old → HasNoRow old new before after l q
+no-row-more old new before after l q row at slots given spare count = record {
+  slots = slots;
+  given = subst (HasGiven before after) (sym (ap frame_there at)) given;
+  spare = omega (arith, spare);
+  count = omega (arith, count);
+}
+
+-- a frame that did not go is still in use
+still-used : (in_use : ℕ → Bool) (frame : Option ℕ) (tag : ℕ) → in_use tag ≡ true → (frame ≡ Some tag → ⊥) → without_frame in_use frame tag ≡ true
+unfolding without_frame
+still-used in_use None tag used apart = used
+still-used in_use (Some other) tag used apart =
+    and_from (not (tag == other)) (in_use tag) (ap not (ne_eqb tag other (λ same. apart (ap Some (sym same))))) used
+
+-- the frame of the row that is put is taken
+pub put-taken : (old mid : Rows Row) (before between : Pool) (l q tag : ℕ) → HasNoRow old mid before between l q → IsSome (taken_frames before tag) →
+    (frame_there (slots_of old l q) ≡ Some tag → ⊥) → IsSome (taken_frames between tag)
+put-taken old mid before between l q tag gone taken apart =
+    gone.given.taken tag ∙ still-used (is_taken before) (frame_there (slots_of old l q)) tag taken apart
+
+-- the page has no row then, so that one can be put
+pub put-free : (old mid : Rows Row) (before between : Pool) (l q : ℕ) → HasNoRow old mid before between l q → slots_of mid l q ≡ None
+put-free old mid before between l q gone = ap (λ (x : Slots). x l q) gone.slots ∙ with_pair-same (slots_of old) l q None
+
+-- of two slots of a page the second stays
+put-twice : (slots : Slots) (l q : ℕ) (first second : Option Slot) → with_pair (with_pair slots l q first) l q second ≡ with_pair slots l q second
+put-twice slots l q first second = ap (λ (u : Tree). u.slots) (with_row-twice (tree_with (λ k. None) 0 slots) l q first second)
+
+pub row-put : (old mid new : Rows Row) (before between after : Pool) (l q : ℕ) (row : Slot) → HasNoRow old mid before between l q →
+    slots_of new ≡ with_pair (slots_of mid) l q (Some row) → row_count new ≡ row_count mid + 1 → new.spare + 1 ≡ mid.spare →
+    taken_frames after ≡ taken_frames between → after.frames ≡ between.frames →
+    ((t : ℕ) → links_of after t ≡ (if has_frame t row then record { list = l; page = q } else links_of between t)) →
+    HasRowPut old new before after l q row
+row-put old mid new before between after l q row gone slots count spare taken frames links = record {
+  slots = slots ∙ (ap (λ (x : Slots). with_pair x l q (Some row)) gone.slots ∙ put-twice (slots_of old) l q None (Some row));
+  taken = λ t. ap (λ f. is_some (f t)) taken ∙ gone.given.taken t;
+  gives = gives-then before between after gone.given.gives (record { frames = frames; kept = λ t. inl (ap (λ f. f t) taken) });
+  links = λ t. links t ∙ ap (λ f. if has_frame t row then record { list = l; page = q } else f t) gone.given.links;
+  spare = omega (arith, gone.spare);
+  count = omega (arith, gone.count);
+}

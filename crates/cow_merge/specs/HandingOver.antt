@@ -1,0 +1,78 @@
+-- The rows of a hidden node stay in its list, and those of its visible child come to them: the list goes over to the child.
+use Rattle.std.specs.Prelude.{◌≡◌, ℕ, ◌+◌, ◌<◌, ◌≤◌, Bool, false, if◌then◌else◌, Option, None, Some, IsSome}
+use Rattle.balanced_tree.specs.Pairs.{with_pair}
+use Rattle.balanced_tree.specs.Rows.{Rows}
+use Rattle.vm_base.specs.declared.names.Tag.{Tag}
+use Rattle.page_list.specs.declared.row.Row.{Row}
+use Rattle.page_list.specs.declared.row.Slot.{Slot}
+use Rattle.page_list.specs.declared.row.Slot.TheVariants as slot
+use Rattle.page_list.specs.Lists.{slots_of, row_count}
+use Rattle.frame_pool.specs.Pool.{Pool, is_taken, links_of}
+use Rattle.cow_arena.specs.declared.node.Node.{Node}
+use Rattle.cow_arena.specs.Nodes.{Arena, side_of}
+use Rattle.cow_arena.specs.Renamed.{exchanged, AreExchanged}
+use Rattle.cow_arena.specs.Walk.{Slots, frame_in}
+use Rattle.cow_split.specs.Exact.{without_frame}
+use Rattle.cow_merge.specs.Ranges.{AreLinked, GivesBack, HasGiven}
+use Rattle.cow_merge.specs.Lifting.{IsFamilyOf, AreLifted, bit_on, has_frame}
+
+-- the frame of the row that a page has, if it has one
+abbrev pub frame_there : Option Slot → Option ℕ
+frame_there None = None
+frame_there (Some row) = frame_in row
+
+-- the page of the list has no row, and the frame of the row that it had is free
+pub record HasNoRow (old new : Rows Row) (before after : Pool) (l q : ℕ) : Type 0 where
+  pub slots : slots_of new ≡ with_pair (slots_of old) l q None
+  pub given : HasGiven before after (frame_there (slots_of old l q))
+  pub spare : old.spare ≤ new.spare
+  pub count : row_count new ≤ row_count old
+
+-- the page of the list has this row, whose frame tells its place, and the frame of the row that it had is free
+pub record HasRowPut (old new : Rows Row) (before after : Pool) (l q : ℕ) (row : Slot) : Type 0 where
+  pub slots : slots_of new ≡ with_pair (slots_of old) l q (Some row)
+  pub taken : (t : ℕ) → is_taken after t ≡ without_frame (is_taken before) (frame_there (slots_of old l q)) t
+  pub gives : GivesBack before after
+  pub links : (t : ℕ) → links_of after t ≡ (if has_frame t row then record { list = l; page = q } else links_of before t)
+  pub spare : old.spare ≤ new.spare + 1
+  pub count : row_count new ≤ row_count old + 1
+
+-- the node is that of a VMO, and its pages are those of its parent from page 0 on
+pub record SeesFromStart (node : Node) : Type 0 where
+  pub visible : IsSome node.koid
+  pub first : node.first ≡ 0
+
+-- no row with a frame of pages `first` to below `end` of the parent says that nobody sees it from the side of the child k
+pub record AreSeenFrom (slots : Slots) (parent : Node) (k first end : ℕ) : Type 0 where
+  pub bit : (q : ℕ) (tag : Tag) (left right : Bool) → first ≤ q → q < end → slots parent.list.0 q ≡ Some (slot.Frame tag left right) →
+      bit_on (side_of parent k) left right ≡ false
+
+-- The list of h, the parent of the VMO's node k, goes over to its other child s. As if the rows of its pages below `from` had
+-- moved into the list of s, the tree is exact with these slots. But those rows are still in the list of h, and the rows of s at
+-- these pages are too: the two lists are exchanged there.
+pub record IsHandingOver (arena : Arena) (old new : Rows Row) (before after : Pool) (k h s from : ℕ) : Type 0 where
+  pub of : IsFamilyOf arena k h s
+  pub slots : Slots
+  pub lifted : AreLifted arena old slots before after k h s of
+  pub sees : SeesFromStart of.sibling
+  pub passed : (l p : ℕ) → p < from → slots_of new l p ≡ slots (exchanged of.parent.list.0 of.sibling.list.0 l) p
+  pub ahead : (l p : ℕ) → from ≤ p → slots_of new l p ≡ slots l p
+  pub empty : (p : ℕ) → p < from → slots of.parent.list.0 p ≡ None
+  -- the rows of h that are left are seen by both children, but where s has a row of its own
+  pub inside : (q : ℕ) → IsSome (slots of.parent.list.0 q) → q < of.sibling.seen
+  pub seen : (end : ℕ) → AreSeenFrom slots of.parent k 0 end
+  pub linked : AreLinked old before → AreLinked new after
+  pub spare : old.spare ≤ new.spare
+  pub count : row_count new ≤ row_count old
+
+-- All rows of h have gone over: the tree is exact with these slots, of which h has none, and in which its list and that of s
+-- are exchanged.
+pub record HasHandedOver (arena : Arena) (old new : Rows Row) (before after : Pool) (k h s : ℕ) : Type 0 where
+  pub of : IsFamilyOf arena k h s
+  pub slots : Slots
+  pub lifted : AreLifted arena old slots before after k h s of
+  pub empty : (p : ℕ) → slots of.parent.list.0 p ≡ None
+  pub rows : AreExchanged slots (slots_of new) of.parent.list.0 of.sibling.list.0
+  pub linked : AreLinked old before → AreLinked new after
+  pub spare : old.spare ≤ new.spare
+  pub count : row_count new ≤ row_count old

@@ -1,0 +1,144 @@
+//! Handing the list of a hidden node over to a visible child, before the two are merged.
+
+ghost use Rattle.std.specs.Prelude.{◌≡◌, ◌+◌, ◌≤◌, ℕ, true, None, Some, IsSome};
+ghost use Rattle.balanced_tree.specs.Rows.{Rows};
+ghost use Rattle.page_list.specs.declared.row.Row.{Row};
+ghost use Rattle.page_list.specs.Lists.{slots_of};
+ghost use Rattle.cow_arena.specs.declared.node.Node.{Node};
+ghost use Rattle.cow_arena.specs.Nodes.{nodes_of};
+ghost use Rattle.cow_arena.specs.Walk.{frame_in};
+ghost use Rattle.frame_pool.specs.Pool.{Pool, taken_frames};
+ghost use Rattle.cow_merge.specs.Lifting.{IsLifting};
+ghost use Rattle.cow_merge.specs.HandingOver.{frame_there, HasNoRow, HasRowPut, SeesFromStart, AreSeenFrom, IsHandingOver, HasHandedOver};
+
+use crate::lifting::{lift_rows, note_place};
+use crate::ranges::give_back_frame;
+use cow_arena::{CowArena, NodeId};
+use frame_pool::FramePool;
+use page_list::{ListId, PageLists, Slot};
+use vm_base::PageNo;
+
+/// Whether the list of a hidden node is to go over to its child: the child is a VMO's node that sees its parent from page 0
+/// on, and has fewer rows than the parent.
+pub(crate) fn goes_over(arena: &CowArena, lists: &PageLists, hidden: NodeId, child: NodeId) -> bool
+    requires hidden { IsSome (nodes_of arena.now hidden.0) }
+    requires child { IsSome (nodes_of arena.now child.0) }
+    ensures { (node : Node) → nodes_of arena.now child.0 ≡ Some node → result ≡ true → SeesFromStart node }
+{
+    let node = arena.node(child);
+    if node.koid.is_none() || node.first != 0 {
+        return false;
+    }
+    node.seen > 0 && has_fewer(lists, node.list, arena.node(hidden).list)
+}
+
+/// Whether a list has no rows.
+pub(crate) fn is_empty(lists: &PageLists, list: ListId) -> bool
+    ensures { result ≡ true → (p : ℕ) → slots_of lists.now list.0 p ≡ None }
+{
+    lists.next(list, 0).is_none()
+}
+
+/// Whether a list has fewer rows than another. It goes through both side by side, so it costs the rows of the smaller.
+fn has_fewer(lists: &PageLists, list: ListId, other: ListId) -> bool {
+    let mut at = 0;
+    let mut beside = 0;
+    while let Some(page) = lists.next(other, beside) {
+        let Some(own) = lists.next(list, at) else {
+            return true;
+        };
+        let (Some(behind), Some(after)) = (page.checked_add(1), own.checked_add(1)) else {
+            return false;
+        };
+        beside = behind;
+        at = after;
+    }
+    false
+}
+
+/// Hands the list of a hidden node over to its child, where the other child is a VMO's node that goes. This has no rows, and
+/// its pages show frames of the hidden node alone. Rows outside the windows of the two children are settled one by one, and
+/// so are those under rows of the child; the others stay as they are, since both children see them.
+pub(crate) fn hand_over(
+    arena: &CowArena,
+    lists: &mut PageLists,
+    frames: &mut FramePool,
+    leaf: NodeId,
+    hidden: NodeId,
+    child: NodeId,
+)
+    requires lifting { IsLifting arena.now lists.old lists.old frames.old frames.old leaf.0 hidden.0 child.0 }
+    requires sees { (node : Node) → nodes_of arena.now child.0 ≡ Some node → SeesFromStart node }
+    requires seen { (node parent : Node) → nodes_of arena.now leaf.0 ≡ Some node → nodes_of arena.now hidden.0 ≡ Some parent →
+        AreSeenFrom (slots_of lists.old) parent leaf.0 node.first (node.first + node.seen) }
+    ensures { (old : Rows Row) (before : Pool) →
+        IsLifting arena.now old lists.old before frames.old leaf.0 hidden.0 child.0 →
+        HasHandedOver arena.now old lists.new before frames.new leaf.0 hidden.0 child.0 }
+{
+    let node = arena.node(leaf);
+    let end = node
+        .first
+        .saturating_add(node.seen)
+        .min(arena.node(child).seen);
+    lift_rows(
+        arena,
+        lists,
+        frames,
+        leaf,
+        hidden,
+        child,
+        0,
+        Some(node.first),
+    );
+    lift_rows(arena, lists, frames, leaf, hidden, child, end, None);
+    hand_rows(arena, lists, frames, leaf, hidden, child);
+}
+
+/// Puts each row of a VMO's node into the list of its parent, in place of the row there. The other child of the parent goes.
+fn hand_rows(
+    arena: &CowArena,
+    lists: &mut PageLists,
+    frames: &mut FramePool,
+    leaf: NodeId,
+    hidden: NodeId,
+    child: NodeId,
+)
+    requires { IsHandingOver arena.now lists.old lists.old frames.old frames.old leaf.0 hidden.0 child.0 0 }
+    ensures { (old : Rows Row) (before : Pool) →
+        IsHandingOver arena.now old lists.old before frames.old leaf.0 hidden.0 child.0 0 →
+        HasHandedOver arena.now old lists.new before frames.new leaf.0 hidden.0 child.0 }
+{
+    let to = arena.node(hidden).list;
+    let node = arena.node(child);
+    prove!(node.count <= u64::MAX);
+    let mut from = 0;
+    while let Some((page, slot)) = lists.take_next(node.list, from) {
+        put_row(lists, frames, to, page, slot);
+        from = page + 1;
+    }
+}
+
+/// Puts a row into a list, in place of the row of the page, whose frame is given back, and notes its place with its frame.
+fn put_row(lists: &mut PageLists, frames: &mut FramePool, list: ListId, page: PageNo, slot: Slot)
+    requires room { 1 ≤ lists.old.spare }
+    requires taken { (tag : ℕ) → frame_in slot ≡ Some tag → IsSome (taken_frames frames.old tag) }
+    requires under { (tag : ℕ) → frame_there (slots_of lists.old list.0 page) ≡ Some tag → IsSome (taken_frames frames.old tag) }
+    requires apart { (tag : ℕ) → frame_in slot ≡ Some tag → frame_there (slots_of lists.old list.0 page) ≡ Some tag → ⊥ }
+    ensures { HasRowPut lists.old lists.new frames.old frames.new list.0 page slot }
+{
+    clear_page(lists, frames, list, page);
+    lists.insert(list, page, slot);
+    note_place(frames, slot, list, page);
+}
+
+/// Takes the row of a page of a list away, if it has one, and gives its frame back.
+fn clear_page(lists: &mut PageLists, frames: &mut FramePool, list: ListId, page: PageNo)
+    requires { (tag : ℕ) → frame_there (slots_of lists.old list.0 page) ≡ Some tag → IsSome (taken_frames frames.old tag) }
+    ensures { HasNoRow lists.old lists.new frames.old frames.new list.0 page }
+{
+    let Some(slot) = lists.find(list, page) else {
+        return;
+    };
+    lists.remove(list, page);
+    give_back_frame(frames, slot);
+}
