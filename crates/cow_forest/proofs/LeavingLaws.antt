@@ -1,10 +1,10 @@
 -- A VMO leaves the forest: its node is closed, and the tables no longer lead to it.
 use Rattle.std.proofs.Common.{◌≡◌, ◌≢◌, ℕ, ◌+◌, ◌-◌, ◌*◌, ◌≤◌, ◌==◌, not, cond, Option, None, Some, refl, sym, ap, subst, ◌∙◌, inl, inr, arith}
-use Rattle.std.specs.Prelude.{is_some}
+use Rattle.std.specs.Prelude.{is_some, IfSome, IfNone}
 use Rattle.std.proofs.lemmas.Bool.{cases_eq, cases_lt, eq-eqb}
 use Rattle.balanced_tree.specs.Rows.{Rows}
 use Rattle.vm_base.specs.Entries.{without_key}
-use Rattle.vm_base.proofs.EntryLaws.{without_key-same, without_key-other, without_key-some}
+use Rattle.vm_base.proofs.EntryLaws.{some_same, some_is, without_key-same, without_key-other, without_key-some}
 use Rattle.vm_base.proofs.SearchLaws.{eqb_apart}
 use Rattle.vm_model.specs.Contents.Content.{Page, vmos_of}
 use Rattle.vm_model.specs.Contents.Sharing.{only, without}
@@ -14,14 +14,16 @@ use Rattle.page_list.specs.declared.row.ListId.{ListId}
 use Rattle.page_list.specs.declared.row.Row.{Row}
 use Rattle.cow_arena.specs.declared.node.Node.{Node}
 use Rattle.cow_arena.specs.declared.node.NodeId.{NodeId}
-use Rattle.cow_arena.specs.Nodes.{Arena, nodes_of}
+use Rattle.cow_arena.specs.Nodes.{Arena, nodes_of, AreFamily, link_to, sibling_in}
+use Rattle.cow_arena.proofs.WalkLaws.{link_same}
+use Rattle.cow_arena.proofs.SpliceForestLaws.{s_h}
 use Rattle.cow_arena.specs.Walk.{frame_at}
-use Rattle.cow_arena.specs.Forest.{IsChild}
+use Rattle.cow_arena.specs.Forest.{IsForest, IsChild}
 use Rattle.cow_split.specs.Sight.{IsPage}
-use Rattle.cow_merge.specs.Merging.{HasClosed}
+use Rattle.cow_merge.specs.Merging.{HasListOfParent, HasClosed}
 use Rattle.page_store.proofs.HeldLaws.{same_content}
 use Rattle.page_store.proofs.ViewerLaws.{vmos_of-same, vmos_of-less}
-use Rattle.cow_forest.specs.Tables.{NodeEntries, node_in, IsDisowned}
+use Rattle.cow_forest.specs.Tables.{NodeEntries, node_in, IsDisowned, AreMerged, HasOneOf}
 use Rattle.cow_forest.specs.Store.{Forest, tree, content_of, count_from, pages_in, frame_from, page_showing, HasNode, IsNodeOf, IsStore}
 use Rattle.cow_forest.proofs.ContentLaws.{node-visible, node-of, one-node, one-vmo, vmo-below, page-of, count-of, frame-past}
 use Rattle.cow_forest.proofs.ResizingLaws.{showing-given}
@@ -42,9 +44,68 @@ record NodeWas (f : Forest) (v w j : ℕ) (now : Node) : Type 0 where
   count : was.node.count ≡ now.count
   apart : w ≢ v
 
-module _ (f : Forest) (arena : Arena) (rows : Rows Row) (pool : Pool) (nodes owners : NodeEntries) (v k : ℕ)
-    (s : IsStore f) (h : HasNode f v k) (c : HasClosed f.arena arena f.rows rows f.pool pool k)
-    (d : IsDisowned (nodes_of f.arena) (node_in f.owners) (node_in owners) k) (left : node_in nodes ≡ without_key (node_in f.nodes) v) where
+-- the sibling and the two lists, where there is a sibling
+pub record AreMergedIn (f : Forest) (led : ℕ → Option NodeId) (k : ℕ) (merged : Option (NodeId × ListId × ListId)) : Type 0 where
+  pub family : IfSome merged (λ it. AreMerged (nodes_of f.arena) led k it.0.0 it.1.0 it.2.0)
+  pub root : IfNone merged (sibling_in (nodes_of f.arena) k ≡ None)
+
+-- the list that the sibling may have now leads to it
+led-on : (f : Forest) (led : ℕ → Option NodeId) (k : ℕ) (merged : Option (NodeId × ListId × ListId)) → AreMergedIn f led k merged → (j : ℕ) (now : Node) →
+    HasListOfParent (nodes_of f.arena) k j now → led now.list.0 ≡ link_to j
+led-on f led k None m j now it = absurd (let none = m.root in let some = it.beside in cc)
+led-on f led k (Some three) m j now it =
+    let own = m.family in
+    let child : own.child.node ≡ it.child.node = some_same (sym own.child.at ∙ it.child.at) in
+    let up : own.h ≡ it.h = link_same (sym own.child.parent ∙ (ap (λ (n : Node). n.parent) child ∙ it.child.parent)) in
+    let parent : own.parent ≡ it.parent = some_same (sym own.parent_at ∙ (ap (nodes_of f.arena) up ∙ it.parent_at)) in
+    let list : now.list.0 ≡ three.1.0 = ap (λ (l : ListId). l.0) it.list ∙ (ap (λ (n : Node). n.list.0) (sym parent) ∙ own.above_is) in
+    ap led list ∙ (own.leads ∙ ap link_to (link_same (sym own.beside ∙ it.beside)))
+
+-- and once the VMO is closed, it has one of the two
+pub one-of : (f : Forest) (arena : Arena) (rows : Rows Row) (pool : Pool) (led : ℕ → Option NodeId) (k : ℕ) (merged : Option (NodeId × ListId × ListId)) →
+    IsForest (nodes_of f.arena) f.arena.lists → HasClosed f.arena arena f.rows rows f.pool pool k → AreMergedIn f led k merged →
+    IfSome merged (λ it. HasOneOf (nodes_of arena) it.0.0 it.1.0 it.2.0)
+one-of f arena rows pool led k None forest c m = tt
+one-of f arena rows pool led k (Some three) forest c m =
+    let it = m.family in
+    let now = some_is (nodes_of arena three.0.0) (c.beside three.0.0 it.beside) in
+    let family : AreFamily (nodes_of f.arena) k it.h three.0.0 it.child.node it.parent it.sibling =
+    record { at = it.child.at; parent_is = it.child.parent; parent_at = it.parent_at; sibling_is = it.beside; sibling_at = it.sibling_at } in
+    record {
+      node = now.0;
+      at = now.1;
+      list = elim (c.own_lists three.0.0 it.sibling now.0 it.sibling_at now.1) [
+        | inl same ↦ inr (ap (λ (l : ListId). l.0) same ∙ it.own_is)
+        | inr own ↦
+            let child : it.child.node ≡ own.child.node = some_same (sym it.child.at ∙ own.child.at) in
+            let up : it.h ≡ own.h = link_same (sym it.child.parent ∙ (ap (λ (n : Node). n.parent) child ∙ own.child.parent)) in
+            let parent : it.parent ≡ own.parent = some_same (sym it.parent_at ∙ (ap (nodes_of f.arena) up ∙ own.parent_at)) in
+            inl (ap (λ (l : ListId). l.0) own.list ∙ (ap (λ (n : Node). n.list.0) (sym parent) ∙ it.above_is))
+      ];
+      apart = λ same.
+          s_h (nodes_of f.arena) f.arena.lists forest.rank forest.by k it.h three.0.0 it.child.node it.parent it.sibling family
+          (sym (forest.by.own it.h three.0.0 it.parent it.sibling it.parent_at it.sibling_at (it.above_is ∙ (same ∙ sym it.own_is))));
+      alone = λ j a at away.
+          let was = c.came j a at in
+          elim (c.own_lists j was.node a was.at at) [
+            | inr own ↦ absurd (away (link_same (sym own.beside ∙ it.beside)))
+            | inl same ↦ (
+              λ above.
+                  let here : j ≡ it.h = forest.by.own j it.h was.node it.parent was.at it.parent_at
+                  (ap (λ (l : ListId). l.0) (sym same) ∙ (above ∙ sym it.above_is)) in
+                  let gone = ap (nodes_of arena) here ∙ c.parent_gone it.h it.child in
+                  absurd (cc),
+              λ own. away (forest.by.own j three.0.0 was.node it.sibling was.at it.sibling_at
+                  (ap (λ (l : ListId). l.0) (sym same) ∙ (own ∙ sym it.own_is))),
+            )
+          ];
+    }
+
+module _ (f : Forest) (arena : Arena) (rows : Rows Row) (pool : Pool) (nodes owners led : NodeEntries) (v k : ℕ)
+    (s : IsStore f) (h : HasNode f v k) (c : HasClosed f.arena arena f.rows rows f.pool pool k) (merged : Option (NodeId × ListId × ListId))
+    (m : AreMergedIn f (node_in led) k merged) (d : IsDisowned (nodes_of f.arena) (node_in f.owners) (node_in led) k)
+    (kept : (j : ℕ) (node : Node) → nodes_of arena j ≡ Some node → node_in owners node.list.0 ≡ node_in led node.list.0)
+    (left : node_in nodes ≡ without_key (node_in f.nodes) v) where
   abbrev g : Forest
   g = with_less f arena rows pool nodes owners
 
@@ -112,7 +173,11 @@ module _ (f : Forest) (arena : Arena) (rows : Rows Row) (pool : Pool) (nodes own
         let came = c.came j node at in
         let away : j ≢ k = λ same. let gone = ap (nodes_of arena) same ∙ c.gone in absurd (cc) in
         let below : IsChild (nodes_of f.arena) j k → ⊥ = λ child. let gone = c.parent_gone j child in absurd (cc) in
-        ap (λ (list : ListId). node_in owners list.0) came.list ∙ (d.kept j came.node came.at away below ∙ s.owners j came.node came.at);
+        kept j node at
+        ∙ elim (c.own_lists j came.node node came.at at) [
+          | inl same ↦ ap (λ (list : ListId). node_in led list.0) same ∙ (d.kept j came.node came.at away below ∙ s.owners j came.node came.at)
+          | inr own ↦ led-on f (node_in led) k merged m j node own
+        ];
     counts = λ w j node is. let it = node-was w j node is in let bound = s.counts w j it.was.node it.was.is in omega (arith, bound, it.count);
     koids = λ w j node is. let it = node-was w j node is in s.koids w j it.was.node it.was.is;
     first_koid = s.first_koid;

@@ -1,5 +1,6 @@
 -- The nodes of a table and the places of its array, after each change.
 use Rattle.std.proofs.Common.{◌≡◌, ◌≢◌, ℕ, zero, suc, ◌%◌, ◌<◌, List, [], length, get_or, set, replicate, Option, None, Some, refl, sym, ap, ◌∙◌, inl, inr, arith, slice_index_or, slice_set, get_or-set_same, get_or-set_other}
+use Rattle.std.specs.Prelude.{IsSome, is_some}
 use Rattle.std.specs.Option.{option_or}
 use Rattle.std.proofs.lemmas.Bool.{cases_eq}
 use Rattle.std.proofs.lemmas.Grind.{common_steps}
@@ -79,6 +80,10 @@ none-in e recent displaced n =
 pub still-in : (old new : NodeEntries) → new.recent ≡ old.recent → displaced_in new.displaced ≡ displaced_in old.displaced → node_in new ≡ node_in old
 unfolding node_in
 still-in old new recent displaced = λ i n. option_or (own_node (entry_at (recent i) (n % PLACES)) n) (displaced i n)
+
+still-at : (old new : NodeEntries) → new.recent ≡ old.recent → (n : ℕ) → displaced_in new.displaced n ≡ displaced_in old.displaced n → node_in new n ≡ node_in old n
+unfolding node_in
+still-at old new recent n same = λ i. option_or (own_node (entry_at (recent i) (n % PLACES)) n) (same i)
 
 -- where a number is found
 pub found-own : (e : NodeEntries) (n : ℕ) (node : NodeId) → own_node (entry_at e.recent (n % PLACES)) n ≡ Some node → node_in e n ≡ Some node
@@ -192,3 +197,42 @@ module _ (old : NodeEntries) (r : IsPlaced old.recent) (number p : ℕ) (there :
 
     pub left-in : node_in (changed left-entry displaced spare) ≡ without_key (node_in old) number
     left-in = λ i n. left-at n i
+
+-- ---- another node for a number that has one
+
+-- the entry of the array is the number's own, so that no other number has it
+pub own-alone : (e : NodeEntries) (map : ℕ → Option NodeId) (p number : ℕ) → IsSome (own_node (entry_at e.recent p) number) → (n : ℕ) → n ≢ number →
+    map n ≡ option_or (own_node (entry_at e.recent p) n) (map n)
+own-alone e map p number some n away = by_entry (entry_at e.recent p) some
+  where
+    is-own : (it : Entry) (k : ℕ) → IsSome (own_node (Some it) k) → k ≡ it.0
+    is-own it k some = elim (cases_eq k it.0) [
+      | inl same ↦ same
+      | inr apart ↦ absurd (let none = ap is_some (own-other (Some it) k (λ n node is same.
+          apart (same ∙ sym (ap (λ (x : Entry). x.0) (some_same is))))) in cc)
+    ]
+
+    by_entry : (o : Option Entry) → IsSome (own_node o number) → map n ≡ option_or (own_node o n) (map n)
+    by_entry None some = refl
+    by_entry (Some it) some =
+        let own : number ≡ it.0 = is-own it number some in
+        ap (λ (o : Option NodeId). option_or o (map n)) (sym (own-other (Some it) n (λ k node is same.
+        away (same ∙ (sym (ap (λ (x : Entry). x.0) (some_same is)) ∙ sym own)))))
+
+-- it is in the map, where another node stands for it then
+pub changed-in : (old new : NodeEntries) (number : ℕ) (node : NodeId) → new.recent ≡ old.recent →
+    own_node (entry_at old.recent (number % PLACES)) number ≡ None → displaced_in new.displaced ≡ with_key (displaced_in old.displaced) number node →
+    node_in new ≡ with_key (node_in old) number node
+changed-in old new number node recent none put = λ i n. each n i
+  where
+    each : (n : ℕ) → node_in new n ≡ with_key (node_in old) number node n
+    each n = elim (cases_eq n number) [
+      | inl same ↦
+          ap (node_in new) same
+          ∙ (found-displaced new number (ap (λ (r : List (Option Entry)). own_node (entry_at r (number % PLACES)) number) recent ∙ none)
+          ∙ (ap (λ (f : ℕ → Option NodeId). f number) put ∙ with_key-here (displaced_in old.displaced) number node number refl))
+          ∙ sym (with_key-here (node_in old) number node n same)
+      | inr away ↦
+          still-at old new recent n (ap (λ (f : ℕ → Option NodeId). f n) put ∙ with_key-other (displaced_in old.displaced) number node n away)
+          ∙ sym (with_key-other (node_in old) number node n away)
+    ]

@@ -20,7 +20,7 @@ ghost use Rattle.cow_forest.specs.Counting.{frame_row_count};
 use crate::looking::{look_at, look_at_counted, next_shown};
 use crate::node_table::NodeTable;
 use crate::owning::own_page;
-use crate::tables::{disown, make_room};
+use crate::tables::{disown, leave_other, make_room};
 use crate::viewing::{least_koid_of, viewer_count_of};
 use cow_arena::CowArena;
 use cow_fork::{mark_zero, share};
@@ -257,8 +257,9 @@ impl PageStore for CowForest {
         ensures rows { row_count self.new.rows ≤ row_count self.old.rows }
     {
         let node = self.nodes.get(v.0);
-        disown(&mut self.owners, &self.arena, node);
+        let merged = disown(&mut self.owners, &self.arena, node);
         close(&mut self.arena, &mut self.lists, &mut self.frames, node);
+        leave_other(&mut self.owners, &self.arena, merged);
         self.nodes.leave(v.0);
         self.vmos -= 1;
     }

@@ -85,6 +85,18 @@ impl NodeTable {
         self.recent[place] = Some((number, node));
     }
 
+    /// Gives a number that has an entry another node. It takes no memory.
+    pub(crate) fn redirect(&mut self, number: u64, node: NodeId)
+        requires { IsSome (node_in self.old number) }
+        ensures { node_in self.new ≡ with_key (node_in self.old) number node }
+    {
+        let place = place_of(number);
+        match own_node(self.recent[place], number) {
+            Some(_) => self.recent[place] = Some((number, node)),
+            None => change(&mut self.displaced, number, node),
+        }
+    }
+
     /// Takes the entry of a number out.
     pub(crate) fn leave(&mut self, number: u64)
         ensures { node_in self.new ≡ without_key (node_in self.old) number }
@@ -152,6 +164,15 @@ fn put(displaced: &mut HashMap<u64, NodeId>, number: u64, node: NodeId)
     requires { 1 ≤ spare displaced.old }
     ensures nodes { displaced_in displaced.new.entries ≡ with_key (displaced_in displaced.old.entries) number node }
     ensures spare { spare displaced.old ≤ spare displaced.new + 1 }
+{
+    let _entered = displaced.insert(number, node);
+}
+
+/// Gives a number that is in the map another node. It takes no memory.
+#[inline(never)]
+fn change(displaced: &mut HashMap<u64, NodeId>, number: u64, node: NodeId)
+    requires { IsSome (displaced_in displaced.old.entries number) }
+    ensures { displaced_in displaced.new.entries ≡ with_key (displaced_in displaced.old.entries) number node }
 {
     let _entered = displaced.insert(number, node);
 }

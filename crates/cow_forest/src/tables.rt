@@ -1,13 +1,15 @@
 //! The two tables that lead into the tree, the node of each VMO and the node that has each list: room in both, and the lists
 //! of a VMO that leaves.
 
-ghost use Rattle.std.specs.Prelude.{◌≡◌, ◌≤◌, IsSome, OnOk};
-ghost use Rattle.cow_arena.specs.Nodes.{nodes_of};
+ghost use Rattle.std.specs.Prelude.{◌≡◌, ◌≢◌, ◌⊎◌, ◌≤◌, ℕ, None, Some, IsSome, IfSome, IfNone, OnOk};
+ghost use Rattle.cow_arena.specs.declared.node.Node.{Node};
+ghost use Rattle.cow_arena.specs.Nodes.{nodes_of, link_to, sibling_in};
 ghost use Rattle.cow_arena.specs.Forest.{IsForest};
-ghost use Rattle.cow_forest.specs.Tables.{node_in, IsDisowned};
+ghost use Rattle.cow_forest.specs.Tables.{node_in, IsDisowned, AreMerged, HasOneOf};
 
 use crate::node_table::NodeTable;
 use cow_arena::{CowArena, NodeId};
+use page_list::ListId;
 use vm_base::HostMemory;
 
 /// Makes room for one koid more and for this many lists. `HostMemory` where the host has too little memory. No entry
@@ -26,15 +28,50 @@ pub(crate) fn make_room(
     owners.reserve(lists)
 }
 
-/// Takes the list of a VMO's node out, and that of the node above it, which leaves with it.
-pub(crate) fn disown(owners: &mut NodeTable, arena: &CowArena, leaf: NodeId)
+/// Takes the list of a VMO's node out, which leaves. Where it has a parent, this leaves with it, and the sibling takes the
+/// parent's place: the parent's list leads to the sibling too then. Answers the sibling, and the numbers of these two lists, of
+/// which it has one when the node has left. It takes no memory.
+pub(crate) fn disown(
+    owners: &mut NodeTable,
+    arena: &CowArena,
+    leaf: NodeId,
+) -> Option<(NodeId, ListId, ListId)>
     requires forest { IsForest (nodes_of arena.now) arena.now.lists }
     requires leaf { IsSome (nodes_of arena.now leaf.0) }
-    ensures { IsDisowned (nodes_of arena.now) (node_in owners.old) (node_in owners.new) leaf.0 }
+    requires owners { (k : ℕ) (node : Node) → nodes_of arena.now k ≡ Some node → node_in owners.old node.list.0 ≡ link_to k }
+    ensures disowned { IsDisowned (nodes_of arena.now) (node_in owners.old) (node_in owners.new) leaf.0 }
+    ensures family { IfSome result (λ it. AreMerged (nodes_of arena.now) (node_in owners.new) leaf.0 it.0.0 it.1.0 it.2.0) }
+    ensures root { IfNone result (sibling_in (nodes_of arena.now) leaf.0 ≡ None) }
 {
     let node = arena.node(leaf);
     owners.leave(node.list.0);
-    if let Some(parent) = node.parent {
-        owners.leave(arena.node(parent).list.0);
-    }
+    let (Some(parent), Some(sibling)) = (node.parent, arena.sibling(leaf)) else {
+        return None;
+    };
+    let above = arena.node(parent).list;
+    owners.redirect(above.0, sibling);
+    Some((sibling, above, arena.node(sibling).list))
+}
+
+/// Takes the one of two lists out that the node does not have, if there are such.
+pub(crate) fn leave_other(
+    owners: &mut NodeTable,
+    arena: &CowArena,
+    merged: Option<(NodeId, ListId, ListId)>,
+)
+    requires { IfSome merged (λ it. HasOneOf (nodes_of arena.now) it.0.0 it.1.0 it.2.0) }
+    ensures { (k : ℕ) (node : Node) → nodes_of arena.now k ≡ Some node →
+        node_in owners.new node.list.0 ≡ node_in owners.old node.list.0 }
+{
+    let Some((node, one, other)) = merged else {
+        return;
+    };
+    owners.leave(other_of(arena.node(node).list.0, one.0, other.0));
+}
+
+/// Of two numbers the one that a third is not.
+fn other_of(number: u64, one: u64, other: u64) -> u64
+    ensures { ((number ≡ one) × (result ≡ other)) ⊎ ((number ≢ one) × (result ≡ one)) }
+{
+    if number == one { other } else { one }
 }

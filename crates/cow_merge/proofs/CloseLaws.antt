@@ -1,12 +1,12 @@
 -- A VMO's node goes, whose pages are all out of sight: alone, or with its parent, whose rows were lifted into the sibling.
 use Rattle.std.proofs.Common.{◌≡◌, ◌≢◌, ◌⊎◌, ℕ, ◌+◌, ◌<◌, ◌≤◌, Bool, Option, None, Some, inl, inr, IsSome, IsSomeAnd}
 use Rattle.std.proofs.Common.{refl, sym, ap, subst, ◌∙◌, arith}
-use Rattle.std.specs.Prelude.{is_none}
+use Rattle.std.specs.Prelude.{is_none, is_some}
 use Rattle.std.specs.Option.{option_map}
 use Rattle.std.proofs.lemmas.Bool.{cases_eq}
 use Rattle.balanced_tree.specs.Rows.{Rows}
 use Rattle.vm_base.specs.Entries.{without_key}
-use Rattle.vm_base.proofs.EntryLaws.{some_same, without_key-same}
+use Rattle.vm_base.proofs.EntryLaws.{some_same, some_is, without_key-same}
 use Rattle.page_list.specs.declared.row.Row.{Row}
 use Rattle.page_list.specs.Lists.{slots_of, row_count}
 use Rattle.frame_pool.specs.Pool.{Pool, is_taken}
@@ -33,7 +33,7 @@ use Rattle.cow_merge.specs.HandingOver.{HasHandedOver}
 use Rattle.cow_merge.specs.Merging.{WasThere, HasListOfParent, HasClosed}
 use Rattle.cow_split.specs.Sight.{StaysVisible}
 use Rattle.cow_merge.proofs.CountLaws.{outside-other}
-use Rattle.cow_merge.proofs.SpliceLaws.{IsWithout, without-page, without-showed, without-stays, without-no_more, spliced-gone, spliced-parent_gone, spliced-without, exact-spliced, removed_root-without, exact-removed_root}
+use Rattle.cow_merge.proofs.SpliceLaws.{IsWithout, without-page, without-showed, without-stays, without-no_more, family-apart, spliced-kept, spliced-gone, spliced-parent_gone, spliced-without, exact-spliced, removed_root-without, exact-removed_root}
 use Rattle.cow_merge.proofs.RangeLaws.{inside-range}
 use Rattle.cow_merge.proofs.ShrinkLaws.{tree-now}
 use Rattle.cow_merge.proofs.LiftedLaws.{lifted-exact, lifted-shows}
@@ -61,15 +61,17 @@ record IsGoneFrom (old new : Tree) (in_use : ℕ → Bool) (v : ℕ) : Type 0 wh
   no_more : (w : ℕ) (node : Node) → IsVisible new.nodes w node → StaysVisible new.nodes old.nodes w node
   came : (k : ℕ) (node : Node) → new.nodes k ≡ Some node → WasThere old.nodes k node
   parent_gone : (h : ℕ) → IsChild old.nodes h v → new.nodes h ≡ None
+  beside : (s : ℕ) → sibling_in old.nodes v ≡ link_to s → IsSome (new.nodes s)
   shows : (w q : ℕ) → IsPage new w q → frame_at new w q ≡ frame_at old w q
 
 gone-by : (arena : Arena) (rows : Rows Row) (slots : Slots) (nodes : Nodes) (in_use : ℕ → Bool) (v : ℕ) →
     IsWithout (tree_with (nodes_of arena) arena.lists slots) (tree_with nodes arena.lists slots) v → nodes v ≡ None →
-    ((h : ℕ) → IsChild (nodes_of arena) h v → nodes h ≡ None) → IsExact (tree_with nodes arena.lists slots) all_in_sight in_use →
+    ((h : ℕ) → IsChild (nodes_of arena) h v → nodes h ≡ None) → ((s : ℕ) → sibling_in (nodes_of arena) v ≡ link_to s → IsSome (nodes s)) →
+    IsExact (tree_with nodes arena.lists slots) all_in_sight in_use →
     ((w q : ℕ) → IsPage (tree_with (nodes_of arena) arena.lists slots) w q → w ≢ v →
     frame_at (tree_with (nodes_of arena) arena.lists slots) w q ≡ frame_at (tree_of arena rows) w q) →
     IsGoneFrom (tree_of arena rows) (tree_with nodes arena.lists slots) in_use v
-gone-by arena rows slots nodes in_use v without gone parent_gone exact shows =
+gone-by arena rows slots nodes in_use v without gone parent_gone beside exact shows =
     let t : Tree = tree_with (nodes_of arena) arena.lists slots in
     let u : Tree = tree_with nodes arena.lists slots in
     record {
@@ -82,6 +84,7 @@ gone-by arena rows slots nodes in_use v without gone parent_gone exact shows =
           let one : was.3.now ≡ node = some_same (sym was.3.at ∙ at) in
           record { node = was.0; at = was.1; koid = sym (ap (λ (n : Node). n.koid) one) ∙ was.3.koid };
       parent_gone = parent_gone;
+      beside = beside;
       shows = λ w q page.
           let was = without-page t u v without w q page in
           without-showed t u v without w q page ∙ shows w q was.1 was.0;
@@ -103,6 +106,7 @@ gone-renamed name old new in_use v exchange was = record {
   came = renamed-each name new.nodes (λ k node. WasThere old.nodes k node)
       (λ k node at. let it = was.came k node at in record { node = it.node; at = it.at; koid = it.koid });
   parent_gone = λ h child. ap (option_map (renamed_node name)) (was.parent_gone h child);
+  beside = λ s is. let it = some_is (new.nodes s) (was.beside s is) in ap is_some (renamed-at name new.nodes s it.0 it.1);
   shows = λ w q page.
       frame-renamed name exchange.twice new was.exact.forest w q ∙ was.shows w q (page-renamed name new w q page);
 }
@@ -123,6 +127,7 @@ closed-by arena new rows late before after v u is was own_lists lists shown give
       came = it.came;
       own_lists = λ k was now at there. own_lists k was now at (ap (λ (x : Tree). x.nodes k) (sym is) ∙ there);
       parent_gone = it.parent_gone;
+      beside = it.beside;
       lists = lists;
       visible = omega (arith, shown);
       shows = it.shows;
@@ -156,6 +161,7 @@ closed-root arena new rows late before after v node visible root left is lists s
     (gone-by arena rows (slots_of late) (without_key (nodes_of arena) v) (is_taken after) v without
     (without_key-same (nodes_of arena) v)
     (λ h child. let up : node.parent ≡ link_to h = ap (λ (n : Node). n.parent) (some_same (sym visible.at ∙ child.at)) ∙ child.parent in absurd (cc))
+    (λ s is. absurd (let none = rw (visible.at, root) at is in cc))
     (exact-removed_root t f v node visible g (leaving_range all_in_sight v 0 node.count) (is_taken after)
     (λ p. left.bare p (omega arith)) left.exact (out-only v node) (out-all arena (slots_of late) v node visible))
     (λ w q page apart. left.shows w q (page-before arena rows (slots_of late) w q page) (outside-other v 0 node.count w q apart)))
@@ -188,6 +194,11 @@ module _ (arena : Arena) (rows : Rows Row) (slots : Slots) (in_use : ℕ → Boo
       (λ above child.
       let up : node.parent ≡ link_to above = ap (λ (n : Node). n.parent) (some_same (sym visible.at ∙ child.at)) ∙ child.parent in
       ap after (link_same (sym up ∙ family.parent_is)) ∙ spliced-parent_gone (nodes_of arena) arena.lists exact.forest v h s node parent sibling family)
+      (λ j is.
+      let same : j ≡ s = link_same (sym is ∙ family.sibling_is) in
+      let apart = family-apart (nodes_of arena) arena.lists exact.forest v h s node parent sibling family in
+      ap is_some (ap after same ∙ (spliced-kept (nodes_of arena) arena.lists exact.forest v h s node parent sibling family s sibling family.sibling_at
+      (λ e. apart.0 (sym e)) (λ e. apart.1 (sym e))).at))
       (exact-spliced t exact.forest v h s node parent sibling family visible empty spliced-forest (leaving_range all_in_sight v 0 node.count) in_use bare exact
       (out-only v node) (out-all arena slots v node visible))
       (λ w q page apart. shows w q (page-before arena rows slots w q page) (outside-other v 0 node.count w q apart))

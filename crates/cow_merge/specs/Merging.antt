@@ -1,5 +1,5 @@
 -- What it is to shrink a VMO's node, and to close one.
-use Rattle.std.specs.Prelude.{◌≡◌, ◌≢◌, ◌⊎◌, ℕ, ◌≤◌, suc, min, None, Some}
+use Rattle.std.specs.Prelude.{◌≡◌, ◌≢◌, ◌⊎◌, ℕ, ◌≤◌, suc, min, None, Some, IsSome}
 use Rattle.balanced_tree.specs.Rows.{Rows}
 use Rattle.page_list.specs.declared.row.Row.{Row}
 use Rattle.page_list.specs.Lists.{row_count}
@@ -67,6 +67,7 @@ pub record HasClosed (old new : Arena) (rows rows_after : Rows Row) (before afte
   pub own_lists : (k : ℕ) (was now : Node) → nodes_of old k ≡ Some was → nodes_of new k ≡ Some now →
       (now.list ≡ was.list) ⊎ HasListOfParent (nodes_of old) v k now
   pub parent_gone : (h : ℕ) → IsChild (nodes_of old) h v → nodes_of new h ≡ None
+  pub beside : (s : ℕ) → sibling_in (nodes_of old) v ≡ link_to s → IsSome (nodes_of new s)
   pub lists : new.lists ≡ old.lists
   pub visible : suc (visible_count new) ≡ visible_count old
   pub shows : (w q : ℕ) → IsPage (tree_of new rows_after) w q →

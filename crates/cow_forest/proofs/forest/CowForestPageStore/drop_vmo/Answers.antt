@@ -1,20 +1,33 @@
 use Rattle.std.proofs.Common.{ap}
 use Rattle.std.specs.Prelude.{is_some}
 use Rattle.cow_forest.specs.Fields.{forest_of}
-use Rattle.cow_forest.proofs.LeavingLaws.{store-left, content-left}
+use Rattle.cow_forest.proofs.LeavingLaws.{one-of, store-left, content-left}
 use Rattle.cow_forest.proofs.forest.CowForestPageStore.drop_vmo.Goals as goal
+
+pub disown-merged-requires-clause-leaf : goal.disown-merged-requires-clause-leaf
+disown-merged-requires-clause-leaf c =
+    let h = c.self.invariant.store.named c.args.v.0 c.get-node.result c.get-node.ensures in
+    ap is_some h.is.at
 
 pub close-requires-clause-leaf : goal.close-requires-clause-leaf
 close-requires-clause-leaf c =
     let h = c.self.invariant.store.named c.args.v.0 c.get-node.result c.get-node.ensures in
     rw h.is.at (ap is_some h.is.has_koid)
 
+pub leave_other-requires : goal.leave_other-requires
+leave_other-requires c =
+    let s = c.self.invariant.store in
+    one-of (forest_of c.self.inside) _ _ _ _ c.get-node.result.0 c.disown-merged.result s.exact.forest c.close.ensures
+    (record { family = c.disown-merged.ensures.family; root = c.disown-merged.ensures.root })
+
 pub invariant_of-self : goal.invariant_of-self
 invariant_of-self c =
     let s = c.self.invariant.store in
     let h = s.named c.args.v.0 c.get-node.result c.get-node.ensures in
     record {
-      store = store-left (forest_of c.self.inside) _ _ _ _ _ c.args.v.0 c.get-node.result.0 s h c.close.ensures c.disown.ensures c.leave.ensures;
+      store = store-left (forest_of c.self.inside) _ _ _ _ _ _ c.args.v.0 c.get-node.result.0 s h c.close.ensures c.disown-merged.result
+          (record { family = c.disown-merged.ensures.family; root = c.disown-merged.ensures.root }) c.disown-merged.ensures.disowned c.leave_other.ensures
+          c.leave.ensures;
     }
 
 pub returns-clause-content : goal.returns-clause-content
@@ -22,4 +35,6 @@ returns-clause-content c =
     let s = c.self.invariant.store in
     let h = s.named c.args.v.0 c.get-node.result c.get-node.ensures in
     rw (← c.self.view_is)
-    (content-left (forest_of c.self.inside) _ _ _ _ _ c.args.v.0 c.get-node.result.0 s h c.close.ensures c.disown.ensures c.leave.ensures)
+    (content-left (forest_of c.self.inside) _ _ _ _ _ _ c.args.v.0 c.get-node.result.0 s h c.close.ensures c.disown-merged.result
+    (record { family = c.disown-merged.ensures.family; root = c.disown-merged.ensures.root }) c.disown-merged.ensures.disowned c.leave_other.ensures
+    c.leave.ensures)
