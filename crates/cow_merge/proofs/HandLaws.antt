@@ -138,7 +138,7 @@ module _ (arena : Arena) (old new : Rows Row) (before after : Pool) (k h s q : �
         bit_on (other_side (side_of was.of.parent k)) left right ≡ false
     its-bit row has tag left right e =
         row-bit now_tree k h s was.of.node was.of.parent was.of.sibling was.of.family was.of.visible q row has was.lifted.out (is_taken after) was.lifted.exact
-        was.lifted.only was.lifted.bare tag left right e shown (sees-it row has)
+        was.lifted.only tag left right e shown (sees-it row has)
 
     -- a row with a frame is the one that the child would have
     same-row : (row : Slot) → was.slots up q ≡ Some row → IsMoved (with_row now_tree up q None) s (q - was.of.sibling.first) was.of.sibling row row
@@ -285,7 +285,7 @@ module _ (arena : Arena) (old new : Rows Row) (before after : Pool) (k h s q : �
             bit-set tag left right e = elim (cases_Bool (bit_on (other_side (side_of was.of.parent k)) left right)) [
               | inl on ↦ on
               | inr off ↦ absurd (covers other (row-sees now_tree k h s was.of.node was.of.parent was.of.sibling was.of.family was.of.visible q other there
-                  was.lifted.out (is_taken after) was.lifted.exact was.lifted.only was.lifted.bare tag left right e off))
+                  was.lifted.out (is_taken after) was.lifted.exact was.lifted.only tag left right e off))
             ]
 
 -- ---- all pages

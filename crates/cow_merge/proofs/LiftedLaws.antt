@@ -185,7 +185,7 @@ without-none in_use tag = refl
 
 module _ (t : Tree) (k h s : ℕ) (leaf parent sibling : Node) (family : AreFamily t.nodes k h s leaf parent sibling) (visible : IsVisible t.nodes k leaf)
     (q : ℕ) (row : Slot) (has : t.slots parent.list.0 q ≡ Some row) (out : ℕ → ℕ → Bool) (in_use : ℕ → Bool) (exact : IsExact t out in_use)
-    (only : IsOnlyOf out k) (bare : (p : ℕ) → t.slots leaf.list.0 p ≡ None) where
+    (only : IsOnlyOf out k) where
   abbrev f : IsForest t.nodes t.lists
   f = exact.forest
 
@@ -195,73 +195,8 @@ module _ (t : Tree) (k h s : ℕ) (leaf parent sibling : Node) (family : AreFami
   sides : (child_on parent leaf_side ≡ link_to k) × (child_on parent (other_side leaf_side) ≡ link_to s)
   sides = family-side t.nodes t.lists f k h s leaf parent sibling family
 
-  -- a page of the leaf comes there, or none does
-  in-window : ((p : ℕ) × (q ≡ leaf.first + p) × (p < leaf.seen)) ⊎ ((p : ℕ) → q ≡ leaf.first + p → p < leaf.seen → ⊥)
-  in-window = elim (cases_lt q leaf.first) [
-    | inl less ↦ inr (λ p is inside. absurd (omega arith))
-    | inr from ↦ elim (cases_lt (q - leaf.first) leaf.seen) [
-      | inl inside ↦ inl (q - leaf.first, omega arith, inside)
-      | inr past ↦ inr (λ p is inside. absurd (omega arith))
-    ]
-  ]
-
-  module _ (p : ℕ) (is : q ≡ leaf.first + p) (inside : p < leaf.seen) where
-    step : Climbs t k p h q
-    step = record { node = leaf; at = family.at; free = bare p; inside = inside; parent = family.parent_is; page = is }
-
-    side_is : side_in t.nodes k ≡ Some leaf_side
-    side_is = side-is t.nodes t.lists f h k parent leaf family.parent_at family.at family.parent_is
-
-    found : walk t k p ≡ Some (record { node = h; page = q; side = Some leaf_side; slot = row })
-    found = found-of-reach t f k p leaf_side h q parent row (reach-one t k p leaf_side h q step side_is) family.parent_at has
-
-    alone : reached_from t (link_to k) leaf_side h q ≡ false
-    alone = leaf-alone t f k h q leaf_side
-        (record { above = parent; above_at = family.parent_at; child = sides.0; node = leaf; visible = visible })
-
-    cut-slots : cut_slots t k p ≡ slots_from t k h q row (Some leaf_side)
-    unfolding cut_slots
-    cut-slots = ap (λ (it : Option Found). slots_after t k it) found
-
-    cut-answer : cut_answer t k p ≡ answer_from t k h q row (Some leaf_side)
-    unfolding cut_answer
-    cut-answer = ap (λ (it : Option Found). answer_after t k it) found
-
-    slots-frame : (tag : Tag) (left right : Bool) →
-        slots_from t k h q (slot.Frame tag left right) (Some leaf_side) ≡ with_pair t.slots parent.list.0 q (split_on leaf_side tag left right)
-    slots-frame tag left right = rw (alone, family.parent_at) refl
-
-    answer-frame : (tag : Tag) (left right : Bool) → answer_from t k h q (slot.Frame tag left right) (Some leaf_side) ≡ answer_on leaf_side tag left right
-    answer-frame tag left right = rw alone refl
-
-    cut-off : (slots : Slots) (answer : Cut) → slots_from t k h q row (Some leaf_side) ≡ slots → answer_from t k h q row (Some leaf_side) ≡ answer →
-        IsCut t k leaf q slots out (leaving_out out k p) in_use (frame_left answer)
-    cut-off slots answer slots_is answer_is = record {
-      exact = subst (λ (x : Slots). IsExact (record t { slots = x }) (leaving_out out k p) (without_frame in_use (frame_left answer))) (cut-slots ∙ slots_is)
-          (subst (λ (a : Cut). IsExact (record t { slots = cut_slots t k p }) (leaving_out out k p) (without_frame in_use (frame_left a))) (cut-answer ∙ answer_is)
-          (exact-cut t out in_use exact k p only leaf visible (bare p)));
-      only = only-more out k p only;
-      aside = λ r at within.
-          let same : r ≡ p = omega (arith, is) in
-          subst (λ x. leaving_out out k p k x ≡ true) (sym same) (left_out-here out k p);
-      more = λ w r sight. (left_out-in_sight out k p w r sight).1;
-      shows = λ w r page sight.
-          sym (ap (λ (x : Slots). frame_at (record t { slots = x }) w r) (cut-slots ∙ slots_is))
-          ∙ cut-shows t out in_use exact k p only leaf visible (bare p) w r page sight;
-    }
-
-  -- no page of the leaf comes there, so that none has to be left out
-  none-cut : ((p : ℕ) → q ≡ leaf.first + p → p < leaf.seen → ⊥) → IsCut t k leaf q t.slots out out in_use None
-  none-cut none = record {
-    exact = exact-in_use_alike t out in_use (without_frame in_use None) (without-none in_use) exact;
-    only = only;
-    aside = λ p is inside. absurd (none p is inside);
-    more = λ w p sight. sight;
-    shows = λ w p page sight. refl;
-  }
-
   -- where no row changes, this one is still there
-  untouched : (now : ℕ → ℕ → Bool) → IsCut t k leaf q t.slots out now in_use None → StillThere t k leaf parent.list.0 q row out in_use
+  pub untouched : (now : ℕ → ℕ → Bool) → IsCut t k leaf q t.slots out now in_use None → StillThere t k leaf parent.list.0 q row out in_use
   untouched now is_cut = record {
     now = now;
     slots = t.slots;
@@ -274,57 +209,17 @@ module _ (t : Tree) (k h s : ℕ) (leaf parent sibling : Node) (family : AreFami
   }
 
   -- where no page of the leaf comes there, nobody comes there from its side
-  none-seen : ((p : ℕ) → q ≡ leaf.first + p → p < leaf.seen → ⊥) → IsSeenFrom t out leaf_side h q → ⊥
+  pub none-seen : ((p : ℕ) → Climbs t k p h q → ⊥) → IsSeenFrom t out leaf_side h q → ⊥
   none-seen none seen =
       let way = (walk-ends t f seen.v seen.p _ seen.sees.found).way in
       let it = reach-through t f seen.v seen.p leaf_side h q k parent way family.parent_at sides.0 in
-      let one = leaf-step t f k h s leaf parent sibling family visible it.0 q it.3 in
-      none it.0 one.0 one.1
+      none it.0 it.3
 
   module _ (tag : Tag) (left right : Bool) (is_row : row ≡ slot.Frame tag left right) where
-    bits : AreSplitBits t out h q left right
+    pub bits : AreSplitBits t out h q left right
     bits = exact.bits h q parent tag left right family.parent_at (hidden t f k h s leaf parent sibling family visible) (has ∙ ap Some is_row)
 
-    -- a row that is not seen through the sibling goes, with its frame
-    pub row-gone : bit_on (other_side leaf_side) left right ≡ true →
-        (now : ℕ → ℕ → Bool) × IsCut t k leaf q (with_pair t.slots parent.list.0 q None) out now in_use (Some tag.0)
-    row-gone off = elim in-window [
-      | inl it ↦
-          let split = split-none leaf_side tag left right off in (
-            leaving_out out k it.0,
-            cut-off it.0 it.1 it.2 (with_pair t.slots parent.list.0 q None) (cut.LastViewer tag)
-                (ap (λ (r : Slot). slots_from t k h q r (Some leaf_side)) is_row ∙ (slots-frame it.0 it.1 it.2 tag left right
-                ∙ ap (λ (r : Option Slot). with_pair t.slots parent.list.0 q r) split.0))
-                (ap (λ (r : Slot). answer_from t k h q r (Some leaf_side)) is_row ∙ (answer-frame it.0 it.1 it.2 tag left right ∙ split.1)),
-          )
-      | inr none ↦ elim (cases_Bool (bit_on leaf_side left right)) [
-        | inl on ↦ absurd (one-bit left right leaf_side bits.is_seen on off)
-        | inr seen ↦ absurd (none-seen none ((denies-on t out h q left right leaf_side bits).is_false seen))
-      ]
-    ]
-
-    -- one that is seen through the sibling is still there
-    row-there : bit_on (other_side leaf_side) left right ≡ false → StillThere t k leaf parent.list.0 q row out in_use
-    row-there seen = elim in-window [
-      | inl it ↦
-          let split = split-some leaf_side tag left right seen in
-          record {
-            now = leaving_out out k it.0;
-            slots = with_pair t.slots parent.list.0 q (Some split.0);
-            is_cut = cut-off it.0 it.1 it.2 (with_pair t.slots parent.list.0 q (Some split.0)) cut.StillSeen
-                (ap (λ (r : Slot). slots_from t k h q r (Some leaf_side)) is_row ∙ (slots-frame it.0 it.1 it.2 tag left right
-                ∙ ap (λ (r : Option Slot). with_pair t.slots parent.list.0 q r) split.1))
-                (ap (λ (r : Slot). answer_from t k h q r (Some leaf_side)) is_row ∙ (answer-frame it.0 it.1 it.2 tag left right ∙ split.2));
-            there = split.0;
-            at = with_pair-same t.slots parent.list.0 q (Some split.0);
-            frame = split.3 ∙ sym (ap frame_in is_row);
-            same = ap (λ (u : Tree). u.slots) (with_row-twice t parent.list.0 q (Some split.0) None);
-            beside = λ l p apart. with_pair-other t.slots parent.list.0 q (Some split.0) l p (λ list _. apart list);
-          }
-      | inr none ↦ untouched out (none-cut none)
-    ]
-
-    -- and the sibling sees it
+    -- a row that its bit tells of is seen by the sibling
     pub row-sees : bit_on (other_side leaf_side) left right ≡ false → SeesRow t.slots sibling q
     row-sees on =
         let seen = (denies-on t out h q left right (other_side leaf_side) bits).is_false on in
@@ -370,22 +265,12 @@ module _ (t : Tree) (k h s : ℕ) (leaf parent sibling : Node) (family : AreFami
       }))
     ]
 
-  -- a zero row is still there
-  zero-there : row ≡ slot.Zero → StillThere t k leaf parent.list.0 q row out in_use
-  zero-there is_row = elim in-window [
-    | inl it ↦
-        untouched (leaving_out out k it.0) (cut-off it.0 it.1 it.2 t.slots cut.NothingThere
-        (ap (λ (r : Slot). slots_from t k h q r (Some leaf_side)) is_row)
-        (ap (λ (r : Slot). answer_from t k h q r (Some leaf_side)) is_row))
-    | inr none ↦ untouched out (none-cut none)
-  ]
-
   module _ (still : StillThere t k leaf parent.list.0 q row out in_use) where
     abbrev u : Tree
     u = record t { slots = still.slots }
 
     -- a zero row that the sibling does not see goes
-    zero-gone : (SeesRow t.slots sibling q → ⊥) → IsCut t k leaf q (with_pair t.slots parent.list.0 q None) out still.now in_use None
+    pub zero-gone : (SeesRow t.slots sibling q → ⊥) → IsCut t k leaf q (with_pair t.slots parent.list.0 q None) out still.now in_use None
     zero-gone unseen = record {
       exact = subst (λ (x : Slots). IsExact (record t { slots = x }) still.now (without_frame in_use None)) still.same
           (dropped-exact u f k h s leaf parent sibling family visible q closed still.now still.is_cut.aside (without_frame in_use None) still.is_cut.exact still.there still.at);
@@ -413,7 +298,7 @@ module _ (t : Tree) (k h s : ℕ) (leaf parent sibling : Node) (family : AreFami
             })
 
     -- a row that the sibling sees moves
-    row-moved : (now : Slot) → SeesRow t.slots sibling q →
+    pub row-moved : (now : Slot) → SeesRow t.slots sibling q →
         IsMoved (with_row t parent.list.0 q None) s (q - sibling.first) sibling row now →
         IsCut t k leaf q (with_pair (with_pair t.slots parent.list.0 q None) sibling.list.0 (q - sibling.first) (Some now)) out still.now in_use None
     row-moved now sees bits = record {
@@ -450,6 +335,123 @@ module _ (t : Tree) (k h s : ℕ) (leaf parent sibling : Node) (family : AreFami
               × (right ≡ not (reached_from (record t { slots = x }) None side.Right s (q - sibling.first))))
               (sym still.same) bits.split;
         }
+
+  -- The leaf has no rows.
+  module _ (bare : (p : ℕ) → t.slots leaf.list.0 p ≡ None) where
+    -- a page of the leaf comes there, or none does
+    in-window : ((p : ℕ) × (q ≡ leaf.first + p) × (p < leaf.seen)) ⊎ ((p : ℕ) → q ≡ leaf.first + p → p < leaf.seen → ⊥)
+    in-window = elim (cases_lt q leaf.first) [
+      | inl less ↦ inr (λ p is inside. absurd (omega arith))
+      | inr from ↦ elim (cases_lt (q - leaf.first) leaf.seen) [
+        | inl inside ↦ inl (q - leaf.first, omega arith, inside)
+        | inr past ↦ inr (λ p is inside. absurd (omega arith))
+      ]
+    ]
+
+    module _ (p : ℕ) (is : q ≡ leaf.first + p) (inside : p < leaf.seen) where
+      step : Climbs t k p h q
+      step = record { node = leaf; at = family.at; free = bare p; inside = inside; parent = family.parent_is; page = is }
+
+      side_is : side_in t.nodes k ≡ Some leaf_side
+      side_is = side-is t.nodes t.lists f h k parent leaf family.parent_at family.at family.parent_is
+
+      found : walk t k p ≡ Some (record { node = h; page = q; side = Some leaf_side; slot = row })
+      found = found-of-reach t f k p leaf_side h q parent row (reach-one t k p leaf_side h q step side_is) family.parent_at has
+
+      alone : reached_from t (link_to k) leaf_side h q ≡ false
+      alone = leaf-alone t f k h q leaf_side
+          (record { above = parent; above_at = family.parent_at; child = sides.0; node = leaf; visible = visible })
+
+      cut-slots : cut_slots t k p ≡ slots_from t k h q row (Some leaf_side)
+      unfolding cut_slots
+      cut-slots = ap (λ (it : Option Found). slots_after t k it) found
+
+      cut-answer : cut_answer t k p ≡ answer_from t k h q row (Some leaf_side)
+      unfolding cut_answer
+      cut-answer = ap (λ (it : Option Found). answer_after t k it) found
+
+      slots-frame : (tag : Tag) (left right : Bool) →
+          slots_from t k h q (slot.Frame tag left right) (Some leaf_side) ≡ with_pair t.slots parent.list.0 q (split_on leaf_side tag left right)
+      slots-frame tag left right = rw (alone, family.parent_at) refl
+
+      answer-frame : (tag : Tag) (left right : Bool) → answer_from t k h q (slot.Frame tag left right) (Some leaf_side) ≡ answer_on leaf_side tag left right
+      answer-frame tag left right = rw alone refl
+
+      cut-off : (slots : Slots) (answer : Cut) → slots_from t k h q row (Some leaf_side) ≡ slots → answer_from t k h q row (Some leaf_side) ≡ answer →
+          IsCut t k leaf q slots out (leaving_out out k p) in_use (frame_left answer)
+      cut-off slots answer slots_is answer_is = record {
+        exact = subst (λ (x : Slots). IsExact (record t { slots = x }) (leaving_out out k p) (without_frame in_use (frame_left answer))) (cut-slots ∙ slots_is)
+            (subst (λ (a : Cut). IsExact (record t { slots = cut_slots t k p }) (leaving_out out k p) (without_frame in_use (frame_left a))) (cut-answer ∙ answer_is)
+            (exact-cut t out in_use exact k p only leaf visible (bare p)));
+        only = only-more out k p only;
+        aside = λ r at within.
+            let same : r ≡ p = omega (arith, is) in
+            subst (λ x. leaving_out out k p k x ≡ true) (sym same) (left_out-here out k p);
+        more = λ w r sight. (left_out-in_sight out k p w r sight).1;
+        shows = λ w r page sight.
+            sym (ap (λ (x : Slots). frame_at (record t { slots = x }) w r) (cut-slots ∙ slots_is))
+            ∙ cut-shows t out in_use exact k p only leaf visible (bare p) w r page sight;
+      }
+
+    -- no page of the leaf comes there, so that none has to be left out
+    none-cut : ((p : ℕ) → q ≡ leaf.first + p → p < leaf.seen → ⊥) → IsCut t k leaf q t.slots out out in_use None
+    none-cut none = record {
+      exact = exact-in_use_alike t out in_use (without_frame in_use None) (without-none in_use) exact;
+      only = only;
+      aside = λ p is inside. absurd (none p is inside);
+      more = λ w p sight. sight;
+      shows = λ w p page sight. refl;
+    }
+
+    module _ (tag : Tag) (left right : Bool) (is_row : row ≡ slot.Frame tag left right) where
+      -- a row that is not seen through the sibling goes, with its frame
+      pub row-gone : bit_on (other_side leaf_side) left right ≡ true →
+          (now : ℕ → ℕ → Bool) × IsCut t k leaf q (with_pair t.slots parent.list.0 q None) out now in_use (Some tag.0)
+      row-gone off = elim in-window [
+        | inl it ↦
+            let split = split-none leaf_side tag left right off in (
+              leaving_out out k it.0,
+              cut-off it.0 it.1 it.2 (with_pair t.slots parent.list.0 q None) (cut.LastViewer tag)
+                  (ap (λ (r : Slot). slots_from t k h q r (Some leaf_side)) is_row ∙ (slots-frame it.0 it.1 it.2 tag left right
+                  ∙ ap (λ (r : Option Slot). with_pair t.slots parent.list.0 q r) split.0))
+                  (ap (λ (r : Slot). answer_from t k h q r (Some leaf_side)) is_row ∙ (answer-frame it.0 it.1 it.2 tag left right ∙ split.1)),
+            )
+        | inr none ↦ elim (cases_Bool (bit_on leaf_side left right)) [
+          | inl on ↦ absurd (one-bit left right leaf_side (bits tag left right is_row).is_seen on off)
+          | inr seen ↦ absurd (none-seen (λ r step. let one = leaf-step t f k h s leaf parent sibling family visible r q step in none r one.0 one.1) ((denies-on t out h q left right leaf_side (bits tag left right is_row)).is_false seen))
+        ]
+      ]
+
+      -- one that is seen through the sibling is still there
+      row-there : bit_on (other_side leaf_side) left right ≡ false → StillThere t k leaf parent.list.0 q row out in_use
+      row-there seen = elim in-window [
+        | inl it ↦
+            let split = split-some leaf_side tag left right seen in
+            record {
+              now = leaving_out out k it.0;
+              slots = with_pair t.slots parent.list.0 q (Some split.0);
+              is_cut = cut-off it.0 it.1 it.2 (with_pair t.slots parent.list.0 q (Some split.0)) cut.StillSeen
+                  (ap (λ (r : Slot). slots_from t k h q r (Some leaf_side)) is_row ∙ (slots-frame it.0 it.1 it.2 tag left right
+                  ∙ ap (λ (r : Option Slot). with_pair t.slots parent.list.0 q r) split.1))
+                  (ap (λ (r : Slot). answer_from t k h q r (Some leaf_side)) is_row ∙ (answer-frame it.0 it.1 it.2 tag left right ∙ split.2));
+              there = split.0;
+              at = with_pair-same t.slots parent.list.0 q (Some split.0);
+              frame = split.3 ∙ sym (ap frame_in is_row);
+              same = ap (λ (u : Tree). u.slots) (with_row-twice t parent.list.0 q (Some split.0) None);
+              beside = λ l p apart. with_pair-other t.slots parent.list.0 q (Some split.0) l p (λ list _. apart list);
+            }
+        | inr none ↦ untouched out (none-cut none)
+      ]
+
+    -- a zero row is still there
+    zero-there : row ≡ slot.Zero → StillThere t k leaf parent.list.0 q row out in_use
+    zero-there is_row = elim in-window [
+      | inl it ↦
+          untouched (leaving_out out k it.0) (cut-off it.0 it.1 it.2 t.slots cut.NothingThere
+          (ap (λ (r : Slot). slots_from t k h q r (Some leaf_side)) is_row)
+          (ap (λ (r : Slot). answer_from t k h q r (Some leaf_side)) is_row))
+      | inr none ↦ untouched out (none-cut none)
+    ]
 
 -- ---- the rows of an arena
 
@@ -656,7 +658,7 @@ module _ (arena : Arena) (old : Rows Row) (first : Slots) (before between after 
 
       goes : (r : Slot) → row ≡ r → AreLifted arena old (with_pair first of.parent.list.0 q None) before after k h s of
       goes slot.Zero e = next None _ (ap frame_in e)
-          (zero-gone first_tree k h s of.node of.parent of.sibling of.family of.visible q row has was.out (is_taken between) was.exact was.only was.bare (zero-still e)
+          (zero-gone first_tree k h s of.node of.parent of.sibling of.family of.visible q row has was.out (is_taken between) was.exact was.only (zero-still e)
           (unseen.1 e))
       goes (slot.Frame tag left right) e =
           let it = row-gone first_tree k h s of.node of.parent of.sibling of.family of.visible q row has was.out (is_taken between) was.exact was.only was.bare tag left right e
@@ -673,7 +675,7 @@ module _ (arena : Arena) (old : Rows Row) (first : Slots) (before between after 
       next : StillThere first_tree k of.node of.parent.list.0 q row was.out (is_taken between) →
           AreLifted arena old (with_pair (with_pair first of.parent.list.0 q None) of.sibling.list.0 (q - of.sibling.first) (Some now)) before after k h s of
       next still = lifted-next (with_pair (with_pair first of.parent.list.0 q None) of.sibling.list.0 (q - of.sibling.first) (Some now)) None still.now
-          (row-moved first_tree k h s of.node of.parent of.sibling of.family of.visible q row has was.out (is_taken between) was.exact was.only was.bare still now sees moved)
+          (row-moved first_tree k h s of.node of.parent of.sibling of.family of.visible q row has was.out (is_taken between) was.exact was.only still now sees moved)
           (λ x. taken x ∙ without-none (is_taken between) x)
           (λ l p list apart.
           with_pair-other _ of.sibling.list.0 (q - of.sibling.first) (Some now) l p (λ a _. list a)
@@ -722,7 +724,7 @@ module _ (arena : Arena) (old first mid new : Rows Row) (before between after : 
   -- what its bits tell of the sibling's side holds
   pub row-sees-mid : (tag : Tag) (left right : Bool) → row ≡ slot.Frame tag left right → bit_on (side_of parent s) left right ≡ false → SeesRow (slots_of mid) sibling q
   row-sees-mid tag left right e seen = sees-mid
-      (row-sees t k h s node parent sibling was.of.family was.of.visible q row has was.lifted.out (is_taken between) was.lifted.exact was.lifted.only was.lifted.bare
+      (row-sees t k h s node parent sibling was.of.family was.of.visible q row has was.lifted.out (is_taken between) was.lifted.exact was.lifted.only
       tag left right e (ap (λ (from : Side). bit_on from left right) (sym (family-other arena k h s was.lifted.exact.forest was.of)) ∙ seen))
 
   -- ---- the row is gone
