@@ -16,10 +16,13 @@ use page_list::PageLists;
 
 /// Takes a VMO's node away. The frames that only it showed are given back. Where it has a parent, this goes too: its rows
 /// move into the sibling, where they are seen through the sibling, and the sibling takes its place. It takes no memory, and
-/// costs the rows that the node's pages reach in its list and in those of the nodes above the parent, and the rows of the
-/// parent. But where the node has no rows, and the sibling is a VMO's node that sees the parent from page 0 on and has fewer
-/// rows than it, the parent's list goes over to the sibling, and the rows of the sibling move into it: then it costs these, and
-/// the rows of the parent outside the windows of the two, in place of all rows of the parent.
+/// costs the rows that the node's pages reach in its list and in those of the nodes above the parent, at each of the latter a
+/// search for another VMO that sees it (`cut_row`), and the rows of the parent, at each of those that move into a hidden
+/// sibling a search on each side of this.
+///
+/// But where the node has no rows, and the sibling is a VMO's node that sees the parent from page 0 on and has fewer rows than
+/// it, the parent's list goes over to the sibling, and the rows of the sibling move into it: then it costs these, and the rows
+/// of the parent that lie outside one of the two windows, in place of all rows of the parent.
 ///
 /// The tree is exact over the frames that are taken, before and after, and each other VMO shows what it showed.
 pub fn close(arena: &mut CowArena, lists: &mut PageLists, frames: &mut FramePool, leaf: NodeId)

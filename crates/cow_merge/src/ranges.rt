@@ -68,7 +68,7 @@ pub(crate) fn leave_out_above(
 
 /// Cuts the pages of a VMO's node from `first` on off from the frames that they see in rows above the node `start`, which is
 /// this, to whose pages below `to` they come, `shift` pages further on. Those that the parent holds, if it is spared, are
-/// left, and the others come to no row of `start`.
+/// left, and the others come to no row of `start`, whose rows stay as they are.
 fn cut_upwards(
     arena: &CowArena,
     lists: &mut PageLists,

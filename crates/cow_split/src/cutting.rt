@@ -75,7 +75,7 @@ pub fn cut_holder(
 /// looks into no list on the way there.
 ///
 /// Where no page of the node that is in sight comes to the row, nothing changes, in a tree that is exact: others see the row
-/// from that side, or its bit of the side is set.
+/// from that side, or its bit of the side is set. The rows of the other nodes stay as they are in any case.
 pub fn cut_row(
     arena: &CowArena,
     lists: &mut PageLists,
