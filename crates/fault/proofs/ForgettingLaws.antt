@@ -125,7 +125,7 @@ pub entry-kept : (o : Option Kept) (k : Kept) (entry : Entry) → o ≡ Some k �
     → k.translation.entry ≡ entry
 entry-kept o k entry at same = subst (λ (m : Option Kept). IfSome (option_map (λ (y : Kept). y.translation) m) (λ x. x.entry ≡ entry)) at same
 
--- where nothing is kept, nothing holds another frame, and nothing is of another entry
+-- what is kept holds another frame where nothing is kept
 pub HoldsOther-none : (o : Option Kept) (frame : Option ℕ) → option_map (λ (y : Kept). y.translation) o ≡ None → HoldsOther frame o
 HoldsOther-none None frame none = tt
 HoldsOther-none (Some k) frame none = absurd cc

@@ -10,7 +10,6 @@ use Rattle.vm_model.specs.declared.space.Readiness.{Readiness}
 use Rattle.vm_model.specs.declared.space.Readiness.TheVariants.{Read, Write}
 use Rattle.vm_model.specs.Contents.Content.{Page, Content, used, sole, is_sole_page}
 use Rattle.vm_model.specs.Contents.Owning.{need_from, need_each}
-use Rattle.vm_model.specs.Space.Rights.{writing}
 use Rattle.vm_model.specs.Space.Readiness.{frame_at, is_writable}
 use Rattle.vm_model.specs.Machine.Access.{refusal_at}
 use Rattle.vm_model.proofs.ContentLaws.{sole_held}
@@ -66,7 +65,7 @@ module _ (c : Content) (table : ℕ → ℕ → Option Entry) (places : Places) 
     go (Some x) e = some_same (sym (are.entry root p x e) ∙ is)
 
   -- what a check finds of a page that may be written
-  module _ (touched : TouchedPage) (frame : Option Tag) (is : IsTouched c table places writing root p touched) (same : frame ≡ writing_frame touched.translation) where
+  module _ (right : ℕ) (touched : TouchedPage) (frame : Option Tag) (is : IsTouched c table places right root p touched) (same : frame ≡ writing_frame touched.translation) where
     -- where it is translated for writing, the page of the VMO is sole, with the frame of the translation
     sole_with : (x : Translation) → places root p ≡ Some x → x.readiness ≡ Write
         → (sole c touched.entry.koid.0 touched.entry.page ≡ true) × (frame_in x ≡ frame_at c touched.entry.koid.0 touched.entry.page)
@@ -107,19 +106,19 @@ module _ (c : Content) (table : ℕ → ℕ → Option Entry) (places : Places) 
     pub IsWritable-from_IsTouched : (translated : Bool) (seen : Look) → translated ≡ is_some touched.translation
         → seen ≡ look_at c touched.entry.koid.0 (c.page touched.entry.koid.0 touched.entry.page)
         → IsWritable c table places root p (record { entry = touched.entry; translated = translated; frame = frame; look = seen })
-        × (refusal_at c writing (table root p) ≡ None)
+        × (refusal_at c right (table root p) ≡ None)
     IsWritable-from_IsTouched translated seen translated_is looked = (
       record {
         entry = is.entry;
         ready = ready-is touched.translation is.translation same;
         absent = λ e. is.translation ∙ none-of touched.translation (sym translated_is ∙ e);
         store = record {
-          below = below-free c writing touched.entry is.free;
+          below = below-free c right touched.entry is.free;
           frame = sole_with-touched;
           sole = λ tag e. sole-looked c touched.entry.koid.0 touched.entry.page tag (ap sole_frame (sym looked) ∙ e);
         };
       },
-      ap (refusal_at c writing) is.entry ∙ is.free,
+      ap (refusal_at c right) is.entry ∙ is.free,
     )
 
 -- where the frame is free that owning a page needs, it is there where the page is not sole
