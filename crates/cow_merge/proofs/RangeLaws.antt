@@ -18,26 +18,25 @@ use Rattle.frame_pool.specs.Pool.{Pool, taken_frames, links_of, is_taken}
 use Rattle.cow_arena.specs.declared.node.Node.{Node}
 use Rattle.cow_arena.specs.declared.node.NodeId.{NodeId}
 use Rattle.cow_arena.specs.declared.node.Side.{Side}
-use Rattle.cow_arena.specs.Nodes.{Arena, Nodes, nodes_of, IsVisible, link_to, side_of}
+use Rattle.cow_arena.specs.Nodes.{Arena, Nodes, nodes_of, IsVisible, link_to}
 use Rattle.cow_arena.specs.Walk.{Slots, Tree, tree_with, Found, walk, frame_in, frame_found, frame_at, from_side}
 use Rattle.cow_arena.specs.Forest.{IsForest}
-use Rattle.cow_arena.specs.Ways.{HasRow, Climbs, Reaches, Arrives, IsPartOf}
+use Rattle.cow_arena.specs.Ways.{Climbs, Reaches, Arrives, IsPartOf}
 use Rattle.cow_arena.proofs.WalkLaws.{walk-past}
-use Rattle.cow_arena.proofs.ReachLaws.{reach-one, reach-more, reach-each, reach-after, reach-apart, reach-deeper, reach-hidden, side-is, climb-side, walk-from, walk-ends, found-of-reach, arrives-or-not}
+use Rattle.cow_arena.proofs.ReachLaws.{reach-one, reach-more, reach-each, reach-after, climb-side, walk-from, walk-ends, found-of-reach, arrives-or-not}
 use Rattle.cow_split.specs.declared.answers.Cut.{Cut}
 use Rattle.cow_split.specs.declared.answers.Cut.TheVariants as cut
 use Rattle.cow_split.specs.Trees.{tree_of}
 use Rattle.cow_split.specs.Cost.{nodes_up}
 use Rattle.cow_split.specs.Sight.{IsPage, Sees}
 use Rattle.cow_split.specs.Exact.{IsExact, IsOnlyOf, all_in_sight, leaving_out, without_frame}
-use Rattle.cow_split.specs.Searching.{ComesTo}
-use Rattle.cow_split.specs.Cutting.{cut_slots, frame_left, HasCut, IsUnseenBy, HasStayed}
+use Rattle.cow_split.specs.Cutting.{cut_slots, frame_left, HasCut}
 use Rattle.cow_split.proofs.CostLaws.{depth-up, depth-some}
 use Rattle.cow_split.proofs.ExactLaws.{exact-seen_alike, seen-carried}
 use Rattle.cow_split.proofs.RowLaws.{left_out-in_sight, left_out-other, only-more, only-none, exact-in_use_alike, exact-own_gone, own-shows, frame-in_use, frame-shown}
 use Rattle.cow_split.proofs.CutLaws.{exact-cut, cut-last, cut-shows}
 use Rattle.cow_split.proofs.PartLaws.{part-same, part-with_pair, part-then, part-none, part-cut}
-use Rattle.cow_merge.specs.Ranges.{leaving_range, AreLinked, GivesBack, HasGiven, HasLeftPageOut, IsLeaving, IsDropping, IsBare, CameTo, ShowsSame, IsHeldBy, IsSpared, IsParent, bare_of, IsOnlyWay, HasKept, HasPassedRow, IsPassing, IsSparing, HasLeftOut, IsExactFor}
+use Rattle.cow_merge.specs.Ranges.{leaving_range, AreLinked, GivesBack, HasGiven, HasLeftPageOut, IsLeaving, IsDropping, IsBare, CameTo, ShowsSame, IsHeldBy, IsSpared, IsParent, IsOnlyWay, HasKept, HasPassedRow, IsPassing, IsSparing, HasLeftOut, IsExactFor}
 use Rattle.cow_merge.proofs.CountLaws.{in_sight-outside, outside-other, outside-before}
 
 -- a way stays where rows go
@@ -52,7 +51,7 @@ module _ (t : Tree) (slots : Slots) (part : IsPartOf t.slots slots) where
     page = c.page;
   }
 
-  reach-part : (k p : ℕ) (side : Side) (h q : ℕ) → Reaches t k p side h q → Reaches (record t { slots = slots }) k p side h q
+  pub reach-part : (k p : ℕ) (side : Side) (h q : ℕ) → Reaches t k p side h q → Reaches (record t { slots = slots }) k p side h q
   reach-part k p side h q = reach-each t side h q (λ j r. Reaches (record t { slots = slots }) j r side h q)
       (λ j r c from. reach-one (record t { slots = slots }) j r side h q (climbs-part j r h q c) from)
       (λ j r i x c way further. reach-more (record t { slots = slots }) j r i x side h q (climbs-part j r i x c) further)
@@ -61,37 +60,6 @@ module _ (t : Tree) (slots : Slots) (part : IsPartOf t.slots slots) where
   arrives-part : (k p : ℕ) (side : Option Side) (h q : ℕ) → Arrives t k p side h q → Arrives (record t { slots = slots }) k p side h q
   arrives-part k p None h q way = way
   arrives-part k p (Some side) h q way = reach-part k p side h q way
-
--- ---- the ways through the windows
-
-module _ (arena : Arena) (f : IsForest (nodes_of arena) arena.lists) where
-  -- a page comes through the windows of a node to its parent
-  pub bare-up : (v first k : ℕ) (h : NodeId) (node above : Node) (x y : ℕ) → nodes_of arena k ≡ Some node → node.parent ≡ Some h →
-      nodes_of arena h.0 ≡ Some above → x < node.seen → y ≡ node.first + x → ComesTo (bare_of arena) v first k x →
-      Reaches (bare_of arena) v first (side_of above k) h.0 y
-  bare-up v first k h node above x y at up above_at inside page came =
-      let climbs : Climbs (bare_of arena) k x h.0 y =
-      record { node = node; at = at; free = refl; inside = inside; parent = up; page = page } in
-      reach-after (bare_of arena) f v first came.side k x (side_of above k) h.0 y came.way climbs
-      (side-is (nodes_of arena) arena.lists f h.0 k above node above_at at up)
-
-  module _ (v first shift h : ℕ) (from : Side) (way : Reaches (bare_of arena) v first from h (first + shift)) where
-    -- so there is one page that can come to a row of it, and from one side
-    pub bare-only : (rows : Rows Row) (row : ℕ) → shift ≤ row → IsOnlyWay (tree_of arena rows) v (row - shift) from h row
-    bare-only rows row less = record {
-      only = λ x s there.
-          let apart = reach-apart (bare_of arena) f v x s h row first from (first + shift)
-          (reach-part (tree_of arena rows) (λ l p. None) (record { had = λ l q row e. absurd (cc) }) v x s h row there) way in
-          (omega (arith, apart.0), apart.1);
-    }
-
-    pub bare-hidden : (above : Node) → nodes_of arena h ≡ Some above → above.koid ≡ None
-    bare-hidden above at =
-        let it = reach-hidden (bare_of arena) f v first from h (first + shift) way in
-        subst (λ (n : Node). n.koid ≡ None) (some_same (sym it.1 ∙ at)) it.2
-
-    pub bare-apart : h ≢ v
-    bare-apart same = let deeper = reach-deeper (bare_of arena) f v first from h (first + shift) way in let one = ap f.rank same in absurd (omega arith)
 
 -- ---- frames that are given back
 
@@ -200,61 +168,6 @@ module _ (arena : Arena) (old new : Rows Row) (v p : ℕ) (node : Node) (visible
     spare = spare;
     count = count;
   }
-
--- ---- one row of a hidden node
-
--- where no page of v but p can come to the row, and p does not, none does
-unseen-by : (t : Tree) (out : ℕ → ℕ → Bool) (v p : ℕ) (from : Side) (h q : ℕ) (above : Node) → t.nodes h ≡ Some above → above.koid ≡ None →
-    IsOnlyWay t v p from h q → (Reaches t v p from h q → ⊥) → IsUnseenBy t out v from h q
-unseen-by t out v p from h q above at hidden only none = record {
-  above = above;
-  at = at;
-  hidden = hidden;
-  none = λ x sight way. none (subst (λ x. Reaches t v x from h q) (only.only x from way).0 way);
-}
-
-module _ (arena : Arena) (old new : Rows Row) (v p : ℕ) (from : Side) (h q : ℕ) (slot : Slot) (pool : Pool) (answer : Cut)
-    (has : IsExactFor arena old pool v) (bare : slots_of old has.node.list.0 p ≡ None)
-    (row : HasRow (tree_of arena old) h q slot) (hidden : (above : Node) → nodes_of arena h ≡ Some above → above.koid ≡ None)
-    (only : IsOnlyWay (tree_of arena old) v p from h q)
-    (seen : Reaches (tree_of arena old) v p from h q → HasCut arena old new v p answer)
-    (unseen : IsUnseenBy (tree_of arena old) has.out v from h q → HasStayed old new answer) where
-  stayed : (Reaches (tree_of arena old) v p from h q → ⊥) → HasStayed old new answer
-  stayed none = unseen (unseen-by (tree_of arena old) has.out v p from h q row.node row.at (hidden row.node row.at) only none)
-
-  -- the frame that is to be given back is taken
-  pub row-taken : (tag : Tag) → answer ≡ cut.LastViewer tag → IsSome (taken_frames pool tag.0)
-  row-taken tag is = elim (arrives-or-not (tree_of arena old) has.exact.forest h q v p) [
-    | inl way ↦ on_way way.0 way.1
-    | inr none ↦ not_there (stayed (λ way. none (Some from) way))
-  ]
-    where
-      not_there : HasStayed old new answer → IsSome (taken_frames pool tag.0)
-      not_there stays = let left = ap frame_left is in let none = stays.no_frame in absurd (cc)
-
-      on_way : (side : Option Side) → Arrives (tree_of arena old) v p side h q → IsSome (taken_frames pool tag.0)
-      on_way None way =
-          let same : row.node ≡ has.node = some_same (sym row.at ∙ (ap (nodes_of arena) (sym way.0) ∙ has.visible.at)) in
-          let none = ap is_some (ap (λ (n : Node). n.koid) (sym same) ∙ hidden row.node row.at) in
-          let shown = has.visible.koid in
-          absurd (cc)
-      on_way (Some side) way =
-          let same = (only.only p side way).1 in
-          cut-taken arena old new v p has.node has.visible pool has.out answer tag has.exact has.only bare
-          (seen (subst (λ s. Reaches (tree_of arena old) v p s h q) same way)) is
-
-  pub row-passed : (after : Pool) → HasGiven pool after (frame_left answer) → old.spare ≤ new.spare → row_count new ≤ row_count old →
-      HasPassedRow arena old new pool after v p from h q
-  row-passed after given spare count = record {
-    came = λ way. cut-left_out arena old new v p has.node has.visible pool after answer has.exact.forest bare (seen way) given;
-    stays = λ none.
-        let stays = stayed none in
-        let same = subst (λ o. HasGiven pool after o) stays.no_frame given in
-        record { rows = stays.rows; taken = λ t. same.taken t ∙ kept t; links = same.links; gives = same.gives; spare = spare; count = count };
-  }
-    where
-      kept : (t : ℕ) → without_frame (is_taken pool) None t ≡ is_taken pool t
-      kept t = sym ((given-none pool).taken t)
 
 -- ---- pages, one after another
 

@@ -11,7 +11,7 @@ use Rattle.cow_arena.specs.Walk.{Slots, Tree}
 use Rattle.cow_arena.proofs.ReachLaws.{reach-one, side-is, found-of-reach}
 use Rattle.cow_split.specs.Exact.{IsExact, all_in_sight}
 use Rattle.cow_merge.specs.Ranges.{IsHeldBy}
-use Rattle.cow_merge.specs.Lifting.{bit_on}
+use Rattle.cow_merge.specs.Ranges.{bit_on}
 use Rattle.cow_merge.specs.HandingOver.{AreSeenFrom}
 use Rattle.cow_merge.proofs.LiftedLaws.{denies-on}
 

@@ -13,8 +13,8 @@ use Rattle.cow_arena.specs.Nodes.{Arena, side_of}
 use Rattle.cow_arena.specs.Renamed.{exchanged, AreExchanged}
 use Rattle.cow_arena.specs.Walk.{Slots, frame_in}
 use Rattle.cow_split.specs.Exact.{without_frame}
-use Rattle.cow_merge.specs.Ranges.{AreLinked, GivesBack, HasGiven}
-use Rattle.cow_merge.specs.Lifting.{IsFamilyOf, AreLifted, bit_on, has_frame}
+use Rattle.cow_merge.specs.Ranges.{bit_on, AreLinked, GivesBack, HasGiven}
+use Rattle.cow_merge.specs.Lifting.{IsFamilyOf, AreLifted, has_frame}
 
 -- the frame of the row that a page has, if it has one
 abbrev pub frame_there : Option Slot → Option ℕ

@@ -10,14 +10,13 @@ use Rattle.page_list.specs.declared.row.Slot.TheVariants as slot
 use Rattle.page_list.specs.Lists.{slots_of, row_count}
 use Rattle.frame_pool.specs.Pool.{Pool, taken_frames, links_of, is_taken}
 use Rattle.cow_arena.specs.declared.node.Node.{Node}
-use Rattle.cow_arena.specs.declared.node.Side.{Side}
 use Rattle.cow_arena.specs.declared.node.Side.TheVariants as side
 use Rattle.cow_arena.specs.Nodes.{Arena, nodes_of, AreFamily, IsVisible, side_of}
 use Rattle.cow_arena.specs.Walk.{Slots, Tree, tree_with, frame_in, frame_at}
 use Rattle.cow_split.specs.Trees.{tree_of}
 use Rattle.cow_split.specs.Search.{reached_from}
 use Rattle.cow_split.specs.Exact.{IsExact, IsOnlyOf}
-use Rattle.cow_merge.specs.Ranges.{ShowsSame, AreLinked, GivesBack, HasGiven, IsHeldBy}
+use Rattle.cow_merge.specs.Ranges.{bit_on, ShowsSame, AreLinked, GivesBack, HasGiven, IsHeldBy}
 
 -- each page of node k, which is this, that comes to page q of its parent is left out of sight
 abbrev pub IsAside : (ℕ → ℕ → Bool) → (k : ℕ) → Node → (q : ℕ) → Type 0
@@ -74,11 +73,6 @@ pub record IsLifting (arena : Arena) (old new : Rows Row) (before after : Pool) 
 -- the page is below this one, if it is one
 abbrev pub IsBefore : Option ℕ → ℕ → Type 0
 IsBefore to p = IfSome to (λ (end : ℕ). p < end)
-
--- the bit of this side
-abbrev pub bit_on : Side → (left right : Bool) → Bool
-bit_on side.Left left right = left
-bit_on side.Right left right = right
 
 -- Whether the row of page q of a hidden node is seen through its child s: of a row with a frame the bit of that side says so,
 -- and a zero row is seen through the child exactly where the child itself sees it.

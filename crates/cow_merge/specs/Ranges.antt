@@ -5,8 +5,10 @@ use Rattle.page_list.specs.declared.row.Row.{Row}
 use Rattle.page_list.specs.Lists.{slots_of, row_count}
 use Rattle.frame_pool.specs.Pool.{Pool, taken_frames, links_of, is_taken}
 use Rattle.page_list.specs.declared.row.Slot.{Slot}
+use Rattle.page_list.specs.declared.row.Slot.TheVariants as slot
 use Rattle.cow_arena.specs.declared.node.Node.{Node}
 use Rattle.cow_arena.specs.declared.node.Side.{Side}
+use Rattle.cow_arena.specs.declared.node.Side.TheVariants as side
 use Rattle.cow_arena.specs.declared.node.NodeId.{NodeId}
 use Rattle.cow_arena.specs.Nodes.{Arena, Nodes, nodes_of, IsVisible}
 use Rattle.cow_arena.specs.Walk.{Slots, Tree, tree_with, frame_at, frame_in}
@@ -142,6 +144,16 @@ pub record IsUnderWay (arena : Arena) (rows : Rows Row) (pool : Pool) (v first :
 -- the tree without its rows: pages go up in it through the windows alone
 abbrev pub bare_of : Arena → Tree
 bare_of arena = tree_with (nodes_of arena) arena.lists (λ l p. None)
+
+-- the bit of this side
+abbrev pub bit_on : Side → (left right : Bool) → Bool
+bit_on side.Left left right = left
+bit_on side.Right left right = right
+
+-- the row has a frame, and its bit of this side is set
+abbrev pub is_split : Side → Slot → Bool
+is_split from (slot.Frame tag left right) = bit_on from left right
+is_split from slot.Zero = false
 
 -- no page of v but page p comes to page q of node h, and that from this side
 pub record IsOnlyWay (t : Tree) (v p : ℕ) (from : Side) (h q : ℕ) : Type 0 where

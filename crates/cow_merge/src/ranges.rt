@@ -16,7 +16,7 @@ ghost use Rattle.cow_split.specs.Searching.{ComesTo};
 ghost use Rattle.cow_split.specs.Exact.{IsExact, all_in_sight};
 ghost use Rattle.cow_split.specs.Cutting.{frame_left};
 ghost use Rattle.cow_split.specs.declared.answers.Cut.TheVariants as cut;
-ghost use Rattle.cow_merge.specs.Ranges.{bare_of, HasGiven, IsBare, IsPassing, IsUnderWay, IsSparing, IsOnlyWay, HasPassedRow, KeepsList, KeepsOthers, HasLeftOut, IsExactFor};
+ghost use Rattle.cow_merge.specs.Ranges.{bare_of, is_split, HasGiven, IsBare, IsPassing, IsUnderWay, IsSparing, IsOnlyWay, HasPassedRow, KeepsList, KeepsOthers, HasLeftOut, IsExactFor};
 
 use cow_arena::{CowArena, Node, NodeId, Side};
 use cow_split::{Cut, cut_row};
@@ -198,8 +198,8 @@ fn cut_rows(
 }
 
 /// Cuts page `own` of a VMO's node off from this row of a hidden node, to which that page alone can come, from this side, and
-/// gives the frame back, if no other VMO shows it. Where the page does not come to the row, nothing changes. The VMO's node
-/// has no row of its own there.
+/// gives the frame back, if no other VMO shows it. Where the page does not come to the row, nothing changes, nor where the
+/// row's bit of the side is set, which says so. The VMO's node has no row of its own there.
 fn cut_off(
     arena: &CowArena,
     lists: &mut PageLists,
@@ -219,8 +219,22 @@ fn cut_off(
     ensures passed { HasPassedRow arena.now lists.old lists.new frames.old frames.new leaf.0 own side node.0 page }
     ensures others { (above : Node) → nodes_of arena.now node.0 ≡ Some above → KeepsOthers lists.old lists.new above.list.0 }
 {
+    if is_split(side, slot) {
+        return;
+    }
     let answer = cut_row(arena, lists, leaf, own, node, page, side, slot);
     give_back_last(frames, answer);
+}
+
+/// Whether a row has a frame and its bit of this side is set: nobody in sight sees it from there.
+fn is_split(side: Side, slot: Slot) -> bool
+    ensures { result ≡ is_split side slot }
+{
+    match (side, slot) {
+        (Side::Left, Slot::Frame { left, .. }) => left,
+        (Side::Right, Slot::Frame { right, .. }) => right,
+        (_, Slot::Zero) => false,
+    }
 }
 
 /// Gives the frame of a row back that a cut has taken away.

@@ -1,7 +1,7 @@
 -- A row that is seen through the child is seen by the child.
 use Rattle.std.proofs.Common.{not, ap, ◌∙◌}
 use Rattle.page_list.specs.Lists.{slots_of}
-use Rattle.cow_merge.specs.Lifting.{bit_on}
+use Rattle.cow_merge.specs.Ranges.{bit_on}
 use Rattle.cow_merge.proofs.LiftedLaws.{settle-sees}
 use Rattle.cow_merge.proofs.lifting.settle.Goals as goal
 

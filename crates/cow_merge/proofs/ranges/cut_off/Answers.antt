@@ -1,6 +1,13 @@
 -- A frame that a cut takes the last row of is taken, and the page is left out then, or nothing has changed.
-use Rattle.cow_merge.proofs.RangeLaws.{row-taken, row-passed}
+use Rattle.std.proofs.Common.{sym, ◌∙◌}
+use Rattle.cow_merge.proofs.PassedLaws.{split-passed, row-taken, row-passed}
 use Rattle.cow_merge.proofs.ranges.cut_off.Goals as goal
+
+pub returns-then-is_split-clause-passed : goal.returns-then-is_split-clause-passed
+returns-then-is_split-clause-passed c =
+    let has = c.requires.exact in
+    split-passed c.args.arena.now c.args.lists.now c.args.frames.now c.args.leaf.0 c.args.own has.node c.args.side c.args.node.0 c.args.page c.args.slot
+    has.visible c.requires.row c.requires.hidden (sym c.is_split.ensures ∙ c.if-is_split.true)
 
 pub give_back_last-requires : goal.give_back_last-requires
 give_back_last-requires c = λ tag is.

@@ -2,7 +2,8 @@
 use Rattle.std.proofs.Common.{◌≡◌, ◌-◌, None, Some, refl, sym, ◌∙◌, arith}
 use Rattle.cow_arena.specs.Nodes.{nodes_of}
 use Rattle.cow_arena.specs.Forest.{IsForest}
-use Rattle.cow_merge.proofs.RangeLaws.{passing-exact, passing-bare, passing-cut, passing-end, bare-only, bare-hidden, bare-apart}
+use Rattle.cow_merge.proofs.RangeLaws.{passing-exact, passing-bare, passing-cut, passing-end}
+use Rattle.cow_merge.proofs.PassedLaws.{bare-only, bare-hidden, bare-apart}
 use Rattle.cow_merge.proofs.ranges.cut_rows.Goals as goal
 
 pub returns-in_default-clause-passing : goal.returns-in_default-clause-passing

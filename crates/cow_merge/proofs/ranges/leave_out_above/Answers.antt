@@ -4,7 +4,8 @@ use Rattle.vm_base.proofs.EntryLaws.{some_same}
 use Rattle.page_list.specs.Lists.{slots_of}
 use Rattle.cow_arena.specs.declared.node.Node.{Node}
 use Rattle.cow_arena.specs.Nodes.{side_of}
-use Rattle.cow_merge.proofs.RangeLaws.{passing-above, passing-again, above-there, above-fits, above-parent, above-visible, above-list, bare-up}
+use Rattle.cow_merge.proofs.RangeLaws.{passing-above, passing-again, above-there, above-fits, above-parent, above-visible, above-list}
+use Rattle.cow_merge.proofs.PassedLaws.{bare-up}
 use Rattle.cow_merge.proofs.ranges.leave_out_above.Goals as goal
 
 pub drop_rows-requires-clause-leaf : goal.drop_rows-requires-clause-leaf

@@ -1,0 +1,187 @@
+-- A row of a hidden node is passed on the way up: the page of v that comes to it is cut off there, or nothing changes.
+use Rattle.std.proofs.Common.{◌≡◌, ◌≢◌, ℕ, ◌+◌, ◌-◌, ◌<◌, ◌≤◌, Bool, true, Option, None, Some, inl, inr, IsSome}
+use Rattle.std.proofs.Common.{refl, sym, ap, subst, ◌∙◌, arith}
+use Rattle.std.specs.Prelude.{is_some}
+use Rattle.std.proofs.lemmas.Bool.{cases_Bool}
+use Rattle.balanced_tree.specs.Rows.{Rows}
+use Rattle.vm_base.specs.declared.names.Tag.{Tag}
+use Rattle.vm_base.proofs.EntryLaws.{some_same}
+use Rattle.page_list.specs.declared.row.Row.{Row}
+use Rattle.page_list.specs.declared.row.Slot.{Slot}
+use Rattle.page_list.specs.declared.row.Slot.TheVariants as slot
+use Rattle.page_list.specs.Lists.{slots_of, row_count}
+use Rattle.frame_pool.specs.Pool.{Pool, taken_frames, is_taken}
+use Rattle.cow_arena.specs.declared.node.Node.{Node}
+use Rattle.cow_arena.specs.declared.node.NodeId.{NodeId}
+use Rattle.cow_arena.specs.declared.node.Side.{Side}
+use Rattle.cow_arena.specs.declared.node.Side.TheVariants as side
+use Rattle.cow_arena.specs.Nodes.{Arena, nodes_of, IsVisible, side_of}
+use Rattle.cow_arena.specs.Walk.{Tree}
+use Rattle.cow_arena.specs.Forest.{IsForest}
+use Rattle.cow_arena.specs.Ways.{HasRow, Climbs, Reaches, Arrives}
+use Rattle.cow_arena.proofs.ReachLaws.{reach-cases, reach-after, reach-apart, reach-deeper, reach-hidden, side-is, found-of-reach, arrives-or-not}
+use Rattle.cow_split.specs.declared.answers.Cut.{Cut}
+use Rattle.cow_split.specs.declared.answers.Cut.TheVariants as cut
+use Rattle.cow_split.specs.Trees.{tree_of}
+use Rattle.cow_split.specs.Searching.{ComesTo}
+use Rattle.cow_split.specs.Sight.{IsPage, IsSeenFrom}
+use Rattle.cow_split.specs.Exact.{AreSplitBits, IsExact, leaving_out, without_frame}
+use Rattle.cow_split.specs.Cutting.{frame_left, HasCut, IsUnseenBy, HasStayed}
+use Rattle.cow_split.proofs.ExactLaws.{cases_place}
+use Rattle.cow_split.proofs.RowLaws.{left_out-here, left_out-other}
+use Rattle.cow_split.proofs.PartLaws.{part-same}
+use Rattle.cow_merge.specs.Ranges.{bare_of, bit_on, is_split, HasGiven, IsOnlyWay, HasPassedRow, IsExactFor}
+use Rattle.cow_merge.proofs.RangeLaws.{reach-part, gives-same, given-none, cut-taken, cut-left_out}
+
+-- ---- the ways through the windows
+
+module _ (arena : Arena) (f : IsForest (nodes_of arena) arena.lists) where
+  -- a page comes through the windows of a node to its parent
+  pub bare-up : (v first k : ℕ) (h : NodeId) (node above : Node) (x y : ℕ) → nodes_of arena k ≡ Some node → node.parent ≡ Some h →
+      nodes_of arena h.0 ≡ Some above → x < node.seen → y ≡ node.first + x → ComesTo (bare_of arena) v first k x →
+      Reaches (bare_of arena) v first (side_of above k) h.0 y
+  bare-up v first k h node above x y at up above_at inside page came =
+      let climbs : Climbs (bare_of arena) k x h.0 y =
+      record { node = node; at = at; free = refl; inside = inside; parent = up; page = page } in
+      reach-after (bare_of arena) f v first came.side k x (side_of above k) h.0 y came.way climbs
+      (side-is (nodes_of arena) arena.lists f h.0 k above node above_at at up)
+
+  module _ (v first shift h : ℕ) (from : Side) (way : Reaches (bare_of arena) v first from h (first + shift)) where
+    -- so there is one page that can come to a row of it, and from one side
+    pub bare-only : (rows : Rows Row) (row : ℕ) → shift ≤ row → IsOnlyWay (tree_of arena rows) v (row - shift) from h row
+    bare-only rows row less = record {
+      only = λ x s there.
+          let apart = reach-apart (bare_of arena) f v x s h row first from (first + shift)
+          (reach-part (tree_of arena rows) (λ l p. None) (record { had = λ l q row e. absurd (cc) }) v x s h row there) way in
+          (omega (arith, apart.0), apart.1);
+    }
+
+    pub bare-hidden : (above : Node) → nodes_of arena h ≡ Some above → above.koid ≡ None
+    bare-hidden above at =
+        let it = reach-hidden (bare_of arena) f v first from h (first + shift) way in
+        subst (λ (n : Node). n.koid ≡ None) (some_same (sym it.1 ∙ at)) it.2
+
+    pub bare-apart : h ≢ v
+    bare-apart same = let deeper = reach-deeper (bare_of arena) f v first from h (first + shift) way in let one = ap f.rank same in absurd (omega arith)
+
+-- ---- one row of a hidden node
+
+-- where no page of v but p can come to the row, and p does not, none does
+unseen-by : (t : Tree) (out : ℕ → ℕ → Bool) (v p : ℕ) (from : Side) (h q : ℕ) (above : Node) → t.nodes h ≡ Some above → above.koid ≡ None →
+    IsOnlyWay t v p from h q → (Reaches t v p from h q → ⊥) → IsUnseenBy t out v from h q
+unseen-by t out v p from h q above at hidden only none = record {
+  above = above;
+  at = at;
+  hidden = hidden;
+  none = λ x sight way. none (subst (λ x. Reaches t v x from h q) (only.only x from way).0 way);
+}
+
+module _ (arena : Arena) (old new : Rows Row) (v p : ℕ) (from : Side) (h q : ℕ) (slot : Slot) (pool : Pool) (answer : Cut)
+    (has : IsExactFor arena old pool v) (bare : slots_of old has.node.list.0 p ≡ None)
+    (row : HasRow (tree_of arena old) h q slot) (hidden : (above : Node) → nodes_of arena h ≡ Some above → above.koid ≡ None)
+    (only : IsOnlyWay (tree_of arena old) v p from h q)
+    (seen : Reaches (tree_of arena old) v p from h q → HasCut arena old new v p answer)
+    (unseen : IsUnseenBy (tree_of arena old) has.out v from h q → HasStayed old new answer) where
+  stayed : (Reaches (tree_of arena old) v p from h q → ⊥) → HasStayed old new answer
+  stayed none = unseen (unseen-by (tree_of arena old) has.out v p from h q row.node row.at (hidden row.node row.at) only none)
+
+  -- the frame that is to be given back is taken
+  pub row-taken : (tag : Tag) → answer ≡ cut.LastViewer tag → IsSome (taken_frames pool tag.0)
+  row-taken tag is = elim (arrives-or-not (tree_of arena old) has.exact.forest h q v p) [
+    | inl way ↦ on_way way.0 way.1
+    | inr none ↦ not_there (stayed (λ way. none (Some from) way))
+  ]
+    where
+      not_there : HasStayed old new answer → IsSome (taken_frames pool tag.0)
+      not_there stays = let left = ap frame_left is in let none = stays.no_frame in absurd (cc)
+
+      on_way : (side : Option Side) → Arrives (tree_of arena old) v p side h q → IsSome (taken_frames pool tag.0)
+      on_way None way =
+          let same : row.node ≡ has.node = some_same (sym row.at ∙ (ap (nodes_of arena) (sym way.0) ∙ has.visible.at)) in
+          let none = ap is_some (ap (λ (n : Node). n.koid) (sym same) ∙ hidden row.node row.at) in
+          let shown = has.visible.koid in
+          absurd (cc)
+      on_way (Some side) way =
+          let same = (only.only p side way).1 in
+          cut-taken arena old new v p has.node has.visible pool has.out answer tag has.exact has.only bare
+          (seen (subst (λ s. Reaches (tree_of arena old) v p s h q) same way)) is
+
+  pub row-passed : (after : Pool) → HasGiven pool after (frame_left answer) → old.spare ≤ new.spare → row_count new ≤ row_count old →
+      HasPassedRow arena old new pool after v p from h q
+  row-passed after given spare count = record {
+    came = λ way. cut-left_out arena old new v p has.node has.visible pool after answer has.exact.forest bare (seen way) given;
+    stays = λ none.
+        let stays = stayed none in
+        let same = subst (λ o. HasGiven pool after o) stays.no_frame given in
+        record { rows = stays.rows; taken = λ t. same.taken t ∙ kept t; links = same.links; gives = same.gives; spare = spare; count = count };
+  }
+    where
+      kept : (t : ℕ) → without_frame (is_taken pool) None t ≡ is_taken pool t
+      kept t = sym ((given-none pool).taken t)
+
+-- ---- a row whose bit of the side is set
+
+module _ (t : Tree) (out : ℕ → ℕ → Bool) (in_use : ℕ → Bool) (exact : IsExact t out in_use) (v p : ℕ) (node : Node) (visible : IsVisible t.nodes v node)
+    (from : Side) (h q : ℕ) (way : Reaches t v p from h q) where
+  -- the page is one of v
+  way-page : IsPage t v p
+  way-page = elim (reach-cases t v p from h q way) [
+    | inl one ↦ page_of one.0.node one.0.at one.0.inside
+    | inr on ↦ page_of on.2.node on.2.at on.2.inside
+  ]
+    where
+      page_of : (n : Node) → t.nodes v ≡ Some n → p < n.seen → IsPage t v p
+      page_of n at inside =
+          let koid = subst (λ (n : Node). IsSome n.koid) (some_same (sym visible.at ∙ at)) visible.koid in
+          record { node = n; visible = record { at = at; koid = koid }; below = let most = exact.forest.by.seen v n at in omega arith }
+
+  -- the bit denies that the page is in sight
+  split-out : (above : Node) (slot : Slot) → t.nodes h ≡ Some above → above.koid ≡ None → t.slots above.list.0 q ≡ Some slot → is_split from slot ≡ true →
+      out v p ≡ true
+  split-out above slot.Zero at hidden row split = absurd (cc)
+  split-out above (slot.Frame tag left right) at hidden row split = elim (cases_Bool (out v p)) [
+    | inl gone ↦ gone
+    | inr sight ↦ absurd (denied from left right (exact.bits h q above tag left right at hidden row) split (record {
+      v = v;
+      p = p;
+      sees = record {
+        page = way-page;
+        slot = slot.Frame tag left right;
+        found = found-of-reach t exact.forest v p from h q above (slot.Frame tag left right) way at row;
+      };
+      in_sight = sight;
+    }))
+  ]
+    where
+      denied : (s : Side) (one other : Bool) → AreSplitBits t out h q one other → bit_on s one other ≡ true → IsSeenFrom t out s h q → ⊥
+      denied side.Left one other bits e = bits.left_bit.is_true e
+      denied side.Right one other bits e = bits.right_bit.is_true e
+
+-- what is left out is left out
+out-again : (out : ℕ → ℕ → Bool) (v p : ℕ) → out v p ≡ true → (w r : ℕ) → out w r ≡ leaving_out out v p w r
+out-again out v p gone w r = elim (cases_place v p w r) [
+  | inl here ↦
+      let now : out w r ≡ true = (λ i. out (here.0 i) (here.1 i)) ∙ gone in
+      let also : leaving_out out v p w r ≡ true = (λ i. leaving_out out v p (here.0 i) (here.1 i)) ∙ left_out-here out v p in
+      now ∙ sym also
+  | inr differs ↦ sym (left_out-other out v p w r differs)
+]
+
+-- so nothing has to change
+pub split-passed : (arena : Arena) (rows : Rows Row) (pool : Pool) (v p : ℕ) (node : Node) (from : Side) (h q : ℕ) (slot : Slot) →
+    IsVisible (nodes_of arena) v node → HasRow (tree_of arena rows) h q slot → ((above : Node) → nodes_of arena h ≡ Some above → above.koid ≡ None) →
+    is_split from slot ≡ true → HasPassedRow arena rows rows pool pool v p from h q
+split-passed arena rows pool v p node from h q slot visible row hidden split = record {
+  came = λ way. record {
+    exact = λ out exact only.
+        let gone = split-out (tree_of arena rows) out (is_taken pool) exact v p node visible from h q way row.node slot row.at (hidden row.node row.at) row.row split in
+        subst (λ o. IsExact (tree_of arena rows) o (is_taken pool)) (λ i w r. out-again out v p gone w r i) exact;
+    shows = λ out exact only w r page sight. refl;
+    part = part-same (slots_of rows);
+    links = refl;
+    gives = gives-same pool;
+    spare = omega arith;
+    count = omega arith;
+  };
+  stays = λ none. record { rows = refl; taken = λ t. refl; links = refl; gives = gives-same pool; spare = omega arith; count = omega arith };
+}
