@@ -31,7 +31,7 @@ pub fn viewer_count(
     let _room = arena.capacity();
     let mut count = 0;
     let mut from = search_below(arena, side, node, page);
-    while let Some((_, after)) = next_viewer(arena, lists, None, from) {
+    while let Some((_, after)) = next_viewer(arena, lists, from) {
         count += 1;
         from = after;
     }
@@ -53,7 +53,7 @@ pub fn least_koid(
 {
     let mut least = None;
     let mut from = search_below(arena, side, node, page);
-    while let Some((viewer, after)) = next_viewer(arena, lists, None, from) {
+    while let Some((viewer, after)) = next_viewer(arena, lists, from) {
         least = lesser(least, arena.node(viewer).koid);
         from = after;
     }
@@ -98,24 +98,22 @@ fn search_below(arena: &CowArena, side: Side, node: NodeId, page: PageNo) -> Opt
     })
 }
 
-/// The first node that a search finds from here on, other than the one that is excepted, and where the search goes on
-/// after it. `None` where it finds none.
+/// The first node that a search finds from here on, and where the search goes on after it. `None` where it finds none.
 fn next_viewer(
     arena: &CowArena,
     lists: &PageLists,
-    except: Option<NodeId>,
     from: Option<Cursor>,
 ) -> Option<(NodeId, Option<Cursor>)>
     requires forest { IsForest (nodes_of arena.now) arena.now.lists }
-    requires from { IsSearch (tree_of arena.now lists.now) except from }
-    ensures next { (ahead : List ℕ) → Finds (tree_of arena.now lists.now) except from ahead →
-        MatchOption result (ahead ≡ []) (λ next. FindsFirst (tree_of arena.now lists.now) except next.0.0 next.1 ahead) }
+    requires from { IsSearch (tree_of arena.now lists.now) None from }
+    ensures next { (ahead : List ℕ) → Finds (tree_of arena.now lists.now) None from ahead →
+        MatchOption result (ahead ≡ []) (λ next. FindsFirst (tree_of arena.now lists.now) None next.0.0 next.1 ahead) }
     ensures less { IfSome result (λ next. weight_from (nodes_of arena.now) arena.now.lists next.1
         < weight_from (nodes_of arena.now) arena.now.lists from) }
 {
     let mut next = from;
     while let Some(here) = next {
-        match meet(arena, lists, except, here.at, here.page) {
+        match meet(arena, lists, None, here.at, here.page) {
             Met::Viewer => return Some((here.at, next_after(arena, here))),
             Met::Below(left, page) => {
                 next = Some(Cursor {

@@ -1,4 +1,4 @@
-use Rattle.std.proofs.Common.{ℕ, ◌≤◌, List}
+use Rattle.std.proofs.Common.{ℕ, ◌≤◌, List, None}
 use Rattle.cow_arena.specs.Nodes.{nodes_of}
 use Rattle.cow_split.specs.Trees.{tree_of}
 use Rattle.cow_split.specs.Searching.{Finds, weight_from}
@@ -6,7 +6,7 @@ use Rattle.cow_split.proofs.viewers.next_viewer.Given as goal
 
 abbrev pub invariant-loop-next : goal.invariant-loop-next
 invariant-loop-next l = record {
-  finds : (ahead : List ℕ) → Finds (tree_of l.arena l.lists) l.except l.fn.from ahead → Finds (tree_of l.arena l.lists) l.except l.next ahead;
+  finds : (ahead : List ℕ) → Finds (tree_of l.arena l.lists) None l.fn.from ahead → Finds (tree_of l.arena l.lists) None l.next ahead;
   less : weight_from (nodes_of l.arena) l.arena.lists l.next ≤ weight_from (nodes_of l.arena) l.arena.lists l.fn.from;
 }
 
