@@ -14,7 +14,7 @@ use Rattle.vm_model.specs.Machine.State.{State, koid_of}
 use Rattle.vm_model.specs.Machine.Step.{touches_any}
 use Rattle.vm_model.proofs.NamesLaws.{target_of-at}
 use Rattle.vm_model.proofs.ContentLaws.{IsOfHeld, IsOfHeld-held}
-use Rattle.vm_model.proofs.OwningLaws.{count_from, count_from-same}
+use Rattle.vm_model.proofs.OwningLaws.{count_from, count_from-same, count_from_le}
 use Rattle.vm_model.proofs.WritingLaws.{IsKept-same}
 use Rattle.vm_model.proofs.PinLaws.{any_pinned_at, none_pinned}
 use Rattle.vm_model.proofs.ZeroesLaws.{ZeroedPage, ZeroedPage-from_ZeroesPage}
@@ -66,6 +66,21 @@ pub held_touched-count : (c : Content) (v offset len first end : ℕ)
     → touched offset len ≡ range_with_len first (end - first)
     → held_touched c v offset len ≡ count_from (is_held c v) first (end - first)
 held_touched-count = grind (arith, length-passing)
+
+-- zeroing a row of pages takes a row of the store and a frame for each at most
+pub held_touched-most : (c : Content) (v offset len first end : ℕ)
+    → touched offset len ≡ range_with_len first (end - first) → held_touched c v offset len ≤ end - first
+held_touched-most c v offset len first end pages =
+    omega (arith, held_touched-count c v offset len first end pages, count_from_le (is_held c v) first (end - first))
+
+pub need-zero-most : (c : Content) (v : ℕ) (pinned : ℕ → Bool) (offset len first end : ℕ)
+    → touched offset len ≡ range_with_len first (end - first)
+    → need c v (owned_by_zero c v pinned offset len) ≤ end - first
+need-zero-most c v pinned offset len first end pages = omega (
+  arith,
+  need-zero c v pinned offset len first end pages,
+  count_from_le (takes_frame v pinned offset len c) first (end - first),
+)
 
 -- a page in the list passes where some are counted
 filter_any : (test : ℕ → Bool) (ps : List ℕ) → 0 < length (filter test ps) → list_any test ps ≡ true

@@ -1,6 +1,6 @@
 //! Zeroing a range (`ZX_VMO_OP_ZERO`).
 
-ghost use Rattle.std.specs.Prelude.{◌≡◌, ◌+◌, ◌-◌, ◌*◌, ◌/◌, ◌<◌, ◌≤◌, not, ◌&&◌, ◌==◌, true, IsSome, ◌⊎◌};
+ghost use Rattle.std.specs.Prelude.{◌≡◌, ◌+◌, ◌-◌, ◌*◌, ◌/◌, ◌<◌, ◌≤◌, not, ◌&&◌, ◌==◌, true, IsSome, ◌⊎◌, IfErr, OnOk};
 ghost use Rattle.vm_model.specs.declared.command.Command.{Command};
 ghost use Rattle.vm_model.specs.declared.reply.Reply.{Reply};
 ghost use Rattle.vm_model.specs.Contents.Content.{pages_of, sole, used, IsGood};
@@ -12,11 +12,11 @@ ghost use Rattle.vm_model.specs.Machine.Step.{reply_of};
 ghost use Rattle.page_store.specs.Names.{IsInside};
 ghost use Rattle.pin_table.specs.Table.{pins_of};
 ghost use Rattle.vmo_ops.specs.Targets.{DoesWith};
-ghost use Rattle.vmo_ops.specs.Costs.{held_touched};
+ghost use Rattle.vmo_ops.specs.Costs.{held_touched, LacksRoomToZero};
 
 use crate::filling::fill_part;
 use crate::held_pages::next_held_below;
-use crate::owning::{is_sole, reserve_rows, with_one};
+use crate::owning::{is_sole, reserve_rows, reserve_unseen, with_one};
 use crate::ranges::{PagePart, part_in_page, touched_pages};
 use crate::ready::place_to_change;
 use page_store::PageStore;
@@ -46,14 +46,47 @@ pub fn zero<P: PageStore>(
         Ok(at) => at,
         Err(refusal) => return Err(refusal),
     };
-    let cost = cost_to_zero(store, pins, t.koid, at, len);
+    match reserve_to_zero(store, pins, t.koid, at, len) {
+        Ok(()) => {
+            zero_pages(store, pins, t.koid, at, len);
+            Ok(())
+        }
+        Err(refusal) => Err(refusal),
+    }
+}
+
+// Makes room for zeroing a range inside the VMO. `NoMemory` where owning takes more frames than are free, else `HostMemory`
+// only where a page that the range touches is held. Where the range is short and frames are free for all of it, no page is
+// looked at.
+fn reserve_to_zero<P: PageStore>(
+    store: &mut P,
+    pins: &PinTable,
+    v: Koid,
+    offset: u64,
+    len: u64,
+) -> Result<(), Refusal>
+    requires good { IsGood (P.content store.old) }
+    requires vmo { IsSome ((P.content store.old).count v.0) }
+    requires inside { offset + len ≤ pages_of (P.content store.old) v.0 * PAGE }
+    ensures same { P.content store.new ≡ P.content store.old }
+    ensures err { IfErr result (λ refusal. LacksRoomToZero (P.content store.old) v.0 (is_pinned (pins_of pins.now) v.0)
+        offset len refusal) }
+    ensures room { OnOk result (held_touched (P.content store.old) v.0 offset len ≤ P.spare store.new) }
+    ensures free { OnOk result (used (P.content store.old) + need (P.content store.old) v.0
+        (owned_by_zero (P.content store.old) v.0 (is_pinned (pins_of pins.now) v.0) offset len)
+        ≤ (P.content store.old).frames) }
+{
+    let (first, end) = touched_pages(offset, len);
+    if reserve_unseen(store, end - first) {
+        return Ok(());
+    }
+    let cost = cost_to_zero(store, pins, v, offset, len);
     if cost.owned > u64::from(store.free()) {
         return Err(Refusal::NoMemory);
     }
     let Ok(()) = reserve_rows(store, cost.held, cost.held) else {
         return Err(Refusal::HostMemory);
     };
-    zero_pages(store, pins, t.koid, at, len);
     Ok(())
 }
 
