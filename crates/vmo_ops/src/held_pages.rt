@@ -1,13 +1,14 @@
 //! Walking the held pages of a range. The zero pages of a long range cost nothing.
 
 ghost use Rattle.std.specs.Prelude.{◌≡◌, ℕ, ◌<◌, ◌≤◌, None, IsSome, IfSome, IfNone};
-ghost use Rattle.vm_model.specs.Contents.Content.{is_held, pages_of};
+ghost use Rattle.vm_model.specs.Contents.Content.{is_held, pages_of, sole, IsGood};
 
+use crate::owning::is_sole;
 use page_store::{Look, PageStore};
 use vm_base::{Koid, PageNo};
 
-/// So many pages in a row are looked at one by one, and more are gone over by those that are held. The bytes of one
-/// read or write lie in two pages at most.
+/// So many pages in a row are looked at one by one, and more are gone over by those that are held. A look at a zero page is
+/// a walk to the root, which a search makes once for all of a gap, and a look at a held page asks whether it is sole.
 const FEW_PAGES: u64 = 2;
 
 /// The first page that is held, from page `from` of a VMO to below `end`. `None` exactly where none is.
@@ -33,7 +34,61 @@ pub(crate) fn next_held_below<P: PageStore>(
     }
 }
 
-// The same, by a look at each page.
+/// A page that is held, and whether no other VMO shows its frame.
+#[derive(Clone, Copy)]
+pub(crate) struct HeldPage {
+    pub page: PageNo,
+    pub sole: bool,
+}
+
+/// The first page that is held, as `next_held_below` finds it, and whether it is sole. In a row the page `from` is looked at
+/// before, so that held pages in a row cost a look each, and no search. `in_row` says that the held pages before stand in a
+/// row. The answer is the same without.
+pub(crate) fn next_with_sole<P: PageStore>(
+    store: &P,
+    v: Koid,
+    from: PageNo,
+    end: PageNo,
+    in_row: bool,
+) -> Option<HeldPage>
+    requires vmo { IsSome ((P.content store.now).count v.0) }
+    requires good { IsGood (P.content store.now) }
+    requires pages { end ≤ pages_of (P.content store.now) v.0 }
+    ensures some { IfSome result (λ held. (from ≤ held.page) × (held.page < end)
+        × IsSome ((P.content store.now).page v.0 held.page)
+        × ((p : ℕ) → from ≤ p → p < held.page → (P.content store.now).page v.0 p ≡ None)) }
+    ensures sole { IfSome result (λ held. held.sole ≡ sole (P.content store.now) v.0 held.page) }
+    ensures none { IfNone result ((p : ℕ) → from ≤ p → p < end → (P.content store.now).page v.0 p ≡ None) }
+{
+    if in_row && from < end {
+        if let Some(held) = held_at(store, v, from) {
+            return Some(held);
+        }
+    }
+    match next_held_below(store, v, from, end) {
+        Some(page) => Some(HeldPage {
+            page,
+            sole: is_sole(store, v, page),
+        }),
+        None => None,
+    }
+}
+
+// A page, where it is held.
+#[tactic(auto, using(crate::proofs::LookLaws::look_laws))]
+fn held_at<P: PageStore>(store: &P, v: Koid, page: PageNo) -> Option<HeldPage>
+    requires { page < pages_of (P.content store.now) v.0 }
+    ensures page { IfSome result (λ held. held.page ≡ page) }
+    ensures held { IfSome result (λ held. IsSome ((P.content store.now).page v.0 page)) }
+    ensures sole { IfSome result (λ held. held.sole ≡ sole (P.content store.now) v.0 page) }
+{
+    match store.look(v, page) {
+        Look::Zero => None,
+        Look::Held { sole, .. } => Some(HeldPage { page, sole }),
+    }
+}
+
+// Does what `next_held_below` does, by a look at each page.
 fn first_held<P: PageStore>(store: &P, v: Koid, from: PageNo, end: PageNo) -> Option<PageNo>
     requires { end ≤ pages_of (P.content store.now) v.0 }
     ensures some { IfSome result (λ page. (from ≤ page) × (page < end)

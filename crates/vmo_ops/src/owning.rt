@@ -5,7 +5,7 @@ ghost use Rattle.std.specs.List.{range_with_len};
 ghost use Rattle.vm_model.specs.Contents.Content.{pages_of, sole, used, IsGood};
 ghost use Rattle.vm_model.specs.Contents.Owning.{need};
 
-use crate::held_pages::next_held_below;
+use crate::held_pages::next_with_sole;
 use page_store::{Look, PageStore};
 use vm_base::{HostMemory, Koid, PageNo};
 
@@ -36,9 +36,11 @@ fn need_of_pages<P: PageStore>(store: &P, v: Koid, first: PageNo, end: PageNo) -
 {
     let mut alone = 0;
     let mut from = first;
-    while let Some(page) = next_held_below(store, v, from, end) {
-        alone = with_one(alone, is_sole(store, v, page));
-        from = page + 1;
+    let mut in_row = true;
+    while let Some(held) = next_with_sole(store, v, from, end, in_row) {
+        alone = with_one(alone, held.sole);
+        in_row = held.page == from;
+        from = held.page + 1;
     }
     end - first - alone
 }
