@@ -1,6 +1,7 @@
 """Runs scripts on the built program, and measures them: nanoseconds and instructions."""
 import os
 import re
+import resource
 import shutil
 import subprocess
 import sys
@@ -10,6 +11,8 @@ import time
 TOP = os.path.dirname(os.path.dirname(os.path.realpath(__file__)))
 PROGRAM = f"{TOP}/crates/vmosim/out/vmosim"
 RUNS = 3
+# A run that takes more seconds than these is not repeated.
+LONG = 5
 
 
 def check_built():
@@ -24,9 +27,10 @@ def script(before, lines, count):
     return ("".join(f"{it}\n" for it in before) + repeated * (count // len(lines))).encode()
 
 
-def stop_on_refusals(name, text, words=("run",)):
-    """Ends where a line of the script is refused, since the figures would then be of something else."""
-    said = subprocess.run([PROGRAM, *words], input=text, stdout=subprocess.PIPE, check=True).stdout
+def stop_on_refusals(name, text, words=("run",), seconds=None):
+    """Ends where a line of the script is refused, since the figures would then be of something else. A run that takes
+    more than so many seconds raises `subprocess.TimeoutExpired`."""
+    said = subprocess.run([PROGRAM, *words], input=text, stdout=subprocess.PIPE, check=True, timeout=seconds).stdout
     wrong = [it for it in said.decode().splitlines() if it.split()[0] != "OK"]
     if wrong:
         sys.exit(f"bench: {name}: the program answers {wrong[0]}")
@@ -45,6 +49,25 @@ def on_script(words, text):
 def best_time(text, words=("run",)):
     """Returns the nanoseconds of the shortest of some runs."""
     return min(on_script([PROGRAM, *words], text)[0] for _ in range(RUNS))
+
+
+def used_by_programs():
+    """Returns the processor seconds of all programs that were run so far."""
+    used = resource.getrusage(resource.RUSAGE_CHILDREN)
+    return used.ru_utime + used.ru_stime
+
+
+def processor_seconds(text, words=("run",)):
+    """Returns the processor seconds of the shortest of some runs. Other work on the machine changes them little."""
+    best = None
+    for _ in range(RUNS):
+        before = used_by_programs()
+        on_script([PROGRAM, *words], text)
+        now = used_by_programs() - before
+        best = min(now, best or now)
+        if best > LONG:
+            break
+    return best
 
 
 # How instructions are counted: the command, and how its number is found in what it writes.
