@@ -6,7 +6,7 @@ use Rattle.mapping_set.specs.Pieces.{ArePieces, AreListed}
 use Rattle.mapping_set.specs.Tables.{Mappings}
 
 abbrev pub mappings_of : Inside → Mappings
-mappings_of a = record { pieces = a.pieces; spare = min a.pieces.spare a.lists.spare }
+mappings_of a = record { pieces = a.pieces; spare = min a.pieces.spare a.lists.spare; taken = a.taken }
 
 pub record AreMappings (a : Inside) : Type 0 where
   pub pieces : ArePieces (values_of a.pieces)

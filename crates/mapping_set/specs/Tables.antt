@@ -1,7 +1,10 @@
 -- The set of mappings as its callers see it: what each page of each address space shows, and room.
 use Rattle.std.specs.Prelude.{◌≡◌, ℕ, ◌+◌, ◌<◌, ◌≤◌, true, false, Option, None, Some, IsSome}
 use Rattle.pair_map.specs.declared.pair_row.PairRow.{PairRow}
-use Rattle.pair_map.specs.Maps.{values_of}
+use Rattle.pair_map.specs.declared.stretch_row.Extent.{Extent}
+use Rattle.pair_map.specs.declared.stretch_row.StretchRow.{StretchRow}
+use Rattle.pair_map.specs.Maps.{values_of, extents_of}
+use Rattle.balanced_tree.specs.Pairs.{with_pair}
 use Rattle.balanced_tree.specs.Rows.{Rows}
 use Rattle.vm_base.specs.Search.{count_below}
 use Rattle.vm_base.specs.Entries.{passes}
@@ -11,10 +14,11 @@ use Rattle.vm_model.specs.Space.Table.{mapping_from, with_pages, is_in, has_entr
 use Rattle.mapping_set.specs.declared.piece.Piece.{Piece}
 use Rattle.mapping_set.specs.Pieces.{table_in}
 
--- the pieces, and how many more fit with no memory from the host
+-- the pieces, how many more fit with no memory from the host, and what is noted as taken in the regions
 pub record Mappings : Type 0 where
   pub pieces : Rows (PairRow Piece)
   pub spare : ℕ
+  pub taken : Rows (StretchRow Unit)
 
 -- what each page of each address space shows, by the number of the root region
 abbrev pub table_of : Mappings → ℕ → ℕ → Option Entry
@@ -23,6 +27,14 @@ table_of m = table_in (values_of m.pieces)
 -- how many more pieces fit with no memory from the host
 abbrev pub spare_of : Mappings → ℕ
 spare_of m = m.spare
+
+-- the extents that are noted as taken, by the number of the list of their region and their first page
+abbrev pub taken_of : Mappings → ℕ → ℕ → Option (Extent Unit)
+taken_of m = extents_of m.taken
+
+-- the extents, with one of `count` pages from `first` on
+abbrev pub with_taken : (ℕ → ℕ → Option (Extent Unit)) → ℕ → (first count : ℕ) → ℕ → ℕ → Option (Extent Unit)
+with_taken taken list first count = with_pair taken list first (Some (record { count = count; value = tt }))
 
 -- the table, with the entries of a piece under `root`, or with none on its pages
 abbrev pub with_piece : (ℕ → ℕ → Option Entry) → ℕ → Piece → ℕ → ℕ → Option Entry

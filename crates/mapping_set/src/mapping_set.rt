@@ -1,18 +1,20 @@
 //! The set of mappings.
 
-ghost use Rattle.std.specs.Prelude.{◌≡◌, ℕ, ◌+◌, ◌-◌, ◌<◌, ◌≤◌, false, None, Some, IsSome, IfSome, OnOk};
+ghost use Rattle.std.specs.Prelude.{◌≡◌, ℕ, ◌+◌, ◌-◌, ◌<◌, ◌≤◌, false, None, Some, IsSome, IfSome, OnOk, OnErr};
 ghost use Rattle.std.specs.Option.{MatchOption};
 ghost use Rattle.balanced_tree.specs.Pairs.{with_pair};
-ghost use Rattle.pair_map.specs.Maps.{values_of};
+ghost use Rattle.pair_map.specs.Maps.{values_of, IsOpen, HasNoOpen, IsFirstOpen};
 ghost use Rattle.vm_base.specs.declared.limits.TheConstants.{NAMES, PAGES_END};
 ghost use Rattle.vm_model.specs.Space.Table.{with_pages, with_perm, has_entry};
 ghost use Rattle.mapping_set.specs.declared.piece.Piece.{Piece};
 ghost use Rattle.mapping_set.specs.Pieces.{list_number, IsHeld, HasNoHeld, IsOfRegion, IsBorder};
+ghost use Rattle.mapping_set.specs.Tables.{taken_of, with_taken};
 ghost use Rattle.mapping_set.specs.Tables.{table_of, spare_of, with_piece, without_piece, without_taken};
 ghost use Rattle.mapping_set.specs.Tables.{IsBare, IsBareFrom, IsFull, IsNextPiece, IsPieceOf, IsFirstPiece, IsPieceIn, entries_in};
 ghost use Rattle.mapping_set.specs.Tables.{IsFirstGap, HasNoGap};
 
 use crate::piece::Piece;
+use crate::taken::{free, hold};
 use pair_map::{ExtentMap, PairMap};
 use std::alloc::Global;
 use std::marker::Model;
@@ -27,6 +29,9 @@ pub struct MappingSet {
     pieces: PairMap<Piece>,
     /// The pages of each piece, in the list of its region.
     lists: ExtentMap<()>,
+    /// What is taken in each region, in its list: the pages of each piece, and those that the callers said are taken.
+    /// It tells where to look for a free place, and what is answered of entries never rests on it.
+    taken: ExtentMap<()>,
 }
 
 impl Model for MappingSet {
@@ -58,6 +63,7 @@ impl MappingSet {
         MappingSet {
             pieces: PairMap::new(alloc),
             lists: ExtentMap::new(alloc),
+            taken: ExtentMap::new(alloc),
         }
     }
 
@@ -72,6 +78,9 @@ impl MappingSet {
             return Err(HostMemory);
         };
         let Ok(()) = self.lists.reserve(n as usize) else {
+            return Err(HostMemory);
+        };
+        let Ok(()) = self.taken.reserve(n as usize) else {
             return Err(HostMemory);
         };
         Ok(())
@@ -131,6 +140,65 @@ impl MappingSet {
             (IsFirstGap (table_of self.now) root.0 region.0 from count limit) }
     {
         self.lists
+            .first_gap(list_number(region, root), from, count, limit)
+    }
+
+    /// Notes that `count` pages from `first` on are taken in a region, though they have no entry that belongs to it, as
+    /// those of a child of the region are not. Where some of them are noted already, or belong to the region, nothing is
+    /// noted. `HostMemory` where the host has too little memory; then nothing is noted either. What is noted only tells
+    /// `likely_gap` where to look.
+    pub fn hold_place(
+        &mut self,
+        root: RegionName,
+        region: RegionName,
+        first: PageNo,
+        count: u64,
+    ) -> Result<(), HostMemory>
+        requires some { 1 ≤ count }
+        requires end { first + count ≤ PAGES_END }
+        ensures ok { OnOk result (IsOpen (taken_of self.old (list_number region.0 root.0)) first count →
+            taken_of self.new ≡ with_taken (taken_of self.old) (list_number region.0 root.0) first count) }
+        ensures err { OnErr result (taken_of self.new ≡ taken_of self.old) }
+        ensures table { table_of self.new ≡ table_of self.old }
+        ensures spare { spare_of self.new ≡ spare_of self.old }
+    {
+        let Ok(()) = self.taken.reserve(1) else {
+            return Err(HostMemory);
+        };
+        hold(&mut self.taken, list_number(region, root), first, count);
+        Ok(())
+    }
+
+    /// Takes a note back that begins at the page `first`, if there is one.
+    pub fn free_place(&mut self, root: RegionName, region: RegionName, first: PageNo)
+        ensures taken { IsSome (taken_of self.old (list_number region.0 root.0) first) →
+            taken_of self.new ≡ with_pair (taken_of self.old) (list_number region.0 root.0) first None }
+        ensures none { taken_of self.old (list_number region.0 root.0) first ≡ None →
+            taken_of self.new ≡ taken_of self.old }
+        ensures table { table_of self.new ≡ table_of self.old }
+        ensures spare { spare_of self.new ≡ spare_of self.old }
+    {
+        free(&mut self.taken, list_number(region, root), first);
+    }
+
+    /// The lowest page from `from` on such that it and the next ones, `count` in all, are not noted as taken in the
+    /// region, and end at the limit or before. `None` exactly where there is none. One search by gaps. Where the callers
+    /// noted each child of the region, it is the first free place; whether it is free the caller has to see.
+    pub fn likely_gap(
+        &self,
+        root: RegionName,
+        region: RegionName,
+        from: PageNo,
+        count: u64,
+        limit: PageNo,
+    ) -> Option<PageNo>
+        requires some { 1 ≤ count }
+        requires limit { limit ≤ PAGES_END }
+        ensures { MatchOption result
+            (HasNoOpen (taken_of self.now (list_number region.0 root.0)) from count limit)
+            (IsFirstOpen (taken_of self.now (list_number region.0 root.0)) from count limit) }
+    {
+        self.taken
             .first_gap(list_number(region, root), from, count, limit)
     }
 
@@ -216,6 +284,7 @@ impl MappingSet {
         self.pieces
             .insert(u64::from(root.0), piece.first + piece.count - 1, piece);
         self.lists.insert(list, piece.first, piece.count, ());
+        hold(&mut self.taken, list, piece.first, piece.count);
     }
 
     /// Takes the piece of an address space with its last page at `last` out, and answers it.
@@ -229,8 +298,9 @@ impl MappingSet {
         ensures spare { spare_of self.new ≡ spare_of self.old + 1 }
     {
         let piece = self.pieces.remove(u64::from(root.0), last);
-        self.lists
-            .remove(list_number(piece.entry.region, root), piece.first);
+        let list = list_number(piece.entry.region, root);
+        self.lists.remove(list, piece.first);
+        free(&mut self.taken, list, piece.first);
         piece
     }
 

@@ -52,7 +52,7 @@ pub fn unmap<P: PageStore>(
     let Ok(()) = clear_mapped(store, vmos, maps, above.root, first, count) else {
         return Err(Refusal::HostMemory);
     };
-    destroy_within(regions, region, first, count);
+    destroy_within(regions, maps, region, first, count);
     Ok(())
 }
 
@@ -75,10 +75,12 @@ pub fn destroy<P: PageStore>(
     let mut from = region;
     while let Some(leaf) = regions.destroy_next_from(region, from, dying.first, dying.count) {
         clear_region(store, vmos, maps, dying.root, leaf.name);
+        free_in_parent(regions, maps, leaf.name);
         from = leaf.next;
     }
     regions.destroy_one(region);
     clear_region(store, vmos, maps, dying.root, region);
+    free_in_parent(regions, maps, region);
 }
 
 /// Takes the entries of `count` pages from `first` on out of an address space. `HostMemory`, only where there is one, where
@@ -123,14 +125,35 @@ fn is_mapped_in(maps: &MappingSet, root: RegionName, first: PageNo, count: u64) 
 
 /// Destroys all regions below a live one that have no page but of `count` pages from `first` on, those first that have
 /// no live child.
-fn destroy_within(regions: &mut Regions, region: RegionName, first: PageNo, count: u64)
+fn destroy_within(
+    regions: &mut Regions,
+    maps: &mut MappingSet,
+    region: RegionName,
+    first: PageNo,
+    count: u64,
+)
     requires good { AreGoodRegions (regions_of regions.old) }
     requires live { is_live_region (regions_of regions.old) region.0 ≡ true }
-    ensures { regions_of regions.new ≡ killed (regions_of regions.old)
+    ensures regions { regions_of regions.new ≡ killed (regions_of regions.old)
         (lies_below_in (regions_of regions.old) region.0 first (first + count)) }
+    ensures table { table_of maps.new ≡ table_of maps.old }
 {
     let mut from = region;
     while let Some(leaf) = regions.destroy_next_from(region, from, first, count) {
+        free_in_parent(regions, maps, leaf.name);
         from = leaf.next;
     }
+}
+
+/// Takes back that a region is noted as taken in its parent, if it has one.
+fn free_in_parent(regions: &Regions, maps: &mut MappingSet, name: RegionName)
+    ensures { table_of maps.new ≡ table_of maps.old }
+{
+    let Some(region) = regions.get(name) else {
+        return;
+    };
+    let Some(parent) = region.parent else {
+        return;
+    };
+    maps.free_place(region.root, parent, region.first);
 }

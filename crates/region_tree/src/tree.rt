@@ -142,7 +142,9 @@ impl Regions {
     }
 
     /// The first page of a free place of `count` pages in a live region, which ends at most `limit` pages behind the
-    /// start of the region. `None` exactly where there is none.
+    /// start of the region. `None` exactly where there is none. Where the set of mappings has noted the live children of
+    /// the region, and no other place, this is the lowest place, and costs one search and two look-ups. That there is none
+    /// costs a search for each change between children and mappings up to the limit.
     pub fn find_gap(
         &self,
         maps: &MappingSet,
@@ -162,6 +164,9 @@ impl Regions {
             .first
             .saturating_add(limit)
             .min(above.first + above.count);
+        if let Some(first) = self.likely_place(maps, region, above, count, end) {
+            return Some(first);
+        }
         gap_in(
             &self.children,
             maps,
@@ -171,6 +176,29 @@ impl Regions {
             count,
             end,
         )
+    }
+
+    /// The place that the set of mappings has to offer in a live region, which is `above`, if it ends below `end` and is
+    /// free: one search and a look at the children and the entries there.
+    fn likely_place(
+        &self,
+        maps: &MappingSet,
+        region: RegionName,
+        above: Region,
+        count: u64,
+        end: PageNo,
+    ) -> Option<PageNo>
+        requires live { is_live_region (regions_of self.now) region.0 ≡ true }
+        requires some { 1 ≤ count }
+        requires end { end ≤ PAGES_END }
+        ensures { IfSome result (λ (first : ℕ). (first + count ≤ end) ×
+            (is_free (spaces_of (regions_of self.now) (table_of maps.now)) region.0 first (first + count) ≡ true)) }
+    {
+        let first = maps.likely_gap(above.root, region, above.first, count, end)?;
+        if self.is_free(maps, region, first, count) {
+            return Some(first);
+        }
+        None
     }
 
     /// Whether `count` pages from `first` on are a free place in a live region.

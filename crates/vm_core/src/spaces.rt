@@ -1,7 +1,7 @@
 //! The commands on regions: `root_create`, `vmar_allocate`, `vmar_destroy`. Each clause `name` hands up the range of the
 //! name's number, which the caller has behind a reference.
 
-ghost use Rattle.std.specs.Prelude.{◌<◌};
+ghost use Rattle.std.specs.Prelude.{◌≡◌, ◌<◌};
 ghost use Rattle.vm_base.specs.declared.limits.TheConstants.{NAMES};
 ghost use Rattle.vm_model.specs.declared.command.Command.{Command};
 ghost use Rattle.vm_model.specs.Machine.Lent.{reply_for};
@@ -16,7 +16,7 @@ use fault::Translations;
 use mapping_set::MappingSet;
 use page_store::PageStore;
 use region_tree::Regions;
-use vm_base::{MapFlags, Perm, Refusal, RegionName};
+use vm_base::{MapFlags, PAGES_END, PageNo, Perm, Refusal, RegionName, page_count, page_of};
 use vm_model::Answer;
 use vmo_table::VmoTable;
 
@@ -43,7 +43,7 @@ pub(crate) fn root_create(
 #[tactic(auto, unfolding(vm_model::specs::Space::Regions::region_of, vm_base::specs::Entries::passes))]
 pub(crate) fn vmar_allocate(
     regions: &mut Regions,
-    maps: &MappingSet,
+    maps: &mut MappingSet,
     region: RegionName,
     parent: RegionName,
     offset: u64,
@@ -51,9 +51,10 @@ pub(crate) fn vmar_allocate(
     flags: MapFlags,
     caps: Perm,
 ) -> Answer<'static>
-    ensures step { StepsSpaces (spaces_of (regions_of regions.old) (table_of maps.now))
+    ensures step { StepsSpaces (spaces_of (regions_of regions.old) (table_of maps.old))
         (Command.VmarAllocate region parent offset len flags caps) (reply_for result)
-        (spaces_of (regions_of regions.new) (table_of maps.now)) }
+        (spaces_of (regions_of regions.new) (table_of maps.new)) }
+    ensures table { table_of maps.new ≡ table_of maps.old }
     ensures name { region.0 < NAMES }
 {
     let Some(above) = regions.get(parent) else {
@@ -66,9 +67,29 @@ pub(crate) fn vmar_allocate(
         return Answer::Refused(Refusal::BadState);
     }
     match region_ops::allocate(regions, maps, region, parent, offset, len, flags, caps) {
-        Ok(address) => Answer::Address(address),
+        Ok(address) => {
+            hold_pages(maps, above.root, parent, page_of(address), page_count(len));
+            Answer::Address(address)
+        }
         Err(refusal) => Answer::Refused(refusal),
     }
+}
+
+/// Notes that the pages of a new region are taken in its parent. Where the host lacks memory for it, the next searches in
+/// the parent take longer.
+fn hold_pages(
+    maps: &mut MappingSet,
+    root: RegionName,
+    parent: RegionName,
+    first: PageNo,
+    count: u64,
+)
+    ensures { table_of maps.new ≡ table_of maps.old }
+{
+    if count == 0 || first > PAGES_END || count > PAGES_END - first {
+        return;
+    }
+    let _noted = maps.hold_place(root, parent, first, count);
 }
 
 /// Destroys a region and all below it, where it was given and is live. What is mapped in them is unmapped,

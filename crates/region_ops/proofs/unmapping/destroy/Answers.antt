@@ -1,4 +1,4 @@
-use Rattle.std.proofs.Common.{refl, inl}
+use Rattle.std.proofs.Common.{refl, inl, sym, ◌∙◌}
 use Rattle.mapping_set.specs.Tables.{table_of}
 use Rattle.region_tree.specs.Tree.{regions_of, spaces_of}
 use Rattle.region_ops.proofs.DyingLaws.{within_live, within_fewer}
@@ -21,7 +21,8 @@ loop-leaf-smaller g c =
 pub loop-leaf-preserved : goal.loop-leaf-preserved
 loop-leaf-preserved g c = record {
   going = going_next _ _ _ c.requires.well.well.good.spaces _ _ c.live_region-dying.ensures.region _ _ _ c.loop-leaf.invariant.going _ c.in-Some.ensures.within _ _
-      (spaces_of (regions_of c.destroy_next_from.new.self) (table_of c.clear_region.new.maps)) c.in-Some.ensures.regions c.clear_region.ensures.table c.clear_region.ensures.gone;
+      (spaces_of (regions_of c.destroy_next_from.new.self) (table_of c.free_in_parent.new.maps)) c.in-Some.ensures.regions
+      (c.free_in_parent.ensures ∙ c.clear_region.ensures.table) (rw (sym c.free_in_parent.ensures) at c.clear_region.ensures.gone);
   start = c.in-Some.ensures.next;
 }
 
@@ -41,5 +42,6 @@ clear_region-requires-2 g c = record { well = going_well _ _ _ _ _ _ _ c.loop-le
 pub returns : goal.returns
 returns g c =
     going_end _ _ _ c.requires.well.well.good.spaces _ c.live_region-dying.result c.live_region-dying.ensures.region _ _ _ c.loop-leaf.invariant.going c.in_default.ensures.within
-    c.args.region refl c.live_region-dying.ensures.live _ _ (spaces_of (regions_of c.destroy_one.new.self) (table_of c.clear_region-2.new.maps))
-    (rw c.in_default.ensures.regions at c.destroy_one.ensures) c.clear_region-2.ensures.table c.clear_region-2.ensures.gone
+    c.args.region refl c.live_region-dying.ensures.live _ _ (spaces_of (regions_of c.destroy_one.new.self) (table_of c.free_in_parent-2.new.maps))
+    (rw c.in_default.ensures.regions at c.destroy_one.ensures) (c.free_in_parent-2.ensures ∙ c.clear_region-2.ensures.table)
+    (rw (sym c.free_in_parent-2.ensures) at c.clear_region-2.ensures.gone)

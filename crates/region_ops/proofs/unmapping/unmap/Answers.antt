@@ -13,5 +13,7 @@ returns g c =
     unmap_done (g.P.PageStore.content c.args.store.now) c.args.vmos.now (spaces_of (regions_of c.args.regions.now) (table_of c.args.maps.now))
     c.args.region c.args.addr c.args.len c.live_region-above.result c.live_region-above.ensures.region c.live_region-above.ensures.live
     (or_from _ _ (sym c.is_outside.ensures ∙ c.if-is_outside.false) (rw (c.page_of-first.ensures, c.page_count-count.ensures) at (sym c.cuts.ensures ∙ c.if-cuts.false)))
-    _ _ _ _ (rw (c.page_of-first.ensures, c.page_count-count.ensures) at c.in-Ok.ensures.cleared) c.in-Ok.ensures.gone
-    (rw (c.page_of-first.ensures, c.page_count-count.ensures) at c.destroy_within.ensures)
+    _ _ (table_of c.destroy_within.new.maps) _
+    (c.destroy_within.ensures.table ∙ rw (c.page_of-first.ensures, c.page_count-count.ensures) at c.in-Ok.ensures.cleared)
+    (rw (sym c.destroy_within.ensures.table) at c.in-Ok.ensures.gone)
+    (rw (c.page_of-first.ensures, c.page_count-count.ensures) at c.destroy_within.ensures.regions)

@@ -12,7 +12,7 @@ pub returns-in-RootCreate : goal.returns-in-RootCreate
 returns-in-RootCreate g c = rw c.in-RootCreate.is (record { does = does_regions c.root_create.ensures.step; leaves = leaves_spaces (λ s d r. refl); name = c.root_create.ensures.name })
 
 pub returns-in-VmarAllocate : goal.returns-in-VmarAllocate
-returns-in-VmarAllocate g c = rw c.in-VmarAllocate.is (record { does = does_regions c.vmar_allocate.ensures.step; leaves = leaves_spaces (λ s d r. refl); name = c.vmar_allocate.ensures.name })
+returns-in-VmarAllocate g c = rw (c.in-VmarAllocate.is, c.vmar_allocate.ensures.table) (record { does = does_regions (rw c.vmar_allocate.ensures.table at c.vmar_allocate.ensures.step); leaves = leaves_spaces (λ s d r. refl); name = c.vmar_allocate.ensures.name })
 
 pub returns-in-VmarMap : goal.returns-in-VmarMap
 returns-in-VmarMap g c = rw c.in-VmarMap.is (record { does = c.vmar_map.ensures.step; leaves = c.vmar_map.ensures.left; name = tt })

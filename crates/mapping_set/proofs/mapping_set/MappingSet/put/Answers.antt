@@ -15,10 +15,10 @@ insert-requires-2-clause-free c =
 pub invariant_of-self : goal.invariant_of-self
 invariant_of-self c =
     AreMappings-more _ c.self.invariant _ c.self.view_is c.args.root.0 _ _ c.from.ensures c.args.piece c.list_number-list.ensures.number
-    c.list_number-list.ensures.below c.requires.some c.requires.end c.requires.pages c.requires.bare (record { pieces = c.insert.new.self; lists = c.insert-2.new.self }) c.insert.ensures.values
+    c.list_number-list.ensures.below c.requires.some c.requires.end c.requires.pages c.requires.bare (record { pieces = c.insert.new.self; lists = c.insert-2.new.self; taken = c.hold.new.taken }) c.insert.ensures.values
     _ refl c.insert-2.ensures.extents
 
 pub returns-clause-table : goal.returns-clause-table
 returns-clause-table c =
     table-more _ c.self.invariant _ c.self.view_is c.args.root.0 _ _ c.from.ensures c.args.piece c.list_number-list.ensures.number
-    c.list_number-list.ensures.below c.requires.some c.requires.end c.requires.pages c.requires.bare (record { pieces = c.insert.new.self; lists = c.insert-2.new.self }) c.insert.ensures.values
+    c.list_number-list.ensures.below c.requires.some c.requires.end c.requires.pages c.requires.bare (record { pieces = c.insert.new.self; lists = c.insert-2.new.self; taken = c.hold.new.taken }) c.insert.ensures.values
