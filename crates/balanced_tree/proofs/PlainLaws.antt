@@ -29,15 +29,12 @@ same_twice e g = g ∙ e
 pub same_thrice : {A : Type 0} {a b c d : A} → b ≡ a → c ≡ b → d ≡ c → d ≡ a
 same_thrice e g h = h ∙ (g ∙ e)
 
--- the steps of a rotation
-pub six_steps : (a : ℕ) {b c d e g h : ℕ} → b ≤ a + 1 → c ≤ b + 1 → d ≤ c + 1 → e ≤ d + 1 → g ≡ e + 1 → h ≡ g + 1 → h ≤ a + 9
-six_steps a i j k l m n = omega arith
+-- the steps of a rotation: two children and those of one, and two rows that are put; or those of a second one, and three
+pub single_steps : (a : ℕ) {b c d e g : ℕ} → b ≤ a + 1 → c ≤ b + 1 → d ≤ c + 2 → e ≡ d + 1 → g ≡ e + 1 → g ≤ a + 9
+single_steps a i j k l m = omega arith
 
-pub nine_steps :
-    (a : ℕ) {b c d e g h i j k : ℕ}
-    → b ≤ a + 1 → c ≤ b + 1 → d ≤ c + 1 → e ≤ d + 1 → g ≤ e + 1 → h ≤ g + 1
-    → i ≡ h + 1 → j ≡ i + 1 → k ≡ j + 1 → k ≤ a + 9
-nine_steps a l m n o p q r s t = omega arith
+pub double_steps : (a : ℕ) {b c d e g : ℕ} → b ≤ a + 1 → c ≤ b + 1 → d ≤ c + 2 → e ≤ d + 2 → g ≡ e + 3 → g ≤ a + 9
+double_steps a i j k l m = omega arith
 
 -- a test that is false says that what would make it true does not hold
 pub refuted : {b : Bool} {P : Type 0} → (P → IsTrue b) → b ≡ false → P → ⊥

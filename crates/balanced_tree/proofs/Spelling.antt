@@ -196,3 +196,16 @@ module _ {R : Type 0} (f : Functions R) where
 
   pub readable-right : {s : Slab R} {c : Child R} {at : Option ℕ} → HasParts s c → at ≡ f.right c.row → ForSome at (ContainsKey s)
   readable-right {s} h e = λ q some. ContainsKey-place_of s h.right q h.right_spelled (h.right_is ∙ sym e ∙ some)
+
+  -- both
+  pub readable-both : {s : Slab R} {c : Child R} → HasParts s c → ForSome (f.left c.row) (ContainsKey s) × ForSome (f.right c.row) (ContainsKey s)
+  readable-both h = (readable-left h refl, readable-right h refl)
+
+module _ {R : Type 0} where
+  -- a child that was read under a link stands there
+  pub held-link : (s : Slab R) {o : Option (Child R)} {c : Child R} (at : Option ℕ) → o ≡ child_at s at → o ≡ Some c → ContainsKey s c.link
+  held-link s None read some = cc
+  held-link s {o} {c} (Some p) read some = go (get s p) refl (sym read ∙ some) where
+    go : (v : Option R) → get s p ≡ v → child_under p v ≡ Some c → ContainsKey s c.link
+    go None e h = cc
+    go (Some x) e h = subst (λ (d : Child R). ContainsKey s d.link) (same_Some _ _ h) (ap is_some e)

@@ -3,6 +3,7 @@ pub mod Rows
 pub mod Pairs
 pub mod Tree
 pub mod Standing
+pub mod Placing
 pub mod Extents
 pub mod Gaps
 pub mod GapSearch

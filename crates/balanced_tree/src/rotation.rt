@@ -5,6 +5,7 @@ ghost use Rattle.std.specs.Option.{ForSome};
 ghost use Rattle.slab.specs.Slab.{get, slab_len, ContainsKey, Updates};
 ghost use Rattle.balanced_tree.specs.Row.{height_in};
 ghost use Rattle.balanced_tree.specs.Tree.{Tree, Node, place_of, leaned_right, leaned_left, balanced};
+ghost use Rattle.balanced_tree.specs.Placing.{PlacesThree};
 ghost use Rattle.balanced_tree.specs.Standing.{child_at, height_at, IsSplit, Splits, Becomes, Same};
 
 use crate::children::Child;
@@ -27,6 +28,24 @@ fn child_under<R: TreeRow, L: Ledger>(
     let link = at?;
     let row = rows.row(link, steps);
     Some(Child { link, row })
+}
+
+/// The left and the right child of a row.
+#[inline(always)]
+fn children_of<R: TreeRow, L: Ledger>(
+    rows: &RowSlab<R>,
+    row: R,
+    steps: &mut Steps<L>,
+) -> (Option<Child<R>>, Option<Child<R>>)
+    requires left { ForSome (R.functions.left row) (ContainsKey rows.now) }
+    requires right { ForSome (R.functions.right row) (ContainsKey rows.now) }
+    ensures left { result.0 ≡ child_at rows.now (R.functions.left row) }
+    ensures right { result.1 ≡ child_at rows.now (R.functions.right row) }
+    ensures steps { steps.new ≤ steps.old + 2 }
+{
+    let left = child_under(rows, row.left(), steps);
+    let right = child_under(rows, row.right(), steps);
+    (left, right)
 }
 
 /// The height that is stored under a link; under no link it is 0.
@@ -90,6 +109,33 @@ fn place_over<R: TreeRow, L: Ledger>(
     Child { link: place, row }
 }
 
+/// Puts two rows under their places, each over its children, and a third over both, and answers its place.
+#[inline(always)]
+fn place_three<R: TreeRow, L: Ledger>(
+    rows: &mut RowSlab<R>,
+    first: Child<R>,
+    first_left: Option<Child<R>>,
+    first_right: Option<Child<R>>,
+    last: Child<R>,
+    last_left: Option<Child<R>>,
+    last_right: Option<Child<R>>,
+    top: Child<R>,
+    steps: &mut Steps<L>,
+) -> usize
+    requires first { ContainsKey rows.old first.link }
+    requires last { ContainsKey rows.old last.link }
+    requires top { ContainsKey rows.old top.link }
+    ensures place { result ≡ top.link }
+    ensures places { PlacesThree R.functions rows.old rows.new first first_left first_right last last_left last_right top }
+    ensures len { slab_len rows.new ≡ slab_len rows.old }
+    ensures capacity { rows.new.capacity ≡ rows.old.capacity }
+    ensures steps { steps.new ≡ steps.old + 3 }
+{
+    let left = place_over(rows, first.link, first.row, first_left, first_right, steps);
+    let right = place_over(rows, last.link, last.row, last_left, last_right, steps);
+    place_over(rows, top.link, top.row, Some(left), Some(right), steps).link
+}
+
 /// Puts a row under a place, over the children under these links, and answers the place.
 #[inline(always)]
 pub fn put_over<R: TreeRow, L: Ledger>(
@@ -139,15 +185,12 @@ fn lean_right<R: TreeRow, L: Ledger>(
     let Some(parent) = child_under(rows, left, steps) else {
         unreachable!()
     };
-    let outer = child_under(rows, parent.row.left(), steps);
-    let inner = child_under(rows, parent.row.right(), steps);
+    let (outer, inner) = children_of(rows, parent.row, steps);
     match if_higher(inner, outer) {
         Some(top) => {
-            let low = child_under(rows, top.row.left(), steps);
-            let high = child_under(rows, top.row.right(), steps);
-            let first = place_over(rows, parent.link, parent.row, outer, low, steps);
-            let last = place_over(rows, place, row, high, right, steps);
-            place_over(rows, top.link, top.row, Some(first), Some(last), steps).link
+            let (low, high) = children_of(rows, top.row, steps);
+            let last = Child { link: place, row };
+            place_three(rows, parent, outer, low, last, high, right, top, steps)
         }
         None => {
             let last = place_over(rows, place, row, inner, right, steps);
@@ -180,15 +223,12 @@ fn lean_left<R: TreeRow, L: Ledger>(
     let Some(parent) = child_under(rows, right, steps) else {
         unreachable!()
     };
-    let outer = child_under(rows, parent.row.right(), steps);
-    let inner = child_under(rows, parent.row.left(), steps);
+    let (inner, outer) = children_of(rows, parent.row, steps);
     match if_higher(inner, outer) {
         Some(top) => {
-            let low = child_under(rows, top.row.left(), steps);
-            let high = child_under(rows, top.row.right(), steps);
-            let first = place_over(rows, place, row, left, low, steps);
-            let last = place_over(rows, parent.link, parent.row, high, outer, steps);
-            place_over(rows, top.link, top.row, Some(first), Some(last), steps).link
+            let (low, high) = children_of(rows, top.row, steps);
+            let first = Child { link: place, row };
+            place_three(rows, first, left, low, parent, high, outer, top, steps)
         }
         None => {
             let first = place_over(rows, place, row, left, inner, steps);

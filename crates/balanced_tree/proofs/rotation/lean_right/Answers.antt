@@ -1,66 +1,57 @@
-use Rattle.std.proofs.Common.{sym, ap, ◌∙◌}
-use Rattle.balanced_tree.specs.Standing.{child_at}
-use Rattle.balanced_tree.proofs.PlainLaws.{same_twice, same_thrice, six_steps, nine_steps}
-use Rattle.balanced_tree.proofs.Spelling.{picked-is, child_at-link, HasParts-link, readable-left, readable-right, IsPlaced-root}
+use Rattle.std.proofs.Common.{Some, is_some, refl, sym, ap, ◌∙◌}
+use Rattle.balanced_tree.proofs.PlainLaws.{same_twice, single_steps, double_steps}
+use Rattle.balanced_tree.proofs.Spelling.{picked-is, child_at-link, HasParts-link, readable-both, held-link, IsPlaced-root}
 use Rattle.balanced_tree.proofs.Turns.{leaned_right-once, leaned_right-twice}
 use Rattle.balanced_tree.proofs.rotation.lean_right.Goals as goal
 
-pub child_under-outer-requires : goal.child_under-outer-requires
-child_under-outer-requires g c =
-    let f = g.R.TreeRow.functions in let law = g.met.R.TreeRow.lawful in
-    readable-left f (HasParts-link f law c.args.rows.now c.requires.split.left_tree c.requires.split.split.left c.requires.split.left_is c.child_under.ensures.child c.in-Some.is) c.left.ensures
+pub children_of-requires : goal.children_of-requires
+children_of-requires g c =
+    let f = g.R.TreeRow.functions in let law = g.met.R.TreeRow.lawful in let s = c.args.rows.now in
+    let both = readable-both f (HasParts-link f law s c.requires.split.left_tree c.requires.split.split.left c.requires.split.left_is c.child_under.ensures.child c.in-Some.is) in
+    record { left = both.0; right = both.1 }
 
-pub child_under-inner-requires : goal.child_under-inner-requires
-child_under-inner-requires g c =
-    let f = g.R.TreeRow.functions in let law = g.met.R.TreeRow.lawful in
-    readable-right f (HasParts-link f law c.args.rows.now c.requires.split.left_tree c.requires.split.split.left c.requires.split.left_is c.child_under.ensures.child c.in-Some.is) c.right.ensures
+pub children_of-requires-in-Some-if_higher : goal.children_of-requires-in-Some-if_higher
+children_of-requires-in-Some-if_higher g c =
+    let f = g.R.TreeRow.functions in let law = g.met.R.TreeRow.lawful in let s = c.args.rows.now in
+    let parent = HasParts-link f law s c.requires.split.left_tree c.requires.split.split.left c.requires.split.left_is c.child_under.ensures.child c.in-Some.is in
+    let both = readable-both f (HasParts-link f law s parent.right parent.right_spelled parent.right_is c.children_of.ensures.right (picked-is _ _ _ _ c.if_higher.ensures c.in-Some-if_higher.is)) in
+    record { left = both.0; right = both.1 }
 
-pub child_under-low-requires : goal.child_under-low-requires
-child_under-low-requires g c =
-    let f = g.R.TreeRow.functions in let law = g.met.R.TreeRow.lawful in
-    let parent = HasParts-link f law c.args.rows.now c.requires.split.left_tree c.requires.split.split.left c.requires.split.left_is c.child_under.ensures.child c.in-Some.is in
-    let middle = HasParts-link f law c.args.rows.now parent.right parent.right_spelled (parent.right_is ∙ sym c.right.ensures) c.child_under-inner.ensures.child (picked-is _ _ _ _ c.if_higher.ensures c.in-Some-if_higher.is) in
-    readable-left f middle c.left-in-Some-if_higher.ensures
+pub place_three-requires : goal.place_three-requires
+place_three-requires g c = record {
+  first = held-link c.args.rows.now c.args.left c.child_under.ensures.child c.in-Some.is;
+  last = ap is_some c.requires.split.split.at;
+  top = held-link c.args.rows.now _ c.children_of.ensures.right (picked-is _ _ _ _ c.if_higher.ensures c.in-Some-if_higher.is);
+}
 
-pub child_under-high-requires : goal.child_under-high-requires
-child_under-high-requires g c =
-    let f = g.R.TreeRow.functions in let law = g.met.R.TreeRow.lawful in
-    let parent = HasParts-link f law c.args.rows.now c.requires.split.left_tree c.requires.split.split.left c.requires.split.left_is c.child_under.ensures.child c.in-Some.is in
-    let middle = HasParts-link f law c.args.rows.now parent.right parent.right_spelled (parent.right_is ∙ sym c.right.ensures) c.child_under-inner.ensures.child (picked-is _ _ _ _ c.if_higher.ensures c.in-Some-if_higher.is) in
-    readable-right f middle c.right-in-Some-if_higher.ensures
-
-pub returns-in-Some-if_higher-clause-tree : goal.returns-in-Some-if_higher-clause-tree
-returns-in-Some-if_higher-clause-tree g c =
+pub returns-in-Some-if_higher : goal.returns-in-Some-if_higher
+returns-in-Some-if_higher g c =
     let f = g.R.TreeRow.functions in let law = g.met.R.TreeRow.lawful in
     let s = c.args.rows.now in
-    λ l x r low high split same left_is right_is.
-    let placed = leaned_right-twice f l r law split same (sym c.in-Some.is ∙ c.child_under.ensures.child ∙ child_at-link f s l split.left left_is) (c.child_under-right.ensures.child ∙ child_at-link f s r split.right right_is) (c.child_under-outer.ensures.child ∙ ap (child_at s) c.left.ensures) (c.child_under-inner.ensures.child ∙ ap (child_at s) c.right.ensures) c.if_higher.ensures c.in-Some-if_higher.is (c.child_under-low.ensures.child ∙ ap (child_at s) c.left-in-Some-if_higher.ensures) (c.child_under-high.ensures.child ∙ ap (child_at s) c.right-in-Some-if_higher.ensures) c.place_over-first.ensures.updates c.place_over-first.ensures.child c.place_over-last.ensures.updates c.place_over-last.ensures.child c.place_over.ensures.updates c.place_over.ensures.child in
-    (placed.becomes, IsPlaced-root f placed)
+    let three = c.place_three.ensures in
+    record {
+      tree = λ l x r low high split same left_is right_is.
+          let placed = leaned_right-twice f l r law split same (sym c.in-Some.is ∙ c.child_under.ensures.child ∙ child_at-link f s l split.left left_is) (c.child_under-right.ensures.child ∙ child_at-link f s r split.right right_is)
+          c.children_of.ensures.left c.children_of.ensures.right c.if_higher.ensures c.in-Some-if_higher.is c.children_of-in-Some-if_higher.ensures.left c.children_of-in-Some-if_higher.ensures.right
+          three.places.puts_first refl three.places.puts_last refl three.places.puts_top refl in
+          (placed.becomes, IsPlaced-root f placed ∙ ap Some (sym three.place));
+      len = three.len;
+      capacity = three.capacity;
+      steps = double_steps c.args.steps.now c.child_under-right.ensures.steps c.child_under.ensures.steps c.children_of.ensures.steps c.children_of-in-Some-if_higher.ensures.steps three.steps;
+    }
 
-pub returns-in-None-clause-tree : goal.returns-in-None-clause-tree
-returns-in-None-clause-tree g c =
+pub returns-in-None : goal.returns-in-None
+returns-in-None g c =
     let f = g.R.TreeRow.functions in let law = g.met.R.TreeRow.lawful in
     let s = c.args.rows.now in
-    λ l x r low high split same left_is right_is.
-    let placed = leaned_right-once f l r law split same (sym c.in-Some.is ∙ c.child_under.ensures.child ∙ child_at-link f s l split.left left_is) (c.child_under-right.ensures.child ∙ child_at-link f s r split.right right_is) (c.child_under-outer.ensures.child ∙ ap (child_at s) c.left.ensures) (c.child_under-inner.ensures.child ∙ ap (child_at s) c.right.ensures) c.if_higher.ensures c.in-None.is c.place_over-last-in-None.ensures.updates c.place_over-last-in-None.ensures.child c.place_over-in-None.ensures.updates c.place_over-in-None.ensures.child in
-    (placed.becomes, IsPlaced-root f placed)
-
-pub returns-in-Some-if_higher-clause-len : goal.returns-in-Some-if_higher-clause-len
-returns-in-Some-if_higher-clause-len g c = same_thrice c.place_over-first.ensures.len c.place_over-last.ensures.len c.place_over.ensures.len
-
-pub returns-in-Some-if_higher-clause-capacity : goal.returns-in-Some-if_higher-clause-capacity
-returns-in-Some-if_higher-clause-capacity g c = same_thrice c.place_over-first.ensures.capacity c.place_over-last.ensures.capacity c.place_over.ensures.capacity
-
-pub returns-in-Some-if_higher-clause-steps : goal.returns-in-Some-if_higher-clause-steps
-returns-in-Some-if_higher-clause-steps g c =
-    nine_steps c.args.steps.now c.child_under-right.ensures.steps c.child_under.ensures.steps c.child_under-outer.ensures.steps c.child_under-inner.ensures.steps c.child_under-low.ensures.steps c.child_under-high.ensures.steps c.place_over-first.ensures.steps c.place_over-last.ensures.steps c.place_over.ensures.steps
-
-pub returns-in-None-clause-len : goal.returns-in-None-clause-len
-returns-in-None-clause-len g c = same_twice c.place_over-last-in-None.ensures.len c.place_over-in-None.ensures.len
-
-pub returns-in-None-clause-capacity : goal.returns-in-None-clause-capacity
-returns-in-None-clause-capacity g c = same_twice c.place_over-last-in-None.ensures.capacity c.place_over-in-None.ensures.capacity
-
-pub returns-in-None-clause-steps : goal.returns-in-None-clause-steps
-returns-in-None-clause-steps g c =
-    six_steps c.args.steps.now c.child_under-right.ensures.steps c.child_under.ensures.steps c.child_under-outer.ensures.steps c.child_under-inner.ensures.steps c.place_over-last-in-None.ensures.steps c.place_over-in-None.ensures.steps
+    let lower = c.place_over-last.ensures in
+    let upper = c.place_over.ensures in
+    record {
+      tree = λ l x r low high split same left_is right_is.
+          let placed = leaned_right-once f l r law split same (sym c.in-Some.is ∙ c.child_under.ensures.child ∙ child_at-link f s l split.left left_is) (c.child_under-right.ensures.child ∙ child_at-link f s r split.right right_is)
+          c.children_of.ensures.left c.children_of.ensures.right c.if_higher.ensures c.in-None.is lower.updates lower.child upper.updates upper.child in
+          (placed.becomes, IsPlaced-root f placed);
+      len = same_twice lower.len upper.len;
+      capacity = same_twice lower.capacity upper.capacity;
+      steps = single_steps c.args.steps.now c.child_under-right.ensures.steps c.child_under.ensures.steps c.children_of.ensures.steps lower.steps upper.steps;
+    }
