@@ -1,23 +1,28 @@
 -- A line that was fetched, and its replies.
-use Rattle.std.proofs.Common.{◌≡◌, ℕ, ◌+◌, ◌<◌, ◌≤◌, ◌⊎◌, inl, inr, Bool, true, cond, List, [], ◌∷◌, ◌++◌, length, Option, Result, sym, ap, subst, arith}
-use Rattle.std.specs.Prelude.{OnOk, OnErr}
+use Rattle.std.proofs.Common.{◌≡◌, ℕ, ◌+◌, ◌<◌, ◌≤◌, ◌⊎◌, inl, inr, Bool, true, false, eqb, cond, List, [], ◌∷◌, ◌++◌, length, Option, Some, Result, Ok, Err, refl, sym, ap, subst, arith}
+use Rattle.std.specs.Prelude.{OnOk, OnErr, IfNone, MatchOption, ◌≢◌}
 use Rattle.std.specs.Io.KnownBytes.{Appends}
 use Rattle.std.proofs.lemmas.List.{length-append}
 use Rattle.std.proofs.lemmas.Bool.Decides.{Decides-ltb}
+use Rattle.std.proofs.lemmas.Bool.{eqb-false}
+use Rattle.std.proofs.lemmas.Option.{same_Some}
+use Rattle.script_io.specs.Ending.{code_of}
 use Rattle.script_io.specs.Faults.{IsCutOff}
 use Rattle.script_io.specs.Reader.{Reader}
 use Rattle.script_io.specs.Fetching.{IsPending, IsFirstLine, Fetches}
 use Rattle.script_io.specs.declared.line_reader.Fetch.TheVariants.{Line, TooLong}
+use Rattle.script_io.specs.declared.status.Status.{Status}
+use Rattle.script_io.specs.declared.status.Status.TheVariants.{HostMemory, ReadFault, WriteFault}
 use Rattle.vm_base.specs.declared.limits.TheConstants.{LINE_BYTES}
 use Rattle.vm_base.specs.declared.refusal.Refusal.TheVariants.{Syntax}
 use Rattle.vm_model.specs.declared.reply.Reply.TheVariants.{Refused}
 use Rattle.vm_model.specs.Machine.Machine.{Machine, IsGoodMachine}
 use Rattle.vm_model.specs.Language.Text.{text}
 use Rattle.vm_model.specs.Language.Reading.{Outside, reading, reading_of_words, words}
-use Rattle.vm_session.specs.Outcome.{AnswersLine}
-use Rattle.vm_session.specs.Serving.{IsReady, bytes_left}
+use Rattle.vm_session.specs.Outcome.{AnswersLine, EndsAs}
+use Rattle.vm_session.specs.Serving.{IsServed, IsReady, bytes_left, write_fault}
 use Rattle.vm_session.proofs.Writing.{AnswersLine-outside}
-use Rattle.vm_session.proofs.Served.{IsAnswered}
+use Rattle.vm_session.proofs.Served.{IsAnswered, IsServed-answered, BreaksOff-answered}
 
 pub IsAnswered-line : {T E : Type 0} (old new : Reader) (source_old source_new sink_old sink_new : Option (List ℕ)) (before after : Machine) (pending line : List ℕ) (result : Result T E)
     → Fetches old new source_old source_new pending Line → line ≡ new.line → AnswersLine line before after sink_old sink_new result → IsGoodMachine after → after.state.content.next ≤ before.state.content.next + 1
@@ -97,3 +102,32 @@ bytes_left-answered old new source_old source_new sink_old sink_new before after
       pending_size old source_old r.pending r.still,
       pending_size new source_new a.left a.still,
     )
+
+-- whether its replies were written whole or cut off
+pub IsServed-after : {T E : Type 0} (frames limit : ℕ) (old new : Reader) (source_old source_mid source_new sink_old sink_mid sink_new : Option (List ℕ)) (before after : Machine) (result : Result T E) (s : IsServed frames limit old source_old source_mid sink_old sink_mid before)
+    → IsAnswered old new source_mid source_new sink_mid sink_new before after s.pending result → new.limit ≡ old.limit → (old.ended ≡ true → new.taken ≡ old.taken)
+    → MatchOption (write_fault result) (IsServed frames limit new source_old source_new sink_old sink_new after) (λ status. EndsAs status frames limit source_old source_new sink_old sink_new after.state.content)
+IsServed-after frames limit old new source_old source_mid source_new sink_old sink_mid sink_new before after (Ok x) s a same none =
+    IsServed-answered frames limit old new source_old source_mid source_new sink_old sink_mid sink_new before after (Ok x) s a same none x refl
+IsServed-after frames limit old new source_old source_mid source_new sink_old sink_mid sink_new before after (Err e) s a same none =
+    BreaksOff-answered frames limit old new source_old source_mid source_new sink_old sink_mid sink_new before after (Err e) s a same none e refl
+
+pub write_fault-none : {T E P : Type 0} (result : Result T E) → P → IfNone (write_fault result) P
+write_fault-none (Ok x) p = p
+write_fault-none (Err e) p = tt
+
+pub write_fault-caused : {T E P : Type 0} (result : Result T E) → OnErr result P → write_fault result ≡ Some WriteFault → P
+write_fault-caused (Ok x) failed e = absurd cc
+write_fault-caused (Err x) failed e = failed
+
+pub write_fault-no_read : {T E P : Type 0} (result : Result T E) → write_fault result ≡ Some ReadFault → P
+write_fault-no_read (Ok x) e = absurd cc
+write_fault-no_read (Err x) e = absurd cc
+
+pub write_fault-no_memory : {T E : Type 0} (result : Result T E) → write_fault result ≢ Some HostMemory
+write_fault-no_memory (Ok x) e = cc
+write_fault-no_memory (Err x) e = cc
+
+-- statuses of other codes differ
+pub other_status : {P : Type 0} (s t : Status) → eqb (code_of s) (code_of t) ≡ false → Some s ≡ Some t → P
+other_status s t other e = absurd (eqb-false (code_of s) (code_of t) other (ap code_of (same_Some s t e)))

@@ -1,9 +1,11 @@
 -- How far a script was served: which lines were answered, and which bytes are pending in the line reader.
-use Rattle.std.specs.Prelude.{◌≡◌, ℕ, ◌+◌, ◌-◌, ◌≤◌, ◌⊎◌, true, List, [], ◌++◌, length, Option}
+use Rattle.std.specs.Prelude.{◌≡◌, ℕ, ◌+◌, ◌-◌, ◌≤◌, ◌⊎◌, true, List, [], ◌++◌, length, Option, None, Some, Result, Ok, Err}
 use Rattle.std.specs.Io.KnownBytes.{Appends, Consumes}
 use Rattle.script_io.specs.Reader.{Reader}
 use Rattle.script_io.specs.Fetching.{IsPending, Fetches}
 use Rattle.script_io.specs.declared.line_reader.Fetch.{Fetch}
+use Rattle.script_io.specs.declared.status.Status.{Status}
+use Rattle.script_io.specs.declared.status.Status.TheVariants.{WriteFault}
 use Rattle.vm_model.specs.declared.reply.Reply.{Reply}
 use Rattle.vm_model.specs.Machine.Machine.{Machine, IsGoodMachine, empty_machine}
 use Rattle.vm_model.specs.Language.Text.{texts}
@@ -53,3 +55,8 @@ bytes_left reader = (reader.limit + 1 - reader.taken) + (reader.dropped + length
 abbrev pub FetchesOnce : Reader → Reader → Option (List ℕ) → Option (List ℕ) → Type 0
 FetchesOnce old new source_old source_new = (pending : List ℕ) → IsPending old source_old pending
     → (answer : Fetch) × Fetches old new source_old source_new pending answer
+
+-- the status that a run ends with behind a reply, if any
+abbrev pub write_fault : {T E : Type 0} → Result T E → Option Status
+write_fault (Ok x) = None
+write_fault (Err e) = Some WriteFault

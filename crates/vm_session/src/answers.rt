@@ -5,7 +5,7 @@ ghost use Rattle.script_io.specs.Faults.{HasCause, HasFailed};
 ghost use Rattle.vm_model.specs.Machine.Machine.{IsGoodMachine};
 ghost use Rattle.vm_core.specs.Vm.{Agrees, machine_of};
 ghost use Rattle.vm_session.specs.Outcome.{AnswersLine, EndsAs};
-ghost use Rattle.vm_session.specs.Serving.{IsServed, IsReady, FetchesOnce, bytes_left};
+ghost use Rattle.vm_session.specs.Serving.{IsServed, IsReady, FetchesOnce, bytes_left, write_fault};
 
 use crate::replies::{push_answer, push_syntax};
 use crate::rooms::Rooms;
@@ -42,6 +42,17 @@ fn answer_line<P: PageStore, K: Sink>(
     }
 }
 
+/// The status that a run ends with behind a reply: one where the sink failed, else none.
+#[inline(always)]
+fn write_fault(pushed: Result<(), Failed>) -> Option<Status>
+    ensures { result ≡ write_fault pushed }
+{
+    match pushed {
+        Ok(()) => None,
+        Err(_) => Some(Status::WriteFault),
+    }
+}
+
 /// Fetches the next line and answers it. A status where the run ends with it. No call uses up more
 /// than one line, so the replies to a line are pushed before the next line is looked at.
 pub fn answer_next<P: PageStore, S: Source, K: Sink>(
@@ -74,15 +85,11 @@ pub fn answer_next<P: PageStore, S: Source, K: Sink>(
     ensures write_cause { result ≡ Some Status.WriteFault → HasFailed (K.faults sink.old) (K.faults sink.new) }
     ensures host_memory { result ≢ Some Status.HostMemory }
 {
-    let answered = match lines.next(source) {
-        Fetch::Line => answer_line(store, vm, sink, rooms, lines.line()),
-        Fetch::TooLong => push_syntax(sink, &mut rooms.reply),
-        Fetch::End => return Some(Status::Done),
-        Fetch::Fault => return Some(Status::ReadFault),
-        Fetch::Limit => return Some(Status::ScriptLimit),
-    };
-    match answered {
-        Ok(()) => None,
-        Err(_) => Some(Status::WriteFault),
+    match lines.next(source) {
+        Fetch::Line => write_fault(answer_line(store, vm, sink, rooms, lines.line())),
+        Fetch::TooLong => write_fault(push_syntax(sink, &mut rooms.reply)),
+        Fetch::End => Some(Status::Done),
+        Fetch::Fault => Some(Status::ReadFault),
+        Fetch::Limit => Some(Status::ScriptLimit),
     }
 }

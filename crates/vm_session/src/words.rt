@@ -1,9 +1,9 @@
 //! The words of the command line.
 
-ghost use Rattle.std.specs.Prelude.{◌≡◌, ◌≤◌, map, IfSome};
+ghost use Rattle.std.specs.Prelude.{◌≡◌, ◌≤◌, map, option_map, IfSome};
 ghost use Rattle.std.specs.String.{string_bytes};
 ghost use Rattle.vm_model.specs.Language.Reading.{number};
-ghost use Rattle.vm_session.specs.Outcome.{decimal_of_word, frames_in, task_asked, within};
+ghost use Rattle.vm_session.specs.Outcome.{decimal_of_word, frames_in, task_asked, within, work_in};
 ghost use Rattle.vm_session.specs.Tasks.{HasBounds};
 
 use script_text::number;
@@ -37,23 +37,43 @@ pub(crate) fn task_asked(words: &[String]) -> Option<Task>
     ensures task { result ≡ task_asked words.now }
     ensures bounds { IfSome result HasBounds }
 {
-    match words {
-        [verb, behind @ ..] if verb.as_bytes() == b"run".as_slice() => {
-            let frames = frames_asked(behind)?;
-            Some(Task::Run { frames })
-        }
-        [verb, number, count, behind @ ..] if verb.as_bytes() == b"work".as_slice() => {
-            let number = decimal_of_word(number.as_bytes(), 20, 0, u64::MAX)?;
-            let count = decimal_of_word(count.as_bytes(), 7, 0, WORK_COUNT)?;
-            let frames = frames_asked(behind)?;
-            Some(Task::Work {
-                number,
-                count,
-                frames,
-            })
-        }
-        _ => None,
+    let [verb, behind @ ..] = words else {
+        return None;
+    };
+    if verb.as_bytes() == b"run".as_slice() {
+        return run_asked(behind);
     }
+    if verb.as_bytes() == b"work".as_slice() {
+        return work_asked(behind);
+    }
+    None
+}
+
+/// What the words behind `run` ask for.
+fn run_asked(words: &[String]) -> Option<Task>
+    ensures task { result ≡ option_map (λ frames. Task.Run frames) (frames_in (map string_bytes words.now)) }
+    ensures bounds { IfSome result HasBounds }
+{
+    let frames = frames_asked(words)?;
+    Some(Task::Run { frames })
+}
+
+/// What the words behind `work` ask for.
+fn work_asked(words: &[String]) -> Option<Task>
+    ensures task { result ≡ work_in (map string_bytes words.now) }
+    ensures bounds { IfSome result HasBounds }
+{
+    let [number, count, behind @ ..] = words else {
+        return None;
+    };
+    let number = decimal_of_word(number.as_bytes(), 20, 0, u64::MAX)?;
+    let count = decimal_of_word(count.as_bytes(), 7, 0, WORK_COUNT)?;
+    let frames = frames_asked(behind)?;
+    Some(Task::Work {
+        number,
+        count,
+        frames,
+    })
 }
 
 /// How many page frames the last words ask for: `--frames N`, or no words.

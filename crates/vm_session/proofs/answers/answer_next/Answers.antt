@@ -1,33 +1,71 @@
 use Rattle.std.proofs.Common.{◌∙◌, refl, sym, arith}
 use Rattle.vm_core.specs.Vm.{machine_of}
+use Rattle.std.proofs.Math.Nat.{le_refl}
 use Rattle.std.proofs.lemmas.List.{length-append}
 use Rattle.vm_core.proofs.AgreeLaws.{agrees_good}
-use Rattle.vm_session.proofs.Served.{Completes-end, StopsReading-there, ReachesLimit-there, IsServed-answered, BreaksOff-answered}
-use Rattle.vm_session.proofs.Answered.{used_up, IsAnswered-line, IsAnswered-long, IsReady-answered, bytes_left-answered}
-use Rattle.vm_session.proofs.answers.answer_next.Goals.{in-Line, in-TooLong}
+use Rattle.vm_session.proofs.Served.{Completes-end, StopsReading-there, ReachesLimit-there}
+use Rattle.script_io.specs.declared.line_reader.Fetch.TheVariants.{Line, TooLong, End, Fault, Limit}
+use Rattle.script_io.specs.declared.status.Status.TheVariants.{Done, HostMemory, ReadFault, ScriptLimit, WriteFault}
+use Rattle.vm_session.proofs.Answered.{used_up, IsAnswered-line, IsAnswered-long, IsReady-answered, IsServed-after, bytes_left-answered, write_fault-none, write_fault-caused, write_fault-no_read, write_fault-no_memory, other_status}
 use Rattle.vm_session.proofs.answers.answer_next.Goals as goal
 
-pub returns-in-End-clause-served : goal.returns-in-End-clause-served
-returns-in-End-clause-served g c = λ frames limit source_old sink_old s.
-    let f = c.in-End.ensures.fetches s.pending s.still in
-    let end = f.fetched in
-    Completes-end frames limit c.args.lines.now c.next.new.self source_old _ _ sink_old _ _ s f.part f.consumes
-    f.taken c.in-End.ensures.limit (f.still.at_end end.2) end.0
+pub returns-in-End : goal.returns-in-End
+returns-in-End g c = record {
+  served = λ frames limit source_old sink_old s.
+      let f = c.in-End.ensures.fetches s.pending s.still in
+      let end = f.fetched in
+      Completes-end frames limit c.args.lines.now c.next.new.self source_old _ _ sink_old _ _ s f.part f.consumes
+      f.taken c.in-End.ensures.limit (f.still.at_end end.2) end.0;
+  once = λ pending still. (End, c.in-End.ensures.fetches pending still);
+  agrees = c.requires.agrees;
+  ready = tt;
+  limit = c.in-End.ensures.limit;
+  falls = tt;
+  read_later = c.in-End.ensures.later;
+  write_later = le_refl (g.K.Sink.faults c.args.sink.now);
+  read_cause = λ e. other_status Done ReadFault refl e;
+  write_cause = λ e. other_status Done WriteFault refl e;
+  host_memory = λ e. other_status Done HostMemory refl e;
+}
 
-pub returns-in-Fault-clause-served : goal.returns-in-Fault-clause-served
-returns-in-Fault-clause-served g c = λ frames limit source_old sink_old s.
-    let f = c.in-Fault.ensures.fetches s.pending s.still in
-    StopsReading-there frames limit c.args.lines.now c.next.new.self source_old _ _ sink_old _ _ s f.part f.consumes
-    f.taken c.in-Fault.ensures.limit f.fetched.1 (λ e. (c.in-Fault.ensures.ended e).2 refl) f.fetched.3
+pub returns-in-Fault : goal.returns-in-Fault
+returns-in-Fault g c = record {
+  served = λ frames limit source_old sink_old s.
+      let f = c.in-Fault.ensures.fetches s.pending s.still in
+      StopsReading-there frames limit c.args.lines.now c.next.new.self source_old _ _ sink_old _ _ s f.part f.consumes
+      f.taken c.in-Fault.ensures.limit f.fetched.1 (λ e. (c.in-Fault.ensures.ended e).2 refl) f.fetched.3;
+  once = λ pending still. (Fault, c.in-Fault.ensures.fetches pending still);
+  agrees = c.requires.agrees;
+  ready = tt;
+  limit = c.in-Fault.ensures.limit;
+  falls = tt;
+  read_later = c.in-Fault.ensures.later;
+  write_later = le_refl (g.K.Sink.faults c.args.sink.now);
+  read_cause = λ e. c.in-Fault.ensures.fault refl;
+  write_cause = λ e. other_status ReadFault WriteFault refl e;
+  host_memory = λ e. other_status ReadFault HostMemory refl e;
+}
 
-pub returns-in-Limit-clause-served : goal.returns-in-Limit-clause-served
-returns-in-Limit-clause-served g c = λ frames limit source_old sink_old s.
-    let f = c.in-Limit.ensures.fetches s.pending s.still in
-    ReachesLimit-there frames limit c.args.lines.now c.next.new.self source_old _ _ sink_old _ _ s f.part f.consumes
-    f.taken c.in-Limit.ensures.limit f.fetched.1.no_feed (λ e. (c.in-Limit.ensures.ended e).1) f.fetched.3
+pub returns-in-Limit : goal.returns-in-Limit
+returns-in-Limit g c = record {
+  served = λ frames limit source_old sink_old s.
+      let f = c.in-Limit.ensures.fetches s.pending s.still in
+      ReachesLimit-there frames limit c.args.lines.now c.next.new.self source_old _ _ sink_old _ _ s f.part f.consumes
+      f.taken c.in-Limit.ensures.limit f.fetched.1.no_feed (λ e. (c.in-Limit.ensures.ended e).1) f.fetched.3;
+  once = λ pending still. (Limit, c.in-Limit.ensures.fetches pending still);
+  agrees = c.requires.agrees;
+  ready = tt;
+  limit = c.in-Limit.ensures.limit;
+  falls = tt;
+  read_later = c.in-Limit.ensures.later;
+  write_later = le_refl (g.K.Sink.faults c.args.sink.now);
+  read_cause = λ e. other_status ScriptLimit ReadFault refl e;
+  write_cause = λ e. other_status ScriptLimit WriteFault refl e;
+  host_memory = λ e. other_status ScriptLimit HostMemory refl e;
+}
 
-pub answer_line-answered-requires-clause-next : goal.answer_line-answered-requires-clause-next
-answer_line-answered-requires-clause-next g c =
+pub answer_line-requires-clause-next : goal.answer_line-requires-clause-next
+answer_line-requires-clause-next g c =
     let ready = c.requires.ready in
     let f = c.in-Line.ensures.fetches ready.pending ready.still in
     omega (
@@ -41,75 +79,53 @@ answer_line-answered-requires-clause-next g c =
       length-append ready.pending f.part,
     )
 
-pub returns-in-Ok-clause-served : goal.returns-in-Ok-clause-served
-returns-in-Ok-clause-served g c = elim c.match-next.branch [
-  | in-Line w ↦ λ frames limit source_old sink_old s.
-      let line = w.answer_line-answered in
-      rw w.sink-is (rw w.store-is (rw w.vm-is (IsServed-answered frames limit c.args.lines.now c.next.new.self
-      source_old _ _ sink_old _ _ _ _ line.result s
-      (IsAnswered-line _ _ _ _ _ _ _ _ s.pending w.line.result.now line.result
-      (w.in-Line.ensures.fetches s.pending s.still) w.line.ensures.bytes line.ensures.answer line.ensures.good
-      line.ensures.next) w.in-Line.ensures.limit (λ e. (w.in-Line.ensures.ended e).1) c.in-Ok.field-0 (sym w.answered-is ∙ c.in-Ok.is))))
-  | in-TooLong w ↦ λ frames limit source_old sink_old s.
-      let push = w.push_syntax-answered in
-      rw w.sink-is (rw w.store-is (rw w.vm-is (IsServed-answered frames limit c.args.lines.now c.next.new.self
-      source_old _ _ sink_old _ _ _ _ push.result s
-      (IsAnswered-long _ _ _ _ _ _ _ s.pending push.result (w.in-TooLong.ensures.fetches s.pending s.still)
-      (agrees_good _ _ c.requires.agrees) push.ensures.ok push.ensures.err) w.in-TooLong.ensures.limit
-      (λ e. (w.in-TooLong.ensures.ended e).1) c.in-Ok.field-0 (sym w.answered-is ∙ c.in-Ok.is))))
-]
-
-pub returns-in-Ok-clause-ready : goal.returns-in-Ok-clause-ready
-returns-in-Ok-clause-ready g c =
+pub returns-in-Line : goal.returns-in-Line
+returns-in-Line g c =
     let ready = c.requires.ready in
-    elim c.match-next.branch [
-      | in-Line w ↦
-          let line = w.answer_line-answered in
-          rw w.store-is (IsReady-answered c.args.lines.now c.next.new.self _ _ _ _ _ _ line.result ready
-          (IsAnswered-line _ _ _ _ _ _ _ _ ready.pending w.line.result.now line.result
-          (w.in-Line.ensures.fetches ready.pending ready.still) w.line.ensures.bytes line.ensures.answer
-          line.ensures.good line.ensures.next))
-      | in-TooLong w ↦
-          let push = w.push_syntax-answered in
-          let now = (machine_of (g.P.PageStore.content c.args.store.now) c.args.vm.now) in
-          rw w.store-is (IsReady-answered c.args.lines.now c.next.new.self _ _ _ _ now now push.result ready
-          (IsAnswered-long _ _ _ _ _ _ now ready.pending push.result
-          (w.in-TooLong.ensures.fetches ready.pending ready.still) (agrees_good _ _ c.requires.agrees) push.ensures.ok push.ensures.err))
-    ]
+    let line = c.answer_line in
+    let answered = IsAnswered-line c.args.lines.now c.next.new.self _ _ (g.K.Sink.contents c.args.sink.now) (g.K.Sink.contents line.new.sink)
+    (machine_of (g.P.PageStore.content c.args.store.now) c.args.vm.now) (machine_of (g.P.PageStore.content line.new.store) line.new.vm) in
+    let first = answered ready.pending c.line.result.now line.result (c.in-Line.ensures.fetches ready.pending ready.still)
+    c.line.ensures.bytes line.ensures.answer line.ensures.good line.ensures.next in
+    record {
+      served = λ frames limit source_old sink_old s.
+          rw c.write_fault.ensures (IsServed-after frames limit c.args.lines.now c.next.new.self source_old _ _ sink_old _ _ _ _ line.result s
+          (answered s.pending c.line.result.now line.result (c.in-Line.ensures.fetches s.pending s.still) c.line.ensures.bytes
+          line.ensures.answer line.ensures.good line.ensures.next) c.in-Line.ensures.limit (λ e. (c.in-Line.ensures.ended e).1));
+      once = λ pending still. (Line, c.in-Line.ensures.fetches pending still);
+      agrees = line.ensures.agrees;
+      ready = rw c.write_fault.ensures (write_fault-none line.result (IsReady-answered c.args.lines.now c.next.new.self _ _ _ _ _ _ line.result ready first));
+      limit = c.in-Line.ensures.limit;
+      falls = rw c.write_fault.ensures (write_fault-none line.result (bytes_left-answered c.args.lines.now c.next.new.self _ _ _ _ _ _ line.result ready first c.in-Line.ensures.limit));
+      read_later = c.in-Line.ensures.later;
+      write_later = line.ensures.cause.later;
+      read_cause = λ e. write_fault-no_read line.result (sym c.write_fault.ensures ∙ e);
+      write_cause = λ e. write_fault-caused line.result line.ensures.cause.failed (sym c.write_fault.ensures ∙ e);
+      host_memory = λ e. write_fault-no_memory line.result (sym c.write_fault.ensures ∙ e);
+    }
 
-pub returns-in-Ok-clause-falls : goal.returns-in-Ok-clause-falls
-returns-in-Ok-clause-falls g c =
+pub returns-in-TooLong : goal.returns-in-TooLong
+returns-in-TooLong g c =
     let ready = c.requires.ready in
-    elim c.match-next.branch [
-      | in-Line w ↦
-          let line = w.answer_line-answered in
-          bytes_left-answered c.args.lines.now c.next.new.self _ _ _ _ _ _ line.result ready
-          (IsAnswered-line _ _ _ _ _ _ _ _ ready.pending w.line.result.now line.result
-          (w.in-Line.ensures.fetches ready.pending ready.still) w.line.ensures.bytes line.ensures.answer
-          line.ensures.good line.ensures.next) w.in-Line.ensures.limit
-      | in-TooLong w ↦
-          let push = w.push_syntax-answered in
-          let now = (machine_of (g.P.PageStore.content c.args.store.now) c.args.vm.now) in
-          bytes_left-answered c.args.lines.now c.next.new.self _ _ _ _ now now push.result ready
-          (IsAnswered-long _ _ _ _ _ _ now ready.pending push.result
-          (w.in-TooLong.ensures.fetches ready.pending ready.still) (agrees_good _ _ c.requires.agrees) push.ensures.ok push.ensures.err)
-          w.in-TooLong.ensures.limit
-    ]
-
-pub returns-in-Err-clause-served : goal.returns-in-Err-clause-served
-returns-in-Err-clause-served g c = elim c.match-next.branch [
-  | in-Line w ↦ λ frames limit source_old sink_old s.
-      let line = w.answer_line-answered in
-      rw w.sink-is (rw w.store-is (BreaksOff-answered frames limit c.args.lines.now c.next.new.self source_old _ _
-      sink_old _ _ _ _ line.result s
-      (IsAnswered-line _ _ _ _ _ _ _ _ s.pending w.line.result.now line.result
-      (w.in-Line.ensures.fetches s.pending s.still) w.line.ensures.bytes line.ensures.answer line.ensures.good
-      line.ensures.next) w.in-Line.ensures.limit (λ e. (w.in-Line.ensures.ended e).1) c.in-Err.field-0 (sym w.answered-is ∙ c.in-Err.is)))
-  | in-TooLong w ↦ λ frames limit source_old sink_old s.
-      let push = w.push_syntax-answered in
-      rw w.sink-is (rw w.store-is (BreaksOff-answered frames limit c.args.lines.now c.next.new.self source_old _ _
-      sink_old _ _ _ _ push.result s
-      (IsAnswered-long _ _ _ _ _ _ _ s.pending push.result (w.in-TooLong.ensures.fetches s.pending s.still)
-      (agrees_good _ _ c.requires.agrees) push.ensures.ok push.ensures.err) w.in-TooLong.ensures.limit
-      (λ e. (w.in-TooLong.ensures.ended e).1) c.in-Err.field-0 (sym w.answered-is ∙ c.in-Err.is)))
-]
+    let push = c.push_syntax in
+    let now = machine_of (g.P.PageStore.content c.args.store.now) c.args.vm.now in
+    let good = agrees_good _ _ c.requires.agrees in
+    let answered = IsAnswered-long c.args.lines.now c.next.new.self _ _ (g.K.Sink.contents c.args.sink.now) (g.K.Sink.contents push.new.sink) now in
+    let first = answered ready.pending push.result (c.in-TooLong.ensures.fetches ready.pending ready.still) good push.ensures.ok push.ensures.err in
+    let fault = c.write_fault-in-TooLong.ensures in
+    record {
+      served = λ frames limit source_old sink_old s.
+          rw fault (IsServed-after frames limit c.args.lines.now c.next.new.self source_old _ _ sink_old _ _ now now push.result s
+          (answered s.pending push.result (c.in-TooLong.ensures.fetches s.pending s.still) good push.ensures.ok push.ensures.err)
+          c.in-TooLong.ensures.limit (λ e. (c.in-TooLong.ensures.ended e).1));
+      once = λ pending still. (TooLong, c.in-TooLong.ensures.fetches pending still);
+      agrees = c.requires.agrees;
+      ready = rw fault (write_fault-none push.result (IsReady-answered c.args.lines.now c.next.new.self _ _ _ _ now now push.result ready first));
+      limit = c.in-TooLong.ensures.limit;
+      falls = rw fault (write_fault-none push.result (bytes_left-answered c.args.lines.now c.next.new.self _ _ _ _ now now push.result ready first c.in-TooLong.ensures.limit));
+      read_later = c.in-TooLong.ensures.later;
+      write_later = push.ensures.cause.later;
+      read_cause = λ e. write_fault-no_read push.result (sym fault ∙ e);
+      write_cause = λ e. write_fault-caused push.result push.ensures.cause.failed (sym fault ∙ e);
+      host_memory = λ e. write_fault-no_memory push.result (sym fault ∙ e);
+    }
