@@ -8,3 +8,4 @@ pub mod LiftedLaws
 pub mod CloseLaws
 pub mod HandLaws
 pub mod SeenLaws
+pub mod UncoverLaws

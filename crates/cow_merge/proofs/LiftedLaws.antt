@@ -146,7 +146,7 @@ denies-on t out h q left right side.Left bits = bits.left_bit
 denies-on t out h q left right side.Right bits = bits.right_bit
 
 -- not both bits are set
-one-bit : (left right : Bool) (from : Side) → (left && right) ≡ false → bit_on from left right ≡ true → bit_on (other_side from) left right ≡ true → ⊥
+pub one-bit : (left right : Bool) (from : Side) → (left && right) ≡ false → bit_on from left right ≡ true → bit_on (other_side from) left right ≡ true → ⊥
 one-bit true true from none one two = absurd (cc)
 one-bit true false side.Left none one two = absurd (cc)
 one-bit true false side.Right none one two = absurd (cc)
@@ -573,7 +573,7 @@ family-lists arena k h s f it =
     )
 
 -- the side of the sibling is the other one
-family-other : (arena : Arena) (k h s : ℕ) → IsForest (nodes_of arena) arena.lists → (it : IsFamilyOf arena k h s) →
+pub family-other : (arena : Arena) (k h s : ℕ) → IsForest (nodes_of arena) arena.lists → (it : IsFamilyOf arena k h s) →
     side_of it.parent s ≡ other_side (side_of it.parent k)
 family-other arena k h s f it =
     let up = family-parent (nodes_of arena) arena.lists f k h s it.node it.parent it.sibling it.family in
@@ -581,11 +581,11 @@ family-other arena k h s f it =
     ∙ side-of-child (nodes_of arena) arena.lists f h s it.parent (other_side (side_of it.parent k)) it.family.parent_at
     (family-side (nodes_of arena) arena.lists f k h s it.node it.parent it.sibling it.family).1)
 
-untold : (bit seen : Bool) → seen ≡ not bit → seen ≡ false → bit ≡ true
+pub untold : (bit seen : Bool) → seen ≡ not bit → seen ≡ false → bit ≡ true
 untold true seen is e = refl
 untold false seen is e = absurd (cc)
 
-told : (bit seen : Bool) → seen ≡ not bit → seen ≡ true → bit ≡ false
+pub told : (bit seen : Bool) → seen ≡ not bit → seen ≡ true → bit ≡ false
 told true seen is e = absurd (cc)
 told false seen is e = refl
 
@@ -688,6 +688,80 @@ module _ (arena : Arena) (old : Rows Row) (first : Slots) (before between after 
           (row-there first_tree k h s of.node of.parent of.sibling of.family of.visible q row has was.out (is_taken between) was.exact was.only was.bare tag left right e
           (bit tag left right e))
 
+-- A row of the parent was taken out, and is gone, or has moved.
+module _ (arena : Arena) (first mid new : Rows Row) (between after : Pool) (k h s : ℕ) (of : IsFamilyOf arena k h s) (q : ℕ) (row : Slot)
+    (has : slots_of first of.parent.list.0 q ≡ Some row) (taken_out : slots_of mid ≡ with_pair (slots_of first) of.parent.list.0 q None) where
+  abbrev above : Node
+  above = of.parent
+
+  abbrev beside_it : Node
+  beside_it = of.sibling
+
+  module _ (gone : HasGone mid new between after row) where
+    pub gone-slots : slots_of new ≡ with_pair (slots_of first) above.list.0 q None
+    gone-slots = ap (λ (r : Rows Row). slots_of r) gone.rows ∙ taken_out
+
+    pub gone-linked : AreLinked first between → AreLinked new after
+    gone-linked linked = record {
+      linked = λ m r other tag e frame.
+          ap (λ (f : ℕ → Backlink). f tag) gone.given.links
+          ∙ linked.linked m r other tag (was-there (slots_of first) above.list.0 q m r other (sym (ap (λ (x : Slots). x m r) gone-slots) ∙ e)).1 frame;
+    }
+
+  module _ (moved : HasMoved arena mid new between after s beside_it q row) where
+    abbrev to : ℕ
+    to = q - beside_it.first
+
+    abbrev both : Slots
+    both = with_pair (with_pair (slots_of first) above.list.0 q None) beside_it.list.0 to (Some moved.now)
+
+    pub moved-slots : slots_of new ≡ both
+    moved-slots = moved.slots ∙ ap (λ (x : Slots). with_pair x beside_it.list.0 to (Some moved.now)) taken_out
+
+    -- a row is the one that moved, or it was there
+    came-or-was : (m r : ℕ) (other : Slot) → slots_of new m r ≡ Some other →
+        ((m ≡ beside_it.list.0) × (r ≡ to) × (other ≡ moved.now)) ⊎ (((m ≡ above.list.0) × (r ≡ q) → ⊥) × (slots_of first m r ≡ Some other))
+    came-or-was m r other e =
+        let e' = sym (ap (λ (x : Slots). x m r) moved-slots) ∙ e in
+        elim (cases_place beside_it.list.0 to m r) [
+          | inl here ↦
+              let same : both m r ≡ Some moved.now = rw (here.0, here.1) (with_pair-same _ beside_it.list.0 to (Some moved.now)) in
+              inl (here.0, here.1, some_same (sym e' ∙ same))
+          | inr differs ↦ inr (was-there (slots_of first) above.list.0 q m r other
+              (sym (with_pair-other _ beside_it.list.0 to (Some moved.now) m r (λ x y. differs (x, y))) ∙ e'))
+        ]
+
+    pub moved-linked : AreLinked first between → AreLinked new after
+    moved-linked linked = record {
+      linked = λ m r other tag e frame. elim (came-or-was m r other e) [
+        | inl here ↦
+            let on = has-frame tag moved.now (ap frame_in (sym here.2) ∙ frame) in
+            moved.links tag ∙ (cond-true _ _ _ on ∙ link-same beside_it.list.0 m to r (sym here.0) (sym here.1))
+        | inr there ↦
+            let was_linked = linked.linked m r other tag there.1 frame in
+            elim (cases_Bool (has_frame tag moved.now)) [
+              | inr off ↦ moved.links tag ∙ (cond-false _ _ _ off ∙ was_linked)
+              | inl on ↦
+                  let one = linked.linked above.list.0 q row tag has (sym moved.moved.frame ∙ of-has-frame tag moved.now on) in
+                  let same = sym was_linked ∙ one in
+                  absurd (there.0 (ap (λ (b : Backlink). b.list) same, ap (λ (b : Backlink). b.page) same))
+            ]
+      ];
+    }
+
+  -- the parent's list has lost this row alone
+  pub settled-list : (above.list.0 ≢ beside_it.list.0) → HasSettled arena mid new between after above s beside_it q row → (p : ℕ) →
+      slots_of new above.list.0 p ≡ (if p == q then None else slots_of first above.list.0 p)
+  settled-list apart done p = same ∙ rows-gone (slots_of first) (slots_of mid) above.list.0 q p taken_out
+    where
+      same : slots_of new above.list.0 p ≡ slots_of mid above.list.0 p
+      same = elim (cases_Bool done.seen) [
+        | inl on ↦
+            let moved = done.moves on in
+            rows-beside (slots_of mid) (slots_of new) above.list.0 beside_it.list.0 (q - beside_it.first) p (Some moved.now) moved.slots apart
+        | inr off ↦ ap (λ (r : Rows Row). slots_of r above.list.0 p) ((done.gone off).rows)
+      ]
+
 -- A row of the parent was taken out.
 module _ (arena : Arena) (old first mid new : Rows Row) (before between after : Pool) (k h s q : ℕ) (row : Slot)
     (was : IsLifting arena old first before between k h s) (has : slots_of first was.of.parent.list.0 q ≡ Some row)
@@ -730,16 +804,6 @@ module _ (arena : Arena) (old first mid new : Rows Row) (before between after : 
   -- ---- the row is gone
 
   module _ (gone : HasGone mid new between after row) where
-    gone-slots : slots_of new ≡ with_pair (slots_of first) parent.list.0 q None
-    gone-slots = ap (λ (r : Rows Row). slots_of r) gone.rows ∙ taken_out
-
-    gone-linked : AreLinked first between → AreLinked new after
-    gone-linked linked = record {
-      linked = λ m r other tag e frame.
-          ap (λ (f : ℕ → Backlink). f tag) gone.given.links
-          ∙ linked.linked m r other tag (was-there (slots_of first) parent.list.0 q m r other (sym (ap (λ (x : Slots). x m r) gone-slots) ∙ e)).1 frame;
-    }
-
     gone-next : IsUnseen (slots_of first) parent k sibling q row → row_count mid + 1 ≡ row_count first → mid.spare ≡ first.spare + 1 →
         IsLifting arena old new before after k h s
     gone-next unseen count spare =
@@ -747,9 +811,9 @@ module _ (arena : Arena) (old first mid new : Rows Row) (before between after : 
         let count_is = ap (λ (r : Rows Row). row_count r) gone.rows in
         record {
           of = was.of;
-          lifted = subst (λ (x : Slots). AreLifted arena old x before after k h s was.of) (sym gone-slots)
+          lifted = subst (λ (x : Slots). AreLifted arena old x before after k h s was.of) (sym (gone-slots arena first mid new between after k h s was.of q row has taken_out gone))
               (lifted-gone arena old (slots_of first) before between after k h s was.of q row was.lifted has gone.given.gives unseen gone.given.taken);
-          linked = λ ok. gone-linked (was.linked ok);
+          linked = λ ok. gone-linked arena first mid new between after k h s was.of q row has taken_out gone (was.linked ok);
           spare = omega (arith, was.spare);
           count = omega (arith, was.count);
         }
@@ -757,58 +821,18 @@ module _ (arena : Arena) (old first mid new : Rows Row) (before between after : 
   -- ---- the row has moved
 
   module _ (moved : HasMoved arena mid new between after s sibling q row) where
-    abbrev to : ℕ
-    to = q - sibling.first
-
-    abbrev both : Slots
-    both = with_pair (with_pair (slots_of first) parent.list.0 q None) sibling.list.0 to (Some moved.now)
-
-    moved-slots : slots_of new ≡ both
-    moved-slots = moved.slots ∙ ap (λ (x : Slots). with_pair x sibling.list.0 to (Some moved.now)) taken_out
-
-    -- a row is the one that moved, or it was there
-    came-or-was : (m r : ℕ) (other : Slot) → slots_of new m r ≡ Some other →
-        ((m ≡ sibling.list.0) × (r ≡ to) × (other ≡ moved.now)) ⊎ (((m ≡ parent.list.0) × (r ≡ q) → ⊥) × (slots_of first m r ≡ Some other))
-    came-or-was m r other e =
-        let e' = sym (ap (λ (x : Slots). x m r) moved-slots) ∙ e in
-        elim (cases_place sibling.list.0 to m r) [
-          | inl here ↦
-              let same : both m r ≡ Some moved.now = rw (here.0, here.1) (with_pair-same _ sibling.list.0 to (Some moved.now)) in
-              inl (here.0, here.1, some_same (sym e' ∙ same))
-          | inr differs ↦ inr (was-there (slots_of first) parent.list.0 q m r other
-              (sym (with_pair-other _ sibling.list.0 to (Some moved.now) m r (λ x y. differs (x, y))) ∙ e'))
-        ]
-
-    moved-linked : AreLinked first between → AreLinked new after
-    moved-linked linked = record {
-      linked = λ m r other tag e frame. elim (came-or-was m r other e) [
-        | inl here ↦
-            let on = has-frame tag moved.now (ap frame_in (sym here.2) ∙ frame) in
-            moved.links tag ∙ (cond-true _ _ _ on ∙ link-same sibling.list.0 m to r (sym here.0) (sym here.1))
-        | inr there ↦
-            let was_linked = linked.linked m r other tag there.1 frame in
-            elim (cases_Bool (has_frame tag moved.now)) [
-              | inr off ↦ moved.links tag ∙ (cond-false _ _ _ off ∙ was_linked)
-              | inl on ↦
-                  let one = linked.linked parent.list.0 q row tag has (sym moved.moved.frame ∙ of-has-frame tag moved.now on) in
-                  let same = sym was_linked ∙ one in
-                  absurd (there.0 (ap (λ (b : Backlink). b.list) same, ap (λ (b : Backlink). b.page) same))
-            ]
-      ];
-    }
-
     moved-next : SeesRow (slots_of first) sibling q →
         ((tag : Tag) (left right : Bool) → row ≡ slot.Frame tag left right → bit_on (other_side (side_of parent k)) left right ≡ false) →
         row_count mid + 1 ≡ row_count first → mid.spare ≡ first.spare + 1 → IsLifting arena old new before after k h s
     moved-next sees bit count spare =
-        let bits = subst (λ (x : Slots). IsMoved (record (tree_of arena first) { slots = x }) s to sibling row moved.now) taken_out moved.moved in
+        let bits = subst (λ (x : Slots). IsMoved (record (tree_of arena first) { slots = x }) s (q - sibling.first) sibling row moved.now) taken_out moved.moved in
         record {
           of = was.of;
-          lifted = subst (λ (x : Slots). AreLifted arena old x before after k h s was.of) (sym moved-slots)
+          lifted = subst (λ (x : Slots). AreLifted arena old x before after k h s was.of) (sym (moved-slots arena first mid new between after k h s was.of q row has taken_out moved))
               (lifted-moved arena old (slots_of first) before between after k h s was.of q row was.lifted has
               (record { frames = moved.frames; kept = λ x. inl (ap (λ f. f x) moved.taken) })
               moved.now sees bit bits (λ x. ap (λ f. is_some (f x)) moved.taken));
-          linked = λ ok. moved-linked (was.linked ok);
+          linked = λ ok. moved-linked arena first mid new between after k h s was.of q row has taken_out moved (was.linked ok);
           spare = omega (arith, was.spare, moved.spare);
           count = omega (arith, was.count, moved.count);
         }
@@ -831,14 +855,6 @@ module _ (arena : Arena) (old first mid new : Rows Row) (before between after : 
       bit-off on tag left right e = ap (λ (from : Side). bit_on from left right) (sym other) ∙ told _ _ (done.tells.frame tag left right e) on
 
   -- the parent's list has lost this row alone
-  pub settled-list : HasSettled arena mid new between after parent s sibling q row → (p : ℕ) →
+  pub lifting-list : HasSettled arena mid new between after parent s sibling q row → (p : ℕ) →
       slots_of new parent.list.0 p ≡ (if p == q then None else slots_of first parent.list.0 p)
-  settled-list done p = same ∙ rows-gone (slots_of first) (slots_of mid) parent.list.0 q p taken_out
-    where
-      same : slots_of new parent.list.0 p ≡ slots_of mid parent.list.0 p
-      same = elim (cases_Bool done.seen) [
-        | inl on ↦
-            let moved = done.moves on in
-            rows-beside (slots_of mid) (slots_of new) parent.list.0 sibling.list.0 (q - sibling.first) p (Some moved.now) moved.slots lists.2
-        | inr off ↦ ap (λ (r : Rows Row). slots_of r parent.list.0 p) ((done.gone off).rows)
-      ]
+  lifting-list = settled-list arena first mid new between after k h s was.of q row has taken_out lists.2

@@ -1,4 +1,5 @@
 pub mod Ranges
 pub mod Lifting
+pub mod Uncovering
 pub mod HandingOver
 pub mod Merging

@@ -7,22 +7,24 @@ ghost use Rattle.cow_split.specs.Exact.{IsExact, all_in_sight};
 ghost use Rattle.frame_pool.specs.Pool.{is_taken};
 ghost use Rattle.cow_merge.specs.Merging.{HasClosed};
 
-use crate::handing::{goes_over, hand_over, is_empty};
+use crate::handing::{goes_over, hand_over};
 use crate::lifting::lift_rows;
 use crate::ranges::{leave_out, leave_out_above};
+use crate::uncovering::uncover;
 use cow_arena::{CowArena, NodeId};
 use frame_pool::FramePool;
 use page_list::PageLists;
 
 /// Takes a VMO's node away. The frames that only it showed are given back. Where it has a parent, this goes too: its rows
-/// move into the sibling, where they are seen through the sibling, and the sibling takes its place. It takes no memory, and
-/// costs the rows that the node's pages reach in its list and in those of the nodes above the parent, at each of the latter a
-/// search for another VMO that sees it (`cut_row`), and the rows of the parent, at each of those that move into a hidden
-/// sibling a search on each side of this.
+/// move into the sibling, where they are seen through the sibling, and the sibling takes its place. But where the sibling is a
+/// VMO's node that sees the parent from page 0 on, and has fewer rows than it, the parent's list goes over to the sibling, whose
+/// rows move into it.
 ///
-/// But where the node has no rows, and the sibling is a VMO's node that sees the parent from page 0 on and has fewer rows than
-/// it, the parent's list goes over to the sibling, and the rows of the sibling move into it: then it costs these, and the rows
-/// of the parent that lie outside one of the two windows, in place of all rows of the parent.
+/// It takes no memory. It costs the rows that the node's pages reach, in its list and in those of the nodes above the parent, at
+/// each of the latter a search for another VMO that sees it (`cut_row`), and the rows of the parent, at each of those that move
+/// into a hidden sibling a search on each side of this. Where the list goes over, it costs in place of all rows of the parent
+/// those of the sibling, those under own rows of the node, and those that lie outside one of the two windows. Which of the two it
+/// is costs the rows of the smaller list.
 ///
 /// The tree is exact over the frames that are taken, before and after, and each other VMO shows what it showed.
 pub fn close(arena: &mut CowArena, lists: &mut PageLists, frames: &mut FramePool, leaf: NodeId)
@@ -35,12 +37,13 @@ pub fn close(arena: &mut CowArena, lists: &mut PageLists, frames: &mut FramePool
         arena.remove_root(leaf);
         return;
     };
-    let bare = is_empty(lists, arena.node(leaf).list);
-    leave_out_above(arena, lists, frames, leaf, hidden);
-    if bare && goes_over(arena, lists, hidden, sibling) {
+    if goes_over(arena, lists, hidden, sibling) {
+        uncover(arena, lists, frames, leaf, hidden, sibling);
+        leave_out_above(arena, lists, frames, leaf, hidden);
         hand_over(arena, lists, frames, leaf, hidden, sibling);
         arena.splice_over(leaf);
     } else {
+        leave_out_above(arena, lists, frames, leaf, hidden);
         lift_rows(arena, lists, frames, leaf, hidden, sibling, 0, None);
         arena.splice(leaf);
     }

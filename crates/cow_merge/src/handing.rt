@@ -1,6 +1,6 @@
 //! Handing the list of a hidden node over to a visible child, before the two are merged.
 
-ghost use Rattle.std.specs.Prelude.{◌≡◌, ◌+◌, ◌≤◌, ℕ, true, None, Some, IsSome};
+ghost use Rattle.std.specs.Prelude.{◌≡◌, ◌+◌, ◌≤◌, ℕ, true, Some, IsSome};
 ghost use Rattle.balanced_tree.specs.Rows.{Rows};
 ghost use Rattle.page_list.specs.declared.row.Row.{Row};
 ghost use Rattle.page_list.specs.Lists.{slots_of};
@@ -30,13 +30,6 @@ pub(crate) fn goes_over(arena: &CowArena, lists: &PageLists, hidden: NodeId, chi
         return false;
     }
     node.seen > 0 && has_fewer(lists, node.list, arena.node(hidden).list)
-}
-
-/// Whether a list has no rows.
-pub(crate) fn is_empty(lists: &PageLists, list: ListId) -> bool
-    ensures { result ≡ true → (p : ℕ) → slots_of lists.now list.0 p ≡ None }
-{
-    lists.next(list, 0).is_none()
 }
 
 /// Whether a list has fewer rows than another. It goes through both side by side, so it costs the rows of the smaller.

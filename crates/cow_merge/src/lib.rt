@@ -12,6 +12,7 @@ mod handing;
 mod lifting;
 mod ranges;
 mod shrinking;
+mod uncovering;
 
 pub use closing::close;
 pub use shrinking::shrink;

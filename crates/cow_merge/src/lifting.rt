@@ -91,7 +91,7 @@ fn is_past(page: PageNo, to: Option<PageNo>) -> bool
 
 /// Moves a row that was taken out of the list of a hidden node into its child's list, if it is seen through this child. Else
 /// the frame of the row is given back, if it has one.
-fn settle(
+pub(crate) fn settle(
     arena: &CowArena,
     lists: &mut PageLists,
     frames: &mut FramePool,

@@ -100,6 +100,36 @@ pub exact-in_use_alike : (t : Tree) (out : ℕ → ℕ → Bool) (in_use in_use_
     IsExact t out in_use → IsExact t out in_use_now
 exact-in_use_alike t out in_use in_use_now same exact = subst (IsExact t out) (λ i tag. same tag i) exact
 
+-- No frame row is seen by this page, so that it may be left out of sight, and be in sight again.
+module _ (t : Tree) (out : ℕ → ℕ → Bool) (in_use : ℕ → Bool) (v p : ℕ)
+    (other : (w q : ℕ) (side : Side) (k r : ℕ) (node : Node) (tag : Tag) (left right : Bool) → t.nodes k ≡ Some node →
+    t.slots node.list.0 r ≡ Some (slot.Frame tag left right) → Sees t w q (Some side) k r → (w ≡ v) × (q ≡ p) → ⊥) where
+  exact-out_by : IsExact t out in_use → IsExact t (leaving_out out v p) in_use
+  exact-out_by exact = exact-seen_alike t out (leaving_out out v p) in_use exact
+      (λ k r node tag left right at hidden row side. (
+        seen-carried t t out (leaving_out out v p) side k r refl
+            (λ w q sees in_sight. (
+              refl,
+              left_out-other out v p w q
+                  (other w q side k r node tag left right at row sees) ∙ in_sight,
+            )),
+        seen-carried t t (leaving_out out v p) out side k r refl
+            (λ w q sees in_sight. (refl, (left_out-in_sight out v p w q in_sight).1)),
+      ))
+
+  exact-in_by : IsExact t (leaving_out out v p) in_use → IsExact t out in_use
+  exact-in_by exact = exact-seen_alike t (leaving_out out v p) out in_use exact
+      (λ k r node tag left right at hidden row side. (
+        seen-carried t t (leaving_out out v p) out side k r refl
+            (λ w q sees in_sight. (refl, (left_out-in_sight out v p w q in_sight).1)),
+        seen-carried t t out (leaving_out out v p) side k r refl
+            (λ w q sees in_sight. (
+              refl,
+              left_out-other out v p w q
+                  (other w q side k r node tag left right at row sees) ∙ in_sight,
+            )),
+      ))
+
 module _ (t : Tree) (out : ℕ → ℕ → Bool) (in_use : ℕ → Bool) (v p : ℕ) (nothing : ShowsNothing t v p) where
   -- whoever sees a frame row does it by another page
   sees-other : IsForest t.nodes t.lists → (w q : ℕ) (side : Option Side) (k r : ℕ) (node : Node) (tag : Tag) (left right : Bool) →
@@ -114,30 +144,25 @@ module _ (t : Tree) (out : ℕ → ℕ → Bool) (in_use : ℕ → Bool) (v p : 
       absurd (cc)
 
   pub exact-out_of_sight : IsExact t out in_use → IsExact t (leaving_out out v p) in_use
-  exact-out_of_sight exact = exact-seen_alike t out (leaving_out out v p) in_use exact
-      (λ k r node tag left right at hidden row side. (
-        seen-carried t t out (leaving_out out v p) side k r refl
-            (λ w q sees in_sight. (
-              refl,
-              left_out-other out v p w q
-                  (sees-other exact.forest w q (Some side) k r node tag left right at row sees) ∙ in_sight,
-            )),
-        seen-carried t t (leaving_out out v p) out side k r refl
-            (λ w q sees in_sight. (refl, (left_out-in_sight out v p w q in_sight).1)),
-      ))
+  exact-out_of_sight exact = exact-out_by t out in_use v p (λ w q side. sees-other exact.forest w q (Some side)) exact
 
   pub exact-in_sight : IsExact t (leaving_out out v p) in_use → IsExact t out in_use
-  exact-in_sight exact = exact-seen_alike t (leaving_out out v p) out in_use exact
-      (λ k r node tag left right at hidden row side. (
-        seen-carried t t (leaving_out out v p) out side k r refl
-            (λ w q sees in_sight. (refl, (left_out-in_sight out v p w q in_sight).1)),
-        seen-carried t t out (leaving_out out v p) side k r refl
-            (λ w q sees in_sight. (
-              refl,
-              left_out-other out v p w q
-                  (sees-other exact.forest w q (Some side) k r node tag left right at row sees) ∙ in_sight,
-            )),
-      ))
+  exact-in_sight exact = exact-in_by t out in_use v p (λ w q side. sees-other exact.forest w q (Some side)) exact
+
+-- The page shows its own row.
+module _ (t : Tree) (out : ℕ → ℕ → Bool) (in_use : ℕ → Bool) (v p : ℕ) (own : Node) (own_row : Slot) (own_at : t.nodes v ≡ Some own)
+    (has : t.slots own.list.0 p ≡ Some own_row) where
+  sees-own : IsForest t.nodes t.lists → (w q : ℕ) (side : Side) (k r : ℕ) (node : Node) (tag : Tag) (left right : Bool) → t.nodes k ≡ Some node →
+      t.slots node.list.0 r ≡ Some (slot.Frame tag left right) → Sees t w q (Some side) k r → (w ≡ v) × (q ≡ p) → ⊥
+  sees-own forest w q side k r node tag left right at row sees both =
+      let here = ap (λ i. walk t i q) both.0 ∙ (ap (walk t v) both.1 ∙ walk-own t forest v p own own_row own_at has) in
+      absurd (let none = ap (λ (it : Found). it.side) (some_same (sym sees.found ∙ here)) in cc)
+
+  pub exact-own_out : IsExact t out in_use → IsExact t (leaving_out out v p) in_use
+  exact-own_out exact = exact-out_by t out in_use v p (sees-own exact.forest) exact
+
+  pub exact-own_in : IsExact t (leaving_out out v p) in_use → IsExact t out in_use
+  exact-own_in exact = exact-in_by t out in_use v p (sees-own exact.forest) exact
 
 -- ---- own rows
 

@@ -35,7 +35,7 @@ returns-in_default-2-clause-disowned c =
 pub returns-clause-disowned : goal.returns-clause-disowned
 returns-clause-disowned c =
     disowned-led (nodes_of c.args.arena.now) _ c.requires.forest _ _ _ c.args.leaf.0 c.in-Some-Some.parent.0 c.node-node.result c.node.result
-    c.in-Some-Some.sibling c.node-node.ensures c.leave.ensures c.in-Some-Some.is-0 c.node.ensures c.redirect.ensures
+    _ c.node-node.ensures c.leave.ensures c.in-Some-Some.is-0 c.node.ensures c.redirect.ensures
 
 pub returns-clause-family : goal.returns-clause-family
 returns-clause-family c =

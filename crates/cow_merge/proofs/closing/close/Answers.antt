@@ -8,6 +8,9 @@ use Rattle.frame_pool.specs.Pool.{is_taken}
 use Rattle.page_list.specs.Lists.{slots_of}
 use Rattle.cow_merge.proofs.RangeLaws.{visible-of}
 use Rattle.cow_merge.proofs.CloseLaws.{closed-root, closed-spliced, closed-over, root-of, root-ready, child-ready, family-of}
+use Rattle.cow_arena.specs.Nodes.{nodes_of}
+use Rattle.cow_merge.specs.Ranges.{IsHeldBy}
+use Rattle.cow_merge.proofs.UncoverLaws.{closed-then}
 use Rattle.cow_merge.proofs.SeenLaws.{seen-start, seen-kept}
 use Rattle.cow_merge.proofs.LiftedLaws.{lifting-start, lifting-again, lifting-end}
 use Rattle.cow_merge.proofs.closing.close.Goals as goal
@@ -42,19 +45,19 @@ leave_out_above-requires-clause-leaf c =
 pub lift_rows-requires : goal.lift_rows-requires
 lift_rows-requires c =
     let visible = visible-of c.args.arena.now c.args.leaf.0 c.node.result c.requires.leaf c.node.ensures in
-    lifting-again c.args.arena.now c.args.lists.now c.leave_out_above.new.lists c.args.frames.now c.leave_out_above.new.frames c.args.leaf.0
+    lifting-again c.args.arena.now c.args.lists.now c.leave_out_above-else-goes_over.new.lists c.args.frames.now c.leave_out_above-else-goes_over.new.frames c.args.leaf.0
     c.in-Some-Some.hidden.0 c.in-Some-Some.sibling.0
-    (lifting-start c.args.arena.now c.args.lists.now c.leave_out_above.new.lists c.args.frames.now c.leave_out_above.new.frames c.args.leaf.0
-    c.in-Some-Some.sibling.0 c.in-Some-Some.hidden c.leave_out_above.ensures.sparing
+    (lifting-start c.args.arena.now c.args.lists.now c.leave_out_above-else-goes_over.new.lists c.args.frames.now c.leave_out_above-else-goes_over.new.frames c.args.leaf.0
+    c.in-Some-Some.sibling.0 c.in-Some-Some.hidden c.leave_out_above-else-goes_over.ensures.sparing
     (family-of c.args.arena.now c.requires.exact.forest c.args.leaf.0 c.node.result visible c.in-Some-Some.hidden c.in-Some-Some.sibling
     c.in-Some-Some.is-0 c.in-Some-Some.ensures.sibling))
 
-pub returns-else-bare : goal.returns-else-bare
-returns-else-bare c =
+pub returns-else-goes_over : goal.returns-else-goes_over
+returns-else-goes_over c =
     let visible = visible-of c.args.arena.now c.args.leaf.0 c.node.result c.requires.leaf c.node.ensures in
     let was = c.lift_rows.ensures.lifting c.args.lists.now c.args.frames.now
-    (lifting-start c.args.arena.now c.args.lists.now c.leave_out_above.new.lists c.args.frames.now c.leave_out_above.new.frames c.args.leaf.0
-    c.in-Some-Some.sibling.0 c.in-Some-Some.hidden c.leave_out_above.ensures.sparing
+    (lifting-start c.args.arena.now c.args.lists.now c.leave_out_above-else-goes_over.new.lists c.args.frames.now c.leave_out_above-else-goes_over.new.frames c.args.leaf.0
+    c.in-Some-Some.sibling.0 c.in-Some-Some.hidden c.leave_out_above-else-goes_over.ensures.sparing
     (family-of c.args.arena.now c.requires.exact.forest c.args.leaf.0 c.node.result visible c.in-Some-Some.hidden c.in-Some-Some.sibling
     c.in-Some-Some.is-0 c.in-Some-Some.ensures.sibling)) in
     let of = was.of in
@@ -75,12 +78,21 @@ goes_over-requires-clause-child c =
     c.in-Some-Some.is-0 c.in-Some-Some.ensures.sibling in
     ap is_some of.family.sibling_at
 
+pub uncover-requires-clause-family : goal.uncover-requires-clause-family
+uncover-requires-clause-family c =
+    family-of c.args.arena.now c.requires.exact.forest c.args.leaf.0 c.node.result
+    (visible-of c.args.arena.now c.args.leaf.0 c.node.result c.requires.leaf c.node.ensures) c.in-Some-Some.hidden c.in-Some-Some.sibling
+    c.in-Some-Some.is-0 c.in-Some-Some.ensures.sibling
+
+pub leave_out_above-requires-clause-exact : goal.leave_out_above-requires-clause-exact
+leave_out_above-requires-clause-exact c = (c.uncover.ensures c.node.result c.node.ensures).exact
+
 pub hand_over-requires-clause-lifting : goal.hand_over-requires-clause-lifting
 hand_over-requires-clause-lifting c =
     let visible = visible-of c.args.arena.now c.args.leaf.0 c.node.result c.requires.leaf c.node.ensures in
-    lifting-again c.args.arena.now c.args.lists.now c.leave_out_above.new.lists c.args.frames.now c.leave_out_above.new.frames c.args.leaf.0
+    lifting-again c.args.arena.now c.uncover.new.lists c.leave_out_above.new.lists c.uncover.new.frames c.leave_out_above.new.frames c.args.leaf.0
     c.in-Some-Some.hidden.0 c.in-Some-Some.sibling.0
-    (lifting-start c.args.arena.now c.args.lists.now c.leave_out_above.new.lists c.args.frames.now c.leave_out_above.new.frames c.args.leaf.0
+    (lifting-start c.args.arena.now c.uncover.new.lists c.leave_out_above.new.lists c.uncover.new.frames c.leave_out_above.new.frames c.args.leaf.0
     c.in-Some-Some.sibling.0 c.in-Some-Some.hidden c.leave_out_above.ensures.sparing
     (family-of c.args.arena.now c.requires.exact.forest c.args.leaf.0 c.node.result visible c.in-Some-Some.hidden c.in-Some-Some.sibling
     c.in-Some-Some.is-0 c.in-Some-Some.ensures.sibling))
@@ -88,24 +100,29 @@ hand_over-requires-clause-lifting c =
 pub hand_over-requires-clause-seen : goal.hand_over-requires-clause-seen
 hand_over-requires-clause-seen c = λ node parent at parent_at.
     let visible = visible-of c.args.arena.now c.args.leaf.0 node c.requires.leaf at in
-    let one : c.node-2.result ≡ node = some_same (sym c.node-2.ensures ∙ at) in
     let up : node.parent ≡ Some c.in-Some-Some.hidden =
     ap (λ (n : Node). n.parent) (some_same (sym at ∙ c.node.ensures)) ∙ c.in-Some-Some.is-0 in
-    seen-kept (slots_of c.args.lists.now) (slots_of c.leave_out_above.new.lists) parent c.args.leaf.0 node.first (node.first + node.seen)
+    let freed = c.uncover.ensures node at in
+    let one : freed.of.node ≡ node = some_same (sym freed.of.family.at ∙ at) in
+    seen-kept (slots_of c.uncover.new.lists) (slots_of c.leave_out_above.new.lists) parent c.args.leaf.0 node.first (node.first + node.seen)
     (c.leave_out_above.ensures.kept parent parent_at)
-    (seen-start (tree_of c.args.arena.now c.args.lists.now) (is_taken c.args.frames.now) c.requires.exact c.args.leaf.0 c.in-Some-Some.hidden.0 node parent visible
+    (seen-start (tree_of c.args.arena.now c.uncover.new.lists) (is_taken c.uncover.new.frames) freed.exact c.args.leaf.0 c.in-Some-Some.hidden.0 node parent visible
     up parent_at
-    (λ p _. subst (λ (n : Node). slots_of c.args.lists.now n.list.0 p ≡ None) one (c.is_empty-bare.ensures c.if-bare.true p)))
+    (λ p held. subst (λ (n : Node). slots_of c.uncover.new.lists n.list.0 p ≡ None) one
+    (freed.free p held.inside
+    (subst (λ (n : Node). IsHeldBy (nodes_of c.args.arena.now) (slots_of c.uncover.new.lists) c.in-Some-Some.hidden.0 n p) (sym one) held))))
 
 pub returns-then-goes_over : goal.returns-then-goes_over
 returns-then-goes_over c =
     let visible = visible-of c.args.arena.now c.args.leaf.0 c.node.result c.requires.leaf c.node.ensures in
-    let over = c.hand_over.ensures c.args.lists.now c.args.frames.now
-    (lifting-start c.args.arena.now c.args.lists.now c.leave_out_above.new.lists c.args.frames.now c.leave_out_above.new.frames c.args.leaf.0
+    let over = c.hand_over.ensures c.uncover.new.lists c.uncover.new.frames
+    (lifting-start c.args.arena.now c.uncover.new.lists c.leave_out_above.new.lists c.uncover.new.frames c.leave_out_above.new.frames c.args.leaf.0
     c.in-Some-Some.sibling.0 c.in-Some-Some.hidden c.leave_out_above.ensures.sparing
     (family-of c.args.arena.now c.requires.exact.forest c.args.leaf.0 c.node.result visible c.in-Some-Some.hidden c.in-Some-Some.sibling
     c.in-Some-Some.is-0 c.in-Some-Some.ensures.sibling)) in
-    closed-over c.args.arena.now c.splice_over.new.self c.args.lists.now c.hand_over.new.lists c.args.frames.now c.hand_over.new.frames c.args.leaf.0
+    closed-then c.args.arena.now c.splice_over.new.self c.args.lists.now c.uncover.new.lists c.hand_over.new.lists c.args.frames.now c.uncover.new.frames
+    c.hand_over.new.frames c.args.leaf.0 c.in-Some-Some.hidden.0 c.in-Some-Some.sibling.0 c.node.result.seen (c.uncover.ensures c.node.result c.node.ensures)
+    (closed-over c.args.arena.now c.splice_over.new.self c.uncover.new.lists c.hand_over.new.lists c.uncover.new.frames c.hand_over.new.frames c.args.leaf.0
     c.in-Some-Some.hidden.0 c.in-Some-Some.sibling.0 over
     (c.splice_over.ensures.nodes c.in-Some-Some.hidden.0 c.in-Some-Some.sibling.0 over.of.node over.of.parent over.of.sibling over.of.family)
-    c.splice_over.ensures.lists c.splice_over.ensures.visible
+    c.splice_over.ensures.lists c.splice_over.ensures.visible)

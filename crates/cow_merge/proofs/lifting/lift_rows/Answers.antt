@@ -9,7 +9,7 @@ use Rattle.cow_arena.specs.declared.node.Node.{Node}
 use Rattle.cow_arena.specs.Nodes.{side_of}
 use Rattle.cow_merge.specs.Ranges.{bit_on}
 use Rattle.cow_merge.specs.Lifting.{IsLifting, SeesRow}
-use Rattle.cow_merge.proofs.LiftedLaws.{lifting-found, lifting-settled, settled-list, row-taken, row-sees-mid, passed-more, left-was, ahead-less, gone-here}
+use Rattle.cow_merge.proofs.LiftedLaws.{lifting-found, lifting-settled, lifting-list, row-taken, row-sees-mid, passed-more, left-was, ahead-less, gone-here}
 use Rattle.cow_merge.proofs.lifting.lift_rows.Goals as goal
 
 pub loop-page-init : goal.loop-page-init
@@ -40,7 +40,7 @@ loop-page-smaller c =
     let least = c.in-Some.ensures.page.least c.in-Some.page refl in
     ahead-less (slots_of c.loop-page.lists c.node.result.list.0) (slots_of c.settle.new.lists c.node.result.list.0) c.loop-page.at c.in-Some.page
     c.in-Some.slot least.0 c.in-Some.ensures.fits c.in-Some.ensures.slot
-    (settled-list c.args.arena.now c.args.lists.now c.loop-page.lists c.take_below.new.lists c.settle.new.lists c.args.frames.now c.loop-page.frames c.settle.new.frames
+    (lifting-list c.args.arena.now c.args.lists.now c.loop-page.lists c.take_below.new.lists c.settle.new.lists c.args.frames.now c.loop-page.frames c.settle.new.frames
     c.args.leaf.0 c.args.hidden.0 c.args.child.0 c.in-Some.page c.in-Some.slot was c.in-Some.ensures.slot c.in-Some.ensures.slots
     (c.settle.ensures c.node.result was.of.sibling c.node.ensures was.of.family.sibling_at) c.in-Some.page ∙ gone-here _ c.in-Some.page)
 
@@ -57,11 +57,11 @@ loop-page-preserved c =
           (c.settle.ensures c.node.result now.of.sibling c.node.ensures now.of.family.sibling_at) c.in-Some.ensures.count c.in-Some.ensures.spare;
       below = passed-more (slots_of c.loop-page.lists c.node.result.list.0) (slots_of c.settle.new.lists c.node.result.list.0) c.args.from c.loop-page.at c.in-Some.page
           c.loop-page.invariant.below c.in-Some.ensures.page
-          (settled-list c.args.arena.now c.args.lists.now c.loop-page.lists c.take_below.new.lists c.settle.new.lists c.args.frames.now c.loop-page.frames c.settle.new.frames
+          (lifting-list c.args.arena.now c.args.lists.now c.loop-page.lists c.take_below.new.lists c.settle.new.lists c.args.frames.now c.loop-page.frames c.settle.new.frames
           c.args.leaf.0 c.args.hidden.0 c.args.child.0 c.in-Some.page c.in-Some.slot was c.in-Some.ensures.slot c.in-Some.ensures.slots
           (c.settle.ensures c.node.result was.of.sibling c.node.ensures was.of.family.sibling_at));
       others = λ p row at. c.loop-page.invariant.others p row (left-was (slots_of c.loop-page.lists c.node.result.list.0) (slots_of c.settle.new.lists c.node.result.list.0) c.in-Some.page
-          (settled-list c.args.arena.now c.args.lists.now c.loop-page.lists c.take_below.new.lists c.settle.new.lists c.args.frames.now c.loop-page.frames c.settle.new.frames
+          (lifting-list c.args.arena.now c.args.lists.now c.loop-page.lists c.take_below.new.lists c.settle.new.lists c.args.frames.now c.loop-page.frames c.settle.new.frames
           c.args.leaf.0 c.args.hidden.0 c.args.child.0 c.in-Some.page c.in-Some.slot was c.in-Some.ensures.slot c.in-Some.ensures.slots
           (c.settle.ensures c.node.result was.of.sibling c.node.ensures was.of.family.sibling_at)) p row at);
     }

@@ -1,0 +1,11 @@
+use Rattle.std.proofs.Common.{◌-◌, ◌^◌}
+use Rattle.cow_merge.specs.Uncovering.{IsUncovering}
+use Rattle.cow_merge.proofs.uncovering.uncover.Given as goal
+
+abbrev pub invariant-loop-page : goal.invariant-loop-page
+invariant-loop-page l = record {
+  uncovering : IsUncovering l.arena l.fn.lists l.lists l.fn.frames l.frames l.fn.leaf.0 l.hidden.0 l.child.0 l.from;
+}
+
+abbrev pub decreases-loop-page : goal.decreases-loop-page
+decreases-loop-page l = 2 ^ 64 - l.from
