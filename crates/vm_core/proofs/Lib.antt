@@ -12,3 +12,4 @@ pub mod DestroyedLaws
 pub mod SpacesLeftLaws
 pub mod EffectLaws
 pub mod ResetLaws
+pub mod RefusedLaws

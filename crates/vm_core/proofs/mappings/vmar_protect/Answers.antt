@@ -1,4 +1,4 @@
-use Rattle.std.proofs.Common.{◌/◌, arith}
+use Rattle.std.proofs.Common.{◌/◌, refl, arith}
 use Rattle.vm_base.specs.Pages.{rounded}
 use Rattle.vm_base.specs.declared.limits.TheConstants.{PAGE}
 use Rattle.vm_model.specs.declared.command.Command.TheVariants.{VmarProtect}
@@ -11,6 +11,7 @@ use Rattle.fault.specs.Table.{places_of}
 use Rattle.vm_core.specs.Resets.{without_pages}
 use Rattle.vm_core.proofs.BoundLaws.{done_bounds}
 use Rattle.vm_core.proofs.LeavesLaws.{left_region}
+use Rattle.vm_core.proofs.RefusedLaws.{dead, refused_steps, left_spaces}
 use Rattle.vm_core.proofs.mappings.vmar_protect.Goals as goal
 
 pub forget_pages-requires : goal.forget_pages-requires
@@ -19,10 +20,25 @@ forget_pages-requires c =
     let bound = done_bounds s (VmarProtect c.args.region c.args.addr c.args.len c.args.perm) Done _ c.requires.1 (c.in-Ok.ensures.step c.requires.0) (λ refusal e. cc) in
     omega (arith, bound, c.page_of.ensures, c.page_count.ensures)
 
-pub returns-in-Ok-clause-left : goal.returns-in-Ok-clause-left
-returns-in-Ok-clause-left c = record {
-  left = λ s d.
-      left_region (with_spaces s (spaces_of (regions_of c.args.regions.now) (table_of c.args.maps.now))) c.args.region.0
-      (λ (above : Region). without_pages above.root (c.args.addr / PAGE) (rounded c.args.len / PAGE) (places_of c.args.translations.now)) c.in-Some.ensures.region
-      (rw (c.page_of.ensures, c.page_count.ensures) at c.forget_pages.ensures);
+pub returns-in_default : goal.returns-in_default
+returns-in_default c = record { step = refused_steps (λ s. rw (← c.in_default.ensures.region) refl); left = left_spaces; mapped = λ v. refl }
+
+pub returns-then-not-above : goal.returns-then-not-above
+returns-then-not-above c =
+    let not_live = dead (regions_of c.args.regions.now) c.args.region.0 c.in-Some.ensures.region c.if-not-above.true in
+    record { step = refused_steps (λ s. rw (← c.in-Some.ensures.region) (rw not_live refl)); left = left_spaces; mapped = λ v. refl }
+
+pub returns-in-Err : goal.returns-in-Err
+returns-in-Err c = record { step = record { step = λ s good. c.in-Err.ensures.step s }; left = left_spaces; mapped = c.in-Err.ensures.mapped }
+
+pub returns-in-Ok : goal.returns-in-Ok
+returns-in-Ok c = record {
+  step = record { step = λ s good. c.in-Ok.ensures.step s };
+  left = record {
+    left = λ s d.
+        left_region (with_spaces s (spaces_of (regions_of c.args.regions.now) (table_of c.args.maps.now))) c.args.region.0
+        (λ (above : Region). without_pages above.root (c.args.addr / PAGE) (rounded c.args.len / PAGE) (places_of c.args.translations.now)) c.in-Some.ensures.region
+        (rw (c.page_of.ensures, c.page_count.ensures) at c.forget_pages.ensures);
+  };
+  mapped = c.in-Ok.ensures.mapped;
 }

@@ -1,4 +1,4 @@
-use Rattle.std.proofs.Common.{◌/◌, arith}
+use Rattle.std.proofs.Common.{◌/◌, refl, arith}
 use Rattle.vm_base.specs.Pages.{rounded}
 use Rattle.vm_base.specs.declared.limits.TheConstants.{PAGE}
 use Rattle.vm_model.specs.declared.command.Command.TheVariants.{VmarUnmap}
@@ -11,6 +11,7 @@ use Rattle.fault.specs.Table.{places_of}
 use Rattle.vm_core.specs.Resets.{without_pages}
 use Rattle.vm_core.proofs.BoundLaws.{done_bounds}
 use Rattle.vm_core.proofs.LeavesLaws.{left_region}
+use Rattle.vm_core.proofs.RefusedLaws.{dead, refused_spaces, left_spaces}
 use Rattle.vm_core.proofs.mappings.vmar_unmap.Goals as goal
 
 pub forget_pages-requires : goal.forget_pages-requires
@@ -19,10 +20,24 @@ forget_pages-requires g c =
     let bound = done_bounds s (VmarUnmap c.args.region c.args.addr c.args.len) Done _ c.requires.well.good (c.in-Ok.ensures.step c.requires.rest c.requires.well) (λ refusal e. cc) in
     omega (arith, bound, c.page_of.ensures, c.page_count.ensures)
 
-pub returns-in-Ok-clause-left : goal.returns-in-Ok-clause-left
-returns-in-Ok-clause-left g c = record {
-  left = λ s d.
-      left_region (with_spaces s (spaces_of (regions_of c.args.regions.now) (table_of c.args.maps.now))) c.args.region.0
-      (λ (above : Region). without_pages above.root (c.args.addr / PAGE) (rounded c.args.len / PAGE) (places_of c.args.translations.now)) c.in-Some.ensures.region
-      (rw (c.page_of.ensures, c.page_count.ensures) at c.forget_pages.ensures);
+pub returns-in_default : goal.returns-in_default
+returns-in_default g c = record { step = refused_spaces (λ s. rw (← c.in_default.ensures.region) refl); left = left_spaces }
+
+pub returns-then-not-above : goal.returns-then-not-above
+returns-then-not-above g c =
+    let not_live = dead (regions_of c.args.regions.now) c.args.region.0 c.in-Some.ensures.region c.if-not-above.true in
+    record { step = refused_spaces (λ s. rw (← c.in-Some.ensures.region) (rw not_live refl)); left = left_spaces }
+
+pub returns-in-Err : goal.returns-in-Err
+returns-in-Err g c = record { step = c.in-Err.ensures; left = left_spaces }
+
+pub returns-in-Ok : goal.returns-in-Ok
+returns-in-Ok g c = record {
+  step = c.in-Ok.ensures;
+  left = record {
+    left = λ s d.
+        left_region (with_spaces s (spaces_of (regions_of c.args.regions.now) (table_of c.args.maps.now))) c.args.region.0
+        (λ (above : Region). without_pages above.root (c.args.addr / PAGE) (rounded c.args.len / PAGE) (places_of c.args.translations.now)) c.in-Some.ensures.region
+        (rw (c.page_of.ensures, c.page_count.ensures) at c.forget_pages.ensures);
+  };
 }

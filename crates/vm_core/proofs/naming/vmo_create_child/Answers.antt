@@ -9,6 +9,7 @@ use Rattle.fault.specs.Table.{places_of}
 use Rattle.vm_core.specs.Resets.{shared_by, IsShared}
 use Rattle.vm_core.proofs.BoundLaws.{bounds_of}
 use Rattle.vm_core.proofs.LeavesLaws.{asked_named, left_named}
+use Rattle.vm_core.proofs.RefusedLaws.{left_vmos}
 use Rattle.vm_core.proofs.naming.vmo_create_child.Goals as goal
 
 pub child_made-requires : goal.child_made-requires
@@ -33,3 +34,12 @@ returns-in-Ok-clause-left g c = record {
 pub returns-in-Err-clause-step : goal.returns-in-Err-clause-step
 returns-in-Err-clause-step g c =
     record { step = λ s good. c.in-Err.ensures.step s c.args.parent (sym c.in-Some.ensures) }
+
+pub returns-in_default-clause-left : goal.returns-in_default-clause-left
+returns-in_default-clause-left g c = left_vmos
+
+pub returns-then-is_some-clause-left : goal.returns-then-is_some-clause-left
+returns-then-is_some-clause-left g c = left_vmos
+
+pub returns-in-Err-clause-left : goal.returns-in-Err-clause-left
+returns-in-Err-clause-left g c = left_vmos

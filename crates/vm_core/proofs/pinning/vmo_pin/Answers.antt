@@ -1,9 +1,10 @@
-use Rattle.std.proofs.Common.{sym}
+use Rattle.std.proofs.Common.{refl, sym}
 use Rattle.vm_model.specs.declared.command.Command.TheVariants.{VmoPin}
 use Rattle.vm_model.specs.declared.reply.Reply.TheVariants.{Done}
 use Rattle.vmo_ops.specs.Targets.{with_tables}
 use Rattle.fault.specs.Table.{places_of}
 use Rattle.vm_core.proofs.LeavesLaws.{asked_range, left_changed}
+use Rattle.vm_core.proofs.RefusedLaws.{refused_tables, left_vmos}
 use Rattle.vm_core.proofs.pinning.vmo_pin.Goals as goal
 
 pub pin_into-requires-clause-parts : goal.pin_into-requires-clause-parts
@@ -33,3 +34,21 @@ returns-in-Err-clause-step g c =
 
 pub returns-in-Err-clause-counted : goal.returns-in-Err-clause-counted
 returns-in-Err-clause-counted g c = record { counts = c.in-Err.ensures.counted }
+
+pub returns-in_default-clause-step : goal.returns-in_default-clause-step
+returns-in_default-clause-step g c = refused_tables (λ s. rw (← c.in_default.ensures) refl)
+
+pub returns-in_default-clause-counted : goal.returns-in_default-clause-counted
+returns-in_default-clause-counted g c = record { counts = λ s counted. counted }
+
+pub returns-in_default-clause-left : goal.returns-in_default-clause-left
+returns-in_default-clause-left g c = left_vmos
+
+pub returns-then-is_some-clause-counted : goal.returns-then-is_some-clause-counted
+returns-then-is_some-clause-counted g c = record { counts = λ s counted. counted }
+
+pub returns-then-is_some-clause-left : goal.returns-then-is_some-clause-left
+returns-then-is_some-clause-left g c = left_vmos
+
+pub returns-in-Err-clause-left : goal.returns-in-Err-clause-left
+returns-in-Err-clause-left g c = left_vmos
