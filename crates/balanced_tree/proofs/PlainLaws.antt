@@ -26,9 +26,6 @@ to_fourth a e h = omega arith
 pub same_twice : {A : Type 0} {a b c : A} → b ≡ a → c ≡ b → c ≡ a
 same_twice e g = g ∙ e
 
-pub same_thrice : {A : Type 0} {a b c d : A} → b ≡ a → c ≡ b → d ≡ c → d ≡ a
-same_thrice e g h = h ∙ (g ∙ e)
-
 -- the steps of a rotation: two children and those of one, and two rows that are put; or those of a second one, and three
 pub single_steps : (a : ℕ) {b c d e g : ℕ} → b ≤ a + 1 → c ≤ b + 1 → d ≤ c + 2 → e ≡ d + 1 → g ≡ e + 1 → g ≤ a + 9
 single_steps a i j k l m = omega arith
