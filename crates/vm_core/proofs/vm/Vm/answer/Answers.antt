@@ -12,17 +12,10 @@ accessed : (g : given.Over) (c : goal.After-on_memory g)
     (g.P.PageStore.content c.on_memory.new.store) (record (parts_of c.self.inside) { translations = c.on_memory.new.translations })
 accessed g c = access_answered _ (parts_of c.self.inside) _ _ _ c.on_memory.new.translations (rw (← c.self.view_is) at c.requires.agrees) c.on_memory.ensures
 
-pub returns-in-Memory-clause-step : goal.returns-in-Memory-clause-step
-returns-in-Memory-clause-step g c = rw (← c.self.view_is) (accessed g c).step
-
-pub returns-in-Memory-clause-agrees : goal.returns-in-Memory-clause-agrees
-returns-in-Memory-clause-agrees g c = (accessed g c).agrees
-
-pub returns-in-Memory-clause-good : goal.returns-in-Memory-clause-good
-returns-in-Memory-clause-good g c = (accessed g c).keeps.good
-
-pub returns-in-Memory-clause-next : goal.returns-in-Memory-clause-next
-returns-in-Memory-clause-next g c = (accessed g c).keeps.next
+pub returns-in-Memory : goal.returns-in-Memory
+returns-in-Memory g c =
+    let answers = accessed g c in
+    record { step = rw (← c.self.view_is) answers.step; agrees = answers.agrees; good = answers.keeps.good; next = answers.keeps.next }
 
 pub returns : goal.returns
 returns g c =
