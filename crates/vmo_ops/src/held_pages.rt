@@ -7,8 +7,9 @@ use crate::owning::is_sole;
 use page_store::{Look, PageStore};
 use vm_base::{Koid, PageNo};
 
-/// So many pages in a row are looked at one by one, and more are gone over by those that are held. A look at a zero page is
-/// a walk to the root, which a search makes once for all of a gap, and a look at a held page asks whether it is sole.
+/// So many pages in a row are looked at one by one, and more are gone over by those that are held. Each look at a zero page
+/// is a walk to the root, where a search makes one such walk for all of a gap. A look at a held page asks beside whether it
+/// is sole, which a search does not. So more looks than these do not pay where that is not wanted.
 const FEW_PAGES: u64 = 2;
 
 /// The first page that is held, from page `from` of a VMO to below `end`. `None` exactly where none is.
@@ -41,9 +42,9 @@ pub(crate) struct HeldPage {
     pub sole: bool,
 }
 
-/// The first page that is held, as `next_held_below` finds it, and whether it is sole. In a row the page `from` is looked at
-/// before, so that held pages in a row cost a look each, and no search. `in_row` says that the held pages before stand in a
-/// row. The answer is the same without.
+/// The first page that is held, as `next_held_below` finds it, and whether it is sole, which takes a look at it. So where
+/// the held pages before stand in a row (`in_row`, on which the answer does not depend), page `from` is looked at before a
+/// search. Held pages in a row cost one look each then, and held pages that stand apart a search and a look each.
 pub(crate) fn next_with_sole<P: PageStore>(
     store: &P,
     v: Koid,
@@ -81,6 +82,7 @@ fn held_at<P: PageStore>(store: &P, v: Koid, page: PageNo) -> Option<HeldPage>
     ensures page { IfSome result (λ held. held.page ≡ page) }
     ensures held { IfSome result (λ held. IsSome ((P.content store.now).page v.0 page)) }
     ensures sole { IfSome result (λ held. held.sole ≡ sole (P.content store.now) v.0 page) }
+    ensures none { IfNone result ((P.content store.now).page v.0 page ≡ None) }
 {
     match store.look(v, page) {
         Look::Zero => None,
