@@ -1,6 +1,6 @@
 //! Whether a row is seen.
 
-ghost use Rattle.std.specs.Prelude.{◌≡◌, ◌↔◌, ℕ, true, Some, IsSome, IsSomeAnd};
+ghost use Rattle.std.specs.Prelude.{◌≡◌, ◌↔◌, ℕ, true, Some, IsSome};
 ghost use Rattle.cow_arena.specs.Nodes.{nodes_of};
 ghost use Rattle.cow_arena.specs.Walk.{Slots, tree_with};
 ghost use Rattle.cow_arena.specs.Forest.{IsForest};
@@ -36,18 +36,22 @@ pub fn side_seen(
     reached_from(arena, lists, None, side, node, page)
 }
 
-/// Whether the visible node `leaf` sees the row that a node has at a page, counted in that node: the walk from one of the
-/// leaf's pages below its count ends there.
+/// Whether `leaf` is visible and sees the row that a node has at a page, counted in that node: the walk from one of the
+/// leaf's pages below its count ends there. A hidden node sees none.
 pub fn sees(arena: &CowArena, lists: &PageLists, leaf: NodeId, node: NodeId, page: PageNo) -> bool
     requires forest { IsForest (nodes_of arena.now) arena.now.lists }
-    requires leaf { IsSomeAnd (nodes_of arena.now leaf.0) (λ at. IsSome at.koid) }
+    requires leaf { IsSome (nodes_of arena.now leaf.0) }
     requires node { IsSome (nodes_of arena.now node.0) }
     ensures { (result ≡ true) ↔ IsSeenBy (tree_of arena.now lists.now) leaf.0 node.0 page }
 {
+    let at = arena.node(leaf);
+    if at.koid.is_none() {
+        return false;
+    }
     let Some(own) = page_seen(arena, leaf, node, page) else {
         return false;
     };
-    if arena.node(leaf).count <= own {
+    if at.count <= own {
         return false;
     }
     let found = holder(arena, lists, leaf, own);

@@ -11,12 +11,12 @@ returns-in_default c = (
   λ s. absurd (let none = c.in_default.ensures (slots_of c.args.lists.now) s.p (comes-of-seen _ c.requires.forest _ _ _ s) in cc),
 )
 
-pub returns-then-node-own : goal.returns-then-node-own
-returns-then-node-own c = (
+pub returns-then-at-own : goal.returns-then-at-own
+returns-then-at-own c = (
   λ wrong. absurd (cc),
   λ s.
       let same : c.in-Some.own ≡ s.p = some_same (c.in-Some.ensures (slots_of c.args.lists.now) s.p (comes-of-seen _ c.requires.forest _ _ _ s)) in
-      let below = seen-below _ c.requires.forest _ _ _ s _ c.node.ensures in
+      let below = seen-below _ c.requires.forest _ _ _ s _ c.node-at.ensures in
       absurd (omega arith),
 )
 
@@ -24,7 +24,7 @@ pub returns : goal.returns
 returns c =
     let answer = c.is_row.ensures ∙ ap (λ found. is_row_of c.args.leaf.0 c.in-Some.own found c.args.node.0 c.args.page) c.holder-found.ensures in (
       λ holds. seen-of-answer _ c.requires.forest _ _ _ _
-          (record { node = c.node.result; visible = record { at = c.node.ensures; koid = rw c.node.ensures at c.requires.leaf }; below = c.if-node-own.false })
+          (record { node = c.node-at.result; visible = record { at = c.node-at.ensures; koid = c.if-is_none.ensures }; below = c.if-at-own.false })
           (sym answer ∙ holds),
       λ s.
           let same : c.in-Some.own ≡ s.p = some_same (c.in-Some.ensures (slots_of c.args.lists.now) s.p (comes-of-seen _ c.requires.forest _ _ _ s)) in
