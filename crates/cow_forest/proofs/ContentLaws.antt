@@ -243,6 +243,3 @@ module _ (f : Forest) (s : IsStore f) where
   page-at v p at less found =
       let it = page-node v p less in
       subst (λ k. HasPage f v k p) (link_same (sym it.1 ∙ found)) it.2
-
-  pub node-at : (v k : ℕ) (at : NodeId) → HasNode f v k → node_in f.nodes v ≡ Some at → at.0 ≡ k
-  node-at v k at h found = link_same (sym found ∙ node-of v k h)

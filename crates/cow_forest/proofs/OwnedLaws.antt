@@ -13,7 +13,9 @@ use Rattle.frame_pool.specs.declared.frame_pool.Backlink.{Backlink}
 use Rattle.frame_pool.specs.Pool.{Pool, taken_frames, is_taken, frame_bytes}
 use Rattle.frame_pool.proofs.PoolLaws.{takes_apart}
 use Rattle.page_list.specs.declared.row.Row.{Row}
+use Rattle.cow_arena.specs.Nodes.{link_to}
 use Rattle.cow_arena.specs.Walk.{frame_at}
+use Rattle.cow_arena.proofs.WalkLaws.{link_same}
 use Rattle.cow_arena.specs.declared.node.NodeId.{NodeId}
 use Rattle.cow_split.specs.Trees.{tree_of}
 use Rattle.cow_split.specs.Sight.{IsPage}
@@ -24,8 +26,8 @@ use Rattle.cow_fork.specs.Zeroing.{HasZeroed}
 use Rattle.cow_merge.specs.Ranges.{AreLinked}
 use Rattle.cow_forest.specs.Tables.{node_in}
 use Rattle.cow_forest.specs.Owning.{HasOwnRow, HasOwned}
-use Rattle.cow_forest.specs.Store.{Forest, tree, content_of, page_with, page_showing, HasNode, IsStore}
-use Rattle.cow_forest.proofs.ContentLaws.{HasPage, one-node, page-of, page-at, in_use-taken, used-taken, sole-last}
+use Rattle.cow_forest.specs.Store.{Forest, tree, content_of, page_with, page_showing, IsStore}
+use Rattle.cow_forest.proofs.ContentLaws.{HasPage, page-of, page-at, in_use-taken, used-taken, sole-last}
 use Rattle.cow_forest.proofs.StoreLaws.{with_rows, store-kept, IsChangedAt, content-held, content-same, content-zeroed}
 
 -- the bytes of a frame go by the frames that are taken
@@ -111,8 +113,8 @@ module _ (f : Forest) (s : IsStore f) (v p : ℕ) (less : p < pages_of (content_
       }
 
       -- the row is that of the VMO's node
-      pub owned-row : (j : ℕ) → 1 ≤ f.rows.spare → HasNode (with_rows f rows pool) v j → HasOwnRow f.arena rows j p tag
-      owned-row j room there = subst (λ n. HasOwnRow f.arena rows n p tag) (one-node f s v at.0 j vmo-page.node (record { node = there.node; is = there.is })) (o.own room)
+      pub owned-row : (j : ℕ) → 1 ≤ f.rows.spare → node_in f.nodes v ≡ link_to j → HasOwnRow f.arena rows j p tag
+      owned-row j room there = subst (λ n. HasOwnRow f.arena rows n p tag) (link_same (sym is ∙ there)) (o.own room)
 
     module _ (rows : Rows Row) (pool : Pool) (z : HasZeroed f.arena f.rows rows f.pool pool at.0 p) where
       -- the rows that are left stood where they stand

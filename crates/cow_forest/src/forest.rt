@@ -8,12 +8,13 @@ ghost use Rattle.vm_model.specs.Contents.Sharing.{snapshotted, without};
 ghost use Rattle.vm_model.specs.Contents.Zeroing.{zeroed, resized};
 ghost use Rattle.page_list.specs.Lists.{slots_of, row_count};
 ghost use Rattle.frame_pool.specs.Pool.{is_taken};
-ghost use Rattle.cow_arena.specs.Nodes.{nodes_of};
+ghost use Rattle.cow_arena.specs.Nodes.{nodes_of, link_to};
 ghost use Rattle.cow_arena.specs.Counts.{hidden_count};
 ghost use Rattle.cow_split.specs.Exact.{IsExact, all_in_sight};
 ghost use Rattle.cow_split.specs.Cost.{IsMostOfLookUp, depth};
 ghost use Rattle.page_store.specs.Pages.{look_at};
-ghost use Rattle.cow_forest.specs.Store.{Forest, tree, content_of, HasNode};
+ghost use Rattle.cow_forest.specs.Tables.{node_in};
+ghost use Rattle.cow_forest.specs.Store.{Forest, tree, content_of};
 ghost use Rattle.cow_forest.specs.Owning.{HasOwnRow};
 ghost use Rattle.cow_forest.specs.Counting.{frame_row_count};
 
@@ -101,7 +102,7 @@ impl CowForest {
     pub fn hidden(&self) -> u64
         ensures count { result ≡ hidden_count self.now.arena }
         ensures fewer { (result < vmos_of (content_of self.now)) ⊎ ((result ≡ 0) × (vmos_of (content_of self.now) ≡ 0)) }
-        ensures deep { (v k : ℕ) → HasNode self.now v k →
+        ensures deep { (v k : ℕ) → node_in self.now.nodes v ≡ link_to k →
             depth (nodes_of self.now.arena) self.now.arena.lists k ≤ vmos_of (content_of self.now) }
     {
         // The number of each node is below this.
@@ -114,7 +115,7 @@ impl CowForest {
     pub fn look_counted<L: Ledger>(&self, v: Koid, page: PageNo, steps: &mut Steps<L>) -> Look
         requires page { page < pages_of (content_of self.now) v.0 }
         ensures look { result ≡ look_at (content_of self.now) v.0 ((content_of self.now).page v.0 page) }
-        ensures cost { (most k : ℕ) → IsMostOfLookUp (row_count self.now.rows) most → HasNode self.now v.0 k →
+        ensures cost { (most k : ℕ) → IsMostOfLookUp (row_count self.now.rows) most → node_in self.now.nodes v.0 ≡ link_to k →
             steps.new ≤ steps.old + depth (nodes_of self.now.arena) self.now.arena.lists k * most }
     {
         look_at_counted(&self.arena, &self.lists, self.nodes.get(v.0), page, steps)
@@ -209,7 +210,7 @@ impl PageStore for CowForest {
             ⊎ ((1 ≤ self.old.rows.spare) × (used (content_of self.old) < (content_of self.old).frames)) }
         ensures owns { Owns (content_of self.old) (content_of self.new) v.0 page result.0 }
         ensures spare { self.old.rows.spare ≤ self.new.rows.spare + 1 }
-        ensures row { (k : ℕ) → 1 ≤ self.old.rows.spare → HasNode self.new v.0 k →
+        ensures row { (k : ℕ) → 1 ≤ self.old.rows.spare → node_in self.new.nodes v.0 ≡ link_to k →
             HasOwnRow self.new.arena self.new.rows k page result.0 }
     {
         let node = self.nodes.get(v.0);

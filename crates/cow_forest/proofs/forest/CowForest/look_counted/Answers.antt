@@ -1,8 +1,9 @@
-use Rattle.std.proofs.Common.{◌+◌, ◌*◌, ◌≤◌, subst}
+use Rattle.std.proofs.Common.{◌+◌, ◌*◌, ◌≤◌, sym, subst, ◌∙◌}
 use Rattle.cow_arena.specs.Nodes.{nodes_of}
+use Rattle.cow_arena.proofs.WalkLaws.{link_same}
 use Rattle.cow_split.specs.Cost.{depth}
 use Rattle.cow_forest.specs.Fields.{forest_of}
-use Rattle.cow_forest.proofs.ContentLaws.{page-found, page-at, node-at}
+use Rattle.cow_forest.proofs.ContentLaws.{page-found, page-at}
 use Rattle.cow_forest.proofs.FrameLaws.{look-of}
 use Rattle.cow_forest.proofs.forest.CowForest.look_counted.Goals as goal
 
@@ -19,7 +20,7 @@ returns-clause-look g c =
     rw (← c.self.view_is) (look-of (forest_of c.self.inside) c.self.invariant.store c.args.v.0 c.get.result.0 c.args.page c.look_at_counted.result here c.look_at_counted.ensures.look)
 
 pub returns-clause-cost : goal.returns-clause-cost
-returns-clause-cost g c = rw (← c.self.view_is) (λ most k m h.
-    let same = node-at (forest_of c.self.inside) c.self.invariant.store c.args.v.0 k c.get.result h c.get.ensures in
+returns-clause-cost g c = rw (← c.self.view_is) (λ most k m is.
+    let same = link_same (sym c.get.ensures ∙ is) in
     subst (λ j. c.look_at_counted.new.steps ≤ c.args.steps.now + depth (nodes_of c.self.inside.arena) c.self.inside.arena.lists j * most) same
     (c.look_at_counted.ensures.cost most m))
