@@ -9,7 +9,7 @@ ghost use Rattle.vm_model.specs.Contents.Zeroing.{zeroed, resized};
 ghost use Rattle.page_list.specs.Lists.{slots_of, row_count};
 ghost use Rattle.frame_pool.specs.Pool.{is_taken};
 ghost use Rattle.cow_arena.specs.Nodes.{nodes_of, link_to};
-ghost use Rattle.cow_arena.specs.Counts.{hidden_count};
+ghost use Rattle.cow_arena.specs.Counts.{hidden_count, visible_count};
 ghost use Rattle.cow_split.specs.Exact.{IsExact, all_in_sight};
 ghost use Rattle.cow_split.specs.Cost.{IsMostOfLookUp, depth};
 ghost use Rattle.page_store.specs.Pages.{look_at};
@@ -98,9 +98,11 @@ impl CowForest {
         self.lists.rows()
     }
 
-    /// How many nodes are hidden: fewer than there are VMOs, or none. No way up to a root has more nodes than there are VMOs.
+    /// How many nodes are hidden: fewer than there are VMOs, or none. As many nodes are visible as there are VMOs. No way up to
+    /// a root has more nodes than there are VMOs.
     pub fn hidden(&self) -> u64
         ensures count { result ≡ hidden_count self.now.arena }
+        ensures visible { visible_count self.now.arena ≡ vmos_of (content_of self.now) }
         ensures fewer { (result < vmos_of (content_of self.now)) ⊎ ((result ≡ 0) × (vmos_of (content_of self.now) ≡ 0)) }
         ensures deep { (v k : ℕ) → node_in self.now.nodes v ≡ link_to k →
             depth (nodes_of self.now.arena) self.now.arena.lists k ≤ vmos_of (content_of self.now) }
