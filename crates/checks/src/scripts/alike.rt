@@ -1,5 +1,7 @@
 //! Long runs that are generated from a number. What is written must be the same over both stores.
 
+ghost use Rattle.std.specs.Prelude.{◌≤◌};
+
 use super::reading::words_of;
 use super::runs::written;
 use super::text_fault::Fault;
@@ -12,11 +14,13 @@ fn next_number(x: u64) -> u64 {
         .wrapping_add(1442695040888963407)
 }
 
-/// A line that a number gives: a command on the 16 pages of one of eight VMOs.
-fn line_for(alloc: Global, number: u64) -> Result<String, AllocError> {
+/// A line that a number gives: a command on the 16 pages of one of so many VMOs.
+fn line_for(alloc: Global, number: u64, vmos: u64) -> Result<String, AllocError>
+    requires { 1 ≤ vmos }
+{
     let bits = number >> 33;
-    let name = bits / 16 % 8;
-    let parent = bits / 128 % 8;
+    let name = bits / 16 % vmos;
+    let parent = bits / 8388608 % vmos;
     let offset = bits / 1024 % 16 * 4096;
     let len = bits / 16384 % 4 * 4096;
     let byte = 10 + bits / 65536 % 90;
@@ -39,13 +43,15 @@ fn line_for(alloc: Global, number: u64) -> Result<String, AllocError> {
     }
 }
 
-/// A script of a thousand lines.
-fn thousand(alloc: Global) -> Result<String, Fault> {
+/// A script of so many lines.
+fn script_of(alloc: Global, lines: u64, vmos: u64) -> Result<String, Fault>
+    requires { 1 ≤ vmos }
+{
     let mut script = String::new(alloc);
     let mut number = 1;
-    for _ in 0..1000 {
+    for _ in 0..lines {
         number = next_number(number);
-        let line = line_for(alloc, number)?;
+        let line = line_for(alloc, number, vmos)?;
         script.push_str(line.as_str())?;
     }
     Ok(script)
@@ -60,8 +66,18 @@ fn alike(alloc: Global, words: &str, script: &str) -> Result<String, Fault> {
 
 #[test]
 fn a_thousand_commands_are_answered_alike(rt: HostRuntime) -> Result<(), Fail> {
-    let script = thousand(rt.alloc())?;
+    let script = script_of(rt.alloc(), 1000, 8)?;
     for words in ["run", "run --frames 24"] {
+        let _written = alike(rt.alloc(), words, script.as_str())?;
+    }
+    Ok(())
+}
+
+/// Families of snapshots, wide ones and deep ones: up to a hundred VMOs are live at once.
+#[test]
+fn families_are_answered_alike(rt: HostRuntime) -> Result<(), Fail> {
+    let script = script_of(rt.alloc(), 20_000, 100)?;
+    for words in ["run", "run --frames 200"] {
         let _written = alike(rt.alloc(), words, script.as_str())?;
     }
     Ok(())

@@ -11,7 +11,7 @@ use std::alloc::Global;
 use vm_session::{Status, run, serve};
 
 /// The room of a sink that is never full here, in bytes.
-const ROOM: usize = 262_144;
+const ROOM: usize = 2_097_152;
 
 /// How a script is run.
 #[derive(Clone, Copy)]
