@@ -8,6 +8,7 @@ pub mod TranslationLaws
 pub mod TouchingLaws
 pub mod FrameLaws
 pub mod ReadLaws
+pub mod EmptyLaws
 pub mod FindLaws
 pub mod ForgettingLaws
 pub mod NeedingLaws

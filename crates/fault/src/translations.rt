@@ -1,6 +1,6 @@
 //! The translations: what is kept of each page, and what is found there.
 
-ghost use Rattle.std.specs.Prelude.{◌≡◌, ℕ, IsTrue, ◌+◌, ◌≤◌, true, None, Some, OnOk, IsSome, IfSome, IfNone};
+ghost use Rattle.std.specs.Prelude.{◌≡◌, ◌↔◌, ℕ, IsTrue, ◌+◌, ◌≤◌, true, None, Some, OnOk, IsSome, IfSome, IfNone};
 ghost use Rattle.std.specs.Option.{option_map, MatchOption};
 ghost use Rattle.balanced_tree.specs.Pairs.{with_pair};
 ghost use Rattle.fault.specs.Table.{places_of, room_of, number_of, frame_in, with_translation, without, is_outdated, IsOfEntry};
@@ -58,10 +58,9 @@ impl Translations {
         }
     }
 
-    /// Whether no page is translated.
-    #[tactic(auto, unfolding(balanced_tree::specs::Pairs::value_at))]
+    /// Whether no page of any address space is translated.
     pub fn is_empty(&self) -> bool
-        ensures { IsTrue result → (root p : ℕ) → places_of self.now root p ≡ None }
+        ensures { IsTrue result ↔ ((root p : ℕ) → places_of self.now root p ≡ None) }
     {
         self.places.len() == 0
     }
