@@ -5,3 +5,4 @@ pub mod GapLaws
 pub mod SetLaws
 pub mod CutLaws
 pub mod BorderLaws
+pub mod RestLaws

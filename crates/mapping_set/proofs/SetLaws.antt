@@ -68,6 +68,9 @@ module _ (a : Inside) (h : AreMappings a) (now : Mappings) (seen : mappings_of a
     pub whole : IsPieceOf (table_of now root) x
     whole = subst (λ (m : Mappings). IsPieceOf (table_of m root) x) seen (shown_whole values h.pieces root last x is_root)
 
+    pub last_is : x.first + x.count ≡ last + 1
+    last_is = (h.pieces.sound root last x is_root).last_is
+
     module _ (b : Inside) (taken : values_of b.pieces ≡ with_pair values n last None) where
       taken_is : values_of b.pieces ≡ with_pair values root last None
       taken_is = taken ∙ ap (λ k. with_pair values k last None) n_is

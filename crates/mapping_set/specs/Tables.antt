@@ -1,5 +1,5 @@
 -- The set of mappings as its callers see it: what each page of each address space shows, and room.
-use Rattle.std.specs.Prelude.{◌≡◌, ℕ, ◌+◌, ◌<◌, ◌≤◌, true, false, Option, None, Some, IsSome}
+use Rattle.std.specs.Prelude.{◌≡◌, ℕ, ◌+◌, ◌-◌, ◌<◌, ◌≤◌, min, max, true, false, Option, None, Some, IsSome}
 use Rattle.pair_map.specs.declared.pair_row.PairRow.{PairRow}
 use Rattle.pair_map.specs.declared.stretch_row.Extent.{Extent}
 use Rattle.pair_map.specs.declared.stretch_row.StretchRow.{StretchRow}
@@ -27,6 +27,10 @@ table_of m = table_in (values_of m.pieces)
 -- how many more pieces fit with no memory from the host
 abbrev pub spare_of : Mappings → ℕ
 spare_of m = m.spare
+
+-- the pieces of each root region, by its number and the last page of each
+abbrev pub pieces_of : Mappings → ℕ → ℕ → Option Piece
+pieces_of m = values_of m.pieces
 
 -- the extents that are noted as taken, by the number of the list of their region and their first page
 abbrev pub taken_of : Mappings → ℕ → ℕ → Option (Extent Unit)
@@ -82,6 +86,24 @@ pub record IsFirstPiece (shown : ℕ → Option Entry) (first end : ℕ) (piece 
 pub record IsPieceIn (shown : ℕ → Option Entry) (region : ℕ) (piece : Piece) : Type 0 where
   pub is : IsPieceOf shown piece
   pub region_is : piece.entry.region.0 ≡ region
+
+-- the piece is one of those of a root region, each by its last page
+abbrev pub IsOneOf : (ℕ → Option Piece) → Piece → Type 0
+IsOneOf pieces piece = pieces (piece.first + piece.count - 1) ≡ Some piece
+
+-- The piece is all that one of those of a root region has from the page `from` on.
+pub record IsRestOf (pieces : ℕ → Option Piece) (from : ℕ) (piece : Piece) : Type 0 where
+  pub whole : Piece
+  pub is : IsOneOf pieces whole
+  pub begins : piece.first ≡ max whole.first from
+  pub ends : piece.first + piece.count ≡ whole.first + whole.count
+
+-- The piece is all that one of those of a root region has on the pages from `from` to below `end`.
+pub record IsPartOf (pieces : ℕ → Option Piece) (from end : ℕ) (piece : Piece) : Type 0 where
+  pub rest : Piece
+  pub is : IsRestOf pieces from rest
+  pub begins : piece.first ≡ rest.first
+  pub ends : piece.first + piece.count ≡ min (rest.first + rest.count) end
 
 -- how many pages have an entry that belongs to the region
 abbrev pub entries_in : (ℕ → ℕ → Option Entry) → (root region : ℕ) → ℕ

@@ -9,9 +9,9 @@ ghost use Rattle.vm_model.specs.Space.Table.{with_pages, with_perm, has_entry};
 ghost use Rattle.mapping_set.specs.declared.piece.Piece.{Piece};
 ghost use Rattle.mapping_set.specs.Pieces.{list_number, IsHeld, HasNoHeld, IsOfRegion, IsBorder};
 ghost use Rattle.mapping_set.specs.Tables.{taken_of, with_taken};
-ghost use Rattle.mapping_set.specs.Tables.{table_of, spare_of, with_piece, without_piece, without_taken};
+ghost use Rattle.mapping_set.specs.Tables.{table_of, pieces_of, spare_of, with_piece, without_piece, without_taken};
 ghost use Rattle.mapping_set.specs.Tables.{IsBare, IsBareFrom, IsFull, IsNextPiece, IsPieceOf, IsFirstPiece, IsPieceIn, entries_in};
-ghost use Rattle.mapping_set.specs.Tables.{IsFirstGap, HasNoGap};
+ghost use Rattle.mapping_set.specs.Tables.{IsOneOf, IsRestOf, IsPartOf, IsFirstGap, HasNoGap};
 
 use crate::piece::Piece;
 use crate::taken::{free, hold};
@@ -21,8 +21,9 @@ use std::marker::Model;
 use vm_base::{HostMemory, NAMES, PAGES_END, PageNo, Perm, RegionName};
 use vm_model::Entry;
 
-/// What each page of each address space shows. Contracts see the entry of each root region and page (`table_of`), and
-/// `spare_of`, how many more pieces fit with no memory from the host. No call but `reserve` asks the host for memory.
+/// What each page of each address space shows. Contracts see the entry of each root region and page (`table_of`), the
+/// pieces that a call takes or answers (`pieces_of`), and `spare_of`, how many more pieces fit with no memory from the
+/// host. No call but `reserve` asks the host for memory.
 #[derive(Drop)]
 pub struct MappingSet {
     /// Each piece by its root region and its last page.
@@ -86,8 +87,8 @@ impl MappingSet {
         Ok(())
     }
 
-    /// Puts the entries of a piece into an address space, where none of its pages has an entry. The piece has a page,
-    /// and ends at or below page `PAGES_END`, as do the pages that it shows.
+    /// Puts the entries of a piece into an address space, where none of its pages has an entry, as one piece of the set.
+    /// The piece has a page, and ends at or below page `PAGES_END`, as do the pages that it shows.
     pub fn place(&mut self, root: RegionName, piece: Piece)
         requires some { 1 ≤ piece.count }
         requires end { piece.first + piece.count ≤ PAGES_END }
@@ -95,6 +96,8 @@ impl MappingSet {
         requires bare { IsBare (table_of self.old root.0) piece.first (piece.first + piece.count) }
         requires room { 1 ≤ spare_of self.old }
         ensures table { table_of self.new ≡ with_piece (table_of self.old) root.0 piece }
+        ensures whole { pieces_of self.new ≡
+            with_pair (pieces_of self.old) root.0 (piece.first + piece.count - 1) (Some piece) }
         ensures spare { spare_of self.old ≤ spare_of self.new + 1 }
     {
         self.put(root, piece);
@@ -115,10 +118,12 @@ impl MappingSet {
     }
 
     /// The entries from the first one at or past the page `from` on to the end of its piece. `None` exactly where there
-    /// is none.
+    /// is none. So calls that each begin where the last answer ended are as many as the pieces from there on. It costs a
+    /// look-up.
     pub fn next_piece(&self, root: RegionName, from: PageNo) -> Option<Piece>
-        ensures { MatchOption result (IsBareFrom (table_of self.now root.0) from)
+        ensures piece { MatchOption result (IsBareFrom (table_of self.now root.0) from)
             (IsNextPiece (table_of self.now root.0) from) }
+        ensures whole { IfSome result (IsRestOf (pieces_of self.now root.0) from) }
     {
         let (_last, piece) = self.held(root, from)?;
         Some(piece.from(piece.first.max(from)))
@@ -203,12 +208,14 @@ impl MappingSet {
     }
 
     /// Takes entries out of a range of `count` pages from `first` on, which may pass 2^64: from the first entry of the
-    /// range on, as far as they are of one piece and of the range. Answers them. `None` exactly where the range has no
-    /// entry. What is left of the piece, before the range or behind it, stays.
+    /// range on, all that its piece has in the range. Answers them. `None` exactly where the range has no entry. What is
+    /// left of the piece, before the range or behind it, stays. It costs a fixed number of look-ups and changes, however
+    /// many pages the piece has.
     pub fn carve(&mut self, root: RegionName, first: PageNo, count: u64) -> Option<Piece>
         requires room { 1 ≤ spare_of self.old }
         ensures piece { MatchOption result (IsBare (table_of self.old root.0) first (first + count))
             (IsFirstPiece (table_of self.old root.0) first (first + count)) }
+        ensures whole { IfSome result (IsPartOf (pieces_of self.old root.0) first (first + count)) }
         ensures table { table_of self.new ≡ without_taken (table_of self.old) root.0 result }
         ensures spare { spare_of self.old ≤ spare_of self.new + 1 }
         ensures none { result ≡ None → spare_of self.old ≤ spare_of self.new }
@@ -232,10 +239,11 @@ impl MappingSet {
     }
 
     /// Takes out a whole piece of the entries that belong to a region, and answers it. `None` exactly where there is
-    /// none.
+    /// none. It costs a fixed number of look-ups and changes, however many pages the piece has.
     pub fn drop_region(&mut self, root: RegionName, region: RegionName) -> Option<Piece>
         ensures piece { MatchOption result (has_entry (table_of self.old) root.0 region.0 0 PAGES_END ≡ false)
             (IsPieceIn (table_of self.old root.0) region.0) }
+        ensures whole { IfSome result (IsOneOf (pieces_of self.old root.0)) }
         ensures table { table_of self.new ≡ without_taken (table_of self.old) root.0 result }
         ensures fewer { IfSome result (λ piece.
             entries_in (table_of self.new) root.0 region.0 < entries_in (table_of self.old) root.0 region.0) }
@@ -291,6 +299,7 @@ impl MappingSet {
     fn take(&mut self, root: RegionName, last: PageNo) -> Piece
         requires { IsSome (values_of self.old.pieces root.0 last) }
         ensures piece { values_of self.old.pieces root.0 last ≡ Some result }
+        ensures last { result.first + result.count ≡ last + 1 }
         ensures shown { IsPieceOf (table_of self.old root.0) result }
         ensures table { (x : Piece) → values_of self.old.pieces root.0 last ≡ Some x
             → table_of self.new ≡ without_piece (table_of self.old) root.0 x }
@@ -313,13 +322,16 @@ impl MappingSet {
         Some(first + extent.count - 1)
     }
 
-    /// Cuts the piece that has the page `page` and the one before it in two, if there is one. The entries stay.
+    /// Cuts the piece that has the page `page` and the one before it in two, if there is one. The entries stay. The next
+    /// piece from the page on is then what is left there of one that stood.
     fn cut(&mut self, root: RegionName, page: PageNo)
         requires room { 1 ≤ spare_of self.old }
         ensures table { table_of self.new ≡ table_of self.old }
         ensures border { IsBorder (values_of self.new.pieces root.0) page }
         ensures kept { (q : ℕ) → IsBorder (values_of self.old.pieces root.0) q
             → IsBorder (values_of self.new.pieces root.0) q }
+        ensures rest { (last : ℕ) (x : Piece) → IsHeld (values_of self.new.pieces) root.0 page last x
+            → IsRestOf (values_of self.old.pieces root.0) page x }
         ensures spare { spare_of self.old ≤ spare_of self.new + 1 }
         ensures whole { table_of self.old root.0 page ≡ None → spare_of self.old ≤ spare_of self.new }
     {

@@ -2,6 +2,7 @@ use Rattle.std.proofs.Common.{◌≡◌, ◌+◌, refl, ap, ◌∙◌, arith}
 use Rattle.mapping_set.specs.Pieces.{piece_until}
 use Rattle.mapping_set.specs.Tables.{table_of, without_piece}
 use Rattle.mapping_set.specs.declared.piece.Piece.{Piece}
+use Rattle.mapping_set.proofs.RestLaws.{part-whole, part-until}
 use Rattle.mapping_set.proofs.CutLaws.{tail-bare, tail-table, bare-until}
 use Rattle.mapping_set.proofs.mapping_set.MappingSet.carve.Goals as goal
 
@@ -41,3 +42,16 @@ returns-clause-rest c falls =
     bare-until _ _ c.args.root.0 c.until.result (left c) c.args.first (c.args.first + c.args.count)
     (omega (arith, c.saturating_add-end.ensures, begins, count, held.sound.end, c.if-last-end.false, c.if-end-piece.false))
     (λ p low high. held.free p low (omega (arith, begins)))
+
+pub returns-then-last-end-clause-whole : goal.returns-then-last-end-clause-whole
+returns-then-last-end-clause-whole c =
+    let held = c.in_ok-last.ensures in
+    part-whole _ c.args.first (c.args.first + c.args.count) c.in_ok-last.piece (c.cut.ensures.rest c.in_ok-last.last c.in_ok-last.piece held)
+    (omega (arith, held.sound.last_is, c.if-last-end.true, c.saturating_add-end.ensures))
+
+pub returns-clause-whole : goal.returns-clause-whole
+returns-clause-whole c =
+    let held = c.in_ok-last.ensures in
+    part-until _ c.args.first (c.args.first + c.args.count) c.in_ok-last.piece (c.cut.ensures.rest c.in_ok-last.last c.in_ok-last.piece held)
+    c.saturating_add-end.result (omega (arith, c.saturating_add-end.ensures, held.sound.end, c.if-last-end.false))
+    c.if-end-piece.false (omega (arith, held.sound.last_is, c.if-last-end.false)) c.until.result c.until.ensures

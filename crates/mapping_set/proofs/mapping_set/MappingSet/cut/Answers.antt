@@ -1,5 +1,6 @@
 use Rattle.std.proofs.Common.{refl, arith}
 use Rattle.mapping_set.proofs.BorderLaws.{IsBorder-past, IsBorder-before, cut-border, cut-kept}
+use Rattle.mapping_set.proofs.RestLaws.{rest-whole, rest-cut}
 use Rattle.mapping_set.proofs.CutLaws.{head-bare, rest-bare, parts-table}
 use Rattle.mapping_set.proofs.mapping_set.MappingSet.cut.Goals as goal
 
@@ -40,3 +41,17 @@ pub returns-clause-kept : goal.returns-clause-kept
 returns-clause-kept c =
     cut-kept _ _ _ _ c.args.root.0 c.in-Some.last c.args.page c.in-Some.piece c.until.result c.from.result c.in-Some.ensures
     c.if-page-piece.false c.until.ensures c.from.ensures c.take.ensures.pieces c.put.ensures.pieces c.put-2.ensures.pieces
+
+pub returns-in_default-clause-rest : goal.returns-in_default-clause-rest
+returns-in_default-clause-rest c last x next =
+    rest-whole _ c.args.root.0 c.args.page last x next (IsBorder-past _ c.args.root.0 c.args.page c.in_default.ensures)
+
+pub returns-then-page-piece-clause-rest : goal.returns-then-page-piece-clause-rest
+returns-then-page-piece-clause-rest c last x next =
+    rest-whole _ c.args.root.0 c.args.page last x next
+    (IsBorder-before _ c.args.root.0 c.args.page c.in-Some.last c.in-Some.piece c.in-Some.ensures c.if-page-piece.true)
+
+pub returns-clause-rest : goal.returns-clause-rest
+returns-clause-rest c =
+    rest-cut _ c.args.root.0 c.args.page c.in-Some.last c.in-Some.piece c.in-Some.ensures _ _ c.from.result
+    c.if-page-piece.false c.from.ensures c.put-2.ensures.pieces

@@ -1,7 +1,8 @@
 use Rattle.std.proofs.Common.{◌≡◌, Option, Some, refl, sym, ap, ◌∙◌}
 use Rattle.mapping_set.specs.declared.piece.Piece.{Piece}
-use Rattle.mapping_set.specs.Tables.{table_of, IsPieceIn}
+use Rattle.mapping_set.specs.Tables.{table_of, pieces_of, IsPieceIn}
 use Rattle.mapping_set.proofs.CutLaws.{fewer_entries}
+use Rattle.mapping_set.proofs.RestLaws.{one-of}
 use Rattle.mapping_set.proofs.mapping_set.MappingSet.drop_region.Goals as goal
 
 pub returns-in_err-last-clause-table : goal.returns-in_err-last-clause-table
@@ -26,3 +27,6 @@ returns-clause-table c = c.take.ensures.table _ c.take.ensures.piece
 pub returns-clause-fewer : goal.returns-clause-fewer
 returns-clause-fewer c =
     fewer_entries _ _ c.args.root.0 c.args.region.0 c.take.result (of_region c) (c.take.ensures.table _ c.take.ensures.piece)
+
+pub returns-clause-whole : goal.returns-clause-whole
+returns-clause-whole c = one-of (pieces_of c.args.self.now c.args.root.0) c.in_ok-last.last c.take.result c.take.ensures.piece c.take.ensures.last
