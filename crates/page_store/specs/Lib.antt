@@ -2,3 +2,4 @@ pub mod Pages
 pub mod Names
 pub mod Held
 pub mod Flat
+pub mod Refusing

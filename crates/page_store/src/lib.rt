@@ -10,8 +10,10 @@ mod flat_store;
 mod leaving;
 mod names;
 mod page_store;
+mod refusing_store;
 
 pub use flat_store::FlatStore;
 pub use leaving::drop_gone;
 pub use names::{pages_of_name, size_of_name};
 pub use page_store::{Look, PageStore};
+pub use refusing_store::RefusingStore;
