@@ -455,11 +455,8 @@ OK frames=2 used=2 free=0 vmos=2
     )
 }
 
-#[test]
-fn a_loader_maps_its_segments(rt: HostRuntime) -> Result<(), Fail> {
-    check(
-        rt.alloc(),
-        "\
+/// Segments of a program are mapped. The script is run with refusals and in pieces too.
+pub(crate) const LOADER: &str = "\
 == run
 # Segments are mapped with their rights, private data is written, and one page is protected.
 > root_create r1
@@ -516,6 +513,9 @@ OK 4
 OK
 > stat
 OK frames=1024 used=3 free=1021 vmos=1
-",
-    )
+";
+
+#[test]
+fn a_loader_maps_its_segments(rt: HostRuntime) -> Result<(), Fail> {
+    check(rt.alloc(), LOADER)
 }

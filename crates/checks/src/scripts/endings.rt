@@ -2,7 +2,7 @@
 //! its status and the bytes that were written, with `|` for a line feed.
 
 use super::reading::words_of;
-use super::runs::{Way, compare, run_both};
+use super::runs::{Pieces, Way, compare, run_both};
 use super::text_fault::Fault;
 use std::alloc::Global;
 use std::test::Fail;
@@ -10,9 +10,15 @@ use std::test::Fail;
 /// A call that does not come.
 const NEVER: u64 = 99;
 
+/// How the bytes come and go.
+const PIECES: Pieces = Pieces {
+    pulled: 7,
+    pushed: 4,
+};
+
 /// Fails where a run does not end as it is told: by its status and, behind a blank, the bytes that were written.
 fn check_end(alloc: Global, way: Way<'_>, script: &str, wanted: &str) -> Result<(), Fault> {
-    let (end, _) = run_both(alloc, way, script)?;
+    let (end, _) = run_both(alloc, way, script.as_bytes())?;
     let (status, written) = (end.status, end.written.replace(alloc, '\n', "|")?);
     let told = if written.is_empty() {
         format!(in alloc; "{status:?}")?
@@ -40,7 +46,13 @@ fn check_failing(alloc: Global, words: &[String], script: &str, line: &str) -> R
     let Some((pull, push)) = failing_calls(call) else {
         return Err(Fault::NoForm);
     };
-    check_end(alloc, Way::Failing { words, pull, push }, script, end)
+    let way = Way::Failing {
+        words,
+        pieces: PIECES,
+        pull,
+        push,
+    };
+    check_end(alloc, way, script, end)
 }
 
 /// Checks how the run of a script ends, with a line for each call that fails.

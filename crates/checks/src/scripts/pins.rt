@@ -3,11 +3,8 @@
 use super::check;
 use std::test::Fail;
 
-#[test]
-fn pins_keep_pages(rt: HostRuntime) -> Result<(), Fail> {
-    check(
-        rt.alloc(),
-        "\
+/// Pins keep pages. The script is run with refusals too.
+pub(crate) const PINS: &str = "\
 == run --frames 1
 # Pins keep pages, their frames and the VMO, and stand in the way of snapshot and decommit.
 > vmo_create v1 8192
@@ -58,7 +55,14 @@ OK frames=1 used=1 free=0 vmos=1
 OK
 > stat
 OK frames=1 used=0 free=1 vmos=0
+";
 
+#[test]
+fn pins_keep_pages(rt: HostRuntime) -> Result<(), Fail> {
+    check(rt.alloc(), PINS)?;
+    check(
+        rt.alloc(),
+        "\
 == run --frames 1
 # What a pinned page stands in the way of, and what not. Zeroed whole, it keeps its frame.
 > vmo_create v1 8192 resizable

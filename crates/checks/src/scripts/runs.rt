@@ -13,15 +13,23 @@ use vm_session::{Status, run, serve};
 /// The room of a sink that is never full here, in bytes.
 const ROOM: usize = 2_097_152;
 
+/// How many bytes a source gives a call at most, and how many a sink takes: 1 where 0 is told.
+#[derive(Clone, Copy)]
+pub(crate) struct Pieces {
+    pub(crate) pulled: usize,
+    pub(crate) pushed: usize,
+}
+
 /// How a script is run.
 #[derive(Clone, Copy)]
 pub(crate) enum Way<'a> {
     /// Under these words of the command line. No call fails.
     Sure(&'a [String]),
-    /// Under these words, from a source that gives at most 7 bytes a call to a sink that takes at most 4. The pull and the
-    /// push with these numbers fail, both counted from 1.
+    /// Under these words, from a source that gives pieces of at most so many bytes to a sink that takes such. The pull and
+    /// the push with these numbers fail, both counted from 1.
     Failing {
         words: &'a [String],
+        pieces: Pieces,
         pull: u64,
         push: u64,
     },
@@ -59,12 +67,12 @@ fn end_of(alloc: Global, status: Status, sink: &MemSink) -> Result<End, Fault> {
 fn run_sure<P: PageStore>(
     alloc: Global,
     words: &[String],
-    script: &str,
+    script: &[u8],
     store: &mut P,
 ) -> Result<End, Fault>
     requires { P.content store.old ≡ nothing }
 {
-    let mut source = SureSource::new(script.as_bytes());
+    let mut source = SureSource::new(script);
     let Ok(mut sink) = MemSink::new(alloc, ROOM, ROOM, &[]) else {
         return Err(Fault::HostMemory);
     };
@@ -76,17 +84,18 @@ fn run_sure<P: PageStore>(
 fn run_failing<P: PageStore>(
     alloc: Global,
     words: &[String],
-    script: &str,
+    script: &[u8],
+    pieces: Pieces,
     pull: u64,
     push: u64,
     store: &mut P,
 ) -> Result<End, Fault>
     requires { P.content store.old ≡ nothing }
 {
-    let Ok(mut source) = MemSource::new(alloc, script.as_bytes(), 7, &[pull]) else {
+    let Ok(mut source) = MemSource::new(alloc, script, pieces.pulled.max(1), &[pull]) else {
         return Err(Fault::HostMemory);
     };
-    let Ok(mut sink) = MemSink::new(alloc, ROOM, 4, &[push]) else {
+    let Ok(mut sink) = MemSink::new(alloc, ROOM, pieces.pushed.max(1), &[push]) else {
         return Err(Fault::HostMemory);
     };
     let status = run(alloc, words, store, &mut source, &mut sink);
@@ -94,10 +103,10 @@ fn run_failing<P: PageStore>(
 }
 
 /// Serves a script under a limit.
-fn serve_limited<P: PageStore>(alloc: Global, script: &str, store: &mut P) -> Result<End, Fault>
+fn serve_limited<P: PageStore>(alloc: Global, script: &[u8], store: &mut P) -> Result<End, Fault>
     requires { P.content store.old ≡ nothing }
 {
-    let mut source = SureSource::new(script.as_bytes());
+    let mut source = SureSource::new(script);
     let Ok(mut sink) = MemSink::new(alloc, ROOM, ROOM, &[]) else {
         return Err(Fault::HostMemory);
     };
@@ -109,22 +118,25 @@ fn serve_limited<P: PageStore>(alloc: Global, script: &str, store: &mut P) -> Re
 fn run_over<P: PageStore>(
     alloc: Global,
     way: Way<'_>,
-    script: &str,
+    script: &[u8],
     store: &mut P,
 ) -> Result<End, Fault>
     requires { P.content store.old ≡ nothing }
 {
     match way {
         Way::Sure(words) => run_sure(alloc, words, script, store),
-        Way::Failing { words, pull, push } => {
-            run_failing(alloc, words, script, pull, push, store)
-        }
+        Way::Failing {
+            words,
+            pieces,
+            pull,
+            push,
+        } => run_failing(alloc, words, script, pieces, pull, push, store),
         Way::Limited => serve_limited(alloc, script, store),
     }
 }
 
 /// Runs a script over the plain store.
-fn run_over_plain(alloc: Global, way: Way<'_>, script: &str) -> Result<End, Fault> {
+fn run_over_plain(alloc: Global, way: Way<'_>, script: &[u8]) -> Result<End, Fault> {
     let mut store = FlatStore::new(alloc);
     let end = run_over(alloc, way, script, &mut store);
     // By one call, here and below: at the end of a body the store would be let go, and that proved, part by part.
@@ -133,7 +145,7 @@ fn run_over_plain(alloc: Global, way: Way<'_>, script: &str) -> Result<End, Faul
 }
 
 /// Runs a script over the clone tree, and counts what is left in it.
-fn run_over_tree(alloc: Global, way: Way<'_>, script: &str) -> (Result<End, Fault>, Counts) {
+fn run_over_tree(alloc: Global, way: Way<'_>, script: &[u8]) -> (Result<End, Fault>, Counts) {
     let mut tree = CowForest::new(alloc);
     let end = run_over(alloc, way, script, &mut tree);
     let counts = Counts {
@@ -163,7 +175,7 @@ pub(crate) fn compare(alloc: Global, wanted: &str, written: &str) -> Result<(), 
 }
 
 /// Runs a script over both stores, which must end in the same way. Answers that, and the counts of the clone tree.
-pub(crate) fn run_both(alloc: Global, way: Way<'_>, script: &str) -> Result<(End, Counts), Fault> {
+pub(crate) fn run_both(alloc: Global, way: Way<'_>, script: &[u8]) -> Result<(End, Counts), Fault> {
     let (by_tree, counts) = run_over_tree(alloc, way, script);
     let by_tree = by_tree?;
     let by_plain = run_over_plain(alloc, way, script)?;
@@ -180,7 +192,7 @@ pub(crate) fn written(
     words: &[String],
     script: &str,
 ) -> Result<(String, Counts), Fault> {
-    let (end, counts) = run_both(alloc, Way::Sure(words), script)?;
+    let (end, counts) = run_both(alloc, Way::Sure(words), script.as_bytes())?;
     if end.status == Status::Done {
         Ok((end.written, counts))
     } else {

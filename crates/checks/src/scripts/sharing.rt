@@ -3,11 +3,8 @@
 use super::check;
 use std::test::Fail;
 
-#[test]
-fn snapshots_share_frames(rt: HostRuntime) -> Result<(), Fail> {
-    check(
-        rt.alloc(),
-        "\
+/// Two VMOs share a frame. The script is run with refusals too.
+pub(crate) const SHARED: &str = "\
 == run
 # A snapshot shares its parent's frame until one of the two is written, and vmo_info counts it.
 > vmo_create v1 4096
@@ -28,7 +25,14 @@ OK 22
 OK 11
 > stat
 OK frames=1024 used=2 free=1022 vmos=2
+";
 
+#[test]
+fn snapshots_share_frames(rt: HostRuntime) -> Result<(), Fail> {
+    check(rt.alloc(), SHARED)?;
+    check(
+        rt.alloc(),
+        "\
 == run --frames 2
 # A shared page can't be written without a free frame, and can be once its last other viewer is closed.
 > vmo_create v1 4096

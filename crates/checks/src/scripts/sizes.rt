@@ -3,26 +3,8 @@
 use super::check;
 use std::test::Fail;
 
-#[test]
-fn sizes_change(rt: HostRuntime) -> Result<(), Fail> {
-    check(
-        rt.alloc(),
-        "\
-== run
-# A snapshot past its parent's end shows zeros there, also after the parent has grown.
-> vmo_create v1 4096 resizable
-OK
-> vmo_create_child v2 v1 snapshot 0 8192
-OK
-> vmo_size v2
-OK 8192
-> vmo_set_size v1 8192
-OK
-> vmo_write v1 4096 55
-OK
-> vmo_read v2 4096 1
-OK 00
-
+/// Pages are cut off and come back. The script is run with refusals too.
+pub(crate) const SHRUNK: &str = "\
 == run
 # Pages cut off by shrinking come back as zeros, while a snapshot keeps them until it is closed.
 > vmo_create v1 8192 resizable
@@ -45,6 +27,28 @@ OK frames=1024 used=1 free=1023 vmos=2
 OK
 > stat
 OK frames=1024 used=0 free=1024 vmos=1
+";
+
+#[test]
+fn sizes_change(rt: HostRuntime) -> Result<(), Fail> {
+    check(rt.alloc(), SHRUNK)?;
+    check(
+        rt.alloc(),
+        "\
+== run
+# A snapshot past its parent's end shows zeros there, also after the parent has grown.
+> vmo_create v1 4096 resizable
+OK
+> vmo_create_child v2 v1 snapshot 0 8192
+OK
+> vmo_size v2
+OK 8192
+> vmo_set_size v1 8192
+OK
+> vmo_write v1 4096 55
+OK
+> vmo_read v2 4096 1
+OK 00
 
 == run --frames 4
 # Nor does a snapshot of a snapshot see what the first VMO grows to, made after it grew. A new one of it does.

@@ -1,23 +1,30 @@
 //! Runs of a script by the calls whose commands and replies have values of their own: `read_line`, `Vm::step` and
 //! `write_line`. `run` goes by the calls that lend data instead.
 
-ghost use Rattle.std.specs.Prelude.{◌≡◌, ◌+◌, ◌<◌, ◌≤◌};
+ghost use Rattle.std.specs.Prelude.{◌≡◌, ◌+◌, ◌<◌, ◌≤◌, OnOk};
 ghost use Rattle.vm_base.specs.declared.limits.TheConstants.{KOIDS};
 ghost use Rattle.vm_model.specs.Contents.Content.{nothing};
 ghost use Rattle.vm_core.specs.Vm.{Agrees};
 
 use super::text_fault::Fault;
 use cow_forest::CowForest;
-use page_store::PageStore;
+use page_store::{PageStore, RefusingStore};
 use reply_text::{line_count, write_line};
 use script_text::{Line, read_line};
 use std::alloc::Global;
-use vm_base::{FRAMES, Refusal, TEXT_ROOM};
+use vm_base::{FRAMES, HostMemory, Refusal, TEXT_ROOM};
 use vm_core::Vm;
-use vm_model::Reply;
+use vm_model::{Command, Reply};
 
 /// The most lines of a script.
 const LINES: u64 = 1_000_000;
+
+/// How often what finds no memory of the host is asked.
+#[derive(Clone, Copy, PartialEq, Eq)]
+enum Asking {
+    Once,
+    Twice,
+}
 
 /// How many page frames the words of a command line give to a script. `None` where they run none.
 fn frames_for(words: &[String]) -> Option<u32> {
@@ -41,22 +48,37 @@ fn add_reply(written: &mut String, reply: &Reply) -> Result<(), Fault> {
     Ok(())
 }
 
-/// Answers a line by a step of the machine.
+/// Answers a command by a step of the machine, and by another one where the first finds no memory and two are asked for.
+fn reply_to<P: PageStore>(store: &mut P, vm: &mut Vm, command: &Command, asking: Asking) -> Reply
+    requires agrees { Agrees (P.content store.old) vm.old }
+    requires next { (P.content store.old).next + 1 < KOIDS }
+    ensures agrees { Agrees (P.content store.new) vm.new }
+    ensures next { (P.content store.new).next ≤ (P.content store.old).next + 2 }
+{
+    let reply = vm.step(store, command);
+    if asking == Asking::Twice && matches!(reply, Reply::Refused(Refusal::HostMemory)) {
+        return vm.step(store, command);
+    }
+    reply
+}
+
+/// Answers a line.
 fn step<P: PageStore>(
     store: &mut P,
     vm: &mut Vm,
     line: &str,
+    asking: Asking,
     written: &mut String,
 ) -> Result<(), Fault>
     requires agrees { Agrees (P.content store.old) vm.old }
-    requires next { (P.content store.old).next < KOIDS }
+    requires next { (P.content store.old).next + 1 < KOIDS }
     ensures agrees { Agrees (P.content store.new) vm.new }
-    ensures next { (P.content store.new).next ≤ (P.content store.old).next + 1 }
+    ensures next { (P.content store.new).next ≤ (P.content store.old).next + 2 }
 {
     match read_line(line.as_bytes()) {
         Ok(Line::Blank) => Ok(()),
         Ok(Line::Order(command)) => {
-            let reply = vm.step(store, &command);
+            let reply = reply_to(store, vm, &command, asking);
             add_reply(written, &reply)
         }
         Err(_) => add_reply(written, &Reply::Refused(Refusal::Syntax)),
@@ -68,6 +90,7 @@ fn step_through<P: PageStore>(
     store: &mut P,
     vm: &mut Vm,
     script: &str,
+    asking: Asking,
     written: &mut String,
 ) -> Result<(), Fault>
     requires agrees { Agrees (P.content store.old) vm.old }
@@ -79,9 +102,21 @@ fn step_through<P: PageStore>(
             return Err(Fault::NoForm);
         }
         left -= 1;
-        step(store, vm, line, written)?;
+        step(store, vm, line, asking, written)?;
     }
     Ok(())
+}
+
+/// Gives a store its page frames, and asks again where it finds no memory and is to be asked twice.
+fn fill<P: PageStore>(store: &mut P, frames: u32, asking: Asking) -> Result<(), HostMemory>
+    requires empty { P.content store.old ≡ nothing }
+    requires frames { (1 ≤ frames) × (frames ≤ FRAMES) }
+    ensures { OnOk result (P.content store.new ≡ record (P.content store.old) { frames = frames }) }
+{
+    match store.fill(frames) {
+        Err(HostMemory) if asking == Asking::Twice => store.fill(frames),
+        outcome => outcome,
+    }
 }
 
 /// What is written where a machine over this store, with so many page frames, steps through a script.
@@ -89,6 +124,7 @@ fn stepped_over<P: PageStore>(
     alloc: Global,
     frames: u32,
     script: &str,
+    asking: Asking,
     store: &mut P,
 ) -> Result<String, Fault>
     requires { P.content store.old ≡ nothing }
@@ -96,12 +132,12 @@ fn stepped_over<P: PageStore>(
     if frames == 0 || frames > FRAMES {
         return Err(Fault::NoForm);
     }
-    let Ok(()) = store.fill(frames) else {
+    let Ok(()) = fill(store, frames, asking) else {
         return Err(Fault::HostMemory);
     };
     let mut written = String::new(alloc);
     let mut vm = Vm::new(alloc);
-    let done = step_through(store, &mut vm, script, &mut written);
+    let done = step_through(store, &mut vm, script, asking, &mut written);
     drop(vm);
     done?;
     Ok(written)
@@ -117,7 +153,26 @@ pub(crate) fn stepped(
         return Ok(None);
     };
     let mut tree = CowForest::new(alloc);
-    let written = stepped_over(alloc, frames, script, &mut tree);
+    let written = stepped_over(alloc, frames, script, Asking::Once, &mut tree);
     drop(tree);
     Ok(Some(written?))
+}
+
+/// What is written where a machine over the clone tree steps through a script, and the call of the tree with this number
+/// finds no memory. Each command that finds none is given once more, and so is the call that gives the tree its frames.
+pub(crate) fn stepped_refusing(
+    alloc: Global,
+    words: &[String],
+    script: &str,
+    call: u64,
+) -> Result<String, Fault> {
+    let Some(frames) = frames_for(words) else {
+        return Err(Fault::NoForm);
+    };
+    let Ok(mut store) = RefusingStore::new(alloc, CowForest::new(alloc), &[call]) else {
+        return Err(Fault::HostMemory);
+    };
+    let written = stepped_over(alloc, frames, script, Asking::Twice, &mut store);
+    drop(store);
+    written
 }

@@ -1,0 +1,43 @@
+//! Scripts where one call of the store finds no memory of the host: each number of a call in turn.
+
+use super::accesses::LOADER;
+use super::pins::PINS;
+use super::reading::{Script, read_script};
+use super::runs::compare;
+use super::sharing::SHARED;
+use super::sizes::SHRUNK;
+use super::steps::stepped_refusing;
+use super::text_fault::Fault;
+use std::alloc::Global;
+use std::test::Fail;
+
+/// How many calls are refused, one in each run. The scripts make fewer.
+const CALLS: u64 = 60;
+
+/// Checks that a script is answered as ever where this call finds no memory, and what it was made for is asked again.
+fn check_refused(alloc: Global, script: &Script, call: u64) -> Result<(), Fault> {
+    let written = stepped_refusing(alloc, script.words.as_slice(), script.lines.as_str(), call)?;
+    compare(alloc, script.replies.as_str(), written.as_str())
+}
+
+/// Checks the script of a text with each call refused.
+fn check_each_refused(alloc: Global, text: &str) -> Result<(), Fault> {
+    let Some(text) = text.strip_prefix("== ") else {
+        return Err(Fault::NoScript);
+    };
+    let script = read_script(alloc, text)?;
+    for call in 0..CALLS {
+        check_refused(alloc, &script, call + 1)?;
+    }
+    Ok(())
+}
+
+/// A command that found no memory changed nothing: given once more, it has the reply that it has with memory, and so have
+/// all others.
+#[test]
+fn each_call_of_the_store_may_find_no_memory(rt: HostRuntime) -> Result<(), Fail> {
+    for text in [SHARED, SHRUNK, PINS, LOADER] {
+        check_each_refused(rt.alloc(), text)?;
+    }
+    Ok(())
+}
