@@ -15,7 +15,7 @@ abbrev OwnsPage : ℕ → Content → ℕ → Content → Type 0
 OwnsPage v old p new = (tag : ℕ) × Owns old new v p tag
 
 -- a page below the count
-Owns-keeps : (test : ℕ → ℕ → Bool) (v lowest : ℕ) (old new : Content) (p : ℕ) → IsGood old → p < pages_of old v → lowest ≤ p → OwnsPage v old p new
+pub Owns-keeps : (test : ℕ → ℕ → Bool) (v lowest : ℕ) (old new : Content) (p : ℕ) → IsGood old → p < pages_of old v → lowest ≤ p → OwnsPage v old p new
     → KeepsPages test old new
 Owns-keeps test v lowest old new p good h low owns =
     let owned = Owned-from_Owns old new v p owns.0 good h owns.1 in

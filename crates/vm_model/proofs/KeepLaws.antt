@@ -16,19 +16,20 @@ use Rattle.vm_model.specs.Naming.Names.{Lineage, owner, is_named, is_of}
 use Rattle.vm_model.specs.Naming.Pins.{Pin, has_pin, is_pinned, any_pinned}
 use Rattle.vm_model.specs.declared.space.Region.{Region}
 use Rattle.vm_model.specs.Space.AddressSpaces.{Spaces, is_mapped, with_region, AreGoodSpaces}
-use Rattle.vm_model.specs.Machine.State.{State, is_open, is_live, target_of, lineage_of, name_pages, IsGoodName, IsGoodPin, IsGoodState}
+use Rattle.vm_model.specs.Machine.State.{State, is_open, is_live, target_of, lineage_of, name_pages, pinned_copies, IsGoodName, IsGoodPin, IsGoodState}
 use Rattle.vm_model.specs.Machine.Leaving.{pruned}
 use Rattle.vm_model.specs.Machine.Step.{with_vmo, seen_pages, with_snapshot, slice_of, reference_of, with_alias, ChangesContent}
 use Rattle.vm_model.proofs.ContentLaws.{pages_of-at, IsGood-created, sole_held}
-use Rattle.vm_model.proofs.SharingLaws.{IsGood-snapshotted, koid_some}
+use Rattle.vm_model.proofs.SharingLaws.{koid_some}
 use Rattle.vm_model.proofs.ZeroingLaws.{cases_zeroed, count-resized_here, count-resized_other, IsGood-resized}
 use Rattle.vm_model.proofs.WritingLaws.{KeepsPages, Writes-keeps}
 use Rattle.vm_model.proofs.CommitLaws.{OwnsAll-keeps, OwnsAll-alone_pages}
+use Rattle.vm_model.proofs.CopyLaws.{CopiesKeep, CopiesKeep-from_owns}
 use Rattle.vm_model.proofs.ZeroesLaws.{zeroed-keeps, Zeroes-keeps}
-use Rattle.vm_model.proofs.SoleLaws.{KeepsSole, sole-created_kept, sole-snapshotted_kept, sole-zeroed_kept, sole-resized_kept}
+use Rattle.vm_model.proofs.SoleLaws.{KeepsSole, sole-created_kept, sole-zeroed_kept, sole-resized_kept}
 use Rattle.vm_base.proofs.EntryLaws.{with_key-same, with_key-other, with_key-cases, any_entry-with_key_kept, any_entry-with_key_new}
 use Rattle.vm_model.proofs.NamesLaws.{names-open, lineage_of-at, lineage_of-same}
-use Rattle.vm_model.proofs.PinLaws.{is_pinned_of, is_pinned-has_pin, any_pinned_at}
+use Rattle.vm_model.proofs.PinLaws.{is_pinned_of, any_pinned_at}
 use Rattle.vm_model.proofs.LeavingLaws.{lineage_at, count_at, IsGoodName-same, Loosens, unnamed, unpinned, LoosensAt-unnamed, LoosensAt-unpinned, IsLoose-from, IsGoodState-pruned, next-pruned, frames-pruned}
 use Rattle.vm_base.proofs.SearchLaws.{eqb_same}
 use Rattle.vm_model.proofs.LiveLaws.{is_live-named, is_live-pinned, is_live-mapped, is_live_cases, is_live-same}
@@ -163,21 +164,32 @@ create_keeps old name pages resizable good h closed few =
 pub seen_le : (c : Content) (target : Target) (start pages : ℕ) → seen_pages c target start pages ≤ pages
 seen_le c target start pages = min-le_left pages (name_pages c target - start)
 
--- a snapshot of what a name stands for, under a name that is not open. No pin is of the VMO of which it is one
-pub snapshot_keeps : (old : State) (name : ℕ) (target : Target) (start pages : ℕ) (resizable no_write : Bool) → IsGoodState old → name < NAMES → is_open old name ≡ false → IsSome (old.content.count target.koid.0) → has_pin old.pins target.koid.0 ≡ false → pages ≤ VMO_PAGES → Keeps old (with_snapshot old name target start pages resizable no_write)
+-- what owning its copies of pinned pages keeps
+pub copies_keep : (old : State) (target : Target) (start pages : ℕ) (d : Content) → IsGood old.content → pages ≤ VMO_PAGES
+    → OwnsAll (snapshotted old.content target.koid.0 (target.first + start) (seen_pages old.content target start pages) pages) old.content.next (pinned_copies old target start pages) d
+    → CopiesKeep old.content target.koid.0 (target.first + start) (seen_pages old.content target start pages) pages (is_pinned old.pins target.koid.0) d
+copies_keep old target start pages d good few owns =
+    CopiesKeep-from_owns old.content target.koid.0 (target.first + start) (seen_pages old.content target start pages) pages (is_pinned old.pins target.koid.0) d good
+    (seen_le old.content target start pages) few owns
+
+-- a snapshot of what a name stands for, under a name that is not open, which owns its copies of pinned pages
+pub snapshot_keeps : (old new : State) (name : ℕ) (target : Target) (start pages : ℕ) (resizable no_write : Bool) → IsGoodState old → name < NAMES → is_open old name ≡ false → IsSome (old.content.count target.koid.0) → pages ≤ VMO_PAGES
+    → ChangesContent (with_snapshot old name target start pages resizable no_write) new
+    → OwnsAll (with_snapshot old name target start pages resizable no_write).content old.content.next (pinned_copies old target start pages) new.content → Keeps old new
 unfolding with_snapshot snapshotted with_key
-snapshot_keeps old name target start pages resizable no_write good h closed vmo free few =
+snapshot_keeps old new name target start pages resizable no_write good h closed vmo few change owns =
     let c = old.content in
     let first = target.first + start in
     let seen = seen_pages c target start pages in
     let l : Lineage = record { resizable = resizable; origin = Snapshot; parent = Some target.koid.0 } in
-    let elsewhere : (w q : ℕ) → is_pinned old.pins w q ≡ true → w ≢ target.koid.0 = λ w q pinned same.
-    both_ways (has_pin old.pins target.koid.0) free (ap (has_pin old.pins) (sym same) ∙ is_pinned-has_pin old.pins w q pinned) in
-    enter_keeps old (snapshotted c target.koid.0 first seen pages) name pages (not no_write) l good h closed
-    (IsGood-snapshotted c target.koid.0 first seen pages good.content (seen_le c target start pages) few)
-    (with_key-same c.count c.next pages) (λ v apart. with_key-other c.count c.next pages v apart) refl refl
-    (λ w q pinned alone. sole-snapshotted_kept c target.koid.0 first seen pages w q good.content (λ same. absurd (elsewhere w q pinned same)) alone)
-    (λ p e. let is : target.koid.0 ≡ p = cc in subst (λ (v : ℕ). IsSome (old.lineage v)) is (lineage_at old target.koid.0 good vmo))
+    let keeps = copies_keep old target start pages new.content good.content few owns in
+    let kept = keeps.kept in
+    let counts : (v : ℕ) → new.content.count v ≡ with_key c.count c.next pages v = λ v. ap (λ (f : ℕ → Option ℕ). f v) kept.count in
+    subst (Keeps old) (sym change)
+    (enter_keeps old new.content name pages (not no_write) l good h closed kept.good
+    (counts c.next ∙ with_key-same c.count c.next pages) (λ v apart. counts v ∙ with_key-other c.count c.next pages v apart) kept.next kept.frames
+    (λ w q pinned alone. keeps.alone w q (λ same. inr (ap (λ (u : ℕ). is_pinned old.pins u q) (sym same) ∙ pinned)) alone)
+    (λ p e. let is : target.koid.0 ≡ p = cc in subst (λ (v : ℕ). IsSome (old.lineage v)) is (lineage_at old target.koid.0 good vmo)))
 
 -- ---- a name more
 

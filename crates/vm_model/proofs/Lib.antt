@@ -16,6 +16,7 @@ pub mod TableLaws
 pub mod MappingLaws
 pub mod LiveLaws
 pub mod LeavingLaws
+pub mod CopyLaws
 pub mod KeepLaws
 pub mod ReadinessLaws
 pub mod AccessLaws

@@ -1,12 +1,12 @@
 -- Laws of what is ready after a command: every page that is ready then is good.
-use Rattle.std.proofs.Common.{◌≡◌, ℕ, ◌+◌, ◌*◌, ◌/◌, ◌<◌, ◌≤◌, ◌==◌, Bool, true, false, cond, ◌&&◌, List, length, replicate, Option, None, Some, ◌⊎◌, refl, sym, ap, subst, ◌∙◌, inl, inr, arith}
+use Rattle.std.proofs.Common.{◌≡◌, ℕ, ◌+◌, ◌*◌, ◌/◌, ◌<◌, ◌≤◌, ◌==◌, Bool, true, false, not, cond, ◌&&◌, List, length, replicate, Option, None, Some, ◌⊎◌, refl, sym, ap, subst, ◌∙◌, inl, inr, arith}
 use Rattle.std.specs.Option.{option_map}
-use Rattle.std.proofs.lemmas.Bool.{and_from, both_ways, ltb-false, eq-eqb, not-false}
+use Rattle.std.proofs.lemmas.Bool.{and_cases, and_from, both_ways, ltb-false, eq-eqb, not-false}
 use Rattle.std.proofs.lemmas.List.{length-replicate}
 use Rattle.vm_base.specs.Entries.{passes, without_key}
 use Rattle.vm_base.specs.Pages.{rounded}
 use Rattle.vm_base.specs.declared.flags.Perm.{Perm}
-use Rattle.vm_base.specs.declared.limits.TheConstants.{PAGE}
+use Rattle.vm_base.specs.declared.limits.TheConstants.{PAGE, VMO_PAGES}
 use Rattle.vm_base.proofs.EntryLaws.{some_same, passes-some}
 use Rattle.vm_model.specs.declared.command.Command.{Command}
 use Rattle.vm_model.specs.declared.command.Command.TheVariants.{VmoCreate, VmoChild, VmoClose, VmoSetSize, VmoRead, VmoWrite, VmoFill, VmoCommit, VmoDecommit, VmoZero, VmoPin, VmoUnpin, RootCreate, VmarAllocate, VmarMap, VmarUnmap, VmarProtect, VmarDestroy, Maps, MemRead, MemWrite, Stat, VmoSize, VmoInfo}
@@ -27,8 +27,8 @@ use Rattle.vm_model.specs.Space.Regions.{region_of, is_at_or_below}
 use Rattle.vm_model.specs.Space.Table.{mapping_from, with_perm}
 use Rattle.vm_model.specs.Space.AddressSpaces.{Spaces, without_region}
 use Rattle.vm_model.specs.Space.Mappings.{entry_of, with_mapping, unmapped, protected}
-use Rattle.vm_model.specs.Space.Readiness.{Ready, frame_at, settled, unready, shows_in, read_only}
-use Rattle.vm_model.specs.Machine.State.{State, is_open, is_live, target_of, koid_of, size_of, place_of}
+use Rattle.vm_model.specs.Space.Readiness.{Ready, frame_at, settled, unready, shows_in, shows_but, read_only_but}
+use Rattle.vm_model.specs.Machine.State.{State, is_open, is_live, target_of, koid_of, size_of, place_of, pinned_copies}
 use Rattle.vm_model.specs.Machine.Leaving.{pruned}
 use Rattle.vm_model.specs.Machine.Given.{GivesName}
 use Rattle.vm_model.specs.Machine.Machine.{Machine, IsGoodReady, IsGoodMachine}
@@ -39,7 +39,7 @@ use Rattle.vm_model.proofs.CommitLaws.{OwnsAll-keeps}
 use Rattle.vm_model.proofs.FrameLaws.{KeepsAlone, KeepsAlone-pages, KeepsAlone-own, KeepsAlone-created, KeepsAlone-zeroed, KeepsAlone-resized, KeepsAlone-only}
 use Rattle.vm_model.proofs.NamesLaws.{names-open}
 use Rattle.vm_model.proofs.ReadinessLaws.{keeps_frame-parts, settled-some}
-use Rattle.vm_model.proofs.SoleLaws.{sole-snapshotted_kept}
+use Rattle.vm_model.proofs.KeepLaws.{copies_keep}
 use Rattle.vm_model.proofs.SpaceLaws.{without_regions-was}
 use Rattle.vm_model.proofs.StepLaws.{AllOff-from_none, place_inside, change_inside}
 use Rattle.vm_model.proofs.TableLaws.{with_pages-was}
@@ -141,48 +141,60 @@ unready_good old new root first end good alone entries r p readiness e =
 
 -- ---- a snapshot
 
--- a page that is ready then is ready for reading, and was for something, or it shows no page of the range
-read_only_cases : (table : ℕ → ℕ → Option Entry) (v first end : ℕ) (ready : Ready) (root p : ℕ) (readiness : Readiness)
-    → read_only table v first end ready root p ≡ Some readiness
-    → ((before : Readiness) × (ready root p ≡ Some before) × (readiness ≡ Read)) ⊎ ((passes (shows_in v first end) (table root p) ≡ false) × (ready root p ≡ Some readiness))
-unfolding read_only
-read_only_cases table v first end ready root p readiness e = go (passes (shows_in v first end) (table root p)) refl (ready root p) refl e where
-  go : (b : Bool) → passes (shows_in v first end) (table root p) ≡ b → (o : Option Readiness) → ready root p ≡ o
+-- a page that is ready then is ready for reading, and was for something, or it shows no page of the range that does not pass
+read_only_cases : (stays : ℕ → Bool) (table : ℕ → ℕ → Option Entry) (v first end : ℕ) (ready : Ready) (root p : ℕ) (readiness : Readiness)
+    → read_only_but stays table v first end ready root p ≡ Some readiness
+    → ((before : Readiness) × (ready root p ≡ Some before) × (readiness ≡ Read))
+    ⊎ ((passes (shows_but stays v first end) (table root p) ≡ false) × (ready root p ≡ Some readiness))
+unfolding read_only_but
+read_only_cases stays table v first end ready root p readiness e = go (passes (shows_but stays v first end) (table root p)) refl (ready root p) refl e where
+  go : (b : Bool) → passes (shows_but stays v first end) (table root p) ≡ b → (o : Option Readiness) → ready root p ≡ o
       → cond b (option_map (λ (any : Readiness). Read) o) o ≡ Some readiness
-      → ((before : Readiness) × (ready root p ≡ Some before) × (readiness ≡ Read)) ⊎ ((passes (shows_in v first end) (table root p) ≡ false) × (ready root p ≡ Some readiness))
+      → ((before : Readiness) × (ready root p ≡ Some before) × (readiness ≡ Read))
+      ⊎ ((passes (shows_but stays v first end) (table root p) ≡ false) × (ready root p ≡ Some readiness))
   go true f None g h = absurd cc
   go true f (Some before) g h = inl (before, g, sym (some_same h))
   go false f o g h = inr (f, g ∙ h)
 
--- what shows a page of which a snapshot is made may be read still, and the other pages stay sole
-snapshot_good : (old : Machine) (name : ℕ) (target : Target) (start pages : ℕ) (resizable no_write : Bool) → IsGoodMachine old
+-- an entry that shows no page of the range which does not pass shows one out of the range, or one that passes
+shows_but-off : (stays : ℕ → Bool) (v first end : ℕ) (entry : Entry) → shows_but stays v first end entry ≡ false
+    → entry.koid.0 ≡ v → ((entry.page < first) ⊎ (end ≤ entry.page)) ⊎ (stays entry.page ≡ true)
+shows_but-off stays v first end entry off same = elim (and_cases (shows_in v first end entry) (not (stays entry.page)) off) [
+  | inr passes ↦ inr (not-false (stays entry.page) passes)
+  | inl out ↦ elim (cases_zeroed v first end entry.koid.0 entry.page) [
+    | inr else ↦ inl (else same)
+    | inl inside ↦ absurd (both_ways (shows_in v first end entry) out
+        (and_from (entry.koid.0 == v) (is_within first end entry.page) (eq-eqb entry.koid.0 v inside.0) (is_within-true first end entry.page inside.1 inside.2)))
+  ]
+]
+
+-- what shows a page of which a snapshot is made may be read still, and the other pages and the pinned ones stay sole
+snapshot_good : (old : Machine) (new : State) (name : ℕ) (target : Target) (start pages : ℕ) (resizable no_write : Bool) → IsGoodMachine old → pages ≤ VMO_PAGES
+    → ChangesContent (with_snapshot old.state name target start pages resizable no_write) new
+    → OwnsAll (with_snapshot old.state name target start pages resizable no_write).content old.state.content.next (pinned_copies old.state target start pages) new.content
     → (root p : ℕ) (readiness : Readiness)
-    → read_only old.state.spaces.table target.koid.0 (target.first + start) (target.first + start + seen_pages old.state.content target start pages)
-    (settled_in old (with_snapshot old.state name target start pages resizable no_write)) root p ≡ Some readiness
-    → IsGoodReady (with_snapshot old.state name target start pages resizable no_write) root p readiness
+    → read_only_but (is_pinned old.state.pins target.koid.0) old.state.spaces.table target.koid.0 (target.first + start) (target.first + start + seen_pages old.state.content target start pages)
+    (settled_in old new) root p ≡ Some readiness
+    → IsGoodReady new root p readiness
 unfolding with_snapshot
-snapshot_good old name target start pages resizable no_write good root p readiness e =
+snapshot_good old new name target start pages resizable no_write good few change owns root p readiness e =
     let c = old.state.content in
     let v = target.koid.0 in
     let first = target.first + start in
     let seen = seen_pages c target start pages in
-    let new = with_snapshot old.state name target start pages resizable no_write in
-    elim (read_only_cases old.state.spaces.table v first (first + seen) (settled_in old new) root p readiness e) [
+    let pinned = is_pinned old.state.pins v in
+    let keeps = copies_keep old.state target start pages new.content good.state.content few owns in
+    elim (read_only_cases pinned old.state.spaces.table v first (first + seen) (settled_in old new) root p readiness e) [
       | inl reads ↦
           let still = IsStillReady-from_settled old new good root p reads.0 reads.1 in
           record { entry = still.entry; is = still.is; below = still.below; alone = λ writes. absurd (let read = reads.2 in cc) }
       | inr other ↦
           let still = IsStillReady-from_settled old new good root p readiness other.1 in
-          let w = still.entry.koid.0 in
-          let q = still.entry.page in
-          let unseen : shows_in v first (first + seen) still.entry ≡ false =
-          sym (passes-some (shows_in v first (first + seen)) (old.state.spaces.table root p) still.entry still.is) ∙ other.0 in
-          still_good old new root p readiness still still.is (λ was.
-          sole-snapshotted_kept c v first seen pages w q good.state.content (elim (cases_zeroed v first (first + seen) w q) [
-            | inr out ↦ out
-            | inl inside ↦ absurd (both_ways (shows_in v first (first + seen) still.entry) unseen
-                (and_from (w == v) (is_within first (first + seen) q) (eq-eqb w v inside.0) (is_within-true first (first + seen) q inside.1 inside.2)))
-          ]) was)
+          let there : old.state.spaces.table root p ≡ Some still.entry = ap (λ (s : State). s.spaces.table root p) (sym change) ∙ still.is in
+          let unseen : shows_but pinned v first (first + seen) still.entry ≡ false =
+          sym (passes-some (shows_but pinned v first (first + seen)) (old.state.spaces.table root p) still.entry there) ∙ other.0 in
+          still_good old new root p readiness still there
+          (keeps.alone still.entry.koid.0 still.entry.page (shows_but-off pinned v first (first + seen) still.entry unseen))
     ]
 
 -- ---- what each kind of change shows
@@ -268,8 +280,9 @@ pub ready_keeps : (old : Machine) (command : Command) (reply : Reply) (new : Sta
 ready_keeps old (VmoCreate name size resizable) reply new good h none effect =
     shown_good old new good (subst (KeepsShown old.state) (sym effect.1) (KeepsShown-vmo old.state name.0 (rounded size / PAGE) resizable good.state.content))
 ready_keeps old (VmoChild name parent SnapshotChild offset size resizable no_write) reply new good h none effect =
-    subst (IsGoodAfter old (VmoChild name parent SnapshotChild offset size resizable no_write) reply) (sym effect.1)
-    (snapshot_good old name.0 (target_of old.state parent.0) (offset / PAGE) (rounded size / PAGE) resizable no_write good)
+    let off = AllOff-from_none (refusals old.state (VmoChild name parent SnapshotChild offset size resizable no_write)) none in
+    let few : offset + rounded size ≤ VMO_PAGES * PAGE = ltb-false (VMO_PAGES * PAGE) (offset + rounded size) off.1.1.1.0 in
+    snapshot_good old new name.0 (target_of old.state parent.0) (offset / PAGE) (rounded size / PAGE) resizable no_write good (omega arith) effect.1 effect.2
 ready_keeps old (VmoChild name parent SliceChild offset size resizable no_write) reply new good h none effect =
     shown_good old new good (subst (KeepsShown old.state) (sym effect.1) (KeepsShown-alias old.state name.0 (slice_of (target_of old.state parent.0) (offset / PAGE) (rounded size / PAGE) no_write)))
 ready_keeps old (VmoChild name parent ReferenceChild offset size resizable no_write) reply new good h none effect =

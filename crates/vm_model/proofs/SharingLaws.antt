@@ -37,6 +37,11 @@ page_seen_held c v first seen p held e = elim (cases_lt p seen) [
 ]
 
 module _ (c : Content) (v first seen pages : ℕ) where
+  -- it has its pages
+  pub count-snapshotted_new : (snapshotted c v first seen pages).count c.next ≡ Some pages
+  unfolding snapshotted
+  count-snapshotted_new = ap (λ b. cond b (Some pages) (c.count c.next)) (eqb_same c.next)
+
   pub page-snapshotted_new : (p : ℕ) → (snapshotted c v first seen pages).page c.next p ≡ page_seen c v first seen p
   unfolding snapshotted
   page-snapshotted_new p = ap (λ b. cond b (page_seen c v first seen p) (c.page c.next p)) (eqb_same c.next)

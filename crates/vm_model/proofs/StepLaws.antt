@@ -143,8 +143,7 @@ effect_keeps old (VmoChild name parent SnapshotChild offset size resizable no_wr
     let off = AllOff-from_none (refusals old (VmoChild name parent SnapshotChild offset size resizable no_write)) none in
     let few : offset + rounded size ≤ VMO_PAGES * PAGE = ltb-false (VMO_PAGES * PAGE) (offset + rounded size) off.1.1.1.0 in
     let vmo = name_vmo old parent.0 target good (names-open old parent.0 (not-false (is_open old parent.0) off.0)) in
-    subst (Keeps old) (sym effect.1)
-    (snapshot_keeps old name.0 target (offset / PAGE) (rounded size / PAGE) resizable no_write good h off.1.0 vmo off.1.1.1.1.0 (omega arith))
+    snapshot_keeps old new name.0 target (offset / PAGE) (rounded size / PAGE) resizable no_write good h off.1.0 vmo (omega arith) effect.1 effect.2
 effect_keeps old (VmoChild name parent SliceChild offset size resizable no_write) reply new good h none effect =
     let target = target_of old parent.0 in
     let off = AllOff-from_none (refusals old (VmoChild name parent SliceChild offset size resizable no_write)) none in

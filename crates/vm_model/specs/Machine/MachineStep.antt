@@ -12,8 +12,9 @@ use Rattle.vm_model.specs.declared.command.ChildKind.TheVariants.{Snapshot}
 use Rattle.vm_model.specs.declared.reply.Reply.{Reply}
 use Rattle.vm_model.specs.declared.reply.Reply.TheVariants.{Address, Access, Faults}
 use Rattle.vm_model.specs.Contents.Writing.{touched}
+use Rattle.vm_model.specs.Naming.Pins.{is_pinned}
 use Rattle.vm_model.specs.Space.Regions.{region_of}
-use Rattle.vm_model.specs.Space.Readiness.{Ready, is_writable, settled, unready, read_only}
+use Rattle.vm_model.specs.Space.Readiness.{Ready, is_writable, settled, unready, read_only_but}
 use Rattle.vm_model.specs.Machine.State.{State, target_of}
 use Rattle.vm_model.specs.Machine.Access.{bytes_through, read_faults, after_reading, WritesThrough}
 use Rattle.vm_model.specs.Machine.Machine.{Machine, memory_of}
@@ -21,12 +22,12 @@ use Rattle.vm_model.specs.Machine.Refusals.{refusals, first_of}
 use Rattle.vm_model.specs.Machine.Step.{seen_pages, ChangesContent, Effect, may_lack_memory, IsRefused}
 
 -- What a command takes of what is ready, beside the pages whose frames changed. A page of which a snapshot was made is ready for
--- reading at most, and a page that was mapped or protected is ready for nothing.
+-- reading at most, unless a pin covers it, and a page that was mapped or protected is ready for nothing.
 abbrev pub withdrawn : State → Command → Reply → Ready → Ready
 withdrawn old (VmoChild name parent Snapshot offset size resizable no_write) reply ready =
     let target = target_of old parent.0 in
     let first = target.first + offset / PAGE in
-    read_only old.spaces.table target.koid.0 first (first + seen_pages old.content target (offset / PAGE) (rounded size / PAGE)) ready
+    read_only_but (is_pinned old.pins target.koid.0) old.spaces.table target.koid.0 first (first + seen_pages old.content target (offset / PAGE) (rounded size / PAGE)) ready
 withdrawn old (VmarMap region offset name vmo_offset len perm flags) (Address addr) ready =
     unready ready (region_of old.spaces.regions region.0).root.0 (addr / PAGE) (addr / PAGE + rounded len / PAGE)
 withdrawn old (VmarProtect region addr len perm) reply ready =

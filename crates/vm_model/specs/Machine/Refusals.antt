@@ -14,17 +14,22 @@ use Rattle.vm_model.specs.Contents.Owning.{need, need_each}
 use Rattle.vm_model.specs.Contents.Writing.{touched}
 use Rattle.vm_model.specs.Contents.Zeroing.{owned_by_zero}
 use Rattle.vm_model.specs.Naming.Names.{is_kind, may_decommit}
-use Rattle.vm_model.specs.Naming.Pins.{is_pinned, any_pinned, has_pin}
+use Rattle.vm_model.specs.Naming.Pins.{is_pinned, any_pinned}
 use Rattle.vm_model.specs.Space.Rights.{has, reading, writing, specific, overwrite, upper_limit, allow_faults}
 use Rattle.vm_model.specs.Space.Regions.{region_of, meets_child, cuts_child}
 use Rattle.vm_model.specs.Space.Places.{is_free, has_place, is_misplaced, limit_of}
 use Rattle.vm_model.specs.Space.Mappings.{lacks_reading, is_mismapped, is_outside, has_hole, forbids}
 use Rattle.vm_model.specs.Machine.Access.{pages_shown, access_refusal}
-use Rattle.vm_model.specs.Machine.State.{State, is_open, is_given, target_of, koid_of, size_of, place_of, lineage_of}
+use Rattle.vm_model.specs.declared.names.Target.{Target}
+use Rattle.vm_model.specs.Machine.State.{State, is_open, is_given, target_of, koid_of, size_of, place_of, lineage_of, pinned_copies}
 
 -- owning these pages of the VMO of this name takes more frames than are free
 abbrev pub lacks_frames : State → ℕ → List ℕ → Bool
 lacks_frames s name ps = nat_lt s.content.frames (used s.content + need s.content (koid_of s name) ps)
+
+-- the copies of pinned pages that a snapshot of what a name stands for has are more than the free frames
+abbrev pub lacks_copies : State → Target → ℕ → ℕ → Bool
+lacks_copies s target start pages = nat_lt s.content.frames (used s.content + length (pinned_copies s target start pages))
 
 -- the refusals of a change to a range of a name, for which these pages of its VMO are owned
 abbrev pub change_refusals : State → ℕ → ℕ → ℕ → List ℕ → List (Bool × Refusal)
@@ -61,7 +66,7 @@ refusals s (VmoChild name parent Snapshot offset size resizable no_write) =
     ∷ (is_open s name.0, NameInUse)
     ∷ (not (offset % PAGE == 0) || (resizable && no_write), InvalidArgs)
     ∷ (nat_lt (VMO_PAGES * PAGE) (offset + rounded size), OutOfRange)
-    ∷ (has_pin s.pins (koid_of s parent.0), BadState)
+    ∷ (lacks_copies s (target_of s parent.0) (offset / PAGE) (rounded size / PAGE), NoMemory)
     ∷ []
 refusals s (VmoChild name parent Slice offset size resizable no_write) =
     (not (is_open s parent.0), BadHandle)

@@ -1,13 +1,14 @@
 -- The state of the machine: what the page store contains, the names of VMOs, the lineage of each VMO, the pins, and the
 -- address spaces.
-use Rattle.std.specs.Prelude.{◌≡◌, ℕ, ◌+◌, ◌*◌, ◌<◌, ◌≤◌, Bool, true, false, ◌||◌, Option, None, Some, IsSome, is_some, unwrap_or}
+use Rattle.std.specs.Prelude.{◌≡◌, ℕ, ◌+◌, ◌-◌, ◌*◌, ◌<◌, ◌≤◌, min, Bool, true, false, ◌||◌, List, Option, None, Some, IsSome, is_some, unwrap_or}
+use Rattle.std.specs.List.{filter, range_with_len}
 use Rattle.vm_base.specs.declared.limits.TheConstants.{PAGE, NAMES, PIN_PAGES}
 use Rattle.vm_model.specs.declared.names.NameKind.TheVariants.{Slice}
 use Rattle.vm_model.specs.declared.names.Origin.TheVariants.{Created}
 use Rattle.vm_model.specs.Contents.Content.{Content, nothing, pages_of, sole, IsGood}
 use Rattle.vm_model.specs.declared.names.Target.{Target}
 use Rattle.vm_model.specs.Naming.Names.{Lineage, owner, is_named}
-use Rattle.vm_model.specs.Naming.Pins.{Pin, has_pin, pin_count}
+use Rattle.vm_model.specs.Naming.Pins.{Pin, is_pinned, has_pin, pin_count}
 use Rattle.vm_model.specs.Space.AddressSpaces.{Spaces, no_spaces, is_mapped, mapped_count, AreGoodSpaces}
 
 pub record State : Type 0 where
@@ -47,6 +48,15 @@ size_of s name = name_pages s.content (target_of s name) * PAGE
 -- the place in the VMO, in bytes, of an offset in the name
 abbrev pub place_of : State → ℕ → ℕ → ℕ
 place_of s name offset = (target_of s name).first * PAGE + offset
+
+-- how many pages of a name a snapshot of `pages` pages sees, from page `start` of the name on. Differences stop at 0
+abbrev pub seen_pages : Content → Target → ℕ → ℕ → ℕ
+seen_pages c target start pages = min pages (name_pages c target - start)
+
+-- those of its pages that are copies of pages which a pin covers, in ascending order
+abbrev pub pinned_copies : State → Target → ℕ → ℕ → List ℕ
+pinned_copies s target start pages =
+    filter (λ q. is_pinned s.pins target.koid.0 (target.first + start + q)) (range_with_len 0 (seen_pages s.content target start pages))
 
 -- what is kept of the VMO v. Where there is none, this means nothing
 unfoldable pub lineage_of : State → ℕ → Lineage

@@ -1,5 +1,5 @@
 -- One step of the machine's state: a command is refused, or it has its effect, or the host lacks memory for it.
-use Rattle.std.specs.Prelude.{◌≡◌, ℕ, ◌+◌, ◌-◌, ◌*◌, ◌/◌, min, Bool, true, false, not, List, length, map, replicate, Option, None, Some, Result, ◌⊎◌, ◌&&◌}
+use Rattle.std.specs.Prelude.{◌≡◌, ℕ, ◌+◌, ◌*◌, ◌/◌, Bool, true, false, not, List, length, map, replicate, Option, None, Some, Result, ◌⊎◌, ◌&&◌}
 use Rattle.std.specs.declared.result.Result.TheVariants.{Ok, Err}
 use Rattle.std.specs.List.{list_any, range_with_len}
 use Rattle.vm_base.specs.Pages.{rounded}
@@ -27,7 +27,8 @@ use Rattle.vm_model.specs.Space.Regions.{root_region, region_of, end_of, region_
 use Rattle.vm_model.specs.Space.AddressSpaces.{with_region, without_region}
 use Rattle.vm_model.specs.Space.Places.{IsPlace}
 use Rattle.vm_model.specs.Space.Mappings.{entry_of, with_mapping, IsMapPlace, unmapped, protected, is_mapped_in, runs_of}
-use Rattle.vm_model.specs.Machine.State.{State, target_of, koid_of, name_pages, size_of, place_of}
+use Rattle.vm_model.specs.Machine.State.{State, target_of, koid_of, size_of, place_of, pinned_copies}
+pub use Rattle.vm_model.specs.Machine.State.{seen_pages}
 use Rattle.vm_model.specs.Machine.Leaving.{pruned}
 use Rattle.vm_model.specs.Machine.Attribution.{info_at, stat_of}
 use Rattle.vm_model.specs.Machine.Refusals.{refusals, first_of}
@@ -39,10 +40,6 @@ with_vmo s name pages resizable = record s {
   names = with_key s.names name (owner s.content.next true resizable);
   lineage = with_key s.lineage s.content.next (record { resizable = resizable; origin = Created; parent = None });
 }
-
--- how many pages of a name a snapshot of `pages` pages sees, from page `start` of the name on. Differences stop at 0
-abbrev pub seen_pages : Content → Target → ℕ → ℕ → ℕ
-seen_pages c target start pages = min pages (name_pages c target - start)
 
 -- A snapshot of what a name stands for, from its page `start` on, and the snapshot's name. Pages past the end of the name
 -- are zero, also if the name's VMO grows later.
@@ -96,12 +93,15 @@ frames_of c pin = map (λ p. frame_of (c.page pin.koid p)) (range_with_len pin.f
 abbrev pub ChangesContent : State → State → Type 0
 ChangesContent old new = new ≡ record old { content = new.content }
 
--- what a command does where nothing refuses it
+-- What a command does where nothing refuses it. A snapshot is made, and then it owns its copies of pinned pages, so that those
+-- keep their frames for themselves.
 abbrev pub Effect : State → Command → Reply → State → Type 0
 Effect old (VmoCreate name size resizable) reply new =
     (reply ≡ Done) × (new ≡ with_vmo old name.0 (rounded size / PAGE) resizable)
 Effect old (VmoChild name parent SnapshotChild offset size resizable no_write) reply new =
-    (reply ≡ Done) × (new ≡ with_snapshot old name.0 (target_of old parent.0) (offset / PAGE) (rounded size / PAGE) resizable no_write)
+    let snapshot = with_snapshot old name.0 (target_of old parent.0) (offset / PAGE) (rounded size / PAGE) resizable no_write in
+    (reply ≡ Done) × ChangesContent snapshot new
+    × OwnsAll snapshot.content old.content.next (pinned_copies old (target_of old parent.0) (offset / PAGE) (rounded size / PAGE)) new.content
 Effect old (VmoChild name parent SliceChild offset size resizable no_write) reply new =
     (reply ≡ Done) × (new ≡ with_alias old name.0 (slice_of (target_of old parent.0) (offset / PAGE) (rounded size / PAGE) no_write))
 Effect old (VmoChild name parent ReferenceChild offset size resizable no_write) reply new =

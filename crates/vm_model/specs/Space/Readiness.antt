@@ -1,6 +1,6 @@
 -- Which pages of address spaces are ready for an access, so that it takes no page fault. From the kernel's page tables: a page
 -- is translated when it is touched first, and again after its frame changed.
-use Rattle.std.specs.Prelude.{ℕ, Bool, true, false, ◌&&◌, ◌==◌, nat_lt, if◌then◌else◌, Option, None, Some}
+use Rattle.std.specs.Prelude.{ℕ, Bool, true, false, not, ◌&&◌, ◌==◌, nat_lt, if◌then◌else◌, Option, None, Some}
 use Rattle.std.specs.Option.{option_map}
 use Rattle.vm_base.specs.Entries.{passes}
 use Rattle.vm_model.specs.declared.space.Entry.{Entry}
@@ -51,7 +51,12 @@ unready ready root first end r p = if (r == root) && is_within first end p then 
 abbrev pub shows_in : (v first end : ℕ) → Entry → Bool
 shows_in v first end entry = (entry.koid.0 == v) && is_within first end entry.page
 
--- what shows a page of the VMO v from `first` to below `end` is ready for reading at most
-unfoldable pub read_only : (ℕ → ℕ → Option Entry) → (v first end : ℕ) → Ready → Ready
-read_only table v first end ready root p =
-    if passes (shows_in v first end) (table root p) then option_map (λ (readiness : Readiness). Read) (ready root p) else ready root p
+-- the entry shows such a page that does not pass the test
+abbrev pub shows_but : (stays : ℕ → Bool) → (v first end : ℕ) → Entry → Bool
+shows_but stays v first end entry = shows_in v first end entry && not (stays entry.page)
+
+-- what shows a page of the VMO v from `first` to below `end` is ready for reading at most, but for the pages that pass the test:
+-- what shows those stays ready for what it was
+unfoldable pub read_only_but : (stays : ℕ → Bool) → (ℕ → ℕ → Option Entry) → (v first end : ℕ) → Ready → Ready
+read_only_but stays table v first end ready root p =
+    if passes (shows_but stays v first end) (table root p) then option_map (λ (readiness : Readiness). Read) (ready root p) else ready root p
