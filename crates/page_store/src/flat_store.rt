@@ -174,7 +174,8 @@ impl FlatStore {
         requires zero { (p : ℕ) → (content_of self.old).page v.0 p ≡ None }
         requires good { IsGood (showing (content_of self.old) of.0 first (end - first) v.0) }
         requires room { held_from (content_of self.old) of.0 first (end - first) ≤ room_of self.old }
-        ensures { content_of self.new ≡ showing (content_of self.old) of.0 first (end - first) v.0 }
+        ensures content { content_of self.new ≡ showing (content_of self.old) of.0 first (end - first) v.0 }
+        ensures room { room_of self.old ≤ room_of self.new + held_from (content_of self.old) of.0 first (end - first) }
     {
         let mut from = first;
         while let Some((page, tag)) = self.held_below(of, from, end) {
@@ -237,9 +238,12 @@ impl PageStore for FlatStore {
     ) -> Result<Koid, HostMemory> {
         let koid = Koid(self.next);
         let end = first + seen;
-        // All memory is taken before anything is changed.
+        // All memory is taken before anything is changed. The room that is there already stays.
         let held = self.count_held(of, first, end);
-        let Ok(()) = self.rows.reserve(held as usize) else {
+        let Some(room) = self.rows.spare().checked_add(held as usize) else {
+            return Err(HostMemory);
+        };
+        let Ok(()) = self.rows.reserve(room) else {
             return Err(HostMemory);
         };
         let Ok(_) = self.add_vmo(count) else {

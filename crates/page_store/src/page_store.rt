@@ -29,8 +29,8 @@ pub trait PageStore: Drop {
     ghost content: { Self → Content };
 
     /// How many pages may be owned or made zero without asking the host for memory. `reserve` raises it,
-    /// `own` and `zero` lower it by at most 1, and `write` leaves it as it was. Where they succeed, the
-    /// other calls that change the store promise nothing of it.
+    /// `own` and `zero` lower it by at most 1, `write` leaves it as it was, and `snapshot` does not lower
+    /// it. Where they succeed, the other calls that change the store promise nothing of it.
     ghost spare: { Self → ℕ };
 
     /// Gives a store that has nothing its page frames, from 1 to `FRAMES` of them. All are free.
@@ -54,7 +54,8 @@ pub trait PageStore: Drop {
 
     /// Makes a snapshot of a VMO under the next koid, and answers the koid. It has `count` pages. Of
     /// these the first `seen` are the pages of `of` from `first` on: they show the same frames, so that
-    /// none is taken. The others are zero. `HostMemory` where the host has too little memory.
+    /// none is taken. The others are zero. Pages for which there was room may be owned still, of the
+    /// snapshot too. `HostMemory` where the host has too little memory.
     fn snapshot(
         &mut self,
         of: Koid,
@@ -70,7 +71,7 @@ pub trait PageStore: Drop {
         ensures koid { IfOk result (λ v. v.0 ≡ (content self.old).next) }
         ensures ok { OnOk result (content self.new ≡ snapshotted (content self.old) of.0 first seen count) }
         ensures err { OnErr result (content self.new ≡ content self.old) }
-        ensures kept { OnErr result (spare self.old ≤ spare self.new) };
+        ensures kept { spare self.old ≤ spare self.new };
 
     /// Makes room for owning `n` pages, or for making them zero. `HostMemory` where the host has too
     /// little memory.

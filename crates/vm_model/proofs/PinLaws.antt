@@ -4,9 +4,9 @@ use Rattle.std.proofs.lemmas.Bool.{and_parts, and_from}
 use Rattle.std.proofs.lemmas.Bool.Decides.{Decides-eqb}
 use Rattle.vm_base.specs.declared.limits.TheConstants.{NAMES}
 use Rattle.vm_base.proofs.SearchLaws.{any_from_at, none_from, eqb_is}
-use Rattle.vm_base.proofs.EntryLaws.{any_entry_at, any_entry_found, entry_count_le}
+use Rattle.vm_base.proofs.EntryLaws.{any_entry_at, entry_count_le}
 use Rattle.vm_model.specs.Contents.Zeroing.{is_within}
-use Rattle.vm_model.specs.Naming.Pins.{Pin, has_pin, covers, is_pinned, any_pinned, pin_count}
+use Rattle.vm_model.specs.Naming.Pins.{Pin, covers, is_pinned, any_pinned, pin_count}
 use Rattle.vm_model.proofs.ZeroingLaws.{is_within-true, is_within-parts}
 
 -- ---- one pin
@@ -26,12 +26,6 @@ covers_parts v p pin e =
 -- a page of a pin is pinned
 pub is_pinned_of : (pins : ℕ → Option Pin) (n p : ℕ) (pin : Pin) → n < NAMES → pins n ≡ Some pin → pin.first ≤ p → p < pin.first + pin.count → is_pinned pins pin.koid p ≡ true
 is_pinned_of pins n p pin h e low high = any_entry_at NAMES (covers pin.koid p) pins n pin h e (covers_at pin.koid p pin refl low high)
-
--- the VMO of a pinned page has a pin
-pub is_pinned-has_pin : (pins : ℕ → Option Pin) (v p : ℕ) → is_pinned pins v p ≡ true → has_pin pins v ≡ true
-is_pinned-has_pin pins v p e =
-    let found = any_entry_found NAMES (covers v p) pins e in
-    any_entry_at NAMES (λ (pin : Pin). pin.koid == v) pins found.0 found.1 found.2 found.3 ((Decides-eqb found.1.koid v).1 (covers_parts v p found.1 found.4).0)
 
 -- ---- pages in a row
 

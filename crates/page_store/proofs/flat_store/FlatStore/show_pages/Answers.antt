@@ -10,6 +10,7 @@ loop-page-init c = record {
   end = c.requires.order;
   shown = showing-begins (content_of c.args.self.now) c.args.of.0 c.args.first c.args.v.0 c.requires.zero;
   room = omega (arith, c.requires.room);
+  spare = omega arith;
 }
 
 pub overflow_sub-page : goal.overflow_sub-page
@@ -45,14 +46,21 @@ loop-page-preserved c =
     let inv = c.loop-page.invariant in
     let next = c.in-Some.ensures.some in
     let held = ap (page_from c.loop-page.self.pool) c.in-Some.ensures.tag in
+    let one = held-shown (content_of c.args.self.now) (content_of c.loop-page.self) _ _ _ _ _ inv.shown c.requires.apart _ inv.first next in
     record {
       first = omega (arith, next.order, inv.first);
       end = omega (arith, next.below);
       shown = showing-next (content_of c.args.self.now) (content_of c.loop-page.self) _ _ _ _ _ inv.shown c.requires.apart _ _ _ inv.first next held c.show_page.ensures.content;
-      room = omega (arith, inv.room, held-shown (content_of c.args.self.now) (content_of c.loop-page.self) _ _ _ _ _ inv.shown c.requires.apart _ inv.first next, c.show_page.ensures.room);
+      room = omega (arith, inv.room, one, c.show_page.ensures.room);
+      spare = omega (arith, inv.spare, one, c.show_page.ensures.room);
     }
 
-pub returns : goal.returns
-returns c =
+pub returns-clause-content : goal.returns-clause-content
+returns-clause-content c =
     let inv = c.loop-page.invariant in
     showing-end (content_of c.args.self.now) (content_of c.loop-page.self) _ _ _ _ _ inv.shown c.requires.apart inv.first inv.end c.in_default.ensures.none
+
+pub returns-clause-room : goal.returns-clause-room
+returns-clause-room c =
+    let inv = c.loop-page.invariant in
+    omega (arith, inv.spare, held-more (content_of c.args.self.now) c.args.of.0 c.args.first (c.loop-page.from - c.args.first) (c.args.end - c.args.first) (omega (arith, inv.end)))

@@ -11,6 +11,7 @@ invariant-loop-page l = record {
   shown : content_of l.self ≡ showing (content_of l.initial.self) l.of.0 l.first (l.from - l.first) l.v.0;
   room : held_from (content_of l.initial.self) l.of.0 l.first (l.end - l.first)
       ≤ room_of l.self + held_from (content_of l.initial.self) l.of.0 l.first (l.from - l.first);
+  spare : room_of l.initial.self ≤ room_of l.self + held_from (content_of l.initial.self) l.of.0 l.first (l.from - l.first);
 }
 
 abbrev pub decreases-loop-page : goal.decreases-loop-page

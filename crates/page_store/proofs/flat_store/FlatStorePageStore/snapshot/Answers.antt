@@ -34,6 +34,15 @@ show_pages-requires-clause-room c =
 
 pub returns-clause-ok : goal.returns-clause-ok
 returns-clause-ok c =
-    rw (← c.self.view_is) (c.show_pages.ensures
+    rw (← c.self.view_is) (c.show_pages.ensures.content
     ∙ snapshot-is (content_of (flat_of c.self.inside)) (content_of c.add_vmo.new.self) c.args.of.0 c.args.first c.args.seen c.args.count _ c.self.invariant.flat.good
     (rw c.reserve.ensures.values at c.in-Ok-add_vmo.ensures.ok) refl)
+
+-- the room that was there is there still, beside the entries that came
+pub returns-clause-kept : goal.returns-clause-kept
+returns-clause-kept c =
+    let made = rw c.reserve.ensures.values at c.in-Ok-add_vmo.ensures.ok in
+    let same = snapshot-held (content_of (flat_of c.self.inside)) (content_of c.add_vmo.new.self) c.args.of.0 c.args.first c.args.seen c.args.count _ c.self.invariant.flat.good made refl (c.args.first + c.args.seen - c.args.first) in
+    let held = rw (← c.self.view_is) at c.count_held-held.ensures in
+    let rows = ap (λ (rows : PairMap Tag). spare_of rows) c.in-Ok-add_vmo.ensures.rows in
+    rw (← c.self.view_is) (omega (arith, same, held, rows, c.in-Ok.ensures.room, c.in-Some.ensures, c.spare.ensures, c.show_pages.ensures.room))
