@@ -4,6 +4,7 @@ pub mod NameLaws
 pub mod LookLaws
 pub mod PinnedLaws
 pub mod CreateLaws
+pub mod CopyRows
 pub mod ReadLaws
 pub mod CountLaws
 pub mod NeedLaws

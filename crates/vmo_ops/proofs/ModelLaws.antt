@@ -6,7 +6,7 @@ use Rattle.std.proofs.lemmas.List.{get_or-drop, get_or-take, length-drop, length
 use Rattle.std.proofs.lemmas.List.FromFn.{get_or-map-range_with_len, length-map-range_with_len}
 use Rattle.std.specs.List.{list_any, range_with_len}
 use Rattle.std.specs.Prelude.{slice_range}
-use Rattle.vm_base.proofs.SearchLaws.{bit-false, count_below_le, any_from_found}
+use Rattle.vm_base.proofs.SearchLaws.{bit-false, count_below_le}
 use Rattle.vm_base.specs.declared.limits.TheConstants.{PAGE}
 use Rattle.vm_model.proofs.OwningLaws.{count_from, length-shown, need-filter, need-row, unowned}
 use Rattle.vm_model.proofs.PinLaws.{any_pinned_at, none_pinned}
@@ -129,11 +129,6 @@ pub need-zero : (c : Content) (v : ℕ) (pinned : ℕ → Bool) (offset len firs
 need-zero = grind (arith, need-filter)
 
 -- ---- pins
-
--- a page among them that is pinned
-pub any_pinned_found : (pins : ℕ → Option Pin) (v first end : ℕ) → any_pinned pins v first end ≡ true → (p : ℕ) × (first ≤ p) × (p < end) × (is_pinned pins v p ≡ true)
-unfolding any_pinned
-any_pinned_found pins v = any_from_found (is_pinned pins v)
 
 -- no page among them is pinned
 pub any_pinned_none : (pins : ℕ → Option Pin) (v first end p : ℕ) → any_pinned pins v first end ≡ false → first ≤ p → p < end → is_pinned pins v p ≡ false

@@ -29,7 +29,7 @@ use vmo_table::{Target, VmoTable};
 ///   size, or is to be resizable and `t` may not resize;
 /// - `NotSupported` for a slice of a VMO that is resizable, and for a reference of a slice;
 /// - `OutOfRange` where `offset` and the rounded size of a snapshot are over 2^36 bytes together;
-/// - `BadState` for a snapshot of a VMO that has a pin;
+/// - `NoMemory` for a snapshot where the pinned pages that it copies are more than the free frames;
 /// - `HostMemory`.
 pub fn create_child<P: PageStore>(
     store: &mut P,

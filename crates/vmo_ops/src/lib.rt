@@ -21,6 +21,7 @@ mod aliases;
 mod children;
 mod closing;
 mod committing;
+mod copies;
 mod decommitting;
 mod filling;
 mod held_pages;

@@ -1,29 +1,35 @@
 //! Making a snapshot of a VMO (`ZX_VMO_CHILD_SNAPSHOT`).
 
-ghost use Rattle.std.specs.Prelude.{◌≡◌, ◌+◌, ◌*◌, ◌/◌, ◌<◌, ◌≤◌, ◌⊎◌, None, Some, IsSome, IfNone, IfSome, IfOk};
+ghost use Rattle.std.specs.Prelude.{◌≡◌, ◌+◌, ◌*◌, ◌/◌, ◌<◌, ◌≤◌, ◌⊎◌, length, None, Some, IsSome, IfNone, IfSome, IfOk, OnOk, OnErr};
 ghost use Rattle.vm_base.specs.Pages.{rounded};
 ghost use Rattle.vm_base.specs.declared.names.VmoName.{VmoName};
 ghost use Rattle.vm_base.specs.declared.limits.TheConstants.{KOIDS};
 ghost use Rattle.vm_model.specs.declared.command.Command.{Command};
 ghost use Rattle.vm_model.specs.declared.command.ChildKind.TheVariants.{Snapshot};
 ghost use Rattle.vm_model.specs.declared.reply.Reply.{Reply};
-ghost use Rattle.vm_model.specs.Contents.Content.{pages_of, IsGood};
-ghost use Rattle.vm_model.specs.Naming.Pins.{has_pin};
-ghost use Rattle.vm_model.specs.Machine.State.{State, IsGoodState};
+ghost use Rattle.vm_model.specs.Contents.Content.{pages_of, used, IsGood};
+ghost use Rattle.vm_model.specs.Contents.Owning.{OwnsAll};
+ghost use Rattle.vm_model.specs.Contents.Sharing.{snapshotted};
+ghost use Rattle.vm_model.specs.Naming.Pins.{is_pinned};
+ghost use Rattle.vm_model.specs.Machine.State.{State};
 ghost use Rattle.vm_model.specs.Machine.Step.{Step, seen_pages, reply_of};
 ghost use Rattle.page_store.specs.Names.{IsInside};
 ghost use Rattle.vmo_table.specs.Table.{names_of, keepers_of, IsNamed};
 ghost use Rattle.pin_table.specs.Table.{pins_of};
+ghost use Rattle.vmo_ops.specs.Copies.{copies_of};
 ghost use Rattle.vmo_ops.specs.Targets.{AreTogether, with_tables, koid_given};
 
+use crate::copies::{count_copies, own_copies};
 use page_store::{PageStore, pages_of_name};
 use pin_table::PinTable;
-use vm_base::{Koid, PAGE, PageNo, Refusal, VMO_PAGES, VmoName, in_page, page_of, round_up};
+use vm_base::{
+    HostMemory, Koid, PAGE, PageNo, Refusal, VMO_PAGES, VmoName, in_page, page_of, round_up,
+};
 use vmo_table::{Origin, Target, VmoTable};
 
 /// Makes a VMO that shows the pages of what `t` stands for, from `offset` bytes into it on, as they are
-/// now. No byte is copied: a page is copied when one of the two VMOs is written to. Pages past the end of
-/// the name are zero.
+/// now. A page is copied when one of the two VMOs is written to, and a pinned page at once, so that it keeps
+/// its frame for itself. Pages past the end of the name are zero.
 pub(crate) fn snapshot<P: PageStore>(
     store: &mut P,
     vmos: &mut VmoTable,
@@ -52,14 +58,17 @@ pub(crate) fn snapshot<P: PageStore>(
     let Some(pages) = pages_within(offset, size) else {
         return Err(Refusal::OutOfRange);
     };
-    if is_pinned_anywhere(store, pins, t.koid) {
-        return Err(Refusal::BadState);
+    let (first, seen) = seen_part(store, t, page_of(offset), pages);
+    let copied = count_copies(pins, t.koid, first, seen);
+    let free = u64::from(store.free());
+    if copied > free {
+        return Err(Refusal::NoMemory);
     }
+    // All memory is taken before anything is changed, so that nothing is left to undo.
     let Ok(()) = vmos.reserve() else {
         return Err(Refusal::HostMemory);
     };
-    let (first, seen) = seen_part(store, t, page_of(offset), pages);
-    let Ok(koid) = store.snapshot(t.koid, first, seen, pages) else {
+    let Ok(koid) = snapshot_owned(store, pins, t.koid, first, seen, pages, copied) else {
         return Err(Refusal::HostMemory);
     };
     vmos.enter(
@@ -73,13 +82,38 @@ pub(crate) fn snapshot<P: PageStore>(
     Ok(Some(koid))
 }
 
-// Whether a VMO has a pin.
-fn is_pinned_anywhere<P: PageStore>(store: &P, pins: &PinTable, v: Koid) -> bool
-    requires good { (s : State) × IsGoodState (record s { content = P.content store.now; pins = pins_of pins.now }) }
-    requires vmo { IsSome ((P.content store.now).count v.0) }
-    ensures { result ≡ has_pin (pins_of pins.now) v.0 }
+// Makes a snapshot of `pages` pages, which sees `seen` pages of `of` from its page `first` on, and owns its copies of
+// pinned pages, of which there are `copied`. Answers the snapshot's koid. `HostMemory` where the host has too little
+// memory, and then nothing was changed.
+fn snapshot_owned<P: PageStore>(
+    store: &mut P,
+    pins: &PinTable,
+    of: Koid,
+    first: PageNo,
+    seen: PageNo,
+    pages: PageNo,
+    copied: u64,
+) -> Result<Koid, HostMemory>
+    requires good { IsGood (P.content store.old) }
+    requires vmo { IsSome ((P.content store.old).count of.0) }
+    requires count { (seen ≤ pages) × (pages ≤ VMO_PAGES) }
+    requires range { first + seen ≤ pages_of (P.content store.old) of.0 }
+    requires next { (P.content store.old).next < KOIDS }
+    requires copied { copied ≡ length (copies_of (is_pinned (pins_of pins.now) of.0) first seen 0) }
+    requires free { used (P.content store.old) + copied ≤ (P.content store.old).frames }
+    ensures koid { IfOk result (λ koid. koid.0 ≡ (P.content store.old).next) }
+    ensures ok { OnOk result (OwnsAll (snapshotted (P.content store.old) of.0 first seen pages)
+        (P.content store.old).next (copies_of (is_pinned (pins_of pins.now) of.0) first seen 0) (P.content store.new)) }
+    ensures err { OnErr result (P.content store.new ≡ P.content store.old) }
 {
-    pins.pinned(v, 0, store.count(v))
+    let Ok(()) = store.reserve(copied) else {
+        return Err(HostMemory);
+    };
+    let Ok(koid) = store.snapshot(of, first, seen, pages) else {
+        return Err(HostMemory);
+    };
+    own_copies(store, pins, koid, of, first, seen);
+    Ok(koid)
 }
 
 // The pages of `size` bytes, where they end at or below the greatest size of a VMO, counted from

@@ -1,0 +1,72 @@
+//! The copies of pinned pages that a snapshot owns at once, so that the pages which are pinned keep their frames for
+//! themselves. Each walk goes from one pinned page to the next, and costs nothing for the pages between.
+
+ghost use Rattle.std.specs.Prelude.{◌≡◌, ℕ, ◌+◌, ◌≤◌, length};
+ghost use Rattle.vm_base.specs.declared.limits.TheConstants.{VMO_PAGES};
+ghost use Rattle.vm_model.specs.Contents.Content.{pages_of, used, IsGood};
+ghost use Rattle.vm_model.specs.Contents.Owning.{OwnsAll};
+ghost use Rattle.vm_model.specs.Naming.Pins.{is_pinned};
+ghost use Rattle.pin_table.specs.Table.{pins_of};
+ghost use Rattle.vmo_ops.specs.Copies.{copies_of, IsNextCopy};
+
+use page_store::PageStore;
+use pin_table::PinTable;
+use vm_base::{Koid, PageNo, VMO_PAGES};
+
+// The first page from `from` on, of a snapshot that sees `seen` pages of `of` from its page `first` on, that is the copy
+// of a pinned page. `None` exactly where none is.
+fn next_copy(pins: &PinTable, of: Koid, first: PageNo, seen: PageNo, from: PageNo) -> Option<PageNo>
+    requires order { from ≤ seen }
+    requires range { first + seen ≤ VMO_PAGES }
+    ensures { IsNextCopy (is_pinned (pins_of pins.now) of.0) first seen from result }
+{
+    let end = first + seen;
+    let Some(page) = pins.next_pinned(of, first + from) else {
+        return None;
+    };
+    if page >= end {
+        return None;
+    }
+    Some(page - first)
+}
+
+/// How many pages of a snapshot are copies of pinned pages: of one that sees `seen` pages of `of` from its page `first` on.
+/// O(n log p) for n of them, with p pinned pages in all.
+pub(crate) fn count_copies(pins: &PinTable, of: Koid, first: PageNo, seen: PageNo) -> u64
+    requires { first + seen ≤ VMO_PAGES }
+    ensures { result ≡ length (copies_of (is_pinned (pins_of pins.now) of.0) first seen 0) }
+{
+    let mut copied = 0;
+    let mut from = 0;
+    while let Some(page) = next_copy(pins, of, first, seen, from) {
+        copied += 1;
+        from = page + 1;
+    }
+    copied
+}
+
+/// Owns those pages of a snapshot that are copies of pinned pages, in ascending order, where there are room and free
+/// frames for all of them. The snapshot sees `seen` pages of `of` from its page `first` on.
+pub(crate) fn own_copies<P: PageStore>(
+    store: &mut P,
+    pins: &PinTable,
+    snapshot: Koid,
+    of: Koid,
+    first: PageNo,
+    seen: PageNo,
+)
+    requires range { first + seen ≤ VMO_PAGES }
+    requires good { IsGood (P.content store.old) }
+    requires inside { seen ≤ pages_of (P.content store.old) snapshot.0 }
+    requires room { length (copies_of (is_pinned (pins_of pins.now) of.0) first seen 0) ≤ P.spare store.old }
+    requires free { used (P.content store.old) + length (copies_of (is_pinned (pins_of pins.now) of.0) first seen 0)
+        ≤ (P.content store.old).frames }
+    ensures { OwnsAll (P.content store.old) snapshot.0 (copies_of (is_pinned (pins_of pins.now) of.0) first seen 0)
+        (P.content store.new) }
+{
+    let mut from = 0;
+    while let Some(page) = next_copy(pins, of, first, seen, from) {
+        store.own(snapshot, page);
+        from = page + 1;
+    }
+}
