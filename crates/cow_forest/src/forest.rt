@@ -170,7 +170,7 @@ impl PageStore for CowForest {
         ensures koid { IfOk result (λ v. v.0 ≡ (content_of self.old).next) }
         ensures ok { OnOk result (content_of self.new ≡ snapshotted (content_of self.old) of.0 first seen count) }
         ensures err { OnErr result (content_of self.new ≡ content_of self.old) }
-        ensures kept { OnErr result (self.old.rows.spare ≤ self.new.rows.spare) }
+        ensures kept { self.old.rows.spare ≤ self.new.rows.spare }
         ensures rows { row_count self.new.rows ≡ row_count self.old.rows }
         ensures hidden { OnOk result (hidden_count self.new.arena ≡ hidden_count self.old.arena + 1) }
         ensures err_hidden { OnErr result (hidden_count self.new.arena ≡ hidden_count self.old.arena) }

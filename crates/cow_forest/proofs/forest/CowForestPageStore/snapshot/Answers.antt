@@ -76,3 +76,7 @@ pub returns-clause-ok : goal.returns-clause-ok
 returns-clause-ok c =
     let h = found-node (forest_of c.self.inside) c.self.invariant.store _ c.make_room.ensures.nodes c.args.of.0 _ c.get-node.ensures in
     rw (← c.self.view_is) (content-shared (forest_of c.self.inside) c.self.invariant.store _ _ _ _ c.args.of.0 _ _ _ _ _ h (came c))
+
+-- no row came, so there is room for as many
+pub returns-clause-kept : goal.returns-clause-kept
+returns-clause-kept c = rw (← c.self.view_is) (omega (arith, c.in_ok-pair.ensures.ok.spare))
