@@ -1,5 +1,5 @@
 -- What a command that was done reached lies within the bounds that the calls ask for which forget translations.
-use Rattle.std.proofs.Common.{◌≡◌, ◌≢◌, ◌==◌, ◌%◌, ℕ, ◌+◌, ◌*◌, ◌/◌, ◌≤◌, Bool, true, false, not, ◌&&◌, ◌||◌, length, replicate, Option, None, Some, refl, sym, ap, subst, ◌∙◌, inl, inr, arith}
+use Rattle.std.proofs.Common.{◌≡◌, ◌≢◌, ◌==◌, ◌%◌, ℕ, ◌+◌, ◌*◌, ◌/◌, ◌≤◌, Bool, true, false, not, ◌&&◌, ◌||◌, List, length, replicate, Option, None, Some, refl, sym, ap, subst, ◌∙◌, inl, inr, arith}
 use Rattle.std.specs.Prelude.{IsSome, is_some}
 use Rattle.std.proofs.lemmas.Bool.{ltb-false, not-false, and_parts, or_parts}
 use Rattle.std.proofs.lemmas.List.{length-replicate}
@@ -15,6 +15,7 @@ use Rattle.vm_model.specs.declared.reply.Reply.TheVariants.{Address, Refused}
 use Rattle.vm_model.specs.declared.names.Target.{Target}
 use Rattle.vm_model.specs.declared.space.Region.{Region}
 use Rattle.vm_model.specs.Contents.Content.{Content}
+use Rattle.vm_model.specs.Contents.Owning.{OwnsAll}
 use Rattle.vm_model.specs.Contents.Sharing.{snapshotted}
 use Rattle.vm_model.specs.Contents.Writing.{touched}
 use Rattle.vm_model.specs.Contents.Zeroing.{owned_by_zero}
@@ -22,7 +23,7 @@ use Rattle.vm_model.specs.Naming.Pins.{is_pinned}
 use Rattle.vm_model.specs.Space.Rights.{has, specific, overwrite, upper_limit}
 use Rattle.vm_model.specs.Space.Regions.{region_of, end_of, reaches_over, cuts_child, meets_child}
 use Rattle.vm_model.specs.Space.Mappings.{lacks_reading, is_outside}
-use Rattle.vm_model.specs.Machine.State.{State, is_open, is_given, target_of, koid_of, name_pages, size_of, place_of, IsGoodState}
+use Rattle.vm_model.specs.Machine.State.{State, is_open, is_given, target_of, koid_of, name_pages, size_of, place_of, pinned_copies, IsGoodState}
 use Rattle.vm_model.specs.Machine.Refusals.{refusals, first_of}
 use Rattle.vm_model.specs.Machine.Step.{seen_pages, with_snapshot, Effect, StepAfter, Step}
 use Rattle.vm_model.proofs.ContentLaws.{pages_of-same}
@@ -37,7 +38,8 @@ use Rattle.vm_model.proofs.ZeroesLaws.{zeroed-keeps, Zeroes-keeps}
 use Rattle.page_store.specs.Names.{IsInside}
 use Rattle.page_store.proofs.NameLaws.{name_few, pages_of_le, IsInside-good}
 use Rattle.vm_core.specs.Resets.{IsReached, IsShared}
-use Rattle.vm_core.proofs.StaysLaws.{count-snapshotted, name_pages-snapshotted}
+use Rattle.vm_core.proofs.OutsideLaws.{LeavesOthers-owns}
+use Rattle.vm_core.proofs.StaysLaws.{count-copied, name_pages-copied}
 
 -- what the calls that forget translations ask for after a command, where the store contains this then
 abbrev pub bounds_of : State → Command → Content → Reply → Type 0
@@ -69,19 +71,26 @@ range_bounded s c name offset len good kept opened range =
       few = pages_of_le c target.koid.0 kept.good;
     }
 
--- a name whose VMO has a snapshot more
-snapshot_bounded : (s : State) (name : ℕ) (target : Target) (offset size : ℕ) (resizable no_write : Bool) → IsGoodState s → IsInside s.content target → offset + rounded size ≤ VMO_PAGES * PAGE
-    → IsShared (with_snapshot s name target (offset / PAGE) (rounded size / PAGE) resizable no_write).content target offset size
-unfolding with_snapshot snapshotted
-snapshot_bounded s name target offset size resizable no_write good inside range =
+-- the content of a state with a snapshot more is that of the snapshot
+shot_owns : (s new : State) (name : ℕ) (target : Target) (start pages : ℕ) (resizable no_write : Bool) (ps : List ℕ)
+    → OwnsAll (with_snapshot s name target start pages resizable no_write).content s.content.next ps new.content
+    → OwnsAll (snapshotted s.content target.koid.0 (target.first + start) (seen_pages s.content target start pages) pages) s.content.next ps new.content
+unfolding with_snapshot
+shot_owns s new name target start pages resizable no_write ps owns = owns
+
+-- a name whose VMO has a snapshot more, of which some pages are owned
+snapshot_bounded : (s : State) (target : Target) (offset size : ℕ) (d : Content) (ps : List ℕ) → IsGoodState s → IsInside s.content target → offset + rounded size ≤ VMO_PAGES * PAGE
+    → OwnsAll (snapshotted s.content target.koid.0 (target.first + offset / PAGE) (seen_pages s.content target (offset / PAGE) (rounded size / PAGE)) (rounded size / PAGE)) s.content.next ps d
+    → IsShared d target offset size
+snapshot_bounded s target offset size d ps good inside range owns =
     let c = s.content in
-    let start = offset / PAGE in
+    let first = target.first + offset / PAGE in
     let pages = rounded size / PAGE in
-    let seen = seen_pages c target start pages in
+    let seen = seen_pages c target (offset / PAGE) pages in
     let v = target.koid.0 in
-    let d = snapshotted c v (target.first + start) seen pages in
-    let same : name_pages d target ≡ name_pages c target = name_pages-snapshotted c target v (target.first + start) seen pages good.content inside.vmo in
-    let count : d.count v ≡ c.count v = count-snapshotted c v v (target.first + start) seen pages good.content inside.vmo in
+    let leaves = LeavesOthers-owns c.next ps (snapshotted c v first seen pages) d owns in
+    let same : name_pages d target ≡ name_pages c target = name_pages-copied c v first seen pages d good.content leaves target inside.vmo in
+    let count : d.count v ≡ c.count v = count-copied c v first seen pages d good.content leaves v inside.vmo in
     record {
       inside = record { vmo = ap is_some count ∙ inside.vmo; pages = omega (arith, inside.pages, same, pages_of-same d c v count) };
       few = omega (arith, name_few c target good.content inside, same);
@@ -120,7 +129,9 @@ effect_bounded old (VmoChild name parent Snapshot offset size resizable no_write
     let off = AllOff-from_none (refusals old (VmoChild name parent Snapshot offset size resizable no_write)) none in
     let few = ltb-false (VMO_PAGES * PAGE) (offset + rounded size) off.1.1.1.0 in
     let inside = IsInside-good old parent.0 target good (names-open old parent.0 (not-false (is_open old parent.0) off.0)) in
-    subst (λ (s : State). IsShared s.content target offset size) (sym effect.1) (snapshot_bounded old name.0 target offset size resizable no_write good inside few)
+    let copies = pinned_copies old target (offset / PAGE) (rounded size / PAGE) in
+    snapshot_bounded old target offset size new.content copies good inside few
+    (shot_owns old new name.0 target (offset / PAGE) (rounded size / PAGE) resizable no_write copies effect.2)
 effect_bounded old (VmoSetSize name size) reply new good none effect =
     let off = AllOff-from_none (refusals old (VmoSetSize name size)) none in
     ltb-false (VMO_PAGES * PAGE) (rounded size) off.1.1.1.0

@@ -18,7 +18,7 @@ use Rattle.vmo_ops.proofs.NameLaws.{parts_inside}
 use Rattle.region_tree.specs.Tree.{spaces_of}
 use Rattle.region_ops.specs.Spaces.{AreAllWell, Does}
 use Rattle.fault.specs.Table.{Places}
-use Rattle.vm_core.specs.Calls.{AreCounted, StepsVmos, Steps, StepsSpaces, LeavesVmos, LeavesSpaces, DoesTables, DoesSpaces, StepsSame, state_with, Handles}
+use Rattle.vm_core.specs.Calls.{AreCounted, StepsVmos, Steps, StepsSpaces, LeavesVmos, LeavesTables, LeavesSpaces, DoesTables, DoesSpaces, StepsSame, state_with, Handles}
 use Rattle.vm_core.specs.Resets.{left_by}
 use Rattle.vm_core.proofs.LeavesLaws.{left_all}
 
@@ -58,9 +58,14 @@ steps_named_with {old} command vmos pins name does named = record {
   step = λ s good. does (with_tables s old vmos pins) name (sym named);
 }
 
+-- what a command leaves whatever the pins are, it leaves beside these
+pub leaves_tables : {old new : Content} {vmos : Vmos} {pins : Pins} {places left : Places} {command : Command} {reply : Reply}
+    → LeavesVmos old vmos places command reply new left → LeavesTables old vmos pins places command reply new left
+leaves_tables {pins = pins} leaves = record { left = λ s. leaves.left (record s { pins = pins_of pins }) }
+
 -- what a command does beside these pins, where the keepers did not change
 pub does_steps : {old new : Content} {vmos_old vmos_new : Vmos} {pins : Pins} {places left : Places} {command : Command} {reply : Reply}
-    → Steps old vmos_old pins command reply new vmos_new pins → LeavesVmos old vmos_old places command reply new left → keepers_of vmos_new ≡ keepers_of vmos_old → GivesName command
+    → Steps old vmos_old pins command reply new vmos_new pins → LeavesTables old vmos_old pins places command reply new left → keepers_of vmos_new ≡ keepers_of vmos_old → GivesName command
     → DoesTables old vmos_old pins places command reply new vmos_new pins left
 does_steps steps leaves same name = record {
   steps = steps;
@@ -74,7 +79,7 @@ pub does_vmos : {old new : Content} {vmos_old vmos_new : Vmos} {pins : Pins} {pl
     → StepsVmos old vmos_old command reply new vmos_new → LeavesVmos old vmos_old places command reply new left → keepers_of vmos_new ≡ keepers_of vmos_old → GivesName command
     → DoesTables old vmos_old pins places command reply new vmos_new pins left
 does_vmos {old} {vmos_old = vmos_old} {pins = pins} steps leaves same name =
-    does_steps (record { step = λ s well. steps.step (with_tables s old vmos_old pins) well }) leaves same name
+    does_steps (record { step = λ s well. steps.step (with_tables s old vmos_old pins) well }) (leaves_tables leaves) same name
 
 -- a command on VMOs that forgets no translation leaves all
 pub leaves_all : {old new : Content} {vmos : Vmos} {places : Places} {command : Command} {reply : Reply}

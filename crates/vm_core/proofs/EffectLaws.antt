@@ -1,6 +1,6 @@
 -- What is left of the translations after each command that nothing refuses: they are true, and what is ready by them is what the
 -- step of the machine says.
-use Rattle.std.proofs.Common.{◌≡◌, ℕ, ◌+◌, ◌-◌, ◌*◌, ◌/◌, Bool, true, length, replicate, None, Some, refl, sym, ap, subst, ◌∙◌, arith}
+use Rattle.std.proofs.Common.{◌≡◌, ℕ, ◌+◌, ◌-◌, ◌*◌, ◌/◌, Bool, true, List, length, replicate, None, Some, refl, sym, ap, subst, ◌∙◌, arith}
 use Rattle.std.specs.Prelude.{IsSome, min}
 use Rattle.std.proofs.lemmas.Bool.{not-false}
 use Rattle.std.proofs.lemmas.List.{length-replicate}
@@ -14,31 +14,33 @@ use Rattle.vm_model.specs.declared.reply.Reply.{Reply}
 use Rattle.vm_model.specs.declared.space.Entry.{Entry}
 use Rattle.vm_model.specs.declared.space.Region.{Region}
 use Rattle.vm_model.specs.Contents.Content.{Content, pages_of, IsGood}
+use Rattle.vm_model.specs.Contents.Owning.{OwnsAll}
+use Rattle.vm_model.specs.Contents.Sharing.{snapshotted}
 use Rattle.vm_model.specs.Contents.Writing.{touched}
 use Rattle.vm_model.specs.Contents.Zeroing.{zeroed}
-use Rattle.vm_model.specs.Space.Readiness.{settled, unready, read_only}
+use Rattle.vm_model.specs.Space.Readiness.{settled, unready, read_only_but}
 use Rattle.vm_model.specs.Space.Regions.{region_of}
 use Rattle.vm_model.specs.Space.AddressSpaces.{Spaces}
 use Rattle.vm_model.specs.Space.Mappings.{entry_of, with_mapping}
 use Rattle.vm_model.specs.declared.names.Target.{Target}
 use Rattle.vm_model.specs.Naming.Pins.{is_pinned}
-use Rattle.vm_model.specs.Machine.State.{State, is_given, is_open, target_of, koid_of, place_of, IsGoodState}
+use Rattle.vm_model.specs.Machine.State.{State, is_given, is_open, target_of, koid_of, place_of, pinned_copies, IsGoodState}
 use Rattle.vm_model.specs.Machine.Leaving.{pruned}
 use Rattle.vm_model.specs.Machine.Refusals.{refusals, first_of}
-use Rattle.vm_model.specs.Machine.Step.{with_vmo, seen_pages, with_snapshot, with_alias, Effect}
+use Rattle.vm_model.specs.Machine.Step.{with_vmo, seen_pages, with_snapshot, with_alias, ChangesContent, Effect}
 use Rattle.vm_model.specs.Machine.MachineStep.{ready_after}
 use Rattle.vm_model.proofs.LeavingLaws.{name_vmo}
 use Rattle.vm_model.proofs.NamesLaws.{names-open}
 use Rattle.vm_model.proofs.RegionLaws.{region_of-at}
 use Rattle.vm_model.proofs.StepLaws.{AllOff-from_none}
 use Rattle.fault.specs.declared.translation.Translation.{Translation}
-use Rattle.fault.specs.Table.{Places, ready_of, AreTrue, without, is_stale, is_at, with_read_only}
-use Rattle.vm_core.specs.Resets.{left_after, IsNoAccess}
+use Rattle.fault.specs.Table.{Places, ready_of, AreTrue, without, is_stale, is_at}
+use Rattle.vm_core.specs.Resets.{with_read_only_but, left_after, IsNoAccess}
 use Rattle.vm_core.proofs.AgreeLaws.{machine_with}
-use Rattle.vm_core.proofs.OutsideLaws.{ChangesWithin, ChangesWithin-wider, ChangesWithin-zeroed, touched_reaches, ChangesWithin-writes, ChangesWithin-owns, ChangesWithin-zeroes}
+use Rattle.vm_core.proofs.OutsideLaws.{LeavesOthers-owns, ChangesWithin, ChangesWithin-wider, ChangesWithin-zeroed, touched_reaches, ChangesWithin-writes, ChangesWithin-owns, ChangesWithin-zeroes}
 use Rattle.region_ops.proofs.CountLaws.{entry_bounds}
-use Rattle.vm_core.proofs.LeftLaws.{StaysAt, Fits, Fits-all, Fits-read_only}
-use Rattle.vm_core.proofs.StaysLaws.{name_pages-snapshotted, StaysAt-same, StaysAt-created, StaysAt-snapshotted, StaysAt-pruned, Fits-changed, Fits-resized}
+use Rattle.vm_core.proofs.LeftLaws.{StaysAt, Fits, Fits-all, Fits-read_only_but}
+use Rattle.vm_core.proofs.StaysLaws.{name_pages-copied, StaysAt-same, StaysAt-created, StaysAt-copied, StaysAt-pruned, Fits-changed, Fits-resized}
 use Rattle.vm_core.proofs.SpacesLeftLaws.{Fits-mapped, Fits-unmapped, Fits-destroyed, Fits-protected}
 
 -- what is left of the translations fits to the machine after the command
@@ -94,21 +96,28 @@ module _ (old : State) (places : Places) (good : IsGoodState old) (true_of : Are
       subst (λ (spaces : Spaces). Fits new.content spaces.table (settled old.content new.content spaces.table (ready_of places)) (without (is_stale new.content v first (first + count)) places))
       (sym same) (Fits-changed old.content old.spaces.table places true_of v first (first + count) new.content changes)
 
-  -- a snapshot
-  snapshot_settles : (name : ℕ) (target : Target) (start pages : ℕ) (resizable no_write : Bool) → IsSome (old.content.count target.koid.0)
-      → let new = with_snapshot old name target start pages resizable no_write in
-      let first = target.first + start in let seen = seen_pages old.content target start pages in
-      Fits new.content new.spaces.table (read_only old.spaces.table target.koid.0 first (first + seen) (settled old.content new.content new.spaces.table (ready_of places)))
-      (with_read_only target.koid.0 first (first + seen_pages new.content target start pages) places)
+  -- a snapshot, of which some pages are owned
+  snapshot_settles : (name : ℕ) (target : Target) (start pages : ℕ) (resizable no_write : Bool) (new : State) (ps : List ℕ) → IsSome (old.content.count target.koid.0)
+      → ChangesContent (with_snapshot old name target start pages resizable no_write) new
+      → OwnsAll (with_snapshot old name target start pages resizable no_write).content old.content.next ps new.content
+      → let first = target.first + start in let pinned = is_pinned old.pins target.koid.0 in
+      Fits new.content new.spaces.table
+      (read_only_but pinned old.spaces.table target.koid.0 first (first + seen_pages old.content target start pages) (settled old.content new.content new.spaces.table (ready_of places)))
+      (with_read_only_but pinned target.koid.0 first (first + seen_pages new.content target start pages) places)
   unfolding with_snapshot
-  snapshot_settles name target start pages resizable no_write there =
+  snapshot_settles name target start pages resizable no_write new ps there change owns =
       let first = target.first + start in
+      let v = target.koid.0 in
       let seen = seen_pages old.content target start pages in
-      let new = with_snapshot old name target start pages resizable no_write in
-      subst (λ (n : ℕ). Fits new.content new.spaces.table (read_only old.spaces.table target.koid.0 first (first + seen) (settled old.content new.content new.spaces.table (ready_of places)))
-      (with_read_only target.koid.0 first (first + min pages (n - start)) places)) (sym (name_pages-snapshotted old.content target target.koid.0 first seen pages good.content there))
-      (Fits-read_only old.content _ old.spaces.table old.spaces.table places true_of target.koid.0 first (first + seen) (λ root p x e.
-      StaysAt-snapshotted old.content old.spaces.table root p x.entry good.content (true_of.entry root p x e) (true_of.below root p x e) target.koid.0 first seen pages))
+      let pinned = is_pinned old.pins v in
+      let leaves = LeavesOthers-owns old.content.next ps (snapshotted old.content v first seen pages) new.content owns in
+      let spaces : new.spaces ≡ old.spaces = ap (λ (s : State). s.spaces) change in
+      subst (λ (n : ℕ). Fits new.content new.spaces.table (read_only_but pinned old.spaces.table v first (first + seen) (settled old.content new.content new.spaces.table (ready_of places)))
+      (with_read_only_but pinned v first (first + min pages (n - start)) places)) (sym (name_pages-copied old.content v first seen pages new.content good.content leaves target there))
+      (subst (λ (f : Spaces). Fits new.content f.table (read_only_but pinned old.spaces.table v first (first + seen) (settled old.content new.content f.table (ready_of places)))
+      (with_read_only_but pinned v first (first + seen) places)) (sym spaces)
+      (Fits-read_only_but old.content new.content old.spaces.table old.spaces.table places true_of pinned v first (first + seen) (λ root p x e.
+      StaysAt-copied old.content old.spaces.table root p x.entry good.content (true_of.entry root p x e) (true_of.below root p x e) v first seen pages new.content leaves)))
 
   -- ---- where address spaces change
 
@@ -131,7 +140,9 @@ module _ (old : State) (places : Places) (good : IsGoodState old) (true_of : Are
   effect_settles (VmoChild name parent Snapshot offset size resizable no_write) reply new access none effect =
       let off = AllOff-from_none (refusals old (VmoChild name parent Snapshot offset size resizable no_write)) none in
       let there = name_vmo old parent.0 (target_of old parent.0) good (names-open old parent.0 (not-false (is_open old parent.0) off.0)) in
-      told (VmoChild name parent Snapshot offset size resizable no_write) _ _ _ _ effect.0 effect.1 (snapshot_settles name.0 (target_of old parent.0) (offset / PAGE) (rounded size / PAGE) resizable no_write there)
+      told (VmoChild name parent Snapshot offset size resizable no_write) _ _ new new effect.0 refl
+      (snapshot_settles name.0 (target_of old parent.0) (offset / PAGE) (rounded size / PAGE) resizable no_write new
+      (pinned_copies old (target_of old parent.0) (offset / PAGE) (rounded size / PAGE)) there effect.1 effect.2)
   effect_settles (VmoChild name parent Slice offset size resizable no_write) reply new access none effect =
       told (VmoChild name parent Slice offset size resizable no_write) _ _ _ _ effect.0 effect.1 (all_alias name.0 _)
   effect_settles (VmoChild name parent Reference offset size resizable no_write) reply new access none effect =

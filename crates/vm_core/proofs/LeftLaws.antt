@@ -9,11 +9,12 @@ use Rattle.vm_model.specs.declared.space.Readiness.{Readiness}
 use Rattle.vm_model.specs.declared.space.Readiness.TheVariants.{Read}
 use Rattle.vm_model.specs.Contents.Content.{Page, Content, pages_of}
 use Rattle.vm_model.specs.Contents.Zeroing.{is_within}
-use Rattle.vm_model.specs.Space.Readiness.{Ready, frame_at, is_same_frame, keeps_frame, settled, unready, shows_in, read_only}
+use Rattle.vm_model.specs.Space.Readiness.{Ready, frame_at, is_same_frame, keeps_frame, settled, unready, shows_but, read_only_but}
 use Rattle.vm_model.proofs.ReadinessLaws.{keeps_frame-from, settled-kept, settled-changed}
 use Rattle.fault.specs.declared.translation.Translation.{Translation}
 use Rattle.vm_core.proofs.AgreeLaws.{readiness_of}
-use Rattle.fault.specs.Table.{Places, ready_of, frame_in, AreTrue, without, is_at, restricted, with_read_only}
+use Rattle.fault.specs.Table.{Places, ready_of, frame_in, AreTrue, without, is_at}
+use Rattle.vm_core.specs.Resets.{restricted_but, with_read_only_but}
 use Rattle.fault.proofs.WrittenLaws.{without-some}
 
 -- a page that is the same has the same frame
@@ -155,11 +156,11 @@ module _ (c d : Content) (old table : ℕ → ℕ → Option Entry) (places : Pl
       let left = stays r p x e off in
       (left, unready-out kept root first end r p off ∙ settled-stays c d table (ready_of places) r p x.entry left))
 
-  -- where what shows some pages of a VMO is ready for reading at most
-  pub Fits-read_only : (v first end : ℕ) → ((root p : ℕ) (x : Translation) → places root p ≡ Some x → StaysAt c d table root p x.entry)
-      → Fits d table (read_only old v first end (settled c d table (ready_of places))) (with_read_only v first end places)
-  unfolding read_only with_read_only
-  Fits-read_only v first end stays = record {
+  -- where what shows some pages of a VMO is ready for reading at most, but for the pages that pass
+  pub Fits-read_only_but : (exempt : ℕ → Bool) (v first end : ℕ) → ((root p : ℕ) (x : Translation) → places root p ≡ Some x → StaysAt c d table root p x.entry)
+      → Fits d table (read_only_but exempt old v first end (settled c d table (ready_of places))) (with_read_only_but exempt v first end places)
+  unfolding read_only_but with_read_only_but
+  Fits-read_only_but exempt v first end stays = record {
     are_ready = λ i root p. each root p (places root p) refl i;
     entry = λ root p x e. let was = from root p x e in (stays root p was.0 was.1).is ∙ ap (λ (entry : Entry). Some entry) was.2;
     frame = λ root p x e.
@@ -169,35 +170,35 @@ module _ (c d : Content) (old table : ℕ → ℕ → Option Entry) (places : Pl
     kept : Ready
     kept = settled c d table (ready_of places)
 
-    keeps : (x : Translation) → (x.entry ≡ (restricted v first end x).entry) × (frame_in x ≡ frame_in (restricted v first end x))
-    keeps x = go (shows_in v first end x.entry) where
+    keeps : (x : Translation) → (x.entry ≡ (restricted_but exempt v first end x).entry) × (frame_in x ≡ frame_in (restricted_but exempt v first end x))
+    keeps x = go (shows_but exempt v first end x.entry) where
       go : (b : Bool) → let y : Translation = cond b (record x { readiness = Read }) x in (x.entry ≡ y.entry) × (frame_in x ≡ frame_in y)
       go true = (refl, refl)
       go false = (refl, refl)
 
-    from : (root p : ℕ) (x : Translation) → option_map (restricted v first end) (places root p) ≡ Some x
+    from : (root p : ℕ) (x : Translation) → option_map (restricted_but exempt v first end) (places root p) ≡ Some x
         → (was : Translation) × (places root p ≡ Some was) × (was.entry ≡ x.entry) × (frame_in was ≡ frame_in x)
     from root p x e = go (places root p) refl e where
-      go : (o : Option Translation) → places root p ≡ o → option_map (restricted v first end) o ≡ Some x
+      go : (o : Option Translation) → places root p ≡ o → option_map (restricted_but exempt v first end) o ≡ Some x
           → (was : Translation) × (places root p ≡ Some was) × (was.entry ≡ x.entry) × (frame_in was ≡ frame_in x)
       go None f g = absurd cc
       go (Some y) f g =
-          let same : restricted v first end y ≡ x = some_same g in
+          let same : restricted_but exempt v first end y ≡ x = some_same g in
           (y, f, (keeps y).0 ∙ ap (λ (z : Translation). z.entry) same, (keeps y).1 ∙ ap frame_in same)
 
     each : (root p : ℕ) (o : Option Translation) → places root p ≡ o
-        → readiness_of (option_map (restricted v first end) (places root p)) ≡ cond (passes (shows_in v first end) (old root p)) (option_map (λ (r : Readiness). Read) (kept root p)) (kept root p)
+        → readiness_of (option_map (restricted_but exempt v first end) (places root p)) ≡ cond (passes (shows_but exempt v first end) (old root p)) (option_map (λ (r : Readiness). Read) (kept root p)) (kept root p)
     each root p None e =
         let none : kept root p ≡ None = settled-none c d table (ready_of places) root p (ap readiness_of e) in
-        ap (λ (o : Option Translation). readiness_of (option_map (restricted v first end) o)) e ∙ sym (bare (passes (shows_in v first end) (old root p)) none) where
+        ap (λ (o : Option Translation). readiness_of (option_map (restricted_but exempt v first end) o)) e ∙ sym (bare (passes (shows_but exempt v first end) (old root p)) none) where
           bare : (b : Bool) → kept root p ≡ None → cond b (option_map (λ (r : Readiness). Read) (kept root p)) (kept root p) ≡ None
           bare true f = ap (option_map (λ (r : Readiness). Read)) f
           bare false f = f
     each root p (Some x) e =
         let is : kept root p ≡ Some x.readiness = settled-stays c d table (ready_of places) root p x.entry (stays root p x e) ∙ ap readiness_of e in
-        ap (λ (o : Option Translation). readiness_of (option_map (restricted v first end) o)) e
-        ∙ (go (shows_in v first end x.entry) ∙ (ap (λ (o : Option Readiness). cond (shows_in v first end x.entry) (option_map (λ (r : Readiness). Read) o) o) (sym is)
-        ∙ ap (λ (b : Bool). cond b (option_map (λ (r : Readiness). Read) (kept root p)) (kept root p)) (sym (passes-some (shows_in v first end) (old root p) x.entry (good.entry root p x e))))) where
+        ap (λ (o : Option Translation). readiness_of (option_map (restricted_but exempt v first end) o)) e
+        ∙ (go (shows_but exempt v first end x.entry) ∙ (ap (λ (o : Option Readiness). cond (shows_but exempt v first end x.entry) (option_map (λ (r : Readiness). Read) o) o) (sym is)
+        ∙ ap (λ (b : Bool). cond b (option_map (λ (r : Readiness). Read) (kept root p)) (kept root p)) (sym (passes-some (shows_but exempt v first end) (old root p) x.entry (good.entry root p x e))))) where
           go : (b : Bool) → ◌≡◌ {A = Option Readiness} (Some (cond b (record x { readiness = Read }) x).readiness) (cond b (Some Read) (Some x.readiness))
           go true = refl
           go false = refl

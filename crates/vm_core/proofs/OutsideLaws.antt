@@ -1,5 +1,5 @@
 -- Laws of contents that change on some pages of one VMO in a row: all else stays.
-use Rattle.std.proofs.Common.{◌≡◌, ℕ, zero, suc, ◌+◌, ◌/◌, ◌<◌, ◌≤◌, Bool, List, [], ◌∷◌, length, map, replicate, ◌⊎◌, refl, sym, ap, subst, ◌∙◌, inl, inr, arith}
+use Rattle.std.proofs.Common.{◌≡◌, ◌≢◌, ℕ, zero, suc, ◌+◌, ◌/◌, ◌<◌, ◌≤◌, Bool, List, [], ◌∷◌, length, map, replicate, ◌⊎◌, refl, sym, ap, subst, ◌∙◌, inl, inr, arith}
 use Rattle.std.specs.List.{range_with_len}
 use Rattle.std.proofs.lemmas.Bool.{cases_Bool}
 use Rattle.std.proofs.lemmas.List.FromFn.{length-range_with_len}
@@ -74,6 +74,21 @@ ChangesAt-zeroed v pinned offset len old p new zeroes = elim (cases_Bool (is_cle
     | inr free ↦ ChangesWithin-same v p (p + 1) old new (zeroes.zero part free)
   ]
 ]
+
+-- ---- pages in any order
+
+-- nothing changes but pages of v
+pub record LeavesOthers (v : ℕ) (old new : Content) : Type 0 where
+  pub count : new.count ≡ old.count
+  pub page : (w q : ℕ) → w ≢ v → new.page w q ≡ old.page w q
+
+-- pages of v that are owned
+pub LeavesOthers-owns : (v : ℕ) (ps : List ℕ) (old new : Content) → OwnsAll old v ps new → LeavesOthers v old new
+LeavesOthers-owns v [] old new owns = subst (LeavesOthers v old) (sym owns) (record { count = refl; page = λ w q apart. refl })
+LeavesOthers-owns v (p ∷ ps) old new owns =
+    let first = ChangesAt-owned old owns.0 v p owns.1 owns.2 in
+    let rest = LeavesOthers-owns v ps owns.0 new owns.3 in
+    record { count = rest.count ∙ first.count; page = λ w q apart. rest.page w q apart ∙ first.page w q (λ same. absurd (apart same)) }
 
 -- ---- pages in a row
 

@@ -16,7 +16,7 @@ use Rattle.pin_table.specs.Table.{Table as Pins}
 use Rattle.vmo_ops.specs.Targets.{with_tables}
 use Rattle.region_ops.specs.Spaces.{with_all, with_spaces, Does}
 use Rattle.fault.specs.Table.{Places}
-use Rattle.vm_core.specs.Calls.{Steps, StepsSpaces, LeavesVmos, LeavesSpaces}
+use Rattle.vm_core.specs.Calls.{Steps, StepsSpaces, LeavesVmos, LeavesTables, LeavesSpaces}
 
 step_refused : (s : State) (command : Command) (refusal : Refusal) → first_of (refusals s command) ≡ Some refusal → Step s command (Refused refusal) s
 step_refused s command refusal refused = record {
@@ -43,6 +43,9 @@ refused_steps {spaces} {command} {refusal} refused = record { step = λ s good. 
 -- and all translations are left
 pub left_vmos : {old new : Content} {vmos : Vmos} {places : Places} {command : Command} {refusal : Refusal} → LeavesVmos old vmos places command (Refused refusal) new places
 left_vmos = record { left = λ s. refl }
+
+pub left_tables : {old new : Content} {vmos : Vmos} {pins : Pins} {places : Places} {command : Command} {refusal : Refusal} → LeavesTables old vmos pins places command (Refused refusal) new places
+left_tables = record { left = λ s. refl }
 
 pub left_spaces : {spaces : Spaces} {places : Places} {command : Command} {refusal : Refusal} → LeavesSpaces spaces places command (Refused refusal) places
 left_spaces = record { left = λ s c. refl }

@@ -23,7 +23,7 @@ use Rattle.vm_model.proofs.ReadinessLaws.{is_same_frame-is}
 use Rattle.vm_model.proofs.LiveLaws.{is_live-mapped}
 use Rattle.fault.specs.declared.translation.Translation.{Translation}
 use Rattle.fault.specs.Table.{Places, ready_of, frame_in, AreTrue, without, is_of, is_stale}
-use Rattle.vm_core.proofs.OutsideLaws.{ChangesWithin}
+use Rattle.vm_core.proofs.OutsideLaws.{ChangesWithin, LeavesOthers}
 use Rattle.vm_core.proofs.LeftLaws.{frame_at-same, StaysAt, settled-lost, Fits, Fits-settled}
 
 -- where the VMO has as many pages, and the page that is shown is the same
@@ -44,12 +44,13 @@ module _ (c : Content) (table : ℕ → ℕ → Option Entry) (root p : ℕ) (en
   unfolding created
   StaysAt-created pages = StaysAt-same c (created c pages) table root p entry e h (with_key-other c.count c.next pages entry.koid.0 older) refl
 
-  -- a snapshot
-  pub StaysAt-snapshotted : (v first seen pages : ℕ) → StaysAt c (snapshotted c v first seen pages) table root p entry
+  -- a snapshot, whose pages change further
+  pub StaysAt-copied : (v first seen pages : ℕ) (d : Content) → LeavesOthers c.next (snapshotted c v first seen pages) d → StaysAt c d table root p entry
   unfolding snapshotted with_key
-  StaysAt-snapshotted v first seen pages =
-      StaysAt-same c (snapshotted c v first seen pages) table root p entry e h (with_key-other c.count c.next pages entry.koid.0 older)
-      (page-snapshotted_other c v first seen pages entry.koid.0 entry.page older)
+  StaysAt-copied v first seen pages d leaves =
+      StaysAt-same c d table root p entry e h
+      (ap (λ (f : ℕ → Option ℕ). f entry.koid.0) leaves.count ∙ with_key-other c.count c.next pages entry.koid.0 older)
+      (leaves.page entry.koid.0 entry.page older ∙ page-snapshotted_other c v first seen pages entry.koid.0 entry.page older)
 
   -- VMOs that leave, but for that of the entry
   StaysAt-only : (stays : ℕ → Bool) → stays entry.koid.0 ≡ true → StaysAt c (only c stays) table root p entry
@@ -57,16 +58,17 @@ module _ (c : Content) (table : ℕ → ℕ → Option Entry) (root p : ℕ) (en
   StaysAt-only stays kept =
       StaysAt-same c (only c stays) table root p entry e h (ap (λ (b : Bool). cond b (c.count entry.koid.0) None) kept) (page-only_stays c stays entry.koid.0 entry.page kept)
 
--- beside a snapshot a VMO is there as before
-pub count-snapshotted : (c : Content) (w v first seen pages : ℕ) → IsGood c → IsSome (c.count w) → (snapshotted c v first seen pages).count w ≡ c.count w
-unfolding snapshotted with_key
-count-snapshotted c w v first seen pages good there =
-    let older : w ≢ c.next = λ same. omega (arith, koid_some c w good there, same) in with_key-other c.count c.next pages w older
+-- beside a snapshot, whose pages change further, a VMO is there as before
+module _ (c : Content) (v first seen pages : ℕ) (d : Content) (good : IsGood c) (leaves : LeavesOthers c.next (snapshotted c v first seen pages) d) where
+  pub count-copied : (w : ℕ) → IsSome (c.count w) → d.count w ≡ c.count w
+  unfolding snapshotted with_key
+  count-copied w there =
+      let older : w ≢ c.next = λ same. omega (arith, koid_some c w good there, same) in
+      ap (λ (f : ℕ → Option ℕ). f w) leaves.count ∙ with_key-other c.count c.next pages w older
 
--- and a name has as many pages
-pub name_pages-snapshotted : (c : Content) (target : Target) (v first seen pages : ℕ) → IsGood c → IsSome (c.count target.koid.0) → name_pages (snapshotted c v first seen pages) target ≡ name_pages c target
-name_pages-snapshotted c target v first seen pages good there =
-    ap (unwrap_or target.limit) (pages_of-same (snapshotted c v first seen pages) c target.koid.0 (count-snapshotted c target.koid.0 v first seen pages good there))
+  -- and a name has as many pages
+  pub name_pages-copied : (target : Target) → IsSome (c.count target.koid.0) → name_pages d target ≡ name_pages c target
+  name_pages-copied target there = ap (unwrap_or target.limit) (pages_of-same d c target.koid.0 (count-copied target.koid.0 there))
 
 -- ---- VMOs that are not live leave
 

@@ -49,6 +49,11 @@ pub record LeavesVmos (old : Content) (vmos_old : Vmos) (places_old : Places) (c
     (new : Content) (places_new : Places) : Type 0 where
   pub left : (s : State) → places_new ≡ left_after (with_vmos s old vmos_old) command new reply places_old
 
+-- the same of a command for which also pins count
+pub record LeavesTables (old : Content) (vmos_old : Vmos) (pins_old : Pins) (places_old : Places) (command : Command) (reply : Reply)
+    (new : Content) (places_new : Places) : Type 0 where
+  pub left : (s : State) → places_new ≡ left_after (with_tables s old vmos_old pins_old) command new reply places_old
+
 -- the same of a command on address spaces
 pub record LeavesSpaces (spaces_old : Spaces) (places_old : Places) (command : Command) (reply : Reply) (places_new : Places) : Type 0 where
   pub left : (s : State) (new : Content) → places_new ≡ left_after (record s { spaces = spaces_old }) command new reply places_old
@@ -58,7 +63,7 @@ pub record LeavesSpaces (spaces_old : Spaces) (places_old : Places) (command : C
 pub record DoesTables (old : Content) (vmos_old : Vmos) (pins_old : Pins) (places_old : Places) (command : Command) (reply : Reply)
     (new : Content) (vmos_new : Vmos) (pins_new : Pins) (places_new : Places) : Type 0 where
   pub steps : Steps old vmos_old pins_old command reply new vmos_new pins_new
-  pub leaves : LeavesVmos old vmos_old places_old command reply new places_new
+  pub leaves : LeavesTables old vmos_old pins_old places_old command reply new places_new
   pub counts : KeepsCounts vmos_old pins_old vmos_new pins_new
   pub name : GivesName command
 

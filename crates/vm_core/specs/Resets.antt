@@ -1,5 +1,6 @@
 -- What a command leaves of the translations, and what the calls that forget them ask for.
-use Rattle.std.specs.Prelude.{ℕ, ◌+◌, ◌*◌, ◌/◌, ◌≤◌, length, IsSome}
+use Rattle.std.specs.Prelude.{◌≡◌, ℕ, ◌+◌, ◌*◌, ◌/◌, ◌<◌, ◌≤◌, Bool, true, false, length, if◌then◌else◌, Option, None, Some, IsSome}
+use Rattle.std.specs.Option.{option_map}
 use Rattle.vm_base.specs.Pages.{rounded}
 use Rattle.vm_base.specs.declared.limits.TheConstants.{PAGE, VMO_PAGES}
 use Rattle.vm_base.specs.declared.names.RegionName.{RegionName}
@@ -10,13 +11,16 @@ use Rattle.vm_model.specs.declared.command.ChildKind.TheVariants.{Snapshot}
 use Rattle.vm_model.specs.declared.names.Target.{Target}
 use Rattle.vm_model.specs.declared.reply.Reply.{Reply}
 use Rattle.vm_model.specs.declared.reply.Reply.TheVariants.{Address, Refused}
+use Rattle.vm_model.specs.declared.space.Readiness.TheVariants.{Read}
 use Rattle.vm_model.specs.Contents.Content.{Content, pages_of}
 use Rattle.vm_model.specs.Contents.Writing.{touched}
+use Rattle.vm_model.specs.Naming.Pins.{Pin, is_pinned}
+use Rattle.vm_model.specs.Space.Readiness.{shows_but}
 use Rattle.vm_model.specs.Space.Regions.{region_of}
-use Rattle.vm_model.specs.Machine.State.{State, target_of, name_pages}
-use Rattle.vm_model.specs.Machine.Step.{seen_pages}
+use Rattle.vm_model.specs.Machine.State.{State, target_of, name_pages, seen_pages}
 use Rattle.page_store.specs.Names.{IsInside}
-use Rattle.fault.specs.Table.{Places, without, is_of, is_stale, is_at, with_read_only}
+use Rattle.fault.specs.declared.translation.Translation.{Translation}
+use Rattle.fault.specs.Table.{Places, without, is_of, is_stale, is_at}
 
 -- ---- what is left
 
@@ -30,16 +34,24 @@ without_changed c target offset len places =
 abbrev pub without_past : Target → (size : ℕ) → Places → Places
 without_past target size places = without (is_of target.koid.0 (rounded size / PAGE) VMO_PAGES) places
 
--- with those of pages that a snapshot of a part of it shows for reading alone
-abbrev pub with_shared : Content → Target → (offset size : ℕ) → Places → Places
-with_shared c target offset size places =
+-- the translation, for reading alone where it is of a page of the VMO v from `first` to below `end` that does not pass
+abbrev pub restricted_but : (stays : ℕ → Bool) → (v first end : ℕ) → Translation → Translation
+restricted_but stays v first end x = if shows_but stays v first end x.entry then record x { readiness = Read } else x
+
+-- the translations, those of such pages for reading alone
+unfoldable pub with_read_only_but : (stays : ℕ → Bool) → (v first end : ℕ) → Places → Places
+with_read_only_but stays v first end places root p = option_map (restricted_but stays v first end) (places root p)
+
+-- with those of pages that a snapshot of a part of it shows for reading alone, but for the pages that these pins cover
+abbrev pub with_shared : (ℕ → Option Pin) → Content → Target → (offset size : ℕ) → Places → Places
+with_shared pins c target offset size places =
     let first = target.first + offset / PAGE in
-    with_read_only target.koid.0 first (first + seen_pages c target (offset / PAGE) (rounded size / PAGE)) places
+    with_read_only_but (is_pinned pins target.koid.0) target.koid.0 first (first + seen_pages c target (offset / PAGE) (rounded size / PAGE)) places
 
 -- the same, where the child is a snapshot
-abbrev pub shared_by : ChildKind → Content → Target → (offset size : ℕ) → Places → Places
-shared_by Snapshot c target offset size places = with_shared c target offset size places
-shared_by kind c target offset size places = places
+abbrev pub shared_by : ChildKind → (ℕ → Option Pin) → Content → Target → (offset size : ℕ) → Places → Places
+shared_by Snapshot pins c target offset size places = with_shared pins c target offset size places
+shared_by kind pins c target offset size places = places
 
 -- without those of `count` pages of an address space from the page `first` on
 abbrev pub without_pages : RegionName → (first count : ℕ) → Places → Places
@@ -47,7 +59,7 @@ without_pages root first count places = without (is_at root.0 first (first + cou
 
 -- what a command that nothing refuses in this state leaves, where the store contains this afterwards, and this is the reply
 abbrev pub left_by : State → Command → Content → Reply → Places → Places
-left_by s (VmoChild name parent kind offset size resizable no_write) c reply places = shared_by kind c (target_of s parent.0) offset size places
+left_by s (VmoChild name parent kind offset size resizable no_write) c reply places = shared_by kind s.pins c (target_of s parent.0) offset size places
 left_by s (VmoSetSize name size) c reply places = without_past (target_of s name.0) size places
 left_by s (VmoWrite name offset bytes) c reply places = without_changed c (target_of s name.0) offset (length bytes) places
 left_by s (VmoFill name offset len byte) c reply places = without_changed c (target_of s name.0) offset len places
@@ -78,6 +90,11 @@ abbrev pub IsNoAccess : Command → Type 0
 IsNoAccess (MemRead region addr len) = ⊥
 IsNoAccess (MemWrite region addr bytes) = ⊥
 IsNoAccess command = Unit {0}
+
+-- The answer is the first page from `from` to below `end` that passes. Where it is None, none does.
+pub record IsFirstBelow (passes : ℕ → Bool) (from end : ℕ) (answer : Option ℕ) : Type 0 where
+  pub none : answer ≡ None → (p : ℕ) → from ≤ p → p < end → passes p ≡ false
+  pub least : (p : ℕ) → answer ≡ Some p → (from ≤ p) × (p < end) × (passes p ≡ true) × ((q : ℕ) → from ≤ q → q < p → passes q ≡ false)
 
 -- ---- what is asked for
 

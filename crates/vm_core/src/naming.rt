@@ -9,7 +9,7 @@ ghost use Rattle.vm_model.specs.Machine.State.{State};
 ghost use Rattle.vmo_table.specs.Table.{keepers_of, with_vmos, AreParts, IsWellCounted};
 ghost use Rattle.vmo_ops.specs.Targets.{AreTogether};
 ghost use Rattle.fault.specs.Table.{places_of};
-ghost use Rattle.vm_core.specs.Calls.{LeavesVmos, Steps, StepsVmos};
+ghost use Rattle.vm_core.specs.Calls.{LeavesTables, Steps, StepsVmos};
 
 use crate::resets::child_made;
 use fault::Translations;
@@ -44,7 +44,7 @@ pub(crate) fn vmo_create<P: PageStore>(
 }
 
 /// Makes a child of what `parent` stands for, where `parent` is open and the name is not. The translations of pages that a
-/// snapshot shows are left for reading alone.
+/// snapshot shows are left for reading alone, but for those of pinned pages.
 pub(crate) fn vmo_create_child<P: PageStore>(
     store: &mut P,
     vmos: &mut VmoTable,
@@ -63,7 +63,7 @@ pub(crate) fn vmo_create_child<P: PageStore>(
     ensures step { Steps (P.content store.old) vmos.old pins.now
         (Command.VmoChild name parent kind offset size resizable no_write) (reply_for result)
         (P.content store.new) vmos.new pins.now }
-    ensures left { LeavesVmos (P.content store.old) vmos.old (places_of translations.old)
+    ensures left { LeavesTables (P.content store.old) vmos.old pins.now (places_of translations.old)
         (Command.VmoChild name parent kind offset size resizable no_write) (reply_for result)
         (P.content store.new) (places_of translations.new) }
     ensures keepers { keepers_of vmos.new ≡ keepers_of vmos.old }
@@ -79,7 +79,7 @@ pub(crate) fn vmo_create_child<P: PageStore>(
         store, vmos, pins, name, &target, kind, offset, size, resizable, no_write,
     ) {
         Ok(_) => {
-            child_made(translations, store, &target, kind, offset, size);
+            child_made(translations, store, pins, &target, kind, offset, size);
             Answer::Done
         }
         Err(refusal) => Answer::Refused(refusal),

@@ -5,12 +5,15 @@ ghost use Rattle.vm_base.specs.Pages.{rounded};
 ghost use Rattle.vm_base.specs.declared.limits.TheConstants.{PAGE, PAGES_END, VMO_PAGES};
 ghost use Rattle.vm_model.specs.declared.command.ChildKind.TheVariants.{Snapshot};
 ghost use Rattle.vm_model.specs.Contents.Writing.{touched};
+ghost use Rattle.vm_model.specs.Naming.Pins.{is_pinned};
+ghost use Rattle.pin_table.specs.Table.{pins_of};
 ghost use Rattle.fault.specs.Table.{places_of};
-ghost use Rattle.vm_core.specs.Resets.{shared_by, without_changed, without_pages, without_past, with_shared, IsReached, IsShared};
+ghost use Rattle.vm_core.specs.Resets.{shared_by, without_changed, without_pages, without_past, with_read_only_but, with_shared, IsFirstBelow, IsReached, IsShared};
 
 use fault::Translations;
 use page_store::{PageStore, pages_of_name};
-use vm_base::{PAGE, PageNo, RegionName, VMO_PAGES, page_count, page_of};
+use pin_table::PinTable;
+use vm_base::{Koid, PAGE, PageNo, RegionName, VMO_PAGES, page_count, page_of};
 use vm_model::{ChildKind, Target};
 
 /// A range of a name was changed: the translations of its pages that have another frame now are forgotten.
@@ -59,10 +62,11 @@ pub(crate) fn forget_past(translations: &mut Translations, target: &Target, size
 }
 
 /// A child of this kind was made of a part of a name: the translations of pages that a snapshot shows are left for reading
-/// alone.
+/// alone, but for those of pinned pages, which it owns copies of.
 pub(crate) fn child_made<P: PageStore>(
     translations: &mut Translations,
     store: &P,
+    pins: &PinTable,
     target: &Target,
     kind: ChildKind,
     offset: u64,
@@ -70,37 +74,72 @@ pub(crate) fn child_made<P: PageStore>(
 )
     requires { kind ≡ Snapshot → IsShared (P.content store.now) target.now offset size }
     ensures { places_of translations.new
-        ≡ shared_by kind (P.content store.now) target.now offset size (places_of translations.old) }
+        ≡ shared_by kind (pins_of pins.now) (P.content store.now) target.now offset size (places_of translations.old) }
 {
     match kind {
-        ChildKind::Snapshot => share(translations, store, target, offset, size),
+        ChildKind::Snapshot => share(translations, store, pins, target, offset, size),
         ChildKind::Slice | ChildKind::Reference => {}
     }
 }
 
 // A snapshot was made of a part of a name.
-#[tactic(auto, using(crate::proofs::LeavesLaws::read_only_none))]
+#[tactic(auto, using(crate::proofs::LeavesLaws::read_only_but_none))]
 fn share<P: PageStore>(
     translations: &mut Translations,
     store: &P,
+    pins: &PinTable,
     target: &Target,
     offset: u64,
     size: u64,
 )
     requires { IsShared (P.content store.now) target.now offset size }
     ensures { places_of translations.new
-        ≡ with_shared (P.content store.now) target.now offset size (places_of translations.old) }
+        ≡ with_shared (pins_of pins.now) (P.content store.now) target.now offset size (places_of translations.old) }
 {
     if translations.is_empty() {
         return;
     }
     let start = page_of(offset);
     let behind = pages_of_name(store, target).saturating_sub(start);
-    translations.make_readonly(
-        target.koid,
-        target.first + start,
-        page_count(size).min(behind),
-    );
+    let count = page_count(size).min(behind);
+    make_readonly_but(translations, pins, target.koid, target.first + start, count);
+}
+
+// Leaves the translations of `count` pages of a VMO from the page `first` on for reading alone, but for those of pinned
+// pages: one gap between these after another.
+fn make_readonly_but(
+    translations: &mut Translations,
+    pins: &PinTable,
+    v: Koid,
+    first: PageNo,
+    count: u64,
+)
+    requires { first + count ≤ PAGES_END }
+    ensures { places_of translations.new ≡ with_read_only_but (is_pinned (pins_of pins.now) v.0) v.0 first (first + count)
+        (places_of translations.old) }
+{
+    let end = first + count;
+    let mut from = first;
+    while let Some(pinned) = next_pinned_below(pins, v, from, end) {
+        let gap = pinned - from;
+        translations.make_readonly(v, from, gap);
+        from = pinned + 1;
+    }
+    let rest = end - from;
+    translations.make_readonly(v, from, rest);
+}
+
+// The first pinned page of a VMO from `from` to below `end`. `None` exactly where none is.
+fn next_pinned_below(pins: &PinTable, v: Koid, from: PageNo, end: PageNo) -> Option<PageNo>
+    ensures { IsFirstBelow (is_pinned (pins_of pins.now) v.0) from end result }
+{
+    let Some(page) = pins.next_pinned(v, from) else {
+        return None;
+    };
+    if page >= end {
+        return None;
+    }
+    Some(page)
 }
 
 /// Pages of an address space show something else or nothing now, or may be accessed otherwise: their translations are

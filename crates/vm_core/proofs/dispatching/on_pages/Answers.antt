@@ -1,5 +1,5 @@
 use Rattle.std.proofs.Common.{refl}
-use Rattle.vm_core.proofs.CallLaws.{parts_counted, does_steps, does_vmos, leaves_all}
+use Rattle.vm_core.proofs.CallLaws.{parts_counted, does_steps, does_vmos, leaves_tables, leaves_all}
 use Rattle.vm_core.proofs.dispatching.on_pages.Goals as goal
 
 pub vmo_read-requires-clause-parts : goal.vmo_read-requires-clause-parts
@@ -27,7 +27,7 @@ pub returns-in-VmoCommit : goal.returns-in-VmoCommit
 returns-in-VmoCommit g c = rw c.in-VmoCommit.is (does_vmos c.vmo_commit.ensures.step c.vmo_commit.ensures.left refl tt)
 
 pub returns-in-VmoZero : goal.returns-in-VmoZero
-returns-in-VmoZero g c = rw c.in-VmoZero.is (does_steps c.vmo_zero.ensures.step c.vmo_zero.ensures.left refl tt)
+returns-in-VmoZero g c = rw c.in-VmoZero.is (does_steps c.vmo_zero.ensures.step (leaves_tables c.vmo_zero.ensures.left) refl tt)
 
 pub returns-in-VmoDecommit : goal.returns-in-VmoDecommit
-returns-in-VmoDecommit g c = rw c.in-VmoDecommit.is (does_steps c.vmo_decommit.ensures.step c.vmo_decommit.ensures.left refl tt)
+returns-in-VmoDecommit g c = rw c.in-VmoDecommit.is (does_steps c.vmo_decommit.ensures.step (leaves_tables c.vmo_decommit.ensures.left) refl tt)

@@ -1,5 +1,5 @@
 use Rattle.std.proofs.Common.{refl}
-use Rattle.vm_core.proofs.CallLaws.{parts_counted, kept_counted, does_steps, does_vmos, leaves_all}
+use Rattle.vm_core.proofs.CallLaws.{parts_counted, kept_counted, does_steps, does_vmos, leaves_tables, leaves_all}
 use Rattle.vm_core.proofs.dispatching.on_vmo.Goals as goal
 
 pub vmo_create-requires-clause-parts : goal.vmo_create-requires-clause-parts
@@ -27,7 +27,7 @@ pub returns-in-VmoSize : goal.returns-in-VmoSize
 returns-in-VmoSize g c = rw c.in-VmoSize.is (does_vmos c.vmo_size.ensures (leaves_all (λ s r. refl)) refl tt)
 
 pub returns-in-VmoSetSize : goal.returns-in-VmoSetSize
-returns-in-VmoSetSize g c = rw c.in-VmoSetSize.is (does_steps c.vmo_set_size.ensures.step c.vmo_set_size.ensures.left refl tt)
+returns-in-VmoSetSize g c = rw c.in-VmoSetSize.is (does_steps c.vmo_set_size.ensures.step (leaves_tables c.vmo_set_size.ensures.left) refl tt)
 
 pub returns-in-VmoInfo : goal.returns-in-VmoInfo
 returns-in-VmoInfo g c = rw c.in-VmoInfo.is (does_vmos c.vmo_info.ensures (leaves_all (λ s r. refl)) refl tt)

@@ -3,13 +3,13 @@ use Rattle.vm_model.specs.declared.command.ChildKind.{ChildKind}
 use Rattle.vm_model.specs.declared.command.Command.TheVariants.{VmoChild}
 use Rattle.vm_model.specs.declared.names.Target.{Target}
 use Rattle.vm_model.specs.declared.reply.Reply.TheVariants.{Done}
-use Rattle.vmo_table.specs.Table.{with_vmos}
+use Rattle.pin_table.specs.Table.{pins_of}
 use Rattle.vmo_ops.specs.Targets.{with_tables}
 use Rattle.fault.specs.Table.{places_of}
 use Rattle.vm_core.specs.Resets.{shared_by, IsShared}
 use Rattle.vm_core.proofs.BoundLaws.{bounds_of}
 use Rattle.vm_core.proofs.LeavesLaws.{asked_named, left_named}
-use Rattle.vm_core.proofs.RefusedLaws.{left_vmos}
+use Rattle.vm_core.proofs.RefusedLaws.{left_tables}
 use Rattle.vm_core.proofs.naming.vmo_create_child.Goals as goal
 
 pub child_made-requires : goal.child_made-requires
@@ -27,8 +27,8 @@ returns-in-Ok-clause-step g c =
 pub returns-in-Ok-clause-left : goal.returns-in-Ok-clause-left
 returns-in-Ok-clause-left g c = record {
   left = λ s.
-      left_named (with_vmos s (g.P.PageStore.content c.args.store.now) c.args.vmos.now) c.args.parent.0
-      (λ (target : Target). shared_by c.args.kind (g.P.PageStore.content c.create_child.new.store) target c.args.offset c.args.size (places_of c.args.translations.now)) c.in-Some.ensures c.child_made.ensures;
+      left_named (with_tables s (g.P.PageStore.content c.args.store.now) c.args.vmos.now c.args.pins.now) c.args.parent.0
+      (λ (target : Target). shared_by c.args.kind (pins_of c.args.pins.now) (g.P.PageStore.content c.create_child.new.store) target c.args.offset c.args.size (places_of c.args.translations.now)) c.in-Some.ensures c.child_made.ensures;
 }
 
 pub returns-in-Err-clause-step : goal.returns-in-Err-clause-step
@@ -36,10 +36,10 @@ returns-in-Err-clause-step g c =
     record { step = λ s good. c.in-Err.ensures.step s c.args.parent (sym c.in-Some.ensures) }
 
 pub returns-in_default-clause-left : goal.returns-in_default-clause-left
-returns-in_default-clause-left g c = left_vmos
+returns-in_default-clause-left g c = left_tables
 
 pub returns-then-is_some-clause-left : goal.returns-then-is_some-clause-left
-returns-then-is_some-clause-left g c = left_vmos
+returns-then-is_some-clause-left g c = left_tables
 
 pub returns-in-Err-clause-left : goal.returns-in-Err-clause-left
-returns-in-Err-clause-left g c = left_vmos
+returns-in-Err-clause-left g c = left_tables

@@ -1,0 +1,43 @@
+use Rattle.std.proofs.Common.{◌+◌, ◌-◌, ◌≡◌, refl, ap, ◌∙◌, ℕ, arith}
+use Rattle.fault.specs.Table.{places_of, with_read_only}
+use Rattle.vm_core.proofs.LeavesLaws.{gaps-start, gaps-next, gaps-end}
+use Rattle.vm_core.proofs.resets.make_readonly_but.Goals as goal
+
+pub loop-pinned-init : goal.loop-pinned-init
+loop-pinned-init c = record { first = omega arith; bound = omega arith; left = gaps-start _ _ _ _ }
+
+pub loop-pinned-preserved : goal.loop-pinned-preserved
+loop-pinned-preserved c =
+    let inv = c.loop-pinned.invariant in
+    let next = c.in-Some.ensures.least c.in-Some.pinned refl in
+    record {
+      first = omega (arith, inv.first, next.0);
+      bound = omega (arith, next.1);
+      left = gaps-next _ _ _ _ _ _ inv.first c.in-Some.ensures _ _ _ inv.left c.make_readonly.ensures.at;
+    }
+
+pub returns : goal.returns
+returns c =
+    let inv = c.loop-pinned.invariant in
+    let e : c.loop-pinned.from + (c.args.first + c.args.count - c.loop-pinned.from) ≡ c.args.first + c.args.count = omega (arith, inv.bound) in
+    gaps-end _ _ _ _ _ inv.first inv.bound (c.in_default.ensures.none refl) _ _ _ inv.left
+    (c.make_readonly-2.ensures.at ∙ ap (λ (n : ℕ). with_read_only c.args.v.0 c.loop-pinned.from n (places_of c.loop-pinned.translations)) e)
+
+pub loop-pinned-smaller : goal.loop-pinned-smaller
+loop-pinned-smaller c = let next = c.in-Some.ensures.least c.in-Some.pinned refl in omega (arith, next.0, next.1)
+
+pub overflow_add-from : goal.overflow_add-from
+overflow_add-from c = omega (arith, (c.in-Some.ensures.least c.in-Some.pinned refl).1, c.requires)
+
+pub overflow_sub-gap : goal.overflow_sub-gap
+overflow_sub-gap c = omega (arith, (c.in-Some.ensures.least c.in-Some.pinned refl).0)
+
+pub overflow_sub-rest : goal.overflow_sub-rest
+overflow_sub-rest c = omega (arith, c.loop-pinned.invariant.bound)
+
+pub make_readonly-requires-clause-range : goal.make_readonly-requires-clause-range
+make_readonly-requires-clause-range c =
+    let next = c.in-Some.ensures.least c.in-Some.pinned refl in omega (arith, next.0, next.1, c.requires)
+
+pub make_readonly-2-requires-clause-range : goal.make_readonly-2-requires-clause-range
+make_readonly-2-requires-clause-range c = omega (arith, c.loop-pinned.invariant.bound, c.requires)
