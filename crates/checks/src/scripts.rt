@@ -31,6 +31,7 @@ mod mapping_refusals;
 mod mappings;
 mod naming;
 mod pieces;
+mod pinned_snapshots;
 mod pins;
 mod protecting;
 mod ranges;

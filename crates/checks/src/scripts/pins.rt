@@ -6,13 +6,13 @@ use std::test::Fail;
 /// Pins keep pages. The script is run with refusals too.
 pub(crate) const PINS: &str = "\
 == run --frames 1
-# Pins keep pages, their frames and the VMO, and stand in the way of snapshot and decommit.
+# Pins keep pages, their frames and the VMO. A snapshot of a pinned page needs a frame.
 > vmo_create v1 8192
 OK
 > vmo_pin p1 v1 0 4096
 OK 0
 > vmo_create_child v2 v1 snapshot 0 8192
-BAD_STATE
+NO_MEMORY
 > vmo_decommit v1 0 8192
 BAD_STATE
 > vmo_decommit v1 4096 4096
@@ -36,7 +36,7 @@ OK frames=1 used=1 free=0 vmos=1
 > vmo_unpin p1
 OK
 > vmo_create_child v2 v1 snapshot 0 8192
-BAD_STATE
+NO_MEMORY
 > vmo_unpin p2
 OK
 > vmo_unpin p2
@@ -77,8 +77,12 @@ BAD_STATE
 OK
 > vmo_set_size v1 8192
 OK
+> vmo_create_child v2 v1 snapshot 0 4096
+NO_MEMORY
 > vmo_create_child v2 v1 snapshot 4096 4096
-BAD_STATE
+OK
+> vmo_close v2
+OK
 > vmo_create_child v2 v1 reference 0 0
 OK
 > vmo_decommit v1 0 4096
@@ -119,7 +123,7 @@ OK
 > vmo_pin p1 v2 0 4096
 OK 0
 > vmo_create_child v4 v2 snapshot 0 4096
-BAD_STATE
+NO_MEMORY
 > vmo_create_child v4 v1 snapshot 0 4096
 OK
 > vmo_info v1
@@ -146,7 +150,7 @@ fn pins_are_refused(rt: HostRuntime) -> Result<(), Fail> {
         rt.alloc(),
         "\
 == run --frames 1
-# Refusals of the two commands in their order, and of a snapshot. A pin by a slice is a pin of its VMO.
+# Refusals of the two commands in their order, and of a snapshot of a pinned page. A pin by a slice is a pin of its VMO.
 > vmo_unpin p1
 BAD_HANDLE
 > vmo_pin p1 v1 1 1
@@ -176,7 +180,7 @@ INVALID_ARGS
 > vmo_create_child v2 v1 snapshot 4096 68719476736
 OUT_OF_RANGE
 > vmo_create_child v2 v1 snapshot 0 4096
-BAD_STATE
+NO_MEMORY
 > vmo_create_child v2 v1 slice 0 4096
 OK
 > vmo_pin p2 v2 0 4096
