@@ -6,6 +6,7 @@ pub mod WayLaws
 pub mod WeightLaws
 pub mod ExistingLaws
 pub mod OthersLaws
+pub mod SharedLaws
 pub mod SeenLaws
 pub mod ViewersLaws
 pub mod FoundLaws
