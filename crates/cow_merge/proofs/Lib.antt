@@ -9,3 +9,5 @@ pub mod CloseLaws
 pub mod HandLaws
 pub mod SeenLaws
 pub mod UncoverLaws
+pub mod BesideLaws
+pub mod WitnessLaws

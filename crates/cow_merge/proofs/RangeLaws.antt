@@ -2,7 +2,7 @@
 -- rows of the nodes above, one node after another.
 use Rattle.std.proofs.Common.{◌≡◌, ◌≢◌, ◌⊎◌, ℕ, ◌+◌, ◌-◌, ◌<◌, ◌≤◌, min, zero, suc, Bool, true, false, Option, None, Some, inl, inr, IsSome, IsSomeAnd}
 use Rattle.std.proofs.Common.{refl, sym, ap, subst, ◌∙◌, arith}
-use Rattle.std.specs.Prelude.{◌&&◌, ◌||◌, ◌==◌, nat_le, nat_lt, not, is_some}
+use Rattle.std.specs.Prelude.{◌&&◌, ◌||◌, ◌==◌, nat_le, nat_lt, not, is_some, IfSome, IfNone}
 use Rattle.std.proofs.lemmas.Bool.{cases_Bool, cases_eq, cases_lt, and_from, eq-eqb, ne_eqb, le-leb, lt-ltb}
 use Rattle.balanced_tree.specs.Rows.{Rows}
 use Rattle.balanced_tree.specs.Pairs.{with_pair, IsNext}
@@ -36,7 +36,8 @@ use Rattle.cow_split.proofs.ExactLaws.{exact-seen_alike, seen-carried}
 use Rattle.cow_split.proofs.RowLaws.{left_out-in_sight, left_out-other, only-more, only-none, exact-in_use_alike, exact-own_gone, own-shows, frame-in_use, frame-shown}
 use Rattle.cow_split.proofs.CutLaws.{exact-cut, cut-last, cut-shows}
 use Rattle.cow_split.proofs.PartLaws.{part-same, part-with_pair, part-then, part-none, part-cut}
-use Rattle.cow_merge.specs.Ranges.{leaving_range, AreLinked, GivesBack, HasGiven, HasLeftPageOut, IsLeaving, IsDropping, IsBare, CameTo, ShowsSame, IsHeldBy, IsSpared, IsParent, IsOnlyWay, HasKept, HasPassedRow, IsPassing, IsSparing, HasLeftOut, IsExactFor}
+use Rattle.cow_merge.specs.declared.ranges.Pages.{Pages}
+use Rattle.cow_merge.specs.Ranges.{leaving_range, AreLinked, GivesBack, HasGiven, HasLeftPageOut, IsLeaving, IsDropping, IsBare, CameTo, ShowsSame, IsHeldBy, IsSpared, IsParent, IsOnlyWay, HasKept, HasPassedRow, IsPassing, IsSparing, HasLeftOut, IsExactFor, IsOutside, no_pages, IsNextOutside}
 use Rattle.cow_merge.proofs.CountLaws.{in_sight-outside, outside-other, outside-before}
 
 -- a way stays where rows go
@@ -57,7 +58,7 @@ module _ (t : Tree) (slots : Slots) (part : IsPartOf t.slots slots) where
       (λ j r i x c way further. reach-more (record t { slots = slots }) j r i x side h q (climbs-part j r i x c) further)
       k p
 
-  arrives-part : (k p : ℕ) (side : Option Side) (h q : ℕ) → Arrives t k p side h q → Arrives (record t { slots = slots }) k p side h q
+  pub arrives-part : (k p : ℕ) (side : Option Side) (h q : ℕ) → Arrives t k p side h q → Arrives (record t { slots = slots }) k p side h q
   arrives-part k p None h q way = way
   arrives-part k p (Some side) h q way = reach-part k p side h q way
 
@@ -190,7 +191,7 @@ leaving-start arena rows pool v first exact = record {
 }
 
 -- they are left out whenever it began
-leaving-again : (arena : Arena) (old new : Rows Row) (before after : Pool) (v first : ℕ) (out : ℕ → ℕ → Bool) →
+pub leaving-again : (arena : Arena) (old new : Rows Row) (before after : Pool) (v first : ℕ) (out : ℕ → ℕ → Bool) →
     IsLeaving arena old new before after v first out → IsLeaving arena new new after after v first out
 leaving-again arena old new before after v first out leaving = record {
   exact = leaving.exact;
@@ -206,7 +207,7 @@ leaving-again arena old new before after v first out leaving = record {
 
 -- one page more
 module _ (arena : Arena) (old mid new : Rows Row) (before between after : Pool) (v first p : ℕ) (out : ℕ → ℕ → Bool) where
-  leaving-more : IsLeaving arena old mid before between v first out → HasLeftPageOut arena mid new between after v p → first ≤ p →
+  pub leaving-more : IsLeaving arena old mid before between v first out → HasLeftPageOut arena mid new between after v p → first ≤ p →
       IsLeaving arena old new before after v first (leaving_out out v p)
   leaving-more leaving step from = record {
     exact = step.exact out leaving.exact leaving.only;
@@ -226,7 +227,7 @@ module _ (arena : Arena) (old mid new : Rows Row) (before between after : Pool) 
   }
 
 -- nothing has changed
-leaving-kept : (arena : Arena) (old mid new : Rows Row) (before between after : Pool) (v first : ℕ) (out : ℕ → ℕ → Bool) →
+pub leaving-kept : (arena : Arena) (old mid new : Rows Row) (before between after : Pool) (v first : ℕ) (out : ℕ → ℕ → Bool) →
     IsLeaving arena old mid before between v first out → HasKept mid new between after → IsLeaving arena old new before after v first out
 leaving-kept arena old mid new before between after v first out leaving kept = record {
   exact = exact-in_use_alike (tree_of arena new) out (is_taken between) (is_taken after) (λ t. sym (kept.taken t))
@@ -299,8 +300,8 @@ pub frame-from : (side : Option Side) (o : Option Found) → frame_found (from_s
 frame-from side None = refl
 frame-from side (Some it) = refl
 
-module _ (t : Tree) (f : IsForest t.nodes t.lists) (v q h list shift to upto tag : ℕ) (shown : frame_at t v q ≡ Some tag)
-    (came : CameTo t v q h list shift to upto) where
+module _ (t : Tree) (f : IsForest t.nodes t.lists) (v q : ℕ) (skip : Pages) (h list shift to upto tag : ℕ) (shown : frame_at t v q ≡ Some tag)
+    (came : CameTo t v q skip h list shift to upto) where
   -- the page to which it comes shows the same frame
   came-shows : frame_at t h came.page ≡ Some tag
   came-shows =
@@ -316,9 +317,9 @@ module _ (t : Tree) (f : IsForest t.nodes t.lists) (v q h list shift to upto tag
         absurd (cc)
   ]
 
-pub passing-again : (arena : Arena) (old new : Rows Row) (before after : Pool) (v first : ℕ) (spared : Option NodeId) (above : Node) (shift to upto : ℕ) →
-    IsPassing arena old new before after v first spared above shift to upto → IsPassing arena new new after after v first spared above shift to upto
-passing-again arena old new before after v first spared above shift to upto was = record {
+pub passing-again : (arena : Arena) (old new : Rows Row) (before after : Pool) (v first : ℕ) (skip : Pages) (spared : Option NodeId) (above : Node) (shift to upto : ℕ) →
+    IsPassing arena old new before after v first skip spared above shift to upto → IsPassing arena new new after after v first skip spared above shift to upto
+passing-again arena old new before after v first skip spared above shift to upto was = record {
   bare = record {
     out = was.bare.out;
     leaving = leaving-again arena old new before after v first was.bare.out was.bare.leaving;
@@ -333,7 +334,7 @@ passing-again arena old new before after v first spared above shift to upto was 
 }
 
 -- what is bare shows a frame through its window alone
-bare-inside : (arena : Arena) (rows : Rows Row) (f : IsForest (nodes_of arena) arena.lists) (v p tag : ℕ) (node : Node) → nodes_of arena v ≡ Some node →
+pub bare-inside : (arena : Arena) (rows : Rows Row) (f : IsForest (nodes_of arena) arena.lists) (v p tag : ℕ) (node : Node) → nodes_of arena v ≡ Some node →
     slots_of rows node.list.0 p ≡ None → frame_at (tree_of arena rows) v p ≡ Some tag → p < node.seen
 bare-inside arena rows f v p tag node at free shown = elim (cases_lt p node.seen) [
   | inl less ↦ less
@@ -343,7 +344,7 @@ bare-inside arena rows f v p tag node at free shown = elim (cases_lt p node.seen
 -- it begins at the node itself
 pub passing-start : (arena : Arena) (old new : Rows Row) (before after : Pool) (v first : ℕ) (node : Node) →
     IsBare arena old new before after v first → nodes_of arena v ≡ Some node →
-    IsPassing arena old new before after v first None node 0 node.seen node.seen
+    IsPassing arena old new before after v first no_pages None node 0 node.seen node.seen
 passing-start arena old new before after v first node was at = record {
   bare = was;
   parent = λ h e. absurd (cc);
@@ -354,6 +355,7 @@ passing-start arena old new before after v first node was at = record {
       let free : slots_of new node.list.0 q ≡ None = subst (λ (n : Node). slots_of new n.list.0 q ≡ None) same (was.bare q from) in
       inr (record {
         side = None;
+        apart = inr (omega arith);
         page = q;
         is = omega arith;
         way = (refl, refl);
@@ -365,7 +367,7 @@ passing-start arena old new before after v first node was at = record {
 -- it begins at the parent, which is spared
 pub passing-above : (arena : Arena) (old new : Rows Row) (before after : Pool) (v : ℕ) (node : Node) (hidden : NodeId) (above : Node) →
     IsBare arena old new before after v 0 → nodes_of arena v ≡ Some node → node.parent ≡ Some hidden → nodes_of arena hidden.0 ≡ Some above →
-    IsPassing arena old new before after v 0 (Some hidden) above node.first (node.first + node.seen) (node.first + node.seen)
+    IsPassing arena old new before after v 0 no_pages (Some hidden) above node.first (node.first + node.seen) (node.first + node.seen)
 passing-above arena old new before after v node hidden above was at up above_at = record {
   bare = was;
   parent = λ h e. ap (λ (n : Node). n.parent) same ∙ (up ∙ e);
@@ -382,7 +384,7 @@ passing-above arena old new before after v node hidden above was at up above_at 
     bare_here q = subst (λ (n : Node). slots_of new n.list.0 q ≡ None) same (was.bare q (omega arith))
 
     Comes : ℕ → Type 0
-    Comes q = CameTo (tree_of arena new) v q hidden.0 above.list.0 node.first (node.first + node.seen) (node.first + node.seen)
+    Comes q = CameTo (tree_of arena new) v q no_pages hidden.0 above.list.0 node.first (node.first + node.seen) (node.first + node.seen)
 
     comes : (q : ℕ) → slots_of new node.list.0 q ≡ None → q < node.seen → (o : Option Slot) → slots_of new above.list.0 (node.first + q) ≡ o →
         IsHeldBy (nodes_of arena) (slots_of new) hidden.0 node q ⊎ Comes q
@@ -393,6 +395,7 @@ passing-above arena old new before after v node hidden above was at up above_at 
         let last = climb-side (tree_of arena new) was.leaving.exact.forest v q hidden.0 (node.first + q) step in
         inr (record {
           side = Some last.1;
+          apart = inr (omega arith);
           page = node.first + q;
           is = omega arith;
           way = reach-one (tree_of arena new) v q last.1 hidden.0 (node.first + q) step last.4;
@@ -400,11 +403,11 @@ passing-above arena old new before after v node hidden above was at up above_at 
           free = λ less. is;
         })
 
-module _ (arena : Arena) (old new : Rows Row) (before after : Pool) (v first : ℕ) (spared : Option NodeId) (above : Node) (shift to : ℕ) where
+module _ (arena : Arena) (old new : Rows Row) (before after : Pool) (v first : ℕ) (skip : Pages) (spared : Option NodeId) (above : Node) (shift to : ℕ) where
   -- it goes on at the parent
-  pub passing-up : IsPassing arena old new before after v first spared above shift to to → (parent : NodeId) (up : Node) →
+  pub passing-up : IsPassing arena old new before after v first skip spared above shift to to → (parent : NodeId) (up : Node) →
       above.parent ≡ Some parent → nodes_of arena parent.0 ≡ Some up → (end : ℕ) → end ≡ min to above.seen →
-      IsPassing arena old new before after v first spared up (shift + above.first) (end + above.first) (first + (shift + above.first))
+      IsPassing arena old new before after v first skip spared up (shift + above.first) (end + above.first) (first + (shift + above.first))
   passing-up was parent up parent_is up_at end end_is =
       let f = was.bare.leaving.exact.forest in
       record {
@@ -416,12 +419,13 @@ module _ (arena : Arena) (old new : Rows Row) (before after : Pool) (v first : �
           | inl held ↦ inl held
           | inr came ↦ inr (
               let free = came.free came.below in
-              let inside = came-inside (tree_of arena new) f v q was.h above.list.0 shift to to tag shown came above was.at free in
+              let inside = came-inside (tree_of arena new) f v q skip was.h above.list.0 shift to to tag shown came above was.at free in
               let climbs : Climbs (tree_of arena new) was.h came.page parent.0 (above.first + came.page) =
               record { node = above; at = was.at; free = free; inside = inside; parent = parent_is; page = refl } in
               let last = climb-side (tree_of arena new) f was.h came.page parent.0 (above.first + came.page) climbs in
               record {
                 side = Some last.1;
+                apart = came.apart;
                 page = above.first + came.page;
                 is = omega (arith, came.is);
                 way = reach-after (tree_of arena new) f v q came.side was.h came.page last.1 parent.0 (above.first + came.page) came.way climbs last.4;
@@ -430,6 +434,16 @@ module _ (arena : Arena) (old new : Rows Row) (before after : Pool) (v first : �
               })
         ];
       }
+
+-- it goes on at the parent of the node itself
+pub passing-parent : (arena : Arena) (old new : Rows Row) (before after : Pool) (v first : ℕ) (node : Node) (hidden : NodeId) (above : Node) →
+    IsBare arena old new before after v first → nodes_of arena v ≡ Some node → node.parent ≡ Some hidden → nodes_of arena hidden.0 ≡ Some above →
+    IsPassing arena old new before after v first no_pages None above node.first (node.first + node.seen) (first + node.first)
+passing-parent arena old new before after v first node hidden above was at up above_at =
+    subst (λ x. IsPassing arena old new before after v first no_pages None above node.first x (first + node.first)) (omega arith)
+    (subst (λ x. IsPassing arena old new before after v first no_pages None above x (node.seen + node.first) (first + x)) (omega arith)
+    (passing-up arena old new before after v first no_pages None node 0 node.seen
+    (passing-start arena old new before after v first node was at) hidden above up above_at node.seen (omega arith)))
 
 -- A page that was held stays so, where rows went and it shows the frame that it showed.
 module _ (arena : Arena) (old new : Rows Row) (v : ℕ) (node : Node) (visible : IsVisible (nodes_of arena) v node) (out : ℕ → ℕ → Bool)
@@ -459,26 +473,75 @@ module _ (arena : Arena) (old new : Rows Row) (v : ℕ) (node : Node) (visible :
             inside = held.inside;
           }
 
-  spared-stays : (spared : Option NodeId) (p tag : ℕ) → IsParent spared node → slots_of old node.list.0 p ≡ None →
+  pub spared-stays : (spared : Option NodeId) (p tag : ℕ) → IsParent spared node → slots_of old node.list.0 p ≡ None →
       frame_at (tree_of arena old) v p ≡ Some tag → frame_at (tree_of arena new) v p ≡ Some tag →
       IsSpared (nodes_of arena) (slots_of old) spared node p → IsSpared (nodes_of arena) (slots_of new) spared node p
   spared-stays None p tag up free showed shows held = absurd held
   spared-stays (Some h) p tag up free showed shows held = held-stays h p tag (up h refl) free showed shows held
 
-module _ (arena : Arena) (old mid new : Rows Row) (before between after : Pool) (v first : ℕ) (spared : Option NodeId) (above : Node) (shift to upto row : ℕ)
-    (was : IsPassing arena old mid before between v first spared above shift to upto) (from : first + shift ≤ upto)
-    (next : IsNext (slots_of mid above.list.0) upto (Some row)) where
-  least : (upto ≤ row) × ((r : ℕ) → upto ≤ r → r < row → slots_of mid above.list.0 r ≡ None)
-  least = let it = next.least row refl in (it.0, it.2)
+-- the next row that does not belong to a page that is passed over
+module _ (slots : ℕ → Option Slot) (from to shift : ℕ) (skip : Pages) (row : ℕ) (next : IsNext slots from (Some row)) where
+  pub outside-next : row < to → IsNextOutside slots from to shift skip row
+  outside-next less =
+      let it = next.least row refl in
+      record { least = it.0; below = less; there = it.1; none = λ q low before apart. it.2 (q + shift) low before }
+
+  -- where the first one does, it is behind these pages
+  module _ (past : shift ≤ row) (inside : (skip.from ≤ row - shift) × (row - shift < skip.to)) where
+    outside-first : (q : ℕ) → from ≤ q + shift → q < skip.to → IsOutside skip q → slots (q + shift) ≡ None
+    outside-first q low less apart = elim apart [
+      | inl before ↦ (next.least row refl).2 (q + shift) low (omega (arith, inside.0))
+      | inr behind ↦ absurd (omega arith)
+    ]
+
+    pub outside-none : to - shift ≤ skip.to → (q : ℕ) → from ≤ q + shift → q + shift < to → IsOutside skip q → slots (q + shift) ≡ None
+    outside-none ends q low less apart = outside-first q low (omega arith) apart
+
+    pub outside-end : ((p : ℕ) → skip.to + shift ≤ p → p < to → slots p ≡ None) →
+        (q : ℕ) → from ≤ q + shift → q + shift < to → IsOutside skip q → slots (q + shift) ≡ None
+    outside-end none q low less apart = elim (cases_lt q skip.to) [
+      | inl before ↦ outside-first q low before apart
+      | inr behind ↦ none (q + shift) (omega arith) less
+    ]
+
+    pub outside-behind : (answer : Option ℕ) → IfSome answer (λ page. IsNext slots (skip.to + shift) (Some page)) → IfSome answer (λ page. page < to) →
+        IfSome answer (λ page. IsNextOutside slots from to shift skip page)
+    outside-behind None after less = tt
+    outside-behind (Some page) after less =
+        let it = after.least page refl in
+        let first = next.least row refl in
+        record {
+          least = omega (arith, it.0, first.0, inside.1);
+          below = less;
+          there = it.1;
+          none = λ q low before apart. elim (cases_lt q skip.to) [
+            | inl inner ↦ outside-first q low inner apart
+            | inr behind ↦ it.2 (q + shift) (omega arith) before
+          ];
+        }
+
+    pub outside-ends : (answer : Option ℕ) → IfNone answer ((p : ℕ) → skip.to + shift ≤ p → p < to → slots p ≡ None) →
+        IfNone answer ((q : ℕ) → from ≤ q + shift → q + shift < to → IsOutside skip q → slots (q + shift) ≡ None)
+    outside-ends None none = outside-end none
+    outside-ends (Some page) none = tt
+
+module _ (arena : Arena) (old mid new : Rows Row) (before between after : Pool) (v first : ℕ) (skip : Pages) (spared : Option NodeId) (above : Node) (shift to upto row : ℕ)
+    (was : IsPassing arena old mid before between v first skip spared above shift to upto) (from : first + shift ≤ upto)
+    (next : IsNextOutside (slots_of mid above.list.0) upto to shift skip row) where
+  -- no page comes to a row before
+  before-next : (q page : ℕ) → page ≡ q + shift → upto ≤ page → page < row → IsOutside skip q → slots_of mid above.list.0 page ≡ None
+  before-next q page is past less apart =
+      subst (λ x. slots_of mid above.list.0 x ≡ None) (sym is)
+      (next.none q (subst (λ x. upto ≤ x) is past) (subst (λ x. x < row) is less) apart)
 
   -- the page that comes to a row is cut off
-  passing-out : HasLeftPageOut arena mid new between after v (row - shift) → IsPassing arena old new before after v first spared above shift to (row + 1)
+  passing-out : HasLeftPageOut arena mid new between after v (row - shift) → IsPassing arena old new before after v first skip spared above shift to (row + 1)
   passing-out step =
       let out = was.bare.out in
       record {
         bare = record {
           out = leaving_out out v (row - shift);
-          leaving = leaving-more arena old mid new before between after v first (row - shift) out was.bare.leaving step (omega (arith, least.0));
+          leaving = leaving-more arena old mid new before between after v first (row - shift) out was.bare.leaving step (omega (arith, next.least));
           node = was.bare.node;
           visible = was.bare.visible;
           bare = λ p start. part-none (slots_of mid) (slots_of new) step.part was.bare.node.list.0 p (was.bare.bare p start);
@@ -496,13 +559,14 @@ module _ (arena : Arena) (old mid new : Rows Row) (before between after : Pool) 
                   spared q tag was.parent (was.bare.bare q start) showed shown held)
               | inr came ↦ inr (record {
                 side = came.side;
+                apart = came.apart;
                 page = came.page;
                 is = came.is;
                 way = arrives-part (tree_of arena mid) (slots_of new) step.part v q came.side was.h came.page came.way;
                 below = came.below;
                 free = λ less. part-none (slots_of mid) (slots_of new) step.part above.list.0 came.page (elim (cases_lt came.page upto) [
                   | inl before ↦ came.free before
-                  | inr past ↦ least.1 came.page past (omega (arith, came.is, least.0))
+                  | inr past ↦ before-next q came.page came.is past (omega (arith, came.is, next.least)) came.apart
                 ]);
               })
             ];
@@ -511,7 +575,7 @@ module _ (arena : Arena) (old mid new : Rows Row) (before between after : Pool) 
   -- no page comes to the row, and nothing has changed
   passing-kept : HasKept mid new between after →
       ((q : ℕ) (side : Option Side) → q ≡ row - shift → Arrives (tree_of arena mid) v q side was.h row → ⊥) →
-      IsPassing arena old new before after v first spared above shift to (row + 1)
+      IsPassing arena old new before after v first skip spared above shift to (row + 1)
   passing-kept kept none = record {
     bare = record {
       out = was.bare.out;
@@ -528,8 +592,9 @@ module _ (arena : Arena) (old mid new : Rows Row) (before between after : Pool) 
         = ap (λ s. frame_at (record (tree_of arena mid) { slots = s }) v q) (sym kept.rows) ∙ shown in
         elim (was.came q tag start below sight showed) [
           | inl held ↦ inl (subst (λ s. IsSpared (nodes_of arena) s spared was.bare.node q) (sym kept.rows) held)
-          | inr came ↦ inr (subst (λ s. CameTo (record (tree_of arena mid) { slots = s }) v q was.h above.list.0 shift to (row + 1)) (sym kept.rows) (record {
+          | inr came ↦ inr (subst (λ s. CameTo (record (tree_of arena mid) { slots = s }) v q skip was.h above.list.0 shift to (row + 1)) (sym kept.rows) (record {
             side = came.side;
+            apart = came.apart;
             page = came.page;
             is = came.is;
             way = came.way;
@@ -537,7 +602,7 @@ module _ (arena : Arena) (old mid new : Rows Row) (before between after : Pool) 
             free = λ less. elim (cases_lt came.page upto) [
               | inl before ↦ came.free before
               | inr past ↦ elim (cases_lt came.page row) [
-                | inl earlier ↦ least.1 came.page past earlier
+                | inl earlier ↦ before-next q came.page came.is past earlier came.apart
                 | inr later ↦ (
                     let here : came.page ≡ row = omega arith in
                     absurd (none q came.side (omega (arith, came.is)) (subst (Arrives (tree_of arena mid) v q came.side was.h) here came.way)))
@@ -548,7 +613,7 @@ module _ (arena : Arena) (old mid new : Rows Row) (before between after : Pool) 
   }
 
   pub passing-cut : (h : ℕ) (from : Side) → nodes_of arena h ≡ Some above → h ≢ v → IsOnlyWay (tree_of arena mid) v (row - shift) from h row →
-      HasPassedRow arena mid new between after v (row - shift) from h row → IsPassing arena old new before after v first spared above shift to (row + 1)
+      HasPassedRow arena mid new between after v (row - shift) from h row → IsPassing arena old new before after v first skip spared above shift to (row + 1)
   passing-cut h from at apart only step = elim (arrives-or-not t f h row v (row - shift)) [
     | inl way ↦ on_way way.0 way.1
     | inr none ↦ passing-kept (step.stays (λ way. none (Some from) way))
@@ -564,16 +629,16 @@ module _ (arena : Arena) (old mid new : Rows Row) (before between after : Pool) 
       here : was.h ≡ h
       here = f.by.own was.h h above above was.at at refl
 
-      on_way : (side : Option Side) → Arrives t v (row - shift) side h row → IsPassing arena old new before after v first spared above shift to (row + 1)
+      on_way : (side : Option Side) → Arrives t v (row - shift) side h row → IsPassing arena old new before after v first skip spared above shift to (row + 1)
       on_way None way = absurd (apart (sym way.0))
       on_way (Some side) way = passing-out (step.came (subst (λ s. Reaches t v (row - shift) s h row) (only.only (row - shift) side way).1 way))
 
-module _ (arena : Arena) (old new : Rows Row) (before after : Pool) (v first : ℕ) (spared : Option NodeId) (above : Node) (shift to upto : ℕ) where
+module _ (arena : Arena) (old new : Rows Row) (before after : Pool) (v first : ℕ) (skip : Pages) (spared : Option NodeId) (above : Node) (shift to upto : ℕ) where
   -- no row is left that they could come to
-  pub passing-end : (answer : Option ℕ) → IsPassing arena old new before after v first spared above shift to upto →
-      IsNext (slots_of new above.list.0) upto answer → ((row : ℕ) → answer ≡ Some row → to ≤ row) →
-      IsPassing arena old new before after v first spared above shift to to
-  passing-end answer was next ends = record {
+  pub passing-end : IsPassing arena old new before after v first skip spared above shift to upto →
+      ((q : ℕ) → upto ≤ q + shift → q + shift < to → IsOutside skip q → slots_of new above.list.0 (q + shift) ≡ None) →
+      IsPassing arena old new before after v first skip spared above shift to to
+  passing-end was none = record {
     bare = was.bare;
     parent = was.parent;
     h = was.h;
@@ -582,21 +647,20 @@ module _ (arena : Arena) (old new : Rows Row) (before after : Pool) (v first : �
       | inl held ↦ inl held
       | inr came ↦ inr (record {
         side = came.side;
+        apart = came.apart;
         page = came.page;
         is = came.is;
         way = came.way;
         below = came.below;
         free = λ less. elim (cases_lt came.page upto) [
           | inl before ↦ came.free before
-          | inr past ↦ rest came.page past less answer refl
+          | inr past ↦
+              subst (λ x. slots_of new above.list.0 x ≡ None) (sym came.is)
+              (none q (subst (λ x. upto ≤ x) came.is past) (subst (λ x. x < to) came.is less) came.apart)
         ];
       })
     ];
   }
-    where
-      rest : (page : ℕ) → upto ≤ page → page < to → (o : Option ℕ) → answer ≡ o → slots_of new above.list.0 page ≡ None
-      rest page past less None is = next.none is page past
-      rest page past less (Some row) is = (next.least row is).2 page past (omega (arith, ends row is))
 
 -- ---- the range
 
@@ -687,20 +751,20 @@ module _ (arena : Arena) (old : Rows Row) (slots : Slots) (before after : Pool) 
   range-shows w q page sight =
       shows w q page (in_sight-before w q (record { node = page.node; visible = page.visible; below = page.below }) sight)
 
-module _ (arena : Arena) (old new : Rows Row) (before after : Pool) (v first : ℕ) (spared : Option NodeId) (above : Node) (shift to : ℕ)
-    (was : IsPassing arena old new before after v first spared above shift to to)
-    (top : (parent : NodeId) → above.parent ≡ Some parent → min to above.seen ≤ first + shift) where
+module _ (arena : Arena) (old new : Rows Row) (before after : Pool) (v first : ℕ) (skip : Pages) (spared : Option NodeId) (above : Node) (shift to : ℕ)
+    (was : IsPassing arena old new before after v first skip spared above shift to to)
+    (top : (parent : NodeId) → above.parent ≡ Some parent → (q : ℕ) → first ≤ q → q + shift < to → q + shift < above.seen → IsOutside skip q → ⊥) where
   -- a page that came to the last node shows nothing
-  shows-none : (q tag : ℕ) → first ≤ q → frame_at (tree_of arena new) v q ≡ Some tag → CameTo (tree_of arena new) v q was.h above.list.0 shift to to → ⊥
+  shows-none : (q tag : ℕ) → first ≤ q → frame_at (tree_of arena new) v q ≡ Some tag → CameTo (tree_of arena new) v q skip was.h above.list.0 shift to to → ⊥
   shows-none q tag from shown came =
       let f = was.bare.leaving.exact.forest in
-      let inside = came-inside (tree_of arena new) f v q was.h above.list.0 shift to to tag shown came above was.at (came.free came.below) in
-      go came.page came.is came.below inside above.parent refl
+      let inside = came-inside (tree_of arena new) f v q skip was.h above.list.0 shift to to tag shown came above was.at (came.free came.below) in
+      go came.page came.is came.below inside came.apart above.parent refl
     where
-      go : (page : ℕ) → page ≡ q + shift → page < to → page < above.seen → (up : Option NodeId) → above.parent ≡ up → ⊥
-      go page is less inside None up_is =
+      go : (page : ℕ) → page ≡ q + shift → page < to → page < above.seen → IsOutside skip q → (up : Option NodeId) → above.parent ≡ up → ⊥
+      go page is less inside apart None up_is =
           let none = was.bare.leaving.exact.forest.by.root was.h above was.at up_is in absurd (omega arith)
-      go page is less inside (Some parent) up_is = let end = top parent up_is in absurd (omega arith)
+      go page is less inside apart (Some parent) up_is = top parent up_is q from (omega (arith, is)) (omega (arith, is)) apart
 
   -- at the top, and where no page goes on, those that are held alone show a frame
   pub passing-top : IsSparing arena old new before after v first spared
@@ -755,10 +819,14 @@ up-list nodes lists f j k start above at above_at less same =
     ap (λ (n : Node). nodes_up nodes lists n.parent) (some_same (sym at ∙ (ap nodes one ∙ above_at))) in
     absurd (omega arith)
 
+-- what has no parent has none
+pub no-parent : (up : Option NodeId) (parent : NodeId) → up ≡ None → up ≡ Some parent → ⊥
+no-parent up parent none is = let both = sym none ∙ is in cc
+
 -- ---- what the code asks on the way
 
-module _ (arena : Arena) (old new : Rows Row) (before after : Pool) (v first : ℕ) (spared : Option NodeId) (above : Node) (shift to upto : ℕ)
-    (was : IsPassing arena old new before after v first spared above shift to upto) where
+module _ (arena : Arena) (old new : Rows Row) (before after : Pool) (v first : ℕ) (skip : Pages) (spared : Option NodeId) (above : Node) (shift to upto : ℕ)
+    (was : IsPassing arena old new before after v first skip spared above shift to upto) where
   -- the tree is exact now, with some pages of the node left out
   pub passing-exact : IsExactFor arena new after v
   passing-exact = record {

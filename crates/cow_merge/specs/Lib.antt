@@ -1,5 +1,6 @@
 pub mod Ranges
 pub mod Lifting
+pub mod Witness
 pub mod Uncovering
 pub mod HandingOver
 pub mod Merging

@@ -16,6 +16,7 @@ use Rattle.cow_arena.specs.Ways.{Reaches, Arrives, IsPartOf}
 use Rattle.cow_split.specs.Trees.{tree_of}
 use Rattle.cow_split.specs.Sight.{IsPage}
 use Rattle.cow_split.specs.Exact.{IsExact, IsOnlyOf, all_in_sight, leaving_out, without_frame}
+use Rattle.cow_merge.specs.declared.ranges.Pages.{Pages}
 
 -- the pages of v from `first` to below `end` are left out too
 unfoldable pub leaving_range : (ℕ → ℕ → Bool) → (v first end : ℕ) → ℕ → ℕ → Bool
@@ -85,10 +86,18 @@ pub record IsBare (arena : Arena) (old new : Rows Row) (before after : Pool) (v 
   pub visible : IsVisible (nodes_of arena) v node
   pub bare : (p : ℕ) → first ≤ p → slots_of new node.list.0 p ≡ None
 
--- Page q of v comes to the page `shift` pages further on of node h, which is below `to` and has no row in the node's list,
--- where it is below `upto`.
-pub record CameTo (t : Tree) (v q h list shift to upto : ℕ) : Type 0 where
+-- the page is none of these
+abbrev pub IsOutside : Pages → ℕ → Type 0
+IsOutside pages q = (q < pages.from) ⊎ (pages.to ≤ q)
+
+abbrev pub no_pages : Pages
+no_pages = record { from = 0; to = 0 }
+
+-- Page q of v, which is none of those that are passed over, comes to the page `shift` pages further on of node h, which is below
+-- `to` and has no row in the node's list, where it is below `upto`.
+pub record CameTo (t : Tree) (v q : ℕ) (skip : Pages) (h list shift to upto : ℕ) : Type 0 where
   pub side : Option Side
+  pub apart : IsOutside skip q
   pub page : ℕ
   pub is : page ≡ q + shift
   pub way : Arrives t v q side h page
@@ -120,15 +129,15 @@ abbrev pub IsParent : Option NodeId → Node → Type 0
 IsParent spared node = (h : NodeId) → spared ≡ Some h → node.parent ≡ Some h
 
 -- Each page of v from `first` on that still shows a frame comes to a page of this node, below `to`, and to no row of it
--- below `upto`; or it is held by the node that is spared.
-pub record IsPassing (arena : Arena) (old new : Rows Row) (before after : Pool) (v first : ℕ) (spared : Option NodeId) (above : Node)
-    (shift to upto : ℕ) : Type 0 where
+-- below `upto`, and is none of those that are passed over; or it is held by the node that is spared.
+pub record IsPassing (arena : Arena) (old new : Rows Row) (before after : Pool) (v first : ℕ) (skip : Pages) (spared : Option NodeId)
+    (above : Node) (shift to upto : ℕ) : Type 0 where
   pub bare : IsBare arena old new before after v first
   pub parent : IsParent spared bare.node
   pub h : ℕ
   pub at : nodes_of arena h ≡ Some above
   pub came : (q tag : ℕ) → first ≤ q → q < bare.node.count → bare.out v q ≡ false → frame_at (tree_of arena new) v q ≡ Some tag →
-      IsSpared (nodes_of arena) (slots_of new) spared bare.node q ⊎ CameTo (tree_of arena new) v q h above.list.0 shift to upto
+      IsSpared (nodes_of arena) (slots_of new) spared bare.node q ⊎ CameTo (tree_of arena new) v q skip h above.list.0 shift to upto
 
 -- Each page of v from `first` on that still shows a frame is held by the node that is spared.
 pub record IsSparing (arena : Arena) (old new : Rows Row) (before after : Pool) (v first : ℕ) (spared : Option NodeId) : Type 0 where
@@ -137,9 +146,17 @@ pub record IsSparing (arena : Arena) (old new : Rows Row) (before after : Pool) 
       IsSpared (nodes_of arena) (slots_of new) spared bare.node q
 
 -- some parent may be spared, and a range of pages of v is on its way up
-pub record IsUnderWay (arena : Arena) (rows : Rows Row) (pool : Pool) (v first : ℕ) (above : Node) (shift to upto : ℕ) : Type 0 where
+pub record IsUnderWay (arena : Arena) (rows : Rows Row) (pool : Pool) (v first : ℕ) (skip : Pages) (above : Node) (shift to upto : ℕ) : Type 0 where
   pub spared : Option NodeId
-  pub passing : IsPassing arena rows rows pool pool v first spared above shift to upto
+  pub passing : IsPassing arena rows rows pool pool v first skip spared above shift to upto
+
+-- The least page of a list from `from` on and below `to` that has a row, but for those to which only pages come that are passed
+-- over, `shift` pages further on.
+pub record IsNextOutside (slots : ℕ → Option Slot) (from to shift : ℕ) (skip : Pages) (row : ℕ) : Type 0 where
+  pub least : from ≤ row
+  pub below : row < to
+  pub there : IsSome (slots row)
+  pub none : (q : ℕ) → from ≤ q + shift → q + shift < row → IsOutside skip q → slots (q + shift) ≡ None
 
 -- the tree without its rows: pages go up in it through the windows alone
 abbrev pub bare_of : Arena → Tree

@@ -20,11 +20,13 @@ use page_list::PageLists;
 /// VMO's node that sees the parent from page 0 on, and has fewer rows than it, the parent's list goes over to the sibling, whose
 /// rows move into it.
 ///
-/// It takes no memory. It costs the rows that the node's pages reach, in its list and in those of the nodes above the parent, at
-/// each of the latter a search for another VMO that sees it (`cut_row`), and the rows of the parent, at each of those that move
-/// into a hidden sibling a search on each side of this. Where the list goes over, it costs in place of all rows of the parent
-/// those of the sibling, those under own rows of the node, and those that lie outside one of the two windows. Which of the two it
-/// is costs the rows of the smaller list.
+/// It takes no memory. It costs the node's own rows, the rows on a way down from the sibling to a VMO's node, which shows what
+/// this one shows above the parent (`leave_out_beside`), and the rows above the parent that pages outside the windows of this
+/// way reach; at each of these rows, but the own ones, a search for another VMO that sees what the page sees there. Where the way
+/// is longer than 64 nodes, all pages are outside. And it costs the rows of the parent, at each of those that move into a hidden
+/// sibling a search on each side of this. Where the list goes over, it costs in place of all rows of the parent those of the
+/// sibling, those under own rows of the node, and those that lie outside one of the two windows. Which of the two it is costs the
+/// rows of the smaller list.
 ///
 /// The tree is exact over the frames that are taken, before and after, and each other VMO shows what it showed.
 pub fn close(arena: &mut CowArena, lists: &mut PageLists, frames: &mut FramePool, leaf: NodeId)
@@ -39,11 +41,11 @@ pub fn close(arena: &mut CowArena, lists: &mut PageLists, frames: &mut FramePool
     };
     if goes_over(arena, lists, hidden, sibling) {
         uncover(arena, lists, frames, leaf, hidden, sibling);
-        leave_out_above(arena, lists, frames, leaf, hidden);
+        leave_out_above(arena, lists, frames, leaf, hidden, sibling);
         hand_over(arena, lists, frames, leaf, hidden, sibling);
         arena.splice_over(leaf);
     } else {
-        leave_out_above(arena, lists, frames, leaf, hidden);
+        leave_out_above(arena, lists, frames, leaf, hidden, sibling);
         lift_rows(arena, lists, frames, leaf, hidden, sibling, 0, None);
         arena.splice(leaf);
     }

@@ -13,6 +13,7 @@ mod lifting;
 mod ranges;
 mod shrinking;
 mod uncovering;
+mod witness;
 
 pub use closing::close;
 pub use shrinking::shrink;

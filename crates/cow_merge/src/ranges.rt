@@ -1,6 +1,6 @@
 //! Leaving a range of pages of a VMO's node out of sight.
 
-ghost use Rattle.std.specs.Prelude.{◌≡◌, ◌+◌, ◌^◌, ◌<◌, ℕ, Option, None, Some, IsSome, IsSomeAnd};
+ghost use Rattle.std.specs.Prelude.{◌≡◌, ◌+◌, ◌^◌, ◌<◌, ◌≤◌, ℕ, true, Option, None, Some, IsSome, IfSome, IfNone, IsSomeAnd};
 ghost use Rattle.balanced_tree.specs.Rows.{Rows};
 ghost use Rattle.page_list.specs.declared.row.Row.{Row};
 ghost use Rattle.page_list.specs.Lists.{slots_of};
@@ -16,17 +16,27 @@ ghost use Rattle.cow_split.specs.Searching.{ComesTo};
 ghost use Rattle.cow_split.specs.Exact.{IsExact, all_in_sight};
 ghost use Rattle.cow_split.specs.Cutting.{frame_left};
 ghost use Rattle.cow_split.specs.declared.answers.Cut.TheVariants as cut;
-ghost use Rattle.cow_merge.specs.Ranges.{bare_of, is_split, HasGiven, IsBare, IsPassing, IsUnderWay, IsSparing, IsOnlyWay, HasPassedRow, KeepsList, KeepsOthers, HasLeftOut, IsExactFor};
+ghost use Rattle.balanced_tree.specs.Pairs.{IsNext};
+ghost use Rattle.cow_merge.specs.Lifting.{IsFamilyOf};
+ghost use Rattle.cow_merge.specs.Ranges.{IsOutside, no_pages, IsNextOutside, bare_of, is_split, HasGiven, IsBare, IsPassing, IsUnderWay, IsSparing, IsOnlyWay, HasPassedRow, KeepsList, KeepsOthers, HasLeftOut, IsExactFor};
 
+use crate::witness::leave_out_beside;
 use cow_arena::{CowArena, Node, NodeId, Side};
 use cow_split::{Cut, cut_row};
 use frame_pool::FramePool;
-use page_list::{PageLists, Slot};
+use page_list::{ListId, PageLists, Slot};
 use vm_base::PageNo;
 
+/// Pages of a VMO's node, from `from` to below `to`.
+#[derive(Clone, Copy)]
+pub(crate) struct Pages {
+    pub(crate) from: PageNo,
+    pub(crate) to: PageNo,
+}
+
 /// Leaves the pages of a VMO's node out of sight, from page `first` on. Its own rows there go, and its pages are cut off
-/// from the frames that they see in rows above it. The frames that no other VMO shows are given back. It goes once up the
-/// nodes above, and on each through the rows that the range reaches.
+/// from the frames that they see in rows above it. The frames that no other VMO shows are given back. It goes through the rows
+/// of the parent that the range reaches, and through those further up for the pages that have no witness (`leave_out_beside`).
 pub(crate) fn leave_out(
     arena: &CowArena,
     lists: &mut PageLists,
@@ -41,7 +51,24 @@ pub(crate) fn leave_out(
 {
     drop_rows(arena, lists, frames, leaf, first);
     let node = arena.node(leaf);
-    cut_upwards(arena, lists, frames, leaf, first, leaf, node, 0, node.seen);
+    let (Some(hidden), Some(sibling)) = (node.parent, arena.sibling(leaf)) else {
+        return;
+    };
+    if node.seen <= first {
+        return;
+    }
+    let above = arena.node(hidden);
+    prove!(above.count <= u64::MAX);
+    let side = above.side_of(leaf);
+    let shift = node.first;
+    let to = shift + node.seen;
+    let skip = Pages { from: 0, to: 0 };
+    cut_rows(
+        arena, lists, frames, leaf, first, skip, hidden, above, side, shift, to,
+    );
+    leave_out_further(
+        arena, lists, frames, leaf, first, hidden, sibling, shift, to,
+    );
 }
 
 /// Does what `leave_out` does with all pages of a VMO's node, but for those that the parent holds: nothing is done with the
@@ -52,9 +79,11 @@ pub(crate) fn leave_out_above(
     frames: &mut FramePool,
     leaf: NodeId,
     hidden: NodeId,
+    sibling: NodeId,
 )
     requires exact { IsExact (tree_of arena.now lists.old) all_in_sight (is_taken frames.old) }
     requires leaf { IsSomeAnd (nodes_of arena.now leaf.0) (λ node. IsSome node.koid × (node.parent ≡ Some hidden)) }
+    requires family { IsFamilyOf arena.now leaf.0 hidden.0 sibling.0 }
     ensures sparing { IsSparing arena.now lists.old lists.new frames.old frames.new leaf.0 0 (Some hidden) }
     ensures kept { (above : Node) → nodes_of arena.now hidden.0 ≡ Some above → KeepsList lists.old lists.new above.list.0 }
 {
@@ -63,29 +92,67 @@ pub(crate) fn leave_out_above(
     let above = arena.node(hidden);
     prove!(above.count <= u64::MAX);
     let to = node.first + node.seen;
-    cut_upwards(arena, lists, frames, leaf, 0, hidden, above, node.first, to);
+    leave_out_further(
+        arena, lists, frames, leaf, 0, hidden, sibling, node.first, to,
+    );
+}
+
+/// Leaves the pages of a VMO's node from `first` on out of sight of the rows above its parent, to whose pages below `to` they
+/// come, `shift` pages further on. Those that the parent holds, if it is spared, are left, and the others come to no row of the
+/// parent, whose rows stay as they are.
+fn leave_out_further(
+    arena: &CowArena,
+    lists: &mut PageLists,
+    frames: &mut FramePool,
+    leaf: NodeId,
+    first: PageNo,
+    hidden: NodeId,
+    sibling: NodeId,
+    shift: PageNo,
+    to: PageNo,
+)
+    requires passing { (above : Node) → nodes_of arena.now hidden.0 ≡ Some above →
+        IsUnderWay arena.now lists.old frames.old leaf.0 first no_pages above shift to to }
+    requires family { IsFamilyOf arena.now leaf.0 hidden.0 sibling.0 }
+    requires base { (node : Node) → nodes_of arena.now leaf.0 ≡ Some node → shift ≡ node.first }
+    requires end { (node : Node) → nodes_of arena.now leaf.0 ≡ Some node → to ≤ shift + node.seen }
+    requires range { first + shift < 2 ^ 64 }
+    ensures sparing { (old : Rows Row) (before : Pool) (spared : Option NodeId) (above : Node) → nodes_of arena.now hidden.0 ≡ Some above →
+        IsPassing arena.now old lists.old before frames.old leaf.0 first no_pages spared above shift to to →
+        IsSparing arena.now old lists.new before frames.new leaf.0 first spared }
+    ensures kept { (above : Node) → nodes_of arena.now hidden.0 ≡ Some above → KeepsList lists.old lists.new above.list.0 }
+{
+    let skip = leave_out_beside(
+        arena, lists, frames, leaf, first, hidden, sibling, shift, to,
+    );
+    let above = arena.node(hidden);
+    cut_upwards(
+        arena, lists, frames, leaf, first, skip, hidden, above, shift, to,
+    );
 }
 
 /// Cuts the pages of a VMO's node from `first` on off from the frames that they see in rows above the node `start`, which is
 /// this, to whose pages below `to` they come, `shift` pages further on. Those that the parent holds, if it is spared, are
-/// left, and the others come to no row of `start`, whose rows stay as they are.
+/// left, and the others come to no row of `start`, whose rows stay as they are. The pages `skip` show nothing but what the parent
+/// holds, and are passed over.
 fn cut_upwards(
     arena: &CowArena,
     lists: &mut PageLists,
     frames: &mut FramePool,
     leaf: NodeId,
     first: PageNo,
+    skip: Pages,
     start: NodeId,
     node: Node,
     shift: PageNo,
     to: PageNo,
 )
-    requires passing { IsUnderWay arena.now lists.old frames.old leaf.0 first node shift to to }
+    requires passing { IsUnderWay arena.now lists.old frames.old leaf.0 first skip node shift to to }
     requires start { nodes_of arena.now start.0 ≡ Some node }
     requires way { first + shift < to → ComesTo (bare_of arena.now) leaf.0 first start.0 (first + shift) }
     requires range { first + shift < 2 ^ 64 }
     ensures sparing { (old : Rows Row) (before : Pool) (spared : Option NodeId) →
-        IsPassing arena.now old lists.old before frames.old leaf.0 first spared node shift to to →
+        IsPassing arena.now old lists.old before frames.old leaf.0 first skip spared node shift to to →
         IsSparing arena.now old lists.new before frames.new leaf.0 first spared }
     ensures kept { KeepsList lists.old lists.new node.list.0 }
 {
@@ -102,6 +169,9 @@ fn cut_upwards(
         if end <= from {
             return;
         }
+        if has_all(skip, first, end - shift) {
+            return;
+        }
         let above = arena.node(parent);
         prove!(above.count <= u64::MAX);
         let side = above.side_of(at);
@@ -111,9 +181,16 @@ fn cut_upwards(
         at = parent;
         node = above;
         cut_rows(
-            arena, lists, frames, leaf, first, parent, above, side, shift, to,
+            arena, lists, frames, leaf, first, skip, parent, above, side, shift, to,
         );
     }
+}
+
+/// Whether no page from `from` to below `to` is outside these.
+fn has_all(pages: Pages, from: PageNo, to: PageNo) -> bool
+    ensures { result ≡ true → (q : ℕ) → from ≤ q → q < to → IsOutside pages q → ⊥ }
+{
+    pages.from <= from && to <= pages.to
 }
 
 /// Takes the own rows of a VMO's node away, from page `first` on, and gives their frames back.
@@ -149,36 +226,31 @@ pub(crate) fn give_back_frame(frames: &mut FramePool, slot: Slot)
 
 /// Cuts the pages of a VMO's node from `first` on off from the frames that they see in the rows of a node above it, which is
 /// `above`, below its page `to`. They come to it from this side, to its pages that are `shift` pages further on, and to no
-/// rows before, but for those that a spared parent holds.
+/// rows before, but for those that a spared parent holds. The pages `skip` are passed over.
 fn cut_rows(
     arena: &CowArena,
     lists: &mut PageLists,
     frames: &mut FramePool,
     leaf: NodeId,
     first: PageNo,
+    skip: Pages,
     node: NodeId,
     above: Node,
     side: Side,
     shift: PageNo,
     to: PageNo,
 )
-    requires passing { IsUnderWay arena.now lists.old frames.old leaf.0 first above shift to (first + shift) }
+    requires passing { IsUnderWay arena.now lists.old frames.old leaf.0 first skip above shift to (first + shift) }
     requires node { nodes_of arena.now node.0 ≡ Some above }
     requires way { Reaches (bare_of arena.now) leaf.0 first side node.0 (first + shift) }
     requires range { first + shift < to }
     ensures passing { (old : Rows Row) (before : Pool) (spared : Option NodeId) →
-        IsPassing arena.now old lists.old before frames.old leaf.0 first spared above shift to (first + shift) →
-        IsPassing arena.now old lists.new before frames.new leaf.0 first spared above shift to to }
+        IsPassing arena.now old lists.old before frames.old leaf.0 first skip spared above shift to (first + shift) →
+        IsPassing arena.now old lists.new before frames.new leaf.0 first skip spared above shift to to }
     ensures others { KeepsOthers lists.old lists.new above.list.0 }
 {
     let mut from = first + shift;
-    loop {
-        let Some(row) = lists.next(above.list, from) else {
-            return;
-        };
-        if to <= row {
-            return;
-        }
+    while let Some(row) = next_outside(lists, above.list, from, to, shift, skip) {
         let Some(slot) = lists.find(above.list, row) else {
             unreachable!()
         };
@@ -197,10 +269,59 @@ fn cut_rows(
     }
 }
 
+/// The least page of a list from `from` on and below `to` that has a row, but for those to which the pages `skip` come, `shift`
+/// pages further on. `None` exactly where there is none.
+fn next_outside(
+    lists: &PageLists,
+    list: ListId,
+    from: PageNo,
+    to: PageNo,
+    shift: PageNo,
+    skip: Pages,
+) -> Option<PageNo>
+    requires { shift ≤ from }
+    ensures next { IfSome result (λ row. IsNextOutside (slots_of lists.now list.0) from to shift skip row) }
+    ensures none { IfNone result ((q : ℕ) → from ≤ q + shift → q + shift < to → IsOutside skip q →
+        slots_of lists.now list.0 (q + shift) ≡ None) }
+{
+    let Some(row) = next_below(lists, list, from, to) else {
+        return None;
+    };
+    if !is_inside(skip, row - shift) {
+        return Some(row);
+    }
+    if to - shift <= skip.to {
+        return None;
+    }
+    next_below(lists, list, skip.to + shift, to)
+}
+
+/// Whether a page is one of these.
+fn is_inside(pages: Pages, page: PageNo) -> bool
+    ensures { result ≡ true → (pages.from ≤ page) × (page < pages.to) }
+{
+    pages.from <= page && page < pages.to
+}
+
+/// The least page of a list from `from` on and below `to` that has a row. `None` exactly where there is none.
+pub(crate) fn next_below(
+    lists: &PageLists,
+    list: ListId,
+    from: PageNo,
+    to: PageNo,
+) -> Option<PageNo>
+    ensures next { IfSome result (λ page. IsNext (slots_of lists.now list.0) from (Some page)) }
+    ensures below { IfSome result (λ page. page < to) }
+    ensures none { IfNone result ((p : ℕ) → from ≤ p → p < to → slots_of lists.now list.0 p ≡ None) }
+{
+    let page = lists.next(list, from)?;
+    if page < to { Some(page) } else { None }
+}
+
 /// Cuts page `own` of a VMO's node off from this row of a hidden node, to which that page alone can come, from this side, and
 /// gives the frame back, if no other VMO shows it. Where the page does not come to the row, nothing changes, nor where the
 /// row's bit of the side is set, which says so. The VMO's node has no row of its own there.
-fn cut_off(
+pub(crate) fn cut_off(
     arena: &CowArena,
     lists: &mut PageLists,
     frames: &mut FramePool,

@@ -17,8 +17,10 @@ use page_list::PageLists;
 use vm_base::PageNo;
 
 /// Lets a VMO's node have `count` pages, which are not more than it had. The frames that only its pages past the new end
-/// showed are given back. It takes no memory, and costs the rows that those pages reach, in the node's list and in those
-/// of the nodes above it.
+/// showed are given back. It takes no memory. It costs the rows that those pages reach in the node's list and in that of its
+/// parent, the rows that hide them on a way down from the sibling to a VMO's node, which shows what they show further up
+/// (`leave_out_beside`), and the rows above the parent that pages outside the windows of this way reach. Where the way is longer
+/// than 64 nodes, all pages are outside.
 ///
 /// The tree is exact over the frames that are taken, before and after, and each page that is left shows what it showed.
 pub fn shrink(

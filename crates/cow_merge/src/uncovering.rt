@@ -1,7 +1,6 @@
 //! Rows of a hidden node that stand under own rows of a VMO's node that goes.
 
-ghost use Rattle.std.specs.Prelude.{◌≡◌, ◌≢◌, ◌⊎◌, ◌<◌, ◌≤◌, ℕ, Bool, false, None, Some, IsSome, IfSome, IfNone};
-ghost use Rattle.balanced_tree.specs.Pairs.{IsNext};
+ghost use Rattle.std.specs.Prelude.{◌≡◌, ◌≢◌, ◌⊎◌, ℕ, Bool, false, Some, IsSome};
 ghost use Rattle.vm_base.specs.declared.names.Tag.{Tag};
 ghost use Rattle.page_list.specs.declared.row.Slot.{Slot};
 ghost use Rattle.page_list.specs.Lists.{slots_of};
@@ -17,9 +16,10 @@ ghost use Rattle.cow_merge.specs.HandingOver.{frame_there};
 ghost use Rattle.cow_merge.specs.Uncovering.{IsUncovering, HasNothing, HasRowSettled};
 
 use crate::lifting::settle;
+use crate::ranges::next_below;
 use cow_arena::{CowArena, NodeId};
 use frame_pool::FramePool;
-use page_list::{ListId, PageLists};
+use page_list::PageLists;
 use vm_base::PageNo;
 
 /// Settles the rows of a hidden node that stand under own rows of a VMO's node that goes: nobody sees them from its side, so that
@@ -45,16 +45,6 @@ pub(crate) fn uncover(
         settle_page(arena, lists, frames, hidden, child, node.first + page);
         from = page + 1;
     }
-}
-
-/// The least page of a list from `from` on and below `to` that has a row. `None` exactly where there is none.
-fn next_below(lists: &PageLists, list: ListId, from: PageNo, to: PageNo) -> Option<PageNo>
-    ensures next { IfSome result (λ page. IsNext (slots_of lists.now list.0) from (Some page)) }
-    ensures below { IfSome result (λ page. page < to) }
-    ensures none { IfNone result ((p : ℕ) → from ≤ p → p < to → slots_of lists.now list.0 p ≡ None) }
-{
-    let page = lists.next(list, from)?;
-    if page < to { Some(page) } else { None }
 }
 
 /// Settles the row of a page of a hidden node (`settle`), if it has one.

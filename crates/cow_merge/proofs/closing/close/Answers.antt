@@ -42,6 +42,18 @@ leave_out_above-requires-clause-leaf c =
     child-ready c.args.arena.now c.args.leaf.0 c.node.result c.in-Some-Some.hidden
     (visible-of c.args.arena.now c.args.leaf.0 c.node.result c.requires.leaf c.node.ensures) c.in-Some-Some.is-0
 
+pub leave_out_above-requires-clause-family : goal.leave_out_above-requires-clause-family
+leave_out_above-requires-clause-family c =
+    family-of c.args.arena.now c.requires.exact.forest c.args.leaf.0 c.node.result
+    (visible-of c.args.arena.now c.args.leaf.0 c.node.result c.requires.leaf c.node.ensures) c.in-Some-Some.hidden c.in-Some-Some.sibling
+    c.in-Some-Some.is-0 c.in-Some-Some.ensures.sibling
+
+pub leave_out_above-requires-else-goes_over-clause-family : goal.leave_out_above-requires-else-goes_over-clause-family
+leave_out_above-requires-else-goes_over-clause-family c =
+    family-of c.args.arena.now c.requires.exact.forest c.args.leaf.0 c.node.result
+    (visible-of c.args.arena.now c.args.leaf.0 c.node.result c.requires.leaf c.node.ensures) c.in-Some-Some.hidden c.in-Some-Some.sibling
+    c.in-Some-Some.is-0 c.in-Some-Some.ensures.sibling
+
 pub lift_rows-requires : goal.lift_rows-requires
 lift_rows-requires c =
     let visible = visible-of c.args.arena.now c.args.leaf.0 c.node.result c.requires.leaf c.node.ensures in

@@ -1,34 +1,29 @@
 -- Each row that is passed has cut off the page that came to it.
-use Rattle.std.proofs.Common.{◌≡◌, ◌-◌, None, Some, refl, sym, ◌∙◌, arith}
+use Rattle.std.proofs.Common.{◌-◌, sym, ◌∙◌, arith}
 use Rattle.cow_arena.specs.Nodes.{nodes_of}
 use Rattle.cow_arena.specs.Forest.{IsForest}
 use Rattle.cow_merge.proofs.RangeLaws.{passing-exact, passing-bare, passing-cut, passing-end}
 use Rattle.cow_merge.proofs.PassedLaws.{bare-only, bare-hidden, bare-apart}
 use Rattle.cow_merge.proofs.ranges.cut_rows.Goals as goal
 
-pub returns-in_default-clause-passing : goal.returns-in_default-clause-passing
-returns-in_default-clause-passing c = λ old before spared was.
-    passing-end c.args.arena.now old c.loop-row.lists before c.loop-row.frames c.args.leaf.0 c.args.first spared c.args.above c.args.shift c.args.to c.loop-row.from
-    None (c.loop-row.invariant.passing old before spared was) c.in_default.ensures (λ row is. absurd (cc))
-
-pub returns-then-to-row-clause-passing : goal.returns-then-to-row-clause-passing
-returns-then-to-row-clause-passing c = λ old before spared was.
-    passing-end c.args.arena.now old c.loop-row.lists before c.loop-row.frames c.args.leaf.0 c.args.first spared c.args.above c.args.shift c.args.to c.loop-row.from
-    (Some c.in-Some.row) (c.loop-row.invariant.passing old before spared was) c.in-Some.ensures (λ row is. let same : c.in-Some.row ≡ row = cc in omega arith)
+pub returns-clause-passing : goal.returns-clause-passing
+returns-clause-passing c = λ old before spared was.
+    passing-end c.args.arena.now old c.loop-row.lists before c.loop-row.frames c.args.leaf.0 c.args.first c.args.skip spared c.args.above c.args.shift c.args.to c.loop-row.from
+    (c.loop-row.invariant.passing old before spared was) c.in_default.ensures.none
 
 pub cut_off-requires-clause-exact : goal.cut_off-requires-clause-exact
 cut_off-requires-clause-exact c =
     let under = c.requires.passing in
-    passing-exact c.args.arena.now c.args.lists.now c.loop-row.lists c.args.frames.now c.loop-row.frames c.args.leaf.0 c.args.first under.spared c.args.above
+    passing-exact c.args.arena.now c.args.lists.now c.loop-row.lists c.args.frames.now c.loop-row.frames c.args.leaf.0 c.args.first c.args.skip under.spared c.args.above
     c.args.shift c.args.to c.loop-row.from (c.loop-row.invariant.passing c.args.lists.now c.args.frames.now under.spared under.passing)
 
 pub cut_off-requires-clause-bare : goal.cut_off-requires-clause-bare
 cut_off-requires-clause-bare c =
-    let least = c.in-Some.ensures.least c.in-Some.row refl in
+    let next = c.in-Some.ensures.next in
     let under = c.requires.passing in
-    passing-bare c.args.arena.now c.args.lists.now c.loop-row.lists c.args.frames.now c.loop-row.frames c.args.leaf.0 c.args.first under.spared c.args.above
+    passing-bare c.args.arena.now c.args.lists.now c.loop-row.lists c.args.frames.now c.loop-row.frames c.args.leaf.0 c.args.first c.args.skip under.spared c.args.above
     c.args.shift c.args.to c.loop-row.from (c.loop-row.invariant.passing c.args.lists.now c.args.frames.now under.spared under.passing)
-    (c.in-Some.row - c.args.shift) (omega (arith, least.0))
+    (c.in-Some.row - c.args.shift) (omega (arith, next.least))
 
 pub cut_off-requires-clause-row : goal.cut_off-requires-clause-row
 cut_off-requires-clause-row c = record { node = c.args.above; at = c.requires.node; row = sym c.in-Some-find.ensures }
@@ -39,27 +34,27 @@ cut_off-requires-clause-hidden c =
 
 pub cut_off-requires-clause-only : goal.cut_off-requires-clause-only
 cut_off-requires-clause-only c =
-    let least = c.in-Some.ensures.least c.in-Some.row refl in
+    let next = c.in-Some.ensures.next in
     bare-only c.args.arena.now c.requires.passing.passing.bare.leaving.exact.forest c.args.leaf.0 c.args.first c.args.shift c.args.node.0 c.args.side c.requires.way
-    c.loop-row.lists c.in-Some.row (omega (arith, least.0))
+    c.loop-row.lists c.in-Some.row (omega (arith, next.least))
 
 pub loop-row-smaller : goal.loop-row-smaller
-loop-row-smaller c = let least = c.in-Some.ensures.least c.in-Some.row refl in omega (arith, least.0)
+loop-row-smaller c = let next = c.in-Some.ensures.next in omega (arith, next.least, next.below)
 
 pub loop-row-preserved : goal.loop-row-preserved
 loop-row-preserved c =
-    let least = c.in-Some.ensures.least c.in-Some.row refl in
+    let next = c.in-Some.ensures.next in
     let f : IsForest (nodes_of c.args.arena.now) c.args.arena.now.lists = c.requires.passing.passing.bare.leaving.exact.forest in
     record {
-      from = omega (arith, least.0);
-      below = omega arith;
+      from = omega (arith, next.least);
+      below = omega (arith, next.below);
       passing = λ old before spared was.
-          passing-cut c.args.arena.now old c.loop-row.lists c.cut_off.new.lists before c.loop-row.frames c.cut_off.new.frames c.args.leaf.0 c.args.first spared
+          passing-cut c.args.arena.now old c.loop-row.lists c.cut_off.new.lists before c.loop-row.frames c.cut_off.new.frames c.args.leaf.0 c.args.first c.args.skip spared
           c.args.above c.args.shift c.args.to c.loop-row.from c.in-Some.row
-          (c.loop-row.invariant.passing old before spared was) c.loop-row.invariant.from c.in-Some.ensures c.args.node.0 c.args.side c.requires.node
+          (c.loop-row.invariant.passing old before spared was) c.loop-row.invariant.from next c.args.node.0 c.args.side c.requires.node
           (bare-apart c.args.arena.now f c.args.leaf.0 c.args.first c.args.shift c.args.node.0 c.args.side c.requires.way)
           (bare-only c.args.arena.now f c.args.leaf.0 c.args.first c.args.shift c.args.node.0 c.args.side c.requires.way
-          c.loop-row.lists c.in-Some.row (omega (arith, least.0)))
+          c.loop-row.lists c.in-Some.row (omega (arith, next.least)))
           c.cut_off.ensures.passed;
       others = λ l apart q. c.cut_off.ensures.others c.args.above c.requires.node l apart q ∙ c.loop-row.invariant.others l apart q;
     }

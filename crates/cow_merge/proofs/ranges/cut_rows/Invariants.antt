@@ -11,8 +11,8 @@ invariant-loop-row l = record {
   from : l.first + l.shift ≤ l.from;
   below : l.from ≤ l.to;
   passing : (old : Rows Row) (before : Pool) (spared : Option NodeId) →
-      IsPassing l.arena old l.fn.lists before l.fn.frames l.leaf.0 l.first spared l.above l.shift l.to (l.first + l.shift) →
-      IsPassing l.arena old l.lists before l.frames l.leaf.0 l.first spared l.above l.shift l.to l.from;
+      IsPassing l.arena old l.fn.lists before l.fn.frames l.leaf.0 l.first l.skip spared l.above l.shift l.to (l.first + l.shift) →
+      IsPassing l.arena old l.lists before l.frames l.leaf.0 l.first l.skip spared l.above l.shift l.to l.from;
   others : KeepsOthers l.fn.lists l.lists l.above.list.0;
 }
 

@@ -9,24 +9,30 @@ use Rattle.cow_merge.proofs.ranges.cut_upwards.Goals as goal
 
 pub returns-in_default-clause-sparing : goal.returns-in_default-clause-sparing
 returns-in_default-clause-sparing c = λ old before spared was.
-    passing-top c.args.arena.now old c.loop-node.lists before c.loop-node.frames c.args.leaf.0 c.args.first spared c.loop-node.node c.loop-node.shift
-    c.loop-node.to (c.loop-node.invariant.passing old before spared was) (λ parent is. let none = c.in_default.is in absurd (cc))
+    passing-top c.args.arena.now old c.loop-node.lists before c.loop-node.frames c.args.leaf.0 c.args.first c.args.skip spared c.loop-node.node c.loop-node.shift
+    c.loop-node.to (c.loop-node.invariant.passing old before spared was) (λ parent is q from one two apart. let none = c.in_default.is in absurd (cc))
 
 pub returns-then-end-from-clause-sparing : goal.returns-then-end-from-clause-sparing
 returns-then-end-from-clause-sparing c = λ old before spared was.
-    passing-top c.args.arena.now old c.loop-node.lists before c.loop-node.frames c.args.leaf.0 c.args.first spared c.loop-node.node c.loop-node.shift
-    c.loop-node.to (c.loop-node.invariant.passing old before spared was) (λ parent is. omega arith)
+    passing-top c.args.arena.now old c.loop-node.lists before c.loop-node.frames c.args.leaf.0 c.args.first c.args.skip spared c.loop-node.node c.loop-node.shift
+    c.loop-node.to (c.loop-node.invariant.passing old before spared was) (λ parent is q from one two apart. absurd (omega arith))
+
+pub returns-then-has_all-clause-sparing : goal.returns-then-has_all-clause-sparing
+returns-then-has_all-clause-sparing c = λ old before spared was.
+    passing-top c.args.arena.now old c.loop-node.lists before c.loop-node.frames c.args.leaf.0 c.args.first c.args.skip spared c.loop-node.node c.loop-node.shift
+    c.loop-node.to (c.loop-node.invariant.passing old before spared was)
+    (λ parent is q from one two apart. c.has_all.ensures c.if-has_all.true q from (omega arith) apart)
 
 pub node-above-requires : goal.node-above-requires
 node-above-requires c =
     let under = c.requires.passing in
-    passing-there c.args.arena.now c.args.lists.now c.loop-node.lists c.args.frames.now c.loop-node.frames c.args.leaf.0 c.args.first under.spared c.loop-node.node
+    passing-there c.args.arena.now c.args.lists.now c.loop-node.lists c.args.frames.now c.loop-node.frames c.args.leaf.0 c.args.first c.args.skip under.spared c.loop-node.node
     c.loop-node.shift c.loop-node.to c.loop-node.to (c.loop-node.invariant.passing c.args.lists.now c.args.frames.now under.spared under.passing) c.in-Some.parent c.in-Some.is
 
 pub overflow_add-from-in-loop-node : goal.overflow_add-from-in-loop-node
 overflow_add-from-in-loop-node c =
     let under = c.requires.passing in
-    let fits = passing-fits c.args.arena.now c.args.lists.now c.loop-node.lists c.args.frames.now c.loop-node.frames c.args.leaf.0 c.args.first under.spared c.loop-node.node
+    let fits = passing-fits c.args.arena.now c.args.lists.now c.loop-node.lists c.args.frames.now c.loop-node.frames c.args.leaf.0 c.args.first c.args.skip under.spared c.loop-node.node
     c.loop-node.shift c.loop-node.to c.loop-node.to (c.loop-node.invariant.passing c.args.lists.now c.args.frames.now under.spared under.passing) c.in-Some.parent
     c.node-above.result c.in-Some.is c.node-above.ensures in
     omega arith
@@ -34,7 +40,7 @@ overflow_add-from-in-loop-node c =
 pub overflow_add-shift : goal.overflow_add-shift
 overflow_add-shift c =
     let under = c.requires.passing in
-    let fits = passing-fits c.args.arena.now c.args.lists.now c.loop-node.lists c.args.frames.now c.loop-node.frames c.args.leaf.0 c.args.first under.spared c.loop-node.node
+    let fits = passing-fits c.args.arena.now c.args.lists.now c.loop-node.lists c.args.frames.now c.loop-node.frames c.args.leaf.0 c.args.first c.args.skip under.spared c.loop-node.node
     c.loop-node.shift c.loop-node.to c.loop-node.to (c.loop-node.invariant.passing c.args.lists.now c.args.frames.now under.spared under.passing) c.in-Some.parent
     c.node-above.result c.in-Some.is c.node-above.ensures in
     omega arith
@@ -42,7 +48,7 @@ overflow_add-shift c =
 pub overflow_add-to : goal.overflow_add-to
 overflow_add-to c =
     let under = c.requires.passing in
-    let fits = passing-fits c.args.arena.now c.args.lists.now c.loop-node.lists c.args.frames.now c.loop-node.frames c.args.leaf.0 c.args.first under.spared c.loop-node.node
+    let fits = passing-fits c.args.arena.now c.args.lists.now c.loop-node.lists c.args.frames.now c.loop-node.frames c.args.leaf.0 c.args.first c.args.skip under.spared c.loop-node.node
     c.loop-node.shift c.loop-node.to c.loop-node.to (c.loop-node.invariant.passing c.args.lists.now c.args.frames.now under.spared under.passing) c.in-Some.parent
     c.node-above.result c.in-Some.is c.node-above.ensures in
     omega arith
@@ -52,9 +58,9 @@ cut_rows-requires-clause-passing c =
     let under = c.requires.passing in
     record {
       spared = under.spared;
-      passing = passing-again c.args.arena.now c.args.lists.now c.loop-node.lists c.args.frames.now c.loop-node.frames c.args.leaf.0 c.args.first under.spared
+      passing = passing-again c.args.arena.now c.args.lists.now c.loop-node.lists c.args.frames.now c.loop-node.frames c.args.leaf.0 c.args.first c.args.skip under.spared
           c.node-above.result _ _ _
-          (passing-up c.args.arena.now c.args.lists.now c.loop-node.lists c.args.frames.now c.loop-node.frames c.args.leaf.0 c.args.first under.spared
+          (passing-up c.args.arena.now c.args.lists.now c.loop-node.lists c.args.frames.now c.loop-node.frames c.args.leaf.0 c.args.first c.args.skip under.spared
           c.loop-node.node c.loop-node.shift c.loop-node.to
           (c.loop-node.invariant.passing c.args.lists.now c.args.frames.now under.spared under.passing) c.in-Some.parent c.node-above.result
           c.in-Some.is c.node-above.ensures c.min-end.result c.min-end.ensures);
@@ -71,14 +77,14 @@ cut_rows-requires-clause-way c =
 pub loop-node-smaller : goal.loop-node-smaller
 loop-node-smaller c =
     let under = c.requires.passing in
-    passing-less c.args.arena.now c.args.lists.now c.loop-node.lists c.args.frames.now c.loop-node.frames c.args.leaf.0 c.args.first under.spared c.loop-node.node
+    passing-less c.args.arena.now c.args.lists.now c.loop-node.lists c.args.frames.now c.loop-node.frames c.args.leaf.0 c.args.first c.args.skip under.spared c.loop-node.node
     c.loop-node.shift c.loop-node.to c.loop-node.to (c.loop-node.invariant.passing c.args.lists.now c.args.frames.now under.spared under.passing) c.in-Some.parent
     c.node-above.result c.in-Some.is c.node-above.ensures
 
 pub loop-node-preserved : goal.loop-node-preserved
 loop-node-preserved c =
     let under = c.requires.passing in
-    let less = passing-less c.args.arena.now c.args.lists.now c.loop-node.lists c.args.frames.now c.loop-node.frames c.args.leaf.0 c.args.first under.spared
+    let less = passing-less c.args.arena.now c.args.lists.now c.loop-node.lists c.args.frames.now c.loop-node.frames c.args.leaf.0 c.args.first c.args.skip under.spared
     c.loop-node.node c.loop-node.shift c.loop-node.to c.loop-node.to
     (c.loop-node.invariant.passing c.args.lists.now c.args.frames.now under.spared under.passing) c.in-Some.parent c.node-above.result c.in-Some.is
     c.node-above.ensures in
@@ -94,7 +100,7 @@ loop-node-preserved c =
                 (c.loop-node.invariant.way (omega arith));
           };
       passing = λ old before spared was. c.cut_rows.ensures.passing old before spared
-          (passing-up c.args.arena.now old c.loop-node.lists before c.loop-node.frames c.args.leaf.0 c.args.first spared c.loop-node.node
+          (passing-up c.args.arena.now old c.loop-node.lists before c.loop-node.frames c.args.leaf.0 c.args.first c.args.skip spared c.loop-node.node
           c.loop-node.shift c.loop-node.to (c.loop-node.invariant.passing old before spared was) c.in-Some.parent c.node-above.result c.in-Some.is
           c.node-above.ensures c.min-end.result c.min-end.ensures);
       up = omega (arith, c.loop-node.invariant.up);

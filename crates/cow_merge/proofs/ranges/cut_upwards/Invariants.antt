@@ -15,8 +15,8 @@ invariant-loop-node l = record {
   here : nodes_of l.arena l.at.0 ≡ Some l.node;
   way : l.from < l.to → ComesTo (bare_of l.arena) l.leaf.0 l.first l.at.0 l.from;
   passing : (old : Rows Row) (before : Pool) (spared : Option NodeId) →
-      IsPassing l.arena old l.fn.lists before l.fn.frames l.leaf.0 l.first spared l.fn.node l.fn.shift l.fn.to l.fn.to →
-      IsPassing l.arena old l.lists before l.frames l.leaf.0 l.first spared l.node l.shift l.to l.to;
+      IsPassing l.arena old l.fn.lists before l.fn.frames l.leaf.0 l.first l.skip spared l.fn.node l.fn.shift l.fn.to l.fn.to →
+      IsPassing l.arena old l.lists before l.frames l.leaf.0 l.first l.skip spared l.node l.shift l.to l.to;
   up : nodes_up (nodes_of l.arena) l.arena.lists l.node.parent ≤ nodes_up (nodes_of l.arena) l.arena.lists l.fn.node.parent;
   kept : KeepsList l.fn.lists l.lists l.fn.node.list.0;
 }

@@ -1,21 +1,107 @@
-use Rattle.std.proofs.Common.{None, refl, arith}
-use Rattle.cow_merge.proofs.RangeLaws.{passing-start, passing-again, sparing-none}
+-- The rows of the parent are passed, and then those further up.
+use Rattle.std.proofs.Common.{◌+◌, ◌≤◌, None, refl, sym, ap, subst, ◌∙◌, arith}
+use Rattle.std.specs.Prelude.{is_some}
+use Rattle.vm_base.proofs.EntryLaws.{some_same}
+use Rattle.cow_arena.specs.declared.node.Node.{Node}
+use Rattle.cow_arena.specs.Ways.{Reaches}
+use Rattle.cow_merge.specs.Ranges.{bare_of, no_pages, IsUnderWay}
+use Rattle.cow_merge.proofs.RangeLaws.{no-parent, visible-of, passing-start, passing-parent, passing-top, passing-again, sparing-none}
+use Rattle.cow_merge.proofs.CloseLaws.{root-of, family-of}
+use Rattle.cow_merge.proofs.PassedLaws.{bare-up}
 use Rattle.cow_merge.proofs.ranges.leave_out.Goals as goal
 
-pub cut_upwards-requires-clause-passing : goal.cut_upwards-requires-clause-passing
-cut_upwards-requires-clause-passing c = record {
+pub returns-in_default : goal.returns-in_default
+returns-in_default c = λ node at.
+    sparing-none c.args.arena.now c.args.lists.now c.drop_rows.new.lists c.args.frames.now c.drop_rows.new.frames c.args.leaf.0 c.args.first node at
+    (passing-top c.args.arena.now c.args.lists.now c.drop_rows.new.lists c.args.frames.now c.drop_rows.new.frames c.args.leaf.0 c.args.first no_pages None
+    c.node-node.result 0 c.node-node.result.seen
+    (passing-start c.args.arena.now c.args.lists.now c.drop_rows.new.lists c.args.frames.now c.drop_rows.new.frames c.args.leaf.0 c.args.first
+    c.node-node.result c.drop_rows.ensures.bare c.node-node.ensures)
+    (λ parent is q from one two apart. no-parent c.node-node.result.parent parent
+    (root-of c.node-node.result c.sibling.result (c.sibling.ensures.root c.node-node.result c.node-node.ensures) c.in_default.is-1) is))
+
+pub returns-in_default-2 : goal.returns-in_default-2
+returns-in_default-2 c = λ node at.
+    sparing-none c.args.arena.now c.args.lists.now c.drop_rows.new.lists c.args.frames.now c.drop_rows.new.frames c.args.leaf.0 c.args.first node at
+    (passing-top c.args.arena.now c.args.lists.now c.drop_rows.new.lists c.args.frames.now c.drop_rows.new.frames c.args.leaf.0 c.args.first no_pages None
+    c.node-node.result 0 c.node-node.result.seen
+    (passing-start c.args.arena.now c.args.lists.now c.drop_rows.new.lists c.args.frames.now c.drop_rows.new.frames c.args.leaf.0 c.args.first
+    c.node-node.result c.drop_rows.ensures.bare c.node-node.ensures)
+    (λ parent is q from one two apart. absurd (let root = c.sibling.ensures.root c.node-node.result c.node-node.ensures in cc)))
+
+pub returns-then-node-first : goal.returns-then-node-first
+returns-then-node-first c = λ node at.
+    sparing-none c.args.arena.now c.args.lists.now c.drop_rows.new.lists c.args.frames.now c.drop_rows.new.frames c.args.leaf.0 c.args.first node at
+    (passing-top c.args.arena.now c.args.lists.now c.drop_rows.new.lists c.args.frames.now c.drop_rows.new.frames c.args.leaf.0 c.args.first no_pages None
+    c.node-node.result 0 c.node-node.result.seen
+    (passing-start c.args.arena.now c.args.lists.now c.drop_rows.new.lists c.args.frames.now c.drop_rows.new.frames c.args.leaf.0 c.args.first
+    c.node-node.result c.drop_rows.ensures.bare c.node-node.ensures)
+    (λ parent is q from one two apart. absurd (omega arith)))
+
+pub node-above-requires : goal.node-above-requires
+node-above-requires c =
+    let visible = visible-of c.args.arena.now c.args.leaf.0 c.node-node.result c.requires.leaf c.node-node.ensures in
+    let of = family-of c.args.arena.now c.requires.exact.forest c.args.leaf.0 c.node-node.result visible c.in-Some-Some.hidden c.in-Some-Some.sibling
+    c.in-Some-Some.is-0 (sym c.in-Some-Some.is-1 ∙ c.sibling.ensures.sibling) in
+    ap is_some of.family.parent_at
+
+pub overflow_add-to : goal.overflow_add-to
+overflow_add-to c =
+    let below = c.requires.exact.forest.by.below c.in-Some-Some.hidden.0 c.args.leaf.0 c.node-node.result c.node-node.ensures c.in-Some-Some.is-0 in
+    let fits = subst (λ (n : Node). c.node-node.result.first + c.node-node.result.seen ≤ n.count) (some_same (sym below.at ∙ c.node-above.ensures)) below.window in
+    omega arith
+
+pub cut_rows-requires-clause-passing : goal.cut_rows-requires-clause-passing
+cut_rows-requires-clause-passing c = record {
   spared = None;
-  passing = passing-again c.args.arena.now c.args.lists.now c.drop_rows.new.lists c.args.frames.now c.drop_rows.new.frames c.args.leaf.0 c.args.first _ _ _ _ _
-      (passing-start c.args.arena.now c.args.lists.now c.drop_rows.new.lists c.args.frames.now c.drop_rows.new.frames c.args.leaf.0 c.args.first
-      c.node-node.result c.drop_rows.ensures.bare c.node-node.ensures);
+  passing = passing-again c.args.arena.now c.args.lists.now c.drop_rows.new.lists c.args.frames.now c.drop_rows.new.frames c.args.leaf.0 c.args.first _ _ _ _ _ _
+      (passing-parent c.args.arena.now c.args.lists.now c.drop_rows.new.lists c.args.frames.now c.drop_rows.new.frames c.args.leaf.0 c.args.first
+      c.node-node.result c.in-Some-Some.hidden c.node-above.result c.drop_rows.ensures.bare c.node-node.ensures c.in-Some-Some.is-0 c.node-above.ensures);
 }
 
-pub cut_upwards-requires-clause-way : goal.cut_upwards-requires-clause-way
-cut_upwards-requires-clause-way c = λ less. record { side = None; way = (refl, omega arith) }
+pub cut_rows-requires-clause-way : goal.cut_rows-requires-clause-way
+cut_rows-requires-clause-way c =
+    subst (λ s. Reaches (bare_of c.args.arena.now) c.args.leaf.0 c.args.first s c.in-Some-Some.hidden.0 (c.args.first + c.node-node.result.first))
+    (sym c.side_of-side.ensures)
+    (bare-up c.args.arena.now c.requires.exact.forest c.args.leaf.0 c.args.first c.args.leaf.0 c.in-Some-Some.hidden c.node-node.result c.node-above.result
+    c.args.first (c.args.first + c.node-node.result.first) c.node-node.ensures c.in-Some-Some.is-0 c.node-above.ensures (omega arith) (omega arith)
+    (record { side = None; way = (refl, refl) }))
+
+pub leave_out_further-requires-clause-passing : goal.leave_out_further-requires-clause-passing
+leave_out_further-requires-clause-passing c = λ above at.
+    subst (λ (n : Node). IsUnderWay c.args.arena.now c.cut_rows.new.lists c.cut_rows.new.frames c.args.leaf.0 c.args.first no_pages n c.node-node.result.first
+    (c.node-node.result.first + c.node-node.result.seen) (c.node-node.result.first + c.node-node.result.seen))
+    (some_same (sym c.node-above.ensures ∙ at)) (record {
+      spared = None;
+      passing = passing-again c.args.arena.now c.args.lists.now c.cut_rows.new.lists c.args.frames.now c.cut_rows.new.frames c.args.leaf.0 c.args.first _ _ _ _ _ _
+          (c.cut_rows.ensures.passing c.args.lists.now c.args.frames.now None
+          (passing-parent c.args.arena.now c.args.lists.now c.drop_rows.new.lists c.args.frames.now c.drop_rows.new.frames c.args.leaf.0 c.args.first
+          c.node-node.result c.in-Some-Some.hidden c.node-above.result c.drop_rows.ensures.bare c.node-node.ensures c.in-Some-Some.is-0 c.node-above.ensures));
+    })
+
+pub leave_out_further-requires-clause-family : goal.leave_out_further-requires-clause-family
+leave_out_further-requires-clause-family c =
+    family-of c.args.arena.now c.requires.exact.forest c.args.leaf.0 c.node-node.result
+    (visible-of c.args.arena.now c.args.leaf.0 c.node-node.result c.requires.leaf c.node-node.ensures) c.in-Some-Some.hidden c.in-Some-Some.sibling
+    c.in-Some-Some.is-0 (sym c.in-Some-Some.is-1 ∙ c.sibling.ensures.sibling)
+
+pub leave_out_further-requires-clause-range : goal.leave_out_further-requires-clause-range
+leave_out_further-requires-clause-range c =
+    let below = c.requires.exact.forest.by.below c.in-Some-Some.hidden.0 c.args.leaf.0 c.node-node.result c.node-node.ensures c.in-Some-Some.is-0 in
+    let fits = subst (λ (n : Node). c.node-node.result.first + c.node-node.result.seen ≤ n.count) (some_same (sym below.at ∙ c.node-above.ensures)) below.window in
+    omega arith
+
+pub leave_out_further-requires-clause-base : goal.leave_out_further-requires-clause-base
+leave_out_further-requires-clause-base c = λ node at. ap (λ (n : Node). n.first) (some_same (sym c.node-node.ensures ∙ at))
+
+pub leave_out_further-requires-clause-end : goal.leave_out_further-requires-clause-end
+leave_out_further-requires-clause-end c = λ node at.
+    subst (λ (n : Node). c.node-node.result.first + c.node-node.result.seen ≤ c.node-node.result.first + n.seen) (some_same (sym c.node-node.ensures ∙ at)) (omega arith)
 
 pub returns : goal.returns
 returns c = λ node at.
-    sparing-none c.args.arena.now c.args.lists.now c.cut_upwards.new.lists c.args.frames.now c.cut_upwards.new.frames c.args.leaf.0 c.args.first node at
-    (c.cut_upwards.ensures.sparing c.args.lists.now c.args.frames.now None
-    (passing-start c.args.arena.now c.args.lists.now c.drop_rows.new.lists c.args.frames.now c.drop_rows.new.frames c.args.leaf.0 c.args.first
-    c.node-node.result c.drop_rows.ensures.bare c.node-node.ensures))
+    sparing-none c.args.arena.now c.args.lists.now c.leave_out_further.new.lists c.args.frames.now c.leave_out_further.new.frames c.args.leaf.0 c.args.first node at
+    (c.leave_out_further.ensures.sparing c.args.lists.now c.args.frames.now None c.node-above.result c.node-above.ensures
+    (c.cut_rows.ensures.passing c.args.lists.now c.args.frames.now None
+    (passing-parent c.args.arena.now c.args.lists.now c.drop_rows.new.lists c.args.frames.now c.drop_rows.new.frames c.args.leaf.0 c.args.first
+    c.node-node.result c.in-Some-Some.hidden c.node-above.result c.drop_rows.ensures.bare c.node-node.ensures c.in-Some-Some.is-0 c.node-above.ensures)))

@@ -1,5 +1,5 @@
 use Rattle.std.proofs.Common.{arith}
-use Rattle.cow_merge.proofs.uncovering.next_below.Goals as goal
+use Rattle.cow_merge.proofs.ranges.next_below.Goals as goal
 
 pub returns-else-page-to-clause-none : goal.returns-else-page-to-clause-none
 returns-else-page-to-clause-none c = λ p from below.

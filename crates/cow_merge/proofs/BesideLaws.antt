@@ -1,0 +1,450 @@
+-- The way down from the sibling: whoever it comes to, and what is cut off on the way.
+use Rattle.std.proofs.Common.{◌≡◌, ◌≢◌, ℕ, ◌+◌, ◌-◌, ◌<◌, ◌≤◌, ◌^◌, false, Option, None, Some, inl, inr, IsSomeAnd}
+use Rattle.std.proofs.Common.{refl, sym, ap, subst, ◌∙◌, arith}
+use Rattle.std.specs.Prelude.{is_some}
+use Rattle.std.proofs.lemmas.Bool.{cases_eq, cases_lt}
+use Rattle.balanced_tree.specs.Rows.{Rows}
+use Rattle.balanced_tree.specs.Pairs.{IsNext}
+use Rattle.vm_base.specs.declared.names.Koid.{Koid}
+use Rattle.vm_base.proofs.EntryLaws.{some_same}
+use Rattle.page_list.specs.declared.row.Row.{Row}
+use Rattle.page_list.specs.declared.row.Slot.{Slot}
+use Rattle.page_list.specs.Lists.{slots_of}
+use Rattle.frame_pool.specs.Pool.{Pool, is_taken}
+use Rattle.cow_arena.specs.declared.node.Node.{Node}
+use Rattle.cow_arena.specs.declared.node.NodeId.{NodeId}
+use Rattle.cow_arena.specs.declared.node.Side.{Side}
+use Rattle.cow_arena.specs.declared.node.Side.TheVariants as side
+use Rattle.cow_arena.specs.Nodes.{Arena, nodes_of, link_to, other_side, side_of, side_in}
+use Rattle.cow_arena.specs.Forest.{IsForest, IsChild, HasPair}
+use Rattle.cow_arena.specs.Walk.{Tree, walk, frame_at}
+use Rattle.cow_arena.specs.Ways.{HasRow, Climbs, Reaches, Arrives}
+use Rattle.cow_arena.proofs.ReachLaws.{reach-apart, child-there, reach-deeper, reach-once, reach-hidden, side-is, arrives-on}
+use Rattle.cow_split.specs.declared.answers.Holder.{Holder}
+use Rattle.cow_split.specs.declared.answers.Holder.TheVariants as holder
+use Rattle.cow_split.specs.Trees.{tree_of, holder_of}
+use Rattle.cow_split.specs.Sight.{IsPage}
+use Rattle.cow_split.specs.Exact.{leaving_out}
+use Rattle.cow_split.proofs.CutLaws.{cut-nothing}
+use Rattle.cow_split.proofs.HolderLaws.{held-row, held-way, own-cut, nothing-cut}
+use Rattle.cow_split.proofs.RowLaws.{left_out-in_sight}
+use Rattle.cow_split.proofs.PartLaws.{part-none}
+use Rattle.cow_merge.specs.declared.witness.Way.{Way}
+use Rattle.cow_merge.specs.Lifting.{IsFamilyOf}
+use Rattle.cow_merge.specs.Ranges.{no_pages, CameTo, IsSpared, IsPassing, IsOnlyWay, HasPassedRow, HasLeftPageOut, HasKept, IsExactFor, KeepsList, KeepsOthers}
+use Rattle.cow_merge.specs.Witness.{IsWithin, IsEntered, ComesBeside, IsBeside, SeesRowOf, HasLeftPage, IsPageCut}
+use Rattle.cow_arena.proofs.SpliceWalkLaws.{family-parent}
+use Rattle.cow_merge.proofs.LiftedLaws.{family-other}
+use Rattle.cow_merge.proofs.RangeLaws.{gives-same, arrives-part, leaving-more, leaving-again, leaving-kept, spared-stays}
+
+-- ---- the way down
+
+-- pages of the parent that the way's pages come to, where it enters a child
+pub within-entered : (first base to : ℕ) (node : Node) (child : NodeId) (shift from end : ℕ) (way : Way) → to < 2 ^ 64 →
+    ((p : ℕ) → from ≤ p → p < end → first + base ≤ p + shift) → ((p : ℕ) → from ≤ p → p < end → p + shift < to) →
+    IsEntered node child shift from end way → IsWithin first base to node way
+within-entered first base to node child shift from end way fits low high entered = record {
+  inside = entered.inside;
+  low = λ p start less.
+      let here = low (node.first + p) (entered.low p start less) (entered.high p start less) in
+      let below = high (node.first + p) (entered.low p start less) (entered.high p start less) in
+      let same = entered.shift_is (omega arith) in
+      omega arith;
+  high = λ p start less.
+      let below = high (node.first + p) (entered.low p start less) (entered.high p start less) in
+      let same = entered.shift_is (omega arith) in
+      omega arith;
+}
+
+-- it begins at the sibling
+pub beside-start : (arena : Arena) (old new : Rows Row) (before after : Pool) (v first : ℕ) (spared : Option NodeId) (above : Node) (base to h : ℕ)
+    (sib : NodeId) → to < 2 ^ 64 → IsFamilyOf arena v h sib.0 → nodes_of arena h ≡ Some above → (end : ℕ) → end ≤ to → (way : Way) →
+    ((node : Node) → nodes_of arena sib.0 ≡ Some node → IsEntered node sib 0 (first + base) end way) →
+    IsPassing arena old new before after v first no_pages spared above base to to →
+    IsBeside arena old new before after v first spared h above base to (other_side (side_of above v)) way way.from
+beside-start arena old new before after v first spared above base to h sib fits of at end most way entered was =
+    let f = was.bare.leaving.exact.forest in
+    let family = of.family in
+    let enters = entered of.sibling family.sibling_at in
+    let same : of.parent ≡ above = some_same (sym family.parent_at ∙ at) in
+    let up = family-parent (nodes_of arena) arena.lists f v h sib.0 of.node of.parent of.sibling family in
+    let here : was.h ≡ h = f.by.own was.h h above above was.at at refl in
+    record {
+      bare = was.bare;
+      parent = was.parent;
+      at = at;
+      node = of.sibling;
+      node_at = ap (λ (k : NodeId). nodes_of arena k.0) enters.at ∙ family.sibling_at;
+      e = h;
+      up = up;
+      from = None;
+      side = ap (λ (k : NodeId). side_in (nodes_of arena) k.0) enters.at
+          ∙ (side-is (nodes_of arena) arena.lists f h sib.0 of.parent of.sibling family.parent_at family.sibling_at up
+          ∙ ap Some (family-other arena v h sib.0 f of ∙ ap (λ (n : Node). other_side (side_of n v)) same));
+      within = within-entered first base to of.sibling sib 0 (first + base) end way fits (λ p low less. omega arith) (λ p low less. omega arith) enters;
+      came = λ q tag start below sight shown. elim (was.came q tag start below sight shown) [
+        | inl held ↦ inl held
+        | inr came ↦ inr (record {
+          came = subst (λ i. CameTo (tree_of arena new) v q no_pages i above.list.0 base to to) here came;
+          beside = λ p page low less.
+              let upper = enters.high p low less in
+              let shift = enters.shift_is (omega arith) in
+              (refl, omega arith);
+          free = λ p page low less. absurd (omega arith);
+        })
+      ];
+    }
+
+-- whenever the rows were the old ones, they are so now
+pub beside-again : (arena : Arena) (old new : Rows Row) (before after : Pool) (v first : ℕ) (spared : Option NodeId) (h : ℕ) (above : Node) (base to : ℕ)
+    (s : Side) (way : Way) (upto : ℕ) → IsBeside arena old new before after v first spared h above base to s way upto →
+    IsBeside arena new new after after v first spared h above base to s way upto
+beside-again arena old new before after v first spared h above base to s way upto was = record {
+  bare = record {
+    out = was.bare.out;
+    leaving = leaving-again arena old new before after v first was.bare.out was.bare.leaving;
+    node = was.bare.node;
+    visible = was.bare.visible;
+    bare = was.bare.bare;
+  };
+  parent = was.parent;
+  at = was.at;
+  node = was.node;
+  node_at = was.node_at;
+  e = was.e;
+  up = was.up;
+  from = was.from;
+  side = was.side;
+  within = was.within;
+  came = was.came;
+}
+
+-- the tree is exact now, with some pages of the node left out
+pub beside-exact : (arena : Arena) (old new : Rows Row) (before after : Pool) (v first : ℕ) (spared : Option NodeId) (h : ℕ) (above : Node) (base to : ℕ)
+    (s : Side) (way : Way) (upto : ℕ) → IsBeside arena old new before after v first spared h above base to s way upto → IsExactFor arena new after v
+beside-exact arena old new before after v first spared h above base to s way upto was = record {
+  out = was.bare.out;
+  exact = was.bare.leaving.exact;
+  only = was.bare.leaving.only;
+  node = was.bare.node;
+  visible = was.bare.visible;
+}
+
+pub beside-bare : (arena : Arena) (old new : Rows Row) (before after : Pool) (v first : ℕ) (spared : Option NodeId) (h : ℕ) (above : Node) (base to : ℕ)
+    (s : Side) (way : Way) (upto : ℕ) → IsBeside arena old new before after v first spared h above base to s way upto → (p : ℕ) → first ≤ p →
+    (node : Node) → nodes_of arena v ≡ Some node → slots_of new node.list.0 p ≡ None
+beside-bare arena old new before after v first spared h above base to s way upto was p from node at =
+    subst (λ (n : Node). slots_of new n.list.0 p ≡ None) (some_same (sym was.bare.visible.at ∙ at)) (was.bare.bare p from)
+
+-- ---- a row on the way
+
+module _ (arena : Arena) (old mid new : Rows Row) (before between after : Pool) (v first : ℕ) (spared : Option NodeId) (h : ℕ) (above : Node)
+    (base to : ℕ) (s : Side) (way : Way) (upto page : ℕ) (was : IsBeside arena old mid before between v first spared h above base to s way upto)
+    (from : way.from ≤ upto) (less : page < way.to) (next : IsNext (slots_of mid was.node.list.0) upto (Some page)) where
+  abbrev own : ℕ
+  own = page + way.shift - base
+
+  low : first + base ≤ page + way.shift
+  low = let least = next.least page refl in was.within.low page (omega (arith, least.0)) less
+
+  -- pages of the leaf but this one belong to no row up to here
+  still-free : (q tag : ℕ) → q ≢ own → ComesBeside (tree_of arena mid) v q h above.list.0 base to was.e was.node was.from way upto →
+      (p : ℕ) → q + base ≡ p + way.shift → way.from ≤ p → p < page + 1 → slots_of mid was.node.list.0 p ≡ None
+  still-free q tag apart came p is start less = elim (cases_lt p upto) [
+    | inl before ↦ came.free p is start before
+    | inr past ↦ elim (cases_eq p page) [
+      | inl same ↦ absurd (apart (omega (arith, low)))
+      | inr other ↦ let least = next.least page refl in least.2 p past (omega (arith, other))
+    ]
+  ]
+
+  beside-out : HasLeftPageOut arena mid new between after v own → IsBeside arena old new before after v first spared h above base to s way (page + 1)
+  beside-out step =
+      let out = was.bare.out in
+      record {
+        bare = record {
+          out = leaving_out out v own;
+          leaving = leaving-more arena old mid new before between after v first own out was.bare.leaving step (omega (arith, low));
+          node = was.bare.node;
+          visible = was.bare.visible;
+          bare = λ p start. part-none (slots_of mid) (slots_of new) step.part was.bare.node.list.0 p (was.bare.bare p start);
+        };
+        parent = was.parent;
+        at = was.at;
+        node = was.node;
+        node_at = was.node_at;
+        e = was.e;
+        up = was.up;
+        from = was.from;
+        side = was.side;
+        within = was.within;
+        came = λ q tag start below sight shown.
+            let parts = left_out-in_sight out v own v q sight in
+            let apart : q ≢ own = λ same. parts.0 (refl, same) in
+            let there : IsPage (tree_of arena mid) v q = record { node = was.bare.node; visible = was.bare.visible; below = below } in
+            let showed = sym (step.shows out was.bare.leaving.exact was.bare.leaving.only v q there sight) ∙ shown in
+            elim (was.came q tag start below parts.1 showed) [
+              | inl held ↦ inl (spared-stays arena mid new v was.bare.node was.bare.visible out (is_taken between) was.bare.leaving.exact step.part
+                  spared q tag was.parent (was.bare.bare q start) showed shown held)
+              | inr it ↦ inr (record {
+                came = record {
+                  side = it.came.side;
+                  apart = it.came.apart;
+                  page = it.came.page;
+                  is = it.came.is;
+                  way = arrives-part (tree_of arena mid) (slots_of new) step.part v q it.came.side h it.came.page it.came.way;
+                  below = it.came.below;
+                  free = λ less. part-none (slots_of mid) (slots_of new) step.part above.list.0 it.came.page (it.came.free less);
+                };
+                beside = λ p is start less.
+                    arrives-part (tree_of arena mid) (slots_of new) step.part was.e (was.node.first + p) was.from h (q + base) (it.beside p is start less);
+                free = λ p is start less.
+                    part-none (slots_of mid) (slots_of new) step.part was.node.list.0 p (still-free q tag apart it p is start less);
+              })
+            ];
+      }
+
+  -- a page that sees a row of the parent does not come to a page of it that has none
+  not-seen : (q : ℕ) → q ≡ own → CameTo (tree_of arena mid) v q no_pages h above.list.0 base to to → SeesRowOf (tree_of arena mid) v own h → ⊥
+  not-seen q is came sees = by_side came.side (subst (λ x. Arrives t v x came.side h came.page) is came.way)
+    where
+      t : Tree
+      t = tree_of arena mid
+
+      f : IsForest (nodes_of arena) arena.lists
+      f = was.bare.leaving.exact.forest
+
+      by_side : (side : Option Side) → Arrives t v own side h came.page → ⊥
+      by_side None way =
+          let deeper = reach-deeper t f v own sees.side h sees.page sees.way in
+          let same = ap f.rank way.0 in
+          absurd (omega arith)
+      by_side (Some u) way =
+          let apart = (reach-apart t f v own u h came.page own sees.side sees.page way sees.way).0 in
+          let page : came.page ≡ sees.page = omega arith in
+          let node : sees.row.node ≡ above = some_same (sym sees.row.at ∙ was.at) in
+          let row : t.slots above.list.0 came.page ≡ Some sees.slot =
+          ap (t.slots above.list.0) page ∙ (ap (λ (n : Node). t.slots n.list.0 sees.page) (sym node) ∙ sees.row.row) in
+          absurd (let none = came.free came.below in cc)
+
+  beside-left : HasLeftPage arena mid new between after v own h → IsBeside arena old new before after v first spared h above base to s way (page + 1)
+  beside-left left =
+      let kept = left.kept in
+      record {
+        bare = record {
+          out = was.bare.out;
+          leaving = leaving-kept arena old mid new before between after v first was.bare.out was.bare.leaving kept;
+          node = was.bare.node;
+          visible = was.bare.visible;
+          bare = λ p start. ap (λ s. s was.bare.node.list.0 p) kept.rows ∙ was.bare.bare p start;
+        };
+        parent = was.parent;
+        at = was.at;
+        node = was.node;
+        node_at = was.node_at;
+        e = was.e;
+        up = was.up;
+        from = was.from;
+        side = was.side;
+        within = was.within;
+        came = λ q tag start below sight shown.
+            let showed : frame_at (tree_of arena mid) v q ≡ Some tag
+            = ap (λ s. frame_at (record (tree_of arena mid) { slots = s }) v q) (sym kept.rows) ∙ shown in
+            elim (was.came q tag start below sight showed) [
+              | inl held ↦ inl (subst (λ s. IsSpared (nodes_of arena) s spared was.bare.node q) (sym kept.rows) held)
+              | inr it ↦ inr (subst
+                  (λ r. ComesBeside (record (tree_of arena mid) { slots = r }) v q h above.list.0 base to was.e was.node was.from way (page + 1)) (sym kept.rows)
+                  (elim (cases_eq q own) [
+                    | inl same ↦ absurd (not-seen q same it.came (left.shows tag (ap (frame_at (tree_of arena mid) v) (sym same) ∙ showed)))
+                    | inr apart ↦ record { came = it.came; beside = it.beside; free = still-free q tag apart it }
+                  ]))
+            ];
+      }
+
+  pub beside-cut : IsPageCut arena mid new between after v own h → IsBeside arena old new before after v first spared h above base to s way (page + 1)
+  beside-cut cut = elim cut [ inl out ↦ beside-out out | inr left ↦ beside-left left ]
+
+-- no row is left on this node
+pub beside-end : (arena : Arena) (old new : Rows Row) (before after : Pool) (v first : ℕ) (spared : Option NodeId) (h : ℕ) (above : Node) (base to : ℕ)
+    (s : Side) (way : Way) (upto : ℕ) (was : IsBeside arena old new before after v first spared h above base to s way upto) →
+    ((p : ℕ) → upto ≤ p → p < way.to → slots_of new was.node.list.0 p ≡ None) →
+    IsBeside arena old new before after v first spared h above base to s way way.to
+beside-end arena old new before after v first spared h above base to s way upto was none = record {
+  bare = was.bare;
+  parent = was.parent;
+  at = was.at;
+  node = was.node;
+  node_at = was.node_at;
+  e = was.e;
+  up = was.up;
+  from = was.from;
+  side = was.side;
+  within = was.within;
+  came = λ q tag start below sight shown. elim (was.came q tag start below sight shown) [
+    | inl held ↦ inl held
+    | inr it ↦ inr (record {
+      came = it.came;
+      beside = it.beside;
+      free = λ p is low less. elim (cases_lt p upto) [ inl before ↦ it.free p is low before | inr past ↦ none p past less ];
+    })
+  ];
+}
+
+-- ---- one page
+
+module _ (arena : Arena) (old : Rows Row) (pool : Pool) (v p h : ℕ) (has : IsExactFor arena old pool v) (bare : slots_of old has.node.list.0 p ≡ None)
+    (found : Holder) (is : found ≡ holder_of (walk (tree_of arena old) v p)) where
+  page-kept : HasKept old old pool pool
+  page-kept = record { rows = refl; taken = λ t. refl; links = refl; gives = gives-same pool; spare = omega arith; count = omega arith }
+
+  no-frame : (it : Holder) → it ≡ holder_of (walk (tree_of arena old) v p) →
+      ((node : NodeId) (page : ℕ) (side : Side) (slot : Slot) → it ≡ holder.Above node page side slot → ⊥) → (tag : ℕ) →
+      frame_at (tree_of arena old) v p ≡ Some tag → ⊥
+  no-frame (holder.Above node page side slot) e none tag shown = none node page side slot refl
+  no-frame (holder.Own row) e none tag shown =
+      let after = own-cut (tree_of arena old) v p row e in
+      let nothing = (cut-nothing (tree_of arena old) has.exact.forest v p has.node has.visible bare).0 (sym after.1) in
+      absurd (cc)
+  no-frame holder.Nothing e none tag shown =
+      let after = nothing-cut (tree_of arena old) v p e in
+      let nothing = (cut-nothing (tree_of arena old) has.exact.forest v p has.node has.visible bare).0 (sym after.1) in
+      absurd (cc)
+
+  -- no row is seen
+  pub page-nothing : ((node : NodeId) (page : ℕ) (side : Side) (slot : Slot) → found ≡ holder.Above node page side slot → ⊥) →
+      IsPageCut arena old old pool pool v p h
+  page-nothing none = inr (record { kept = page-kept; shows = λ tag shown. absurd (no-frame found is none tag shown) })
+
+  module _ (node : NodeId) (page : ℕ) (side : Side) (slot : Slot) (above_is : found ≡ holder.Above node page side slot) where
+    pub page-way : Reaches (tree_of arena old) v p side node.0 page
+    page-way = held-way (tree_of arena old) has.exact.forest v p node page side slot (sym above_is ∙ is)
+
+    pub page-row : HasRow (tree_of arena old) node.0 page slot
+    page-row = held-row (tree_of arena old) has.exact.forest v p node page side slot (sym above_is ∙ is)
+
+    -- no other page comes to the row
+    pub page-only : IsOnlyWay (tree_of arena old) v p side node.0 page
+    page-only = record { only = λ x s way. reach-once (tree_of arena old) has.exact.forest v x p s side node.0 page way page-way }
+
+    pub page-hidden : (above : Node) → nodes_of arena node.0 ≡ Some above → above.koid ≡ None
+    page-hidden above at =
+        let it = reach-hidden (tree_of arena old) has.exact.forest v p side node.0 page page-way in
+        subst (λ (n : Node). n.koid ≡ None) (some_same (sym it.1 ∙ at)) it.2
+
+    -- the parent's row is seen
+    pub page-parent : node.0 ≡ h → IsPageCut arena old old pool pool v p h
+    page-parent same = inr (record {
+      kept = page-kept;
+      shows = λ tag shown. record {
+        side = side;
+        page = page;
+        slot = slot;
+        way = subst (λ i. Reaches (tree_of arena old) v p side i page) same page-way;
+        row = subst (λ i. HasRow (tree_of arena old) i page slot) same page-row;
+      };
+    })
+
+    -- a row further up is
+    pub page-other : (new : Rows Row) (after : Pool) → HasPassedRow arena old new pool after v p side node.0 page → IsPageCut arena old new pool after v p h
+    page-other new after passed = inl (passed.came page-way)
+
+    pub page-keeps : (new : Rows Row) → node.0 ≢ h → ((at : Node) → nodes_of arena node.0 ≡ Some at → KeepsOthers old new at.list.0) → (above : Node) →
+        nodes_of arena h ≡ Some above → KeepsList old new above.list.0
+    page-keeps new apart others above at =
+        others page-row.node page-row.at above.list.0
+        (λ same. apart (sym (has.exact.forest.by.own h node.0 above page-row.node at page-row.at same)))
+
+-- ---- one node further down, and the end
+
+module _ (arena : Arena) (old new : Rows Row) (before after : Pool) (v first : ℕ) (spared : Option NodeId) (h : ℕ) (above : Node) (base to : ℕ)
+    (s : Side) (way : Way) (was : IsBeside arena old new before after v first spared h above base to s way way.to) where
+  abbrev t : Tree
+  t = tree_of arena new
+
+  -- the way's page goes on to the parent
+  pub goes-up : (q p : ℕ) → ComesBeside t v q h above.list.0 base to was.e was.node was.from way way.to → q + base ≡ p + way.shift → way.from ≤ p →
+      p < way.to → Reaches t way.at.0 p s h (q + base)
+  goes-up q p it is low less =
+      let step : Climbs t way.at.0 p was.e (was.node.first + p) = record {
+        node = was.node;
+        at = was.node_at;
+        free = it.free p is low less;
+        inside = was.within.inside p low less;
+        parent = was.up;
+        page = refl;
+      } in
+      subst (λ o. Arrives t way.at.0 p o h (q + base)) was.side
+      (arrives-on t was.bare.leaving.exact.forest way.at.0 p was.e (was.node.first + p) was.from h (q + base) step (it.beside p is low less))
+
+  pub beside-down : to < 2 ^ 64 → (child : NodeId) (below : Node) → nodes_of arena child.0 ≡ Some below → below.parent ≡ link_to way.at.0 → (next : Way) →
+      IsEntered below child way.shift way.from way.to next → IsBeside arena old new before after v first spared h above base to s next next.from
+  beside-down fits child below at up next enters = record {
+    bare = was.bare;
+    parent = was.parent;
+    at = was.at;
+    node = below;
+    node_at = ap (λ (k : NodeId). nodes_of arena k.0) enters.at ∙ at;
+    e = way.at.0;
+    up = up;
+    from = Some s;
+    side = refl;
+    within = within-entered first base to below child way.shift way.from way.to next fits was.within.low was.within.high enters;
+    came = λ q tag start less sight shown. elim (was.came q tag start less sight shown) [
+      | inl held ↦ inl held
+      | inr it ↦ inr (record {
+        came = it.came;
+        beside = λ p is low less.
+            let lower = enters.low p low less in
+            let upper = enters.high p low less in
+            let most = was.within.high (below.first + p) lower upper in
+            let shift = enters.shift_is (omega arith) in
+            goes-up q (below.first + p) it (omega arith) lower upper;
+        free = λ p is low less. absurd (omega arith);
+      })
+    ];
+  }
+
+-- the way is given up
+pub beside-none : (arena : Arena) (old new : Rows Row) (before after : Pool) (v first : ℕ) (spared : Option NodeId) (h : ℕ) (above : Node) (base to : ℕ)
+    (s : Side) (way : Way) (upto : ℕ) → IsBeside arena old new before after v first spared h above base to s way upto →
+    IsPassing arena old new before after v first no_pages spared above base to to
+beside-none arena old new before after v first spared h above base to s way upto was = record {
+  bare = was.bare;
+  parent = was.parent;
+  h = h;
+  at = was.at;
+  came = λ q tag start less sight shown. elim (was.came q tag start less sight shown) [ inl held ↦ inl held | inr it ↦ inr it.came ];
+}
+
+-- a hidden node has two children
+module _ (arena : Arena) (f : IsForest (nodes_of arena) arena.lists) (h : ℕ)
+    (hidden : IsSomeAnd (nodes_of arena h) (λ (node : Node). node.koid ≡ None)) (above : Node) (at : nodes_of arena h ≡ Some above) where
+  no-koid : above.koid ≡ None
+  no-koid = subst (λ (o : Option Node). IsSomeAnd o (λ (node : Node). node.koid ≡ None)) at hidden
+
+  pair-of : HasPair (nodes_of arena) h above
+  pair-of = f.by.pairs h above at no-koid
+
+  pub left-child : (one : NodeId) → above.left ≡ Some one → IsChild (nodes_of arena) h one.0
+  left-child one is = child-there (nodes_of arena) arena.lists f h one.0 above side.Left at is
+
+  pub right-child : (one : NodeId) → above.right ≡ Some one → IsChild (nodes_of arena) h one.0
+  right-child one is = child-there (nodes_of arena) arena.lists f h one.0 above side.Right at is
+
+  pub left-there : above.left ≡ None → ⊥
+  left-there none = let pair = pair-of.left_is in absurd (cc)
+
+  pub right-there : above.right ≡ None → ⊥
+  right-there none = let pair = pair-of.right_is in absurd (cc)
+
+pub no-koid_of : (o : Option Koid) → is_some o ≡ false → o ≡ None
+no-koid_of None e = refl
+no-koid_of (Some koid) e = absurd (cc)
+
+pub hidden-there : (arena : Arena) (h : ℕ) (above : Node) → nodes_of arena h ≡ Some above → above.koid ≡ None →
+    IsSomeAnd (nodes_of arena h) (λ (node : Node). node.koid ≡ None)
+hidden-there arena h above at none = subst (λ (o : Option Node). IsSomeAnd o (λ (node : Node). node.koid ≡ None)) (sym at) none
+
+pub bare-there : (arena : Arena) (rows : Rows Row) (v p : ℕ) (node : Node) → nodes_of arena v ≡ Some node → slots_of rows node.list.0 p ≡ None →
+    IsSomeAnd (nodes_of arena v) (λ node. slots_of rows node.list.0 p ≡ None)
+bare-there arena rows v p node at none = subst (λ (o : Option Node). IsSomeAnd o (λ (node : Node). slots_of rows node.list.0 p ≡ None)) (sym at) none

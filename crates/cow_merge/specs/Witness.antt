@@ -1,0 +1,85 @@
+-- A way down from the sibling of a VMO's node that goes, whose pages another VMO shows too.
+use Rattle.std.specs.Prelude.{◌≡◌, ◌⊎◌, ℕ, ◌+◌, ◌<◌, ◌≤◌, ◌^◌, false, Option, None, Some}
+use Rattle.std.specs.Option.{option_or}
+use Rattle.balanced_tree.specs.Rows.{Rows}
+use Rattle.page_list.specs.declared.row.Row.{Row}
+use Rattle.page_list.specs.declared.row.Slot.{Slot}
+use Rattle.page_list.specs.Lists.{slots_of}
+use Rattle.frame_pool.specs.Pool.{Pool}
+use Rattle.cow_arena.specs.declared.node.Node.{Node}
+use Rattle.cow_arena.specs.declared.node.NodeId.{NodeId}
+use Rattle.cow_arena.specs.declared.node.Side.{Side}
+use Rattle.cow_arena.specs.Nodes.{Arena, nodes_of, side_in, link_to}
+use Rattle.cow_arena.specs.Walk.{Tree, frame_at}
+use Rattle.cow_arena.specs.Ways.{HasRow, Reaches, Arrives}
+use Rattle.cow_split.specs.Trees.{tree_of}
+use Rattle.cow_merge.specs.declared.witness.Way.{Way}
+use Rattle.cow_merge.specs.Ranges.{no_pages, CameTo, IsBare, IsParent, IsSpared, HasLeftPageOut, HasKept}
+
+-- The pages of a way lie in the window of its node, which is this, and belong to pages of the leaf from `first` on, which are
+-- `base` less than those of its parent below `to`.
+pub record IsWithin (first base to : ℕ) (node : Node) (way : Way) : Type 0 where
+  pub inside : (p : ℕ) → way.from ≤ p → p < way.to → p < node.seen
+  pub low : (p : ℕ) → way.from ≤ p → p < way.to → first + base ≤ p + way.shift
+  pub high : (p : ℕ) → way.from ≤ p → p < way.to → p + way.shift < to
+
+-- The way goes on to this child, from these pages of its parent to those of them that lie in the child's window.
+pub record IsEntered (node : Node) (child : NodeId) (shift from to : ℕ) (way : Way) : Type 0 where
+  pub at : way.at ≡ child
+  pub shift_is : shift + node.first < 2 ^ 64 → way.shift ≡ shift + node.first
+  pub low : (p : ℕ) → way.from ≤ p → p < way.to → from ≤ node.first + p
+  pub high : (p : ℕ) → way.from ≤ p → p < way.to → node.first + p < to
+  pub inside : (p : ℕ) → way.from ≤ p → p < way.to → p < node.seen
+
+-- Page q of v comes to page q + base of its parent h. So does the page of node e, of which the way's page is one, where it has
+-- one that belongs to q; and the way's node, which is this, has no row there, where the page is below `upto`.
+pub record ComesBeside (t : Tree) (v q h list base to e : ℕ) (node : Node) (from : Option Side) (way : Way) (upto : ℕ) : Type 0 where
+  pub came : CameTo t v q no_pages h list base to to
+  pub beside : (p : ℕ) → q + base ≡ p + way.shift → way.from ≤ p → p < way.to → Arrives t e (node.first + p) from h (q + base)
+  pub free : (p : ℕ) → q + base ≡ p + way.shift → way.from ≤ p → p < upto → t.slots node.list.0 p ≡ None
+
+-- The way has come from node h, over its child on side s, to a child of node e. Each page of v from `first` on that still shows
+-- a frame comes to h, and so does the way's page that belongs to it; or it is held by the node that is spared.
+pub record IsBeside (arena : Arena) (old new : Rows Row) (before after : Pool) (v first : ℕ) (spared : Option NodeId) (h : ℕ) (above : Node)
+    (base to : ℕ) (s : Side) (way : Way) (upto : ℕ) : Type 0 where
+  pub bare : IsBare arena old new before after v first
+  pub parent : IsParent spared bare.node
+  pub at : nodes_of arena h ≡ Some above
+  pub node : Node
+  pub node_at : nodes_of arena way.at.0 ≡ Some node
+  pub e : ℕ
+  pub up : node.parent ≡ link_to e
+  pub from : Option Side
+  pub side : option_or from (side_in (nodes_of arena) way.at.0) ≡ Some s
+  pub within : IsWithin first base to node way
+  pub came : (q tag : ℕ) → first ≤ q → q < bare.node.count → bare.out v q ≡ false → frame_at (tree_of arena new) v q ≡ Some tag →
+      IsSpared (nodes_of arena) (slots_of new) spared bare.node q
+      ⊎ ComesBeside (tree_of arena new) v q h above.list.0 base to e node from way upto
+
+-- some way has come so far
+pub record IsGoingDown (arena : Arena) (rows : Rows Row) (pool : Pool) (v h base : ℕ) (way : Way) : Type 0 where
+  pub first : ℕ
+  pub spared : Option NodeId
+  pub above : Node
+  pub to : ℕ
+  pub fits : to < 2 ^ 64
+  pub side : Side
+  pub beside : IsBeside arena rows rows pool pool v first spared h above base to side way way.from
+
+-- page p of v sees a row of node h
+pub record SeesRowOf (t : Tree) (v p h : ℕ) : Type 0 where
+  pub side : Side
+  pub page : ℕ
+  pub slot : Slot
+  pub way : Reaches t v p side h page
+  pub row : HasRow t h page slot
+
+-- nothing has changed, and page p of v shows no frame but one of node h
+pub record HasLeftPage (arena : Arena) (old new : Rows Row) (before after : Pool) (v p h : ℕ) : Type 0 where
+  pub kept : HasKept old new before after
+  pub shows : (tag : ℕ) → frame_at (tree_of arena old) v p ≡ Some tag → SeesRowOf (tree_of arena old) v p h
+
+-- page p of v is left out of sight, or shows no frame but one of node h
+abbrev pub IsPageCut : Arena → (old new : Rows Row) → (before after : Pool) → (v p h : ℕ) → Type 0
+IsPageCut arena old new before after v p h =
+    HasLeftPageOut arena old new before after v p ⊎ HasLeftPage arena old new before after v p h

@@ -1,0 +1,208 @@
+//! Pages of a VMO's node that go out of sight at once, since another VMO, below the sibling, shows them too.
+
+ghost use Rattle.std.specs.Prelude.{◌≡◌, ◌+◌, ◌^◌, ◌<◌, ◌≤◌, ℕ, Option, None, Some, IsSome, IsSomeAnd};
+ghost use Rattle.balanced_tree.specs.Rows.{Rows};
+ghost use Rattle.page_list.specs.declared.row.Row.{Row};
+ghost use Rattle.page_list.specs.Lists.{slots_of};
+ghost use Rattle.frame_pool.specs.Pool.{Pool};
+ghost use Rattle.cow_arena.specs.declared.node.Node.{Node};
+ghost use Rattle.cow_arena.specs.declared.node.NodeId.{NodeId};
+ghost use Rattle.cow_arena.specs.declared.node.Side.{Side};
+ghost use Rattle.cow_arena.specs.Nodes.{nodes_of};
+ghost use Rattle.cow_arena.specs.Forest.{IsForest, IsChild};
+ghost use Rattle.cow_merge.specs.Lifting.{IsFamilyOf};
+ghost use Rattle.cow_merge.specs.Ranges.{no_pages, IsPassing, IsUnderWay, IsExactFor, KeepsList};
+ghost use Rattle.cow_merge.specs.Witness.{IsGoingDown, IsBeside, IsEntered, IsPageCut};
+
+use crate::ranges::{Pages, cut_off, next_below};
+use cow_arena::{CowArena, NodeId};
+use cow_split::{Holder, holder_above};
+use frame_pool::FramePool;
+use page_list::{ListId, PageLists};
+use vm_base::PageNo;
+
+/// How many nodes are tried on the way down from the sibling. Where the way is longer, it is given up: the pages are cut off
+/// from the rows above one by one, which is slower.
+const MOST_NODES: u64 = 64;
+
+/// How far the way down from the sibling has come: pages `from` to below `to` of node `at` lie in its window, and go on to the
+/// pages of the leaf's parent that are `shift` pages further on, past no row above the node.
+#[derive(Clone, Copy)]
+pub(crate) struct Way {
+    pub(crate) at: NodeId,
+    pub(crate) shift: PageNo,
+    pub(crate) from: PageNo,
+    pub(crate) to: PageNo,
+}
+
+/// Leaves pages of a VMO's node out of sight that another VMO shows too, and answers them: none of them shows anything then but
+/// what the parent holds. The VMO's pages from `first` on come to the parent's pages below `to`, `shift` pages further on, and
+/// to no rows of it, but where it is spared.
+///
+/// It goes down from the sibling, into the child with the widest window over those of these pages that go on above the parent, to a
+/// VMO's node, which is the witness: what comes from there to a page of the parent sees what the leaf sees above it, so that no row changes. Pages under
+/// rows on the way down are cut off one by one. It costs these rows, and some tests for each of `MOST_NODES` nodes at most.
+pub(crate) fn leave_out_beside(
+    arena: &CowArena,
+    lists: &mut PageLists,
+    frames: &mut FramePool,
+    leaf: NodeId,
+    first: PageNo,
+    hidden: NodeId,
+    sibling: NodeId,
+    shift: PageNo,
+    to: PageNo,
+) -> Pages
+    requires passing { (above : Node) → nodes_of arena.now hidden.0 ≡ Some above →
+        IsUnderWay arena.now lists.old frames.old leaf.0 first no_pages above shift to to }
+    requires family { IsFamilyOf arena.now leaf.0 hidden.0 sibling.0 }
+    requires base { (node : Node) → nodes_of arena.now leaf.0 ≡ Some node → shift ≡ node.first }
+    requires range { first + shift < 2 ^ 64 }
+    ensures passing { (old : Rows Row) (before : Pool) (spared : Option NodeId) (above : Node) → nodes_of arena.now hidden.0 ≡ Some above →
+        IsPassing arena.now old lists.old before frames.old leaf.0 first no_pages spared above shift to to →
+        IsPassing arena.now old lists.new before frames.new leaf.0 first result spared above shift to to }
+    ensures kept { (above : Node) → nodes_of arena.now hidden.0 ≡ Some above → KeepsList lists.old lists.new above.list.0 }
+{
+    let end = to.min(arena.node(hidden).seen);
+    let mut way = enter(arena, sibling, 0, first + shift, end);
+    let mut left = MOST_NODES;
+    while left > 0 && way.from < way.to {
+        let node = arena.node(way.at);
+        cut_under(arena, lists, frames, leaf, hidden, shift, way, node.list);
+        if node.koid.is_some() {
+            return pages_of(way, shift);
+        }
+        let child = wider(arena, lists, way);
+        way = enter(arena, child, way.shift, way.from, way.to);
+        left -= 1;
+    }
+    Pages { from: 0, to: 0 }
+}
+
+/// The way one node further down: to a child, from pages `from` to below `to` of its parent, which are `shift` less than those of
+/// the leaf's parent. Where none of them lies in the child's window, the way has no pages.
+fn enter(arena: &CowArena, child: NodeId, shift: PageNo, from: PageNo, to: PageNo) -> Way
+    requires child { IsSome (nodes_of arena.now child.0) }
+    ensures { (node : Node) → nodes_of arena.now child.0 ≡ Some node → IsEntered node child shift from to result }
+{
+    let node = arena.node(child);
+    Way {
+        at: child,
+        shift: shift.saturating_add(node.first),
+        from: from.saturating_sub(node.first),
+        to: to.saturating_sub(node.first).min(node.seen),
+    }
+}
+
+/// The pages of the leaf to which those of a way belong, where pages of the leaf are `shift` less than those of its parent.
+fn pages_of(way: Way, shift: PageNo) -> Pages
+    requires from { shift ≤ way.from + way.shift }
+    requires to { way.to + way.shift < 2 ^ 64 }
+    requires some { way.from < way.to }
+    ensures from { result.from + shift ≡ way.from + way.shift }
+    ensures to { result.to + shift ≡ way.to + way.shift }
+{
+    Pages {
+        from: way.from + way.shift - shift,
+        to: way.to + way.shift - shift,
+    }
+}
+
+/// The child of a hidden node into which the way goes on: the one whose window has more of its pages, and of two that have as
+/// many one that is a VMO's node, or else one without rows.
+fn wider(arena: &CowArena, lists: &PageLists, way: Way) -> NodeId
+    requires forest { IsForest (nodes_of arena.now) arena.now.lists }
+    requires hidden { IsSomeAnd (nodes_of arena.now way.at.0) (λ node. node.koid ≡ None) }
+    ensures { IsChild (nodes_of arena.now) way.at.0 result.0 }
+{
+    let node = arena.node(way.at);
+    let Some(one) = node.left else { unreachable!() };
+    let Some(other) = node.right else {
+        unreachable!()
+    };
+    if is_wider(arena, lists, other, one, way) {
+        other
+    } else {
+        one
+    }
+}
+
+/// Whether the way goes on to a child of its node and not to the other child.
+fn is_wider(arena: &CowArena, lists: &PageLists, child: NodeId, other: NodeId, way: Way) -> bool
+    requires child { IsSome (nodes_of arena.now child.0) }
+    requires other { IsSome (nodes_of arena.now other.0) }
+{
+    let here = enter(arena, child, way.shift, way.from, way.to);
+    let there = enter(arena, other, way.shift, way.from, way.to);
+    let pages = here.to.saturating_sub(here.from);
+    let beside = there.to.saturating_sub(there.from);
+    beside < pages || (pages == beside && is_nearer(arena, lists, child, other))
+}
+
+/// Whether a node is a VMO's, and another is not, or has no rows, and the other has some and is not a VMO's.
+fn is_nearer(arena: &CowArena, lists: &PageLists, node: NodeId, other: NodeId) -> bool
+    requires node { IsSome (nodes_of arena.now node.0) }
+    requires other { IsSome (nodes_of arena.now other.0) }
+{
+    if arena.node(other).koid.is_some() {
+        return false;
+    }
+    arena.node(node).koid.is_some() || lists.next(arena.node(node).list, 0).is_none()
+}
+
+/// Cuts the pages of a VMO's node off from the rows above its parent that come there under rows of a node on the way down, whose
+/// list this is. Those that the parent holds are left.
+fn cut_under(
+    arena: &CowArena,
+    lists: &mut PageLists,
+    frames: &mut FramePool,
+    leaf: NodeId,
+    hidden: NodeId,
+    shift: PageNo,
+    way: Way,
+    list: ListId,
+)
+    requires down { IsGoingDown arena.now lists.old frames.old leaf.0 hidden.0 shift way }
+    requires list { (node : Node) → nodes_of arena.now way.at.0 ≡ Some node → list ≡ node.list }
+    ensures beside { (old : Rows Row) (before : Pool) (first : ℕ) (spared : Option NodeId) (above : Node) (to : ℕ) (s : Side) →
+        IsBeside arena.now old lists.old before frames.old leaf.0 first spared hidden.0 above shift to s way way.from →
+        IsBeside arena.now old lists.new before frames.new leaf.0 first spared hidden.0 above shift to s way way.to }
+    ensures kept { (above : Node) → nodes_of arena.now hidden.0 ≡ Some above → KeepsList lists.old lists.new above.list.0 }
+{
+    let mut from = way.from;
+    while let Some(page) = next_below(lists, list, from, way.to) {
+        let own = page + way.shift - shift;
+        cut_page(arena, lists, frames, leaf, own, hidden);
+        from = page + 1;
+    }
+}
+
+/// Cuts a page of a VMO's node, which has no row of its own there, off from the row above that it sees, and gives the frame
+/// back, if no other VMO shows it. Where it is a row of the parent, nothing changes.
+fn cut_page(
+    arena: &CowArena,
+    lists: &mut PageLists,
+    frames: &mut FramePool,
+    leaf: NodeId,
+    own: PageNo,
+    hidden: NodeId,
+)
+    requires exact { IsExactFor arena.now lists.old frames.old leaf.0 }
+    requires bare { (node : Node) → nodes_of arena.now leaf.0 ≡ Some node → slots_of lists.old node.list.0 own ≡ None }
+    ensures cut { IsPageCut arena.now lists.old lists.new frames.old frames.new leaf.0 own hidden.0 }
+    ensures kept { (above : Node) → nodes_of arena.now hidden.0 ≡ Some above → KeepsList lists.old lists.new above.list.0 }
+{
+    let found = holder_above(arena, lists, leaf, own);
+    if let Holder::Above {
+        node,
+        page,
+        side,
+        slot,
+    } = found
+    {
+        if node.0 == hidden.0 {
+            return;
+        }
+        cut_off(arena, lists, frames, leaf, own, node, page, side, slot);
+    }
+}
