@@ -16,3 +16,4 @@ pub mod ZeroLaws
 pub mod DecommitLaws
 pub mod FrameLaws
 pub mod KeeperLaws
+pub mod PinLaws

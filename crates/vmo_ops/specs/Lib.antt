@@ -1,3 +1,4 @@
 pub mod Targets
 pub mod Costs
 pub mod Copies
+pub mod Pinning

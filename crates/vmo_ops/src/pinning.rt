@@ -1,7 +1,9 @@
 //! Pinning pages, so that they keep their frames (`zx_bti_pin`, `zx_pmt_unpin`).
 
-ghost use Rattle.std.specs.Prelude.{◌≡◌, ◌+◌, ◌*◌, ◌/◌, ◌%◌, ◌≤◌, ◌↔◌, None, Some, IsTrue, IsSome, length, map};
+ghost use Rattle.std.specs.Prelude.{◌≡◌, ℕ, ◌+◌, ◌*◌, ◌/◌, ◌%◌, ◌^◌, ◌<◌, ◌≤◌, ◌==◌, ◌↔◌, if◌then◌else◌, None, Some, IsTrue, IsSome, IfOk, IfErr, OnOk, length, map};
 ghost use Rattle.std.specs.List.{range_with_len};
+ghost use Rattle.vm_base.specs.Entries.{with_key};
+ghost use Rattle.vm_base.specs.declared.limits.TheConstants.{NAMES};
 ghost use Rattle.vm_base.specs.declared.names.VmoName.{VmoName};
 ghost use Rattle.vm_model.specs.declared.command.Command.{Command};
 ghost use Rattle.vm_model.specs.declared.reply.Reply.{Reply};
@@ -9,10 +11,12 @@ ghost use Rattle.vm_model.specs.Contents.Content.{pages_of, used, IsGood};
 ghost use Rattle.vm_model.specs.Contents.Owning.{need, OwnsAll};
 ghost use Rattle.vm_model.specs.Contents.Writing.{touched};
 ghost use Rattle.vm_model.specs.Machine.State.{State};
-ghost use Rattle.vm_model.specs.Machine.Step.{Step, frame_of, reply_of};
-ghost use Rattle.vmo_table.specs.Table.{names_of, CountsKeepers, IsNamed, IsWellCounted};
-ghost use Rattle.pin_table.specs.Table.{pins_of};
+ghost use Rattle.vm_model.specs.Machine.Step.{Step, frame_of, frames_of, reply_of};
+ghost use Rattle.page_store.specs.Names.{IsInside};
+ghost use Rattle.vmo_table.specs.Table.{keepers_of, lineage_in, names_of, CountsKeepers, IsNamed, IsWellCounted};
+ghost use Rattle.pin_table.specs.Table.{pins_of, room_of};
 ghost use Rattle.vmo_ops.specs.Costs.{HasRows};
+ghost use Rattle.vmo_ops.specs.Pinning.{pin_in, IsPinnable, IsPinRange, IsUnpinnable};
 ghost use Rattle.vmo_ops.specs.Targets.{with_tables};
 
 use crate::ranges::{place_in_vmo, touched_pages};
@@ -80,6 +84,28 @@ pub fn pin_into<'a, P: PageStore>(
     ensures counted { (s : State) → CountsKeepers vmos.old (record s { pins = pins_of pins.old }) →
         CountsKeepers vmos.new (record s { pins = pins_of pins.new }) }
 {
+    match ready_to_pin(store, pins, t, offset, len) {
+        Ok(at) => Ok(add_pin(store, vmos, pins, pin, t.koid, at, len, room)),
+        Err(refusal) => Err(refusal),
+    }
+}
+
+// Makes ready for a pin of a range of a name, and answers the range's place in its VMO. It is refused as `pin` is.
+fn ready_to_pin<P: PageStore>(
+    store: &mut P,
+    pins: &mut PinTable,
+    t: &Target,
+    offset: u64,
+    len: u64,
+) -> Result<u64, Refusal>
+    requires good { IsGood (P.content store.old) }
+    requires inside { IsInside (P.content store.old) t.now }
+    ensures content { P.content store.new ≡ P.content store.old }
+    ensures pins { pins_of pins.new ≡ pins_of pins.old }
+    ensures ok { IfOk result (λ at. IsPinnable (P.content store.old) t.now offset len at (P.spare store.new)) }
+    ensures room { OnOk result (1 ≤ room_of pins.new) }
+    ensures err { IfErr result (IsUnpinnable (P.content store.old) t.now offset len) }
+{
     if !is_pin_range(offset, len) {
         return Err(Refusal::InvalidArgs);
     }
@@ -89,22 +115,55 @@ pub fn pin_into<'a, P: PageStore>(
     if let Err(refusal) = reserve_to_own(store, t.koid, at, len) {
         return Err(refusal);
     }
-    let Ok(()) = pins.reserve() else {
-        return Err(Refusal::HostMemory);
-    };
-    let count = page_of(len);
+    match pins.reserve() {
+        Ok(()) => Ok(at),
+        Err(_) => Err(Refusal::HostMemory),
+    }
+}
+
+// Pins the pages of a range of a VMO that is ready for it, and lends their frames' numbers in the room.
+fn add_pin<'a, P: PageStore>(
+    store: &mut P,
+    vmos: &mut VmoTable,
+    pins: &mut PinTable,
+    pin: PinName,
+    v: Koid,
+    at: u64,
+    len: u64,
+    room: &'a mut [u64],
+) -> LentNumbers<'a>
+    requires good { IsGood (P.content store.old) }
+    requires inside { at + len ≤ pages_of (P.content store.old) v.0 * PAGE }
+    requires range { IsPinRange at len }
+    requires rows { HasRows (P.content store.old) v.0 (touched at len) (P.spare store.old) }
+    requires frames { used (P.content store.old) + need (P.content store.old) v.0 (touched at len)
+        ≤ (P.content store.old).frames }
+    requires free { pins_of pins.old pin.0 ≡ None }
+    requires pins { 1 ≤ room_of pins.old }
+    requires numbers { PIN_PAGES ≤ length room.old }
+    requires koid { IsSome (lineage_in vmos.old v.0) }
+    requires few { keepers_of vmos.old v.0 + 1 < 2 ^ 128 }
+    ensures owns { OwnsAll (P.content store.old) v.0 (touched at len) (P.content store.new) }
+    ensures numbers { result ≡ frames_of (P.content store.new) (pin_in v.0 at len) }
+    ensures pins { pins_of pins.new ≡ with_key (pins_of pins.old) pin.0 (pin_in v.0 at len) }
+    ensures pin { pin.0 < NAMES }
+    ensures names { names_of vmos.new ≡ names_of vmos.old }
+    ensures lineage { lineage_in vmos.new ≡ lineage_in vmos.old }
+    ensures keepers { (w : ℕ) → keepers_of vmos.new w ≡ keepers_of vmos.old w + (if w == v.0 then 1 else 0) }
+{
     // That a VMO has no more pins than there are names rests on the range of the names.
     prove!(pin.0 <= u32::MAX);
+    let count = page_of(len);
     let numbers = &mut room[..count as usize];
-    own_frames(store, t.koid, at, len, numbers);
-    pins.add(pin, t.koid, page_of(at), count);
-    vmos.keep(t.koid, 1);
-    Ok(LentNumbers::new(numbers))
+    own_frames(store, v, at, len, numbers);
+    pins.add(pin, v, page_of(at), count);
+    vmos.keep(v, 1);
+    LentNumbers::new(numbers)
 }
 
 // Whether a range is one of whole pages, from 1 to `PIN_PAGES` of them.
 fn is_pin_range(offset: u64, len: u64) -> bool
-    ensures { IsTrue result ↔ ((offset % PAGE ≡ 0) × (len % PAGE ≡ 0) × (1 ≤ len) × (len ≤ PIN_PAGES * PAGE)) }
+    ensures { IsTrue result ↔ IsPinRange offset len }
 {
     in_page(offset) == 0 && in_page(len) == 0 && len > 0 && len <= PIN_BYTES
 }

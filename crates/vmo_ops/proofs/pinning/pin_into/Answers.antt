@@ -1,79 +1,64 @@
-use Rattle.std.proofs.Common.{arith, rules}
-use Rattle.vm_model.specs.Machine.State.{target_of}
+use Rattle.vmo_ops.specs.Targets.{with_tables}
 use Rattle.vmo_ops.proofs.NameLaws.{named_inside, named_known}
-use Rattle.vm_model.proofs.SpaceLaws.{mapped_count_le}
-use Rattle.vm_model.proofs.PinLaws.{pin_count_le}
-use Rattle.vmo_ops.proofs.KeeperLaws.{pin_count-with_key}
+use Rattle.vmo_ops.proofs.PinLaws.{few_keepers, pinned_counts, pinned_step, placed_range, unpinnable_step}
+use Rattle.pin_table.specs.Table.{pins_of}
 use Rattle.vmo_ops.proofs.pinning.pin_into.Goals as goal
 
-pub place_in_vmo-requires-clause-inside : goal.place_in_vmo-requires-clause-inside
-place_in_vmo-requires-clause-inside g c = named_inside _ _ c.requires.parts.1.good c.requires.named
+pub ready_to_pin-requires-clause-good : goal.ready_to_pin-requires-clause-good
+ready_to_pin-requires-clause-good g c = c.requires.parts.1.good.content
 
-pub keep-requires-clause-few : goal.keep-requires-clause-few
-keep-requires-clause-few g c = grind (arith, pin_count_le, mapped_count_le)
+pub ready_to_pin-requires-clause-inside : goal.ready_to_pin-requires-clause-inside
+ready_to_pin-requires-clause-inside g c = named_inside _ _ c.requires.parts.1.good c.requires.named
 
-pub returns-clause-counted : goal.returns-clause-counted
-returns-clause-counted g c = grind (arith, pin_count-with_key)
+pub add_pin-requires-clause-good : goal.add_pin-requires-clause-good
+add_pin-requires-clause-good g c = rw c.ready_to_pin.ensures.content c.requires.parts.1.good.content
 
-pub returns-then-not-is_pin_range-clause-step : goal.returns-then-not-is_pin_range-clause-step
-unfolding target_of
-returns-then-not-is_pin_range-clause-step g c = search rules
+pub add_pin-requires-clause-inside : goal.add_pin-requires-clause-inside
+add_pin-requires-clause-inside g c = rw c.ready_to_pin.ensures.content c.in-Ok.ensures.ok.placed.inside
 
-pub returns-in_default-clause-step : goal.returns-in_default-clause-step
-unfolding target_of
-returns-in_default-clause-step g c = search rules
+pub add_pin-requires-clause-range : goal.add_pin-requires-clause-range
+add_pin-requires-clause-range g c = placed_range _ _ _ _ _ c.in-Ok.ensures.ok.placed c.in-Ok.ensures.ok.range
+
+pub add_pin-requires-clause-rows : goal.add_pin-requires-clause-rows
+add_pin-requires-clause-rows g c = rw c.ready_to_pin.ensures.content c.in-Ok.ensures.ok.rows
+
+pub add_pin-requires-clause-frames : goal.add_pin-requires-clause-frames
+add_pin-requires-clause-frames g c = rw c.ready_to_pin.ensures.content c.in-Ok.ensures.ok.frames
+
+pub add_pin-requires-clause-free : goal.add_pin-requires-clause-free
+add_pin-requires-clause-free g c = rw c.ready_to_pin.ensures.pins c.requires.free
+
+pub add_pin-requires-clause-pins : goal.add_pin-requires-clause-pins
+add_pin-requires-clause-pins g c = c.in-Ok.ensures.room
+
+pub add_pin-requires-clause-numbers : goal.add_pin-requires-clause-numbers
+add_pin-requires-clause-numbers g c = c.requires.room
+
+pub add_pin-requires-clause-koid : goal.add_pin-requires-clause-koid
+add_pin-requires-clause-koid g c = named_known _ _ c.requires.parts.1.good c.requires.named
+
+pub add_pin-requires-clause-few : goal.add_pin-requires-clause-few
+add_pin-requires-clause-few g c = few_keepers (with_tables c.requires.parts.0 (g.P.PageStore.content c.args.store.now) c.args.vmos.now c.args.pins.now) c.args.vmos.now _ c.requires.parts.1.counted
+
+pub returns-in-Ok-clause-step : goal.returns-in-Ok-clause-step
+returns-in-Ok-clause-step g c = λ s name named.
+    let added = c.add_pin.ensures in
+    rw (added.names, added.lineage, added.pins, c.ready_to_pin.ensures.pins) (
+    pinned_step (with_tables s (g.P.PageStore.content c.args.store.now) c.args.vmos.now c.args.pins.now) c.args.pin name c.args.offset c.args.len _ named c.requires.free
+    _ _ (g.P.PageStore.content c.add_pin.new.store) _ c.in-Ok.ensures.ok (rw c.ready_to_pin.ensures.content at added.owns) added.numbers
+    )
+
+pub returns-in-Ok-clause-counted : goal.returns-in-Ok-clause-counted
+returns-in-Ok-clause-counted g c = λ s counted.
+    let added = c.add_pin.ensures in
+    rw (added.pins, c.ready_to_pin.ensures.pins) (pinned_counts s c.args.vmos.now c.add_pin.new.vmos (pins_of c.args.pins.now) c.args.pin.0 _ added.pin c.requires.free added.keepers counted)
 
 pub returns-in-Err-clause-step : goal.returns-in-Err-clause-step
-unfolding target_of
-returns-in-Err-clause-step g c = search rules
-
-pub returns-in_default-reserve-clause-step : goal.returns-in_default-reserve-clause-step
-unfolding target_of
-returns-in_default-reserve-clause-step g c = search rules
-
-pub returns-clause-step : goal.returns-clause-step
-unfolding target_of
-returns-clause-step g c = search rules
-
-pub returns-in_default-clause-counted : goal.returns-in_default-clause-counted
-returns-in_default-clause-counted g c = λ rest counted. counted
+returns-in-Err-clause-step g c = λ s name named.
+    rw (c.ready_to_pin.ensures.content, c.ready_to_pin.ensures.pins) (
+    unpinnable_step (with_tables s (g.P.PageStore.content c.args.store.now) c.args.vmos.now c.args.pins.now) c.args.pin name c.args.offset c.args.len _ named c.requires.free _
+    c.in-Err.ensures.err
+    )
 
 pub returns-in-Err-clause-counted : goal.returns-in-Err-clause-counted
-returns-in-Err-clause-counted g c = λ rest counted. counted
-
-pub returns-in_default-reserve-clause-counted : goal.returns-in_default-reserve-clause-counted
-returns-in_default-reserve-clause-counted g c = λ rest counted v. rw c.reserve.ensures.pins (counted v)
-
-pub reserve_to_own-requires-clause-vmo : goal.reserve_to_own-requires-clause-vmo
-reserve_to_own-requires-clause-vmo g c = (named_inside _ _ c.requires.parts.1.good c.requires.named).vmo
-
-pub reserve_to_own-requires-clause-inside : goal.reserve_to_own-requires-clause-inside
-reserve_to_own-requires-clause-inside g c = c.in-Some.ensures.some.inside
-
-pub own_frames-requires-clause-good : goal.own_frames-requires-clause-good
-own_frames-requires-clause-good g c = rw c.reserve_to_own.ensures.same c.requires.parts.1.good.content
-
-pub own_frames-requires-clause-inside : goal.own_frames-requires-clause-inside
-own_frames-requires-clause-inside g c = rw c.reserve_to_own.ensures.same c.in-Some.ensures.some.inside
-
-pub own_frames-requires-clause-whole : goal.own_frames-requires-clause-whole
-own_frames-requires-clause-whole g c =
-    let range = c.is_pin_range.ensures.0 c.if-not-is_pin_range.false in
-    (omega (arith, c.in-Some.ensures.some.place, range.0), range.1)
-
-pub own_frames-requires-clause-room : goal.own_frames-requires-clause-room
-own_frames-requires-clause-room g c = rw c.reserve_to_own.ensures.same c.in_default-reserve_to_own.ensures.rows
-
-pub own_frames-requires-clause-free : goal.own_frames-requires-clause-free
-own_frames-requires-clause-free g c = rw c.reserve_to_own.ensures.same c.in_default-reserve_to_own.ensures.free
-
-pub add-requires-clause-pin : goal.add-requires-clause-pin
-add-requires-clause-pin g c = rw c.reserve.ensures.pins c.requires.free
-
-pub add-requires-clause-few : goal.add-requires-clause-few
-add-requires-clause-few g c =
-    let range = c.is_pin_range.ensures.0 c.if-not-is_pin_range.false in
-    (omega (arith, c.page_of-count.ensures, range.1, range.2), omega (arith, c.page_of-count.ensures, range.3))
-
-pub keep-requires-clause-koid : goal.keep-requires-clause-koid
-keep-requires-clause-koid g c = named_known _ _ c.requires.parts.1.good c.requires.named
+returns-in-Err-clause-counted g c = λ s counted. rw c.ready_to_pin.ensures.pins counted

@@ -1,0 +1,10 @@
+use Rattle.std.proofs.Common.{arith}
+use Rattle.vmo_ops.proofs.pinning.add_pin.Goals as goal
+
+pub own_frames-requires-clause-whole : goal.own_frames-requires-clause-whole
+own_frames-requires-clause-whole g c = (c.requires.range.0, c.requires.range.1)
+
+pub add-requires-clause-few : goal.add-requires-clause-few
+add-requires-clause-few g c =
+    let range = c.requires.range in
+    (omega (arith, c.page_of-count.ensures, range.1, range.2), omega (arith, c.page_of-count.ensures, range.3))
