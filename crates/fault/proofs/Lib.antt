@@ -19,3 +19,4 @@ pub mod AskedLaws
 pub mod OutcomeLaws
 pub mod PartLaws
 pub mod ThroughLaws
+pub mod BothLaws

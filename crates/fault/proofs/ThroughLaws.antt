@@ -74,25 +74,22 @@ module _ (c : Content) (table : ℕ → ℕ → Option Entry) (old : Places) (ro
     -- and it was written
     module _ (then_at : ℕ) (then_part : List ℕ) (d : Content) (new : Places) (then_fits : then_at + length then_part ≤ PAGE)
         (then_w : WritesTo root (p + 1) second then_at then_part mid between d new) where
-      -- the translations are true
-      pub are-after : AreTrue d table new
-      are-after = AreTrue-written mid table between root (p + 1) second then_at then_part d new
-          (IsBetween-written).good (IsBetween-written).are (IsBetween-written).found then_fits then_w
-
-      -- and both parts were written
+      -- both parts were written, and the translations are true
       pub Writes-two : (addr : ℕ) (bytes : List ℕ) → touched addr (length bytes) ≡ p ∷ (p + 1) ∷ []
           → AreAsked c writing (table root) (p ∷ (p + 1) ∷ []) (page_shown first.entry ∷ page_shown second.entry ∷ [])
           → at ≡ part_at addr p → part ≡ part_bytes addr bytes p → then_at ≡ part_at addr (p + 1) → then_part ≡ part_bytes addr bytes (p + 1)
-          → Writes c table root addr bytes old (fault_of first + fault_of second) d new
+          → Writes c table root addr bytes old (fault_of first + fault_of second) d new × AreTrue d table new
       Writes-two addr bytes two asked place same then_place then_same =
-          let now = IsBetween-written in
-          record {
-            free = rw two (none-refuses c (table root) (p ∷ (p + 1) ∷ []) _ asked free);
-            writes = rw two (WritesThrough-two table root addr bytes p (p + 1) _ _ _ (fault_of first) (fault_of second)
-                (WritesPage-written c table old root p first at part mid between good are is fits w addr bytes place same)
-                (WritesPage-written mid table between root (p + 1) second then_at then_part d new now.good now.are now.found then_fits then_w addr bytes then_place then_same)
-                (fault-found c table old root p first is) (fault-found mid table between root (p + 1) second now.found));
-          }
+          let now = IsBetween-written in (
+            record {
+              free = rw two (none-refuses c (table root) (p ∷ (p + 1) ∷ []) _ asked free);
+              writes = rw two (WritesThrough-two table root addr bytes p (p + 1) _ _ _ (fault_of first) (fault_of second)
+                  (WritesPage-written c table old root p first at part mid between good are is fits w addr bytes place same)
+                  (WritesPage-written mid table between root (p + 1) second then_at then_part d new now.good now.are now.found then_fits then_w addr bytes then_place then_same)
+                  (fault-found c table old root p first is) (fault-found mid table between root (p + 1) second now.found));
+            },
+            AreTrue-written mid table between root (p + 1) second then_at then_part d new now.good now.are now.found then_fits then_w,
+          )
 
 -- no bytes
 pub Writes-none : (c : Content) (table : ℕ → ℕ → Option Entry) (old : Places) (root addr : ℕ) (bytes : List ℕ) → length bytes ≡ 0 → Writes c table root addr bytes old 0 c old

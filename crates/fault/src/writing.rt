@@ -1,12 +1,14 @@
 //! Writing through mappings.
 
-ghost use Rattle.std.specs.Prelude.{◌≡◌, ◌+◌, ◌%◌, ◌<◌, ◌≤◌, length, IfErr, OnOk, is_some, if◌then◌else◌};
+ghost use Rattle.std.specs.Prelude.{◌≡◌, ℕ, ◌+◌, ◌/◌, ◌%◌, ◌<◌, ◌≤◌, length, Option, IfErr, OnOk, is_some, if◌then◌else◌};
 ghost use Rattle.vm_base.specs.declared.limits.TheConstants.{PAGE, DATA_BYTES};
 ghost use Rattle.mapping_set.specs.Tables.{table_of};
+ghost use Rattle.vm_model.specs.declared.space.Entry.{Entry};
 ghost use Rattle.vm_model.specs.Contents.Content.{IsGood};
 ghost use Rattle.vm_model.specs.Contents.Owning.{Owns};
 ghost use Rattle.fault.specs.Table.{AreBacked, AreTrue, IsOfEntry, places_of, room_of};
-ghost use Rattle.fault.specs.Access.{AnswersWrite};
+ghost use Rattle.fault.specs.Access.{AnswersWrite, Writes};
+ghost use Rattle.fault.specs.Both.{AreFound};
 ghost use Rattle.fault.specs.Writable.{IsInStore, IsAbsent, MayOwn, WritesTo, fault_of, faulted, sole_frame};
 ghost use Rattle.fault.specs.Needing.{IsReady, LacksRoom};
 
@@ -117,11 +119,37 @@ impl Translations {
             Ok(()) => {}
             Err(refusal) => return Err(refusal),
         }
+        self.write_both(store, root, addr, bytes, first, second);
+        Ok(faults)
+    }
+
+    // Writes bytes that fall into two pages, of which both may be written, where the room for it is there.
+    fn write_both<P: PageStore>(
+        &mut self,
+        store: &mut P,
+        root: RegionName,
+        addr: u64,
+        bytes: &[u8],
+        first: WritablePage,
+        second: WritablePage,
+    )
+        requires found { (table : ℕ → ℕ → Option Entry)
+            × AreFound (P.content store.old) table (places_of self.old) root.0 (addr / PAGE) first second }
+        requires len { length bytes.now ≤ DATA_BYTES }
+        requires two { PAGE < addr % PAGE + length bytes.now }
+        requires spare { fault_of first + fault_of second ≤ P.spare store.old }
+        requires room { fault_of first + fault_of second ≤ room_of self.old }
+        ensures writes { (table : ℕ → ℕ → Option Entry)
+            → AreFound (P.content store.old) table (places_of self.old) root.0 (addr / PAGE) first second
+            → Writes (P.content store.old) table root.0 addr bytes.now (places_of self.old) (fault_of first + fault_of second)
+            (P.content store.new) (places_of self.new)
+            × AreTrue (P.content store.new) table (places_of self.new) }
+    {
+        let page = page_of(addr);
         let at = in_page(addr);
         let (head, tail) = bytes.split_at((PAGE - at) as usize);
         self.write_page(store, root, page, first, at, head);
         self.write_page(store, root, page + 1, second, 0, tail);
-        Ok(faults)
     }
 
     // Makes room for so many page faults of a write, where the frames are free that it needs.

@@ -1,0 +1,30 @@
+-- Two pages that a write finds, once there is room for it.
+use Rattle.std.proofs.Common.{◌≡◌, ℕ, ◌+◌, [], ◌∷◌, Option, None}
+use Rattle.vm_model.specs.declared.space.Entry.{Entry}
+use Rattle.vm_model.specs.Contents.Content.{Content, IsGood}
+use Rattle.vm_model.specs.Contents.Owning.{need_each}
+use Rattle.vm_model.specs.Machine.Access.{page_shown, refusal_at}
+use Rattle.vm_model.specs.Space.Rights.{writing}
+use Rattle.fault.specs.declared.writable.WritablePage.{WritablePage}
+use Rattle.fault.specs.Both.{AreFound}
+use Rattle.fault.specs.Needing.{IsReady}
+use Rattle.fault.specs.Table.{Places, AreTrue}
+use Rattle.fault.specs.Writable.{IsLooked, IsWritable}
+
+-- what a check for writing finds
+abbrev Finds : Content → (ℕ → ℕ → Option Entry) → Places → (root p : ℕ) → WritablePage → Type 0
+Finds c table places root p page = IsWritable c table places root p page × (refusal_at c writing (table root p) ≡ None) × IsLooked c page
+
+pub AreFound-ready : (c d : Content) (table : ℕ → ℕ → Option Entry) (places now : Places) (root p : ℕ) (first second : WritablePage) (need faults rows room : ℕ)
+    → IsGood c → AreTrue c table places → Finds c table places root p first → Finds c table places root (p + 1) second
+    → need ≡ need_each c (page_shown first.entry ∷ page_shown second.entry ∷ []) → d ≡ c → now ≡ places → IsReady c need faults rows room
+    → AreFound d table now root p first second
+AreFound-ready c d table places now root p first second need faults rows room good are is then_is needs same still ready = rw (same, still) (record {
+  good = good;
+  are = are;
+  first_is = is.0;
+  first_may = is.1;
+  second_is = then_is.0;
+  second_may = then_is.1;
+  frames = rw needs at ready.free;
+})
