@@ -1,6 +1,15 @@
 use Rattle.std.proofs.Common.{arith}
 use Rattle.vmo_ops.proofs.pinning.add_pin.Goals as goal
 
+pub returns-clause-keepers : goal.returns-clause-keepers
+returns-clause-keepers g c = c.keep.ensures.keepers
+
+pub returns-clause-names : goal.returns-clause-names
+returns-clause-names g c = c.keep.ensures.names
+
+pub returns-clause-lineage : goal.returns-clause-lineage
+returns-clause-lineage g c = c.keep.ensures.lineage
+
 pub own_frames-requires-clause-whole : goal.own_frames-requires-clause-whole
 own_frames-requires-clause-whole g c = (c.requires.range.0, c.requires.range.1)
 
