@@ -92,18 +92,27 @@ impl Filter {
         Ok(())
     }
 
-    /// How many words the filter is to have, where it is to be made anew: two at least for each row and each of `more`. No
-    /// clause says when that is, since a filter is right however many bits more are set. It costs two comparisons.
-    fn wanted(&self, rows: u64, more: u64) -> Option<u64> {
+    /// Whether the filter is large enough for so many rows and `more`, two words at least for each, and no more rows went than
+    /// it has words and rows. It costs two comparisons.
+    #[inline(always)]
+    pub(crate) fn suits(&self, rows: u64, more: u64) -> bool {
         let len = self.words.len() as u64;
-        let least = rows.saturating_add(more).saturating_mul(2);
-        if len < least {
-            Some(least.max(LEAST_WORDS).checked_next_power_of_two()?)
-        } else if rows.saturating_add(len) < self.gone {
-            Some(len)
-        } else {
-            None
+        rows.saturating_add(more) <= len / 2 && self.gone <= rows.saturating_add(len)
+    }
+
+    /// How many words the filter is to have, where it is to be made anew. No clause says when that is, since a filter is right
+    /// however many bits more are set.
+    fn wanted(&self, rows: u64, more: u64) -> Option<u64> {
+        if self.suits(rows, more) {
+            return None;
         }
+        let least = rows.saturating_add(more).saturating_mul(2);
+        Some(
+            least
+                .max(LEAST_WORDS)
+                .max(self.words.len() as u64)
+                .checked_next_power_of_two()?,
+        )
     }
 
     /// Clears all bits, and gives the filter `len` words. `HostMemory` where the host has too little memory for as many, and

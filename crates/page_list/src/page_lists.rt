@@ -1,6 +1,6 @@
 //! The table of all page lists.
 
-ghost use Rattle.std.specs.Prelude.{◌≡◌, ◌≢◌, ◌⊎◌, ◌+◌, ◌-◌, ◌^◌, ◌≤◌, ◌<◌, None, Some, Bool, OnOk, IsSome, IfSome, IfNone};
+ghost use Rattle.std.specs.Prelude.{◌≡◌, ◌≢◌, ◌⊎◌, ◌+◌, ◌-◌, ◌^◌, ◌≤◌, ◌<◌, None, Some, Bool, OnOk, IsTrue, IsSome, IfSome, IfNone};
 ghost use Rattle.std.specs.Option.{option_map};
 ghost use Rattle.vm_base.specs.declared.names.Tag.{Tag};
 ghost use Rattle.page_list.specs.declared.row.Slot.{Slot};
@@ -61,9 +61,32 @@ impl PageLists {
     /// One that is only to be cleaner takes no memory, and is left out where the host has none for the rows. The rows stay as
     /// they are on both answers, and no room is lost.
     ///
-    /// It costs what room for the rows costs. Where the filter is made anew, it costs a look-up for each row and a store for
-    /// each word of the filter more: over all calls a few for each row that came or went, or that room was asked for.
+    /// It costs three comparisons where the room is there and the filter stays, else what room for the rows costs. Where the
+    /// filter is made anew, it costs a look-up for each row and a store for each word of the filter more: over all calls a few
+    /// for each row that came or went, or that room was asked for.
+    #[inline(always)]
     pub fn reserve(&mut self, n: u64) -> Result<(), HostMemory>
+        ensures room { OnOk result (n ≤ self.new.spare) }
+        ensures rows { self.new.rows ≡ self.old.rows }
+        ensures spare { self.old.spare ≤ self.new.spare }
+    {
+        if self.is_ready(n) {
+            return Ok(());
+        }
+        self.make_room(n)
+    }
+
+    /// Whether there is room for `n` rows more, and the filter stays as it is with as many.
+    #[inline(always)]
+    fn is_ready(&self, n: u64) -> bool
+        ensures { IsTrue result → n ≤ self.now.spare }
+    {
+        n <= self.tree.spare() as u64 && self.filter.suits(self.tree.len() as u64, n)
+    }
+
+    /// Does what `reserve` does, where the room has to be asked for or the filter to be made anew.
+    #[inline(never)]
+    fn make_room(&mut self, n: u64) -> Result<(), HostMemory>
         ensures room { OnOk result (n ≤ self.new.spare) }
         ensures rows { self.new.rows ≡ self.old.rows }
         ensures spare { self.old.spare ≤ self.new.spare }
