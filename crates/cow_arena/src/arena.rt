@@ -157,12 +157,22 @@ impl CowArena {
         self.nodes.capacity()
     }
 
-    /// A node.
+    /// A node. It is inlined, so that a caller reads no more of it than it asks for.
+    #[inline(always)]
     pub fn node(&self, at: NodeId) -> Node
         requires { IsSome (nodes_of self.now at.0) }
         ensures { nodes_of self.now at.0 ≡ Some result }
     {
         self.nodes[at.0]
+    }
+
+    /// A node where it stands, with no copy of it.
+    #[inline(always)]
+    pub fn look(&self, at: NodeId) -> &Node
+        requires { IsSome (nodes_of self.now at.0) }
+        ensures { nodes_of self.now at.0 ≡ Some result.now }
+    {
+        &self.nodes[at.0]
     }
 
     /// Which child of its parent a node is. `None` exactly where it has no parent.

@@ -65,7 +65,7 @@ pub fn fork_holder(
     requires free { HasFree frames.old ⊎ HasSole (tree_of arena.now lists.old) leaf.0 page }
     ensures { HasForked arena.now lists.old lists.new frames.old frames.new leaf.0 page result.0 }
 {
-    let list = arena.node(leaf).list;
+    let list = arena.look(leaf).list;
     if let Holder::Own(_) = found {
         let tag = take_blank(frames);
         lists.replace(list, page, row_of(tag));

@@ -67,7 +67,7 @@ fn let_go(arena: &CowArena, lists: &mut PageLists, leaf: NodeId, page: PageNo, f
     ensures { (in_use : ℕ → Bool) → IsExact (tree_of arena.now lists.old) all_in_sight in_use →
         HasLetGo arena.now lists.old lists.new in_use leaf.0 page result }
 {
-    let list = arena.node(leaf).list;
+    let list = arena.look(leaf).list;
     match found {
         Holder::Own(row) => {
             lists.remove(list, page);
@@ -114,6 +114,6 @@ fn hide_above(arena: &CowArena, lists: &mut PageLists, leaf: NodeId, page: PageN
 {
     let above = holder_above(arena, lists, leaf, page);
     if has_frame(above) {
-        lists.insert(arena.node(leaf).list, page, Slot::Zero);
+        lists.insert(arena.look(leaf).list, page, Slot::Zero);
     }
 }

@@ -23,7 +23,7 @@ pub fn holder(arena: &CowArena, lists: &PageLists, leaf: NodeId, page: PageNo) -
     requires node { IsSome (nodes_of arena.now leaf.0) }
     ensures { result ≡ holder_of (walk (tree_of arena.now lists.now) leaf.0 page) }
 {
-    if let Some(slot) = lists.find(arena.node(leaf).list, page) {
+    if let Some(slot) = lists.find(arena.look(leaf).list, page) {
         return Holder::Own(slot);
     }
     holder_above(arena, lists, leaf, page)
@@ -70,7 +70,7 @@ pub fn holder_counted<L: Ledger>(
     ensures cost { (most : ℕ) → IsMostOfLookUp (row_count lists.now) most →
         steps.new ≤ steps.old + depth (nodes_of arena.now) arena.now.lists leaf.0 * most }
 {
-    if let Some(slot) = lists.find_counted(arena.node(leaf).list, page, steps) {
+    if let Some(slot) = lists.find_counted(arena.look(leaf).list, page, steps) {
         return Holder::Own(slot);
     }
     climb(arena, lists, leaf, page, steps)

@@ -9,39 +9,39 @@ use Rattle.cow_fork.proofs.forking.fork_holder.Goals as goal
 
 pub take_blank-tag-requires : goal.take_blank-tag-requires
 take_blank-tag-requires c =
-    let leaf = leaf-is c.args.arena.now c.args.lists.now c.args.leaf.0 c.args.page c.node.result c.requires.exact.forest c.requires.page c.node.ensures in
-    let zero = own-zero leaf _ _ c.requires.found c.in-Own.is (λ row. c.requires.unowned _ row c.node.ensures) in
+    let leaf = leaf-is c.args.arena.now c.args.lists.now c.args.leaf.0 c.args.page c.look.result.now c.requires.exact.forest c.requires.page c.look.ensures in
+    let zero = own-zero leaf _ _ c.requires.found c.in-Own.is (λ row. c.requires.unowned _ row c.look.ensures) in
     free-own leaf zero c.args.frames.now c.requires.free
 
 pub replace-requires : goal.replace-requires
 replace-requires c =
-    let leaf = leaf-is c.args.arena.now c.args.lists.now c.args.leaf.0 c.args.page c.node.result c.requires.exact.forest c.requires.page c.node.ensures in
-    ap is_some (own-zero leaf _ _ c.requires.found c.in-Own.is (λ row. c.requires.unowned _ row c.node.ensures))
+    let leaf = leaf-is c.args.arena.now c.args.lists.now c.args.leaf.0 c.args.page c.look.result.now c.requires.exact.forest c.requires.page c.look.ensures in
+    ap is_some (own-zero leaf _ _ c.requires.found c.in-Own.is (λ row. c.requires.unowned _ row c.look.ensures))
 
 pub returns-in-Own : goal.returns-in-Own
 returns-in-Own c =
-    let leaf = leaf-is c.args.arena.now c.args.lists.now c.args.leaf.0 c.args.page c.node.result c.requires.exact.forest c.requires.page c.node.ensures in
-    let zero = own-zero leaf _ _ c.requires.found c.in-Own.is (λ row. c.requires.unowned _ row c.node.ensures) in
+    let leaf = leaf-is c.args.arena.now c.args.lists.now c.args.leaf.0 c.args.page c.look.result.now c.requires.exact.forest c.requires.page c.look.ensures in
+    let zero = own-zero leaf _ _ c.requires.found c.in-Own.is (λ row. c.requires.unowned _ row c.look.ensures) in
     forked-own leaf zero _ _ _ _ c.requires.exact (rw c.row_of.ensures at c.replace.ensures.slots) c.replace.ensures.spare
     c.take_blank-tag.ensures.takes c.take_blank-tag.ensures.links c.take_blank-tag.ensures.frames
 
 pub take_after-tag-requires : goal.take_after-tag-requires
 take_after-tag-requires c =
-    let leaf = leaf-is c.args.arena.now c.args.lists.now c.args.leaf.0 c.args.page c.node.result c.requires.exact.forest c.requires.page c.node.ensures in
+    let leaf = leaf-is c.args.arena.now c.args.lists.now c.args.leaf.0 c.args.page c.look.result.now c.requires.exact.forest c.requires.page c.look.ensures in
     let bare = bare-row leaf _ c.requires.found c.in_default.not-Own in
     let off = cut_off leaf bare c.cut_holder-answer.ensures.cut (is_taken c.args.frames.now) _ c.requires.exact c.requires.found in
     record { free = free-cut off c.args.frames.now c.requires.free; taken = held-used off; seen = held-seen off; nothing = held-nothing off }
 
 pub insert-requires : goal.insert-requires
 insert-requires c =
-    let leaf = leaf-is c.args.arena.now c.args.lists.now c.args.leaf.0 c.args.page c.node.result c.requires.exact.forest c.requires.page c.node.ensures in
+    let leaf = leaf-is c.args.arena.now c.args.lists.now c.args.leaf.0 c.args.page c.look.result.now c.requires.exact.forest c.requires.page c.look.ensures in
     let bare = bare-row leaf _ c.requires.found c.in_default.not-Own in
     let cut = c.cut_holder-answer.ensures.cut in
     record { absent = cut-free leaf bare cut; room = let kept = cut.spare in omega (arith, kept) }
 
 pub returns : goal.returns
 returns c =
-    let leaf = leaf-is c.args.arena.now c.args.lists.now c.args.leaf.0 c.args.page c.node.result c.requires.exact.forest c.requires.page c.node.ensures in
+    let leaf = leaf-is c.args.arena.now c.args.lists.now c.args.leaf.0 c.args.page c.look.result.now c.requires.exact.forest c.requires.page c.look.ensures in
     let bare = bare-row leaf _ c.requires.found c.in_default.not-Own in
     let cut = c.cut_holder-answer.ensures.cut in
     let off = cut_off leaf bare cut (is_taken c.args.frames.now) _ c.requires.exact c.requires.found in

@@ -5,4 +5,4 @@ use Rattle.cow_split.proofs.climbing.holder.Goals as goal
 
 pub returns-in-Some : goal.returns-in-Some
 returns-in-Some c =
-    ap holder_of (sym (walk-row _ c.requires.forest _ _ _ (record { node = c.node.result; at = c.node.ensures; row = sym c.find.ensures ∙ c.in-Some.is })))
+    ap holder_of (sym (walk-row _ c.requires.forest _ _ _ (record { node = c.look.result.now; at = c.look.ensures; row = sym c.find.ensures ∙ c.in-Some.is })))
