@@ -112,6 +112,10 @@ module _ {f g : Filter} {was : Rows Row} (filtered : AreFiltered f was) (more : 
         | inr there ↦ more.kept k q (filtered.set k q (subst IsSome (cond-false _ _ _ there) some))
       ]
 
+  -- no row comes or goes
+  pub filtered-more : AreFiltered g was
+  filtered-more = record { set = λ l p some. more.kept l p (filtered.set l p some) }
+
   -- a row comes to a page, or in place of the one that is there
   pub filtered-put : (new : Rows Row) (l p : ℕ) → p < 2 ^ 64 → (row : Row) → row_functions.rank row ≡ pair_rank l p →
       new.rows ≡ with_row row_functions (plain row_functions row) was.rows → has_bit g l p ≡ true → AreFiltered g new

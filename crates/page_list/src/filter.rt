@@ -25,6 +25,8 @@ pub(crate) struct Filter {
     mask: u64,
     /// How many rows went since the filter was made.
     gone: u64,
+    /// How many rows may still come or go before it is asked again whether the filter is to be made anew.
+    left: u64,
 }
 
 impl Filter {
@@ -34,6 +36,7 @@ impl Filter {
             words: Vec::new(alloc),
             mask: 0,
             gone: 0,
+            left: 0,
         }
     }
 
@@ -58,30 +61,48 @@ impl Filter {
         (self.word(list) >> (page % 64)) & 1 == 1
     }
 
-    /// Sets the bit of a page of a list, and clears none. It costs one load and one store.
+    /// Sets the bit of a page of a list, and clears none, and notes that a row came.
     pub(crate) fn set(&mut self, list: u64, page: PageNo)
         ensures set { has_bit self.new list page ≡ true }
         ensures more { IsMore self.old self.new }
     {
+        self.left = self.left.saturating_sub(1);
         let at = (list & self.mask) as usize;
         if at < self.words.len() {
             self.words[at] |= 1 << (page % 64);
         }
     }
 
-    /// Notes that a row went. Its bit stays, since other pages may have it too. It costs one addition.
+    /// Notes that a row went. Its bit stays, since other pages may have it too.
     pub(crate) fn note_gone(&mut self)
         ensures { IsMore self.old self.new }
     {
         self.gone = self.gone.saturating_add(1);
+        self.left = self.left.saturating_sub(1);
+    }
+
+    /// Whether `more` rows may come with no question whether the filter is to be made anew. It costs one comparison.
+    #[inline(always)]
+    pub(crate) fn suits(&self, more: u64) -> bool {
+        more <= self.left
     }
 
     /// Makes the filter anew where it is too small for the rows of a tree and `more` of them, or where many rows went.
     /// `HostMemory` where it has to grow and the host has too little memory: it stays as it was then. One that is only made
     /// clean takes no memory.
     ///
-    /// It costs a look-up for each row and a store for each word where the filter is made anew, else two comparisons.
+    /// It costs a look-up for each row and a store for each word where the filter is made anew, else a few comparisons.
     pub(crate) fn renew(&mut self, tree: &BalancedTree<Row>, more: u64) -> Result<(), HostMemory>
+        requires { AreFiltered self.old tree.now }
+        ensures { AreFiltered self.new tree.now }
+    {
+        self.make_fit(tree, more)?;
+        self.count_left(tree);
+        Ok(())
+    }
+
+    /// Does what `renew` does, and leaves the count of rows that may come or go.
+    fn make_fit(&mut self, tree: &BalancedTree<Row>, more: u64) -> Result<(), HostMemory>
         requires { AreFiltered self.old tree.now }
         ensures { AreFiltered self.new tree.now }
     {
@@ -92,27 +113,30 @@ impl Filter {
         Ok(())
     }
 
-    /// Whether the filter is large enough for so many rows and `more`, two words at least for each, and no more rows went than
-    /// it has words and rows. It costs two comparisons.
-    #[inline(always)]
-    pub(crate) fn suits(&self, rows: u64, more: u64) -> bool {
+    /// How many words the filter is to have, where it is to be made anew: two at least for each row and each of `more`. No
+    /// clause says when that is, since a filter is right however many bits more are set.
+    fn wanted(&self, rows: u64, more: u64) -> Option<u64> {
         let len = self.words.len() as u64;
-        rows.saturating_add(more) <= len / 2 && self.gone <= rows.saturating_add(len)
+        let least = rows.saturating_add(more).saturating_mul(2);
+        if len < least {
+            Some(least.max(LEAST_WORDS).checked_next_power_of_two()?)
+        } else if rows.saturating_add(len) < self.gone {
+            Some(len)
+        } else {
+            None
+        }
     }
 
-    /// How many words the filter is to have, where it is to be made anew. No clause says when that is, since a filter is right
-    /// however many bits more are set.
-    fn wanted(&self, rows: u64, more: u64) -> Option<u64> {
-        if self.suits(rows, more) {
-            return None;
-        }
-        let least = rows.saturating_add(more).saturating_mul(2);
-        Some(
-            least
-                .max(LEAST_WORDS)
-                .max(self.words.len() as u64)
-                .checked_next_power_of_two()?,
-        )
+    /// Notes how many rows may come or go before the filter could be too small for them, or too many have gone.
+    fn count_left(&mut self, tree: &BalancedTree<Row>)
+        requires { AreFiltered self.old tree.now }
+        ensures { AreFiltered self.new tree.now }
+    {
+        let rows = tree.len() as u64;
+        let len = self.words.len() as u64;
+        let room = (len / 2).saturating_sub(rows);
+        let clean = rows.saturating_add(len).saturating_sub(self.gone) / 2;
+        self.left = room.min(clean);
     }
 
     /// Clears all bits, and gives the filter `len` words. `HostMemory` where the host has too little memory for as many, and

@@ -61,7 +61,7 @@ impl PageLists {
     /// One that is only to be cleaner takes no memory, and is left out where the host has none for the rows. The rows stay as
     /// they are on both answers, and no room is lost.
     ///
-    /// It costs three comparisons where the room is there and the filter stays, else what room for the rows costs. Where the
+    /// It costs two comparisons where the room is there and the filter stays, else what room for the rows costs. Where the
     /// filter is made anew, it costs a look-up for each row and a store for each word of the filter more: over all calls a few
     /// for each row that came or went, or that room was asked for.
     #[inline(always)]
@@ -81,7 +81,7 @@ impl PageLists {
     fn is_ready(&self, n: u64) -> bool
         ensures { IsTrue result → n ≤ self.now.spare }
     {
-        n <= self.tree.spare() as u64 && self.filter.suits(self.tree.len() as u64, n)
+        n <= self.tree.spare() as u64 && self.filter.suits(n)
     }
 
     /// Does what `reserve` does, where the room has to be asked for or the filter to be made anew.
