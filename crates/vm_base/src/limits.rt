@@ -33,8 +33,10 @@ pub const ROOT_END: u64 = 68719476736;
 
 const _: () = prove!(ROOT_END * PAGE == 1 << 48);
 
-/// The most bytes of one read or write command.
+/// The most bytes of one read or write command. Wherever they begin, they lie on two pages at most.
 pub const DATA_BYTES: usize = 4096;
+
+const _: () = prove!(DATA_BYTES as u64 <= PAGE);
 
 /// The most pages of one pin.
 pub const PIN_PAGES: usize = 256;

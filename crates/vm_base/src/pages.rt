@@ -1,6 +1,6 @@
 //! Pages: whole pages, and where a byte lies.
 
-ghost use Rattle.std.specs.Prelude.{◌≡◌, ◌≤◌, ◌<◌, ◌+◌, ◌*◌, ◌/◌, ◌%◌, ◌^◌, ◌↔◌, IsNone, IsSome, IfSome, IfNone};
+ghost use Rattle.std.specs.Prelude.{◌≡◌, ◌≤◌, ◌/◌, ◌%◌, ◌↔◌, IsSome, IfSome};
 ghost use Rattle.vm_base.specs.Pages.{rounded};
 
 use crate::limits::PAGE;
