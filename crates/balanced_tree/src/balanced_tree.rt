@@ -1,6 +1,6 @@
 //! The balanced tree as its callers see it.
 
-ghost use Rattle.std.specs.Prelude.{◌≡◌, ℕ, ◌+◌, ◌-◌, ◌^◌, ◌<◌, ◌≤◌, [], length, option_copied, IsNone, IsSome, Some, OnOk};
+ghost use Rattle.std.specs.Prelude.{◌≡◌, ◌+◌, ◌-◌, ◌^◌, ◌<◌, ◌≤◌, [], length, option_copied, IsNone, IsSome, Some, OnOk};
 ghost use Rattle.std.specs.Option.{MatchOption, option_map};
 ghost use Rattle.balanced_tree.specs.Gaps.{AreApart, HasNoGap, IsFirstGap};
 ghost use Rattle.balanced_tree.specs.Row.{plain};

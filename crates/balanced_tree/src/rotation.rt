@@ -2,9 +2,9 @@
 
 ghost use Rattle.std.specs.Prelude.{◌≡◌, ℕ, ◌+◌, ◌^◌, ◌<◌, ◌≤◌, nat_lt, if◌then◌else◌, Some, None};
 ghost use Rattle.std.specs.Option.{ForSome};
-ghost use Rattle.slab.specs.Slab.{get, slab_len, ContainsKey, Updates};
+ghost use Rattle.slab.specs.Slab.{slab_len, ContainsKey, Updates};
 ghost use Rattle.balanced_tree.specs.Row.{height_in};
-ghost use Rattle.balanced_tree.specs.Tree.{Tree, Node, place_of, leaned_right, leaned_left, balanced};
+ghost use Rattle.balanced_tree.specs.Tree.{Tree, place_of, leaned_right, leaned_left, balanced};
 ghost use Rattle.balanced_tree.specs.Placing.{PlacesThree};
 ghost use Rattle.balanced_tree.specs.Standing.{child_at, height_at, IsSplit, Splits, Becomes, Same};
 
