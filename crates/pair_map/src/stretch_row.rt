@@ -1,6 +1,6 @@
 //! A row of a map from lists and the first numbers of extents.
 
-ghost use Rattle.std.specs.Prelude.{◌≡◌, ◌+◌, ◌-◌, ◌^◌, min};
+ghost use Rattle.std.specs.Prelude.{◌≡◌};
 ghost use Rattle.balanced_tree.specs.Extents.{span_in};
 ghost use Rattle.balanced_tree.specs.Row.{height_in};
 ghost use Rattle.balanced_tree.specs.Pairs.{pair_rank};
