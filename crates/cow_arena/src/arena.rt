@@ -4,7 +4,7 @@ ghost use Rattle.std.specs.Prelude.{◌≡◌, ◌≢◌, ℕ, ◌+◌, ◌≤�
 ghost use Rattle.slab.specs.Slab.{get, ContainsKey, HasRoomFor};
 ghost use Rattle.vm_base.specs.Entries.{with_key, without_key};
 ghost use Rattle.cow_arena.specs.declared.node.Node.{Node};
-ghost use Rattle.cow_arena.specs.Nodes.{nodes_of, leads_to, link_to, child_on, other_side, side_of, node_above, side_in, sibling_in, AreFamily};
+ghost use Rattle.cow_arena.specs.Nodes.{nodes_of, link_to, child_on, other_side, side_of, node_above, side_in, sibling_in, AreFamily};
 ghost use Rattle.cow_arena.specs.Walk.{Slots, tree_with};
 ghost use Rattle.cow_arena.specs.Views.{ShowsSnapshot, KeepsWalks, KeepsListed};
 ghost use Rattle.cow_arena.specs.Forest.{IsForest, AreListed};
