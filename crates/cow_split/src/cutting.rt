@@ -1,6 +1,6 @@
 //! Cutting a page off from the row above it.
 
-ghost use Rattle.std.specs.Prelude.{◌≡◌, ◌≢◌, ◌↔◌, ◌≤◌, ℕ, Bool, false, None, Some, IsSome, IsSomeAnd};
+ghost use Rattle.std.specs.Prelude.{◌≡◌, ◌≢◌, ◌↔◌, ◌≤◌, ℕ, Bool, None, Some, IsSome, IsSomeAnd};
 ghost use Rattle.vm_base.specs.declared.names.Tag.{Tag};
 ghost use Rattle.page_list.specs.Lists.{slots_of, row_count};
 ghost use Rattle.balanced_tree.specs.Pairs.{with_pair};
