@@ -1,7 +1,6 @@
 //! What a snapshot does to the tree.
 
 ghost use Rattle.std.specs.Prelude.{◌≡◌, ℕ, ◌+◌, ◌≤◌, ◌<◌, ◌^◌, Bool, IsSome, IsSomeAnd, IfOk, OnErr, IfSome, IfNone};
-ghost use Rattle.balanced_tree.specs.Pairs.{IsNext};
 ghost use Rattle.page_list.specs.Lists.{slots_of, row_count};
 ghost use Rattle.cow_arena.specs.Nodes.{nodes_of};
 ghost use Rattle.cow_arena.specs.Counts.{hidden_count, visible_count};

@@ -1,20 +1,19 @@
 //! Making a page zero.
 
-ghost use Rattle.std.specs.Prelude.{◌≡◌, ◌↔◌, ◌+◌, ◌≤◌, ℕ, Bool, true, None, Some, IsSome, is_some};
+ghost use Rattle.std.specs.Prelude.{◌≡◌, ◌≤◌, ℕ, Bool, true, None, Some, IsSome, is_some};
 ghost use Rattle.vm_base.specs.declared.names.Tag.{Tag};
 ghost use Rattle.vm_base.specs.Entries.{without_key};
 ghost use Rattle.page_list.specs.Lists.{slots_of};
 ghost use Rattle.frame_pool.specs.Pool.{taken_frames, is_taken, links_of};
 ghost use Rattle.cow_arena.specs.declared.node.Node.{Node};
 ghost use Rattle.cow_arena.specs.Nodes.{nodes_of};
-ghost use Rattle.cow_arena.specs.Walk.{walk, frame_at, frame_in};
+ghost use Rattle.cow_arena.specs.Walk.{walk, frame_in};
 ghost use Rattle.cow_arena.specs.Forest.{IsForest};
 ghost use Rattle.cow_split.specs.Trees.{tree_of, holder_of, frame_held};
-ghost use Rattle.cow_split.specs.Sight.{IsPage, OthersShowSame};
-ghost use Rattle.cow_split.specs.Exact.{IsExact, all_in_sight, leaving_out, without_frame};
-ghost use Rattle.cow_split.specs.Cutting.{frame_left};
+ghost use Rattle.cow_split.specs.Sight.{IsPage};
+ghost use Rattle.cow_split.specs.Exact.{IsExact, all_in_sight, leaving_out};
 ghost use Rattle.cow_split.specs.declared.answers.Cut.TheVariants as cut;
-ghost use Rattle.cow_fork.specs.Frames.{IsSole, LeavesFrame};
+ghost use Rattle.cow_fork.specs.Frames.{LeavesFrame};
 ghost use Rattle.cow_fork.specs.Zeroing.{HasZeroed};
 ghost use Rattle.cow_fork.specs.ZeroSteps.{HasLetGo, HasHidden};
 
