@@ -1,6 +1,6 @@
 //! Moving the rows of a hidden node into one of its children, before the two are merged.
 
-ghost use Rattle.std.specs.Prelude.{◌≡◌, ◌≤◌, ◌<◌, ◌+◌, ◌^◌, ◌==◌, ◌↔◌, ℕ, if◌then◌else◌, Bool, true, false, not, None, Some, IsSome, IfSome, IfNone, IsTrue};
+ghost use Rattle.std.specs.Prelude.{◌≡◌, ◌≤◌, ◌<◌, ◌+◌, ◌^◌, ◌↔◌, ℕ, if◌then◌else◌, Bool, true, false, not, None, Some, IsSome, IfSome, IfNone, IsTrue};
 ghost use Rattle.balanced_tree.specs.Pairs.{with_pair, IsNext};
 ghost use Rattle.balanced_tree.specs.Rows.{Rows};
 ghost use Rattle.vm_base.specs.declared.names.Tag.{Tag};

@@ -1,7 +1,6 @@
 //! Shrinking a VMO.
 
-ghost use Rattle.std.specs.Prelude.{◌≡◌, ◌≤◌, min, Some, IsSomeAnd, IsSome};
-ghost use Rattle.vm_base.specs.Entries.{with_key};
+ghost use Rattle.std.specs.Prelude.{◌≡◌, ◌≤◌, Some, IsSomeAnd, IsSome};
 ghost use Rattle.cow_arena.specs.declared.node.Node.{Node};
 ghost use Rattle.cow_arena.specs.Nodes.{nodes_of};
 ghost use Rattle.cow_arena.specs.Forest.{IsForest};
