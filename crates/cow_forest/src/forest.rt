@@ -1,12 +1,12 @@
 //! The clone tree as a store of pages.
 
-ghost use Rattle.std.specs.Prelude.{◌≡◌, ◌≢◌, ℕ, ◌+◌, ◌*◌, ◌<◌, ◌≤◌, ◌⊎◌, true, length, IsSome, None, Some, IfSome, IfNone, IfOk, OnOk, OnErr};
+ghost use Rattle.std.specs.Prelude.{◌≡◌, ℕ, ◌+◌, ◌*◌, ◌<◌, ◌≤◌, ◌⊎◌, true, IsSome, None, IfOk, OnOk, OnErr};
 ghost use Rattle.vm_base.specs.declared.limits.TheConstants.{VMO_PAGES, KOIDS};
 ghost use Rattle.vm_model.specs.Contents.Content.{nothing, used, sole, pages_of, created, vmos_of};
 ghost use Rattle.vm_model.specs.Contents.Owning.{Owns};
 ghost use Rattle.vm_model.specs.Contents.Sharing.{snapshotted, without};
 ghost use Rattle.vm_model.specs.Contents.Zeroing.{zeroed, resized};
-ghost use Rattle.page_list.specs.Lists.{slots_of, row_count};
+ghost use Rattle.page_list.specs.Lists.{row_count};
 ghost use Rattle.frame_pool.specs.Pool.{is_taken};
 ghost use Rattle.cow_arena.specs.Nodes.{nodes_of, link_to};
 ghost use Rattle.cow_arena.specs.Counts.{hidden_count, visible_count};
