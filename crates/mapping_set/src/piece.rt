@@ -1,6 +1,6 @@
 //! A piece of a mapping.
 
-ghost use Rattle.std.specs.Prelude.{◌≡◌, ◌+◌, ◌-◌, ◌<◌, ◌≤◌};
+ghost use Rattle.std.specs.Prelude.{◌≡◌, ◌+◌, ◌<◌, ◌≤◌};
 ghost use Rattle.vm_base.specs.declared.limits.TheConstants.{PAGES_END};
 ghost use Rattle.mapping_set.specs.Pieces.{piece_from, piece_until, piece_with_perm};
 

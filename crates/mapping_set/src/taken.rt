@@ -1,6 +1,6 @@
 //! Extents of what is taken, in the list of each region, as far as it is known.
 
-ghost use Rattle.std.specs.Prelude.{◌≡◌, ◌+◌, ◌≤◌, None, Some, IsSome};
+ghost use Rattle.std.specs.Prelude.{◌≡◌, ◌+◌, ◌≤◌, None, IsSome};
 ghost use Rattle.balanced_tree.specs.Pairs.{with_pair};
 ghost use Rattle.pair_map.specs.Maps.{extents_of, spare_of, IsOpen};
 ghost use Rattle.vm_base.specs.declared.limits.TheConstants.{PAGES_END};
