@@ -1,6 +1,6 @@
 //! The pages that are pinned, by koid and page number, each with the number of pins that cover it.
 
-ghost use Rattle.std.specs.Prelude.{◌≡◌, ℕ, ◌+◌, ◌<◌, ◌≤◌};
+ghost use Rattle.std.specs.Prelude.{ℕ, ◌+◌, ◌<◌, ◌≤◌};
 ghost use Rattle.vm_base.specs.declared.limits.TheConstants.{PAGES_END, NAMES};
 ghost use Rattle.pair_map.specs.Maps.{values_of, spare_of};
 ghost use Rattle.pin_table.specs.Pages.{pins_at, AreKept, AddsPin};
