@@ -1,6 +1,6 @@
 //! The buffer of a line reader.
 
-ghost use Rattle.std.specs.Prelude.{◌≡◌, ◌≢◌, ◌+◌, ◌<◌, ◌≤◌, ℕ, [], ◌∷◌, ◌++◌, length, take, drop, slice_index, IfOk, OnErr, MatchOption, MatchBool, vec_len};
+ghost use Rattle.std.specs.Prelude.{◌≡◌, ◌+◌, ◌<◌, ◌≤◌, [], ◌∷◌, ◌++◌, length, take, drop, slice_index, IfOk, OnErr, MatchOption, MatchBool, vec_len};
 ghost use Rattle.std.specs.List.{copy_within};
 ghost use Rattle.std.specs.Io.KnownBytes.{Keeps, ReadConsumes};
 ghost use Rattle.script_io.specs.Faults.{HasCause};

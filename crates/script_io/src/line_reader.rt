@@ -1,6 +1,6 @@
 //! Reading a source line by line.
 
-ghost use Rattle.std.specs.Prelude.{◌≡◌, ◌≢◌, ◌+◌, ◌<◌, ◌≤◌, ◌^◌, ℕ, List, Option, [], ◌∷◌, ◌++◌, length, true, false, IfOk, IfNone, OnErr, None, Some, ◌==◌, ◌⊎◌};
+ghost use Rattle.std.specs.Prelude.{◌≡◌, ◌≢◌, ◌+◌, ◌<◌, ◌≤◌, ◌^◌, ℕ, List, Option, [], ◌++◌, length, true, false, IfOk, IfNone, OnErr, Some, ◌==◌, ◌⊎◌};
 ghost use Rattle.std.specs.Io.KnownBytes.{Keeps};
 ghost use Rattle.script_io.specs.Faults.{HasCause, HasFailed};
 ghost use Rattle.script_io.specs.Reader.{HasNoFeed, Grows};

@@ -1,6 +1,6 @@
 //! A sink in memory whose calls may be made to fail.
 
-ghost use Rattle.std.specs.Prelude.{◌≡◌, ◌≤◌, ◌<◌, ◌-◌, ◌↔◌, ◌⊎◌, ℕ, [], Some, min, length, take, IfOk, is_ok, IsErr, Contains, if◌then◌else◌};
+ghost use Rattle.std.specs.Prelude.{◌≡◌, ◌≤◌, ◌<◌, ◌-◌, ◌↔◌, ◌⊎◌, [], Some, min, length, IfOk, is_ok, IsErr, Contains, if◌then◌else◌};
 ghost use Rattle.std.specs.Io.KnownBytes.{WriteAppends};
 ghost use Rattle.script_io.specs.Faults.{next_count, HasCause};
 ghost use Rattle.script_io.specs.Memory.{SinkState};

@@ -1,6 +1,6 @@
 //! A source in memory whose calls may be made to fail.
 
-ghost use Rattle.std.specs.Prelude.{◌≡◌, ◌≤◌, ◌<◌, ◌↔◌, ℕ, Some, min, length, drop, IfOk, is_ok, IsErr, Contains, if◌then◌else◌};
+ghost use Rattle.std.specs.Prelude.{◌≡◌, ◌≤◌, ◌<◌, ◌↔◌, Some, min, length, drop, IfOk, is_ok, IsErr, Contains, if◌then◌else◌};
 ghost use Rattle.std.specs.Io.KnownBytes.{ReadConsumes};
 ghost use Rattle.script_io.specs.Faults.{next_count, HasCause};
 ghost use Rattle.script_io.specs.Memory.{SourceState};

@@ -1,6 +1,6 @@
 //! Which calls on a source or a sink in memory fail.
 
-ghost use Rattle.std.specs.Prelude.{◌≡◌, ℕ, [], ◌↔◌, ◌≤◌, IsTrue, IfOk, Contains};
+ghost use Rattle.std.specs.Prelude.{◌≡◌, ◌↔◌, ◌≤◌, IsTrue, IfOk, Contains};
 ghost use Rattle.script_io.specs.Faults.{next_count, HasFailed};
 ghost use Rattle.script_io.specs.Memory.{Tally};
 
