@@ -1,6 +1,6 @@
 //! Which lines a reply has.
 
-ghost use Rattle.std.specs.Prelude.{◌≡◌, ◌+◌, ◌*◌, ◌<◌, ◌≤◌, [], ◌∷◌, ◌++◌, length, take, drop, map, codes};
+ghost use Rattle.std.specs.Prelude.{◌≡◌, ◌+◌, ◌<◌, ◌≤◌, ◌++◌, length, take, drop, map, codes};
 ghost use Rattle.std.specs.Prelude.{slice_get, MatchResult};
 ghost use Rattle.vm_model.specs.Language.Text.{reply_lines, run_line, refusal_name};
 ghost use Rattle.vm_model.specs.Machine.Lent.{reply_for};
