@@ -1,6 +1,6 @@
 //! Whether an access may touch a page, and room for the translations that it makes.
 
-ghost use Rattle.std.specs.Prelude.{◌≡◌, ◌<◌, ◌≤◌, None, Some, MatchResult};
+ghost use Rattle.std.specs.Prelude.{◌≡◌, ◌<◌, ◌≤◌, Some, MatchResult};
 ghost use Rattle.mapping_set.specs.Tables.{table_of};
 ghost use Rattle.vm_model.specs.Machine.Access.{refusal_at};
 ghost use Rattle.vm_base.specs.declared.refusal.Refusal.TheVariants as Refusal;

@@ -1,6 +1,6 @@
 //! How many frames a write takes (copy on write).
 
-ghost use Rattle.std.specs.Prelude.{◌≡◌, ◌+◌, Bool, true, false, ◌&&◌, ◌==◌, if◌then◌else◌, [], ◌∷◌};
+ghost use Rattle.std.specs.Prelude.{◌≡◌, ◌&&◌, ◌==◌, [], ◌∷◌};
 ghost use Rattle.vm_model.specs.Contents.Content.{IsGood};
 ghost use Rattle.vm_model.specs.Contents.Owning.{need_each};
 ghost use Rattle.vm_model.specs.Machine.Access.{page_shown};

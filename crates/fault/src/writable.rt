@@ -1,6 +1,6 @@
 //! The pages that a write touches, as they are found before anything is written.
 
-ghost use Rattle.std.specs.Prelude.{◌≡◌, ◌<◌, None, Some, MatchResult, if◌then◌else◌};
+ghost use Rattle.std.specs.Prelude.{◌≡◌, ◌<◌, None, Some, MatchResult};
 ghost use Rattle.vm_base.specs.declared.names.Tag.{Tag};
 ghost use Rattle.mapping_set.specs.Tables.{table_of};
 ghost use Rattle.page_store.specs.Pages.{look_at};
