@@ -8,7 +8,6 @@ ghost use Rattle.vm_model.specs.declared.reply.Reply.{Reply};
 ghost use Rattle.vm_model.specs.Machine.State.{State};
 ghost use Rattle.vm_model.specs.Machine.Step.{Step, reply_of};
 ghost use Rattle.vmo_table.specs.Table.{names_of, keepers_of, IsNamed};
-ghost use Rattle.pin_table.specs.Table.{pins_of};
 ghost use Rattle.vmo_ops.specs.Targets.{AreTogether, with_tables, koid_given};
 
 use crate::aliases::{reference, slice};
