@@ -1,6 +1,6 @@
 //! The held pages of a VMO, counted.
 
-ghost use Rattle.std.specs.Prelude.{◌≡◌, ℕ, ◌+◌, IsSome};
+ghost use Rattle.std.specs.Prelude.{◌≡◌, ◌+◌, IsSome};
 ghost use Rattle.vm_model.specs.Contents.Content.{pages_of, IsGood};
 ghost use Rattle.vm_model.specs.Machine.Attribution.{is_charged};
 ghost use Rattle.page_store.specs.declared.page_store.Look.{Look};

@@ -1,8 +1,8 @@
 //! What is mapped in a region (`ZX_INFO_PROCESS_MAPS`).
 
-ghost use Rattle.std.specs.Prelude.{◌≡◌, ℕ, ◌+◌, ◌*◌, ◌^◌, ◌<◌, ◌≤◌, true, Some, List, [], ◌++◌, IsSome, IfOk, MatchResult};
+ghost use Rattle.std.specs.Prelude.{◌≡◌, ◌+◌, ◌^◌, ◌<◌, ◌≤◌, true, List, [], ◌++◌, IsSome, IfOk, MatchResult};
 ghost use Rattle.std.specs.Option.{MatchOption};
-ghost use Rattle.vm_base.specs.declared.limits.TheConstants.{PAGE, PAGES_END, ROOT_END};
+ghost use Rattle.vm_base.specs.declared.limits.TheConstants.{PAGES_END, ROOT_END};
 ghost use Rattle.vm_model.specs.declared.runs.Run.{Run};
 ghost use Rattle.vm_model.specs.Space.Mappings.{is_mapped_in, goes_on, run_before, runs_of};
 ghost use Rattle.vm_model.specs.Space.Regions.{end_of, region_of};
