@@ -1,6 +1,6 @@
 //! Ranges of an address space that are asked for by a region.
 
-ghost use Rattle.std.specs.Prelude.{◌≡◌, ◌/◌, ◌+◌, ◌≤◌, ◌||◌};
+ghost use Rattle.std.specs.Prelude.{◌≡◌, ◌/◌, ◌+◌, ◌≤◌};
 ghost use Rattle.vm_base.specs.Pages.{rounded};
 ghost use Rattle.vm_base.specs.declared.limits.TheConstants.{PAGE, ROOT_END};
 ghost use Rattle.vm_model.specs.Space.Mappings.{is_outside, lacks_reading};
