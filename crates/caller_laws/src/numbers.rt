@@ -1,6 +1,6 @@
 //! Pages and codes.
 
-ghost use Rattle.std.specs.Prelude.{◌≡◌, ◌+◌, Some, None};
+ghost use Rattle.std.specs.Prelude.{◌≡◌, Some, None};
 
 use script_io::{Status, code};
 use vm_base::{in_page, page_of, round_up};
