@@ -13,8 +13,8 @@ mod refusal;
 
 pub use flags::{MapFlags, Perm};
 pub use limits::{
-    DATA_BYTES, FRAMES, KOIDS, LINE_BYTES, NAMES, PAGE, PAGE_BYTES, PAGES_END, PIN_PAGES, ROOT_END,
-    ROOT_FIRST, SCRIPT_BYTES, TEXT_BYTES, TEXT_ROOM, VMO_PAGES,
+    DATA_BYTES, DEFAULT_FRAMES, FRAMES, KOIDS, LINE_BYTES, NAMES, PAGE, PAGE_BYTES, PAGES_END,
+    PIN_PAGES, ROOT_END, ROOT_FIRST, SCRIPT_BYTES, TEXT_BYTES, TEXT_ROOM, VMO_PAGES, WORK_COUNT,
 };
 pub use names::{Koid, PinName, RegionName, Tag, VmoName};
 pub use pages::{PageNo, in_page, page_count, page_of, round_up};

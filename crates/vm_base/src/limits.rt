@@ -17,6 +17,16 @@ const _: () = prove!(VMO_PAGES * PAGE == 1 << 36);
 /// The greatest number of page frames of a machine.
 pub const FRAMES: u32 = 65536;
 
+/// How many page frames a machine has where the words of the command line don't say.
+pub const DEFAULT_FRAMES: u32 = 1024;
+
+const _: () = prove!(1 <= DEFAULT_FRAMES && DEFAULT_FRAMES <= FRAMES);
+
+/// The most commands of a workload.
+pub const WORK_COUNT: u64 = 1000000;
+
+const _: () = prove!(WORK_COUNT < 1 << 63);
+
 /// A range of pages, of a VMO or of an address space, ends at or below this page number: 2^52, so that its
 /// bytes are numbered by 64 bits.
 pub const PAGES_END: u64 = 4503599627370496;

@@ -9,7 +9,7 @@ use Rattle.std.specs.declared.alloc.Global.{Global}
 use Rattle.script_io.specs.declared.status.Status.{Status}
 use Rattle.script_io.specs.declared.status.Status.TheVariants.{Done, Usage, HostMemory, ReadFault, WriteFault, ScriptLimit}
 use Rattle.script_io.specs.Faults.{IsCutOff}
-use Rattle.vm_base.specs.declared.limits.TheConstants.{FRAMES, SCRIPT_BYTES}
+use Rattle.vm_base.specs.declared.limits.TheConstants.{DEFAULT_FRAMES, FRAMES, SCRIPT_BYTES, WORK_COUNT}
 use Rattle.vm_model.specs.declared.reply.Reply.{Reply}
 use Rattle.vm_model.specs.Contents.Content.{Content}
 use Rattle.vm_model.specs.Machine.Machine.{Machine, IsGoodMachine, empty_machine}
@@ -35,7 +35,7 @@ within len least most word o = do
 unfoldable pub decimal_of_word : (len least most : ℕ) → List ℕ → Option ℕ
 decimal_of_word len least most word = if is_hex word then None else within len least most word (number word)
 
--- a number of frames: one to five digits, from 1 to 65,536
+-- a number of frames: one to five digits, from 1 to FRAMES
 abbrev pub frames_of_word : List ℕ → Option ℕ
 frames_of_word = decimal_of_word 5 1 FRAMES
 
@@ -43,13 +43,13 @@ frames_of_word = decimal_of_word 5 1 FRAMES
 abbrev pub number_of_word : List ℕ → Option ℕ
 number_of_word = decimal_of_word 20 0 (2 ^ 64 - 1)
 
--- how many commands a workload has: one to seven digits, at most 1,000,000
+-- how many commands a workload has: one to seven digits, at most WORK_COUNT
 abbrev pub count_of_word : List ℕ → Option ℕ
-count_of_word = decimal_of_word 7 0 1000000
+count_of_word = decimal_of_word 7 0 WORK_COUNT
 
--- no more words, for 1,024 frames, or `--frames N`
+-- no more words, for DEFAULT_FRAMES frames, or `--frames N`
 abbrev pub frames_in : List (List ℕ) → Option ℕ
-frames_in [] = Some 1024
+frames_in [] = Some DEFAULT_FRAMES
 frames_in (flag ∷ frames ∷ []) = if is_text flag (codes "--frames") then frames_of_word frames else None
 frames_in _ = None
 

@@ -1,6 +1,6 @@
 //! Writing replies to a sink.
 
-ghost use Rattle.std.specs.Prelude.{◌≡◌, ◌≤◌, length, OnOk, OnErr};
+ghost use Rattle.std.specs.Prelude.{◌≤◌, length, OnOk, OnErr};
 ghost use Rattle.std.specs.Io.KnownBytes.{Appends};
 ghost use Rattle.script_io.specs.Faults.{HasCause, IsCutOff};
 ghost use Rattle.vm_model.specs.declared.reply.Reply.{Reply};

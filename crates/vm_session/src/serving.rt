@@ -1,6 +1,6 @@
 //! Serving a script line by line.
 
-ghost use Rattle.std.specs.Prelude.{◌≡◌, ◌+◌, ◌^◌, ◌<◌, ◌≤◌};
+ghost use Rattle.std.specs.Prelude.{◌≡◌, ◌^◌, ◌<◌, ◌≤◌};
 ghost use Rattle.script_io.specs.Faults.{HasFailed};
 ghost use Rattle.vm_model.specs.Contents.Content.{nothing};
 ghost use Rattle.vm_session.specs.Outcome.{EndsAs};

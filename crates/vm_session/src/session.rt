@@ -17,7 +17,7 @@ use vm_base::SCRIPT_BYTES;
 ///
 /// `run` runs the script that a source gives, and writes the replies to a sink. Each line is answered,
 /// and its replies written, before the next line is looked at. `work NUMBER COUNT` reads nothing: it
-/// does so many commands, at most 1,000,000, that are generated from a number below 2^64, and writes
+/// does so many commands, at most `WORK_COUNT`, that are generated from a number below 2^64, and writes
 /// one line that tells what became of them. The machine has 1,024 page frames, or as many as `--frames
 /// N` says behind, with one to five digits from 1 to 65,536.
 ///

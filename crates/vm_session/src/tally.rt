@@ -1,6 +1,6 @@
 //! What became of the commands of a workload.
 
-ghost use Rattle.std.specs.Prelude.{◌≡◌, ◌+◌, ◌<◌, ◌≤◌, ◌++◌, ◌^◌, length, take, decimal};
+ghost use Rattle.std.specs.Prelude.{◌≡◌, ◌+◌, ◌<◌, ◌≤◌, ◌++◌, ◌^◌, length, take};
 ghost use Rattle.vm_model.specs.Contents.Content.{used, vmos_of};
 ghost use Rattle.vm_model.specs.Language.Text.{ok_line};
 ghost use Rattle.vm_model.specs.Machine.Lent.{reply_for};

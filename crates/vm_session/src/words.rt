@@ -7,13 +7,7 @@ ghost use Rattle.vm_session.specs.Outcome.{decimal_of_word, frames_in, task_aske
 ghost use Rattle.vm_session.specs.Tasks.{HasBounds};
 
 use script_text::number;
-use vm_base::FRAMES;
-
-/// How many page frames a machine has where the words don't say.
-const DEFAULT_FRAMES: u32 = 1024;
-
-/// The most commands of a workload.
-const WORK_COUNT: u64 = 1_000_000;
+use vm_base::{DEFAULT_FRAMES, FRAMES, WORK_COUNT};
 
 /// What the words ask for.
 #[derive(Clone, Copy)]
@@ -31,8 +25,8 @@ pub(crate) enum Task {
 }
 
 /// What the words ask for: `run`, or `work NUMBER COUNT` with a number of one to twenty digits below
-/// 2^64 and a count of one to seven digits up to 1,000,000. Behind either `--frames N` may stand, with
-/// one to five digits from 1 to 65,536. `None` for any other words.
+/// 2^64 and a count of one to seven digits up to `WORK_COUNT`. Behind either `--frames N` may stand, with
+/// one to five digits from 1 to `FRAMES`. `None` for any other words.
 pub(crate) fn task_asked(words: &[String]) -> Option<Task>
     ensures task { result ≡ task_asked words.now }
     ensures bounds { IfSome result HasBounds }

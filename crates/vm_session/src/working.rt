@@ -2,7 +2,7 @@
 
 ghost use Rattle.std.specs.Prelude.{◌≡◌, ◌≢◌, ◌+◌, ◌^◌, ◌<◌, ◌≤◌, ℕ, [], Option, List};
 ghost use Rattle.script_io.specs.Faults.{HasFailed};
-ghost use Rattle.vm_base.specs.declared.limits.TheConstants.{KOIDS};
+ghost use Rattle.vm_base.specs.declared.limits.TheConstants.{KOIDS, WORK_COUNT};
 ghost use Rattle.vm_model.specs.Contents.Content.{nothing};
 ghost use Rattle.vm_model.specs.Machine.Machine.{IsGoodMachine};
 ghost use Rattle.vm_core.specs.Vm.{Agrees, machine_of};
@@ -33,7 +33,7 @@ pub(crate) fn work<P: PageStore, K: Sink>(
 ) -> Status
     requires empty { P.content store.old ≡ nothing }
     requires frames { 1 ≤ frames × frames ≤ FRAMES }
-    requires count { count ≤ 1000000 }
+    requires count { count ≤ WORK_COUNT }
     ensures ends { (source : Option (List ℕ)) → WorkEndsAs result frames number count source source
         (K.contents sink.old) (K.contents sink.new) (P.content store.new) }
     ensures write_cause { result ≡ Status.WriteFault → HasFailed (K.faults sink.old) (K.faults sink.new) }
