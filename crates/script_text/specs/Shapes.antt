@@ -4,6 +4,7 @@ use Rattle.vm_base.specs.declared.names.VmoName.{VmoName}
 use Rattle.vm_base.specs.declared.names.RegionName.{RegionName}
 use Rattle.vm_base.specs.declared.flags.MapFlags.{MapFlags}
 use Rattle.vm_base.specs.declared.flags.Perm.{Perm}
+use Rattle.vm_model.specs.Space.Rights.{reading, writing, executing, specific, overwrite, upper_limit, allow_faults}
 use Rattle.vm_model.specs.Language.Reading.{vmo, region, byte_data, bit, is_blank, stands}
 use Rattle.script_text.specs.Groups.{range_of_vmo, range_of_region}
 
@@ -48,18 +49,18 @@ map_flag_words = codes "specific" ∷ codes "specific_overwrite" ∷ codes "uppe
 
 -- how a region is placed, by its flags
 abbrev pub region_flags : List (List ℕ) → MapFlags
-region_flags ws = record { 0 = bit (stands (codes "specific") ws) 1 + bit (stands (codes "upper_limit") ws) 4 }
+region_flags ws = record { 0 = bit (stands (codes "specific") ws) specific + bit (stands (codes "upper_limit") ws) upper_limit }
 
 -- what a region allows, by its flags
 abbrev pub region_caps : List (List ℕ) → Perm
 region_caps ws = record {
-  0 = bit (stands (codes "can_read") ws) 1 + bit (stands (codes "can_write") ws) 2
-      + bit (stands (codes "can_execute") ws) 4;
+  0 = bit (stands (codes "can_read") ws) reading + bit (stands (codes "can_write") ws) writing
+      + bit (stands (codes "can_execute") ws) executing;
 }
 
 -- how a mapping is placed, by its flags
 abbrev pub map_flags : List (List ℕ) → MapFlags
 map_flags ws = record {
-  0 = bit (stands (codes "specific") ws) 1 + bit (stands (codes "specific_overwrite") ws) 2
-      + bit (stands (codes "upper_limit") ws) 4 + bit (stands (codes "allow_faults") ws) 8;
+  0 = bit (stands (codes "specific") ws) specific + bit (stands (codes "specific_overwrite") ws) overwrite
+      + bit (stands (codes "upper_limit") ws) upper_limit + bit (stands (codes "allow_faults") ws) allow_faults;
 }

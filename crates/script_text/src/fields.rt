@@ -162,19 +162,19 @@ pub fn perm(word: &[u8]) -> Option<Perm>
     if is_word(word, b"none") {
         Some(Perm(0))
     } else if is_word(word, b"r") {
-        Some(Perm(1))
+        Some(Perm::READ)
     } else if is_word(word, b"w") {
-        Some(Perm(2))
+        Some(Perm::WRITE)
     } else if is_word(word, b"rw") {
-        Some(Perm(1 + 2))
+        Some(Perm(Perm::READ.0 + Perm::WRITE.0))
     } else if is_word(word, b"x") {
-        Some(Perm(4))
+        Some(Perm::EXECUTE)
     } else if is_word(word, b"rx") {
-        Some(Perm(1 + 4))
+        Some(Perm(Perm::READ.0 + Perm::EXECUTE.0))
     } else if is_word(word, b"wx") {
-        Some(Perm(2 + 4))
+        Some(Perm(Perm::WRITE.0 + Perm::EXECUTE.0))
     } else if is_word(word, b"rwx") {
-        Some(Perm(1 + 2 + 4))
+        Some(Perm(Perm::READ.0 + Perm::WRITE.0 + Perm::EXECUTE.0))
     } else {
         None
     }

@@ -85,7 +85,10 @@ fn are_region_flags(flags: &[&[u8]]) -> bool
 fn region_flags(flags: &[&[u8]]) -> MapFlags
     ensures { result ≡ region_flags (map (λ a. a.now) flags.now) }
 {
-    MapFlags(bit(stands(b"specific", flags), 1) + bit(stands(b"upper_limit", flags), 4))
+    MapFlags(
+        bit(stands(b"specific", flags), MapFlags::SPECIFIC.0)
+            + bit(stands(b"upper_limit", flags), MapFlags::UPPER_LIMIT.0),
+    )
 }
 
 /// What a region allows.
@@ -93,9 +96,9 @@ fn region_caps(flags: &[&[u8]]) -> Perm
     ensures { result ≡ region_caps (map (λ a. a.now) flags.now) }
 {
     Perm(
-        bit(stands(b"can_read", flags), 1)
-            + bit(stands(b"can_write", flags), 2)
-            + bit(stands(b"can_execute", flags), 4),
+        bit(stands(b"can_read", flags), Perm::READ.0)
+            + bit(stands(b"can_write", flags), Perm::WRITE.0)
+            + bit(stands(b"can_execute", flags), Perm::EXECUTE.0),
     )
 }
 
@@ -141,10 +144,10 @@ fn map_flags(flags: &[&[u8]]) -> MapFlags
     ensures { result ≡ map_flags (map (λ a. a.now) flags.now) }
 {
     MapFlags(
-        bit(stands(b"specific", flags), 1)
-            + bit(stands(b"specific_overwrite", flags), 2)
-            + bit(stands(b"upper_limit", flags), 4)
-            + bit(stands(b"allow_faults", flags), 8),
+        bit(stands(b"specific", flags), MapFlags::SPECIFIC.0)
+            + bit(stands(b"specific_overwrite", flags), MapFlags::OVERWRITE.0)
+            + bit(stands(b"upper_limit", flags), MapFlags::UPPER_LIMIT.0)
+            + bit(stands(b"allow_faults", flags), MapFlags::ALLOW_FAULTS.0),
     )
 }
 

@@ -35,9 +35,11 @@ impl Perm {
 impl Flags for Perm {
     type Bits = u32;
 
+    ghost use Rattle.vm_base.specs.declared.flags.TheConstants.Perm.{READ, WRITE, EXECUTE};
+
     ghost exact = { ⊤ };
 
-    ghost table = { (codes "READ", 1) ∷ (codes "WRITE", 2) ∷ (codes "EXECUTE", 4) ∷ [] };
+    ghost table = { (codes "READ", READ.0) ∷ (codes "WRITE", WRITE.0) ∷ (codes "EXECUTE", EXECUTE.0) ∷ [] };
 
     ghost set_of = { λ p. p.0 };
 
@@ -91,9 +93,11 @@ impl MapFlags {
 impl Flags for MapFlags {
     type Bits = u32;
 
+    ghost use Rattle.vm_base.specs.declared.flags.TheConstants.MapFlags.{SPECIFIC, OVERWRITE, UPPER_LIMIT, ALLOW_FAULTS};
+
     ghost exact = { ⊤ };
 
-    ghost table = { (codes "SPECIFIC", 1) ∷ (codes "OVERWRITE", 2) ∷ (codes "UPPER_LIMIT", 4) ∷ (codes "ALLOW_FAULTS", 8) ∷ [] };
+    ghost table = { (codes "SPECIFIC", SPECIFIC.0) ∷ (codes "OVERWRITE", OVERWRITE.0) ∷ (codes "UPPER_LIMIT", UPPER_LIMIT.0) ∷ (codes "ALLOW_FAULTS", ALLOW_FAULTS.0) ∷ [] };
 
     ghost set_of = { λ f. f.0 };
 

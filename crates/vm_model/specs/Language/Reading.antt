@@ -8,6 +8,7 @@ use Rattle.vm_base.specs.declared.names.VmoName.{VmoName}
 use Rattle.vm_base.specs.declared.names.RegionName.{RegionName}
 use Rattle.vm_base.specs.declared.names.PinName.{PinName}
 use Rattle.vm_base.specs.declared.flags.Perm.{Perm}
+use Rattle.vm_model.specs.Space.Rights.{reading as read_right, writing as write_right, executing as execute_right, specific, overwrite, upper_limit, allow_faults}
 use Rattle.vm_model.specs.declared.command.ChildKind.{ChildKind}
 use Rattle.vm_model.specs.declared.command.ChildKind.TheVariants.{Snapshot, Slice, Reference}
 use Rattle.vm_model.specs.declared.command.Command.{Command}
@@ -123,13 +124,13 @@ is_word = pointwise nat_eq
 unfoldable pub perm : List ℕ → Option Perm
 perm word =
     if is_word word (codes "none") then Some (record { 0 = 0 })
-    else (if is_word word (codes "r") then Some (record { 0 = 1 })
-    else (if is_word word (codes "w") then Some (record { 0 = 2 })
-    else (if is_word word (codes "rw") then Some (record { 0 = 3 })
-    else (if is_word word (codes "x") then Some (record { 0 = 4 })
-    else (if is_word word (codes "rx") then Some (record { 0 = 5 })
-    else (if is_word word (codes "wx") then Some (record { 0 = 6 })
-    else (if is_word word (codes "rwx") then Some (record { 0 = 7 })
+    else (if is_word word (codes "r") then Some (record { 0 = read_right })
+    else (if is_word word (codes "w") then Some (record { 0 = write_right })
+    else (if is_word word (codes "rw") then Some (record { 0 = read_right + write_right })
+    else (if is_word word (codes "x") then Some (record { 0 = execute_right })
+    else (if is_word word (codes "rx") then Some (record { 0 = read_right + execute_right })
+    else (if is_word word (codes "wx") then Some (record { 0 = write_right + execute_right })
+    else (if is_word word (codes "rwx") then Some (record { 0 = read_right + write_right + execute_right })
     else None)))))))
 
 -- the word stands among others
@@ -265,8 +266,8 @@ vmar_allocate (a ∷ b ∷ c ∷ d ∷ ws) = do
   len ← number d
   flagged (codes "specific" ∷ codes "upper_limit" ∷ codes "can_read" ∷ codes "can_write" ∷ codes "can_execute" ∷ []) ws
       (VmarAllocate name parent offset len
-      (record { 0 = bit (stands (codes "specific") ws) 1 + bit (stands (codes "upper_limit") ws) 4 })
-      (record { 0 = bit (stands (codes "can_read") ws) 1 + bit (stands (codes "can_write") ws) 2 + bit (stands (codes "can_execute") ws) 4 }))
+      (record { 0 = bit (stands (codes "specific") ws) specific + bit (stands (codes "upper_limit") ws) upper_limit })
+      (record { 0 = bit (stands (codes "can_read") ws) read_right + bit (stands (codes "can_write") ws) write_right + bit (stands (codes "can_execute") ws) execute_right }))
 vmar_allocate _ = None
 
 -- `vmar_map REGION OFFSET VMO VMO_OFFSET LEN PERM [specific] [specific_overwrite] [upper_limit] [allow_faults]`
@@ -280,7 +281,7 @@ vmar_map (a ∷ b ∷ c ∷ d ∷ e ∷ f ∷ ws) = do
   allowed ← perm f
   flagged (codes "specific" ∷ codes "specific_overwrite" ∷ codes "upper_limit" ∷ codes "allow_faults" ∷ []) ws
       (VmarMap name offset source vmo_offset len allowed
-      (record { 0 = bit (stands (codes "specific") ws) 1 + bit (stands (codes "specific_overwrite") ws) 2 + bit (stands (codes "upper_limit") ws) 4 + bit (stands (codes "allow_faults") ws) 8 }))
+      (record { 0 = bit (stands (codes "specific") ws) specific + bit (stands (codes "specific_overwrite") ws) overwrite + bit (stands (codes "upper_limit") ws) upper_limit + bit (stands (codes "allow_faults") ws) allow_faults }))
 vmar_map _ = None
 
 -- `vmar_protect REGION ADDR LEN PERM`

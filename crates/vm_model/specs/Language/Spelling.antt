@@ -1,5 +1,5 @@
 -- The canonical spelling of commands, which the programs that write scripts use.
-use Rattle.std.specs.Prelude.{ℕ, ◌==◌, ◌&&◌, ◌^◌, ◌<◌, ◌≤◌, nat_lt, Bool, true, List, [], ◌∷◌, length, codes, decimal, bit_and, All, if◌then◌else◌}
+use Rattle.std.specs.Prelude.{ℕ, ◌+◌, ◌==◌, ◌&&◌, ◌^◌, ◌<◌, ◌≤◌, nat_lt, Bool, true, List, [], ◌∷◌, length, codes, decimal, bit_and, All, if◌then◌else◌}
 use Rattle.std.specs.List.{join_with_byte}
 use Rattle.vm_base.specs.declared.names.VmoName.{VmoName}
 use Rattle.vm_base.specs.declared.names.RegionName.{RegionName}
@@ -8,7 +8,7 @@ use Rattle.vm_model.specs.declared.command.ChildKind.{ChildKind}
 use Rattle.vm_model.specs.declared.command.ChildKind.TheVariants.{Snapshot, Slice, Reference}
 use Rattle.vm_model.specs.declared.command.Command.{Command}
 use Rattle.vm_model.specs.declared.command.Command.TheVariants.{VmoCreate, VmoChild, VmoClose, VmoSize, VmoSetSize, VmoRead, VmoWrite, VmoFill, VmoCommit, VmoDecommit, VmoZero, VmoPin, VmoUnpin, VmoInfo, RootCreate, VmarAllocate, VmarMap, VmarUnmap, VmarProtect, VmarDestroy, Maps, MemRead, MemWrite, Stat}
-use Rattle.vm_model.specs.Space.Rights.{has}
+use Rattle.vm_model.specs.Space.Rights.{has, reading, writing, executing, all_rights, specific, overwrite, upper_limit, allow_faults, all_options}
 use Rattle.vm_model.specs.Language.Text.{data_text, perm_text}
 use Rattle.vm_base.specs.declared.limits.TheConstants.{DATA_BYTES}
 
@@ -52,10 +52,10 @@ command_words (VmoInfo name) = codes "vmo_info" ∷ vmo_word name ∷ []
 command_words (RootCreate region) = codes "root_create" ∷ region_word region ∷ []
 command_words (VmarAllocate region parent offset len flags caps) =
     codes "vmar_allocate" ∷ region_word region ∷ region_word parent ∷ decimal offset ∷ decimal len
-    ∷ set_flags ((codes "specific", has flags.0 1) ∷ (codes "upper_limit", has flags.0 4) ∷ (codes "can_read", has caps.0 1) ∷ (codes "can_write", has caps.0 2) ∷ (codes "can_execute", has caps.0 4) ∷ [])
+    ∷ set_flags ((codes "specific", has flags.0 specific) ∷ (codes "upper_limit", has flags.0 upper_limit) ∷ (codes "can_read", has caps.0 reading) ∷ (codes "can_write", has caps.0 writing) ∷ (codes "can_execute", has caps.0 executing) ∷ [])
 command_words (VmarMap region offset name vmo_offset len perm flags) =
     codes "vmar_map" ∷ region_word region ∷ decimal offset ∷ vmo_word name ∷ decimal vmo_offset ∷ decimal len ∷ perm_text perm.0
-    ∷ set_flags ((codes "specific", has flags.0 1) ∷ (codes "specific_overwrite", has flags.0 2) ∷ (codes "upper_limit", has flags.0 4) ∷ (codes "allow_faults", has flags.0 8) ∷ [])
+    ∷ set_flags ((codes "specific", has flags.0 specific) ∷ (codes "specific_overwrite", has flags.0 overwrite) ∷ (codes "upper_limit", has flags.0 upper_limit) ∷ (codes "allow_faults", has flags.0 allow_faults) ∷ [])
 command_words (VmarUnmap region addr len) = codes "vmar_unmap" ∷ region_word region ∷ decimal addr ∷ decimal len ∷ []
 command_words (VmarProtect region addr len perm) = codes "vmar_protect" ∷ region_word region ∷ decimal addr ∷ decimal len ∷ perm_text perm.0 ∷ []
 command_words (VmarDestroy region) = codes "vmar_destroy" ∷ region_word region ∷ []
@@ -70,9 +70,9 @@ spelling command = join_with_byte 32 (command_words command)
 
 -- Some line spells the command: no set holds a bit without a name, and the flags of a region are those that its line has.
 unfoldable pub has_spelling : Command → Bool
-has_spelling (VmarAllocate region parent offset len flags caps) = (flags.0 == bit_and flags.0 5) && nat_lt caps.0 8
-has_spelling (VmarMap region offset name vmo_offset len perm flags) = nat_lt perm.0 8 && nat_lt flags.0 16
-has_spelling (VmarProtect region addr len perm) = nat_lt perm.0 8
+has_spelling (VmarAllocate region parent offset len flags caps) = (flags.0 == bit_and flags.0 (specific + upper_limit)) && nat_lt caps.0 (all_rights + 1)
+has_spelling (VmarMap region offset name vmo_offset len perm flags) = nat_lt perm.0 (all_rights + 1) && nat_lt flags.0 (all_options + 1)
+has_spelling (VmarProtect region addr len perm) = nat_lt perm.0 (all_rights + 1)
 has_spelling _ = true
 
 -- the number of a name, or a set of bits, has 32 bits

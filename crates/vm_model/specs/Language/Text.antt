@@ -1,10 +1,11 @@
 -- How replies are spelled, each line with its line feed.
-use Rattle.std.specs.Prelude.{ℕ, false, ◌==◌, List, [], ◌∷◌, ◌++◌, length, map, codes, decimal, bit_and, if◌then◌else◌}
+use Rattle.std.specs.Prelude.{ℕ, false, List, [], ◌∷◌, ◌++◌, length, map, codes, decimal, if◌then◌else◌}
 use Rattle.std.specs.Fmt.{digits}
 use Rattle.std.specs.List.{flat_map, concat}
 use Rattle.hex.specs.Hex.{encode_lower}
 use Rattle.vm_base.specs.declared.refusal.Refusal.{Refusal}
 use Rattle.vm_base.specs.declared.refusal.Refusal.TheVariants.{Syntax, BadHandle, NameInUse, BadState, AccessDenied, InvalidArgs, NotSupported, Unavailable, OutOfRange, BufferTooSmall, NotFound, AlreadyExists, NoResources, NoMemory, HostMemory}
+use Rattle.vm_model.specs.Space.Rights.{has, reading, writing, executing}
 use Rattle.vm_model.specs.declared.reply.Reply.{Reply}
 use Rattle.vm_model.specs.declared.reply.Reply.TheVariants.{Done, Number, Bytes, Pins, Address, Access, Faults, Info as InfoReply, Runs as RunsReply, Stat as StatReply, Refused}
 use Rattle.vm_model.specs.declared.reply.Info.{Info}
@@ -40,9 +41,9 @@ address_text n = codes "0x" ++ digits 16 false n
 
 -- the letters of the named bits of a permission, `none` where it has none of them
 abbrev pub perm_text : ℕ → List ℕ
-perm_text bits = named (letter 1 114 ++ letter 2 119 ++ letter 4 120) where
+perm_text bits = named (letter reading 114 ++ letter writing 119 ++ letter executing 120) where
   letter : ℕ → ℕ → List ℕ
-  letter bit code = if bit_and bits bit == bit then code ∷ [] else []
+  letter bit code = if has bits bit then code ∷ [] else []
 
   named : List ℕ → List ℕ
   named [] = codes "none"
