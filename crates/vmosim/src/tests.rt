@@ -29,14 +29,39 @@ fn ended(alloc: Global, line: &str, script: &str) -> Result<(Status, MemSink, Co
     Ok((status, sink, tree))
 }
 
-/// A snapshot leaves one hidden node, which has the page that both VMOs show.
+/// Two VMOs share a frame until one of them is written, and `vmo_info` counts it.
+const SHARING: &str = "\
+vmo_create v1 4096
+vmo_write v1 0 11
+vmo_create_child v2 v1 snapshot 0 4096
+vmo_info v1
+vmo_info v2
+vmo_write v1 0 22
+vmo_read v1 0 1
+vmo_read v2 0 1
+stat
+";
+
+/// What it is answered.
+const SHARED: &str = "\
+OK
+OK
+OK
+OK koid=1 size=4096 held=1 private=0 shared=1 charged=1 children=1
+OK koid=2 size=4096 held=1 private=0 shared=1 charged=0 children=0
+OK
+OK 22
+OK 11
+OK frames=1024 used=2 free=1022 vmos=2
+";
+
+/// The snapshot leaves one hidden node, which has the page that `v2` shows; `v1` has a page of its own.
 #[test]
 fn a_script_is_run_over_the_clone_tree(rt: HostRuntime) -> Result<(), Fail> {
-    let script = "vmo_create v1 4096\nvmo_write v1 0 11\nvmo_create_child v2 v1 snapshot 0 4096\n";
-    let (status, sink, tree) = ended(rt.alloc(), "run", script)?;
+    let (status, sink, tree) = ended(rt.alloc(), "run", SHARING)?;
     assert_eq!(rt; status, Status::Done);
-    assert_eq!(rt; sink.bytes(), b"OK\nOK\nOK\n".as_slice());
-    assert_eq!(rt; (tree.hidden(), tree.rows(), tree.frame_rows()), (1, 1, 1));
+    assert_eq!(rt; sink.bytes(), SHARED.as_bytes());
+    assert_eq!(rt; (tree.hidden(), tree.rows(), tree.frame_rows()), (1, 2, 2));
     Ok(())
 }
 
