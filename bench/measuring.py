@@ -27,11 +27,17 @@ def script(before, lines, count):
     return ("".join(f"{it}\n" for it in before) + repeated * (count // len(lines))).encode()
 
 
+def replies(text, words=("run",), seconds=None):
+    """Returns the lines that the program answers to a script. A run of more than so many seconds raises
+    `subprocess.TimeoutExpired`."""
+    said = subprocess.run([PROGRAM, *words], input=text, stdout=subprocess.PIPE, check=True, timeout=seconds).stdout
+    return said.decode().splitlines()
+
+
 def stop_on_refusals(name, text, words=("run",), seconds=None):
     """Ends where a line of the script is refused, since the figures would then be of something else. A run that takes
     more than so many seconds raises `subprocess.TimeoutExpired`."""
-    said = subprocess.run([PROGRAM, *words], input=text, stdout=subprocess.PIPE, check=True, timeout=seconds).stdout
-    wrong = [it for it in said.decode().splitlines() if it.split()[0] != "OK"]
+    wrong = [it for it in replies(text, words, seconds) if it.split()[0] != "OK"]
     if wrong:
         sys.exit(f"bench: {name}: the program answers {wrong[0]}")
 

@@ -1,8 +1,9 @@
--- A range of a region's list is open where no entry of the region is on its pages.
-use Rattle.std.proofs.Common.{subst, ◌≡◌, ℕ, ◌+◌, ◌<◌, true, false, Option, None, Some, inl, inr, sym, ap, ◌∙◌, arith}
+-- A range of a region's list is vacant where no entry of the region is on its pages.
+use Rattle.std.proofs.Common.{subst, ◌≡◌, ℕ, ◌+◌, ◌<◌, Bool, true, false, IsTrue, ◌↔◌, Option, None, Some, inl, inr, sym, ap, ◌∙◌, arith}
 use Rattle.std.specs.Option.{MatchOption}
 use Rattle.std.proofs.lemmas.Bool.{cases_Bool, false_from_ne_true, both_ways, eqb-true, eq-eqb}
 use Rattle.vm_base.specs.declared.limits.TheConstants.{NAMES, PAGES_END}
+use Rattle.vm_base.specs.declared.names.RegionName.{RegionName}
 use Rattle.vm_base.proofs.EntryLaws.{passes-some, passes_found}
 use Rattle.vm_base.proofs.SearchLaws.{any_from_found, none_from_at}
 use Rattle.pair_map.specs.declared.stretch_row.Extent.{Extent}
@@ -11,8 +12,10 @@ use Rattle.vm_model.specs.declared.space.Entry.{Entry}
 use Rattle.vm_model.specs.Space.Table.{mapping_from, is_in, has_entry}
 use Rattle.mapping_set.specs.declared.piece.Piece.{Piece}
 use Rattle.mapping_set.specs.Pieces.{list_number, table_in, ArePieces, AreListed}
-use Rattle.mapping_set.specs.Tables.{IsFirstGap, HasNoGap}
+use Rattle.mapping_set.specs.Taken.{pieces_in}
+use Rattle.mapping_set.specs.Tables.{places_in, IsBare, IsFirstGap, HasNoGap, IsClear, HasNoClear, IsFirstClear}
 use Rattle.mapping_set.proofs.TableLaws.{table_in-found, table_in-at}
+use Rattle.mapping_set.proofs.TakenLaws.{open-both, open-pieces, open-places}
 
 -- an entry of a piece is of the region of the piece
 region_same : (x : Piece) (p : ℕ) (e : Entry) → mapping_from x.first x.entry p ≡ Some e → x.entry.region.0 ≡ e.region.0
@@ -27,7 +30,7 @@ module _ {V : Type 0} (pieces : ℕ → ℕ → Option Piece) (h : ArePieces pie
   abbrev list : ℕ → Option (Extent V)
   list = lists (list_number region root)
 
-  -- an entry of the region is on a page of a range that is not open
+  -- an entry of the region is on a page of a range that is not vacant
   has_no-open : (p count : ℕ) → IsOpen list p count → has_entry (table_in pieces) root region p (p + count) ≡ false
   unfolding has_entry
   has_no-open p count free = false_from_ne_true _ (λ has.
@@ -59,6 +62,20 @@ module _ {V : Type 0} (pieces : ℕ → ℕ → Option Piece) (h : ArePieces pie
         (passes-some (is_in region) (table_in pieces root q) _ shown ∙ eq-eqb held.1.entry.region.0 region held.5);
   }
 
+  pub bare-open : (p count : ℕ) → IsBare (table_in pieces root) p (p + count) → IsOpen list p count
+  bare-open p count bare = record {
+    free = λ q first e low high covers.
+        let held = g.held root region first e few covers.is in
+        let last = (h.sound root held.0 held.1 held.2).last_is in
+        let begins = held.3 in
+        let count_is = held.4 in
+        let from = covers.from in
+        let below = covers.below in
+        let shown = table_in-at pieces h root held.0 held.1 q held.2 (omega arith) (omega arith) in
+        let none = bare q low high in
+        absurd cc;
+  }
+
   has-not_open : (p count : ℕ) → (IsOpen list p count → ⊥) → has_entry (table_in pieces) root region p (p + count) ≡ true
   has-not_open p count shut = elim (cases_Bool (has_entry (table_in pieces) root region p (p + count))) [
     | inl has ↦ has
@@ -82,3 +99,37 @@ module _ {V : Type 0} (pieces : ℕ → ℕ → Option Piece) (h : ArePieces pie
       let end : 0 + PAGES_END ≡ PAGES_END = omega arith in
       ap (has_entry (table_in pieces) root region 0) (sym end)
       ∙ has_no-open 0 PAGES_END (record { free = λ q p e low high covers. absurd (let is = covers.is in let gone = none p in cc) })
+
+-- ---- what is taken in a region
+
+module _ (pieces : ℕ → ℕ → Option Piece) (h : ArePieces pieces) (taken : ℕ → ℕ → Option (Extent (Option RegionName))) (g : AreListed pieces (pieces_in taken))
+    (root region : ℕ) (few : root < NAMES) where
+  abbrev all : ℕ → Option (Extent (Option RegionName))
+  all = taken (list_number region root)
+
+  abbrev places : ℕ → Option (Extent RegionName)
+  places = places_in taken (list_number region root)
+
+  -- a range in which nothing is taken is clear, and the other way round
+  pub open-clear : (p count : ℕ) → IsOpen all p count → IsClear places (table_in pieces) root region p count
+  open-clear p count vacant = record {
+    apart = open-places taken (list_number region root) p count vacant;
+    bare = has_no-open pieces h (pieces_in taken) g root region few p count (open-pieces taken (list_number region root) p count vacant);
+  }
+
+  pub clear-open : (p count : ℕ) → IsClear places (table_in pieces) root region p count → IsOpen all p count
+  clear-open p count clear =
+      open-both taken (list_number region root) p count (open-has_no pieces h (pieces_in taken) g root region few p count clear.bare) clear.apart
+
+  pub first_clear-is : (from count limit : ℕ) (answer : Option ℕ) → MatchOption answer (HasNoOpen all from count limit) (IsFirstOpen all from count limit)
+      → MatchOption answer (HasNoClear places (table_in pieces) root region from count limit) (IsFirstClear places (table_in pieces) root region from count limit)
+  first_clear-is from count limit None none = λ p low high clear. none p low high (clear-open p count clear)
+  first_clear-is from count limit (Some p) gap = record {
+    not_before = gap.not_before;
+    not_past = gap.not_past;
+    clear = open-clear p count gap.free;
+    first = λ q low less clear. gap.first q low less (clear-open q count clear);
+  }
+
+  pub clear-is : (p count : ℕ) (b : Bool) → IsTrue b ↔ IsOpen all p count → IsTrue b ↔ IsClear places (table_in pieces) root region p count
+  clear-is p count b vacant = (λ is. open-clear p count (vacant.0 is), λ clear. vacant.1 (clear-open p count clear))

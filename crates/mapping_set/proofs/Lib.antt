@@ -2,6 +2,7 @@ pub mod ChangeLaws
 pub mod TableLaws
 pub mod PieceLaws
 pub mod GapLaws
+pub mod TakenLaws
 pub mod SetLaws
 pub mod CutLaws
 pub mod BorderLaws

@@ -13,7 +13,7 @@ use Rattle.mapping_set.proofs.TableLaws.{with_pair-cases, with_pair-same, shown_
 use Rattle.vm_base.proofs.EntryLaws.{some_same}
 
 -- numbers of lists are equal where the regions and the root regions are
-list_numbers : (n m r s : ℕ) → r < NAMES → s < NAMES → list_number n r ≡ list_number m s → (n ≡ m) × (r ≡ s)
+pub list_numbers : (n m r s : ℕ) → r < NAMES → s < NAMES → list_number n r ≡ list_number m s → (n ≡ m) × (r ≡ s)
 list_numbers n m r s few_r few_s e = elim (cases_order n m) [
   | inl same ↦ (same, omega arith)
   | inr (inl less) ↦ absurd (omega arith)
@@ -215,3 +215,17 @@ module _ (pieces : ℕ → ℕ → Option Piece) (h : ArePieces pieces) (root b 
             ]
       ];
     }
+
+-- ---- no pieces
+
+pub ArePieces-none : (pieces : ℕ → ℕ → Option Piece) → pieces ≡ (λ r b. None) → ArePieces pieces
+ArePieces-none pieces is = record {
+  sound = λ r b x e. let none = ap (λ (m : ℕ → ℕ → Option Piece). m r b) is in absurd cc;
+  apart = λ r b c x y e f less. let none = ap (λ (m : ℕ → ℕ → Option Piece). m r b) is in absurd cc;
+}
+
+pub AreListed-none : {V : Type 0} (pieces : ℕ → ℕ → Option Piece) (lists : ℕ → ℕ → Option (Extent V)) → pieces ≡ (λ r b. None) → lists ≡ (λ l p. None) → AreListed pieces lists
+AreListed-none {V} pieces lists is no_list = record {
+  listed = λ r b x e. let none = ap (λ (m : ℕ → ℕ → Option Piece). m r b) is in absurd cc;
+  held = λ r n p d few e. let none = ap (λ (m : ℕ → ℕ → Option (Extent V)). m (list_number n r) p) no_list in absurd cc;
+}

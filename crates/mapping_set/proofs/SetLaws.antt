@@ -3,13 +3,15 @@ use Rattle.std.proofs.Common.{◌≡◌, ℕ, ◌+◌, ◌-◌, ◌<◌, ◌≤�
 use Rattle.vm_base.specs.declared.limits.TheConstants.{NAMES, PAGES_END}
 use Rattle.balanced_tree.specs.Pairs.{with_pair}
 use Rattle.pair_map.specs.declared.stretch_row.Extent.{Extent}
-use Rattle.pair_map.specs.Maps.{IsOpen, values_of, extents_of}
+use Rattle.pair_map.specs.Maps.{IsOpen, StandApart, values_of, extents_of}
 use Rattle.mapping_set.specs.declared.piece.Piece.{Piece}
 use Rattle.mapping_set.specs.declared.mapping_set.MappingSet.TheInside.{Inside}
 use Rattle.mapping_set.specs.Pieces.{list_number, table_in, IsSound, ArePieces, AreListed}
 use Rattle.mapping_set.specs.SetFields.{mappings_of, AreMappings}
-use Rattle.mapping_set.specs.Tables.{Mappings, table_of, with_piece, without_piece, IsBare, IsPieceOf}
+use Rattle.mapping_set.specs.Taken.{pieces_in}
+use Rattle.mapping_set.specs.Tables.{Mappings, places_in, places_of, table_of, with_piece, without_piece, IsBare, IsPieceOf}
 use Rattle.mapping_set.proofs.TableLaws.{shown_whole}
+use Rattle.mapping_set.proofs.TakenLaws.{open-both, piece-apart}
 use Rattle.mapping_set.proofs.PieceLaws.{none_there, ArePieces-more, table_in-more, open_there, AreListed-more, ArePieces-less, table_in-less, AreListed-less}
 
 module _ (a : Inside) (h : AreMappings a) (now : Mappings) (seen : mappings_of a ≡ now) (root n l : ℕ) (n_is : n ≡ root) (x : Piece) (l_is : l ≡ list_number x.entry.region.0 root) where
@@ -18,6 +20,9 @@ module _ (a : Inside) (h : AreMappings a) (now : Mappings) (seen : mappings_of a
 
   abbrev lists : ℕ → ℕ → Option (Extent Unit)
   lists = extents_of a.lists
+
+  abbrev index : ℕ → ℕ → Option (Extent Unit)
+  index = pieces_in (extents_of a.taken)
 
   -- a piece comes
   module _ (below : (x.entry.region.0 < NAMES) × (root < NAMES)) (some : 1 ≤ x.count) (end : x.first + x.count ≤ PAGES_END)
@@ -43,16 +48,35 @@ module _ (a : Inside) (h : AreMappings a) (now : Mappings) (seen : mappings_of a
         subst (λ k. IsOpen (lists k) x.first x.count) (sym l_is)
         (open_there values h.pieces root (x.first + x.count - 1) x sound bare_inside lists h.lists)
 
+    pub free-index : IsOpen (index l) x.first x.count
+    free-index =
+        subst (λ k. IsOpen (index k) x.first x.count) (sym l_is)
+        (open_there values h.pieces root (x.first + x.count - 1) x sound bare_inside index h.taken)
+
+    -- where no place was noted there, nothing is taken there
+    pub open-index : IsOpen (places_of now (list_number x.entry.region.0 root)) x.first x.count → IsOpen (extents_of a.taken l) x.first x.count
+    open-index vacant =
+        open-both (extents_of a.taken) l x.first x.count free-index
+        (subst (λ k. IsOpen (places_in (extents_of a.taken) k) x.first x.count) (sym l_is)
+        (subst (λ (m : Mappings). IsOpen (places_of m (list_number x.entry.region.0 root)) x.first x.count) (sym seen) vacant))
+
     module _ (b : Inside) (put : values_of b.pieces ≡ with_pair values n (x.first + x.count - 1) (Some x)) where
       put_is : values_of b.pieces ≡ with_pair values root (x.first + x.count - 1) (Some x)
       put_is = put ∙ ap (λ k. with_pair values k (x.first + x.count - 1) (Some x)) n_is
 
-      pub AreMappings-more : (e : Extent Unit) → e.count ≡ x.count → extents_of b.lists ≡ with_pair lists l x.first (Some e) → AreMappings b
-      AreMappings-more e count_is list = record {
+      -- a list of pieces has one more
+      listed-more : (list new : ℕ → ℕ → Option (Extent Unit)) → AreListed values list → (e : Extent Unit) → e.count ≡ x.count → new ≡ with_pair list l x.first (Some e) → AreListed (values_of b.pieces) new
+      listed-more list new g e count_is more =
+          subst (λ m. AreListed m new) (sym put_is) (subst (AreListed (with_pair values root (x.first + x.count - 1) (Some x)))
+          (sym (more ∙ ap (λ k. with_pair list k x.first (Some e)) l_is))
+          (AreListed-more values h.pieces root (x.first + x.count - 1) x sound bare_inside list g e count_is))
+
+      pub AreMappings-more : (e : Extent Unit) → e.count ≡ x.count → extents_of b.lists ≡ with_pair lists l x.first (Some e)
+          → pieces_in (extents_of b.taken) ≡ with_pair index l x.first (Some e) → AreMappings b
+      AreMappings-more e count_is list taken = record {
         pieces = subst ArePieces (sym put_is) (ArePieces-more values h.pieces root (x.first + x.count - 1) x sound bare_inside);
-        lists = subst (λ m. AreListed m (extents_of b.lists)) (sym put_is) (subst (AreListed (with_pair values root (x.first + x.count - 1) (Some x)))
-            (sym (list ∙ ap (λ k. with_pair lists k x.first (Some e)) l_is))
-            (AreListed-more values h.pieces root (x.first + x.count - 1) x sound bare_inside lists h.lists e count_is));
+        lists = listed-more lists (extents_of b.lists) h.lists e count_is list;
+        taken = listed-more index (pieces_in (extents_of b.taken)) h.taken e count_is taken;
       }
 
       pub table-more : table_of (mappings_of b) ≡ with_piece (table_of now) root x
@@ -71,15 +95,31 @@ module _ (a : Inside) (h : AreMappings a) (now : Mappings) (seen : mappings_of a
     pub last_is : x.first + x.count ≡ last + 1
     last_is = (h.pieces.sound root last x is_root).last_is
 
+    -- it is in the list of what is taken, under its first page
+    pub in-index : (e : Extent Unit) × (index l x.first ≡ Some e) × (e.count ≡ x.count)
+    in-index = let found = h.taken.listed root last x is_root in (found.0, ap (λ k. index k x.first) l_is ∙ found.1, found.2)
+
+    -- no place has one of its pages
+    pub open-piece : StandApart (extents_of a.taken) → IsOpen (places_of now (list_number x.entry.region.0 root)) x.first x.count
+    open-piece apart =
+        subst (λ (m : Mappings). IsOpen (places_of m (list_number x.entry.region.0 root)) x.first x.count) seen
+        (subst (λ k. IsOpen (places_in (extents_of a.taken) k) x.first x.count) l_is
+        (piece-apart (extents_of a.taken) apart l x.first in-index.0 in-index.1 x.count in-index.2))
+
     module _ (b : Inside) (taken : values_of b.pieces ≡ with_pair values n last None) where
       taken_is : values_of b.pieces ≡ with_pair values root last None
       taken_is = taken ∙ ap (λ k. with_pair values k last None) n_is
 
-      pub AreMappings-less : extents_of b.lists ≡ with_pair lists l x.first None → AreMappings b
-      AreMappings-less list = record {
+      listed-less : (list new : ℕ → ℕ → Option (Extent Unit)) → AreListed values list → new ≡ with_pair list l x.first None → AreListed (values_of b.pieces) new
+      listed-less list new g less =
+          subst (λ m. AreListed m new) (sym taken_is) (subst (AreListed (with_pair values root last None))
+          (sym (less ∙ ap (λ k. with_pair list k x.first None) l_is)) (AreListed-less values h.pieces root last x is_root list g))
+
+      pub AreMappings-less : extents_of b.lists ≡ with_pair lists l x.first None → pieces_in (extents_of b.taken) ≡ with_pair index l x.first None → AreMappings b
+      AreMappings-less list index_less = record {
         pieces = subst ArePieces (sym taken_is) (ArePieces-less values h.pieces root last x is_root);
-        lists = subst (λ m. AreListed m (extents_of b.lists)) (sym taken_is) (subst (AreListed (with_pair values root last None))
-            (sym (list ∙ ap (λ k. with_pair lists k x.first None) l_is)) (AreListed-less values h.pieces root last x is_root lists h.lists));
+        lists = listed-less lists (extents_of b.lists) h.lists list;
+        taken = listed-less index (pieces_in (extents_of b.taken)) h.taken index_less;
       }
 
       pub table-less : (y : Piece) → values_of now.pieces root last ≡ Some y → table_of (mappings_of b) ≡ without_piece (table_of now) root y

@@ -1,3 +1,4 @@
 pub mod Pieces
+pub mod Taken
 pub mod Tables
 pub mod SetFields

@@ -3,28 +3,29 @@ use Rattle.std.specs.Prelude.{◌≡◌, ℕ, ◌+◌, ◌-◌, ◌<◌, ◌≤�
 use Rattle.pair_map.specs.declared.pair_row.PairRow.{PairRow}
 use Rattle.pair_map.specs.declared.stretch_row.Extent.{Extent}
 use Rattle.pair_map.specs.declared.stretch_row.StretchRow.{StretchRow}
-use Rattle.pair_map.specs.Maps.{values_of, extents_of}
+use Rattle.pair_map.specs.Maps.{values_of, extents_of, IsOpen}
 use Rattle.balanced_tree.specs.Pairs.{with_pair}
 use Rattle.balanced_tree.specs.Rows.{Rows}
 use Rattle.vm_base.specs.Search.{count_below}
 use Rattle.vm_base.specs.Entries.{passes}
 use Rattle.vm_base.specs.declared.limits.TheConstants.{PAGES_END}
+use Rattle.vm_base.specs.declared.names.RegionName.{RegionName}
 use Rattle.vm_model.specs.declared.space.Entry.{Entry}
 use Rattle.vm_model.specs.Space.Table.{mapping_from, with_pages, is_in, has_entry}
 use Rattle.mapping_set.specs.declared.piece.Piece.{Piece}
 use Rattle.mapping_set.specs.Pieces.{table_in}
 
--- the pieces, how many more fit with no memory from the host, and what is noted as taken in the regions
+-- the pieces, how many more pieces or places fit with no memory from the host, and what is taken in the regions
 pub record Mappings : Type 0 where
   pub pieces : Rows (PairRow Piece)
   pub spare : ℕ
-  pub taken : Rows (StretchRow Unit)
+  pub taken : Rows (StretchRow (Option RegionName))
 
 -- what each page of each address space shows, by the number of the root region
 abbrev pub table_of : Mappings → ℕ → ℕ → Option Entry
 table_of m = table_in (values_of m.pieces)
 
--- how many more pieces fit with no memory from the host
+-- how many more pieces or places fit with no memory from the host
 abbrev pub spare_of : Mappings → ℕ
 spare_of m = m.spare
 
@@ -32,13 +33,27 @@ spare_of m = m.spare
 abbrev pub pieces_of : Mappings → ℕ → ℕ → Option Piece
 pieces_of m = values_of m.pieces
 
--- the extents that are noted as taken, by the number of the list of their region and their first page
-abbrev pub taken_of : Mappings → ℕ → ℕ → Option (Extent Unit)
-taken_of m = extents_of m.taken
+-- the place that an extent of what is taken is. Without a name it is a piece
+abbrev pub place_by : ℕ → Option RegionName → Option (Extent RegionName)
+place_by count None = None
+place_by count (Some name) = Some (record { count = count; value = name })
 
--- the extents, with one of `count` pages from `first` on
-abbrev pub with_taken : (ℕ → ℕ → Option (Extent Unit)) → ℕ → (first count : ℕ) → ℕ → ℕ → Option (Extent Unit)
-with_taken taken list first count = with_pair taken list first (Some (record { count = count; value = tt }))
+abbrev pub place_at : Option (Extent (Option RegionName)) → Option (Extent RegionName)
+place_at None = None
+place_at (Some extent) = place_by extent.count extent.value
+
+-- the places of what is taken in each list, by their first pages
+unfoldable pub places_in : (ℕ → ℕ → Option (Extent (Option RegionName))) → ℕ → ℕ → Option (Extent RegionName)
+places_in taken list first = place_at (taken list first)
+
+-- the places that callers noted, each with the name of a region, by the number of the list of the region in which they are
+-- taken and their first page
+abbrev pub places_of : Mappings → ℕ → ℕ → Option (Extent RegionName)
+places_of m = places_in (extents_of m.taken)
+
+-- the places, with one of `count` pages from `first` on
+abbrev pub with_place : (ℕ → ℕ → Option (Extent RegionName)) → ℕ → (first count : ℕ) → RegionName → ℕ → ℕ → Option (Extent RegionName)
+with_place places list first count name = with_pair places list first (Some (record { count = count; value = name }))
 
 -- the table, with the entries of a piece under `root`, or with none on its pages
 abbrev pub with_piece : (ℕ → ℕ → Option Entry) → ℕ → Piece → ℕ → ℕ → Option Entry
@@ -121,3 +136,19 @@ pub record IsFirstGap (table : ℕ → ℕ → Option Entry) (root region from c
 abbrev pub HasNoGap : (ℕ → ℕ → Option Entry) → (root region from count limit : ℕ) → Type 0
 HasNoGap table root region from count limit =
     (p : ℕ) → from ≤ p → p + count ≤ limit → has_entry table root region p (p + count) ≡ true
+
+-- a range of pages is in no place of a list, and none of its pages has an entry that belongs to the region
+pub record IsClear (places : ℕ → Option (Extent RegionName)) (table : ℕ → ℕ → Option Entry) (root region first count : ℕ) : Type 0 where
+  pub apart : IsOpen places first count
+  pub bare : has_entry table root region first (first + count) ≡ false
+
+-- no range of this many pages from `from` on and below the limit is clear
+abbrev pub HasNoClear : (ℕ → Option (Extent RegionName)) → (ℕ → ℕ → Option Entry) → (root region from count limit : ℕ) → Type 0
+HasNoClear places table root region from count limit = (p : ℕ) → from ≤ p → p + count ≤ limit → IsClear places table root region p count → ⊥
+
+-- the range at p is clear, and p is the lowest such page
+pub record IsFirstClear (places : ℕ → Option (Extent RegionName)) (table : ℕ → ℕ → Option Entry) (root region from count limit p : ℕ) : Type 0 where
+  pub not_before : from ≤ p
+  pub not_past : p + count ≤ limit
+  pub clear : IsClear places table root region p count
+  pub first : (q : ℕ) → from ≤ q → q < p → IsClear places table root region q count → ⊥

@@ -1,20 +1,20 @@
 //! The set of mappings.
 
-ghost use Rattle.std.specs.Prelude.{◌≡◌, ℕ, ◌+◌, ◌-◌, ◌<◌, ◌≤◌, false, None, Some, IsSome, IfSome, OnOk, OnErr};
+ghost use Rattle.std.specs.Prelude.{◌≡◌, ℕ, ◌↔◌, ◌+◌, ◌-◌, ◌<◌, ◌≤◌, false, None, Some, IsSome, IfSome, IsTrue, OnOk};
 ghost use Rattle.std.specs.Option.{MatchOption};
 ghost use Rattle.balanced_tree.specs.Pairs.{with_pair};
-ghost use Rattle.pair_map.specs.Maps.{values_of, IsOpen, HasNoOpen, IsFirstOpen};
+ghost use Rattle.pair_map.specs.Maps.{values_of, extents_of, IsOpen};
 ghost use Rattle.vm_base.specs.declared.limits.TheConstants.{NAMES, PAGES_END};
 ghost use Rattle.vm_model.specs.Space.Table.{with_pages, with_perm, has_entry};
 ghost use Rattle.mapping_set.specs.declared.piece.Piece.{Piece};
 ghost use Rattle.mapping_set.specs.Pieces.{list_number, IsHeld, HasNoHeld, IsOfRegion, IsBorder};
-ghost use Rattle.mapping_set.specs.Tables.{taken_of, with_taken};
+ghost use Rattle.mapping_set.specs.Tables.{places_of, with_place, IsClear, HasNoClear, IsFirstClear};
 ghost use Rattle.mapping_set.specs.Tables.{table_of, pieces_of, spare_of, with_piece, without_piece, without_taken};
 ghost use Rattle.mapping_set.specs.Tables.{IsBare, IsBareFrom, IsFull, IsNextPiece, IsPieceOf, IsFirstPiece, IsPieceIn, entries_in};
 ghost use Rattle.mapping_set.specs.Tables.{IsOneOf, IsRestOf, IsPartOf, IsFirstGap, HasNoGap};
 
 use crate::piece::Piece;
-use crate::taken::{free, hold};
+use crate::taken::{clear_places, free_place, hold_place};
 use pair_map::{ExtentMap, PairMap};
 use std::alloc::Global;
 use std::marker::Model;
@@ -30,9 +30,9 @@ pub struct MappingSet {
     pieces: PairMap<Piece>,
     /// The pages of each piece, in the list of its region.
     lists: ExtentMap<()>,
-    /// What is taken in each region, in its list: the pages of each piece, and those that the callers said are taken.
-    /// It tells where to look for a free place, and what is answered of entries never rests on it.
-    taken: ExtentMap<()>,
+    /// What is taken in each region, in its list: the pages of each piece, with no name, and the places that the callers
+    /// noted, each with the name of a region.
+    taken: ExtentMap<Option<RegionName>>,
 }
 
 impl Model for MappingSet {
@@ -60,6 +60,7 @@ impl MappingSet {
     pub fn new(alloc: Global) -> MappingSet
         ensures table { table_of result ≡ λ root p. None }
         ensures spare { spare_of result ≡ 0 }
+        ensures places { places_of result ≡ λ l p. None }
     {
         MappingSet {
             pieces: PairMap::new(alloc),
@@ -68,12 +69,13 @@ impl MappingSet {
         }
     }
 
-    /// Makes room for `n` pieces more. `HostMemory` where the host has too little memory. The entries stay as they are
+    /// Makes room for `n` pieces or places more. `HostMemory` where the host has too little memory. The entries stay as they are
     /// on both answers, and no room is lost.
     pub fn reserve(&mut self, n: u64) -> Result<(), HostMemory>
         ensures room { OnOk result (n ≤ spare_of self.new) }
         ensures table { table_of self.new ≡ table_of self.old }
         ensures spare { spare_of self.old ≤ spare_of self.new }
+        ensures places { places_of self.new ≡ places_of self.old }
     {
         let Ok(()) = self.pieces.reserve(n as usize) else {
             return Err(HostMemory);
@@ -88,7 +90,8 @@ impl MappingSet {
     }
 
     /// Puts the entries of a piece into an address space, where none of its pages has an entry, as one piece of the set.
-    /// The piece has a page, and ends at or below page `PAGES_END`, as do the pages that it shows.
+    /// The piece has a page, and ends at or below page `PAGES_END`, as do the pages that it shows. A place of its region
+    /// that was noted on one of its pages is noted no more.
     pub fn place(&mut self, root: RegionName, piece: Piece)
         requires some { 1 ≤ piece.count }
         requires end { piece.first + piece.count ≤ PAGES_END }
@@ -99,7 +102,10 @@ impl MappingSet {
         ensures whole { pieces_of self.new ≡
             with_pair (pieces_of self.old) root.0 (piece.first + piece.count - 1) (Some piece) }
         ensures spare { spare_of self.old ≤ spare_of self.new + 1 }
+        ensures places { IsOpen (places_of self.old (list_number piece.entry.region.0 root.0)) piece.first piece.count
+            → places_of self.new ≡ places_of self.old }
     {
+        self.clear_places(root, piece.entry.region, piece.first, piece.count);
         self.put(root, piece);
     }
 
@@ -148,48 +154,48 @@ impl MappingSet {
             .first_gap(list_number(region, root), from, count, limit)
     }
 
-    /// Notes that `count` pages from `first` on are taken in a region, though they have no entry that belongs to it, as
-    /// those of a child of the region are not. Where some of them are noted already, or belong to the region, nothing is
-    /// noted. `HostMemory` where the host has too little memory; then nothing is noted either. What is noted only tells
-    /// `likely_gap` where to look.
+    /// Notes that `count` pages from `first` on are those of a region `name` in `region`, in which they are taken then. None
+    /// of them has an entry that belongs to the region, and none is noted yet.
     pub fn hold_place(
         &mut self,
         root: RegionName,
         region: RegionName,
         first: PageNo,
         count: u64,
-    ) -> Result<(), HostMemory>
+        name: RegionName,
+    )
         requires some { 1 ≤ count }
         requires end { first + count ≤ PAGES_END }
-        ensures ok { OnOk result (IsOpen (taken_of self.old (list_number region.0 root.0)) first count →
-            taken_of self.new ≡ with_taken (taken_of self.old) (list_number region.0 root.0) first count) }
-        ensures err { OnErr result (taken_of self.new ≡ taken_of self.old) }
+        requires clear { IsClear (places_of self.old (list_number region.0 root.0)) (table_of self.old) root.0 region.0
+            first count }
+        requires room { 1 ≤ spare_of self.old }
+        ensures places { places_of self.new ≡
+            with_place (places_of self.old) (list_number region.0 root.0) first count name }
         ensures table { table_of self.new ≡ table_of self.old }
-        ensures spare { spare_of self.new ≡ spare_of self.old }
+        ensures spare { spare_of self.old ≤ spare_of self.new + 1 }
     {
-        let Ok(()) = self.taken.reserve(1) else {
-            return Err(HostMemory);
-        };
-        hold(&mut self.taken, list_number(region, root), first, count);
-        Ok(())
+        hold_place(
+            &mut self.taken,
+            list_number(region, root),
+            first,
+            count,
+            name,
+        );
     }
 
-    /// Takes a note back that begins at the page `first`, if there is one.
+    /// Takes the note of a place in a region back that begins at the page `first`, if there is one.
     pub fn free_place(&mut self, root: RegionName, region: RegionName, first: PageNo)
-        ensures taken { IsSome (taken_of self.old (list_number region.0 root.0) first) →
-            taken_of self.new ≡ with_pair (taken_of self.old) (list_number region.0 root.0) first None }
-        ensures none { taken_of self.old (list_number region.0 root.0) first ≡ None →
-            taken_of self.new ≡ taken_of self.old }
+        ensures places { places_of self.new ≡ with_pair (places_of self.old) (list_number region.0 root.0) first None }
         ensures table { table_of self.new ≡ table_of self.old }
-        ensures spare { spare_of self.new ≡ spare_of self.old }
+        ensures spare { spare_of self.old ≤ spare_of self.new }
     {
-        free(&mut self.taken, list_number(region, root), first);
+        free_place(&mut self.taken, list_number(region, root), first);
     }
 
-    /// The lowest page from `from` on such that it and the next ones, `count` in all, are not noted as taken in the
-    /// region, and end at the limit or before. `None` exactly where there is none. One search by gaps. Where the callers
-    /// noted each child of the region, it is the first free place; whether it is free the caller has to see.
-    pub fn likely_gap(
+    /// The lowest page from `from` on such that it and the next ones, `count` in all, have no entry that belongs to the
+    /// region, are in no place that was noted in it, and end at the limit or before. `None` exactly where there is none. One
+    /// search by gaps, whatever the region holds.
+    pub fn first_clear(
         &self,
         root: RegionName,
         region: RegionName,
@@ -200,11 +206,21 @@ impl MappingSet {
         requires some { 1 ≤ count }
         requires limit { limit ≤ PAGES_END }
         ensures { MatchOption result
-            (HasNoOpen (taken_of self.now (list_number region.0 root.0)) from count limit)
-            (IsFirstOpen (taken_of self.now (list_number region.0 root.0)) from count limit) }
+            (HasNoClear (places_of self.now (list_number region.0 root.0)) (table_of self.now) root.0 region.0 from count limit)
+            (IsFirstClear (places_of self.now (list_number region.0 root.0)) (table_of self.now) root.0 region.0
+            from count limit) }
     {
         self.taken
             .first_gap(list_number(region, root), from, count, limit)
+    }
+
+    /// Whether none of `count` pages from `first` on has an entry that belongs to the region or is in a place that was noted
+    /// in it. One look-up.
+    pub fn is_clear(&self, root: RegionName, region: RegionName, first: PageNo, count: u64) -> bool
+        ensures { IsTrue result ↔
+            IsClear (places_of self.now (list_number region.0 root.0)) (table_of self.now) root.0 region.0 first count }
+    {
+        self.taken.is_open(list_number(region, root), first, count)
     }
 
     /// Takes entries out of a range of `count` pages from `first` on, which may pass 2^64: from the first entry of the
@@ -220,6 +236,7 @@ impl MappingSet {
         ensures spare { spare_of self.old ≤ spare_of self.new + 1 }
         ensures none { result ≡ None → spare_of self.old ≤ spare_of self.new }
         ensures rest { spare_of self.new < spare_of self.old → IsBare (table_of self.new root.0) first (first + count) }
+        ensures places { places_of self.new ≡ places_of self.old }
     {
         if count == 0 {
             return None;
@@ -248,6 +265,7 @@ impl MappingSet {
         ensures fewer { IfSome result (λ piece.
             entries_in (table_of self.new) root.0 region.0 < entries_in (table_of self.old) root.0 region.0) }
         ensures spare { spare_of self.old ≤ spare_of self.new }
+        ensures places { places_of self.new ≡ places_of self.old }
     {
         let last = self.last_of(root, region)?;
         Some(self.take(root, last))
@@ -260,6 +278,7 @@ impl MappingSet {
         ensures table { table_of self.new ≡
             with_pages (table_of self.old) root.0 first (first + count) (with_perm perm (table_of self.old root.0)) }
         ensures spare { spare_of self.old ≤ spare_of self.new + 2 }
+        ensures places { places_of self.new ≡ places_of self.old }
     {
         let end = first + count;
         self.cut(root, first);
@@ -276,23 +295,41 @@ impl MappingSet {
         self.pieces.next(u64::from(root.0), from)
     }
 
-    /// Puts a piece into an address space, as `place` does.
+    /// Takes back each note of a place in a region that has one of `count` pages from `first` on, of which none has an entry.
+    fn clear_places(&mut self, root: RegionName, region: RegionName, first: PageNo, count: u64)
+        requires some { 1 ≤ count }
+        requires end { first + count ≤ PAGES_END }
+        requires bare { IsBare (table_of self.old root.0) first (first + count) }
+        ensures vacant { IsOpen (places_of self.new (list_number region.0 root.0)) first count }
+        ensures same { IsOpen (places_of self.old (list_number region.0 root.0)) first count
+            → places_of self.new ≡ places_of self.old }
+        ensures table { table_of self.new ≡ table_of self.old }
+        ensures pieces { values_of self.new.pieces ≡ values_of self.old.pieces }
+        ensures spare { spare_of self.old ≤ spare_of self.new }
+    {
+        clear_places(&mut self.taken, list_number(region, root), first, count);
+    }
+
+    /// Puts a piece into an address space, as `place` does, where no place of its region was noted on its pages.
     fn put(&mut self, root: RegionName, piece: Piece)
         requires some { 1 ≤ piece.count }
         requires end { piece.first + piece.count ≤ PAGES_END }
         requires pages { piece.entry.page + piece.count ≤ PAGES_END }
         requires bare { IsBare (table_of self.old root.0) piece.first (piece.first + piece.count) }
         requires room { 1 ≤ spare_of self.old }
+        requires vacant { IsOpen (places_of self.old (list_number piece.entry.region.0 root.0)) piece.first piece.count }
         ensures table { table_of self.new ≡ with_piece (table_of self.old) root.0 piece }
         ensures pieces { values_of self.new.pieces ≡
             with_pair (values_of self.old.pieces) root.0 (piece.first + piece.count - 1) (Some piece) }
         ensures spare { spare_of self.old ≤ spare_of self.new + 1 }
+        ensures places { places_of self.new ≡ places_of self.old }
     {
+        let _apart = self.taken.len();
         let list = list_number(piece.entry.region, root);
         self.pieces
             .insert(u64::from(root.0), piece.first + piece.count - 1, piece);
         self.lists.insert(list, piece.first, piece.count, ());
-        hold(&mut self.taken, list, piece.first, piece.count);
+        self.taken.insert(list, piece.first, piece.count, None);
     }
 
     /// Takes the piece of an address space with its last page at `last` out, and answers it.
@@ -305,11 +342,14 @@ impl MappingSet {
             → table_of self.new ≡ without_piece (table_of self.old) root.0 x }
         ensures pieces { values_of self.new.pieces ≡ with_pair (values_of self.old.pieces) root.0 last None }
         ensures spare { spare_of self.new ≡ spare_of self.old + 1 }
+        ensures places { places_of self.new ≡ places_of self.old }
+        ensures vacant { IsOpen (places_of self.old (list_number result.entry.region.0 root.0)) result.first result.count }
     {
+        let _apart = self.taken.len();
         let piece = self.pieces.remove(u64::from(root.0), last);
         let list = list_number(piece.entry.region, root);
         self.lists.remove(list, piece.first);
-        free(&mut self.taken, list, piece.first);
+        self.taken.remove(list, piece.first);
         piece
     }
 
@@ -334,6 +374,7 @@ impl MappingSet {
             → IsRestOf (values_of self.old.pieces root.0) page x }
         ensures spare { spare_of self.old ≤ spare_of self.new + 1 }
         ensures whole { table_of self.old root.0 page ≡ None → spare_of self.old ≤ spare_of self.new }
+        ensures places { places_of self.new ≡ places_of self.old }
     {
         let Some((last, piece)) = self.held(root, page) else {
             return;
@@ -355,6 +396,7 @@ impl MappingSet {
         ensures table { table_of self.new ≡
             with_pages (table_of self.old) root.0 first end (with_perm perm (table_of self.old root.0)) }
         ensures spare { spare_of self.old ≤ spare_of self.new }
+        ensures places { places_of self.new ≡ places_of self.old }
     {
         let mut at = first;
         while at < end {
@@ -375,6 +417,7 @@ impl MappingSet {
         ensures begins { IsBorder (values_of self.new.pieces root.0) result }
         ensures ends { IsBorder (values_of self.new.pieces root.0) end }
         ensures spare { spare_of self.old ≤ spare_of self.new }
+        ensures places { places_of self.new ≡ places_of self.old }
     {
         let Some((last, piece)) = self.held(root, at) else {
             unreachable!()

@@ -1,34 +1,96 @@
-//! Extents of what is taken, in the list of each region, as far as it is known.
+//! What is taken in each region: pieces, and the places that the callers noted, as extents of one list.
 
-ghost use Rattle.std.specs.Prelude.{◌≡◌, ◌+◌, ◌≤◌, None, IsSome};
+ghost use Rattle.std.specs.Prelude.{◌≡◌, ◌+◌, ◌≤◌, true, false, None, Some, IsSome};
+ghost use Rattle.std.specs.Option.{MatchOption};
 ghost use Rattle.balanced_tree.specs.Pairs.{with_pair};
 ghost use Rattle.pair_map.specs.Maps.{extents_of, spare_of, IsOpen};
 ghost use Rattle.vm_base.specs.declared.limits.TheConstants.{PAGES_END};
-ghost use Rattle.mapping_set.specs.Tables.{with_taken};
+ghost use Rattle.mapping_set.specs.Tables.{places_in, with_place};
+ghost use Rattle.mapping_set.specs.Taken.{pieces_in, IsMeeting};
 
 use pair_map::ExtentMap;
-use vm_base::{PAGES_END, PageNo};
+use vm_base::{PAGES_END, PageNo, RegionName};
 
-/// Puts `count` pages from `first` on into a list, where none of them is in it yet and there is room. Else nothing is
-/// changed.
-pub(crate) fn hold(taken: &mut ExtentMap<()>, list: u64, first: PageNo, count: u64)
+/// Puts a place of `count` pages from `first` on into a list, where none of them is in an extent of it.
+pub(crate) fn hold_place(
+    taken: &mut ExtentMap<Option<RegionName>>,
+    list: u64,
+    first: PageNo,
+    count: u64,
+    name: RegionName,
+)
     requires some { 1 ≤ count }
     requires end { first + count ≤ PAGES_END }
-    ensures { IsOpen (extents_of taken.old list) first count → 1 ≤ spare_of taken.old →
-        extents_of taken.new ≡ with_taken (extents_of taken.old) list first count }
+    requires free { IsOpen (extents_of taken.old list) first count }
+    requires room { 1 ≤ spare_of taken.old }
+    ensures places { places_in (extents_of taken.new) ≡ with_place (places_in (extents_of taken.old)) list first count name }
+    ensures pieces { pieces_in (extents_of taken.new) ≡ pieces_in (extents_of taken.old) }
+    ensures spare { spare_of taken.new + 1 ≡ spare_of taken.old }
 {
-    if taken.is_open(list, first, count) && taken.spare() > 0 {
-        taken.insert(list, first, count, ());
+    let _apart = taken.len();
+    taken.insert(list, first, count, Some(name));
+}
+
+/// Takes the place out of a list that begins at the page `first`, if there is one.
+pub(crate) fn free_place(taken: &mut ExtentMap<Option<RegionName>>, list: u64, first: PageNo)
+    ensures places { places_in (extents_of taken.new) ≡ with_pair (places_in (extents_of taken.old)) list first None }
+    ensures pieces { pieces_in (extents_of taken.new) ≡ pieces_in (extents_of taken.old) }
+    ensures spare { spare_of taken.old ≤ spare_of taken.new }
+{
+    if is_place(taken, list, first) {
+        taken.remove(list, first);
     }
 }
 
-/// Takes the extent out of a list that begins at the page `first`, if there is one.
-pub(crate) fn free(taken: &mut ExtentMap<()>, list: u64, first: PageNo)
-    ensures taken { IsSome (extents_of taken.old list first) →
-        extents_of taken.new ≡ with_pair (extents_of taken.old) list first None }
-    ensures none { extents_of taken.old list first ≡ None → extents_of taken.new ≡ extents_of taken.old }
+/// Whether a place of a list begins at the page `first`.
+fn is_place(taken: &ExtentMap<Option<RegionName>>, list: u64, first: PageNo) -> bool
+    ensures yes { result ≡ true → IsSome (places_in (extents_of taken.now) list first) }
+    ensures no { result ≡ false → places_in (extents_of taken.now) list first ≡ None }
 {
-    if taken.find(list, first).is_some() {
-        taken.remove(list, first);
+    match taken.find(list, first) {
+        Some(extent) => extent.value.is_some(),
+        None => false,
+    }
+}
+
+/// Takes each place out of a list that has one of `count` pages from `first` on, where no piece has.
+pub(crate) fn clear_places(
+    taken: &mut ExtentMap<Option<RegionName>>,
+    list: u64,
+    first: PageNo,
+    count: u64,
+)
+    requires some { 1 ≤ count }
+    requires end { first + count ≤ PAGES_END }
+    requires bare { IsOpen (pieces_in (extents_of taken.old) list) first count }
+    ensures vacant { IsOpen (extents_of taken.new list) first count }
+    ensures pieces { pieces_in (extents_of taken.new) ≡ pieces_in (extents_of taken.old) }
+    ensures same { IsOpen (extents_of taken.old list) first count → extents_of taken.new ≡ extents_of taken.old }
+    ensures spare { spare_of taken.old ≤ spare_of taken.new }
+{
+    while let Some(start) = meeting(taken, list, first, count) {
+        taken.remove(list, start);
+    }
+}
+
+/// The first page of an extent of a list that has one of `count` pages from `first` on. `None` exactly where none has.
+fn meeting(
+    taken: &ExtentMap<Option<RegionName>>,
+    list: u64,
+    first: PageNo,
+    count: u64,
+) -> Option<PageNo>
+    requires some { 1 ≤ count }
+    requires end { first + count ≤ PAGES_END }
+    ensures { MatchOption result (IsOpen (extents_of taken.now list) first count)
+        (IsMeeting (extents_of taken.now list) first count) }
+{
+    let _apart = taken.len();
+    if let Some((start, _extent)) = taken.at(list, first) {
+        return Some(start);
+    }
+    match taken.next(list, first) {
+        Some((start, _extent)) if start < first + count => Some(start),
+        _ => None,
     }
 }

@@ -20,7 +20,7 @@ use Rattle.vm_model.specs.declared.reply.Reply.TheVariants.{Address, Refused}
 use Rattle.vm_model.specs.declared.space.Entry.{Entry}
 use Rattle.vm_model.specs.declared.space.Region.{Region}
 use Rattle.vm_model.specs.Space.Rights.{has, writing, specific, overwrite, upper_limit, allow_faults}
-use Rattle.vm_model.specs.Space.Regions.{region_of, reaches_over}
+use Rattle.vm_model.specs.Space.Regions.{region_of, reaches_over, meets_child}
 use Rattle.vm_model.specs.Space.Places.{is_free, has_place, limit_of}
 use Rattle.vm_model.specs.Space.Mappings.{is_mismapped, entry_of, with_mapping, IsMapPlace}
 use Rattle.vm_model.specs.Machine.State.{State, name_pages, target_of, IsGoodState}
@@ -142,6 +142,10 @@ module _ (s : State) (region : RegionName) (offset : ℕ) (name : VmoName) (vmo_
           ap (λ (r : Region). has_place s.spaces region.0 count (limit_of r limited offset)) (sym here)
           ∙ has_place_at s.spaces region.0 count (limit_of (region_of s.spaces.regions region.0) limited offset) first at.free at.limit in
           grind (arith, is, also, some)
+
+    -- it meets no live child
+    pub placed_apart : meets_child s.spaces.regions region.0 first (first + count) ≡ false
+    placed_apart = (map_place s.spaces region.0 over fixed limited offset vmo_offset len perm.0 first right place).1
 
     -- the host may lack memory for it
     pub lacks_step : Step s command (Refused HostMemory) s

@@ -1,6 +1,9 @@
 -- What holds of a place in a region.
 use Rattle.std.proofs.Common.{◌≡◌, ℕ, ◌+◌, ◌*◌, ◌/◌, ◌≤◌, Bool, true, false, not, ◌&&◌, [], ◌∷◌, Option, None, Some, refl, ap, sym, subst, ◌∙◌, arith}
-use Rattle.std.specs.Prelude.{nat_le}
+use Rattle.std.specs.Prelude.{nat_le, OnOk}
+use Rattle.std.specs.declared.result.Result.{Result}
+use Rattle.std.specs.declared.result.Result.TheVariants.{Ok, Err}
+use Rattle.std.specs.Result.{is_ok}
 use Rattle.std.proofs.lemmas.Bool.{and_from, le-leb}
 use Rattle.vm_base.specs.Pages.{rounded}
 use Rattle.vm_base.specs.declared.flags.MapFlags.{MapFlags}
@@ -22,6 +25,8 @@ use Rattle.vm_base.specs.declared.limits.TheConstants.{PAGE, ROOT_END}
 use Rattle.vm_model.specs.declared.space.Region.{Region}
 use Rattle.vm_model.specs.Space.AddressSpaces.{Spaces}
 use Rattle.vm_model.specs.Space.Regions.{end_of, region_of, region_below, reaches_over, meets_child, AreGoodRegions}
+use Rattle.vm_model.specs.Space.Table.{has_entry}
+use Rattle.region_ops.specs.Spaces.{IsAllocated}
 use Rattle.vm_model.specs.Space.Places.{is_free, has_place, is_misplaced, limit_of, IsPlace}
 use Rattle.vm_model.proofs.RegionLaws.{region_of-at, region_bounds, reaches_over_parts}
 use Rattle.vm_model.proofs.SpaceLaws.{is_free_parts}
@@ -56,6 +61,41 @@ has_place_at spaces name count limit first free ends =
     (λ p. nat_le (p + count) ((region_of spaces.regions name).first + limit) && is_free spaces name p (p + count)) (omega (arith, parts.0, inside.1))
     (and_from (nat_le (first + count) ((region_of spaces.regions name).first + limit)) (is_free spaces name first (first + count))
     (le-leb (first + count) ((region_of spaces.regions name).first + limit) ends) free)
+
+-- a region that was allocated on a place, by its address
+pub allocated : (spaces : Spaces) (new : ℕ → Option Region) (name parent : ℕ) (above : Region) → spaces.regions parent ≡ Some above → (fixed limited : Bool) (offset count first caps : ℕ)
+    → IsPlace spaces parent fixed limited offset count first → new ≡ with_key spaces.regions name (region_below parent (region_of spaces.regions parent) first count caps)
+    → (address : ℕ) → address ≡ first * PAGE → IsAllocated spaces new name parent above (address / PAGE) count caps
+allocated spaces new name parent above given fixed limited offset count first caps place is address at =
+    let begins : first ≡ address / PAGE = omega (arith, at) in
+    subst (λ (p : ℕ). IsAllocated spaces new name parent above p count caps) begins (record {
+      free = place.free;
+      is = is ∙ ap (λ (r : Region). with_key spaces.regions name (region_below parent r first count caps)) (region_of-at spaces.regions parent above given);
+    })
+
+-- what holds of it
+module _ (spaces : Spaces) (new : ℕ → Option Region) (name parent : ℕ) (above : Region) (given : spaces.regions parent ≡ Some above) (first count caps : ℕ)
+    (done : IsAllocated spaces new name parent above first count caps) where
+  here_is : region_of spaces.regions parent ≡ above
+  here_is = region_of-at spaces.regions parent above given
+
+  pub allocated_some : 1 ≤ count
+  allocated_some = omega (arith, (is_free_parts spaces parent first (first + count) done.free).0)
+
+  pub allocated_inside : first + count ≤ end_of above
+  allocated_inside =
+      (reaches_over_parts first (first + count) above (ap (reaches_over first (first + count)) (sym here_is) ∙ (is_free_parts spaces parent first (first + count) done.free).1)).1
+
+  pub allocated_apart : meets_child spaces.regions parent first (first + count) ≡ false
+  allocated_apart = (is_free_parts spaces parent first (first + count) done.free).2
+
+  pub allocated_bare : has_entry spaces.table above.root.0 parent first (first + count) ≡ false
+  allocated_bare = ap (λ (r : Region). has_entry spaces.table r.root.0 parent first (first + count)) (sym here_is) ∙ (is_free_parts spaces parent first (first + count) done.free).3
+
+-- what is taken is there where a call succeeded
+pub on_ok : {A E : Type 0} {P : Type 0} (r : Result A E) → OnOk r P → (b : Bool) → b ≡ is_ok r → b ≡ true → P
+on_ok (Ok a) holds b test on = holds
+on_ok (Err e) holds b test on = let off : b ≡ false = test in absurd cc
 
 -- ---- the step of an allocation, where no row before the place refuses it
 

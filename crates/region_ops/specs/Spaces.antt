@@ -1,6 +1,6 @@
 -- The address spaces of a state as the regions and the set of mappings have them, and what the calls promise in these words.
 use Rattle.std.specs.Prelude.{◌≡◌, ℕ, ◌+◌, ◌/◌, Bool, true, false, ◌&&◌, ◌==◌, if◌then◌else◌, Option, None}
-use Rattle.vm_base.specs.Entries.{passes}
+use Rattle.vm_base.specs.Entries.{passes, with_key}
 use Rattle.vm_base.specs.declared.limits.TheConstants.{PAGE}
 use Rattle.vm_base.specs.declared.refusal.Refusal.{Refusal}
 use Rattle.vm_base.specs.declared.refusal.Refusal.TheVariants.{AlreadyExists, NoResources}
@@ -10,7 +10,8 @@ use Rattle.vm_model.specs.declared.space.Entry.{Entry}
 use Rattle.vm_model.specs.Contents.Content.{Content}
 use Rattle.vm_model.specs.Space.AddressSpaces.{Spaces}
 use Rattle.vm_model.specs.Space.Table.{is_in}
-use Rattle.vm_model.specs.Space.Regions.{region_of}
+use Rattle.vm_model.specs.declared.space.Region.{Region}
+use Rattle.vm_model.specs.Space.Regions.{region_of, region_below}
 use Rattle.vm_model.specs.Space.Places.{is_free, has_place, limit_of}
 use Rattle.vm_model.specs.Machine.State.{State}
 use Rattle.vm_model.specs.Machine.Leaving.{pruned}
@@ -62,3 +63,8 @@ pub record HasNoPlace (spaces : Spaces) (name : ℕ) (fixed limited : Bool) (off
       × (is_free spaces name ((region_of spaces.regions name).first + offset / PAGE) ((region_of spaces.regions name).first + offset / PAGE + count) ≡ false)
   pub full : fixed ≡ false → (refusal ≡ NoResources)
       × (has_place spaces name count (limit_of (region_of spaces.regions name) limited offset) ≡ false)
+
+-- A region was allocated on a free place of another, which is `above`.
+pub record IsAllocated (spaces : Spaces) (regions_new : ℕ → Option Region) (name parent : ℕ) (above : Region) (first count caps : ℕ) : Type 0 where
+  pub free : is_free spaces parent first (first + count) ≡ true
+  pub is : regions_new ≡ with_key spaces.regions name (region_below parent above first count caps)

@@ -1,18 +1,21 @@
 //! Allocating a region in another (`zx_vmar_allocate`).
 
-ghost use Rattle.std.specs.Prelude.{◌≡◌, true, None};
+ghost use Rattle.std.specs.Prelude.{◌≡◌, ◌+◌, ◌/◌, ◌≤◌, true, None, Some, OnOk, MatchResult};
+ghost use Rattle.vm_base.specs.Pages.{rounded};
+ghost use Rattle.vm_base.specs.declared.limits.TheConstants.{PAGE, ROOT_END};
 ghost use Rattle.vm_model.specs.declared.command.Command.{Command};
 ghost use Rattle.vm_model.specs.declared.reply.Reply.{Reply};
 ghost use Rattle.vm_model.specs.Machine.State.{State};
 ghost use Rattle.vm_model.specs.Machine.Step.{Step, reply_of};
-ghost use Rattle.mapping_set.specs.Tables.{table_of};
-ghost use Rattle.region_tree.specs.Tree.{regions_of, is_live_region, spaces_of};
-ghost use Rattle.region_ops.specs.Spaces.{with_spaces};
+ghost use Rattle.vm_model.specs.Space.Regions.{AreGoodRegions};
+ghost use Rattle.mapping_set.specs.Tables.{table_of, places_of};
+ghost use Rattle.region_tree.specs.Tree.{regions_of, is_live_region, spaces_of, AreNoted};
+ghost use Rattle.region_ops.specs.Spaces.{with_spaces, IsAllocated};
 
 use crate::placing::{Wanted, allows, find_place, is_misplaced, live_region};
 use mapping_set::MappingSet;
-use region_tree::Regions;
-use vm_base::{MapFlags, PAGE, Perm, Refusal, RegionName, page_count};
+use region_tree::{Region, Regions};
+use vm_base::{MapFlags, PAGE, Perm, Refusal, RegionName, page_count, page_of};
 
 /// Allocates a region of `len` bytes, rounded up to whole pages, in a live region, under a name that was never given,
 /// and answers its address. `offset` is in bytes from the start of the parent: the region begins there with `SPECIFIC`,
@@ -38,6 +41,83 @@ pub fn allocate(
         (with_spaces s (spaces_of (regions_of regions.new) (table_of maps.now))) }
 {
     let above = live_region(regions, parent);
+    allocate_in(
+        regions, maps, name, parent, above, offset, len, flags, caps, false, true,
+    )
+}
+
+/// What `allocate` does in a live region, which is `above`, where the set of mappings has noted the live children of each
+/// region: the new one is noted too. A place costs one search, also where there is none. `HostMemory` as with `allocate`, and
+/// where there is no memory for the note; then nothing is changed.
+pub fn allocate_noted(
+    regions: &mut Regions,
+    maps: &mut MappingSet,
+    name: RegionName,
+    parent: RegionName,
+    above: Region,
+    offset: u64,
+    len: u64,
+    flags: MapFlags,
+    caps: Perm,
+) -> Result<u64, Refusal>
+    requires name { regions_of regions.old name.0 ≡ None }
+    requires above { regions_of regions.old parent.0 ≡ Some above }
+    requires live { above.live ≡ true }
+    requires good { AreGoodRegions (regions_of regions.old) }
+    requires noted { AreNoted (regions_of regions.old) (places_of maps.old) }
+    ensures step { (s : State) → Step (with_spaces s (spaces_of (regions_of regions.old) (table_of maps.old)))
+        (Command.VmarAllocate name parent offset len flags caps) (reply_of (λ address. Reply.Address address) result)
+        (with_spaces s (spaces_of (regions_of regions.new) (table_of maps.new))) }
+    ensures table { table_of maps.new ≡ table_of maps.old }
+    ensures noted { AreNoted (regions_of regions.new) (places_of maps.new) }
+{
+    let ready = maps.reserve(1).is_ok();
+    match allocate_in(
+        regions, maps, name, parent, above, offset, len, flags, caps, true, ready,
+    ) {
+        Ok(address) => {
+            maps.hold_place(
+                above.root,
+                parent,
+                page_of(address),
+                page_count(len),
+                name,
+            );
+            Ok(address)
+        }
+        Err(refusal) => Err(refusal),
+    }
+}
+
+/// Allocates a region in a live one, which is `above`. `HostMemory` also where the caller is not ready, since it lacks memory
+/// for what it does next.
+fn allocate_in(
+    regions: &mut Regions,
+    maps: &MappingSet,
+    name: RegionName,
+    parent: RegionName,
+    above: Region,
+    offset: u64,
+    len: u64,
+    flags: MapFlags,
+    caps: Perm,
+    noted: bool,
+    ready: bool,
+) -> Result<u64, Refusal>
+    requires name { regions_of regions.old name.0 ≡ None }
+    requires above { regions_of regions.old parent.0 ≡ Some above }
+    requires live { above.live ≡ true }
+    requires end { above.first + above.count ≤ ROOT_END }
+    requires noted { noted ≡ true → AreNoted (regions_of regions.old) (places_of maps.now) }
+    ensures step { (s : State) → Step (with_spaces s (spaces_of (regions_of regions.old) (table_of maps.now)))
+        (Command.VmarAllocate name parent offset len flags caps) (reply_of (λ address. Reply.Address address) result)
+        (with_spaces s (spaces_of (regions_of regions.new) (table_of maps.now))) }
+    ensures placed { MatchResult result
+        (λ address. IsAllocated (spaces_of (regions_of regions.old) (table_of maps.now)) (regions_of regions.new) name.0
+        parent.0 above (address / PAGE) (rounded len / PAGE) caps.0)
+        (λ refusal. regions_of regions.new ≡ regions_of regions.old) }
+    ensures ready { OnOk result (ready ≡ true) }
+{
     if !allows(above, caps) {
         return Err(Refusal::AccessDenied);
     }
@@ -46,7 +126,10 @@ pub fn allocate(
         return Err(Refusal::InvalidArgs);
     }
     let count = page_count(len);
-    let first = find_place(regions, maps, parent, above, wanted, count)?;
+    let first = find_place(regions, maps, parent, above, wanted, count, noted)?;
+    if !ready {
+        return Err(Refusal::HostMemory);
+    }
     match regions.allocate(name, parent, first, count, caps) {
         Ok(()) => Ok(first * PAGE),
         Err(_) => Err(Refusal::HostMemory),

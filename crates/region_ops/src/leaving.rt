@@ -3,7 +3,7 @@
 ghost use Rattle.std.specs.Prelude.{◌≡◌, ℕ, ◌+◌, ◌≤◌, Option, None};
 ghost use Rattle.vm_model.specs.declared.space.Entry.{Entry};
 ghost use Rattle.vm_model.specs.Space.Table.{with_pages};
-ghost use Rattle.mapping_set.specs.Tables.{table_of, spare_of, without_piece, IsPieceOf};
+ghost use Rattle.mapping_set.specs.Tables.{table_of, spare_of, places_of, without_piece, IsPieceOf};
 ghost use Rattle.region_ops.specs.Spaces.{without_entries, AreWell, LetsGo};
 ghost use Rattle.region_ops.specs.Leaving.{IsTaken};
 
@@ -28,6 +28,7 @@ pub(crate) fn clear_range<P: PageStore>(
     ensures gone { LetsGo (P.content store.old) vmos.old (table_of maps.old)
         (P.content store.new) vmos.new (table_of maps.new) }
     ensures spare { spare_of maps.old ≤ spare_of maps.new + 1 }
+    ensures places { places_of maps.new ≡ places_of maps.old }
 {
     while let Some(piece) = maps.carve(root, first, count) {
         let_go(store, vmos, piece);
@@ -46,6 +47,7 @@ pub(crate) fn clear_region<P: PageStore>(
     ensures table { table_of maps.new ≡ without_entries (table_of maps.old) root.0 region.0 }
     ensures gone { LetsGo (P.content store.old) vmos.old (table_of maps.old)
         (P.content store.new) vmos.new (table_of maps.new) }
+    ensures places { places_of maps.new ≡ places_of maps.old }
 {
     while let Some(piece) = maps.drop_region(root, region) {
         let_go(store, vmos, piece);

@@ -5,7 +5,8 @@
 //! It stands on `region_tree` and `mapping_set`, and on `vmo_table` and any store of pages: each entry keeps its VMO, which
 //! leaves with the last that keeps it. Each call promises that it is the step of its command (`vm_model`), whatever else
 //! the state has. The layer above has looked the names up, so that a call begins with the refusals that rest on regions
-//! and arguments.
+//! and arguments. Of each call there is one that is handed the region that was found; those that place something rest on
+//! that the live children of each region are noted (`AreNoted` of `region_tree`), and keep it so.
 #![tactic(auto,
 // where a region and a place in it end
 using(crate::proofs::PlaceLaws::live_end, crate::proofs::PlaceLaws::place_inside, crate::proofs::PlaceLaws::place_end),
@@ -21,7 +22,7 @@ mod protecting;
 mod ranges;
 mod unmapping;
 
-pub use allocating::allocate;
-pub use mapping::map;
-pub use protecting::protect;
-pub use unmapping::{destroy, unmap};
+pub use allocating::{allocate, allocate_noted};
+pub use mapping::{map, map_noted};
+pub use protecting::{protect, protect_in};
+pub use unmapping::{destroy, destroy_in, unmap, unmap_in};

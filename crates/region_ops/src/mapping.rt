@@ -15,8 +15,8 @@ ghost use Rattle.vm_model.specs.Machine.Refusals.{first_of};
 ghost use Rattle.vm_model.specs.Machine.Step.{reply_of};
 ghost use Rattle.page_store.specs.Names.{IsInside};
 ghost use Rattle.vmo_table.specs.Table.{names_of, IsNamed};
-ghost use Rattle.mapping_set.specs.Tables.{table_of, spare_of, IsBare};
-ghost use Rattle.region_tree.specs.Tree.{regions_of, is_live_region, spaces_of};
+ghost use Rattle.mapping_set.specs.Tables.{table_of, spare_of, places_of, IsBare};
+ghost use Rattle.region_tree.specs.Tree.{regions_of, is_live_region, spaces_of, AreNoted, IsVacant};
 ghost use Rattle.region_ops.specs.Spaces.{AreWell, AreAllWell, Does, LetsGo, HasNoPlace};
 ghost use Rattle.region_ops.specs.Mapping.{map_rows, no_entries, IsPuttable, Puts};
 
@@ -67,6 +67,71 @@ pub fn map<P: PageStore>(
         (P.content store.new) vmos.new (spaces_of (regions_of regions.now) (table_of maps.new)) }
 {
     let above = live_region(regions, region);
+    map_in(
+        store, vmos, regions, maps, region, above, offset, t, vmo_offset, len, perm, flags, false,
+    )
+}
+
+/// What `map` does in a live region, which is `above`, where the set of mappings has noted the live children of each region.
+/// A place costs one search, also where there is none. What is noted stays as it is.
+pub fn map_noted<P: PageStore>(
+    store: &mut P,
+    vmos: &mut VmoTable,
+    regions: &Regions,
+    maps: &mut MappingSet,
+    region: RegionName,
+    above: Region,
+    offset: u64,
+    t: &Target,
+    vmo_offset: u64,
+    len: u64,
+    perm: Perm,
+    flags: MapFlags,
+) -> Result<u64, Refusal>
+    requires above { regions_of regions.now region.0 ≡ Some above }
+    requires live { above.live ≡ true }
+    requires named { IsNamed (names_of vmos.old) t.now }
+    requires well { AreAllWell (P.content store.old) vmos.old (spaces_of (regions_of regions.now) (table_of maps.old)) }
+    requires noted { AreNoted (regions_of regions.now) (places_of maps.old) }
+    ensures does { (name : VmoName) → names_of vmos.old name.0 ≡ Some t.now →
+        Does (P.content store.old) vmos.old (spaces_of (regions_of regions.now) (table_of maps.old))
+        (Command.VmarMap region offset name vmo_offset len perm flags) (reply_of (λ address. Reply.Address address) result)
+        (P.content store.new) vmos.new (spaces_of (regions_of regions.now) (table_of maps.new)) }
+    ensures places { places_of maps.new ≡ places_of maps.old }
+{
+    map_in(
+        store, vmos, regions, maps, region, above, offset, t, vmo_offset, len, perm, flags, true,
+    )
+}
+
+/// Maps into a live region, which is `above`.
+fn map_in<P: PageStore>(
+    store: &mut P,
+    vmos: &mut VmoTable,
+    regions: &Regions,
+    maps: &mut MappingSet,
+    region: RegionName,
+    above: Region,
+    offset: u64,
+    t: &Target,
+    vmo_offset: u64,
+    len: u64,
+    perm: Perm,
+    flags: MapFlags,
+    noted: bool,
+) -> Result<u64, Refusal>
+    requires above { regions_of regions.now region.0 ≡ Some above }
+    requires live { above.live ≡ true }
+    requires end { above.first + above.count ≤ ROOT_END }
+    requires named { IsNamed (names_of vmos.old) t.now }
+    requires well { AreAllWell (P.content store.old) vmos.old (spaces_of (regions_of regions.now) (table_of maps.old)) }
+    requires noted { noted ≡ true → AreNoted (regions_of regions.now) (places_of maps.old) }
+    ensures does { (name : VmoName) → names_of vmos.old name.0 ≡ Some t.now →
+        Does (P.content store.old) vmos.old (spaces_of (regions_of regions.now) (table_of maps.old))
+        (Command.VmarMap region offset name vmo_offset len perm flags) (reply_of (λ address. Reply.Address address) result)
+        (P.content store.new) vmos.new (spaces_of (regions_of regions.now) (table_of maps.new)) }
+    ensures places { noted ≡ true → places_of maps.new ≡ places_of maps.old }
+{
     let wanted = Wanted::by(flags, offset);
     let faults = flags.contains(MapFlags::ALLOW_FAULTS);
     if let Some(refusal) = refusal_of(
@@ -75,7 +140,7 @@ pub fn map<P: PageStore>(
         return Err(refusal);
     }
     let count = page_count(len);
-    let first = find_map_place(regions, maps, region, above, wanted, count)?;
+    let first = find_map_place(regions, maps, region, above, wanted, count, noted)?;
     let Ok(()) = maps.reserve(2) else {
         return Err(Refusal::HostMemory);
     };
@@ -188,7 +253,9 @@ fn find_map_place(
     above: Region,
     wanted: Wanted,
     count: u64,
+    noted: bool,
 ) -> Result<PageNo, Refusal>
+    requires noted { noted ≡ true → AreNoted (regions_of regions.now) (places_of maps.now) }
     requires above { regions_of regions.now region.0 ≡ Some above }
     requires live { above.live ≡ true }
     requires end { above.first + above.count ≤ ROOT_END }
@@ -204,7 +271,7 @@ fn find_map_place(
     if wanted.overwriting {
         return Ok(above.first + page_of(wanted.offset));
     }
-    find_place(regions, maps, region, above, wanted, count)
+    find_place(regions, maps, region, above, wanted, count, noted)
 }
 
 /// The entry of the first page of a mapping in a region.
@@ -252,8 +319,10 @@ fn put<P: PageStore>(
     requires well { AreWell (P.content store.old) vmos.old (table_of maps.old) }
     requires room { 2 ≤ spare_of maps.old }
     requires place { IsPuttable (names_of vmos.old) (table_of maps.old) root.0 piece overwriting }
-    ensures { Puts (P.content store.old) vmos.old (table_of maps.old) root.0 piece
+    ensures puts { Puts (P.content store.old) vmos.old (table_of maps.old) root.0 piece
         (P.content store.new) vmos.new (table_of maps.new) }
+    ensures places { IsVacant (places_of maps.old) root.0 piece.entry.region.0 piece.first piece.count
+        → places_of maps.new ≡ places_of maps.old }
 {
     clear_place(
         store,
@@ -285,6 +354,7 @@ fn clear_place<P: PageStore>(
     ensures gone { LetsGo (P.content store.old) vmos.old (table_of maps.old)
         (P.content store.new) vmos.new (table_of maps.new) }
     ensures spare { 1 ≤ spare_of maps.new }
+    ensures places { places_of maps.new ≡ places_of maps.old }
 {
     if overwriting {
         clear_range(store, vmos, maps, root, first, count);

@@ -1,11 +1,15 @@
 //! The region that a call is about, what it allows, and where in it a place is.
 
-ghost use Rattle.std.specs.Prelude.{◌≡◌, ◌+◌, ◌/◌, ◌≤◌, true, false, Some, MatchResult};
+ghost use Rattle.std.specs.Prelude.{◌≡◌, ℕ, ◌+◌, ◌/◌, ◌≤◌, true, false, Some, MatchResult};
 ghost use Rattle.vm_base.specs.declared.limits.TheConstants.{PAGE, ROOT_END};
 ghost use Rattle.vm_model.specs.Space.Places.{IsPlace, is_misplaced};
 ghost use Rattle.vm_model.specs.Space.Rights.{has, specific, overwrite, upper_limit};
-ghost use Rattle.mapping_set.specs.Tables.{table_of};
-ghost use Rattle.region_tree.specs.Tree.{regions_of, is_live_region, spaces_of};
+ghost use Rattle.std.specs.Option.{MatchOption};
+ghost use Rattle.vm_base.specs.declared.limits.TheConstants.{PAGES_END};
+ghost use Rattle.vm_model.specs.Space.Regions.{region_of, AreGoodRegions};
+ghost use Rattle.vm_model.specs.Space.Places.{is_free, has_place};
+ghost use Rattle.mapping_set.specs.Tables.{table_of, places_of};
+ghost use Rattle.region_tree.specs.Tree.{regions_of, is_live_region, spaces_of, AreNoted};
 ghost use Rattle.region_ops.specs.Spaces.{HasNoPlace};
 
 use bitflags::Flags;
@@ -19,6 +23,7 @@ pub(crate) fn live_region(regions: &Regions, name: RegionName) -> Region
     ensures region { regions_of regions.now name.0 ≡ Some result }
     ensures live { result.live ≡ true }
     ensures end { result.first + result.count ≤ ROOT_END }
+    ensures good { AreGoodRegions (regions_of regions.now) }
 {
     let Some(region) = regions.get(name) else {
         unreachable!()
@@ -80,7 +85,8 @@ pub(crate) fn is_misplaced(above: Region, wanted: Wanted, len: u64) -> bool
 }
 
 /// The first page of a free place of `count` pages in a live region, which is `above`. A fixed place ends in the region.
-/// Refusals: `AlreadyExists` where the fixed place is not free, `NoResources` where no place is free that fits.
+/// Refusals: `AlreadyExists` where the fixed place is not free, `NoResources` where no place is free that fits. Where the
+/// live children of each region are noted, it costs one search.
 pub(crate) fn find_place(
     regions: &Regions,
     maps: &MappingSet,
@@ -88,7 +94,9 @@ pub(crate) fn find_place(
     above: Region,
     wanted: Wanted,
     count: u64,
+    noted: bool,
 ) -> Result<PageNo, Refusal>
+    requires noted { noted ≡ true → AreNoted (regions_of regions.now) (places_of maps.now) }
     requires above { regions_of regions.now name.0 ≡ Some above }
     requires live { above.live ≡ true }
     requires end { above.first + above.count ≤ ROOT_END }
@@ -103,7 +111,7 @@ pub(crate) fn find_place(
 {
     if wanted.fixed {
         let first = above.first + page_of(wanted.offset);
-        return if regions.is_free(maps, name, first, count) {
+        return if is_free(regions, maps, name, above, first, count, noted) {
             Ok(first)
         } else {
             Err(Refusal::AlreadyExists)
@@ -114,8 +122,58 @@ pub(crate) fn find_place(
     } else {
         above.count
     };
-    match regions.find_gap(maps, name, count, limit) {
+    match find_gap(regions, maps, name, above, count, limit, noted) {
         Some(first) => Ok(first),
         None => Err(Refusal::NoResources),
+    }
+}
+
+/// Whether `count` pages from `first` on are a free place in a live region, which is `above`.
+fn is_free(
+    regions: &Regions,
+    maps: &MappingSet,
+    name: RegionName,
+    above: Region,
+    first: PageNo,
+    count: u64,
+    noted: bool,
+) -> bool
+    requires noted { noted ≡ true → AreNoted (regions_of regions.now) (places_of maps.now) }
+    requires above { regions_of regions.now name.0 ≡ Some above }
+    requires live { above.live ≡ true }
+    requires pages { first + count ≤ PAGES_END }
+    ensures { result ≡
+        is_free (spaces_of (regions_of regions.now) (table_of maps.now)) name.0 first (first + count) }
+{
+    if noted {
+        regions.is_free_noted(maps, name, above, first, count)
+    } else {
+        regions.is_free(maps, name, first, count)
+    }
+}
+
+/// The first page of a free place of `count` pages in a live region, which is `above`, as `Regions::find_gap` finds it.
+fn find_gap(
+    regions: &Regions,
+    maps: &MappingSet,
+    name: RegionName,
+    above: Region,
+    count: u64,
+    limit: u64,
+    noted: bool,
+) -> Option<PageNo>
+    requires noted { noted ≡ true → AreNoted (regions_of regions.now) (places_of maps.now) }
+    requires above { regions_of regions.now name.0 ≡ Some above }
+    requires live { above.live ≡ true }
+    requires some { 1 ≤ count }
+    ensures { let spaces = spaces_of (regions_of regions.now) (table_of maps.now) in
+        MatchOption result (has_place spaces name.0 count limit ≡ false) (λ (first : ℕ).
+        (is_free spaces name.0 first (first + count) ≡ true) ×
+        (first + count ≤ (region_of (regions_of regions.now) name.0).first + limit)) }
+{
+    if noted {
+        regions.find_gap_noted(maps, name, above, count, limit)
+    } else {
+        regions.find_gap(maps, name, count, limit)
     }
 }

@@ -1,6 +1,6 @@
 //! Changing what accesses to mapped pages may do (`zx_vmar_protect`).
 
-ghost use Rattle.std.specs.Prelude.{◌≡◌, ◌<◌, ◌≤◌, ℕ, true, false, not};
+ghost use Rattle.std.specs.Prelude.{◌≡◌, ◌+◌, ◌<◌, ◌≤◌, ℕ, true, false, not, Some};
 ghost use Rattle.std.specs.Option.{MatchOption};
 ghost use Rattle.vm_model.specs.declared.command.Command.{Command};
 ghost use Rattle.vm_model.specs.declared.reply.Reply.{Reply};
@@ -8,7 +8,8 @@ ghost use Rattle.vm_model.specs.Machine.State.{State};
 ghost use Rattle.vm_model.specs.Machine.Step.{Step, reply_of};
 ghost use Rattle.vm_model.specs.Space.AddressSpaces.{mapped_count};
 ghost use Rattle.vm_model.specs.Space.Mappings.{has_hole, forbids};
-ghost use Rattle.mapping_set.specs.Tables.{table_of};
+ghost use Rattle.vm_base.specs.declared.limits.TheConstants.{ROOT_END};
+ghost use Rattle.mapping_set.specs.Tables.{table_of, places_of};
 ghost use Rattle.region_tree.specs.Tree.{regions_of, is_live_region, spaces_of};
 ghost use Rattle.region_ops.specs.Spaces.{with_spaces};
 ghost use Rattle.region_ops.specs.Covers.{IsCovered};
@@ -17,7 +18,7 @@ use crate::placing::{allows, live_region};
 use crate::ranges::{is_outside, lacks_reading};
 use bitflags::Flags;
 use mapping_set::MappingSet;
-use region_tree::Regions;
+use region_tree::{Region, Regions};
 use vm_base::{PageNo, Perm, Refusal, RegionName, page_count, page_of};
 
 /// Changes what accesses to a range of a live region may do: `len` bytes, rounded up to whole pages, from an address on.
@@ -42,6 +43,29 @@ pub fn protect(
         ≡ mapped_count (spaces_of (regions_of regions.now) (table_of maps.old)) v }
 {
     let above = live_region(regions, region);
+    protect_in(regions, maps, region, above, addr, len, perm)
+}
+
+/// What `protect` does in a live region, which is `above`. What is noted in the regions stays as it is.
+pub fn protect_in(
+    regions: &Regions,
+    maps: &mut MappingSet,
+    region: RegionName,
+    above: Region,
+    addr: u64,
+    len: u64,
+    perm: Perm,
+) -> Result<(), Refusal>
+    requires above { regions_of regions.now region.0 ≡ Some above }
+    requires live { above.live ≡ true }
+    requires end { above.first + above.count ≤ ROOT_END }
+    ensures step { (s : State) → Step (with_spaces s (spaces_of (regions_of regions.now) (table_of maps.old)))
+        (Command.VmarProtect region addr len perm) (reply_of (λ done. Reply.Done) result)
+        (with_spaces s (spaces_of (regions_of regions.now) (table_of maps.new))) }
+    ensures mapped { (v : ℕ) → mapped_count (spaces_of (regions_of regions.now) (table_of maps.new)) v
+        ≡ mapped_count (spaces_of (regions_of regions.now) (table_of maps.old)) v }
+    ensures places { places_of maps.new ≡ places_of maps.old }
+{
     if !allows(above, perm) {
         return Err(Refusal::AccessDenied);
     }

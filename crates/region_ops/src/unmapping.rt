@@ -1,14 +1,15 @@
 //! Unmapping a range (`zx_vmar_unmap`), and destroying a region (`zx_vmar_destroy`).
 
-ghost use Rattle.std.specs.Prelude.{◌≡◌, ◌+◌, true, OnOk, OnErr, None};
+ghost use Rattle.std.specs.Prelude.{◌≡◌, ℕ, ◌+◌, true, Option, OnOk, OnErr, None, Some};
+ghost use Rattle.vm_model.specs.declared.space.Region.{Region};
 ghost use Rattle.vm_model.specs.declared.command.Command.{Command};
 ghost use Rattle.vm_model.specs.declared.reply.Reply.{Reply};
 ghost use Rattle.vm_model.specs.Machine.Step.{reply_of};
 ghost use Rattle.vm_model.specs.Space.Regions.{AreGoodRegions, killed};
 ghost use Rattle.vm_model.specs.Space.Table.{with_pages};
 ghost use Rattle.vm_model.specs.Space.Mappings.{is_mapped_in, lies_below_in};
-ghost use Rattle.mapping_set.specs.Tables.{table_of};
-ghost use Rattle.region_tree.specs.Tree.{regions_of, is_live_region, spaces_of};
+ghost use Rattle.mapping_set.specs.Tables.{table_of, places_of};
+ghost use Rattle.region_tree.specs.Tree.{regions_of, is_live_region, with_one_dead, spaces_of, AreNoted};
 ghost use Rattle.region_ops.specs.Spaces.{AreWell, AreAllWell, LetsGo, Does};
 
 use crate::leaving::{clear_range, clear_region};
@@ -16,7 +17,7 @@ use crate::placing::live_region;
 use crate::ranges::is_outside;
 use mapping_set::MappingSet;
 use page_store::PageStore;
-use region_tree::Regions;
+use region_tree::{Region, Regions};
 use vm_base::{HostMemory, PageNo, Refusal, RegionName, page_count, page_of};
 use vmo_table::VmoTable;
 
@@ -41,6 +42,30 @@ pub fn unmap<P: PageStore>(
         (P.content store.new) vmos.new (spaces_of (regions_of regions.new) (table_of maps.new)) }
 {
     let above = live_region(regions, region);
+    unmap_in(store, vmos, regions, maps, region, above, addr, len)
+}
+
+/// What `unmap` does in a live region, which is `above`. Where the live children of each region are noted, they are noted
+/// afterwards.
+pub fn unmap_in<P: PageStore>(
+    store: &mut P,
+    vmos: &mut VmoTable,
+    regions: &mut Regions,
+    maps: &mut MappingSet,
+    region: RegionName,
+    above: Region,
+    addr: u64,
+    len: u64,
+) -> Result<(), Refusal>
+    requires above { regions_of regions.old region.0 ≡ Some above }
+    requires live { above.live ≡ true }
+    requires well { AreAllWell (P.content store.old) vmos.old (spaces_of (regions_of regions.old) (table_of maps.old)) }
+    ensures does { Does (P.content store.old) vmos.old (spaces_of (regions_of regions.old) (table_of maps.old))
+        (Command.VmarUnmap region addr len) (reply_of (λ done. Reply.Done) result)
+        (P.content store.new) vmos.new (spaces_of (regions_of regions.new) (table_of maps.new)) }
+    ensures noted { AreNoted (regions_of regions.old) (places_of maps.old)
+        → AreNoted (regions_of regions.new) (places_of maps.new) }
+{
     if is_outside(above, addr, len) {
         return Err(Refusal::InvalidArgs);
     }
@@ -72,6 +97,28 @@ pub fn destroy<P: PageStore>(
         (P.content store.new) vmos.new (spaces_of (regions_of regions.new) (table_of maps.new)) }
 {
     let dying = live_region(regions, region);
+    destroy_in(store, vmos, regions, maps, region, dying);
+}
+
+/// What `destroy` does to a live region, which is `dying`. Where the live children of each region are noted, they are noted
+/// afterwards: the notes of those that die are taken back.
+pub fn destroy_in<P: PageStore>(
+    store: &mut P,
+    vmos: &mut VmoTable,
+    regions: &mut Regions,
+    maps: &mut MappingSet,
+    region: RegionName,
+    dying: Region,
+)
+    requires dying { regions_of regions.old region.0 ≡ Some dying }
+    requires live { dying.live ≡ true }
+    requires well { AreAllWell (P.content store.old) vmos.old (spaces_of (regions_of regions.old) (table_of maps.old)) }
+    ensures does { Does (P.content store.old) vmos.old (spaces_of (regions_of regions.old) (table_of maps.old))
+        (Command.VmarDestroy region) Reply.Done
+        (P.content store.new) vmos.new (spaces_of (regions_of regions.new) (table_of maps.new)) }
+    ensures noted { AreNoted (regions_of regions.old) (places_of maps.old)
+        → AreNoted (regions_of regions.new) (places_of maps.new) }
+{
     let mut from = region;
     while let Some(leaf) = regions.destroy_next_from(region, from, dying.first, dying.count) {
         clear_region(store, vmos, maps, dying.root, leaf.name);
@@ -102,6 +149,7 @@ fn clear_mapped<P: PageStore>(
     ensures store { OnErr result (P.content store.new ≡ P.content store.old) }
     ensures vmos { OnErr result (vmos.new ≡ vmos.old) }
     ensures table { OnErr result (table_of maps.new ≡ table_of maps.old) }
+    ensures places { places_of maps.new ≡ places_of maps.old }
 {
     if !is_mapped_in(maps, root, first, count) {
         return Ok(());
@@ -137,6 +185,8 @@ fn destroy_within(
     ensures regions { regions_of regions.new ≡ killed (regions_of regions.old)
         (lies_below_in (regions_of regions.old) region.0 first (first + count)) }
     ensures table { table_of maps.new ≡ table_of maps.old }
+    ensures noted { AreNoted (regions_of regions.old) (places_of maps.old)
+        → AreNoted (regions_of regions.new) (places_of maps.new) }
 {
     let mut from = region;
     while let Some(leaf) = regions.destroy_next_from(region, from, first, count) {
@@ -145,9 +195,12 @@ fn destroy_within(
     }
 }
 
-/// Takes back that a region is noted as taken in its parent, if it has one.
+/// Takes back that a region is noted in its parent, if it has one. It died just now.
 fn free_in_parent(regions: &Regions, maps: &mut MappingSet, name: RegionName)
-    ensures { table_of maps.new ≡ table_of maps.old }
+    ensures table { table_of maps.new ≡ table_of maps.old }
+    ensures noted { (was : ℕ → Option Region) → is_live_region was name.0 ≡ true
+        → regions_of regions.now ≡ with_one_dead was name.0 → AreNoted was (places_of maps.old)
+        → AreNoted (regions_of regions.now) (places_of maps.new) }
 {
     let Some(region) = regions.get(name) else {
         return;

@@ -1,3 +1,4 @@
 pub mod PlaceLaws
 pub mod BelowLaws
 pub mod TreeLaws
+pub mod NotedLaws

@@ -18,9 +18,9 @@ use Rattle.balanced_tree.specs.Rows.{Rows}
 use Rattle.pair_map.specs.declared.pair_row.PairRow.{PairRow}
 use Rattle.pair_map.specs.declared.stretch_row.Extent.{Extent}
 use Rattle.pair_map.specs.Maps.{Covers, IsOpen}
-use Rattle.mapping_set.specs.Tables.{HasNoGap, IsFirstGap}
-use Rattle.region_tree.specs.Tree.{regions_of, spaces_of}
-use Rattle.region_tree.specs.TreeFields.{extent_for, IsTree, IsClear, HasNoClear, IsClearPlace, ReachesOut}
+use Rattle.mapping_set.specs.Tables.{HasNoGap, IsFirstGap, IsClear, HasNoClear, IsFirstClear}
+use Rattle.region_tree.specs.Tree.{regions_of, spaces_of, extent_for}
+use Rattle.region_tree.specs.TreeFields.{IsTree, IsClearPlace, ReachesOut}
 
 -- what the fields hold, as it is seen
 pub seen : {was now : Rows (PairRow Region)} {children : ℕ → ℕ → Option (Extent RegionName)} → was ≡ now → IsTree (regions_of was) children → IsTree (regions_of now) children

@@ -1,13 +1,17 @@
 -- The regions of address spaces, as the callers of the tree see them.
-use Rattle.std.specs.Prelude.{◌≡◌, ℕ, Bool, true, ◌==◌, Option, Some, ◌⊎◌}
+use Rattle.std.specs.Prelude.{◌≡◌, ℕ, ◌<◌, Bool, true, ◌==◌, Option, Some, ◌⊎◌}
 use Rattle.balanced_tree.specs.Rows.{Rows}
 use Rattle.pair_map.specs.declared.pair_row.PairRow.{PairRow}
-use Rattle.pair_map.specs.Maps.{values_of}
+use Rattle.pair_map.specs.Maps.{values_of, IsOpen}
+use Rattle.pair_map.specs.declared.stretch_row.Extent.{Extent}
 use Rattle.vm_base.specs.Entries.{passes}
+use Rattle.vm_base.specs.declared.limits.TheConstants.{NAMES}
+use Rattle.vm_base.specs.declared.names.RegionName.{RegionName}
 use Rattle.vm_model.specs.declared.space.Entry.{Entry}
 use Rattle.vm_model.specs.declared.space.Region.{Region}
-use Rattle.vm_model.specs.Space.Regions.{lies_in, any_child, is_below, killed}
+use Rattle.vm_model.specs.Space.Regions.{lies_in, is_child, any_child, is_below, killed}
 use Rattle.vm_model.specs.Space.AddressSpaces.{Spaces}
+use Rattle.mapping_set.specs.Pieces.{list_number}
 
 -- the regions under their names
 abbrev pub Tree : Type 0
@@ -48,3 +52,35 @@ HasNoneWithin regions above first end = (name : ℕ) → IsWithin regions above 
 -- a region below `above` that lies in the range is looked for from here on: from `above` itself, or from one that is such a region
 abbrev pub IsStart : (ℕ → Option Region) → (above first end start : ℕ) → Type 0
 IsStart regions above first end start = (start ≡ above) ⊎ IsWithin regions above first end start
+
+-- the extent stands for a live child of `parent`, which begins at this page
+pub record IsChildAt (regions : ℕ → Option Region) (parent page : ℕ) (e : Extent RegionName) : Type 0 where
+  pub region : Region
+  pub given : regions e.value.0 ≡ Some region
+  pub child : is_child parent region ≡ true
+  pub first : region.first ≡ page
+  pub count : region.count ≡ e.count
+
+-- the extent of a region
+abbrev pub extent_for : ℕ → Region → Extent RegionName
+extent_for n region = record { count = region.count; value = record { 0 = n } }
+
+-- the live region n, which is the child of another, is noted as a place in its parent
+pub record IsNoted (places : ℕ → ℕ → Option (Extent RegionName)) (parent n : ℕ) (region : Region) : Type 0 where
+  pub root : region.root.0 < NAMES
+  pub is : places (list_number parent region.root.0) region.first ≡ Some (extent_for n region)
+
+-- the place in the list of `parent` is a live child of it, of this address space
+pub record IsChildIn (regions : ℕ → Option Region) (parent root page : ℕ) (e : Extent RegionName) : Type 0 where
+  pub at : IsChildAt regions parent page e
+  pub root_is : at.region.root.0 ≡ root
+
+-- The places that a set of mappings has noted are the live children of each region, and nothing else. With them its list of a
+-- region tells all that is taken in it.
+pub record AreNoted (regions : ℕ → Option Region) (places : ℕ → ℕ → Option (Extent RegionName)) : Type 0 where
+  pub noted : (p n : ℕ) (region : Region) → regions n ≡ Some region → is_child p region ≡ true → IsNoted places p n region
+  pub only : (p root page : ℕ) (e : Extent RegionName) → root < NAMES → places (list_number p root) page ≡ Some e → IsChildIn regions p root page e
+
+-- no place that was noted in the region has one of `count` pages from `first` on
+abbrev pub IsVacant : (ℕ → ℕ → Option (Extent RegionName)) → (root region first count : ℕ) → Type 0
+IsVacant places root region first count = IsOpen (places (list_number region root)) first count

@@ -4,21 +4,10 @@ use Rattle.vm_base.specs.declared.names.RegionName.{RegionName}
 use Rattle.vm_model.specs.declared.space.Entry.{Entry}
 use Rattle.vm_model.specs.declared.space.Region.{Region}
 use Rattle.vm_model.specs.Space.Regions.{end_of, lies_in, is_child, any_child, is_below, AreGoodRegions}
-use Rattle.vm_model.specs.Space.Table.{has_entry}
 use Rattle.pair_map.specs.declared.stretch_row.Extent.{Extent}
-use Rattle.pair_map.specs.Maps.{Covers, IsOpen}
-
--- the extent stands for a live child of `parent`, which begins at this page
-pub record IsChildAt (regions : ℕ → Option Region) (parent page : ℕ) (e : Extent RegionName) : Type 0 where
-  pub region : Region
-  pub given : regions e.value.0 ≡ Some region
-  pub child : is_child parent region ≡ true
-  pub first : region.first ≡ page
-  pub count : region.count ≡ e.count
-
--- the extent of a region
-abbrev pub extent_for : ℕ → Region → Extent RegionName
-extent_for n region = record { count = region.count; value = record { 0 = n } }
+use Rattle.pair_map.specs.Maps.{Covers}
+use Rattle.mapping_set.specs.Tables.{IsClear}
+use Rattle.region_tree.specs.Tree.{extent_for, IsChildAt}
 
 -- The regions are good, and the extents are the live children of each region, under the page where each begins.
 pub record IsTree (regions : ℕ → Option Region) (children : ℕ → ℕ → Option (Extent RegionName)) : Type 0 where
@@ -52,15 +41,6 @@ pub record IsOver (regions : ℕ → Option Region) (above page name : ℕ) : Ty
 pub record HasNoneOver (regions : ℕ → Option Region) (above page first end : ℕ) : Type 0 where
   pub here : any_child regions above (lies_in first end) ≡ false
   pub deeper : (name : ℕ) → IsOver regions above page name → any_child regions name (lies_in first end) ≡ false
-
--- a range of pages is in no extent, and none of its pages has an entry that belongs to the region
-pub record IsClear (extents : ℕ → Option (Extent RegionName)) (table : ℕ → ℕ → Option Entry) (root region first count : ℕ) : Type 0 where
-  pub apart : IsOpen extents first count
-  pub bare : has_entry table root region first (first + count) ≡ false
-
--- no range of this many pages from `from` on and below the limit is clear
-abbrev pub HasNoClear : (ℕ → Option (Extent RegionName)) → (ℕ → ℕ → Option Entry) → (root region from count limit : ℕ) → Type 0
-HasNoClear extents table root region from count limit = (p : ℕ) → from ≤ p → p + count ≤ limit → IsClear extents table root region p count → ⊥
 
 -- the range at p is clear
 pub record IsClearPlace (extents : ℕ → Option (Extent RegionName)) (table : ℕ → ℕ → Option Entry) (root region from count limit p : ℕ) : Type 0 where

@@ -1,14 +1,14 @@
 //! Look-ups and searches in the fields of the tree.
 
-ghost use Rattle.std.specs.Prelude.{◌≡◌, ◌↔◌, ◌+◌, ◌≤◌, nat_lt, ◌&&◌, true, None, Some, IsSome, IsTrue, ⊤};
+ghost use Rattle.std.specs.Prelude.{◌≡◌, ◌↔◌, ◌+◌, ◌-◌, ◌^◌, ◌≤◌, min, nat_lt, ◌&&◌, true, None, Some, IsSome, IsTrue, ⊤};
 ghost use Rattle.std.specs.Option.{MatchOption};
 ghost use Rattle.vm_base.specs.declared.limits.TheConstants.{PAGES_END};
 ghost use Rattle.balanced_tree.specs.Pairs.{with_pair};
 ghost use Rattle.pair_map.specs.Maps.{values_of, extents_of};
 ghost use Rattle.vm_model.specs.Space.Regions.{end_of, lies_in, reaches_over};
-ghost use Rattle.mapping_set.specs.Tables.{table_of};
+ghost use Rattle.mapping_set.specs.Tables.{table_of, HasNoClear};
 ghost use Rattle.region_tree.specs.Tree.{is_live_region};
-ghost use Rattle.region_tree.specs.TreeFields.{HasNoClear, IsClearPlace, ReachesOut, IsBetween, HasNoneBetween};
+ghost use Rattle.region_tree.specs.TreeFields.{IsClearPlace, ReachesOut, IsBetween, HasNoneBetween};
 
 use mapping_set::MappingSet;
 use pair_map::{ExtentMap, PairMap};
@@ -41,6 +41,17 @@ pub(crate) fn lies_in(region: Region, first: PageNo, count: u64) -> bool
     ensures { result ≡ lies_in first (first + count) region }
 {
     first <= region.first && region.count <= count && region.first - first <= count - region.count
+}
+
+/// The page behind the last one that a place in a region may have, which ends at most `limit` pages behind its start.
+pub(crate) fn end_within(region: Region, limit: u64) -> PageNo
+    requires { end_of region ≤ PAGES_END }
+    ensures { result ≡ min (min (region.first + limit) (2 ^ 64 - 1)) (end_of region) }
+{
+    region
+        .first
+        .saturating_add(limit)
+        .min(region.first + region.count)
 }
 
 /// The first page from `first` on of `count` pages, below the limit, that are in no child of the region and have no

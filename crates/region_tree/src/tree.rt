@@ -7,12 +7,12 @@ ghost use Rattle.vm_base.specs.Entries.{with_key};
 ghost use Rattle.vm_model.specs.Space.Regions.{region_of, root_region, region_below, reaches_over, meets_child, cuts_child, is_below};
 ghost use Rattle.vm_model.specs.Space.Regions.{AreGoodRegions};
 ghost use Rattle.vm_model.specs.Space.Places.{is_free, has_place};
-ghost use Rattle.mapping_set.specs.Tables.{table_of};
+ghost use Rattle.mapping_set.specs.Tables.{table_of, places_of};
 ghost use Rattle.region_tree.specs.Tree.{regions_of, is_live_region, has_child, with_one_dead, spaces_of};
-ghost use Rattle.region_tree.specs.Tree.{IsWithin, HasNoneWithin, IsStart};
+ghost use Rattle.region_tree.specs.Tree.{IsWithin, HasNoneWithin, IsStart, AreNoted};
 ghost use Rattle.region_tree.specs.TreeFields.{HasNoneOver};
 
-use crate::fields::{child_in, gap_in, held, leave_parent, lies_in, reaches_out, reaches_over};
+use crate::fields::{child_in, end_within, gap_in, held, leave_parent, lies_in, reaches_out, reaches_over};
 use mapping_set::MappingSet;
 use pair_map::{ExtentMap, PairMap};
 use std::alloc::Global;
@@ -142,9 +142,8 @@ impl Regions {
     }
 
     /// The first page of a free place of `count` pages in a live region, which ends at most `limit` pages behind the
-    /// start of the region. `None` exactly where there is none. Where the set of mappings has noted the live children of
-    /// the region, and no other place, this is the lowest place, and costs one search and two look-ups. That there is none
-    /// costs a search for each change between children and mappings up to the limit.
+    /// start of the region. `None` exactly where there is none. It rests on no note of a place, and so costs a search for
+    /// each change between children and mappings up to the place. Where places are noted, `find_gap_noted` costs one.
     pub fn find_gap(
         &self,
         maps: &MappingSet,
@@ -160,13 +159,7 @@ impl Regions {
             (first + count ≤ (region_of (regions_of self.now) region.0).first + limit)) }
     {
         let above = held(&self.regions, region);
-        let end = above
-            .first
-            .saturating_add(limit)
-            .min(above.first + above.count);
-        if let Some(first) = self.likely_place(maps, region, above, count, end) {
-            return Some(first);
-        }
+        let end = end_within(above, limit);
         gap_in(
             &self.children,
             maps,
@@ -178,27 +171,28 @@ impl Regions {
         )
     }
 
-    /// The place that the set of mappings has to offer in a live region, which is `above`, if it ends below `end` and is
-    /// free: one search and a look at the children and the entries there.
-    fn likely_place(
+    /// What `find_gap` answers of a live region, which is `above`, where the set of mappings has noted the live children of
+    /// each region. One search by gaps, also where there is no place; the place is the lowest one.
+    pub fn find_gap_noted(
         &self,
         maps: &MappingSet,
         region: RegionName,
         above: Region,
         count: u64,
-        end: PageNo,
+        limit: u64,
     ) -> Option<PageNo>
-        requires live { is_live_region (regions_of self.now) region.0 ≡ true }
+        requires noted { AreNoted (regions_of self.now) (places_of maps.now) }
+        requires above { regions_of self.now region.0 ≡ Some above }
+        requires live { above.live ≡ true }
         requires some { 1 ≤ count }
-        requires end { end ≤ PAGES_END }
-        ensures { IfSome result (λ (first : ℕ). (first + count ≤ end) ×
-            (is_free (spaces_of (regions_of self.now) (table_of maps.now)) region.0 first (first + count) ≡ true)) }
+        ensures { let spaces = spaces_of (regions_of self.now) (table_of maps.now) in
+            MatchOption result (has_place spaces region.0 count limit ≡ false) (λ (first : ℕ).
+            (is_free spaces region.0 first (first + count) ≡ true) ×
+            (first + count ≤ (region_of (regions_of self.now) region.0).first + limit)) }
     {
-        let first = maps.likely_gap(above.root, region, above.first, count, end)?;
-        if self.is_free(maps, region, first, count) {
-            return Some(first);
-        }
-        None
+        let _apart = self.children.len();
+        let end = end_within(above, limit);
+        maps.first_clear(above.root, region, above.first, count, end)
     }
 
     /// Whether `count` pages from `first` on are a free place in a live region.
@@ -217,6 +211,30 @@ impl Regions {
         }
         maps.first_gap(above.root, region, first, count, first + count)
             .is_some()
+    }
+
+    /// What `is_free` answers of a live region, which is `above`, where the set of mappings has noted the live children of
+    /// each region. One look-up.
+    pub fn is_free_noted(
+        &self,
+        maps: &MappingSet,
+        region: RegionName,
+        above: Region,
+        first: PageNo,
+        count: u64,
+    ) -> bool
+        requires noted { AreNoted (regions_of self.now) (places_of maps.now) }
+        requires above { regions_of self.now region.0 ≡ Some above }
+        requires live { above.live ≡ true }
+        requires pages { first + count ≤ PAGES_END }
+        ensures { result ≡
+            is_free (spaces_of (regions_of self.now) (table_of maps.now)) region.0 first (first + count) }
+    {
+        let _apart = self.children.len();
+        if !reaches_over(above, first, count) {
+            return false;
+        }
+        maps.is_clear(above.root, region, first, count)
     }
 
     /// Whether a live child of a live region has one of `count` pages from `first` on.

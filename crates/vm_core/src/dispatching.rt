@@ -2,8 +2,8 @@
 //! so that each of them is a short `match`. Their `ready` are the translations, of the pages that are ready for an access.
 
 ghost use Rattle.std.specs.Prelude.{◌≡◌, ◌≢◌, ◌<◌, ◌≤◌, length};
-ghost use Rattle.mapping_set.specs.Tables.{table_of};
-ghost use Rattle.region_tree.specs.Tree.{regions_of, spaces_of};
+ghost use Rattle.mapping_set.specs.Tables.{table_of, places_of as notes_of};
+ghost use Rattle.region_tree.specs.Tree.{regions_of, spaces_of, AreNoted};
 ghost use Rattle.vm_base.specs.declared.limits.TheConstants.{DATA_BYTES, KOIDS, PIN_PAGES};
 ghost use Rattle.vm_model.specs.Machine.Lent.{command_of, reply_for};
 ghost use Rattle.vmo_table.specs.Table.{IsWellCounted};
@@ -49,12 +49,14 @@ pub(crate) fn dispatch<'a, P: PageStore>(
     requires group { group_of call.now ≢ Group.Memory }
     requires well { IsWellCounted vmos.old (state_with (P.content store.old) vmos.old pins.old
         (spaces_of (regions_of regions.old) (table_of maps.old))) }
+    requires noted { AreNoted (regions_of regions.old) (notes_of maps.old) }
     requires next { (P.content store.old).next < KOIDS }
     requires bytes { DATA_BYTES ≤ length bytes.old }
     requires numbers { PIN_PAGES ≤ length numbers.old }
-    ensures { Handles (P.content store.old) vmos.old pins.old (spaces_of (regions_of regions.old) (table_of maps.old))
+    ensures handles { Handles (P.content store.old) vmos.old pins.old (spaces_of (regions_of regions.old) (table_of maps.old))
         (places_of ready.old) (command_of call.now) (reply_for result) (P.content store.new) vmos.new pins.new
         (spaces_of (regions_of regions.new) (table_of maps.new)) (places_of ready.new) }
+    ensures noted { AreNoted (regions_of regions.new) (notes_of maps.new) }
 {
     match group_of(call) {
         Group::Vmo => on_vmo(store, vmos, pins, ready, call),
@@ -189,9 +191,11 @@ fn on_region<P: PageStore>(
 ) -> Answer<'static>
     requires group { group_of call.now ≡ Group.Region }
     requires well { AreAllWell (P.content store.old) vmos.old (spaces_of (regions_of regions.old) (table_of maps.old)) }
-    ensures { DoesSpaces (P.content store.old) vmos.old (spaces_of (regions_of regions.old) (table_of maps.old))
+    requires noted { AreNoted (regions_of regions.old) (notes_of maps.old) }
+    ensures does { DoesSpaces (P.content store.old) vmos.old (spaces_of (regions_of regions.old) (table_of maps.old))
         (places_of ready.old) (command_of call.now) (reply_for result) (P.content store.new) vmos.new
         (spaces_of (regions_of regions.new) (table_of maps.new)) (places_of ready.new) }
+    ensures noted { AreNoted (regions_of regions.new) (notes_of maps.new) }
 {
     match call {
         Call::RootCreate { region } => root_create(regions, maps, *region),

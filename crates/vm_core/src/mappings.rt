@@ -6,8 +6,8 @@ ghost use Rattle.vm_model.specs.declared.command.Command.{Command};
 ghost use Rattle.vm_model.specs.Machine.Lent.{reply_for};
 ghost use Rattle.vm_model.specs.Machine.State.{State, IsGoodState};
 ghost use Rattle.vm_model.specs.Space.AddressSpaces.{mapped_count};
-ghost use Rattle.mapping_set.specs.Tables.{table_of};
-ghost use Rattle.region_tree.specs.Tree.{regions_of, spaces_of};
+ghost use Rattle.mapping_set.specs.Tables.{table_of, places_of as notes_of};
+ghost use Rattle.region_tree.specs.Tree.{regions_of, spaces_of, AreNoted};
 ghost use Rattle.region_ops.specs.Spaces.{AreAllWell, Does};
 ghost use Rattle.fault.specs.Table.{places_of};
 ghost use Rattle.vm_core.specs.Calls.{LeavesSpaces, StepsSpaces};
@@ -38,12 +38,14 @@ pub(crate) fn vmar_map<P: PageStore>(
     perm: Perm,
     flags: MapFlags,
 ) -> Answer<'static>
-    requires { AreAllWell (P.content store.old) vmos.old (spaces_of (regions_of regions.now) (table_of maps.old)) }
+    requires well { AreAllWell (P.content store.old) vmos.old (spaces_of (regions_of regions.now) (table_of maps.old)) }
+    requires noted { AreNoted (regions_of regions.now) (notes_of maps.old) }
     ensures step { Does (P.content store.old) vmos.old (spaces_of (regions_of regions.now) (table_of maps.old))
         (Command.VmarMap region offset name vmo_offset len perm flags) (reply_for result)
         (P.content store.new) vmos.new (spaces_of (regions_of regions.now) (table_of maps.new)) }
     ensures left { LeavesSpaces (spaces_of (regions_of regions.now) (table_of maps.old)) (places_of translations.old)
         (Command.VmarMap region offset name vmo_offset len perm flags) (reply_for result) (places_of translations.new) }
+    ensures noted { AreNoted (regions_of regions.now) (notes_of maps.new) }
 {
     let Some(above) = regions.get(region) else {
         return Answer::Refused(Refusal::BadHandle);
@@ -54,8 +56,8 @@ pub(crate) fn vmar_map<P: PageStore>(
     if !above.live {
         return Answer::Refused(Refusal::BadState);
     }
-    match region_ops::map(
-        store, vmos, regions, maps, region, offset, &target, vmo_offset, len, perm, flags,
+    match region_ops::map_noted(
+        store, vmos, regions, maps, region, above, offset, &target, vmo_offset, len, perm, flags,
     ) {
         Ok(address) => {
             forget_pages(translations, above.root, page_of(address), page_count(len));
@@ -77,12 +79,14 @@ pub(crate) fn vmar_unmap<P: PageStore>(
     addr: u64,
     len: u64,
 ) -> Answer<'static>
-    requires { AreAllWell (P.content store.old) vmos.old (spaces_of (regions_of regions.old) (table_of maps.old)) }
+    requires well { AreAllWell (P.content store.old) vmos.old (spaces_of (regions_of regions.old) (table_of maps.old)) }
+    requires noted { AreNoted (regions_of regions.old) (notes_of maps.old) }
     ensures step { Does (P.content store.old) vmos.old (spaces_of (regions_of regions.old) (table_of maps.old))
         (Command.VmarUnmap region addr len) (reply_for result)
         (P.content store.new) vmos.new (spaces_of (regions_of regions.new) (table_of maps.new)) }
     ensures left { LeavesSpaces (spaces_of (regions_of regions.old) (table_of maps.old)) (places_of translations.old)
         (Command.VmarUnmap region addr len) (reply_for result) (places_of translations.new) }
+    ensures noted { AreNoted (regions_of regions.new) (notes_of maps.new) }
 {
     let Some(above) = regions.get(region) else {
         return Answer::Refused(Refusal::BadHandle);
@@ -90,7 +94,7 @@ pub(crate) fn vmar_unmap<P: PageStore>(
     if !above.live {
         return Answer::Refused(Refusal::BadState);
     }
-    match region_ops::unmap(store, vmos, regions, maps, region, addr, len) {
+    match region_ops::unmap_in(store, vmos, regions, maps, region, above, addr, len) {
         Ok(()) => {
             forget_pages(translations, above.root, page_of(addr), page_count(len));
             Answer::Done
@@ -110,7 +114,8 @@ pub(crate) fn vmar_protect(
     len: u64,
     perm: Perm,
 ) -> Answer<'static>
-    requires { (s : State) × IsGoodState (record s { spaces = spaces_of (regions_of regions.now) (table_of maps.old) }) }
+    requires good { (s : State) × IsGoodState (record s { spaces = spaces_of (regions_of regions.now) (table_of maps.old) }) }
+    requires noted { AreNoted (regions_of regions.now) (notes_of maps.old) }
     ensures step { StepsSpaces (spaces_of (regions_of regions.now) (table_of maps.old))
         (Command.VmarProtect region addr len perm) (reply_for result)
         (spaces_of (regions_of regions.now) (table_of maps.new)) }
@@ -118,6 +123,7 @@ pub(crate) fn vmar_protect(
         (Command.VmarProtect region addr len perm) (reply_for result) (places_of translations.new) }
     ensures mapped { (v : ℕ) → mapped_count (spaces_of (regions_of regions.now) (table_of maps.new)) v
         ≡ mapped_count (spaces_of (regions_of regions.now) (table_of maps.old)) v }
+    ensures noted { AreNoted (regions_of regions.now) (notes_of maps.new) }
 {
     let Some(above) = regions.get(region) else {
         return Answer::Refused(Refusal::BadHandle);
@@ -125,7 +131,7 @@ pub(crate) fn vmar_protect(
     if !above.live {
         return Answer::Refused(Refusal::BadState);
     }
-    match region_ops::protect(regions, maps, region, addr, len, perm) {
+    match region_ops::protect_in(regions, maps, region, above, addr, len, perm) {
         Ok(()) => {
             forget_pages(translations, above.root, page_of(addr), page_count(len));
             Answer::Done

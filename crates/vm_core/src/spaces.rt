@@ -5,8 +5,8 @@ ghost use Rattle.std.specs.Prelude.{◌≡◌, ◌<◌};
 ghost use Rattle.vm_base.specs.declared.limits.TheConstants.{NAMES};
 ghost use Rattle.vm_model.specs.declared.command.Command.{Command};
 ghost use Rattle.vm_model.specs.Machine.Lent.{reply_for};
-ghost use Rattle.mapping_set.specs.Tables.{table_of};
-ghost use Rattle.region_tree.specs.Tree.{regions_of, spaces_of};
+ghost use Rattle.mapping_set.specs.Tables.{table_of, places_of as notes_of};
+ghost use Rattle.region_tree.specs.Tree.{regions_of, spaces_of, AreNoted};
 ghost use Rattle.region_ops.specs.Spaces.{AreAllWell, Does};
 ghost use Rattle.fault.specs.Table.{places_of};
 ghost use Rattle.vm_core.specs.Calls.{LeavesSpaces, StepsSpaces};
@@ -16,7 +16,7 @@ use fault::Translations;
 use mapping_set::MappingSet;
 use page_store::PageStore;
 use region_tree::Regions;
-use vm_base::{MapFlags, PAGES_END, PageNo, Perm, Refusal, RegionName, page_count, page_of};
+use vm_base::{MapFlags, Perm, Refusal, RegionName};
 use vm_model::Answer;
 use vmo_table::VmoTable;
 
@@ -26,9 +26,11 @@ pub(crate) fn root_create(
     maps: &MappingSet,
     region: RegionName,
 ) -> Answer<'static>
+    requires noted { AreNoted (regions_of regions.old) (notes_of maps.now) }
     ensures step { StepsSpaces (spaces_of (regions_of regions.old) (table_of maps.now)) (Command.RootCreate region)
         (reply_for result) (spaces_of (regions_of regions.new) (table_of maps.now)) }
     ensures name { region.0 < NAMES }
+    ensures noted { AreNoted (regions_of regions.new) (notes_of maps.now) }
 {
     if regions.get(region).is_some() {
         return Answer::Refused(Refusal::NameInUse);
@@ -51,11 +53,13 @@ pub(crate) fn vmar_allocate(
     flags: MapFlags,
     caps: Perm,
 ) -> Answer<'static>
+    requires noted { AreNoted (regions_of regions.old) (notes_of maps.old) }
     ensures step { StepsSpaces (spaces_of (regions_of regions.old) (table_of maps.old))
         (Command.VmarAllocate region parent offset len flags caps) (reply_for result)
         (spaces_of (regions_of regions.new) (table_of maps.new)) }
     ensures table { table_of maps.new ≡ table_of maps.old }
     ensures name { region.0 < NAMES }
+    ensures noted { AreNoted (regions_of regions.new) (notes_of maps.new) }
 {
     let Some(above) = regions.get(parent) else {
         return Answer::Refused(Refusal::BadHandle);
@@ -66,30 +70,12 @@ pub(crate) fn vmar_allocate(
     if !above.live {
         return Answer::Refused(Refusal::BadState);
     }
-    match region_ops::allocate(regions, maps, region, parent, offset, len, flags, caps) {
-        Ok(address) => {
-            hold_pages(maps, above.root, parent, page_of(address), page_count(len));
-            Answer::Address(address)
-        }
+    match region_ops::allocate_noted(
+        regions, maps, region, parent, above, offset, len, flags, caps,
+    ) {
+        Ok(address) => Answer::Address(address),
         Err(refusal) => Answer::Refused(refusal),
     }
-}
-
-/// Notes that the pages of a new region are taken in its parent. Where the host lacks memory for it, the next searches in
-/// the parent take longer.
-fn hold_pages(
-    maps: &mut MappingSet,
-    root: RegionName,
-    parent: RegionName,
-    first: PageNo,
-    count: u64,
-)
-    ensures { table_of maps.new ≡ table_of maps.old }
-{
-    if count == 0 || first > PAGES_END || count > PAGES_END - first {
-        return;
-    }
-    let _noted = maps.hold_place(root, parent, first, count);
 }
 
 /// Destroys a region and all below it, where it was given and is live. What is mapped in them is unmapped,
@@ -103,12 +89,14 @@ pub(crate) fn vmar_destroy<P: PageStore>(
     translations: &mut Translations,
     region: RegionName,
 ) -> Answer<'static>
-    requires { AreAllWell (P.content store.old) vmos.old (spaces_of (regions_of regions.old) (table_of maps.old)) }
+    requires well { AreAllWell (P.content store.old) vmos.old (spaces_of (regions_of regions.old) (table_of maps.old)) }
+    requires noted { AreNoted (regions_of regions.old) (notes_of maps.old) }
     ensures step { Does (P.content store.old) vmos.old (spaces_of (regions_of regions.old) (table_of maps.old))
         (Command.VmarDestroy region) (reply_for result)
         (P.content store.new) vmos.new (spaces_of (regions_of regions.new) (table_of maps.new)) }
     ensures left { LeavesSpaces (spaces_of (regions_of regions.old) (table_of maps.old)) (places_of translations.old)
         (Command.VmarDestroy region) (reply_for result) (places_of translations.new) }
+    ensures noted { AreNoted (regions_of regions.new) (notes_of maps.new) }
 {
     let Some(dying) = regions.get(region) else {
         return Answer::Refused(Refusal::BadHandle);
@@ -116,7 +104,7 @@ pub(crate) fn vmar_destroy<P: PageStore>(
     if !dying.live {
         return Answer::Refused(Refusal::BadState);
     }
-    region_ops::destroy(store, vmos, regions, maps, region);
+    region_ops::destroy_in(store, vmos, regions, maps, region, dying);
     forget_pages(translations, dying.root, dying.first, dying.count);
     Answer::Done
 }

@@ -3,7 +3,7 @@ use Rattle.region_ops.proofs.ClearLaws.{IsOnTheWay-start, IsOnTheWay-step, entri
 use Rattle.region_ops.proofs.leaving.clear_range.Goals as goal
 
 pub loop-piece-init : goal.loop-piece-init
-loop-piece-init g c = record { way = IsOnTheWay-start c.requires.well; cleared = refl; room = inl (omega arith) }
+loop-piece-init g c = record { way = IsOnTheWay-start c.requires.well; cleared = refl; room = inl (omega arith); places = refl }
 
 pub loop-piece-smaller : goal.loop-piece-smaller
 loop-piece-smaller g c = entries_under-step _ _ c.args.root.0 c.in-Some.piece c.in-Some.ensures.table c.in-Some.ensures.piece.next.is
@@ -16,9 +16,13 @@ loop-piece-preserved g c =
       way = IsOnTheWay-step _ _ c.args.root.0 c.in-Some.piece taken c.loop-piece.invariant.way at.next.is _ _ (c.let_go.ensures.gone _ c.args.root.0 at.next.is);
       cleared = cleared-step _ _ c.args.root.0 c.in-Some.piece taken _ _ at ∙ c.loop-piece.invariant.cleared;
       room = HasRoomLeft-step _ _ c.args.root.0 c.in-Some.piece taken _ _ _ _ _ at c.in-Some.ensures.spare c.in-Some.ensures.rest c.loop-piece.invariant.room;
+      places = c.in-Some.ensures.places ∙ c.loop-piece.invariant.places;
     }
 
 pub returns-clause-table : goal.returns-clause-table
 returns-clause-table g c =
     c.in_default.ensures.table
     ∙ (cleared-bare _ c.args.root.0 _ _ c.in_default.ensures.piece ∙ c.loop-piece.invariant.cleared)
+
+pub returns-clause-places : goal.returns-clause-places
+returns-clause-places g c = c.in_default.ensures.places ∙ c.loop-piece.invariant.places

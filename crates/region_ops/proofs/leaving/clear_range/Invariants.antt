@@ -1,6 +1,6 @@
 use Rattle.std.proofs.Common.{◌≡◌, ◌+◌, None}
 use Rattle.vm_model.specs.Space.Table.{with_pages}
-use Rattle.mapping_set.specs.Tables.{table_of, spare_of}
+use Rattle.mapping_set.specs.Tables.{table_of, spare_of, places_of}
 use Rattle.region_ops.proofs.ClearLaws.{IsOnTheWay, HasRoomLeft, entries_under}
 use Rattle.region_ops.proofs.leaving.clear_range.Given as goal
 
@@ -10,6 +10,7 @@ invariant-loop-piece g l = record {
   cleared : with_pages (table_of l.maps) l.root.0 l.first (l.first + l.count) (λ p. None)
       ≡ with_pages (table_of l.initial.maps) l.root.0 l.first (l.first + l.count) (λ p. None);
   room : HasRoomLeft (spare_of l.initial.maps) (spare_of l.maps) (table_of l.maps l.root.0) l.first (l.first + l.count);
+  places : places_of l.maps ≡ places_of l.initial.maps;
 }
 
 abbrev pub decreases-loop-piece : goal.decreases-loop-piece

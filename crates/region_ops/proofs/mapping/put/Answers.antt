@@ -1,4 +1,4 @@
-use Rattle.std.proofs.Common.{arith}
+use Rattle.std.proofs.Common.{◌∙◌, arith}
 use Rattle.region_ops.proofs.MapLaws.{put_vmo, put_few, put_bare, put_state, put_counted}
 use Rattle.region_ops.proofs.mapping.put.Goals as goal
 
@@ -14,8 +14,8 @@ pub place-requires-clause-bare : goal.place-requires-clause-bare
 place-requires-clause-bare g c =
     put_bare c.requires.well.rest _ _ _ _ _ _ _ _ _ c.requires.well.well c.clear_place.ensures.gone c.requires.place c.clear_place.ensures.table
 
-pub returns : goal.returns
-returns g c = record {
+pub returns-clause-puts : goal.returns-clause-puts
+returns-clause-puts g c = record {
   put = λ s well.
       put_state s _ _ _ _ c.clear_place.new.vmos _ _ _ _ well c.clear_place.ensures.gone c.requires.place c.clear_place.ensures.table
       c.keep.new.self _ c.keep.ensures.names c.keep.ensures.lineage c.keep.ensures.keepers c.place.ensures.table;
@@ -23,3 +23,6 @@ returns g c = record {
       put_counted s _ _ _ _ c.clear_place.new.vmos _ _ _ _ well c.clear_place.ensures.gone c.requires.place c.clear_place.ensures.table
       c.keep.new.self _ c.keep.ensures.names c.keep.ensures.lineage c.keep.ensures.keepers c.place.ensures.table;
 }
+
+pub returns-clause-places : goal.returns-clause-places
+returns-clause-places g c = λ vacant. c.place.ensures.places (rw c.clear_place.ensures.places vacant) ∙ c.clear_place.ensures.places

@@ -1,7 +1,6 @@
 use Rattle.std.proofs.Common.{ℕ, ◌+◌, ◌-◌, ◌<◌, ◌≤◌}
 use Rattle.pair_map.specs.Maps.{extents_of}
-use Rattle.mapping_set.specs.Tables.{table_of}
-use Rattle.region_tree.specs.TreeFields.{IsClear}
+use Rattle.mapping_set.specs.Tables.{table_of, IsClear}
 use Rattle.region_tree.proofs.fields.gap_in.Given as goal
 
 -- no range before `from` is clear

@@ -5,26 +5,26 @@ use Rattle.region_tree.specs.Tree.{regions_of, spaces_of}
 use Rattle.vm_core.proofs.CallLaws.{does_regions, does_mapped, leaves_spaces}
 use Rattle.vm_core.proofs.dispatching.on_region.Goals as goal
 
-pub vmar_protect-requires : goal.vmar_protect-requires
-vmar_protect-requires g c = (with_all c.requires.well.rest (g.P.PageStore.content c.args.store.now) c.args.vmos.now (spaces_of (regions_of c.args.regions.now) (table_of c.args.maps.now)), c.requires.well.well.good)
+pub vmar_protect-requires-clause-good : goal.vmar_protect-requires-clause-good
+vmar_protect-requires-clause-good g c = (with_all c.requires.well.rest (g.P.PageStore.content c.args.store.now) c.args.vmos.now (spaces_of (regions_of c.args.regions.now) (table_of c.args.maps.now)), c.requires.well.well.good)
 
 pub returns-in-RootCreate : goal.returns-in-RootCreate
-returns-in-RootCreate g c = rw c.in-RootCreate.is (record { does = does_regions c.root_create.ensures.step; leaves = leaves_spaces (λ s d r. refl); name = c.root_create.ensures.name })
+returns-in-RootCreate g c = record { does = rw c.in-RootCreate.is (record { does = does_regions c.root_create.ensures.step; leaves = leaves_spaces (λ s d r. refl); name = c.root_create.ensures.name }); noted = c.root_create.ensures.noted }
 
 pub returns-in-VmarAllocate : goal.returns-in-VmarAllocate
-returns-in-VmarAllocate g c = rw (c.in-VmarAllocate.is, c.vmar_allocate.ensures.table) (record { does = does_regions (rw c.vmar_allocate.ensures.table at c.vmar_allocate.ensures.step); leaves = leaves_spaces (λ s d r. refl); name = c.vmar_allocate.ensures.name })
+returns-in-VmarAllocate g c = record { does = rw (c.in-VmarAllocate.is, c.vmar_allocate.ensures.table) (record { does = does_regions (rw c.vmar_allocate.ensures.table at c.vmar_allocate.ensures.step); leaves = leaves_spaces (λ s d r. refl); name = c.vmar_allocate.ensures.name }); noted = c.vmar_allocate.ensures.noted }
 
 pub returns-in-VmarMap : goal.returns-in-VmarMap
-returns-in-VmarMap g c = rw c.in-VmarMap.is (record { does = c.vmar_map.ensures.step; leaves = c.vmar_map.ensures.left; name = tt })
+returns-in-VmarMap g c = record { does = rw c.in-VmarMap.is (record { does = c.vmar_map.ensures.step; leaves = c.vmar_map.ensures.left; name = tt }); noted = c.vmar_map.ensures.noted }
 
 pub returns-in-VmarUnmap : goal.returns-in-VmarUnmap
-returns-in-VmarUnmap g c = rw c.in-VmarUnmap.is (record { does = c.vmar_unmap.ensures.step; leaves = c.vmar_unmap.ensures.left; name = tt })
+returns-in-VmarUnmap g c = record { does = rw c.in-VmarUnmap.is (record { does = c.vmar_unmap.ensures.step; leaves = c.vmar_unmap.ensures.left; name = tt }); noted = c.vmar_unmap.ensures.noted }
 
 pub returns-in-VmarProtect : goal.returns-in-VmarProtect
-returns-in-VmarProtect g c = rw c.in-VmarProtect.is (record { does = does_mapped c.vmar_protect.ensures.step c.vmar_protect.ensures.mapped; leaves = c.vmar_protect.ensures.left; name = tt })
+returns-in-VmarProtect g c = record { does = rw c.in-VmarProtect.is (record { does = does_mapped c.vmar_protect.ensures.step c.vmar_protect.ensures.mapped; leaves = c.vmar_protect.ensures.left; name = tt }); noted = c.vmar_protect.ensures.noted }
 
 pub returns-in-VmarDestroy : goal.returns-in-VmarDestroy
-returns-in-VmarDestroy g c = rw c.in-VmarDestroy.is (record { does = c.vmar_destroy.ensures.step; leaves = c.vmar_destroy.ensures.left; name = tt })
+returns-in-VmarDestroy g c = record { does = rw c.in-VmarDestroy.is (record { does = c.vmar_destroy.ensures.step; leaves = c.vmar_destroy.ensures.left; name = tt }); noted = c.vmar_destroy.ensures.noted }
 
 pub returns-in-Maps : goal.returns-in-Maps
-returns-in-Maps g c = rw c.in-Maps.is (record { does = does_regions c.list_maps.ensures; leaves = leaves_spaces (λ s d r. refl); name = tt })
+returns-in-Maps g c = record { does = rw c.in-Maps.is (record { does = does_regions c.list_maps.ensures; leaves = leaves_spaces (λ s d r. refl); name = tt }); noted = c.requires.noted }

@@ -16,18 +16,19 @@ use Rattle.vm_core.proofs.mappings.vmar_map.Goals as goal
 
 pub forget_pages-requires : goal.forget_pages-requires
 forget_pages-requires g c =
-    let s = with_all c.requires.rest (g.P.PageStore.content c.args.store.now) c.args.vmos.now (spaces_of (regions_of c.args.regions.now) (table_of c.args.maps.now)) in
-    let does = c.in-Ok.ensures c.args.name (sym c.in-Some-resolve.ensures) in
-    let bound = done_bounds s (VmarMap c.args.region c.args.offset c.args.name c.args.vmo_offset c.args.len c.args.perm c.args.flags) (Address c.in-Ok.address) _ c.requires.well.good (does.step c.requires.rest c.requires.well) (λ refusal e. cc) c.in-Ok.address refl in
+    let s = with_all c.requires.well.rest (g.P.PageStore.content c.args.store.now) c.args.vmos.now (spaces_of (regions_of c.args.regions.now) (table_of c.args.maps.now)) in
+    let does = c.in-Ok.ensures.does c.args.name (sym c.in-Some-resolve.ensures) in
+    let bound = done_bounds s (VmarMap c.args.region c.args.offset c.args.name c.args.vmo_offset c.args.len c.args.perm c.args.flags) (Address c.in-Ok.address) _ c.requires.well.well.good (does.step c.requires.well.rest c.requires.well.well) (λ refusal e. cc) c.in-Ok.address refl in
     omega (arith, bound, c.page_of.ensures, c.page_count.ensures)
 
 pub returns-in_default : goal.returns-in_default
-returns-in_default g c = record { step = refused_spaces (λ s. rw (← c.in_default.ensures.region) refl); left = left_spaces }
+returns-in_default g c = record { step = refused_spaces (λ s. rw (← c.in_default.ensures.region) refl); left = left_spaces; noted = c.requires.noted }
 
 pub returns-in_default-resolve : goal.returns-in_default-resolve
 returns-in_default-resolve g c = record {
   step = refused_spaces (λ s. rw (← c.in-Some.ensures.region) (rw (← c.in_default-resolve.ensures) refl));
   left = left_spaces;
+  noted = c.requires.noted;
 }
 
 pub returns-then-not-above : goal.returns-then-not-above
@@ -36,14 +37,16 @@ returns-then-not-above g c =
     record {
       step = refused_spaces (λ s. rw (← c.in-Some.ensures.region) (rw (← c.in-Some-resolve.ensures) (rw not_live refl)));
       left = left_spaces;
+  noted = c.requires.noted;
     }
 
 pub returns-in-Err : goal.returns-in-Err
-returns-in-Err g c = record { step = c.in-Err.ensures c.args.name (sym c.in-Some-resolve.ensures); left = left_spaces }
+returns-in-Err g c = record { step = c.in-Err.ensures.does c.args.name (sym c.in-Some-resolve.ensures); left = left_spaces; noted = rw c.in-Err.ensures.places c.requires.noted }
 
 pub returns-in-Ok : goal.returns-in-Ok
 returns-in-Ok g c = record {
-  step = c.in-Ok.ensures c.args.name (sym c.in-Some-resolve.ensures);
+  step = c.in-Ok.ensures.does c.args.name (sym c.in-Some-resolve.ensures);
+  noted = rw c.in-Ok.ensures.places c.requires.noted;
   left = record {
     left = λ s d.
         left_region (with_spaces s (spaces_of (regions_of c.args.regions.now) (table_of c.args.maps.now))) c.args.region.0

@@ -16,24 +16,25 @@ use Rattle.vm_core.proofs.mappings.vmar_unmap.Goals as goal
 
 pub forget_pages-requires : goal.forget_pages-requires
 forget_pages-requires g c =
-    let s = with_all c.requires.rest (g.P.PageStore.content c.args.store.now) c.args.vmos.now (spaces_of (regions_of c.args.regions.now) (table_of c.args.maps.now)) in
-    let bound = done_bounds s (VmarUnmap c.args.region c.args.addr c.args.len) Done _ c.requires.well.good (c.in-Ok.ensures.step c.requires.rest c.requires.well) (λ refusal e. cc) in
+    let s = with_all c.requires.well.rest (g.P.PageStore.content c.args.store.now) c.args.vmos.now (spaces_of (regions_of c.args.regions.now) (table_of c.args.maps.now)) in
+    let bound = done_bounds s (VmarUnmap c.args.region c.args.addr c.args.len) Done _ c.requires.well.well.good (c.in-Ok.ensures.does.step c.requires.well.rest c.requires.well.well) (λ refusal e. cc) in
     omega (arith, bound, c.page_of.ensures, c.page_count.ensures)
 
 pub returns-in_default : goal.returns-in_default
-returns-in_default g c = record { step = refused_spaces (λ s. rw (← c.in_default.ensures.region) refl); left = left_spaces }
+returns-in_default g c = record { step = refused_spaces (λ s. rw (← c.in_default.ensures.region) refl); left = left_spaces; noted = c.requires.noted }
 
 pub returns-then-not-above : goal.returns-then-not-above
 returns-then-not-above g c =
     let not_live = dead (regions_of c.args.regions.now) c.args.region.0 c.in-Some.ensures.region c.if-not-above.true in
-    record { step = refused_spaces (λ s. rw (← c.in-Some.ensures.region) (rw not_live refl)); left = left_spaces }
+    record { step = refused_spaces (λ s. rw (← c.in-Some.ensures.region) (rw not_live refl)); left = left_spaces; noted = c.requires.noted }
 
 pub returns-in-Err : goal.returns-in-Err
-returns-in-Err g c = record { step = c.in-Err.ensures; left = left_spaces }
+returns-in-Err g c = record { step = c.in-Err.ensures.does; left = left_spaces; noted = c.in-Err.ensures.noted c.requires.noted }
 
 pub returns-in-Ok : goal.returns-in-Ok
 returns-in-Ok g c = record {
-  step = c.in-Ok.ensures;
+  step = c.in-Ok.ensures.does;
+  noted = c.in-Ok.ensures.noted c.requires.noted;
   left = record {
     left = λ s d.
         left_region (with_spaces s (spaces_of (regions_of c.args.regions.now) (table_of c.args.maps.now))) c.args.region.0

@@ -13,8 +13,8 @@ use Rattle.vm_core.proofs.spaces.vmar_destroy.Goals as goal
 
 pub forget_pages-requires : goal.forget_pages-requires
 forget_pages-requires g c =
-    let s = with_all c.requires.rest (g.P.PageStore.content c.args.store.now) c.args.vmos.now (spaces_of (regions_of c.args.regions.now) (table_of c.args.maps.now)) in
-    asked_region s c.args.region.0 (VmarDestroy c.args.region) c.requires.well.good (c.destroy.ensures.step c.requires.rest c.requires.well)
+    let s = with_all c.requires.well.rest (g.P.PageStore.content c.args.store.now) c.args.vmos.now (spaces_of (regions_of c.args.regions.now) (table_of c.args.maps.now)) in
+    asked_region s c.args.region.0 (VmarDestroy c.args.region) c.requires.well.well.good (c.destroy_in.ensures.does.step c.requires.well.rest c.requires.well.well)
     (λ (dying : Region). end_of dying ≤ PAGES_END) c.in-Some.ensures.region (λ refusal e. cc) (λ asked. asked)
 
 pub returns-clause-left : goal.returns-clause-left
@@ -23,3 +23,6 @@ returns-clause-left g c = record {
       left_region (with_spaces s (spaces_of (regions_of c.args.regions.now) (table_of c.args.maps.now))) c.args.region.0
       (λ (dying : Region). without_pages dying.root dying.first dying.count (places_of c.args.translations.now)) c.in-Some.ensures.region c.forget_pages.ensures;
 }
+
+pub returns-clause-noted : goal.returns-clause-noted
+returns-clause-noted g c = c.destroy_in.ensures.noted c.requires.noted

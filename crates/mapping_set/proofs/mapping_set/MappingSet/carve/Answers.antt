@@ -1,6 +1,9 @@
-use Rattle.std.proofs.Common.{◌≡◌, ◌+◌, refl, ap, ◌∙◌, arith}
-use Rattle.mapping_set.specs.Pieces.{piece_until}
-use Rattle.mapping_set.specs.Tables.{table_of, without_piece}
+use Rattle.std.proofs.Common.{◌≡◌, ◌+◌, refl, sym, ap, subst, ◌∙◌, arith}
+use Rattle.vm_base.proofs.EntryLaws.{some_same}
+use Rattle.pair_map.specs.Maps.{IsOpen}
+use Rattle.mapping_set.proofs.TakenLaws.{part-open}
+use Rattle.mapping_set.specs.Pieces.{list_number, piece_until}
+use Rattle.mapping_set.specs.Tables.{table_of, places_of, without_piece}
 use Rattle.mapping_set.specs.declared.piece.Piece.{Piece}
 use Rattle.mapping_set.proofs.RestLaws.{part-whole, part-until}
 use Rattle.mapping_set.proofs.CutLaws.{tail-bare, tail-table, bare-until}
@@ -55,3 +58,13 @@ returns-clause-whole c =
     part-until _ c.args.first (c.args.first + c.args.count) c.in_ok-last.piece (c.cut.ensures.rest c.in_ok-last.last c.in_ok-last.piece held)
     c.saturating_add-end.result (omega (arith, c.saturating_add-end.ensures, held.sound.end, c.if-last-end.false))
     c.if-end-piece.false (omega (arith, held.sound.last_is, c.if-last-end.false)) c.until.result c.until.ensures
+
+pub put-requires-clause-vacant : goal.put-requires-clause-vacant
+put-requires-clause-vacant c =
+    let held = c.in_ok-last.ensures in
+    let same = some_same (sym c.take.ensures.piece ∙ held.is) in
+    let begins = ap (λ (y : Piece). y.first) c.from.ensures in
+    let count = ap (λ (y : Piece). y.count) c.from.ensures in
+    subst (λ m. IsOpen (m (list_number c.from.result.entry.region.0 c.args.root.0)) c.from.result.first c.from.result.count) (sym c.take.ensures.places)
+    (part-open (places_of c.cut.new.self) c.args.root.0 c.in_ok-last.piece c.from.result (ap (λ (y : Piece). y.entry.region.0) c.from.ensures) (omega (arith, begins, c.if-end-piece.false)) (omega (arith, begins, count, held.sound.last_is, c.if-last-end.false, c.if-end-piece.false))
+    (subst (λ (x : Piece). IsOpen (places_of c.cut.new.self (list_number x.entry.region.0 c.args.root.0)) x.first x.count) same c.take.ensures.vacant))

@@ -1,4 +1,10 @@
-use Rattle.std.proofs.Common.{refl, arith}
+use Rattle.std.proofs.Common.{refl, sym, ap, subst, ◌∙◌, arith}
+use Rattle.vm_base.proofs.EntryLaws.{some_same}
+use Rattle.pair_map.specs.Maps.{IsOpen}
+use Rattle.mapping_set.specs.declared.piece.Piece.{Piece}
+use Rattle.mapping_set.specs.Pieces.{list_number}
+use Rattle.mapping_set.specs.Tables.{places_of}
+use Rattle.mapping_set.proofs.TakenLaws.{part-open}
 use Rattle.mapping_set.proofs.BorderLaws.{IsBorder-past, IsBorder-before, cut-border, cut-kept}
 use Rattle.mapping_set.proofs.RestLaws.{rest-whole, rest-cut}
 use Rattle.mapping_set.proofs.CutLaws.{head-bare, rest-bare, parts-table}
@@ -55,3 +61,23 @@ pub returns-clause-rest : goal.returns-clause-rest
 returns-clause-rest c =
     rest-cut _ c.args.root.0 c.args.page c.in-Some.last c.in-Some.piece c.in-Some.ensures _ _ c.from.result
     c.if-page-piece.false c.from.ensures c.put-2.ensures.pieces
+
+pub put-requires-clause-vacant : goal.put-requires-clause-vacant
+put-requires-clause-vacant c =
+    let held = c.in-Some.ensures in
+    let same = some_same (sym c.take.ensures.piece ∙ held.is) in
+    let begins = ap (λ (y : Piece). y.first) c.until.ensures in
+    let count = ap (λ (y : Piece). y.count) c.until.ensures in
+    subst (λ m. IsOpen (m (list_number c.until.result.entry.region.0 c.args.root.0)) c.until.result.first c.until.result.count) (sym c.take.ensures.places)
+    (part-open (places_of c.args.self.now) c.args.root.0 c.in-Some.piece c.until.result (ap (λ (y : Piece). y.entry.region.0) c.until.ensures) (omega (arith, begins)) (omega (arith, begins, count, held.sound.last_is, held.not_before, c.if-page-piece.false))
+    (subst (λ (x : Piece). IsOpen (places_of c.args.self.now (list_number x.entry.region.0 c.args.root.0)) x.first x.count) same c.take.ensures.vacant))
+
+pub put-requires-2-clause-vacant : goal.put-requires-2-clause-vacant
+put-requires-2-clause-vacant c =
+    let held = c.in-Some.ensures in
+    let same = some_same (sym c.take.ensures.piece ∙ held.is) in
+    let begins = ap (λ (y : Piece). y.first) c.from.ensures in
+    let count = ap (λ (y : Piece). y.count) c.from.ensures in
+    subst (λ m. IsOpen (m (list_number c.from.result.entry.region.0 c.args.root.0)) c.from.result.first c.from.result.count) (sym (c.put.ensures.places ∙ c.take.ensures.places))
+    (part-open (places_of c.args.self.now) c.args.root.0 c.in-Some.piece c.from.result (ap (λ (y : Piece). y.entry.region.0) c.from.ensures) (omega (arith, begins, c.if-page-piece.false)) (omega (arith, begins, count, held.sound.last_is, held.not_before, c.if-page-piece.false))
+    (subst (λ (x : Piece). IsOpen (places_of c.args.self.now (list_number x.entry.region.0 c.args.root.0)) x.first x.count) same c.take.ensures.vacant))

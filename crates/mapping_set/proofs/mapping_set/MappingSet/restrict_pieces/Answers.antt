@@ -1,4 +1,4 @@
-use Rattle.std.proofs.Common.{IsSome, sym, ap, subst, ◌∙◌, arith, inr}
+use Rattle.std.proofs.Common.{IsSome, refl, sym, ap, subst, ◌∙◌, arith, inr}
 use Rattle.mapping_set.proofs.ChangeLaws.{with_pages-beside, perms-none, perms-next}
 use Rattle.mapping_set.proofs.mapping_set.MappingSet.restrict_pieces.Goals as goal
 
@@ -10,6 +10,7 @@ loop-at-init c = record {
   begins = c.requires.begins;
   ends = c.requires.ends;
   spare = omega arith;
+  places = refl;
 }
 
 pub restrict_piece-at-requires-clause-some : goal.restrict_piece-at-requires-clause-some
@@ -27,4 +28,5 @@ loop-at-preserved c = record {
   begins = c.restrict_piece-at.ensures.begins;
   ends = c.restrict_piece-at.ensures.ends;
   spare = omega (arith, c.loop-at.invariant.spare, c.restrict_piece-at.ensures.spare);
+  places = c.restrict_piece-at.ensures.places ∙ c.loop-at.invariant.places;
 }

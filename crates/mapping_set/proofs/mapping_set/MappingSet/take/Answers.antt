@@ -1,15 +1,27 @@
-use Rattle.mapping_set.proofs.SetLaws.{whole, last_is, AreMappings-less, table-less}
+use Rattle.std.proofs.Common.{ap, ◌∙◌}
+use Rattle.mapping_set.specs.Tables.{places_of}
+use Rattle.mapping_set.proofs.SetLaws.{whole, last_is, in-index, open-piece, AreMappings-less, table-less}
+use Rattle.mapping_set.proofs.TakenLaws.{piece-less, piece-there}
 use Rattle.mapping_set.proofs.mapping_set.MappingSet.take.Goals as goal
+
+pub remove-requires-2 : goal.remove-requires-2
+remove-requires-2 c =
+    let found = in-index _ c.self.invariant _ c.self.view_is c.args.root.0 _ _ c.from.ensures c.remove-piece.result c.list_number-list.ensures.number
+    c.args.last c.remove-piece.ensures.value in
+    piece-there _ _ _ found.0 found.1
 
 pub invariant_of-self : goal.invariant_of-self
 invariant_of-self c =
+    let found = in-index _ c.self.invariant _ c.self.view_is c.args.root.0 _ _ c.from.ensures c.remove-piece.result c.list_number-list.ensures.number
+    c.args.last c.remove-piece.ensures.value in
     AreMappings-less _ c.self.invariant _ c.self.view_is c.args.root.0 _ _ c.from.ensures c.remove-piece.result c.list_number-list.ensures.number
-    c.args.last c.remove-piece.ensures.value (record { pieces = c.remove-piece.new.self; lists = c.remove.new.self; taken = c.free.new.taken }) c.remove-piece.ensures.values c.remove.ensures.extents
+    c.args.last c.remove-piece.ensures.value (record { pieces = c.remove-piece.new.self; lists = c.remove.new.self; taken = c.remove-2.new.self }) c.remove-piece.ensures.values c.remove.ensures.extents
+    (piece-less _ _ _ _ found.0 found.1 c.remove-2.ensures.extents).0
 
 pub returns-clause-table : goal.returns-clause-table
 returns-clause-table c =
     table-less _ c.self.invariant _ c.self.view_is c.args.root.0 _ _ c.from.ensures c.remove-piece.result c.list_number-list.ensures.number
-    c.args.last c.remove-piece.ensures.value (record { pieces = c.remove-piece.new.self; lists = c.remove.new.self; taken = c.free.new.taken }) c.remove-piece.ensures.values
+    c.args.last c.remove-piece.ensures.value (record { pieces = c.remove-piece.new.self; lists = c.remove.new.self; taken = c.remove-2.new.self }) c.remove-piece.ensures.values
 
 pub returns-clause-shown : goal.returns-clause-shown
 returns-clause-shown c =
@@ -20,3 +32,14 @@ pub returns-clause-last : goal.returns-clause-last
 returns-clause-last c =
     last_is _ c.self.invariant _ c.self.view_is c.args.root.0 _ _ c.from.ensures c.remove-piece.result c.list_number-list.ensures.number
     c.args.last c.remove-piece.ensures.value
+
+pub returns-clause-places : goal.returns-clause-places
+returns-clause-places c =
+    let found = in-index _ c.self.invariant _ c.self.view_is c.args.root.0 _ _ c.from.ensures c.remove-piece.result c.list_number-list.ensures.number
+    c.args.last c.remove-piece.ensures.value in
+    (piece-less _ _ _ _ found.0 found.1 c.remove-2.ensures.extents).1 ∙ ap places_of c.self.view_is
+
+pub returns-clause-vacant : goal.returns-clause-vacant
+returns-clause-vacant c =
+    open-piece _ c.self.invariant _ c.self.view_is c.args.root.0 _ _ c.from.ensures c.remove-piece.result c.list_number-list.ensures.number
+    c.args.last c.remove-piece.ensures.value c.len-apart.ensures.apart

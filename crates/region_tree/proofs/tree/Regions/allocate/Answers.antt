@@ -3,8 +3,7 @@ use Rattle.vm_base.specs.Entries.{with_key}
 use Rattle.vm_model.specs.Space.Regions.{region_below}
 use Rattle.balanced_tree.specs.Pairs.{with_pair}
 use Rattle.pair_map.specs.Maps.{IsOpen}
-use Rattle.region_tree.specs.Tree.{regions_of}
-use Rattle.region_tree.specs.TreeFields.{extent_for}
+use Rattle.region_tree.specs.Tree.{regions_of, extent_for}
 use Rattle.region_tree.proofs.PlaceLaws.{seen, apart-open}
 use Rattle.vm_model.proofs.RegionLaws.{region_of-at}
 use Rattle.region_tree.proofs.TreeLaws.{given-seen, put-seen, inside-is, inside-end, IsTree-child, IsTree-same}

@@ -22,5 +22,5 @@ returns g c =
     let new = c.dispatch.new in
     let vm : Parts = record { vmos = new.vmos; pins = new.pins; regions = new.regions; maps = new.maps; translations = new.ready } in
     let answers = command_answered _ (parts_of c.self.inside) (command_of c.args.call.now) (reply_for c.dispatch.result) (g.P.PageStore.content new.store) vm
-    (rw (← c.self.view_is) at c.requires.agrees) (no_access c.args.call.now (λ e. c.in_default.not-Memory (c.group_of.ensures ∙ e))) c.dispatch.ensures in
+    (rw (← c.self.view_is) at c.requires.agrees) (no_access c.args.call.now (λ e. c.in_default.not-Memory (c.group_of.ensures ∙ e))) c.dispatch.ensures.handles in
     record { step = rw (← c.self.view_is) answers.step; agrees = answers.agrees; good = answers.keeps.good; next = answers.keeps.next }

@@ -1,6 +1,7 @@
 use Rattle.std.proofs.Common.{◌≡◌, ◌∙◌}
 use Rattle.vm_model.specs.Contents.Content.{Content}
 use Rattle.vm_core.specs.Vm.{Parts, bare_state, state_of}
+use Rattle.region_tree.proofs.NotedLaws.{AreNoted-none}
 use Rattle.vm_core.proofs.StartLaws.{counts_none, state_of-bare, machine_of-bare, agrees_bare, bare_machine-first}
 use Rattle.vm_core.proofs.vm.Vm.new.Goals as goal
 
@@ -13,7 +14,7 @@ bare : (c : goal.After-new-5) (d : Content) → state_of d (made c) ≡ bare_sta
 bare c d = state_of-bare d (made c) c.new.ensures.names c.new.ensures.lineage c.new-2.ensures c.new-3.ensures c.new-4.ensures.table
 
 pub invariant_of-result : goal.invariant_of-result
-invariant_of-result c = record { counted = counts_none (made c) c.new.ensures.keepers c.new-2.ensures c.new-4.ensures.table }
+invariant_of-result c = record { counted = counts_none (made c) c.new.ensures.keepers c.new-2.ensures c.new-4.ensures.table; noted = AreNoted-none _ _ c.new-3.ensures c.new-4.ensures.places }
 
 pub returns-clause-bare : goal.returns-clause-bare
 returns-clause-bare c = λ d. machine_of-bare d (made c) (bare c d) c.new-5.ensures

@@ -1,0 +1,55 @@
+use Rattle.std.proofs.Common.{refl, inl, sym, ◌∙◌}
+use Rattle.mapping_set.specs.Tables.{table_of}
+use Rattle.region_tree.specs.Tree.{regions_of, spaces_of}
+use Rattle.region_tree.proofs.TreeLaws.{live-is, within-live}
+use Rattle.region_ops.proofs.DyingLaws.{within_live, within_fewer}
+use Rattle.region_ops.proofs.DestroyLaws.{going_start, going_well, going_next, going_childless, going_end}
+use Rattle.region_ops.proofs.unmapping.destroy_in.Goals as goal
+
+pub loop-leaf-init : goal.loop-leaf-init
+loop-leaf-init g c = record { going = going_start _ _ _ _; start = inl refl; noted = λ noted. noted }
+
+pub destroy_next_from-requires-clause-live : goal.destroy_next_from-requires-clause-live
+destroy_next_from-requires-clause-live g c = within_live _ _ _ _ _ c.requires.well.well.good.spaces.regions c.loop-leaf.invariant.going.under (live-is _ _ _ c.requires.dying ∙ c.requires.live)
+
+pub clear_region-requires : goal.clear_region-requires
+clear_region-requires g c = record { well = going_well _ _ _ _ _ _ _ c.loop-leaf.invariant.going c.requires.well }
+
+pub loop-leaf-smaller : goal.loop-leaf-smaller
+loop-leaf-smaller g c =
+    within_fewer _ _ _ _ _ c.requires.well.well.good.spaces.regions c.loop-leaf.invariant.going.under _ _ c.in-Some.ensures.within c.in-Some.ensures.regions
+
+pub loop-leaf-preserved : goal.loop-leaf-preserved
+loop-leaf-preserved g c = record {
+  going = going_next _ _ _ c.requires.well.well.good.spaces _ _ c.requires.dying _ _ _ c.loop-leaf.invariant.going _ c.in-Some.ensures.within _ _
+      (spaces_of (regions_of c.destroy_next_from.new.self) (table_of c.free_in_parent.new.maps)) c.in-Some.ensures.regions
+      (c.free_in_parent.ensures.table ∙ c.clear_region.ensures.table) (rw (sym c.free_in_parent.ensures.table) at c.clear_region.ensures.gone);
+  start = c.in-Some.ensures.next;
+  noted = λ noted. c.free_in_parent.ensures.noted _ (within-live _ c.in-Some.ensures.within) c.in-Some.ensures.regions (rw c.clear_region.ensures.places (c.loop-leaf.invariant.noted noted));
+}
+
+pub destroy_one-requires-clause-live : goal.destroy_one-requires-clause-live
+destroy_one-requires-clause-live g c =
+    rw c.in_default.ensures.regions
+    (within_live _ _ _ _ _ c.requires.well.well.good.spaces.regions c.loop-leaf.invariant.going.under (live-is _ _ _ c.requires.dying ∙ c.requires.live))
+
+pub destroy_one-requires-clause-childless : goal.destroy_one-requires-clause-childless
+destroy_one-requires-clause-childless g c =
+    rw c.in_default.ensures.regions
+    (going_childless _ _ _ c.requires.well.well.good.spaces _ c.args.dying c.requires.dying _ _ _ c.loop-leaf.invariant.going c.in_default.ensures.within)
+
+pub clear_region-requires-2 : goal.clear_region-requires-2
+clear_region-requires-2 g c = record { well = going_well _ _ _ _ _ _ _ c.loop-leaf.invariant.going c.requires.well }
+
+pub returns-clause-does : goal.returns-clause-does
+returns-clause-does g c =
+    going_end _ _ _ c.requires.well.well.good.spaces _ c.args.dying c.requires.dying _ _ _ c.loop-leaf.invariant.going c.in_default.ensures.within
+    c.args.region refl c.requires.live _ _ (spaces_of (regions_of c.destroy_one.new.self) (table_of c.free_in_parent-2.new.maps))
+    (rw c.in_default.ensures.regions at c.destroy_one.ensures) (c.free_in_parent-2.ensures.table ∙ c.clear_region-2.ensures.table)
+    (rw (sym c.free_in_parent-2.ensures.table) at c.clear_region-2.ensures.gone)
+
+pub returns-clause-noted : goal.returns-clause-noted
+returns-clause-noted g c = λ noted.
+    c.free_in_parent-2.ensures.noted (regions_of c.destroy_next_from.new.self)
+    (rw c.in_default.ensures.regions (within_live _ _ _ _ _ c.requires.well.well.good.spaces.regions c.loop-leaf.invariant.going.under (live-is _ _ _ c.requires.dying ∙ c.requires.live)))
+    c.destroy_one.ensures (rw (c.clear_region-2.ensures.places, c.in_default.ensures.regions) (c.loop-leaf.invariant.noted noted))

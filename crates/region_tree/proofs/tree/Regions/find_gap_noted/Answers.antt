@@ -1,0 +1,21 @@
+use Rattle.std.proofs.Common.{sym, ap, subst, arith}
+use Rattle.mapping_set.specs.Tables.{table_of}
+use Rattle.region_tree.specs.Tree.{regions_of}
+use Rattle.region_tree.proofs.PlaceLaws.{seen, place-is}
+use Rattle.region_tree.proofs.TreeLaws.{region-end}
+use Rattle.region_tree.proofs.NotedLaws.{clear-place}
+use Rattle.region_tree.proofs.tree.Regions.find_gap_noted.Goals as goal
+
+pub end_within-end-requires : goal.end_within-end-requires
+end_within-end-requires c = omega (arith, region-end _ _ (seen c.self.view_is c.self.invariant) c.args.region.0 c.args.above c.requires.above c.requires.live)
+
+pub first_clear-requires-clause-limit : goal.first_clear-requires-clause-limit
+first_clear-requires-clause-limit c =
+    omega (arith, c.end_within-end.ensures, region-end _ _ (seen c.self.view_is c.self.invariant) c.args.region.0 c.args.above c.requires.above c.requires.live)
+
+pub returns : goal.returns
+returns c =
+    place-is _ _ (seen c.self.view_is c.self.invariant) _ c.args.region.0 c.args.above c.requires.above c.args.count c.args.limit c.end_within-end.result
+    c.requires.some (omega (arith, region-end _ _ (seen c.self.view_is c.self.invariant) c.args.region.0 c.args.above c.requires.above c.requires.live))
+    c.end_within-end.ensures _
+    (clear-place _ _ (seen c.self.view_is c.self.invariant) _ c.requires.noted c.args.region.0 c.args.above c.requires.above c.requires.live _ _ _ _ _ c.first_clear.ensures)
