@@ -41,6 +41,10 @@ pub own-none : (found : Holder) → ((tag : Tag) → own_frame found ≡ Some ta
 own-none found none (slot.Frame its left right) e = absurd (none its (ap own_frame (sym e)))
 own-none found none slot.Zero e = refl
 
+-- no row of its own with a frame
+pub bare-own : (found : Holder) → own_frame found ≡ None → (tag : Tag) → own_frame found ≡ Some tag → ⊥
+bare-own found none tag e = absurd (cc)
+
 -- a row whose bits are false, with this frame
 plain-row : (row : Slot) (t : ℕ) → frame_in row ≡ Some t → ((tag : Tag) (left right : Bool) → row ≡ slot.Frame tag left right → (left ≡ false) × (right ≡ false)) →
     row ≡ slot.Frame (record { 0 = t }) false false

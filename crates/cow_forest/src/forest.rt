@@ -198,14 +198,17 @@ impl PageStore for CowForest {
         Ok(koid)
     }
 
+    #[inline(always)]
     fn reserve(&mut self, n: u64) -> Result<(), HostMemory> {
         self.lists.reserve(n)
     }
 
+    #[inline(always)]
     fn look(&self, v: Koid, page: PageNo) -> Look {
         look_at(&self.arena, &self.lists, self.nodes.get(v.0), page)
     }
 
+    #[inline(always)]
     fn own(&mut self, v: Koid, page: PageNo) -> Tag
         requires page { page < pages_of (content_of self.old) v.0 }
         requires room { (sole (content_of self.old) v.0 page ≡ true)
@@ -231,7 +234,7 @@ impl PageStore for CowForest {
     }
 
     fn count(&self, v: Koid) -> PageNo {
-        self.arena.node(self.nodes.get(v.0)).count
+        self.arena.look(self.nodes.get(v.0)).count
     }
 
     fn set_count(&mut self, v: Koid, count: PageNo)

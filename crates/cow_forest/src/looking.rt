@@ -24,12 +24,8 @@ pub(crate) fn look_at(arena: &CowArena, lists: &PageLists, leaf: NodeId, page: P
     requires page { IsPage (tree_of arena.now lists.now) leaf.0 page }
     ensures { IsLook (tree_of arena.now lists.now) leaf.0 page result }
 {
-    let node = arena.node(leaf);
-    if let Some(slot) = lists.find(node.list, page) {
+    if let Some(slot) = lists.find(arena.look(leaf).list, page) {
         return look_in(slot);
-    }
-    if node.seen <= page {
-        return Look::Zero;
     }
     look_upwards(arena, lists, leaf, page)
 }
@@ -52,6 +48,9 @@ fn look_upwards(arena: &CowArena, lists: &PageLists, leaf: NodeId, page: PageNo)
     requires bare { IsSomeAnd (nodes_of arena.now leaf.0) (λ node. slots_of lists.now node.list.0 page ≡ None) }
     ensures { IsLook (tree_of arena.now lists.now) leaf.0 page result }
 {
+    if arena.look(leaf).seen <= page {
+        return Look::Zero;
+    }
     let found = holder_above(arena, lists, leaf, page);
     look_found(arena, lists, leaf, page, found)
 }

@@ -1,8 +1,9 @@
 //! Owning a page before it is written.
 
-ghost use Rattle.std.specs.Prelude.{◌≡◌, ◌≤◌, ◌⊎◌};
+ghost use Rattle.std.specs.Prelude.{◌≡◌, ◌≤◌, ◌⊎◌, None};
 ghost use Rattle.frame_pool.specs.Pool.{is_taken};
-ghost use Rattle.cow_split.specs.Trees.{tree_of};
+ghost use Rattle.cow_arena.specs.Walk.{walk};
+ghost use Rattle.cow_split.specs.Trees.{tree_of, holder_of};
 ghost use Rattle.cow_split.specs.Sight.{IsPage};
 ghost use Rattle.cow_split.specs.Exact.{IsExact, all_in_sight};
 ghost use Rattle.cow_fork.specs.Frames.{HasSole, HasFree};
@@ -27,7 +28,9 @@ fn own_tag(found: Holder) -> Option<Tag>
 }
 
 /// Gives a page of a VMO's node a frame that no other VMO shows, and answers the frame. One that the VMO shows alone stays.
-/// With room for a row the page has a row of its own then; without, a page that is sole is left where it stands.
+/// With room for a row the page has a row of its own then; without, a page that is sole is left where it stands. A page whose
+/// frame stands in a row of its own costs one look-up in the lists.
+#[inline(always)]
 pub(crate) fn own_page(
     arena: &CowArena,
     lists: &mut PageLists,
@@ -45,11 +48,32 @@ pub(crate) fn own_page(
     if let Some(tag) = own_tag(found) {
         return tag;
     }
+    own_found(arena, lists, frames, leaf, page, found)
+}
+
+/// Does what `own_page` does, where this is the row that holds the page, and is none of its own with a frame.
+#[inline(never)]
+fn own_found(
+    arena: &CowArena,
+    lists: &mut PageLists,
+    frames: &mut FramePool,
+    leaf: NodeId,
+    page: PageNo,
+    found: Holder,
+) -> Tag
+    requires exact { IsExact (tree_of arena.now lists.old) all_in_sight (is_taken frames.old) }
+    requires linked { AreLinked lists.old frames.old }
+    requires page { IsPage (tree_of arena.now lists.old) leaf.0 page }
+    requires room { HasSole (tree_of arena.now lists.old) leaf.0 page ⊎ ((1 ≤ lists.old.spare) × HasFree frames.old) }
+    requires found { found ≡ holder_of (walk (tree_of arena.now lists.old) leaf.0 page) }
+    requires bare { own_frame found ≡ None }
+    ensures { HasOwned arena.now lists.old lists.new frames.old frames.new leaf.0 page result.0 }
+{
     if lists.spare() == 0 {
         return found.frame().unwrap();
     }
     let tag = fork_holder(arena, lists, frames, leaf, page, found);
-    let list = arena.node(leaf).list.0;
+    let list = arena.look(leaf).list.0;
     frames.set_backlink(tag, Backlink { list, page });
     tag
 }

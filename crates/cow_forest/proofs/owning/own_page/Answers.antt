@@ -1,5 +1,7 @@
+use Rattle.std.proofs.Common.{sym, ◌∙◌}
 use Rattle.cow_fork.proofs.LeafLaws.{leaf-is}
-use Rattle.cow_forest.proofs.OwningLaws.{owned-own, unowned, forked-taken, owned-forked}
+use Rattle.cow_forest.proofs.LookLaws.{none-from}
+use Rattle.cow_forest.proofs.OwningLaws.{owned-own}
 use Rattle.cow_forest.proofs.owning.own_page.Goals as goal
 
 pub returns-in-Some : goal.returns-in-Some
@@ -8,19 +10,5 @@ returns-in-Some c =
     let leaf = leaf-is c.args.arena.now c.args.lists.now c.args.leaf.0 c.args.page page.node c.requires.exact.forest page page.visible.at in
     owned-own leaf c.args.frames.now c.requires.exact c.requires.linked _ c.in-Some.tag c.holder-found.ensures (rw (← c.own_tag.ensures) c.in-Some.is)
 
-pub fork_holder-tag-requires-clause-unowned : goal.fork_holder-tag-requires-clause-unowned
-fork_holder-tag-requires-clause-unowned c =
-    let page = c.requires.page in
-    let leaf = leaf-is c.args.arena.now c.args.lists.now c.args.leaf.0 c.args.page page.node c.requires.exact.forest page page.visible.at in
-    unowned leaf c.args.frames.now c.requires.exact c.requires.linked _ c.holder-found.ensures (λ tag e. c.in_default.not-Some tag (rw c.own_tag.ensures e))
-
-pub set_backlink-requires : goal.set_backlink-requires
-set_backlink-requires c =
-    let leaf = leaf-is c.args.arena.now c.args.lists.now c.args.leaf.0 c.args.page c.node-list.result c.requires.exact.forest c.requires.page c.node-list.ensures in
-    forked-taken leaf c.args.frames.now c.requires.exact c.requires.linked _ _ c.fork_holder-tag.new.frames c.fork_holder-tag.result c.fork_holder-tag.ensures
-
-pub returns : goal.returns
-returns c =
-    let leaf = leaf-is c.args.arena.now c.args.lists.now c.args.leaf.0 c.args.page c.node-list.result c.requires.exact.forest c.requires.page c.node-list.ensures in
-    owned-forked leaf c.args.frames.now c.requires.exact c.requires.linked _ _ c.set_backlink.new.self c.fork_holder-tag.result c.fork_holder-tag.ensures
-    c.set_backlink.ensures.frames c.set_backlink.ensures.taken c.set_backlink.ensures.links
+pub own_found-requires-clause-bare : goal.own_found-requires-clause-bare
+own_found-requires-clause-bare c = sym c.own_tag.ensures ∙ none-from _ c.in_default.not-Some
