@@ -145,7 +145,7 @@ impl<P: PageStore> PageStore for RefusingStore<P> {
         ensures koid { IfOk result (λ v. v.0 ≡ (P.content self.old.0).next) }
         ensures ok { OnOk result (P.content self.new.0 ≡ snapshotted (P.content self.old.0) of.0 first seen count) }
         ensures err { OnErr result (P.content self.new.0 ≡ P.content self.old.0) }
-        ensures kept { OnErr result (P.spare self.old.0 ≤ P.spare self.new.0) }
+        ensures kept { P.spare self.old.0 ≤ P.spare self.new.0 }
         ensures refused { Contains self.old.1.refuse (next_call self.old.1.calls) → IsErr result × (self.new.0 ≡ self.old.0) }
         ensures calls { self.new.1 ≡ counted self.old.1 }
     {
