@@ -17,14 +17,14 @@ pub overflow_add-own : goal.overflow_add-own
 overflow_add-own c =
     let down = c.requires.down in
     let least = c.in-Some.ensures.next.least c.in-Some.page refl in
-    let high = down.beside.within.high c.in-Some.page (omega (arith, least.0, c.loop-page.invariant.from)) c.in-Some.ensures.below in
+    let high = down.beside.within.high c.in-Some.page (omega (arith, least.0, c.loop-page.invariant.from)) (omega (arith, least.0, c.in-Some.ensures.below)) in
     omega (arith, down.fits)
 
 pub overflow_sub-own : goal.overflow_sub-own
 overflow_sub-own c =
     let down = c.requires.down in
     let least = c.in-Some.ensures.next.least c.in-Some.page refl in
-    let low = down.beside.within.low c.in-Some.page (omega (arith, least.0, c.loop-page.invariant.from)) c.in-Some.ensures.below in
+    let low = down.beside.within.low c.in-Some.page (omega (arith, least.0, c.loop-page.invariant.from)) (omega (arith, least.0, c.in-Some.ensures.below)) in
     omega arith
 
 pub cut_page-requires-clause-exact : goal.cut_page-requires-clause-exact
@@ -38,7 +38,7 @@ pub cut_page-requires-clause-bare : goal.cut_page-requires-clause-bare
 cut_page-requires-clause-bare c =
     let down = c.requires.down in
     let least = c.in-Some.ensures.next.least c.in-Some.page refl in
-    let low = down.beside.within.low c.in-Some.page (omega (arith, least.0, c.loop-page.invariant.from)) c.in-Some.ensures.below in
+    let low = down.beside.within.low c.in-Some.page (omega (arith, least.0, c.loop-page.invariant.from)) (omega (arith, least.0, c.in-Some.ensures.below)) in
     beside-bare c.args.arena.now c.args.lists.now c.loop-page.lists c.args.frames.now c.loop-page.frames c.args.leaf.0 down.first down.spared c.args.hidden.0
     down.above c.args.shift down.to down.side c.args.way c.loop-page.from
     (c.loop-page.invariant.beside c.args.lists.now c.args.frames.now down.first down.spared down.above down.to down.side down.beside)
@@ -58,7 +58,7 @@ loop-page-preserved c =
       beside = λ old before first spared above to s was.
           let it = c.loop-page.invariant.beside old before first spared above to s was in
           beside-cut c.args.arena.now old c.loop-page.lists c.cut_page.new.lists before c.loop-page.frames c.cut_page.new.frames c.args.leaf.0 first spared
-          c.args.hidden.0 above c.args.shift to s c.args.way c.loop-page.from c.in-Some.page it c.loop-page.invariant.from c.in-Some.ensures.below
+          c.args.hidden.0 above c.args.shift to s c.args.way c.loop-page.from c.in-Some.page it c.loop-page.invariant.from (omega (arith, least.0, c.in-Some.ensures.below))
           (subst (λ (l : ListId). IsNext (slots_of c.loop-page.lists l.0) c.loop-page.from (Some c.in-Some.page)) (c.requires.list it.node it.node_at)
           c.in-Some.ensures.next)
           c.cut_page.ensures.cut;
