@@ -1,6 +1,7 @@
 //! Unmapping a range (`zx_vmar_unmap`), and destroying a region (`zx_vmar_destroy`).
 
-ghost use Rattle.std.specs.Prelude.{◌≡◌, ℕ, ◌+◌, true, Option, OnOk, OnErr, None, Some};
+ghost use Rattle.std.specs.Prelude.{◌≡◌, ℕ, ◌+◌, ◌≤◌, true, Option, OnOk, OnErr, None, Some};
+ghost use Rattle.vm_base.specs.declared.limits.TheConstants.{ROOT_END};
 ghost use Rattle.vm_model.specs.declared.space.Region.{Region};
 ghost use Rattle.vm_model.specs.declared.command.Command.{Command};
 ghost use Rattle.vm_model.specs.declared.reply.Reply.{Reply};
@@ -59,6 +60,7 @@ pub fn unmap_in<P: PageStore>(
 ) -> Result<(), Refusal>
     requires above { regions_of regions.old region.0 ≡ Some above }
     requires live { above.live ≡ true }
+    requires end { above.first + above.count ≤ ROOT_END }
     requires well { AreAllWell (P.content store.old) vmos.old (spaces_of (regions_of regions.old) (table_of maps.old)) }
     ensures does { Does (P.content store.old) vmos.old (spaces_of (regions_of regions.old) (table_of maps.old))
         (Command.VmarUnmap region addr len) (reply_of (λ done. Reply.Done) result)

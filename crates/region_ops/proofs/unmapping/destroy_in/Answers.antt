@@ -10,7 +10,7 @@ pub loop-leaf-init : goal.loop-leaf-init
 loop-leaf-init g c = record { going = going_start _ _ _ _; start = inl refl; noted = λ noted. noted }
 
 pub destroy_next_from-requires-clause-live : goal.destroy_next_from-requires-clause-live
-destroy_next_from-requires-clause-live g c = within_live _ _ _ _ _ c.requires.well.well.good.spaces.regions c.loop-leaf.invariant.going.under (live-is _ _ _ c.requires.dying ∙ c.requires.live)
+destroy_next_from-requires-clause-live g c = within_live _ _ _ _ _ c.requires.well.well.good.spaces.regions c.loop-leaf.invariant.going.under (live-is (regions_of c.args.regions.now) c.args.region.0 c.args.dying c.requires.dying ∙ c.requires.live)
 
 pub clear_region-requires : goal.clear_region-requires
 clear_region-requires g c = record { well = going_well _ _ _ _ _ _ _ c.loop-leaf.invariant.going c.requires.well }
@@ -31,7 +31,7 @@ loop-leaf-preserved g c = record {
 pub destroy_one-requires-clause-live : goal.destroy_one-requires-clause-live
 destroy_one-requires-clause-live g c =
     rw c.in_default.ensures.regions
-    (within_live _ _ _ _ _ c.requires.well.well.good.spaces.regions c.loop-leaf.invariant.going.under (live-is _ _ _ c.requires.dying ∙ c.requires.live))
+    (within_live _ _ _ _ _ c.requires.well.well.good.spaces.regions c.loop-leaf.invariant.going.under (live-is (regions_of c.args.regions.now) c.args.region.0 c.args.dying c.requires.dying ∙ c.requires.live))
 
 pub destroy_one-requires-clause-childless : goal.destroy_one-requires-clause-childless
 destroy_one-requires-clause-childless g c =
@@ -51,5 +51,5 @@ returns-clause-does g c =
 pub returns-clause-noted : goal.returns-clause-noted
 returns-clause-noted g c = λ noted.
     c.free_in_parent-2.ensures.noted (regions_of c.destroy_next_from.new.self)
-    (rw c.in_default.ensures.regions (within_live _ _ _ _ _ c.requires.well.well.good.spaces.regions c.loop-leaf.invariant.going.under (live-is _ _ _ c.requires.dying ∙ c.requires.live)))
+    (rw c.in_default.ensures.regions (within_live _ _ _ _ _ c.requires.well.well.good.spaces.regions c.loop-leaf.invariant.going.under (live-is (regions_of c.args.regions.now) c.args.region.0 c.args.dying c.requires.dying ∙ c.requires.live)))
     c.destroy_one.ensures (rw (c.clear_region-2.ensures.places, c.in_default.ensures.regions) (c.loop-leaf.invariant.noted noted))

@@ -1,4 +1,5 @@
-use Rattle.std.proofs.Common.{◌/◌, refl, arith}
+use Rattle.std.proofs.Common.{◌/◌, refl, sym, arith}
+use Rattle.std.proofs.lemmas.Bool.{not-false}
 use Rattle.vm_base.specs.Pages.{rounded}
 use Rattle.vm_base.specs.declared.limits.TheConstants.{PAGE}
 use Rattle.vm_model.specs.declared.command.Command.TheVariants.{VmarUnmap}
@@ -9,6 +10,7 @@ use Rattle.region_tree.specs.Tree.{regions_of, spaces_of}
 use Rattle.region_ops.specs.Spaces.{with_all, with_spaces}
 use Rattle.fault.specs.Table.{places_of}
 use Rattle.vm_core.specs.Resets.{without_pages}
+use Rattle.vm_model.proofs.RegionLaws.{region_bounds}
 use Rattle.vm_core.proofs.BoundLaws.{done_bounds}
 use Rattle.vm_core.proofs.LeavesLaws.{left_region}
 use Rattle.vm_core.proofs.RefusedLaws.{dead, refused_spaces, left_spaces}
@@ -42,3 +44,6 @@ returns-in-Ok g c = record {
         (rw (c.page_of.ensures, c.page_count.ensures) at c.forget_pages.ensures);
   };
 }
+
+pub unmap_in-requires-clause-end : goal.unmap_in-requires-clause-end
+unmap_in-requires-clause-end g c = (region_bounds _ c.requires.well.well.good.spaces.regions _ _ (sym c.in-Some.ensures.region) (not-false _ c.if-not-above.false)).0
