@@ -76,13 +76,7 @@ pub fn allocate_noted(
         regions, maps, name, parent, above, offset, len, flags, caps, true, ready,
     ) {
         Ok(address) => {
-            maps.hold_place(
-                above.root,
-                parent,
-                page_of(address),
-                page_count(len),
-                name,
-            );
+            maps.hold_place(above.root, parent, page_of(address), page_count(len), name);
             Ok(address)
         }
         Err(refusal) => Err(refusal),

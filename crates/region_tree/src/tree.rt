@@ -12,7 +12,9 @@ ghost use Rattle.region_tree.specs.Tree.{regions_of, is_live_region, has_child, 
 ghost use Rattle.region_tree.specs.Tree.{IsWithin, HasNoneWithin, IsStart, AreNoted};
 ghost use Rattle.region_tree.specs.TreeFields.{HasNoneOver};
 
-use crate::fields::{child_in, end_within, gap_in, held, leave_parent, lies_in, reaches_out, reaches_over};
+use crate::fields::{
+    child_in, end_within, gap_in, held, leave_parent, lies_in, reaches_out, reaches_over,
+};
 use mapping_set::MappingSet;
 use pair_map::{ExtentMap, PairMap};
 use std::alloc::Global;

@@ -17,8 +17,13 @@ hold_place-requires-clause-some c = omega (arith, c.page_count.ensures, allocate
 
 pub hold_place-requires-clause-end : goal.hold_place-requires-clause-end
 hold_place-requires-clause-end c =
-    omega (arith, c.page_of.ensures, c.page_count.ensures, allocated_inside _ _ _ _ _ c.requires.above _ _ _ c.in-Ok.ensures.placed,
-    (region_bounds _ c.requires.good _ _ c.requires.above c.requires.live).0)
+    omega (
+      arith,
+      c.page_of.ensures,
+      c.page_count.ensures,
+      allocated_inside _ _ _ _ _ c.requires.above _ _ _ c.in-Ok.ensures.placed,
+      (region_bounds _ c.requires.good _ _ c.requires.above c.requires.live).0,
+    )
 
 pub hold_place-requires-clause-clear : goal.hold_place-requires-clause-clear
 hold_place-requires-clause-clear c = rw (c.page_of.ensures, c.page_count.ensures) (record {

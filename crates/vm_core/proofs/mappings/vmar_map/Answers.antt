@@ -37,7 +37,7 @@ returns-then-not-above g c =
     record {
       step = refused_spaces (λ s. rw (← c.in-Some.ensures.region) (rw (← c.in-Some-resolve.ensures) (rw not_live refl)));
       left = left_spaces;
-  noted = c.requires.noted;
+      noted = c.requires.noted;
     }
 
 pub returns-in-Err : goal.returns-in-Err
