@@ -35,9 +35,9 @@ overflow_sub-gap c = omega (arith, (c.in-Some.ensures.least c.in-Some.pinned ref
 pub overflow_sub-rest : goal.overflow_sub-rest
 overflow_sub-rest c = omega (arith, c.loop-pinned.invariant.bound)
 
-pub make_readonly-requires-clause-range : goal.make_readonly-requires-clause-range
-make_readonly-requires-clause-range c =
+pub make_readonly-requires : goal.make_readonly-requires
+make_readonly-requires c =
     let next = c.in-Some.ensures.least c.in-Some.pinned refl in omega (arith, next.0, next.1, c.requires)
 
-pub make_readonly-2-requires-clause-range : goal.make_readonly-2-requires-clause-range
-make_readonly-2-requires-clause-range c = omega (arith, c.loop-pinned.invariant.bound, c.requires)
+pub make_readonly-requires-2 : goal.make_readonly-requires-2
+make_readonly-requires-2 c = omega (arith, c.loop-pinned.invariant.bound, c.requires)
