@@ -5,6 +5,8 @@
 //!                                 `same` where the canonical line is the line
 //!     number WORD                 the number in decimal, or `none`
 //!     perm WORD                   the bits of the permissions in decimal, or `none`
+//!     data WORD                   the bytes of the data as a text, or `none`
+//!     word INDEX LINE             where this word of the line, from 0, begins and ends, or `none`
 
 ghost use Rattle.std.specs.Prelude.{◌≡◌, true, IsTrue};
 ghost use Rattle.vm_model.specs.Language.Spelling.{has_spelling};
@@ -101,6 +103,26 @@ pub(super) fn perm(alloc: Global, word: &str) -> Result<String, Fault> {
     }
 }
 
+pub(super) fn data(alloc: Global, word: &str) -> Result<String, Fault> {
+    match script_text::byte_data(word.as_bytes()) {
+        Some(data) => Ok(String::from_str(alloc, text_of(data.as_slice())?)?),
+        None => decimal(alloc, None),
+    }
+}
+
+pub(super) fn word(alloc: Global, rest: &str) -> Result<String, Fault> {
+    let Some((index, line)) = rest.split_once(' ') else {
+        return Err(Fault::NoForm);
+    };
+    let Some(index) = script_text::number(index.as_bytes()) else {
+        return Err(Fault::NoForm);
+    };
+    match script_text::word_at(line.as_bytes(), index) {
+        Some((start, end)) => Ok(format!(in alloc; "{start} {end}")?),
+        None => decimal(alloc, None),
+    }
+}
+
 #[test]
 fn numbers_and_permissions_are_read(rt: HostRuntime) -> Result<(), Fail> {
     check(
@@ -139,6 +161,26 @@ perm rr => none
 perm R => none
 perm - => none
 perm  => none
+",
+    )?;
+    Ok(())
+}
+
+#[test]
+fn data_and_places_of_words_are_read(rt: HostRuntime) -> Result<(), Fail> {
+    check(
+        rt.alloc(),
+        "\
+data 6162 => ab
+data 6B4c20 => kL\x20
+data 616 => none
+data 0x61 => none
+data  => none
+
+word 0 \tvmo_size  v1 => 1 9
+word 1 \tvmo_size  v1 => 11 13
+word 2 \tvmo_size  v1 => none
+word 0  => none
 ",
     )?;
     Ok(())

@@ -3,12 +3,15 @@
 //!     fetch LINES PIECE CALLS     what a reader fetches of lines parted by `/`, from a source that gives so many bytes a
 //!                                 call and fails at these calls, from 1
 //!     push TEXTS PIECE CALLS      how texts parted by `,` are pushed, to a sink of the same kind, and what it has then
+//!     count TEXTS                 how many bytes a sink counts to which texts parted by `,` are pushed
 //!     pull BYTES                  what is pulled from a reader that is interrupted once
 //!     write FAILS HELD BYTES      how bytes are pushed to a writer that holds others until it is flushed, and fails once to
 //!                                 `write`, to `flush`, or `never`; what it holds and has passed on then
 
 use super::{Fault, add_word, check, numbers_of, text_of};
-use script_io::{Fetch, Lines, MemSink, MemSource, ReadSource, Sink, Source, WriteSink, push_all};
+use script_io::{
+    CountSink, Fetch, Lines, MemSink, MemSource, ReadSource, Sink, Source, WriteSink, push_all,
+};
 use std::alloc::Global;
 use std::io::{self, ErrorKind, Read, Write};
 use std::test::Fail;
@@ -119,6 +122,16 @@ pub(super) fn push(alloc: Global, rest: &str) -> Result<String, Fault> {
     Ok(told)
 }
 
+pub(super) fn count(alloc: Global, texts: &str) -> Result<String, Fault> {
+    let mut sink = CountSink::new();
+    for text in texts.split(',') {
+        if push_all(&mut sink, text.as_bytes()).is_err() {
+            return Err(Fault::NoForm);
+        }
+    }
+    Ok(format!(in alloc; "{}", sink.taken())?)
+}
+
 pub(super) fn pull(alloc: Global, bytes: &str) -> Result<String, Fault> {
     let mut source = ReadSource::new(Interrupted {
         rest: bytes.as_bytes(),
@@ -198,6 +211,7 @@ fn failed_calls_are_answered_at_once(rt: HostRuntime) -> Result<(), Fail> {
 fetch ab/cde 2 99 => ab cde END
 fetch ab/cd 4 1 2 4 5 => FAULT FAULT ab FAULT FAULT cd END
 push abcd,efgh,ijkl 2 2 3 => FAULT FAULT OK abijkl
+count ab,,cde => 5
 pull abc => FAULT abc END
 write never  abc => OK held= passed=abc
 write never ab c => OK held= passed=abc
