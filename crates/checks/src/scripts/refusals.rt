@@ -11,12 +11,16 @@ use super::text_fault::Fault;
 use std::alloc::Global;
 use std::test::Fail;
 
-/// How many calls are refused, one in each run. The scripts make fewer.
+/// How many calls are refused, one in each run. No script makes more.
 const CALLS: u64 = 60;
 
 /// Checks that a script is answered as ever where this call finds no memory, and what it was made for is asked again.
 fn check_refused(alloc: Global, script: &Script, call: u64) -> Result<(), Fault> {
-    let written = stepped_refusing(alloc, script.words.as_slice(), script.lines.as_str(), call)?;
+    let (words, lines) = (script.words.as_slice(), script.lines.as_str());
+    let (written, calls) = stepped_refusing(alloc, words, lines, call)?;
+    if calls > CALLS {
+        return Err(Fault::OtherLength);
+    }
     compare(alloc, script.replies.as_str(), written.as_str())
 }
 

@@ -159,13 +159,14 @@ pub(crate) fn stepped(
 }
 
 /// What is written where a machine over the clone tree steps through a script, and the call of the tree with this number
-/// finds no memory. Each command that finds none is given once more, and so is the call that gives the tree its frames.
+/// finds no memory; and how many calls there were. Each command that finds none is given once more, and so is the call that
+/// gives the tree its frames.
 pub(crate) fn stepped_refusing(
     alloc: Global,
     words: &[String],
     script: &str,
     call: u64,
-) -> Result<String, Fault> {
+) -> Result<(String, u64), Fault> {
     let Some(frames) = frames_for(words) else {
         return Err(Fault::NoForm);
     };
@@ -173,6 +174,7 @@ pub(crate) fn stepped_refusing(
         return Err(Fault::HostMemory);
     };
     let written = stepped_over(alloc, frames, script, Asking::Twice, &mut store);
+    let calls = store.calls();
     drop(store);
-    written
+    Ok((written?, calls))
 }

@@ -16,7 +16,7 @@ pub(crate) enum Fault {
     NoText,
     /// The first line that is other than the one that is wanted.
     OtherReply { wanted: String, written: String },
-    /// There are more or fewer lines than those that are wanted.
+    /// There are more or fewer lines, or calls, than those that are wanted.
     OtherLength,
     /// The clone tree has these counts.
     OtherTree(String),
