@@ -152,13 +152,13 @@ unfolding nothing vmos_of
 no_vmos f flat e = flat.live ∙ count_below_none f.next (λ v. is_some ((content_of f).count v)) (λ v h. ap (λ (c : Content). is_some (c.count v)) e)
 
 pub content-new : (pool : Pool) (vmos : PairMap ℕ) (rows : PairMap Tag) (shares : List ℕ) → pool.frames ≡ 0 → values_of vmos ≡ (λ a b. None) → values_of rows ≡ (λ a b. None) →
-    content_of (record { pool = pool; next = 1; vmos = vmos; rows = rows; shares = shares }) ≡ nothing
+    content_of (record { pool = pool; next = 1; vmos = vmos; rows = rows; shares = shares; asked = 0 }) ≡ nothing
 unfolding nothing
 content-new pool vmos rows shares none no-vmo no-row = same_content _ _ none refl (λ v. ap (λ (map : ℕ → ℕ → Option ℕ). map 0 v) no-vmo)
     (λ v p. ap (λ (map : ℕ → ℕ → Option Tag). page_from pool (map v p)) no-row)
 
 pub IsFlat-new : (pool : Pool) (vmos : PairMap ℕ) (rows : PairMap Tag) → pool.frames ≡ 0 → ((t : ℕ) → taken_frames pool t ≡ None) →
-    values_of vmos ≡ (λ a b. None) → values_of rows ≡ (λ a b. None) → count_of vmos ≡ 0 → IsFlat (record { pool = pool; next = 1; vmos = vmos; rows = rows; shares = [] })
+    values_of vmos ≡ (λ a b. None) → values_of rows ≡ (λ a b. None) → count_of vmos ≡ 0 → IsFlat (record { pool = pool; next = 1; vmos = vmos; rows = rows; shares = []; asked = 0 })
 unfolding nothing
 IsFlat-new pool vmos rows none free no-vmo no-row few =
     IsFlat-nothing _ (content-new pool vmos rows [] none no-vmo no-row ∙ ap (λ (n : ℕ). record nothing { frames = n }) (sym none)) few (sym none)

@@ -1,5 +1,5 @@
 -- The plain store as the values of its fields, and the content that they stand for.
-use Rattle.std.specs.Prelude.{◌≡◌, ℕ, List, length, slice_index_or, nat_lt, Option, None, Some, is_some}
+use Rattle.std.specs.Prelude.{◌≡◌, ℕ, min, List, length, slice_index_or, nat_lt, Option, None, Some, is_some}
 use Rattle.frame_pool.specs.Pool.{Pool, taken_frames, frame_bytes}
 use Rattle.pair_map.specs.declared.pair_map.PairMap.{PairMap}
 use Rattle.pair_map.specs.Maps.{values_of, count_of, spare_of}
@@ -9,13 +9,14 @@ use Rattle.vm_model.specs.Contents.Sharing.{viewers}
 use Rattle.page_store.specs.declared.flat_store.FlatStore.TheInside.{Inside}
 
 -- the page frames, the next koid, the page counts by 0 and koid, the frames of the held pages by koid and page number,
--- and the share counts by tag
+-- the share counts by tag, and for how many entries room was asked at most
 pub record Flat : Type 0 where
   pub pool : Pool
   pub next : ℕ
   pub vmos : PairMap ℕ
   pub rows : PairMap Tag
   pub shares : List ℕ
+  pub asked : ℕ
 
 -- a page with the frame of this tag and its bytes
 abbrev pub page_with : Pool → Tag → Page
@@ -33,9 +34,9 @@ content_of f = record {
   page = λ v p. page_from f.pool (values_of f.rows v p);
 }
 
--- how many pages may be held more with no memory from the host
+-- how many pages may be held more with no memory from the host, as far as room was asked for
 abbrev pub room_of : Flat → ℕ
-room_of f = spare_of f.rows
+room_of f = min f.asked (spare_of f.rows)
 
 -- What holds of every plain store: the share count of a frame is how many VMOs show it, and the frames that some VMO shows
 -- are taken.
@@ -47,7 +48,7 @@ pub record IsFlat (f : Flat) : Type 0 where
   pub taken : (t : ℕ) → is_some (taken_frames f.pool t) ≡ nat_lt 0 (slice_index_or f.shares t 0)
 
 abbrev pub flat_of : Inside → Flat
-flat_of a = record { pool = a.pool; next = a.next; vmos = a.vmos; rows = a.rows; shares = a.shares.items }
+flat_of a = record { pool = a.pool; next = a.next; vmos = a.vmos; rows = a.rows; shares = a.shares.items; asked = a.asked }
 
 -- the fields are a plain store
 pub record AreFlat (a : Inside) : Type 0 where

@@ -7,7 +7,7 @@ ghost use Rattle.vm_model.specs.Contents.Content.{nothing, pages_of, views, used
 ghost use Rattle.vm_model.specs.Contents.Owning.{Owns};
 ghost use Rattle.vm_model.specs.Contents.Zeroing.{zeroed};
 ghost use Rattle.frame_pool.specs.Pool.{taken_frames, frame_bytes, taken_count, Takes};
-ghost use Rattle.pair_map.specs.Maps.{values_of};
+ghost use Rattle.pair_map.specs.Maps.{values_of, spare_of};
 ghost use Rattle.page_store.specs.Pages.{IsShown};
 ghost use Rattle.page_store.specs.Held.{IsNextBelow, HasNoneBelow, held_from, showing};
 ghost use Rattle.page_store.specs.Flat.{content_of, page_with, room_of};
@@ -33,6 +33,9 @@ pub struct FlatStore {
     rows: PairMap<Tag>,
     /// How many VMOs show each frame, by tag.
     shares: Vec<u64>,
+    /// The greatest number of entries that room was asked for. What is to spare is no more than this, so that a snapshot,
+    /// which keeps it, asks for entries that it shows and not for all that the map has ever had.
+    asked: u64,
 }
 
 impl Model for FlatStore {
@@ -56,6 +59,7 @@ impl FlatStore {
             vmos: PairMap::new(alloc),
             rows: PairMap::new(alloc),
             shares: Vec::new(alloc),
+            asked: 0,
         }
     }
 
@@ -67,6 +71,7 @@ impl FlatStore {
         ensures ok { OnOk result (content_of self.new ≡ created (content_of self.old) count) }
         ensures err { OnErr result (content_of self.new ≡ content_of self.old) }
         ensures rows { self.new.rows ≡ self.old.rows }
+        ensures asked { self.new.asked ≡ self.old.asked }
     {
         let Ok(()) = self.vmos.reserve(1) else {
             return Err(HostMemory);
@@ -157,9 +162,10 @@ impl FlatStore {
         requires zero { (content_of self.old).page v.0 page ≡ None }
         requires shown { IsShown (content_of self.old) tag.0 }
         requires good { IsGood (hold (content_of self.old) v.0 page (page_with self.old.pool tag)) }
-        requires room { 1 ≤ room_of self.old }
+        requires room { 1 ≤ spare_of self.old.rows }
         ensures content { content_of self.new ≡ hold (content_of self.old) v.0 page (page_with self.old.pool tag) }
-        ensures room { room_of self.new + 1 ≡ room_of self.old }
+        ensures room { spare_of self.new.rows + 1 ≡ spare_of self.old.rows }
+        ensures asked { self.new.asked ≡ self.old.asked }
     {
         // No more VMOs show a frame than there are koids.
         let _koids = self.next;
@@ -173,9 +179,11 @@ impl FlatStore {
         requires apart { of.0 ≢ v.0 }
         requires zero { (p : ℕ) → (content_of self.old).page v.0 p ≡ None }
         requires good { IsGood (showing (content_of self.old) of.0 first (end - first) v.0) }
-        requires room { held_from (content_of self.old) of.0 first (end - first) ≤ room_of self.old }
+        requires room { held_from (content_of self.old) of.0 first (end - first) ≤ spare_of self.old.rows }
         ensures content { content_of self.new ≡ showing (content_of self.old) of.0 first (end - first) v.0 }
-        ensures room { room_of self.old ≤ room_of self.new + held_from (content_of self.old) of.0 first (end - first) }
+        ensures room { spare_of self.old.rows
+            ≤ spare_of self.new.rows + held_from (content_of self.old) of.0 first (end - first) }
+        ensures asked { self.new.asked ≡ self.old.asked }
     {
         let mut from = first;
         while let Some((page, tag)) = self.held_below(of, from, end) {
@@ -238,12 +246,12 @@ impl PageStore for FlatStore {
     ) -> Result<Koid, HostMemory> {
         let koid = Koid(self.next);
         let end = first + seen;
-        // All memory is taken before anything is changed. The room that is there already stays.
+        // All memory is taken before anything is changed. The room that was asked for stays.
         let held = self.count_held(of, first, end);
-        let Some(room) = self.rows.spare().checked_add(held as usize) else {
+        let Some(room) = self.asked.checked_add(held) else {
             return Err(HostMemory);
         };
-        let Ok(()) = self.rows.reserve(room) else {
+        let Ok(()) = self.rows.reserve(room as usize) else {
             return Err(HostMemory);
         };
         let Ok(_) = self.add_vmo(count) else {
@@ -254,10 +262,11 @@ impl PageStore for FlatStore {
     }
 
     fn reserve(&mut self, n: u64) -> Result<(), HostMemory> {
-        match self.rows.reserve(n as usize) {
-            Ok(()) => Ok(()),
-            Err(_) => Err(HostMemory),
-        }
+        let Ok(()) = self.rows.reserve(n as usize) else {
+            return Err(HostMemory);
+        };
+        self.asked = self.asked.max(n);
+        Ok(())
     }
 
     fn look(&self, v: Koid, page: PageNo) -> Look {

@@ -1,4 +1,4 @@
-use Rattle.std.proofs.Common.{◌-◌, ◌+◌, refl, sym, ap, subst, arith}
+use Rattle.std.proofs.Common.{◌-◌, ◌+◌, refl, sym, ap, subst, ◌∙◌, arith}
 use Rattle.vm_model.specs.Contents.Content.{IsGood}
 use Rattle.page_store.specs.Flat.{content_of, page_from}
 use Rattle.page_store.proofs.HeldLaws.{held-more, held-shown, showing-begins, showing-zero, showing-next, showing-end, showing-good}
@@ -11,6 +11,7 @@ loop-page-init c = record {
   shown = showing-begins (content_of c.args.self.now) c.args.of.0 c.args.first c.args.v.0 c.requires.zero;
   room = omega (arith, c.requires.room);
   spare = omega arith;
+  asked = refl;
 }
 
 pub overflow_sub-page : goal.overflow_sub-page
@@ -53,6 +54,7 @@ loop-page-preserved c =
       shown = showing-next (content_of c.args.self.now) (content_of c.loop-page.self) _ _ _ _ _ inv.shown c.requires.apart _ _ _ inv.first next held c.show_page.ensures.content;
       room = omega (arith, inv.room, one, c.show_page.ensures.room);
       spare = omega (arith, inv.spare, one, c.show_page.ensures.room);
+      asked = c.show_page.ensures.asked ∙ inv.asked;
     }
 
 pub returns-clause-content : goal.returns-clause-content
@@ -64,3 +66,6 @@ pub returns-clause-room : goal.returns-clause-room
 returns-clause-room c =
     let inv = c.loop-page.invariant in
     omega (arith, inv.spare, held-more (content_of c.args.self.now) c.args.of.0 c.args.first (c.loop-page.from - c.args.first) (c.args.end - c.args.first) (omega (arith, inv.end)))
+
+pub returns-clause-asked : goal.returns-clause-asked
+returns-clause-asked c = c.loop-page.invariant.asked

@@ -30,7 +30,7 @@ show_pages-requires-clause-room c =
     let same = snapshot-held (content_of (flat_of c.self.inside)) (content_of c.add_vmo.new.self) c.args.of.0 c.args.first c.args.seen c.args.count _ c.self.invariant.flat.good (made c) refl (c.args.first + c.args.seen - c.args.first) in
     let held = rw (← c.self.view_is) at c.count_held-held.ensures in
     let rows = ap (λ (rows : PairMap Tag). spare_of rows) c.in-Ok-add_vmo.ensures.rows in
-    omega (arith, same, held, rows, c.in-Ok.ensures.room)
+    omega (arith, same, held, rows, c.in-Ok.ensures.room, c.in-Some.ensures)
 
 pub returns-clause-ok : goal.returns-clause-ok
 returns-clause-ok c =
@@ -45,4 +45,5 @@ returns-clause-kept c =
     let same = snapshot-held (content_of (flat_of c.self.inside)) (content_of c.add_vmo.new.self) c.args.of.0 c.args.first c.args.seen c.args.count _ c.self.invariant.flat.good made refl (c.args.first + c.args.seen - c.args.first) in
     let held = rw (← c.self.view_is) at c.count_held-held.ensures in
     let rows = ap (λ (rows : PairMap Tag). spare_of rows) c.in-Ok-add_vmo.ensures.rows in
-    rw (← c.self.view_is) (omega (arith, same, held, rows, c.in-Ok.ensures.room, c.in-Some.ensures, c.spare.ensures, c.show_pages.ensures.room))
+    let asked = c.show_pages.ensures.asked ∙ c.in-Ok-add_vmo.ensures.asked in
+    rw (← c.self.view_is) (omega (arith, same, held, rows, asked, c.in-Ok.ensures.room, c.in-Some.ensures, c.show_pages.ensures.room))
