@@ -9,10 +9,10 @@ pub const PAGE_BYTES: usize = PAGE as usize;
 
 const _: () = prove!(PAGE_BYTES == 1 << 12);
 
-/// The greatest page count of a VMO: 2^36 bytes.
-pub const VMO_PAGES: u64 = 16777216;
+/// The greatest page count of a VMO: 2^36 pages, 2^48 bytes.
+pub const VMO_PAGES: u64 = 68719476736;
 
-const _: () = prove!(VMO_PAGES * PAGE == 1 << 36);
+const _: () = prove!(VMO_PAGES * PAGE == 1 << 48);
 
 /// The greatest number of page frames of a machine.
 pub const FRAMES: u32 = 65536;
@@ -38,10 +38,10 @@ pub const ROOT_FIRST: u64 = 512;
 
 const _: () = prove!(ROOT_FIRST * PAGE == 0x200000);
 
-/// The page behind the last page of a root region, at address 2^48.
-pub const ROOT_END: u64 = 68719476736;
+/// The page behind the last page of a root region, at address 2^56.
+pub const ROOT_END: u64 = 17592186044416;
 
-const _: () = prove!(ROOT_END * PAGE == 1 << 48);
+const _: () = prove!(ROOT_END * PAGE == 1 << 56);
 
 /// The most bytes of one read or write command. Wherever they begin, they lie on two pages at most.
 pub const DATA_BYTES: usize = 4096;
