@@ -17,7 +17,7 @@ const _: () = prove!(VMO_PAGES * PAGE == 1 << 48);
 /// The greatest number of page frames of a machine.
 pub const FRAMES: u32 = 65536;
 
-/// How many page frames a machine has where the words of the command line don't say.
+/// The page frames of a machine, if the command line does not say how many.
 pub const DEFAULT_FRAMES: u32 = 1024;
 
 const _: () = prove!(1 <= DEFAULT_FRAMES && DEFAULT_FRAMES <= FRAMES);
@@ -56,7 +56,7 @@ pub const NAMES: u64 = 4294967296;
 
 const _: () = prove!(NAMES == 1 << 32);
 
-/// Koids are below it, since a script has fewer lines: 2^63.
+/// Every koid is below this, 2^63, since a script has fewer lines.
 pub const KOIDS: u64 = 9223372036854775808;
 
 const _: () = prove!(KOIDS == 1 << 63);

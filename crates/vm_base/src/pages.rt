@@ -8,7 +8,7 @@ use crate::limits::PAGE;
 /// The number of a page: of a VMO, or of an address space.
 pub type PageNo = u64;
 
-/// `n` bytes rounded up to whole pages, in bytes. `None` exactly where that is over `limit` bytes.
+/// `n` bytes rounded up to whole pages, in bytes. `None` if and only if that is over `limit` bytes.
 pub fn round_up(n: u64, limit: u64) -> Option<u64>
     ensures fits { IsSome result ↔ (rounded n ≤ limit) }
     ensures value { IfSome result (λ r. r ≡ rounded n) }
