@@ -23,7 +23,7 @@ module _ {R V : Type 0} where
 unfoldable pub with_pair : {V : Type 0} → (ℕ → ℕ → Option V) → ℕ → ℕ → Option V → ℕ → ℕ → Option V
 with_pair map a b v k q = cond ((k == a) && (q == b)) v (map k q)
 
--- the least number from `from` on that has a value; None where there is none
+-- the least number from `from` on that has a value; None if there is none
 pub record IsNext {V : Type 0} (map : ℕ → Option V) (from : ℕ) (answer : Option ℕ) : Type 0 where
   pub none : answer ≡ None → (b : ℕ) → from ≤ b → map b ≡ None
   pub least : (b : ℕ) → answer ≡ Some b → (from ≤ b) × IsSome (map b) × ((q : ℕ) → from ≤ q → q < b → map q ≡ None)

@@ -105,7 +105,7 @@ module _ {R : Type 0} (f : Functions R) where
       (balanced (inserted q w l) p x r)
       (cond (nat_lt (f.rank x) (f.rank w)) (balanced l p x (inserted q w r)) (Node l p w r))
 
-  -- the first row, and d where there is none
+  -- the first row, and d if there is none
   abbrev pub least : Tree R → R → R
   least Leaf d = d
   least (Node l p x r) d = least l x

@@ -22,8 +22,8 @@ use std::sync::ledger::{Blank, Ledger};
 /// each with no children, and `spare`, how many more fit with no memory from the host. No call but `reserve` asks the
 /// host for memory.
 ///
-/// A step of a counted call is one row that is looked at, put, added or taken. The other calls do the same and count
-/// nothing.
+/// A step of a counted call is one row that is looked at, put, added or taken, and each counted call takes O(log n)
+/// steps. The other calls do the same and count nothing.
 #[derive(Drop)]
 pub struct BalancedTree<R: TreeRow> {
     rows: RowSlab<R>,
@@ -56,7 +56,7 @@ impl<R: TreeRow> BalancedTree<R> {
         }
     }
 
-    /// Makes room for `n` rows more. The error where the host has too little memory. The rows stay as they are on both
+    /// Makes room for `n` rows more. Fails if the host has too little memory. The rows stay as they are on both
     /// answers, and no room is lost.
     pub fn reserve(&mut self, n: usize) -> Result<(), AllocError>
         ensures room { OnOk result (n ≤ self.new.spare) }
@@ -66,7 +66,7 @@ impl<R: TreeRow> BalancedTree<R> {
         self.rows.reserve(n)
     }
 
-    /// How many rows there are. Their ranks rise.
+    /// How many rows there are. A clause says too that their ranks rise.
     pub fn len(&self) -> usize
         ensures len { result ≡ length self.now.rows }
         ensures rising { IsRising R.functions self.now.rows }
@@ -201,8 +201,9 @@ impl<R: TreeRow> BalancedTree<R> {
 }
 
 impl<R: ExtentRow> BalancedTree<R> {
-    /// The lowest rank from `from` on at which `size` ranks lie in no extent and end at the limit or before. None where
-    /// there is no such rank. A size of 0 has no place inside an extent either.
+    /// The lowest rank from `from` on such that it and the following ranks, `size` in all, lie in no extent and end at
+    /// the limit or before. `None` if and only if there is no such rank. A size of 0 has no place inside an extent
+    /// either.
     pub fn first_gap_counted<L: Ledger>(
         &self,
         from: u128,
@@ -218,8 +219,9 @@ impl<R: ExtentRow> BalancedTree<R> {
         gap_below(&self.rows, self.root, from, size, limit, steps)
     }
 
-    /// The lowest rank from `from` on at which `size` ranks lie in no extent and end at the limit or before. None where
-    /// there is no such rank. A size of 0 has no place inside an extent either.
+    /// The lowest rank from `from` on such that it and the following ranks, `size` in all, lie in no extent and end at
+    /// the limit or before. `None` if and only if there is no such rank. A size of 0 has no place inside an extent
+    /// either.
     pub fn first_gap(&self, from: u128, size: u128, limit: u128) -> Option<u128>
         requires { AreApart R.functions R.extents self.now.rows }
         ensures { MatchOption result (HasNoGap R.functions R.extents self.now.rows from size limit)

@@ -3,7 +3,7 @@
 ghost use Rattle.std.specs.Prelude.{◌≡◌};
 ghost use Rattle.balanced_tree.specs.Pairs.{pair_rank};
 
-/// How far apart the ranks of two pairs are whose first numbers follow each other and whose second are the same.
+/// The distance between the ranks of two pairs with the same second number, if their first numbers follow each other.
 const SECONDS: u128 = 1 << 64;
 
 /// The rank of a pair: by its first number, and then by its second.

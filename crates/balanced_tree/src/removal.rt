@@ -43,8 +43,8 @@ fn take_least<R: TreeRow, L: Ledger>(
     }
 }
 
-/// Takes the row at a place out of the tree there, and answers the link to the root of its two children as one tree.
-/// Where there is a right child, the first row below it goes to this place.
+/// Takes the row at a place out of the tree there, and answers the link to the root of its two children as one tree. If
+/// there is a right child, the first row below it goes to this place.
 fn take_root<R: TreeRow, L: Ledger>(
     rows: &mut RowSlab<R>,
     place: usize,

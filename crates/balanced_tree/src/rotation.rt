@@ -1,4 +1,4 @@
-//! A row over its two children, with a rotation where their heights differ by two.
+//! A row over its two children, with a rotation if their heights differ by two.
 
 ghost use Rattle.std.specs.Prelude.{◌≡◌, ℕ, ◌+◌, ◌^◌, ◌<◌, ◌≤◌, nat_lt, if◌then◌else◌, Some, None};
 ghost use Rattle.std.specs.Option.{ForSome};
@@ -237,9 +237,9 @@ fn lean_left<R: TreeRow, L: Ledger>(
     }
 }
 
-/// The row over two children whose heights may differ by two: one of them, or a child of it, becomes its parent there.
-/// It answers the link to what stands there then. Where the heights differ by at most one, only the stored heights of the
-/// two are looked at.
+/// The row over two children whose heights may differ by two. If they do, one of the children, or a child of it,
+/// becomes the parent. Answers the link to what then stands there. If the heights differ by at most one, the call looks
+/// only at the stored heights of the two.
 #[inline(always)]
 pub fn balance<R: TreeRow, L: Ledger>(
     rows: &mut RowSlab<R>,

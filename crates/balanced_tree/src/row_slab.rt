@@ -37,7 +37,7 @@ impl<R: Copy> RowSlab<R> {
         }
     }
 
-    /// Makes room for `n` rows more. The error where the host has too little memory; the rows stay as they are on both
+    /// Makes room for `n` rows more. Fails if the host has too little memory; the rows stay as they are on both
     /// answers.
     pub fn reserve(&mut self, n: usize) -> Result<(), AllocError>
         ensures room { OnOk result (HasRoomFor self.new n) }

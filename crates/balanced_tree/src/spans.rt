@@ -4,7 +4,7 @@ ghost use Rattle.std.specs.Prelude.{◌≡◌};
 ghost use Rattle.balanced_tree.specs.Extents.{span_over};
 
 /// Where the extents of a subtree lie, in ranks: the rank of the first, the end of the last, and the greatest gap
-/// between neighbours, 0 where there is one extent alone.
+/// between neighbours, 0 if there is one extent alone.
 #[derive(Clone, Copy)]
 pub struct Span {
     pub lowest: u128,
