@@ -41,7 +41,7 @@ impl Bytes4k {
         self.bytes.as_slice()
     }
 
-    /// Adds a byte at the end. `false`, changing nothing, exactly where 4,096 bytes are there.
+    /// Adds a byte at the end. `false`, with nothing changed, if and only if there are 4,096 bytes already.
     pub fn push(&mut self, byte: u8) -> bool
         ensures room { IsTrue result ↔ (length self.old < DATA_BYTES) }
         ensures added { length self.old < DATA_BYTES → self.new ≡ self.old ++ byte ∷ [] }

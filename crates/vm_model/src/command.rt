@@ -72,7 +72,7 @@ pub enum Command {
         offset: u64,
         len: u64,
     },
-    /// Takes the frames of the pages of a range back (`ZX_VMO_OP_DECOMMIT`).
+    /// Gives the frames of the pages of a range back (`ZX_VMO_OP_DECOMMIT`).
     VmoDecommit {
         name: VmoName,
         offset: u64,
@@ -91,7 +91,7 @@ pub enum Command {
         offset: u64,
         len: u64,
     },
-    /// Lets pinned pages go (`zx_pmt_unpin`).
+    /// Unpins pinned pages (`zx_pmt_unpin`).
     VmoUnpin {
         pin: PinName,
     },

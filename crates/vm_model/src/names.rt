@@ -22,9 +22,9 @@ pub enum Origin {
     Snapshot,
 }
 
-/// What a name that is open stands for: a VMO, from its page `first` on. `limit` is how many pages that
-/// are, or `None` where it is the whole VMO, whatever its size. By it the VMO may be written or not, and
-/// its size changed or not.
+/// What an open name stands for: pages of the VMO `koid`, from page `first` on. `limit` is how many pages these are. If
+/// it is `None`, the name stands for the whole VMO, whatever its size. `may_write` and `may_resize` say what may be
+/// done to the VMO by this name.
 #[derive(Clone, Copy, Debug, PartialEq, Eq)]
 pub struct Target {
     pub koid: Koid,

@@ -42,7 +42,7 @@ impl PinNumbers {
         self.numbers.as_slice()
     }
 
-    /// Adds a number at the end. `false`, changing nothing, exactly where 256 numbers are there.
+    /// Adds a number at the end. `false`, with nothing changed, if and only if there are 256 numbers already.
     pub fn push(&mut self, number: u64) -> bool
         ensures room { IsTrue result ↔ (length self.old < PIN_PAGES) }
         ensures added { length self.old < PIN_PAGES → self.new ≡ self.old ++ number ∷ [] }

@@ -5,8 +5,8 @@ use crate::numbers::PinNumbers;
 use crate::runs::Runs;
 use vm_base::{Koid, Refusal};
 
-/// What a VMO holds. The size is the name's, in bytes; the other numbers are of pages of the whole VMO,
-/// and `children` of its children.
+/// What a VMO holds (`ZX_INFO_VMO`). `size` is the size of the name, in bytes. `children` counts the VMOs whose parent
+/// this VMO is, and its slices and references. The other numbers count pages of the whole VMO.
 #[derive(Clone, Copy, Debug, PartialEq, Eq)]
 pub struct Info {
     pub koid: Koid,
@@ -22,8 +22,8 @@ pub struct Info {
     pub children: u64,
 }
 
-/// How many page frames the machine has, how many of them some VMO shows and how many none does, and
-/// how many VMOs there are.
+/// The page frames and VMOs of the machine (`ZX_INFO_KMEM_STATS`). Some VMO shows each of the `used` frames, and none
+/// shows the `free` ones.
 #[derive(Clone, Copy, Debug, PartialEq, Eq)]
 pub struct Stat {
     pub frames: u32,

@@ -43,7 +43,7 @@ impl Runs {
         }
     }
 
-    /// Adds a run at the end. `HostMemory`, changing nothing, where the host has too little memory.
+    /// Adds a run at the end. `HostMemory`, with nothing changed, if the host has too little memory.
     pub fn push(&mut self, run: Run) -> Result<(), HostMemory>
         ensures ok { OnOk result (self.new ≡ self.old ++ run ∷ []) }
         ensures err { OnErr result (self.new ≡ self.old) }

@@ -21,7 +21,7 @@ pub struct Entry {
 /// A region of an address space (VMAR). It keeps its name when it is destroyed, and is not live from then on.
 #[derive(Clone, Copy, Debug, PartialEq, Eq)]
 pub struct Region {
-    /// The root region of its address space, itself where it is one.
+    /// The root region of its address space. A root region is its own.
     pub root: RegionName,
     /// The region that it was allocated in. A root region has none.
     pub parent: Option<RegionName>,

@@ -50,7 +50,7 @@ MachineEffect old (MemWrite region addr bytes) reply new =
 MachineEffect old command reply new =
     Effect old.state command reply new.state × (new.ready ≡ ready_after old command reply new.state)
 
--- The command may want memory of the host. For an access it is wanted only where a touched page is not ready for it.
+-- The command may want memory of the host. For an access it is wanted only if a touched page is not ready for it.
 abbrev pub may_want_memory : Machine → Command → Bool
 may_want_memory m (MemRead region addr len) = list_any (λ p. not (is_some (m.ready region.0 p))) (touched addr len)
 may_want_memory m (MemWrite region addr bytes) = list_any (λ p. not (is_writable (m.ready region.0 p))) (touched addr (length bytes))

@@ -166,8 +166,9 @@ touches_any s name offset len test = list_any test (touched (place_of s name off
 abbrev pub maps_any : State → ℕ → ℕ → ℕ → Bool
 maps_any s region first end = is_mapped_in (s.spaces.table (region_of s.spaces.regions region).root.0) first end
 
--- The command may want memory of the host in this state. To own pages it is wanted only where a touched page is not sole, to
--- make pages zero only where a touched page is held, and to unmap or list mappings only where a page of the range is mapped
+-- The command may want memory of the host in this state. To own pages it is wanted only if a touched page is not sole,
+-- to make pages zero only if a touched page is held, and to unmap or list mappings only if a page of the range is
+-- mapped
 abbrev pub may_lack_memory : State → Command → Bool
 may_lack_memory s (VmoCreate name size resizable) = true
 may_lack_memory s (VmoChild name parent kind offset size resizable no_write) = true

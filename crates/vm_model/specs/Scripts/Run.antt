@@ -18,7 +18,7 @@ unfoldable pub lines_of : List ℕ → List (List ℕ)
 lines_of [] = []
 lines_of (b ∷ bs) = if b == 10 then [] ∷ lines_of bs else onto_first b (lines_of bs)
 
--- a byte before the first line, where there is one
+-- a byte before the first line, if there is one
 abbrev pub before_whole : ℕ → List (List ℕ) → List (List ℕ)
 before_whole b [] = []
 before_whole b (line ∷ lines) = (b ∷ line) ∷ lines

@@ -70,7 +70,7 @@ abbrev pub cuts_child : (ℕ → Option Region) → ℕ → ℕ → ℕ → Bool
 cuts_child regions name first end =
     any_child regions name (λ (region : Region). meets first end region && not (lies_in first end region))
 
--- the parent of a region, where there is one and it has a parent
+-- the parent of a region, if there is one and it has a parent
 abbrev pub parent_in : Option Region → Option ℕ
 parent_in None = None
 parent_in (Some region) = parent_of region
