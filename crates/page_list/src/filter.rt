@@ -11,21 +11,22 @@ use vm_base::{HostMemory, PageNo};
 /// The fewest words of a filter that has any.
 const LEAST_WORDS: u64 = 2048;
 
-/// For each list a word of 64 bits, and for each page a bit of its list's word, by the page's number modulo 64. Where a
-/// page has a row its bit is set. So a clear bit says that the page has none, and a word of 0 that the list is empty. Lists
-/// share words and pages share bits, so a set bit says nothing.
+/// For each list a word of 64 bits, and for each page a bit of its list's word, by the page's number modulo 64. If a
+/// page has a row, its bit is set. So a clear bit says that the page has none, and a word of 0 that the list is empty.
+/// Lists share words and pages share bits, so a set bit says nothing.
 ///
-/// No bit is cleared as a row goes. The filter is made anew where it is too small for the rows, or where more rows went
+/// A bit stays set when its row goes. The filter is made anew if it is too small for the rows, or if more rows went
 /// since the last time than there are words and rows.
 #[derive(Drop)]
 pub(crate) struct Filter {
-    /// The words. None before the first room was made, when there is no row. A word that is not there has all bits set.
+    /// The words. There are none before room is made for the first time, when there is no row. A missing word counts as
+    /// one with all bits set.
     words: Vec<u64>,
-    /// Which bits of a list's number say where its word stands.
+    /// The bits of a list's number that say where the list's word stands.
     mask: u64,
     /// How many rows went since the filter was made.
     gone: u64,
-    /// How many rows may still come or go before it is asked again whether the filter is to be made anew.
+    /// How many rows may come or go before the filter has to be tested again.
     left: u64,
 }
 
@@ -40,7 +41,7 @@ impl Filter {
         }
     }
 
-    /// The word of a list: 0 only where no page of it has a row. It costs one load.
+    /// The word of a list: 0 only if no page of it has a row. It costs one load.
     #[inline(always)]
     pub(crate) fn word(&self, list: u64) -> u64
         ensures { result ≡ word_in self.now list }
@@ -53,7 +54,7 @@ impl Filter {
         }
     }
 
-    /// Whether the bit of a page of a list is set: false only where the page has no row. It costs one load.
+    /// Whether the bit of a page of a list is set: false only if the page has no row. It costs one load.
     #[inline(always)]
     pub(crate) fn may_have(&self, list: u64, page: PageNo) -> bool
         ensures { result ≡ has_bit self.now list page }
@@ -81,17 +82,18 @@ impl Filter {
         self.left = self.left.saturating_sub(1);
     }
 
-    /// Whether `more` rows may come with no question whether the filter is to be made anew. It costs one comparison.
+    /// Whether `more` rows may come before the filter has to be tested again. It costs one comparison.
     #[inline(always)]
     pub(crate) fn suits(&self, more: u64) -> bool {
         more <= self.left
     }
 
-    /// Makes the filter anew where it is too small for the rows of a tree and `more` of them, or where many rows went.
-    /// `HostMemory` where it has to grow and the host has too little memory: it stays as it was then. One that is only made
-    /// clean takes no memory.
+    /// Makes the filter anew if it is too small for the rows of a tree and `more` of them, or if many rows went.
+    /// `HostMemory` if the filter has to grow and the host has too little memory: the filter then stays as it was. A
+    /// filter that need not grow takes no memory.
     ///
-    /// It costs a look-up for each row and a store for each word where the filter is made anew, else a few comparisons.
+    /// To make the filter anew costs a look-up for each row and a store for each word. Otherwise the call costs a few
+    /// comparisons.
     pub(crate) fn renew(&mut self, tree: &BalancedTree<Row>, more: u64) -> Result<(), HostMemory>
         requires { AreFiltered self.old tree.now }
         ensures { AreFiltered self.new tree.now }
@@ -101,7 +103,7 @@ impl Filter {
         Ok(())
     }
 
-    /// Does what `renew` does, and leaves the count of rows that may come or go.
+    /// Does what `renew` does, but not `count_left`.
     fn make_fit(&mut self, tree: &BalancedTree<Row>, more: u64) -> Result<(), HostMemory>
         requires { AreFiltered self.old tree.now }
         ensures { AreFiltered self.new tree.now }
@@ -113,8 +115,8 @@ impl Filter {
         Ok(())
     }
 
-    /// How many words the filter is to have, where it is to be made anew: two at least for each row and each of `more`. No
-    /// clause says when that is, since a filter is right however many bits more are set.
+    /// How many words the filter is to have, if it is to be made anew: at least two for each row and each of `more`. No
+    /// clause says when it is made anew, since a filter with more bits set is right too.
     fn wanted(&self, rows: u64, more: u64) -> Option<u64> {
         let len = self.words.len() as u64;
         let least = rows.saturating_add(more).saturating_mul(2);
@@ -127,7 +129,7 @@ impl Filter {
         }
     }
 
-    /// Notes how many rows may come or go before the filter could be too small for them, or too many have gone.
+    /// Notes how many rows may come or go until the filter may be too small, or until too many have gone.
     fn count_left(&mut self, tree: &BalancedTree<Row>)
         requires { AreFiltered self.old tree.now }
         ensures { AreFiltered self.new tree.now }
@@ -139,8 +141,8 @@ impl Filter {
         self.left = room.min(clean);
     }
 
-    /// Clears all bits, and gives the filter `len` words. `HostMemory` where the host has too little memory for as many, and
-    /// then no bit is cleared. It costs a store for each word.
+    /// Clears all bits, and gives the filter `len` words. `HostMemory` if the host has too little memory for as many,
+    /// and then no bit is cleared. It costs a store for each word.
     fn clear(&mut self, len: u64) -> Result<(), HostMemory>
         ensures { OnErr result (IsMore self.old self.new) }
     {

@@ -18,11 +18,11 @@ use std::sync::ledger::Ledger;
 use vm_base::{HostMemory, PageNo};
 
 /// Rows, each under a list and a page. Contracts see which slot each page of each list has (`slots_of`), the number of
-/// the rows (`row_count`), and `spare`, how many more fit. No call but `reserve` asks the host for memory.
+/// rows (`row_count`), and `spare`, how many more fit. No call but `reserve` asks the host for memory.
 ///
-/// A step of a counted call is one row that is looked at, put, added or taken; but one of `next_counted` is the call itself,
-/// so that a walk over rows is counted by its rows. No counter is to be handed to both. The other calls do the same and count
-/// nothing. No call looks at a row for a page or a list of which the filter says that it has none.
+/// A step of a counted call is one row that is looked at, put, added or taken. Of `next_counted` a step is the call
+/// itself, so that a walk over rows is counted by its rows. No counter is to be handed to both kinds. The other calls
+/// do the same and count nothing. No call looks for a row if the filter says that the page or the list has none.
 #[derive(Drop)]
 pub struct PageLists {
     tree: BalancedTree<Row>,
@@ -56,14 +56,14 @@ impl PageLists {
         }
     }
 
-    /// Makes room for `n` rows more, and makes the filter anew where it is too small for as many, or where many rows went
-    /// since the last time. `HostMemory` where the host has too little memory for the rows, or for a filter that has to grow.
-    /// One that is only to be cleaner takes no memory, and is left out where the host has none for the rows. The rows stay as
-    /// they are on both answers, and no room is lost.
+    /// Makes room for `n` rows more. Makes the filter anew if it is too small for as many rows, or if many rows went
+    /// since the last time. `HostMemory` if the host has too little memory for the rows, or for a filter that has to
+    /// grow. A filter that only has bits to clear takes no memory, and is left as it is if the host has no memory for
+    /// the rows. The rows stay as they are on both answers, and no room is lost.
     ///
-    /// It costs two comparisons where the room is there and the filter stays, else what room for the rows costs. Where the
-    /// filter is made anew, it costs a look-up for each row and a store for each word of the filter more: over all calls a few
-    /// for each row that came or went, or that room was asked for.
+    /// If the room is there and the filter stays, the call costs two comparisons. Otherwise it costs what room for the
+    /// rows costs. A filter that is made anew costs a look-up for each row and a store for each word more: over all
+    /// calls, a few for each row that came or went, or for which room was asked.
     #[inline(always)]
     pub fn reserve(&mut self, n: u64) -> Result<(), HostMemory>
         ensures room { OnOk result (n ≤ self.new.spare) }
@@ -84,7 +84,7 @@ impl PageLists {
         n <= self.tree.spare() as u64 && self.filter.suits(n)
     }
 
-    /// Does what `reserve` does, where the room has to be asked for or the filter to be made anew.
+    /// Does what `reserve` does, if room has to be asked for or the filter has to be made anew.
     #[inline(never)]
     fn make_room(&mut self, n: u64) -> Result<(), HostMemory>
         ensures room { OnOk result (n ≤ self.new.spare) }
@@ -112,8 +112,8 @@ impl PageLists {
         self.tree.spare() as u64
     }
 
-    /// The slot of a page of a list. `None` exactly where it has no row. It costs one test where the filter says so, else a
-    /// look-up in the tree.
+    /// The slot of a page of a list. `None` if and only if the page has no row. It costs one test if the filter says
+    /// so, and otherwise a look-up in the tree, O(log n).
     pub fn find(&self, list: ListId, page: PageNo) -> Option<Slot>
         ensures { result ≡ slots_of self.now list.0 page }
     {
@@ -123,7 +123,8 @@ impl PageLists {
         slot_in(self.tree.find(pair_rank(list.0, page)))
     }
 
-    /// Adds a row to a page of a list that has none. It costs one way down the tree, and sets one bit of the filter.
+    /// Adds a row to a page of a list that has none. It costs one way down the tree, O(log n), and sets one bit of the
+    /// filter.
     pub fn insert(&mut self, list: ListId, page: PageNo, slot: Slot)
         requires absent { slots_of self.old list.0 page ≡ None }
         requires room { 1 ≤ self.old.spare }
@@ -136,7 +137,8 @@ impl PageLists {
         self.filter.set(list.0, page);
     }
 
-    /// Takes the row of a page of a list out, and answers its slot. It costs one way down the tree. The filter stays.
+    /// Takes the row of a page of a list out, and answers its slot. It costs one way down the tree, O(log n). The
+    /// filter stays.
     pub fn remove(&mut self, list: ListId, page: PageNo) -> Slot
         requires { IsSome (slots_of self.old list.0 page) }
         ensures slot { slots_of self.old list.0 page ≡ Some result }
@@ -173,8 +175,8 @@ impl PageLists {
         self.tree.replace(Row::new(list, page, slot));
     }
 
-    /// The least page of a list from `from` on that has a row. `None` exactly where there is none. It costs one test
-    /// where the filter says that the list is empty, else a look-up in the tree.
+    /// The least page of a list from `from` on that has a row. `None` if and only if there is none. It costs one test
+    /// if the filter says that the list is empty, and otherwise a look-up in the tree, O(log n).
     pub fn next(&self, list: ListId, from: PageNo) -> Option<PageNo>
         ensures { IsNext (slots_of self.now list.0) from result }
     {
@@ -185,8 +187,8 @@ impl PageLists {
         page_in(list, self.tree.next(pair_rank(list.0, from)))
     }
 
-    /// Takes the row of the least page of a list from `from` on out, and answers the page and its slot. `None` exactly
-    /// where there is none.
+    /// Takes out the row of the least page of a list from `from` on that has one, and answers the page and its slot.
+    /// `None` if and only if there is none.
     pub fn take_next(&mut self, list: ListId, from: PageNo) -> Option<(PageNo, Slot)>
         ensures page { IsNext (slots_of self.old list.0) from (option_map (λ taken. taken.0) result) }
         ensures slot { IfSome result (λ taken. slots_of self.old list.0 taken.0 ≡ Some taken.1) }
@@ -230,7 +232,7 @@ impl PageLists {
         slot_in(self.tree.find_counted(pair_rank(list.0, page), steps))
     }
 
-    /// Does what `next` does, and counts one step for the call, however many rows it looks at.
+    /// Does what `next` does, and counts one step for the call, however many rows the call looks at.
     pub fn next_counted<L: Ledger>(
         &self,
         list: ListId,

@@ -14,15 +14,15 @@ pub struct ListId(pub u64);
 /// What a row says of its page.
 #[derive(Clone, Copy, Debug, PartialEq, Eq)]
 pub enum Slot {
-    /// The page has this frame. In the list of a node with two children in a tree of copies, `left` and `right` say
-    /// that no VMO on that side sees the row; in another list both are false.
+    /// The page has this frame. In the list of a hidden node, `left` and `right` are the split bits: a set bit says
+    /// that no VMO on that side sees the row. In any other list both are false.
     Frame { tag: Tag, left: bool, right: bool },
     /// The page is zero, whatever a list behind this one has for it.
     Zero,
 }
 
-/// A row as it stands in the tree: under a list and a page a slot, the height, and the links to the two children. The height
-/// fills the room that the slot leaves, so that a row has 64 bytes.
+/// A row as it stands in the tree: under a list and a page, a slot, the height, and the links to the two children. The
+/// height fills the room that the slot leaves, so that a row has 64 bytes.
 #[derive(Clone, Copy, Debug)]
 pub struct Row {
     pub list: ListId,
@@ -33,7 +33,7 @@ pub struct Row {
     pub right: Option<usize>,
 }
 
-/// Rows under their places, each look, change, addition and removal one step.
+/// Rows under their places. Each look, change, addition and removal is one step.
 pub type RowSlab = balanced_tree::RowSlab<Row>;
 
 impl Row {
@@ -91,7 +91,8 @@ impl TreeRow for Row {
           height = height_over (λ y. y.height) left right;
         } }
     {
-        // A changed copy keeps the list, the page and the slot in one piece, where a new row is put together field by field.
+        // A changed copy keeps the list, the page and the slot in one piece. A new row would be put together field by
+        // field.
         let mut row = self;
         row.height = height_of(left).max(height_of(right)).saturating_add(1);
         row.left = link_to(left);
