@@ -46,8 +46,8 @@ impl<V: Copy> ExtentMap<V> {
         }
     }
 
-    /// Makes room for `n` extents more. The error where the host has too little memory. The extents stay as they are on
-    /// both answers, and no room is lost.
+    /// Makes room for `n` extents more. Fails if the host has too little memory. The extents stay as they are on both
+    /// answers, and no room is lost.
     pub fn reserve(&mut self, n: usize) -> Result<(), AllocError>
         ensures room { OnOk result (n ≤ spare_of self.new) }
         ensures extents { extents_of self.new ≡ extents_of self.old }
@@ -57,7 +57,7 @@ impl<V: Copy> ExtentMap<V> {
         self.tree.reserve(n)
     }
 
-    /// How many extents there are. They stand apart.
+    /// How many extents there are. A clause says too that they stand apart.
     pub fn len(&self) -> usize
         ensures len { result ≡ count_of self.now }
         ensures apart { StandApart (extents_of self.now) }
@@ -72,14 +72,14 @@ impl<V: Copy> ExtentMap<V> {
         self.tree.spare()
     }
 
-    /// The extent of a list that begins at this number. `None` exactly where there is none.
+    /// The extent of a list that begins at this number. `None` if and only if there is none.
     pub fn find(&self, list: u64, first: u64) -> Option<Extent<V>>
         ensures { result ≡ extents_of self.now list first }
     {
         extent_in(self.tree.find(pair_rank(list, first)))
     }
 
-    /// The extent of a list that has this number, with its first number. `None` exactly where there is none.
+    /// The extent of a list that has this number, with its first number. `None` if and only if there is none.
     pub fn at(&self, list: u64, number: u64) -> Option<(u64, Extent<V>)>
         ensures { MatchOption result
             ((p : ℕ) (e : Extent V) → Covers (extents_of self.now list) number p e → ⊥)
@@ -92,8 +92,8 @@ impl<V: Copy> ExtentMap<V> {
         }
     }
 
-    /// The extent of a list with the least first number from `from` on, with that number. `None` exactly where there is
-    /// none.
+    /// The extent of a list with the least first number from `from` on, with that number. `None` if and only if there
+    /// is none.
     pub fn next(&self, list: u64, from: u64) -> Option<(u64, Extent<V>)>
         ensures next { IsNext (extents_of self.now list) from (option_map (λ pair. pair.0) result) }
         ensures extent { IfSome result (λ pair. extents_of self.now list pair.0 ≡ Some pair.1) }
@@ -116,8 +116,8 @@ impl<V: Copy> ExtentMap<V> {
         }
     }
 
-    /// Puts an extent of `count` numbers from `first` on into a list, where no extent of the list has one of them. They
-    /// end at or below number 2^63.
+    /// Puts an extent of `count` numbers from `first` on into a list. No extent of the list has one of these numbers,
+    /// and they end at or below number 2^63.
     pub fn insert(&mut self, list: u64, first: u64, count: u64, value: V)
         requires some { 1 ≤ count }
         requires end { first + count ≤ 2 ^ 63 }
@@ -145,8 +145,8 @@ impl<V: Copy> ExtentMap<V> {
         self.tree.remove(pair_rank(list, first)).extent
     }
 
-    /// The lowest number from `from` on at which `count` numbers of the list are in no extent and end at the limit or
-    /// before. `None` exactly where there is none.
+    /// The lowest number from `from` on such that it and the following numbers, `count` in all, are in no extent of the
+    /// list and end at the limit or before. `None` if and only if there is none.
     pub fn first_gap(&self, list: u64, from: u64, count: u64, limit: u64) -> Option<u64>
         requires some { 1 ≤ count }
         requires limit { limit ≤ 2 ^ 63 }

@@ -39,8 +39,8 @@ impl<V: Copy> PairMap<V> {
         }
     }
 
-    /// Makes room for `n` pairs more. The error where the host has too little memory. The values stay as they are on
-    /// both answers, and no room is lost.
+    /// Makes room for `n` pairs more. Fails if the host has too little memory. The values stay as they are on both
+    /// answers, and no room is lost.
     pub fn reserve(&mut self, n: usize) -> Result<(), AllocError>
         ensures room { OnOk result (n ≤ spare_of self.new) }
         ensures values { values_of self.new ≡ values_of self.old }
@@ -64,15 +64,15 @@ impl<V: Copy> PairMap<V> {
         self.tree.spare()
     }
 
-    /// The value of a pair. `None` exactly where it has none.
+    /// The value of a pair. `None` if and only if it has none.
     pub fn find(&self, first: u64, second: u64) -> Option<V>
         ensures { result ≡ values_of self.now first second }
     {
         value_in(self.tree.find(pair_rank(first, second)))
     }
 
-    /// The least second number from `from` on that has a value under this first number, and the value. `None` exactly
-    /// where there is none.
+    /// The least second number from `from` on that has a value under this first number, and the value. `None` if and
+    /// only if there is none.
     pub fn next(&self, first: u64, from: u64) -> Option<(u64, V)>
         ensures next { IsNext (values_of self.now first) from (option_map (λ pair. pair.0) result) }
         ensures value { IfSome result (λ pair. values_of self.now first pair.0 ≡ Some pair.1) }

@@ -8,7 +8,7 @@ ghost use Rattle.pair_map.specs.StretchRows.{stretch_of, end_rank};
 
 use balanced_tree::{Child, ExtentRow, Span, TreeRow, link_to, pair_rank, span_over};
 
-/// So many numbers of a list, from one on, with a value.
+/// `count` numbers of a list in a row, with a value.
 #[derive(Clone, Copy)]
 pub struct Extent<V> {
     pub count: u64,
