@@ -19,7 +19,7 @@ unfoldable pub is_idle : List Tag → ℕ → Bool
 is_idle [] t = false
 is_idle (tag ∷ tags) t = (tag.0 == t) || is_idle tags t
 
--- the frames that are taken, with their bytes. None where a frame is free, or no frame of the machine
+-- the frames that are taken, with their bytes. None if a frame is free, or no frame of the machine
 unfoldable pub taken_frames : Pool → ℕ → Option (List ℕ)
 taken_frames p t = if is_idle p.idle t then None else slice_get p.buffer t
 

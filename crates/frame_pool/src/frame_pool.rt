@@ -9,10 +9,10 @@ use std::alloc::Global;
 use std::marker::Model;
 use vm_base::{FRAMES, HostMemory, PAGE, PAGE_BYTES, PageNo, Tag};
 
-/// No list: the backlink of a frame that was given none.
+/// The backlink of a frame for which none was set.
 const NO_LINK: Backlink = Backlink { list: 0, page: 0 };
 
-/// The row of a table of pages that has a frame: the backlink of the kernel's `vm_page`.
+/// The row that has a frame, as a list and a page: the backlink of the kernel's `vm_page`.
 #[derive(Clone, Copy, Debug, PartialEq, Eq)]
 pub struct Backlink {
     /// The number of the list of pages.
@@ -21,8 +21,8 @@ pub struct Backlink {
     pub page: PageNo,
 }
 
-/// The page frames of the machine: each is free, or taken with its bytes. A frame has `PAGE_BYTES` bytes
-/// and a tag, a number below the number of frames. No call but `fill` answers want of memory.
+/// The page frames of the machine: each is free, or taken with its bytes. A frame has `PAGE_BYTES` bytes and a tag, a
+/// number below the number of frames. No call but `fill` asks the host for memory.
 #[derive(Drop)]
 pub struct FramePool {
     /// How many page frames the machine has.
@@ -61,8 +61,8 @@ impl FramePool {
         }
     }
 
-    /// Gives a pool that has none its page frames, from 1 to `FRAMES` of them. All are free. `HostMemory`
-    /// where the host has too little memory, and then nothing was changed.
+    /// Gives a pool without page frames its frames, from 1 to `FRAMES` of them. All are free. `HostMemory`, with
+    /// nothing changed, if the host has too little memory.
     pub fn fill(&mut self, frames: u32) -> Result<(), HostMemory>
         requires empty { self.old.frames ≡ 0 }
         requires frames { (1 ≤ frames) × (frames ≤ FRAMES) }
@@ -71,7 +71,7 @@ impl FramePool {
         ensures err { OnErr result (self.new ≡ self.old) }
     {
         let count = frames as usize;
-        // Room alone: the bytes of a frame are first written as it is taken.
+        // Only room: the bytes of a frame are first written as the frame is taken.
         let Ok(()) = self.buffer.reserve_exact(count) else {
             return Err(HostMemory);
         };
@@ -86,7 +86,7 @@ impl FramePool {
         Ok(())
     }
 
-    /// Takes a free frame, whose bytes are zeros then. `None` exactly where no frame is free.
+    /// Takes a free frame, and makes its bytes zeros. `None` if and only if no frame is free.
     pub fn take(&mut self) -> Option<Tag>
         ensures frames { self.new.frames ≡ self.old.frames }
         ensures links { links_of self.new ≡ links_of self.old }
@@ -105,8 +105,7 @@ impl FramePool {
         Some(Tag(next))
     }
 
-    /// Takes a free frame, whose bytes are those of a taken frame then. `None` exactly where no frame is
-    /// free.
+    /// Takes a free frame, and copies the bytes of a taken frame to it. `None` if and only if no frame is free.
     pub fn take_copy(&mut self, from: Tag) -> Option<Tag>
         requires { IsSome (taken_frames self.old from.0) }
         ensures frames { self.new.frames ≡ self.old.frames }
@@ -128,7 +127,7 @@ impl FramePool {
         Some(Tag(next))
     }
 
-    /// Gives a taken frame back. It is free then, and its bytes are forgotten.
+    /// Gives a taken frame back. The frame is free then, and its bytes are lost.
     pub fn give_back(&mut self, tag: Tag)
         requires { IsSome (taken_frames self.old tag.0) }
         ensures frames { self.new.frames ≡ self.old.frames }
@@ -185,7 +184,7 @@ impl FramePool {
         self.buffer[tag.0 as usize] = blank_frame();
     }
 
-    /// Notes where a taken frame is kept.
+    /// Sets the backlink of a taken frame: the row that has the frame.
     pub fn set_backlink(&mut self, tag: Tag, link: Backlink)
         requires { IsSome (taken_frames self.old tag.0) }
         ensures frames { self.new.frames ≡ self.old.frames }
@@ -195,7 +194,7 @@ impl FramePool {
         self.links[tag.0 as usize] = link;
     }
 
-    /// Where a taken frame is kept, as it was noted last.
+    /// The backlink of a taken frame, as it was set last.
     pub fn backlink(&self, tag: Tag) -> Backlink
         requires { IsSome (taken_frames self.now tag.0) }
         ensures { result ≡ links_of self.now tag.0 }
@@ -210,7 +209,7 @@ impl FramePool {
         self.frames - self.buffer.len() as u32 + self.idle.len() as u32
     }
 
-    /// How many frames there are. Only their tags are ever taken.
+    /// How many frames the machine has, taken or free. Every tag that is taken is below this number.
     pub fn frames(&self) -> u32
         ensures value { result ≡ self.now.frames }
         ensures below { (tag : ℕ) → IsSome (taken_frames self.now tag) → tag < result }
