@@ -41,8 +41,8 @@ Fetched reader bytes left Fault =
 Fetched reader bytes left Limit =
     (left ≡ bytes) × HasNoFeedBeforeLast bytes × (reader.line ≡ []) × (reader.taken ≡ reader.limit + 1)
 
--- From old, with these bytes pending, a call took `part` of the source, answered and left `left` pending. It took
--- bytes only where no line feed was left among those that were pending.
+-- From old, with these bytes pending, a call took `part` of the source, answered and left `left` pending. It took bytes
+-- only if no line feed was left among those that were pending.
 pub record Fetches (old new : Reader) (before after : Option (List ℕ)) (pending : List ℕ) (answer : Fetch)
     : Type 0 where
   pub part : List ℕ

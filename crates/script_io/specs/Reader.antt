@@ -30,7 +30,7 @@ pub record HasNoFeedBeforeLast (bytes : List ℕ) : Type 0 where
   pub no_feed : HasNoFeed (take (length bytes - 1) bytes)
 
 -- What holds of a line reader between calls. A front that was dropped is that of a line of more than `most` bytes. A
--- byte behind the limit is taken only where no line feed is left before it.
+-- byte behind the limit is taken only if no line feed is left before it.
 pub record IsReading (most limit taken dropped : ℕ) (window : Window) : Type 0 where
   pub small : limit < 2 ^ 63
   pub short : length window.line ≤ most

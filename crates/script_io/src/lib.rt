@@ -1,12 +1,11 @@
-//! Where the bytes of a script come from and where replies go, and how a run ends.
+//! Where the bytes of a script come from, where replies go, and how a run ends.
 //!
-//! A `Source` gives bytes, a `Sink` takes them, and each counts its faults, so that a layer above
-//! may promise that it reports a fault only where one was counted, or the count stands at its end.
-//! `SureSource`, `MemSource` and `MemSink` stand in memory and tell their bytes to clauses;
-//! `CountSink` only counts them; `ReadSource` and `WriteSink` stand over a reader and a writer, such
-//! as the system's streams. `Lines` reads a source line by line, and `push_all` pushes all of some
-//! bytes. It stands on `vm_base`, and finds line feeds by the ported crate `memchr`. The layers above
-//! may use all of it.
+//! A `Source` gives bytes and a `Sink` takes them. Each counts its faults, so a layer above can promise that it reports
+//! a fault only if one was counted, or if the count stands at its end. `SureSource`, `MemSource` and `MemSink` stand in
+//! memory and tell their bytes to clauses. `CountSink` only counts bytes. `ReadSource` and `WriteSink` stand over a
+//! reader and a writer, such as the system's streams. `Lines` reads a source line by line, and `push_all` pushes all of
+//! some bytes. It stands on `vm_base`, and finds line feeds by the ported crate `memchr`. The layers above may use all
+//! of it.
 #![tactic(auto)]
 
 mod count_sink;

@@ -12,26 +12,24 @@ use std::alloc::Global;
 use std::marker::Model;
 use vm_base::{Failed, HostMemory};
 
-/// The most bytes that a reader holds of its source at once, and so the most that one pull gives it.
-/// A choice of this file: more than a line may have, so that there is always room to pull, and
-/// several times as many, so that one pull brings many lines.
+/// The most bytes that a reader holds of its source at once, and so the most that one pull gives it. It is more than a
+/// line may have, so that there is always room to pull, and several times as many, so that one pull brings many lines.
 const BUFFER_BYTES: usize = 65536;
 
 const LINE_FEED: u8 = b'\n';
 
-/// Bytes that were pulled: those that were searched for a line feed, and behind them those that
-/// were not; and the line that was found last.
+/// Bytes that were pulled. First come those that were searched for a line feed, and behind them those that were not.
+/// The line that was found last stands in the buffer too.
 ///
-/// A byte that was searched is not searched again, however many pulls its line takes. It is copied
-/// by the pull that gives it, and once more only where it is of a line whose end was not pulled with
-/// it and something stood before it: then it moves to the front, to make room behind. A line is lent
-/// where it stands.
+/// A byte that was searched is not searched again, however many pulls its line takes. The pull that gives a byte copies
+/// it. A byte is copied once more only if its line did not end in that pull and something stood before it: the byte
+/// then moves to the front, to make room behind. A line is lent where it stands.
 #[derive(Debug, Drop)]
 pub(crate) struct LineBuffer {
     bytes: Vec<u8>,
     line_start: usize,
     line_end: usize,
-    // The bytes that were searched end where those that were not begin.
+    // Where the searched bytes begin. They end at `fresh_start`.
     seen_start: usize,
     fresh_start: usize,
     fresh_end: usize,
@@ -115,8 +113,8 @@ impl LineBuffer {
         self.seen_start = self.fresh_start;
     }
 
-    /// Searches on for a line feed, among the bytes that were not searched. Where there is one, what
-    /// stands before it is the line, and it is used up with its line feed.
+    /// Searches the bytes that were not searched for a line feed. If there is one, what stands before it is the line,
+    /// and is used up with the line feed.
     pub(crate) fn find_line(&mut self) -> bool
         ensures found { MatchBool result
             ((self.new.seen ≡ []) × (line : _) × HasNoFeed line
@@ -140,8 +138,8 @@ impl LineBuffer {
         }
     }
 
-    /// Pulls bytes once, behind those that are held: at most `most`, and no more than there is room
-    /// for. It lends no line any more.
+    /// Pulls bytes once, behind those that are held: at most `most`, and no more than there is room for. No line is
+    /// lent afterwards.
     pub(crate) fn pull<S: Source>(&mut self, source: &mut S, most: u64) -> Result<usize, Failed>
         requires room { length self.old.seen + length self.old.fresh < BUFFER_BYTES }
         requires some { 0 < most }

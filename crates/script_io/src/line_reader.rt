@@ -59,8 +59,8 @@ impl Model for Lines {
 }
 
 impl Lines {
-    /// A reader that takes at most one byte more than `limit` of its source. `HostMemory` where the
-    /// host has too little memory for the buffer.
+    /// A reader that takes at most `limit + 1` bytes of its source. `HostMemory` if the host has too little memory for
+    /// the buffer.
     pub fn new(alloc: Global, limit: u64) -> Result<Lines, HostMemory>
         requires { limit < 2 ^ 63 }
         ensures { IfOk result (λ r. r ≡ record {
@@ -82,8 +82,7 @@ impl Lines {
         })
     }
 
-    /// The line that the last call of `next` fetched, without its line feed; no bytes where it
-    /// fetched none.
+    /// The line that the last call of `next` fetched, without its line feed. It has no bytes if that call fetched none.
     pub fn line(&self) -> &[u8]
         ensures bytes { result.now ≡ self.now.line }
         ensures len { length result.now ≤ LINE_BYTES }
@@ -91,9 +90,9 @@ impl Lines {
         self.buffer.line()
     }
 
-    /// Fetches the next line. Bytes are pulled only where those that were pulled before have no line
-    /// feed left, and none are once the source has said that it is at its end. A pull that fails is
-    /// answered, and the next call pulls again.
+    /// Fetches the next line. The reader pulls bytes only if those that it pulled before have no line feed left, and
+    /// none once the source has said that it is at its end. If a pull fails, the answer is `Fault`, and the next call
+    /// pulls again.
     pub fn next<S: Source>(&mut self, source: &mut S) -> Fetch
         ensures fetches { (pending : List ℕ)
             → IsPending self.old (S.remaining source.old) pending
@@ -115,8 +114,8 @@ impl Lines {
         }
     }
 
-    /// Fetches from the bytes that are held. `None` where they have no line feed and more may come:
-    /// they are kept as the front of a line, or dropped where it is too long.
+    /// Fetches a line from the bytes that are held. `None` if they have no line feed and more may come: the reader then
+    /// keeps them as the front of a line, or drops them if that line is too long.
     fn look(&mut self) -> Option<Fetch>
         requires { self.old.line ≡ [] }
         ensures looked { (remaining : Option (List ℕ)) (pending : List ℕ)
@@ -145,8 +144,8 @@ impl Lines {
         None
     }
 
-    /// Pulls bytes, at most those that are left to the limit, or one where it is reached. An answer
-    /// of 0 is taken for the end.
+    /// Pulls bytes: at most as many as are left to the limit, or one if the limit is reached. An answer of 0 means the
+    /// end.
     fn pull<S: Source>(&mut self, source: &mut S) -> Result<usize, Failed>
         requires ended { self.old.ended ≡ false }
         requires within { self.old.taken ≤ self.old.limit }
@@ -173,8 +172,8 @@ impl Lines {
     }
 }
 
-/// Says of the line in the buffer, of whose front `dropped` bytes were dropped, that it is lent or that it
-/// is too long. One that is too long is lent no more.
+/// Tells whether the line in the buffer is lent or too long. `dropped` bytes of its front were dropped before. A line
+/// that is too long is lent no more.
 fn measure(buffer: &mut LineBuffer, dropped: &mut u64) -> Fetch
     requires fits { dropped.old + length buffer.old.line < 2 ^ 64 }
     requires long { 0 < dropped.old → LINE_BYTES < dropped.old }
@@ -191,7 +190,7 @@ fn measure(buffer: &mut LineBuffer, dropped: &mut u64) -> Fetch
     Fetch::TooLong
 }
 
-/// Drops the bytes that were searched where they are of a line that is too long, and counts them.
+/// If the bytes that were searched are of a line that is too long, drops them and counts them.
 fn drop_long(buffer: &mut LineBuffer, dropped: &mut u64)
     requires fits { dropped.old + length buffer.old.seen < 2 ^ 64 }
     requires long { 0 < dropped.old → LINE_BYTES < dropped.old }

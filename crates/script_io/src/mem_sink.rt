@@ -33,9 +33,8 @@ impl Model for MemSink {
 }
 
 impl MemSink {
-    /// A sink for `room` bytes, whose memory is taken now. It takes at most `piece` bytes a call,
-    /// and the calls numbered in `fails`, from 1, fail. `HostMemory` where the host has too little
-    /// memory.
+    /// A sink for `room` bytes, whose memory is taken now. It takes at most `piece` bytes a call, and the calls
+    /// numbered in `fails`, from 1, fail. `HostMemory` if the host has too little memory.
     pub fn new(
         alloc: Global,
         room: usize,

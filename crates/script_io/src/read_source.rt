@@ -9,9 +9,9 @@ use std::io::Read;
 use std::marker::Model;
 use vm_base::Failed;
 
-/// A source over a reader, as a file or the standard input. Each pull reads once, and any error that
-/// the reader answers is a fault, also that it was interrupted. It tells no bytes. Clauses see the
-/// reader, and how often reading has failed, up to 2^64 - 1.
+/// A source over a reader, such as a file or the standard input. Each pull reads once. Any error that the reader
+/// answers is a fault, also an interruption. The source tells no bytes. Clauses see the reader, and how often reading
+/// has failed, up to 2^64 - 1.
 #[derive(Debug, Drop)]
 pub struct ReadSource<R> {
     reader: R,
@@ -52,7 +52,7 @@ impl<R: Read> Source for ReadSource<R> {
     }
 }
 
-/// Reads once, and counts a fault where that fails.
+/// Reads once, and counts a fault if that fails.
 fn read_counted<R: Read>(reader: &mut R, faults: &mut u64, buf: &mut [u8]) -> Result<usize, Failed>
     ensures count { IfOk result (λ n. n ≤ length buf.old) }
     ensures bytes { ReadConsumes (R.remaining reader.old) (R.remaining reader.new) result buf.new }

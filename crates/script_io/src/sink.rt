@@ -6,17 +6,17 @@ ghost use Rattle.script_io.specs.Faults.{HasCause, IsCutOff};
 
 use vm_base::Failed;
 
-/// A sink for bytes. Whether it tells its bytes is for clauses alone, and costs nothing.
+/// A sink for bytes. Whether a sink tells its bytes matters to clauses alone, and costs nothing.
 pub trait Sink {
-    /// The bytes that it took, where it tells them.
+    /// The bytes that it took, if it tells them.
     ghost contents: { Self → Option (List ℕ) };
 
     /// How often writing has failed. No call lowers it, and a call that fails raises it, unless it
     /// stands at 2^64 - 1.
     ghost faults: { Self → ℕ };
 
-    /// Takes bytes from the front of `bytes`, and answers how many: 1 at least. `Failed` where
-    /// writing failed; a sink that tells its bytes took none then.
+    /// Takes bytes from the front of `bytes`, and answers how many: at least 1. `Failed` if writing failed. A sink that
+    /// tells its bytes then took none.
     fn push(&mut self, bytes: &[u8]) -> Result<usize, Failed>
         requires { 0 < length bytes.now }
         ensures count { IfOk result (λ n. (1 ≤ n) × (n ≤ length bytes.now)) }
@@ -24,9 +24,8 @@ pub trait Sink {
         ensures cause { HasCause (faults self.old) (faults self.new) result };
 }
 
-/// Pushes all of the bytes, in as many calls as the sink wants; no bytes in no call. `Failed` where
-/// a call failed, which is the last that is made; a sink that tells its bytes took a front part of
-/// them then, and not all.
+/// Pushes all of the bytes, in as many calls as the sink wants. No bytes take no call. `Failed` if a call failed, which
+/// is then the last one. A sink that tells its bytes then took a front part of them, and not all.
 pub fn push_all<K: Sink>(sink: &mut K, bytes: &[u8]) -> Result<(), Failed>
     ensures ok { OnOk result (Appends (K.contents sink.old) (K.contents sink.new) bytes.now) }
     ensures err { OnErr result (IsCutOff (K.contents sink.old) (K.contents sink.new) bytes.now) }

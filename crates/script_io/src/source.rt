@@ -6,18 +6,18 @@ ghost use Rattle.script_io.specs.Faults.{HasCause};
 
 use vm_base::Failed;
 
-/// A source of bytes. Whether it tells its bytes is for clauses alone, and costs nothing.
+/// A source of bytes. Whether a source tells its bytes matters to clauses alone, and costs nothing.
 pub trait Source {
-    /// The bytes that it has left, where it tells them.
+    /// The bytes that it has left, if it tells them.
     ghost remaining: { Self → Option (List ℕ) };
 
     /// How often reading has failed. No call lowers it, and a call that fails raises it, unless it
     /// stands at 2^64 - 1.
     ghost faults: { Self → ℕ };
 
-    /// Puts its next bytes at the front of `buf`, and answers how many; 0 says that it is at its
-    /// end. `Failed` where reading failed. A source that tells its bytes says 0 only where it has none
-    /// left, and has all of them still where reading failed.
+    /// Puts its next bytes at the front of `buf`, and answers how many. An answer of 0 says that the source is at its
+    /// end. `Failed` if reading failed. A source that tells its bytes answers 0 only if it has none left, and still has
+    /// all of them if reading failed.
     fn pull(&mut self, buf: &mut [u8]) -> Result<usize, Failed>
         requires { 0 < length buf.old }
         ensures count { IfOk result (λ n. n ≤ length buf.old) }

@@ -9,10 +9,9 @@ use std::io::{self, Write};
 use std::marker::Model;
 use vm_base::Failed;
 
-/// A sink over a writer, as a file or the standard output. Each push writes once and then flushes,
-/// and any error that the writer answers to either is a fault. So bytes may have been written by a
-/// push that fails: all that it wrote, where the flush failed. It tells no bytes. Clauses see the
-/// writer, and how often writing has failed, up to 2^64 - 1.
+/// A sink over a writer, such as a file or the standard output. Each push writes once and then flushes. Any error that
+/// the writer answers to either is a fault, so a push that fails may have written bytes: all of them, if the flush
+/// failed. The sink tells no bytes. Clauses see the writer, and how often writing has failed, up to 2^64 - 1.
 #[derive(Debug, Drop)]
 pub struct WriteSink<W> {
     writer: W,
@@ -47,7 +46,7 @@ impl<W: Write> Sink for WriteSink<W> {
         ensures cause { HasCause self.old.1 self.new.1 result }
         ensures faults { self.new.1 ≡ (if is_ok result then self.old.1 else next_count self.old.1) }
 
-        // What the writer took; after a failure a front part of the bytes.
+        // What the writer took. After a failure it is a front part of the bytes.
         ensures written { IfOk result
             (λ n. Appends (W.contents self.old.0) (W.contents self.new.0) (take n bytes.now)) }
         ensures front { AppendsFront (W.contents self.old.0) (W.contents self.new.0) bytes.now }
@@ -62,8 +61,8 @@ impl<W: Write> Sink for WriteSink<W> {
     }
 }
 
-/// Writes bytes once and flushes them, and answers how many were written. After an error that may be
-/// any number of them, all where it was the flush that failed.
+/// Writes bytes once and flushes them, and answers how many were written. After an error any number of them may be
+/// written, and all if the flush failed.
 fn write_out<W: Write>(writer: &mut W, bytes: &[u8]) -> io::Result<usize>
     ensures count { IfOk result (λ n. n ≤ length bytes.now) }
     ensures bytes { IfOk result
