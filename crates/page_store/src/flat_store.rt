@@ -19,8 +19,8 @@ use std::alloc::Global;
 use std::marker::Model;
 use vm_base::{HostMemory, Koid, PageNo, Tag, VMO_PAGES};
 
-/// A page store whose held pages are the entries of one map. VMOs share page frames: a snapshot has entries of its own
-/// for the pages that it sees, with the same frames, and the share count of a frame says how many VMOs show it.
+/// A page store whose held pages are the entries of one map. VMOs share page frames: a snapshot has entries of its own,
+/// with the same frames, for the pages that it sees. The share count of a frame says how many VMOs show it.
 #[derive(Drop)]
 pub struct FlatStore {
     /// The page frames. A frame is taken while some VMO shows it.
@@ -33,8 +33,9 @@ pub struct FlatStore {
     rows: PairMap<Tag>,
     /// How many VMOs show each frame, by tag.
     shares: Vec<u64>,
-    /// The greatest number of entries that room was asked for. What is to spare is no more than this, so that a snapshot,
-    /// which keeps it, asks for entries that it shows and not for all that the map has ever had.
+    /// The greatest number of entries for which room was asked. The store has no more to spare than this. A snapshot
+    /// keeps what is to spare, so it asks for room for the entries that it shows, and not for all that the map has ever
+    /// had.
     asked: u64,
 }
 
@@ -97,7 +98,7 @@ impl FlatStore {
         tag
     }
 
-    // Gives a page that is held a frame of its own, where other VMOs show its frame too.
+    // Gives a page that is held a frame of its own, if other VMOs show its frame too.
     fn own_held(&mut self, v: Koid, page: PageNo, shown: Tag) -> Tag
         requires held { values_of self.old.rows v.0 page ≡ Some shown }
         requires room { (sole (content_of self.old) v.0 page ≡ true)
@@ -298,7 +299,7 @@ impl PageStore for FlatStore {
 
     fn set_count(&mut self, v: Koid, count: PageNo) {
         let old = self.vmos.find(0, v.0).unwrap_or(0);
-        // Where the VMO grows, no page leaves it.
+        // If the VMO grows, no page leaves it.
         self.release_pages(v, count, old);
         self.vmos.replace(0, v.0, count);
     }
@@ -375,7 +376,7 @@ fn take_copy(pool: &mut FramePool, from: Tag) -> Tag
     pool.take_copy(from).unwrap()
 }
 
-/// Gives a frame back that is taken, where no VMO shows it any more.
+/// Gives a taken frame back if no VMO shows it any more.
 fn give_back_unshown(pool: &mut FramePool, tag: Tag, viewers: u64)
     requires { IsSome (taken_frames pool.old tag.0) }
     ensures frames { pool.new.frames ≡ pool.old.frames }

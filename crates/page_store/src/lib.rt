@@ -1,8 +1,9 @@
-//! The store of pages: what it contains and how it changes (`PageStore`), and the plain store
-//! (`FlatStore`), a map of held pages. And how many pages a name has in a store, and a VMO that leaves it.
+//! The store of pages: what it contains and how it changes (`PageStore`), and the plain store (`FlatStore`), a map of
+//! held pages. It also has how many pages a name has in a store (`pages_of_name`), and how a VMO leaves it
+//! (`drop_gone`).
 //!
 //! It stands on `vm_model`, whose contents the contracts speak of, and on `pair_map` for the plain store. The layers
-//! above use the trait, make a store by `FlatStore::new`, ask for the size of a name by `size_of_name`, and hand on a VMO
+//! above use the trait, make a store by `FlatStore::new`, ask for the size of a name by `size_of_name`, and hand a VMO
 //! that nothing keeps to `drop_gone`.
 #![tactic(auto)]
 

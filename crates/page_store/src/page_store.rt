@@ -18,23 +18,23 @@ pub enum Look {
     Held { tag: Tag, sole: bool },
 }
 
-/// A store of VMOs, their pages and the page frames. Clauses speak of what it contains, and of how
-/// many pages may be owned or made zero without asking the host for memory (`spare`).
+/// A store of VMOs, their pages and the page frames. Clauses speak of what it contains, and of how many pages may be
+/// owned or made zero without asking the host for memory (`spare`).
 ///
-/// A call on a koid requires that the store has such a VMO. Pages are counted from the VMO's first.
-/// What a call is not said to change of the content stays as it was. A call that answers `HostMemory`
-/// changes nothing of the content, and lowers `spare` by nothing.
+/// A call on a koid requires that the store has such a VMO. Pages are counted from the VMO's first. A call leaves all
+/// of the content as it was but what its clauses say. A call that answers `HostMemory` changes nothing of the content
+/// and does not lower `spare`.
 pub trait PageStore: Drop {
     /// The frames and VMOs that it contains.
     ghost content: { Self → Content };
 
-    /// How many pages may be owned or made zero without asking the host for memory. `reserve` raises it,
-    /// `own` and `zero` lower it by at most 1, `write` leaves it as it was, and `snapshot` does not lower
-    /// it. Where they succeed, the other calls that change the store promise nothing of it.
+    /// How many pages may be owned or made zero without asking the host for memory. `reserve` raises it, `own` and
+    /// `zero` lower it by at most 1, `write` leaves it as it was, and `snapshot` does not lower it. The other calls
+    /// that change the store promise nothing of it if they succeed.
     ghost spare: { Self → ℕ };
 
-    /// Gives a store that has nothing its page frames, from 1 to `FRAMES` of them. All are free.
-    /// `HostMemory` where the host has too little memory.
+    /// Gives a store that has nothing its page frames, from 1 to `FRAMES` of them. All are free. `HostMemory` if the
+    /// host has too little memory.
     fn fill(&mut self, frames: u32) -> Result<(), HostMemory>
         requires empty { content self.old ≡ nothing }
         requires frames { (1 ≤ frames) × (frames ≤ FRAMES) }
@@ -42,8 +42,8 @@ pub trait PageStore: Drop {
         ensures err { OnErr result (content self.new ≡ content self.old) }
         ensures kept { OnErr result (spare self.old ≤ spare self.new) };
 
-    /// Makes a VMO of `count` zero pages under the next koid, and answers the koid. `HostMemory`
-    /// where the host has too little memory.
+    /// Makes a VMO of `count` zero pages under the next koid, and answers the koid. `HostMemory` if the host has too
+    /// little memory.
     fn create(&mut self, count: PageNo) -> Result<Koid, HostMemory>
         requires count { count ≤ VMO_PAGES }
         requires next { (content self.old).next < KOIDS }
@@ -52,10 +52,10 @@ pub trait PageStore: Drop {
         ensures err { OnErr result (content self.new ≡ content self.old) }
         ensures kept { OnErr result (spare self.old ≤ spare self.new) };
 
-    /// Makes a snapshot of a VMO under the next koid, and answers the koid. It has `count` pages. Of
-    /// these the first `seen` are the pages of `of` from `first` on: they show the same frames, so that
-    /// none is taken. The others are zero. Pages for which there was room may be owned still, of the
-    /// snapshot too. `HostMemory` where the host has too little memory.
+    /// Makes a snapshot of a VMO under the next koid, and answers the koid. The snapshot has `count` pages. The first
+    /// `seen` of them are the pages of `of` from `first` on: they show the same frames, so no frame is taken. The
+    /// others are zero. Pages for which there was room may still be owned, those of the snapshot too. `HostMemory` if
+    /// the host has too little memory.
     fn snapshot(
         &mut self,
         of: Koid,
@@ -73,8 +73,7 @@ pub trait PageStore: Drop {
         ensures err { OnErr result (content self.new ≡ content self.old) }
         ensures kept { spare self.old ≤ spare self.new };
 
-    /// Makes room for owning `n` pages, or for making them zero. `HostMemory` where the host has too
-    /// little memory.
+    /// Makes room for owning `n` pages, or for making them zero. `HostMemory` if the host has too little memory.
     fn reserve(&mut self, n: u64) -> Result<(), HostMemory>
         ensures room { OnOk result (n ≤ spare self.new) }
         ensures same { content self.new ≡ content self.old }
@@ -85,9 +84,9 @@ pub trait PageStore: Drop {
         requires page { page < pages_of (content self.now) v.0 }
         ensures { result ≡ look_at (content self.now) v.0 ((content self.now).page v.0 page) };
 
-    /// Makes a page below the count sole, so that it may be written (copy on write), and answers its
-    /// frame. A page that is sole keeps its frame. Any other needs room (`spare`) and a free frame, and
-    /// shows the same bytes in that frame then.
+    /// Makes a page below the count sole, so that it may be written (copy on write), and answers its frame. A page that
+    /// is sole keeps its frame. Any other needs room (`spare`) and a free frame, and then shows the same bytes in that
+    /// frame.
     fn own(&mut self, v: Koid, page: PageNo) -> Tag
         requires page { page < pages_of (content self.old) v.0 }
         requires room { (sole (content self.old) v.0 page ≡ true)
@@ -95,8 +94,8 @@ pub trait PageStore: Drop {
         ensures owns { Owns (content self.old) (content self.new) v.0 page result.0 }
         ensures spare { spare self.old ≤ spare self.new + 1 };
 
-    /// Makes a page below the count zero, as it is in a new VMO. Its frame is free then, unless another
-    /// VMO shows it. It needs room (`spare`), since a store may have to note that the page is zero.
+    /// Makes a page below the count zero, as it is in a new VMO. Its frame is free afterwards, unless another VMO shows
+    /// it. The call needs room (`spare`), since a store may have to note that the page is zero.
     fn zero(&mut self, v: Koid, page: PageNo)
         requires page { page < pages_of (content self.old) v.0 }
         requires room { 1 ≤ spare self.old }
@@ -108,14 +107,14 @@ pub trait PageStore: Drop {
         requires { IsSome ((content self.now).count v.0) }
         ensures { (content self.now).count v.0 ≡ Some result };
 
-    /// Lets a VMO have `count` pages. Those past the new end leave it, and their frames are free then,
-    /// unless another VMO shows them. Those that come in are zero.
+    /// Changes the page count of a VMO to `count`. Pages past the new end are dropped, and their frames are free then,
+    /// unless another VMO shows them. New pages are zero.
     fn set_count(&mut self, v: Koid, count: PageNo)
         requires vmo { IsSome ((content self.old).count v.0) }
         requires count { count ≤ VMO_PAGES }
         ensures { content self.new ≡ resized (content self.old) v.0 count };
 
-    /// Takes a VMO out of the store with its pages. The frames that no other VMO shows are free then.
+    /// Drops a VMO with its pages. The frames that no other VMO shows are free then.
     fn drop_vmo(&mut self, v: Koid)
         requires { IsSome ((content self.old).count v.0) }
         ensures { content self.new ≡ without (content self.old) v.0 };
@@ -133,14 +132,14 @@ pub trait PageStore: Drop {
         ensures bytes { Overwrites (content self.old) (content self.new) tag.0 at bytes.now }
         ensures spare { spare self.new ≡ spare self.old };
 
-    /// The first page that is held, from page `from` of a VMO on. `None` exactly where none is.
+    /// The first page that is held, from page `from` of a VMO on. `None` if and only if none is.
     fn next_held(&self, v: Koid, from: PageNo) -> Option<PageNo>
         requires { IsSome ((content self.now).count v.0) }
         ensures some { IfSome result (λ page. (from ≤ page) × IsSome ((content self.now).page v.0 page)
             × ((p : ℕ) → from ≤ p → p < page → (content self.now).page v.0 p ≡ None)) }
         ensures none { IfNone result ((p : ℕ) → from ≤ p → (content self.now).page v.0 p ≡ None) };
 
-    /// The least koid that shows a frame, which some page shows. That VMO is charged for it.
+    /// The least koid of the VMOs that show a frame, of which there is one at least. That VMO is charged for the frame.
     fn least_viewer(&self, tag: Tag) -> Koid
         requires { IsShown (content self.now) tag.0 }
         ensures { IsLeastViewer (content self.now) tag.0 result.0 };

@@ -14,7 +14,7 @@ use std::alloc::Global;
 use std::marker::Model;
 use vm_base::{HostMemory, Koid, PageNo, Tag};
 
-/// Which calls are refused, numbered from 1, and how many there were. The count stays at 2^64 - 1.
+/// The calls that are refused, numbered from 1, and how many there were. The count stays at 2^64 - 1.
 #[derive(Drop)]
 struct Plan {
     refuse: Vec<u64>,
@@ -48,11 +48,12 @@ impl Plan {
     }
 }
 
-/// A store over another one, that refuses calls which were chosen when it was made. It counts the calls of `fill`, `create`,
-/// `snapshot` and `reserve` together, from 1, up to 2^64 - 1. The chosen ones answer `HostMemory`, and the inner store isn't
-/// touched. Any other call is the inner store's, with its answer, and so are the content and `spare`.
+/// A store over another one, that refuses calls which were chosen when it was made. It counts the calls of `fill`,
+/// `create`, `snapshot` and `reserve` together, from 1, up to 2^64 - 1. It answers a chosen call with `HostMemory`, and
+/// does not touch the inner store. It hands any other call to the inner store. The content and `spare` are the inner
+/// store's.
 ///
-/// Contracts see the inner store, and which calls are refused and how many there were.
+/// Contracts see the inner store, which calls are refused, and how many calls there were.
 #[derive(Drop)]
 pub struct RefusingStore<P> {
     inner: P,
@@ -68,8 +69,8 @@ impl<P> Model for RefusingStore<P> {
 }
 
 impl<P: PageStore> RefusingStore<P> {
-    /// A store over an inner one that has nothing. Its calls numbered in `refuse`, from 1, are refused. `HostMemory` where the
-    /// host has too little memory for the list of them, and the inner store is let go then.
+    /// A store over an inner one that has nothing. Its calls numbered in `refuse`, from 1, are refused. `HostMemory` if
+    /// the host has too little memory for the list of them: the inner store is then dropped.
     pub fn new(alloc: Global, inner: P, refuse: &[u64]) -> Result<RefusingStore<P>, HostMemory>
         requires { P.content inner ≡ nothing }
         ensures inner { IfOk result (λ s. s.0 ≡ inner) }
@@ -255,7 +256,7 @@ impl<P: PageStore> PageStore for RefusingStore<P> {
 
 fn may_cross<T: Send>() {}
 
-/// The store goes to another thread where the inner one does.
+/// The store may go to another thread if the inner one may.
 fn refusing_store_may_cross<P: PageStore + Send>() {
     may_cross::<RefusingStore<P>>();
 }
