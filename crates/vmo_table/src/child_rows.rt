@@ -96,7 +96,7 @@ impl TreeRow for ChildRow {
     } };
 }
 
-/// Puts a child under a parent. No parent, no change.
+/// Puts a child under a parent. Without a parent nothing changes.
 pub(crate) fn add_child(rows: &mut ChildRows, parent: Option<Koid>, child: Koid)
     requires absent { IfSome parent (λ p. is_under rows.old p.0 child.0 ≡ false) }
     requires room { 1 ≤ rows.old.spare }
@@ -107,7 +107,7 @@ pub(crate) fn add_child(rows: &mut ChildRows, parent: Option<Koid>, child: Koid)
     }
 }
 
-/// Takes a child out from under its parent. No parent, no change.
+/// Takes a child out from under its parent. Without a parent nothing changes.
 pub(crate) fn remove_child(rows: &mut ChildRows, parent: Option<Koid>, child: Koid)
     requires { IfSome parent (λ p. is_under rows.old p.0 child.0 ≡ true) }
     ensures change { IsChange rows.old rows.new (option_map koid_number parent) child.0 false }
@@ -118,7 +118,7 @@ pub(crate) fn remove_child(rows: &mut ChildRows, parent: Option<Koid>, child: Ko
     }
 }
 
-/// The child of the lowest koid that a VMO has. `None` exactly where it has no child.
+/// The child with the lowest koid of a VMO. `None` if and only if the VMO has no child.
 pub(crate) fn first_child(rows: &ChildRows, parent: Koid) -> Option<Koid>
     ensures none { result ≡ None → (v : ℕ) → is_under rows.now parent.0 v ≡ false }
     ensures some { (child : Koid) → result ≡ Some child → is_under rows.now parent.0 child.0 ≡ true }

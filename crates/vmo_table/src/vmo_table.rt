@@ -50,7 +50,7 @@ impl VmoTable {
         }
     }
 
-    /// Makes room for one name and one VMO more. `HostMemory` where the host has too little memory.
+    /// Makes room for one name and one VMO more. `HostMemory` if the host has too little memory.
     pub fn reserve(&mut self) -> Result<(), HostMemory>
         ensures room { OnOk result (1 ≤ room_of self.new) }
         ensures names { names_of self.new ≡ names_of self.old }
@@ -69,8 +69,8 @@ impl VmoTable {
         Ok(())
     }
 
-    /// Enters a VMO under a koid that is new, and a name that is not open and stands for all of it. The
-    /// name may resize the VMO exactly where the VMO is resizable. A parent is in the table.
+    /// Enters a VMO under a new koid, and a name that is not open and stands for all of the VMO. The name may resize
+    /// the VMO if and only if the VMO is resizable. If the VMO has a parent, the parent is in the table.
     pub fn enter(
         &mut self,
         name: VmoName,
@@ -89,7 +89,7 @@ impl VmoTable {
             (record { resizable = resizable; origin = origin; parent = option_map koid_number parent }) }
         ensures keepers { keepers_of self.new ≡ keepers_of self.old }
     {
-        // How far the table counts rests on the ranges of names and koids, and on how many VMOs a map holds.
+        // The bounds of the table's counts rest on the ranges of names and koids, and on how many VMOs a map holds.
         prove!(name.0 <= u32::MAX);
         prove!(koid.0 <= u64::MAX);
         prove!(self.vmos.len() < usize::MAX);
@@ -118,8 +118,8 @@ impl VmoTable {
         count_children(&mut self.vmos, parent, 0, 1);
     }
 
-    /// Lets a name that is not open stand for a VMO of the table beside its other names: for a part of
-    /// it (a slice), or for all of it (a reference).
+    /// Lets a name that is not open stand for a VMO of the table, beside the VMO's other names: for a part of it (a
+    /// slice), or for all of it (a reference).
     pub fn alias(&mut self, name: VmoName, target: Target)
         requires name { names_of self.old name.0 ≡ None }
         requires koid { IsSome (lineage_in self.old target.koid.0) }
@@ -136,15 +136,15 @@ impl VmoTable {
         let _named = self.names.insert(name, target);
     }
 
-    /// What a name stands for. `None` exactly where it is not open.
+    /// What a name stands for. `None` if and only if the name is not open.
     pub fn resolve(&self, name: VmoName) -> Option<Target>
         ensures { result ≡ names_of self.now name.0 }
     {
         self.names.get(&name).copied()
     }
 
-    /// Closes a name that is open. Where nothing keeps its VMO any more, the VMO leaves the table, its
-    /// children get its parent, and its koid is the answer. Else the answer is `None`.
+    /// Closes a name that is open (`zx_handle_close`). If nothing keeps its VMO any more, the VMO leaves the table, its
+    /// children get its parent, and its koid is the answer. Otherwise the answer is `None`.
     pub fn close(&mut self, name: VmoName) -> Option<Koid>
         requires { IsSome (names_of self.old name.0) }
         ensures names { names_of self.new ≡ without_key (names_of self.old) name.0 }
@@ -159,7 +159,7 @@ impl VmoTable {
         settle(&mut self.vmos, &mut self.child_rows, target.koid, left)
     }
 
-    /// Lets `n` further keepers keep a VMO of the table: pins, or pages that are mapped.
+    /// Adds `n` keepers to a VMO of the table: pins, or pages that are mapped.
     pub fn keep(&mut self, koid: Koid, n: u64)
         requires koid { IsSome (lineage_in self.old koid.0) }
         requires few { keepers_of self.old koid.0 + n < 2 ^ 128 }
@@ -175,9 +175,9 @@ impl VmoTable {
         write_back(&mut self.vmos, koid, kept);
     }
 
-    /// Lets `n` keepers of a VMO go. Where nothing keeps the VMO any more, it leaves the table, its children
-    /// get its parent, and its koid is the answer: also where it was not in the table. Else the answer is
-    /// `None`.
+    /// Takes `n` keepers of a VMO away. If nothing keeps the VMO any more, it leaves the table, its children get its
+    /// parent, and its koid is the answer. A VMO that is not in the table has its koid as the answer too. Otherwise the
+    /// answer is `None`.
     pub fn release(&mut self, koid: Koid, n: u64) -> Option<Koid>
         requires keepers { n ≤ keepers_of self.old koid.0 }
         ensures names { names_of self.new ≡ names_of self.old }
@@ -203,8 +203,8 @@ impl VmoTable {
         self.vmos[&koid].resizable
     }
 
-    /// How many children a VMO of the table has: the VMOs whose parent it is, and the slices and
-    /// references that stand for it.
+    /// How many children a VMO of the table has: the VMOs whose parent it is, and the slices and references that stand
+    /// for it.
     pub fn children(&self, koid: Koid) -> u64
         requires { IsSome (lineage_in self.now koid.0) }
         ensures { result ≡ children (names_of self.now) (lineage_in self.now) koid.0 }
@@ -215,7 +215,7 @@ impl VmoTable {
         vmo.children + vmo.slices + vmo.references
     }
 
-    /// Whether the frames of a VMO of the table may be taken back: it is no snapshot, no VMO is its
+    /// Whether the frames of a VMO of the table may be given back by a decommit: the VMO is no snapshot, no VMO is its
     /// child, and no reference stands for it.
     pub fn may_decommit(&self, koid: Koid) -> bool
         requires { IsSome (lineage_in self.now koid.0) }

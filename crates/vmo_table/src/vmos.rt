@@ -33,7 +33,7 @@ pub(crate) struct Vmo {
     pub keepers: u128,
 }
 
-/// 1 where two kinds are the same, else 0.
+/// 1 if two kinds are the same, else 0.
 fn bit_of(kind: NameKind, other: NameKind) -> u64
     ensures { result ≡ kind_bit kind other }
 {
@@ -89,7 +89,7 @@ pub(crate) fn write_back(vmos: &mut HashMap<Koid, Vmo>, koid: Koid, vmo: Vmo)
     }
 }
 
-/// Counts children of a VMO that leave it, and children that come to it. No VMO, no change.
+/// Counts the children of a VMO that leave it, and those that come to it. Without a VMO nothing changes.
 pub(crate) fn count_children(
     vmos: &mut HashMap<Koid, Vmo>,
     parent: Option<Koid>,
@@ -108,7 +108,7 @@ pub(crate) fn count_children(
     }
 }
 
-/// Gives the children of a VMO that leaves its own parent, one after another.
+/// Gives each child of a VMO that leaves the parent of that VMO, one after another.
 fn move_children(
     vmos: &mut HashMap<Koid, Vmo>,
     rows: &mut ChildRows,
@@ -158,7 +158,7 @@ fn set_parent(vmos: &mut HashMap<Koid, Vmo>, koid: Koid, parent: Option<Koid>)
     }
 }
 
-/// Takes a VMO out, whose children get its parent.
+/// Takes a VMO out. Its children get its parent.
 fn take_out(vmos: &mut HashMap<Koid, Vmo>, rows: &mut ChildRows, koid: Koid, parent: Option<Koid>)
     requires { MayLeave (vmos_in vmos.old.entries) rows.old koid.0 parent }
     ensures vmos { vmos_in vmos.new.entries ≡ vmos_without (vmos_in vmos.old.entries) koid.0 parent }
@@ -169,8 +169,8 @@ fn take_out(vmos: &mut HashMap<Koid, Vmo>, rows: &mut ChildRows, koid: Koid, par
     let _removed = vmos.remove(&koid);
 }
 
-/// Writes another value to a VMO of the table, where a name or a keeper keeps it still. Else the VMO
-/// leaves, its children get its parent, and its koid is the answer.
+/// Writes another value to a VMO of the table, if a name or a keeper still keeps it. Otherwise the VMO leaves, its
+/// children get its parent, and its koid is the answer.
 pub(crate) fn settle(
     vmos: &mut HashMap<Koid, Vmo>,
     rows: &mut ChildRows,
