@@ -8,7 +8,7 @@ ghost use Rattle.pin_table.specs.Pages.{pins_at, AreKept, AddsPin};
 use pair_map::PairMap;
 use vm_base::{Koid, PAGES_END, PageNo};
 
-/// Counts a pin more for a page. There is room for it.
+/// Counts one pin more for a page. There is room for it.
 fn pin_page(pages: &mut PairMap<u64>, koid: Koid, page: PageNo)
     requires kept { AreKept (values_of pages.old) }
     requires few { pins_at koid.0 page (values_of pages.old) ≤ NAMES }
@@ -23,7 +23,7 @@ fn pin_page(pages: &mut PairMap<u64>, koid: Koid, page: PageNo)
     }
 }
 
-/// Counts a pin more for each of `count` pages of a VMO from `first` on. There is room for them.
+/// Counts one pin more for each of `count` pages of a VMO from `first` on. There is room for them.
 pub(crate) fn pin_pages(pages: &mut PairMap<u64>, koid: Koid, first: PageNo, count: u64)
     requires kept { AreKept (values_of pages.old) }
     requires few { (p : ℕ) → pins_at koid.0 p (values_of pages.old) ≤ NAMES }
@@ -37,7 +37,7 @@ pub(crate) fn pin_pages(pages: &mut PairMap<u64>, koid: Koid, first: PageNo, cou
     }
 }
 
-/// Counts a pin less for a page that has one.
+/// Counts one pin less for a page that has one.
 fn unpin_page(pages: &mut PairMap<u64>, koid: Koid, page: PageNo)
     requires kept { AreKept (values_of pages.old) }
     requires pinned { 1 ≤ pins_at koid.0 page (values_of pages.old) }
@@ -53,7 +53,7 @@ fn unpin_page(pages: &mut PairMap<u64>, koid: Koid, page: PageNo)
     }
 }
 
-/// Counts a pin less for each of `count` pages of a VMO from `first` on, which have one.
+/// Counts one pin less for each of `count` pages of a VMO from `first` on, which all have one.
 pub(crate) fn unpin_pages(pages: &mut PairMap<u64>, koid: Koid, first: PageNo, count: u64)
     requires kept { AreKept (values_of pages.old) }
     requires pinned { (p : ℕ) → first ≤ p → p < first + count → 1 ≤ pins_at koid.0 p (values_of pages.old) }

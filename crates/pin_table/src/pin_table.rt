@@ -13,7 +13,7 @@ use std::collections::HashMap;
 use std::marker::Model;
 use vm_base::{HostMemory, Koid, PAGES_END, PIN_PAGES, PageNo, PinName};
 
-/// A pin: so many pages of a VMO, from one on.
+/// A pin: `count` pages of a VMO, from page `first` on.
 #[derive(Clone, Copy, Debug)]
 struct Pin {
     koid: Koid,
@@ -21,8 +21,8 @@ struct Pin {
     count: u64,
 }
 
-/// The pins, each a name for up to `PIN_PAGES` pages of a VMO. Pins may overlap: a page is pinned while some pin
-/// covers it. No call but `reserve` asks the host for memory.
+/// The pins, each a name for up to `PIN_PAGES` pages of a VMO (pinned memory tokens). Pins may overlap: a page is
+/// pinned as long as some pin covers it. No call but `reserve` asks the host for memory.
 #[derive(Drop)]
 pub struct PinTable {
     pins: HashMap<PinName, Pin>,
@@ -53,7 +53,7 @@ impl PinTable {
         }
     }
 
-    /// Makes room for one pin more. `HostMemory` where the host has too little memory.
+    /// Makes room for one pin more. `HostMemory` if the host has too little memory.
     pub fn reserve(&mut self) -> Result<(), HostMemory>
         ensures room { OnOk result (1 ≤ room_of self.new) }
         ensures pins { pins_of self.new ≡ pins_of self.old }
@@ -67,8 +67,8 @@ impl PinTable {
         Ok(())
     }
 
-    /// Adds a pin that is not there: `count` pages of a VMO, from 1 to `PIN_PAGES`, from its page `first`
-    /// on. They end at or below page `PAGES_END`.
+    /// Adds a pin that is not there: `count` pages of a VMO, from 1 to `PIN_PAGES`, from the VMO's page `first` on.
+    /// They end at or below page `PAGES_END`.
     pub fn add(&mut self, pin: PinName, koid: Koid, first: PageNo, count: u64)
         requires pin { pins_of self.old pin.0 ≡ None }
         requires few { (1 ≤ count) × (count ≤ PIN_PAGES) }
@@ -77,14 +77,14 @@ impl PinTable {
         ensures { pins_of self.new ≡ with_key (pins_of self.old) pin.0
             (record { koid = koid.0; first = first; count = count }) }
     {
-        // How far the table counts rests on the range of the names.
+        // The bound of the table's counts rests on the range of the names.
         prove!(pin.0 <= u32::MAX);
         // It succeeds, since there is room.
         let _added = self.pins.insert(pin, Pin { koid, first, count });
         pin_pages(&mut self.pages, koid, first, count);
     }
 
-    /// The VMO of a pin, its first page and how many pages there are. `None` exactly where there is no such pin.
+    /// The VMO of a pin, its first page and its page count. `None` if and only if there is no such pin.
     pub fn get(&self, pin: PinName) -> Option<(Koid, PageNo, u64)>
         ensures { option_map pin_of result ≡ pins_of self.now pin.0 }
     {
@@ -94,7 +94,7 @@ impl PinTable {
         }
     }
 
-    /// Takes out a pin that is there, and answers what `get` did.
+    /// Takes out a pin that is there, and answers what `get` answered for it.
     pub fn remove(&mut self, pin: PinName) -> (Koid, PageNo, u64)
         requires { IsSome (pins_of self.old pin.0) }
         ensures pins { pins_of self.new ≡ without_key (pins_of self.old) pin.0 }
@@ -106,7 +106,7 @@ impl PinTable {
         (held.koid, held.first, held.count)
     }
 
-    /// The least pinned page of a VMO from `from` on. `None` exactly where there is none.
+    /// The least pinned page of a VMO from `from` on. `None` if and only if there is none.
     pub fn next_pinned(&self, koid: Koid, from: PageNo) -> Option<PageNo>
         ensures { IsNextPinned (is_pinned (pins_of self.now) koid.0) from result }
     {
@@ -116,8 +116,8 @@ impl PinTable {
         }
     }
 
-    /// Whether some page of a VMO is pinned, of `count` pages from `first` on. It takes one look-up.
-    /// `first + count` may pass 2^64.
+    /// Whether one of `count` pages of a VMO, from `first` on, is pinned. It takes one look-up. `first + count` may
+    /// pass 2^64.
     pub fn pinned(&self, koid: Koid, first: PageNo, count: u64) -> bool
         ensures { result ≡ any_pinned (pins_of self.now) koid.0 first (first + count) }
     {
