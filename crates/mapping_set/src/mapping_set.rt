@@ -30,8 +30,8 @@ pub struct MappingSet {
     pieces: PairMap<Piece>,
     /// The pages of each piece, in the list of its region.
     lists: ExtentMap<()>,
-    /// What is taken in each region, in its list: the pages of each piece, with no name, and the places that the callers
-    /// noted, each with the name of a region.
+    /// What is taken in each region, in the region's list: the pages of each piece, with no name, and the places that
+    /// the callers noted, each with the name of a region.
     taken: ExtentMap<Option<RegionName>>,
 }
 
@@ -69,8 +69,8 @@ impl MappingSet {
         }
     }
 
-    /// Makes room for `n` pieces or places more. `HostMemory` where the host has too little memory. The entries stay as they are
-    /// on both answers, and no room is lost.
+    /// Makes room for `n` pieces or places more. `HostMemory` if the host has too little memory. The entries stay as
+    /// they are on both answers, and no room is lost.
     pub fn reserve(&mut self, n: u64) -> Result<(), HostMemory>
         ensures room { OnOk result (n ≤ spare_of self.new) }
         ensures table { table_of self.new ≡ table_of self.old }
@@ -89,9 +89,9 @@ impl MappingSet {
         Ok(())
     }
 
-    /// Puts the entries of a piece into an address space, where none of its pages has an entry, as one piece of the set.
-    /// The piece has a page, and ends at or below page `PAGES_END`, as do the pages that it shows. A place of its region
-    /// that was noted on one of its pages is noted no more.
+    /// Puts the entries of a piece into an address space, as one piece of the set. None of its pages has an entry
+    /// before. The piece has at least one page. It ends at or below page `PAGES_END`, and so do the pages of the VMO
+    /// that it shows. If a place of its region was noted on one of its pages, the note is taken back.
     pub fn place(&mut self, root: RegionName, piece: Piece)
         requires some { 1 ≤ piece.count }
         requires end { piece.first + piece.count ≤ PAGES_END }
@@ -109,8 +109,8 @@ impl MappingSet {
         self.put(root, piece);
     }
 
-    /// What a page of an address space shows. `None` exactly where it has no entry. Only pages below `PAGES_END` have
-    /// one.
+    /// What a page of an address space shows. `None` if and only if the page has no entry. Only pages below `PAGES_END`
+    /// have one.
     pub fn at(&self, root: RegionName, page: PageNo) -> Option<Entry>
         ensures entry { result ≡ table_of self.now root.0 page }
         ensures below { (r p : ℕ) → IsSome (table_of self.now r p) → p < PAGES_END }
@@ -123,9 +123,9 @@ impl MappingSet {
         }
     }
 
-    /// The entries from the first one at or past the page `from` on to the end of its piece. `None` exactly where there
-    /// is none. So calls that each begin where the last answer ended are as many as the pieces from there on. It costs a
-    /// look-up.
+    /// The entries from the first one at or past the page `from` to the end of its piece. `None` if and only if there
+    /// is none. If each call begins where the last answer ended, there are as many calls as pieces from there on. A
+    /// call costs one look-up.
     pub fn next_piece(&self, root: RegionName, from: PageNo) -> Option<Piece>
         ensures piece { MatchOption result (IsBareFrom (table_of self.now root.0) from)
             (IsNextPiece (table_of self.now root.0) from) }
@@ -135,8 +135,8 @@ impl MappingSet {
         Some(piece.from(piece.first.max(from)))
     }
 
-    /// The lowest page from `from` on such that no entry that belongs to the region is on it and the next ones, `count`
-    /// in all, which end at the limit or before. `None` exactly where there is none.
+    /// The lowest page from `from` on such that it and the next ones, `count` in all, have no entry that belongs to the
+    /// region, and end at the limit or before. `None` if and only if there is none.
     pub fn first_gap(
         &self,
         root: RegionName,
@@ -154,8 +154,8 @@ impl MappingSet {
             .first_gap(list_number(region, root), from, count, limit)
     }
 
-    /// Notes that `count` pages from `first` on are those of a region `name` in `region`, in which they are taken then. None
-    /// of them has an entry that belongs to the region, and none is noted yet.
+    /// Notes that `count` pages from `first` on are those of a region `name` in `region`. From then on they are taken
+    /// in `region`. None of them has an entry that belongs to `region`, and none is noted yet.
     pub fn hold_place(
         &mut self,
         root: RegionName,
@@ -183,7 +183,7 @@ impl MappingSet {
         );
     }
 
-    /// Takes the note of a place in a region back that begins at the page `first`, if there is one.
+    /// Takes back the note of a place in a region that begins at the page `first`, if there is one.
     pub fn free_place(&mut self, root: RegionName, region: RegionName, first: PageNo)
         ensures places { places_of self.new ≡ with_pair (places_of self.old) (list_number region.0 root.0) first None }
         ensures table { table_of self.new ≡ table_of self.old }
@@ -193,8 +193,8 @@ impl MappingSet {
     }
 
     /// The lowest page from `from` on such that it and the next ones, `count` in all, have no entry that belongs to the
-    /// region, are in no place that was noted in it, and end at the limit or before. `None` exactly where there is none. One
-    /// search by gaps, whatever the region holds.
+    /// region, are in no place that was noted in it, and end at the limit or before. `None` if and only if there is
+    /// none. It costs one search by gaps, whatever the region holds.
     pub fn first_clear(
         &self,
         root: RegionName,
@@ -214,8 +214,8 @@ impl MappingSet {
             .first_gap(list_number(region, root), from, count, limit)
     }
 
-    /// Whether none of `count` pages from `first` on has an entry that belongs to the region or is in a place that was noted
-    /// in it. One look-up.
+    /// Whether none of `count` pages from `first` on has an entry that belongs to the region, or is in a place that was
+    /// noted in the region. It costs one look-up.
     pub fn is_clear(&self, root: RegionName, region: RegionName, first: PageNo, count: u64) -> bool
         ensures { IsTrue result ↔
             IsClear (places_of self.now (list_number region.0 root.0)) (table_of self.now) root.0 region.0 first count }
@@ -223,10 +223,10 @@ impl MappingSet {
         self.taken.is_open(list_number(region, root), first, count)
     }
 
-    /// Takes entries out of a range of `count` pages from `first` on, which may pass 2^64: from the first entry of the
-    /// range on, all that its piece has in the range. Answers them. `None` exactly where the range has no entry. What is
-    /// left of the piece, before the range or behind it, stays. It costs a fixed number of look-ups and changes, however
-    /// many pages the piece has.
+    /// Takes out the first entries of a range of `count` pages from `first` on: the first entry of the range, and all
+    /// others of its piece that lie in the range. Answers them. `None` if and only if the range has no entry. What is
+    /// left of the piece, before the range or behind it, stays. `first + count` may pass 2^64. The call costs a fixed
+    /// number of look-ups and changes, however many pages the piece has.
     pub fn carve(&mut self, root: RegionName, first: PageNo, count: u64) -> Option<Piece>
         requires room { 1 ≤ spare_of self.old }
         ensures piece { MatchOption result (IsBare (table_of self.old root.0) first (first + count))
@@ -255,8 +255,8 @@ impl MappingSet {
         Some(piece.until(end))
     }
 
-    /// Takes out a whole piece of the entries that belong to a region, and answers it. `None` exactly where there is
-    /// none. It costs a fixed number of look-ups and changes, however many pages the piece has.
+    /// Takes out one piece of the entries that belong to a region, and answers it. `None` if and only if there is none.
+    /// The call costs a fixed number of look-ups and changes, however many pages the piece has.
     pub fn drop_region(&mut self, root: RegionName, region: RegionName) -> Option<Piece>
         ensures piece { MatchOption result (has_entry (table_of self.old) root.0 region.0 0 PAGES_END ≡ false)
             (IsPieceIn (table_of self.old root.0) region.0) }
@@ -271,7 +271,7 @@ impl MappingSet {
         Some(self.take(root, last))
     }
 
-    /// Gives each entry of a range other permissions. Each of its pages, `count` from `first` on, has an entry.
+    /// Gives each entry of a range other permissions. Each page of the range, `count` from `first` on, has an entry.
     pub fn restrict(&mut self, root: RegionName, first: PageNo, count: u64, perm: Perm)
         requires full { IsFull (table_of self.old root.0) first (first + count) }
         requires room { 2 ≤ spare_of self.old }
@@ -286,8 +286,8 @@ impl MappingSet {
         self.restrict_pieces(root, first, end, perm);
     }
 
-    /// The first piece of an address space that ends at or behind the page `from`, with its last page. `None` exactly
-    /// where no page from `from` on has an entry.
+    /// The first piece of an address space that ends at or behind the page `from`, with its last page. `None` if and
+    /// only if no page from `from` on has an entry.
     fn held(&self, root: RegionName, from: PageNo) -> Option<(PageNo, Piece)>
         ensures { MatchOption result (HasNoHeld (values_of self.now.pieces) root.0 from)
             (λ pair. IsHeld (values_of self.now.pieces) root.0 from pair.0 pair.1) }
@@ -295,7 +295,8 @@ impl MappingSet {
         self.pieces.next(u64::from(root.0), from)
     }
 
-    /// Takes back each note of a place in a region that has one of `count` pages from `first` on, of which none has an entry.
+    /// Takes back each note of a place in a region that has one of `count` pages from `first` on. None of these pages
+    /// has an entry.
     fn clear_places(&mut self, root: RegionName, region: RegionName, first: PageNo, count: u64)
         requires some { 1 ≤ count }
         requires end { first + count ≤ PAGES_END }
@@ -310,7 +311,7 @@ impl MappingSet {
         clear_places(&mut self.taken, list_number(region, root), first, count);
     }
 
-    /// Puts a piece into an address space, as `place` does, where no place of its region was noted on its pages.
+    /// Puts a piece into an address space, as `place` does. No place of its region is noted on its pages.
     fn put(&mut self, root: RegionName, piece: Piece)
         requires some { 1 ≤ piece.count }
         requires end { piece.first + piece.count ≤ PAGES_END }
@@ -332,7 +333,7 @@ impl MappingSet {
         self.taken.insert(list, piece.first, piece.count, None);
     }
 
-    /// Takes the piece of an address space with its last page at `last` out, and answers it.
+    /// Takes out the piece of an address space whose last page is `last`, and answers it.
     fn take(&mut self, root: RegionName, last: PageNo) -> Piece
         requires { IsSome (values_of self.old.pieces root.0 last) }
         ensures piece { values_of self.old.pieces root.0 last ≡ Some result }
@@ -353,7 +354,7 @@ impl MappingSet {
         piece
     }
 
-    /// The last page of the first piece that belongs to a region. `None` exactly where the region has no entry.
+    /// The last page of the first piece that belongs to a region. `None` if and only if the region has no entry.
     fn last_of(&self, root: RegionName, region: RegionName) -> Option<PageNo>
         ensures { MatchOption result (has_entry (table_of self.now) root.0 region.0 0 PAGES_END ≡ false)
             (IsOfRegion (values_of self.now.pieces) root.0 region.0) }
@@ -362,8 +363,8 @@ impl MappingSet {
         Some(first + extent.count - 1)
     }
 
-    /// Cuts the piece that has the page `page` and the one before it in two, if there is one. The entries stay. The next
-    /// piece from the page on is then what is left there of one that stood.
+    /// Cuts the piece that has both the page `page` and the one before it in two, if there is one. The entries stay.
+    /// The next piece from `page` on then begins at `page` or later, and is what is left of one that stood.
     fn cut(&mut self, root: RegionName, page: PageNo)
         requires room { 1 ≤ spare_of self.old }
         ensures table { table_of self.new ≡ table_of self.old }
@@ -387,7 +388,8 @@ impl MappingSet {
         self.put(root, piece.from(page));
     }
 
-    /// Gives each entry of whole pieces other permissions. Their pages from `first` to below `end` all have one.
+    /// Gives each entry of whole pieces other permissions. All of their pages, from `first` to below `end`, have an
+    /// entry.
     fn restrict_pieces(&mut self, root: RegionName, first: PageNo, end: PageNo, perm: Perm)
         requires full { IsFull (table_of self.old root.0) first end }
         requires order { first ≤ end }
@@ -404,8 +406,8 @@ impl MappingSet {
         }
     }
 
-    /// Gives each entry of the piece that begins at the page `at` other permissions. Answers the page behind it, which
-    /// is at most `end`.
+    /// Gives each entry of the piece that begins at the page `at` other permissions. Answers the page behind the piece,
+    /// which is at most `end`.
     fn restrict_piece(&mut self, root: RegionName, at: PageNo, end: PageNo, perm: Perm) -> PageNo
         requires some { IsSome (table_of self.old root.0 at) }
         requires order { at < end }

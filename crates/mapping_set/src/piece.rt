@@ -7,8 +7,8 @@ ghost use Rattle.mapping_set.specs.Pieces.{piece_from, piece_until, piece_with_p
 use vm_base::{PAGES_END, PageNo, Perm};
 use vm_model::Entry;
 
-/// Entries of so many neighbouring pages, with rising pages of one VMO: the page `first + i` has `entry`, but that it
-/// shows the VMO's page `entry.page + i`.
+/// Entries of `count` neighbouring pages that show rising pages of one VMO. Page `first + i` has the entry `entry`,
+/// except that it shows page `entry.page + i` of the VMO.
 #[derive(Clone, Copy, Debug, PartialEq, Eq)]
 pub struct Piece {
     /// Its first page, counted from address 0.
@@ -20,7 +20,7 @@ pub struct Piece {
 }
 
 impl Piece {
-    /// What is left from the page `page` on, which is one of its pages.
+    /// What is left of the piece from the page `page` on, which is one of its pages.
     pub(crate) fn from(self, page: PageNo) -> Piece
         requires page { (self.first ≤ page) × (page < self.first + self.count) }
         requires pages { self.entry.page + self.count ≤ PAGES_END }
@@ -36,7 +36,7 @@ impl Piece {
             },
         }
     }
-    /// What lies before the page `page`, behind its first and at most behind its last one.
+    /// The part of the piece before the page `page`, which lies behind its first page and at most behind its last.
     pub(crate) fn until(self, page: PageNo) -> Piece
         requires { self.first < page }
         ensures { result ≡ piece_until self page }

@@ -11,7 +11,7 @@ ghost use Rattle.mapping_set.specs.Taken.{pieces_in, IsMeeting};
 use pair_map::ExtentMap;
 use vm_base::{PAGES_END, PageNo, RegionName};
 
-/// Puts a place of `count` pages from `first` on into a list, where none of them is in an extent of it.
+/// Puts a place of `count` pages from `first` on into a list. None of these pages is in an extent of the list.
 pub(crate) fn hold_place(
     taken: &mut ExtentMap<Option<RegionName>>,
     list: u64,
@@ -31,7 +31,7 @@ pub(crate) fn hold_place(
     taken.insert(list, first, count, Some(name));
 }
 
-/// Takes the place out of a list that begins at the page `first`, if there is one.
+/// Takes the place that begins at the page `first` out of a list, if there is one.
 pub(crate) fn free_place(taken: &mut ExtentMap<Option<RegionName>>, list: u64, first: PageNo)
     ensures places { places_in (extents_of taken.new) ≡ with_pair (places_in (extents_of taken.old)) list first None }
     ensures pieces { pieces_in (extents_of taken.new) ≡ pieces_in (extents_of taken.old) }
@@ -53,7 +53,8 @@ fn is_place(taken: &ExtentMap<Option<RegionName>>, list: u64, first: PageNo) -> 
     }
 }
 
-/// Takes each place out of a list that has one of `count` pages from `first` on, where no piece has.
+/// Takes each place that has one of `count` pages from `first` on out of a list. No piece of the list has one of these
+/// pages.
 pub(crate) fn clear_places(
     taken: &mut ExtentMap<Option<RegionName>>,
     list: u64,
@@ -73,7 +74,7 @@ pub(crate) fn clear_places(
     }
 }
 
-/// The first page of an extent of a list that has one of `count` pages from `first` on. `None` exactly where none has.
+/// The first page of an extent of a list that has one of `count` pages from `first` on. `None` if and only if none has.
 fn meeting(
     taken: &ExtentMap<Option<RegionName>>,
     list: u64,
