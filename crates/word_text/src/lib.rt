@@ -1,13 +1,12 @@
-//! The words that commands and replies have in common, as text: numbers in decimal, byte data and
-//! permissions.
+//! The words that commands and replies have in common, as text: numbers in decimal, byte data and permissions.
 //!
-//! It stands on `vm_base` for sets of permissions, on `vm_model` for the definitions of the texts, on
-//! `hex` for byte data, on `itoa` for numbers, and on `bitflags` for the bits of a set. It takes no
-//! memory, and the layers above may use all of it.
+//! It stands on `vm_base` for sets of permissions, on `vm_model` for the definitions of the texts, on `hex` for byte
+//! data, on `itoa` for numbers, and on `bitflags` for the bits of a set. It takes no memory, and the layers above may
+//! use all of it.
 //!
-//! Its functions have one form, and so have those of the layers above that write a part of a line: each
-//! is handed what it writes, the buffer (`out`), and how many of its bytes are in use (`at`), and
-//! answers how many are in use then. Those before stay as they are.
+//! All its functions have one form, and so have the functions of the layers above that write a part of a line. Each is
+//! handed what it writes, the buffer (`out`), and how many bytes of the buffer are in use (`at`). It answers how many
+//! are in use afterwards. The bytes before `at` stay as they are.
 #![tactic(auto)]
 
 mod parts;

@@ -68,7 +68,7 @@ pub fn put_field(label: &[u8], number: u64, out: &mut [u8], at: usize) -> usize
     put_decimal(number, out, at)
 }
 
-/// Writes byte data in lower-case hex behind a space, `-` for no bytes.
+/// Writes byte data in lower-case hex behind a space, or `-` if there are no bytes.
 pub fn put_data(bytes: &[u8], out: &mut [u8], at: usize) -> usize
     requires { at + 2 + 2 * length bytes.now ≤ length out.old }
     ensures written { take result out.new ≡ take at out.old ++ codes " " ++ data_text bytes.now }
@@ -86,7 +86,7 @@ pub fn put_data(bytes: &[u8], out: &mut [u8], at: usize) -> usize
     }
 }
 
-/// Writes the letters of a permission's named bits behind a space, `none` where it has none.
+/// Writes the letters of a permission's named bits behind a space, or `none` if it has none.
 pub fn put_perm(perm: Perm, out: &mut [u8], at: usize) -> usize
     requires { at + 5 ≤ length out.old }
     ensures written { take result out.new ≡ take at out.old ++ codes " " ++ perm_text perm.0 }
@@ -96,7 +96,7 @@ pub fn put_perm(perm: Perm, out: &mut [u8], at: usize) -> usize
     put_word(letters(perm), out, at)
 }
 
-/// The letters of a permission's named bits, `none` where it has none.
+/// The letters of a permission's named bits, or `none` if it has none.
 fn letters(perm: Perm) -> &'static [u8]
     ensures letters { result.now ≡ perm_text perm.0 }
     ensures short { length result.now ≤ 4 }
