@@ -8,7 +8,7 @@ use Rattle.cow_arena.specs.declared.node.Node.{Node}
 use Rattle.cow_arena.specs.declared.node.Side.{Side}
 use Rattle.cow_arena.specs.declared.node.Side.TheVariants as side
 
--- the node of each number, where there is one
+-- the node of each number, if there is one
 abbrev pub Nodes : Type 0
 Nodes = ℕ → Option Node
 
@@ -58,11 +58,11 @@ node_above nodes k = node_at nodes (parent_in (nodes k))
     node_at nodes None = None
     node_at nodes (Some parent) = nodes parent.0
 
--- which child of its parent node k is. None where it has no parent
+-- which child of its parent node k is. None if it has no parent
 abbrev pub side_in : Nodes → ℕ → Option Side
 side_in nodes k = option_map (λ (parent : Node). side_of parent k) (node_above nodes k)
 
--- the other child of the parent of node k. None where it has no parent
+-- the other child of the parent of node k. None if it has no parent
 abbrev pub sibling_in : Nodes → ℕ → Option NodeId
 sibling_in nodes k = sibling_below k (node_above nodes k)
   where

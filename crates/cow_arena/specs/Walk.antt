@@ -35,7 +35,7 @@ abbrev pub from_side : Option Side → Option Found → Option Found
 from_side side found = option_map (λ (it : Found). record it { side = option_or it.side side }) found
 
 module _ (nodes : Nodes) (slots : Slots) where
-  -- the walk goes on as `further` does at page q of the parent, where there is one
+  -- the walk goes on as `further` does at page q of the parent, if there is one
   abbrev climbs : (ℕ → ℕ → Option Found) → ℕ → ℕ → Option NodeId → Option Found
   climbs further k q None = None
   climbs further k q (Some parent) = from_side (side_in nodes k) (further parent.0 q)
@@ -59,7 +59,7 @@ module _ (nodes : Nodes) (slots : Slots) where
 abbrev pub walk : Tree → ℕ → ℕ → Option Found
 walk t k p = walk_over t.nodes t.slots t.lists k p
 
--- the frame of a slot. None where it says that the page is zero
+-- the frame of a slot. None if it says that the page is zero
 abbrev pub frame_in : Slot → Option ℕ
 frame_in (slot.Frame tag left right) = Some tag.0
 frame_in slot.Zero = None
@@ -68,6 +68,6 @@ abbrev pub frame_found : Option Found → Option ℕ
 frame_found None = None
 frame_found (Some it) = frame_in it.slot
 
--- the frame that page p of node k shows. None where the page is zero
+-- the frame that page p of node k shows. None if the page is zero
 abbrev pub frame_at : Tree → ℕ → ℕ → Option ℕ
 frame_at t k p = frame_found (walk t k p)

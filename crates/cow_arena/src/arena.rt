@@ -19,14 +19,14 @@ use std::alloc::Global;
 use std::marker::Model;
 use vm_base::{HostMemory, Koid, PageNo};
 
-/// The nodes of all clone trees. Contracts see the node of each number (`nodes_of`) and how many lists were given to
-/// nodes so far. They are a forest at every moment (`IsForest`). Where rows stood in lists of nodes alone, they do after
-/// each call (`KeepsListed`), if the lists of nodes that go have none. Only `add_root` and `add_pair` ask the host for
-/// memory. No call goes over more than four nodes.
+/// The nodes of all clone trees. Contracts see the node of each number (`nodes_of`), and how many lists were given to
+/// nodes so far. The nodes are a forest at every moment (`IsForest`). If all rows stand in lists of nodes, they still
+/// do after each call (`KeepsListed`), provided that the lists of removed nodes have no rows. Only `add_root` and
+/// `add_pair` ask the host for memory. No call goes over more than four nodes.
 #[derive(Drop)]
 pub struct CowArena {
     nodes: Slab<Node>,
-    /// How many lists were given to nodes so far. The next has this number.
+    /// The number of lists that were given to nodes so far, and so the number of the next list.
     lists: u64,
     /// How many of the nodes are hidden.
     hidden: u64,
@@ -59,8 +59,8 @@ impl CowArena {
         }
     }
 
-    /// Adds the node of a VMO of `count` pages, without a parent and with a new list. `HostMemory` where the host has
-    /// too little memory. Fewer than 2^64 - 2 lists were given before.
+    /// Adds the node of a VMO of `count` pages, without a parent and with a new list. `HostMemory` if the host has too
+    /// little memory. Fewer than 2^64 - 2 lists were given before.
     pub fn add_root(&mut self, koid: Koid, count: PageNo) -> Result<NodeId, HostMemory>
         requires lists { self.old.lists + 2 < 2 ^ 64 }
         ensures new { IfOk result (λ at. nodes_of self.old at.0 ≡ None) }
@@ -94,11 +94,11 @@ impl CowArena {
         Ok(NodeId(at))
     }
 
-    /// Puts a hidden node in the place of the node of a VMO, with its list, its count and its window, and below it that
-    /// node, which sees all of it, and the node of a snapshot of `count` pages, which sees `seen` of its pages from page
-    /// `first` on. The two have new lists, without rows, so each page of that node shows what it showed, and the walk
-    /// from a page of another node finds what it found. `HostMemory` where the host has too little memory. Fewer than
-    /// 2^64 - 2 lists were given before.
+    /// Puts a hidden node in the place of a VMO's node, with the list, the count and the window of that node. Below it
+    /// stand the VMO's node, which sees all of it, and the node of a snapshot of `count` pages, which sees `seen` of
+    /// its pages from page `first` on. Both have new lists without rows. So each page of the VMO's node shows what it
+    /// showed, and the walk from a page of any other node finds what it found. `HostMemory` if the host has too little
+    /// memory. Fewer than 2^64 - 2 lists were given before.
     pub fn add_pair(
         &mut self,
         leaf: NodeId,
@@ -149,7 +149,7 @@ impl CowArena {
         Ok(pair)
     }
 
-    /// For how many nodes there is room. The number of each node is below it.
+    /// The number of nodes for which there is room. The number of each node is below it.
     pub fn capacity(&self) -> usize
         ensures capacity { result ≡ self.now.slots.capacity }
         ensures below { (k : ℕ) → IsSome (nodes_of self.now k) → k < result }
@@ -157,7 +157,7 @@ impl CowArena {
         self.nodes.capacity()
     }
 
-    /// A node. It is inlined, so that a caller reads no more of it than it asks for.
+    /// A copy of a node. The function is inlined, so that a caller reads no more of the node than it asks for.
     #[inline(always)]
     pub fn node(&self, at: NodeId) -> Node
         requires { IsSome (nodes_of self.now at.0) }
@@ -166,7 +166,7 @@ impl CowArena {
         self.nodes[at.0]
     }
 
-    /// A node where it stands, with no copy of it.
+    /// A node where it stands, not copied.
     #[inline(always)]
     pub fn look(&self, at: NodeId) -> &Node
         requires { IsSome (nodes_of self.now at.0) }
@@ -175,7 +175,7 @@ impl CowArena {
         &self.nodes[at.0]
     }
 
-    /// Which child of its parent a node is. `None` exactly where it has no parent.
+    /// Which child of its parent a node is. `None` if and only if it has no parent.
     pub fn side(&self, at: NodeId) -> Option<Side>
         requires { IsSome (nodes_of self.now at.0) }
         ensures side { result ≡ side_in (nodes_of self.now) at.0 }
@@ -184,7 +184,7 @@ impl CowArena {
         Some(above(&self.nodes, at)?.side_of(at))
     }
 
-    /// The other child of the parent of a node. `None` exactly where it has no parent.
+    /// The other child of the parent of a node. `None` if and only if it has no parent.
     pub fn sibling(&self, at: NodeId) -> Option<NodeId>
         requires { IsSome (nodes_of self.now at.0) }
         ensures sibling { result ≡ sibling_in (nodes_of self.now) at.0 }
@@ -194,7 +194,7 @@ impl CowArena {
     }
 
     /// Gives a node that has a parent a window of `seen` pages over it, from page `first` of the parent on. The window
-    /// is not longer than the node and ends inside the parent; one without pages begins at 0.
+    /// is not longer than the node and ends inside the parent. A window without pages begins at 0.
     pub fn set_window(&mut self, at: NodeId, first: PageNo, seen: PageNo)
         requires node { IsSomeAnd (nodes_of self.old at.0) (λ node. seen ≤ node.count) }
         requires parent { IsSomeAnd (node_above (nodes_of self.old) at.0) (λ parent. first + seen ≤ parent.count) }
@@ -213,7 +213,7 @@ impl CowArena {
         node.seen = seen;
     }
 
-    /// Gives the node of a VMO `count` pages, which are not fewer than its window has.
+    /// Changes the page count of a VMO's node to `count`, which is at least the length of its window.
     pub fn set_count(&mut self, at: NodeId, count: PageNo)
         requires { IsSomeAnd (nodes_of self.old at.0) (λ node. IsSome node.koid × (node.seen ≤ count)) }
         ensures nodes { (node : Node) → nodes_of self.old at.0 ≡ Some node →
@@ -228,7 +228,7 @@ impl CowArena {
         self.nodes[at.0].count = count;
     }
 
-    /// Takes the node of a VMO that has no parent away. Its list has no rows, or they stand in no node's list then.
+    /// Removes the node of a VMO that has no parent. Rows that are left in its list stand in no node's list afterwards.
     pub fn remove_root(&mut self, leaf: NodeId)
         requires { IsSomeAnd (nodes_of self.old leaf.0) (λ node. IsSome node.koid × (node.parent ≡ None)) }
         ensures nodes { nodes_of self.new ≡ without_key (nodes_of self.old) leaf.0 }
@@ -243,8 +243,8 @@ impl CowArena {
         self.nodes.try_remove(leaf.0);
     }
 
-    /// Takes the node of a VMO that has a parent away, and its parent with it. The sibling is in the parent's place, and
-    /// sees what it saw through both windows. Where the parent's list has no rows, the walk from each page of a node that
+    /// Removes the node of a VMO that has a parent, and the parent with it. The sibling takes the parent's place, and
+    /// sees what it saw through both windows. If the parent's list has no rows, the walk from each page of a node that
     /// is left finds what it found.
     pub fn splice(&mut self, leaf: NodeId)
         requires { IsSomeAnd (nodes_of self.old leaf.0) (λ node. IsSome node.koid × IsSome node.parent) }
@@ -284,9 +284,9 @@ impl CowArena {
         self.hidden -= 1;
     }
 
-    /// Does what `splice` does, but the sibling has the list of the parent then, and its own list goes with that of the leaf.
-    /// So the rows of the sibling have to stand in the parent's list before, and no row in its own. Then the walk from each
-    /// page of a node that is left finds what it would find after `splice`, had the rows of the two lists been exchanged.
+    /// Does what `splice` does, but the sibling takes over the list of the parent, and its own list goes with that of
+    /// the leaf. So the caller first moves the rows of the sibling into the parent's list. The walk from each page of a
+    /// node that is left then finds what it would find after `splice`, had the rows of the two lists been exchanged.
     pub fn splice_over(&mut self, leaf: NodeId)
         requires { IsSomeAnd (nodes_of self.old leaf.0) (λ node. IsSome node.koid × IsSome node.parent) }
         ensures nodes { (h s : ℕ) (node parent sibling : Node) →
@@ -323,14 +323,14 @@ impl CowArena {
     }
 }
 
-/// Where a window of this many pages begins, which is to begin at `first` where it has a page.
+/// Where a window of `seen` pages begins: at `first`, or at 0 if it has no page.
 pub fn window_first(first: PageNo, seen: PageNo) -> PageNo
     ensures { result ≡ window_first first seen }
 {
     if seen == 0 { 0 } else { first }
 }
 
-/// The parent of a node, where it has one.
+/// The parent of a node, if it has one.
 fn above(nodes: &Slab<Node>, at: NodeId) -> Option<Node>
     requires node { ContainsKey nodes.now at.0 }
     requires parent { (node : Node) → get nodes.now at.0 ≡ Some node → IfSome node.parent (λ it. ContainsKey nodes.now it.0) }
@@ -350,8 +350,8 @@ fn sibling_of(parent: &Node, at: NodeId) -> Option<NodeId>
     }
 }
 
-/// A node in the place of its parent, with the window that it had over the nodes above through both. `room` is how many
-/// pages the node above the parent has.
+/// A node as it is in the place of its parent, with the window that it had through both over the nodes above. `room` is
+/// how many pages the node above the parent has.
 fn lifted(node: Node, parent: Node, room: PageNo) -> Node
     requires { parent.first + parent.seen ≤ room }
     ensures { result ≡ lifted parent node }
@@ -370,7 +370,8 @@ fn lifted(node: Node, parent: Node, room: PageNo) -> Node
     }
 }
 
-/// Puts a hidden node in the place of the leaf, which is this node, and below it the leaf with this list, and the child.
+/// Puts a hidden node in the place of the leaf, which is `node`. Below it stand the leaf, with the list `list`, and the
+/// child.
 fn put_pair(nodes: &mut Slab<Node>, leaf: NodeId, node: Node, child: Node, list: ListId) -> Pair
     requires room { HasRoomFor nodes.old 2 }
     requires leaf { get nodes.old leaf.0 ≡ Some node }
@@ -411,7 +412,7 @@ fn put_pair(nodes: &mut Slab<Node>, leaf: NodeId, node: Node, child: Node, list:
     Pair { hidden, child }
 }
 
-/// Takes a leaf and the hidden node above it away, and puts its sibling, which is this then, in the hidden node's place.
+/// Removes a leaf and the hidden node above it, and puts `node` in the hidden node's place: the sibling as it is there.
 fn splice_nodes(
     nodes: &mut Slab<Node>,
     leaf: NodeId,
@@ -435,7 +436,7 @@ fn splice_nodes(
     nodes[sibling.0] = node;
 }
 
-/// How many pages the parent has, if there is one, and else 0.
+/// How many pages the parent has, or 0 if there is none.
 fn room_in(nodes: &Slab<Node>, parent: Option<NodeId>) -> PageNo
     requires { IfSome parent (λ it. ContainsKey nodes.now it.0) }
     ensures { IfSome parent (λ it. (node : Node) → get nodes.now it.0 ≡ Some node → result ≡ node.count) }
@@ -446,7 +447,7 @@ fn room_in(nodes: &Slab<Node>, parent: Option<NodeId>) -> PageNo
     }
 }
 
-/// A link to a child, where a link to one leads to another instead.
+/// A link to a child, changed to lead to `to` if it led to `from`.
 fn moved_link(link: Option<NodeId>, from: NodeId, to: NodeId) -> Option<NodeId>
     ensures { result ≡ moved_link from.0 to.0 link }
 {

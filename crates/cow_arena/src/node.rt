@@ -6,7 +6,7 @@ ghost use Rattle.cow_arena.specs.Nodes.{side_of, child_on, leads_to};
 use page_list::ListId;
 use vm_base::{Koid, PageNo};
 
-/// The number of a node in its arena. It may be given again after the node is gone.
+/// The number of a node in its arena. Once the node is gone, another may get the number.
 #[derive(Clone, Copy, Debug, PartialEq, Eq)]
 pub struct NodeId(pub usize);
 
@@ -28,9 +28,11 @@ pub struct Pair {
     pub child: NodeId,
 }
 
-/// A node. One with a koid is visible and has no children: it is the node of a VMO. One without is hidden and has two.
+/// A node. A node with a koid is visible, the node of a VMO, and has no children. A node without one is hidden and has
+/// two.
 ///
-/// Without a row of its own, page q of a node is page `first + q` of its parent where q is below `seen`, and else zero.
+/// If page q of a node has no row in the node's own list, it shows what page `first + q` of the parent shows, if q is
+/// below `seen`. Otherwise it is zero.
 #[derive(Clone, Copy, Debug, PartialEq, Eq)]
 pub struct Node {
     pub koid: Option<Koid>,
@@ -48,7 +50,7 @@ pub struct Node {
 }
 
 impl Node {
-    /// Which child of this hidden node another is, where it is one.
+    /// The side on which a child of this hidden node stands.
     pub fn side_of(&self, child: NodeId) -> Side
         ensures { result ≡ side_of self.now child.0 }
     {
@@ -59,7 +61,7 @@ impl Node {
         }
     }
 
-    /// The child on this side. `None` where the node is visible.
+    /// The child on this side. `None` if the node is visible.
     pub fn child_on(&self, side: Side) -> Option<NodeId>
         ensures { result ≡ child_on self.now side }
     {
