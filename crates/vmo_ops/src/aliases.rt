@@ -17,8 +17,8 @@ use page_store::{PageStore, size_of_name};
 use vm_base::{Koid, PAGE, PageNo, Refusal, VmoName, in_page, page_of, round_up};
 use vmo_table::{NameKind, Target, VmoTable};
 
-/// Lets a name stand for a part of what `t` stands for: `bytes` bytes rounded up to whole pages, from
-/// `offset` bytes into it on. It is another name of the same pages, and may not be resized.
+/// Lets a name stand for a part of what `t` stands for: `bytes` bytes, rounded up to whole pages, from `offset` bytes
+/// into it on. The new name is another name of the same pages, and may not resize the VMO.
 pub(crate) fn slice<P: PageStore>(
     store: &P,
     vmos: &mut VmoTable,
@@ -55,7 +55,7 @@ pub(crate) fn slice<P: PageStore>(
     Ok(None)
 }
 
-// The pages of `bytes` bytes, where `offset` is a whole number of pages and they end inside the name.
+// The page count of `bytes` bytes, if `offset` is a whole number of pages and the bytes end inside the name.
 fn pages_inside<P: PageStore>(store: &P, t: &Target, offset: u64, bytes: u64) -> Option<PageNo>
     requires good { IsGood (P.content store.now) }
     requires inside { IsInside (P.content store.now) t.now }
@@ -72,7 +72,7 @@ fn pages_inside<P: PageStore>(store: &P, t: &Target, offset: u64, bytes: u64) ->
     Some(page_of(whole))
 }
 
-// What a slice of so many pages stands for, from the name's page `start` on.
+// What a slice of `pages` pages stands for, from the name's page `start` on.
 fn slice_target(t: &Target, start: PageNo, pages: PageNo, no_write: bool) -> Target
     requires { t.now.first + start < 2 ^ 64 }
     ensures { result ≡ slice_of t.now start pages no_write }
@@ -87,8 +87,8 @@ fn slice_target(t: &Target, start: PageNo, pages: PageNo, no_write: bool) -> Tar
     }
 }
 
-/// Lets a name stand for all of the VMO that `t` stands for. Offset and size are 0. It may be resized
-/// where `resizable` is given, which `t` must allow.
+/// Lets a name stand for all of the VMO that `t` stands for. Offset and size are 0. The new name may resize the VMO if
+/// `resizable` is given, which `t` must allow.
 pub(crate) fn reference(
     vmos: &mut VmoTable,
     name: VmoName,
@@ -120,8 +120,7 @@ pub(crate) fn reference(
     Ok(None)
 }
 
-// Whether a reference may not have these arguments, where the name that it is made of may be resized
-// or not.
+// Whether a reference may not have these arguments. The name of which it is made may resize the VMO or not.
 fn is_contradictory(
     offset: u64,
     bytes: u64,
@@ -134,7 +133,7 @@ fn is_contradictory(
     offset != 0 || bytes != 0 || (resizable && (no_write || !may_resize))
 }
 
-// Whether it is the kind of a name that stands for a part of its VMO.
+// Whether a name of this kind stands for a part of its VMO.
 fn is_slice(kind: NameKind) -> bool
     ensures { result ≡ is_kind NameKind.Slice kind }
 {

@@ -18,17 +18,17 @@ use vm_base::{Koid, Refusal, VmoName};
 use vm_model::ChildKind;
 use vmo_table::{Target, VmoTable};
 
-/// Lets a name that is not open stand for a child of what `t` stands for: a snapshot, which is a VMO of
-/// its own and whose koid is the answer, or a slice or a reference, which are names of the same VMO and
-/// have no koid. The child is `size` bytes, rounded up to whole pages, from `offset` bytes into the name
-/// on, and all of the VMO for a reference. Refusals, in their order:
+/// Lets a name that is not open stand for a child of what `t` stands for (`zx_vmo_create_child`). A snapshot is a VMO
+/// of its own, and its koid is the answer. A slice and a reference are names of the same VMO, and the answer is `None`.
+/// The child is `size` bytes, rounded up to whole pages, from `offset` bytes into the name on. A reference is all of
+/// the VMO. Refusals, in their order:
 ///
-/// - `InvalidArgs` where `offset` is not a multiple of the page size, where `resizable` and `no_write` are
-///   both given, where a slice leaves the name or is to be resizable, where a reference has an offset or a
-///   size, or is to be resizable and `t` may not resize;
+/// - `InvalidArgs` if `offset` is not a multiple of the page size, if `resizable` and `no_write` are both given, if a
+///   slice leaves the name or is to be resizable, if a reference has an offset or a size, or if it is to be resizable
+///   and `t` may not resize;
 /// - `NotSupported` for a slice of a VMO that is resizable, and for a reference of a slice;
-/// - `OutOfRange` where `offset` and the rounded size of a snapshot are over 2^36 bytes together;
-/// - `NoMemory` for a snapshot where the pinned pages that it copies are more than the free frames;
+/// - `OutOfRange` if `offset` and the rounded size of a snapshot are together over `VMO_PAGES` pages;
+/// - `NoMemory` for a snapshot if the pinned pages that it copies are more than the free frames;
 /// - `HostMemory`.
 pub fn create_child<P: PageStore>(
     store: &mut P,

@@ -11,8 +11,8 @@ use page_store::{PageStore, drop_gone};
 use vm_base::VmoName;
 use vmo_table::VmoTable;
 
-/// Closes a name that is open. A VMO that nothing keeps any more leaves with its pages, and its children
-/// get its parent. It never wants memory.
+/// Closes a name that is open (`zx_handle_close`). If nothing keeps its VMO any more, the VMO leaves with its pages,
+/// and its children get its parent. The call never wants memory.
 pub fn close<P: PageStore>(store: &mut P, vmos: &mut VmoTable, name: VmoName)
     requires parts { (s : State) × IsWellCounted vmos.old (with_vmos s (P.content store.old) vmos.old) }
     requires named { IsSome (names_of vmos.old name.0) }

@@ -17,10 +17,10 @@ use page_store::PageStore;
 use vm_base::{Koid, PAGE, Refusal};
 use vmo_table::Target;
 
-/// Gives each page that a range touches a frame of its own, with the bytes that it shows. The range is
-/// `len` bytes from `offset` bytes into the name on. Refusals, in their order: `AccessDenied` where the
-/// name may not write, `OutOfRange` where the range passes its end, `NoMemory` where the pages that are
-/// not sole are more than the free frames, `HostMemory` only where there is such a page.
+/// Gives each page that a range touches a frame of its own, with the bytes that the page shows (`ZX_VMO_OP_COMMIT`).
+/// The range is `len` bytes from `offset` bytes into the name on. Refusals, in their order: `AccessDenied` if the name
+/// may not write, `OutOfRange` if the range passes the name's end, `NoMemory` if the pages that are not sole are more
+/// than the free frames, `HostMemory` only if there is such a page.
 pub fn commit<P: PageStore>(store: &mut P, t: &Target, offset: u64, len: u64) -> Result<(), Refusal>
     requires good { IsGood (P.content store.old) }
     requires inside { IsInside (P.content store.old) t.now }
@@ -35,7 +35,7 @@ pub fn commit<P: PageStore>(store: &mut P, t: &Target, offset: u64, len: u64) ->
     Ok(())
 }
 
-// Owns the pages that a range inside the VMO touches, where the room for it is there.
+// Owns the pages that a range inside the VMO touches. There is room for it.
 fn own_pages<P: PageStore>(store: &mut P, v: Koid, offset: u64, len: u64)
     requires good { IsGood (P.content store.old) }
     requires inside { offset + len ≤ pages_of (P.content store.old) v.0 * PAGE }

@@ -1,5 +1,5 @@
-//! The copies of pinned pages that a snapshot owns at once, so that the pages which are pinned keep their frames for
-//! themselves. Each walk goes from one pinned page to the next, and costs nothing for the pages between.
+//! The copies of pinned pages that a snapshot owns at once. So each pinned page keeps its frame for itself. A walk goes
+//! from one pinned page to the next, and costs nothing for the pages between.
 
 ghost use Rattle.std.specs.Prelude.{◌≡◌, ℕ, ◌+◌, ◌≤◌, length};
 ghost use Rattle.vm_base.specs.declared.limits.TheConstants.{VMO_PAGES};
@@ -13,8 +13,8 @@ use page_store::PageStore;
 use pin_table::PinTable;
 use vm_base::{Koid, PageNo, VMO_PAGES};
 
-// The first page from `from` on, of a snapshot that sees `seen` pages of `of` from its page `first` on, that is the copy
-// of a pinned page. `None` exactly where none is.
+// The first page from `from` on of a snapshot that is the copy of a pinned page. The snapshot sees `seen` pages of `of`
+// from the page `first` of `of` on. `None` if and only if there is no such page.
 fn next_copy(pins: &PinTable, of: Koid, first: PageNo, seen: PageNo, from: PageNo) -> Option<PageNo>
     requires order { from ≤ seen }
     requires range { first + seen ≤ VMO_PAGES }
@@ -30,8 +30,8 @@ fn next_copy(pins: &PinTable, of: Koid, first: PageNo, seen: PageNo, from: PageN
     Some(page - first)
 }
 
-/// How many pages of a snapshot are copies of pinned pages: of one that sees `seen` pages of `of` from its page `first` on.
-/// O(n log p) for n of them, with p pinned pages in all.
+/// How many pages of a snapshot are copies of pinned pages. The snapshot sees `seen` pages of `of` from the page
+/// `first` of `of` on. The call costs O(n log p) for n of them, if p pages are pinned in all.
 pub(crate) fn count_copies(pins: &PinTable, of: Koid, first: PageNo, seen: PageNo) -> u64
     requires { first + seen ≤ VMO_PAGES }
     ensures { result ≡ length (copies_of (is_pinned (pins_of pins.now) of.0) first seen 0) }
@@ -45,8 +45,8 @@ pub(crate) fn count_copies(pins: &PinTable, of: Koid, first: PageNo, seen: PageN
     copied
 }
 
-/// Owns those pages of a snapshot that are copies of pinned pages, in ascending order, where there are room and free
-/// frames for all of them. The snapshot sees `seen` pages of `of` from its page `first` on.
+/// Owns the pages of a snapshot that are copies of pinned pages, in ascending order. There are room and free frames for
+/// all of them. The snapshot sees `seen` pages of `of` from the page `first` of `of` on.
 pub(crate) fn own_copies<P: PageStore>(
     store: &mut P,
     pins: &PinTable,

@@ -1,4 +1,4 @@
-//! Giving pages back (`ZX_VMO_OP_DECOMMIT`).
+//! Giving frames of pages back (`ZX_VMO_OP_DECOMMIT`).
 
 ghost use Rattle.std.specs.Prelude.{◌≡◌, ◌+◌, ◌*◌, ◌/◌, ◌%◌, ◌≤◌, false, Some, IsSome};
 ghost use Rattle.vm_base.specs.declared.names.VmoName.{VmoName};
@@ -22,12 +22,11 @@ use pin_table::PinTable;
 use vm_base::{Koid, PAGE, Refusal, in_page, page_of};
 use vmo_table::{Target, VmoTable};
 
-/// Makes the pages of a range zero and gives their frames back: `len` bytes from `offset` bytes into the
-/// name on, both whole pages. Refusals, in their order: `AccessDenied` where the name may not write,
-/// `InvalidArgs` where `offset` or `len` is not a multiple of the page size, `NotSupported` where the
-/// VMO is a snapshot, has a VMO as child, or has a reference, `OutOfRange` where the range passes the
-/// name's end, `BadState` where a page of the range is pinned, `HostMemory` only where a page of the
-/// range is held.
+/// Makes the pages of a range zero and gives their frames back (`ZX_VMO_OP_DECOMMIT`). The range is `len` bytes from
+/// `offset` bytes into the name on, both whole pages. Refusals, in their order: `AccessDenied` if the name may not
+/// write, `InvalidArgs` if `offset` or `len` is not a multiple of the page size, `NotSupported` if the VMO is a
+/// snapshot, has a VMO as child, or has a reference, `OutOfRange` if the range passes the name's end, `BadState` if a
+/// page of the range is pinned, `HostMemory` only if a page of the range is held.
 pub fn decommit<P: PageStore>(
     store: &mut P,
     vmos: &VmoTable,
@@ -65,7 +64,7 @@ pub fn decommit<P: PageStore>(
     Ok(())
 }
 
-// Makes the pages of a range of whole pages zero, none of which is pinned, where the room for it is there.
+// Makes the pages of a range of whole pages zero. None of them is pinned, and there is room for it.
 #[tactic(auto, using(crate::proofs::DecommitLaws::clear_laws))]
 fn clear_pages<P: PageStore>(store: &mut P, pins: &PinTable, v: Koid, offset: u64, len: u64)
     requires good { IsGood (P.content store.old) }

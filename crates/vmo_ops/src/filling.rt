@@ -47,8 +47,8 @@ pub fn fill<P: PageStore>(
     Ok(())
 }
 
-// Fills a range inside the VMO, page by page, where the room for it is there, from a buffer of `N` bytes. It is not
-// inlined, since a function writes all of its locals, and a short fill is not to pay for a page.
+// Fills a range inside the VMO, page by page, from a buffer of `N` bytes. There is room for it. The function is not
+// inlined: a function writes all of its locals, and a short fill should not pay for a page.
 #[inline(never)]
 fn fill_pages<P: PageStore, const N: usize>(store: &mut P, v: Koid, offset: u64, len: u64, byte: u8)
     requires good { IsGood (P.content store.old) }
@@ -68,7 +68,8 @@ fn fill_pages<P: PageStore, const N: usize>(store: &mut P, v: Koid, offset: u64,
     }
 }
 
-/// Fills a part of a page with bytes that are all the same, at least as many as the part has. The page is owned first.
+/// Fills a part of a page from `bytes`, which are all the same and at least as many as the part has. The page is owned
+/// first.
 pub(crate) fn fill_part<P: PageStore>(
     store: &mut P,
     v: Koid,

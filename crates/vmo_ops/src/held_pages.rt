@@ -1,4 +1,4 @@
-//! Walking the held pages of a range. The zero pages of a long range cost nothing.
+//! Walks over the held pages of a range. The zero pages of a long range cost nothing.
 
 ghost use Rattle.std.specs.Prelude.{◌≡◌, ℕ, ◌<◌, ◌≤◌, None, IsSome, IfSome, IfNone};
 ghost use Rattle.vm_model.specs.Contents.Content.{is_held, pages_of, sole, IsGood};
@@ -7,12 +7,12 @@ use crate::owning::is_sole;
 use page_store::{Look, PageStore};
 use vm_base::{Koid, PageNo};
 
-/// So many pages in a row are looked at one by one, and more are gone over by those that are held. Each look at a zero page
-/// is a walk to the root, where a search makes one such walk for all of a gap. A look at a held page asks beside whether it
-/// is sole, which a search does not. So more looks than these do not pay where that is not wanted.
+/// The most pages of a range that are looked at one by one. A longer range is gone over by its held pages. A look at a
+/// zero page is a walk to the root, and a search makes one such walk for a whole gap. A look at a held page also finds
+/// out whether the page is sole, and a search does not. So more looks than this do not pay if that is not wanted.
 const FEW_PAGES: u64 = 2;
 
-/// The first page that is held, from page `from` of a VMO to below `end`. `None` exactly where none is.
+/// The first page that is held, from page `from` of a VMO to below `end`. `None` if and only if none is.
 pub(crate) fn next_held_below<P: PageStore>(
     store: &P,
     v: Koid,
@@ -42,9 +42,10 @@ pub(crate) struct HeldPage {
     pub sole: bool,
 }
 
-/// The first page that is held, as `next_held_below` finds it, and whether it is sole, which takes a look at it. So where
-/// the held pages before stand in a row (`in_row`, on which the answer does not depend), page `from` is looked at before a
-/// search. Held pages in a row cost one look each then, and held pages that stand apart a search and a look each.
+/// The first page that is held, as `next_held_below` finds it, and whether it is sole, which takes a look at the page.
+/// If the held pages before stand in a row (`in_row`), page `from` is looked at before a search. So held pages in a row
+/// cost one look each, and held pages that stand apart a search and a look each. The answer does not depend on
+/// `in_row`.
 pub(crate) fn next_with_sole<P: PageStore>(
     store: &P,
     v: Koid,
@@ -75,7 +76,7 @@ pub(crate) fn next_with_sole<P: PageStore>(
     }
 }
 
-// A page, where it is held.
+// A page, if it is held.
 #[tactic(auto, using(crate::proofs::LookLaws::look_laws))]
 fn held_at<P: PageStore>(store: &P, v: Koid, page: PageNo) -> Option<HeldPage>
     requires { page < pages_of (P.content store.now) v.0 }

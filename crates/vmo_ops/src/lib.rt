@@ -1,10 +1,10 @@
-//! The operations on VMOs: making them, their snapshots, slices and references; closing names; reading
-//! and writing; owning, zeroing, pinning and giving back pages; changing the size. Each is one command of the
+//! The operations on VMOs: making them, their snapshots, slices and references; closing names; reading and writing;
+//! owning, zeroing and pinning pages, and giving their frames back; changing the size. Each is one command of the
 //! machine, by a name that is already looked up.
 //!
 //! It stands on `page_store`, whose trait it is generic over, on `vmo_table` and on `pin_table`. Its contracts say that
-//! a call is the step of its command, as `vm_model` defines it. The layer above looks names up, calls
-//! an operation, and makes a reply of its answer.
+//! a call is the step of its command, as `vm_model` defines it. The layer above looks names up, calls an operation, and
+//! makes a reply of its answer.
 #![tactic(auto,
 // no VMO has more pages than fit
 using(page_store::proofs::NameLaws::pages_of_le,

@@ -9,8 +9,8 @@ use crate::held_pages::next_with_sole;
 use page_store::{Look, PageStore};
 use vm_base::{HostMemory, Koid, PageNo};
 
-/// How many frames owning the pages from `first` to below `end` takes: as many as are not sole. One page is looked at
-/// once.
+/// How many frames it takes to own the pages from `first` to below `end`: as many as are not sole. A range of one page
+/// costs one look.
 #[inline(always)]
 pub(crate) fn need_of<P: PageStore>(store: &P, v: Koid, first: PageNo, end: PageNo) -> u64
     requires good { IsGood (P.content store.now) }
@@ -26,7 +26,7 @@ pub(crate) fn need_of<P: PageStore>(store: &P, v: Koid, first: PageNo, end: Page
     }
 }
 
-// The same, page by page. It looks at the held pages alone.
+// Does what `need_of` does, page by page. It looks at the held pages alone.
 fn need_of_pages<P: PageStore>(store: &P, v: Koid, first: PageNo, end: PageNo) -> u64
     requires good { IsGood (P.content store.now) }
     requires vmo { IsSome ((P.content store.now).count v.0) }
@@ -45,7 +45,7 @@ fn need_of_pages<P: PageStore>(store: &P, v: Koid, first: PageNo, end: PageNo) -
     end - first - alone
 }
 
-/// The number, and one more where the page passes a test.
+/// `n`, and one more if the page passes a test.
 pub(crate) fn with_one(n: u64, passes: bool) -> u64
     requires { n + 1 < 2 ^ 64 }
     ensures { result ≡ n + (if passes then 1 else 0) }
@@ -53,7 +53,7 @@ pub(crate) fn with_one(n: u64, passes: bool) -> u64
     if passes { n + 1 } else { n }
 }
 
-/// Whether the page is held and no other VMO shows its frame.
+/// Whether a page is held and no other VMO shows its frame.
 #[tactic(auto, using(crate::proofs::LookLaws::look_laws))]
 pub(crate) fn is_sole<P: PageStore>(store: &P, v: Koid, page: PageNo) -> bool
     requires { page < pages_of (P.content store.now) v.0 }
@@ -65,8 +65,8 @@ pub(crate) fn is_sole<P: PageStore>(store: &P, v: Koid, page: PageNo) -> bool
     }
 }
 
-/// Makes room for owning so many pages, or for zeroing them, where some of them want a row of the store.
-/// `HostMemory` where the host has too little memory, and never where none does.
+/// Makes room for owning `pages` pages, or for zeroing them. `wanting` of them need a row of the store. `HostMemory` if
+/// the host has too little memory, but never if no page needs a row.
 pub(crate) fn reserve_rows<P: PageStore>(
     store: &mut P,
     wanting: u64,
@@ -82,12 +82,13 @@ pub(crate) fn reserve_rows<P: PageStore>(
     store.reserve(pages)
 }
 
-/// The most pages for which room is made with no look at them, so that no more rows than these stay unused.
+/// The most pages for which room is made without a look at them. So no more rows than these stay unused.
 const UNSEEN_PAGES: u64 = 64;
 
-/// Makes room for owning so many pages, whatever they are, and answers whether there are a row and a free frame for each.
-/// No page takes more, so none has to be looked at before. It asks for nothing and answers `false` for more than
-/// `UNSEEN_PAGES` pages, or where fewer frames are free. A page that is sole takes neither, so `false` refuses nothing.
+/// Makes room for owning `pages` pages, whatever they are, and answers whether there are a row and a free frame for
+/// each. No page takes more, so none has to be looked at before. If there are more than `UNSEEN_PAGES` pages, or fewer
+/// frames are free, the call asks for nothing and answers `false`. A page that is sole takes neither a row nor a frame,
+/// so `false` does not mean a refusal.
 pub(crate) fn reserve_unseen<P: PageStore>(store: &mut P, pages: u64) -> bool
     ensures same { P.content store.new ≡ P.content store.old }
     ensures room { IsTrue result → (pages ≤ P.spare store.new)

@@ -30,12 +30,12 @@ use vmo_table::{Target, VmoTable};
 /// The bytes of the longest pin.
 const PIN_BYTES: u64 = PIN_PAGES as u64 * PAGE;
 
-/// Pins the pages of a range under a pin's name that is not there: `len` bytes from `offset` bytes into
-/// the name on, both whole pages, from 1 to `PIN_PAGES` of them. Each page is owned, and keeps its frame
-/// while the pin is there. Answers the frames in ascending order of the pages. Refusals, in their order:
-/// `InvalidArgs` where `offset` or `len` is not a multiple of the page size, or `len` is 0 or more than
-/// `PIN_PAGES` pages, `OutOfRange` where the range passes the name's end, `NoMemory` where the pages that
-/// are not sole are more than the free frames, `HostMemory`.
+/// Pins the pages of a range under the name of a pin that is not there (`zx_bti_pin`). The range is `len` bytes from
+/// `offset` bytes into the name on, both whole pages, from 1 to `PIN_PAGES` of them. Each page is owned, and keeps its
+/// frame as long as the pin is there. Answers the frames in ascending order of the pages. Refusals, in their order:
+/// `InvalidArgs` if `offset` or `len` is not a multiple of the page size, or `len` is 0 or more than `PIN_PAGES` pages,
+/// `OutOfRange` if the range passes the name's end, `NoMemory` if the pages that are not sole are more than the free
+/// frames, `HostMemory`.
 pub fn pin<P: PageStore>(
     store: &mut P,
     vmos: &mut VmoTable,
@@ -62,7 +62,8 @@ pub fn pin<P: PageStore>(
     }
 }
 
-/// Pins as `pin` does, with room for at least `PIN_PAGES` numbers, and lends the frames' numbers there.
+/// Pins as `pin` does, and writes the numbers of the frames to `room`, which has at least `PIN_PAGES` places. The
+/// answer borrows them from there.
 pub fn pin_into<'a, P: PageStore>(
     store: &mut P,
     vmos: &mut VmoTable,
@@ -90,7 +91,8 @@ pub fn pin_into<'a, P: PageStore>(
     }
 }
 
-// Makes ready for a pin of a range of a name, and answers the range's place in its VMO. It is refused as `pin` is.
+// Makes a range of a name ready for a pin, and answers the range's place in its VMO, in bytes. It is refused as `pin`
+// is.
 fn ready_to_pin<P: PageStore>(
     store: &mut P,
     pins: &mut PinTable,
@@ -121,7 +123,8 @@ fn ready_to_pin<P: PageStore>(
     }
 }
 
-// Pins the pages of a range of a VMO that is ready for it, and lends their frames' numbers in the room.
+// Pins the pages of a range of a VMO that is ready for it. Writes the numbers of their frames to `room`, and lends them
+// from there.
 fn add_pin<'a, P: PageStore>(
     store: &mut P,
     vmos: &mut VmoTable,
@@ -151,7 +154,7 @@ fn add_pin<'a, P: PageStore>(
     ensures lineage { lineage_in vmos.new ≡ lineage_in vmos.old }
     ensures keepers { (w : ℕ) → keepers_of vmos.new w ≡ keepers_of vmos.old w + (if w == v.0 then 1 else 0) }
 {
-    // That a VMO has no more pins than there are names rests on the range of the names.
+    // A VMO has no more pins than there are names: this rests on the range of the names.
     prove!(pin.0 <= u32::MAX);
     let count = page_of(len);
     let numbers = &mut room[..count as usize];
@@ -161,15 +164,15 @@ fn add_pin<'a, P: PageStore>(
     LentNumbers::new(numbers)
 }
 
-// Whether a range is one of whole pages, from 1 to `PIN_PAGES` of them.
+// Whether a range has whole pages alone, from 1 to `PIN_PAGES` of them.
 fn is_pin_range(offset: u64, len: u64) -> bool
     ensures { IsTrue result ↔ IsPinRange offset len }
 {
     in_page(offset) == 0 && in_page(len) == 0 && len > 0 && len <= PIN_BYTES
 }
 
-// Owns the pages of a range of whole pages inside a VMO, where the room for it is there, and puts their frames' numbers
-// there, one for each page.
+// Owns the pages of a range of whole pages inside a VMO, and writes the number of each page's frame to `numbers`. There
+// is room for it.
 fn own_frames<P: PageStore>(store: &mut P, v: Koid, offset: u64, len: u64, numbers: &mut [u64])
     requires good { IsGood (P.content store.old) }
     requires inside { offset + len ≤ pages_of (P.content store.old) v.0 * PAGE }
@@ -189,8 +192,8 @@ fn own_frames<P: PageStore>(store: &mut P, v: Koid, offset: u64, len: u64, numbe
     }
 }
 
-/// Takes a pin away that is there. A VMO that nothing keeps any more leaves with its pages, and its
-/// children get its parent. It never wants memory.
+/// Removes a pin that is there (`zx_pmt_unpin`). If nothing keeps its VMO any more, the VMO leaves with its pages, and
+/// its children get its parent. The call never wants memory.
 pub fn unpin<P: PageStore>(store: &mut P, vmos: &mut VmoTable, pins: &mut PinTable, pin: PinName)
     requires parts { (s : State) × IsWellCounted vmos.old (with_tables s (P.content store.old) vmos.old pins.old) }
     requires there { IsSome (pins_of pins.old pin.0) }

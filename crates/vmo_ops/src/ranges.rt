@@ -12,8 +12,8 @@ use page_store::{PageStore, size_of_name};
 use vm_base::{PAGE, PageNo, VMO_PAGES, page_of};
 use vmo_table::Target;
 
-/// The place in its VMO, in bytes, of a range of a name. `None` exactly where the range does not lie
-/// inside the name.
+/// The place of a range of a name in the name's VMO, in bytes. `None` if and only if the range does not lie inside the
+/// name.
 pub(crate) fn place_in_vmo<P: PageStore>(
     store: &P,
     t: &Target,
@@ -31,7 +31,7 @@ pub(crate) fn place_in_vmo<P: PageStore>(
     Some(t.first * PAGE + offset)
 }
 
-// Whether the range lies inside the name. An offset and a length whose sum passes 2^64 do not.
+// Whether the range lies inside the name. A range with `offset + len` past 2^64 does not.
 fn is_in_range<P: PageStore>(store: &P, t: &Target, offset: u64, len: u64) -> bool
     requires good { IsGood (P.content store.now) }
     requires inside { IsInside (P.content store.now) t.now }
@@ -41,8 +41,8 @@ fn is_in_range<P: PageStore>(store: &P, t: &Target, offset: u64, len: u64) -> bo
     len <= bytes && offset <= bytes - len
 }
 
-/// The first page that holds a byte of the range, and the page behind the last. The two are one
-/// where the range has no byte.
+/// The first page that holds a byte of the range, and the page behind the last one. If the range has no byte, the two
+/// are the same.
 #[tactic(auto, using(crate::proofs::NeedLaws::touched_laws))]
 pub(crate) fn touched_pages(offset: u64, len: u64) -> (PageNo, PageNo)
     requires { offset + len ≤ VMO_PAGES * PAGE }

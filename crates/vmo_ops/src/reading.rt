@@ -15,9 +15,8 @@ use vm_base::{DATA_BYTES, Koid, PAGE, PageNo, Refusal};
 use vm_model::{Bytes4k, LentBytes};
 use vmo_table::Target;
 
-/// Reads `len` bytes, at most `DATA_BYTES`, from `offset` bytes into the name on. Refusals, in their order:
-/// `InvalidArgs` where there are more, `OutOfRange` where the range passes the name's end. It never
-/// wants memory.
+/// Reads `len` bytes from `offset` bytes into the name on (`zx_vmo_read`). Refusals, in their order: `InvalidArgs` if
+/// `len` is over `DATA_BYTES`, `OutOfRange` if the range passes the name's end. The call never wants memory.
 pub fn read<P: PageStore>(store: &P, t: &Target, offset: u64, len: u64) -> Result<Bytes4k, Refusal>
     requires good { IsGood (P.content store.now) }
     requires inside { IsInside (P.content store.now) t.now }
@@ -31,7 +30,8 @@ pub fn read<P: PageStore>(store: &P, t: &Target, offset: u64, len: u64) -> Resul
     }
 }
 
-/// Reads as `read` does, into room for at least `DATA_BYTES` bytes, and lends those of it that were read.
+/// Reads as `read` does, into `room`, which has at least `DATA_BYTES` bytes, and lends the bytes that were read from
+/// there.
 pub fn read_into<'a, P: PageStore>(
     store: &P,
     t: &Target,

@@ -1,5 +1,4 @@
-//! Making a range of a name ready for a change: what may refuse it is looked at, and room is made, before
-//! any page changes.
+//! Making a range of a name ready for a change: before any page changes, all refusals are tested and room is made.
 
 ghost use Rattle.std.specs.Prelude.{◌≡◌, ℕ, ◌+◌, ◌-◌, ◌*◌, ◌≤◌, ◌⊎◌, true, IsSome, IfOk, IfErr, OnOk};
 ghost use Rattle.std.specs.List.{range_with_len};
@@ -16,8 +15,8 @@ use page_store::PageStore;
 use vm_base::{Koid, PAGE, PageNo, Refusal};
 use vmo_table::Target;
 
-/// The place in its VMO, in bytes, of a range of a name that may write. `AccessDenied` where the name
-/// may not, else `OutOfRange` where the range passes its end.
+/// The place of a range of a name in the name's VMO, in bytes. `AccessDenied` if the name may not write, else
+/// `OutOfRange` if the range passes the name's end.
 pub(crate) fn place_to_change<P: PageStore>(
     store: &P,
     t: &Target,
@@ -39,8 +38,8 @@ pub(crate) fn place_to_change<P: PageStore>(
     }
 }
 
-/// Makes a range of a name ready for owning its pages, and answers its place in the VMO in bytes. It is
-/// refused as a change is, for want of frames or of the host's memory too, and then nothing was changed.
+/// Makes a range of a name ready for owning its pages, and answers its place in the VMO, in bytes. It is refused as a
+/// change is, also for want of frames or of the host's memory. A refusal changes nothing.
 #[inline(always)]
 pub(crate) fn ready_to_own<P: PageStore>(
     store: &mut P,
@@ -69,8 +68,8 @@ pub(crate) fn ready_to_own<P: PageStore>(
     }
 }
 
-/// Makes room for owning the pages that a range of a VMO touches. `NoMemory` where there are too few free frames, else
-/// `HostMemory` only where one of these pages is not sole. Where the range is short and frames are free for all of it, no
+/// Makes room for owning the pages that a range of a VMO touches. `NoMemory` if there are too few free frames, else
+/// `HostMemory` only if one of these pages is not sole. If the range is short and frames are free for all of it, no
 /// page is looked at.
 #[inline(always)]
 pub(crate) fn reserve_to_own<P: PageStore>(

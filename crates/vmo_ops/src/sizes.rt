@@ -15,10 +15,10 @@ use pin_table::PinTable;
 use vm_base::{Koid, PAGE, PageNo, Refusal, VMO_PAGES, page_of, round_up};
 use vmo_table::Target;
 
-/// Changes the size of a VMO to `size` bytes, rounded up to whole pages. Pages past the new end leave
-/// it, and pages that come in are zero. Refusals, in their order: `AccessDenied` where the name may not
-/// write, `Unavailable` where it may not resize, `OutOfRange` where the size is over 2^36 bytes,
-/// `BadState` where a page past the new end is pinned. It never wants memory.
+/// Changes the size of a VMO to `size` bytes, rounded up to whole pages (`zx_vmo_set_size`). Pages past the new end are
+/// dropped, and new pages are zero. Refusals, in their order: `AccessDenied` if the name may not write, `Unavailable`
+/// if the name may not resize, `OutOfRange` if the size is over `VMO_PAGES` pages, `BadState` if a page past the new
+/// end is pinned. The call never wants memory.
 pub fn resize<P: PageStore>(
     store: &mut P,
     pins: &PinTable,
@@ -47,7 +47,7 @@ pub fn resize<P: PageStore>(
     Ok(())
 }
 
-// Whether a page of a VMO is pinned, of those behind the first `pages`.
+// Whether a page of a VMO behind the first `pages` is pinned.
 #[tactic(auto, using(crate::proofs::PinnedLaws::pinned_past))]
 fn is_pinned_past<P: PageStore>(store: &P, pins: &PinTable, v: Koid, pages: PageNo) -> bool
     requires { IsSome ((P.content store.now).count v.0) }

@@ -27,9 +27,9 @@ use vm_base::{
 };
 use vmo_table::{Origin, Target, VmoTable};
 
-/// Makes a VMO that shows the pages of what `t` stands for, from `offset` bytes into it on, as they are
-/// now. A page is copied when one of the two VMOs is written to, and a pinned page at once, so that it keeps
-/// its frame for itself. Pages past the end of the name are zero.
+/// Makes a VMO that shows the pages of what `t` stands for, from `offset` bytes into it on, as they are now
+/// (`ZX_VMO_CHILD_SNAPSHOT`). A page is copied when one of the two VMOs is written to. A pinned page is copied at once,
+/// so that it keeps its frame for itself. Pages past the end of the name are zero.
 pub(crate) fn snapshot<P: PageStore>(
     store: &mut P,
     vmos: &mut VmoTable,
@@ -82,9 +82,9 @@ pub(crate) fn snapshot<P: PageStore>(
     Ok(Some(koid))
 }
 
-// Makes a snapshot of `pages` pages, which sees `seen` pages of `of` from its page `first` on, and owns its copies of
-// pinned pages, of which there are `copied`. Answers the snapshot's koid. `HostMemory` where the host has too little
-// memory, and then nothing was changed.
+// Makes a snapshot of `pages` pages that owns its copies of pinned pages, and answers its koid. The snapshot sees
+// `seen` pages of `of` from the page `first` of `of` on. Of these, `copied` pages are pinned. `HostMemory`, with
+// nothing changed, if the host has too little memory.
 fn snapshot_owned<P: PageStore>(
     store: &mut P,
     pins: &PinTable,
@@ -116,8 +116,7 @@ fn snapshot_owned<P: PageStore>(
     Ok(koid)
 }
 
-// The pages of `size` bytes, where they end at or below the greatest size of a VMO, counted from
-// `offset` on.
+// The page count of `size` bytes, if they end within the greatest size of a VMO, counted from `offset` on.
 fn pages_within(offset: u64, size: u64) -> Option<PageNo>
     ensures some { IfSome result (λ pages. (pages ≡ rounded size / PAGE)
         × (offset + rounded size ≤ VMO_PAGES * PAGE) × (pages ≤ VMO_PAGES)) }
@@ -128,8 +127,8 @@ fn pages_within(offset: u64, size: u64) -> Option<PageNo>
     Some(page_of(whole))
 }
 
-// The first page in its VMO, and how many there are, of the pages that a snapshot sees of a name: at
-// most `pages` from the name's page `start` on. Where it sees none, the first is 0.
+// The pages that a snapshot sees of a name: the first one, counted in the VMO, and how many there are. They are at most
+// `pages`, from the name's page `start` on. If the snapshot sees none, the first is 0.
 fn seen_part<P: PageStore>(store: &P, t: &Target, start: PageNo, pages: PageNo) -> (PageNo, PageNo)
     requires good { IsGood (P.content store.now) }
     requires inside { IsInside (P.content store.now) t.now }

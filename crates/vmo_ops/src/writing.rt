@@ -17,10 +17,10 @@ use page_store::PageStore;
 use vm_base::{Koid, PAGE, PageNo, Refusal};
 use vmo_table::Target;
 
-/// Writes bytes from `offset` bytes into the name on. A page that the range touches
-/// and that is not sole takes a frame. Refusals, in their order: `AccessDenied` where the name may not
-/// write, `OutOfRange` where the range passes its end, `NoMemory` where the pages that are not sole are
-/// more than the free frames, `HostMemory` only where there is such a page.
+/// Writes bytes from `offset` bytes into the name on (`zx_vmo_write`). Each page that the range touches and that is not
+/// sole takes a frame. Refusals, in their order: `AccessDenied` if the name may not write, `OutOfRange` if the range
+/// passes the name's end, `NoMemory` if the pages that are not sole are more than the free frames, `HostMemory` only if
+/// there is such a page.
 pub fn write<P: PageStore>(
     store: &mut P,
     t: &Target,
@@ -41,7 +41,7 @@ pub fn write<P: PageStore>(
     }
 }
 
-// Writes bytes inside the VMO, where the room for it is there. Most ranges lie in one page.
+// Writes bytes inside the VMO. There is room for it. Most ranges lie in one page.
 #[tactic(auto, using(page_store::proofs::NameLaws::pages_of_le))]
 fn write_range<P: PageStore>(store: &mut P, v: Koid, offset: u64, bytes: &[u8])
     requires good { IsGood (P.content store.old) }
@@ -60,7 +60,7 @@ fn write_range<P: PageStore>(store: &mut P, v: Koid, offset: u64, bytes: &[u8])
     }
 }
 
-// Writes bytes inside the VMO, page by page, where the room for it is there.
+// Writes bytes inside the VMO, page by page. There is room for it.
 fn write_pages<P: PageStore>(store: &mut P, v: Koid, offset: u64, bytes: &[u8])
     requires good { IsGood (P.content store.old) }
     requires inside { offset + length bytes.now ≤ pages_of (P.content store.old) v.0 * PAGE }

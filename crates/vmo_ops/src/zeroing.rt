@@ -24,12 +24,11 @@ use pin_table::PinTable;
 use vm_base::{Koid, PAGE, PAGE_BYTES, PageNo, Refusal};
 use vmo_table::Target;
 
-/// Makes the bytes of a range zero: `len` bytes from `offset` bytes into the name on. A page that lies
-/// wholly in the range and is not pinned becomes zero and gives its frame back, unless another VMO shows
-/// it. Another page that is held is owned and written with zeros: a page that is pinned keeps its frame.
-/// Refusals, in their order: `AccessDenied` where the name may not write, `OutOfRange` where the range
-/// passes its end, `NoMemory` where owning takes more frames than are free, `HostMemory` only where a
-/// page that the range touches is held.
+/// Makes the bytes of a range zero (`ZX_VMO_OP_ZERO`): `len` bytes from `offset` bytes into the name on. A page that
+/// lies wholly in the range and is not pinned becomes zero, and its frame is given back unless another VMO shows it.
+/// Any other page that is held is owned and written with zeros, so a pinned page keeps its frame. Refusals, in their
+/// order: `AccessDenied` if the name may not write, `OutOfRange` if the range passes the name's end, `NoMemory` if
+/// owning takes more frames than are free, `HostMemory` only if a page that the range touches is held.
 pub fn zero<P: PageStore>(
     store: &mut P,
     pins: &PinTable,
@@ -55,9 +54,9 @@ pub fn zero<P: PageStore>(
     }
 }
 
-// Makes room for zeroing a range inside the VMO. `NoMemory` where owning takes more frames than are free, else `HostMemory`
-// only where a page that the range touches is held. Where the range is short and frames are free for all of it, no page is
-// looked at.
+// Makes room for zeroing a range inside the VMO. `NoMemory` if owning takes more frames than are free, else
+// `HostMemory` only if a page that the range touches is held. If the range is short and frames are free for all of it,
+// no page is looked at.
 fn reserve_to_zero<P: PageStore>(
     store: &mut P,
     pins: &PinTable,
@@ -90,15 +89,15 @@ fn reserve_to_zero<P: PageStore>(
     Ok(())
 }
 
-/// What zeroing a range takes: of the pages that it touches, how many are held, and how many of these
-/// are to be owned and are not sole.
+/// What it takes to zero a range: how many pages that it touches are held, and how many of these are to be owned and
+/// are not sole.
 #[derive(Clone, Copy)]
 pub(crate) struct ZeroCost {
     pub held: u64,
     pub owned: u64,
 }
 
-/// What zeroing a range inside the VMO takes. It looks at the held pages alone.
+/// What it takes to zero a range inside the VMO. The call looks at the held pages alone.
 pub(crate) fn cost_to_zero<P: PageStore>(
     store: &P,
     pins: &PinTable,
@@ -124,8 +123,8 @@ pub(crate) fn cost_to_zero<P: PageStore>(
     cost
 }
 
-// Whether zeroing a range takes a frame for a page that it touches and that is held: the page does not
-// become zero as a whole, and is not sole.
+// Whether zeroing a range takes a frame for a held page that it touches: the page does not become zero as a whole, and
+// is not sole.
 fn takes_frame<P: PageStore>(
     store: &P,
     pins: &PinTable,
@@ -145,7 +144,7 @@ fn takes_frame<P: PageStore>(
     !is_cleared_page(pins, v, page, part) && !is_sole(store, v, page)
 }
 
-// Whether a page becomes zero as a whole, where this part of a range falls into it: the part is all of the
+// Whether zeroing clears a page as a whole. `part` is the part of the range that falls into the page. It is all of the
 // page, and the page is not pinned.
 #[tactic(auto, using(crate::proofs::ZeroLaws::any_pinned_one))]
 fn is_cleared_page(pins: &PinTable, v: Koid, page: PageNo, part: PagePart) -> bool
@@ -154,7 +153,7 @@ fn is_cleared_page(pins: &PinTable, v: Koid, page: PageNo, part: PagePart) -> bo
     part.len == PAGE && !pins.pinned(v, page, 1)
 }
 
-/// Zeroes a range inside the VMO, one held page after another, where the room for it is there.
+/// Zeroes a range inside the VMO, one held page after another. There is room for it.
 pub(crate) fn zero_pages<P: PageStore>(
     store: &mut P,
     pins: &PinTable,
@@ -183,7 +182,7 @@ pub(crate) fn zero_pages<P: PageStore>(
 // The bytes of a page of zeros.
 static ZEROS: [u8; PAGE_BYTES] = [0; PAGE_BYTES];
 
-// Zeroes what of a range falls into one page that it touches and that is held.
+// Zeroes the part of a range that falls into one page. The range touches the page, and the page is held.
 fn zero_part<P: PageStore>(
     store: &mut P,
     pins: &PinTable,
