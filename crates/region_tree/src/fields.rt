@@ -27,7 +27,7 @@ pub(crate) fn held(regions: &PairMap<Region>, name: RegionName) -> Region
     }
 }
 
-/// Whether there are such pages, and all of them are pages of the region.
+/// Whether `count` is at least 1, and all of `count` pages from `first` on are pages of the region.
 pub(crate) fn reaches_over(region: Region, first: PageNo, count: u64) -> bool
     requires pages { first + count ≤ PAGES_END }
     requires region { end_of region ≤ PAGES_END }
@@ -43,7 +43,8 @@ pub(crate) fn lies_in(region: Region, first: PageNo, count: u64) -> bool
     first <= region.first && region.count <= count && region.first - first <= count - region.count
 }
 
-/// The page behind the last one that a place in a region may have, which ends at most `limit` pages behind its start.
+/// The page behind the last page that a place in a region may have, if the place ends at most `limit` pages behind the
+/// region's start.
 pub(crate) fn end_within(region: Region, limit: u64) -> PageNo
     requires { end_of region ≤ PAGES_END }
     ensures { result ≡ min (min (region.first + limit) (2 ^ 64 - 1)) (end_of region) }
@@ -55,7 +56,8 @@ pub(crate) fn end_within(region: Region, limit: u64) -> PageNo
 }
 
 /// The first page from `first` on of `count` pages, below the limit, that are in no child of the region and have no
-/// entry of it. Children and entries are asked in turn, each for a place that is not before the other's.
+/// entry of it. The children and the entries are asked in turn. Each is asked for a place that is not before the
+/// other's.
 pub(crate) fn gap_in(
     children: &ExtentMap<RegionName>,
     maps: &MappingSet,
@@ -86,7 +88,7 @@ pub(crate) fn gap_in(
     }
 }
 
-/// Whether the child of a region that has this page has one before `first` or from `end` on.
+/// Whether the child of a region that has this page also has a page before `first` or from `end` on.
 pub(crate) fn reaches_out(
     children: &ExtentMap<RegionName>,
     region: RegionName,

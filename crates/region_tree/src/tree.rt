@@ -25,18 +25,18 @@ use vm_model::Region;
 /// What mappings and regions in a root region may allow.
 const ALL: Perm = Perm(Perm::READ.0 + Perm::WRITE.0 + Perm::EXECUTE.0);
 
-/// A region that was destroyed, and where to look for the next one (`Regions::destroy_next_from`).
+/// A region that was destroyed, and the region at which to look for the next one (`Regions::destroy_next_from`).
 #[derive(Clone, Copy, Debug)]
 pub struct Destroyed {
-    /// What was destroyed.
+    /// The region that was destroyed.
     pub name: RegionName,
-    /// Its parent, where that is live and lies in the range too, or else the region that the range is asked for by.
+    /// Its parent, if the parent is live and lies in the range too. Otherwise the region of which the range was given.
     pub next: RegionName,
 }
 
 /// The regions of all address spaces, each under its name, dead ones too. Contracts see the region of each name
-/// (`regions_of`). A call takes look-ups, and no walk over the regions or the children of one. Only `add_root` and
-/// `allocate` ask the host for memory.
+/// (`regions_of`). A call takes look-ups, and walks over neither the regions nor the children of one. Only `add_root`
+/// and `allocate` ask the host for memory.
 #[derive(Drop)]
 pub struct Regions {
     /// Each region under (0, its name).
@@ -71,13 +71,13 @@ impl Regions {
         }
     }
 
-    /// Adds a root region under a name that was never given. `HostMemory` where the host has too little memory.
+    /// Adds a root region under a name that was never given. `HostMemory` if the host has too little memory.
     pub fn add_root(&mut self, name: RegionName) -> Result<(), HostMemory>
         requires { regions_of self.old name.0 ≡ None }
         ensures ok { OnOk result (regions_of self.new ≡ with_key (regions_of self.old) name.0 (root_region name.0)) }
         ensures err { OnErr result (regions_of self.new ≡ regions_of self.old) }
     {
-        // How many names there are rests on the range of their numbers.
+        // The bound on the number of names rests on the range of their numbers.
         prove!(name.0 <= u32::MAX);
         let Ok(()) = self.regions.reserve(1) else {
             return Err(HostMemory);
@@ -94,8 +94,9 @@ impl Regions {
         Ok(())
     }
 
-    /// Adds a region of `count` pages from `first` on below a live one, in which they lie, and which has no live child
-    /// there. Its name was never given. `HostMemory` where the host has too little memory.
+    /// Adds a region of `count` pages from `first` on below a live one (`zx_vmar_allocate`). The pages lie in the live
+    /// region, and none of its live children is there. The name was never given. `HostMemory` if the host has too
+    /// little memory.
     pub fn allocate(
         &mut self,
         name: RegionName,
@@ -113,7 +114,7 @@ impl Regions {
             (region_below parent.0 (region_of (regions_of self.old) parent.0) first count caps.0)) }
         ensures err { OnErr result (regions_of self.new ≡ regions_of self.old) }
     {
-        // How many names there are rests on the range of their numbers.
+        // The bound on the number of names rests on the range of their numbers.
         prove!(name.0 <= u32::MAX);
         let above = held(&self.regions, parent);
         let Ok(()) = self.regions.reserve(1) else {
@@ -135,7 +136,7 @@ impl Regions {
         Ok(())
     }
 
-    /// The region of a name, dead or live. `None` exactly where the name was never given.
+    /// The region of a name, dead or live. `None` if and only if the name was never given.
     pub fn get(&self, name: RegionName) -> Option<Region>
         ensures region { result ≡ regions_of self.now name.0 }
         ensures good { AreGoodRegions (regions_of self.now) }
@@ -143,9 +144,10 @@ impl Regions {
         self.regions.find(0, name.0 as u64)
     }
 
-    /// The first page of a free place of `count` pages in a live region, which ends at most `limit` pages behind the
-    /// start of the region. `None` exactly where there is none. It rests on no note of a place, and so costs a search for
-    /// each change between children and mappings up to the place. Where places are noted, `find_gap_noted` costs one.
+    /// The first page of a free place of `count` pages in a live region. The place ends at most `limit` pages behind
+    /// the region's start. `None` if and only if there is none. The search needs no note of a place. It costs a search
+    /// for each change between children and mappings up to the place. If places are noted, `find_gap_noted` costs one
+    /// search.
     pub fn find_gap(
         &self,
         maps: &MappingSet,
@@ -173,8 +175,8 @@ impl Regions {
         )
     }
 
-    /// What `find_gap` answers of a live region, which is `above`, where the set of mappings has noted the live children of
-    /// each region. One search by gaps, also where there is no place; the place is the lowest one.
+    /// What `find_gap` answers for a live region, which is `above`. The set of mappings has noted the live children of
+    /// each region. It costs one search by gaps, also if there is no place. The place is the lowest one.
     pub fn find_gap_noted(
         &self,
         maps: &MappingSet,
@@ -215,8 +217,8 @@ impl Regions {
             .is_some()
     }
 
-    /// What `is_free` answers of a live region, which is `above`, where the set of mappings has noted the live children of
-    /// each region. One look-up.
+    /// What `is_free` answers for a live region, which is `above`. The set of mappings has noted the live children of
+    /// each region. It costs one look-up.
     pub fn is_free_noted(
         &self,
         maps: &MappingSet,
@@ -248,8 +250,7 @@ impl Regions {
         !self.children.is_open(region.0 as u64, first, count)
     }
 
-    /// Whether a live child of a live region has one of `count` pages from `first` on, and a page that is none of
-    /// them.
+    /// Whether a live child of a live region has one of `count` pages from `first` on, and also a page outside them.
     pub fn cuts(&self, region: RegionName, first: PageNo, count: u64) -> bool
         requires live { is_live_region (regions_of self.now) region.0 ≡ true }
         requires pages { first + count ≤ PAGES_END }
@@ -264,10 +265,10 @@ impl Regions {
         at_first || at_last
     }
 
-    /// Destroys a live region that lies below a live one, has no page but of `count` pages from `first` on, and has no
-    /// live child, and answers its name. `None` exactly where no live region below the region lies in these pages; then
-    /// nothing is changed. It goes down from the region. A caller that destroys one after another goes on where it was,
-    /// by `destroy_next_from`.
+    /// Destroys a live region without a live child below a live region, and answers its name. All of its pages are
+    /// among `count` pages from `first` on. `None`, with nothing changed, if and only if no live region below `region`
+    /// lies in these pages. The call goes down from `region`. A caller that destroys one region after another goes on
+    /// where it was, by `destroy_next_from`.
     pub fn destroy_next(
         &mut self,
         region: RegionName,
@@ -287,9 +288,9 @@ impl Regions {
         Some(gone.name)
     }
 
-    /// Destroys a region as `destroy_next` does, but begins at `start`: at the region itself, or at a live one that lies
-    /// below it in these pages, of which it destroys one at or below `start`. It answers the name with where the next
-    /// call begins. Where each call begins where the one before said, each region is come down to once.
+    /// Destroys a region as `destroy_next` does, but begins at `start`: at `region` itself, or at a live region below
+    /// it that lies in these pages. It then destroys one at or below `start`. Answers the name, and where the next call
+    /// begins. If each call begins where the last one said, the way down comes to each region once.
     pub fn destroy_next_from(
         &mut self,
         region: RegionName,
@@ -331,8 +332,8 @@ impl Regions {
         leave_parent(&mut self.children, dying);
     }
 
-    /// A live region below a live one that has no page but of `count` pages from `first` on: the one to begin at, where
-    /// that is one.
+    /// A live region below a live one, with all of its pages among `count` pages from `first` on: the region to begin
+    /// at, if that is one.
     fn within_from(
         &self,
         region: RegionName,
@@ -350,8 +351,8 @@ impl Regions {
         self.within(region, first, count)
     }
 
-    /// Where to go on above a region below a live one: at its parent, where that is live and has no page but of `count`
-    /// pages from `first` on, or else at the live one.
+    /// Where to go on above a region below a live one: at its parent, if the parent is live and lies in `count` pages
+    /// from `first` on. Otherwise at the live region.
     fn start_above(
         &self,
         region: RegionName,
@@ -377,8 +378,8 @@ impl Regions {
         parent
     }
 
-    /// A live region below a live one that has no page but of `count` pages from `first` on. Those that lie in no other
-    /// such region are children of the live one, or of a region that has the first or the last of these pages.
+    /// A live region below a live one, with all of its pages among `count` pages from `first` on. If there are any, one
+    /// of them is a child of the live region, or of a region that has the first or the last of these pages.
     fn within(&self, region: RegionName, first: PageNo, count: u64) -> Option<RegionName>
         ensures { MatchOption result (HasNoneWithin (regions_of self.now) region.0 first (first + count))
             (λ name. IsWithin (regions_of self.now) region.0 first (first + count) name.0) }
@@ -390,7 +391,7 @@ impl Regions {
         self.within_over(region, last, first, count)
     }
 
-    /// A live child of a live region, or of a region below it that has this page, where the child has no page but of
+    /// A live child of a live region, or of a region below it that has this page. All of the child's pages are among
     /// `count` pages from `first` on.
     fn within_over(
         &self,
