@@ -42,7 +42,7 @@ pub record IsInStore (c : Content) (page : WritablePage) : Type 0 where
 abbrev pub IsAbsent : Places → (root p : ℕ) → WritablePage → Type 0
 IsAbsent places root p page = page.translated ≡ false → places root p ≡ None
 
--- It is what page p of an address space shows, with a frame exactly where that is ready for writing.
+-- It is what page p of an address space shows, with a frame if and only if that is ready for writing.
 pub record IsWritable (c : Content) (table : ℕ → ℕ → Option Entry) (places : Places) (root p : ℕ) (page : WritablePage) : Type 0 where
   pub entry : table root p ≡ Some page.entry
   pub ready : is_some page.frame ≡ is_writable (ready_of places root p)

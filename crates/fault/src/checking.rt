@@ -18,14 +18,14 @@ use vm_model::Entry;
 /// A page that an access may touch.
 #[derive(Clone, Copy)]
 pub(crate) struct TouchedPage {
-    /// What the page shows.
+    /// The entry of the page: what it shows.
     pub(crate) entry: Entry,
-    /// Its translation, and `None` where it has none.
+    /// Its translation. `None` if it is not translated.
     pub(crate) translation: Option<Translation>,
 }
 
 impl TouchedPage {
-    /// How many translations are missing for it to be read.
+    /// How many translations are missing before the page can be read.
     pub(crate) fn missing(&self) -> usize
         ensures { result ≡ missing_in self.now }
     {
@@ -34,9 +34,10 @@ impl TouchedPage {
 }
 
 impl Translations {
-    /// What an access with this right finds of a page that it may touch. Refusals, in their order: `NotFound` where the
-    /// page has no entry, `AccessDenied` where that lacks the right, `OutOfRange` where it shows a page past the end of
-    /// the VMO. Neither the mappings nor the store are asked where the page has a translation.
+    /// Tests whether an access with this right may touch a page, and answers what it finds. Refusals, in their order:
+    /// `NotFound` if the page has no entry, `AccessDenied` if the entry lacks the right, `OutOfRange` if the entry
+    /// shows a page past the end of the VMO. If the page has a translation, neither the mappings nor the store are
+    /// asked.
     #[tactic(auto, using(crate::proofs::CheckLaws::check_laws), unfolding(vm_model::specs::Machine::Access::refusal_at))]
     pub(crate) fn check<P: PageStore>(
         &self,
@@ -81,8 +82,7 @@ impl Translations {
         }
     }
 
-    /// Makes room for `n` translations more, of which there may be none. `HostMemory` where the host has too little
-    /// memory.
+    /// Makes room for `n` translations more. `n` may be 0. `HostMemory` if the host has too little memory.
     pub(crate) fn reserve_missing(&mut self, n: usize) -> Result<(), Refusal>
         ensures room { MatchResult result (λ done. n ≤ room_of self.new) (λ refusal. (refusal ≡ Refusal.HostMemory) × (0 < n)) }
         ensures same { places_of self.new ≡ places_of self.old }

@@ -17,9 +17,10 @@ use vm_base::{Koid, PageNo, RegionName, Tag};
 use vm_model::Readiness;
 
 impl Translations {
-    /// Forgets the translations of `count` pages of a VMO from the page `first` on, those alone that hold another frame
-    /// than the page has now. It costs a look-up, one look at the store for each of these pages that has translations, and
-    /// a step for each translation that is forgotten. Those of a page that kept its frame cost nothing, however many.
+    /// Forgets those translations of `count` pages of a VMO, from page `first` on, that hold another frame than the
+    /// page has now. It costs a look-up, one look at the store for each of these pages that has translations, and a
+    /// step for each translation that is forgotten. The translations of a page that kept its frame cost nothing,
+    /// however many they are.
     pub fn forget_changed<P: PageStore>(&mut self, store: &P, v: Koid, first: PageNo, count: u64)
         requires vmo { IsSome ((P.content store.now).count v.0) }
         requires range { first + count ≤ pages_of (P.content store.now) v.0 }
@@ -39,8 +40,8 @@ impl Translations {
         }
     }
 
-    /// Forgets the translations of a page of a VMO that hold another frame than this, and answers the list of those that
-    /// stay, where there are some. It costs a look-up, and a step for each that is forgotten.
+    /// Forgets the translations of a page of a VMO that hold another frame than `frame`. Answers the list of those that
+    /// stay, if there are some. It costs a look-up, and a step for each translation that is forgotten.
     pub(crate) fn forget_others(&mut self, v: Koid, page: PageNo, frame: Option<Tag>) -> Option<u64>
         ensures at { kept_of self.new
             ≡ changed_where dropped (λ r p k. is_outdated v.0 page (number_of frame) r p k.translation) (kept_of self.old) }
@@ -53,8 +54,8 @@ impl Translations {
         }
     }
 
-    // Forgets the translations of a list where they hold another frame than this, and answers the list where it stays. They
-    // all hold its frame, so that none is looked at where it stays.
+    // Forgets the translations of a list if they hold another frame than `frame`. Otherwise answers the list, which
+    // stays. All of them hold the list's frame, so none of those that stay is looked at.
     fn forget_other(&mut self, list: FrameList, frame: Option<Tag>) -> Option<u64>
         requires frame { HoldFrame (kept_of self.old) list }
         ensures at { kept_of self.new

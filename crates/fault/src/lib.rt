@@ -2,14 +2,14 @@
 //! (`Translations`).
 //!
 //! A translation is what the page tables of the processor have of a page: the frame of the page of the VMO that it
-//! shows, and whether it may be written. An access to a page that has one takes no page fault, asks no other table, and
-//! asks the store for the bytes of the frame alone. The layer above forgets the translations that a command made untrue
-//! (`forget_changed`, `forget`, `forget_at`, `make_readonly`). These go by the translations that stand, found by the page
-//! of the VMO that they show or by their own page, and never over a range page by page. The translations of a page of a
-//! VMO hold one frame, so that one look tells whether all of them are forgotten or none.
+//! shows, and whether it may be written. An access to a page with a translation takes no page fault. It asks no other
+//! table, and asks the store for the bytes of the frame alone. The layer above forgets the translations that a command
+//! made untrue (`forget_changed`, `forget`, `forget_at`, `make_readonly`). These calls find translations by the page of
+//! the VMO that they show, or by their own page, and never go over a range page by page. All translations of a page of
+//! a VMO hold one frame, so one look tells whether all of them are forgotten or none.
 //!
-//! It stands on `page_store` and `mapping_set`, whose entries it translates, and on `pair_map` for its tables. It speaks
-//! the words of `vm_model` on accesses and readiness.
+//! It stands on `page_store` and `mapping_set`, whose entries it translates, and on `pair_map` for its tables. It
+//! speaks the words of `vm_model` on accesses and readiness.
 #![tactic(auto)]
 
 mod checking;

@@ -10,7 +10,8 @@ use crate::translation::{FrameList, Kept, Place};
 use pair_map::PairMap;
 use vm_base::{Koid, PageNo};
 
-/// The number of the list of a page of a VMO: this one, or where it has none, that of the new list, which it gets.
+/// The number of the list of a page of a VMO: `list`, if the page has one. Otherwise the page gets the list `new`, and
+/// the answer is its number.
 pub(crate) fn list_or_new(
     lists: &mut PairMap<FrameList>,
     v: Koid,
@@ -34,7 +35,7 @@ pub(crate) fn list_or_new(
     }
 }
 
-/// Takes the list of a translation that went away, where it has no member any more.
+/// Removes the list of a translation that went away, if the list has no member any more.
 pub(crate) fn drop_empty(lists: &mut PairMap<FrameList>, members: &PairMap<Place>, gone: Kept)
     requires { IsSome (values_of lists.old gone.translation.entry.koid.0 gone.translation.entry.page) }
     ensures lists { DropsEmpty (values_of members.now gone.list) (values_of lists.old) (values_of lists.new)

@@ -11,8 +11,9 @@ use crate::writable::WritablePage;
 use page_store::{Look, PageStore};
 use vm_model::Entry;
 
-/// How many frames owning two pages one after another takes. One page of a VMO needs one frame at most. Where two VMOs
-/// show one frame, the second needs one only where a third shows that frame too, and that alone is asked of the store.
+/// How many frames it takes to own two pages, one after another. If both show one page of one VMO, it is one frame at
+/// most. If two pages show one frame, the second needs a frame only if a third shows that frame too. The store is asked
+/// for this alone.
 pub(crate) fn frames_needed<P: PageStore>(
     store: &P,
     first: &WritablePage,
@@ -39,7 +40,7 @@ pub(crate) fn frames_needed<P: PageStore>(
     }
 }
 
-/// How many frames owning such a page takes: one where it is not sole.
+/// How many frames it takes to own a page: one, if the page is not sole.
 pub(crate) fn need_of(look: Look) -> u64
     ensures { result ≡ need_by look }
 {

@@ -19,11 +19,11 @@ use vm_base::{DATA_BYTES, PAGE, PageNo, Perm, Refusal, RegionName, in_page, page
 use vm_model::{Bytes4k, Entry, LentBytes, Readiness};
 
 impl Translations {
-    /// Reads `len` bytes, at most `DATA_BYTES`, from an address of the address space of a root region on, and answers how
-    /// many page faults that took, and the bytes. Each page that is not translated takes one, and is translated for
-    /// reading then. The first page that is refused decides the refusal: `NotFound` where nothing is mapped,
-    /// `AccessDenied` where the mapping may not be read, `OutOfRange` where its page lies past the end of the VMO.
-    /// `HostMemory` where the host has too little memory, and only where a page was not translated.
+    /// Reads `len` bytes, at most `DATA_BYTES`, from an address of the address space of a root region on. Answers how
+    /// many page faults that took, and the bytes. Each page that is not translated takes a page fault, and is then
+    /// translated for reading. The first page that is refused decides the refusal: `NotFound` if nothing is mapped
+    /// there, `AccessDenied` if the mapping may not be read, `OutOfRange` if the page that it shows lies past the end
+    /// of the VMO. `HostMemory` if the host has too little memory, and only if a page was not translated.
     pub fn mem_read<P: PageStore>(
         &mut self,
         store: &P,
@@ -47,7 +47,8 @@ impl Translations {
         }
     }
 
-    /// Reads as `mem_read` does, into room for at least `DATA_BYTES` bytes, and lends those of it that were read.
+    /// Reads as `mem_read` does, into `room`, which has at least `DATA_BYTES` bytes, and lends the bytes that were read
+    /// from there.
     pub fn mem_read_into<'a, P: PageStore>(
         &mut self,
         store: &P,
@@ -73,7 +74,7 @@ impl Translations {
         }
     }
 
-    // Reads bytes, at most `DATA_BYTES`, from an address on. They touch no page, one, or two.
+    // Reads bytes, at most `DATA_BYTES`, from an address on. They lie on no page, one page or two.
     fn read_bytes<P: PageStore>(
         &mut self,
         store: &P,
@@ -196,7 +197,8 @@ fn to_read<P: PageStore>(store: &P, entry: Entry) -> Translation
     }
 }
 
-// Reads bytes of the frame of a translation, or zeros where it has none, from `at` bytes into the page on.
+// Reads bytes of the frame of a translation, from `at` bytes into the page on. If the translation has no frame, they
+// are zeros.
 fn read_frame<P: PageStore>(store: &P, translation: Translation, at: u64, out: &mut [u8])
     requires of_entry { IsOf (P.content store.now) translation.entry translation }
     requires range { at + length out.old ≤ PAGE }

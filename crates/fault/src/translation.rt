@@ -8,13 +8,14 @@ use vm_model::{Entry, Readiness};
 pub struct Translation {
     /// What the page shows.
     pub entry: Entry,
-    /// The frame of the page of the VMO, and `None` where that page is zero and has none.
+    /// The frame of the page of the VMO. `None` if that page is zero and has no frame.
     pub frame: Option<Tag>,
     /// What an access may do with no page fault.
     pub readiness: Readiness,
 }
 
-/// A translation as it is kept, with the list of the page of the VMO, and the number that it has there.
+/// A translation as it is kept: with the list of the page of the VMO, and the number that the translation has in this
+/// list.
 #[derive(Clone, Copy)]
 pub(crate) struct Kept {
     pub(crate) translation: Translation,
@@ -27,7 +28,7 @@ pub(crate) struct Kept {
 pub(crate) struct FrameList {
     /// Its number.
     pub(crate) number: u64,
-    /// The frame that each of them holds, and `None` where they hold none.
+    /// The frame that each of them holds. `None` if they hold none.
     pub(crate) frame: Option<Tag>,
 }
 

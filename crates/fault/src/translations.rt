@@ -15,12 +15,12 @@ use std::alloc::Global;
 use std::marker::Model;
 use vm_base::{HostMemory, Koid, PageNo, RegionName, Tag};
 
-/// The translations of all address spaces. Contracts see the translation of each page of each of them, and how many more
-/// fit with no memory from the host.
+/// The translations of all address spaces. Contracts see the translation of each page of each address space, and how
+/// many more fit with no memory from the host.
 ///
-/// The translations of a page of a VMO are the members of a list, so that they are found with no look at others. All of
-/// them hold one frame, which the list has too: whether they hold another than the page has now is told by a look at the
-/// list, and not by one at each of them.
+/// The translations of a page of a VMO are the members of a list, so they are found with no look at others. All of them
+/// hold one frame, and the list has it too. So one look at the list tells whether they hold another frame than the page
+/// has now.
 #[derive(Drop)]
 pub struct Translations {
     /// The translation of each page, by the root region and the page.
@@ -65,14 +65,14 @@ impl Translations {
         self.places.len() == 0
     }
 
-    /// The translation of a page of an address space. `None` where it has none.
+    /// The translation of a page of an address space. `None` if it has none.
     pub(crate) fn find(&self, root: RegionName, page: PageNo) -> Option<Translation>
         ensures { result ≡ places_of self.now root.0 page }
     {
         translation_in(self.places.find(root.0 as u64, page))
     }
 
-    /// Makes room for `n` translations more. `HostMemory` where the host has too little memory.
+    /// Makes room for `n` translations more. `HostMemory` if the host has too little memory.
     pub(crate) fn reserve(&mut self, n: usize) -> Result<(), HostMemory>
         ensures room { OnOk result (n ≤ room_of self.new) }
         ensures same { places_of self.new ≡ places_of self.old }
@@ -93,9 +93,9 @@ impl Translations {
         Ok(())
     }
 
-    /// Translates a page so, which may be translated already for the same entry, and forgets the translations of the page of
-    /// the VMO that hold another frame. There is room. Where the page is translated with this frame, it costs a look-up and
-    /// a change, and else a look-up more than `translate`.
+    /// Gives a page this translation. The page may be translated already, for the same entry. Forgets the translations
+    /// of the page of the VMO that hold another frame. There is room. If the page is translated with this frame, the
+    /// call costs a look-up and a change, and otherwise a look-up more than `translate`.
     pub(crate) fn set(&mut self, root: RegionName, page: PageNo, translation: Translation)
         requires same { IsOfEntry (places_of self.old) root.0 page translation.entry }
         requires room { 1 ≤ room_of self.old }
@@ -111,9 +111,9 @@ impl Translations {
         }
     }
 
-    /// Translates a page so, which is not translated with this frame, and forgets the translations of the page of the VMO
-    /// that hold another. There is room. It costs a look-up of the list of that page and three insertions at most, and a
-    /// step for each translation that is forgotten.
+    /// Gives a page this translation. The page is not translated with this frame. Forgets the translations of the page
+    /// of the VMO that hold another frame. There is room. The call costs a look-up of the list of that page, three
+    /// insertions at most, and a step for each translation that is forgotten.
     pub(crate) fn translate(&mut self, root: RegionName, page: PageNo, translation: Translation)
         requires same { IsOfEntry (places_of self.old) root.0 page translation.entry }
         requires other { HoldsOther (frame_in translation) (kept_of self.old root.0 page) }
@@ -129,15 +129,15 @@ impl Translations {
         self.add(root, page, translation, list);
     }
 
-    /// What is kept of a page. `None` where it is not translated.
+    /// What is kept of a page. `None` if it is not translated.
     pub(crate) fn kept(&self, root: RegionName, page: PageNo) -> Option<Kept>
         ensures { result ≡ kept_of self.now root.0 page }
     {
         self.places.find(root.0 as u64, page)
     }
 
-    /// Translates a page that is translated, for the same entry and with the same frame. Its list is that of the page of the
-    /// VMO, so that each translation of that page holds this frame.
+    /// Changes the translation of a page, for the same entry and with the same frame. The page's list is that of the
+    /// page of the VMO, so each translation of that page holds this frame.
     pub(crate) fn put(
         &mut self,
         root: RegionName,
@@ -163,7 +163,8 @@ impl Translations {
         );
     }
 
-    // Translates a page that is not translated. The list is that of the page of the VMO, where it has one. There is room.
+    // Translates a page that is not translated. `list` is the list of the page of the VMO, if that has one. There is
+    // room.
     fn add(&mut self, root: RegionName, page: PageNo, translation: Translation, list: Option<u64>)
         requires absent { kept_of self.old root.0 page ≡ None }
         requires list { HasList (kept_of self.old) translation.entry.koid.0 translation.entry.page translation.frame list }
@@ -213,7 +214,7 @@ impl Translations {
         }
     }
 
-    /// Whether none of `count` pages of a VMO from `first` on, which may pass 2^64, has a translation.
+    /// Whether none of `count` pages of a VMO from `first` on has a translation. `first + count` may pass 2^64.
     pub(crate) fn shows_none(&self, v: Koid, first: PageNo, count: u64) -> bool
         ensures { result ≡ true → HasNoList (kept_of self.now) v.0 first (first + count) }
     {
@@ -223,7 +224,7 @@ impl Translations {
         }
     }
 
-    /// The list of the translations of a page of a VMO. `None` where it has none.
+    /// The list of the translations of a page of a VMO. `None` if it has none.
     pub(crate) fn list_at(&self, v: Koid, page: PageNo) -> Option<FrameList>
         ensures { MatchOption result (HasNoList (kept_of self.now) v.0 page (page + 1))
             (IsListAt (kept_of self.now) v.0 page) }
@@ -258,7 +259,7 @@ impl Translations {
     }
 }
 
-/// What is kept of a page, where it holds this frame.
+/// What is kept of a page, if it holds this frame.
 fn with_frame(kept: Option<Kept>, frame: Option<Tag>) -> Option<Kept>
     ensures some { IfSome result (λ found. (kept ≡ Some found) × (frame ≡ found.translation.frame)) }
     ensures none { IfNone result (HoldsOther (number_of frame) kept) }

@@ -17,21 +17,21 @@ use page_store::{Look, PageStore};
 use vm_base::{PageNo, Perm, Refusal, RegionName, Tag};
 use vm_model::{Entry, Readiness};
 
-/// A page that a write may touch, with what the write wants to know of it, so that it is not looked up again.
+/// A page that a write may touch, with all that the write needs to know of the page. So the page is looked up once.
 #[derive(Clone, Copy)]
 pub(crate) struct WritablePage {
-    /// What the page shows.
+    /// The entry of the page: what it shows.
     pub(crate) entry: Entry,
     /// Whether it is translated.
     pub(crate) translated: bool,
-    /// The frame, where the page is translated for writing. Then no other VMO shows it.
+    /// The frame, if the page is translated for writing. No other VMO shows this frame.
     pub(crate) frame: Option<Tag>,
     /// What the page of the VMO is, as it was before the write.
     pub(crate) look: Look,
 }
 
 impl WritablePage {
-    /// How many page faults a write to it takes: one where it is not translated for writing.
+    /// How many page faults a write to the page takes: one, if it is not translated for writing.
     pub(crate) fn faults(&self) -> u64
         ensures { result ≡ fault_of self.now }
     {
@@ -43,8 +43,8 @@ impl WritablePage {
 }
 
 impl Translations {
-    /// What a write finds of a page that it may touch. It is refused as `check` refuses it. It costs what that costs, and one
-    /// look at the store where the page is not translated for writing.
+    /// Tests whether a write may touch a page, and answers what it finds. It is refused as `check` refuses it. It costs
+    /// what `check` costs, and one look at the store if the page is not translated for writing.
     #[inline]
     pub(crate) fn check_write<P: PageStore>(
         &self,
@@ -77,7 +77,7 @@ impl Translations {
     }
 }
 
-// What the page of the VMO is. The store is not asked where the page is translated for writing, with this frame.
+// What the page of the VMO is. If the page is translated for writing, with this frame, the store is not asked.
 #[inline]
 fn look<P: PageStore>(store: &P, entry: Entry, frame: Option<Tag>) -> Look
     requires below { entry.page < pages_of (P.content store.now) entry.koid.0 }

@@ -22,14 +22,14 @@ use vm_base::{DATA_BYTES, PAGE, PageNo, Refusal, RegionName, Tag, in_page, page_
 use vm_model::Readiness;
 
 impl Translations {
-    /// Writes bytes, at most `DATA_BYTES`, from an address of the address space of a root region on, and answers how many
-    /// page faults that took. Each page that is not translated for writing takes one: the page of the VMO is owned (copy
-    /// on write), other translations of it are forgotten where its frame changed, and it is translated for writing. Beside
-    /// some look-ups that costs a step for each translation that is forgotten, and nothing for those that stay. The
-    /// first page that is refused decides the refusal: `NotFound` where nothing is mapped, `AccessDenied` where the mapping
-    /// may not be written, `OutOfRange` where its page lies past the end of the VMO. Behind these comes `NoMemory` where
-    /// too few frames are free. `HostMemory` where the host has too little memory, and only where a page was not
-    /// translated for writing. On each refusal nothing is written.
+    /// Writes bytes, at most `DATA_BYTES`, from an address of the address space of a root region on. Answers how many
+    /// page faults that took. Each page that is not translated for writing takes a page fault: the page of the VMO is
+    /// owned (copy on write), its other translations are forgotten if its frame changed, and the page is translated for
+    /// writing. Beside some look-ups this costs a step for each translation that is forgotten, and nothing for those
+    /// that stay. The first page that is refused decides the refusal: `NotFound` if nothing is mapped there,
+    /// `AccessDenied` if the mapping may not be written, `OutOfRange` if the page that it shows lies past the end of
+    /// the VMO. Behind these comes `NoMemory` if too few frames are free. `HostMemory` if the host has too little
+    /// memory, and only if a page was not translated for writing. A refusal writes nothing.
     pub fn mem_write<P: PageStore>(
         &mut self,
         store: &mut P,
@@ -123,7 +123,7 @@ impl Translations {
         Ok(faults)
     }
 
-    // Writes bytes that fall into two pages, of which both may be written, where the room for it is there.
+    // Writes bytes that fall into two pages. Both may be written, and there is room for it.
     fn write_both<P: PageStore>(
         &mut self,
         store: &mut P,
@@ -152,7 +152,8 @@ impl Translations {
         self.write_page(store, root, page + 1, second, 0, tail);
     }
 
-    // Makes room for so many page faults of a write, where the frames are free that it needs.
+    // Makes room for `faults` page faults of a write. `NoMemory` if fewer frames are free than the write needs, else
+    // `HostMemory`.
     fn make_ready<P: PageStore>(
         &mut self,
         store: &mut P,
@@ -179,7 +180,7 @@ impl Translations {
         Ok(())
     }
 
-    // Writes bytes to one page, from `at` bytes into the page on, where the room for it is there.
+    // Writes bytes to one page, from `at` bytes into the page on. There is room for it.
     fn write_page<P: PageStore>(
         &mut self,
         store: &mut P,
@@ -206,8 +207,8 @@ impl Translations {
         store.write(tag, at, bytes);
     }
 
-    // Makes the page of the VMO sole, and answers its frame. That takes a page fault where the page is not translated for
-    // writing.
+    // Makes the page of the VMO sole, and answers its frame. If the page is not translated for writing, this takes a
+    // page fault.
     #[inline]
     fn own<P: PageStore>(
         &mut self,
@@ -235,7 +236,7 @@ impl Translations {
         }
     }
 
-    // Takes a page fault for writing, and answers the frame of the page of the VMO, which is owned then.
+    // Takes a page fault for writing, owns the page of the VMO, and answers its frame.
     #[inline(never)]
     fn fault<P: PageStore>(
         &mut self,
@@ -282,7 +283,7 @@ impl Translations {
     }
 }
 
-// The frame of the page of the VMO, which is owned then. The store is not asked where it was seen to be sole.
+// Owns the page of the VMO, and answers its frame. If the page was seen to be sole, the store is not asked.
 fn owned_frame<P: PageStore>(store: &mut P, found: WritablePage) -> Tag
     requires good { IsGood (P.content store.old) }
     requires found { IsInStore (P.content store.old) found }
