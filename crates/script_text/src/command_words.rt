@@ -17,8 +17,8 @@ use crate::words::is_word;
 use vm_base::DATA_BYTES;
 use vm_model::Call;
 
-/// The command of this word and these arguments, or `None` where there is none. Byte data is lent from `room`. It is not
-/// inlined, since a function writes all of its locals, and a read or a write is not to pay for those of all commands.
+/// The command of this word and these arguments. `None` if there is none. Byte data is lent from `room`. The function
+/// is not inlined: a function writes all of its locals, and a read or a write should not pay for those of all commands.
 #[inline(never)]
 pub fn call<'a>(word: &[u8], arguments: &[&[u8]], room: &'a mut [u8]) -> Option<Call<'a>>
     requires { DATA_BYTES ≤ length room.old }

@@ -32,7 +32,7 @@ impl Radix {
         }
     }
 
-    /// What one digit stands for, or `None` where the byte is no digit.
+    /// What one digit stands for, or `None` if the byte is no digit.
     fn value(self, byte: u8) -> Option<u64>
         ensures { result ≡ value_in self byte }
     {
@@ -45,8 +45,8 @@ impl Radix {
     }
 }
 
-/// The number that a word of digits spells. `None` where the word is empty, a byte is no digit, or
-/// the number does not fit.
+/// The number that a word of digits spells. `None` if the word is empty, a byte is no digit, or the number does not
+/// fit.
 #[inline(always)]
 #[tactic(auto, unfolding(vm_model::specs::Language::Reading::digits_from))]
 fn digits(radix: Radix, word: &[u8]) -> Option<u64>
@@ -63,8 +63,8 @@ fn digits(radix: Radix, word: &[u8]) -> Option<u64>
     Some(number)
 }
 
-/// A number: decimal digits, or `0x` and hexadecimal digits of either case. `None` where it is
-/// spelled otherwise, or is not below 2^64.
+/// A number: decimal digits, or `0x` and hexadecimal digits of either case. `None` if it is spelled otherwise, or is
+/// not below 2^64.
 #[inline(always)]
 #[tactic(auto, unfolding(vm_model::specs::Language::Reading::number))]
 pub fn number(word: &[u8]) -> Option<u64>
@@ -76,16 +76,15 @@ pub fn number(word: &[u8]) -> Option<u64>
     }
 }
 
-/// The value of one byte: a number, in either spelling, of at most 255. `None` where it is spelled
-/// otherwise.
+/// The value of one byte: a number, in either spelling, of at most 255. `None` if it is spelled otherwise.
 pub fn byte(word: &[u8]) -> Option<u8>
     ensures { result ≡ byte word.now }
 {
     u8::try_from(number(word)?).ok()
 }
 
-/// The number of a name: the letter, and a decimal number without leading zeros. `None` where it is
-/// spelled otherwise, or the number is not below 2^32.
+/// The number of a name: the letter, and a decimal number without leading zeros. `None` if it is spelled otherwise, or
+/// the number is not below 2^32.
 fn name_behind(letter: u8, word: &[u8]) -> Option<u32>
     ensures { result ≡ name_behind letter word.now }
 {
@@ -99,8 +98,7 @@ fn name_behind(letter: u8, word: &[u8]) -> Option<u32>
     u32::try_from(digits(Radix::Decimal, behind)?).ok()
 }
 
-/// The name of a VMO: `v` and a decimal number below 2^32 without leading zeros. `None` where it is
-/// spelled otherwise.
+/// The name of a VMO: `v` and a decimal number below 2^32 without leading zeros. `None` if it is spelled otherwise.
 #[tactic(auto, unfolding(vm_model::specs::Language::Reading::vmo))]
 pub fn vmo(word: &[u8]) -> Option<VmoName>
     ensures { result ≡ vmo word.now }
@@ -108,8 +106,7 @@ pub fn vmo(word: &[u8]) -> Option<VmoName>
     Some(VmoName(name_behind(b'v', word)?))
 }
 
-/// The name of a region: `r` and a decimal number below 2^32 without leading zeros. `None` where it
-/// is spelled otherwise.
+/// The name of a region: `r` and a decimal number below 2^32 without leading zeros. `None` if it is spelled otherwise.
 #[tactic(auto, unfolding(vm_model::specs::Language::Reading::region))]
 pub fn region(word: &[u8]) -> Option<RegionName>
     ensures { result ≡ region word.now }
@@ -117,8 +114,7 @@ pub fn region(word: &[u8]) -> Option<RegionName>
     Some(RegionName(name_behind(b'r', word)?))
 }
 
-/// The name of a pin: `p` and a decimal number below 2^32 without leading zeros. `None` where it is
-/// spelled otherwise.
+/// The name of a pin: `p` and a decimal number below 2^32 without leading zeros. `None` if it is spelled otherwise.
 #[tactic(auto, unfolding(vm_model::specs::Language::Reading::pin))]
 pub fn pin(word: &[u8]) -> Option<PinName>
     ensures { result ≡ pin word.now }
@@ -126,8 +122,8 @@ pub fn pin(word: &[u8]) -> Option<PinName>
     Some(PinName(name_behind(b'p', word)?))
 }
 
-/// Byte data: `-` for no bytes, or two hexadecimal digits of either case for each of 1 to `DATA_BYTES`
-/// bytes. `None` where it is spelled otherwise.
+/// Byte data: `-` for no bytes, or two hexadecimal digits of either case for each of 1 to `DATA_BYTES` bytes. `None` if
+/// it is spelled otherwise.
 pub fn byte_data(word: &[u8]) -> Option<Bytes4k>
     ensures { result ≡ byte_data word.now }
 {
@@ -153,8 +149,8 @@ pub fn byte_data_into<'a>(word: &[u8], room: &'a mut [u8]) -> Option<LentBytes<'
     Some(LentBytes::new(decoded))
 }
 
-/// What an access may do: the letters of reading, writing and executing that are allowed, in this
-/// order, or `none`. `None` where it is spelled otherwise.
+/// What an access may do: the letters of reading, writing and executing that are allowed, in this order, or `none`.
+/// `None` if it is spelled otherwise.
 #[tactic(auto, unfolding(vm_model::specs::Language::Reading::perm))]
 pub fn perm(word: &[u8]) -> Option<Perm>
     ensures { result ≡ perm word.now }
@@ -180,8 +176,7 @@ pub fn perm(word: &[u8]) -> Option<Perm>
     }
 }
 
-/// What a child shows of its parent: `snapshot`, `slice` or `reference`. `None` where it is spelled
-/// otherwise.
+/// What a child shows of its parent: `snapshot`, `slice` or `reference`. `None` if it is spelled otherwise.
 #[tactic(auto, unfolding(vm_model::specs::Language::Reading::child_kind))]
 pub fn child_kind(word: &[u8]) -> Option<ChildKind>
     ensures { result ≡ child_kind word.now }

@@ -1,5 +1,5 @@
-//! The lines that most scripts are made of: `vmo_read` and `vmo_write`. They are read word by word, with no list of their
-//! words.
+//! The lines of which most scripts consist: `vmo_read` and `vmo_write`. They are read word by word, with no list of
+//! their words.
 
 ghost use Rattle.std.specs.Prelude.{◌≡◌, ◌≤◌, ◌==◌, ◌++◌, length, option_map, true, IfSome};
 ghost use Rattle.vm_model.specs.Language.Reading.{words, begins_blank, of_vmo_range, vmo_write};
@@ -13,8 +13,8 @@ use crate::words::{behind_blanks, is_blank, next_short_word};
 use vm_base::DATA_BYTES;
 use vm_model::{Call, LentBytes};
 
-/// What stands behind a word of five bytes or more, where a line begins with it. Two bytes tell most other lines from one
-/// that does, so that those pay little.
+/// What stands behind a word of five bytes or more, if a line begins with this word. Two bytes tell most other lines
+/// apart, so those pay little.
 #[inline(always)]
 #[tactic(auto, using(crate::proofs::FrequentLaws::begins_with))]
 pub fn behind_word<'a>(word: &[u8], line: &'a [u8]) -> Option<&'a [u8]>
@@ -31,7 +31,7 @@ pub fn behind_word<'a>(word: &[u8], line: &'a [u8]) -> Option<&'a [u8]>
     if is_cut(behind) { Some(behind) } else { None }
 }
 
-/// Whether a word may end before these bytes: a blank is the first, or there are none.
+/// Whether a word may end before these bytes: the first one is a blank, or there are none.
 #[inline(always)]
 fn is_cut(behind: &[u8]) -> bool
     ensures { result ≡ begins_blank behind.now }
@@ -51,7 +51,8 @@ fn has_no_word(line: &[u8]) -> bool
     behind_blanks(line).is_empty()
 }
 
-/// The command `vmo_read` of these arguments. It is not inlined, since the machine has registers enough for it alone.
+/// The command `vmo_read` of these arguments. The function is not inlined, since the machine has registers enough for
+/// it alone.
 #[inline(never)]
 pub fn read_of<'a>(arguments: &[u8]) -> Option<Call<'a>>
     ensures { option_map command_of result ≡ of_vmo_range VmoRead (words arguments.now) }
@@ -82,8 +83,8 @@ pub fn write_of<'a>(arguments: &[u8], room: &'a mut [u8]) -> Option<Call<'a>>
     })
 }
 
-/// The byte data that is the one word of a line. Where the line does not end with a blank, nothing has to be searched
-/// for one, since data with a blank in it is none.
+/// The byte data that is the one word of a line. If the line does not end with a blank, no search for the end of the
+/// data is needed: data with a blank in it is refused.
 #[inline(always)]
 fn only_data<'a>(line: &[u8], room: &'a mut [u8]) -> Option<LentBytes<'a>>
     requires { DATA_BYTES ≤ length room.old }

@@ -1,6 +1,6 @@
-//! The words that only commands have, each written as those of `word_text` are: behind the first `at`
-//! bytes of `out`, which stay. The answer is where it ends. A clause `range` says what the type of a
-//! field says of it.
+//! The words that only commands have. Each is written as those of `word_text` are: behind the first `at` bytes of
+//! `out`, which stay, and the answer is where it ends. A clause `range` says what the type of a field says of the
+//! field.
 
 ghost use Rattle.std.specs.Prelude.{◌≡◌, ◌+◌, ◌<◌, ◌≤◌, [], ◌∷◌, ◌++◌, length, take, codes, decimal};
 ghost use Rattle.vm_model.specs.Language.Spelling.{Has32, Has64, kind_word, pin_word, region_word, set_flags, vmo_word};
@@ -76,7 +76,7 @@ pub fn put_kind(kind: ChildKind, out: &mut [u8], at: usize) -> usize
     }
 }
 
-/// Writes a flag behind a space, where it is set.
+/// Writes a flag behind a space, if it is set.
 pub fn put_flag(word: &[u8], is_set: bool, out: &mut [u8], at: usize) -> usize
     requires { at + 1 + length word.now ≤ length out.old }
     ensures written { take result out.new ≡ take at out.old ++ spaced (set_flags ((word.now, is_set) ∷ [])) }

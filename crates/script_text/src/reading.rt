@@ -28,8 +28,8 @@ pub enum Line {
     Order(Command),
 }
 
-/// Reads one line of a script, without its line feed. `SyntaxFault` where it has more than `LINE_BYTES`
-/// bytes, or where it is not blank, no comment and no command.
+/// Reads one line of a script, without its line feed. `SyntaxFault` if it has more than `LINE_BYTES` bytes, or if it is
+/// neither blank nor a comment nor a command.
 pub fn read_line(line: &[u8]) -> Result<Line, SyntaxFault>
     ensures { reading_of result ≡ reading line.now }
 {
@@ -40,8 +40,9 @@ pub fn read_line(line: &[u8]) -> Result<Line, SyntaxFault>
     }
 }
 
-/// Reads one line as `read_line` does: `None` where it says nothing, and else the command, whose byte data is decoded
-/// to the front of `room` and lent from there. `room` has at least `DATA_BYTES` bytes.
+/// Reads one line as `read_line` does. The answer is `None` if the line says nothing, and otherwise its command. Byte
+/// data is decoded to the front of `room`, which has at least `DATA_BYTES` bytes, and the command borrows it from
+/// there.
 #[tactic(auto, unfolding(vm_model::specs::Language::Reading::reading))]
 pub fn read_call<'a>(line: &[u8], room: &'a mut [u8]) -> Result<Option<Call<'a>>, SyntaxFault>
     requires { DATA_BYTES ≤ length room.old }
@@ -75,7 +76,7 @@ fn is_silent(line: &[u8]) -> bool
     matches!(line, [] | [b'#', ..])
 }
 
-/// The command of a line, or `None` where it has none. Most lines begin with one of two words.
+/// The command of a line. `None` if it has none. Most lines begin with one of two words.
 fn order<'a>(line: &[u8], room: &'a mut [u8]) -> Option<Call<'a>>
     requires { DATA_BYTES ≤ length room.old }
     ensures { option_map command_of result ≡ order_in (words line.now) }
@@ -89,7 +90,7 @@ fn order<'a>(line: &[u8], room: &'a mut [u8]) -> Option<Call<'a>>
     }
 }
 
-/// The same of any line, which is cut into its words once, whatever its command is.
+/// Does what `order` does, for any command. It cuts the line into its words once.
 #[tactic(auto, using(crate::proofs::Many::order_of_many))]
 fn order_of_words<'a>(line: &[u8], room: &'a mut [u8]) -> Option<Call<'a>>
     requires { DATA_BYTES ≤ length room.old }

@@ -1,5 +1,5 @@
-//! The commands of address regions and of the whole machine, from their arguments. A call that lends nothing lives as long as its
-//! caller wants, so that no caller has to shorten it.
+//! The commands of address regions and of the whole machine, from their arguments. A call that borrows nothing lives as
+//! long as its caller wants, so no caller has to shorten its life.
 
 ghost use Rattle.std.specs.Prelude.{◌≡◌, ◌≤◌, length, map, option_map};
 ghost use Rattle.vm_model.specs.Language.Reading.{are_flags, of_region, of_region_range, vmar_allocate, vmar_map};
@@ -67,7 +67,7 @@ pub fn vmar_allocate<'a>(arguments: &[&[u8]]) -> Option<Call<'a>>
     })
 }
 
-/// Whether the words are flags of a region, none of them twice.
+/// Whether the words are flags of a region, and none of them stands twice.
 fn are_region_flags(flags: &[&[u8]]) -> bool
     ensures { result ≡ are_flags region_flag_words (map (λ a. a.now) flags.now) }
 {
@@ -126,7 +126,7 @@ pub fn vmar_map<'a>(arguments: &[&[u8]]) -> Option<Call<'a>>
     })
 }
 
-/// Whether the words are flags of a mapping, none of them twice.
+/// Whether the words are flags of a mapping, and none of them stands twice.
 fn are_map_flags(flags: &[&[u8]]) -> bool
     ensures { result ≡ are_flags map_flag_words (map (λ a. a.now) flags.now) }
 {

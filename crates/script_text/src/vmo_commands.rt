@@ -1,5 +1,5 @@
-//! The commands of VMOs, from their arguments. A call that lends nothing lives as long as its
-//! caller wants, so that no caller has to shorten it.
+//! The commands of VMOs, from their arguments. A call that borrows nothing lives as long as its caller wants, so no
+//! caller has to shorten its life.
 
 ghost use Rattle.std.specs.Prelude.{◌≡◌, ◌≤◌, length, map, option_map};
 ghost use Rattle.vm_model.specs.Language.Reading.{of_vmo, of_vmo_range, vmo_create, vmo_create_child, vmo_set_size};

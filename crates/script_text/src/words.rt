@@ -16,7 +16,7 @@ pub fn is_blank(byte: u8) -> bool
     matches!(byte, b' ' | b'\t' | b'\r')
 }
 
-/// Whether two words are one.
+/// Whether two words are the same.
 #[inline(always)]
 pub fn is_word(word: &[u8], known: &[u8]) -> bool
     ensures { result ≡ is_word word.now known.now }
@@ -41,8 +41,8 @@ fn word_len(line: &[u8]) -> usize
     memchr3(b' ', b'\t', b'\r', line).unwrap_or(line.len())
 }
 
-/// The same of a line that begins with no blank, for words that are likely to be short: their bytes are looked at one by
-/// one, which costs less than a search of many at a time.
+/// Does what `word_len` does, for a line that begins with no blank and words that are likely to be short. It looks at
+/// their bytes one by one, which costs less than a search of many at a time.
 #[inline(always)]
 fn short_word_len(line: &[u8]) -> usize
     requires some { 0 < length line.now }
@@ -58,7 +58,7 @@ fn short_word_len(line: &[u8]) -> usize
     line.len()
 }
 
-/// A line from its first word on, or no byte where it has no word.
+/// A line from its first word on. It has no byte if the line has no word.
 #[inline(always)]
 pub fn behind_blanks(line: &[u8]) -> &[u8]
     ensures words { words result.now ≡ words line.now }
@@ -75,7 +75,7 @@ pub fn behind_blanks(line: &[u8]) -> &[u8]
     rest
 }
 
-/// The first word of a line and what stands behind it, or `None` where the line has no word.
+/// The first word of a line, and what stands behind it. `None` if the line has no word.
 #[inline(always)]
 pub fn next_word(line: &[u8]) -> Option<(&[u8], &[u8])>
     ensures words { MatchOption result (words line.now ≡ []) (λ r. words line.now ≡ r.0.now ∷ words r.1.now) }
@@ -88,7 +88,7 @@ pub fn next_word(line: &[u8]) -> Option<(&[u8], &[u8])>
     Some(line.split_at(word_len(line)))
 }
 
-/// The same, for words that are likely to be short.
+/// Does what `next_word` does, for words that are likely to be short.
 #[inline(always)]
 pub fn next_short_word(line: &[u8]) -> Option<(&[u8], &[u8])>
     ensures words { MatchOption result (words line.now ≡ []) (λ r. words line.now ≡ r.0.now ∷ words r.1.now) }
@@ -101,8 +101,8 @@ pub fn next_short_word(line: &[u8]) -> Option<(&[u8], &[u8])>
     Some(line.split_at(short_word_len(line)))
 }
 
-/// The first word at or behind a place of a line: where it begins, and the place behind its last
-/// byte. `None` where only blanks are left.
+/// The first word at or behind a place of a line: where it begins, and the place behind its last byte. `None` if only
+/// blanks are left.
 fn word_from(line: &[u8], place: usize) -> Option<(usize, usize)>
     requires { place ≤ length line.now }
     ensures { MatchOption result (words (drop place line.now) ≡ []) (λ p. IsWordFrom line.now place p.0 p.1) }
@@ -114,8 +114,8 @@ fn word_from(line: &[u8], place: usize) -> Option<(usize, usize)>
     Some((start, start + word_len(rest)))
 }
 
-/// Where a word of a line stands, the words counted from 0: the place of its first byte and the place
-/// behind its last, both counted from the line's first byte. `None` where the line has no such word.
+/// Where a word of a line stands: the place of its first byte and the place behind its last, both counted from the
+/// line's first byte. Words are counted from 0. `None` if the line has no such word.
 pub fn word_at(line: &[u8], index: u64) -> Option<(usize, usize)>
     ensures none { IsNone result ↔ (length (words line.now) ≤ index) }
     ensures word { IfSome result (λ p. slice_get (words line.now) index ≡ Some (slice_range line.now p.0 p.1)) }

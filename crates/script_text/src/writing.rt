@@ -12,8 +12,8 @@ use vm_base::{TEXT_BYTES, TEXT_ROOM};
 use vm_model::Command;
 use word_text::put;
 
-/// Writes the canonical spelling of a command with its line feed to the front of `out`, and answers
-/// its length in bytes. The rest of `out` is left open. The command is one that some line spells.
+/// Writes the canonical spelling of a command, with its line feed, to the front of `out`, and answers its length in
+/// bytes. No clause speaks of the rest of `out`. The command is one that some line spells.
 pub fn write_command(command: &Command, out: &mut [u8]) -> usize
     requires spelled { has_spelling command.now ≡ true }
     requires room { TEXT_ROOM ≤ length out.old }
