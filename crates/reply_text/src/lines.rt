@@ -22,8 +22,8 @@ pub fn line_count(reply: &Reply) -> u64
     }
 }
 
-/// Writes line `index` of a reply, counted from 0, with its line feed to the front of `out`, and
-/// answers its length in bytes. The rest of `out` is left open.
+/// Writes line `index` of a reply, counted from 0, with its line feed, to the front of `out`, and answers its length in
+/// bytes. No clause speaks of the rest of `out`.
 #[tactic(auto, unfolding(vm_model::specs::Language::Text::reply_lines))]
 pub fn write_line(reply: &Reply, index: u64, out: &mut [u8]) -> usize
     requires index { index < length (reply_lines reply.now) }
@@ -35,12 +35,12 @@ pub fn write_line(reply: &Reply, index: u64, out: &mut [u8]) -> usize
     match lend(reply) {
         Ok(answer) => write_answer_line(&answer, index, out),
         Err(runs) if index > 0 => put_run(&runs[index as usize - 1], out, 0),
-        // The first line of runs is that of their number.
+        // The first line of runs is the one with their number.
         Err(runs) => write_answer_line(&Answer::Number(runs.len() as u64), 0, out),
     }
 }
 
-/// A reply as an answer, or the runs that it owns, which no answer borrows.
+/// A reply as an answer. If the reply owns runs, which no answer borrows, these runs.
 fn lend(reply: &Reply) -> Result<Answer<'_>, &[Run]>
     ensures { MatchResult result (λ answer. reply_for answer ≡ reply.now)
         (λ runs. reply.now ≡ Reply.Runs runs.now) }
@@ -86,7 +86,7 @@ pub fn write_answer_line(answer: &Answer<'_>, index: u64, out: &mut [u8]) -> usi
     put_run(&runs_of(answer)[index as usize - 1], out, 0)
 }
 
-/// The runs of an answer, each of which has a line behind the first. Only `Runs` has any.
+/// The runs of an answer. Each has a line behind the first line. Only `Runs` has any.
 #[tactic(auto, unfolding(vm_model::specs::Language::Text::reply_lines))]
 fn runs_of<'b>(answer: &'b Answer<'_>) -> &'b [Run]
     ensures count { length (reply_lines (reply_for answer.now)) ≡ length result.now + 1 }

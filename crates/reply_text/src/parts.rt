@@ -1,5 +1,5 @@
-//! The parts of a line that only replies have, each written as those of `word_text` are: behind the
-//! first `at` bytes of `out`, which stay. The answer is where it ends.
+//! The parts of a line that only replies have. Each is written as those of `word_text` are: behind the first `at` bytes
+//! of `out`, which stay, and the answer is where it ends.
 
 ghost use Rattle.std.specs.Prelude.{◌≡◌, ◌+◌, ◌*◌, ◌<◌, ◌≤◌, ◌++◌, false, length, take, codes, decimal};
 ghost use Rattle.std.specs.Fmt.{digits, digit_glyph};
@@ -45,7 +45,7 @@ pub fn put_address(address: u64, out: &mut [u8], at: usize) -> usize
     put_hex(address, out, at)
 }
 
-/// Writes what a VMO holds. It is not inlined, so that other replies pay nothing for it.
+/// Writes what a VMO holds. The function is not inlined, so that other replies pay nothing for it.
 #[inline(never)]
 pub fn put_info(info: &Info, out: &mut [u8], at: usize) -> usize
     requires { at + 200 ≤ length out.old }
@@ -73,7 +73,7 @@ pub fn put_stat(stat: &Stat, out: &mut [u8], at: usize) -> usize
     put_field(b" vmos=", stat.vmos, out, at)
 }
 
-/// Writes the line of a run, with its line feed. It is not inlined, so that other replies pay nothing for it.
+/// Writes the line of a run, with its line feed. The function is not inlined, so that other replies pay nothing for it.
 #[inline(never)]
 pub fn put_run(run: &Run, out: &mut [u8], at: usize) -> usize
     requires { at + 200 ≤ length out.old }
