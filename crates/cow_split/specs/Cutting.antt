@@ -18,7 +18,7 @@ use Rattle.cow_split.specs.declared.answers.Cut.TheVariants as cut
 use Rattle.cow_split.specs.Trees.{list_in, tree_of}
 use Rattle.cow_split.specs.Search.{reached_from}
 
--- a row of a frame, where no VMO on this side sees it any more. None where none on the other side does either
+-- a row of a frame, where no VMO on this side sees it any more. None if none on the other side does either
 abbrev pub split_on : Side → Tag → (left right : Bool) → Option Slot
 split_on side.Left tag left true = None
 split_on side.Left tag left false = Some (slot.Frame tag true false)

@@ -10,7 +10,7 @@ use Rattle.cow_arena.specs.Walk.{Tree, frame_in}
 use Rattle.cow_arena.specs.Forest.{IsForest, AreListed}
 use Rattle.cow_split.specs.Sight.{IsSeenFrom}
 
--- the bit is true exactly where P does not hold
+-- the bit is true if and only if P does not hold
 pub record Denies (bit : Bool) (P : Type 0) : Type 0 where
   pub is_true : bit ≡ true → P → ⊥
   pub is_false : bit ≡ false → P

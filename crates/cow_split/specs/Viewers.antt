@@ -22,7 +22,7 @@ pub record IsLeastKoid (nodes : Nodes) (list : List ℕ) (koid : Koid) : Type 0 
   pub has : HasKoid nodes v koid
   pub least : IsBelowAll nodes list koid
 
--- the lesser of two koids, where there are two
+-- the lesser of two koids, if there are two
 abbrev pub lesser_of : (one other : Option Koid) → Option Koid
 lesser_of None other = other
 lesser_of (Some one) None = Some one

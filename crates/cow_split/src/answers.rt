@@ -1,4 +1,4 @@
-//! What is answered about a page of a node.
+//! Answers about a page of a node.
 
 ghost use Rattle.std.specs.Prelude.{◌≡◌, None, Some, IfSome, IfNone};
 ghost use Rattle.cow_split.specs.Trees.{frame_held};
@@ -12,19 +12,19 @@ use vm_base::{PageNo, Tag};
 pub enum Holder {
     /// The node's own row.
     Own(Slot),
-    /// The row of a page of a hidden node above it, and the side from which the walk comes there.
+    /// The row of a page of a hidden node above the node, and the side from which the walk comes to it.
     Above {
         node: NodeId,
         page: PageNo,
         side: Side,
         slot: Slot,
     },
-    /// There is none: the page is zero.
+    /// There is no row: the page is zero.
     Nothing,
 }
 
 impl Holder {
-    /// The frame of the page. `None` exactly where the page is zero.
+    /// The frame of the page. `None` if and only if the page is zero.
     pub fn frame(self) -> Option<Tag>
         ensures some { IfSome result (λ tag. frame_held self ≡ Some tag.0) }
         ensures none { IfNone result (frame_held self ≡ None) }
@@ -40,12 +40,12 @@ impl Holder {
     }
 }
 
-/// Who sees the frame of a page after it was cut off from the row that it saw.
+/// Who sees the frame of a page, once the page is cut off from the row that it saw.
 #[derive(Clone, Copy, Debug, PartialEq, Eq)]
 pub enum Cut {
-    /// Another VMO does.
+    /// Another VMO sees the frame.
     StillSeen,
-    /// No other VMO does. Its row is gone, and the frame is the caller's.
+    /// No other VMO sees the frame. Its row is gone, and the frame is the caller's.
     LastViewer(Tag),
     /// The page saw no frame.
     NothingThere,

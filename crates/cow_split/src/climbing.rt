@@ -15,8 +15,8 @@ use std::marker::Brand;
 use std::sync::ledger::{Blank, Ledger};
 use vm_base::PageNo;
 
-/// The first row on the walk from a page of a node upwards, within the windows. `Nothing` exactly where there is none. It is
-/// inlined, and the walk upwards is not, so that a page with a row of its own costs its look-up alone.
+/// The first row on the walk from a page of a node upwards, within the windows. `Nothing` if and only if there is none.
+/// This function is inlined and the walk upwards is not, so a page with a row of its own costs one look-up.
 #[inline(always)]
 pub fn holder(arena: &CowArena, lists: &PageLists, leaf: NodeId, page: PageNo) -> Holder
     requires forest { IsForest (nodes_of arena.now) arena.now.lists }
@@ -29,7 +29,7 @@ pub fn holder(arena: &CowArena, lists: &PageLists, leaf: NodeId, page: PageNo) -
     holder_above(arena, lists, leaf, page)
 }
 
-/// Does what `holder` does for a page that has no row of its own, with no look-up in the node's own list.
+/// Does what `holder` does for a page that has no row of its own. It does not look into the node's own list.
 #[inline(never)]
 pub fn holder_above(arena: &CowArena, lists: &PageLists, leaf: NodeId, page: PageNo) -> Holder
     requires forest { IsForest (nodes_of arena.now) arena.now.lists }

@@ -1,4 +1,4 @@
-//! Cutting a page off from the row above it.
+//! Cutting a page off from the row above it that it sees.
 
 ghost use Rattle.std.specs.Prelude.{◌≡◌, ◌≢◌, ◌↔◌, ◌≤◌, ℕ, Bool, None, Some, IsSome, IsSomeAnd};
 ghost use Rattle.vm_base.specs.declared.names.Tag.{Tag};
@@ -22,13 +22,13 @@ use cow_arena::{CowArena, NodeId, Side};
 use page_list::{ListId, PageLists, Slot};
 use vm_base::{PageNo, Tag};
 
-/// Ends the sight that a page of a VMO's node has of the row above it. The node has no row of its own there. Where no
-/// other VMO on its side sees the row, the row's bit of the side is set; a row whose bits would both be true is taken
-/// away.
+/// Cuts a page of a VMO's node off from the row above the node that the page sees. The node has no row of its own at
+/// the page. If no other VMO on the node's side sees the row, the row's bit of that side is set. If the other bit is
+/// set already, the row goes instead.
 ///
-/// In an exact tree in which only pages of this node are left out of sight, the tree is exact afterwards with this page
-/// left out too. The answer is `LastViewer` exactly where a frame was seen that no other VMO shows, `NothingThere`
-/// exactly where no frame was seen, and else `StillSeen`.
+/// If the tree is exact with only pages of this node left out of sight, it is exact afterwards with this page left out
+/// too. The answer is then `LastViewer` if and only if the page saw a frame that no other VMO shows. It is
+/// `NothingThere` if and only if the page saw no frame, and otherwise `StillSeen`.
 pub fn cut(arena: &CowArena, lists: &mut PageLists, leaf: NodeId, page: PageNo) -> Cut
     requires forest { IsForest (nodes_of arena.now) arena.now.lists }
     requires leaf { IsSomeAnd (nodes_of arena.now leaf.0)
@@ -47,7 +47,7 @@ pub fn cut(arena: &CowArena, lists: &mut PageLists, leaf: NodeId, page: PageNo) 
     cut_holder(arena, lists, leaf, page, found)
 }
 
-/// Does what `cut` does, where this is what `holder` answers for the page.
+/// Does what `cut` does. `found` is what `holder` answers for the page.
 pub fn cut_holder(
     arena: &CowArena,
     lists: &mut PageLists,
@@ -71,11 +71,11 @@ pub fn cut_holder(
     }
 }
 
-/// Does what `cut` does for page `own` of a node, at the row of a hidden node to which the page comes from this side. It
-/// looks into no list on the way there.
+/// Does what `cut` does for page `own` of a node, if the page comes to this row of a hidden node from this side. The
+/// call looks into no list on the way to the row.
 ///
-/// Where no page of the node that is in sight comes to the row, nothing changes, in a tree that is exact: others see the row
-/// from that side, or its bit of the side is set. The rows of the other nodes stay as they are in any case.
+/// If no page of the node that is in sight comes to the row, nothing changes in an exact tree: others see the row from
+/// that side, or its bit of the side is set. The rows of all other nodes stay as they are in any case.
 pub fn cut_row(
     arena: &CowArena,
     lists: &mut PageLists,
@@ -108,8 +108,8 @@ pub fn cut_row(
     split(lists, list, page, side, tag, left, right)
 }
 
-/// Sets the bit of a side in the row of a frame that no VMO on that side sees any more. Where the other bit is true, the
-/// row is taken away.
+/// Sets the bit of a side in the row of a frame that no VMO on that side sees any more. If the other bit is set,
+/// removes the row instead, and answers `LastViewer`.
 fn split(
     lists: &mut PageLists,
     list: ListId,
@@ -157,8 +157,8 @@ fn split(
     }
 }
 
-/// Whether no other VMO shows the frame that a page of a VMO's node sees in a row above it, where this is what `holder`
-/// answers for the page: whether `cut` would answer `LastViewer`. Nothing is changed.
+/// Whether `cut` would answer `LastViewer`: a page of a VMO's node sees a frame in a row above the node, and no other
+/// VMO shows the frame. `found` is what `holder` answers for the page. Nothing is changed.
 pub fn is_last(
     arena: &CowArena,
     lists: &PageLists,
@@ -182,7 +182,7 @@ pub fn is_last(
     }
 }
 
-/// Whether the leaf, by its page `own`, alone sees the frame of this row of a hidden node, from this side.
+/// Whether the leaf alone sees the frame of this row of a hidden node. Its page `own` comes to the row from this side.
 fn is_last_from(
     arena: &CowArena,
     lists: &PageLists,
@@ -207,7 +207,7 @@ fn is_last_from(
     is_gone(side, tag, left, right)
 }
 
-/// Whether a row whose bits are these is seen from no side, where it is not from this one.
+/// Whether nobody sees a row with these bits, if nobody on this side does.
 fn is_gone(side: Side, tag: Tag, left: bool, right: bool) -> bool
     ensures { result ≡ leaves_frame (answer_on side tag left right) }
 {

@@ -1,5 +1,6 @@
-//! Whether a page of a node is reached from anyone: the search downwards that ends at the first visible node it finds. It
-//! asks both children of a hidden node before it goes further down, so that it goes past no one who is at hand.
+//! Whether a page of a node is reached from any visible node: a search downwards that ends at the first one that it
+//! finds. It asks both children of a hidden node before it goes further down, so it does not pass a viewer that is
+//! near.
 
 ghost use Rattle.std.specs.Prelude.{◌≡◌, true, false, [], ◌∷◌, ◌++◌, IsSome};
 ghost use Rattle.cow_arena.specs.Nodes.{nodes_of, link_to};
@@ -14,9 +15,9 @@ use cow_arena::{CowArena, NodeId, Side};
 use page_list::PageLists;
 use vm_base::PageNo;
 
-/// Whether a page of a node is reached from a visible node on this side of it, through the windows and past no row, other
-/// than from the one that is excepted. It takes no memory, and costs one look-up in the lists for each node that it asks:
-/// at most for each node on this side.
+/// Whether a page of a node is reached from a visible node on this side, other than `except`, through the windows and
+/// past no row. The search takes no memory. It costs one look-up in the lists for each node that it asks: at most all
+/// nodes on this side.
 pub fn reached_from(
     arena: &CowArena,
     lists: &PageLists,
@@ -38,7 +39,7 @@ pub fn reached_from(
     any_below(arena, lists, except, start, page)
 }
 
-/// Whether a node is visible and counts, and this page of its parent is reached from it.
+/// Whether a node is visible and not `except`, and this page of its parent is reached from it.
 pub(crate) fn is_viewer(
     arena: &CowArena,
     lists: &PageLists,
@@ -62,7 +63,8 @@ pub(crate) fn is_viewer(
     }
 }
 
-/// Whether this page of the parent of a hidden node is reached from someone below the node. False of a visible node.
+/// Whether this page of the parent of a hidden node is reached from a visible node below that node. `false` for a
+/// visible node.
 fn any_below(
     arena: &CowArena,
     lists: &PageLists,
@@ -95,8 +97,8 @@ fn any_below(
     false
 }
 
-/// What the search meets at the children of a node, which it enters with this page of the node's parent. Of a visible node
-/// its parent's turn has asked.
+/// What the search meets at the children of a node that it enters with this page of the node's parent. If the node is
+/// visible, the search has asked it before, with its sibling.
 pub(crate) fn look_below(
     arena: &CowArena,
     lists: &PageLists,
@@ -124,7 +126,7 @@ pub(crate) fn look_below(
     }
 }
 
-/// Whether one of the two children of a node is visible and counts, and this page of the node is reached from it.
+/// Whether one of the two children of a node is visible and not `except`, and this page of the node is reached from it.
 fn either_views(
     arena: &CowArena,
     lists: &PageLists,

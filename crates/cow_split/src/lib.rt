@@ -1,9 +1,10 @@
-//! Who sees a row of the clone tree: the walk upwards from a node to the row that shows its page, the search downwards for
-//! the visible nodes that see a row, and the split bits, which say of a hidden node's row that no VMO on a side sees it.
+//! Who sees a row of the clone tree: the walk upwards from a node to the row that shows its page, the search downwards
+//! for the visible nodes that see a row, and the split bits, which say of a hidden node's row that no VMO on a side
+//! sees it.
 //!
-//! It stands on `cow_arena` and `page_list`, and changes nothing but a row's bits, or takes a row away that nobody sees
-//! (`cut`, `cut_row`). Of the contracts, the layer above uses that a tree is exact (`IsExact`) over the frames that are
-//! taken, where some pages of visible nodes may be left out of sight, and how a cut leaves one out more.
+//! It stands on `cow_arena` and `page_list`. It changes nothing but a row's bits, or removes a row that nobody sees any
+//! more (`cut`, `cut_row`). Of the contracts, the layer above uses that a tree is exact (`IsExact`) over the frames
+//! that are taken, with some pages of visible nodes left out of sight, and that a cut leaves one page more out.
 #![tactic(auto)]
 
 mod answers;

@@ -1,5 +1,5 @@
-//! The search downwards, for the visible nodes from which a page of a node is reached, one after another from left to
-//! right.
+//! The search downwards for the visible nodes from which a page of a node is reached. It finds them one after another,
+//! from left to right.
 
 ghost use Rattle.std.specs.Prelude.{◌≡◌, ℕ, ◌<◌, List, [], length, Option, None, IsSome, IfSome, MatchOption};
 ghost use Rattle.cow_arena.specs.Nodes.{nodes_of, leads_to};
@@ -15,8 +15,8 @@ use cow_arena::{CowArena, NodeId, Side};
 use page_list::PageLists;
 use vm_base::{Koid, PageNo};
 
-/// How many visible nodes there are on this side of a node from which its page is reached: that see its row there, where
-/// it has one.
+/// The number of visible nodes on this side of a node from which its page is reached. If the page has a row in the
+/// node's list, they are the nodes that see this row.
 pub fn viewer_count(
     arena: &CowArena,
     lists: &PageLists,
@@ -38,7 +38,7 @@ pub fn viewer_count(
     count
 }
 
-/// The least koid of these nodes. `None` exactly where there are none.
+/// The least koid of the nodes that `viewer_count` counts. `None` if and only if there are none.
 pub fn least_koid(
     arena: &CowArena,
     lists: &PageLists,
@@ -60,7 +60,7 @@ pub fn least_koid(
     least
 }
 
-/// The lesser of two koids, where there are two.
+/// The lesser of two koids, or the only one, if one of them is `None`.
 pub fn lesser(one: Option<Koid>, other: Option<Koid>) -> Option<Koid>
     ensures { result ≡ lesser_of one other }
 {
@@ -73,7 +73,7 @@ pub fn lesser(one: Option<Koid>, other: Option<Koid>) -> Option<Koid>
     }
 }
 
-/// Where a search goes on: at this node, with this page of the node's parent. It began at `start`.
+/// Where a search goes on: at node `at`, with page `page` of the parent of `at`. The search began at node `start`.
 #[derive(Clone, Copy)]
 pub(crate) struct Cursor {
     pub(crate) start: NodeId,
@@ -81,7 +81,7 @@ pub(crate) struct Cursor {
     pub(crate) page: PageNo,
 }
 
-/// Where a search begins for the visible nodes on a side of a node from which its page is reached.
+/// Begins a search for the visible nodes on this side of a node from which its page is reached.
 fn search_below(arena: &CowArena, side: Side, node: NodeId, page: PageNo) -> Option<Cursor>
     requires forest { IsForest (nodes_of arena.now) arena.now.lists }
     requires node { IsSome (nodes_of arena.now node.0) }
@@ -98,7 +98,8 @@ fn search_below(arena: &CowArena, side: Side, node: NodeId, page: PageNo) -> Opt
     })
 }
 
-/// The first node that a search finds from here on, and where the search goes on after it. `None` where it finds none.
+/// The next visible node that a search finds, and where the search goes on after it. `None` if the search finds no
+/// more.
 fn next_viewer(
     arena: &CowArena,
     lists: &PageLists,
@@ -131,15 +132,15 @@ fn next_viewer(
 /// What a search meets at a node.
 #[derive(Clone, Copy)]
 pub(crate) enum Met {
-    /// The node is visible, and counts.
+    /// The node is visible, and not the excepted one.
     Viewer,
     /// The node is hidden. The search goes on with its left child, at this page of the node.
     Below(NodeId, PageNo),
-    /// The page lies outside the node's window, the node has a row there, or it is excepted.
+    /// The page lies outside the node's window, the node has a row there, or the node is the excepted one.
     Nobody,
 }
 
-/// What a search meets at a node, at a page of its parent.
+/// What a search meets at a node that it enters with this page of the node's parent.
 pub(crate) fn meet(
     arena: &CowArena,
     lists: &PageLists,
@@ -167,7 +168,7 @@ pub(crate) fn meet(
     Met::Below(left, here)
 }
 
-/// What a search meets at a visible node.
+/// What a search meets at a visible node: nobody, if the node is the excepted one.
 #[tactic(auto, unfolding(vm_base::specs::Entries::passes))]
 fn viewer(except: Option<NodeId>, at: NodeId) -> Met
     ensures { result ≡ viewer_met (leads_to except at.0) }
@@ -178,8 +179,8 @@ fn viewer(except: Option<NodeId>, at: NodeId) -> Met
     }
 }
 
-/// Where a search goes on that is done with a node and all below it: the next node to the right, and the page of that
-/// node's parent. `None` where all is entered that is at and below the node at which the search began.
+/// Where a search goes on once it is done with a node and all below it: at the next node to the right, with the page of
+/// the parent of that node. `None` if the search has entered all nodes at and below the one at which it began.
 pub(crate) fn next_after(arena: &CowArena, passed: Cursor) -> Option<Cursor>
     requires forest { IsForest (nodes_of arena.now) arena.now.lists }
     requires passed { IsPassedBySome (nodes_of arena.now) arena.now.lists passed.start.0 passed.at.0 passed.page }
