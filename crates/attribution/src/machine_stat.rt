@@ -6,8 +6,8 @@ ghost use Rattle.vm_model.specs.Machine.Attribution.{stat_of};
 use page_store::PageStore;
 use vm_model::Stat;
 
-/// How many page frames the machine has, how many of them some VMO shows and how many none does, and
-/// how many VMOs there are.
+/// How many page frames the machine has, how many of them some VMO shows, how many none shows, and how many VMOs there
+/// are (`ZX_INFO_KMEM_STATS`).
 pub fn stat<P: PageStore>(store: &P) -> Stat
     ensures { result ≡ stat_of (P.content store.now) }
 {

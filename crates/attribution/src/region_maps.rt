@@ -16,10 +16,10 @@ use std::alloc::Global;
 use vm_base::{HostMemory, PAGE, PageNo, RegionName};
 use vm_model::{Run, Runs};
 
-/// The runs of what is mapped on the pages of a live region, by it or by regions below it, in address order: each is the
-/// longest row of neighbouring pages that show rising pages of one VMO with one permission, mapped by one region. It
-/// costs the pieces of mappings on these pages. `HostMemory` where the host has too little memory, and only where some
-/// page of the region is mapped.
+/// The runs of what is mapped on the pages of a live region (`ZX_INFO_PROCESS_MAPS`), by it or by regions below it, in
+/// address order. A run is the longest row of neighbouring pages that show rising pages of one VMO with one permission
+/// and are mapped by one region. The call costs the pieces of mappings on these pages. `HostMemory` if the host has too
+/// little memory, and only if some page of the region is mapped.
 #[tactic(auto,
 // the region of a name
 unfolding(vm_model::specs::Space::Regions::region_of, vm_base::specs::Entries::passes))]
@@ -41,7 +41,7 @@ pub fn maps(
     runs_in(alloc, maps, above.root, above.first, above.count)
 }
 
-/// The runs of what is mapped on `count` pages of an address space from `first` on. `HostMemory` only where one of them is
+/// The runs of what is mapped on `count` pages of an address space from `first` on. `HostMemory` only if one of them is
 /// mapped.
 fn runs_in(
     alloc: Global,
@@ -65,8 +65,8 @@ fn runs_in(
     close(runs, begun)
 }
 
-/// The first entries on the pages from `from` to below `end`, as far as they are of one piece. `None` exactly where there
-/// are none.
+/// The first entries on the pages from `from` to below `end`, as far as they belong to one piece. `None` if and only if
+/// there are none.
 fn piece_before(maps: &MappingSet, root: RegionName, from: PageNo, end: PageNo) -> Option<Piece>
     ensures { MatchOption result (IsBare (table_of maps.now root.0) from end)
         (IsFirstPiece (table_of maps.now root.0) from end) }
@@ -98,8 +98,8 @@ fn run_of(piece: Piece) -> Run
     }
 }
 
-/// Whether a run goes on where another ends, in the address space and in the VMO, and is like it in all else. A run may
-/// end at byte 2^64 of its VMO, where nothing goes on.
+/// Whether `next` goes on where `run` ends, in the address space and in the VMO, and is like it in all else. A run may
+/// end at byte 2^64 of its VMO. Nothing goes on there.
 fn goes_on(run: Run, next: Run) -> bool
     ensures { result ≡ goes_on run next }
 {
@@ -110,8 +110,9 @@ fn goes_on(run: Run, next: Run) -> bool
         && run.region == next.region
 }
 
-/// Puts a run behind the one that was begun, if there is one. It is joined to that where it goes on there, and else that
-/// is put behind the others. Answers the run that is begun now. On `HostMemory` nothing is said of the runs.
+/// Puts a run behind the one that was begun. If there is none, the run is begun. If the run goes on where the begun one
+/// ends, the two are joined. Otherwise the begun one is put behind the others, and the run is begun. Answers the run
+/// that is begun now. On `HostMemory` nothing is said of the runs.
 fn join(runs: &mut Runs, begun: Option<Run>, next: Run) -> Result<Run, HostMemory>
     requires { next.addr + next.len < 2 ^ 64 }
     ensures { IfOk result (λ run. (rest : List Run) →
@@ -130,7 +131,7 @@ fn join(runs: &mut Runs, begun: Option<Run>, next: Run) -> Result<Run, HostMemor
     Ok(next)
 }
 
-/// Puts the run that was begun, if there is one, behind the others. `HostMemory` only where there is one.
+/// Puts the run that was begun, if there is one, behind the others. `HostMemory` only if there is one.
 fn close(mut runs: Runs, begun: Option<Run>) -> Result<Runs, HostMemory>
     ensures { MatchResult result (λ all. all ≡ runs ++ begun_before begun []) (λ lack. IsSome begun) }
 {
