@@ -17,13 +17,13 @@ use mapping_set::MappingSet;
 use region_tree::{Region, Regions};
 use vm_base::{MapFlags, PAGE, Perm, Refusal, RegionName, page_count, page_of};
 
-/// Allocates a region of `len` bytes, rounded up to whole pages, in a live region, under a name that was never given,
-/// and answers its address. `offset` is in bytes from the start of the parent: the region begins there with `SPECIFIC`,
-/// ends at or below it with `UPPER_LIMIT`, and stands anywhere else, where it is 0. Refusals, in their order:
-/// `AccessDenied` where the parent does not allow what is asked for in `caps`, `InvalidArgs` where the offset is not at
-/// a page, `len` is 0, both options are given, an offset is given with none of them, or a place at the offset passes the
-/// parent's end, `AlreadyExists` where the place at the offset is not free, `NoResources` where no place is free that
-/// fits, and `HostMemory`.
+/// Allocates a region of `len` bytes, rounded up to whole pages, in a live region (`zx_vmar_allocate`), and answers its
+/// address. Its name was never given. `offset` is in bytes from the start of the parent: the region begins there with
+/// `SPECIFIC`, and ends at or below it with `UPPER_LIMIT`. With neither, `offset` is 0, and any place will do.
+/// Refusals, in their order: `AccessDenied` if the parent does not allow what is asked for in `caps`, `InvalidArgs` if
+/// the offset is not at a page, `len` is 0, both options are given, an offset is given with neither, or a place at the
+/// offset passes the parent's end, `AlreadyExists` if the place at the offset is not free, `NoResources` if no free
+/// place fits, and `HostMemory`.
 pub fn allocate(
     regions: &mut Regions,
     maps: &MappingSet,
@@ -46,9 +46,9 @@ pub fn allocate(
     )
 }
 
-/// What `allocate` does in a live region, which is `above`, where the set of mappings has noted the live children of each
-/// region: the new one is noted too. A place costs one search, also where there is none. `HostMemory` as with `allocate`, and
-/// where there is no memory for the note; then nothing is changed.
+/// Does what `allocate` does, in a live region, which is `above`. The set of mappings has noted the live children of
+/// each region, and the new one is noted too. A place costs one search, also if there is none. `HostMemory` as with
+/// `allocate`, and also if there is no memory for the note. Nothing is changed then.
 pub fn allocate_noted(
     regions: &mut Regions,
     maps: &mut MappingSet,
@@ -83,8 +83,8 @@ pub fn allocate_noted(
     }
 }
 
-/// Allocates a region in a live one, which is `above`. `HostMemory` also where the caller is not ready, since it lacks memory
-/// for what it does next.
+/// Allocates a region in a live one, which is `above`. If the caller is not `ready`, the answer is `HostMemory` too:
+/// the caller lacks memory for what it does next.
 fn allocate_in(
     regions: &mut Regions,
     maps: &MappingSet,

@@ -1,4 +1,5 @@
-//! Entries that go, and with each of them a keeper of its VMO: a VMO that nothing keeps any more leaves with its pages.
+//! Entries that are taken out. With each goes a keeper of its VMO. A VMO that nothing keeps any more leaves with its
+//! pages.
 
 ghost use Rattle.std.specs.Prelude.{◌≡◌, ℕ, ◌+◌, ◌≤◌, Option, None};
 ghost use Rattle.vm_model.specs.declared.space.Entry.{Entry};
@@ -12,8 +13,8 @@ use page_store::{PageStore, drop_gone};
 use vm_base::{PageNo, RegionName};
 use vmo_table::VmoTable;
 
-/// Takes the entries of `count` pages from `first` on out of an address space. It costs the pieces that it takes out, and
-/// wants no memory where there is room for two more.
+/// Takes the entries of `count` pages from `first` on out of an address space. It costs the pieces that it takes out.
+/// If there is room for two pieces more, it wants no memory.
 pub(crate) fn clear_range<P: PageStore>(
     store: &mut P,
     vmos: &mut VmoTable,
@@ -35,7 +36,8 @@ pub(crate) fn clear_range<P: PageStore>(
     }
 }
 
-/// Takes the entries that belong to a region out of an address space. It costs its pieces, and wants no memory.
+/// Takes the entries that belong to a region out of an address space. It costs the region's pieces, and wants no
+/// memory.
 pub(crate) fn clear_region<P: PageStore>(
     store: &mut P,
     vmos: &mut VmoTable,
@@ -54,7 +56,7 @@ pub(crate) fn clear_region<P: PageStore>(
     }
 }
 
-/// Lets go of the keepers that the entries of a piece were, which is taken out.
+/// Takes away the keepers that the entries of a piece were. The piece is taken out.
 fn let_go<P: PageStore>(store: &mut P, vmos: &mut VmoTable, piece: Piece)
     requires taken { IsTaken (P.content store.old) vmos.old piece }
     ensures gone { (table : ℕ → ℕ → Option Entry) (root : ℕ) → IsPieceOf (table root) piece →

@@ -33,18 +33,18 @@ use vm_base::{
 use vm_model::{NameKind, Target};
 use vmo_table::VmoTable;
 
-/// Maps `len` bytes, rounded up to whole pages, of what an open name stands for into a live region, and answers the
-/// address. The first page that is shown is the one at `vmo_offset` bytes in the name. `offset` is in bytes from the start
-/// of the region: the mapping begins there with `SPECIFIC`, and with `OVERWRITE`, which takes out what is mapped there,
-/// ends at or below it with `UPPER_LIMIT`, and stands anywhere else, where it is 0. Refusals, in their order:
-/// `AccessDenied` where the region does not allow what is asked for in `perm`, or the name may not write and `perm` has
-/// writing, `InvalidArgs` where an offset is not at a page, `len` is 0, more than one of the three options is given, an
-/// offset is given with none of them, a place at the offset passes the region's end, what would be overwritten has a page
-/// of a live child of the region, or writing or executing is asked for without reading, `OutOfRange` where the part of the
-/// VMO would end past the greatest size of a VMO, `BufferTooSmall` where it ends past the end of the name, and
-/// `ALLOW_FAULTS` is not given or the name is a slice, `AlreadyExists` where the place at the offset is not free,
-/// `NoResources` where no place is free that fits, and `HostMemory`. It costs the pieces that it overwrites, and not the
-/// pages of the mapping.
+/// Maps `len` bytes, rounded up to whole pages, of what an open name stands for into a live region (`zx_vmar_map`), and
+/// answers the address. The first page that is shown is the one at `vmo_offset` bytes in the name. `offset` is in bytes
+/// from the start of the region. The mapping begins there with `SPECIFIC`, and with `OVERWRITE`, which takes out what
+/// is mapped there. It ends at or below `offset` with `UPPER_LIMIT`. With none of the three, `offset` is 0, and any
+/// place will do. Refusals, in their order: `AccessDenied` if the region does not allow what is asked for in `perm`, or
+/// the name may not write and `perm` has writing, `InvalidArgs` if an offset is not at a page, `len` is 0, more than
+/// one of the three options is given, an offset is given with none of them, a place at the offset passes the region's
+/// end, what would be overwritten has a page of a live child of the region, or writing or executing is asked for
+/// without reading, `OutOfRange` if the part of the VMO would end past the greatest size of a VMO, `BufferTooSmall` if
+/// it ends past the end of the name, and `ALLOW_FAULTS` is not given or the name is a slice, `AlreadyExists` if the
+/// place at the offset is not free, `NoResources` if no free place fits, and `HostMemory`. The call costs the pieces
+/// that it overwrites, and not the pages of the mapping.
 pub fn map<P: PageStore>(
     store: &mut P,
     vmos: &mut VmoTable,
@@ -72,8 +72,8 @@ pub fn map<P: PageStore>(
     )
 }
 
-/// What `map` does in a live region, which is `above`, where the set of mappings has noted the live children of each region.
-/// A place costs one search, also where there is none. What is noted stays as it is.
+/// Does what `map` does, in a live region, which is `above`. The set of mappings has noted the live children of each
+/// region, and what is noted stays as it is. A place costs one search, also if there is none.
 pub fn map_noted<P: PageStore>(
     store: &mut P,
     vmos: &mut VmoTable,
@@ -154,7 +154,7 @@ fn map_in<P: PageStore>(
     Ok(first * PAGE)
 }
 
-/// Why a mapping is refused before a place for it is looked for, if it is.
+/// The refusal of a mapping that is decided before a place is looked for, if there is one.
 fn refusal_of<P: PageStore>(
     store: &P,
     regions: &Regions,
@@ -196,14 +196,14 @@ fn is_denied(above: Region, t: &Target, perm: Perm) -> bool
     !allows(above, perm) || (perm.contains(Perm::WRITE) && !t.may_write)
 }
 
-/// Whether a name is one of a part of a VMO.
+/// Whether a name stands for a part of a VMO.
 fn is_slice(t: &Target) -> bool
     ensures { result ≡ is_kind Slice t.now.kind }
 {
     matches!(t.kind, NameKind::Slice)
 }
 
-/// Whether a mapping is asked for wrongly, wherever it would be.
+/// Whether a mapping is asked for wrongly, at whatever place.
 fn is_mismapped(
     regions: &Regions,
     region: RegionName,
@@ -236,7 +236,7 @@ fn is_mismapped(
     regions.meets(region, first, page_count(len))
 }
 
-/// Whether `len` bytes from an offset at a page on, rounded up to whole pages, pass so many pages.
+/// Whether `len` bytes, rounded up to whole pages, from an offset at a page on, pass the end of `pages` pages.
 fn passes(pages: PageNo, offset: u64, len: u64) -> bool
     requires { offset % PAGE ≡ 0 }
     ensures { result ≡ nat_lt (pages * PAGE) (offset + rounded len) }
@@ -244,8 +244,8 @@ fn passes(pages: PageNo, offset: u64, len: u64) -> bool
     page_of(offset) + page_count(len) > pages
 }
 
-/// The first page of a place for a mapping of `count` pages in a live region, which is `above`: at the offset where it
-/// overwrites what is there, and else a free one, as `find_place` finds it.
+/// The first page of a place for a mapping of `count` pages in a live region, which is `above`. A mapping that
+/// overwrites has its place at the offset. Any other has a free place, as `find_place` finds it.
 fn find_map_place(
     regions: &Regions,
     maps: &MappingSet,
@@ -288,7 +288,8 @@ fn entry_of(above: Region, region: RegionName, t: &Target, vmo_offset: u64, perm
     }
 }
 
-/// What the entries of a mapping may be changed to: what the region allows, but for writing where the name may not write.
+/// What the permissions of a mapping's entries may be changed to: what the region allows, without writing if the name
+/// may not write.
 fn cap_of(above: Region, t: &Target) -> Perm
     ensures { result.0 ≡ cap_of above t.now }
 {
@@ -298,7 +299,7 @@ fn cap_of(above: Region, t: &Target) -> Perm
     without_writing(above.caps)
 }
 
-/// Permissions, but for writing.
+/// Permissions without writing.
 fn without_writing(caps: Perm) -> Perm
     ensures { result.0 ≡ if has caps.0 writing then caps.0 - writing else caps.0 }
 {
@@ -306,8 +307,8 @@ fn without_writing(caps: Perm) -> Perm
     caps.difference(Perm::WRITE)
 }
 
-/// Puts a mapping where it has a place, and counts its pages as keepers of its VMO. With `overwriting`, what is mapped
-/// there goes.
+/// Puts a mapping at its place, and counts its pages as keepers of its VMO. With `overwriting`, what is mapped there is
+/// taken out.
 fn put<P: PageStore>(
     store: &mut P,
     vmos: &mut VmoTable,
@@ -337,7 +338,7 @@ fn put<P: PageStore>(
     maps.place(root, piece);
 }
 
-/// Takes out what is mapped on the pages of a place, where it is overwritten. Else nothing is.
+/// Takes out what is mapped on the pages of a place that is overwritten. At any other place nothing is mapped.
 fn clear_place<P: PageStore>(
     store: &mut P,
     vmos: &mut VmoTable,

@@ -17,7 +17,7 @@ use mapping_set::MappingSet;
 use region_tree::{Region, Regions};
 use vm_base::{MapFlags, PageNo, Perm, Refusal, RegionName, in_page, page_count, page_of};
 
-/// The region of a name that was given to one that is live. It ends where the address space does, or before.
+/// The live region of a name. It ends at the end of the address space, or before.
 pub(crate) fn live_region(regions: &Regions, name: RegionName) -> Region
     requires { is_live_region (regions_of regions.now) name.0 ≡ true }
     ensures region { regions_of regions.now name.0 ≡ Some result }
@@ -41,18 +41,19 @@ pub(crate) fn allows(region: Region, caps: Perm) -> bool
 /// Where a place is asked for.
 #[derive(Clone, Copy, Debug)]
 pub(crate) struct Wanted {
-    /// It begins at the offset.
+    /// The place begins at the offset.
     pub fixed: bool,
-    /// It ends at the offset, or before it.
+    /// The place ends at the offset, or before it.
     pub limited: bool,
-    /// It begins at the offset, and what is mapped there goes. Where a region is allocated, this asks for nothing.
+    /// The place begins at the offset, and what is mapped there is taken out. To allocate a region, this asks for
+    /// nothing.
     pub overwriting: bool,
     /// The offset, in bytes from the start of the region.
     pub offset: u64,
 }
 
 impl Wanted {
-    /// Where the options ask for a place, with an offset.
+    /// The place for which the options ask, with an offset.
     pub(crate) fn by(flags: MapFlags, offset: u64) -> Wanted
         ensures { result ≡ record {
           fixed = has flags.0 specific;
@@ -70,8 +71,8 @@ impl Wanted {
     }
 }
 
-/// Whether a place cannot be asked for like this: the offset is not at a page, there is no byte, both or none of the two
-/// ways are asked for where an offset is given, or a fixed place passes the end of the region.
+/// Whether no place can be asked for like this: the offset is not at a page, `len` is 0, both of the two ways are asked
+/// for, an offset is given with neither, or a fixed place passes the end of the region.
 pub(crate) fn is_misplaced(above: Region, wanted: Wanted, len: u64) -> bool
     ensures { result ≡ is_misplaced above wanted.fixed wanted.limited wanted.offset len }
 {
@@ -84,9 +85,9 @@ pub(crate) fn is_misplaced(above: Region, wanted: Wanted, len: u64) -> bool
     wanted.limited || page_of(wanted.offset) + page_count(len) > above.count
 }
 
-/// The first page of a free place of `count` pages in a live region, which is `above`. A fixed place ends in the region.
-/// Refusals: `AlreadyExists` where the fixed place is not free, `NoResources` where no place is free that fits. Where the
-/// live children of each region are noted, it costs one search.
+/// The first page of a free place of `count` pages in a live region, which is `above`. A fixed place ends in the
+/// region. Refusals: `AlreadyExists` if the fixed place is not free, `NoResources` if no free place fits. If the live
+/// children of each region are noted, the call costs one search.
 pub(crate) fn find_place(
     regions: &Regions,
     maps: &MappingSet,

@@ -21,12 +21,12 @@ use mapping_set::MappingSet;
 use region_tree::{Region, Regions};
 use vm_base::{PageNo, Perm, Refusal, RegionName, page_count, page_of};
 
-/// Changes what accesses to a range of a live region may do: `len` bytes, rounded up to whole pages, from an address on.
-/// Refusals, in their order: `AccessDenied` where the region does not allow what is asked for in `perm`, `InvalidArgs`
-/// where the address is not at a page, `len` is 0, the range passes an end of the region or has a page of a live child of
-/// it, or writing or executing is asked for without reading, `NotFound` where a page of the range has no entry that
-/// belongs to the region, `AccessDenied` where the entry of a page of the range may not be changed to `perm`, and
-/// `HostMemory`. It costs the pieces of the range.
+/// Changes what accesses to a range of a live region may do (`zx_vmar_protect`). The range is `len` bytes, rounded up
+/// to whole pages, from an address on. Refusals, in their order: `AccessDenied` if the region does not allow what is
+/// asked for in `perm`, `InvalidArgs` if the address is not at a page, `len` is 0, the range passes an end of the
+/// region or has a page of a live child of it, or writing or executing is asked for without reading, `NotFound` if a
+/// page of the range has no entry that belongs to the region, `AccessDenied` if the entry of a page of the range may
+/// not be changed to `perm`, and `HostMemory`. The call costs the pieces of the range.
 pub fn protect(
     regions: &Regions,
     maps: &mut MappingSet,
@@ -46,7 +46,7 @@ pub fn protect(
     protect_in(regions, maps, region, above, addr, len, perm)
 }
 
-/// What `protect` does in a live region, which is `above`. What is noted in the regions stays as it is.
+/// Does what `protect` does, in a live region, which is `above`. What is noted in the regions stays as it is.
 pub fn protect_in(
     regions: &Regions,
     maps: &mut MappingSet,
@@ -91,17 +91,17 @@ pub fn protect_in(
     Ok(())
 }
 
-/// What a region finds on a range of pages that it would give other permissions.
+/// What a region has on a range of pages whose permissions are to be changed.
 #[derive(Clone, Copy, Debug)]
 struct Cover {
     /// Each page has an entry that belongs to the region.
     whole: bool,
-    /// Where this is so, each entry may be changed to the permissions.
+    /// If so, each entry may be changed to the permissions.
     allowed: bool,
 }
 
-/// What a region finds on the pages from `first` to below `end`. It looks at each piece once, and at none behind a page
-/// that has no entry of the region.
+/// What a region has on the pages from `first` to below `end`. The function looks at each piece once, and at none
+/// behind a page that has no entry of the region.
 fn cover_of(
     maps: &MappingSet,
     root: RegionName,
@@ -142,8 +142,8 @@ struct Stretch {
     allowed: bool,
 }
 
-/// The pages of one piece from the page `at` on, which end at `end` or before. `None` exactly where the page has no entry
-/// that belongs to the region.
+/// The pages of one piece from the page `at` on, which end at `end` or before. `None` if and only if the page has no
+/// entry that belongs to the region.
 fn stretch_at(
     maps: &MappingSet,
     root: RegionName,

@@ -1,4 +1,4 @@
-//! Ranges of an address space that are asked for by a region.
+//! Ranges of an address space that a call on a region is given.
 
 ghost use Rattle.std.specs.Prelude.{◌≡◌, ◌/◌, ◌+◌, ◌≤◌};
 ghost use Rattle.vm_base.specs.Pages.{rounded};
@@ -9,8 +9,8 @@ use bitflags::Flags;
 use region_tree::Region;
 use vm_base::{Perm, in_page, page_count, page_of};
 
-/// Whether `len` bytes from an address on, rounded up to whole pages, are no range of a region: they do not begin at a
-/// page, there is none, or they pass an end of the region.
+/// Whether `len` bytes from an address on, rounded up to whole pages, are no range of a region: the address is not at a
+/// page, `len` is 0, or the bytes pass an end of the region.
 pub(crate) fn is_outside(region: Region, addr: u64, len: u64) -> bool
     requires { region.first + region.count ≤ ROOT_END }
     ensures { result ≡ is_outside region addr len (rounded len / PAGE) }

@@ -22,11 +22,11 @@ use region_tree::{Region, Regions};
 use vm_base::{HostMemory, PageNo, Refusal, RegionName, page_count, page_of};
 use vmo_table::VmoTable;
 
-/// Unmaps a range of a live region: `len` bytes, rounded up to whole pages, from an address on. Regions below it that
-/// have no other pages are destroyed. A VMO leaves with the last that keeps it. Refusals, in their order: `InvalidArgs`
-/// where the address is not at a page, `len` is 0, the range passes an end of the region, or a live child of it has a page
-/// of the range and one outside, and `HostMemory`, only where a page of the range is mapped. It costs the pieces of the
-/// range, and the regions that it destroys.
+/// Unmaps a range of a live region (`zx_vmar_unmap`): `len` bytes, rounded up to whole pages, from an address on.
+/// Regions below it that have no other pages are destroyed. A VMO that nothing keeps any more leaves. Refusals, in
+/// their order: `InvalidArgs` if the address is not at a page, `len` is 0, the range passes an end of the region, or a
+/// live child of the region has a page in the range and one outside, and `HostMemory`, only if a page of the range is
+/// mapped. The call costs the pieces of the range, and the regions that it destroys.
 pub fn unmap<P: PageStore>(
     store: &mut P,
     vmos: &mut VmoTable,
@@ -46,8 +46,8 @@ pub fn unmap<P: PageStore>(
     unmap_in(store, vmos, regions, maps, region, above, addr, len)
 }
 
-/// What `unmap` does in a live region, which is `above`. Where the live children of each region are noted, they are noted
-/// afterwards.
+/// Does what `unmap` does, in a live region, which is `above`. If the live children of each region are noted, they are
+/// noted afterwards too.
 pub fn unmap_in<P: PageStore>(
     store: &mut P,
     vmos: &mut VmoTable,
@@ -83,8 +83,8 @@ pub fn unmap_in<P: PageStore>(
     Ok(())
 }
 
-/// Destroys a live region and all below it, with their mappings. A VMO leaves with the last that keeps it. It costs the
-/// regions and the pieces that go, and never wants memory.
+/// Destroys a live region and all below it, with their mappings (`zx_vmar_destroy`). A VMO that nothing keeps any more
+/// leaves. The call costs the regions and the pieces that go, and never wants memory.
 pub fn destroy<P: PageStore>(
     store: &mut P,
     vmos: &mut VmoTable,
@@ -102,8 +102,8 @@ pub fn destroy<P: PageStore>(
     destroy_in(store, vmos, regions, maps, region, dying);
 }
 
-/// What `destroy` does to a live region, which is `dying`. Where the live children of each region are noted, they are noted
-/// afterwards: the notes of those that die are taken back.
+/// Does what `destroy` does, to a live region, which is `dying`. If the live children of each region are noted, they
+/// are noted afterwards too: the notes of those that die are taken back.
 pub fn destroy_in<P: PageStore>(
     store: &mut P,
     vmos: &mut VmoTable,
@@ -132,8 +132,8 @@ pub fn destroy_in<P: PageStore>(
     free_in_parent(regions, maps, region);
 }
 
-/// Takes the entries of `count` pages from `first` on out of an address space. `HostMemory`, only where there is one, where
-/// the host has too little memory.
+/// Takes the entries of `count` pages from `first` on out of an address space. `HostMemory` if the host has too little
+/// memory, and only if there is such an entry.
 fn clear_mapped<P: PageStore>(
     store: &mut P,
     vmos: &mut VmoTable,
@@ -173,8 +173,8 @@ fn is_mapped_in(maps: &MappingSet, root: RegionName, first: PageNo, count: u64) 
     }
 }
 
-/// Destroys all regions below a live one that have no page but of `count` pages from `first` on, those first that have
-/// no live child.
+/// Destroys all regions below a live one that have no page but of `count` pages from `first` on. A region without a
+/// live child comes before its parent.
 fn destroy_within(
     regions: &mut Regions,
     maps: &mut MappingSet,
@@ -197,7 +197,7 @@ fn destroy_within(
     }
 }
 
-/// Takes back that a region is noted in its parent, if it has one. It died just now.
+/// Takes back the note of a region in its parent, if it has one. The region has just died.
 fn free_in_parent(regions: &Regions, maps: &mut MappingSet, name: RegionName)
     ensures table { table_of maps.new ≡ table_of maps.old }
     ensures noted { (was : ℕ → Option Region) → is_live_region was name.0 ≡ true
