@@ -36,5 +36,5 @@ pub record HasZeroed (arena : Arena) (old new : Rows Row) (before after : Pool) 
   pub slots : frame_at (tree_of arena old) v p ≡ None → slots_of new ≡ slots_of old
   pub count : frame_at (tree_of arena old) v p ≡ None → row_count new ≡ row_count old
   pub spare : old.spare ≤ new.spare + 1
-  -- a row that says zero stands there then only where the page would else show a frame
+  -- a row that says zero stands there then only if the page would else show a frame
   pub needed : frame_at (tree_of arena old) v p ≢ None → IsNeeded arena new v p

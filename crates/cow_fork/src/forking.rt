@@ -23,11 +23,11 @@ use frame_pool::FramePool;
 use page_list::{PageLists, Slot};
 use vm_base::{PageNo, Tag};
 
-/// Gives a page of a VMO's node, which has no frame of its own there, a row with a frame, and answers the frame. Where the
-/// VMO was the last one that showed the frame of the page, that frame moves. Else a free one is taken, and has the bytes
-/// that the page showed. It takes no memory, and room for one row at most.
+/// Gives a page of a VMO's node a row of its own with a frame, and answers the frame. The page has no row of its own
+/// with a frame before. If the VMO was the last one that showed the page's frame, this frame moves. Otherwise a free
+/// frame is taken, and has the bytes that the page showed. The call takes no memory, and room for one row at most.
 ///
-/// The tree is exact over the frames that are taken, before and after, and each other page shows what it showed.
+/// The tree is exact over the frames that are taken, before and after. Every other page shows what it showed.
 pub fn fork(
     arena: &CowArena,
     lists: &mut PageLists,
@@ -47,7 +47,7 @@ pub fn fork(
     fork_holder(arena, lists, frames, leaf, page, found)
 }
 
-/// Does what `fork` does, where this is what `holder` answers for the page.
+/// Does what `fork` does. `found` is what `holder` answers for the page.
 pub fn fork_holder(
     arena: &CowArena,
     lists: &mut PageLists,
@@ -77,7 +77,7 @@ pub fn fork_holder(
     tag
 }
 
-/// A row of a page's own frame.
+/// The row of a page's own frame. Both bits are clear.
 fn row_of(tag: Tag) -> Slot
     ensures { result ≡ slot.Frame tag false false }
 {
@@ -115,8 +115,8 @@ fn take_copy(frames: &mut FramePool, from: Tag) -> Tag
     }
 }
 
-/// The frame for a page that was cut off from the row which held it: the frame of this row, where no other VMO shows it,
-/// and else a free one with the bytes that the page showed.
+/// The frame for a page that was cut off from the row `found`. It is the row's frame, if no other VMO shows that.
+/// Otherwise it is a free frame with the bytes that the page showed.
 fn take_after(frames: &mut FramePool, found: Holder, answer: Cut) -> Tag
     requires free { HasFree frames.old ⊎ LeavesFrame answer }
     requires taken { (t : ℕ) → frame_held found ≡ Some t → is_taken frames.old t ≡ true }

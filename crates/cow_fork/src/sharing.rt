@@ -13,12 +13,12 @@ use cow_arena::{CowArena, NodeId, Pair};
 use page_list::{ListId, PageLists, Slot};
 use vm_base::{HostMemory, Koid, PageNo};
 
-/// Puts a hidden node over the node of a VMO and the new node of a snapshot of it, which has `count` pages and sees `seen`
-/// pages of the VMO from page `first` on. Two nodes are added and no row. The rows of the VMO's list are the hidden node's
-/// then: each is noted as seen from the left, and as seen from the right where the snapshot sees it. It looks only at
-/// rows outside the pages that the snapshot sees.
+/// Puts a hidden node over the node of a VMO and the new node of a snapshot of it. The snapshot has `count` pages and
+/// sees `seen` pages of the VMO from page `first` on. Two nodes are added, and no row. The rows of the VMO's list
+/// become the hidden node's. Each is marked as seen from the left, and as seen from the right if the snapshot sees it.
+/// The call looks only at rows outside the pages that the snapshot sees.
 ///
-/// `HostMemory` where the host has too little memory: nothing has changed then. Fewer than 2^64 - 2 lists were given before.
+/// `HostMemory`, with nothing changed, if the host has too little memory. Fewer than 2^64 - 2 lists were given before.
 pub fn share(
     arena: &mut CowArena,
     lists: &mut PageLists,
@@ -46,8 +46,9 @@ pub fn share(
     Ok(pair)
 }
 
-/// Sets the bits of the rows of a list of `count` pages, whose node got two children: the left one sees all of them, and
-/// the right one `seen` pages from page `first` on. It looks only at rows outside these.
+/// Sets the bits of the rows of a list of `count` pages whose node got two children. The left child sees all of the
+/// rows, and the right one those of `seen` pages from page `first` on. The function looks only at rows outside these
+/// pages.
 fn split_rows(lists: &mut PageLists, list: ListId, first: PageNo, seen: PageNo, count: PageNo)
     requires plain { ArePlain (slots_of lists.old) list.0 count }
     requires window { first + seen ≤ count }
@@ -59,7 +60,7 @@ fn split_rows(lists: &mut PageLists, list: ListId, first: PageNo, seen: PageNo, 
     hide_rows(lists, list, first + seen, count);
 }
 
-/// Notes of the rows of the pages from `from` to below `end` that no VMO on the right sees them.
+/// Marks the rows of the pages from `from` to below `end` as seen by no VMO on the right.
 fn hide_rows(lists: &mut PageLists, list: ListId, from: PageNo, end: PageNo)
     ensures slots { slots_of lists.new ≡ hidden_slots (slots_of lists.old) list.0 from end }
     ensures count { row_count lists.new ≡ row_count lists.old }
@@ -86,7 +87,7 @@ fn next_below(lists: &PageLists, list: ListId, from: PageNo, end: PageNo) -> Opt
     }
 }
 
-/// Notes of the row of a page, if it has one, that no VMO on the right sees it.
+/// Marks the row of a page, if it has one, as seen by no VMO on the right.
 fn hide_row(lists: &mut PageLists, list: ListId, page: PageNo)
     ensures slots { slots_of lists.new ≡ hidden_slots (slots_of lists.old) list.0 page (page + 1) }
     ensures count { row_count lists.new ≡ row_count lists.old }

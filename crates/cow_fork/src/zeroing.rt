@@ -24,10 +24,10 @@ use page_list::{PageLists, Slot};
 use vm_base::{PageNo, Tag};
 
 /// Makes a page of a VMO's node zero. A frame that no other VMO shows is given back. A row that says zero is added only
-/// where the page would else show the frame of a row above it; nothing changes where the page is zero. It takes no
-/// memory, and room for one row at most.
+/// if the page would otherwise show the frame of a row above it. If the page is zero, nothing changes. The call takes
+/// no memory, and room for one row at most.
 ///
-/// The tree is exact over the frames that are taken, before and after, and each other page shows what it showed.
+/// The tree is exact over the frames that are taken, before and after. Every other page shows what it showed.
 pub fn mark_zero(
     arena: &CowArena,
     lists: &mut PageLists,
@@ -56,8 +56,8 @@ fn has_frame(found: Holder) -> bool
     found.frame().is_some()
 }
 
-/// Takes a page of a VMO's node out of sight, which shows a frame: its own row goes, or it is cut off from the row above
-/// it. Answers who sees the frame then. It takes no room.
+/// Takes a page of a VMO's node that shows a frame out of sight: its own row goes, or it is cut off from the row above.
+/// Answers who sees the frame then. It takes no room.
 fn let_go(arena: &CowArena, lists: &mut PageLists, leaf: NodeId, page: PageNo, found: Holder) -> Cut
     requires forest { IsForest (nodes_of arena.now) arena.now.lists }
     requires page { IsPage (tree_of arena.now lists.old) leaf.0 page }
@@ -87,7 +87,7 @@ fn tag_in(row: Slot) -> Tag
     }
 }
 
-/// Gives the frame back that an answer leaves, if it leaves one.
+/// Gives back the frame that an answer leaves to its caller, if it leaves one.
 fn give_left(frames: &mut FramePool, answer: Cut)
     requires { (tag : Tag) → answer ≡ cut.LastViewer tag → is_taken frames.old tag.0 ≡ true }
     ensures given { (tag : Tag) → answer ≡ cut.LastViewer tag →
@@ -101,8 +101,8 @@ fn give_left(frames: &mut FramePool, answer: Cut)
     }
 }
 
-/// Brings a page that was left out of sight back into sight as a page of zeros: it gets a row that says so where a row
-/// above it shows a frame.
+/// Brings a page that was left out of sight back into sight as a page of zeros. If a row above shows a frame there, the
+/// page gets a row that says zero.
 fn hide_above(arena: &CowArena, lists: &mut PageLists, leaf: NodeId, page: PageNo)
     requires forest { IsForest (nodes_of arena.now) arena.now.lists }
     requires page { IsPage (tree_of arena.now lists.old) leaf.0 page }
