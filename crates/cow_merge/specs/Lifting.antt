@@ -74,8 +74,8 @@ pub record IsLifting (arena : Arena) (old new : Rows Row) (before after : Pool) 
 abbrev pub IsBefore : Option ℕ → ℕ → Type 0
 IsBefore to p = IfSome to (λ (end : ℕ). p < end)
 
--- Whether the row of page q of a hidden node is seen through its child s: of a row with a frame the bit of that side says so,
--- and a zero row is seen through the child exactly where the child itself sees it.
+-- Whether the row of page q of a hidden node is seen through its child s: of a row with a frame the bit of that side
+-- says so, and a zero row is seen through the child if and only if the child itself sees it.
 pub record TellsSeen (slots : Slots) (parent : Node) (s : ℕ) (node : Node) (q : ℕ) (row : Slot) (seen : Bool) : Type 0 where
   pub frame : (tag : Tag) (left right : Bool) → row ≡ slot.Frame tag left right → seen ≡ not (bit_on (side_of parent s) left right)
   pub zero : row ≡ slot.Zero → IsTrue seen ↔ SeesRow slots node q

@@ -15,20 +15,24 @@ use cow_arena::{CowArena, NodeId};
 use frame_pool::FramePool;
 use page_list::PageLists;
 
-/// Takes a VMO's node away. The frames that only it showed are given back. Where it has a parent, this goes too: its rows
-/// move into the sibling, where they are seen through the sibling, and the sibling takes its place. But where the sibling is a
-/// VMO's node that sees the parent from page 0 on, and has fewer rows than it, the parent's list goes over to the sibling, whose
-/// rows move into it.
+/// Removes a VMO's node. The frames that only it showed are given back. If the node has a parent, the parent goes too:
+/// its rows move into the sibling, if they are seen through the sibling, and the sibling takes its place. If the
+/// sibling is a VMO's node that sees the parent from page 0 on and has fewer rows than the parent, the sibling takes
+/// over the parent's list instead, and its rows move into this list.
 ///
-/// It takes no memory. It costs the node's own rows, the rows on a way down from the sibling to a VMO's node, which shows what
-/// this one shows above the parent (`leave_out_beside`), and the rows above the parent that pages outside the windows of this
-/// way reach; at each of these rows, but the own ones, a search for another VMO that sees what the page sees there. Where the way
-/// is longer than 64 nodes, all pages are outside. And it costs the rows of the parent, at each of those that move into a hidden
-/// sibling a search on each side of this. Where the list goes over, it costs in place of all rows of the parent those of the
-/// sibling, those under own rows of the node, and those that lie outside one of the two windows. Which of the two it is costs the
-/// rows of the smaller list.
+/// The call takes no memory. It costs:
+/// - the node's own rows;
+/// - the rows on a way down from the sibling to a VMO's node, which shows what this node shows above the parent
+///   (`leave_out_beside`);
+/// - the rows above the parent that are reached by pages outside the windows of this way, which is all pages if the way
+///   is longer than 64 nodes;
+/// - at each row of the last two kinds, a search for another VMO that sees there what the page sees;
+/// - the rows of the parent, and for each that moves into a hidden sibling, a search on each side of the sibling;
+/// - if the list is taken over, in place of all rows of the parent: the sibling's rows, the rows under own rows of the
+///   node, and the rows outside one of the two windows;
+/// - the rows of the smaller of the two lists, to decide which list stays.
 ///
-/// The tree is exact over the frames that are taken, before and after, and each other VMO shows what it showed.
+/// The tree is exact over the frames that are taken, before and after. Every other VMO shows what it showed.
 pub fn close(arena: &mut CowArena, lists: &mut PageLists, frames: &mut FramePool, leaf: NodeId)
     requires exact { IsExact (tree_of arena.old lists.old) all_in_sight (is_taken frames.old) }
     requires leaf { IsSomeAnd (nodes_of arena.old leaf.0) (λ node. IsSome node.koid) }

@@ -1,4 +1,4 @@
-//! Handing the list of a hidden node over to a visible child, before the two are merged.
+//! Handing the list of a hidden node over to a visible child, before the two nodes are merged.
 
 ghost use Rattle.std.specs.Prelude.{◌≡◌, ◌+◌, ◌≤◌, ℕ, true, Some, IsSome};
 ghost use Rattle.balanced_tree.specs.Rows.{Rows};
@@ -18,8 +18,8 @@ use frame_pool::FramePool;
 use page_list::{ListId, PageLists, Slot};
 use vm_base::PageNo;
 
-/// Whether the list of a hidden node is to go over to its child: the child is a VMO's node that sees its parent from page 0
-/// on, and has fewer rows than the parent.
+/// Whether a hidden node hands its list over to this child: the child is a VMO's node that sees the hidden node from
+/// page 0 on, and it has fewer rows.
 pub(crate) fn goes_over(arena: &CowArena, lists: &PageLists, hidden: NodeId, child: NodeId) -> bool
     requires hidden { IsSome (nodes_of arena.now hidden.0) }
     requires child { IsSome (nodes_of arena.now child.0) }
@@ -32,7 +32,8 @@ pub(crate) fn goes_over(arena: &CowArena, lists: &PageLists, hidden: NodeId, chi
     node.seen > 0 && has_fewer(lists, node.list, arena.node(hidden).list)
 }
 
-/// Whether a list has fewer rows than another. It goes through both side by side, so it costs the rows of the smaller.
+/// Whether a list has fewer rows than another. The function goes through both side by side, so it costs the rows of the
+/// smaller.
 fn has_fewer(lists: &PageLists, list: ListId, other: ListId) -> bool {
     let mut at = 0;
     let mut beside = 0;
@@ -49,9 +50,9 @@ fn has_fewer(lists: &PageLists, list: ListId, other: ListId) -> bool {
     false
 }
 
-/// Hands the list of a hidden node over to its child, where the other child is a VMO's node that goes. This has no rows, and
-/// its pages show frames of the hidden node alone. Rows outside the windows of the two children are settled one by one, and
-/// so are those under rows of the child; the others stay as they are, since both children see them.
+/// Hands the list of a hidden node over to one child. The other child is a VMO's node that goes: it has no rows, and
+/// its pages show frames of the hidden node alone. Rows outside the windows of the two children, and rows under rows of
+/// the child, are settled one by one. The other rows stay as they are, since both children see them.
 pub(crate) fn hand_over(
     arena: &CowArena,
     lists: &mut PageLists,
@@ -87,7 +88,8 @@ pub(crate) fn hand_over(
     hand_rows(arena, lists, frames, leaf, hidden, child);
 }
 
-/// Puts each row of a VMO's node into the list of its parent, in place of the row there. The other child of the parent goes.
+/// Puts each row of a VMO's node into the list of its parent, in place of the row there. The other child of the parent
+/// goes.
 fn hand_rows(
     arena: &CowArena,
     lists: &mut PageLists,
@@ -111,7 +113,7 @@ fn hand_rows(
     }
 }
 
-/// Puts a row into a list, in place of the row of the page, whose frame is given back, and notes its place with its frame.
+/// Puts a row into a list, and sets the backlink of its frame. The frame of the row that stood there is given back.
 fn put_row(lists: &mut PageLists, frames: &mut FramePool, list: ListId, page: PageNo, slot: Slot)
     requires room { 1 ≤ lists.old.spare }
     requires taken { (tag : ℕ) → frame_in slot ≡ Some tag → IsSome (taken_frames frames.old tag) }
@@ -124,7 +126,7 @@ fn put_row(lists: &mut PageLists, frames: &mut FramePool, list: ListId, page: Pa
     note_place(frames, slot, list, page);
 }
 
-/// Takes the row of a page of a list away, if it has one, and gives its frame back.
+/// Removes the row of a page of a list, if it has one, and gives its frame back.
 fn clear_page(lists: &mut PageLists, frames: &mut FramePool, list: ListId, page: PageNo)
     requires { (tag : ℕ) → frame_there (slots_of lists.old list.0 page) ≡ Some tag → IsSome (taken_frames frames.old tag) }
     ensures { HasNoRow lists.old lists.new frames.old frames.new list.0 page }

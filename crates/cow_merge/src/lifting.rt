@@ -1,4 +1,4 @@
-//! Moving the rows of a hidden node into one of its children, before the two are merged.
+//! Moving the rows of a hidden node into one of its children, before the two nodes are merged.
 
 ghost use Rattle.std.specs.Prelude.{◌≡◌, ◌≤◌, ◌<◌, ◌+◌, ◌^◌, ◌↔◌, ℕ, if◌then◌else◌, Bool, true, false, not, None, Some, IsSome, IfSome, IfNone, IsTrue};
 ghost use Rattle.balanced_tree.specs.Pairs.{with_pair, IsNext};
@@ -23,10 +23,11 @@ use frame_pool::{Backlink, FramePool};
 use page_list::{ListId, PageLists, Slot};
 use vm_base::PageNo;
 
-/// Empties the list of a hidden node, one of whose children is a VMO's node that goes, from page `from` to below `to`, or from
-/// there on: rows that are seen through the other child move into the child's list, and the frames of the others are given
-/// back. The VMO's node has no rows, and its pages show frames of this hidden node alone. The split bits say of a row with a
-/// frame whether it is seen, so that the going node's pages need not be cut off from it before.
+/// Empties the list of a hidden node from page `from` on, to below page `to` if there is one. Rows that are seen
+/// through the child move into the child's list, and the frames of the other rows are given back. The hidden node's
+/// other child is a VMO's node that goes: it has no rows, and its pages show frames of the hidden node alone. The split
+/// bits say whether a row with a frame is seen through the child, so the pages of the other child need not be cut off
+/// before.
 pub(crate) fn lift_rows(
     arena: &CowArena,
     lists: &mut PageLists,
@@ -54,8 +55,8 @@ pub(crate) fn lift_rows(
     }
 }
 
-/// Takes the row of the least page of a list from `from` to below `to`, or from there on, out, and answers the page and its slot.
-/// `None` exactly where there is none.
+/// Takes out the row of the least page of a list from `from` on, and to below `to` if there is one, and answers the
+/// page and its slot. `None` if and only if there is none.
 fn take_below(
     lists: &mut PageLists,
     list: ListId,
@@ -79,7 +80,7 @@ fn take_below(
     Some((page, slot))
 }
 
-/// Whether a page is none below `to`, if this is a page.
+/// Whether `page` is at or past `to`, if there is a `to`.
 fn is_past(page: PageNo, to: Option<PageNo>) -> bool
     ensures { result ≡ true → (p : ℕ) → page ≤ p → IsBefore to p → ⊥ }
 {
@@ -89,8 +90,8 @@ fn is_past(page: PageNo, to: Option<PageNo>) -> bool
     }
 }
 
-/// Moves a row that was taken out of the list of a hidden node into its child's list, if it is seen through this child. Else
-/// the frame of the row is given back, if it has one.
+/// Moves a row that was taken out of the list of a hidden node into the child's list, if it is seen through this child.
+/// Otherwise the frame of the row is given back, if it has one.
 pub(crate) fn settle(
     arena: &CowArena,
     lists: &mut PageLists,
@@ -123,8 +124,8 @@ pub(crate) fn settle(
     note_place(frames, moved, node.list, to);
 }
 
-/// Whether a row of a page of a hidden node is seen through its child on this side: of a row with a frame the bit of the side
-/// says so, and a zero row is seen through the child exactly where the child itself sees it.
+/// Whether the row of a page of a hidden node is seen through the child on this side. For a row with a frame the bit of
+/// the side says so. A zero row is seen through the child if and only if the child itself sees it.
 fn is_seen_through(lists: &PageLists, side: Side, node: Node, page: PageNo, slot: Slot) -> bool
     ensures frame { (tag : Tag) (left right : Bool) → slot ≡ Slot.Frame tag left right → result ≡ not (bit_on side left right) }
     ensures zero { slot ≡ Slot.Zero → IsTrue result ↔ SeesRow (slots_of lists.now) node page }
@@ -147,8 +148,8 @@ fn sees_row(lists: &PageLists, node: Node, page: PageNo) -> bool
         && lists.find(node.list, page - node.first).is_none()
 }
 
-/// The slot with the bits that it has in the list of a node, at a page of it: in that of a visible node both are false,
-/// and in that of a hidden node each says whether no VMO on its side sees the row.
+/// The slot with the bits that it has in the list of node `at`, at a page of this node. If the node is visible, both
+/// bits are clear. If it is hidden, each bit says whether no VMO on its side sees the row.
 fn slot_in(arena: &CowArena, lists: &PageLists, at: NodeId, page: PageNo, slot: Slot) -> Slot
     requires forest { IsForest (nodes_of arena.now) arena.now.lists }
     requires node { IsSome (nodes_of arena.now at.0) }
@@ -170,7 +171,7 @@ fn slot_in(arena: &CowArena, lists: &PageLists, at: NodeId, page: PageNo, slot: 
     }
 }
 
-/// Notes the place of a row with its frame, if it has one.
+/// Sets the backlink of a row's frame, if it has one.
 #[tactic(auto, unfolding(vm_base::specs::Entries::passes))]
 pub(crate) fn note_place(frames: &mut FramePool, slot: Slot, list: ListId, page: PageNo)
     requires { (tag : ℕ) → frame_in slot ≡ Some tag → IsSome (taken_frames frames.old tag) }

@@ -34,9 +34,10 @@ pub(crate) struct Pages {
     pub(crate) to: PageNo,
 }
 
-/// Leaves the pages of a VMO's node out of sight, from page `first` on. Its own rows there go, and its pages are cut off
-/// from the frames that they see in rows above it. The frames that no other VMO shows are given back. It goes through the rows
-/// of the parent that the range reaches, and through those further up for the pages that have no witness (`leave_out_beside`).
+/// Leaves the pages of a VMO's node from `first` on out of sight. The node's own rows of these pages go, and each page
+/// is cut off from the frame that it sees in a row above the node. Frames that no other VMO shows are given back. The
+/// call goes through the rows of the parent that the range reaches. It goes through rows further up only for the pages
+/// that have no witness (`leave_out_beside`).
 pub(crate) fn leave_out(
     arena: &CowArena,
     lists: &mut PageLists,
@@ -71,8 +72,8 @@ pub(crate) fn leave_out(
     );
 }
 
-/// Does what `leave_out` does with all pages of a VMO's node, but for those that the parent holds: nothing is done with the
-/// rows of the parent. The others are cut off from the rows of the nodes above the parent.
+/// Does what `leave_out` does with all pages of a VMO's node, but leaves those alone that the parent holds. The
+/// parent's rows stay as they are. Every other page is cut off from the row that it sees above the parent.
 pub(crate) fn leave_out_above(
     arena: &CowArena,
     lists: &mut PageLists,
@@ -97,9 +98,9 @@ pub(crate) fn leave_out_above(
     );
 }
 
-/// Leaves the pages of a VMO's node from `first` on out of sight of the rows above its parent, to whose pages below `to` they
-/// come, `shift` pages further on. Those that the parent holds, if it is spared, are left, and the others come to no row of the
-/// parent, whose rows stay as they are.
+/// Leaves the pages of a VMO's node from `first` on out of sight of the rows above its parent `hidden`. Page `q` of the
+/// VMO's node comes to page `q + shift` of the parent, which is below `to`. If the parent is spared, the pages that it
+/// holds are left alone. No other page comes to a row of the parent, so the parent's rows stay as they are.
 fn leave_out_further(
     arena: &CowArena,
     lists: &mut PageLists,
@@ -131,10 +132,10 @@ fn leave_out_further(
     );
 }
 
-/// Cuts the pages of a VMO's node from `first` on off from the frames that they see in rows above the node `start`, which is
-/// this, to whose pages below `to` they come, `shift` pages further on. Those that the parent holds, if it is spared, are
-/// left, and the others come to no row of `start`, whose rows stay as they are. The pages `skip` show nothing but what the parent
-/// holds, and are passed over.
+/// Cuts the pages of a VMO's node from `first` on off from the frames that they see in rows above the node `start`,
+/// which is `node`. Page `q` of the VMO's node comes to page `q + shift` of `start`, which is below `to`. The pages
+/// that a spared parent holds are left alone. No other page comes to a row of `start`, so the rows of `start` stay as
+/// they are. The pages `skip` are passed over: they show nothing but what the spared parent holds.
 fn cut_upwards(
     arena: &CowArena,
     lists: &mut PageLists,
@@ -186,14 +187,14 @@ fn cut_upwards(
     }
 }
 
-/// Whether no page from `from` to below `to` is outside these.
+/// `true` only if each page from `from` to below `to` is one of `pages`.
 fn has_all(pages: Pages, from: PageNo, to: PageNo) -> bool
     ensures { result ≡ true → (q : ℕ) → from ≤ q → q < to → IsOutside pages q → ⊥ }
 {
     pages.from <= from && to <= pages.to
 }
 
-/// Takes the own rows of a VMO's node away, from page `first` on, and gives their frames back.
+/// Removes the own rows of a VMO's node from page `first` on, and gives their frames back.
 fn drop_rows(
     arena: &CowArena,
     lists: &mut PageLists,
@@ -214,7 +215,7 @@ fn drop_rows(
     }
 }
 
-/// Gives the frame of a row back, if it has one.
+/// Gives the frame of a row back, if the row has one.
 pub(crate) fn give_back_frame(frames: &mut FramePool, slot: Slot)
     requires { (tag : ℕ) → frame_in slot ≡ Some tag → IsSome (taken_frames frames.old tag) }
     ensures { HasGiven frames.old frames.new (frame_in slot) }
@@ -224,9 +225,9 @@ pub(crate) fn give_back_frame(frames: &mut FramePool, slot: Slot)
     }
 }
 
-/// Cuts the pages of a VMO's node from `first` on off from the frames that they see in the rows of a node above it, which is
-/// `above`, below its page `to`. They come to it from this side, to its pages that are `shift` pages further on, and to no
-/// rows before, but for those that a spared parent holds. The pages `skip` are passed over.
+/// Cuts the pages of a VMO's node from `first` on off from the frames that they see in the rows of `above`, a node
+/// above it, below page `to` of `above`. Page `q` of the VMO's node comes to page `q + shift` of `above`, from this
+/// side. It comes to no row before, unless a spared parent holds it. The pages `skip` are passed over.
 fn cut_rows(
     arena: &CowArena,
     lists: &mut PageLists,
@@ -269,8 +270,8 @@ fn cut_rows(
     }
 }
 
-/// The least page of a list from `from` on and below `to` that has a row, but for those to which the pages `skip` come, `shift`
-/// pages further on. `None` exactly where there is none.
+/// The least page of a list, from `from` on and below `to`, that has a row and to which no page of `skip` comes. Page
+/// `q` comes to page `q + shift`. `None` if and only if there is no such page.
 fn next_outside(
     lists: &PageLists,
     list: ListId,
@@ -296,14 +297,14 @@ fn next_outside(
     next_below(lists, list, skip.to + shift, to)
 }
 
-/// Whether a page is one of these.
+/// Whether `page` is one of `pages`.
 fn is_inside(pages: Pages, page: PageNo) -> bool
     ensures { result ≡ true → (pages.from ≤ page) × (page < pages.to) }
 {
     pages.from <= page && page < pages.to
 }
 
-/// The least page of a list from `from` on and below `to` that has a row. `None` exactly where there is none.
+/// The least page of a list, from `from` on and below `to`, that has a row. `None` if and only if there is none.
 pub(crate) fn next_below(
     lists: &PageLists,
     list: ListId,
@@ -318,9 +319,10 @@ pub(crate) fn next_below(
     if page < to { Some(page) } else { None }
 }
 
-/// Cuts page `own` of a VMO's node off from this row of a hidden node, to which that page alone can come, from this side, and
-/// gives the frame back, if no other VMO shows it. Where the page does not come to the row, nothing changes, nor where the
-/// row's bit of the side is set, which says so. The VMO's node has no row of its own there.
+/// Cuts page `own` of a VMO's node off from this row of a hidden node, and gives the frame back if no other VMO shows
+/// it. The VMO's node has no row of its own at the page. No other page of the node can come to the row, and this one
+/// only from this side. If it does not come to the row, nothing changes. The row's bit of the side, if it is set, says
+/// at once that no page comes from there.
 pub(crate) fn cut_off(
     arena: &CowArena,
     lists: &mut PageLists,
@@ -347,7 +349,7 @@ pub(crate) fn cut_off(
     give_back_last(frames, answer);
 }
 
-/// Whether a row has a frame and its bit of this side is set: nobody in sight sees it from there.
+/// Whether a row has a frame and its bit of this side is set. If so, nobody in sight sees the row from there.
 fn is_split(side: Side, slot: Slot) -> bool
     ensures { result ≡ is_split side slot }
 {
@@ -358,7 +360,7 @@ fn is_split(side: Side, slot: Slot) -> bool
     }
 }
 
-/// Gives the frame of a row back that a cut has taken away.
+/// Gives back the frame that a cut leaves to its caller, if it leaves one.
 fn give_back_last(frames: &mut FramePool, answer: Cut)
     requires { (tag : Tag) → answer ≡ cut.LastViewer tag → IsSome (taken_frames frames.old tag.0) }
     ensures { HasGiven frames.old frames.new (frame_left answer) }

@@ -15,13 +15,15 @@ use frame_pool::FramePool;
 use page_list::PageLists;
 use vm_base::PageNo;
 
-/// Lets a VMO's node have `count` pages, which are not more than it had. The frames that only its pages past the new end
-/// showed are given back. It takes no memory. It costs the rows that those pages reach in the node's list and in that of its
-/// parent, the rows that hide them on a way down from the sibling to a VMO's node, which shows what they show further up
-/// (`leave_out_beside`), and the rows above the parent that pages outside the windows of this way reach. Where the way is longer
-/// than 64 nodes, all pages are outside.
+/// Changes the page count of a VMO's node to `count`, which is not more than it had. The frames that only pages past
+/// the new end showed are given back.
 ///
-/// The tree is exact over the frames that are taken, before and after, and each page that is left shows what it showed.
+/// The call takes no memory. It costs the rows that the pages past the new end reach in the node's list and in its
+/// parent's, the rows that hide these pages on a way down from the sibling to a VMO's node, which shows what they show
+/// further up (`leave_out_beside`), and the rows above the parent that are reached by pages outside the windows of this
+/// way. If the way is longer than 64 nodes, all pages are outside.
+///
+/// The tree is exact over the frames that are taken, before and after. Every page that is left shows what it showed.
 pub fn shrink(
     arena: &mut CowArena,
     lists: &mut PageLists,
@@ -38,7 +40,7 @@ pub fn shrink(
     arena.set_count(leaf, count);
 }
 
-/// Lets the window of a VMO's node have at most `count` pages.
+/// Shortens the window of a VMO's node to `count` pages, if it is longer.
 fn narrow(arena: &mut CowArena, leaf: NodeId, count: PageNo)
     requires forest { IsForest (nodes_of arena.old) arena.old.lists }
     requires leaf { IsSome (nodes_of arena.old leaf.0) }

@@ -22,8 +22,9 @@ use frame_pool::FramePool;
 use page_list::PageLists;
 use vm_base::PageNo;
 
-/// Settles the rows of a hidden node that stand under own rows of a VMO's node that goes: nobody sees them from its side, so that
-/// they move into the list of the other child where they are seen through it, and else go with their frames.
+/// Settles the rows of a hidden node that stand under own rows of a VMO's node that goes. Nobody sees them from that
+/// node's side. They move into the list of the other child if they are seen through it, and otherwise go with their
+/// frames.
 pub(crate) fn uncover(
     arena: &CowArena,
     lists: &mut PageLists,

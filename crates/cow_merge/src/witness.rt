@@ -21,12 +21,12 @@ use frame_pool::FramePool;
 use page_list::{ListId, PageLists};
 use vm_base::PageNo;
 
-/// How many nodes are tried on the way down from the sibling. Where the way is longer, it is given up: the pages are cut off
+/// The most nodes that are tried on the way down from the sibling. A longer way is given up: the pages are then cut off
 /// from the rows above one by one, which is slower.
 const MOST_NODES: u64 = 64;
 
-/// How far the way down from the sibling has come: pages `from` to below `to` of node `at` lie in its window, and go on to the
-/// pages of the leaf's parent that are `shift` pages further on, past no row above the node.
+/// How far the way down from the sibling has come. The pages `from` to below `to` of node `at` lie in its window. They
+/// come to the pages of the leaf's parent that are `shift` pages further on, past no row above the node.
 #[derive(Clone, Copy)]
 pub(crate) struct Way {
     pub(crate) at: NodeId,
@@ -35,13 +35,14 @@ pub(crate) struct Way {
     pub(crate) to: PageNo,
 }
 
-/// Leaves pages of a VMO's node out of sight that another VMO shows too, and answers them: none of them shows anything then but
-/// what the parent holds. The VMO's pages from `first` on come to the parent's pages below `to`, `shift` pages further on, and
-/// to no rows of it, but where it is spared.
+/// Leaves pages of a VMO's node out of sight that another VMO shows too, and answers these pages. Afterwards they show
+/// nothing but what the parent holds. Page `q` of the VMO's node, from `first` on, comes to page `q + shift` of the
+/// parent, below `to`. It comes to no row of the parent, unless the parent is spared.
 ///
-/// It goes down from the sibling, into the child with the widest window over those of these pages that go on above the parent, to a
-/// VMO's node, which is the witness: what comes from there to a page of the parent sees what the leaf sees above it, so that no row changes. Pages under
-/// rows on the way down are cut off one by one. It costs these rows, and some tests for each of `MOST_NODES` nodes at most.
+/// The call goes down from the sibling to a VMO's node, the witness. At each node it takes the child with the widest
+/// window over the pages that go on above the parent. A page of the witness that comes to a page of the parent sees
+/// above the parent what the leaf sees there, so no row changes. Pages under rows on the way down are cut off one by
+/// one. The call costs these rows, and some tests for each of at most `MOST_NODES` nodes.
 pub(crate) fn leave_out_beside(
     arena: &CowArena,
     lists: &mut PageLists,
@@ -79,8 +80,9 @@ pub(crate) fn leave_out_beside(
     Pages { from: 0, to: 0 }
 }
 
-/// The way one node further down: to a child, from pages `from` to below `to` of its parent, which are `shift` less than those of
-/// the leaf's parent. Where none of them lies in the child's window, the way has no pages.
+/// The way one node further down, to a child of a node. The way had the pages `from` to below `to` of that node, which
+/// come to pages of the leaf's parent `shift` further on. If none of them lies in the child's window, the new way has
+/// no pages.
 fn enter(arena: &CowArena, child: NodeId, shift: PageNo, from: PageNo, to: PageNo) -> Way
     requires child { IsSome (nodes_of arena.now child.0) }
     ensures { (node : Node) → nodes_of arena.now child.0 ≡ Some node → IsEntered node child shift from to result }
@@ -94,7 +96,8 @@ fn enter(arena: &CowArena, child: NodeId, shift: PageNo, from: PageNo, to: PageN
     }
 }
 
-/// The pages of the leaf to which those of a way belong, where pages of the leaf are `shift` less than those of its parent.
+/// The pages of the leaf that come to the same pages of its parent as the pages of a way. Pages of the leaf come to
+/// pages of the parent `shift` further on.
 fn pages_of(way: Way, shift: PageNo) -> Pages
     requires from { shift ≤ way.from + way.shift }
     requires to { way.to + way.shift < 2 ^ 64 }
@@ -108,8 +111,8 @@ fn pages_of(way: Way, shift: PageNo) -> Pages
     }
 }
 
-/// The child of a hidden node into which the way goes on: the one whose window has more of its pages, and of two that have as
-/// many one that is a VMO's node, or else one without rows.
+/// The child of a hidden node into which the way goes on: the one whose window has more of the way's pages. If both
+/// have as many, it is one that is a VMO's node, or else one without rows.
 fn wider(arena: &CowArena, lists: &PageLists, way: Way) -> NodeId
     requires forest { IsForest (nodes_of arena.now) arena.now.lists }
     requires hidden { IsSomeAnd (nodes_of arena.now way.at.0) (λ node. node.koid ≡ None) }
@@ -127,7 +130,7 @@ fn wider(arena: &CowArena, lists: &PageLists, way: Way) -> NodeId
     }
 }
 
-/// Whether the way goes on to a child of its node and not to the other child.
+/// Whether the way goes on to `child` and not to `other`.
 fn is_wider(arena: &CowArena, lists: &PageLists, child: NodeId, other: NodeId, way: Way) -> bool
     requires child { IsSome (nodes_of arena.now child.0) }
     requires other { IsSome (nodes_of arena.now other.0) }
@@ -139,7 +142,8 @@ fn is_wider(arena: &CowArena, lists: &PageLists, child: NodeId, other: NodeId, w
     beside < pages || (pages == beside && is_nearer(arena, lists, child, other))
 }
 
-/// Whether a node is a VMO's, and another is not, or has no rows, and the other has some and is not a VMO's.
+/// Whether the way prefers `node` to `other`, if both windows have as many pages: `other` is no VMO's node, and `node`
+/// is one or has no rows.
 fn is_nearer(arena: &CowArena, lists: &PageLists, node: NodeId, other: NodeId) -> bool
     requires node { IsSome (nodes_of arena.now node.0) }
     requires other { IsSome (nodes_of arena.now other.0) }
@@ -150,8 +154,8 @@ fn is_nearer(arena: &CowArena, lists: &PageLists, node: NodeId, other: NodeId) -
     arena.node(node).koid.is_some() || lists.next(arena.node(node).list, 0).is_none()
 }
 
-/// Cuts the pages of a VMO's node off from the rows above its parent that come there under rows of a node on the way down, whose
-/// list this is. Those that the parent holds are left.
+/// Cuts the pages of a VMO's node off from the rows above its parent, if they come there under rows of the list of a
+/// node on the way down. Pages that the parent holds are left alone.
 fn cut_under(
     arena: &CowArena,
     lists: &mut PageLists,
@@ -177,8 +181,8 @@ fn cut_under(
     }
 }
 
-/// Cuts a page of a VMO's node, which has no row of its own there, off from the row above that it sees, and gives the frame
-/// back, if no other VMO shows it. Where it is a row of the parent, nothing changes.
+/// Cuts a page of a VMO's node off from the row above that it sees, and gives the frame back if no other VMO shows it.
+/// The page has no row of its own. If it sees a row of the parent, nothing changes.
 fn cut_page(
     arena: &CowArena,
     lists: &mut PageLists,
