@@ -1,7 +1,7 @@
 //! What a caller of the lower crates knows at plain arguments, by their contracts alone.
 //!
-//! Each law stands in place of wrong bodies: where a contract let another answer through at its arguments, the law would be
-//! proved no more. No crate stands on this one.
+//! Each law stands in place of wrong bodies: if a contract allowed another answer at the law's arguments, the law would
+//! not be proved any more. No crate stands on this one.
 #![tactic(auto)]
 
 mod numbers;
