@@ -16,8 +16,9 @@ use region_tree::Regions;
 use vm_base::{DATA_BYTES, Refusal, RegionName};
 use vm_model::Answer;
 
-/// Reads `len` bytes from an address on through the mappings of an address space, where the region was given, is live and
-/// is a root, into room for `DATA_BYTES` bytes.
+/// Reads `len` bytes from an address on through the mappings of an address space, into `room`, which has at least
+/// `DATA_BYTES` bytes. `BadHandle` if the region was never given, `BadState` if it is destroyed, `InvalidArgs` if it is
+/// no root region or `len` is over `DATA_BYTES`. Otherwise the refusals are those of `fault`.
 #[tactic(auto, unfolding(vm_model::specs::Space::Regions::region_of))]
 pub(crate) fn mem_read<'a, P: PageStore>(
     store: &P,
@@ -51,8 +52,9 @@ pub(crate) fn mem_read<'a, P: PageStore>(
     }
 }
 
-/// Writes bytes, at most `DATA_BYTES`, from an address on through the mappings of an address space, where the region was
-/// given, is live and is a root.
+/// Writes bytes, at most `DATA_BYTES`, from an address on through the mappings of an address space. `BadHandle` if the
+/// region was never given, `BadState` if it is destroyed, `InvalidArgs` if it is no root region. Otherwise the refusals
+/// are those of `fault`.
 #[tactic(auto, unfolding(vm_model::specs::Space::Regions::region_of))]
 pub(crate) fn mem_write<P: PageStore>(
     store: &mut P,

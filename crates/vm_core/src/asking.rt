@@ -1,4 +1,5 @@
-//! The commands that change nothing: `vmo_read`, `vmo_size`, `vmo_info`. None wants memory.
+//! The commands on VMOs that change nothing: `vmo_read`, `vmo_size`, `vmo_info`. Each is refused by `BadHandle` if the
+//! name is not open. None wants memory.
 
 ghost use Rattle.std.specs.Prelude.{◌≤◌, length};
 ghost use Rattle.vm_base.specs.declared.limits.TheConstants.{DATA_BYTES};
@@ -13,7 +14,7 @@ use vm_base::{Refusal, VmoName};
 use vm_model::Answer;
 use vmo_table::VmoTable;
 
-/// Reads `len` bytes from `offset` bytes into the name on, where it is open, into room for `DATA_BYTES` bytes.
+/// Reads `len` bytes from `offset` bytes into the name on, into `room`, which has at least `DATA_BYTES` bytes.
 pub(crate) fn vmo_read<'a, P: PageStore>(
     store: &P,
     vmos: &VmoTable,
@@ -48,7 +49,7 @@ pub(crate) fn vmo_size<P: PageStore>(store: &P, vmos: &VmoTable, name: VmoName) 
     }
 }
 
-/// Tells of the VMO that the name stands for.
+/// Tells what the VMO holds for which the name stands.
 pub(crate) fn vmo_info<P: PageStore>(store: &P, vmos: &VmoTable, name: VmoName) -> Answer<'static>
     requires { AreParts (P.content store.now) vmos.now }
     ensures { StepsVmos (P.content store.now) vmos.now (Command.VmoInfo name) (reply_for result)

@@ -1,7 +1,6 @@
-//! The commands that change the pages of a VMO or its size: `vmo_write`, `vmo_fill`, `vmo_commit`,
-//! `vmo_zero`, `vmo_decommit`, `vmo_set_size`. Each is the operation of that name, where the VMO's name is
-//! open, and
-//! the translations of the pages that it changed are forgotten.
+//! The commands that change the pages of a VMO or its size: `vmo_write`, `vmo_fill`, `vmo_commit`, `vmo_zero`,
+//! `vmo_decommit`, `vmo_set_size`. Each is refused by `BadHandle` if the VMO's name is not open, and is otherwise the
+//! operation of its name. The translations of the pages that it changed are then forgotten.
 
 ghost use Rattle.std.specs.Prelude.{◌≡◌};
 ghost use Rattle.vm_model.specs.declared.command.Command.{Command};
@@ -179,8 +178,8 @@ pub(crate) fn vmo_set_size<P: PageStore>(
     }
 }
 
-// The answer to a command that changed a range of a name, or why it was refused. Where it was done, the translations of pages
-// of the range that have another frame now are forgotten.
+// The answer to a command that changed a range of a name, or the refusal. If the command was done, the translations of
+// pages of the range that have another frame now are forgotten.
 fn changed<P: PageStore>(
     translations: &mut Translations,
     store: &P,

@@ -1,5 +1,6 @@
-//! Which handler does a command. `dispatch` finds the group of a call, and one function for each group finds the handler,
-//! so that each of them is a short `match`. Their `ready` are the translations, of the pages that are ready for an access.
+//! Which handler does a command. `dispatch` finds the group of a call, and one function for each group calls the
+//! handler, so that each function is a short `match`. Their argument `ready` is the translations: what pages are ready
+//! for.
 
 ghost use Rattle.std.specs.Prelude.{◌≡◌, ◌≢◌, ◌<◌, ◌≤◌, length};
 ghost use Rattle.mapping_set.specs.Tables.{table_of, places_of as notes_of};
@@ -31,8 +32,8 @@ use std::alloc::Global;
 use vm_model::{Answer, Call};
 use vmo_table::VmoTable;
 
-/// Does a command that is no access through mappings by its handler, with room for the bytes and for the numbers that it
-/// may answer.
+/// Hands a command that is no access through mappings to its handler. A read writes its bytes to `bytes`, and a pin the
+/// numbers of its frames to `numbers`. The answer borrows them from there.
 #[inline(always)]
 pub(crate) fn dispatch<'a, P: PageStore>(
     alloc: Global,
@@ -68,7 +69,7 @@ pub(crate) fn dispatch<'a, P: PageStore>(
     }
 }
 
-/// Does a command on a VMO as a whole.
+/// Hands a command on a VMO as a whole to its handler.
 #[tactic(auto, using(crate::proofs::CallLaws::together_of))]
 fn on_vmo<P: PageStore>(
     store: &mut P,
@@ -108,7 +109,7 @@ fn on_vmo<P: PageStore>(
     }
 }
 
-/// Does a command on pages of a VMO.
+/// Hands a command on pages of a VMO to its handler. A read writes its bytes to `bytes`.
 #[tactic(auto, using(crate::proofs::CallLaws::together_of))]
 fn on_pages<'a, P: PageStore>(
     store: &mut P,
@@ -150,7 +151,7 @@ fn on_pages<'a, P: PageStore>(
     }
 }
 
-/// Does a command on a pin.
+/// Hands a command on a pin to its handler. `vmo_pin` writes the numbers of the pinned frames to `numbers`.
 fn on_pin<'a, P: PageStore>(
     store: &mut P,
     vmos: &mut VmoTable,
@@ -179,7 +180,7 @@ fn on_pin<'a, P: PageStore>(
     }
 }
 
-/// Does a command on a region, or on the mappings in one.
+/// Hands a command on a region, or on the mappings in one, to its handler.
 fn on_region<P: PageStore>(
     alloc: Global,
     store: &mut P,
@@ -246,7 +247,7 @@ fn on_region<P: PageStore>(
     }
 }
 
-/// Tells of the machine.
+/// Answers a question about the whole machine.
 fn on_machine<P: PageStore>(store: &P, call: &Call<'_>) -> Answer<'static>
     requires { group_of call.now ≡ Group.Machine }
     ensures { StepsSame (P.content store.now) (command_of call.now) (reply_for result) }
@@ -257,7 +258,7 @@ fn on_machine<P: PageStore>(store: &P, call: &Call<'_>) -> Answer<'static>
     }
 }
 
-/// Does an access through mappings, with room for the bytes that it may answer.
+/// Hands an access through mappings to its handler. A read writes its bytes to `bytes`.
 pub(crate) fn on_memory<'a, P: PageStore>(
     store: &mut P,
     regions: &Regions,

@@ -5,7 +5,7 @@ ghost use Rattle.vm_core.specs.Groups.{group_of};
 
 use vm_model::Call;
 
-/// A group of commands, which one function of `dispatching.rt` hands to their handlers: those on one thing.
+/// A group of commands: those on one kind of thing. One function of `dispatching.rt` hands them to their handlers.
 #[derive(Clone, Copy, Debug)]
 pub(crate) enum Group {
     /// A VMO as a whole.

@@ -1,5 +1,6 @@
-//! The commands on the mappings in a region: `vmar_map`, `vmar_unmap`, `vmar_protect`, `maps`. The translations of pages that
-//! show something else, or may be accessed otherwise, are forgotten.
+//! The commands on the mappings in a region: `vmar_map`, `vmar_unmap`, `vmar_protect`, `maps`. Each is refused by
+//! `BadHandle` if the region was never given, and by `BadState` if it is destroyed. The translations of pages that show
+//! something else, or may be accessed otherwise, are forgotten.
 
 ghost use Rattle.std.specs.Prelude.{◌≡◌, ℕ};
 ghost use Rattle.vm_model.specs.declared.command.Command.{Command};
@@ -22,7 +23,7 @@ use vm_base::{MapFlags, Perm, Refusal, RegionName, VmoName, page_count, page_of}
 use vm_model::Answer;
 use vmo_table::VmoTable;
 
-/// Maps a part of what a name stands for, where the region was given and the name is open, and the region is live.
+/// Maps a part of what a name stands for. `BadHandle` also if the name is not open.
 #[tactic(auto, unfolding(vm_model::specs::Space::Regions::region_of, vm_base::specs::Entries::passes))]
 pub(crate) fn vmar_map<P: PageStore>(
     store: &mut P,
@@ -67,7 +68,7 @@ pub(crate) fn vmar_map<P: PageStore>(
     }
 }
 
-/// Unmaps a range, where the region was given and is live.
+/// Unmaps a range.
 #[tactic(auto, unfolding(vm_model::specs::Space::Regions::region_of, vm_base::specs::Entries::passes))]
 pub(crate) fn vmar_unmap<P: PageStore>(
     store: &mut P,
@@ -103,7 +104,7 @@ pub(crate) fn vmar_unmap<P: PageStore>(
     }
 }
 
-/// Changes what accesses to a range may do, where the region was given and is live. Each VMO is mapped as often as before.
+/// Changes what accesses to a range may do. Each VMO is mapped as often as before.
 #[tactic(auto, unfolding(vm_model::specs::Space::Regions::region_of, vm_base::specs::Entries::passes))]
 pub(crate) fn vmar_protect(
     regions: &Regions,
@@ -140,7 +141,7 @@ pub(crate) fn vmar_protect(
     }
 }
 
-/// Lists the mappings in a region, where it was given and is live.
+/// Lists the mappings in a region.
 #[tactic(auto, unfolding(vm_model::specs::Space::Regions::region_of, vm_base::specs::Entries::passes))]
 pub(crate) fn list_maps(
     alloc: Global,

@@ -1,5 +1,5 @@
-//! The commands that give a name or close one: `vmo_create`, `vmo_create_child`, `vmo_close`. Each clause
-//! `name` hands up the range of the name's number, which the caller has behind a reference.
+//! The commands that give a name or close one: `vmo_create`, `vmo_create_child`, `vmo_close`. Each clause `name` hands
+//! up the range of the name's number, which the caller has behind a reference.
 
 ghost use Rattle.std.specs.Prelude.{◌≡◌, ◌<◌};
 ghost use Rattle.vm_base.specs.declared.limits.TheConstants.{KOIDS, NAMES};
@@ -19,7 +19,7 @@ use vm_base::{Refusal, VmoName};
 use vm_model::{Answer, ChildKind};
 use vmo_table::VmoTable;
 
-/// Makes a VMO, where the name is not open.
+/// Makes a VMO. `NameInUse` if the name is open.
 pub(crate) fn vmo_create<P: PageStore>(
     store: &mut P,
     vmos: &mut VmoTable,
@@ -43,8 +43,8 @@ pub(crate) fn vmo_create<P: PageStore>(
     }
 }
 
-/// Makes a child of what `parent` stands for, where `parent` is open and the name is not. The translations of pages that a
-/// snapshot shows are left for reading alone, but for those of pinned pages.
+/// Makes a child of what `parent` stands for. `BadHandle` if `parent` is not open, `NameInUse` if `name` is open. The
+/// translations of pages that a snapshot shows are left for reading alone, except those of pinned pages.
 pub(crate) fn vmo_create_child<P: PageStore>(
     store: &mut P,
     vmos: &mut VmoTable,
@@ -86,7 +86,7 @@ pub(crate) fn vmo_create_child<P: PageStore>(
     }
 }
 
-/// Closes a name, where it is open.
+/// Closes a name. `BadHandle` if it is not open.
 pub(crate) fn vmo_close<P: PageStore>(
     store: &mut P,
     vmos: &mut VmoTable,

@@ -1,5 +1,5 @@
-//! The commands that pin pages and let them go: `vmo_pin`, `vmo_unpin`. The clause `pin` hands up the range of
-//! the pin's number, which the caller has behind a reference.
+//! The commands that pin and unpin pages: `vmo_pin`, `vmo_unpin`. The clause `pin` hands up the range of the pin's
+//! number, which the caller has behind a reference.
 
 ghost use Rattle.std.specs.Prelude.{◌<◌, ◌≤◌, length};
 ghost use Rattle.vm_base.specs.declared.limits.TheConstants.{NAMES, PIN_PAGES};
@@ -16,8 +16,8 @@ use vm_base::{PinName, Refusal, VmoName};
 use vm_model::Answer;
 use vmo_table::VmoTable;
 
-/// Pins the pages of a range, where the name is open and the pin is not there, with room for the numbers of
-/// `PIN_PAGES` frames. The translations of pages that it gave frames are forgotten.
+/// Pins the pages of a range. `BadHandle` if the name is not open, `NameInUse` if the pin is there. `room` has at least
+/// `PIN_PAGES` places for the numbers of frames. The translations of pages that got another frame are forgotten.
 pub(crate) fn vmo_pin<'a, P: PageStore>(
     store: &mut P,
     vmos: &mut VmoTable,
@@ -53,7 +53,7 @@ pub(crate) fn vmo_pin<'a, P: PageStore>(
     }
 }
 
-/// Takes a pin away, where it is there.
+/// Removes a pin. `BadHandle` if it is not there.
 pub(crate) fn vmo_unpin<P: PageStore>(
     store: &mut P,
     vmos: &mut VmoTable,

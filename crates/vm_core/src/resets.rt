@@ -1,4 +1,5 @@
-//! What a command that was done made untrue of the translations is forgotten. Where no page is translated, that costs a test.
+//! Forgetting the translations that a command made untrue, once it is done. If no page is translated, this costs one
+//! test.
 
 ghost use Rattle.std.specs.Prelude.{◌≡◌, ◌+◌, ◌*◌, ◌≤◌, length};
 ghost use Rattle.vm_base.specs.Pages.{rounded};
@@ -16,7 +17,7 @@ use pin_table::PinTable;
 use vm_base::{Koid, PAGE, PageNo, RegionName, VMO_PAGES, page_count, page_of};
 use vm_model::{ChildKind, Target};
 
-/// A range of a name was changed: the translations of its pages that have another frame now are forgotten.
+/// A range of a name was changed. Forgets the translations of its pages that have another frame now.
 #[inline]
 #[tactic(auto, using(crate::proofs::LeavesLaws::without_none))]
 pub(crate) fn forget_changed<P: PageStore>(
@@ -48,7 +49,7 @@ fn touched_count(at: u64, len: u64) -> u64
     page_of(at + len - 1) - page_of(at) + 1
 }
 
-/// A VMO has this size in bytes now, rounded up to whole pages: the translations of pages past its end are forgotten.
+/// A VMO has `size` bytes now, rounded up to whole pages. Forgets the translations of pages past its end.
 #[tactic(auto, using(crate::proofs::LeavesLaws::without_none))]
 pub(crate) fn forget_past(translations: &mut Translations, target: &Target, size: u64)
     requires { rounded size ≤ VMO_PAGES * PAGE }
@@ -61,8 +62,8 @@ pub(crate) fn forget_past(translations: &mut Translations, target: &Target, size
     translations.forget(target.koid, pages, VMO_PAGES - pages);
 }
 
-/// A child of this kind was made of a part of a name: the translations of pages that a snapshot shows are left for reading
-/// alone, but for those of pinned pages, which it owns copies of.
+/// A child of this kind was made of a part of a name. Leaves the translations of pages that a snapshot shows for
+/// reading alone, except those of pinned pages, of which the snapshot owns copies.
 pub(crate) fn child_made<P: PageStore>(
     translations: &mut Translations,
     store: &P,
@@ -105,8 +106,8 @@ fn share<P: PageStore>(
     make_readonly_but(translations, pins, target.koid, target.first + start, count);
 }
 
-// Leaves the translations of `count` pages of a VMO from the page `first` on for reading alone, but for those of pinned
-// pages: one gap between these after another.
+// Leaves the translations of `count` pages of a VMO, from page `first` on, for reading alone, except those of pinned
+// pages. It goes by one gap between pinned pages after another.
 fn make_readonly_but(
     translations: &mut Translations,
     pins: &PinTable,
@@ -129,7 +130,7 @@ fn make_readonly_but(
     translations.make_readonly(v, from, rest);
 }
 
-// The first pinned page of a VMO from `from` to below `end`. `None` exactly where none is.
+// The first pinned page of a VMO from `from` to below `end`. `None` if and only if none is.
 fn next_pinned_below(pins: &PinTable, v: Koid, from: PageNo, end: PageNo) -> Option<PageNo>
     ensures { IsFirstBelow (is_pinned (pins_of pins.now) v.0) from end result }
 {
@@ -142,8 +143,8 @@ fn next_pinned_below(pins: &PinTable, v: Koid, from: PageNo, end: PageNo) -> Opt
     Some(page)
 }
 
-/// Pages of an address space show something else or nothing now, or may be accessed otherwise: their translations are
-/// forgotten.
+/// Pages of an address space show something else or nothing now, or may be accessed otherwise. Forgets their
+/// translations.
 #[tactic(auto, using(crate::proofs::LeavesLaws::without_none))]
 pub(crate) fn forget_pages(
     translations: &mut Translations,

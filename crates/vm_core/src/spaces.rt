@@ -20,7 +20,7 @@ use vm_base::{MapFlags, Perm, Refusal, RegionName};
 use vm_model::Answer;
 use vmo_table::VmoTable;
 
-/// Makes an address space with its root region, where the name was never given.
+/// Makes an address space with its root region. `NameInUse` if the name was ever given.
 pub(crate) fn root_create(
     regions: &mut Regions,
     maps: &MappingSet,
@@ -41,7 +41,8 @@ pub(crate) fn root_create(
     }
 }
 
-/// Allocates a region in another, which was given and is live, where its own name was never given.
+/// Allocates a region in another. `BadHandle` if the parent was never given, `NameInUse` if the new name was given,
+/// `BadState` if the parent is destroyed.
 #[tactic(auto, unfolding(vm_model::specs::Space::Regions::region_of, vm_base::specs::Entries::passes))]
 pub(crate) fn vmar_allocate(
     regions: &mut Regions,
@@ -78,8 +79,8 @@ pub(crate) fn vmar_allocate(
     }
 }
 
-/// Destroys a region and all below it, where it was given and is live. What is mapped in them is unmapped,
-/// and the translations of their pages are forgotten.
+/// Destroys a region and all below it. `BadHandle` if it was never given, `BadState` if it is destroyed already. What
+/// is mapped in these regions is unmapped, and the translations of their pages are forgotten.
 #[tactic(auto, unfolding(vm_model::specs::Space::Regions::region_of, vm_base::specs::Entries::passes))]
 pub(crate) fn vmar_destroy<P: PageStore>(
     store: &mut P,

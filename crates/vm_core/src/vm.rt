@@ -17,7 +17,7 @@ use vm_base::{DATA_BYTES, PIN_PAGES};
 use vm_model::{Answer, Call, Command, Reply};
 use vmo_table::VmoTable;
 
-/// The names, VMOs, pins and regions of the machine, over a store of pages. One `step` is one event.
+/// The names, VMOs, pins and regions of the machine, over a store of pages. Each `step` is one command.
 #[derive(Drop)]
 pub struct Vm {
     /// Where room for a list of mappings comes from.
@@ -51,8 +51,8 @@ impl Vm {
     ghost use Rattle.vm_model.specs.Machine.MachineStep.{MachineStep};
     ghost use Rattle.vm_core.specs.Vm.{Agrees, HasNoVmo, bare_machine, machine_of};
 
-    /// A machine with no names, pins, regions and translations. It agrees with every store that has no VMO, whatever its next
-    /// koid is, from 1 on. Where that is 1, they are the empty machine.
+    /// A machine with no names, pins, regions and translations. It agrees with every store that has no VMO, whatever
+    /// the store's next koid is, from 1 on. If that is 1, the two are the empty machine.
     pub fn new(alloc: Global) -> Vm
         ensures bare { (c : Content) → machine_of c result ≡ bare_machine c }
         ensures agrees { (c : Content) → HasNoVmo c → 1 ≤ c.next → Agrees c result }
@@ -68,9 +68,8 @@ impl Vm {
         }
     }
 
-    /// One event of the machine, done whole: a command is refused and nothing changes, or it has
-    /// its effect, or the host lacks memory for it and nothing changes. The store is the one that
-    /// holds the VMOs of the names. Afterwards each translation is true.
+    /// Does one command as a whole. A command that is refused, also for want of the host's memory, changes nothing. The
+    /// store is the one that holds the VMOs of the names. Afterwards each translation is true.
     pub fn step<P: PageStore>(&mut self, store: &mut P, command: &Command) -> Reply
         requires agrees { Agrees (P.content store.old) self.old }
         requires next { (P.content store.old).next < KOIDS }
@@ -86,8 +85,9 @@ impl Vm {
             .into_reply()
     }
 
-    /// The event of `step` for a command whose bytes are lent. The answer lends what was read of `bytes`, which
-    /// has room for `DATA_BYTES` bytes, and the frames of pinned pages of `numbers`, which has room for `PIN_PAGES`.
+    /// Does what `step` does, for a command whose bytes are lent. The answer borrows the bytes that were read from
+    /// `bytes`, which has room for `DATA_BYTES` bytes, and the frames of pinned pages from `numbers`, which has room
+    /// for `PIN_PAGES` of them.
     pub fn answer<'a, P: PageStore>(
         &mut self,
         store: &mut P,
