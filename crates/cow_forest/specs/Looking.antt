@@ -26,7 +26,7 @@ ShowsNoneIn t v from end = (p : ℕ) → from ≤ p → p < end → frame_at t v
 abbrev pub ShowsNoneFrom : Tree → (v from : ℕ) → Type 0
 ShowsNoneFrom t v from = (p : ℕ) → from ≤ p → frame_at t v p ≡ None
 
--- the least page from `from` to below `to` that has a row; None where there is none
+-- the least page from `from` to below `to` that has a row; None if there is none
 pub record IsNextBelow (rows : ℕ → Option Slot) (from to : ℕ) (answer : Option ℕ) : Type 0 where
   pub found : (row : ℕ) → answer ≡ Some row → (from ≤ row) × (row < to)
   pub free : (page : ℕ) → from ≤ page → page < unwrap_or answer to → rows page ≡ None

@@ -18,7 +18,7 @@ use Rattle.cow_split.specs.Exact.{IsExact, all_in_sight}
 use Rattle.cow_fork.specs.Frames.{bytes_shown, IsSole}
 use Rattle.cow_merge.specs.Ranges.{AreLinked}
 
--- the frame of a row. None where it says that the page is zero
+-- the frame of a row. None if it says that the page is zero
 abbrev pub tag_in : Slot → Option Tag
 tag_in (slot.Frame tag left right) = Some tag
 tag_in slot.Zero = None

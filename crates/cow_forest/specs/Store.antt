@@ -30,7 +30,7 @@ pub record Forest : Type 0 where
 abbrev pub tree : Forest → Tree
 tree f = tree_of f.arena f.rows
 
--- how many pages a node has, where there is one
+-- how many pages a node has, if there is one
 abbrev pub pages_in : Option Node → Option ℕ
 pages_in None = None
 pages_in (Some node) = Some node.count
@@ -39,7 +39,7 @@ abbrev pub count_from : Nodes → Option NodeId → Option ℕ
 count_from nodes None = None
 count_from nodes (Some at) = pages_in (nodes at.0)
 
--- the frame that page p of a node shows, where there is one
+-- the frame that page p of a node shows, if there is one
 abbrev pub frame_from : Tree → Option NodeId → ℕ → Option ℕ
 frame_from t None p = None
 frame_from t (Some at) p = frame_at t at.0 p

@@ -34,8 +34,8 @@ use std::marker::Model;
 use std::sync::ledger::Ledger;
 use vm_base::{HostMemory, Koid, PageNo, Tag};
 
-/// A page store whose VMOs share their pages through the clone tree. A snapshot adds two nodes, whatever its VMO holds, and
-/// no row; a page changes its frame only for the VMO that writes it. `spare` is the room for rows.
+/// A page store whose VMOs share their pages through the clone tree. A snapshot adds two nodes and no row, whatever its
+/// VMO holds. When a VMO writes a page, the page changes its frame for this VMO alone. `spare` is the room for rows.
 #[derive(Drop)]
 pub struct CowForest {
     arena: CowArena,
@@ -80,7 +80,8 @@ impl CowForest {
         }
     }
 
-    /// How many rows have a frame: as many as frames are in use, since the tree is exact over the frames that are taken.
+    /// How many rows have a frame. They are as many as frames are in use, since the tree is exact over the frames that
+    /// are taken.
     pub fn frame_rows(&self) -> u64
         ensures used { result ≡ used (content_of self.now) }
         ensures rows { result ≡ frame_row_count self.now.rows }
@@ -98,8 +99,8 @@ impl CowForest {
         self.lists.rows()
     }
 
-    /// How many nodes are hidden: fewer than there are VMOs, or none. As many nodes are visible as there are VMOs. No way up to
-    /// a root has more nodes than there are VMOs.
+    /// How many nodes are hidden: fewer than there are VMOs, or none. As many nodes are visible as there are VMOs. No
+    /// way up to a root has more nodes than there are VMOs.
     pub fn hidden(&self) -> u64
         ensures count { result ≡ hidden_count self.now.arena }
         ensures visible { visible_count self.now.arena ≡ vmos_of (content_of self.now) }
@@ -112,8 +113,8 @@ impl CowForest {
         self.arena.hidden()
     }
 
-    /// Does what `look` does, and counts the steps of its look-ups on the way from the VMO's node upwards: for each node up
-    /// to its root at most the greatest look-up in the table of rows.
+    /// Does what `look` does, and counts the steps of its look-ups on the way from the VMO's node upwards. For each
+    /// node up to the root, they are at most those of the longest look-up in the table of rows.
     pub fn look_counted<L: Ledger>(&self, v: Koid, page: PageNo, steps: &mut Steps<L>) -> Look
         requires page { page < pages_of (content_of self.now) v.0 }
         ensures look { result ≡ look_at (content_of self.now) v.0 ((content_of self.now).page v.0 page) }

@@ -1,4 +1,4 @@
-//! Looking at pages: what one is, and which is the next that is held.
+//! Looking at pages: what a page is, and which page is the next one that is held.
 
 ghost use Rattle.std.specs.Prelude.{◌≡◌, ◌+◌, ◌*◌, ◌^◌, ◌<◌, ◌≤◌, ℕ, Bool, None, IsSome, IsSomeAnd, IfSome, IfNone};
 ghost use Rattle.page_list.specs.Lists.{row_count, slots_of};
@@ -17,8 +17,8 @@ use page_store::Look;
 use std::sync::ledger::Ledger;
 use vm_base::PageNo;
 
-/// What a page of a VMO's node is. One with a row of its own, or outside the node's window,
-/// costs one look-up in the lists.
+/// What a page of a VMO's node is. If the page has a row of its own or lies outside the node's window, it costs one
+/// look-up in the lists.
 pub(crate) fn look_at(arena: &CowArena, lists: &PageLists, leaf: NodeId, page: PageNo) -> Look
     requires exact { (in_use : ℕ → Bool) × IsExact (tree_of arena.now lists.now) all_in_sight in_use }
     requires page { IsPage (tree_of arena.now lists.now) leaf.0 page }
@@ -30,7 +30,7 @@ pub(crate) fn look_at(arena: &CowArena, lists: &PageLists, leaf: NodeId, page: P
     look_upwards(arena, lists, leaf, page)
 }
 
-/// What a page is that has this row of its own.
+/// What a page with this row of its own is.
 fn look_in(slot: Slot) -> Look
     ensures { result ≡ look_in slot }
 {
@@ -73,7 +73,7 @@ pub(crate) fn look_at_counted<L: Ledger>(
     look_found(arena, lists, leaf, page, found)
 }
 
-/// What a page of a VMO's node is, where this row is found for it.
+/// What a page of a VMO's node is. `found` is what `holder` answers for it.
 fn look_found(
     arena: &CowArena,
     lists: &PageLists,
@@ -99,7 +99,8 @@ fn look_found(
     }
 }
 
-/// The first page from `from` on of a VMO's node that shows a frame. It goes by the rows of the node and of those above it.
+/// The first page from `from` on of a VMO's node that shows a frame. The search goes by the rows of the node and of the
+/// nodes above.
 pub(crate) fn next_shown(
     arena: &CowArena,
     lists: &PageLists,
@@ -123,7 +124,7 @@ pub(crate) fn next_shown(
 }
 
 /// The first page from `from` on of a VMO's node that comes to a row, of the node or of one above it. No page before it
-/// shows a frame. It costs one look-up for each node on the way upwards.
+/// shows a frame. The call costs one look-up for each node on the way upwards.
 fn next_row(arena: &CowArena, lists: &PageLists, leaf: NodeId, from: PageNo) -> Option<PageNo>
     requires exact { (in_use : ℕ → Bool) × IsExact (tree_of arena.now lists.now) all_in_sight in_use }
     requires leaf { IsSomeAnd (nodes_of arena.now leaf.0) (λ node. IsSome node.koid) }
@@ -162,7 +163,7 @@ fn next_below(lists: &PageLists, list: ListId, from: PageNo, to: PageNo) -> Opti
     if row < to { Some(row) } else { None }
 }
 
-/// The page that comes to this row, `shift` pages further on, or else the best page so far.
+/// The page that comes to this row, which is `shift` pages further on. If there is no row, the best page so far.
 fn nearer(best: Option<PageNo>, row: Option<PageNo>, shift: PageNo) -> Option<PageNo>
     requires { IfSome row (λ page. shift ≤ page) }
     ensures { result ≡ nearer_page best row shift }

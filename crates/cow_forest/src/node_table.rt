@@ -1,4 +1,4 @@
-//! Nodes by number: the kind of table that leads into the tree.
+//! A table of nodes by number. Two of these lead into the tree.
 
 ghost use Rattle.std.specs.Prelude.{◌≡◌, ◌≢◌, ℕ, ◌+◌, ◌%◌, ◌≤◌, replicate, None, Some, IsSome, OnOk};
 ghost use Rattle.std.specs.Option.{option_or};
@@ -12,18 +12,18 @@ use std::collections::HashMap;
 use std::marker::Model;
 use vm_base::HostMemory;
 
-/// How many places the array of a table has. The place of a number is its remainder by this.
+/// How many places the array of a table has. The place of a number is the remainder of the number by this.
 const PLACES: usize = 64;
 
-/// Nodes by number. An entry stands in the array, at the place of its number, until another number of the same place is
-/// entered; from then on it stands in the map. While no two numbers have the same place, nothing here hashes. Contracts see
-/// the node of each number, and how many more numbers can be entered with no memory from the host.
+/// Nodes by number. An entry stands in the array, at the place of its number, until another number with the same place
+/// is entered. From then on it stands in the map. As long as no two numbers have the same place, nothing is hashed.
+/// Contracts see the node of each number, and how many more numbers can be entered with no memory from the host.
 #[derive(Drop)]
 pub(crate) struct NodeTable {
-    /// At each place the entry that was entered last of those that have this place (`place_of`), unless it left.
+    /// At each place, the entry that was entered last of those with this place (`place_of`), unless it has left.
     recent: [Option<(u64, NodeId)>; PLACES],
-    /// The entries that were displaced: another number of the same place was entered after them. Where a number has an
-    /// entry in the array too, that one counts.
+    /// The entries that were displaced: another number with the same place was entered after them. If a number has an
+    /// entry in the array too, the entry in the array counts.
     displaced: HashMap<u64, NodeId>,
 }
 
@@ -50,7 +50,7 @@ impl NodeTable {
         }
     }
 
-    /// Makes room for `n` numbers more. `HostMemory` where the host has too little memory. No entry changes.
+    /// Makes room for `n` numbers more. `HostMemory` if the host has too little memory. No entry changes.
     pub(crate) fn reserve(&mut self, n: usize) -> Result<(), HostMemory>
         ensures nodes { node_in self.new ≡ node_in self.old }
         ensures room { OnOk result (n ≤ self.new.spare) }
@@ -61,8 +61,8 @@ impl NodeTable {
         Ok(())
     }
 
-    /// The node of a number, which has an entry. It costs one load and a comparison where the entry stands in the array,
-    /// else a look-up in the map.
+    /// The node of a number, which has an entry. If the entry stands in the array, this costs one load and a
+    /// comparison. Otherwise it costs a look-up in the map.
     #[inline(always)]
     pub(crate) fn get(&self, number: u64) -> NodeId
         requires { IsSome (node_in self.now number) }
@@ -122,7 +122,7 @@ fn place_of(number: u64) -> usize
     (number % PLACES as u64) as usize
 }
 
-/// The node of a number, where this entry is its own.
+/// The node of a number, if this entry is the number's.
 #[inline(always)]
 fn own_node(entry: Option<(u64, NodeId)>, number: u64) -> Option<NodeId>
     ensures { result ≡ own_node entry number }
@@ -177,7 +177,7 @@ fn change(displaced: &mut HashMap<u64, NodeId>, number: u64, node: NodeId)
     let _entered = displaced.insert(number, node);
 }
 
-/// Takes a number out of the displaced ones. It costs one load where there are none.
+/// Takes a number out of the displaced ones. It costs one load if there are none.
 #[inline(always)]
 fn forget(displaced: &mut HashMap<u64, NodeId>, number: u64)
     ensures { displaced_in displaced.new.entries ≡ without_key (displaced_in displaced.old.entries) number }

@@ -17,7 +17,7 @@ use frame_pool::{Backlink, FramePool};
 use page_list::{PageLists, Slot};
 use vm_base::{PageNo, Tag};
 
-/// The frame of the row that holds a page, where the row is the page's own.
+/// The frame of the row that holds a page, if the row is the page's own.
 fn own_tag(found: Holder) -> Option<Tag>
     ensures { result ≡ own_frame found }
 {
@@ -27,9 +27,9 @@ fn own_tag(found: Holder) -> Option<Tag>
     }
 }
 
-/// Gives a page of a VMO's node a frame that no other VMO shows, and answers the frame. One that the VMO shows alone stays.
-/// With room for a row the page has a row of its own then; without, a page that is sole is left where it stands. A page whose
-/// frame stands in a row of its own costs one look-up in the lists.
+/// Gives a page of a VMO's node a frame that no other VMO shows, and answers this frame. A frame that the VMO shows
+/// alone is kept. If there is room for a row, the page has a row of its own afterwards. Otherwise a page that is sole
+/// stays where it stands. A page with a frame in a row of its own costs one look-up in the lists.
 #[inline(always)]
 pub(crate) fn own_page(
     arena: &CowArena,
@@ -51,7 +51,8 @@ pub(crate) fn own_page(
     own_found(arena, lists, frames, leaf, page, found)
 }
 
-/// Does what `own_page` does, where this is the row that holds the page, and is none of its own with a frame.
+/// Does what `own_page` does. `found` is what `holder` answers for the page. It is no row of the page's own with a
+/// frame.
 #[inline(never)]
 fn own_found(
     arena: &CowArena,

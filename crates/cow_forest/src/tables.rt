@@ -1,5 +1,4 @@
-//! The two tables that lead into the tree, the node of each VMO and the node that has each list: room in both, and the lists
-//! of a VMO that leaves.
+//! The two tables that lead into the tree: the node of each VMO, and the node that has each list.
 
 ghost use Rattle.std.specs.Prelude.{◌≡◌, ◌≢◌, ◌⊎◌, ◌≤◌, ℕ, None, Some, IsSome, IfSome, IfNone, OnOk};
 ghost use Rattle.cow_arena.specs.declared.node.Node.{Node};
@@ -12,7 +11,7 @@ use cow_arena::{CowArena, NodeId};
 use page_list::ListId;
 use vm_base::HostMemory;
 
-/// Makes room for one koid more and for this many lists. `HostMemory` where the host has too little memory. No entry
+/// Makes room for one more koid and for `lists` more lists. `HostMemory` if the host has too little memory. No entry
 /// changes.
 pub(crate) fn make_room(
     nodes: &mut NodeTable,
@@ -28,9 +27,9 @@ pub(crate) fn make_room(
     owners.reserve(lists)
 }
 
-/// Takes the list of a VMO's node out, which leaves. Where it has a parent, this leaves with it, and the sibling takes the
-/// parent's place: the parent's list leads to the sibling too then. Answers the sibling, and the numbers of these two lists, of
-/// which it has one when the node has left. It takes no memory.
+/// Takes out the list of a VMO's node that leaves. If the node has a parent, the parent leaves too, and the sibling
+/// takes its place: from then on the parent's list leads to the sibling. Answers the sibling, and the numbers of the
+/// parent's list and of the sibling's, of which the sibling has one when the node has left. The call takes no memory.
 pub(crate) fn disown(
     owners: &mut NodeTable,
     arena: &CowArena,
@@ -53,7 +52,7 @@ pub(crate) fn disown(
     Some((sibling, above, arena.node(sibling).list))
 }
 
-/// Takes the one of two lists out that the node does not have, if there are such.
+/// Takes out the one of two lists that the node does not have, if there are two.
 pub(crate) fn leave_other(
     owners: &mut NodeTable,
     arena: &CowArena,
@@ -69,7 +68,7 @@ pub(crate) fn leave_other(
     owners.leave(other_of(arena.node(node).list.0, one.0, other.0));
 }
 
-/// Of two numbers the one that a third is not.
+/// The one of two numbers that is not `number`.
 fn other_of(number: u64, one: u64, other: u64) -> u64
     ensures { ((number ≡ one) × (result ≡ other)) ⊎ ((number ≢ one) × (result ≡ one)) }
 {

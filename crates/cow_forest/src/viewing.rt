@@ -55,7 +55,7 @@ fn viewers_of(arena: &CowArena, lists: &PageLists, node: NodeId, page: PageNo) -
     requires hidden { IsSomeAnd (nodes_of arena.now node.0) (λ at. at.koid ≡ None) }
     ensures { (tag : ℕ) → HasFrameRow (tree_of arena.now lists.now) node.0 page tag → IsViewerCount (tree_of arena.now lists.now) tag result }
 {
-    // All of them have different numbers, below the arena's room.
+    // The viewers have different numbers, all below the arena's room.
     let _room = arena.capacity();
     viewer_count(arena, lists, Side::Left, node, page)
         + viewer_count(arena, lists, Side::Right, node, page)
