@@ -70,7 +70,7 @@ task_in (verb ∷ behind) =
     else if is_text verb (codes "work") then work_in behind
     else None
 
--- what the words ask for, None where they are outside the grammar
+-- what the words ask for, None if they are outside the grammar
 abbrev pub task_asked : List (String Global) → Option Task
 task_asked words = task_in (map string_bytes words)
 

@@ -15,7 +15,7 @@ use script_text::read_call;
 use vm_base::{Failed, KOIDS};
 use vm_core::Vm;
 
-/// Answers one line. `Failed` where the sink failed; the line was done all the same.
+/// Answers one line. `Failed` if the sink failed. The line was done all the same.
 fn answer_line<P: PageStore, K: Sink>(
     store: &mut P,
     vm: &mut Vm,
@@ -42,7 +42,7 @@ fn answer_line<P: PageStore, K: Sink>(
     }
 }
 
-/// The status that a run ends with behind a reply: one where the sink failed, else none.
+/// The status with which a run ends behind a reply, if the sink failed.
 #[inline(always)]
 fn write_fault(pushed: Result<(), Failed>) -> Option<Status>
     ensures { result ≡ write_fault pushed }
@@ -53,8 +53,8 @@ fn write_fault(pushed: Result<(), Failed>) -> Option<Status>
     }
 }
 
-/// Fetches the next line and answers it. A status where the run ends with it. No call uses up more
-/// than one line, so the replies to a line are pushed before the next line is looked at.
+/// Fetches the next line and answers it. If the run ends with it, the answer is the status. No call uses up more than
+/// one line, so the replies to a line are pushed before the next line is looked at.
 pub fn answer_next<P: PageStore, S: Source, K: Sink>(
     store: &mut P,
     vm: &mut Vm,

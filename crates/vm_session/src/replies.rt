@@ -12,8 +12,8 @@ use script_io::{Sink, push_all};
 use vm_base::{Failed, Refusal, TEXT_ROOM};
 use vm_model::Answer;
 
-/// Pushes the text of an answer, line by line, through a buffer of at least `TEXT_ROOM` bytes. `Failed`
-/// where the sink failed, and then it took a front part of the text.
+/// Pushes the text of an answer, line by line, through a buffer of at least `TEXT_ROOM` bytes. `Failed` if the sink
+/// failed. It then took a front part of the text.
 #[inline(always)]
 pub(crate) fn push_answer<K: Sink>(
     sink: &mut K,
@@ -35,7 +35,8 @@ pub(crate) fn push_answer<K: Sink>(
     Ok(())
 }
 
-/// Pushes the reply to a line that is no command, as `push_answer` does. It is not inlined, since such lines are rare.
+/// Pushes the reply to a line that is no command, as `push_answer` does. The function is not inlined, since such lines
+/// are rare.
 #[inline(never)]
 pub(crate) fn push_syntax<K: Sink>(sink: &mut K, buffer: &mut [u8]) -> Result<(), Failed>
     requires { TEXT_ROOM ≤ length buffer.old }

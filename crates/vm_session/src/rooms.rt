@@ -2,8 +2,8 @@
 
 use vm_base::{DATA_BYTES, PIN_PAGES, TEXT_ROOM};
 
-/// Room for the data of one line, made once for a whole script or workload, so that no command and no
-/// reply moves its own. Each line overwrites what it uses.
+/// Room for the data of one line. It is made once for a whole script or workload, so no command and no reply carries
+/// its data with it. Each line overwrites what it uses.
 #[derive(Drop)]
 pub(crate) struct Rooms {
     /// The bytes that a command writes.

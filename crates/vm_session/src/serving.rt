@@ -13,14 +13,13 @@ use std::alloc::Global;
 use vm_base::FRAMES;
 use vm_core::Vm;
 
-/// Answers the lines of the script that a source gives, one after another, on a machine with
-/// `frames` page frames, from 1 to 65,536. The replies to a line are pushed whole before the next
-/// line is looked at, and all bytes that were pulled are used up before more are.
+/// Answers the lines of the script that a source gives, one after another, on a machine with `frames` page frames, from
+/// 1 to 65,536. The replies to a line are pushed whole before the next line is looked at. All bytes that were pulled
+/// are used up before more are pulled.
 ///
-/// `HostMemory` where the host has too little memory for the buffers and the frames, and then nothing
-/// was read. `ReadFault` and `WriteFault` where the source and the sink fail. `ScriptLimit` where the
-/// source gives more than `limit` bytes, and then the lines that end within them were answered. At
-/// most `limit + 1` bytes are taken of the source.
+/// `HostMemory` if the host has too little memory for the buffers and the frames. Nothing was read then. `ReadFault` if
+/// the source fails, `WriteFault` if the sink fails. `ScriptLimit` if the source gives more than `limit` bytes. The
+/// lines that end within the limit were answered then. At most `limit + 1` bytes are taken of the source.
 pub fn serve<P: PageStore, S: Source, K: Sink>(
     alloc: Global,
     frames: u32,
@@ -49,7 +48,7 @@ pub fn serve<P: PageStore, S: Source, K: Sink>(
     loop {
         let next = answer_next(store, &mut vm, &mut lines, source, sink, &mut rooms);
         if let Some(status) = next {
-            // By one call: at the end of the body its tables would be let go, and that proved, one by one.
+            // By one call: at the end of the body its tables would be dropped one by one, each with a proof.
             drop(vm);
             return status;
         }

@@ -13,17 +13,17 @@ use script_io::{Sink, Source, Status};
 use std::alloc::Global;
 use vm_base::SCRIPT_BYTES;
 
-/// Does what `words` ask for, the words of the command line behind the program's name.
+/// Does what `words` ask for: the words of the command line behind the program's name.
 ///
-/// `run` runs the script that a source gives, and writes the replies to a sink. Each line is answered,
-/// and its replies written, before the next line is looked at. `work NUMBER COUNT` reads nothing: it
-/// does so many commands, at most `WORK_COUNT`, that are generated from a number below 2^64, and writes
-/// one line that tells what became of them. The machine has 1,024 page frames, or as many as `--frames
-/// N` says behind, with one to five digits from 1 to 65,536.
+/// `run` runs the script that a source gives, and writes the replies to a sink. Each line is answered, and its replies
+/// are written, before the next line is looked at. `work NUMBER COUNT` reads nothing. It does `COUNT` commands, at most
+/// `WORK_COUNT`, that are generated from a number below 2^64, and writes one line that tells what became of them. The
+/// machine has 1,024 page frames, or as many as `--frames N` at the end says, with one to five digits, from 1 to
+/// 65,536.
 ///
-/// `HostMemory` where the host has too little memory for the buffers and the frames. `ScriptLimit`
-/// where the source gives more than 4,294,967,296 bytes. `ReadFault` and `WriteFault` where the source
-/// and the sink fail. `Usage` for other words, and then nothing is touched.
+/// `HostMemory` if the host has too little memory for the buffers and the frames. `ScriptLimit` if the source gives
+/// more than 4,294,967,296 bytes. `ReadFault` if the source fails, `WriteFault` if the sink fails. `Usage` for other
+/// words, and nothing is touched then.
 pub fn run<P: PageStore, S: Source, K: Sink>(
     alloc: Global,
     words: &[String],
@@ -33,10 +33,10 @@ pub fn run<P: PageStore, S: Source, K: Sink>(
 ) -> Status
     requires { P.content store.old ≡ nothing }
 
-    // What each status says of the bytes that the source gave, the bytes that the sink took and what
-    // the store contains. `Done` says that what was written is the replies of one legal run over all
-    // lines of the script, or the line that tells of one over the workload, and that the store contains
-    // what the machine has in the end.
+    // What each status says of the bytes that the source gave, the bytes that the sink took and what the store
+    // contains. `Done` says that the bytes written are the replies of one legal run over all lines of the script, or
+    // the line that tells of one legal run over the workload. It also says that the store contains what the machine has
+    // in the end.
     ensures ends { IfSome (task_asked words.now) (λ task.
         TaskEndsAs task result (S.remaining source.old) (S.remaining source.new)
         (K.contents sink.old) (K.contents sink.new) (P.content store.new)) }
@@ -44,7 +44,7 @@ pub fn run<P: PageStore, S: Source, K: Sink>(
     // A workload is done without reading.
     ensures unread { AskForWork words.now → source.new ≡ source.old }
 
-    // A fault is answered only where the source or the sink failed.
+    // A fault is answered only if the source or the sink failed.
     ensures read_cause { result ≡ Status.ReadFault → HasFailed (S.faults source.old) (S.faults source.new) }
     ensures write_cause { result ≡ Status.WriteFault → HasFailed (K.faults sink.old) (K.faults sink.new) }
 

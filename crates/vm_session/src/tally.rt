@@ -11,7 +11,7 @@ use vm_base::{Refusal, TEXT_ROOM};
 use vm_model::Answer;
 use word_text::{put, put_field};
 
-/// How many commands were done, refused, and lacked memory of the host.
+/// How many commands were done, how many were refused, and for how many the host lacked memory.
 #[derive(Clone, Copy)]
 pub(crate) struct Tally {
     pub(crate) ok: u64,

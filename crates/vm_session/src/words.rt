@@ -12,11 +12,11 @@ use vm_base::{DEFAULT_FRAMES, FRAMES, WORK_COUNT};
 /// What the words ask for.
 #[derive(Clone, Copy)]
 pub(crate) enum Task {
-    /// To run a script on a machine with so many page frames.
+    /// To run a script on a machine with `frames` page frames.
     Run {
         frames: u32,
     },
-    /// To run so many commands, generated from a number, on a machine with so many page frames.
+    /// To do `count` commands, generated from a number, on a machine with `frames` page frames.
     Work {
         number: u64,
         count: u64,
@@ -24,9 +24,9 @@ pub(crate) enum Task {
     },
 }
 
-/// What the words ask for: `run`, or `work NUMBER COUNT` with a number of one to twenty digits below
-/// 2^64 and a count of one to seven digits up to `WORK_COUNT`. Behind either `--frames N` may stand, with
-/// one to five digits from 1 to `FRAMES`. `None` for any other words.
+/// What the words ask for: `run`, or `work NUMBER COUNT`. The number has one to twenty digits and is below 2^64. The
+/// count has one to seven digits and is at most `WORK_COUNT`. Behind either may stand `--frames N`, with one to five
+/// digits, from 1 to `FRAMES`. `None` for any other words.
 pub(crate) fn task_asked(words: &[String]) -> Option<Task>
     ensures task { result ≡ task_asked words.now }
     ensures bounds { IfSome result HasBounds }

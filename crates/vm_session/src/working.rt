@@ -18,11 +18,10 @@ use std::alloc::Global;
 use vm_base::FRAMES;
 use vm_core::Vm;
 
-/// Does `count` commands that are generated from a number, one after another, on a machine with
-/// `frames` page frames, from 1 to 65,536, and pushes the line that tells what became of them.
+/// Does `count` commands that are generated from a number, one after another, on a machine with `frames` page frames,
+/// from 1 to 65,536, and pushes the line that tells what became of them.
 ///
-/// `HostMemory` where the host has too little memory for the frames, and `WriteFault` where the sink
-/// fails.
+/// `HostMemory` if the host has too little memory for the frames. `WriteFault` if the sink fails.
 pub(crate) fn work<P: PageStore, K: Sink>(
     alloc: Global,
     frames: u32,
@@ -46,7 +45,7 @@ pub(crate) fn work<P: PageStore, K: Sink>(
     let mut vm = Vm::new(alloc);
     let mut rooms = Rooms::new();
     let tally = work_through(store, &mut vm, number, count, &mut rooms);
-    // By one call: at the end of the body its tables would be let go, and that proved, one by one.
+    // By one call: at the end of the body its tables would be dropped one by one, each with a proof.
     drop(vm);
     let end = write_tally(tally, store, &mut rooms.reply);
     match push_all(sink, &rooms.reply[..end]) {
