@@ -1,7 +1,7 @@
 //! The program: the machine over standard input and output.
 //!
-//! It makes the clone tree (`cow_forest`) as the store, hands it with standard input and output as a source and a sink to
-//! `top`, and ends with the status of the run. Nothing is written on standard error.
+//! It makes the clone tree (`cow_forest`) as the store, hands it to `top` with standard input and output as a source
+//! and a sink, and ends with the status of the run. It writes nothing to standard error.
 #![tactic(auto)]
 
 mod top;
@@ -17,8 +17,8 @@ use vm_session::{Status, code};
 #[cfg(test)]
 mod tests;
 
-/// The words of the command line behind the program's name. Without memory for them the program ends
-/// for want of memory, and where one is no text the words are none of its own.
+/// The words of the command line behind the program's name. `HostMemory` if there is no memory for them, `Usage` if one
+/// of them is no text.
 fn words(rt: &(impl Env + AllocGlobal)) -> Result<Vec<String>, Status> {
     let args = match env::args(rt) {
         Ok(args) => args,
@@ -44,7 +44,7 @@ fn main(rt: HostRuntime) -> ExitCode {
     let mut source = ReadSource::new(rt.stdin());
     let mut sink = WriteSink::new(rt.stdout());
     let status = top(rt.alloc(), &words, &mut store, &mut source, &mut sink);
-    // By one call: at the end of the body its tables would be let go, and that proved, one by one.
+    // By one call: at the end of the body its tables would be dropped one by one, each with a proof.
     drop(store);
     ExitCode::from(code(status))
 }

@@ -11,11 +11,11 @@ use script_io::{Sink, Source};
 use std::alloc::Global;
 use vm_session::{Status, run};
 
-/// Does what `words` ask for, over the clone tree: what `vm_session`'s `run` does over any store, and with its promises.
-/// This is the call that the program makes.
+/// Does what `words` ask for, over the clone tree: it does what `run` of `vm_session` does over any store, and promises
+/// the same. This is the call that the program makes.
 ///
-/// What is written is the replies of one legal run of the plain machine, in which a snapshot copies its range at once, and
-/// the tree has that machine's pages then.
+/// What is written is the replies of one legal run of the plain machine, in which a snapshot copies its range at once.
+/// Afterwards the tree has the pages of that machine.
 pub fn top<S: Source, K: Sink>(
     alloc: Global,
     words: &[String],
@@ -33,7 +33,7 @@ pub fn top<S: Source, K: Sink>(
     // A workload is done without reading.
     ensures unread { AskForWork words.now → source.new ≡ source.old }
 
-    // A fault is answered only where the source or the sink failed.
+    // A fault is answered only if the source or the sink failed.
     ensures read_cause { result ≡ Status.ReadFault → HasFailed (S.faults source.old) (S.faults source.new) }
     ensures write_cause { result ≡ Status.WriteFault → HasFailed (K.faults sink.old) (K.faults sink.new) }
 
