@@ -1,5 +1,5 @@
--- Maps from numbers, as functions: a number is a key where the function is not None. Whether some entry passes a test, and
--- how many entries do, goes by the keys below a bound.
+-- Maps from numbers, as functions: a number is a key if the function is not None there. Whether some entry passes a
+-- test, and how many entries do, goes by the keys below a bound.
 use Rattle.std.specs.Prelude.{ℕ, Bool, false, ◌==◌, if◌then◌else◌, Option, None, Some}
 use Rattle.vm_base.specs.Search.{any_below, count_below}
 

@@ -1,5 +1,5 @@
--- Searching, counting and adding up among the numbers below a bound. All are opaque, since the bound may be large: laws stand in
--- proofs/SearchLaws.
+-- Searching, counting and adding up among the numbers below a bound. All are opaque, since the bound may be large: laws
+-- stand in proofs/SearchLaws.
 use Rattle.std.specs.Prelude.{ℕ, zero, suc, ◌+◌, Bool, false, ◌&&◌, ◌||◌, nat_le, cond}
 
 -- some number below n passes
