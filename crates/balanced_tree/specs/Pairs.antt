@@ -9,7 +9,7 @@ abbrev pub pair_rank : ℕ → ℕ → ℕ
 pair_rank a b = a * 2 ^ 64 + b
 
 module _ {R V : Type 0} where
-  -- the value of the pair of a and b, where a row has its rank
+  -- the value of the pair of a and b, if a row has the pair's rank
   unfoldable pub value_at : Functions R → (R → V) → List R → ℕ → ℕ → Option V
   value_at f value rows a b = cond (nat_lt b (2 ^ 64)) (option_map value (row_at f (pair_rank a b) rows)) None
 
@@ -28,7 +28,7 @@ pub record IsNext {V : Type 0} (map : ℕ → Option V) (from : ℕ) (answer : O
   pub none : answer ≡ None → (b : ℕ) → from ≤ b → map b ≡ None
   pub least : (b : ℕ) → answer ≡ Some b → (from ≤ b) × IsSome (map b) × ((q : ℕ) → from ≤ q → q < b → map q ≡ None)
 
--- the second number of a row, where its first is a
+-- the second number of a row, if its first is a
 abbrev pub second_in : {R : Type 0} → (R → ℕ) → (R → ℕ) → ℕ → Option R → Option ℕ
 second_in first second a None = None
 second_in first second a (Some x) = cond (first x == a) (Some (second x)) None

@@ -93,8 +93,8 @@ module _ {R : Type 0} (f : Functions R) where
     pub left_is : place_of left_tree ≡ left
     pub right_is : place_of right_tree ≡ right
 
-  -- The new slab has the tree with the row w, and c is the link to its root. It has a row more where no row had this
-  -- rank. The count of steps went from `before` to `after`.
+  -- The new slab has the tree with the row w, and c is the link to its root. If no row had the rank of w, it has one
+  -- row more. The count of steps went from `before` to `after`.
   pub record HasInserted (old new : Slab R) (w : R) (t : Tree R) (low high c : ℕ)
       (before after : ℕ) : Type 0 where
     pub becomes : Becomes old new (inserted f old.vacant_key w t) low high
@@ -102,8 +102,8 @@ module _ {R : Type 0} (f : Functions R) where
     pub len : slab_len new ≡ slab_len old + cond (has_rank f (f.rank w) t) 0 1
     pub steps : after ≤ before + 13 * height t + 1
 
-  -- The new slab has the tree without the row of rank n, which is y with no children, and c is the link to its root. It
-  -- has a row less where a row had this rank.
+  -- The new slab has the tree without the row of rank n, which is y with no children, and c is the link to its root. If
+  -- a row had this rank, it has one row less.
   pub record HasRemoved (old new : Slab R) (n : ℕ) (t : Tree R) (low high : ℕ) (y : Option R) (c : Option ℕ)
       (before after : ℕ) : Type 0 where
     pub becomes : Becomes old new (removed f n t) low high
@@ -136,7 +136,7 @@ module _ {R : Type 0} (f : Functions R) where
   abbrev pub height_at : Slab R → Option ℕ → ℕ
   height_at s at = height_in f.height (child_at s at)
 
-  -- the rows below a child and its own, in order, where `below` gives those under a link
+  -- the rows below a child and the child's own, in order; `below` gives those under a link
   abbrev pub rows_round : Option (Child R) → (Option ℕ → List R) → List R
   rows_round None below = []
   rows_round (Some c) below = below (f.left c.row) ++ plain f c.row ∷ below (f.right c.row)

@@ -57,8 +57,8 @@ module _ {R : Type 0} (f : Functions R) where
   abbrev pub has_rank : ℕ → Tree R → Bool
   has_rank n t = is_some (row_in n t)
 
-  -- the last row on the way down by rank that lies at this rank or past it, or, with `down`, at it or before it, and else what
-  -- was found above
+  -- The last row on the way down by rank that lies at this rank or past it, or with `down`, at it or before it. If
+  -- there is none, it is what was found above.
   abbrev pub found : (down : Bool) → ℕ → Option R → Tree R → Option R
   found down n best Leaf = best
   found down n best (Node l p x r) =
@@ -67,7 +67,7 @@ module _ {R : Type 0} (f : Functions R) where
       (found down n (cond (not down) (Some (plain f x)) best) l)
       (cond (nat_lt (f.rank x) n) (found down n (cond down (Some (plain f x)) best) r) (Some (plain f x)))
 
-  -- The node made again where its left part is too high: the left child moves up, or the inner grandchild where this is
+  -- The node made again, if its left part is too high: the left child moves up, or the inner grandchild, if this is
   -- higher than the outer one.
   unfoldable pub leaned_right : Tree R → ℕ → R → Tree R → Tree R
   leaned_right Leaf p x r = Node Leaf p x r
@@ -78,7 +78,7 @@ module _ {R : Type 0} (f : Functions R) where
       (Node (Node a j y c) k z (Node d p x r))
       (Node a j y (Node (Node c k z d) p x r))
 
-  -- the same where its right part is too high
+  -- the same if its right part is too high
   unfoldable pub leaned_left : Tree R → ℕ → R → Tree R → Tree R
   leaned_left l p x Leaf = Node l p x Leaf
   leaned_left l p x (Node Leaf j y b) = Node (Node l p x Leaf) j y b
@@ -88,7 +88,7 @@ module _ {R : Type 0} (f : Functions R) where
       (Node (Node l p x c) k z (Node d j y b))
       (Node (Node l p x (Node c k z d)) j y b)
 
-  -- the node over parts whose heights differ by at most two, with a rotation where they differ by two
+  -- the node over parts whose heights differ by at most two, with a rotation if they differ by two
   unfoldable pub balanced : Tree R → ℕ → R → Tree R → Tree R
   balanced l p x r =
       cond
@@ -115,7 +115,7 @@ module _ {R : Type 0} (f : Functions R) where
   without_least Leaf = Leaf
   without_least (Node l p x r) = cond (is_leaf l) r (balanced (without_least l) p x r)
 
-  -- the tree without its root: where it has a right part, the first row of this goes to the place of the root
+  -- the tree without its root: if it has a right part, the first row of this part goes to the place of the root
   unfoldable pub without_root : Tree R → Tree R
   without_root Leaf = Leaf
   without_root (Node l p x Leaf) = l
