@@ -1,4 +1,5 @@
--- What a page store contains: page frames, and VMOs that show them. From the kernel's VMO pages: sparse, zero until written.
+-- What a page store contains: page frames, and VMOs that show them. From the kernel's VMO pages: sparse, zero until
+-- written.
 use Rattle.std.specs.Prelude.{◌≡◌, ℕ, ◌+◌, ◌<◌, ◌≤◌, Bool, false, not, ◌&&◌, ◌==◌, List, length, if◌then◌else◌, Option, None, Some, is_some, unwrap_or}
 use Rattle.vm_base.specs.declared.limits.TheConstants.{PAGE, VMO_PAGES}
 use Rattle.vm_base.specs.Search.{any_below, count_below}
@@ -10,7 +11,7 @@ pub record Page : Type 0 where
   pub tag : ℕ
   pub bytes : List ℕ
 
--- A content has a number of frames and the next koid. A koid has a page count where it is a VMO's. A page of a VMO is
+-- A content has a number of frames and the next koid. If a koid is a VMO's, it has a page count. A page of a VMO is
 -- held, or it is zero and uses no frame.
 pub record Content : Type 0 where
   pub frames : ℕ
@@ -72,7 +73,7 @@ is_sole_page c v (Some held) = not (seen_elsewhere c held.tag v)
 abbrev pub sole : Content → ℕ → ℕ → Bool
 sole c v p = is_sole_page c v (c.page v p)
 
--- c with page p of v held so
+-- c with page p of v held, with this frame and these bytes
 unfoldable pub hold : Content → ℕ → ℕ → Page → Content
 hold c v p held = record c { page = λ w q. if (w == v) && (q == p) then Some held else c.page w q }
 

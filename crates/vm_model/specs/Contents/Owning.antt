@@ -2,8 +2,8 @@
 use Rattle.std.specs.Prelude.{◌≡◌, ℕ, suc, ◌+◌, ◌<◌, true, false, List, [], ◌∷◌, map, if◌then◌else◌, Some}
 use Rattle.vm_model.specs.Contents.Content.{Content, Page, shown, in_use, sole, hold}
 
--- From old, owning page p of v may lead to new, with this frame. A sole page stays as it is. Any other page gets a frame
--- that no page has, with the bytes that it showed.
+-- From old, owning page p of v may lead to new, with this frame. A sole page stays as it is. Any other page gets a
+-- frame that no page has, with the bytes that it showed.
 pub record Owns (old new : Content) (v p tag : ℕ) : Type 0 where
   pub stays : sole old v p ≡ true → (new ≡ old) × ((held : Page) → old.page v p ≡ Some held → tag ≡ held.tag)
   pub copies : sole old v p ≡ false → (tag < old.frames) × (in_use old tag ≡ false) × (new ≡ hold old v p (record { tag = tag; bytes = shown old v p }))
@@ -26,8 +26,8 @@ OwnsEach old (w ∷ ws) new = (mid : Content) × (tag : ℕ) × Owns old mid w.k
 abbrev pub OwnsAll : Content → ℕ → List ℕ → Content → Type 0
 OwnsAll old v ps new = OwnsEach old (pages_at v ps) new
 
--- The number of these pages that are not sole when their turn comes, if they are owned one after another. New frames are
--- counted on from `fresh`, so that the number does not depend on which frames are free.
+-- The number of these pages that are not sole when their turn comes, if they are owned one after another. New frames
+-- are counted on from `fresh`, so that the number does not depend on which frames are free.
 unfoldable pub need_from : ℕ → Content → List VmoPage → ℕ
 need_from fresh c [] = 0
 need_from fresh c (w ∷ ws) =

@@ -10,7 +10,7 @@ use Rattle.vm_base.specs.Pages.{replaced}
 unfoldable pub touched_end : ℕ → ℕ → ℕ
 touched_end offset len = (offset + len + (PAGE - 1)) / PAGE
 
--- the pages that hold a byte of the range, none of them where it has no byte
+-- the pages that hold a byte of the range. If the range has no byte, there are none
 unfoldable pub touched : ℕ → ℕ → List ℕ
 touched offset len = if len == 0 then [] else range_with_len (offset / PAGE) (touched_end offset len - offset / PAGE)
 
@@ -22,18 +22,19 @@ byte_at c v at = slice_index (shown c v (at / PAGE)) (at % PAGE)
 unfoldable pub bytes_in : Content → ℕ → ℕ → ℕ → List ℕ
 bytes_in c v offset len = map (byte_at c v) (range_with_len offset len)
 
--- what a write puts into one page of a VMO: bytes from a place in the page on
+-- what a write puts into one page of a VMO: bytes, from a place in the page on
 pub record Piece : Type 0 where
   pub koid : ℕ
   pub page : ℕ
   pub at : ℕ
   pub bytes : List ℕ
 
--- where in page p the part of a write begins that falls into it, for a write at this offset. Differences stop at 0
+-- where the part of a write begins that falls into page p, in bytes into the page. The write begins at this offset.
+-- Differences stop at 0
 unfoldable pub part_at : ℕ → ℕ → ℕ
 part_at offset p = offset - PAGE * p
 
--- and the bytes of this part
+-- the bytes of this part
 unfoldable pub part_bytes : ℕ → List ℕ → ℕ → List ℕ
 part_bytes offset bytes p = slice_range bytes (PAGE * p - offset) (PAGE * (p + 1) - offset)
 

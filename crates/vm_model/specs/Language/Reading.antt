@@ -116,7 +116,7 @@ pin word = do
   n ← name_behind 112 word
   Some (record { 0 = n })
 
--- the words are one
+-- the two words are the same
 abbrev pub is_word : List ℕ → List ℕ → Bool
 is_word = pointwise nat_eq
 
@@ -147,7 +147,7 @@ abbrev pub bit : Bool → ℕ → ℕ
 bit true n = n
 bit false n = 0
 
--- the command, where its flags are these words
+-- the command, if its flags are these words
 abbrev pub flagged : List (List ℕ) → List (List ℕ) → Command → Option Command
 flagged known ws command = if are_flags known ws then Some command else None
 

@@ -68,7 +68,8 @@ command_words Stat = codes "stat" ∷ []
 unfoldable pub spelling : Command → List ℕ
 spelling command = join_with_byte 32 (command_words command)
 
--- Some line spells the command: no set holds a bit without a name, and the flags of a region are those that its line has.
+-- Some line spells the command: no set holds a bit without a name, and the flags of a region are those that its line
+-- has.
 unfoldable pub has_spelling : Command → Bool
 has_spelling (VmarAllocate region parent offset len flags caps) = (flags.0 == bit_and flags.0 (specific + upper_limit)) && nat_lt caps.0 (all_rights + 1)
 has_spelling (VmarMap region offset name vmo_offset len perm flags) = nat_lt perm.0 (all_rights + 1) && nat_lt flags.0 (all_options + 1)

@@ -30,7 +30,7 @@ refusal_name NoResources = codes "NO_RESOURCES"
 refusal_name NoMemory = codes "NO_MEMORY"
 refusal_name HostMemory = codes "HOST_MEMORY"
 
--- byte data in lower-case hex, `-` for no bytes
+-- byte data in lower-case hex, or `-` if there are no bytes
 abbrev pub data_text : List ℕ → List ℕ
 data_text [] = codes "-"
 data_text (b ∷ bs) = encode_lower (b ∷ bs)
@@ -39,7 +39,7 @@ data_text (b ∷ bs) = encode_lower (b ∷ bs)
 abbrev pub address_text : ℕ → List ℕ
 address_text n = codes "0x" ++ digits 16 false n
 
--- the letters of the named bits of a permission, `none` where it has none of them
+-- the letters of the named bits of a permission, or `none` if it has none of them
 abbrev pub perm_text : ℕ → List ℕ
 perm_text bits = named (letter reading 114 ++ letter writing 119 ++ letter executing 120) where
   letter : ℕ → ℕ → List ℕ

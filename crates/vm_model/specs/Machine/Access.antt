@@ -1,5 +1,5 @@
--- Reading and writing through mappings. From the loads and stores of threads, and from the kernel's page faults. An access goes
--- through the entries of one address space, page by page in the order of its addresses.
+-- Reading and writing through mappings. From the loads and stores of threads, and from the kernel's page faults. An
+-- access goes through the entries of one address space, page by page in the order of its addresses.
 use Rattle.std.specs.Prelude.{◌≡◌, ℕ, ◌+◌, ◌/◌, ◌%◌, not, nat_lt, List, [], ◌∷◌, length, map, slice_index, if◌then◌else◌, Option, None, Some, is_some, unwrap_or}
 use Rattle.std.specs.Option.{option_or}
 use Rattle.std.specs.List.{filter, range_with_len}
@@ -17,7 +17,7 @@ use Rattle.vm_model.specs.Space.Readiness.{Ready, is_writable, settled, with_rea
 
 -- ---- what is touched
 
--- the entry of a page. Where it has none, this means nothing
+-- the entry of a page. If the page has none, this means nothing
 unfoldable pub entry_at : (ℕ → Option Entry) → ℕ → Entry
 entry_at entries p =
     unwrap_or (entries p) (record { koid = record { 0 = 0 }; page = 0; perm = record { 0 = 0 }; cap = record { 0 = 0 }; region = record { 0 = 0 } })
@@ -32,7 +32,7 @@ pages_shown entries ps = map (λ p. page_shown (entry_at entries p)) ps
 
 -- ---- when it is refused
 
--- why an access that needs this right is refused on a page with this entry, if it is
+-- the refusal of an access that needs this right, on a page with this entry, if it is refused
 unfoldable pub refusal_at : Content → (right : ℕ) → Option Entry → Option Refusal
 refusal_at c right None = Some NotFound
 refusal_at c right (Some entry) =
@@ -40,7 +40,7 @@ refusal_at c right (Some entry) =
     else if nat_lt entry.page (pages_of c entry.koid.0) then None
     else Some OutOfRange
 
--- why it is refused on these pages: the first of them on which it is decides
+-- the refusal of an access on these pages: the first page on which it is refused decides
 unfoldable pub access_refusal : Content → (right : ℕ) → (ℕ → Option Entry) → List ℕ → Option Refusal
 access_refusal c right entries [] = None
 access_refusal c right entries (p ∷ ps) = option_or (refusal_at c right (entries p)) (access_refusal c right entries ps)
@@ -57,11 +57,11 @@ byte_through c entries addr =
 unfoldable pub bytes_through : Content → (ℕ → Option Entry) → (addr len : ℕ) → List ℕ
 bytes_through c entries addr len = map (byte_through c entries) (range_with_len addr len)
 
--- how many of these pages are ready for nothing. Each of them takes one page fault to be read
+-- how many of these pages are ready for nothing. To read each of them takes one page fault
 unfoldable pub read_faults : (ℕ → Option Readiness) → List ℕ → ℕ
 read_faults ready ps = length (filter (λ p. not (is_some (ready p))) ps)
 
--- what is ready once these pages were read: they are ready for reading at least
+-- what is ready once these pages were read: each is ready for reading at least
 unfoldable pub after_reading : (root : ℕ) → List ℕ → Ready → Ready
 after_reading root [] ready = ready
 after_reading root (p ∷ ps) ready =
@@ -78,19 +78,20 @@ pub record Memory : Type 0 where
 abbrev pub piece_through : Entry → (addr : ℕ) → List ℕ → ℕ → Piece
 piece_through entry addr bytes p = record (piece entry.koid.0 addr bytes p) { page = entry.page }
 
--- a write takes one page fault where the page is not ready for it
+-- a write takes one page fault if the page is not ready for writing
 abbrev pub write_fault : Option Readiness → ℕ
 write_fault readiness = if is_writable readiness then 0 else 1
 
--- From old, writing what of a write falls into page p may lead to new. The page that it shows is owned and its bytes are
--- replaced, pages that showed it in another frame are ready no more, and this page is ready for writing.
+-- From old, writing the part of a write that falls into page p may lead to new. The page of a VMO that p shows is
+-- owned, and its bytes are replaced. Pages that showed it in another frame are ready no more. Page p is ready for
+-- writing.
 pub record WritesPage (table : ℕ → ℕ → Option Entry) (root addr : ℕ) (bytes : List ℕ) (p : ℕ) (old new : Memory) : Type 0 where
   pub entry : Entry
   pub is : table root p ≡ Some entry
   pub writes : WritesPiece old.content (piece_through entry addr bytes p) new.content
   pub ready : new.ready ≡ with_ready (settled old.content new.content table old.ready) root p Write
 
--- what of a write falls into these pages is written, one page after another, with so many page faults
+-- the parts of a write that fall into these pages are written, one page after another, with so many page faults
 abbrev pub WritesThrough : (ℕ → ℕ → Option Entry) → (root addr : ℕ) → List ℕ → List ℕ → Memory → (faults : ℕ) → Memory → Type 0
 WritesThrough table root addr bytes [] old faults new = (new ≡ old) × (faults ≡ 0)
 WritesThrough table root addr bytes (p ∷ ps) old faults new =

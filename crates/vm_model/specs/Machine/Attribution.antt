@@ -1,5 +1,5 @@
--- What a VMO holds: its held pages, those that it shares, and those that it is charged for. From the kernel's attribution of
--- memory, where each frame is charged to one VMO.
+-- What a VMO holds: its held pages, those that it shares, and those that it is charged for. From the kernel's
+-- attribution of memory, where each frame is charged to one VMO.
 use Rattle.std.specs.Prelude.{ℕ, ◌-◌, ◌*◌, Bool, false, not, ◌&&◌, Option, None, Some}
 use Rattle.vm_base.specs.declared.limits.TheConstants.{PAGE}
 use Rattle.vm_model.specs.declared.reply.Info.{Info}
@@ -26,7 +26,7 @@ is_charged_page c v (Some held) = not (any_below v (views c held.tag))
 abbrev pub is_charged : Content → ℕ → ℕ → Bool
 is_charged c v p = is_charged_page c v (c.page v p)
 
--- What is told of a VMO by a name that stands for it. The size is the name's, and all else is of the whole VMO
+-- What is told of a VMO by a name that stands for it. The size is the name's. All else is of the whole VMO
 abbrev pub info_at : State → Target → Info
 info_at s target = record {
   koid = target.koid;
@@ -38,6 +38,6 @@ info_at s target = record {
   children = children s.names s.lineage target.koid.0;
 }
 
--- how many frames the machine has, how many some VMO shows and how many none does, and how many VMOs there are
+-- how many frames the machine has, how many some VMO shows, how many none shows, and how many VMOs there are
 abbrev pub stat_of : Content → Stat
 stat_of c = record { frames = c.frames; used = used c; free = c.frames - used c; vmos = vmos_of c }

@@ -20,15 +20,15 @@ empty_machine frames = record { state = empty_state frames; ready = λ root p. N
 abbrev pub memory_of : Machine → Memory
 memory_of m = record { content = m.state.content; ready = m.ready }
 
--- What holds of every page that is ready: it shows a page that lies in its VMO, and where it is ready for writing, that page is
--- sole.
+-- What holds of every page that is ready: it shows a page that lies in its VMO. If it is ready for writing, that page
+-- is sole.
 pub record IsGoodReady (s : State) (root p : ℕ) (readiness : Readiness) : Type 0 where
   pub entry : Entry
   pub is : s.spaces.table root p ≡ Some entry
   pub below : entry.page < pages_of s.content entry.koid.0
   pub alone : readiness ≡ Write → sole s.content entry.koid.0 entry.page ≡ true
 
--- What holds of every machine that is come to.
+-- What holds of every machine that the commands can lead to.
 pub record IsGoodMachine (m : Machine) : Type 0 where
   pub state : IsGoodState m.state
   pub ready : (root p : ℕ) (readiness : Readiness) → m.ready root p ≡ Some readiness → IsGoodReady m.state root p readiness

@@ -1,5 +1,5 @@
--- One step of the whole machine: what a command does to the state, and to which pages are ready. An access through mappings is
--- a step of the whole machine alone, since its page faults go by what is ready.
+-- One step of the whole machine: what a command does to the state, and to which pages are ready. An access through
+-- mappings is a step of the whole machine alone, since its page faults go by what is ready.
 use Rattle.std.specs.Prelude.{◌≡◌, ℕ, ◌+◌, ◌/◌, Bool, not, length, Option, None, Some, is_some, ◌⊎◌, true}
 use Rattle.std.specs.List.{list_any}
 use Rattle.vm_base.specs.Pages.{rounded}
@@ -21,8 +21,8 @@ use Rattle.vm_model.specs.Machine.Machine.{Machine, memory_of}
 use Rattle.vm_model.specs.Machine.Refusals.{refusals, first_of}
 use Rattle.vm_model.specs.Machine.Step.{seen_pages, ChangesContent, Effect, may_lack_memory, IsRefused}
 
--- What a command takes of what is ready, beside the pages whose frames changed. A page of which a snapshot was made is ready for
--- reading at most, unless a pin covers it, and a page that was mapped or protected is ready for nothing.
+-- What a command takes of what is ready, beside the pages whose frames changed. A page of which a snapshot was made is
+-- ready for reading at most, unless a pin covers it. A page that was mapped or protected is ready for nothing.
 abbrev pub withdrawn : State → Command → Reply → Ready → Ready
 withdrawn old (VmoChild name parent Snapshot offset size resizable no_write) reply ready =
     let target = target_of old parent.0 in
@@ -39,7 +39,7 @@ abbrev pub ready_after : Machine → Command → Reply → State → Ready
 ready_after old command reply new =
     withdrawn old.state command reply (settled old.state.content new.content new.spaces.table old.ready)
 
--- what a command does where nothing refuses it
+-- what a command does if nothing refuses it
 abbrev pub MachineEffect : Machine → Command → Reply → Machine → Type 0
 MachineEffect old (MemRead region addr len) reply new =
     (reply ≡ Access (read_faults (old.ready region.0) (touched addr len)) (bytes_through old.state.content (old.state.spaces.table region.0) addr len))

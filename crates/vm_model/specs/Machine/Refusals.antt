@@ -23,15 +23,15 @@ use Rattle.vm_model.specs.Machine.Access.{pages_shown, access_refusal}
 use Rattle.vm_model.specs.declared.names.Target.{Target}
 use Rattle.vm_model.specs.Machine.State.{State, is_open, is_given, target_of, koid_of, size_of, place_of, lineage_of, pinned_copies}
 
--- owning these pages of the VMO of this name takes more frames than are free
+-- to own these pages of the VMO of this name takes more frames than are free
 abbrev pub lacks_frames : State → ℕ → List ℕ → Bool
 lacks_frames s name ps = nat_lt s.content.frames (used s.content + need s.content (koid_of s name) ps)
 
--- the copies of pinned pages that a snapshot of what a name stands for has are more than the free frames
+-- a snapshot of what a name stands for has more copies of pinned pages than there are free frames
 abbrev pub lacks_copies : State → Target → ℕ → ℕ → Bool
 lacks_copies s target start pages = nat_lt s.content.frames (used s.content + length (pinned_copies s target start pages))
 
--- the refusals of a change to a range of a name, for which these pages of its VMO are owned
+-- the refusals of a change to a range of a name. The change owns these pages of the VMO
 abbrev pub change_refusals : State → ℕ → ℕ → ℕ → List ℕ → List (Bool × Refusal)
 change_refusals s name offset len owned =
     (not (is_open s name), BadHandle)
@@ -47,7 +47,7 @@ read_refusals c entries ps =
     (is_some page_refusal, unwrap_or page_refusal NotFound)
     ∷ []
 
--- the refusals of such a write
+-- the refusals of a write through mappings that touches these pages
 abbrev pub write_refusals : Content → (ℕ → Option Entry) → List ℕ → List (Bool × Refusal)
 write_refusals c entries ps =
     let page_refusal = access_refusal c writing entries ps in
@@ -55,7 +55,7 @@ write_refusals c entries ps =
     ∷ (nat_lt c.frames (used c + need_each c (pages_shown entries ps)), NoMemory)
     ∷ []
 
--- the refusals of a command. A row may rest on those before it: where a name is not open, the rows behind mean nothing
+-- The refusals of a command. A row may rest on those before it: if a name is not open, the rows behind mean nothing.
 abbrev pub refusals : State → Command → List (Bool × Refusal)
 refusals s (VmoCreate name size resizable) =
     (is_open s name.0, NameInUse)

@@ -29,7 +29,7 @@ is_open s name = is_some (s.names name)
 abbrev pub is_given : State → ℕ → Bool
 is_given s name = is_some (s.spaces.regions name)
 
--- what the name stands for. Where it is not open, this means nothing
+-- what the name stands for. If the name is not open, this means nothing
 unfoldable pub target_of : State → ℕ → Target
 target_of s name = unwrap_or (s.names name) (owner 0 false false)
 
@@ -53,25 +53,26 @@ place_of s name offset = (target_of s name).first * PAGE + offset
 abbrev pub seen_pages : Content → Target → ℕ → ℕ → ℕ
 seen_pages c target start pages = min pages (name_pages c target - start)
 
--- those of its pages that are copies of pages which a pin covers, in ascending order
+-- those pages of the snapshot that are copies of pinned pages, in ascending order
 abbrev pub pinned_copies : State → Target → ℕ → ℕ → List ℕ
 pinned_copies s target start pages =
     filter (λ q. is_pinned s.pins target.koid.0 (target.first + start + q)) (range_with_len 0 (seen_pages s.content target start pages))
 
--- what is kept of the VMO v. Where there is none, this means nothing
+-- the lineage of the VMO v. If there is none, this means nothing
 unfoldable pub lineage_of : State → ℕ → Lineage
 lineage_of s v = unwrap_or (s.lineage v) (record { resizable = false; origin = Created; parent = None })
 
--- a VMO is live while a name stands for it, a pin is of it, or some page of an address space shows a page of it
+-- a VMO is live as long as a name stands for it, a pin is of it, or some page of an address space shows a page of it
 unfoldable pub is_live : State → ℕ → Bool
 is_live s v = is_named s.names v || (has_pin s.pins v || is_mapped s.spaces v)
 
--- how much keeps the VMO v beside names: the pins that are of it, and the pages of address spaces that show a page of it
+-- how many keepers the VMO v has beside its names: the pins that are of it, and the pages of address spaces that show a
+-- page of it
 abbrev pub keeper_count : State → ℕ → ℕ
 keeper_count s v = pin_count s.pins v + mapped_count s.spaces v
 
--- What holds of every name: it stands for a VMO. A name of a part is a slice, of a VMO that keeps its size, and the part lies
--- inside the VMO.
+-- What holds of every name: it stands for a VMO. A name of a part is a slice of a VMO that keeps its size, and the part
+-- lies inside the VMO.
 pub record IsGoodName (s : State) (target : Target) : Type 0 where
   pub vmo : IsSome (s.content.count target.koid.0)
   pub whole : target.limit ≡ None → target.first ≡ 0

@@ -41,8 +41,8 @@ with_vmo s name pages resizable = record s {
   lineage = with_key s.lineage s.content.next (record { resizable = resizable; origin = Created; parent = None });
 }
 
--- A snapshot of what a name stands for, from its page `start` on, and the snapshot's name. Pages past the end of the name
--- are zero, also if the name's VMO grows later.
+-- A snapshot of what a name stands for, from the name's page `start` on, and the snapshot's name. Pages past the end of
+-- the name are zero, also if the name's VMO grows later.
 unfoldable pub with_snapshot : State → ℕ → Target → ℕ → ℕ → Bool → Bool → State
 with_snapshot s name target start pages resizable no_write = record s {
   content = snapshotted s.content target.koid.0 (target.first + start) (seen_pages s.content target start pages) pages;
@@ -50,7 +50,7 @@ with_snapshot s name target start pages resizable no_write = record s {
   lineage = with_key s.lineage s.content.next (record { resizable = resizable; origin = Snapshot; parent = Some target.koid.0 });
 }
 
--- a part of what a name stands for, from its page `start` on. It keeps its size
+-- a part of what a name stands for, from the name's page `start` on. The part keeps its size
 abbrev pub slice_of : Target → ℕ → ℕ → Bool → Target
 slice_of target start pages no_write = record {
   koid = target.koid;
@@ -72,7 +72,7 @@ reference_of target resizable no_write = record {
   may_resize = resizable;
 }
 
--- one name more, of a VMO that is there
+-- one name more for a VMO that is there
 unfoldable pub with_alias : State → ℕ → Target → State
 with_alias s name target = record s { names = with_key s.names name target }
 
@@ -80,7 +80,7 @@ with_alias s name target = record s { names = with_key s.names name target }
 abbrev pub pin_at : State → ℕ → ℕ → ℕ → Pin
 pin_at s name offset len = record { koid = koid_of s name; first = place_of s name offset / PAGE; count = len / PAGE }
 
--- the frame of a page. Where it has none, this means nothing
+-- the frame of a page. If the page has none, this means nothing
 unfoldable pub frame_of : Option Page → ℕ
 frame_of None = 0
 frame_of (Some held) = held.tag
@@ -93,8 +93,8 @@ frames_of c pin = map (λ p. frame_of (c.page pin.koid p)) (range_with_len pin.f
 abbrev pub ChangesContent : State → State → Type 0
 ChangesContent old new = new ≡ record old { content = new.content }
 
--- What a command does where nothing refuses it. A snapshot is made, and then it owns its copies of pinned pages, so that those
--- keep their frames for themselves.
+-- What a command does if nothing refuses it. If it makes a snapshot, the snapshot then owns its copies of pinned pages,
+-- so that the pinned pages keep their frames for themselves.
 abbrev pub Effect : State → Command → Reply → State → Type 0
 Effect old (VmoCreate name size resizable) reply new =
     (reply ≡ Done) × (new ≡ with_vmo old name.0 (rounded size / PAGE) resizable)
@@ -158,17 +158,17 @@ Effect old Stat reply new = (reply ≡ StatReply (stat_of old.content)) × (new 
 Effect old (MemRead region addr len) reply new = ⊥
 Effect old (MemWrite region addr bytes) reply new = ⊥
 
--- some page passes, of those that the range of a name touches in its VMO
+-- some page that the range of a name touches in its VMO passes
 abbrev pub touches_any : State → ℕ → ℕ → ℕ → (ℕ → Bool) → Bool
 touches_any s name offset len test = list_any test (touched (place_of s name offset) len)
 
--- some page of the address space of this region is mapped, of those from `first` to below `end`
+-- some page of the address space of this region, from `first` to below `end`, is mapped
 abbrev pub maps_any : State → ℕ → ℕ → ℕ → Bool
 maps_any s region first end = is_mapped_in (s.spaces.table (region_of s.spaces.regions region).root.0) first end
 
--- The command may want memory of the host in this state. To own pages it is wanted only if a touched page is not sole,
--- to make pages zero only if a touched page is held, and to unmap or list mappings only if a page of the range is
--- mapped
+-- The command may want memory of the host in this state. It wants memory to own pages only if a touched page is not
+-- sole, to make pages zero only if a touched page is held, and to unmap or list mappings only if a page of the range is
+-- mapped.
 abbrev pub may_lack_memory : State → Command → Bool
 may_lack_memory s (VmoCreate name size resizable) = true
 may_lack_memory s (VmoChild name parent kind offset size resizable no_write) = true

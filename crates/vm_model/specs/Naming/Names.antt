@@ -15,7 +15,7 @@ pub record Lineage : Type 0 where
   pub origin : Origin
   pub parent : Option ℕ
 
--- the name of a VMO that was just made
+-- the name of a VMO that has just been made
 abbrev pub owner : ℕ → Bool → Bool → Target
 owner koid may_write may_resize = record { koid = record { 0 = koid }; first = 0; limit = None; kind = Owner; may_write = may_write; may_resize = may_resize }
 
@@ -63,17 +63,17 @@ child_count lineage v = entry_count (2 ^ 64) (has_parent v) lineage
 abbrev pub children : (ℕ → Option Target) → (ℕ → Option Lineage) → ℕ → ℕ
 children names lineage v = child_count lineage v + names_as Slice names v + names_as Reference names v
 
--- The pages of the VMO v with this lineage may be taken back: it is no snapshot, no VMO is its child, and no reference stands
--- for it.
+-- The frames of the VMO v with this lineage may be given back by a decommit: the VMO is no snapshot, no VMO is its
+-- child, and no reference stands for it.
 abbrev pub may_decommit : (ℕ → Option Target) → (ℕ → Option Lineage) → ℕ → Lineage → Bool
 may_decommit names lineage v l = is_created l.origin && ((child_count lineage v == 0) && (names_as Reference names v == 0))
 
--- a parent, after the VMO v left: its children get its own parent
+-- a parent, once the VMO v with its own parent has left: the children of v get the parent of v
 unfoldable pub parent_without : ℕ → Option ℕ → Option ℕ → Option ℕ
 parent_without v parent None = None
 parent_without v parent (Some p) = if p == v then parent else Some p
 
--- the lineage of all VMOs, after the VMO v with this parent left
+-- the lineage of all VMOs, once the VMO v with this parent has left
 unfoldable pub lineage_without : (ℕ → Option Lineage) → ℕ → Option ℕ → ℕ → Option Lineage
 lineage_without lineage v parent w =
     if w == v then None

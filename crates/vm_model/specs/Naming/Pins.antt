@@ -5,7 +5,7 @@ use Rattle.vm_base.specs.Entries.{any_entry, entry_count}
 use Rattle.vm_base.specs.declared.limits.TheConstants.{NAMES}
 use Rattle.vm_model.specs.Contents.Zeroing.{is_within}
 
--- so many pages of a VMO, from one on
+-- pages of a VMO, `count` of them from the page `first` on
 pub record Pin : Type 0 where
   pub koid : ℕ
   pub first : ℕ
@@ -27,6 +27,6 @@ covers v p pin = (pin.koid == v) && is_within pin.first (pin.first + pin.count) 
 abbrev pub is_pinned : (ℕ → Option Pin) → ℕ → ℕ → Bool
 is_pinned pins v p = any_entry NAMES (covers v p) pins
 
--- some page of the VMO v is pinned, of those from `first` to below `end`
+-- some page of the VMO v, from `first` to below `end`, is pinned
 unfoldable pub any_pinned : (ℕ → Option Pin) → ℕ → ℕ → ℕ → Bool
 any_pinned pins v first end = any_from first end (is_pinned pins v)

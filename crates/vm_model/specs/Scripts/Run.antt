@@ -28,7 +28,8 @@ unfoldable pub whole_lines : List ℕ → List (List ℕ)
 whole_lines [] = []
 whole_lines (b ∷ bs) = if b == 10 then [] ∷ whole_lines bs else before_whole b (whole_lines bs)
 
--- what a line that is read so may give: a blank line no reply, a line outside the grammar its refusal, an order one step
+-- what a line that is read so may give: a blank line gives no reply, a line outside the grammar its refusal, and a
+-- command one step
 abbrev pub GivesAs : Reading → Machine → List Reply → Machine → Type 0
 GivesAs Blank old replies new = (replies ≡ []) × (new ≡ old)
 GivesAs (Order command) old replies new = (reply : Reply) × (replies ≡ reply ∷ []) × MachineStep old command reply new

@@ -1,4 +1,5 @@
--- The workload that is generated from a number: its commands, one after another, and the line that tells what became of them.
+-- The workload that is generated from a number: its commands, one after another, and the line that tells what became of
+-- them.
 use Rattle.std.specs.Prelude.{◌≡◌, ℕ, zero, suc, ◌+◌, ◌*◌, ◌/◌, ◌%◌, ◌^◌, Bool, true, false, ◌||◌, ◌==◌, List, [], ◌∷◌, ◌++◌, length, codes, if◌then◌else◌}
 use Rattle.std.specs.List.{filter}
 use Rattle.vm_base.specs.declared.limits.TheConstants.{PAGE}
@@ -24,8 +25,8 @@ number_after x = (x * 6364136223846793005 + 1442695040888963407) % 2 ^ 64
 abbrev pub workload_bytes : ℕ
 workload_bytes = 64 * PAGE
 
--- A command of one of eight kinds. It is on the VMO `vmo`, from its page `page` on; a snapshot is one of the VMO `parent`, and a
--- fill is with this byte.
+-- A command of one of eight kinds on the VMO `vmo`, from its page `page` on. A snapshot is one of the VMO `parent`, and
+-- a fill is with the byte `byte`.
 abbrev pub generated : (kind : ℕ) → (vmo parent : VmoName) → (page byte : ℕ) → Command
 generated kind vmo parent page byte =
     if kind == 0 then VmoCreate vmo workload_bytes true
@@ -36,13 +37,14 @@ generated kind vmo parent page byte =
     else if kind == 6 then VmoZero vmo (page * PAGE) PAGE
     else VmoRead vmo (page * PAGE) 16
 
--- the command that a number gives: of its upper bits the lowest 25, in fields of 3, 4, 4, 6 and 8 bits
+-- The command that a number gives. Of the number's upper bits it takes the lowest 25, in fields of 3, 4, 4, 6 and 8
+-- bits.
 unfoldable pub command_for : ℕ → Command
 command_for x =
     let h = x / 2 ^ 33 in
     generated (h % 8) (record { 0 = h / 8 % 16 }) (record { 0 = h / 128 % 16 }) (h / 2048 % 64) (h / 131072 % 256)
 
--- so many commands, from a number
+-- `count` commands, from a number
 unfoldable pub workload : (number count : ℕ) → List Command
 workload number zero = []
 workload number (suc count) = command_for (number_after number) ∷ workload (number_after number) count

@@ -42,8 +42,8 @@ without_region spaces name = record {
   table = without_regions spaces.table (is_at_or_below spaces.regions name);
 }
 
--- What holds of the address spaces of every state that the machine comes to, where this is what its store contains: regions
--- and entries are good, no region allows what has no name, and each entry shows a VMO.
+-- What holds of the address spaces of every state that the machine comes to, if its store contains c: regions and
+-- entries are good, no region allows a permission without a name, and each entry shows a VMO.
 pub record AreGoodSpaces (c : Content) (spaces : Spaces) : Type 0 where
   pub regions : AreGoodRegions spaces.regions
   pub caps : (n : ℕ) (region : Region) → spaces.regions n ≡ Some region → has all_rights region.caps.0 ≡ true

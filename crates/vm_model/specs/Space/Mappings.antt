@@ -1,5 +1,5 @@
--- Mappings of VMOs in regions: how they are asked for, what they do to the table, and how they are listed. From the kernel's
--- zx_vmar_map, zx_vmar_unmap and zx_vmar_protect.
+-- Mappings of VMOs in regions: how they are asked for, what they do to the table, and how they are listed. From the
+-- kernel's zx_vmar_map, zx_vmar_unmap and zx_vmar_protect.
 use Rattle.std.specs.Prelude.{◌≡◌, ℕ, zero, suc, ◌+◌, ◌-◌, ◌*◌, ◌/◌, ◌%◌, Bool, true, false, not, ◌&&◌, ◌||◌, ◌==◌, List, [], ◌∷◌, if◌then◌else◌, Option, None, Some, is_some}
 use Rattle.vm_base.specs.Search.{any_from}
 use Rattle.vm_base.specs.Pages.{rounded}
@@ -20,12 +20,13 @@ use Rattle.vm_model.specs.Space.Places.{is_misplaced, IsPlace}
 abbrev pub lacks_reading : ℕ → Bool
 lacks_reading perm = (has perm writing || has perm executing) && not (has perm reading)
 
--- what the entries of a mapping may be changed to: what the region allows, but for writing where the VMO's name may not write
+-- what the permissions of a mapping's entries may be changed to: what the region allows, without writing if the VMO's
+-- name may not write
 abbrev pub cap_of : Region → Target → ℕ
 cap_of region target = if target.may_write || not (has region.caps.0 writing) then region.caps.0 else region.caps.0 - writing
 
--- the entry of the first page of a mapping in the region of this name, which shows what the VMO's name stands for, from its page
--- `start` on
+-- the entry of the first page of a mapping in the region of this name. It shows what the VMO's name stands for, from
+-- the page `start` of that name on
 abbrev pub entry_of : Region → ℕ → Target → ℕ → Perm → Entry
 entry_of region name target start perm = record {
   koid = target.koid;
@@ -35,19 +36,19 @@ entry_of region name target start perm = record {
   region = record { 0 = name };
 }
 
--- the spaces with a mapping of `count` pages, whose first is the page `first` of an address space and has this entry
+-- the spaces with a mapping of `count` pages. Its first page is the page `first` of an address space, with this entry
 abbrev pub with_mapping : Spaces → (root first count : ℕ) → Entry → Spaces
 with_mapping spaces root first count entry =
     record spaces { table = with_pages spaces.table root first (first + count) (mapping_from first entry) }
 
--- The page `first` is where a mapping of `count` pages may begin in the region of this name: at the offset, in bytes, where it
--- overwrites what is there, and else at a free place.
+-- A mapping of `count` pages may begin at the page `first` in the region of this name. If it overwrites what is there,
+-- `first` is at the offset, in bytes. Otherwise it begins a free place.
 pub record IsMapPlace (spaces : Spaces) (name : ℕ) (overwriting fixed limited : Bool) (offset count first : ℕ) : Type 0 where
   pub over : overwriting ≡ true → first ≡ (region_of spaces.regions name).first + offset / PAGE
   pub free : overwriting ≡ false → IsPlace spaces name fixed limited offset count first
 
--- A mapping is asked for wrongly: where a place would be, at two places, from within a page of the VMO, over a live child of the
--- region, or for writing or executing without reading.
+-- A mapping is asked for wrongly: no place can be where it is asked for, it is asked for at two places, from within a
+-- page of the VMO, over a live child of the region, or for writing or executing without reading.
 abbrev pub is_mismapped : Spaces → (name : ℕ) → (overwriting fixed limited : Bool) → (offset vmo_offset len perm : ℕ) → Bool
 is_mismapped spaces name overwriting fixed limited offset vmo_offset len perm =
     let region = region_of spaces.regions name in
@@ -55,8 +56,8 @@ is_mismapped spaces name overwriting fixed limited offset vmo_offset len perm =
     is_misplaced region (fixed || overwriting) limited offset len || (not (vmo_offset % PAGE == 0) || ((fixed && overwriting)
     || ((overwriting && meets_child spaces.regions name first (first + rounded len / PAGE)) || lacks_reading perm)))
 
--- A range of an address space, in bytes, is no range of the region: it does not begin at a page, has no byte, or passes an end of
--- the region.
+-- A range of an address space, in bytes, is no range of the region: it does not begin at a page, has no byte, or passes
+-- an end of the region.
 abbrev pub is_outside : Region → (addr len count : ℕ) → Bool
 is_outside region addr len count =
     not (addr % PAGE == 0) || (len == 0 || not (reaches_over (addr / PAGE) (addr / PAGE + count) region))
@@ -65,8 +66,8 @@ is_outside region addr len count =
 abbrev pub lies_below_in : (ℕ → Option Region) → (name first end : ℕ) → ℕ → Bool
 lies_below_in regions name first end n = is_below regions name n && lies_in first end (region_of regions n)
 
--- nothing is mapped on the pages from `first` to below `end` of the region's address space, and the regions below it that have
--- no other pages are dead
+-- the spaces with nothing mapped on the pages from `first` to below `end` of the region's address space. The regions
+-- below it that have no other pages are dead
 abbrev pub unmapped : Spaces → (name first end : ℕ) → Spaces
 unmapped spaces name first end = record {
   regions = killed spaces.regions (lies_below_in spaces.regions name first end);
@@ -106,7 +107,7 @@ abbrev pub goes_on : Run → Run → Bool
 goes_on x y = (x.addr + x.len == y.addr) && (x.offset + x.len == y.offset) && (x.koid.0 == y.koid.0) && (x.perm.0 == y.perm.0)
     && (x.region.0 == y.region.0)
 
--- a run before runs, one with the first of them where that goes on
+-- a run before other runs, joined to the first of them if that goes on where it ends
 abbrev pub run_before : Run → List Run → List Run
 run_before x [] = x ∷ []
 run_before x (y ∷ runs) = if goes_on x y then record x { len = x.len + y.len } ∷ runs else x ∷ y ∷ runs

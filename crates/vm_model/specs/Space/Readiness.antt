@@ -1,5 +1,5 @@
--- Which pages of address spaces are ready for an access, so that it takes no page fault. From the kernel's page tables: a page
--- is translated when it is touched first, and again after its frame changed.
+-- Which pages of address spaces are ready for an access, so that the access takes no page fault. From the kernel's page
+-- tables: a page is translated when it is touched first, and again after its frame changed.
 use Rattle.std.specs.Prelude.{ℕ, Bool, true, false, not, ◌&&◌, ◌==◌, nat_lt, if◌then◌else◌, Option, None, Some}
 use Rattle.std.specs.Option.{option_map}
 use Rattle.vm_base.specs.Entries.{passes}
@@ -19,7 +19,7 @@ is_writable None = false
 is_writable (Some Read) = false
 is_writable (Some Write) = true
 
--- the frame of page p of the VMO v, where it is held
+-- the frame of page p of the VMO v, if the page is held
 abbrev pub frame_at : Content → ℕ → ℕ → Option ℕ
 frame_at c v p = option_map (λ (held : Page). held.tag) (c.page v p)
 
@@ -29,13 +29,13 @@ is_same_frame None None = true
 is_same_frame (Some t) (Some u) = t == u
 is_same_frame _ _ = false
 
--- the page that the entry shows has in `new` the frame that it had in `old`, and lies in its VMO there
+-- the page that the entry shows lies in its VMO in `new`, and has the frame there that it had in `old`
 unfoldable pub keeps_frame : (old new : Content) → Entry → Bool
 keeps_frame old new entry =
     is_same_frame (frame_at old entry.koid.0 entry.page) (frame_at new entry.koid.0 entry.page) && nat_lt entry.page (pages_of new entry.koid.0)
 
--- what is ready once the content is `new` in place of `old` and pages show what the table says: a page stays ready where what it
--- shows keeps its frame
+-- What is ready once the content is `new` in place of `old`, and pages show what the table says. A page stays ready if
+-- what it shows keeps its frame.
 unfoldable pub settled : (old new : Content) → (ℕ → ℕ → Option Entry) → Ready → Ready
 settled old new table ready root p = if passes (keeps_frame old new) (table root p) then ready root p else None
 
@@ -55,8 +55,8 @@ shows_in v first end entry = (entry.koid.0 == v) && is_within first end entry.pa
 abbrev pub shows_but : (stays : ℕ → Bool) → (v first end : ℕ) → Entry → Bool
 shows_but stays v first end entry = shows_in v first end entry && not (stays entry.page)
 
--- what shows a page of the VMO v from `first` to below `end` is ready for reading at most, but for the pages that pass the test:
--- what shows those stays ready for what it was
+-- Pages that show a page of the VMO v from `first` to below `end` are ready for reading at most, unless the page of v
+-- passes the test. All other pages stay ready for what they were.
 unfoldable pub read_only_but : (stays : ℕ → Bool) → (ℕ → ℕ → Option Entry) → (v first end : ℕ) → Ready → Ready
 read_only_but stays table v first end ready root p =
     if passes (shows_but stays v first end) (table root p) then option_map (λ (readiness : Readiness). Read) (ready root p) else ready root p

@@ -1,4 +1,5 @@
--- The regions of address spaces (VMARs), a tree under each root. From the kernel's allocating and destroying of regions.
+-- The regions of address spaces (VMARs), a tree under each root. From the kernel's allocating and destroying of
+-- regions.
 use Rattle.std.specs.Prelude.{◌≡◌, ℕ, zero, suc, ◌+◌, ◌-◌, ◌<◌, ◌≤◌, min, max, Bool, true, false, not, ◌&&◌, ◌||◌, ◌==◌, nat_lt, nat_le, if◌then◌else◌, Option, None, Some, unwrap_or, ◌⊎◌}
 use Rattle.std.specs.Option.{option_map}
 use Rattle.vm_base.specs.Entries.{passes, any_entry, entry_count}
@@ -22,7 +23,7 @@ root_region name = record {
   live = true;
 }
 
--- the region of a name. Where it was never given, this means nothing
+-- the region of a name. If the name was never given, this means nothing
 unfoldable pub region_of : (ℕ → Option Region) → ℕ → Region
 region_of regions name = unwrap_or (regions name) (root_region 0)
 
@@ -37,7 +38,7 @@ region_below parent above first count caps = record {
   live = true;
 }
 
--- the region has a page of those from `first` to below `end`
+-- the region has one of the pages from `first` to below `end`
 abbrev pub meets : ℕ → ℕ → Region → Bool
 meets first end region = nat_lt (max first region.first) (min end (end_of region))
 
@@ -75,7 +76,7 @@ abbrev pub parent_in : Option Region → Option ℕ
 parent_in None = None
 parent_in (Some region) = parent_of region
 
--- `above` is the parent, or its parent, and so on, among the first `steps` of them
+-- `above` is the parent, or the parent's parent, and so on, among the first `steps` of them
 unfoldable pub is_above : ℕ → (ℕ → Option Region) → ℕ → Option ℕ → Bool
 is_above zero regions above parent = false
 is_above (suc steps) regions above None = false
@@ -85,7 +86,7 @@ is_above (suc steps) regions above (Some p) = (p == above) || is_above steps reg
 abbrev pub is_below : (ℕ → Option Region) → ℕ → ℕ → Bool
 is_below regions above name = is_above NAMES regions above (parent_in (regions name))
 
--- the regions, where those that pass are dead
+-- the regions, with those that pass dead
 unfoldable pub killed : (ℕ → Option Region) → (ℕ → Bool) → ℕ → Option Region
 killed regions dies n = option_map (λ (region : Region). if dies n then record region { live = false } else region) (regions n)
 
@@ -97,15 +98,15 @@ is_at_or_below regions name n = (n == name) || is_below regions name n
 abbrev pub given_count : (ℕ → Option Region) → ℕ
 given_count regions = entry_count NAMES (λ (region : Region). true) regions
 
--- What holds of a region that has a parent: it is of the same address space, and while it is live, so is the parent, and
--- the region lies in it.
+-- What holds of a region that has a parent: both are of the same address space. As long as the region is live, the
+-- parent is live too, and the region lies in it.
 pub record IsBelow (region above : Region) : Type 0 where
   pub root : region.root ≡ above.root
   pub live : region.live ≡ true → above.live ≡ true
   pub inside : region.live ≡ true → reaches_over region.first (end_of region) above ≡ true
 
--- What holds of the regions of every state that the machine comes to. A region is younger than its parent, so each chain of
--- parents ends.
+-- What holds of the regions of every state that the machine comes to. A region is younger than its parent, so each
+-- chain of parents ends.
 pub record AreGoodRegions (regions : ℕ → Option Region) : Type 0 where
   pub age : ℕ → ℕ
   pub names : (n : ℕ) (region : Region) → regions n ≡ Some region → n < NAMES

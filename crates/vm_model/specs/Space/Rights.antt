@@ -1,9 +1,10 @@
--- Sets of permissions and of mapping options, by their bits. From the kernel's ZX_VM_PERM_READ, ZX_VM_SPECIFIC and so on.
+-- Sets of permissions and of mapping options, by their bits. From the kernel's ZX_VM_PERM_READ, ZX_VM_SPECIFIC and so
+-- on.
 use Rattle.std.specs.Prelude.{ℕ, ◌+◌, Bool, ◌==◌, bit_and}
 use Rattle.vm_base.specs.declared.flags.TheConstants.Perm.{READ, WRITE, EXECUTE}
 use Rattle.vm_base.specs.declared.flags.TheConstants.MapFlags.{SPECIFIC, OVERWRITE, UPPER_LIMIT, ALLOW_FAULTS}
 
--- a set of bits has these
+-- a set of bits has all of these
 abbrev pub has : ℕ → ℕ → Bool
 has bits some = bit_and bits some == some
 

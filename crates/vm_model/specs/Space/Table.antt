@@ -1,5 +1,5 @@
--- What each page of each address space shows. From the kernel's mappings, page by page. An address space goes by the name of
--- its root region.
+-- What each page of each address space shows. From the kernel's mappings, page by page. An address space goes by the
+-- name of its root region.
 use Rattle.std.specs.Prelude.{◌≡◌, ℕ, ◌+◌, ◌-◌, Bool, true, false, ◌&&◌, ◌==◌, if◌then◌else◌, Option, None, Some}
 use Rattle.std.specs.Option.{option_map}
 use Rattle.vm_base.specs.Search.{any_from}
@@ -11,7 +11,8 @@ use Rattle.vm_model.specs.Contents.Zeroing.{is_within}
 use Rattle.vm_model.specs.Space.Rights.{has}
 use Rattle.vm_model.specs.Space.Regions.{reaches_over, meets_child}
 
--- the entry of the page that is `i` pages behind one of a mapping: it shows the page of the VMO that is as far behind
+-- The entry of the page that is `i` pages behind a page of a mapping. It shows the page of the VMO that is `i` pages
+-- further on.
 abbrev pub entry_behind : Entry → ℕ → Entry
 entry_behind entry i = record entry { page = entry.page + i }
 
@@ -39,8 +40,8 @@ is_in region entry = entry.region.0 == region
 unfoldable pub has_entry : (ℕ → ℕ → Option Entry) → ℕ → ℕ → ℕ → ℕ → Bool
 has_entry table root region first end = any_from first end (λ p. passes (is_in region) (table root p))
 
--- What holds of every entry that is of the page p of an address space: its region is live and of that address space, has the
--- page, and no live child of it has. What an access may do is within what it may be changed to.
+-- What holds of every entry of the page p of an address space: its region is live, is of that address space, and has
+-- the page, and no live child of the region has the page. What an access may do is within what it may be changed to.
 pub record IsGoodEntry (regions : ℕ → Option Region) (root p : ℕ) (entry : Entry) : Type 0 where
   pub region : Region
   pub given : regions entry.region.0 ≡ Some region
