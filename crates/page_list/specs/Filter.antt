@@ -7,7 +7,7 @@ use Rattle.page_list.specs.declared.filter.Filter.{Filter}
 use Rattle.page_list.specs.declared.row.Row.{Row}
 use Rattle.page_list.specs.Lists.{slots_of}
 
--- the word of list l, with all bits set where the filter does not have it
+-- the word of list l. If the filter does not have it, all of its bits are set
 abbrev pub word_in : Filter → ℕ → ℕ
 word_in f l = slice_index_or f.words.items (bit_and l f.mask) (2 ^ 64 - 1)
 

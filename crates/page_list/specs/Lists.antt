@@ -14,6 +14,6 @@ slots_of t = value_at row_functions slot_of t.rows
 abbrev pub row_count : Rows Row → ℕ
 row_count t = length t.rows
 
--- the page of the row that follows a place in the order, where it is of list l
+-- the page of the row that follows a place in the order, if it is of list l
 abbrev pub page_in : ℕ → Option Row → Option ℕ
 page_in = second_in list_of page_of
