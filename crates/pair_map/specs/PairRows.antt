@@ -28,7 +28,7 @@ module _ {V : Type 0} where
   abbrev pub pair_of : ℕ → ℕ → V → PairRow V
   pair_of a b value = record { first = a; second = b; value = value; left = None; right = None; height = 0 }
 
-  -- the second number and the value of a row, where its first number is a
+  -- the second number and the value of a row, if its first number is a
   abbrev pub pair_in : ℕ → Option (PairRow V) → Option (ℕ × V)
   pair_in = pair_under first_of second_of value_of
 

@@ -1,7 +1,7 @@
 -- Rows under pairs of numbers, as the maps over them answer them.
 use Rattle.std.specs.Prelude.{◌≡◌, ℕ, ◌<◌, ◌≤◌, ◌==◌, cond, Option, None, Some}
 
--- the second number and the value of a row, where its first number is a
+-- the second number and the value of a row, if its first number is a
 abbrev pub pair_under : {R V : Type 0} → (R → ℕ) → (R → ℕ) → (R → V) → ℕ → Option R → Option (ℕ × V)
 pair_under first second value a None = None
 pair_under first second value a (Some row) = cond (first row == a) (Some (second row, value row)) None

@@ -53,7 +53,7 @@ module _ {V : Type 0} where
     span = record { lowest = 0; highest = 0; gap = 0 };
   }
 
-  -- the first number and the extent of a row, where its list is l
+  -- the first number and the extent of a row, if its list is l
   abbrev pub stretch_in : ℕ → Option (StretchRow V) → Option (ℕ × Extent V)
   stretch_in = pair_under list_of first_of extent_of
 
