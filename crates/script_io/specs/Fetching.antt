@@ -7,8 +7,8 @@ use Rattle.script_io.specs.declared.line_reader.Fetch.{Fetch}
 use Rattle.script_io.specs.declared.line_reader.Fetch.TheVariants.{Line, TooLong, End, Fault, Limit}
 use Rattle.script_io.specs.declared.line_buffer.TheConstants.{LINE_FEED}
 
--- The bytes that a reader took and didn't give as lines yet, where its source has `remaining` left: a front that was
--- dropped, of a line that is too long, and what it holds. A source that was seen at its end is there still.
+-- The bytes that a reader took and has not given as lines yet: the front of a line that is too long, which was dropped,
+-- and what the reader holds. The source has `remaining` left. A source that was seen at its end is still there.
 pub record IsPending (reader : Reader) (remaining : Option (List ℕ)) (pending : List ℕ) : Type 0 where
   pub front : List ℕ
   pub no_feed : HasNoFeed front
@@ -16,8 +16,8 @@ pub record IsPending (reader : Reader) (remaining : Option (List ℕ)) (pending 
   pub parts : pending ≡ front ++ reader.held
   pub at_end : reader.ended ≡ true → IsAtEnd remaining
 
--- The bytes begin with this line, and leave those behind it. A line ends with a line feed; where the source has
--- ended, a last piece that is not empty is a line too.
+-- The bytes begin with this line, and leave those behind it. A line ends with a line feed. If the source has ended, a
+-- last piece that is not empty is a line too.
 pub record IsFirstLine (ended : Bool) (bytes line left : List ℕ) : Type 0 where
   pub no_feed : HasNoFeed line
   pub parts : (bytes ≡ line ++ LINE_FEED ∷ left) ⊎ ((bytes ≡ line) × (left ≡ []) × (0 < length line) × (ended ≡ true))
