@@ -38,8 +38,8 @@ content_of f = record {
 abbrev pub room_of : Flat → ℕ
 room_of f = min f.asked (spare_of f.rows)
 
--- What holds of every plain store: the share count of a frame is how many VMOs show it, and the frames that some VMO shows
--- are taken.
+-- What holds of every plain store: the share count of a frame is how many VMOs show it, and the frames that some VMO
+-- shows are taken.
 pub record IsFlat (f : Flat) : Type 0 where
   pub good : IsGood (content_of f)
   pub live : count_of f.vmos ≡ vmos_of (content_of f)

@@ -19,6 +19,6 @@ HasNoneBelow c v from end = (q : ℕ) → from ≤ q → q < end → c.page v q 
 unfoldable pub held_from : Content → ℕ → ℕ → ℕ → ℕ
 held_from c v first n = count_below n (λ k. is_held c v (first + k))
 
--- c where the pages of v are the n pages of w from page `first` on, and behind them zero
+-- c, with the pages of v the n pages of w from page `first` on, and zero behind them
 unfoldable pub showing : Content → ℕ → ℕ → ℕ → ℕ → Content
 showing c w first n v = record c { page = λ u p. if u == v then page_seen c w first n p else c.page u p }
