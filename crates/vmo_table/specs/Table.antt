@@ -60,13 +60,13 @@ pub record IsWellCounted (t : Table) (s : State) : Type 0 where
   pub good : IsGoodState s
   pub counted : CountsKeepers t s
 
--- the parent of a VMO, where it has one
+-- the parent of a VMO, if it has one
 abbrev pub parent_of : Option Lineage → Option ℕ
 parent_of None = None
 parent_of (Some l) = l.parent
 
--- What becomes of the VMO v once something that kept it is gone, where it has these names and so many keepers left:
--- nothing, where something keeps it still. Else it leaves with its koid as the answer, and its children get its
+-- What becomes of the VMO v once something that kept it is gone. It has these names, and so many keepers left. If
+-- something still keeps it, nothing changes. Otherwise it leaves with its koid as the answer, and its children get its
 -- parent.
 pub record Settles (names : ℕ → Option Target) (keepers v : ℕ) (old new : ℕ → Option Lineage)
     (answer : Option Koid) : Type 0 where

@@ -29,11 +29,11 @@ lineages vmos v = option_map lineage_of_vmo (vmos v)
 abbrev pub vmo_count : (ℕ → Option Vmo) → ℕ
 vmo_count vmos = entry_count (2 ^ 64) (λ (vmo : Vmo). true) vmos
 
--- what is counted of the VMO v, and 0 where there is no VMO
+-- what is counted of the VMO v, or 0 if there is no such VMO
 unfoldable pub count_of : (Vmo → ℕ) → (ℕ → Option Vmo) → ℕ → ℕ
 count_of count vmos v = unwrap_or (option_map count (vmos v)) 0
 
--- how many pins and mapped pages keep a VMO, and none where there is no VMO
+-- how many pins and mapped pages keep a VMO. If there is no such VMO, none do
 unfoldable pub keepers_in : (ℕ → Option Vmo) → ℕ → ℕ
 keepers_in = count_of (λ (vmo : Vmo). vmo.keepers)
 
@@ -49,7 +49,7 @@ pub record IsForest (vmos : ℕ → Option Vmo) : Type 0 where
   pub children : (v : ℕ) → count_of (λ (vmo : Vmo). vmo.children) vmos v ≡ child_count (lineages vmos) v
   pub ranked : ∥ Ranking (lineages vmos) ∥₁
 
--- 1 where two kinds are the same, else 0
+-- 1 if two kinds are the same, else 0
 abbrev pub kind_bit : NameKind → NameKind → ℕ
 kind_bit kind other = if is_kind kind other then 1 else 0
 
@@ -78,12 +78,12 @@ unfoldable pub adopted : (ℕ → Option Vmo) → Option ℕ → ℕ → ℕ →
 adopted vmos parent gone come v =
     if is_parent v parent then option_map (with_children gone come) (vmos v) else vmos v
 
--- a parent, after the VMO v left: its children get its own parent
+-- a parent, once the VMO v with its own parent has left: the children of v get the parent of v
 unfoldable pub koid_after : ℕ → Option Koid → Option Koid → Option Koid
 koid_after v parent None = None
 koid_after v parent (Some p) = if p.0 == v then parent else Some p
 
--- the VMOs, after the VMO v with this parent left
+-- the VMOs, once the VMO v with this parent has left
 unfoldable pub vmos_without : (ℕ → Option Vmo) → ℕ → Option Koid → ℕ → Option Vmo
 vmos_without vmos v parent w =
     if w == v then None
@@ -93,7 +93,7 @@ vmos_without vmos v parent w =
 abbrev pub is_kept : Vmo → Bool
 is_kept vmo = nat_lt 0 vmo.names || nat_lt 0 vmo.keepers
 
--- the VMOs, after the VMO v got this value: where nothing keeps it, it leaves, and its parent gets its children
+-- the VMOs, once the VMO v has got this value. If nothing keeps v, v leaves, and its parent gets its children
 unfoldable pub settled : (ℕ → Option Vmo) → ℕ → Vmo → ℕ → Option Vmo
 settled vmos v vmo =
     if is_kept vmo then with_key vmos v vmo
