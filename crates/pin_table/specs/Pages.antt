@@ -10,6 +10,7 @@ pins_at v p pages = unwrap_or (pages v p) 0
 pub record AreKept (pages : ℕ → ℕ → Option ℕ) : Type 0 where
   pub pinned : (v p n : ℕ) → pages v p ≡ Some n → 1 ≤ n
 
--- In `more` each page of v from `first` to below `end` has one pin more than in `fewer`, and every other page has as many.
+-- In `more` each page of v from `first` to below `end` has one pin more than in `fewer`, and every other page has as
+-- many.
 pub record AddsPin (fewer more : ℕ → ℕ → Option ℕ) (v first end : ℕ) : Type 0 where
   pub counts : (w p : ℕ) → pins_at w p more ≡ pins_at w p fewer + cond ((v == w) && is_within first end p) 1 0

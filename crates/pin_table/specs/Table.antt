@@ -12,7 +12,7 @@ pub record Table : Type 0 where
   pub pins : List (PinName × HeldPin)
   pub room : ℕ
 
--- a VMO, its first page that is pinned, and how many are, in plain numbers
+-- a VMO, its first page that is pinned, and how many pages are pinned, in plain numbers
 abbrev pub pin_of : Koid × ℕ × ℕ → Pin
 pin_of pages = record { koid = pages.0.0; first = pages.1; count = pages.2 }
 
@@ -32,7 +32,7 @@ pins_of t = pins_in t.pins
 abbrev pub room_of : Table → ℕ
 room_of t = t.room
 
--- The answer is the least page from `from` on that is pinned. Where it is None, none is.
+-- The answer is the least page from `from` on that is pinned. If it is None, none is.
 pub record IsNextPinned (pinned : ℕ → Bool) (from : ℕ) (answer : Option ℕ) : Type 0 where
   pub none : answer ≡ None → (p : ℕ) → from ≤ p → pinned p ≡ false
   pub least : (p : ℕ) → answer ≡ Some p →

@@ -16,8 +16,8 @@ table_of a = record {
   room = min (spare a.pins) (spare_of a.pages / PIN_PAGES);
 }
 
--- Names are as small as NAMES says, a pin ends where page numbers do at most, and the pages are those that pins cover, each
--- with the number of pins that cover it.
+-- Names are below NAMES, a pin ends at or below the end of the page numbers, and the pages in the map are those that
+-- pins cover, each with the number of pins that cover it.
 pub record AreCounted (pins : ℕ → Option Pin) (pages : ℕ → ℕ → Option ℕ) : Type 0 where
   pub names_below : (n : ℕ) → IsSome (pins n) → n < NAMES
   pub ends : (n : ℕ) (pin : Pin) → pins n ≡ Some pin → pin.first + pin.count ≤ PAGES_END
