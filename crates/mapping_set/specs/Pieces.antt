@@ -1,4 +1,5 @@
--- The pieces of mappings by root region and last page, the list that tells where those of a region lie, and what they show.
+-- The pieces of mappings by root region and last page, the list that tells where those of a region lie, and what they
+-- show.
 use Rattle.std.specs.Prelude.{◌≡◌, ℕ, zero, suc, ◌+◌, ◌-◌, ◌*◌, ◌<◌, ◌≤◌, cond, Option, None, Some}
 use Rattle.vm_base.specs.declared.limits.TheConstants.{NAMES, PAGES_END}
 use Rattle.vm_base.specs.declared.flags.Perm.{Perm}
@@ -27,7 +28,7 @@ piece_until piece page = record piece { count = page - piece.first }
 abbrev pub piece_with_perm : Piece → Perm → Piece
 piece_with_perm piece perm = record piece { entry = record piece.entry { perm = perm } }
 
--- a value, or else another
+-- the first value, or the second if there is no first
 abbrev pub or_else : {A : Type 0} → Option A → Option A → Option A
 or_else None other = other
 or_else (Some a) other = Some a

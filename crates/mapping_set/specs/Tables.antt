@@ -46,8 +46,8 @@ place_at (Some extent) = place_by extent.count extent.value
 unfoldable pub places_in : (ℕ → ℕ → Option (Extent (Option RegionName))) → ℕ → ℕ → Option (Extent RegionName)
 places_in taken list first = place_at (taken list first)
 
--- the places that callers noted, each with the name of a region, by the number of the list of the region in which they are
--- taken and their first page
+-- the places that callers noted, each with the name of a region, by the number of the list of the region in which they
+-- are taken and their first page
 abbrev pub places_of : Mappings → ℕ → ℕ → Option (Extent RegionName)
 places_of m = places_in (extents_of m.taken)
 
@@ -79,7 +79,7 @@ IsBare entries first end = (p : ℕ) → first ≤ p → p < end → entries p �
 abbrev pub IsBareFrom : (ℕ → Option Entry) → ℕ → Type 0
 IsBareFrom entries first = (p : ℕ) → first ≤ p → entries p ≡ None
 
--- The pages of the piece have the entries that it says, and lie where page numbers do.
+-- The pages of the piece have the entries that it says, and lie below the end of the page numbers.
 pub record IsPieceOf (shown : ℕ → Option Entry) (piece : Piece) : Type 0 where
   pub some : 1 ≤ piece.count
   pub end : piece.first + piece.count ≤ PAGES_END
@@ -124,8 +124,8 @@ pub record IsPartOf (pieces : ℕ → Option Piece) (from end : ℕ) (piece : Pi
 abbrev pub entries_in : (ℕ → ℕ → Option Entry) → (root region : ℕ) → ℕ
 entries_in table root region = count_below PAGES_END (λ p. passes (is_in region) (table root p))
 
--- p is the lowest page from `from` on such that no entry of the region is on it and the next ones, `count` in all, which end
--- at the limit or before
+-- p is the lowest page from `from` on such that it and the next ones, `count` in all, have no entry of the region, and
+-- end at the limit or before
 pub record IsFirstGap (table : ℕ → ℕ → Option Entry) (root region from count limit p : ℕ) : Type 0 where
   pub not_before : from ≤ p
   pub not_past : p + count ≤ limit
