@@ -24,15 +24,15 @@ root_node koid list count = record {
 abbrev pub window_first : (first seen : ℕ) → ℕ
 window_first first seen = if seen == 0 then 0 else first
 
--- the node, whose window over its parent is this
+-- the node, with this window over its parent
 abbrev pub with_window : Node → (first seen : ℕ) → Node
 with_window node first seen = record node { first = window_first first seen; seen = seen }
 
--- a link, where a link to node k leads to node j instead
+-- a link, changed to lead to node j if it led to node k
 abbrev pub moved_link : (k j : ℕ) → Option NodeId → Option NodeId
 moved_link k j link = if leads_to link k then link_to j else link
 
--- the nodes, where node j is below the parent in place of its child k
+-- the nodes, with node j below the parent in place of the parent's child k
 unfoldable pub relinked : Nodes → Option NodeId → (k j : ℕ) → Nodes
 relinked nodes None k j = nodes
 relinked nodes (Some parent) k j = λ n. if n == parent.0
@@ -57,8 +57,8 @@ abbrev pub snapshot_node : Koid → (h list first seen count : ℕ) → Node
 snapshot_node koid h list first seen count =
     with_window (record (root_node koid list count) { parent = link_to h }) first seen
 
--- The nodes after a snapshot of node k, which was this: the new node h is hidden and in its place, and the new node c is
--- the snapshot's. Both nodes below h have new lists.
+-- The nodes after a snapshot of node k, which was this node. The new node h is hidden and in the place of k, and the
+-- new node c is the snapshot's. Both nodes below h have new lists.
 unfoldable pub paired : Nodes → (k : ℕ) → Node → (h c lists : ℕ) → Koid → (first seen count : ℕ) → Nodes
 paired nodes k node h c lists koid first seen count =
     with_key
@@ -75,7 +75,8 @@ lifted parent sibling = record (with_window sibling (sibling.first + parent.firs
   parent = parent.parent;
 }
 
--- the nodes without node k and its parent h, which was this; its sibling s, which was this, is in the parent's place
+-- the nodes without node k and its parent h. The sibling s of k is in the place of h. `parent` and `sibling` are h and
+-- s as they were
 unfoldable pub spliced : Nodes → (k h s : ℕ) → (parent sibling : Node) → Nodes
 spliced nodes k h s parent sibling =
     with_key (without_key (without_key (relinked nodes parent.parent h s) h) k) s (lifted parent sibling)

@@ -11,7 +11,7 @@ pub record IsChild (nodes : Nodes) (h k : ℕ) : Type 0 where
   pub at : nodes k ≡ Some node
   pub parent : node.parent ≡ link_to h
 
--- node h is there and has k as a child, whose window ends inside it; k is further down
+-- node h is there and has k as a child. The window of k ends inside h, and k is further down
 pub record IsBelow (nodes : Nodes) (rank : ℕ → ℕ) (h k : ℕ) (node : Node) : Type 0 where
   pub above : Node
   pub at : nodes h ≡ Some above
@@ -42,7 +42,7 @@ pub record IsForestBy (nodes : Nodes) (lists : ℕ) (rank : ℕ → ℕ) : Type 
   pub own : (j k : ℕ) (a b : Node) → nodes j ≡ Some a → nodes k ≡ Some b → a.list.0 ≡ b.list.0 → j ≡ k
   pub given : (k : ℕ) (node : Node) → nodes k ≡ Some node → node.list.0 < lists
   pub ranks : (k : ℕ) (node : Node) → nodes k ≡ Some node → rank k < lists
-  -- a window is not longer than the node, begins at 0 where it has no page, and has none where there is no parent
+  -- A window is not longer than the node. Without a page it begins at 0, and without a parent the node has no window.
   pub seen : (k : ℕ) (node : Node) → nodes k ≡ Some node → node.seen ≤ node.count
   pub empty : (k : ℕ) (node : Node) → nodes k ≡ Some node → node.seen ≡ 0 → node.first ≡ 0
   pub root : (k : ℕ) (node : Node) → nodes k ≡ Some node → node.parent ≡ None → node.seen ≡ 0

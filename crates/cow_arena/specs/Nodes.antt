@@ -42,7 +42,7 @@ abbrev pub child_on : Node → Side → Option NodeId
 child_on node side.Left = node.left
 child_on node side.Right = node.right
 
--- which child of this node the node k is, where it is one
+-- the side on which the child k of this node stands
 abbrev pub side_of : Node → ℕ → Side
 side_of parent k = if leads_to parent.left k then side.Left else side.Right
 
@@ -50,7 +50,7 @@ abbrev pub parent_in : Option Node → Option NodeId
 parent_in None = None
 parent_in (Some node) = node.parent
 
--- the parent of node k, where it has one
+-- the parent of node k, if it has one
 abbrev pub node_above : Nodes → ℕ → Option Node
 node_above nodes k = node_at nodes (parent_in (nodes k))
   where
@@ -70,7 +70,7 @@ sibling_in nodes k = sibling_below k (node_above nodes k)
     sibling_below k None = None
     sibling_below k (Some parent) = child_on parent (other_side (side_of parent k))
 
--- node h, which is this, is the parent of node k, and node s, which is this, its other child
+-- node h is the parent of node k, and node s is the other child of h; these are the three nodes
 pub record AreFamily (nodes : Nodes) (k h s : ℕ) (node parent sibling : Node) : Type 0 where
   pub at : nodes k ≡ Some node
   pub parent_is : node.parent ≡ link_to h

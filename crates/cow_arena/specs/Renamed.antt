@@ -20,7 +20,7 @@ renamed_nodes name nodes = λ k. option_map (renamed_node name) (nodes k)
 abbrev pub renamed : (ℕ → ℕ) → Tree → Tree
 renamed name t = record { nodes = renamed_nodes name t.nodes; slots = λ l p. t.slots (name l) p; lists = t.lists }
 
--- a second renaming gives each list its number back, and lists that were given have numbers of such
+-- a second renaming gives each list its number back, and a list that was given gets the number of one that was given
 pub record IsExchange (name : ℕ → ℕ) (lists : ℕ) : Type 0 where
   pub twice : (l : ℕ) → name (name l) ≡ l
   pub below : (l : ℕ) → l < lists → name l < lists

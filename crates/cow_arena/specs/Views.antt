@@ -1,10 +1,10 @@
--- What the nodes show after a snapshot, and after a node went, and that rows stand in lists of nodes still.
+-- What the nodes show after a snapshot, and after a node went, and that all rows still stand in lists of nodes.
 use Rattle.std.specs.Prelude.{◌≡◌, ◌≢◌, ℕ, ◌+◌, ◌<◌, ◌≤◌, None, Some}
 use Rattle.cow_arena.specs.declared.node.Node.{Node}
 use Rattle.cow_arena.specs.Walk.{Tree, walk, frame_at}
 use Rattle.cow_arena.specs.Forest.{AreListed}
 
--- Node c is a snapshot of node v: it sees `seen` pages of it, from page `first` on.
+-- Node c is a snapshot of node v: it sees `seen` pages of v, from page `first` of v on.
 pub record ShowsSnapshot (old new : Tree) (v c first seen : ℕ) : Type 0 where
   -- each page of node v shows what it showed
   pub node : (p : ℕ) (leaf : Node) → old.nodes v ≡ Some leaf → p < leaf.count → frame_at new v p ≡ frame_at old v p
@@ -18,6 +18,6 @@ pub record ShowsSnapshot (old new : Tree) (v c first seen : ℕ) : Type 0 where
 pub record KeepsWalks (old new : Tree) (v h : ℕ) : Type 0 where
   pub walks : (k p : ℕ) → k ≢ v → k ≢ h → walk new k p ≡ walk old k p
 
--- Where rows stood in lists of nodes alone, they do.
+-- If all rows stood in lists of nodes, they still do.
 pub record KeepsListed (old new : Tree) : Type 0 where
   pub listed : AreListed old → AreListed new

@@ -8,7 +8,7 @@ use Rattle.cow_arena.specs.declared.node.Node.{Node}
 use Rattle.cow_arena.specs.declared.node.Side.{Side}
 use Rattle.cow_arena.specs.Nodes.{Nodes, side_in}
 
--- the slot of each page of each list, where it has a row
+-- the slot of each page of each list, if it has a row
 abbrev pub Slots : Type 0
 Slots = ℕ → ℕ → Option Slot
 
@@ -22,15 +22,15 @@ pub record Tree : Type 0 where
 abbrev pub tree_with : Nodes → (lists : ℕ) → Slots → Tree
 tree_with nodes lists slots = record { nodes = nodes; slots = slots; lists = lists }
 
--- Where a walk ends: the node and the page there, the side from which it came, if it began below this node, and the slot
--- of the page's row.
+-- Where a walk ends: the node and the page there, the side from which the walk came, if it began below this node, and
+-- the slot of the page's row.
 pub record Found : Type 0 where
   pub node : ℕ
   pub page : ℕ
   pub side : Option Side
   pub slot : Slot
 
--- what a walk finds that goes on from this side of a node, where it finds this from the node on
+-- What a walk finds that comes to a node from this side. The second argument is what it finds from the node on.
 abbrev pub from_side : Option Side → Option Found → Option Found
 from_side side found = option_map (λ (it : Found). record it { side = option_or it.side side }) found
 
@@ -49,8 +49,8 @@ module _ (nodes : Nodes) (slots : Slots) where
   steps further k p None = None
   steps further k p (Some node) = looks further k p node (slots node.list.0 p)
 
-  -- The walk from page p of node k, over n nodes at most: it ends at the node's row of the page, if it has one. Else it
-  -- goes on at the parent, where the page lies in the node's window, and ends with nothing where not.
+  -- The walk from page p of node k, over n nodes at most. If the node has a row of the page, the walk ends there.
+  -- Otherwise it goes on at the parent if the page lies in the node's window, and ends with nothing if not.
   unfoldable pub walk_over : ℕ → ℕ → ℕ → Option Found
   walk_over zero k p = None
   walk_over (suc n) k p = steps (walk_over n) k p (nodes k)

@@ -33,12 +33,14 @@ pub data Begins (t : Tree) (k p : ℕ) : Type 0 where
   -- it goes on at the parent
   on_upwards : (h q : ℕ) → Climbs t k p h q → Begins t k p
 
--- a walk goes on from page p of node k to page q of node h, which it enters from its child on this side, after n nodes between
+-- a walk goes on from page p of node k to page q of node h, which it enters from its child on this side, after n nodes
+-- between
 abbrev pub ReachesIn : ℕ → Tree → (k p : ℕ) → Side → (h q : ℕ) → Type 0
 ReachesIn zero t k p side h q = Climbs t k p h q × (side_in t.nodes k ≡ Some side)
 ReachesIn (suc n) t k p side h q = (j : ℕ) × (r : ℕ) × Climbs t k p j r × ReachesIn n t j r side h q
 
--- a walk goes on from page p of node k, over one node or more, to page q of node h, which it enters from its child on this side
+-- a walk goes on from page p of node k, over one node or more, to page q of node h, which it enters from its child on
+-- this side
 pub record Reaches (t : Tree) (k p : ℕ) (side : Side) (h q : ℕ) : Type 0 where
   pub between : ℕ
   pub way : ReachesIn between t k p side h q
