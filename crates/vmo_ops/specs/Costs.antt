@@ -12,21 +12,21 @@ use Rattle.vm_model.specs.Contents.Zeroing.{owned_by_zero}
 abbrev pub held_touched : Content → ℕ → ℕ → ℕ → ℕ
 held_touched c v offset len = length (filter (is_held c v) (touched offset len))
 
--- Of so many spare rows owning these pages of v may take what it takes: none where each is sole, and else one for each
--- page. Owning a sole page may take a row too, where others are owned with it.
+-- This many spare rows are enough to own these pages of v. None are needed if each page is sole, and otherwise one for
+-- each page. A sole page may take a row too, if others are owned with it.
 abbrev pub HasRows : Content → ℕ → List ℕ → ℕ → Type 0
 HasRows c v ps spare = (need c v ps ≡ 0) ⊎ (length ps ≤ spare)
 
--- Owning these pages of v is refused: there are too few free frames, or there are enough and the host has too little
--- memory, which is wanted where some of them is not sole.
+-- Owning these pages of v is refused. There are too few free frames, or there are enough and the host has too little
+-- memory. Memory is wanted only if some of the pages is not sole.
 abbrev pub LacksRoom : Content → ℕ → List ℕ → Refusal → Type 0
 LacksRoom c v ps refusal =
     ((refusal ≡ NoMemory) × (c.frames < used c + need c v ps))
     ⊎ ((refusal ≡ HostMemory) × (used c + need c v ps ≤ c.frames)
     × (list_any (λ p. not (sole c v p)) ps ≡ true))
 
--- Zeroing a range of v is refused: there are too few free frames for the pages that it owns, or there are enough and the
--- host has too little memory, which is wanted where a page that the range touches is held.
+-- Zeroing a range of v is refused. There are too few free frames for the pages that it owns, or there are enough and
+-- the host has too little memory. Memory is wanted only if a page that the range touches is held.
 abbrev pub LacksRoomToZero : Content → ℕ → (ℕ → Bool) → ℕ → ℕ → Refusal → Type 0
 LacksRoomToZero c v pinned offset len refusal =
     ((refusal ≡ NoMemory) × (c.frames < used c + need c v (owned_by_zero c v pinned offset len)))

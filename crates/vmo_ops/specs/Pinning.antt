@@ -20,7 +20,8 @@ IsPinRange offset len = (offset % PAGE ≡ 0) × (len % PAGE ≡ 0) × (1 ≤ le
 abbrev pub pin_in : ℕ → ℕ → ℕ → Pin
 pin_in v at len = record { koid = v; first = at / PAGE; count = len / PAGE }
 
--- a pin of a range of a name, at this place in its VMO, may take the pages: the frames are free, and so many spare rows do
+-- a pin of a range of a name, at this place in its VMO, may take the pages: the frames are free, and there are enough
+-- spare rows
 pub record IsPinnable (c : Content) (target : Target) (offset len at spare : ℕ) : Type 0 where
   pub range : IsPinRange offset len
   pub placed : IsPlaced c target offset len at
@@ -33,7 +34,8 @@ LacksMemory c target at len refusal =
     ((refusal ≡ NoMemory) × (c.frames < used c + need c target.koid.0 (touched at len)))
     ⊎ ((refusal ≡ HostMemory) × (used c + need c target.koid.0 (touched at len) ≤ c.frames))
 
--- a pin of a range of a name is refused: no pin takes such a range, or it passes the name's end, or memory lacks
+-- a pin of a range of a name is refused: no pin takes such a range, the range passes the name's end, or memory is
+-- lacking
 abbrev pub IsUnpinnable : Content → Target → ℕ → ℕ → Refusal → Type 0
 IsUnpinnable c target offset len refusal =
     ((refusal ≡ InvalidArgs) × (IsPinRange offset len → ⊥))

@@ -29,14 +29,14 @@ IsBarred c target offset len refusal =
     ((refusal ≡ AccessDenied) × (target.may_write ≡ false))
     ⊎ ((refusal ≡ OutOfRange) × (target.may_write ≡ true) × (name_pages c target * PAGE < offset + len))
 
--- A name that stands for the target gives the command: from the old content to the new it is a step of the machine with
--- this reply, whichever name it is and whatever else the state has.
+-- From the old content to the new, the command is a step of the machine with this reply. It is given by a name that
+-- stands for the target, whichever name this is, and whatever else the state has.
 abbrev pub Does : (VmoName → Command) → Target → Content → Reply → Content → Type 0
 Does command target old reply new =
     (s : State) (name : VmoName) → s.names name.0 ≡ Some target
     → Step (record s { content = old }) (command name) reply (record s { content = new })
 
--- the same beside these pins
+-- the same with these pins in the state
 abbrev pub DoesWith : (ℕ → Option Pin) → (VmoName → Command) → Target → Content → Reply → Content → Type 0
 DoesWith pins command target old reply new =
     (s : State) (name : VmoName) → s.names name.0 ≡ Some target
@@ -51,7 +51,7 @@ pub record AreTogether (c : Content) (vmos : Vmos) (pins : Pins) : Type 0 where
   pub rest : State
   pub good : IsGoodState (with_tables rest c vmos pins)
 
--- the koid that a child of this kind is given, where the next koid is this: a snapshot is a VMO of its own
+-- the koid that a child of this kind is given, if this is the next koid: a snapshot is a VMO of its own
 abbrev pub koid_given : ChildKind → ℕ → Option Koid
 koid_given Snapshot next = Some (record { 0 = next })
 koid_given Slice next = None
