@@ -29,7 +29,7 @@ is_live_region regions name = passes (λ (region : Region). region.live) (region
 abbrev pub has_child : (ℕ → Option Region) → ℕ → Bool
 has_child regions name = any_child regions name (λ (region : Region). true)
 
--- the regions, where this one is dead
+-- the regions, with this one dead
 abbrev pub with_one_dead : (ℕ → Option Region) → ℕ → ℕ → Option Region
 with_one_dead regions name = killed regions (λ n. n == name)
 
@@ -37,7 +37,7 @@ with_one_dead regions name = killed regions (λ n. n == name)
 abbrev pub spaces_of : (ℕ → Option Region) → (ℕ → ℕ → Option Entry) → Spaces
 spaces_of regions table = record { regions = regions; table = table }
 
--- `name` is a live region below `above`, all of whose pages are among those from `first` to below `end`
+-- `name` is a live region below `above`, with all of its pages among those from `first` to below `end`
 pub record IsWithin (regions : ℕ → Option Region) (above first end name : ℕ) : Type 0 where
   pub region : Region
   pub given : regions name ≡ Some region
@@ -49,11 +49,11 @@ pub record IsWithin (regions : ℕ → Option Region) (above first end name : �
 abbrev pub HasNoneWithin : (ℕ → Option Region) → (above first end : ℕ) → Type 0
 HasNoneWithin regions above first end = (name : ℕ) → IsWithin regions above first end name → ⊥
 
--- a region below `above` that lies in the range is looked for from here on: from `above` itself, or from one that is such a region
+-- the search for a region below `above` that lies in the range begins at `above` itself, or at such a region
 abbrev pub IsStart : (ℕ → Option Region) → (above first end start : ℕ) → Type 0
 IsStart regions above first end start = (start ≡ above) ⊎ IsWithin regions above first end start
 
--- the extent stands for a live child of `parent`, which begins at this page
+-- the extent stands for a live child of `parent` that begins at this page
 pub record IsChildAt (regions : ℕ → Option Region) (parent page : ℕ) (e : Extent RegionName) : Type 0 where
   pub region : Region
   pub given : regions e.value.0 ≡ Some region
@@ -65,18 +65,18 @@ pub record IsChildAt (regions : ℕ → Option Region) (parent page : ℕ) (e : 
 abbrev pub extent_for : ℕ → Region → Extent RegionName
 extent_for n region = record { count = region.count; value = record { 0 = n } }
 
--- the live region n, which is the child of another, is noted as a place in its parent
+-- the live region n, which has a parent, is noted as a place in its parent
 pub record IsNoted (places : ℕ → ℕ → Option (Extent RegionName)) (parent n : ℕ) (region : Region) : Type 0 where
   pub root : region.root.0 < NAMES
   pub is : places (list_number parent region.root.0) region.first ≡ Some (extent_for n region)
 
--- the place in the list of `parent` is a live child of it, of this address space
+-- the place in the list of `parent` is a live child of `parent`, in this address space
 pub record IsChildIn (regions : ℕ → Option Region) (parent root page : ℕ) (e : Extent RegionName) : Type 0 where
   pub at : IsChildAt regions parent page e
   pub root_is : at.region.root.0 ≡ root
 
--- The places that a set of mappings has noted are the live children of each region, and nothing else. With them its list of a
--- region tells all that is taken in it.
+-- The places that a set of mappings has noted are the live children of each region, and nothing else. So the set's list
+-- of a region tells all that is taken in the region.
 pub record AreNoted (regions : ℕ → Option Region) (places : ℕ → ℕ → Option (Extent RegionName)) : Type 0 where
   pub noted : (p n : ℕ) (region : Region) → regions n ≡ Some region → is_child p region ≡ true → IsNoted places p n region
   pub only : (p root page : ℕ) (e : Extent RegionName) → root < NAMES → places (list_number p root) page ≡ Some e → IsChildIn regions p root page e

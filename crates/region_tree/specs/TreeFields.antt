@@ -15,7 +15,7 @@ pub record IsTree (regions : ℕ → Option Region) (children : ℕ → ℕ → 
   pub listed : (p n : ℕ) (region : Region) → regions n ≡ Some region → is_child p region ≡ true → children p region.first ≡ Some (extent_for n region)
   pub child : (p page : ℕ) (e : Extent RegionName) → children p page ≡ Some e → IsChildAt regions p page e
 
--- an extent of a list has no number but of those from `first` to below `end`, and this name
+-- an extent of a list, with this name, has no number but those from `first` to below `end`
 pub record IsBetween (extents : ℕ → Option (Extent RegionName)) (first end name : ℕ) : Type 0 where
   pub start : ℕ
   pub extent : Extent RegionName
@@ -24,7 +24,7 @@ pub record IsBetween (extents : ℕ → Option (Extent RegionName)) (first end n
   pub low : first ≤ start
   pub high : start + extent.count ≤ end
 
--- no extent of the list has none but of these
+-- each extent of the list has a number outside these
 abbrev pub HasNoneBetween : (ℕ → Option (Extent RegionName)) → (first end : ℕ) → Type 0
 HasNoneBetween extents first end = (name : ℕ) → IsBetween extents first end name → ⊥
 
@@ -48,7 +48,7 @@ pub record IsClearPlace (extents : ℕ → Option (Extent RegionName)) (table : 
   pub not_past : p + count ≤ limit
   pub clear : IsClear extents table root region p count
 
--- an extent has this page, and a number before `first`, or one from `end` on
+-- an extent that has this page also has a number before `first`, or one from `end` on
 pub record ReachesOut (extents : ℕ → Option (Extent RegionName)) (page first end : ℕ) : Type 0 where
   pub start : ℕ
   pub extent : Extent RegionName
