@@ -19,7 +19,8 @@ wants_reading places root addr len = list_any (λ p. not (is_some (ready_of plac
 abbrev pub wants_writing : Places → (root addr len : ℕ) → Bool
 wants_writing places root addr len = list_any (λ p. not (is_writable (ready_of places root p))) (touched addr len)
 
--- The refusal is the first of these whose condition holds, or the host lacks memory where it may be wanted.
+-- The refusal is the first of these whose condition holds, or it is that the host lacks memory, if memory may be
+-- wanted.
 pub record IsDenied (rows : List (Bool × Refusal)) (wants : Bool) (refusal : Refusal) : Type 0 where
   pub why : (first_of rows ≡ Some refusal) ⊎ ((first_of rows ≡ None) × (refusal ≡ HostMemory) × (wants ≡ true))
 
@@ -33,14 +34,15 @@ abbrev pub RefusesWrite : Content → (ℕ → ℕ → Option Entry) → (root a
 RefusesWrite c table root addr len old d new refusal =
     IsDenied (write_refusals c (table root) (touched addr len)) (wants_writing old root addr len) refusal × (d ≡ c) × (new ≡ old)
 
--- Nothing refuses the read. It gave these bytes with so many page faults, and the translations are of what is ready afterwards.
+-- Nothing refuses the read. It gave these bytes with so many page faults, and the translations are those of what is
+-- ready afterwards.
 pub record Reads (c : Content) (table : ℕ → ℕ → Option Entry) (root addr len : ℕ) (old : Places) (faults : ℕ) (bytes : List ℕ) (new : Places) : Type 0 where
   pub free : first_of (read_refusals c (table root) (touched addr len)) ≡ None
   pub faults_are : faults ≡ read_faults (ready_of old root) (touched addr len)
   pub bytes_are : bytes ≡ bytes_through c (table root) addr len
   pub ready : ready_of new ≡ after_reading root (touched addr len) (ready_of old)
 
--- A read of `len` bytes has this answer: so many page faults, and then these are the bytes, or why it is refused.
+-- A read of `len` bytes has this answer: how many page faults it took, with these bytes, or why it is refused.
 abbrev pub AnswersRead : Content → (ℕ → ℕ → Option Entry) → (root addr len : ℕ) → (old : Places) → List ℕ → (new : Places) → Result ℕ Refusal → Type 0
 AnswersRead c table root addr len old bytes new answer =
     MatchResult answer (λ faults. Reads c table root addr len old faults bytes new) (RefusesRead c table root addr len old new)
@@ -50,7 +52,7 @@ pub record Writes (c : Content) (table : ℕ → ℕ → Option Entry) (root add
   pub free : first_of (write_refusals c (table root) (touched addr (length bytes))) ≡ None
   pub writes : WritesThrough table root addr bytes (touched addr (length bytes)) (record { content = c; ready = ready_of old }) faults (record { content = d; ready = ready_of new })
 
--- A write of these bytes has this answer: so many page faults, or why it is refused.
+-- A write of these bytes has this answer: how many page faults it took, or why it is refused.
 abbrev pub AnswersWrite : Content → (ℕ → ℕ → Option Entry) → (root addr : ℕ) → List ℕ → (old : Places) → Content → (new : Places) → Result ℕ Refusal → Type 0
 AnswersWrite c table root addr bytes old d new answer =
     MatchResult answer (λ faults. Writes c table root addr bytes old faults d new) (RefusesWrite c table root addr (length bytes) old d new)

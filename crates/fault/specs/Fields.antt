@@ -5,7 +5,7 @@ use Rattle.fault.specs.declared.translations.Translations.TheInside.{Inside}
 use Rattle.fault.specs.Table.{Table}
 use Rattle.fault.specs.Lists.{AreListed}
 
--- A translation more takes room in each map, and a number.
+-- One translation more takes room in each map, and a number.
 abbrev pub table_of : Inside → Table
 table_of a = record {
   rows = a.places;

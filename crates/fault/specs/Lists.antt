@@ -14,7 +14,7 @@ place_at root p = record { root = record { 0 = root }; page = p }
 abbrev pub frame_list : ℕ → Option Tag → FrameList
 frame_list number frame = record { number = number; frame = frame }
 
--- the list in which it stands
+-- the list in which a translation stands
 abbrev pub list_with : Kept → FrameList
 list_with k = frame_list k.list k.translation.frame
 
@@ -25,8 +25,9 @@ pub record IsListed (places : ℕ → ℕ → Option Kept) (l s : ℕ) (x : Plac
   pub list : kept.list ≡ l
   pub serial : kept.serial ≡ s
 
--- Each translation is a member of the list of the page of the VMO, and holds its frame, and each member is of a translation. Two
--- pages have no list in common, and each list has a member. The numbers of lists and members are below the next one, which fits.
+-- Each translation is a member of the list of the page of the VMO that it shows, and holds the list's frame. Each
+-- member is of a translation. Two pages have no list in common, and each list has a member. The numbers of lists and
+-- members are below the next number, which fits.
 pub record AreListed (places : ℕ → ℕ → Option Kept) (lists : ℕ → ℕ → Option FrameList) (members : ℕ → ℕ → Option Place) (next : ℕ) : Type 0 where
   pub list : (root p : ℕ) (k : Kept) → places root p ≡ Some k → lists k.translation.entry.koid.0 k.translation.entry.page ≡ Some (list_with k)
   pub member : (root p : ℕ) (k : Kept) → places root p ≡ Some k → members k.list k.serial ≡ Some (place_at root p)
@@ -37,6 +38,6 @@ pub record AreListed (places : ℕ → ℕ → Option Kept) (lists : ℕ → ℕ
   pub serials_below : (l s : ℕ) → IsSome (members l s) → s < next
   pub fits : next < 2 ^ 64
 
--- The list of page p of the VMO v is taken out where it has no member, and else the lists stay.
+-- If the list of page p of the VMO v has no member, it is taken out. Otherwise the lists stay.
 pub record DropsEmpty (list : ℕ → Option Place) (old new : ℕ → ℕ → Option FrameList) (v p : ℕ) : Type 0 where
   pub drops : (((s : ℕ) → list s ≡ None) × (new ≡ with_pair old v p None)) ⊎ (((s : ℕ) × IsSome (list s)) × (new ≡ old))

@@ -6,7 +6,7 @@ use Rattle.vm_model.specs.Contents.Content.{Content, used}
 use Rattle.page_store.specs.declared.page_store.Look.{Look}
 use Rattle.page_store.specs.declared.page_store.Look.TheVariants.{Zero, Held}
 
--- how many frames owning a page takes
+-- how many frames it takes to own a page
 abbrev pub need_by : Look → ℕ
 need_by Zero = 1
 need_by (Held tag alone) = if alone then 0 else 1
@@ -22,7 +22,8 @@ pub record IsReady (c : Content) (need faults rows places : ℕ) : Type 0 where
   pub rows_fit : faults ≤ rows
   pub places_fit : faults ≤ places
 
--- Why a write that needs so many frames and takes so many page faults has no room: too few frames are free, or the host lacks memory.
+-- Why a write has no room that needs so many frames and takes so many page faults: too few frames are free, or the host
+-- lacks memory.
 abbrev pub LacksRoom : Content → (need faults : ℕ) → Refusal → Type 0
 LacksRoom c need faults refusal =
     ((c.frames < used c + need) × (refusal ≡ NoMemory)) ⊎ ((used c + need ≤ c.frames) × (refusal ≡ HostMemory) × (0 < faults))

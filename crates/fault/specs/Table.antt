@@ -48,15 +48,15 @@ pub record AreBacked (c : Content) (table : ℕ → ℕ → Option Entry) : Type
   pub good : IsGood c
   pub vmos : (root p : ℕ) (entry : Entry) → table root p ≡ Some entry → IsSome (c.count entry.koid.0)
 
--- Each translation is of an entry of the table, and holds the frame that the page of the VMO has. That page lies in its VMO, and
--- is sole where the translation may be written by.
+-- Each translation is of an entry of the table, and holds the frame that the page of the VMO has. That page lies in its
+-- VMO. If the translation may be written by, the page is sole.
 pub record AreTrue (c : Content) (table : ℕ → ℕ → Option Entry) (places : Places) : Type 0 where
   pub entry : (root p : ℕ) (x : Translation) → places root p ≡ Some x → table root p ≡ Some x.entry
   pub frame : (root p : ℕ) (x : Translation) → places root p ≡ Some x → frame_in x ≡ frame_at c x.entry.koid.0 x.entry.page
   pub below : (root p : ℕ) (x : Translation) → places root p ≡ Some x → x.entry.page < pages_of c x.entry.koid.0
   pub alone : (root p : ℕ) (x : Translation) → places root p ≡ Some x → x.readiness ≡ Write → sole c x.entry.koid.0 x.entry.page ≡ true
 
--- the translation of page p of an address space, where it has one, is of this entry
+-- the translation of page p of an address space, if it has one, is of this entry
 abbrev pub IsOfEntry : Places → (root p : ℕ) → Entry → Type 0
 IsOfEntry places root p entry = IfSome (places root p) (λ x. x.entry ≡ entry)
 
@@ -68,26 +68,26 @@ with_translation places root p x r q = if (r == root) && (q == p) then Some x el
 unfoldable pub without : (ℕ → ℕ → Translation → Bool) → Places → Places
 without goes places root p = if passes (goes root p) (places root p) then None else places root p
 
--- it is of a page of the VMO v from `first` to below `end`
+-- the translation is of a page of the VMO v from `first` to below `end`
 abbrev pub is_of : (v first end : ℕ) → ℕ → ℕ → Translation → Bool
 is_of v first end root p x = shows_in v first end x.entry
 
--- and that page has another frame than the one that it holds
+-- the translation is of such a page, and the page has another frame than the translation holds
 abbrev pub is_stale : Content → (v first end : ℕ) → ℕ → ℕ → Translation → Bool
 is_stale c v first end root p x = shows_in v first end x.entry && not (is_same_frame (frame_in x) (frame_at c v x.entry.page))
 
--- it is of page p of the VMO v, and holds another frame than this
+-- the translation is of page p of the VMO v, and holds another frame than this one
 abbrev pub is_outdated : (v p : ℕ) → Option ℕ → ℕ → ℕ → Translation → Bool
 is_outdated v p frame root q x = shows_in v p (p + 1) x.entry && not (is_same_frame (frame_in x) frame)
 
--- it is of a page of the address space from `first` to below `end`
+-- the translation is of a page of the address space from `first` to below `end`
 abbrev pub is_at : (root first end : ℕ) → ℕ → ℕ → Translation → Bool
 is_at root first end r p x = (r == root) && is_within first end p
 
--- the translation, for reading alone where it is of a page of the VMO v from `first` to below `end`
+-- the translation, left for reading alone if it is of a page of the VMO v from `first` to below `end`
 abbrev pub restricted : (v first end : ℕ) → Translation → Translation
 restricted v first end x = if shows_in v first end x.entry then record x { readiness = Read } else x
 
--- the translations, those of pages of the VMO v from `first` to below `end` for reading alone
+-- the translations, with those of pages of the VMO v from `first` to below `end` left for reading alone
 unfoldable pub with_read_only : (v first end : ℕ) → Places → Places
 with_read_only v first end places root p = option_map (restricted v first end) (places root p)

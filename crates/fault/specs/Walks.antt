@@ -1,4 +1,4 @@
--- What is kept of each page, how it changes over a list or a range, and what the searches for the next of them answer.
+-- What is kept of each page, how it changes over a list or a range, and what the searches for the next page answer.
 use Rattle.std.specs.Prelude.{◌≡◌, ℕ, ◌+◌, ◌^◌, ◌<◌, ◌≤◌, ◌&&◌, ◌==◌, Bool, true, not, if◌then◌else◌, Option, None, Some, IsSome, IfSome}
 use Rattle.std.specs.Option.{MatchOption}
 use Rattle.vm_base.specs.declared.names.Tag.{Tag}
@@ -21,36 +21,36 @@ Keeping = ℕ → ℕ → Option Kept
 abbrev pub kept_of : Table → Keeping
 kept_of t = values_of t.rows
 
--- what becomes of what is kept of a page, where it passes
+-- what becomes of what is kept of a page: it is changed if it passes
 abbrev pub become : (Kept → Option Kept) → (Kept → Bool) → Option Kept → Option Kept
 become change test None = None
 become change test (Some k) = if test k then change k else Some k
 
--- what is kept, changed where it passes
+-- what is kept of each page, changed if it passes
 unfoldable pub changed_where : (Kept → Option Kept) → (ℕ → ℕ → Kept → Bool) → Keeping → Keeping
 changed_where change test kept root p = become change (test root p) (kept root p)
 
--- it is dropped
+-- the translation is forgotten
 abbrev pub dropped : Kept → Option Kept
 dropped k = None
 
--- it is kept for reading alone
+-- the translation is left for reading alone
 abbrev pub restricted : Kept → Option Kept
 restricted k = Some (record k { translation = record k.translation { readiness = Read } })
 
--- it is page p of an address space
+-- the page is page p of an address space
 abbrev pub is_place : (root p : ℕ) → ℕ → ℕ → Bool
 is_place root p r q = (r == root) && (q == p)
 
--- it stands in the list
+-- the translation stands in the list
 abbrev pub is_member : ℕ → Kept → Bool
 is_member list k = k.list == list
 
--- it holds another frame than this
+-- the translation holds another frame than this one
 abbrev pub holds_other : Option ℕ → Kept → Bool
 holds_other frame k = not (is_same_frame (frame_in k.translation) frame)
 
--- what is kept, if something is, holds another frame than this
+-- what is kept, if something is, holds another frame than this one
 abbrev pub HoldsOther : Option ℕ → Option Kept → Type 0
 HoldsOther frame kept = IfSome kept (λ k. holds_other frame k ≡ true)
 
@@ -70,7 +70,7 @@ pub record IsNextPlace (kept : Keeping) (root from end page : ℕ) : Type 0 wher
   pub is : IsSome (kept root page)
   pub least : (p : ℕ) → from ≤ p → p < page → kept root p ≡ None
 
--- it is of a page of the VMO from `from` to below `end`
+-- the translation is of a page of the VMO from `from` to below `end`
 pub record IsOf (v from end : ℕ) (k : Kept) : Type 0 where
   pub koid : k.translation.entry.koid.0 ≡ v
   pub order : from ≤ k.translation.entry.page
@@ -92,8 +92,8 @@ pub record HasMember (kept : Keeping) (list : ℕ) : Type 0 where
   pub is : kept root page ≡ Some member
   pub listed : member.list ≡ list
 
--- The list is that of page p of the VMO: its members, of which there is one at least, are the translations of that page. They hold
--- its frame.
+-- The list is that of page p of the VMO: its members are the translations of that page, of which there is at least one.
+-- They hold the list's frame.
 pub record IsListAt (kept : Keeping) (v p : ℕ) (list : FrameList) : Type 0 where
   pub of : (root q : ℕ) (k : Kept) → kept root q ≡ Some k → k.list ≡ list.number → (k.translation.entry.koid.0 ≡ v) × (k.translation.entry.page ≡ p)
   pub has : (root q : ℕ) (k : Kept) → kept root q ≡ Some k → k.translation.entry.koid.0 ≡ v → k.translation.entry.page ≡ p → k.list ≡ list.number

@@ -1,4 +1,5 @@
--- A page of an address space that may be written, as it is found before anything is written, and what writing to it does.
+-- A page of an address space that may be written, as it is found before anything is written, and what writing to it
+-- does.
 use Rattle.std.specs.Prelude.{◌≡◌, ℕ, ◌<◌, ◌⊎◌, true, false, List, if◌then◌else◌, Option, None, Some, is_some}
 use Rattle.vm_base.specs.declared.names.Tag.{Tag}
 use Rattle.vm_model.specs.declared.space.Entry.{Entry}
@@ -32,17 +33,18 @@ abbrev pub sole_frame : Look → Option Tag
 sole_frame Zero = None
 sole_frame (Held tag alone) = if alone then Some tag else None
 
--- The page of the VMO is one, and sole with the frame that the page has, or that it was seen to be sole with.
+-- The page of the VMO is a page of the store. It is sole with the frame of the found page, or with the frame with which
+-- it was seen to be sole.
 pub record IsInStore (c : Content) (page : WritablePage) : Type 0 where
   pub below : page.entry.page < pages_of c page.entry.koid.0
   pub frame : (tag : Tag) → page.frame ≡ Some tag → IsSoleWith c page.entry.koid.0 page.entry.page tag.0
   pub sole : (tag : Tag) → sole_frame page.look ≡ Some tag → IsSoleWith c page.entry.koid.0 page.entry.page tag.0
 
--- the page of the address space has no translation where it was found to have none
+-- if the page of the address space was found to have no translation, it has none
 abbrev pub IsAbsent : Places → (root p : ℕ) → WritablePage → Type 0
 IsAbsent places root p page = page.translated ≡ false → places root p ≡ None
 
--- It is what page p of an address space shows, with a frame if and only if that is ready for writing.
+-- The found page is what page p of an address space shows. It has a frame if and only if page p is ready for writing.
 pub record IsWritable (c : Content) (table : ℕ → ℕ → Option Entry) (places : Places) (root p : ℕ) (page : WritablePage) : Type 0 where
   pub entry : table root p ≡ Some page.entry
   pub ready : is_some page.frame ≡ is_writable (ready_of places root p)
@@ -53,19 +55,20 @@ pub record IsWritable (c : Content) (table : ℕ → ℕ → Option Entry) (plac
 abbrev pub MayOwn : Content → (v p : ℕ) → Type 0
 MayOwn c v p = (sole c v p ≡ true) ⊎ (used c < c.frames)
 
--- how many page faults writing to it takes
+-- how many page faults a write to the page takes
 abbrev pub fault_of : WritablePage → ℕ
 fault_of page = if is_some page.frame then 0 else 1
 
--- The translations once page p of an address space took a page fault, from which the page of the VMO has this frame: those of that
--- page that hold another frame are forgotten, and page p is translated for writing.
+-- The translations once page p of an address space took a page fault, after which the page of the VMO has this frame.
+-- The translations of that page that hold another frame are forgotten, and page p is translated for writing.
 abbrev pub faulted : Places → (root p : ℕ) → Entry → Tag → Places
 faulted places root p entry tag =
     with_translation (without (is_outdated entry.koid.0 entry.page (Some tag.0)) places) root p
     (record { entry = entry; frame = Some tag; readiness = Write })
 
--- From the content c and the translations `old`, writing these bytes to page p of an address space, from a place in the page on,
--- leads to d and `new`. The page of the VMO is owned first. Page p takes a page fault where it has no frame.
+-- From the content c and the translations `old`, writing these bytes to page p of an address space, from a place in the
+-- page on, leads to d and `new`. The page of the VMO is owned first. If the found page has no frame, page p takes a
+-- page fault.
 pub record WritesTo (root p : ℕ) (page : WritablePage) (at : ℕ) (bytes : List ℕ) (c : Content) (old : Places) (d : Content) (new : Places) : Type 0 where
   pub tag : Tag
   pub owned : Content

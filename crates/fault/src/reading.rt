@@ -150,8 +150,8 @@ impl Translations {
         Ok(faults + self.read_page(store, root, next, second, 0, behind))
     }
 
-    // Reads bytes of a page, from `at` bytes into the page on, and answers how many page faults that took. There is room
-    // for its translation.
+    // Reads bytes of a page, from `at` bytes into the page on, and answers how many page faults that took. There is
+    // room for its translation.
     fn read_page<P: PageStore>(
         &mut self,
         store: &P,
