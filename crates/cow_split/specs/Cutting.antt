@@ -1,4 +1,4 @@
--- What becomes of the row that a leaf sees, when the leaf is to see it no more.
+-- What becomes of the row that a leaf sees, once the leaf sees it no more.
 use Rattle.std.specs.Prelude.{◌≡◌, ◌≤◌, ℕ, Bool, true, false, if◌then◌else◌, Option, None, Some}
 use Rattle.balanced_tree.specs.Rows.{Rows}
 use Rattle.balanced_tree.specs.Pairs.{with_pair}
@@ -18,7 +18,7 @@ use Rattle.cow_split.specs.declared.answers.Cut.TheVariants as cut
 use Rattle.cow_split.specs.Trees.{list_in, tree_of}
 use Rattle.cow_split.specs.Search.{reached_from}
 
--- a row of a frame, where no VMO on this side sees it any more. None if none on the other side does either
+-- a row of a frame, once no VMO on this side sees it any more. None if none on the other side does either
 abbrev pub split_on : Side → Tag → (left right : Bool) → Option Slot
 split_on side.Left tag left true = None
 split_on side.Left tag left false = Some (slot.Frame tag true false)
@@ -56,8 +56,8 @@ module _ (t : Tree) (leaf : ℕ) where
   answer_after None = cut.NothingThere
   answer_after (Some it) = answer_from it.node it.page it.slot it.side
 
--- The rows after the leaf's page p is cut off from the row above it that it sees: where no other VMO sees the row from the
--- leaf's side, the bit of the side is set, or the row goes, if its other bit is set too.
+-- The rows after the leaf's page p is cut off from the row above it that it sees. If no other VMO sees the row from the
+-- leaf's side, the bit of the side is set. If the other bit is set already, the row goes instead.
 unfoldable pub cut_slots : Tree → (leaf p : ℕ) → Slots
 cut_slots t leaf p = slots_after t leaf (walk t leaf p)
 

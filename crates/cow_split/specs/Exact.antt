@@ -15,8 +15,8 @@ pub record Denies (bit : Bool) (P : Type 0) : Type 0 where
   pub is_true : bit ≡ true → P → ⊥
   pub is_false : bit ≡ false → P
 
--- the bits of the row of page q of the hidden node h: each says that no visible node on its side sees the row, but by
--- pages that are left out of sight; and some node sees it
+-- The bits of the row of page q of the hidden node h. Each says that no visible node on its side sees the row, other
+-- than by pages that are left out of sight. Some node sees the row.
 pub record AreSplitBits (t : Tree) (out : ℕ → ℕ → Bool) (h q : ℕ) (left right : Bool) : Type 0 where
   pub left_bit : Denies left (IsSeenFrom t out side.Left h q)
   pub right_bit : Denies right (IsSeenFrom t out side.Right h q)
@@ -30,7 +30,7 @@ pub record Stands (t : Tree) (tag : ℕ) : Type 0 where
   pub at : t.slots l q ≡ Some row
   pub frame : frame_in row ≡ Some tag
 
--- The tree is exact, where these pages of visible nodes are left out of sight, over the frames that are in use.
+-- The tree is exact over the frames that are in use, with these pages of visible nodes left out of sight.
 pub record IsExact (t : Tree) (out : ℕ → ℕ → Bool) (in_use : ℕ → Bool) : Type 0 where
   pub forest : IsForest t.nodes t.lists
   pub listed : AreListed t
@@ -59,7 +59,7 @@ leaving_out out v p w q = (w == v) && (q == p) || out w q
 abbrev pub IsOnlyOf : (ℕ → ℕ → Bool) → ℕ → Type 0
 IsOnlyOf out v = (w p : ℕ) → out w p ≡ true → w ≡ v
 
--- the frames that are in use, with this one, if it is one, or without it
+-- the frames that are in use, with this one, if there is one, or without it
 unfoldable pub with_frame : (ℕ → Bool) → Option ℕ → ℕ → Bool
 with_frame in_use None t = in_use t
 with_frame in_use (Some tag) t = (t == tag) || in_use t

@@ -13,12 +13,13 @@ abbrev pub in_window : Node → ℕ → Bool
 in_window node q = nat_le node.first q && nat_lt q (node.first + node.seen)
 
 module _ (nodes : Nodes) (slots : Slots) (except : Option NodeId) where
-  -- node k alone where it has a koid and counts, or who is found below its children, as `further` says
+  -- node k alone, if it has a koid and is not the excepted one, or the visible nodes that are found below its children,
+  -- as `further` says
   abbrev pub ends : (Option NodeId → ℕ → List ℕ) → ℕ → Node → ℕ → Option Koid → List ℕ
   ends further k node p (Some koid) = if leads_to except k then [] else k ∷ []
   ends further k node p None = further node.left p ++ further node.right p
 
-  -- the same at page p of a node, whose row there this is: a row hides those above it
+  -- the same at page p of a node; the last argument is the node's row there. A row hides those above it
   abbrev pub meets : (Option NodeId → ℕ → List ℕ) → ℕ → Node → ℕ → Option Slot → List ℕ
   meets further k node p (Some slot) = []
   meets further k node p None = ends further k node p node.koid
@@ -29,8 +30,8 @@ module _ (nodes : Nodes) (slots : Slots) (except : Option NodeId) where
       then meets further k node (q - node.first) (slots node.list.0 (q - node.first))
       else []
 
-  -- The visible nodes of which page q of a node is a page, through the windows and past no row, at or below this child of
-  -- it, in at most n steps down, from left to right. The node that is excepted doesn't count.
+  -- The visible nodes at or below this child of a node that reach page q of the node, through the windows and past no
+  -- row, in at most n steps down, from left to right. The node that is excepted does not count.
   unfoldable pub viewers_over : ℕ → Option NodeId → ℕ → List ℕ
   viewers_over zero child q = []
   viewers_over (suc n) None q = []

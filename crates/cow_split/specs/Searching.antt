@@ -17,11 +17,11 @@ use Rattle.cow_split.specs.declared.viewers.Cursor.{Cursor}
 use Rattle.cow_split.specs.declared.viewers.Met.{Met}
 use Rattle.cow_split.specs.declared.viewers.Met.TheVariants as met
 
--- the visible nodes at or below this child of which page q of its parent is a page, other than the one that is excepted
+-- the visible nodes at or below this child that reach page q of its parent, other than the one that is excepted
 abbrev pub viewers_at : Tree → (except child : Option NodeId) → (q : ℕ) → List ℕ
 viewers_at t except child q = viewers_over t.nodes t.slots except t.lists child q
 
--- whom a search finds at and below a child, at a page of the child's parent
+-- the visible nodes that a search finds at and below a child, at a page of the child's parent
 abbrev pub Below : Type 0
 Below = Option NodeId → ℕ → List ℕ
 
@@ -39,9 +39,9 @@ pub record IsOnward (t : Tree) (k q l p : ℕ) : Type 0 where
   pub page : q ≡ p + node.first
   pub left : node.left ≡ link_to l
 
--- A search from left to right, which began at node `start` with page `whole` of its parent, may come to node k with page q
--- of its parent. After all that is at and below k it finds these: those below the right child of each node at which the
--- way down to k goes to the left.
+-- A search from left to right began at node `start`, with page `whole` of its parent, and may come to node k with page
+-- q of the parent of k. After all that is at and below k it finds `after`: what is below the right child of each node
+-- at which the way down to k goes to the left.
 pub data OnWay (t : Tree) (below : Below) (start whole : ℕ) : ℕ → ℕ → List ℕ → Type 0 where
   at_start : (k q : ℕ) (after : List ℕ) (node : Node) → t.nodes k ≡ Some node → k ≡ start → q ≡ whole → after ≡ [] →
       OnWay t below start whole k q after
@@ -50,26 +50,26 @@ pub data OnWay (t : Tree) (below : Below) (start whole : ℕ) : ℕ → ℕ → 
   to_right : (r p : ℕ) (after : List ℕ) (k : ℕ) (node : Node) → OnWay t below start whole k (p + node.first) after → IsThrough t k p node →
       node.right ≡ link_to r → OnWay t below start whole r p after
 
--- a search has come to node k, and finds these after all that is there and below it
+-- a search has come to node k, and finds `after` once it is done with all that is at and below k
 pub record IsPassed (t : Tree) (below : Below) (start k q : ℕ) (after : List ℕ) : Type 0 where
   pub whole : ℕ
   pub fits : whole < 2 ^ 64
   pub way : OnWay t below start whole k q after
 
--- some search has
+-- some search has come to node k
 pub record IsPassedBySome (nodes : Nodes) (lists start k q : ℕ) : Type 0 where
   pub slots : Slots
   pub below : Below
   pub after : List ℕ
   pub passed : IsPassed (tree_with nodes lists slots) below start k q after
 
--- a search goes on at node k, with page q of its parent, and finds these there, below it and after it
+-- a search goes on at node k, with page q of its parent, and finds `ahead`, at and below k and after it
 pub record GoesOn (t : Tree) (below : Below) (start k q : ℕ) (ahead : List ℕ) : Type 0 where
   pub after : List ℕ
   pub passed : IsPassed t below start k q after
   pub ahead_is : ahead ≡ below (link_to k) q ++ after
 
--- these are ahead of a search. Where it goes on nowhere, nobody is
+-- these are ahead of a search. If the search goes on nowhere, nobody is
 abbrev pub IsAhead : Tree → (below : Below) → Option Cursor → (ahead : List ℕ) → Type 0
 IsAhead t below None ahead = ahead ≡ []
 IsAhead t below (Some from) ahead = GoesOn t below from.start.0 from.at.0 from.page ahead
@@ -83,25 +83,25 @@ pub record IsSearch (t : Tree) (except : Option NodeId) (from : Option Cursor) :
   pub ahead : List ℕ
   pub finds : Finds t except from ahead
 
--- of these it finds node v first, and the others from here on
+-- of the nodes `ahead` a search finds node v first, and the others from here on
 pub record FindsFirst (t : Tree) (except : Option NodeId) (v : ℕ) (from : Option Cursor) (ahead : List ℕ) : Type 0 where
   pub rest : List ℕ
   pub finds : Finds t except from rest
   pub ahead_is : ahead ≡ v ∷ rest
 
--- of all these a search found the first ones, and the others are ahead of it
+-- of all these nodes a search has found the first ones, and the others are ahead of it
 pub record IsAmid (t : Tree) (except : Option NodeId) (all found : List ℕ) (from : Option Cursor) : Type 0 where
   pub ahead : List ℕ
   pub finds : Finds t except from ahead
   pub all_is : all ≡ found ++ ahead
 
--- and it counted those that it found
+-- a search has counted the nodes that it found
 pub record HasCounted (t : Tree) (except : Option NodeId) (all : List ℕ) (count : ℕ) (from : Option Cursor) : Type 0 where
   pub found : List ℕ
   pub amid : IsAmid t except all found from
   pub count_is : count ≡ length found
 
--- and this is the least koid of those that it found
+-- this is the least koid of the nodes that a search found
 pub record HasLeast (t : Tree) (except : Option NodeId) (all : List ℕ) (least : Option Koid) (from : Option Cursor) : Type 0 where
   pub found : List ℕ
   pub amid : IsAmid t except all found from
@@ -118,17 +118,17 @@ abbrev pub viewer_met : (excepted : Bool) → Met
 viewer_met true = met.Nobody
 viewer_met false = met.Viewer
 
--- the sum of what each node weighs from this one up to its root, n at most
+-- the sum of the weights of the nodes from this one up to its root, n at most
 unfoldable pub sum_up : Nodes → (ℕ → ℕ) → ℕ → Option NodeId → ℕ
 sum_up nodes weight zero at = 0
 sum_up nodes weight (suc n) None = 0
 sum_up nodes weight (suc n) (Some at) = weight at.0 + sum_up nodes weight n (parent_in (nodes at.0))
 
--- a node weighs more than all that is below it: three times as much as a child
+-- the weight of a node: three times that of a child, and so more than that of all that is below the node
 abbrev pub weight : Nodes → (lists k : ℕ) → ℕ
 weight nodes lists k = 3 ^ (lists - depth nodes lists k)
 
--- what weighs the right sibling of a left child
+-- the weight of the right sibling of a left child
 abbrev pub weight_beside : Nodes → (lists k : ℕ) → ℕ
 weight_beside nodes lists k = beside (side_in nodes k)
   where
@@ -137,15 +137,15 @@ weight_beside nodes lists k = beside (side_in nodes k)
     beside (Some side.Right) = 0
     beside None = 0
 
--- what weighs all that a search from left to right enters after node k and what is below it
+-- the weight of all that a search from left to right enters after node k and what is below it
 abbrev pub weight_after : Nodes → (lists k : ℕ) → ℕ
 weight_after nodes lists k = sum_up nodes (weight_beside nodes lists) lists (link_to k)
 
--- what weighs all that it enters from node k on
+-- the weight of all that a search enters from node k on
 abbrev pub weight_ahead : Nodes → (lists k : ℕ) → ℕ
 weight_ahead nodes lists k = weight nodes lists k + weight_after nodes lists k
 
--- what weighs all that a search enters from here on
+-- the weight of all that a search enters from here on
 abbrev pub weight_from : Nodes → (lists : ℕ) → Option Cursor → ℕ
 weight_from nodes lists None = 0
 weight_from nodes lists (Some from) = weight_ahead nodes lists from.at.0

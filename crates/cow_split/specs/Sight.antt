@@ -12,8 +12,8 @@ pub record IsPage (t : Tree) (v p : ℕ) : Type 0 where
   pub visible : IsVisible t.nodes v node
   pub below : p < node.count
 
--- the visible node v sees the row of page q of node h by its page p: the walk from there ends at the row. `side` says from
--- which side it comes, where h isn't v
+-- The visible node v sees the row of page q of node h by its page p: the walk from there ends at the row. `side` says
+-- from which side it comes, if h is not v.
 pub record Sees (t : Tree) (v p : ℕ) (side : Option Side) (h q : ℕ) : Type 0 where
   pub page : IsPage t v p
   pub slot : Slot
@@ -40,7 +40,7 @@ IsLastViewer t v tag = (w p : ℕ) → IsPage t w p → frame_at t w p ≡ Some 
 abbrev pub OthersShowSame : (old new : Tree) → (v p : ℕ) → Type 0
 OthersShowSame old new v p = (w q : ℕ) → IsPage old w q → ((w ≡ v) × (q ≡ p) → ⊥) → frame_at new w q ≡ frame_at old w q
 
--- node w is as visible as it was, with its koid and its count
+-- node w is visible as before, with its koid and its count
 pub record StaysVisible (old new : Nodes) (w : ℕ) (node : Node) : Type 0 where
   pub after : Node
   pub at : new w ≡ Some after
