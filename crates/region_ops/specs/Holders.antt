@@ -12,7 +12,7 @@ pub record HasPage (regions : ℕ → Option Region) (root p n : ℕ) : Type 0 w
   pub low : region.first ≤ p
   pub high : p < end_of region
 
--- and no live child of it has the page
+-- the region has the page, and no live child of it has
 pub record HoldsPage (regions : ℕ → Option Region) (root p n : ℕ) : Type 0 where
   pub has : HasPage regions root p n
   pub alone : meets_child regions n p (p + 1) ≡ false

@@ -1,4 +1,4 @@
--- What holds of a piece that goes from an address space.
+-- What holds of a piece that is taken out of an address space.
 use Rattle.std.specs.Prelude.{ℕ, Option}
 use Rattle.vm_model.specs.declared.space.Entry.{Entry}
 use Rattle.vm_model.specs.Contents.Content.{Content}

@@ -24,7 +24,8 @@ use Rattle.region_ops.specs.Spaces.{with_entries}
 abbrev pub no_entries : ℕ → ℕ → Option Entry
 no_entries root p = None
 
--- the refusals of a mapping, but for those by names and those of a place that is not free. They do not rest on what is mapped.
+-- the refusals of a mapping, without those for names and those for a place that is not free. They do not rest on what
+-- is mapped
 abbrev pub map_rows : Content → (ℕ → Option Region) → (name : ℕ) → Region → (overwriting fixed limited faults : Bool) → (offset : ℕ) → Target → (vmo_offset len perm : ℕ) → List (Bool × Refusal)
 map_rows c regions name above overwriting fixed limited faults offset target vmo_offset len perm =
     (not (has above.caps.0 perm) || (has perm writing && not target.may_write), AccessDenied)
@@ -33,8 +34,8 @@ map_rows c regions name above overwriting fixed limited faults offset target vmo
     ∷ (nat_lt (name_pages c target * PAGE) (vmo_offset + rounded len) && (not faults || is_kind Slice target.kind), BufferTooSmall)
     ∷ []
 
--- A piece may be put into an address space: it lies in it, shows a VMO that a name stands for, and has no page that has an entry,
--- unless it overwrites those.
+-- A piece may be put into an address space: it lies in it, shows a VMO for which a name stands, and has no page with an
+-- entry, unless it overwrites those entries.
 pub record IsPuttable (names : ℕ → Option Target) (table : ℕ → ℕ → Option Entry) (root : ℕ) (piece : Piece) (overwriting : Bool) : Type 0 where
   pub space : root < NAMES
   pub some : 1 ≤ piece.count
@@ -45,8 +46,8 @@ pub record IsPuttable (names : ℕ → Option Target) (table : ℕ → ℕ → O
   pub koid : target.koid ≡ piece.entry.koid
   pub bare : overwriting ≡ false → IsBare (table root) piece.first (piece.first + piece.count)
 
--- A piece was put into an address space, and with the entries that it overwrote went the VMOs that nothing keeps any more. The
--- table of VMOs counts right what keeps the others.
+-- A piece was put into an address space. With the entries that it overwrote went the VMOs that nothing keeps any more.
+-- The table of VMOs counts right what keeps the others.
 pub record Puts (c : Content) (vmos : Vmos) (table : ℕ → ℕ → Option Entry) (root : ℕ) (piece : Piece) (d : Content) (vmos_new : Vmos) (table_new : ℕ → ℕ → Option Entry) : Type 0 where
   pub put : (s : State) → IsWellCounted vmos (with_entries s c vmos table)
       → with_entries s d vmos_new table_new ≡ pruned (with_entries s c vmos (with_piece table root piece))

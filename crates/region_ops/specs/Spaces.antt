@@ -1,4 +1,5 @@
--- The address spaces of a state as the regions and the set of mappings have them, and what the calls promise in these words.
+-- The address spaces of a state as the regions and the set of mappings have them, and what the calls promise in these
+-- words.
 use Rattle.std.specs.Prelude.{◌≡◌, ℕ, ◌+◌, ◌/◌, Bool, true, false, ◌&&◌, ◌==◌, if◌then◌else◌, Option, None}
 use Rattle.vm_base.specs.Entries.{passes, with_key}
 use Rattle.vm_base.specs.declared.limits.TheConstants.{PAGE}
@@ -30,7 +31,8 @@ with_entries s c vmos table = record (with_vmos s c vmos) { spaces = record s.sp
 abbrev pub with_all : State → Content → Vmos → Spaces → State
 with_all s c vmos spaces = record (with_vmos s c vmos) { spaces = spaces }
 
--- A store, a table of VMOs and entries are parts of one good state, and the table counts right what keeps each VMO of it.
+-- A store, a table of VMOs and entries are parts of one good state, and the table counts right what keeps each VMO of
+-- it.
 pub record AreWell (c : Content) (vmos : Vmos) (table : ℕ → ℕ → Option Entry) : Type 0 where
   pub rest : State
   pub well : IsWellCounted vmos (with_entries rest c vmos table)
@@ -40,14 +42,14 @@ pub record AreAllWell (c : Content) (vmos : Vmos) (spaces : Spaces) : Type 0 whe
   pub rest : State
   pub well : IsWellCounted vmos (with_all rest c vmos spaces)
 
--- Entries went from the table, and with them the VMOs that nothing keeps any more. The table of VMOs counts right what keeps the
--- others.
+-- Entries went from the table, and with them the VMOs that nothing keeps any more. The table of VMOs counts right what
+-- keeps the others.
 pub record LetsGo (c : Content) (vmos : Vmos) (table : ℕ → ℕ → Option Entry) (d : Content) (vmos_new : Vmos) (table_new : ℕ → ℕ → Option Entry) : Type 0 where
   pub gone : (s : State) → IsWellCounted vmos (with_entries s c vmos table) → with_entries s d vmos_new table_new ≡ pruned (with_entries s c vmos table_new)
   pub well : (s : State) → IsWellCounted vmos (with_entries s c vmos table) → IsWellCounted vmos_new (with_entries s d vmos_new table_new)
 
--- A store, a table of VMOs and address spaces do a step of the machine with this reply, where they are of a good state and what
--- keeps each VMO is counted right, whatever else it has. It is counted right afterwards.
+-- In a good state with its keepers counted right, a store, a table of VMOs and address spaces do a step of the machine
+-- with this reply, whatever else the state has. The keepers are counted right afterwards.
 pub record Does (c : Content) (vmos : Vmos) (spaces : Spaces) (command : Command) (reply : Reply)
     (d : Content) (vmos_new : Vmos) (spaces_new : Spaces) : Type 0 where
   pub step : (s : State) → IsWellCounted vmos (with_all s c vmos spaces) → Step (with_all s c vmos spaces) command reply (with_all s d vmos_new spaces_new)
@@ -57,7 +59,7 @@ pub record Does (c : Content) (vmos : Vmos) (spaces : Spaces) (command : Command
 abbrev pub with_spaces : State → Spaces → State
 with_spaces s spaces = record s { spaces = spaces }
 
--- Why there is no place in a region: the one that was asked for is not free, or none is that fits.
+-- Why there is no place in a region: the one that was asked for is not free, or no free place fits.
 pub record HasNoPlace (spaces : Spaces) (name : ℕ) (fixed limited : Bool) (offset count : ℕ) (refusal : Refusal) : Type 0 where
   pub taken : fixed ≡ true → (refusal ≡ AlreadyExists)
       × (is_free spaces name ((region_of spaces.regions name).first + offset / PAGE) ((region_of spaces.regions name).first + offset / PAGE + count) ≡ false)

@@ -1,4 +1,5 @@
-//! What holds of regions and entries by the definitions alone. Each law is the contract of a function that does nothing.
+//! What holds of regions and entries by the definitions alone. Each law is the contract of a function that does
+//! nothing.
 
 ghost use Rattle.std.specs.Prelude.{◌≡◌, ◌<◌, ◌≤◌, ℕ, Option, None, Some, true};
 ghost use Rattle.vm_model.specs.declared.space.Region.{Region};
