@@ -15,8 +15,8 @@ use Rattle.cow_split.specs.Sight.{OthersShowSame}
 use Rattle.cow_split.specs.Exact.{IsExact, all_in_sight}
 use Rattle.cow_fork.specs.Frames.{bytes_shown, IsSole}
 
--- Page p of the visible node v has a row of its own with the frame of this tag. A frame that v alone showed moves there;
--- else a free frame is taken, with the bytes that the page showed.
+-- Page p of the visible node v has a row of its own with the frame of this tag. A frame that v alone showed moves
+-- there. Otherwise a free frame is taken, with the bytes that the page showed.
 pub record HasForked (arena : Arena) (old new : Rows Row) (before after : Pool) (v p tag : ℕ) : Type 0 where
   pub exact : IsExact (tree_of arena new) all_in_sight (is_taken after)
   pub own : (node : Node) → nodes_of arena v ≡ Some node →
@@ -25,7 +25,7 @@ pub record HasForked (arena : Arena) (old new : Rows Row) (before after : Pool) 
   pub moved : (t : ℕ) → IsSole (tree_of arena old) v p t → (tag ≡ t) × (taken_frames after ≡ taken_frames before)
   pub taken : ((t : ℕ) → IsSole (tree_of arena old) v p t → ⊥) →
       Takes before after tag (bytes_shown before (frame_at (tree_of arena old) v p))
-  -- the row of each other frame stood where it stands, and no backlink changes
+  -- each row with another frame had this frame there before, and no backlink changes
   pub stood : (l q : ℕ) (row : Slot) (t : ℕ) → slots_of new l q ≡ Some row → frame_in row ≡ Some t → t ≢ tag →
       HadRow (slots_of old) l q row
   pub links : links_of after ≡ links_of before

@@ -15,8 +15,8 @@ use Rattle.cow_split.specs.Sight.{IsPage, StaysVisible}
 use Rattle.cow_split.specs.Exact.{IsExact, all_in_sight}
 use Rattle.cow_fork.specs.Snapshots.{split_slots}
 
--- The visible node v has a new hidden node over it, and beside it the node of a snapshot of `count` pages, whose first
--- `seen` pages are those of v from page `first` on. Each VMO shows what it showed.
+-- The visible node v has a new hidden node over it, and beside it the node of a snapshot of `count` pages. The first
+-- `seen` pages of the snapshot are those of v from page `first` on. Each VMO shows what it showed.
 pub record HasShared (old new : Arena) (rows rows_after : Rows Row) (v : ℕ) (pair : Pair) (koid : Koid) (first seen count : ℕ) : Type 0 where
   -- the nodes and the rows
   pub new_hidden : nodes_of old pair.hidden.0 ≡ None

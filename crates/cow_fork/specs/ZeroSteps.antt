@@ -1,4 +1,4 @@
--- The two steps by which a page that shows a frame is made zero, where these frames are in use.
+-- The two steps by which a page that shows a frame is made zero. These frames are in use.
 use Rattle.std.specs.Prelude.{◌≡◌, ◌↔◌, ℕ, ◌+◌, ◌≤◌, Bool, None, Some}
 use Rattle.balanced_tree.specs.Rows.{Rows}
 use Rattle.vm_base.specs.declared.names.Tag.{Tag}

@@ -21,14 +21,15 @@ abbrev pub IsNeeded : (arena : Arena) → Rows Row → (v p : ℕ) → Type 0
 IsNeeded arena rows v p = (node : Node) → nodes_of arena v ≡ Some node → slots_of rows node.list.0 p ≡ Some slot.Zero →
     frame_at (with_row (tree_of arena rows) node.list.0 p None) v p ≢ None
 
--- Page p of the visible node v is zero. A frame that v alone showed is given back. Nothing changes where the page was zero.
+-- Page p of the visible node v is zero. A frame that v alone showed is given back. If the page was zero, nothing
+-- changes.
 pub record HasZeroed (arena : Arena) (old new : Rows Row) (before after : Pool) (v p : ℕ) : Type 0 where
   pub exact : IsExact (tree_of arena new) all_in_sight (is_taken after)
   pub zero : frame_at (tree_of arena new) v p ≡ None
   pub others : OthersShowSame (tree_of arena old) (tree_of arena new) v p
   pub given : (t : ℕ) → IsSole (tree_of arena old) v p t → taken_frames after ≡ without_key (taken_frames before) t
   pub kept : ((t : ℕ) → IsSole (tree_of arena old) v p t → ⊥) → taken_frames after ≡ taken_frames before
-  -- the row of each frame stood where it stands, and no backlink changes
+  -- each row with a frame had this frame there before, and no backlink changes
   pub stood : (l q : ℕ) (row : Slot) (t : ℕ) → slots_of new l q ≡ Some row → frame_in row ≡ Some t →
       HadRow (slots_of old) l q row
   pub links : links_of after ≡ links_of before
@@ -36,5 +37,5 @@ pub record HasZeroed (arena : Arena) (old new : Rows Row) (before after : Pool) 
   pub slots : frame_at (tree_of arena old) v p ≡ None → slots_of new ≡ slots_of old
   pub count : frame_at (tree_of arena old) v p ≡ None → row_count new ≡ row_count old
   pub spare : old.spare ≤ new.spare + 1
-  -- a row that says zero stands there then only if the page would else show a frame
+  -- a row that says zero stands there only if the page would otherwise show a frame
   pub needed : frame_at (tree_of arena old) v p ≢ None → IsNeeded arena new v p
