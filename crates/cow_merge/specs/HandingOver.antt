@@ -1,4 +1,5 @@
--- The rows of a hidden node stay in its list, and those of its visible child come to them: the list goes over to the child.
+-- The list of a hidden node goes over to its visible child: the hidden node's rows stay in the list, and the child's
+-- rows come to them.
 use Rattle.std.specs.Prelude.{◌≡◌, ℕ, ◌+◌, ◌<◌, ◌≤◌, Bool, false, if◌then◌else◌, Option, None, Some, IsSome}
 use Rattle.balanced_tree.specs.Pairs.{with_pair}
 use Rattle.balanced_tree.specs.Rows.{Rows}
@@ -28,7 +29,8 @@ pub record HasNoRow (old new : Rows Row) (before after : Pool) (l q : ℕ) : Typ
   pub spare : old.spare ≤ new.spare
   pub count : row_count new ≤ row_count old
 
--- the page of the list has this row, whose frame tells its place, and the frame of the row that it had is free
+-- the page of the list has this row, the backlink of the row's frame leads to it, and the frame of the row that it had
+-- is free
 pub record HasRowPut (old new : Rows Row) (before after : Pool) (l q : ℕ) (row : Slot) : Type 0 where
   pub slots : slots_of new ≡ with_pair (slots_of old) l q (Some row)
   pub taken : (t : ℕ) → is_taken after t ≡ without_frame (is_taken before) (frame_there (slots_of old l q)) t
@@ -42,14 +44,15 @@ pub record SeesFromStart (node : Node) : Type 0 where
   pub visible : IsSome node.koid
   pub first : node.first ≡ 0
 
--- no row with a frame of pages `first` to below `end` of the parent says that nobody sees it from the side of the child k
+-- no row of the pages `first` to below `end` of the parent, if it has a frame, says that nobody sees it from the side
+-- of the child k
 pub record AreSeenFrom (slots : Slots) (parent : Node) (k first end : ℕ) : Type 0 where
   pub bit : (q : ℕ) (tag : Tag) (left right : Bool) → first ≤ q → q < end → slots parent.list.0 q ≡ Some (slot.Frame tag left right) →
       bit_on (side_of parent k) left right ≡ false
 
--- The list of h, the parent of the VMO's node k, goes over to its other child s. As if the rows of its pages below `from` had
--- moved into the list of s, the tree is exact with these slots. But those rows are still in the list of h, and the rows of s at
--- these pages are too: the two lists are exchanged there.
+-- The list of h, the parent of the VMO's node k, goes over to the other child s of h. `slots` is what the rows would be
+-- if each row of h below page `from` had moved into the list of s. The tree is exact with `slots`. In fact those rows
+-- are still in the list of h, and the rows of s at these pages are too: below `from` the two lists are exchanged.
 pub record IsHandingOver (arena : Arena) (old new : Rows Row) (before after : Pool) (k h s from : ℕ) : Type 0 where
   pub of : IsFamilyOf arena k h s
   pub slots : Slots
@@ -58,15 +61,15 @@ pub record IsHandingOver (arena : Arena) (old new : Rows Row) (before after : Po
   pub passed : (l p : ℕ) → p < from → slots_of new l p ≡ slots (exchanged of.parent.list.0 of.sibling.list.0 l) p
   pub ahead : (l p : ℕ) → from ≤ p → slots_of new l p ≡ slots l p
   pub empty : (p : ℕ) → p < from → slots of.parent.list.0 p ≡ None
-  -- the rows of h that are left are seen by both children, but where s has a row of its own
+  -- both children see the rows of h that are left, unless s has a row of its own there
   pub inside : (q : ℕ) → IsSome (slots of.parent.list.0 q) → q < of.sibling.seen
   pub seen : (end : ℕ) → AreSeenFrom slots of.parent k 0 end
   pub linked : AreLinked old before → AreLinked new after
   pub spare : old.spare ≤ new.spare
   pub count : row_count new ≤ row_count old
 
--- All rows of h have gone over: the tree is exact with these slots, of which h has none, and in which its list and that of s
--- are exchanged.
+-- All rows of h have gone over. The tree is exact with `slots`, in which h has no rows. The rows are `slots` with the
+-- lists of h and s exchanged.
 pub record HasHandedOver (arena : Arena) (old new : Rows Row) (before after : Pool) (k h s : ℕ) : Type 0 where
   pub of : IsFamilyOf arena k h s
   pub slots : Slots

@@ -1,4 +1,4 @@
--- The rows of a hidden node, one child of which goes: they go too, or move into the list of its other child.
+-- The rows of a hidden node of which one child goes: each row goes too, or moves into the list of the other child.
 use Rattle.std.specs.Prelude.{◌≡◌, ◌↔◌, ℕ, ◌+◌, ◌-◌, ◌<◌, ◌≤◌, ◌==◌, Bool, true, false, not, if◌then◌else◌, Option, None, Some, IsSome, IfSome, IsTrue}
 use Rattle.balanced_tree.specs.Pairs.{with_pair}
 use Rattle.balanced_tree.specs.Rows.{Rows}
@@ -18,7 +18,7 @@ use Rattle.cow_split.specs.Search.{reached_from}
 use Rattle.cow_split.specs.Exact.{IsExact, IsOnlyOf}
 use Rattle.cow_merge.specs.Ranges.{bit_on, ShowsSame, AreLinked, GivesBack, HasGiven, IsHeldBy}
 
--- each page of node k, which is this, that comes to page q of its parent is left out of sight
+-- each page of node k that comes to page q of its parent is left out of sight; `node` is k
 abbrev pub IsAside : (ℕ → ℕ → Bool) → (k : ℕ) → Node → (q : ℕ) → Type 0
 IsAside out k node q = (p : ℕ) → q ≡ node.first + p → p < node.seen → out k p ≡ true
 
@@ -28,8 +28,8 @@ pub record SeesRow (slots : Slots) (node : Node) (q : ℕ) : Type 0 where
   pub inside : q - node.first < node.seen
   pub free : slots node.list.0 (q - node.first) ≡ None
 
--- The row moves to page p of node s, and keeps its frame. In a visible node its bits are false, and in a hidden one each
--- says that no VMO on its side sees the row.
+-- The row moves to page p of node s, and keeps its frame. In a visible node its bits are false, and in a hidden one
+-- each says that no VMO on its side sees the row.
 pub record IsMoved (t : Tree) (s p : ℕ) (node : Node) (before after : Slot) : Type 0 where
   pub frame : frame_in after ≡ frame_in before
   pub plain : (tag : Tag) (left right : Bool) → after ≡ slot.Frame tag left right → IsSome node.koid →
@@ -49,9 +49,8 @@ pub record IsFamilyOf (arena : Arena) (k h s : ℕ) : Type 0 where
   pub family : AreFamily (nodes_of arena) k h s node parent sibling
   pub visible : IsVisible (nodes_of arena) k node
 
--- Rows of h, the parent of the VMO's node k, went or moved into the list of s, its other child, since the rows and the pool
--- were the old ones, so that these rows are left. The tree is exact with some pages of k left out, and each other page that shows
--- a frame is held by h.
+-- Rows of h, the parent of the VMO's node k, went or moved into the list of s, the other child of h, so that `slots`
+-- are left. The tree is exact with some pages of k left out. Each other page of k that shows a frame is held by h.
 pub record AreLifted (arena : Arena) (old : Rows Row) (slots : Slots) (before after : Pool) (k h s : ℕ) (of : IsFamilyOf arena k h s) : Type 0 where
   pub out : ℕ → ℕ → Bool
   pub exact : IsExact (tree_with (nodes_of arena) arena.lists slots) out (is_taken after)
@@ -62,7 +61,7 @@ pub record AreLifted (arena : Arena) (old : Rows Row) (slots : Slots) (before af
       frame_at (tree_with (nodes_of arena) arena.lists slots) k p ≡ Some tag → IsHeldBy (nodes_of arena) slots h of.node p
   pub gives : GivesBack before after
 
--- the same of the rows of the lists, whose frames tell their places
+-- the same for the rows of the lists; the backlinks of their frames lead to them
 pub record IsLifting (arena : Arena) (old new : Rows Row) (before after : Pool) (k h s : ℕ) : Type 0 where
   pub of : IsFamilyOf arena k h s
   pub lifted : AreLifted arena old (slots_of new) before after k h s of
@@ -70,12 +69,12 @@ pub record IsLifting (arena : Arena) (old new : Rows Row) (before after : Pool) 
   pub spare : old.spare ≤ new.spare
   pub count : row_count new ≤ row_count old
 
--- the page is below this one, if it is one
+-- the page is below `to`, if there is a `to`
 abbrev pub IsBefore : Option ℕ → ℕ → Type 0
 IsBefore to p = IfSome to (λ (end : ℕ). p < end)
 
--- Whether the row of page q of a hidden node is seen through its child s: of a row with a frame the bit of that side
--- says so, and a zero row is seen through the child if and only if the child itself sees it.
+-- Whether the row of page q of a hidden node is seen through its child s. For a row with a frame the bit of that side
+-- says so. A zero row is seen through the child if and only if the child itself sees it.
 pub record TellsSeen (slots : Slots) (parent : Node) (s : ℕ) (node : Node) (q : ℕ) (row : Slot) (seen : Bool) : Type 0 where
   pub frame : (tag : Tag) (left right : Bool) → row ≡ slot.Frame tag left right → seen ≡ not (bit_on (side_of parent s) left right)
   pub zero : row ≡ slot.Zero → IsTrue seen ↔ SeesRow slots node q
@@ -85,7 +84,7 @@ pub record HasGone (old new : Rows Row) (before after : Pool) (row : Slot) : Typ
   pub rows : new ≡ old
   pub given : HasGiven before after (frame_in row)
 
--- the row, which was taken out, is in the list of node s, at the page that came to it
+-- the row, which was taken out, is in the list of node s, at the page of s that comes to page q
 pub record HasMoved (arena : Arena) (old new : Rows Row) (before after : Pool) (s : ℕ) (node : Node) (q : ℕ) (row : Slot) : Type 0 where
   pub now : Slot
   pub moved : IsMoved (tree_of arena old) s (q - node.first) node row now
@@ -97,8 +96,8 @@ pub record HasMoved (arena : Arena) (old new : Rows Row) (before after : Pool) (
   pub spare : old.spare ≤ new.spare + 1
   pub count : row_count new ≤ row_count old + 1
 
--- the row of page q of a hidden node, which was taken out, has moved into the list of its child s, where it is seen through this
--- child, and is gone else
+-- The row of page q of a hidden node was taken out. If it is seen through the child s, it has moved into the list of s.
+-- Otherwise it is gone.
 pub record HasSettled (arena : Arena) (old new : Rows Row) (before after : Pool) (parent : Node) (s : ℕ) (node : Node) (q : ℕ)
     (row : Slot) : Type 0 where
   pub seen : Bool

@@ -16,18 +16,19 @@ use Rattle.cow_split.specs.Sight.{IsPage, StaysVisible}
 use Rattle.cow_split.specs.Exact.{IsExact, all_in_sight}
 use Rattle.cow_merge.specs.Ranges.{GivesBack, AreLinked}
 
--- a visible node that has `count` pages, of which the window is no longer
+-- a visible node with `count` pages, and a window that is no longer than that
 abbrev pub with_count : Node → ℕ → Node
 with_count node count = record (with_window node node.first (min node.seen count)) { count = count }
 
--- the window of node v, which was this, has at most `count` pages
+-- the window of node v has at most `count` pages; `node` is v as it was
 pub record IsNarrowed (old new : Arena) (v : ℕ) (node : Node) (count : ℕ) : Type 0 where
   pub nodes : nodes_of new ≡ with_key (nodes_of old) v (with_window node node.first (min node.seen count))
   pub lists : new.lists ≡ old.lists
   pub hidden : hidden_count new ≡ hidden_count old
   pub visible : visible_count new ≡ visible_count old
 
--- The visible node v has `count` pages, of those that it had. It shows the same there, and each other VMO everywhere.
+-- The visible node v has `count` of the pages that it had, and shows the same there. Every other VMO shows the same
+-- everywhere.
 pub record HasShrunk (old new : Arena) (rows rows_after : Rows Row) (before after : Pool) (v count : ℕ) : Type 0 where
   pub exact : IsExact (tree_of new rows_after) all_in_sight (is_taken after)
   pub nodes : (node : Node) → nodes_of old v ≡ Some node → nodes_of new ≡ with_key (nodes_of old) v (with_count node count)
@@ -47,7 +48,7 @@ pub record WasThere (old : Nodes) (j : ℕ) (now : Node) : Type 0 where
   pub at : old j ≡ Some node
   pub koid : now.koid ≡ node.koid
 
--- node j was the other child of the parent of node v, whose list it has now
+-- node j was the other child of the parent of node v, and now has the list of this parent
 pub record HasListOfParent (old : Nodes) (v j : ℕ) (now : Node) : Type 0 where
   pub h : ℕ
   pub child : IsChild old h v
@@ -56,8 +57,8 @@ pub record HasListOfParent (old : Nodes) (v j : ℕ) (now : Node) : Type 0 where
   pub beside : sibling_in old v ≡ link_to j
   pub list : now.list ≡ parent.list
 
--- The visible node v is gone, and its parent. Each other VMO has its node, and shows what it showed. Each node has the list that
--- it had, but the sibling may have that of the parent.
+-- The visible node v is gone, and its parent too. Each other VMO has its node, and shows what it showed. Each node has
+-- the list that it had, except that the sibling may have the list of the parent.
 pub record HasClosed (old new : Arena) (rows rows_after : Rows Row) (before after : Pool) (v : ℕ) : Type 0 where
   pub exact : IsExact (tree_of new rows_after) all_in_sight (is_taken after)
   pub gone : nodes_of new v ≡ None

@@ -27,7 +27,7 @@ pub record AreLinked (rows : Rows Row) (pool : Pool) : Type 0 where
   pub linked : (l q : ℕ) (row : Slot) (tag : ℕ) → slots_of rows l q ≡ Some row → frame_in row ≡ Some tag →
       links_of pool tag ≡ record { list = l; page = q }
 
--- frames may be free that were taken, and no other frame changes
+-- some frames that were taken may be free, and no other frame changes
 pub record GivesBack (before after : Pool) : Type 0 where
   pub frames : after.frames ≡ before.frames
   pub kept : (t : ℕ) → (taken_frames after t ≡ taken_frames before t) ⊎ (taken_frames after t ≡ None)
@@ -40,14 +40,14 @@ ShowsSame old new out = (w q : ℕ) → IsPage old w q → out w q ≡ false →
 abbrev pub IsAllOut : Tree → (ℕ → ℕ → Bool) → ℕ → Type 0
 IsAllOut t out v = (p : ℕ) → IsPage t v p → out v p ≡ true
 
--- this frame is free that was taken, if it is one, and no other frame changes
+-- if there is a frame, it was taken and is free, and no other frame changes
 pub record HasGiven (before after : Pool) (frame : Option ℕ) : Type 0 where
   pub taken : (t : ℕ) → is_taken after t ≡ without_frame (is_taken before) frame t
   pub links : links_of after ≡ links_of before
   pub gives : GivesBack before after
 
--- Page p of v is out of sight: a row that only it saw is gone, and its frame is given back. The tree is exact with this
--- page left out too, and the others show what they showed.
+-- Page p of v is out of sight: a row that only this page saw is gone, and its frame is given back. The tree is exact
+-- with this page left out too, and the other visible nodes show what they showed.
 pub record HasLeftPageOut (arena : Arena) (old new : Rows Row) (before after : Pool) (v p : ℕ) : Type 0 where
   pub exact : (out : ℕ → ℕ → Bool) → IsExact (tree_of arena old) out (is_taken before) → IsOnlyOf out v →
       IsExact (tree_of arena new) (leaving_out out v p) (is_taken after)
@@ -59,7 +59,8 @@ pub record HasLeftPageOut (arena : Arena) (old new : Rows Row) (before after : P
   pub spare : old.spare ≤ new.spare
   pub count : row_count new ≤ row_count old
 
--- These pages of v, all from `first` on, were left out of sight, since the rows and the pool were the old ones.
+-- Since the rows and the pool were the old ones, the pages of v that `out` tells were left out of sight, all of them
+-- from `first` on.
 pub record IsLeaving (arena : Arena) (old new : Rows Row) (before after : Pool) (v first : ℕ) (out : ℕ → ℕ → Bool) : Type 0 where
   pub exact : IsExact (tree_of arena new) out (is_taken after)
   pub only : IsOnlyOf out v
@@ -71,14 +72,14 @@ pub record IsLeaving (arena : Arena) (old new : Rows Row) (before after : Pool) 
   pub spare : old.spare ≤ new.spare
   pub count : row_count new ≤ row_count old
 
--- some pages of the visible node v, all from `first` on, are left out, and it has no rows from there to below `end`
+-- some pages of the visible node v, all from `first` on, are left out, and v has no rows from there to below `end`
 pub record IsDropping (arena : Arena) (old new : Rows Row) (before after : Pool) (v : ℕ) (node : Node) (first end : ℕ) : Type 0 where
   pub out : ℕ → ℕ → Bool
   pub leaving : IsLeaving arena old new before after v first out
   pub visible : IsVisible (nodes_of arena) v node
   pub bare : (p : ℕ) → first ≤ p → p < end → slots_of new node.list.0 p ≡ None
 
--- some pages of the visible node v, all from `first` on, are left out, and it has no rows from there on
+-- some pages of the visible node v, all from `first` on, are left out, and v has no rows from there on
 pub record IsBare (arena : Arena) (old new : Rows Row) (before after : Pool) (v first : ℕ) : Type 0 where
   pub out : ℕ → ℕ → Bool
   pub leaving : IsLeaving arena old new before after v first out
@@ -93,8 +94,8 @@ IsOutside pages q = (q < pages.from) ⊎ (pages.to ≤ q)
 abbrev pub no_pages : Pages
 no_pages = record { from = 0; to = 0 }
 
--- Page q of v, which is none of those that are passed over, comes to the page `shift` pages further on of node h, which is below
--- `to` and has no row in the node's list, where it is below `upto`.
+-- Page q of v, which is not passed over, comes to page q + shift of node h, below `to`. If this page is below `upto`,
+-- it has no row in the list of h.
 pub record CameTo (t : Tree) (v q : ℕ) (skip : Pages) (h list shift to upto : ℕ) : Type 0 where
   pub side : Option Side
   pub apart : IsOutside skip q
@@ -128,8 +129,8 @@ KeepsOthers old new list = (l : ℕ) → l ≢ list → KeepsList old new l
 abbrev pub IsParent : Option NodeId → Node → Type 0
 IsParent spared node = (h : NodeId) → spared ≡ Some h → node.parent ≡ Some h
 
--- Each page of v from `first` on that still shows a frame comes to a page of this node, below `to`, and to no row of it
--- below `upto`, and is none of those that are passed over; or it is held by the node that is spared.
+-- Each page of v from `first` on that still shows a frame is held by the spared node, if one is spared, or it comes to
+-- a page of h below `to`, is not passed over, and comes to no row of h below `upto`.
 pub record IsPassing (arena : Arena) (old new : Rows Row) (before after : Pool) (v first : ℕ) (skip : Pages) (spared : Option NodeId)
     (above : Node) (shift to upto : ℕ) : Type 0 where
   pub bare : IsBare arena old new before after v first
@@ -145,20 +146,20 @@ pub record IsSparing (arena : Arena) (old new : Rows Row) (before after : Pool) 
   pub spares : (q tag : ℕ) → first ≤ q → q < bare.node.count → bare.out v q ≡ false → frame_at (tree_of arena new) v q ≡ Some tag →
       IsSpared (nodes_of arena) (slots_of new) spared bare.node q
 
--- some parent may be spared, and a range of pages of v is on its way up
+-- a range of pages of v is on its way up, and some parent may be spared
 pub record IsUnderWay (arena : Arena) (rows : Rows Row) (pool : Pool) (v first : ℕ) (skip : Pages) (above : Node) (shift to upto : ℕ) : Type 0 where
   pub spared : Option NodeId
   pub passing : IsPassing arena rows rows pool pool v first skip spared above shift to upto
 
--- The least page of a list from `from` on and below `to` that has a row, but for those to which only pages come that are passed
--- over, `shift` pages further on.
+-- The least page of a list, from `from` on and below `to`, that has a row, passing over the pages to which only pages
+-- of `skip` come. Page q comes to page q + shift.
 pub record IsNextOutside (slots : ℕ → Option Slot) (from to shift : ℕ) (skip : Pages) (row : ℕ) : Type 0 where
   pub least : from ≤ row
   pub below : row < to
   pub there : IsSome (slots row)
   pub none : (q : ℕ) → from ≤ q + shift → q + shift < row → IsOutside skip q → slots (q + shift) ≡ None
 
--- the tree without its rows: pages go up in it through the windows alone
+-- the tree without its rows, in which pages go up through the windows alone
 abbrev pub bare_of : Arena → Tree
 bare_of arena = tree_with (nodes_of arena) arena.lists (λ l p. None)
 
@@ -172,7 +173,7 @@ abbrev pub is_split : Side → Slot → Bool
 is_split from (slot.Frame tag left right) = bit_on from left right
 is_split from slot.Zero = false
 
--- no page of v but page p comes to page q of node h, and that from this side
+-- no page of v but page p comes to page q of node h, and page p comes there from this side alone
 pub record IsOnlyWay (t : Tree) (v p : ℕ) (from : Side) (h q : ℕ) : Type 0 where
   pub only : (x : ℕ) (s : Side) → Reaches t v x s h q → (x ≡ p) × (s ≡ from)
 
@@ -185,13 +186,15 @@ pub record HasKept (old new : Rows Row) (before after : Pool) : Type 0 where
   pub spare : old.spare ≤ new.spare
   pub count : row_count new ≤ row_count old
 
--- The row of page q of node h is passed: page p of v is left out, if it comes to the row, and else nothing has changed.
+-- The row of page q of node h is passed. If page p of v comes to the row, it is left out of sight. Otherwise nothing
+-- has changed.
 pub record HasPassedRow (arena : Arena) (old new : Rows Row) (before after : Pool) (v p : ℕ) (from : Side) (h q : ℕ) : Type 0 where
   pub came : Reaches (tree_of arena old) v p from h q → HasLeftPageOut arena old new before after v p
   pub stays : (Reaches (tree_of arena old) v p from h q → ⊥) → HasKept old new before after
 
--- The pages of v, which is this visible node, are out of sight from `first` on: rows that only they saw are gone, and their
--- frames are given back. The tree is exact with these pages left out, and the others show what they showed.
+-- The pages of the visible node v from `first` on are out of sight: rows that only they saw are gone, and the frames of
+-- these rows are given back. The tree is exact with these pages left out, and the other visible nodes show what they
+-- showed.
 pub record HasLeftOut (arena : Arena) (old new : Rows Row) (before after : Pool) (v : ℕ) (node : Node) (first : ℕ) : Type 0 where
   pub exact : IsExact (tree_of arena new) (leaving_range all_in_sight v first node.count) (is_taken after)
   pub shows : ShowsSame (tree_of arena old) (tree_of arena new) (leaving_range all_in_sight v first node.count)
@@ -201,7 +204,7 @@ pub record HasLeftOut (arena : Arena) (old new : Rows Row) (before after : Pool)
   pub spare : old.spare ≤ new.spare
   pub count : row_count new ≤ row_count old
 
--- the tree of a visible node v is exact with some of its pages, and no others, left out
+-- the tree is exact with some pages of the visible node v left out, and no others
 pub record IsExactFor (arena : Arena) (rows : Rows Row) (pool : Pool) (v : ℕ) : Type 0 where
   pub out : ℕ → ℕ → Bool
   pub exact : IsExact (tree_of arena rows) out (is_taken pool)

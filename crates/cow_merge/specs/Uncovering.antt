@@ -1,4 +1,5 @@
--- Rows of a hidden node that stand under own rows of a child, a VMO's node that goes, go, or move into the list of the other child.
+-- Rows of a hidden node that stand under own rows of a child, if this child is a VMO's node that goes: each of them
+-- goes, or moves into the list of the other child.
 use Rattle.std.specs.Prelude.{◌≡◌, ℕ, ◌+◌, ◌<◌, ◌≤◌, None, Some}
 use Rattle.balanced_tree.specs.Pairs.{with_pair}
 use Rattle.balanced_tree.specs.Rows.{Rows}
@@ -13,8 +14,8 @@ use Rattle.cow_split.specs.Exact.{IsExact, all_in_sight}
 use Rattle.cow_merge.specs.Ranges.{ShowsSame, AreLinked, GivesBack, IsHeldBy}
 use Rattle.cow_merge.specs.Lifting.{IsFamilyOf, HasSettled}
 
--- Rows of h, the parent of the VMO's node k, that stood under own rows of k at its pages below `from`, went, or moved into the list
--- of s, its other child. Each VMO shows what it showed, and none of these own rows covers a row of h.
+-- Rows of h, the parent of the VMO's node k, that stood under own rows of k below page `from`, went or moved into the
+-- list of s, the other child of h. Each VMO shows what it showed, and none of these own rows covers a row of h.
 pub record IsUncovering (arena : Arena) (old new : Rows Row) (before after : Pool) (k h s from : ℕ) : Type 0 where
   pub of : IsFamilyOf arena k h s
   pub exact : IsExact (tree_of arena new) all_in_sight (is_taken after)
@@ -31,7 +32,7 @@ pub record HasNothing (old new : Rows Row) (before after : Pool) (parent : Node)
   pub rows : new ≡ old
   pub pool : after ≡ before
 
--- the row of page q of the parent was taken out, and has moved into the list of its child s, or is gone
+-- the row of page q of the parent was taken out, and has moved into the list of the child s, or is gone
 pub record HasRowSettled (arena : Arena) (old new : Rows Row) (before after : Pool) (parent : Node) (s : ℕ) (node : Node) (q : ℕ) : Type 0 where
   pub row : Slot
   pub has : slots_of old parent.list.0 q ≡ Some row

@@ -1,4 +1,4 @@
--- A way down from the sibling of a VMO's node that goes, whose pages another VMO shows too.
+-- A way down from the sibling of a VMO's node that goes. Another VMO shows the pages of the way too.
 use Rattle.std.specs.Prelude.{◌≡◌, ◌⊎◌, ℕ, ◌+◌, ◌<◌, ◌≤◌, ◌^◌, false, Option, None, Some}
 use Rattle.std.specs.Option.{option_or}
 use Rattle.balanced_tree.specs.Rows.{Rows}
@@ -16,14 +16,15 @@ use Rattle.cow_split.specs.Trees.{tree_of}
 use Rattle.cow_merge.specs.declared.witness.Way.{Way}
 use Rattle.cow_merge.specs.Ranges.{no_pages, CameTo, IsBare, IsParent, IsSpared, HasLeftPageOut, HasKept}
 
--- The pages of a way lie in the window of its node, which is this, and belong to pages of the leaf from `first` on, which are
--- `base` less than those of its parent below `to`.
+-- The pages of a way lie in the window of its node, and belong to pages of the leaf from `first` on. The leaf's pages
+-- come to pages of its parent `base` further on, below `to`.
 pub record IsWithin (first base to : ℕ) (node : Node) (way : Way) : Type 0 where
   pub inside : (p : ℕ) → way.from ≤ p → p < way.to → p < node.seen
   pub low : (p : ℕ) → way.from ≤ p → p < way.to → first + base ≤ p + way.shift
   pub high : (p : ℕ) → way.from ≤ p → p < way.to → p + way.shift < to
 
--- The way goes on to this child, from these pages of its parent to those of them that lie in the child's window.
+-- The way goes on to this child: from the pages `from` to below `to` of a node to those of them that lie in the child's
+-- window.
 pub record IsEntered (node : Node) (child : NodeId) (shift from to : ℕ) (way : Way) : Type 0 where
   pub at : way.at ≡ child
   pub shift_is : shift + node.first < 2 ^ 64 → way.shift ≡ shift + node.first
@@ -31,15 +32,17 @@ pub record IsEntered (node : Node) (child : NodeId) (shift from to : ℕ) (way :
   pub high : (p : ℕ) → way.from ≤ p → p < way.to → node.first + p < to
   pub inside : (p : ℕ) → way.from ≤ p → p < way.to → p < node.seen
 
--- Page q of v comes to page q + base of its parent h. So does the page of node e, of which the way's page is one, where it has
--- one that belongs to q; and the way's node, which is this, has no row there, where the page is below `upto`.
+-- Page q of v comes to page q + base of its parent h. If the way has a page that belongs to q, this page comes to the
+-- same page of h, through node e, the parent of the way's node. If the way's page is below `upto`, the way's node has
+-- no row there.
 pub record ComesBeside (t : Tree) (v q h list base to e : ℕ) (node : Node) (from : Option Side) (way : Way) (upto : ℕ) : Type 0 where
   pub came : CameTo t v q no_pages h list base to to
   pub beside : (p : ℕ) → q + base ≡ p + way.shift → way.from ≤ p → p < way.to → Arrives t e (node.first + p) from h (q + base)
   pub free : (p : ℕ) → q + base ≡ p + way.shift → way.from ≤ p → p < upto → t.slots node.list.0 p ≡ None
 
--- The way has come from node h, over its child on side s, to a child of node e. Each page of v from `first` on that still shows
--- a frame comes to h, and so does the way's page that belongs to it; or it is held by the node that is spared.
+-- The way has come from node h, over the child of h on side s, to a child of node e. Each page of v from `first` on
+-- that still shows a frame is held by the spared node, if one is spared, or comes to h, and so does the way's page that
+-- belongs to it.
 pub record IsBeside (arena : Arena) (old new : Rows Row) (before after : Pool) (v first : ℕ) (spared : Option NodeId) (h : ℕ) (above : Node)
     (base to : ℕ) (s : Side) (way : Way) (upto : ℕ) : Type 0 where
   pub bare : IsBare arena old new before after v first

@@ -139,7 +139,8 @@ fn is_seen_through(lists: &PageLists, side: Side, node: Node, page: PageNo, slot
     }
 }
 
-/// Whether a node sees the row of a page of its parent: the page lies in its window, and it has no row of its own there.
+/// Whether a node sees the row of a page of its parent: the page lies in its window, and it has no row of its own
+/// there.
 fn sees_row(lists: &PageLists, node: Node, page: PageNo) -> bool
     ensures { IsTrue result ↔ SeesRow (slots_of lists.now) node page }
 {
