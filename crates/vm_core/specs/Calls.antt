@@ -1,5 +1,5 @@
--- What the handlers of commands promise of the content of their store and of the tables that they are given, as they
--- begin and as they end. What else the machine has is that of any state s.
+-- What the handlers of commands promise about the content of their store and the tables that they are given. They
+-- promise it for every state s that has this content and these tables.
 use Rattle.std.specs.Prelude.{◌≡◌}
 use Rattle.vm_model.specs.declared.command.Command.{Command}
 use Rattle.vm_model.specs.declared.reply.Reply.{Reply}
@@ -23,33 +23,36 @@ pub record AreCounted (c : Content) (vmos : Vmos) (pins : Pins) : Type 0 where
   pub rest : State
   pub well : IsWellCounted vmos (with_tables rest c vmos pins)
 
--- the table of VMOs counts right what keeps each VMO beside the new pins, where it did beside the old ones
+-- if the table of VMOs counted right what keeps each VMO beside the old pins, it counts this right beside the new pins
 pub record KeepsCounts (vmos_old : Vmos) (pins_old : Pins) (vmos_new : Vmos) (pins_new : Pins) : Type 0 where
   pub counts : (s : State) → CountsKeepers vmos_old (record s { pins = pins_of pins_old })
       → CountsKeepers vmos_new (record s { pins = pins_of pins_new })
 
--- a store and a table of VMOs do a step of the machine, where it is good and its keepers are counted right, whatever else it has
+-- In a good state with its keepers counted right, a store and a table of VMOs do a step of the machine, whatever else
+-- the state has.
 pub record StepsVmos (old : Content) (vmos_old : Vmos) (command : Command) (reply : Reply)
     (new : Content) (vmos_new : Vmos) : Type 0 where
   pub step : (s : State) → IsWellCounted vmos_old (with_vmos s old vmos_old)
       → Step (with_vmos s old vmos_old) command reply (with_vmos s new vmos_new)
 
--- a store and the two tables do a step of the machine, where it is good and its keepers are counted right, whatever else it has
+-- In a good state with its keepers counted right, a store and the two tables do a step of the machine, whatever else
+-- the state has.
 pub record Steps (old : Content) (vmos_old : Vmos) (pins_old : Pins) (command : Command) (reply : Reply)
     (new : Content) (vmos_new : Vmos) (pins_new : Pins) : Type 0 where
   pub step : (s : State) → IsWellCounted vmos_old (with_tables s old vmos_old pins_old)
       → Step (with_tables s old vmos_old pins_old) command reply (with_tables s new vmos_new pins_new)
 
--- the regions and the mappings do a step of the machine, where it is good, whatever else it has
+-- in a good state, the regions and the mappings do a step of the machine, whatever else the state has
 pub record StepsSpaces (old : Spaces) (command : Command) (reply : Reply) (new : Spaces) : Type 0 where
   pub step : (s : State) → IsGoodState (record s { spaces = old }) → Step (record s { spaces = old }) command reply (record s { spaces = new })
 
--- The translations that are left are those that a command on VMOs leaves of the old ones, whatever else the machine has.
+-- The translations that are left are those that a command on VMOs leaves of the old ones, whatever else the machine
+-- has.
 pub record LeavesVmos (old : Content) (vmos_old : Vmos) (places_old : Places) (command : Command) (reply : Reply)
     (new : Content) (places_new : Places) : Type 0 where
   pub left : (s : State) → places_new ≡ left_after (with_vmos s old vmos_old) command new reply places_old
 
--- the same of a command for which also pins count
+-- the same of a command for which pins count too
 pub record LeavesTables (old : Content) (vmos_old : Vmos) (pins_old : Pins) (places_old : Places) (command : Command) (reply : Reply)
     (new : Content) (places_new : Places) : Type 0 where
   pub left : (s : State) → places_new ≡ left_after (with_tables s old vmos_old pins_old) command new reply places_old
@@ -58,8 +61,8 @@ pub record LeavesTables (old : Content) (vmos_old : Vmos) (pins_old : Pins) (pla
 pub record LeavesSpaces (spaces_old : Spaces) (places_old : Places) (command : Command) (reply : Reply) (places_new : Places) : Type 0 where
   pub left : (s : State) (new : Content) → places_new ≡ left_after (record s { spaces = spaces_old }) command new reply places_old
 
--- A store, the two tables and the translations do a command: it is a step, these translations are left, what keeps each VMO is
--- counted as before, and the name that it gives is one that there is.
+-- A store, the two tables and the translations do a command. It is a step, these translations are left, what keeps each
+-- VMO is counted right as before, and the name that it gives is one that there is.
 pub record DoesTables (old : Content) (vmos_old : Vmos) (pins_old : Pins) (places_old : Places) (command : Command) (reply : Reply)
     (new : Content) (vmos_new : Vmos) (pins_new : Pins) (places_new : Places) : Type 0 where
   pub steps : Steps old vmos_old pins_old command reply new vmos_new pins_new
@@ -84,8 +87,8 @@ pub record StepsSame (c : Content) (command : Command) (reply : Reply) : Type 0 
 abbrev pub state_with : Content → Vmos → Pins → Spaces → State
 state_with c vmos pins spaces = record (with_tables (bare_state c) c vmos pins) { spaces = spaces }
 
--- All that keeps the state does a command, with the translations: it is a step of the state, these translations are left, what
--- keeps each VMO is counted right afterwards, and the name that it gives is one that there is.
+-- All that keeps the state does a command, with the translations. It is a step of the state, these translations are
+-- left, what keeps each VMO is counted right afterwards, and the name that it gives is one that there is.
 pub record Handles (old : Content) (vmos_old : Vmos) (pins_old : Pins) (spaces_old : Spaces) (places_old : Places) (command : Command) (reply : Reply)
     (new : Content) (vmos_new : Vmos) (pins_new : Pins) (spaces_new : Spaces) (places_new : Places) : Type 0 where
   pub step : Step (state_with old vmos_old pins_old spaces_old) command reply (state_with new vmos_new pins_new spaces_new)
@@ -93,13 +96,13 @@ pub record Handles (old : Content) (vmos_old : Vmos) (pins_old : Pins) (spaces_o
   pub counted : CountsKeepers vmos_new (state_with new vmos_new pins_new spaces_new)
   pub name : GivesName command
 
--- the machine of the state s, but with this content of a store and these address spaces, whose pages are ready by these
--- translations
+-- the machine of the state s, with this content of a store and these address spaces in place of its own. Its pages are
+-- ready for what these translations say
 abbrev pub with_memory : State → Content → Spaces → Places → Machine
 with_memory s c spaces places = record { state = record s { content = c; spaces = spaces }; ready = ready_of places }
 
--- A store and translations do an access through the mappings of address spaces: it is a step of the machine, whatever else that
--- has, the name that it gives is one that there is, and the translations are true afterwards.
+-- A store and translations do an access through the mappings of address spaces. It is a step of the machine, whatever
+-- else the machine has. The name that it gives is one that there is, and the translations are true afterwards.
 pub record DoesAccess (spaces : Spaces) (old : Content) (places_old : Places) (command : Command) (reply : Reply)
     (new : Content) (places_new : Places) : Type 0 where
   pub step : (s : State) → MachineStep (with_memory s old spaces places_old) command reply (with_memory s new spaces places_new)

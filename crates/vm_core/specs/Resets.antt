@@ -1,4 +1,4 @@
--- What a command leaves of the translations, and what the calls that forget them ask for.
+-- What a command leaves of the translations, and what the calls that forget translations require.
 use Rattle.std.specs.Prelude.{◌≡◌, ℕ, ◌+◌, ◌*◌, ◌/◌, ◌<◌, ◌≤◌, Bool, true, false, length, if◌then◌else◌, Option, None, Some, IsSome}
 use Rattle.std.specs.Option.{option_map}
 use Rattle.vm_base.specs.Pages.{rounded}
@@ -30,34 +30,36 @@ without_changed c target offset len places =
     let at = target.first * PAGE + offset in
     without (is_stale c target.koid.0 (at / PAGE) (at / PAGE + length (touched at len))) places
 
--- without those of pages of its VMO past this size
+-- the translations, without those of pages of the target's VMO past this size
 abbrev pub without_past : Target → (size : ℕ) → Places → Places
 without_past target size places = without (is_of target.koid.0 (rounded size / PAGE) VMO_PAGES) places
 
--- the translation, for reading alone where it is of a page of the VMO v from `first` to below `end` that does not pass
+-- the translation, left for reading alone if it is of a page of the VMO v, from `first` to below `end`, that does not
+-- pass
 abbrev pub restricted_but : (stays : ℕ → Bool) → (v first end : ℕ) → Translation → Translation
 restricted_but stays v first end x = if shows_but stays v first end x.entry then record x { readiness = Read } else x
 
--- the translations, those of such pages for reading alone
+-- the translations, with those of such pages left for reading alone
 unfoldable pub with_read_only_but : (stays : ℕ → Bool) → (v first end : ℕ) → Places → Places
 with_read_only_but stays v first end places root p = option_map (restricted_but stays v first end) (places root p)
 
--- with those of pages that a snapshot of a part of it shows for reading alone, but for the pages that these pins cover
+-- the translations, with those of pages that a snapshot of a part of the target shows left for reading alone, except of
+-- pages that these pins cover
 abbrev pub with_shared : (ℕ → Option Pin) → Content → Target → (offset size : ℕ) → Places → Places
 with_shared pins c target offset size places =
     let first = target.first + offset / PAGE in
     with_read_only_but (is_pinned pins target.koid.0) target.koid.0 first (first + seen_pages c target (offset / PAGE) (rounded size / PAGE)) places
 
--- the same, where the child is a snapshot
+-- the same, if the child is a snapshot
 abbrev pub shared_by : ChildKind → (ℕ → Option Pin) → Content → Target → (offset size : ℕ) → Places → Places
 shared_by Snapshot pins c target offset size places = with_shared pins c target offset size places
 shared_by kind pins c target offset size places = places
 
--- without those of `count` pages of an address space from the page `first` on
+-- the translations, without those of `count` pages of an address space from the page `first` on
 abbrev pub without_pages : RegionName → (first count : ℕ) → Places → Places
 without_pages root first count places = without (is_at root.0 first (first + count)) places
 
--- what a command that nothing refuses in this state leaves, where the store contains this afterwards, and this is the reply
+-- what a command leaves, if nothing refuses it in this state, the store contains this afterwards, and this is the reply
 abbrev pub left_by : State → Command → Content → Reply → Places → Places
 left_by s (VmoChild name parent kind offset size resizable no_write) c reply places = shared_by kind s.pins c (target_of s parent.0) offset size places
 left_by s (VmoSetSize name size) c reply places = without_past (target_of s name.0) size places
@@ -76,7 +78,7 @@ left_by s (VmarDestroy region) c reply places =
     without_pages dying.root dying.first dying.count places
 left_by s command c reply places = places
 
--- what is left, but all of it with a refusal
+-- what is left. A refused command leaves all of it
 abbrev pub unless_refused : Reply → (left places : Places) → Places
 unless_refused (Refused refusal) left places = places
 unless_refused reply left places = left
@@ -91,20 +93,20 @@ IsNoAccess (MemRead region addr len) = ⊥
 IsNoAccess (MemWrite region addr bytes) = ⊥
 IsNoAccess command = Unit {0}
 
--- The answer is the first page from `from` to below `end` that passes. Where it is None, none does.
+-- The answer is the first page from `from` to below `end` that passes. If it is None, none does.
 pub record IsFirstBelow (passes : ℕ → Bool) (from end : ℕ) (answer : Option ℕ) : Type 0 where
   pub none : answer ≡ None → (p : ℕ) → from ≤ p → p < end → passes p ≡ false
   pub least : (p : ℕ) → answer ≡ Some p → (from ≤ p) × (p < end) × (passes p ≡ true) × ((q : ℕ) → from ≤ q → q < p → passes q ≡ false)
 
 -- ---- what is asked for
 
--- A range of a name lies in its VMO, which has no more pages than one may have.
+-- A range of a name lies in the name's VMO, which has at most VMO_PAGES pages.
 pub record IsReached (c : Content) (target : Target) (offset len : ℕ) : Type 0 where
   pub vmo : IsSome (c.count target.koid.0)
   pub inside : target.first * PAGE + offset + len ≤ pages_of c target.koid.0 * PAGE
   pub few : pages_of c target.koid.0 ≤ VMO_PAGES
 
--- A name lies in its VMO, and a snapshot of so many bytes of it has no more pages than a VMO may have.
+-- A name lies in its VMO, and the offset and the rounded size of a snapshot of it are together at most VMO_PAGES pages.
 pub record IsShared (c : Content) (target : Target) (offset size : ℕ) : Type 0 where
   pub inside : IsInside c target
   pub few : target.first + name_pages c target ≤ VMO_PAGES

@@ -40,7 +40,7 @@ state_of c vm = with_parts (bare_state c) c vm
 abbrev pub machine_of : Content → Parts → Machine
 machine_of c vm = record { state = state_of c vm; ready = ready_of (places_of vm.translations) }
 
--- a machine with this content, and without names, lineage, pins and regions, of which no page is ready
+-- a machine with this content, and without names, lineage, pins, regions and ready pages
 abbrev pub bare_machine : Content → Machine
 bare_machine c = record { state = bare_state c; ready = λ root p. None }
 

@@ -9,7 +9,8 @@ use Rattle.vm_core.specs.Vm.{Parts, state_of}
 abbrev pub parts_of : Inside → Parts
 parts_of a = record { vmos = a.vmos; pins = a.pins; regions = a.regions; maps = a.maps; translations = a.translations }
 
--- What keeps each VMO is counted in the table of VMOs, and the live children of each region are noted in the set of mappings.
+-- What keeps each VMO is counted in the table of VMOs, and the live children of each region are noted in the set of
+-- mappings.
 pub record IsCounted (a : Inside) : Type 0 where
   pub counted : CountsKeepers a.vmos (state_of nothing (parts_of a))
   pub noted : AreNoted (regions_of a.regions) (places_of a.maps)

@@ -1,5 +1,5 @@
-//! The commands on regions: `root_create`, `vmar_allocate`, `vmar_destroy`. Each clause `name` hands up the range of the
-//! name's number, which the caller has behind a reference.
+//! The commands on regions: `root_create`, `vmar_allocate`, `vmar_destroy`. Each clause `name` hands up the range of
+//! the name's number, which the caller has behind a reference.
 
 ghost use Rattle.std.specs.Prelude.{◌≡◌, ◌<◌};
 ghost use Rattle.vm_base.specs.declared.limits.TheConstants.{NAMES};
