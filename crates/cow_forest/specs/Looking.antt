@@ -8,7 +8,7 @@ use Rattle.page_list.specs.declared.row.Slot.TheVariants as slot
 use Rattle.cow_arena.specs.Walk.{Tree, frame_at}
 use Rattle.cow_split.specs.Sight.{IsLastViewer}
 
--- page p of node v is zero, or shows this frame, alone where the answer says so
+-- page p of node v is zero, or shows this frame, and shows it alone if the answer says so
 abbrev pub IsLook : Tree → (v p : ℕ) → Look → Type 0
 IsLook t v p look.Zero = frame_at t v p ≡ None
 IsLook t v p (look.Held tag sole) = (frame_at t v p ≡ Some tag.0) × ((sole ≡ true) ↔ IsLastViewer t v tag.0)
@@ -31,6 +31,6 @@ pub record IsNextBelow (rows : ℕ → Option Slot) (from to : ℕ) (answer : Op
   pub found : (row : ℕ) → answer ≡ Some row → (from ≤ row) × (row < to)
   pub free : (page : ℕ) → from ≤ page → page < unwrap_or answer to → rows page ≡ None
 
--- the page that comes to this row, `shift` pages further on, or else the best page so far
+-- the page that comes to this row, which is `shift` pages further on. If there is no row, the best page so far
 abbrev pub nearer_page : (best row : Option ℕ) → (shift : ℕ) → Option ℕ
 nearer_page best row shift = option_or (option_map (λ (page : ℕ). page - shift) row) best

@@ -23,7 +23,7 @@ abbrev pub tag_in : Slot → Option Tag
 tag_in (slot.Frame tag left right) = Some tag
 tag_in slot.Zero = None
 
--- the frame of the row that holds a page, where the row is the page's own
+-- the frame of the row that holds a page, if the row is the page's own
 abbrev pub own_frame : Holder → Option Tag
 own_frame (holder.Own row) = tag_in row
 own_frame (holder.Above node page side row) = None
@@ -34,8 +34,9 @@ abbrev pub HasOwnRow : (arena : Arena) → Rows Row → (v p tag : ℕ) → Type
 HasOwnRow arena rows v p tag = (node : Node) → nodes_of arena v ≡ Some node →
     slots_of rows node.list.0 p ≡ Some (slot.Frame (record { 0 = tag }) false false)
 
--- Page p of the visible node v shows the frame of this tag, and no other VMO does. A frame that v alone showed stays; else
--- a free frame is taken, with the bytes that the page showed. With room for a row, the page has a row of its own then.
+-- Page p of the visible node v shows the frame of this tag, and no other VMO does. A frame that v alone showed is kept.
+-- Otherwise a free frame is taken, with the bytes that the page showed. If there was room for a row, the page has a row
+-- of its own.
 pub record HasOwned (arena : Arena) (old new : Rows Row) (before after : Pool) (v p tag : ℕ) : Type 0 where
   pub exact : IsExact (tree_of arena new) all_in_sight (is_taken after)
   pub linked : AreLinked new after

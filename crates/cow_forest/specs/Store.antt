@@ -16,8 +16,8 @@ use Rattle.cow_split.specs.Exact.{IsExact, all_in_sight}
 use Rattle.cow_merge.specs.Ranges.{AreLinked}
 use Rattle.cow_forest.specs.Tables.{NodeEntries, node_in}
 
--- the nodes, the rows of their lists, the page frames, the nodes by koid and by list, the next koid, and how many VMOs there
--- are
+-- the nodes, the rows of their lists, the page frames, the nodes by koid and by list, the next koid, and how many VMOs
+-- there are
 pub record Forest : Type 0 where
   pub arena : Arena
   pub rows : Rows Row
@@ -52,7 +52,7 @@ abbrev pub page_showing : Pool → Option ℕ → Option Page
 page_showing pool None = None
 page_showing pool (Some t) = Some (page_with pool t)
 
--- A VMO has the pages of its node. A page is held where the walk from there ends at a row with a frame.
+-- A VMO has the pages of its node. A page is held if the walk from there ends at a row with a frame.
 abbrev pub content_of : Forest → Content
 content_of f = record {
   frames = f.pool.frames;

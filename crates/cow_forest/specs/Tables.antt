@@ -14,7 +14,7 @@ pub record NodeEntries : Type 0 where
   pub displaced : List (ℕ × NodeId)
   pub spare : ℕ
 
--- the node of the number n, where this entry is its own
+-- the node of the number n, if this entry is the number's
 abbrev pub own_node : Option (ℕ × NodeId) → ℕ → Option NodeId
 own_node None n = None
 own_node (Some e) n = cond (n == e.0) (Some e.1) None
@@ -28,7 +28,7 @@ unless_own (Some e) n = cond (n == e.0) None (Some e)
 unfoldable pub displaced_in : List (ℕ × NodeId) → ℕ → Option NodeId
 displaced_in entries n = lookup (λ (number : ℕ). n == number) entries
 
--- the node of a number: of its entry in the array, at the number's place, or else in the map
+-- the node of a number: in its entry in the array, at the number's place, or if there is none, in the map
 unfoldable pub node_in : NodeEntries → ℕ → Option NodeId
 node_in e n = option_or (own_node (slice_index_or e.recent (n % PLACES) None) n) (displaced_in e.displaced n)
 
@@ -36,7 +36,8 @@ node_in e n = option_or (own_node (slice_index_or e.recent (n % PLACES) None) n)
 pub record IsDisowned (nodes : Nodes) (old new : ℕ → Option NodeId) (v : ℕ) : Type 0 where
   pub kept : (k : ℕ) (node : Node) → nodes k ≡ Some node → k ≢ v → (IsChild nodes k v → ⊥) → new node.list.0 ≡ old node.list.0
 
--- node s is the other child of the parent of node v; `above` is the list of the parent, which leads to node s now, and `own` its own
+-- node s is the other child of the parent of node v; `above` is the list of the parent, which now leads to s, and `own`
+-- is the list of s
 pub record AreMerged (nodes : Nodes) (now : ℕ → Option NodeId) (v s above own : ℕ) : Type 0 where
   pub h : ℕ
   pub child : IsChild nodes h v

@@ -144,8 +144,8 @@ fn unless_own(entry: Option<(u64, NodeId)>, number: u64) -> Option<(u64, NodeId)
     }
 }
 
-/// Puts the entry that stands at the place of a number among the displaced ones, unless it is the number's own. There is
-/// room for it.
+/// Puts the entry that stands at the place of a number among the displaced ones, unless it is the number's own. There
+/// is room for it.
 #[inline(always)]
 fn displace(displaced: &mut HashMap<u64, NodeId>, entry: Option<(u64, NodeId)>, number: u64)
     requires { 1 ≤ spare displaced.old }
