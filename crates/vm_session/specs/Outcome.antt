@@ -1,5 +1,5 @@
 -- How a run ends, over the bytes that a source gave, the bytes that a sink took, and what a store contains. What a
--- source has left and what a sink took are known where these tell them.
+-- source has left and what a sink took are known if the source and the sink tell their bytes.
 use Rattle.std.specs.Prelude.{◌≡◌, ℕ, ◌+◌, ◌-◌, ◌^◌, ◌<◌, ◌≤◌, ◌⊎◌, ◌&&◌, nat_le, Bool, List, [], ◌∷◌, ◌++◌, length, take, map, codes, nat_eq, if◌then◌else◌, Option, None, Some, option_map, Result, slice_get, MatchResult}
 use Rattle.std.specs.Cmp.Lexicographic.{pointwise}
 use Rattle.std.specs.Io.KnownBytes.{Appends, Consumes, IsAtEnd}
@@ -95,8 +95,8 @@ pub record AnswersLine {T E : Type 0} (line : List ℕ) (old new : Machine) (sin
   pub gives : Gives line old replies new
   pub written : SinkTakes result sink_old sink_new (texts replies)
 
--- The lines were answered as on a machine with this many frames, their replies were written, and the store has what the
--- machine has in the end, which is a good state.
+-- The lines were answered as on a machine with this many frames, and their replies were written. The store has what the
+-- machine has in the end, and this machine is good.
 pub record AnswersAll (frames : ℕ) (lines : List (List ℕ)) (sink_old sink_new : Option (List ℕ))
     (content : Content) : Type 0 where
   pub out : List ℕ
@@ -106,8 +106,8 @@ pub record AnswersAll (frames : ℕ) (lines : List (List ℕ)) (sink_old sink_ne
   pub written : Appends sink_old sink_new out
   pub store : content ≡ last.state.content
 
--- Some of the lines were answered and their replies written. One line more was done, and only a part of its replies was
--- written. The store has what the machine has then, which is a good state.
+-- Some of the lines were answered, and their replies were written. One line more was done, and only a part of its
+-- replies was written. The store has what the machine has then, and this machine is good.
 pub record AnswersPart (frames : ℕ) (lines : List (List ℕ)) (sink_old sink_new : Option (List ℕ))
     (content : Content) : Type 0 where
   pub answered : ℕ
@@ -187,8 +187,8 @@ EndsAs Usage frames limit source_old source_new sink_old sink_new content = ⊥
 
 -- ---- how a workload ends
 
--- Nothing was read. The workload was done and is told by a line, this was written of the line, and the store has what the
--- machine has in the end, which is a good state.
+-- Nothing was read. The workload was done and is told by a line, and this much of the line was written. The store has
+-- what the machine has in the end, and this machine is good.
 pub record Works (Written : List ℕ → Type 0) (frames number count : ℕ) (source_old source_new : Option (List ℕ))
     (content : Content) : Type 0 where
   pub read : source_new ≡ source_old

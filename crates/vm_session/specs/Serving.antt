@@ -50,8 +50,8 @@ pub record IsReady (reader : Reader) (remaining : Option (List ℕ)) (next : ℕ
 abbrev pub bytes_left : Reader → ℕ
 bytes_left reader = (reader.limit + 1 - reader.taken) + (reader.dropped + length reader.held)
 
--- From old, whatever was pending, one fetch led to new. A call that says this uses up one line at most, and so its
--- replies are written before the next line is looked at.
+-- From old, whatever was pending, one fetch led to new. A call that promises this uses up one line at most, so the
+-- line's replies are written before the next line is looked at.
 abbrev pub FetchesOnce : Reader → Reader → Option (List ℕ) → Option (List ℕ) → Type 0
 FetchesOnce old new source_old source_new = (pending : List ℕ) → IsPending old source_old pending
     → (answer : Fetch) × Fetches old new source_old source_new pending answer

@@ -6,7 +6,7 @@ use Rattle.vm_model.specs.Machine.Machine.{Machine}
 use Rattle.vm_model.specs.Scripts.Workload.{workload, StepsThrough, is_success, is_refusal, is_lack, count_of}
 use Rattle.vm_session.specs.declared.tally.Tally.{Tally}
 
--- one more, where the bit is set
+-- one more, if the bit is set
 abbrev pub more : Bool → ℕ → ℕ
 more bit n = cond bit (n + 1) n
 
@@ -24,14 +24,15 @@ pub record Counts (tally : Tally) (later replies : List Reply) : Type 0 where
   pub refused : count_of is_refusal replies ≡ tally.refused + count_of is_refusal later
   pub host : count_of is_lack replies ≡ tally.host + count_of is_lack later
 
--- From start, so many commands of a workload may have these replies later, which lead to last, and before them those that were
--- counted.
+-- From start, so many commands of a workload may have these later replies, which lead to last, behind the replies that
+-- were counted.
 pub record StepsOn (start : Machine) (number count : ℕ) (tally : Tally) (later : List Reply) (last : Machine) : Type 0 where
   pub replies : List Reply
   pub steps : StepsThrough start (workload number count) replies last
   pub counts : Counts tally later replies
 
--- Of a workload so many commands are left to do, from a number. Whatever they lead to, it is what the whole workload leads to.
+-- So many commands of a workload are left to do, from a number. Whatever they lead to is what the whole workload leads
+-- to.
 pub record IsUnderWay (start : Machine) (number count : ℕ) (tally : Tally) (now : Machine) (from left : ℕ) : Type 0 where
   pub each : (later : List Reply) (last : Machine) → StepsThrough now (workload from left) later last
       → StepsOn start number count tally later last
