@@ -1,5 +1,5 @@
-//! The call that the program makes, at the types that it makes it with: its words, its replies, and the clone tree that it
-//! leaves. What scripts do is checked by `checks`.
+//! The call that the program makes, at the types that it makes it with: its words, its replies, and the clone tree that
+//! it leaves. What scripts do is checked by `checks`.
 
 use crate::top::top;
 use cow_forest::CowForest;
