@@ -48,7 +48,7 @@ mod trees;
 mod unmapping;
 mod words;
 
-/// Fails where the clone tree has not the counts that are wanted.
+/// Fails if the clone tree has not the counts that are wanted.
 fn compare_counts(alloc: Global, wanted: &str, counts: Counts) -> Result<(), Fault> {
     let Counts {
         hidden,

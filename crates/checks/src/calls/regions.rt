@@ -40,7 +40,7 @@ fn is_live_region(regions: &Regions, region: RegionName) -> bool
     }
 }
 
-/// Allocates a region where that is allowed.
+/// Allocates a region if that is allowed.
 #[tactic(auto, unfolding(vm_model::specs::Space::Regions::region_of))]
 fn add(regions: &mut Regions, name: u32, parent: u32, first: u32, count: u32) -> Result<(), Fault> {
     let (name, parent) = (RegionName(name), RegionName(parent));

@@ -1,5 +1,5 @@
-//! Runs that end early: sources and sinks that fail, and scripts that are longer than their limit. How a run ends is told by
-//! its status and the bytes that were written, with `|` for a line feed.
+//! Runs that end early: sources and sinks that fail, and scripts that are longer than their limit. How a run ends is
+//! told by its status and the bytes that were written, with `|` for a line feed.
 
 use super::reading::words_of;
 use super::runs::{Pieces, Way, compare, run_both};
@@ -16,7 +16,7 @@ const PIECES: Pieces = Pieces {
     pushed: 4,
 };
 
-/// Fails where a run does not end as it is told: by its status and, behind a blank, the bytes that were written.
+/// Fails if a run does not end as told: by its status and, behind a blank, the bytes that were written.
 fn check_end(alloc: Global, way: Way<'_>, script: &str, wanted: &str) -> Result<(), Fault> {
     let (end, _) = run_both(alloc, way, script.as_bytes())?;
     let (status, written) = (end.status, end.written.replace(alloc, '\n', "|")?);
@@ -38,7 +38,7 @@ fn failing_calls(call: &str) -> Option<(u64, u64)> {
     }
 }
 
-/// Checks how the run of a script ends where a call fails, told as `CALL: END`.
+/// Checks how the run of a script ends if a call fails, told as `CALL: END`.
 fn check_failing(alloc: Global, words: &[String], script: &str, line: &str) -> Result<(), Fault> {
     let Some((call, end)) = line.split_once(": ") else {
         return Err(Fault::NoForm);
@@ -94,7 +94,7 @@ none: Done OK|OK|OK 00aabb0000|
     )
 }
 
-/// A last piece without a line feed is a line where the script ends behind it, and none where the next pull fails.
+/// A last piece without a line feed is a line if the script ends behind it, and none if the next pull fails.
 #[test]
 fn a_last_piece_is_a_line_at_the_end_alone(rt: HostRuntime) -> Result<(), Fail> {
     check_ends(
@@ -140,8 +140,8 @@ fn check_limited(alloc: Global, line: &str) -> Result<(), Fault> {
     check_end(alloc, Way::Limited, script.as_str(), end)
 }
 
-/// Scripts and how they end. A line whose line feed lies within the limit is answered, and a last piece only where the script
-/// ends too.
+/// Scripts and how they end. A line whose line feed lies within the limit is answered, and a last piece only if the
+/// script ends too.
 const LIMITED: &str = "\
 stat|stat|: Done OK frames=1 used=0 free=1 vmos=0|OK frames=1 used=0 free=1 vmos=0|
 stat|stat|x: ScriptLimit OK frames=1 used=0 free=1 vmos=0|OK frames=1 used=0 free=1 vmos=0|

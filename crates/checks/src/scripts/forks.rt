@@ -7,8 +7,8 @@ use super::{check, compare_counts};
 use std::alloc::Global;
 use std::test::Fail;
 
-/// The frame that is shared goes to the last that shows it. A row that says zero is there below a frame that another VMO
-/// shows, and not where no row is above.
+/// The frame that is shared goes to the last VMO that shows it. A row that says zero stands below a frame that another
+/// VMO shows. If no row is above, there is none.
 #[test]
 fn rows_go_with_those_that_see_them(rt: HostRuntime) -> Result<(), Fail> {
     check(

@@ -1,5 +1,5 @@
-//! Mappings of VMOs in regions: where they are placed, and the runs of pages that `maps` tells. Where several places fit, that
-//! the lowest is taken is this program's choice.
+//! Mappings of VMOs in regions: where they are placed, and the runs of pages that `maps` tells. If several places fit,
+//! it is this program's choice that the lowest is taken.
 
 use super::check;
 use std::test::Fail;

@@ -11,7 +11,7 @@ use vm_session::Status;
 /// How many pulls and pushes fail, one in each run. The script takes more of both.
 const CALLS: u64 = 40;
 
-/// How many bytes come and go in a piece where a call fails.
+/// How many bytes come and go in a piece if a call fails.
 const PIECE: usize = 7;
 
 /// The script of the loader.
@@ -22,7 +22,7 @@ fn loader(alloc: Global) -> Result<Script, Fault> {
     }
 }
 
-/// What is written where the pull and the push with these numbers fail, and how the run ends. No call has the number 0.
+/// What is written if the pull and the push with these numbers fail, and how the run ends. No call has the number 0.
 fn written_in_pieces(
     alloc: Global,
     script: &Script,
@@ -57,13 +57,13 @@ fn whole_lines(text: &str) -> usize {
     text.matches('\n').count()
 }
 
-/// How many bytes come or go before a call, where each call before moves a whole piece.
+/// How many bytes come or go before a call, if each call before moves a whole piece.
 fn bytes_before(call: u64) -> usize {
     PIECE.saturating_mul(call.saturating_sub(1) as usize)
 }
 
-/// Checks a run whose pull with this number fails: the lines that were given whole are answered, each by one line here, and
-/// nothing else.
+/// Checks a run whose pull with this number fails: the lines that were given whole are answered, each by one line here,
+/// and nothing else.
 fn check_pull(alloc: Global, script: &Script, call: u64) -> Result<(), Fault> {
     let (status, written) = written_in_pieces(alloc, script, PIECE, call, 0)?;
     let Some(given) = script.lines.get(..bytes_before(call)) else {
@@ -80,7 +80,8 @@ fn check_pull(alloc: Global, script: &Script, call: u64) -> Result<(), Fault> {
     }
 }
 
-/// Checks a run whose push with this number fails: a front part of the replies is written, by the pushes before, and not all.
+/// Checks a run whose push with this number fails: a front part of the replies is written, by the pushes before, and
+/// not all.
 fn check_push(alloc: Global, script: &Script, call: u64) -> Result<(), Fault> {
     let (status, written) = written_in_pieces(alloc, script, PIECE, 0, call)?;
     let is_front = script.replies.starts_with(written.as_str());

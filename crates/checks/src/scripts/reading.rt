@@ -18,7 +18,7 @@ pub(crate) struct Script {
     pub(crate) words: Vec<String>,
     pub(crate) lines: String,
     pub(crate) replies: String,
-    /// The counts of the clone tree. Empty where the text does not tell them.
+    /// The counts of the clone tree. It is empty if the text does not tell them.
     pub(crate) counts: String,
 }
 

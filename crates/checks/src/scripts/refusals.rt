@@ -1,4 +1,4 @@
-//! Scripts where one call of the store finds no memory of the host: each number of a call in turn.
+//! Scripts in which one call of the store finds no memory of the host: each number of a call in turn.
 
 use super::accesses::LOADER;
 use super::pins::PINS;
@@ -14,7 +14,7 @@ use std::test::Fail;
 /// How many calls are refused, one in each run. No script makes more.
 const CALLS: u64 = 60;
 
-/// Checks that a script is answered as ever where this call finds no memory, and what it was made for is asked again.
+/// Checks that a script is answered as ever if this call finds no memory and what the call was made for is asked again.
 fn check_refused(alloc: Global, script: &Script, call: u64) -> Result<(), Fault> {
     let (words, lines) = (script.words.as_slice(), script.lines.as_str());
     let (written, calls) = stepped_refusing(alloc, words, lines, call)?;
@@ -36,8 +36,8 @@ fn check_each_refused(alloc: Global, text: &str) -> Result<(), Fault> {
     Ok(())
 }
 
-/// A command that found no memory changed nothing: given once more, it has the reply that it has with memory, and so have
-/// all others.
+/// A command that found no memory changed nothing: given once more, it has the reply that it has with memory, and so
+/// have all others.
 #[test]
 fn each_call_of_the_store_may_find_no_memory(rt: HostRuntime) -> Result<(), Fail> {
     for text in [SHARED, SHRUNK, PINS, LOADER] {

@@ -1,4 +1,4 @@
-//! Regions of address spaces. Where several places fit, that the lowest is taken is this program's choice.
+//! Regions of address spaces. If several places fit, it is this program's choice that the lowest is taken.
 
 use super::check;
 use std::test::Fail;

@@ -13,7 +13,7 @@ use vm_session::{Status, run, serve};
 /// The room of a sink that is never full here, in bytes.
 const ROOM: usize = 2_097_152;
 
-/// How many bytes a source gives a call at most, and how many a sink takes: 1 where 0 is told.
+/// How many bytes a source gives a call at most, and how many a sink takes. A 0 is taken for 1.
 #[derive(Clone, Copy)]
 pub(crate) struct Pieces {
     pub(crate) pulled: usize,
@@ -25,8 +25,8 @@ pub(crate) struct Pieces {
 pub(crate) enum Way<'a> {
     /// Under these words of the command line. No call fails.
     Sure(&'a [String]),
-    /// Under these words, from a source that gives pieces of at most so many bytes to a sink that takes such. The pull and
-    /// the push with these numbers fail, both counted from 1.
+    /// Under these words, from a source that gives pieces of at most so many bytes to a sink that takes such. The pull
+    /// and the push with these numbers fail, both counted from 1.
     Failing {
         words: &'a [String],
         pieces: Pieces,
@@ -63,7 +63,7 @@ fn end_of(alloc: Global, status: Status, sink: &MemSink) -> Result<End, Fault> {
     Ok(End { status, written })
 }
 
-/// Runs a script where no call fails.
+/// Runs a script in which no call fails.
 fn run_sure<P: PageStore>(
     alloc: Global,
     words: &[String],
@@ -80,7 +80,7 @@ fn run_sure<P: PageStore>(
     end_of(alloc, status, &sink)
 }
 
-/// Runs a script where a pull and a push fail.
+/// Runs a script in which a pull and a push fail.
 fn run_failing<P: PageStore>(
     alloc: Global,
     words: &[String],
@@ -139,7 +139,7 @@ fn run_over<P: PageStore>(
 fn run_over_plain(alloc: Global, way: Way<'_>, script: &[u8]) -> Result<End, Fault> {
     let mut store = FlatStore::new(alloc);
     let end = run_over(alloc, way, script, &mut store);
-    // By one call, here and below: at the end of a body the store would be let go, and that proved, part by part.
+    // By one call, here and below: at the end of a body the store would be dropped part by part, each with a proof.
     drop(store);
     end
 }
@@ -159,7 +159,7 @@ fn run_over_tree(alloc: Global, way: Way<'_>, script: &[u8]) -> (Result<End, Fau
     (end, counts)
 }
 
-/// Fails where lines that were written are not those that are wanted.
+/// Fails if the lines that were written are not those that are wanted.
 pub(crate) fn compare(alloc: Global, wanted: &str, written: &str) -> Result<(), Fault> {
     if wanted == written {
         return Ok(());
@@ -186,7 +186,8 @@ pub(crate) fn run_both(alloc: Global, way: Way<'_>, script: &[u8]) -> Result<(En
     Ok((by_tree, counts))
 }
 
-/// Runs a script, or a workload, to its end over both stores. Answers what is written, and the counts of the clone tree.
+/// Runs a script, or a workload, to its end over both stores. Answers what is written, and the counts of the clone
+/// tree.
 pub(crate) fn written(
     alloc: Global,
     words: &[String],

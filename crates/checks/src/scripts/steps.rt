@@ -26,7 +26,7 @@ enum Asking {
     Twice,
 }
 
-/// How many page frames the words of a command line give to a script. `None` where they run none.
+/// How many page frames the words of a command line give to a script. `None` if they run none.
 fn frames_for(words: &[String]) -> Option<u32> {
     match words {
         [verb] if verb.as_str() == "run" => Some(1024),
@@ -48,7 +48,8 @@ fn add_reply(written: &mut String, reply: &Reply) -> Result<(), Fault> {
     Ok(())
 }
 
-/// Answers a command by a step of the machine, and by another one where the first finds no memory and two are asked for.
+/// Answers a command by a step of the machine. If the step finds no memory and two are asked for, answers it by
+/// another.
 fn reply_to<P: PageStore>(store: &mut P, vm: &mut Vm, command: &Command, asking: Asking) -> Reply
     requires agrees { Agrees (P.content store.old) vm.old }
     requires next { (P.content store.old).next + 1 < KOIDS }
@@ -107,7 +108,7 @@ fn step_through<P: PageStore>(
     Ok(())
 }
 
-/// Gives a store its page frames, and asks again where it finds no memory and is to be asked twice.
+/// Gives a store its page frames. If it finds no memory and is to be asked twice, asks it again.
 fn fill<P: PageStore>(store: &mut P, frames: u32, asking: Asking) -> Result<(), HostMemory>
     requires empty { P.content store.old ≡ nothing }
     requires frames { (1 ≤ frames) × (frames ≤ FRAMES) }
@@ -119,7 +120,7 @@ fn fill<P: PageStore>(store: &mut P, frames: u32, asking: Asking) -> Result<(), 
     }
 }
 
-/// What is written where a machine over this store, with so many page frames, steps through a script.
+/// What is written if a machine over this store, with `frames` page frames, steps through a script.
 fn stepped_over<P: PageStore>(
     alloc: Global,
     frames: u32,
@@ -143,7 +144,7 @@ fn stepped_over<P: PageStore>(
     Ok(written)
 }
 
-/// What is written where a machine over the clone tree steps through a script. `None` where the words run none.
+/// What is written if a machine over the clone tree steps through a script. `None` if the words run none.
 pub(crate) fn stepped(
     alloc: Global,
     words: &[String],
@@ -158,9 +159,9 @@ pub(crate) fn stepped(
     Ok(Some(written?))
 }
 
-/// What is written where a machine over the clone tree steps through a script, and the call of the tree with this number
-/// finds no memory; and how many calls there were. Each command that finds none is given once more, and so is the call that
-/// gives the tree its frames.
+/// What is written if a machine over the clone tree steps through a script, and the call of the tree with this number
+/// finds no memory. Answers also how many calls there were. Each command that finds no memory is given once more, and
+/// so is the call that gives the tree its frames.
 pub(crate) fn stepped_refusing(
     alloc: Global,
     words: &[String],

@@ -23,7 +23,7 @@ fn other_texts_fail(rt: HostRuntime) -> Result<(), Fail> {
     Ok(())
 }
 
-/// A text fails where a reply is missing, is one too many or differs by a digit, in its last script too.
+/// A text fails if a reply is missing, is one too many or differs by a digit, in its last script too.
 #[test]
 fn other_replies_fail(rt: HostRuntime) -> Result<(), Fail> {
     for text in [

@@ -96,8 +96,8 @@ tree hidden=1 rows=2 frame_rows=2
 }
 
 /// How a family is made and closed. It has 100 VMOs of 16 pages, each of which is a snapshot of the one whose number is
-/// `branch` times less (of the first, where `branch` is 0), and writes a page of its own. They are closed one after another,
-/// `step` numbers on from `first`.
+/// `branch` times less (of the first, where `branch` is 0), and writes a page of its own. They are closed one after
+/// another, `step` numbers on from `first`.
 #[derive(Clone, Copy)]
 struct Family {
     branch: u64,
