@@ -18,9 +18,12 @@ use vm_base::{Koid, PAGE, Refusal};
 use vmo_table::Target;
 
 /// Gives each page that a range touches a frame of its own, with the bytes that the page shows (`ZX_VMO_OP_COMMIT`).
-/// The range is `len` bytes from `offset` bytes into the name on. Refusals, in their order: `AccessDenied` if the name
-/// may not write, `OutOfRange` if the range passes the name's end, `NoMemory` if the pages that are not sole are more
-/// than the free frames, `HostMemory` only if there is such a page.
+/// The range is `len` bytes from `offset` bytes into the name on. Refusals, in their order:
+///
+/// - `AccessDenied` if the name may not write;
+/// - `OutOfRange` if the range passes the name's end;
+/// - `NoMemory` if the pages that are not sole are more than the free frames;
+/// - `HostMemory`, only if some of these pages is not sole.
 pub fn commit<P: PageStore>(store: &mut P, t: &Target, offset: u64, len: u64) -> Result<(), Refusal>
     requires good { IsGood (P.content store.old) }
     requires inside { IsInside (P.content store.old) t.now }

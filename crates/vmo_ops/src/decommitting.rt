@@ -23,10 +23,14 @@ use vm_base::{Koid, PAGE, Refusal, in_page, page_of};
 use vmo_table::{Target, VmoTable};
 
 /// Makes the pages of a range zero and gives their frames back (`ZX_VMO_OP_DECOMMIT`). The range is `len` bytes from
-/// `offset` bytes into the name on, both whole pages. Refusals, in their order: `AccessDenied` if the name may not
-/// write, `InvalidArgs` if `offset` or `len` is not a multiple of the page size, `NotSupported` if the VMO is a
-/// snapshot, has a VMO as child, or has a reference, `OutOfRange` if the range passes the name's end, `BadState` if a
-/// page of the range is pinned, `HostMemory` only if a page of the range is held.
+/// `offset` bytes into the name on, both whole pages. Refusals, in their order:
+///
+/// - `AccessDenied` if the name may not write;
+/// - `InvalidArgs` if `offset` or `len` is not a multiple of the page size;
+/// - `NotSupported` if the VMO is a snapshot, has a VMO as child, or has a reference;
+/// - `OutOfRange` if the range passes the name's end;
+/// - `BadState` if a page of the range is pinned;
+/// - `HostMemory`, only if a page of the range is held.
 pub fn decommit<P: PageStore>(
     store: &mut P,
     vmos: &VmoTable,

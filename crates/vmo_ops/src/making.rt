@@ -14,7 +14,10 @@ use vmo_table::{Origin, VmoTable};
 
 /// Makes a VMO of zero pages (`zx_vmo_create`), lets a name that is not open stand for it, and answers its koid. The
 /// VMO has `size` bytes, rounded up to whole pages. The name may write to the VMO, and may resize it if and only if the
-/// VMO is resizable. Refusals, in their order: `OutOfRange` if the size is over `VMO_PAGES` pages, `HostMemory`.
+/// VMO is resizable. Refusals, in their order:
+///
+/// - `OutOfRange` if the size is over `VMO_PAGES` pages;
+/// - `HostMemory`.
 pub fn create<P: PageStore>(
     store: &mut P,
     vmos: &mut VmoTable,

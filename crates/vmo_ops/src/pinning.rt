@@ -33,9 +33,12 @@ const PIN_BYTES: u64 = PIN_PAGES as u64 * PAGE;
 /// Pins the pages of a range under the name of a pin that is not there (`zx_bti_pin`). The range is `len` bytes from
 /// `offset` bytes into the name on, both whole pages, from 1 to `PIN_PAGES` of them. Each page is owned, and keeps its
 /// frame as long as the pin is there. Answers the frames in ascending order of the pages. Refusals, in their order:
-/// `InvalidArgs` if `offset` or `len` is not a multiple of the page size, or `len` is 0 or more than `PIN_PAGES` pages,
-/// `OutOfRange` if the range passes the name's end, `NoMemory` if the pages that are not sole are more than the free
-/// frames, `HostMemory`.
+///
+/// - `InvalidArgs` if `offset` or `len` is not a multiple of the page size, or `len` is 0 or more than `PIN_PAGES`
+///   pages;
+/// - `OutOfRange` if the range passes the name's end;
+/// - `NoMemory` if the pages that are not sole are more than the free frames;
+/// - `HostMemory`.
 pub fn pin<P: PageStore>(
     store: &mut P,
     vmos: &mut VmoTable,

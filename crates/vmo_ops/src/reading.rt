@@ -15,8 +15,11 @@ use vm_base::{DATA_BYTES, Koid, PAGE, PageNo, Refusal};
 use vm_model::{Bytes4k, LentBytes};
 use vmo_table::Target;
 
-/// Reads `len` bytes from `offset` bytes into the name on (`zx_vmo_read`). Refusals, in their order: `InvalidArgs` if
-/// `len` is over `DATA_BYTES`, `OutOfRange` if the range passes the name's end. The call never wants memory.
+/// Reads `len` bytes from `offset` bytes into the name on (`zx_vmo_read`). The call never wants memory. Refusals, in
+/// their order:
+///
+/// - `InvalidArgs` if `len` is over `DATA_BYTES`;
+/// - `OutOfRange` if the range passes the name's end.
 pub fn read<P: PageStore>(store: &P, t: &Target, offset: u64, len: u64) -> Result<Bytes4k, Refusal>
     requires good { IsGood (P.content store.now) }
     requires inside { IsInside (P.content store.now) t.now }

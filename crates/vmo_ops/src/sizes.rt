@@ -16,9 +16,12 @@ use vm_base::{Koid, PAGE, PageNo, Refusal, VMO_PAGES, page_of, round_up};
 use vmo_table::Target;
 
 /// Changes the size of a VMO to `size` bytes, rounded up to whole pages (`zx_vmo_set_size`). Pages past the new end are
-/// dropped, and new pages are zero. Refusals, in their order: `AccessDenied` if the name may not write, `Unavailable`
-/// if the name may not resize, `OutOfRange` if the size is over `VMO_PAGES` pages, `BadState` if a page past the new
-/// end is pinned. The call never wants memory.
+/// dropped, and new pages are zero. The call never wants memory. Refusals, in their order:
+///
+/// - `AccessDenied` if the name may not write;
+/// - `Unavailable` if the name may not resize;
+/// - `OutOfRange` if the size is over `VMO_PAGES` pages;
+/// - `BadState` if a page past the new end is pinned.
 pub fn resize<P: PageStore>(
     store: &mut P,
     pins: &PinTable,

@@ -18,9 +18,12 @@ use vm_base::{Koid, PAGE, PageNo, Refusal};
 use vmo_table::Target;
 
 /// Writes bytes from `offset` bytes into the name on (`zx_vmo_write`). Each page that the range touches and that is not
-/// sole takes a frame. Refusals, in their order: `AccessDenied` if the name may not write, `OutOfRange` if the range
-/// passes the name's end, `NoMemory` if the pages that are not sole are more than the free frames, `HostMemory` only if
-/// there is such a page.
+/// sole takes a frame. Refusals, in their order:
+///
+/// - `AccessDenied` if the name may not write;
+/// - `OutOfRange` if the range passes the name's end;
+/// - `NoMemory` if the pages that are not sole are more than the free frames;
+/// - `HostMemory`, only if some of these pages is not sole.
 pub fn write<P: PageStore>(
     store: &mut P,
     t: &Target,

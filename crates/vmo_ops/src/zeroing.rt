@@ -27,8 +27,12 @@ use vmo_table::Target;
 /// Makes the bytes of a range zero (`ZX_VMO_OP_ZERO`): `len` bytes from `offset` bytes into the name on. A page that
 /// lies wholly in the range and is not pinned becomes zero, and its frame is given back unless another VMO shows it.
 /// Any other page that is held is owned and written with zeros, so a pinned page keeps its frame. Refusals, in their
-/// order: `AccessDenied` if the name may not write, `OutOfRange` if the range passes the name's end, `NoMemory` if
-/// owning takes more frames than are free, `HostMemory` only if a page that the range touches is held.
+/// order:
+///
+/// - `AccessDenied` if the name may not write;
+/// - `OutOfRange` if the range passes the name's end;
+/// - `NoMemory` if owning takes more frames than are free;
+/// - `HostMemory`, only if a page that the range touches is held.
 pub fn zero<P: PageStore>(
     store: &mut P,
     pins: &PinTable,
