@@ -18,12 +18,16 @@ use region_tree::{Region, Regions};
 use vm_base::{MapFlags, PAGE, Perm, Refusal, RegionName, page_count, page_of};
 
 /// Allocates a region of `len` bytes, rounded up to whole pages, in a live region (`zx_vmar_allocate`), and answers its
-/// address. Its name was never given. `offset` is in bytes from the start of the parent: the region begins there with
-/// `SPECIFIC`, and ends at or below it with `UPPER_LIMIT`. With neither, `offset` is 0, and any place will do.
-/// Refusals, in their order: `AccessDenied` if the parent does not allow what is asked for in `caps`, `InvalidArgs` if
-/// the offset is not at a page, `len` is 0, both options are given, an offset is given with neither, or a place at the
-/// offset passes the parent's end, `AlreadyExists` if the place at the offset is not free, `NoResources` if no free
-/// place fits, and `HostMemory`.
+/// address. The new name was never given. `offset` is in bytes from the start of the parent: the region begins there
+/// with `SPECIFIC`, and ends at or below it with `UPPER_LIMIT`. With neither, `offset` is 0, and any place will do.
+/// Refusals, in their order:
+///
+/// - `AccessDenied` if the parent does not allow what is asked for in `caps`;
+/// - `InvalidArgs` if the offset is not at a page, `len` is 0, both options are given, an offset is given with neither,
+///   or a place at the offset passes the parent's end;
+/// - `AlreadyExists` if the place at the offset is not free;
+/// - `NoResources` if no free place fits;
+/// - `HostMemory`.
 pub fn allocate(
     regions: &mut Regions,
     maps: &MappingSet,

@@ -37,14 +37,20 @@ use vmo_table::VmoTable;
 /// answers the address. The first page that is shown is the one at `vmo_offset` bytes in the name. `offset` is in bytes
 /// from the start of the region. The mapping begins there with `SPECIFIC`, and with `OVERWRITE`, which takes out what
 /// is mapped there. It ends at or below `offset` with `UPPER_LIMIT`. With none of the three, `offset` is 0, and any
-/// place will do. Refusals, in their order: `AccessDenied` if the region does not allow what is asked for in `perm`, or
-/// the name may not write and `perm` has writing, `InvalidArgs` if an offset is not at a page, `len` is 0, more than
-/// one of the three options is given, an offset is given with none of them, a place at the offset passes the region's
-/// end, what would be overwritten has a page of a live child of the region, or writing or executing is asked for
-/// without reading, `OutOfRange` if the part of the VMO would end past the greatest size of a VMO, `BufferTooSmall` if
-/// it ends past the end of the name, and `ALLOW_FAULTS` is not given or the name is a slice, `AlreadyExists` if the
-/// place at the offset is not free, `NoResources` if no free place fits, and `HostMemory`. The call costs the pieces
-/// that it overwrites, and not the pages of the mapping.
+/// place will do. The call costs the pieces that it overwrites, and not the pages of the mapping. Refusals, in their
+/// order:
+///
+/// - `AccessDenied` if the region does not allow what is asked for in `perm`, or the name may not write and `perm` has
+///   writing;
+/// - `InvalidArgs` if an offset is not at a page, `len` is 0, more than one of the three options is given, an offset is
+///   given with none of them, a place at the offset passes the region's end, what would be overwritten has a page of a
+///   live child of the region, or writing or executing is asked for without reading;
+/// - `OutOfRange` if the part of the VMO would end past the greatest size of a VMO;
+/// - `BufferTooSmall` if this part ends past the end of the name, and `ALLOW_FAULTS` is not given or the name is a
+///   slice;
+/// - `AlreadyExists` if the place at the offset is not free;
+/// - `NoResources` if no free place fits;
+/// - `HostMemory`.
 pub fn map<P: PageStore>(
     store: &mut P,
     vmos: &mut VmoTable,

@@ -22,11 +22,14 @@ use region_tree::{Region, Regions};
 use vm_base::{PageNo, Perm, Refusal, RegionName, page_count, page_of};
 
 /// Changes what accesses to a range of a live region may do (`zx_vmar_protect`). The range is `len` bytes, rounded up
-/// to whole pages, from an address on. Refusals, in their order: `AccessDenied` if the region does not allow what is
-/// asked for in `perm`, `InvalidArgs` if the address is not at a page, `len` is 0, the range passes an end of the
-/// region or has a page of a live child of it, or writing or executing is asked for without reading, `NotFound` if a
-/// page of the range has no entry that belongs to the region, `AccessDenied` if the entry of a page of the range may
-/// not be changed to `perm`, and `HostMemory`. The call costs the pieces of the range.
+/// to whole pages, from an address on. The call costs the pieces of the range. Refusals, in their order:
+///
+/// - `AccessDenied` if the region does not allow what is asked for in `perm`;
+/// - `InvalidArgs` if the address is not at a page, `len` is 0, the range passes an end of the region or has a page of
+///   a live child of it, or writing or executing is asked for without reading;
+/// - `NotFound` if a page of the range has no entry that belongs to the region;
+/// - `AccessDenied` if the entry of a page of the range may not be changed to `perm`;
+/// - `HostMemory`.
 pub fn protect(
     regions: &Regions,
     maps: &mut MappingSet,

@@ -23,10 +23,12 @@ use vm_base::{HostMemory, PageNo, Refusal, RegionName, page_count, page_of};
 use vmo_table::VmoTable;
 
 /// Unmaps a range of a live region (`zx_vmar_unmap`): `len` bytes, rounded up to whole pages, from an address on.
-/// Regions below it that have no other pages are destroyed. A VMO that nothing keeps any more leaves. Refusals, in
-/// their order: `InvalidArgs` if the address is not at a page, `len` is 0, the range passes an end of the region, or a
-/// live child of the region has a page in the range and one outside, and `HostMemory`, only if a page of the range is
-/// mapped. The call costs the pieces of the range, and the regions that it destroys.
+/// Regions below it that have no other pages are destroyed. A VMO that nothing keeps any more leaves. The call costs
+/// the pieces of the range, and the regions that it destroys. Refusals, in their order:
+///
+/// - `InvalidArgs` if the address is not at a page, `len` is 0, the range passes an end of the region, or a live child
+///   of the region has a page in the range and one outside;
+/// - `HostMemory`, only if a page of the range is mapped.
 pub fn unmap<P: PageStore>(
     store: &mut P,
     vmos: &mut VmoTable,
