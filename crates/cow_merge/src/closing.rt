@@ -21,6 +21,7 @@ use page_list::PageLists;
 /// over the parent's list instead, and its rows move into this list.
 ///
 /// The call takes no memory. It costs:
+///
 /// - the node's own rows;
 /// - the rows on a way down from the sibling to a VMO's node, which shows what this node shows above the parent
 ///   (`leave_out_beside`);
