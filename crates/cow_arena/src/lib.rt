@@ -10,6 +10,7 @@
 
 mod arena;
 mod node;
+mod sending;
 
 pub use arena::{CowArena, window_first};
 pub use node::{Node, NodeId, Pair, Side};

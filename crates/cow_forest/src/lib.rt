@@ -10,6 +10,7 @@ mod forest;
 mod looking;
 mod node_table;
 mod owning;
+mod sending;
 mod tables;
 mod viewing;
 

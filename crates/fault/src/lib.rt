@@ -18,6 +18,7 @@ mod frames;
 mod lists;
 mod needing;
 mod reading;
+mod sending;
 mod translation;
 mod translations;
 mod writable;

@@ -6,5 +6,6 @@
 #![tactic(auto)]
 
 mod frame_pool;
+mod sending;
 
 pub use frame_pool::{Backlink, FramePool};

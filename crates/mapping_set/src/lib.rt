@@ -14,6 +14,7 @@
 
 mod mapping_set;
 mod piece;
+mod sending;
 mod taken;
 
 pub use mapping_set::MappingSet;

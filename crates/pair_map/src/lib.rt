@@ -10,6 +10,7 @@
 mod extent_map;
 mod pair_map;
 mod pair_row;
+mod sending;
 mod stretch_row;
 
 pub use extent_map::ExtentMap;

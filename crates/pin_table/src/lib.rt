@@ -7,5 +7,6 @@
 
 mod pages;
 mod pin_table;
+mod sending;
 
 pub use pin_table::PinTable;

@@ -11,6 +11,7 @@
 #![tactic(auto)]
 
 mod fields;
+mod sending;
 mod tree;
 
 pub use tree::{Destroyed, Regions};

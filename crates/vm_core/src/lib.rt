@@ -17,6 +17,7 @@ mod mappings;
 mod naming;
 mod pinning;
 mod resets;
+mod sending;
 mod spaces;
 mod vm;
 

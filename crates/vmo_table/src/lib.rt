@@ -9,6 +9,7 @@
 #![tactic(auto)]
 
 mod child_rows;
+mod sending;
 mod vmo_table;
 mod vmos;
 

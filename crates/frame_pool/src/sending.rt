@@ -1,0 +1,12 @@
+//! `FramePool` may go from one thread to another (`Send`), so that threads can share a machine behind a lock. The check finds it
+//! from the fields.
+
+use crate::frame_pool::FramePool;
+
+/// Asks that values of the type may go from one thread to another.
+fn may_cross<T: Send>() {}
+
+/// Asks it of this crate's type.
+fn frame_pool_may_cross() {
+    may_cross::<FramePool>();
+}
