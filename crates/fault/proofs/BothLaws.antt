@@ -1,19 +1,13 @@
 -- Two pages that a write finds, once there is room for it.
-use Rattle.std.proofs.Common.{◌≡◌, ℕ, ◌+◌, [], ◌∷◌, Option, None}
+use Rattle.std.proofs.Common.{◌≡◌, ℕ, ◌+◌, [], ◌∷◌, Option}
 use Rattle.vm_model.specs.declared.space.Entry.{Entry}
 use Rattle.vm_model.specs.Contents.Content.{Content, IsGood}
 use Rattle.vm_model.specs.Contents.Owning.{need_each}
-use Rattle.vm_model.specs.Machine.Access.{page_shown, refusal_at}
-use Rattle.vm_model.specs.Space.Rights.{writing}
+use Rattle.vm_model.specs.Machine.Access.{page_shown}
 use Rattle.fault.specs.declared.writable.WritablePage.{WritablePage}
-use Rattle.fault.specs.Both.{AreFound}
+use Rattle.fault.specs.Both.{AreFound, Finds}
 use Rattle.fault.specs.Needing.{IsReady}
 use Rattle.fault.specs.Table.{Places, AreTrue}
-use Rattle.fault.specs.Writable.{IsLooked, IsWritable}
-
--- what a check for writing finds
-abbrev Finds : Content → (ℕ → ℕ → Option Entry) → Places → (root p : ℕ) → WritablePage → Type 0
-Finds c table places root p page = IsWritable c table places root p page × (refusal_at c writing (table root p) ≡ None) × IsLooked c page
 
 pub AreFound-ready : (c d : Content) (table : ℕ → ℕ → Option Entry) (places now : Places) (root p : ℕ) (first second : WritablePage) (need faults rows room : ℕ)
     → IsGood c → AreTrue c table places → Finds c table places root p first → Finds c table places root (p + 1) second

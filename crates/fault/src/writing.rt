@@ -1,14 +1,14 @@
 //! Writing through mappings.
 
-ghost use Rattle.std.specs.Prelude.{◌≡◌, ℕ, ◌+◌, ◌/◌, ◌%◌, ◌<◌, ◌≤◌, length, Option, IfErr, OnOk, is_some, if◌then◌else◌};
-ghost use Rattle.vm_base.specs.declared.limits.TheConstants.{PAGE, DATA_BYTES};
+ghost use Rattle.std.specs.Prelude.{◌≡◌, ℕ, ◌+◌, ◌/◌, ◌%◌, ◌<◌, ◌≤◌, length, Option, IfErr, OnOk, MatchResult, is_some, if◌then◌else◌};
+ghost use Rattle.vm_base.specs.declared.limits.TheConstants.{PAGE, PAGES_END, DATA_BYTES};
 ghost use Rattle.mapping_set.specs.Tables.{table_of};
 ghost use Rattle.vm_model.specs.declared.space.Entry.{Entry};
 ghost use Rattle.vm_model.specs.Contents.Content.{IsGood};
 ghost use Rattle.vm_model.specs.Contents.Owning.{Owns};
 ghost use Rattle.fault.specs.Table.{AreBacked, AreTrue, IsOfEntry, places_of, room_of};
 ghost use Rattle.fault.specs.Access.{AnswersWrite, Writes};
-ghost use Rattle.fault.specs.Both.{AreFound};
+ghost use Rattle.fault.specs.Both.{AreFound, Finds, RefusesTwo};
 ghost use Rattle.fault.specs.Writable.{IsInStore, IsAbsent, MayOwn, WritesTo, fault_of, faulted, sole_frame};
 ghost use Rattle.fault.specs.Needing.{IsReady, LacksRoom};
 
@@ -104,13 +104,8 @@ impl Translations {
             (P.content store.new) (places_of self.new) result }
         ensures translations { AreTrue (P.content store.new) (table_of maps.now) (places_of self.new) }
     {
-        let page = page_of(addr);
-        let first = match self.check_write(store, maps, root, page) {
-            Ok(first) => first,
-            Err(refusal) => return Err(refusal),
-        };
-        let second = match self.check_write(store, maps, root, page + 1) {
-            Ok(second) => second,
+        let (first, second) = match self.check_two(store, maps, root, page_of(addr)) {
+            Ok(found) => found,
             Err(refusal) => return Err(refusal),
         };
         let need = frames_needed(store, &first, &second);
@@ -123,7 +118,34 @@ impl Translations {
         Ok(faults)
     }
 
-    // Writes bytes that fall into two pages. Both may be written, and there is room for it.
+    // What a write finds of a page and of the one behind it, or why the first of the two that refuses it does.
+    fn check_two<P: PageStore>(
+        &self,
+        store: &P,
+        maps: &MappingSet,
+        root: RegionName,
+        page: PageNo,
+    ) -> Result<(WritablePage, WritablePage), Refusal>
+        requires backed { AreBacked (P.content store.now) (table_of maps.now) }
+        requires translations { AreTrue (P.content store.now) (table_of maps.now) (places_of self.now) }
+        requires page { page < PAGES_END }
+        ensures { MatchResult result
+            (λ found. Finds (P.content store.now) (table_of maps.now) (places_of self.now) root.0 page found.0
+            × Finds (P.content store.now) (table_of maps.now) (places_of self.now) root.0 (page + 1) found.1)
+            (λ refusal. RefusesTwo (P.content store.now) (table_of maps.now) root.0 page refusal) }
+    {
+        let first = match self.check_write(store, maps, root, page) {
+            Ok(first) => first,
+            Err(refusal) => return Err(refusal),
+        };
+        let second = match self.check_write(store, maps, root, page + 1) {
+            Ok(second) => second,
+            Err(refusal) => return Err(refusal),
+        };
+        Ok((first, second))
+    }
+
+    // Writes bytes that fall into two pages, of which both may be written, where the room for it is there.
     fn write_both<P: PageStore>(
         &mut self,
         store: &mut P,

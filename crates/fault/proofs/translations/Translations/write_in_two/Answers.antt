@@ -4,44 +4,34 @@ use Rattle.fault.specs.Access.{Writes}
 use Rattle.fault.specs.Table.{places_of, AreTrue}
 use Rattle.fault.specs.Writable.{fault_of}
 use Rattle.fault.proofs.BothLaws.{AreFound-ready}
-use Rattle.fault.proofs.AskedLaws.{AreAsked-two, IsDenied-first, IsDenied-second, IsDenied-room, wants-two}
+use Rattle.fault.proofs.AskedLaws.{AreAsked-two, IsDenied-room, wants-two}
 use Rattle.fault.proofs.TouchedLaws.{touched-two}
 use Rattle.fault.proofs.translations.Translations.write_in_two.Given.{Over}
 use Rattle.fault.proofs.translations.Translations.write_in_two.Goals as goal
 
 pub returns-in-Err-clause-outcome : goal.returns-in-Err-clause-outcome
 returns-in-Err-clause-outcome g c =
-    rw (touched-two c.args.addr _ c.requires.two c.requires.len)
-    (IsDenied-first _ _ _ _ _ _ _ _ (rw c.page_of-page.ensures at c.in-Err.ensures), refl, refl)
-
-pub returns-in-Err-check_write-clause-outcome : goal.returns-in-Err-check_write-clause-outcome
-returns-in-Err-check_write-clause-outcome g c =
-    rw (touched-two c.args.addr _ c.requires.two c.requires.len) (
-      IsDenied-second _ _ _ _ _ _ _ _ (rw c.page_of-page.ensures at c.in-Ok.ensures.1)
-          (rw c.page_of-page.ensures at c.in-Err-check_write.ensures),
-      refl,
-      refl,
-    )
+    rw (touched-two c.args.addr _ c.requires.two c.requires.len) (rw c.page_of.ensures at c.in-Err.ensures _, refl, refl)
 
 pub returns-in-Err-make_ready-clause-outcome : goal.returns-in-Err-make_ready-clause-outcome
 returns-in-Err-make_ready-clause-outcome g c =
-    let first = rw c.page_of-page.ensures at c.in-Ok.ensures in
-    let second = rw c.page_of-page.ensures at c.in-Ok-check_write.ensures in
+    let found = rw c.page_of.ensures at c.in-Ok.ensures in
     let ready = c.in-Err-make_ready.ensures in
     rw (touched-two c.args.addr _ c.requires.two c.requires.len) (
-      IsDenied-room _ _ _ _ (AreAsked-two _ _ _ _ _ _ _ first.0.entry first.1 second.0.entry second.1) _ _ _
+      IsDenied-room _ _ _ _ (AreAsked-two _ _ _ _ _ _ _ found.0.0.entry found.0.1 found.1.0.entry found.1.1) _ _ _
           (rw (c.frames_needed-need.ensures, c.faults.ensures, c.faults-2.ensures) at ready.err)
-          (wants-two _ _ _ _ _ _ _ _ first.0 second.0),
+          (wants-two _ _ _ _ _ _ _ _ found.0.0 found.1.0),
       ready.content,
       ready.places,
     )
 
 pub write_both-requires-clause-found : goal.write_both-requires-clause-found
 write_both-requires-clause-found g c =
+    let found = rw c.page_of.ensures at c.in-Ok.ensures in
     let ready = c.in-Ok-make_ready.ensures in (
       table_of c.args.maps.now,
-      AreFound-ready _ _ _ _ _ _ _ _ _ _ _ _ _ c.requires.backed.good c.requires.translations (rw c.page_of-page.ensures at c.in-Ok.ensures)
-          (rw c.page_of-page.ensures at c.in-Ok-check_write.ensures) c.frames_needed-need.ensures ready.content ready.places ready.ok,
+      AreFound-ready _ _ _ _ _ _ _ _ _ _ _ _ _ c.requires.backed.good c.requires.translations found.0 found.1
+          c.frames_needed-need.ensures ready.content ready.places ready.ok,
     )
 
 pub write_both-requires-clause-spare : goal.write_both-requires-clause-spare
@@ -53,12 +43,13 @@ write_both-requires-clause-room g c = rw (← c.faults.ensures, ← c.faults-2.e
 -- both pages were written
 both : (g : Over) (c : goal.After-write_both g)
     → Writes (g.P.PageStore.content c.make_ready.new.store) (table_of c.args.maps.now) c.args.root.0 c.args.addr c.args.bytes.now (places_of c.make_ready.new.self)
-    (fault_of c.in-Ok.first + fault_of c.in-Ok-check_write.second) (g.P.PageStore.content c.write_both.new.store) (places_of c.write_both.new.self)
+    (fault_of c.in-Ok.found.0 + fault_of c.in-Ok.found.1) (g.P.PageStore.content c.write_both.new.store) (places_of c.write_both.new.self)
     × AreTrue (g.P.PageStore.content c.write_both.new.store) (table_of c.args.maps.now) (places_of c.write_both.new.self)
 both g c =
+    let found = rw c.page_of.ensures at c.in-Ok.ensures in
     let ready = c.in-Ok-make_ready.ensures in
     c.write_both.ensures.writes (table_of c.args.maps.now) (AreFound-ready _ _ _ _ _ _ _ _ _ _ _ _ _ c.requires.backed.good c.requires.translations
-    (rw c.page_of-page.ensures at c.in-Ok.ensures) (rw c.page_of-page.ensures at c.in-Ok-check_write.ensures) c.frames_needed-need.ensures ready.content ready.places ready.ok)
+    found.0 found.1 c.frames_needed-need.ensures ready.content ready.places ready.ok)
 
 pub returns-clause-outcome : goal.returns-clause-outcome
 returns-clause-outcome g c =
@@ -71,21 +62,18 @@ returns-clause-translations g c = (both g c).1
 pub returns-in-Err-clause-translations : goal.returns-in-Err-clause-translations
 returns-in-Err-clause-translations g c = c.requires.translations
 
-pub returns-in-Err-check_write-clause-translations : goal.returns-in-Err-check_write-clause-translations
-returns-in-Err-check_write-clause-translations g c = c.requires.translations
-
 pub returns-in-Err-make_ready-clause-translations : goal.returns-in-Err-make_ready-clause-translations
 returns-in-Err-make_ready-clause-translations g c =
     let ready = c.in-Err-make_ready.ensures in rw (ready.content, ready.places) c.requires.translations
 
 pub frames_needed-need-requires-clause-first : goal.frames_needed-need-requires-clause-first
-frames_needed-need-requires-clause-first g c = c.in-Ok.ensures.0.store
+frames_needed-need-requires-clause-first g c = c.in-Ok.ensures.0.0.store
 
 pub frames_needed-need-requires-clause-second : goal.frames_needed-need-requires-clause-second
-frames_needed-need-requires-clause-second g c = c.in-Ok-check_write.ensures.0.store
+frames_needed-need-requires-clause-second g c = c.in-Ok.ensures.1.0.store
 
 pub frames_needed-need-requires-clause-first_look : goal.frames_needed-need-requires-clause-first_look
-frames_needed-need-requires-clause-first_look g c = c.in-Ok.ensures.2
+frames_needed-need-requires-clause-first_look g c = c.in-Ok.ensures.0.2
 
 pub frames_needed-need-requires-clause-second_look : goal.frames_needed-need-requires-clause-second_look
-frames_needed-need-requires-clause-second_look g c = c.in-Ok-check_write.ensures.2
+frames_needed-need-requires-clause-second_look g c = c.in-Ok.ensures.1.2
