@@ -35,7 +35,8 @@ use Rattle.cow_merge.specs.Ranges.{no_pages, CameTo, IsSpared, IsPassing, IsOnly
 use Rattle.cow_merge.specs.Witness.{IsWithin, IsEntered, ComesBeside, IsBeside, SeesRowOf, HasLeftPage, IsPageCut}
 use Rattle.cow_arena.proofs.SpliceWalkLaws.{family-parent}
 use Rattle.cow_merge.proofs.LiftedLaws.{family-other}
-use Rattle.cow_merge.proofs.RangeLaws.{gives-same, arrives-part, leaving-more, leaving-again, leaving-kept, spared-stays}
+use Rattle.cow_merge.proofs.RangeLaws.{gives-same, arrives-part, leaving-more, leaving-again, leaving-kept}
+use Rattle.cow_merge.proofs.PassingLaws.{spared-stays}
 
 -- ---- the way down
 

@@ -34,7 +34,7 @@ use Rattle.cow_merge.specs.Merging.{WasThere, HasListOfParent, HasClosed}
 use Rattle.cow_split.specs.Sight.{StaysVisible}
 use Rattle.cow_merge.proofs.CountLaws.{outside-other}
 use Rattle.cow_merge.proofs.SpliceLaws.{IsWithout, without-page, without-showed, without-stays, without-no_more, family-apart, spliced-kept, spliced-gone, spliced-parent_gone, spliced-without, exact-spliced, removed_root-without, exact-removed_root}
-use Rattle.cow_merge.proofs.RangeLaws.{inside-range}
+use Rattle.cow_merge.proofs.PassingLaws.{inside-range}
 use Rattle.cow_merge.proofs.ShrinkLaws.{tree-now}
 use Rattle.cow_merge.proofs.LiftedLaws.{lifted-exact, lifted-shows}
 

@@ -1,6 +1,7 @@
 pub mod SpliceLaws
 pub mod CountLaws
 pub mod RangeLaws
+pub mod PassingLaws
 pub mod PassedLaws
 pub mod ShrinkLaws
 pub mod LiftLaws

@@ -28,7 +28,7 @@ use Rattle.cow_split.proofs.SharedLaws.{beside-way, exact-shared}
 use Rattle.cow_merge.specs.declared.witness.Way.{Way}
 use Rattle.cow_merge.specs.Ranges.{IsSpared, IsParent, IsPassing}
 use Rattle.cow_merge.specs.Witness.{IsBeside}
-use Rattle.cow_merge.proofs.RangeLaws.{bare-inside}
+use Rattle.cow_merge.proofs.PassingLaws.{bare-inside}
 use Rattle.cow_merge.proofs.BesideLaws.{goes-up}
 
 -- the pages of v that pass the test are left out too

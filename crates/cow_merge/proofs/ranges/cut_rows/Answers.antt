@@ -2,7 +2,7 @@
 use Rattle.std.proofs.Common.{◌-◌, sym, ◌∙◌, arith}
 use Rattle.cow_arena.specs.Nodes.{nodes_of}
 use Rattle.cow_arena.specs.Forest.{IsForest}
-use Rattle.cow_merge.proofs.RangeLaws.{passing-exact, passing-bare, passing-cut, passing-end}
+use Rattle.cow_merge.proofs.PassingLaws.{passing-exact, passing-bare, passing-cut, passing-end}
 use Rattle.cow_merge.proofs.PassedLaws.{bare-only, bare-hidden, bare-apart}
 use Rattle.cow_merge.proofs.ranges.cut_rows.Goals as goal
 

@@ -3,7 +3,7 @@ use Rattle.std.proofs.Common.{◌+◌, Some, sym, subst, ◌∙◌, arith}
 use Rattle.cow_arena.specs.Nodes.{nodes_of, side_of}
 use Rattle.cow_arena.specs.Ways.{Reaches}
 use Rattle.cow_merge.specs.Ranges.{bare_of}
-use Rattle.cow_merge.proofs.RangeLaws.{passing-again, passing-up, passing-top, passing-there, passing-fits, passing-less, up-list}
+use Rattle.cow_merge.proofs.PassingLaws.{passing-again, passing-up, passing-top, passing-there, passing-fits, passing-less, up-list}
 use Rattle.cow_merge.proofs.PassedLaws.{bare-up}
 use Rattle.cow_merge.proofs.ranges.cut_upwards.Goals as goal
 

@@ -5,7 +5,8 @@ use Rattle.vm_base.proofs.EntryLaws.{some_same}
 use Rattle.cow_arena.specs.declared.node.Node.{Node}
 use Rattle.cow_arena.specs.Ways.{Reaches}
 use Rattle.cow_merge.specs.Ranges.{bare_of, no_pages, IsUnderWay}
-use Rattle.cow_merge.proofs.RangeLaws.{no-parent, visible-of, passing-start, passing-parent, passing-top, passing-again, sparing-none}
+use Rattle.cow_merge.proofs.RangeLaws.{visible-of}
+use Rattle.cow_merge.proofs.PassingLaws.{no-parent, passing-start, passing-parent, passing-top, passing-again, sparing-none}
 use Rattle.cow_merge.proofs.CloseLaws.{root-of, family-of}
 use Rattle.cow_merge.proofs.PassedLaws.{bare-up}
 use Rattle.cow_merge.proofs.ranges.leave_out.Goals as goal

@@ -3,7 +3,7 @@ use Rattle.std.proofs.Common.{◌≡◌, ◌+◌, ◌≤◌, Some, sym, ap, subs
 use Rattle.vm_base.proofs.EntryLaws.{some_same}
 use Rattle.page_list.specs.Lists.{slots_of}
 use Rattle.cow_arena.specs.declared.node.Node.{Node}
-use Rattle.cow_merge.proofs.RangeLaws.{passing-above, passing-again, above-there, above-fits, above-parent, above-visible, above-list}
+use Rattle.cow_merge.proofs.PassingLaws.{passing-above, passing-again, above-there, above-fits, above-parent, above-visible, above-list}
 use Rattle.cow_merge.proofs.ranges.leave_out_above.Goals as goal
 
 pub drop_rows-requires-clause-leaf : goal.drop_rows-requires-clause-leaf

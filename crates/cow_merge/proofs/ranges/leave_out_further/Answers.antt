@@ -6,7 +6,7 @@ use Rattle.page_list.specs.Lists.{slots_of}
 use Rattle.cow_arena.specs.declared.node.Node.{Node}
 use Rattle.cow_arena.specs.Nodes.{side_of}
 use Rattle.cow_merge.specs.Ranges.{no_pages, IsPassing}
-use Rattle.cow_merge.proofs.RangeLaws.{passing-again}
+use Rattle.cow_merge.proofs.PassingLaws.{passing-again}
 use Rattle.cow_merge.proofs.PassedLaws.{bare-up}
 use Rattle.cow_merge.proofs.ranges.leave_out_further.Goals as goal
 

@@ -1,7 +1,7 @@
 -- A row that belongs to a page that is passed over is not answered, but the least one behind all these.
 use Rattle.std.proofs.Common.{refl, arith}
 use Rattle.page_list.specs.Lists.{slots_of}
-use Rattle.cow_merge.proofs.RangeLaws.{outside-next, outside-none, outside-behind, outside-ends}
+use Rattle.cow_merge.proofs.PassingLaws.{outside-next, outside-none, outside-behind, outside-ends}
 use Rattle.cow_merge.proofs.ranges.next_outside.Goals as goal
 
 pub overflow_sub-row : goal.overflow_sub-row
