@@ -132,7 +132,7 @@ module _ {V : Type 0} where
             absurd (free.free p p e (omega arith) (omega arith) (record { is = is; from = omega arith; below = omega arith }))
 
     -- the extents stay apart where one comes to an open range
-    more-extents : IsRising stretch_functions rows → (l p : ℕ) (e : Extent V) → l < 2 ^ 64 → 1 ≤ e.count → p + e.count ≤ 2 ^ 63
+    pub more-extents : IsRising stretch_functions rows → (l p : ℕ) (e : Extent V) → l < 2 ^ 64 → 1 ≤ e.count → p + e.count ≤ 2 ^ 63
         → IsOpen (value_at stretch_functions extent_of rows l) p e.count
         → AreExtents (with_row stretch_functions (plain stretch_functions (stretch_of l p e)) rows)
     more-extents rising l p e fits some end free = record {

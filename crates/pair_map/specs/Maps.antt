@@ -53,3 +53,15 @@ module _ {V : Type 0} where
     pub not_past : p + count ≤ limit
     pub free : IsOpen extents p count
     pub first : (q : ℕ) → from ≤ q → q < p → IsOpen extents q count → ⊥
+
+  -- the extent that begins at `first` has this many numbers or more
+  pub record IsHead (extents : ℕ → Option (Extent V)) (first count : ℕ) : Type 0 where
+    pub extent : Extent V
+    pub is : extents first ≡ Some extent
+    pub most : count ≤ extent.count
+
+  -- an extent begins at `first` and ends just before `end`
+  pub record IsExtent (extents : ℕ → Option (Extent V)) (first end : ℕ) : Type 0 where
+    pub extent : Extent V
+    pub is : extents first ≡ Some extent
+    pub ends : first + extent.count ≡ end

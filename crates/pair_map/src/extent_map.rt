@@ -1,12 +1,12 @@
 //! The map from lists to extents that stand apart.
 
-ghost use Rattle.std.specs.Prelude.{◌≡◌, ℕ, ◌↔◌, ◌+◌, ◌≤◌, ◌<◌, ◌^◌, None, Some, OnOk, IsSome, IfSome, IsTrue};
+ghost use Rattle.std.specs.Prelude.{◌≡◌, ℕ, ◌↔◌, ◌+◌, ◌-◌, ◌≤◌, ◌<◌, ◌^◌, None, Some, OnOk, IsSome, IfSome, IsTrue};
 ghost use Rattle.std.specs.Option.{option_map, MatchOption};
 ghost use Rattle.balanced_tree.specs.Pairs.{with_pair, IsNext};
 ghost use Rattle.pair_map.specs.declared.stretch_row.Extent.{Extent};
 ghost use Rattle.pair_map.specs.Pairs.{IsLast};
 ghost use Rattle.pair_map.specs.Maps.{extents_of, count_of, spare_of};
-ghost use Rattle.pair_map.specs.Maps.{Covers, IsOpen, StandApart, HasNoOpen, IsFirstOpen};
+ghost use Rattle.pair_map.specs.Maps.{Covers, IsOpen, StandApart, HasNoOpen, IsFirstOpen, IsExtent, IsHead};
 ghost use Rattle.pair_map.specs.StretchRows.{extent_of, stretch_in};
 
 use crate::stretch_row::{Extent, StretchRow};
@@ -145,8 +145,56 @@ impl<V: Copy> ExtentMap<V> {
         self.tree.remove(pair_rank(list, first)).extent
     }
 
-    /// The lowest number from `from` on such that it and the following numbers, `count` in all, are in no extent of the
-    /// list and end at the limit or before. `None` if and only if there is none.
+    /// Leaves the first `count` numbers of the extent of a list that begins at `first`, with another value, and takes out the
+    /// rest. The extent has as many numbers or more. It changes one row.
+    pub fn shorten(&mut self, list: u64, first: u64, count: u64, value: V)
+        requires some { 1 ≤ count }
+        requires head { IsHead (extents_of self.old list) first count }
+        ensures extents { extents_of self.new ≡ with_pair (extents_of self.old) list first
+            (Some (record { count = count; value = value })) }
+        ensures count { count_of self.new ≡ count_of self.old }
+        ensures spare { spare_of self.new ≡ spare_of self.old }
+    {
+        let _rising = self.tree.len();
+        self.tree
+            .replace(StretchRow::new(list, first, Extent { count, value }));
+    }
+
+    /// Takes the numbers from `from` to below `to` out of the extent of a list that begins at `first` and ends just before
+    /// `end`. The numbers before them and those behind them are then an extent each, with another value. It changes one row,
+    /// and adds one.
+    pub fn split(&mut self, list: u64, first: u64, end: u64, from: u64, to: u64, value: V)
+        requires extent { IsExtent (extents_of self.old list) first end }
+        requires order { (first < from) × (from ≤ to) × (to < end) }
+        requires room { 1 ≤ spare_of self.old }
+        ensures extents { extents_of self.new ≡ with_pair
+            (with_pair (extents_of self.old) list first (Some (record { count = from - first; value = value })))
+            list to (Some (record { count = end - to; value = value })) }
+        ensures count { count_of self.new ≡ count_of self.old + 1 }
+        ensures spare { spare_of self.new + 1 ≡ spare_of self.old }
+    {
+        let _apart = self.len();
+        self.shorten(list, first, from - first, value);
+        self.insert(list, to, end - to, value);
+    }
+
+    /// Takes the numbers before `to` out of the extent of a list that begins at `first` and ends just before `end`. The
+    /// numbers from there on are then an extent, with another value.
+    pub fn advance(&mut self, list: u64, first: u64, end: u64, to: u64, value: V)
+        requires extent { IsExtent (extents_of self.old list) first end }
+        requires order { (first ≤ to) × (to < end) }
+        ensures extents { extents_of self.new ≡ with_pair (with_pair (extents_of self.old) list first None)
+            list to (Some (record { count = end - to; value = value })) }
+        ensures count { count_of self.new ≡ count_of self.old }
+        ensures spare { spare_of self.new ≡ spare_of self.old }
+    {
+        let _apart = self.len();
+        self.remove(list, first);
+        self.insert(list, to, end - to, value);
+    }
+
+    /// The lowest number from `from` on at which `count` numbers of the list are in no extent and end at the limit or
+    /// before. `None` exactly where there is none.
     pub fn first_gap(&self, list: u64, from: u64, count: u64, limit: u64) -> Option<u64>
         requires some { 1 ≤ count }
         requires limit { limit ≤ 2 ^ 63 }
