@@ -5,7 +5,7 @@ use Rattle.balanced_tree.specs.Pairs.{with_pair}
 use Rattle.mapping_set.specs.declared.piece.Piece.{Piece}
 use Rattle.mapping_set.specs.Pieces.{table_in, IsHeld, HasNoHeld, IsBorder}
 use Rattle.mapping_set.specs.Pieces.{piece_from, piece_until}
-use Rattle.mapping_set.proofs.TableLaws.{with_pair-cases}
+use Rattle.mapping_set.proofs.TableLaws.{with_pair-cases, with_pair-over}
 
 -- one piece has one first page
 same_first : (x y : Piece) → ◌≡◌ {A = Option Piece} (Some x) (Some y) → x.first ≡ y.first
@@ -50,32 +50,26 @@ module _ (pieces new : ℕ → ℕ → Option Piece) (root b q : ℕ) where
   }
 
 -- a piece is cut in two
-module _ (p0 p1 p2 p3 : ℕ → ℕ → Option Piece) (root last page : ℕ) (x head tail : Piece) (held : IsHeld p0 root page last x) (low : x.first < page)
-    (head_is : head ≡ piece_until x page) (tail_is : tail ≡ piece_from x page)
-    (taken : p1 ≡ with_pair p0 root last None)
-    (put : p2 ≡ with_pair p1 root (head.first + head.count - 1) (Some head))
-    (more : p3 ≡ with_pair p2 root (tail.first + tail.count - 1) (Some tail)) where
-  pub cut-border : IsBorder (p3 root) page
+module _ (pieces new : ℕ → ℕ → Option Piece) (root last page : ℕ) (x : Piece) (held : IsHeld pieces root page last x) (low : x.first < page)
+    (is : new ≡ with_pair (with_pair pieces root last (Some (piece_from x page))) root (page - 1) (Some (piece_until x page))) where
+  abbrev gone : ℕ → ℕ → Option Piece
+  gone = with_pair pieces root last None
+
+  abbrev back : ℕ → ℕ → Option Piece
+  back = with_pair pieces root last (Some (piece_from x page))
+
+  pub cut-border : IsBorder (new root) page
   cut-border =
       let at = held.not_before in
-      let begins = ap (λ (y : Piece). y.first) head_is in
-      let count = ap (λ (y : Piece). y.count) head_is in
-      let next = ap (λ (y : Piece). y.first) tail_is in
-      IsBorder-more p2 p3 root (tail.first + tail.count - 1) page tail more (λ less. absurd (omega arith))
-      (IsBorder-more p1 p2 root (head.first + head.count - 1) page head put (λ less. omega arith)
-      (IsBorder-taken p0 p1 root last page page x held taken (omega arith) (omega arith)))
+      IsBorder-more back new root (page - 1) page (piece_until x page) is (λ less. omega arith)
+      (IsBorder-more gone back root last page (piece_from x page) (sym (with_pair-over pieces root last None (Some (piece_from x page)))) (λ less. absurd (omega arith))
+      (IsBorder-taken pieces gone root last page page x held refl (omega arith) (omega arith)))
 
-  pub cut-kept : (q : ℕ) → IsBorder (p0 root) q → IsBorder (p3 root) q
+  pub cut-kept : (q : ℕ) → IsBorder (pieces root) q → IsBorder (new root) q
   cut-kept q border =
       let at = held.not_before in
-      let ends = held.sound.last_is in
-      let begins = ap (λ (y : Piece). y.first) head_is in
-      let count = ap (λ (y : Piece). y.count) head_is in
-      let next = ap (λ (y : Piece). y.first) tail_is in
-      let rest = ap (λ (y : Piece). y.count) tail_is in
-      IsBorder-more p2 p3 root (tail.first + tail.count - 1) q tail more (λ less. let end = border.ends last x held.is (omega arith) in omega arith)
-      (IsBorder-more p1 p2 root (head.first + head.count - 1) q head put (λ less. let end = border.ends last x held.is (omega arith) in omega arith)
-      (IsBorder-less p0 p1 root last q taken border))
+      IsBorder-more back new root (page - 1) q (piece_until x page) is (λ less. let end = border.ends last x held.is (omega arith) in omega arith)
+      (IsBorder-more pieces back root last q (piece_from x page) refl (λ less. let end = border.ends last x held.is (omega arith) in omega arith) border)
 
 module _ (pieces : ℕ → ℕ → Option Piece) (root from : ℕ) where
   -- no piece is cut at a page at or behind which none ends
@@ -104,19 +98,13 @@ module _ (pieces : ℕ → ℕ → Option Piece) (root from : ℕ) where
       | inr (inr more) ↦ absurd (let none = held.free from (omega arith) more in let there = some in cc)
     ]
 
-    -- a piece goes, and comes back
-    module _ (p1 p2 : ℕ → ℕ → Option Piece) (y : Piece) (begins : y.first ≡ x.first) (count : y.count ≡ x.count)
-        (taken : p1 ≡ with_pair pieces root last None)
-        (put : p2 ≡ with_pair p1 root (y.first + y.count - 1) (Some y)) where
-      pub back-behind : IsBorder (p2 root) (last + 1)
+    -- another piece comes in place of it, on the same pages
+    module _ (new : ℕ → ℕ → Option Piece) (y : Piece) (begins : y.first ≡ x.first) (put : new ≡ with_pair pieces root last (Some y)) where
+      pub back-behind : IsBorder (new root) (last + 1)
       back-behind =
-          let ends = held.sound.last_is in
           let low = held.not_before in
-          IsBorder-more p1 p2 root (y.first + y.count - 1) (last + 1) y put (λ less. omega arith)
-          (IsBorder-taken pieces p1 root last (last + 1) from x held taken (omega arith) (omega arith))
+          IsBorder-more (with_pair pieces root last None) new root last (last + 1) y (put ∙ sym (with_pair-over pieces root last None (Some y))) (λ less. omega arith)
+          (IsBorder-taken pieces (with_pair pieces root last None) root last (last + 1) from x held refl (omega arith) (omega arith))
 
-      pub back-kept : (q : ℕ) → IsBorder (pieces root) q → IsBorder (p2 root) q
-      back-kept q border =
-          let ends = held.sound.last_is in
-          IsBorder-more p1 p2 root (y.first + y.count - 1) q y put (λ less. let end = border.ends last x held.is (omega arith) in omega arith)
-          (IsBorder-less pieces p1 root last q taken border)
+      pub back-kept : (q : ℕ) → IsBorder (pieces root) q → IsBorder (new root) q
+      back-kept q border = IsBorder-more pieces new root last q y put (λ less. let end = border.ends last x held.is (omega arith) in omega arith) border

@@ -89,42 +89,26 @@ module _ (table : ℕ → ℕ → Option Entry) (root : ℕ) (x : Piece) (shown 
         with_pages-elsewhere taken root tail.first (tail.first + tail.count) (mapping_from tail.first tail.entry) r p apart
         ∙ with_pages-elsewhere table root x.first (x.first + x.count) (λ q. None) r p apart)
 
-    abbrev with_head : ℕ → ℕ → Option Entry
-    with_head = with_piece taken root head
-
-    -- a piece goes, and both its parts come back
-    pub taken-parts : with_piece with_head root tail ≡ table
-    taken-parts = λ i r p. at r p i where
-      here : (p : ℕ) → with_piece with_head root tail root p ≡ table root p
-      here p = elim (cases_lt p page) [
-        | inl before ↦ with_pages-beside with_head root tail.first (tail.first + tail.count) (mapping_from tail.first tail.entry) p (inl before)
-            ∙ elim (cases_lt p x.first) [
-              | inl less ↦
-                  with_pages-beside taken root head.first (head.first + head.count) (mapping_from head.first head.entry) p (inl less)
-                  ∙ with_pages-beside table root x.first (x.first + x.count) (λ q. None) p (inl less)
-              | inr more ↦
-                  with_pages-in taken root head.first (head.first + head.count) (mapping_from head.first head.entry) p more (omega arith)
-                  ∙ sym (shown p more (omega arith))
-            ]
-        | inr behind ↦ elim (cases_lt p (x.first + x.count)) [
-          | inl below ↦
-              with_pages-in with_head root tail.first (tail.first + tail.count) (mapping_from tail.first tail.entry) p behind (omega arith)
-              ∙ (from-shows x page p (omega arith) behind ∙ sym (shown p (omega arith) below))
+  -- a piece goes, and the part of it before a page comes back
+  pub taken-head : (page : ℕ) → x.first < page → page ≤ x.first + x.count → with_piece taken root (piece_until x page) ≡ with_pages table root page (x.first + x.count) (λ p. None)
+  taken-head page low high = with_pages-are table root page (x.first + x.count) (λ p. None) (with_piece taken root (piece_until x page))
+      (λ p from below.
+      with_pages-beside taken root x.first (x.first + (page - x.first)) (mapping_from x.first x.entry) p (inr (omega arith))
+      ∙ with_pages-in table root x.first (x.first + x.count) (λ q. None) p (omega arith) below)
+      (λ p out. elim (cases_lt p x.first) [
+        | inl before ↦
+            with_pages-beside taken root x.first (x.first + (page - x.first)) (mapping_from x.first x.entry) p (inl before)
+            ∙ with_pages-beside table root x.first (x.first + x.count) (λ q. None) p (inl before)
+        | inr more ↦ elim out [
+          | inl less ↦ with_pages-in taken root x.first (x.first + (page - x.first)) (mapping_from x.first x.entry) p more (omega arith) ∙ sym (shown p more (omega arith))
           | inr past ↦
-              with_pages-beside with_head root tail.first (tail.first + tail.count) (mapping_from tail.first tail.entry) p (inr (omega arith))
-              ∙ (with_pages-beside taken root head.first (head.first + head.count) (mapping_from head.first head.entry) p (inr (omega arith))
-              ∙ with_pages-beside table root x.first (x.first + x.count) (λ q. None) p (inr past))
+              with_pages-beside taken root x.first (x.first + (page - x.first)) (mapping_from x.first x.entry) p (inr (omega arith))
+              ∙ with_pages-beside table root x.first (x.first + x.count) (λ q. None) p (inr past)
         ]
-      ]
-
-      at : (r p : ℕ) → with_piece with_head root tail r p ≡ table r p
-      at r p = elim (cases_eq r root) [
-        | inl same ↦ ap (λ s. with_piece with_head root tail s p) same ∙ (here p ∙ ap (λ s. table s p) (sym same))
-        | inr apart ↦
-            with_pages-elsewhere with_head root tail.first (tail.first + tail.count) (mapping_from tail.first tail.entry) r p apart
-            ∙ (with_pages-elsewhere taken root head.first (head.first + head.count) (mapping_from head.first head.entry) r p apart
-            ∙ with_pages-elsewhere table root x.first (x.first + x.count) (λ q. None) r p apart)
-      ]
+      ])
+      (λ r p apart.
+      with_pages-elsewhere taken root x.first (x.first + (page - x.first)) (mapping_from x.first x.entry) r p apart
+      ∙ with_pages-elsewhere table root x.first (x.first + x.count) (λ q. None) r p apart)
 
   -- a piece goes, and comes back with other permissions
   pub taken-perm : (perm : Perm) (y : Piece) → y ≡ piece_with_perm x perm → (at to : ℕ) → at ≡ x.first → to ≡ x.first + x.count

@@ -1,20 +1,18 @@
--- What a set shows while a piece is taken out and parts of it come back.
+-- What a set shows where a piece is taken out, or a part of one.
 use Rattle.std.proofs.Common.{◌≡◌, ℕ, ◌+◌, ◌-◌, ◌<◌, ◌≤◌, max, Option, None, inl, inr, sym, ap, ◌∙◌, arith}
 use Rattle.std.proofs.lemmas.Bool.{cases_lt, cases_eq, cond-true, cond-false, both_ways, eq-eqb}
 use Rattle.vm_base.specs.Entries.{passes}
 use Rattle.vm_base.proofs.EntryLaws.{passes-none, passes-some}
 use Rattle.vm_base.proofs.SearchLaws.{eqb_same, eqb_apart, count_below_one_more, count_below_less}
-use Rattle.vm_model.specs.Space.Table.{is_in}
+use Rattle.vm_model.specs.Space.Table.{is_in, with_pages}
 use Rattle.std.proofs.Common.{Bool, true, false, cond, ◌==◌, ◌⊎◌}
 use Rattle.vm_base.specs.declared.limits.TheConstants.{PAGES_END}
 use Rattle.vm_model.specs.declared.space.Entry.{Entry}
-use Rattle.vm_model.specs.Space.Table.{mapping_from}
 use Rattle.mapping_set.specs.declared.piece.Piece.{Piece}
 use Rattle.mapping_set.specs.Pieces.{table_in}
-use Rattle.mapping_set.specs.Pieces.{piece_from, piece_until}
-use Rattle.mapping_set.specs.Tables.{with_piece, without_piece, IsBare, IsFull, IsPieceIn, entries_in}
+use Rattle.mapping_set.specs.Tables.{without_piece, IsBare, IsFull, IsPieceIn, entries_in}
 use Rattle.vm_model.proofs.TableLaws.{with_pages-in}
-use Rattle.mapping_set.proofs.ChangeLaws.{with_pages-beside, taken-tail, taken-parts}
+use Rattle.mapping_set.proofs.ChangeLaws.{with_pages-beside}
 use Rattle.mapping_set.proofs.TableLaws.{table_in-below}
 
 -- a range with an entry on each page ends where page numbers do, or is empty
@@ -26,15 +24,21 @@ full-end pieces root first count full = elim (cases_lt 0 count) [
   | inr none ↦ omega arith
 ]
 
--- where pages are bare up to a piece that goes, they are bare up to its end
-pub bare-until : (table t1 : ℕ → ℕ → Option Entry) (root : ℕ) (x : Piece) → t1 ≡ without_piece table root x
-    → (first end : ℕ) → end ≤ x.first + x.count → IsBare (table root) first x.first → IsBare (t1 root) first end
-bare-until table t1 root x taken first end high bare p from below =
-    ap (λ (t : ℕ → ℕ → Option Entry). t root p) taken
-    ∙ elim (cases_lt p x.first) [
-      | inl before ↦ with_pages-beside table root x.first (x.first + x.count) (λ q. None) p (inl before) ∙ bare p from before
-      | inr behind ↦ with_pages-in table root x.first (x.first + x.count) (λ q. None) p behind (omega arith)
+-- where pages are bare up to those that go, they are bare up to their end
+pub bare-until : (table t1 : ℕ → ℕ → Option Entry) (root from end : ℕ) → t1 ≡ with_pages table root from end (λ p. None)
+    → (first to : ℕ) → to ≤ end → IsBare (table root) first from → IsBare (t1 root) first to
+bare-until table t1 root from end gone first to high bare p low below =
+    ap (λ (t : ℕ → ℕ → Option Entry). t root p) gone
+    ∙ elim (cases_lt p from) [
+      | inl before ↦ with_pages-beside table root from end (λ q. None) p (inl before) ∙ bare p low before
+      | inr behind ↦ with_pages-in table root from end (λ q. None) p behind (omega arith)
     ]
+
+-- all pages of a piece, as a range
+pub whole-range : (table : ℕ → ℕ → Option Entry) (root : ℕ) (x : Piece) (from last : ℕ) → x.first ≡ from → x.first + x.count ≡ last + 1
+    → without_piece table root x ≡ with_pages table root from (last + 1) (λ p. None)
+whole-range table root x from last begins ends =
+    ap (λ k. with_pages table root k (x.first + x.count) (λ p. None)) begins ∙ ap (λ k. with_pages table root from k (λ p. None)) ends
 
 -- where a piece of a region goes, fewer pages have entries of the region
 module _ (table t1 : ℕ → ℕ → Option Entry) (root region : ℕ) (x : Piece) (there : IsPieceIn (table root) region x) (taken : t1 ≡ without_piece table root x) where
@@ -90,43 +94,3 @@ module _ (table t1 : ℕ → ℕ → Option Entry) (root : ℕ) (x : Piece) (tak
   taken-bare first end low high p from below =
       ap (λ (t : ℕ → ℕ → Option Entry). t root p) taken
       ∙ with_pages-in table root x.first (x.first + x.count) (λ q. None) p (omega arith) (omega arith)
-
-  module _ (shown : (p : ℕ) → x.first ≤ p → p < x.first + x.count → table root p ≡ mapping_from x.first x.entry p)
-      (page : ℕ) (low : x.first < page) (high : page < x.first + x.count)
-      (head tail : Piece) (head_is : head ≡ piece_until x page) (tail_is : tail ≡ piece_from x page) where
-    pub head-bare : IsBare (t1 root) head.first (head.first + head.count)
-    head-bare =
-        let begins = ap (λ (y : Piece). y.first) head_is in
-        let count = ap (λ (y : Piece). y.count) head_is in
-        taken-bare head.first (head.first + head.count) (omega arith) (omega arith)
-
-    pub tail-bare : IsBare (t1 root) tail.first (tail.first + tail.count)
-    tail-bare =
-        let begins = ap (λ (y : Piece). y.first) tail_is in
-        let count = ap (λ (y : Piece). y.count) tail_is in
-        taken-bare tail.first (tail.first + tail.count) (omega arith) (omega arith)
-
-    -- the part from the page on comes back
-    pub tail-table : (t2 : ℕ → ℕ → Option Entry) → t2 ≡ with_piece t1 root tail → t2 ≡ without_piece table root head
-    tail-table t2 put =
-        put ∙ (ap (λ (t : ℕ → ℕ → Option Entry). with_piece t root tail) taken ∙ (ap (with_piece (without_piece table root x) root) tail_is
-        ∙ (taken-tail table root x shown page low high ∙ ap (without_piece table root) (sym head_is))))
-
-    -- both parts come back
-    module _ (t2 : ℕ → ℕ → Option Entry) (put : t2 ≡ with_piece t1 root head) where
-      pub rest-bare : IsBare (t2 root) tail.first (tail.first + tail.count)
-      rest-bare p from below =
-          let begins = ap (λ (y : Piece). y.first) tail_is in
-          let begins_head = ap (λ (y : Piece). y.first) head_is in
-          let count = ap (λ (y : Piece). y.count) head_is in
-          ap (λ (t : ℕ → ℕ → Option Entry). t root p) put
-          ∙ (with_pages-beside t1 root head.first (head.first + head.count) (mapping_from head.first head.entry) p (inr (omega arith))
-          ∙ tail-bare p from below)
-
-      pub parts-table : (t3 : ℕ → ℕ → Option Entry) → t3 ≡ with_piece t2 root tail → t3 ≡ table
-      parts-table t3 more =
-          more ∙ (ap (λ (t : ℕ → ℕ → Option Entry). with_piece t root tail) put
-          ∙ (ap (λ (t : ℕ → ℕ → Option Entry). with_piece (with_piece t root head) root tail) taken
-          ∙ (ap (λ (y : Piece). with_piece (with_piece (without_piece table root x) root y) root tail) head_is
-          ∙ (ap (with_piece (with_piece (without_piece table root x) root (piece_until x page)) root) tail_is
-          ∙ taken-parts table root x shown page low high))))

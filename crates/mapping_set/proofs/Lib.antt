@@ -7,3 +7,4 @@ pub mod SetLaws
 pub mod CutLaws
 pub mod BorderLaws
 pub mod RestLaws
+pub mod PartLaws

@@ -3,7 +3,7 @@ use Rattle.std.proofs.Common.{◌≡◌, ℕ, ◌+◌, ◌-◌, ◌<◌, ◌≤�
 use Rattle.vm_base.specs.declared.limits.TheConstants.{NAMES, PAGES_END}
 use Rattle.balanced_tree.specs.Pairs.{with_pair}
 use Rattle.pair_map.specs.declared.stretch_row.Extent.{Extent}
-use Rattle.pair_map.specs.Maps.{IsOpen, StandApart, values_of, extents_of}
+use Rattle.pair_map.specs.Maps.{IsOpen, values_of, extents_of}
 use Rattle.mapping_set.specs.declared.piece.Piece.{Piece}
 use Rattle.mapping_set.specs.declared.mapping_set.MappingSet.TheInside.{Inside}
 use Rattle.mapping_set.specs.Pieces.{list_number, table_in, IsSound, ArePieces, AreListed}
@@ -11,7 +11,7 @@ use Rattle.mapping_set.specs.SetFields.{mappings_of, AreMappings}
 use Rattle.mapping_set.specs.Taken.{pieces_in}
 use Rattle.mapping_set.specs.Tables.{Mappings, places_in, places_of, table_of, with_piece, without_piece, IsBare, IsPieceOf}
 use Rattle.mapping_set.proofs.TableLaws.{shown_whole}
-use Rattle.mapping_set.proofs.TakenLaws.{open-both, piece-apart}
+use Rattle.mapping_set.proofs.TakenLaws.{open-both}
 use Rattle.mapping_set.proofs.PieceLaws.{none_there, ArePieces-more, table_in-more, open_there, AreListed-more, ArePieces-less, table_in-less, AreListed-less}
 
 module _ (a : Inside) (h : AreMappings a) (now : Mappings) (seen : mappings_of a ≡ now) (root n l : ℕ) (n_is : n ≡ root) (x : Piece) (l_is : l ≡ list_number x.entry.region.0 root) where
@@ -98,13 +98,6 @@ module _ (a : Inside) (h : AreMappings a) (now : Mappings) (seen : mappings_of a
     -- it is in the list of what is taken, under its first page
     pub in-index : (e : Extent Unit) × (index l x.first ≡ Some e) × (e.count ≡ x.count)
     in-index = let found = h.taken.listed root last x is_root in (found.0, ap (λ k. index k x.first) l_is ∙ found.1, found.2)
-
-    -- no place has one of its pages
-    pub open-piece : StandApart (extents_of a.taken) → IsOpen (places_of now (list_number x.entry.region.0 root)) x.first x.count
-    open-piece apart =
-        subst (λ (m : Mappings). IsOpen (places_of m (list_number x.entry.region.0 root)) x.first x.count) seen
-        (subst (λ k. IsOpen (places_in (extents_of a.taken) k) x.first x.count) l_is
-        (piece-apart (extents_of a.taken) apart l x.first in-index.0 in-index.1 x.count in-index.2))
 
     module _ (b : Inside) (taken : values_of b.pieces ≡ with_pair values n last None) where
       taken_is : values_of b.pieces ≡ with_pair values root last None

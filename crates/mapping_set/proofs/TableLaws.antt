@@ -61,6 +61,43 @@ with_pair-same map a b v k q same other = elim (with_pair-cases map a b v k q) [
   | inr there ↦ absurd (there.0 same other)
 ]
 
+module _ {V : Type 0} (map : ℕ → ℕ → Option V) (a : ℕ) where
+  -- the later of two values counts
+  pub with_pair-over : (b : ℕ) (v w : Option V) → with_pair (with_pair map a b v) a b w ≡ with_pair map a b w
+  with_pair-over b v w = λ i k q. at k q i where
+    at : (k q : ℕ) → with_pair (with_pair map a b v) a b w k q ≡ with_pair map a b w k q
+    at k q = elim (with_pair-cases (with_pair map a b v) a b w k q) [
+      | inl here ↦ here.2 ∙ sym (with_pair-same map a b w k q here.0 here.1)
+      | inr out ↦ out.1 ∙ elim (with_pair-cases map a b v k q) [
+        | inl here ↦ absurd (out.0 here.0 here.1)
+        | inr other ↦ other.1 ∙ elim (with_pair-cases map a b w k q) [
+          | inl here ↦ absurd (out.0 here.0 here.1)
+          | inr there ↦ sym there.1
+        ]
+      ]
+    ]
+
+  -- two numbers get their values in either order
+  pub with_pair-swap : (b c : ℕ) (v w : Option V) → b ≢ c → with_pair (with_pair map a b v) a c w ≡ with_pair (with_pair map a c w) a b v
+  with_pair-swap b c v w apart = λ i k q. at k q i where
+    at : (k q : ℕ) → with_pair (with_pair map a b v) a c w k q ≡ with_pair (with_pair map a c w) a b v k q
+    at k q = elim (with_pair-cases (with_pair map a b v) a c w k q) [
+      | inl here ↦ here.2 ∙ elim (with_pair-cases (with_pair map a c w) a b v k q) [
+        | inl both ↦ absurd (apart (sym both.1 ∙ here.1))
+        | inr other ↦ sym (other.1 ∙ with_pair-same map a c w k q here.0 here.1)
+      ]
+      | inr out ↦ out.1 ∙ elim (with_pair-cases map a b v k q) [
+        | inl here ↦ here.2 ∙ sym (with_pair-same (with_pair map a c w) a b v k q here.0 here.1)
+        | inr other ↦ other.1 ∙ elim (with_pair-cases (with_pair map a c w) a b v k q) [
+          | inl here ↦ absurd (other.0 here.0 here.1)
+          | inr there ↦ sym (there.1 ∙ elim (with_pair-cases map a c w k q) [
+            | inl here ↦ absurd (out.0 here.0 here.1)
+            | inr none ↦ none.1
+          ])
+        ]
+      ]
+    ]
+
 -- ---- what a piece shows
 
 module _ (p last : ℕ) (x : Piece) where

@@ -1,14 +1,11 @@
 -- What is taken in the regions: pieces and places are extents of one list, apart from one another.
-use Rattle.std.proofs.Common.{◌≡◌, ℕ, ◌+◌, ◌<◌, ◌≤◌, Option, None, Some, IsSome, is_some, ◌⊎◌, ◌↔◌, Bool, true, false, IsTrue, inl, inr, refl, sym, ap, subst, ◌∙◌, arith}
-use Rattle.std.specs.Option.{MatchOption}
+use Rattle.std.proofs.Common.{◌≡◌, ℕ, ◌+◌, ◌<◌, ◌≤◌, Option, None, Some, IsSome, is_some, Bool, true, false, inl, inr, refl, sym, ap, ◌∙◌, arith}
 use Rattle.std.proofs.lemmas.Bool.{cases_lt, cases_order}
 use Rattle.vm_base.specs.declared.names.RegionName.{RegionName}
 use Rattle.vm_base.proofs.EntryLaws.{some_same}
 use Rattle.balanced_tree.specs.Pairs.{with_pair}
 use Rattle.pair_map.specs.declared.stretch_row.Extent.{Extent}
 use Rattle.pair_map.specs.Maps.{Covers, IsOpen, StandApart}
-use Rattle.mapping_set.specs.declared.piece.Piece.{Piece}
-use Rattle.mapping_set.specs.Pieces.{list_number}
 use Rattle.mapping_set.specs.Taken.{piece_by, piece_at, pieces_in, IsMeeting}
 use Rattle.mapping_set.specs.Tables.{place_by, place_at, places_in}
 use Rattle.mapping_set.proofs.TableLaws.{with_pair-cases, with_pair-same}
@@ -132,7 +129,7 @@ module _ (taken : ℕ → ℕ → Option (Extent (Option RegionName))) where
       by (Some x) is = let more = apart.some l first x is in absurd (vacant.free first first x (omega arith) (omega arith) (record { is = is; from = omega arith; below = omega arith }))
 
     -- no place has a page of a piece
-    pub piece-apart : (l first : ℕ) (e : Extent Unit) → pieces_in taken l first ≡ Some e → (count : ℕ) → e.count ≡ count → IsOpen (places_in taken l) first count
+    piece-apart : (l first : ℕ) (e : Extent Unit) → pieces_in taken l first ≡ Some e → (count : ℕ) → e.count ≡ count → IsOpen (places_in taken l) first count
     piece-apart l first e is count count_is = record {
       free = λ q p place low high covers.
           let piece = piece-found l first e is in
@@ -150,17 +147,6 @@ module _ (taken : ℕ → ℕ → Option (Extent (Option RegionName))) where
             | inr (inr more) ↦ absurd (let before = apart.apart l first p piece.0 found.0 piece.1 found.1 more in omega arith)
           ];
     }
-
--- a part of a range is in no extent either
-pub open-part : {V : Type 0} (extents : ℕ → Option (Extent V)) (first count from less : ℕ) → IsOpen extents first count → first ≤ from → from + less ≤ first + count → IsOpen extents from less
-open-part extents first count from less vacant low high = record { free = λ q p e over under covers. vacant.free q p e (omega arith) (omega arith) covers }
-
--- the same for a part of a piece, in the list of the piece
-pub part-open : {V : Type 0} (places : ℕ → ℕ → Option (Extent V)) (root : ℕ) (x y : Piece) → y.entry.region.0 ≡ x.entry.region.0 → x.first ≤ y.first → y.first + y.count ≤ x.first + x.count
-    → IsOpen (places (list_number x.entry.region.0 root)) x.first x.count → IsOpen (places (list_number y.entry.region.0 root)) y.first y.count
-part-open places root x y same low high vacant =
-    subst (λ n. IsOpen (places (list_number n root)) y.first y.count) (sym same)
-    (open-part (places (list_number x.entry.region.0 root)) x.first x.count y.first y.count vacant low high)
 
 -- ---- an extent that has a page of a range
 
@@ -233,6 +219,45 @@ module _ (taken new : ℕ → ℕ → Option (Extent (Option RegionName))) (l fi
     ap pieces_in is ∙ (pieces_in-with taken l first None ∙ with_pair-kept (pieces_in taken) l first None none),
     ap places_in is ∙ places_in-with taken l first None,
   )
+
+-- a row of a piece comes, changes or goes, where no place stands
+piece-set : (taken : ℕ → ℕ → Option (Extent (Option RegionName))) (l q : ℕ) (o : Option (Extent (Option RegionName))) → place_at o ≡ None → places_in taken l q ≡ None
+    → (new : ℕ → ℕ → Option (Extent (Option RegionName))) → new ≡ with_pair taken l q o
+    → (pieces_in new ≡ with_pair (pieces_in taken) l q (piece_at o)) × (places_in new ≡ places_in taken)
+piece-set taken l q o no_place vacant new is = (
+  ap pieces_in is ∙ pieces_in-with taken l q o,
+  ap places_in is ∙ (places_in-with taken l q o ∙ (ap (with_pair (places_in taken) l q) no_place ∙ with_pair-kept (places_in taken) l q None vacant)),
+)
+
+module _ (taken : ℕ → ℕ → Option (Extent (Option RegionName))) where
+  module _ (apart : StandApart taken) (l first : ℕ) (e : Extent Unit) (there : pieces_in taken l first ≡ Some e) where
+    -- no place begins on its pages
+    no-place : (q : ℕ) → first ≤ q → q < first + e.count → places_in taken l q ≡ None
+    no-place q low high = by (places_in taken l q) refl where
+      by : (o : Option (Extent RegionName)) → places_in taken l q ≡ o → o ≡ None
+      by None is = refl
+      by (Some d) is =
+          let found = place-found taken l q d is in
+          let some = apart.some l q found.0 found.1 in
+          let wide = found.3 in
+          absurd ((piece-apart taken apart l first e there e.count refl).free q q d low high (record { is = is; from = omega arith; below = omega arith }))
+
+    -- it keeps its first pages alone
+    pub piece-shorter : (count : ℕ) (new : ℕ → ℕ → Option (Extent (Option RegionName))) → new ≡ with_pair taken l first (Some (record { count = count; value = None }))
+        → 1 ≤ e.count → (pieces_in new ≡ with_pair (pieces_in taken) l first (Some (record { count = count; value = tt }))) × (places_in new ≡ places_in taken)
+    piece-shorter count new is some = piece-set taken l first (Some (record { count = count; value = None })) refl (no-place first (omega arith) (omega arith)) new is
+
+    -- it loses pages, and keeps those from one on
+    pub piece-split : (o : Option (Extent (Option RegionName))) → place_at o ≡ None → (to count : ℕ) → first ≤ to → to < first + e.count → (new : ℕ → ℕ → Option (Extent (Option RegionName)))
+        → new ≡ with_pair (with_pair taken l first o) l to (Some (record { count = count; value = None }))
+        → (pieces_in new ≡ with_pair (with_pair (pieces_in taken) l first (piece_at o)) l to (Some (record { count = count; value = tt }))) × (places_in new ≡ places_in taken)
+    piece-split o no_place to count low high new is =
+        let mid = with_pair taken l first o in
+        let one = piece-set taken l first o no_place (no-place first (omega arith) (omega arith)) mid refl in
+        let two = piece-set mid l to (Some (record { count = count; value = None })) refl (ap (λ (m : ℕ → ℕ → Option (Extent RegionName)). m l to) one.1 ∙ no-place to low high) new is in (
+          two.0 ∙ ap (λ (m : ℕ → ℕ → Option (Extent Unit)). with_pair m l to (Some (record { count = count; value = tt }))) one.0,
+          two.1 ∙ one.1,
+        )
 
 -- a place is no piece
 pub place-not_piece : (taken : ℕ → ℕ → Option (Extent (Option RegionName))) (l first : ℕ) → IsSome (places_in taken l first) → (pieces_in taken l first ≡ None) × IsSome (taken l first)

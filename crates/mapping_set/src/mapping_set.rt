@@ -7,7 +7,7 @@ ghost use Rattle.pair_map.specs.Maps.{values_of, extents_of, IsOpen};
 ghost use Rattle.vm_base.specs.declared.limits.TheConstants.{NAMES, PAGES_END};
 ghost use Rattle.vm_model.specs.Space.Table.{with_pages, with_perm, has_entry};
 ghost use Rattle.mapping_set.specs.declared.piece.Piece.{Piece};
-ghost use Rattle.mapping_set.specs.Pieces.{list_number, IsHeld, HasNoHeld, IsOfRegion, IsBorder};
+ghost use Rattle.mapping_set.specs.Pieces.{list_number, piece_from, piece_until, IsHeld, HasNoHeld, IsOfRegion, IsBorder};
 ghost use Rattle.mapping_set.specs.Tables.{places_of, with_place, IsClear, HasNoClear, IsFirstClear};
 ghost use Rattle.mapping_set.specs.Tables.{table_of, pieces_of, spare_of, with_piece, without_piece, without_taken};
 ghost use Rattle.mapping_set.specs.Tables.{IsBare, IsBareFrom, IsFull, IsNextPiece, IsPieceOf, IsFirstPiece, IsPieceIn, entries_in};
@@ -242,17 +242,17 @@ impl MappingSet {
             return None;
         }
         let end = first.saturating_add(count);
-        self.cut(root, first);
         let (last, piece) = self.held(root, first)?;
         if end <= piece.first {
             return None;
         }
-        self.take(root, last);
+        let rest = piece.from(piece.first.max(first));
         if last < end {
-            return Some(piece);
+            self.take_rest(root, last, piece, rest.first);
+            return Some(rest);
         }
-        self.put(root, piece.from(end));
-        Some(piece.until(end))
+        self.take_middle(root, last, piece, rest.first, end);
+        Some(rest.until(end))
     }
 
     /// Takes out one piece of the entries that belong to a region, and answers it. `None` if and only if there is none.
@@ -341,12 +341,9 @@ impl MappingSet {
         ensures shown { IsPieceOf (table_of self.old root.0) result }
         ensures table { (x : Piece) → values_of self.old.pieces root.0 last ≡ Some x
             → table_of self.new ≡ without_piece (table_of self.old) root.0 x }
-        ensures pieces { values_of self.new.pieces ≡ with_pair (values_of self.old.pieces) root.0 last None }
         ensures spare { spare_of self.new ≡ spare_of self.old + 1 }
         ensures places { places_of self.new ≡ places_of self.old }
-        ensures vacant { IsOpen (places_of self.old (list_number result.entry.region.0 root.0)) result.first result.count }
     {
-        let _apart = self.taken.len();
         let piece = self.pieces.remove(u64::from(root.0), last);
         let list = list_number(piece.entry.region, root);
         self.lists.remove(list, piece.first);
@@ -383,9 +380,104 @@ impl MappingSet {
         if page <= piece.first {
             return;
         }
-        self.take(root, last);
-        self.put(root, piece.until(page));
-        self.put(root, piece.from(page));
+        self.split(root, last, piece, page, page);
+    }
+
+    /// Takes the pages from `from` on out of a piece that has `from`: it is `piece`, and has its last page at `last`.
+    fn take_rest(&mut self, root: RegionName, last: PageNo, piece: Piece, from: PageNo)
+        requires piece { values_of self.old.pieces root.0 last ≡ Some piece }
+        requires page { (piece.first ≤ from) × (from ≤ last) }
+        ensures table { table_of self.new ≡ with_pages (table_of self.old) root.0 from (last + 1) (λ p. None) }
+        ensures spare { spare_of self.old ≤ spare_of self.new }
+        ensures places { places_of self.new ≡ places_of self.old }
+    {
+        if piece.first < from {
+            self.keep_head(root, last, piece, from);
+        } else {
+            self.take(root, last);
+        }
+    }
+
+    /// Takes the pages from `from` to below `end` out of a piece that has `from` and `end`: it is `piece`, and has its last
+    /// page at `last`.
+    fn take_middle(
+        &mut self,
+        root: RegionName,
+        last: PageNo,
+        piece: Piece,
+        from: PageNo,
+        end: PageNo,
+    )
+        requires piece { values_of self.old.pieces root.0 last ≡ Some piece }
+        requires order { (piece.first ≤ from) × (from < end) × (end ≤ last) }
+        requires room { 1 ≤ spare_of self.old }
+        ensures table { table_of self.new ≡ with_pages (table_of self.old) root.0 from end (λ p. None) }
+        ensures spare { spare_of self.old ≤ spare_of self.new + 1 }
+        ensures places { places_of self.new ≡ places_of self.old }
+    {
+        if piece.first < from {
+            self.split(root, last, piece, from, end);
+        } else {
+            self.keep_tail(root, last, piece, end);
+        }
+    }
+
+    /// Takes the pages from `page` to below `end` out of a piece that has pages before them and behind them: it is `piece`,
+    /// and has its last page at `last`. In each table it changes one row, and adds one.
+    fn split(&mut self, root: RegionName, last: PageNo, piece: Piece, page: PageNo, end: PageNo)
+        requires piece { values_of self.old.pieces root.0 last ≡ Some piece }
+        requires order { (piece.first < page) × (page ≤ end) × (end ≤ last) }
+        requires room { 1 ≤ spare_of self.old }
+        ensures table { table_of self.new ≡ with_pages (table_of self.old) root.0 page end (λ p. None) }
+        ensures pieces { values_of self.new.pieces ≡ with_pair
+            (with_pair (values_of self.old.pieces) root.0 last (Some (piece_from piece end)))
+            root.0 (page - 1) (Some (piece_until piece page)) }
+        ensures spare { spare_of self.old ≤ spare_of self.new + 1 }
+        ensures places { places_of self.new ≡ places_of self.old }
+    {
+        let _apart = self.taken.len();
+        let list = list_number(piece.entry.region, root);
+        self.pieces.replace(root.0 as u64, last, piece.from(end));
+        self.pieces
+            .insert(root.0 as u64, page - 1, piece.until(page));
+        self.lists.split(list, piece.first, last + 1, page, end, ());
+        self.taken
+            .split(list, piece.first, last + 1, page, end, None);
+    }
+
+    /// Leaves of a piece the pages before the page `page`, which is one of its pages and not the first: it is `piece`, and
+    /// has its last page at `last`.
+    fn keep_head(&mut self, root: RegionName, last: PageNo, piece: Piece, page: PageNo)
+        requires piece { values_of self.old.pieces root.0 last ≡ Some piece }
+        requires page { (piece.first < page) × (page ≤ last) }
+        ensures table { table_of self.new ≡ with_pages (table_of self.old) root.0 page (last + 1) (λ p. None) }
+        ensures spare { spare_of self.old ≤ spare_of self.new }
+        ensures places { places_of self.new ≡ places_of self.old }
+    {
+        let _apart = self.taken.len();
+        let list = list_number(piece.entry.region, root);
+        let count = page - piece.first;
+        self.pieces.remove(root.0 as u64, last);
+        self.pieces
+            .insert(root.0 as u64, page - 1, piece.until(page));
+        self.lists.shorten(list, piece.first, count, ());
+        self.taken.shorten(list, piece.first, count, None);
+    }
+
+    /// Leaves of a piece the pages from `page` on, which is one of its pages and not the first: it is `piece`, and has its last
+    /// page at `last`.
+    fn keep_tail(&mut self, root: RegionName, last: PageNo, piece: Piece, page: PageNo)
+        requires piece { values_of self.old.pieces root.0 last ≡ Some piece }
+        requires page { (piece.first < page) × (page ≤ last) }
+        ensures table { table_of self.new ≡ with_pages (table_of self.old) root.0 piece.first page (λ p. None) }
+        ensures spare { spare_of self.old ≤ spare_of self.new }
+        ensures places { places_of self.new ≡ places_of self.old }
+    {
+        let _apart = self.taken.len();
+        let list = list_number(piece.entry.region, root);
+        self.pieces.replace(root.0 as u64, last, piece.from(page));
+        self.lists.advance(list, piece.first, last + 1, page, ());
+        self.taken.advance(list, piece.first, last + 1, page, None);
     }
 
     /// Gives each entry of whole pieces other permissions. All of their pages, from `first` to below `end`, have an
@@ -424,8 +516,8 @@ impl MappingSet {
         let Some((last, piece)) = self.held(root, at) else {
             unreachable!()
         };
-        self.take(root, last);
-        self.put(root, piece.with_perm(perm));
+        self.pieces
+            .replace(root.0 as u64, last, piece.with_perm(perm));
         last + 1
     }
 }

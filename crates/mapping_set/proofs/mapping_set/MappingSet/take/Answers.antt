@@ -1,6 +1,6 @@
 use Rattle.std.proofs.Common.{ap, ◌∙◌}
 use Rattle.mapping_set.specs.Tables.{places_of}
-use Rattle.mapping_set.proofs.SetLaws.{whole, last_is, in-index, open-piece, AreMappings-less, table-less}
+use Rattle.mapping_set.proofs.SetLaws.{whole, last_is, in-index, AreMappings-less, table-less}
 use Rattle.mapping_set.proofs.TakenLaws.{piece-less, piece-there}
 use Rattle.mapping_set.proofs.mapping_set.MappingSet.take.Goals as goal
 
@@ -38,8 +38,3 @@ returns-clause-places c =
     let found = in-index _ c.self.invariant _ c.self.view_is c.args.root.0 _ _ c.from.ensures c.remove-piece.result c.list_number-list.ensures.number
     c.args.last c.remove-piece.ensures.value in
     (piece-less _ _ _ _ found.0 found.1 c.remove-2.ensures.extents).1 ∙ ap places_of c.self.view_is
-
-pub returns-clause-vacant : goal.returns-clause-vacant
-returns-clause-vacant c =
-    open-piece _ c.self.invariant _ c.self.view_is c.args.root.0 _ _ c.from.ensures c.remove-piece.result c.list_number-list.ensures.number
-    c.args.last c.remove-piece.ensures.value c.len-apart.ensures.apart
