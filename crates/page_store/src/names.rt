@@ -20,7 +20,7 @@ pub fn pages_of_name<P: PageStore>(store: &P, t: &Target) -> PageNo
     }
 }
 
-/// The size in bytes of what a name stands for (`zx_vmo_get_size`): its pages', at most 2^36.
+/// The size in bytes of what a name stands for (`zx_vmo_get_size`): its pages', at most 2^48.
 pub fn size_of_name<P: PageStore>(store: &P, t: &Target) -> u64
     requires good { IsGood (P.content store.now) }
     requires inside { IsInside (P.content store.now) t.now }

@@ -27,8 +27,8 @@ use vmo_table::{Target, VmoTable};
 ///   slice leaves the name or is to be resizable, if a reference has an offset or a size, or if it is to be resizable
 ///   and `t` may not resize;
 /// - `NotSupported` for a slice of a VMO that is resizable, and for a reference of a slice;
-/// - `OutOfRange` if `offset` and the rounded size of a snapshot are together over `VMO_PAGES` pages;
-/// - `NoMemory` for a snapshot if the pinned pages that it copies are more than the free frames;
+/// - `OutOfRange` where `offset` and the rounded size of a snapshot are over 2^48 bytes together;
+/// - `NoMemory` for a snapshot where the pinned pages that it copies are more than the free frames;
 /// - `HostMemory`.
 pub fn create_child<P: PageStore>(
     store: &mut P,

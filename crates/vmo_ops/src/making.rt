@@ -12,12 +12,9 @@ use page_store::PageStore;
 use vm_base::{Koid, PAGE, Refusal, VMO_PAGES, VmoName, page_of, round_up};
 use vmo_table::{Origin, VmoTable};
 
-/// Makes a VMO of zero pages (`zx_vmo_create`), lets a name that is not open stand for it, and answers its koid. The
-/// VMO has `size` bytes, rounded up to whole pages. The name may write to the VMO, and may resize it if and only if the
-/// VMO is resizable. Refusals, in their order:
-///
-/// - `OutOfRange` if the size is over `VMO_PAGES` pages;
-/// - `HostMemory`.
+/// Makes a VMO of zero pages, `size` bytes rounded up to whole pages, lets a name that is not open stand
+/// for it, and answers its koid. The name may write to it, and may resize it exactly where it is
+/// resizable. Refusals: `OutOfRange` where the size is over 2^48 bytes, `HostMemory`.
 pub fn create<P: PageStore>(
     store: &mut P,
     vmos: &mut VmoTable,

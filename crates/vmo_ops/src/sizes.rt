@@ -15,13 +15,10 @@ use pin_table::PinTable;
 use vm_base::{Koid, PAGE, PageNo, Refusal, VMO_PAGES, page_of, round_up};
 use vmo_table::Target;
 
-/// Changes the size of a VMO to `size` bytes, rounded up to whole pages (`zx_vmo_set_size`). Pages past the new end are
-/// dropped, and new pages are zero. The call never wants memory. Refusals, in their order:
-///
-/// - `AccessDenied` if the name may not write;
-/// - `Unavailable` if the name may not resize;
-/// - `OutOfRange` if the size is over `VMO_PAGES` pages;
-/// - `BadState` if a page past the new end is pinned.
+/// Changes the size of a VMO to `size` bytes, rounded up to whole pages. Pages past the new end leave
+/// it, and pages that come in are zero. Refusals, in their order: `AccessDenied` where the name may not
+/// write, `Unavailable` where it may not resize, `OutOfRange` where the size is over 2^48 bytes,
+/// `BadState` where a page past the new end is pinned. It never wants memory.
 pub fn resize<P: PageStore>(
     store: &mut P,
     pins: &PinTable,

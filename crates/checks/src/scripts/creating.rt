@@ -22,9 +22,9 @@ BAD_HANDLE
 OK
 > vmo_size v2
 OK 0
-> vmo_create v3 68719476737
+> vmo_create v3 281474976710657
 OUT_OF_RANGE
-> vmo_create v3 68719476736
+> vmo_create v3 281474976710656
 OK
 > stat
 OK frames=1024 used=0 free=1024 vmos=3
@@ -35,7 +35,7 @@ OK frames=1024 used=0 free=1024 vmos=3
 OK
 > vmo_create v1 4096
 NAME_IN_USE
-> vmo_create v2 68719476737
+> vmo_create v2 281474976710657
 OUT_OF_RANGE
 > vmo_create_child v2 v9 snapshot 0 4096
 BAD_HANDLE
@@ -43,7 +43,7 @@ BAD_HANDLE
 NAME_IN_USE
 > vmo_create_child v2 v1 snapshot 1 4096
 INVALID_ARGS
-> vmo_create_child v2 v1 snapshot 4096 68719476736
+> vmo_create_child v2 v1 snapshot 4096 281474976710656
 OUT_OF_RANGE
 > vmo_create_child v2 v1 slice 0 8192
 INVALID_ARGS

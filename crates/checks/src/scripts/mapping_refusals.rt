@@ -54,13 +54,13 @@ OK
 ACCESS_DENIED
 > vmar_map r1 1 v2 1 0 x specific upper_limit
 INVALID_ARGS
-> vmar_map r2 1 v1 0x1000000000 8192 r specific
+> vmar_map r2 1 v1 0x1000000000000 8192 r specific
 INVALID_ARGS
 > vmar_allocate r4 r2 0 4096 specific can_read
 OK 0x200000
-> vmar_map r2 0 v1 0x1000000000 4096 r specific_overwrite
+> vmar_map r2 0 v1 0x1000000000000 4096 r specific_overwrite
 INVALID_ARGS
-> vmar_map r2 0 v1 0x1000000000 4096 r specific
+> vmar_map r2 0 v1 0x1000000000000 4096 r specific
 OUT_OF_RANGE
 > vmar_map r2 0 v1 4096 8192 r specific
 BUFFER_TOO_SMALL

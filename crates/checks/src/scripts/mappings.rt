@@ -298,15 +298,15 @@ OK 0x200000
 OK 0x201000
 > vmar_map r1 0x2000 v2 0 1 r specific allow_faults
 OK 0x202000
-> vmar_map r1 0x3000 v1 0 68719476737 r specific allow_faults
+> vmar_map r1 0x3000 v1 0 281474976710657 r specific allow_faults
 OUT_OF_RANGE
-> vmar_map r1 0x3000 v1 68719476736 1 r specific
+> vmar_map r1 0x3000 v1 281474976710656 1 r specific
 OUT_OF_RANGE
-> vmar_map r1 0x3000 v1 68719472640 4097 r specific allow_faults
+> vmar_map r1 0x3000 v1 281474976706560 4097 r specific allow_faults
 OUT_OF_RANGE
-> vmar_map r1 0x3000 v1 68719472640 4096 r specific
+> vmar_map r1 0x3000 v1 281474976706560 4096 r specific
 BUFFER_TOO_SMALL
-> vmar_map r1 0x3000 v1 68719472640 4096 r specific allow_faults
+> vmar_map r1 0x3000 v1 281474976706560 4096 r specific allow_faults
 OK 0x203000
 > vmo_set_size v1 16384
 OK
@@ -320,7 +320,7 @@ OK
 OK 4
 + 0x200000 8192 rw vmo=1 offset=0 region=r1
 + 0x202000 4096 r vmo=2 offset=0 region=r1
-+ 0x203000 4096 r vmo=1 offset=68719472640 region=r1
++ 0x203000 4096 r vmo=1 offset=281474976706560 region=r1
 + 0x204000 4096 rw vmo=1 offset=12288 region=r1
 ",
     )
@@ -470,47 +470,47 @@ fn mappings_are_large(rt: HostRuntime) -> Result<(), Fail> {
         rt.alloc(),
         "\
 == run
-# 2^24 pages are mapped, protected in the middle, overwritten, listed, and unmapped.
+# 2^36 pages are mapped, protected in the middle, overwritten, listed, and unmapped.
 > root_create r1
 OK
-> vmo_create v1 68719476736
+> vmo_create v1 281474976710656
 OK
 > vmo_create v2 4096
 OK
-> vmar_map r1 0 v1 0 68719476736 r specific
+> vmar_map r1 0 v1 0 281474976710656 r specific
 OK 0x200000
 > vmo_close v1
 OK
-> vmar_protect r1 0x800200000 4096 rw
+> vmar_protect r1 0x800000200000 4096 rw
 OK
 > maps r1
 OK 3
-+ 0x200000 34359738368 r vmo=1 offset=0 region=r1
-+ 0x800200000 4096 rw vmo=1 offset=34359738368 region=r1
-+ 0x800201000 34359734272 r vmo=1 offset=34359742464 region=r1
-> vmar_map r1 0x800000000 v2 0 4096 rx specific_overwrite
-OK 0x800200000
-> vmar_unmap r1 0x200000 34359734272
++ 0x200000 140737488355328 r vmo=1 offset=0 region=r1
++ 0x800000200000 4096 rw vmo=1 offset=140737488355328 region=r1
++ 0x800000201000 140737488351232 r vmo=1 offset=140737488359424 region=r1
+> vmar_map r1 0x800000000000 v2 0 4096 rx specific_overwrite
+OK 0x800000200000
+> vmar_unmap r1 0x200000 140737488351232
 OK
 > maps r1
 OK 3
-+ 0x8001ff000 4096 r vmo=1 offset=34359734272 region=r1
-+ 0x800200000 4096 rx vmo=2 offset=0 region=r1
-+ 0x800201000 34359734272 r vmo=1 offset=34359742464 region=r1
-> vmar_unmap r1 0x8001ff000 0x1000
++ 0x8000001ff000 4096 r vmo=1 offset=140737488351232 region=r1
++ 0x800000200000 4096 rx vmo=2 offset=0 region=r1
++ 0x800000201000 140737488351232 r vmo=1 offset=140737488359424 region=r1
+> vmar_unmap r1 0x8000001ff000 0x1000
 OK
-> vmar_unmap r1 0x800201000 0x7fffff000
+> vmar_unmap r1 0x800000201000 0x7ffffffff000
 OK
 > stat
 OK frames=1024 used=0 free=1024 vmos=1
 > maps r1
 OK 1
-+ 0x800200000 4096 rx vmo=2 offset=0 region=r1
-> vmar_map r1 281474974609408 v2 0 4096 r specific
-OK 0xfffffffff000
-> vmar_map r1 281474974613504 v2 0 1 r specific
++ 0x800000200000 4096 rx vmo=2 offset=0 region=r1
+> vmar_map r1 72057594035826688 v2 0 4096 r specific
+OK 0xfffffffffff000
+> vmar_map r1 72057594035830784 v2 0 1 r specific
 INVALID_ARGS
-> vmar_unmap r1 0x200000 281474974613504
+> vmar_unmap r1 0x200000 72057594035830784
 OK
 > maps r1
 OK 0
@@ -577,7 +577,7 @@ INVALID_ARGS
 INVALID_ARGS
 > vmar_unmap r4294967295 0x200000 18446744073709547520
 INVALID_ARGS
-> vmar_unmap r4294967295 0xfffffffff000 4097
+> vmar_unmap r4294967295 0xfffffffffff000 4097
 INVALID_ARGS
 > vmar_protect r0 18446744073709551615 4096 none
 INVALID_ARGS
@@ -587,18 +587,18 @@ INVALID_ARGS
 INVALID_ARGS
 > vmar_protect r0 0x200000 18446744073709551615 none
 INVALID_ARGS
-> vmar_protect r4294967295 0xfffffffff000 4096 none
+> vmar_protect r4294967295 0xfffffffffff000 4096 none
 NOT_FOUND
 > maps r4294967295
 OK 1
 + 0x200000 4096 r vmo=1 offset=0 region=r0
-> vmar_unmap r4294967295 0xfffffffff000 4096
+> vmar_unmap r4294967295 0xfffffffffff000 4096
 OK
-> vmar_unmap r4294967295 0x200000 281474974613504
+> vmar_unmap r4294967295 0x200000 72057594035830784
 OK
 > maps r0
 BAD_STATE
-> vmar_protect r4294967295 0x200000 281474974613504 none
+> vmar_protect r4294967295 0x200000 72057594035830784 none
 NOT_FOUND
 > maps r4294967295
 OK 0

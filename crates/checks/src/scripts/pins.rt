@@ -177,7 +177,7 @@ BAD_HANDLE
 NAME_IN_USE
 > vmo_create_child v2 v1 snapshot 1 4096
 INVALID_ARGS
-> vmo_create_child v2 v1 snapshot 4096 68719476736
+> vmo_create_child v2 v1 snapshot 4096 281474976710656
 OUT_OF_RANGE
 > vmo_create_child v2 v1 snapshot 0 4096
 NO_MEMORY

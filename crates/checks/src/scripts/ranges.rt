@@ -204,15 +204,15 @@ OK 00000000
 OK frames=2 used=1 free=1 vmos=1
 > vmo_create v3 4096 resizable
 OK
-> vmo_set_size v3 68719476737
+> vmo_set_size v3 281474976710657
 OUT_OF_RANGE
-> vmo_set_size v3 68719476736
+> vmo_set_size v3 281474976710656
 OK
 > vmo_size v3
-OK 68719476736
-> vmo_fill v3 0 68719476736 1
+OK 281474976710656
+> vmo_fill v3 0 281474976710656 1
 NO_MEMORY
-> vmo_zero v3 0 68719476736
+> vmo_zero v3 0 281474976710656
 OK
 > vmo_set_size v3 0
 OK

@@ -136,27 +136,27 @@ OK 0x200000
 OK 0x206000
 
 == run
-# A root region has pages from address 0x200000 to 2^48, and one region may have all of them.
+# A root region has pages from address 0x200000 to 2^56, and one region may have all of them.
 > root_create r1
 OK
-> vmar_allocate r2 r1 0 281474974613505
+> vmar_allocate r2 r1 0 72057594035830785
 NO_RESOURCES
-> vmar_allocate r2 r1 0 281474974613504
+> vmar_allocate r2 r1 0 72057594035830784
 OK 0x200000
 > vmar_allocate r3 r1 0 1
 NO_RESOURCES
-> vmar_allocate r3 r2 281474974613504 4096 specific
+> vmar_allocate r3 r2 72057594035830784 4096 specific
 INVALID_ARGS
-> vmar_allocate r3 r2 281474974609408 4096 specific
-OK 0xfffffffff000
-> vmar_allocate r4 r2 0 281474974609409
+> vmar_allocate r3 r2 72057594035826688 4096 specific
+OK 0xfffffffffff000
+> vmar_allocate r4 r2 0 72057594035826689
 NO_RESOURCES
-> vmar_allocate r4 r2 0 281474974609408
+> vmar_allocate r4 r2 0 72057594035826688
 OK 0x200000
 > vmar_allocate r5 r3 0 4096 specific
-OK 0xfffffffff000
-> vmar_allocate r6 r4 281474974605312 4096 specific
-OK 0xffffffffe000
+OK 0xfffffffffff000
+> vmar_allocate r6 r4 72057594035822592 4096 specific
+OK 0xffffffffffe000
 ",
     )
 }
@@ -562,17 +562,17 @@ INVALID_ARGS
 INVALID_ARGS
 > vmar_allocate r1 r0 0xfffffffffffff000 0xfffffffffffff000 upper_limit
 NO_RESOURCES
-> vmar_allocate r1 r0 0xfffffffffffff000 281474974613505 upper_limit
+> vmar_allocate r1 r0 0xfffffffffffff000 72057594035830785 upper_limit
 NO_RESOURCES
-> vmar_allocate r1 r0 281474974613504 1 specific
+> vmar_allocate r1 r0 72057594035830784 1 specific
 INVALID_ARGS
-> vmar_allocate r1 r0 281474974609408 4097 specific
+> vmar_allocate r1 r0 72057594035826688 4097 specific
 INVALID_ARGS
-> vmar_allocate r1 r0 4096 281474974613504 specific
+> vmar_allocate r1 r0 4096 72057594035830784 specific
 INVALID_ARGS
-> vmar_allocate r1 r0 281474974609408 281474974613504 upper_limit
+> vmar_allocate r1 r0 72057594035826688 72057594035830784 upper_limit
 NO_RESOURCES
-> vmar_allocate r1 r0 0xfffffffffffff000 281474974613504 upper_limit
+> vmar_allocate r1 r0 0xfffffffffffff000 72057594035830784 upper_limit
 OK 0x200000
 > vmar_allocate r2 r1 0xfffffffffffff000 1 upper_limit can_read
 ACCESS_DENIED

@@ -159,11 +159,11 @@ NAME_IN_USE
 INVALID_ARGS
 > vmo_create_child v2 v1 snapshot 0 99999999999 resizable no_write
 INVALID_ARGS
-> vmo_create_child v2 v1 snapshot 4096 68719476736
+> vmo_create_child v2 v1 snapshot 4096 281474976710656
 OUT_OF_RANGE
 > vmo_create_child v2 v1 snapshot 18446744073709547520 4096
 OUT_OF_RANGE
-> vmo_create_child v2 v1 snapshot 4096 68719472640 no_write
+> vmo_create_child v2 v1 snapshot 4096 281474976706560 no_write
 OK
 > vmo_write v2 99999999999 11
 ACCESS_DENIED
