@@ -18,3 +18,6 @@ pub mod EnterLaws
 pub mod MakingLaws
 pub mod SnapshotLaws
 pub mod OwnedLaws
+pub mod RangeLaws
+pub mod RisingLaws
+pub mod ZeroedLaws

@@ -25,7 +25,10 @@ use Rattle.cow_forest.proofs.LookLaws.{page-past}
 pub below-some : (rows : ℕ → Option Slot) (from to : ℕ) (answer : Option ℕ) (row : ℕ) → IsNext rows from answer → answer ≡ Some row → row < to →
     IsNextBelow rows from to (Some row)
 below-some rows from to answer row next is less = record {
-  found = λ page e. let same : row ≡ page = some_same e in let least = (next.least row is).0 in (omega arith, omega arith);
+  found = λ page e.
+      let same : row ≡ page = some_same e in
+      let least = (next.least row is).0 in
+      (omega arith, omega arith, subst (λ p. IsSome (rows p)) same (next.least row is).1);
   free = λ page start before. (next.least row is).2 page start before;
 }
 
@@ -35,6 +38,12 @@ below-none rows from to answer row next is past = record {
   found = λ page e. absurd (cc);
   free = λ page start before. (next.least row is).2 page start (omega arith);
 }
+
+-- the next row is not before any page that is at or before the first
+pub row-past : (rows : ℕ → Option Slot) (from to shift : ℕ) (answer : Option ℕ) → IsNextBelow rows from to answer → shift ≤ from →
+    IfSome answer (λ page. shift ≤ page)
+row-past rows from to shift None next le = search rules
+row-past rows from to shift (Some row) next le = let found = next.found row refl in omega arith
 
 -- ---- from node to node
 

@@ -60,11 +60,11 @@ showing-same old new None after same bytes = ap (page_showing new) same
 showing-same old new (Some t) after same bytes = ap (page_showing new) same ∙ ap (λ xs. Some (record { tag = t; bytes = xs })) (bytes t refl)
 
 -- page q of node k shows the frame that it showed, with the bytes that it had
-record ShowsAlike (f : Forest) (rows : Rows Row) (pool : Pool) (k q : ℕ) : Type 0 where
-  frame : frame_at (tree_of f.arena rows) k q ≡ frame_at (tree f) k q
-  bytes : (t : ℕ) → frame_at (tree f) k q ≡ Some t → frame_bytes pool t ≡ frame_bytes f.pool t
+pub record ShowsAlike (f : Forest) (rows : Rows Row) (pool : Pool) (k q : ℕ) : Type 0 where
+  pub frame : frame_at (tree_of f.arena rows) k q ≡ frame_at (tree f) k q
+  pub bytes : (t : ℕ) → frame_at (tree f) k q ≡ Some t → frame_bytes pool t ≡ frame_bytes f.pool t
 
-page-same : (f : Forest) (rows : Rows Row) (pool : Pool) → IsStore f → IsStore (with_rows f rows pool) → (w q : ℕ) →
+pub page-same : (f : Forest) (rows : Rows Row) (pool : Pool) → IsStore f → IsStore (with_rows f rows pool) → (w q : ℕ) →
     ((k : ℕ) → HasNode f w k → IsPage (tree f) k q → ShowsAlike f rows pool k q) → (content_of (with_rows f rows pool)).page w q ≡ (content_of f).page w q
 page-same f rows pool s now w q alike = with_node (node_in f.nodes w) refl
   where

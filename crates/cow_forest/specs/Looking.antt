@@ -1,5 +1,5 @@
 -- What looking at a page of a VMO's node answers, and which pages a look for the next one passes.
-use Rattle.std.specs.Prelude.{◌≡◌, ◌↔◌, ℕ, ◌-◌, ◌<◌, ◌≤◌, true, Option, None, Some}
+use Rattle.std.specs.Prelude.{◌≡◌, ◌↔◌, ℕ, ◌-◌, ◌<◌, ◌≤◌, true, Option, None, Some, IsSome}
 use Rattle.std.specs.Option.{option_map, option_or, unwrap_or}
 use Rattle.page_store.specs.declared.page_store.Look.{Look}
 use Rattle.page_store.specs.declared.page_store.Look.TheVariants as look
@@ -28,7 +28,7 @@ ShowsNoneFrom t v from = (p : ℕ) → from ≤ p → frame_at t v p ≡ None
 
 -- the least page from `from` to below `to` that has a row; None if there is none
 pub record IsNextBelow (rows : ℕ → Option Slot) (from to : ℕ) (answer : Option ℕ) : Type 0 where
-  pub found : (row : ℕ) → answer ≡ Some row → (from ≤ row) × (row < to)
+  pub found : (row : ℕ) → answer ≡ Some row → (from ≤ row) × (row < to) × IsSome (rows row)
   pub free : (page : ℕ) → from ≤ page → page < unwrap_or answer to → rows page ≡ None
 
 -- the page that comes to this row, which is `shift` pages further on. If there is no row, the best page so far

@@ -13,14 +13,17 @@ ghost use Rattle.cow_arena.specs.Counts.{hidden_count, visible_count};
 ghost use Rattle.cow_split.specs.Exact.{IsExact, all_in_sight};
 ghost use Rattle.cow_split.specs.Cost.{IsMostOfLookUp, depth};
 ghost use Rattle.page_store.specs.Pages.{look_at};
+ghost use Rattle.page_store.specs.Held.{held_from};
 ghost use Rattle.cow_forest.specs.Tables.{node_in};
 ghost use Rattle.cow_forest.specs.Store.{Forest, tree, content_of};
 ghost use Rattle.cow_forest.specs.Owning.{HasOwnRow};
 ghost use Rattle.cow_forest.specs.Counting.{frame_row_count};
+ghost use Rattle.cow_forest.specs.Ranges.{rows_reached};
 
 use crate::looking::{look_at, look_at_counted, next_shown};
 use crate::node_table::NodeTable;
 use crate::owning::own_page;
+use crate::ranges::zero_pages;
 use crate::tables::{disown, leave_other, make_room};
 use crate::viewing::{least_koid_of, viewer_count_of};
 use cow_arena::CowArena;
@@ -122,6 +125,38 @@ impl CowForest {
             steps.new ≤ steps.old + depth (nodes_of self.now.arena) self.now.arena.lists k * most }
     {
         look_at_counted(&self.arena, &self.lists, self.nodes.get(v.0), page, steps)
+    }
+
+    /// Makes `count` pages of a VMO from page `first` on zero, as `zero` makes each of them. There is room (`spare`) for each
+    /// page of them that is held. It takes no memory, and goes from row to row of the nodes from the VMO's up to its root, on the
+    /// pages to which the range comes through their windows. A step is one call of `PageLists::next_counted`: there is at most one
+    /// for each such row, and one for each node, whatever the range is long.
+    pub fn zero_range<L: Ledger>(
+        &mut self,
+        v: Koid,
+        first: PageNo,
+        count: u64,
+        steps: &mut Steps<L>,
+    )
+        requires vmo { IsSome ((content_of self.old).count v.0) }
+        requires range { first + count ≤ pages_of (content_of self.old) v.0 }
+        requires room { held_from (content_of self.old) v.0 first count ≤ self.old.rows.spare }
+        ensures content { content_of self.new ≡ zeroed (content_of self.old) v.0 first (first + count) }
+        ensures spare { self.old.rows.spare ≤ self.new.rows.spare + held_from (content_of self.old) v.0 first count }
+        ensures cost { (k : ℕ) → node_in self.old.nodes v.0 ≡ link_to k →
+            steps.new ≤ steps.old + rows_reached (tree self.old) k first (first + count) + depth (nodes_of self.old.arena) self.old.arena.lists k }
+    {
+        let node = self.nodes.get(v.0);
+        let end = first + count;
+        zero_pages(
+            &self.arena,
+            &mut self.lists,
+            &mut self.frames,
+            node,
+            first,
+            end,
+            steps,
+        );
     }
 }
 

@@ -10,7 +10,7 @@ mod forest;
 mod looking;
 mod node_table;
 mod owning;
-mod sending;
+mod ranges;
 mod tables;
 mod viewing;
 

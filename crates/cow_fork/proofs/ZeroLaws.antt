@@ -1,7 +1,8 @@
 -- What becomes of the clone tree and of the pool where a page is made zero.
-use Rattle.std.proofs.Common.{◌≡◌, ◌↔◌, ℕ, ◌+◌, ◌≤◌, Bool, true, false, Option, None, Some, refl, sym, ap, ◌∙◌, subst, inl, inr, arith}
+use Rattle.std.proofs.Common.{◌≡◌, ◌↔◌, ◌⊎◌, ℕ, ◌+◌, ◌≤◌, Bool, true, false, List, Option, None, Some, IsSome, refl, sym, ap, ◌∙◌, subst, inl, inr, arith}
 use Rattle.std.specs.Prelude.{is_some}
-use Rattle.vm_base.proofs.EntryLaws.{some_same, none_is}
+use Rattle.std.proofs.lemmas.Bool.{cases_eq}
+use Rattle.vm_base.proofs.EntryLaws.{some_same, some_is, none_is, without_key-same, without_key-other}
 use Rattle.vm_base.specs.Entries.{without_key}
 use Rattle.vm_base.specs.declared.names.Tag.{Tag}
 use Rattle.balanced_tree.specs.Rows.{Rows}
@@ -16,6 +17,7 @@ use Rattle.cow_arena.specs.declared.node.Side.{Side}
 use Rattle.cow_arena.specs.Nodes.{Arena, IsVisible, nodes_of}
 use Rattle.cow_arena.specs.Walk.{Slots, Tree, walk, frame_at, frame_in}
 use Rattle.cow_arena.specs.Ways.{Arrives, IsPartOf}
+use Rattle.cow_arena.proofs.AlikeLaws.{with_pair-other}
 use Rattle.cow_arena.proofs.WalkLaws.{walk-own}
 use Rattle.cow_arena.proofs.ReachLaws.{walk-ends, reach-hidden, hidden-apart}
 use Rattle.cow_split.specs.declared.answers.Cut.{Cut}
@@ -25,6 +27,7 @@ use Rattle.cow_split.specs.Trees.{tree_of, with_row, holder_of, frame_held}
 use Rattle.cow_split.specs.Sight.{IsLastViewer}
 use Rattle.cow_split.specs.Exact.{IsExact, all_in_sight, leaving_out, with_frame, without_frame}
 use Rattle.cow_split.specs.Cutting.{HasCut, frame_left}
+use Rattle.cow_split.proofs.ExactLaws.{cases_place}
 use Rattle.cow_split.proofs.RowLaws.{without_frame-none, with_frame-none, exact-in_use_alike, exact-in_sight, own_comes-shows, exact-own_gone, exact-own_comes, with_row-twice, frame-once, frame-shown}
 use Rattle.cow_fork.specs.Frames.{IsSole, LeavesFrame}
 use Rattle.cow_split.proofs.PartLaws.{part-with_pair, part-cut, stood-with_pair}
@@ -104,6 +107,13 @@ shown-frame : (t : Tree) (v p : ℕ) (found : Holder) → found ≡ holder_of (w
     frame_at t v p ≡ None → ⊥
 shown-frame t v p found is shown none = let some = ap is_some (held-shown t v p found is ∙ none) in absurd (cc)
 
+-- where one place gets a row, no other gets one
+put-places : (slots : Slots) (l q : ℕ) (row : Slot) (m r : ℕ) → IsSome (with_pair slots l q (Some row) m r) → IsSome (slots m r) ⊎ ((m ≡ l) × (r ≡ q))
+put-places slots l q row m r some = elim (cases_place l q m r) [
+  | inl here ↦ inr here
+  | inr apart ↦ inl (subst IsSome (with_pair-other slots l q (Some row) m r (λ a b. apart (a, b))) some)
+]
+
 -- a marker hides the frame above
 pub hidden-marked : {arena : Arena} {old : Rows Row} {v p : ℕ} {node : Node} (leaf : IsLeaf arena old v p node) (new : Rows Row)
     (in_use : ℕ → Bool) (found : Holder) → found ≡ holder_of (walk (tree_of arena old) v p) → is_some (frame_held found) ≡ true →
@@ -129,6 +139,9 @@ hidden-marked {arena} {old} {v} {p} {node} leaf new in_use found is shown exact 
       others = put-others leaf new (Some slot.Zero) put;
       stood = λ l q row tag at frame.
           stood-with_pair (slots_of old) node.list.0 p slot.Zero l q row tag (ap (λ (s : Slots). s l q) (sym put) ∙ at) frame (λ e. absurd (cc));
+      places = λ n at l q some.
+          subst (λ (m : Node). IsSome (slots_of old l q) ⊎ ((l ≡ m.list.0) × (q ≡ p))) (some_same (sym leaf.visible.at ∙ at))
+          (put-places (slots_of old) node.list.0 p slot.Zero l q (subst (λ (s : Slots). IsSome (s l q)) put some));
       spare = omega (arith, spare);
     }
 
@@ -146,6 +159,7 @@ hidden-bare arena old in_use v p found is none bare exact =
       needed = λ n at own. let free = bare n at in absurd (cc);
       others = λ w q page differs. refl;
       stood = λ l q row tag at frame. at;
+      places = λ n at l q some. inl some;
       spare = omega arith;
     }
 
@@ -162,6 +176,29 @@ given-used before after answer given kept n = elim (leaves_cases answer) [
   | inr stays ↦
       ap (λ frame. without_frame (is_taken before) frame n) stays.1
       ∙ (ap (λ (used : ℕ → Bool). used n) (without_frame-none (is_taken before)) ∙ taken-same before after (ap taken_frames (kept stays.0)) n)
+]
+
+-- no frame changes but one that is given back
+given-gives : (before after : Pool) (answer : Cut) →
+    ((tag : Tag) → answer ≡ cut.LastViewer tag → taken_frames after ≡ without_key (taken_frames before) tag.0) →
+    ((LeavesFrame answer → ⊥) → after ≡ before) → (t : ℕ) → (taken_frames after t ≡ taken_frames before t) ⊎ (taken_frames after t ≡ None)
+given-gives before after answer given kept t = elim (leaves_cases answer) [
+  | inl leaves ↦
+      let gone = ap (λ (map : ℕ → Option (List ℕ)). map t) (given leaves.tag leaves.last) in
+      elim (cases_eq t leaves.tag.0) [
+        | inl same ↦
+            inr (gone ∙ (ap (without_key (taken_frames before) leaves.tag.0) same ∙ without_key-same (taken_frames before) leaves.tag.0))
+        | inr apart ↦ inl (gone ∙ without_key-other (taken_frames before) leaves.tag.0 t apart)
+      ]
+  | inr stays ↦ inl (ap (λ (pool : Pool). taken_frames pool t) (kept stays.0))
+]
+
+-- a place that has a row had one, or is that of the page that is made zero
+part-places : (old mid : Rows Row) (list p l q : ℕ) → IsPartOf (slots_of old) (slots_of mid) → IsSome (slots_of mid l q) ⊎ ((l ≡ list) × (q ≡ p)) →
+    IsSome (slots_of old l q) ⊎ ((l ≡ list) × (q ≡ p))
+part-places old mid list p l q part place = elim place [
+  | inl some ↦ let it = some_is (slots_of mid l q) some in inl (ap is_some (part.had l q it.0 it.1).at)
+  | inr here ↦ inr here
 ]
 
 pub zeroed : {arena : Arena} {old mid new : Rows Row} {v p : ℕ} {answer : Cut} (before after : Pool) (found : Holder) →
@@ -184,6 +221,8 @@ zeroed {arena} {old} {mid} {new} {v} {p} {answer} before after found is shown go
       stood = λ l q row tag at frame. gone.part.had l q row (hidden.stood l q row tag at frame);
       links = links;
       frames = frames;
+      gives = given-gives before after answer given kept;
+      places = λ node at l q some. part-places old mid node.list.0 p l q gone.part (hidden.places node at l q some);
       slots = λ none. absurd (shows none);
       count = λ none. absurd (shows none);
       needed = λ some. hidden.needed;

@@ -1,5 +1,5 @@
--- The two steps by which a page that shows a frame is made zero. These frames are in use.
-use Rattle.std.specs.Prelude.{◌≡◌, ◌↔◌, ℕ, ◌+◌, ◌≤◌, Bool, None, Some}
+-- The two steps by which a page that shows a frame is made zero, where these frames are in use.
+use Rattle.std.specs.Prelude.{◌≡◌, ◌↔◌, ◌⊎◌, ℕ, ◌+◌, ◌≤◌, Bool, None, Some, IsSome}
 use Rattle.balanced_tree.specs.Rows.{Rows}
 use Rattle.vm_base.specs.declared.names.Tag.{Tag}
 use Rattle.page_list.specs.declared.row.Row.{Row}
@@ -34,4 +34,6 @@ pub record HasHidden (arena : Arena) (old new : Rows Row) (in_use : ℕ → Bool
   pub needed : IsNeeded arena new v p
   pub others : OthersShowSame (tree_of arena old) (tree_of arena new) v p
   pub stood : (l q : ℕ) (row : Slot) (t : ℕ) → slots_of new l q ≡ Some row → frame_in row ≡ Some t → slots_of old l q ≡ Some row
+  pub places : (node : Node) → nodes_of arena v ≡ Some node → (l q : ℕ) → IsSome (slots_of new l q) →
+      IsSome (slots_of old l q) ⊎ ((l ≡ node.list.0) × (q ≡ p))
   pub spare : old.spare ≤ new.spare + 1

@@ -1,5 +1,5 @@
 -- What it is to make a page of a VMO's node zero.
-use Rattle.std.specs.Prelude.{◌≡◌, ◌≢◌, ℕ, ◌+◌, ◌≤◌, None, Some}
+use Rattle.std.specs.Prelude.{◌≡◌, ◌≢◌, ◌⊎◌, ℕ, ◌+◌, ◌≤◌, None, Some, IsSome}
 use Rattle.balanced_tree.specs.Rows.{Rows}
 use Rattle.page_list.specs.declared.row.Row.{Row}
 use Rattle.page_list.specs.declared.row.Slot.{Slot}
@@ -34,6 +34,10 @@ pub record HasZeroed (arena : Arena) (old new : Rows Row) (before after : Pool) 
       HadRow (slots_of old) l q row
   pub links : links_of after ≡ links_of before
   pub frames : after.frames ≡ before.frames
+  -- no other frame changes, and no place but this page's gets a row
+  pub gives : (t : ℕ) → (taken_frames after t ≡ taken_frames before t) ⊎ (taken_frames after t ≡ None)
+  pub places : (node : Node) → nodes_of arena v ≡ Some node → (l q : ℕ) → IsSome (slots_of new l q) →
+      IsSome (slots_of old l q) ⊎ ((l ≡ node.list.0) × (q ≡ p))
   pub slots : frame_at (tree_of arena old) v p ≡ None → slots_of new ≡ slots_of old
   pub count : frame_at (tree_of arena old) v p ≡ None → row_count new ≡ row_count old
   pub spare : old.spare ≤ new.spare + 1

@@ -1,11 +1,14 @@
 use Rattle.std.proofs.Common.{arith}
 use Rattle.cow_split.specs.Trees.{tree_of}
-use Rattle.cow_forest.proofs.NextLaws.{look-start, look-passed, look-up, look-some, look-none, look-fits, look-there, look-window, look-less}
+use Rattle.cow_forest.proofs.NextLaws.{row-past, look-start, look-passed, look-up, look-some, look-none, look-fits, look-there, look-window, look-less}
 use Rattle.cow_forest.proofs.looking.next_row.Goals as goal
 
 pub loop-here-init : goal.loop-here-init
 loop-here-init c =
     look-start (tree_of c.args.arena.now c.args.lists.now) c.requires.exact c.args.leaf.0 c.args.from c.requires.leaf c.node-at.result c.node-at.ensures (omega arith)
+
+pub nearer-best-requires : goal.nearer-best-requires
+nearer-best-requires c = row-past _ _ _ _ _ c.next_below-row.ensures (omega (arith, c.loop-here.invariant.risen))
 
 pub returns-then-end-here : goal.returns-then-end-here
 returns-then-end-here c =

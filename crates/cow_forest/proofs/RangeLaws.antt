@@ -1,0 +1,306 @@
+-- Pages of a range that become zero, one after another and from row to row.
+use Rattle.std.proofs.Common.{◌≡◌, ◌≢◌, ◌⊎◌, ℕ, ◌+◌, ◌-◌, ◌<◌, ◌≤◌, Bool, true, false, ◌&&◌, ◌||◌, ◌==◌, Option, None, Some, IsSome, refl, sym, ap, subst, ◌∙◌, inl, inr, arith}
+use Rattle.std.specs.Prelude.{is_some, nat_le, IfSome}
+use Rattle.std.proofs.lemmas.Bool.{cases_lt, and_parts, and_from, or_cases, leb-true, le-leb, false_from_ne_true}
+use Rattle.vm_base.specs.declared.names.Tag.{Tag}
+use Rattle.vm_base.proofs.SearchLaws.{eqb_same, eqb_apart, eqb_is, bit-true, bit-false, count_below_less, count_below_one_more, count_below_change, count_below_hit}
+use Rattle.vm_base.proofs.EntryLaws.{some_same}
+use Rattle.balanced_tree.specs.Rows.{Rows}
+use Rattle.frame_pool.specs.Pool.{Pool, is_taken}
+use Rattle.page_list.specs.declared.row.Row.{Row}
+use Rattle.page_list.specs.declared.row.Slot.{Slot}
+use Rattle.page_list.specs.Lists.{slots_of}
+use Rattle.cow_arena.specs.declared.node.Node.{Node}
+use Rattle.cow_arena.specs.Nodes.{Arena, nodes_of}
+use Rattle.cow_arena.specs.Walk.{Tree, walk, frame_at}
+use Rattle.cow_split.specs.declared.answers.Holder.{Holder}
+use Rattle.cow_split.specs.Trees.{tree_of, holder_of, frame_held}
+use Rattle.cow_split.specs.Sight.{IsPage}
+use Rattle.cow_split.specs.Exact.{IsExact, all_in_sight}
+use Rattle.cow_split.proofs.ExactLaws.{cases_place}
+use Rattle.cow_fork.specs.Zeroing.{HasZeroed}
+use Rattle.cow_fork.proofs.HolderLaws.{held-shown}
+use Rattle.cow_forest.specs.Looking.{IsNextBelow}
+use Rattle.cow_forest.specs.Ranges.{rows_in, shown_from, IsReady, HasZeroedSome, HasNoFrame}
+
+-- ---- the rows of a range
+
+-- a row is passed, and the rest of the range has one less
+pub rows-next : (rows : ℕ → Option Slot) (from end row : ℕ) → from ≤ row → row < end → IsSome (rows row) →
+    rows_in rows (row + 1) end + 1 ≤ rows_in rows from end
+unfolding rows_in
+rows-next rows from end row low less some =
+    let rest : ℕ → Bool = λ p. nat_le (row + 1) p && is_some (rows p) in
+    let all : ℕ → Bool = λ p. nat_le from p && is_some (rows p) in
+    let also : ℕ → Bool = λ p. (p == row) || rest p in
+    let miss : rest row ≡ false = false_from_ne_true (rest row) (λ e. let le = leb-true (row + 1) row (and_parts (nat_le (row + 1) row) (is_some (rows row)) e).0 in absurd (omega arith)) in
+    let one = count_below_one_more end row rest also less miss (ap (λ b. b || rest row) (eqb_same row)) (λ j apart. ap (λ b. b || rest j) (eqb_apart j row apart)) in
+    let more = count_below_less end also all (λ j below e. elim (or_cases (j == row) (rest j) e) [
+      | inl same ↦ ap all (eqb_is j row same) ∙ and_from (nat_le from row) (is_some (rows row)) (le-leb from row low) some
+      | inr further ↦
+          let both = and_parts (nat_le (row + 1) j) (is_some (rows j)) further in
+          let past = leb-true (row + 1) j both.0 in
+          and_from (nat_le from j) (is_some (rows j)) (le-leb from j (omega arith)) both.1
+    ]) in
+    omega (arith, one, more)
+
+-- where no page from `from` on got a row, there are no more
+pub rows-less : (old new : ℕ → Option Slot) (from end : ℕ) → ((q : ℕ) → from ≤ q → IsSome (new q) → IsSome (old q)) → rows_in new from end ≤ rows_in old from end
+unfolding rows_in
+rows-less old new from end each =
+    count_below_less end (λ p. nat_le from p && is_some (new p)) (λ p. nat_le from p && is_some (old p)) (λ j below e.
+    let both = and_parts (nat_le from j) (is_some (new j)) e in
+    and_from (nat_le from j) (is_some (old j)) both.0 (each j (leb-true from j both.0) both.1))
+
+-- ---- the pages that show a frame
+
+-- what is not None is there
+some-from : {A : Type 0} (o : Option A) → o ≢ None → is_some o ≡ true
+some-from None apart = absurd (apart refl)
+some-from (Some a) apart = refl
+
+-- a page that became zero is one less
+shown-less : (old new : Tree) (v a n p : ℕ) → a ≤ p → p < a + n → ((q : ℕ) → q < a + n → q ≢ p → frame_at new v q ≡ frame_at old v q) →
+    frame_at old v p ≢ None → frame_at new v p ≡ None → shown_from new v a n + 1 ≡ shown_from old v a n
+unfolding shown_from
+shown-less old new v a n p low less same some none =
+    let before : ℕ → Bool = λ k. is_some (frame_at old v (a + k)) in
+    let after : ℕ → Bool = λ k. is_some (frame_at new v (a + k)) in
+    let place : a + (p - a) ≡ p = omega arith in
+    let was : before (p - a) ≡ true = ap (λ q. is_some (frame_at old v q)) place ∙ some-from (frame_at old v p) some in
+    let is : after (p - a) ≡ false = ap (λ q. is_some (frame_at new v q)) place ∙ ap is_some none in
+    let change = count_below_change n (p - a) before after (omega arith) (λ j below apart. ap is_some (same (a + j) (omega arith) (λ e. apart (omega arith)))) in
+    omega (arith, change, bit-true (before (p - a)) was, bit-false (after (p - a)) is)
+
+-- a page that shows a frame is counted
+shown-some : (t : Tree) (v first n p : ℕ) → first ≤ p → p < first + n → frame_at t v p ≢ None → 0 < shown_from t v first n
+unfolding shown_from
+shown-some t v first n p low less some =
+    let place : first + (p - first) ≡ p = omega arith in
+    count_below_hit n (p - first) (λ k. is_some (frame_at t v (first + k))) (omega arith)
+    (ap (λ q. is_some (frame_at t v q)) place ∙ some-from (frame_at t v p) some)
+
+-- ---- some pages of a range become zero
+
+module _ (arena : Arena) where
+  -- a page is one whatever the rows are
+  pub page-on : (old new : Rows Row) (w q : ℕ) → IsPage (tree_of arena old) w q → IsPage (tree_of arena new) w q
+  page-on old new w q page = record { node = page.node; visible = page.visible; below = page.below }
+
+  -- none so far
+  pub zeroed-none : (rows : Rows Row) (pool : Pool) (v first end : ℕ) → IsExact (tree_of arena rows) all_in_sight (is_taken pool) →
+      HasZeroedSome arena rows rows pool pool v first end
+  zeroed-none rows pool v first end exact = record {
+    exact = exact;
+    others = λ w q page apart. refl;
+    part = λ w q t page shows. shows;
+    gives = λ t. inl refl;
+    stood = λ l q row t at frame. record { row = row; at = at; frame = refl };
+    links = refl;
+    frames = refl;
+    places = λ node at l q some. inl some;
+    spare = λ node at a n low high below. omega arith;
+  }
+
+  -- one page, which showed a frame
+  pub zeroed-one : (old new : Rows Row) (before after : Pool) (v p : ℕ) → IsPage (tree_of arena old) v p → frame_at (tree_of arena old) v p ≢ None →
+      HasZeroed arena old new before after v p → HasZeroedSome arena old new before after v p (p + 1)
+  zeroed-one old new before after v p here some z = record {
+    exact = z.exact;
+    others = λ w q page apart. z.others w q page (λ same.
+        let place = same.1 in apart (same.0, omega arith, omega arith));
+    part = λ w q t page shows. elim (cases_place v p w q) [
+      | inl same ↦
+          let none : frame_at (tree_of arena new) w q ≡ None = rw (same.0, same.1) z.zero in
+          absurd (cc)
+      | inr apart ↦ sym (z.others w q page apart) ∙ shows
+    ];
+    gives = z.gives;
+    stood = z.stood;
+    links = z.links;
+    frames = z.frames;
+    places = λ node at l q row. elim (z.places node at l q row) [
+      | inl was ↦ inl was
+      | inr place ↦ let same = place.1 in inr (place.0, omega arith, omega arith)
+    ];
+    spare = λ node at a n low high below.
+        let page : (q : ℕ) → q < a + n → IsPage (tree_of arena old) v q = λ q less. record {
+          node = here.node;
+          visible = here.visible;
+          below = let same : here.node ≡ node = some_same (sym here.visible.at ∙ at) in subst (λ (n : Node). q < n.count) (sym same) (omega arith);
+        } in
+        let less = shown-less (tree_of arena old) (tree_of arena new) v a n p low (omega arith)
+        (λ q small apart. z.others v q (page q small) (λ same. apart same.1)) some z.zero in
+        omega (arith, less, z.spare);
+  }
+
+  -- more pages, in a range that has both
+  pub zeroed-then : (old mid new : Rows Row) (before between after : Pool) (v a b c d first end : ℕ) → HasZeroedSome arena old mid before between v a b →
+      HasZeroedSome arena mid new between after v c d → first ≤ a → b ≤ end → first ≤ c → d ≤ end → HasZeroedSome arena old new before after v first end
+  zeroed-then old mid new before between after v a b c d first end one two low high low_too high_too = record {
+    exact = two.exact;
+    others = λ w q page apart.
+        two.others w q (page-on old mid w q page) (λ here. apart (here.0, omega (arith, here.1), omega (arith, here.2)))
+        ∙ one.others w q page (λ here. apart (here.0, omega (arith, here.1), omega (arith, here.2)));
+    part = λ w q t page shows. one.part w q t page (two.part w q t (page-on old mid w q page) shows);
+    gives = λ t. elim (two.gives t) [
+      | inl same ↦ elim (one.gives t) [ inl was ↦ inl (same ∙ was) | inr gone ↦ inr (same ∙ gone) ]
+      | inr gone ↦ inr gone
+    ];
+    stood = λ l q row t at frame.
+        let had = two.stood l q row t at frame in
+        let stood = one.stood l q had.row t had.at (sym had.frame ∙ frame) in
+        record { row = stood.row; at = stood.at; frame = had.frame ∙ stood.frame };
+    links = two.links ∙ one.links;
+    frames = two.frames ∙ one.frames;
+    places = λ node at l q some. elim (two.places node at l q some) [
+      | inl mid_some ↦ elim (one.places node at l q mid_some) [
+        | inl was ↦ inl was
+        | inr place ↦ inr (place.0, omega (arith, place.1), omega (arith, place.2))
+      ]
+      | inr place ↦ inr (place.0, omega (arith, place.1), omega (arith, place.2))
+    ];
+    spare = λ node at x n start stop below.
+        omega (arith, one.spare node at x n (omega arith) (omega arith) below, two.spare node at x n (omega arith) (omega arith) below);
+  }
+
+  -- a wider range
+  pub zeroed-wider : (old new : Rows Row) (before after : Pool) (v a b first end : ℕ) → HasZeroedSome arena old new before after v a b → first ≤ a → b ≤ end →
+      HasZeroedSome arena old new before after v first end
+  zeroed-wider old new before after v a b first end is low high =
+      zeroed-then old new new before after after v a b a b first end is (zeroed-none new after v a b is.exact) low high low high
+
+  module _ (old : Rows Row) (before : Pool) (v first end : ℕ) (ready : IsReady arena old before v first end) where
+    -- the pages of the range are pages of the node
+    pub ready-page : (p : ℕ) → p < end → IsPage (tree_of arena old) v p
+    ready-page p less = record { node = ready.node; visible = ready.visible; below = omega (arith, less, ready.below) }
+
+    -- the rest of the range stays ready
+    pub ready-on : (new : Rows Row) (after : Pool) → HasZeroedSome arena old new before after v first end → IsReady arena new after v first end
+    ready-on new after is = record {
+      exact = is.exact;
+      node = ready.node;
+      visible = ready.visible;
+      order = ready.order;
+      below = ready.below;
+      room =
+          let kept = is.spare ready.node ready.visible.at first (end - first) (omega arith) (omega (arith, ready.order)) (omega (arith, ready.order, ready.below)) in
+          omega (arith, kept, ready.room);
+    }
+
+    -- there is room for a page that shows a frame
+    pub ready-room : (p : ℕ) → first ≤ p → p < end → frame_at (tree_of arena old) v p ≢ None → 1 ≤ old.spare
+    ready-room p low less some = omega (arith, shown-some (tree_of arena old) v first (end - first) p low (omega arith) some, ready.room)
+
+-- ---- the rows of one list
+
+-- The pages that come to the rows of the list from `here` to below `from` are passed, since the rows and the pool were the old ones,
+-- with a step for each row.
+pub record IsSweeping (arena : Arena) (old now : Rows Row) (before after : Pool) (v first list here to begun steps from : ℕ) : Type 0 where
+  pub order : here ≤ from
+  pub near : (from ≤ to) ⊎ (from ≡ here)
+  pub some : HasZeroedSome arena old now before after v first (first + (from - here))
+  pub passed : HasNoFrame (tree_of arena now) v first list here from
+  pub cost : steps + rows_in (slots_of old list) from to ≤ begun + rows_in (slots_of old list) here to
+
+module _ (arena : Arena) (old now : Rows Row) (before after : Pool) (v first end list here to begun steps from : ℕ)
+    (ready : IsReady arena old before v first end) (risen : first ≤ here) (within : (d : ℕ) → here + d < to → first + d < end)
+    (is : IsSweeping arena old now before after v first list here to begun steps from) where
+  -- the pages that are passed lie in the range
+  sweep-inside : first + (from - here) ≤ end
+  sweep-inside = elim is.near [
+    | inl near ↦ elim (cases_lt here from) [
+      | inl less ↦ let last = within (from - here - 1) (omega arith) in omega arith
+      | inr none ↦ omega (arith, none)
+    ]
+    | inr start ↦ omega (arith, start, ready.order)
+  ]
+
+  pub sweep-some : HasZeroedSome arena old now before after v first end
+  sweep-some = zeroed-wider arena old now before after v first (first + (from - here)) first end is.some (omega arith) sweep-inside
+
+  now-ready : IsReady arena now after v first end
+  now-ready = ready-on arena old before v first end ready now after sweep-some
+
+  pub sweep-exact : IsExact (tree_of arena now) all_in_sight (is_taken after)
+  sweep-exact = is.some.exact
+
+  module _ (row : ℕ) (low : from ≤ row) (less : row < to) where
+    -- the page that comes to the row
+    pub sweep-page : first ≤ row - (here - first) × (row - (here - first) < end) × (first + (row - here) ≡ row - (here - first))
+    sweep-page = let started = is.order in let inside = within (row - here) (omega arith) in (omega arith, omega arith, omega arith)
+
+    pub sweep-leaf : IsPage (tree_of arena now) v (row - (here - first))
+    sweep-leaf = ready-page arena now after v first end now-ready (row - (here - first)) sweep-page.1
+
+    pub sweep-room : frame_at (tree_of arena now) v (row - (here - first)) ≢ None → 1 ≤ now.spare
+    sweep-room = ready-room arena now after v first end now-ready (row - (here - first)) sweep-page.0 sweep-page.1
+
+  -- the list has no row any more
+  pub sweep-end : IsNextBelow (slots_of now list) from to None → HasNoFrame (tree_of arena now) v first list here to
+  sweep-end next d tag shown row less shows at frame = elim (cases_lt (here + d) from) [
+    | inl passed ↦ is.passed d tag shown row passed shows at frame
+    | inr past ↦ let none = next.free (here + d) past less in absurd (cc)
+  ]
+
+  -- the page that comes to the next row is zero now
+  pub sweep-on : (own : (node : Node) → nodes_of arena v ≡ Some node → list ≡ node.list.0 → here ≡ first) (row : ℕ) →
+      IsNextBelow (slots_of now list) from to (Some row) → (new : Rows Row) (last : Pool) →
+      HasZeroedSome arena now new after last v (row - (here - first)) (row - (here - first) + 1) →
+      frame_at (tree_of arena new) v (row - (here - first)) ≡ None → (taken : ℕ) → taken ≡ steps + 1 →
+      IsSweeping arena old new before last v first list here to begun taken (row + 1)
+  sweep-on own row next new last z none taken taken_is = record {
+    order = omega (arith, is.order, found.0);
+    near = inl (omega (arith, found.1));
+    some = zeroed-then arena old now new before after last v first (first + (from - here)) (row - (here - first)) (row - (here - first) + 1) first (first + (row + 1 - here))
+        is.some z (omega arith) (omega (arith, is.order, found.0)) page.0 (omega (arith, is.order, found.0, page.2));
+    passed = λ d tag shown at_row less shows at frame.
+        let had = z.stood list (here + d) at_row shown at frame in
+        elim (cases_lt (here + d) from) [
+          | inl passed ↦
+              is.passed d tag shown had.row passed
+              (z.part v (first + d) tag (sweep-leaf-of d passed) shows) had.at (sym had.frame ∙ frame)
+          | inr past ↦ elim (cases_lt (here + d) row) [
+            | inl before ↦ let free = next.free (here + d) past before in let there = had.at in absurd (cc)
+            | inr same ↦
+                let place : row - (here - first) ≡ first + d = omega (arith, is.order) in
+                let zero : frame_at (tree_of arena new) v (first + d) ≡ None = subst (λ p. frame_at (tree_of arena new) v p ≡ None) place none in
+                absurd (cc)
+          ]
+        ];
+    cost =
+        let one = rows-next (slots_of old list) from to row found.0 found.1 there in
+        omega (arith, one, is.cost, taken_is);
+  }
+    where
+      found : (from ≤ row) × (row < to) × IsSome (slots_of now list row)
+      found = next.found row refl
+
+      page : first ≤ row - (here - first) × (row - (here - first) < end) × (first + (row - here) ≡ row - (here - first))
+      page = sweep-page row found.0 found.1
+
+      sweep-leaf-of : (d : ℕ) → here + d < from → IsPage (tree_of arena now) v (first + d)
+      sweep-leaf-of d passed = ready-page arena now after v first end now-ready (first + d) (within d (omega (arith, found.0, found.1)))
+
+      -- the row stood there from the start
+      there : IsSome (slots_of old list row)
+      there = elim (is.some.places ready.node ready.visible.at list row found.2) [
+        | inl was ↦ was
+        | inr place ↦ absurd (let start = own ready.node ready.visible.at place.0 in omega (arith, place.2, found.0, is.order))
+      ]
+
+pub sweep-start : (arena : Arena) (old : Rows Row) (before : Pool) (v first list here to begun : ℕ) → IsExact (tree_of arena old) all_in_sight (is_taken before) →
+    IsSweeping arena old old before before v first list here to begun begun here
+sweep-start arena old before v first list here to begun exact = record {
+  order = omega arith;
+  near = inr refl;
+  some = zeroed-none arena old before v first (first + (here - here)) exact;
+  passed = λ d tag shown row less shows at frame. absurd (omega arith);
+  cost = omega arith;
+}
+
+-- a page whose holder has a frame shows it
+pub held-some : (t : Tree) (v p : ℕ) (found : Holder) (answer : Option Tag) → found ≡ holder_of (walk t v p) →
+    IfSome answer (λ tag. frame_held found ≡ Some tag.0) → is_some answer ≡ true → frame_at t v p ≢ None
+held-some t v p found None is frame some none = absurd (cc)
+held-some t v p found (Some tag) is frame some none = let shown = sym (held-shown t v p found is) ∙ frame in absurd (cc)

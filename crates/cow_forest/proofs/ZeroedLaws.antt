@@ -1,0 +1,100 @@
+-- A range of a VMO becomes zero where the pages of its node do.
+use Rattle.std.proofs.Common.{◌≡◌, ◌⊎◌, ℕ, ◌+◌, ◌-◌, ◌<◌, ◌≤◌, List, [], Option, None, Some, refl, sym, ap, subst, ◌∙◌, inl, inr, arith}
+use Rattle.std.specs.Prelude.{is_some, unwrap_or}
+use Rattle.vm_base.proofs.SearchLaws.{count_below_same}
+use Rattle.vm_base.specs.declared.limits.TheConstants.{VMO_PAGES}
+use Rattle.balanced_tree.specs.Rows.{Rows}
+use Rattle.vm_model.specs.Contents.Content.{Page, is_held, pages_of}
+use Rattle.vm_model.specs.Contents.Zeroing.{zeroed}
+use Rattle.vm_model.proofs.ZeroingLaws.{cases_zeroed, page-zeroed_in, page-zeroed_out}
+use Rattle.frame_pool.specs.declared.frame_pool.Backlink.{Backlink}
+use Rattle.frame_pool.specs.Pool.{Pool, is_taken, frame_bytes}
+use Rattle.page_list.specs.declared.row.Row.{Row}
+use Rattle.cow_arena.specs.Walk.{frame_at}
+use Rattle.cow_split.specs.Trees.{tree_of}
+use Rattle.cow_split.specs.Exact.{all_in_sight}
+use Rattle.cow_split.proofs.RowLaws.{frame-in_use}
+use Rattle.cow_merge.specs.Ranges.{AreLinked}
+use Rattle.page_store.specs.Held.{held_from}
+use Rattle.page_store.proofs.HeldLaws.{same_content}
+use Rattle.cow_forest.specs.Store.{Forest, tree, content_of, page_showing, HasNode, IsStore}
+use Rattle.cow_forest.specs.Ranges.{shown_from, IsReady, HasZeroedSome, AreZero}
+use Rattle.cow_forest.proofs.ContentLaws.{node-visible, one-vmo, page-of, pages-of}
+use Rattle.cow_forest.proofs.StoreLaws.{with_rows, node-kept, store-kept, page-same}
+
+showing-there : (pool : Pool) (frame : Option ℕ) → is_some (page_showing pool frame) ≡ is_some frame
+showing-there pool None = refl
+showing-there pool (Some t) = refl
+
+module _ (f : Forest) (s : IsStore f) (v k : ℕ) (h : HasNode f v k) where
+  -- as many pages are held as show a frame
+  pub held-shown : (first n : ℕ) → held_from (content_of f) v first n ≡ shown_from (tree f) k first n
+  unfolding held_from shown_from
+  held-shown first n = count_below_same n (λ j. is_held (content_of f) v (first + j)) (λ j. is_some (frame_at (tree f) k (first + j))) (λ j less.
+      ap (λ (page : Option Page). is_some page) (page-of f s v k (first + j) h) ∙ showing-there f.pool (frame_at (tree f) k (first + j)))
+
+  -- a range of a VMO ends in the bounds of its greatest size
+  pub range-fits : (first n : ℕ) → first + n ≤ pages_of (content_of f) v → first + n ≤ VMO_PAGES
+  range-fits first n range = omega (arith, range, pages-of f s v k h, s.counts v k h.node h.is)
+
+  pub range-ready : (first n : ℕ) → first + n ≤ pages_of (content_of f) v → held_from (content_of f) v first n ≤ f.rows.spare →
+      IsReady f.arena f.rows f.pool k first (first + n)
+  range-ready first n range room = record {
+    exact = s.exact;
+    node = h.node;
+    visible = node-visible f s v k h;
+    order = omega arith;
+    below = omega (arith, range, pages-of f s v k h);
+    room =
+        let length : (first + n) - first ≡ n = omega arith in
+        let same = ap (shown_from (tree f) k first) length in
+        omega (arith, same, held-shown first n, room);
+  }
+
+  module _ (rows : Rows Row) (pool : Pool) (first end : ℕ) (z : HasZeroedSome f.arena f.rows rows f.pool pool k first end) where
+    -- the rows that are left stood where they stand
+    linked : AreLinked rows pool
+    linked = record {
+      linked = λ l q row t at frame.
+          let had = z.stood l q row t at frame in
+          ap (λ (map : ℕ → Backlink). map t) z.links ∙ s.linked.linked l q had.row t had.at (sym had.frame ∙ frame);
+    }
+
+    pub store-ranged : IsStore (with_rows f rows pool)
+    store-ranged = store-kept f rows pool s z.exact linked
+
+    -- the frames that are shown keep their bytes
+    bytes : (w q t : ℕ) → frame_at (tree_of f.arena rows) w q ≡ Some t → frame_bytes pool t ≡ frame_bytes f.pool t
+    bytes w q t shows = elim (z.gives t) [
+      | inl same ↦ ap (λ (o : Option (List ℕ)). unwrap_or o []) same
+      | inr gone ↦
+          let still = frame-in_use (tree_of f.arena rows) all_in_sight (is_taken pool) z.exact w q t shows in
+          let none = ap is_some gone in
+          absurd (cc)
+    ]
+
+    -- a page outside the range is as it was
+    outside : (w q : ℕ) → (w ≡ v → (q < first) ⊎ (end ≤ q)) → (content_of (with_rows f rows pool)).page w q ≡ (content_of f).page w q
+    outside w q out = page-same f rows pool s store-ranged w q (λ j its page.
+        let same : frame_at (tree_of f.arena rows) j q ≡ frame_at (tree f) j q = z.others j q page (λ here.
+        elim (out (one-vmo f s w v k (subst (HasNode f w) here.0 its) h)) [
+          | inl before ↦ omega (arith, before, here.1)
+          | inr past ↦ omega (arith, past, here.2)
+        ]) in
+        record { frame = same; bytes = λ t e. bytes j q t (same ∙ e) })
+
+    pub content-ranged : AreZero (tree_of f.arena rows) k first end → content_of (with_rows f rows pool) ≡ zeroed (content_of f) v first end
+    unfolding zeroed
+    content-ranged zero = same_content _ _ z.frames refl (λ w. refl) (λ w q. elim (cases_zeroed v first end w q) [
+      | inl inside ↦
+          ap (λ u. (content_of (with_rows f rows pool)).page u q) inside.0
+          ∙ (page-of (with_rows f rows pool) store-ranged v k q (node-kept f rows pool v k h) ∙ ap (page_showing pool) (zero q inside.1 inside.2))
+          ∙ sym (page-zeroed_in (content_of f) v first end w q inside.0 inside.1 inside.2)
+      | inr out ↦ outside w q out ∙ sym (page-zeroed_out (content_of f) v first end w q out)
+    ])
+
+    -- the room that is left
+    pub spare-ranged : (n : ℕ) → end ≡ first + n → first + n ≤ pages_of (content_of f) v → f.rows.spare ≤ rows.spare + held_from (content_of f) v first n
+    spare-ranged n end_is range =
+        let kept = z.spare h.node h.is.at first n (omega arith) (omega arith) (omega (arith, range, pages-of f s v k h)) in
+        omega (arith, kept, held-shown first n)

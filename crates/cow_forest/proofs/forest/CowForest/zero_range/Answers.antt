@@ -1,0 +1,48 @@
+use Rattle.std.proofs.Common.{◌+◌, ◌≤◌, refl, sym, subst, ◌∙◌, arith}
+use Rattle.cow_arena.specs.Nodes.{nodes_of}
+use Rattle.cow_arena.proofs.WalkLaws.{link_same}
+use Rattle.cow_split.specs.Cost.{depth}
+use Rattle.cow_forest.specs.Fields.{forest_of}
+use Rattle.cow_forest.specs.Ranges.{rows_reached}
+use Rattle.cow_forest.specs.Store.{tree}
+use Rattle.cow_forest.proofs.ContentLaws.{vmo-found}
+use Rattle.cow_forest.proofs.ZeroedLaws.{range-fits, range-ready, store-ranged, content-ranged, spare-ranged}
+use Rattle.cow_forest.proofs.forest.CowForest.zero_range.Goals as goal
+
+pub get-node-requires : goal.get-node-requires
+get-node-requires g c = vmo-found (forest_of c.self.inside) c.self.invariant.store c.args.v.0 (rw (← c.self.view_is) at c.requires.vmo)
+
+pub overflow_add-end : goal.overflow_add-end
+overflow_add-end g c =
+    let h = c.self.invariant.store.named c.args.v.0 c.get-node.result c.get-node.ensures in
+    let fits = range-fits (forest_of c.self.inside) c.self.invariant.store c.args.v.0 c.get-node.result.0 h c.args.first c.args.count (rw (← c.self.view_is) at c.requires.range) in
+    omega arith
+
+pub zero_pages-requires : goal.zero_pages-requires
+zero_pages-requires g c =
+    let h = c.self.invariant.store.named c.args.v.0 c.get-node.result c.get-node.ensures in
+    range-ready (forest_of c.self.inside) c.self.invariant.store c.args.v.0 c.get-node.result.0 h c.args.first c.args.count
+    (rw (← c.self.view_is) at c.requires.range) (rw (← c.self.view_is) at c.requires.room)
+
+pub invariant_of-self : goal.invariant_of-self
+invariant_of-self g c =
+    let h = c.self.invariant.store.named c.args.v.0 c.get-node.result c.get-node.ensures in
+    record { store = store-ranged (forest_of c.self.inside) c.self.invariant.store c.args.v.0 c.get-node.result.0 h _ _ _ _ c.zero_pages.ensures.some }
+
+pub returns-clause-content : goal.returns-clause-content
+returns-clause-content g c =
+    let h = c.self.invariant.store.named c.args.v.0 c.get-node.result c.get-node.ensures in
+    rw (← c.self.view_is) (content-ranged (forest_of c.self.inside) c.self.invariant.store c.args.v.0 c.get-node.result.0 h _ _ _ _ c.zero_pages.ensures.some
+    c.zero_pages.ensures.zero)
+
+pub returns-clause-spare : goal.returns-clause-spare
+returns-clause-spare g c =
+    let h = c.self.invariant.store.named c.args.v.0 c.get-node.result c.get-node.ensures in
+    rw (← c.self.view_is) (spare-ranged (forest_of c.self.inside) c.self.invariant.store c.args.v.0 c.get-node.result.0 h _ _ _ _ c.zero_pages.ensures.some
+    c.args.count refl (rw (← c.self.view_is) at c.requires.range))
+
+pub returns-clause-cost : goal.returns-clause-cost
+returns-clause-cost g c = rw (← c.self.view_is) (λ k is.
+    let same = link_same (sym c.get-node.ensures ∙ is) in
+    subst (λ j. c.zero_pages.new.steps ≤ c.args.steps.now + rows_reached (tree (forest_of c.self.inside)) j c.args.first (c.args.first + c.args.count)
+    + depth (nodes_of c.self.inside.arena) c.self.inside.arena.lists j) same c.zero_pages.ensures.cost)

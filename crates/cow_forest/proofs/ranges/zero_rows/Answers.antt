@@ -1,0 +1,31 @@
+use Rattle.std.proofs.Common.{refl, arith}
+use Rattle.cow_forest.proofs.RangeLaws.{sweep-some, sweep-leaf, sweep-room, sweep-on}
+use Rattle.cow_forest.proofs.ranges.zero_rows.Goals as goal
+
+pub overflow_sub-row : goal.overflow_sub-row
+overflow_sub-row g c = omega (arith, c.in-Some.ensures.next.found c.in-Some.row refl, c.loop-row.invariant.order)
+
+pub zero_shown-requires-clause-page : goal.zero_shown-requires-clause-page
+zero_shown-requires-clause-page g c =
+    let found = c.in-Some.ensures.next.found c.in-Some.row refl in
+    sweep-leaf _ _ _ _ _ _ _ _ _ _ _ _ _ _ c.requires.ready c.requires.order c.requires.within c.loop-row.invariant c.in-Some.row found.0 found.1
+
+pub zero_shown-requires-clause-room : goal.zero_shown-requires-clause-room
+zero_shown-requires-clause-room g c =
+    let found = c.in-Some.ensures.next.found c.in-Some.row refl in
+    sweep-room _ _ _ _ _ _ _ _ _ _ _ _ _ _ c.requires.ready c.requires.order c.requires.within c.loop-row.invariant c.in-Some.row found.0 found.1
+
+pub overflow_add-from : goal.overflow_add-from
+overflow_add-from g c = omega (arith, c.in-Some.ensures.next.found c.in-Some.row refl)
+
+pub loop-row-smaller : goal.loop-row-smaller
+loop-row-smaller g c = omega (arith, c.in-Some.ensures.next.found c.in-Some.row refl)
+
+pub loop-row-preserved : goal.loop-row-preserved
+loop-row-preserved g c =
+    sweep-on _ _ _ _ _ _ _ _ _ _ _ _ _ _ c.requires.ready c.requires.order c.requires.within c.loop-row.invariant c.requires.own c.in-Some.row
+    c.in-Some.ensures.next _ _ c.zero_shown.ensures.some c.zero_shown.ensures.zero _ c.in-Some.ensures.cost
+
+pub returns-clause-some : goal.returns-clause-some
+returns-clause-some g c =
+    sweep-some _ _ _ _ _ _ _ _ _ _ _ _ _ _ c.requires.ready c.requires.order c.requires.within c.loop-row.invariant

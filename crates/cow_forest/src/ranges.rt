@@ -1,0 +1,125 @@
+//! Making a range of pages zero, from row to row.
+
+ghost use Rattle.std.specs.Prelude.{◌≡◌, ◌≢◌, ◌+◌, ◌<◌, ◌≤◌, ℕ, None};
+ghost use Rattle.page_list.specs.Lists.{slots_of};
+ghost use Rattle.frame_pool.specs.Pool.{is_taken};
+ghost use Rattle.cow_arena.specs.declared.node.Node.{Node};
+ghost use Rattle.cow_arena.specs.Nodes.{nodes_of};
+ghost use Rattle.cow_arena.specs.Walk.{frame_at};
+ghost use Rattle.cow_split.specs.Trees.{tree_of};
+ghost use Rattle.cow_split.specs.Cost.{depth};
+ghost use Rattle.cow_split.specs.Sight.{IsPage};
+ghost use Rattle.cow_split.specs.Exact.{IsExact, all_in_sight};
+ghost use Rattle.cow_forest.specs.Looking.{IsNextBelow};
+ghost use Rattle.cow_forest.specs.Ranges.{rows_in, rows_reached, IsReady, HasZeroedSome, AreZero, HasNoFrame};
+
+use cow_arena::{CowArena, NodeId};
+use cow_fork::mark_zero;
+use cow_split::holder;
+use frame_pool::FramePool;
+use page_list::{ListId, PageLists, Steps};
+use std::sync::ledger::Ledger;
+use vm_base::PageNo;
+
+/// Makes the pages of a VMO's node from `first` to below `end` zero. It goes by the rows in reach: those of the node itself, and
+/// then those of each node above it, on the pages to which the range comes through the windows. It takes one step for each of
+/// these rows, and one for each node.
+pub(crate) fn zero_pages<L: Ledger>(
+    arena: &CowArena,
+    lists: &mut PageLists,
+    frames: &mut FramePool,
+    leaf: NodeId,
+    first: PageNo,
+    end: PageNo,
+    steps: &mut Steps<L>,
+)
+    requires { IsReady arena.now lists.old frames.old leaf.0 first end }
+    ensures some { HasZeroedSome arena.now lists.old lists.new frames.old frames.new leaf.0 first end }
+    ensures zero { AreZero (tree_of arena.now lists.new) leaf.0 first end }
+    ensures cost { steps.new ≤ steps.old + rows_reached (tree_of arena.now lists.old) leaf.0 first end
+        + depth (nodes_of arena.now) arena.now.lists leaf.0 }
+{
+    let mut at = arena.node(leaf);
+    let mut here = first;
+    let mut to = end;
+    loop {
+        zero_rows(
+            arena, lists, frames, leaf, first, end, at.list, here, to, steps,
+        );
+        let stop = to.min(at.seen);
+        if stop <= here {
+            return;
+        }
+        let Some(parent) = at.parent else {
+            return;
+        };
+        let above = arena.node(parent);
+        prove!(above.count <= u64::MAX);
+        here += at.first;
+        to = stop + at.first;
+        at = above;
+    }
+}
+
+/// Makes those pages of a VMO's node zero that come to the rows of a list on its pages from `here` to below `to`. Page `first`
+/// comes to page `here`, and the pages behind it to those behind that. It takes a step for each row, and one more.
+fn zero_rows<L: Ledger>(
+    arena: &CowArena,
+    lists: &mut PageLists,
+    frames: &mut FramePool,
+    leaf: NodeId,
+    first: PageNo,
+    end: PageNo,
+    list: ListId,
+    here: PageNo,
+    to: PageNo,
+    steps: &mut Steps<L>,
+)
+    requires ready { IsReady arena.now lists.old frames.old leaf.0 first end }
+    requires order { first ≤ here }
+    requires within { (d : ℕ) → here + d < to → first + d < end }
+    requires own { (node : Node) → nodes_of arena.now leaf.0 ≡ Some node → list.0 ≡ node.list.0 → here ≡ first }
+    ensures some { HasZeroedSome arena.now lists.old lists.new frames.old frames.new leaf.0 first end }
+    ensures passed { HasNoFrame (tree_of arena.now lists.new) leaf.0 first list.0 here to }
+    ensures cost { steps.new ≤ steps.old + rows_in (slots_of lists.old list.0) here to + 1 }
+{
+    let mut from = here;
+    while let Some(row) = next_counted_below(lists, list, from, to, steps) {
+        zero_shown(arena, lists, frames, leaf, row - (here - first));
+        from = row + 1;
+    }
+}
+
+/// Does what `next_below` does, and counts a step for the call.
+fn next_counted_below<L: Ledger>(
+    lists: &PageLists,
+    list: ListId,
+    from: PageNo,
+    to: PageNo,
+    steps: &mut Steps<L>,
+) -> Option<PageNo>
+    ensures next { IsNextBelow (slots_of lists.now list.0) from to result }
+    ensures cost { steps.new ≡ steps.old + 1 }
+{
+    let row = lists.next_counted(list, from, steps)?;
+    if row < to { Some(row) } else { None }
+}
+
+/// Makes a page of a VMO's node zero, if it shows a frame. There is room for a row then.
+fn zero_shown(
+    arena: &CowArena,
+    lists: &mut PageLists,
+    frames: &mut FramePool,
+    leaf: NodeId,
+    page: PageNo,
+)
+    requires exact { IsExact (tree_of arena.now lists.old) all_in_sight (is_taken frames.old) }
+    requires page { IsPage (tree_of arena.now lists.old) leaf.0 page }
+    requires room { frame_at (tree_of arena.now lists.old) leaf.0 page ≢ None → 1 ≤ lists.old.spare }
+    ensures some { HasZeroedSome arena.now lists.old lists.new frames.old frames.new leaf.0 page (page + 1) }
+    ensures zero { frame_at (tree_of arena.now lists.new) leaf.0 page ≡ None }
+{
+    if holder(arena, lists, leaf, page).frame().is_some() {
+        mark_zero(arena, lists, frames, leaf, page);
+    }
+}
