@@ -16,3 +16,4 @@ pub mod WindowWalkLaws
 pub mod ViewLaws
 pub mod RenamedLaws
 pub mod RenamedOverLaws
+pub mod RisesLaws

@@ -132,7 +132,7 @@ module _ (t : Tree) (nodes : Nodes) (lists k : ℕ) (f : IsForest t.nodes t.list
   abbrev after : Tree
   after = record { nodes = nodes; slots = t.slots; lists = lists }
 
-  abbrev IsOther : ℕ → Type 0
+  abbrev pub IsOther : ℕ → Type 0
   IsOther j = (node : Node) × (t.nodes j ≡ Some node) × (j ≢ k)
 
   hidden_other : (x : ℕ) (above : Node) → t.nodes x ≡ Some above → above.koid ≡ None → IsOther x
@@ -144,8 +144,8 @@ module _ (t : Tree) (nodes : Nodes) (lists k : ℕ) (f : IsForest t.nodes t.list
   other_above : (j p x q : ℕ) → Climbs t j p x q → IsOther x
   other_above j p x q step = let below = climb_below t f.rank f.by j p x q step in hidden_other x below.above below.at below.hidden
 
-  same_other : (j : ℕ) → IsOther j → SameStep t after j j
-  same_other j other =
+  pub other-same : (j : ℕ) → IsOther j → SameStep t after j j
+  other-same j other =
       let now_at = change.stay j other.0 other.1 other.2 in
       record {
         node = other.0;
@@ -162,10 +162,10 @@ module _ (t : Tree) (nodes : Nodes) (lists k : ℕ) (f : IsForest t.nodes t.list
       }
 
   pub walk-stays : (j p : ℕ) (node : Node) → t.nodes j ≡ Some node → j ≢ k → walk after j p ≡ walk t j p
-  walk-stays j p node at apart = walk-moved t after f g IsOther same_other (λ j p x q _ step. other_above j p x q step) j p (node, at, apart)
+  walk-stays j p node at apart = walk-moved t after f g IsOther other-same (λ j p x q _ step. other_above j p x q step) j p (node, at, apart)
 
   pub reach-stays : (j p : ℕ) (side : Side) (h q : ℕ) (node : Node) → t.nodes j ≡ Some node → j ≢ k → Reaches t j p side h q ↔ Reaches after j p side h q
   reach-stays j p side h q node at apart = (
-    reach-moved t after f g IsOther same_other (λ j p x q _ step. other_above j p x q step) j p side h q (node, at, apart),
-    reach-back t after f g IsOther same_other (λ j p x q _ step. other_above j p x q step) j p side h q (node, at, apart),
+    reach-moved t after f g IsOther other-same (λ j p x q _ step. other_above j p x q step) j p side h q (node, at, apart),
+    reach-back t after f g IsOther other-same (λ j p x q _ step. other_above j p x q step) j p side h q (node, at, apart),
   )

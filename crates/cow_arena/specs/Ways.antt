@@ -1,5 +1,5 @@
 -- The ways upwards: from which pages of which nodes a walk comes to a page of a node.
-use Rattle.std.specs.Prelude.{◌≡◌, ℕ, zero, suc, ◌+◌, ◌<◌, ◌≤◌, Option, None, Some}
+use Rattle.std.specs.Prelude.{◌≡◌, ◌≢◌, ◌⊎◌, ℕ, zero, suc, ◌+◌, ◌<◌, ◌≤◌, Option, None, Some}
 use Rattle.std.specs.Option.{option_map}
 use Rattle.page_list.specs.declared.row.Slot.{Slot}
 use Rattle.cow_arena.specs.declared.node.Node.{Node}
@@ -82,3 +82,23 @@ pub record Sight : Type 0 where
 
 abbrev pub sight_of : Found → Sight
 sight_of it = record { node = it.node; page = it.page; side = it.side; frame = frame_in it.slot }
+
+-- page p of node k lies in the node's window, and is page q of its parent h
+pub record IsPageAbove (t : Tree) (k p h q : ℕ) : Type 0 where
+  pub node : Node
+  pub at : t.nodes k ≡ Some node
+  pub inside : p < node.seen
+  pub parent : node.parent ≡ link_to h
+  pub page : q ≡ node.first + p
+
+-- A walk that goes on upwards from page p of node k comes to page q of node h, from this side: node h is the parent, or the walk
+-- comes there from the parent's page. Whether node k has a row at page p is not asked.
+pub record Rises (t : Tree) (k p : ℕ) (side : Side) (h q : ℕ) : Type 0 where
+  pub j : ℕ
+  pub r : ℕ
+  pub step : IsPageAbove t k p j r
+  pub further : ((j ≡ h) × (r ≡ q) × (side_in t.nodes k ≡ Some side)) ⊎ Reaches t j r side h q
+
+-- no list but this one gets a row at a page that had none
+pub record KeepsBare (old new : Slots) (list : ℕ) : Type 0 where
+  pub bare : (l q : ℕ) → l ≢ list → old l q ≡ None → new l q ≡ None

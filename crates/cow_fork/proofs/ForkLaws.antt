@@ -21,10 +21,10 @@ use Rattle.cow_split.specs.Exact.{IsExact, all_in_sight, with_frame, without_fra
 use Rattle.cow_split.specs.Cutting.{HasCut, frame_left}
 use Rattle.cow_split.proofs.RowLaws.{without_frame-none, exact-in_use_alike, exact-own_comes, exact-own_filled}
 use Rattle.cow_fork.specs.Frames.{bytes_shown, IsSole, HasSole, HasFree, LeavesFrame}
-use Rattle.cow_split.proofs.PartLaws.{part-cut, stood-with_pair}
+use Rattle.cow_split.proofs.PartLaws.{part-cut, bare-part, bare-then, stood-with_pair}
 use Rattle.cow_fork.specs.Forking.{HasForked}
 use Rattle.cow_fork.proofs.PoolLaws.{with_frame-back, without_frame-same, taken-with, taken-unused}
-use Rattle.cow_fork.proofs.LeafLaws.{IsLeaf, others-on, leaf-on, put-tree, put-row, put-others}
+use Rattle.cow_fork.proofs.LeafLaws.{IsLeaf, others-on, leaf-on, put-tree, put-row, put-others, put-rows}
 use Rattle.cow_fork.proofs.CutOffLaws.{IsCutOff, cut-free, cut-exact, cut-other, leaves_cases, leaves-sole}
 use Rattle.cow_fork.proofs.HolderLaws.{own-shown}
 
@@ -71,6 +71,7 @@ module _ {arena : Arena} {old : Rows Row} {v p : ℕ} {node : Node} (leaf : IsLe
           at = stood-put (slots_of old) (slots_of new) node.list.0 p tag put l q its n at frame apart;
           frame = refl;
         };
+        rows = put-rows leaf new row put;
         links = links;
         frames = frames;
         spare = omega (arith, spare);
@@ -150,6 +151,9 @@ forked-cut {arena} {old} {mid} {v} {p} {node} {answer} leaf none is new before a
       stood = λ l q its n at frame apart.
           (part-cut arena old mid v p answer leaf.forest node leaf.visible none is).had l q its
           (stood-put (slots_of mid) (slots_of new) node.list.0 p tag put l q its n at frame apart);
+      rows = λ n at. bare-then (slots_of old) (slots_of mid) (slots_of new) n.list.0
+          (bare-part (slots_of old) (slots_of mid) n.list.0 (part-cut arena old mid v p answer leaf.forest node leaf.visible none is))
+          (put-rows (leaf-on leaf mid) new row put n at);
       links = has.links;
       frames = has.frames;
       spare = let kept = is.spare in omega (arith, spare, kept);

@@ -10,10 +10,12 @@ use Rattle.cow_arena.specs.declared.node.Node.{Node}
 use Rattle.cow_arena.specs.Nodes.{Arena, IsVisible, nodes_of}
 use Rattle.cow_arena.specs.Walk.{Slots, Tree}
 use Rattle.cow_arena.specs.Forest.{IsForest}
+use Rattle.cow_arena.specs.Ways.{KeepsBare}
 use Rattle.cow_arena.proofs.AlikeLaws.{with_pair-same, with_pair-other}
 use Rattle.cow_split.specs.Trees.{tree_of, with_row}
 use Rattle.cow_split.specs.Sight.{IsPage, OthersShowSame}
 use Rattle.cow_split.proofs.ExactLaws.{cases_place}
+use Rattle.cow_split.proofs.PartLaws.{bare-put}
 use Rattle.cow_split.proofs.RowLaws.{own-shows}
 
 -- p is a page of the visible node v, which is this, in the tree of these rows
@@ -73,3 +75,8 @@ module _ {arena : Arena} {old : Rows Row} {v p : ℕ} {node : Node} (leaf : IsLe
     pub put-others : OthersShowSame (tree_of arena old) (tree_of arena new) v p
     put-others = subst (λ (u : Tree). OthersShowSame (tree_of arena old) u v p) (sym put-tree)
         (own-shows (tree_of arena old) v p node leaf.visible leaf.forest row)
+
+    pub put-rows : (n : Node) → nodes_of arena v ≡ Some n → KeepsBare (slots_of old) (slots_of new) n.list.0
+    put-rows n at =
+        subst (λ (m : Node). KeepsBare (slots_of old) (slots_of new) m.list.0) (some_same (sym leaf.visible.at ∙ at))
+        (subst (λ (s : Slots). KeepsBare (slots_of old) s node.list.0) (sym put) (bare-put (slots_of old) node.list.0 p row))

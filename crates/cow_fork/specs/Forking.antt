@@ -9,7 +9,7 @@ use Rattle.frame_pool.specs.Pool.{Pool, Takes, taken_frames, is_taken, links_of}
 use Rattle.cow_arena.specs.declared.node.Node.{Node}
 use Rattle.cow_arena.specs.Nodes.{Arena, nodes_of}
 use Rattle.cow_arena.specs.Walk.{frame_at, frame_in}
-use Rattle.cow_arena.specs.Ways.{HadRow}
+use Rattle.cow_arena.specs.Ways.{HadRow, KeepsBare}
 use Rattle.cow_split.specs.Trees.{tree_of}
 use Rattle.cow_split.specs.Sight.{OthersShowSame}
 use Rattle.cow_split.specs.Exact.{IsExact, all_in_sight}
@@ -28,6 +28,8 @@ pub record HasForked (arena : Arena) (old new : Rows Row) (before after : Pool) 
   -- each row with another frame had this frame there before, and no backlink changes
   pub stood : (l q : ℕ) (row : Slot) (t : ℕ) → slots_of new l q ≡ Some row → frame_in row ≡ Some t → t ≢ tag →
       HadRow (slots_of old) l q row
+  -- no list but that of v gets a row
+  pub rows : (node : Node) → nodes_of arena v ≡ Some node → KeepsBare (slots_of old) (slots_of new) node.list.0
   pub links : links_of after ≡ links_of before
   pub frames : after.frames ≡ before.frames
   pub spare : old.spare ≤ new.spare + 1

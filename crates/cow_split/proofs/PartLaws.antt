@@ -14,7 +14,7 @@ use Rattle.cow_arena.specs.declared.node.Side.TheVariants as side
 use Rattle.cow_arena.specs.Nodes.{Arena, nodes_of, IsVisible}
 use Rattle.cow_arena.specs.Walk.{Slots, Tree, frame_in}
 use Rattle.cow_arena.specs.Forest.{IsForest}
-use Rattle.cow_arena.specs.Ways.{HadRow, IsPartOf}
+use Rattle.cow_arena.specs.Ways.{HadRow, IsPartOf, KeepsBare}
 use Rattle.cow_arena.proofs.AlikeLaws.{with_pair-same, with_pair-other}
 use Rattle.cow_split.specs.declared.answers.Cut.{Cut}
 use Rattle.cow_split.specs.Trees.{tree_of}
@@ -91,3 +91,17 @@ stood-with_pair slots l q put m r row tag at frame other = elim (cases_place l q
       absurd (other (ap frame_in (some_same (sym there ∙ at)) ∙ frame))
   | inr apart ↦ sym (with_pair-other slots l q (Some put) m r (λ a b. apart (a, b))) ∙ at
 ]
+
+-- ---- no list but one gets a row at a page that had none
+
+pub bare-same : (slots : Slots) (list : ℕ) → KeepsBare slots slots list
+bare-same slots list = record { bare = λ l q apart none. none }
+
+pub bare-part : (old new : Slots) (list : ℕ) → IsPartOf old new → KeepsBare old new list
+bare-part old new list part = record { bare = λ l q apart none. part-none old new part l q none }
+
+pub bare-put : (slots : Slots) (list p : ℕ) (now : Option Slot) → KeepsBare slots (with_pair slots list p now) list
+bare-put slots list p now = record { bare = λ l q apart none. with_pair-other slots list p now l q (λ same page. apart same) ∙ none }
+
+pub bare-then : (old mid new : Slots) (list : ℕ) → KeepsBare old mid list → KeepsBare mid new list → KeepsBare old new list
+bare-then old mid new list first second = record { bare = λ l q apart none. second.bare l q apart (first.bare l q apart none) }

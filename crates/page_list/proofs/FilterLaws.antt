@@ -143,3 +143,17 @@ filtered-end {f} {was} old seen filtered l from word is zero = record {
         let set = filtered.set l p some in
         let clear = bit-none f l p (sym is ∙ zero) in
         absurd (cc)
+
+-- a page whose bit of the list's word is clear has no row
+pub bare-clear : {f : Filter} {was : Rows Row} (old : Rows Row) → was ≡ old → AreFiltered f was → (l word : ℕ) → word ≡ word_in f l →
+    (p : ℕ) → bit_at word (p % 64) ≡ 0 → slots_of old l p ≡ None
+unfolding has_bit
+bare-clear {f} {was} old seen filtered l word is p clear = nothing (slots_of old l p) refl
+  where
+    nothing : (slot : Option Slot) → slots_of old l p ≡ slot → slots_of old l p ≡ None
+    nothing None at = at
+    nothing (Some slot) at =
+        let some : IsSome (slots_of was l p) = subst (λ rows. IsSome (slots_of rows l p)) (sym seen) (subst IsSome (sym at) refl) in
+        let set : eqb (bit_at (word_in f l) (p % 64)) 1 ≡ true = filtered.set l p some in
+        let off : eqb (bit_at (word_in f l) (p % 64)) 1 ≡ false = ap (λ w. eqb (bit_at w (p % 64)) 1) (sym is) ∙ ap (λ x. eqb x 1) clear in
+        absurd (cc)

@@ -1,6 +1,7 @@
 //! The table of all page lists.
 
-ghost use Rattle.std.specs.Prelude.{◌≡◌, ◌+◌, ◌-◌, ◌^◌, ◌≤◌, ◌<◌, None, Some, Bool, OnOk, IsTrue, IsSome, IfSome, IfNone};
+ghost use Rattle.std.specs.Prelude.{◌≡◌, ℕ, ◌+◌, ◌-◌, ◌^◌, ◌%◌, ◌≤◌, ◌<◌, None, Some, Bool, OnOk, IsTrue, IsSome, IfSome, IfNone};
+ghost use Rattle.std.specs.Int.{bit_at};
 ghost use Rattle.std.specs.Option.{option_map};
 ghost use Rattle.vm_base.specs.declared.names.Tag.{Tag};
 ghost use Rattle.page_list.specs.declared.row.Slot.{Slot};
@@ -123,8 +124,15 @@ impl PageLists {
         slot_in(self.tree.find(pair_rank(list.0, page)))
     }
 
-    /// Adds a row to a page of a list that has none. It costs one way down the tree, O(log n), and sets one bit of the
-    /// filter.
+    /// Which pages of a list may have a row, by the page's number modulo 64: bit b is clear only where no page p with
+    /// p % 64 = b has one. It costs one load.
+    pub fn pages(&self, list: ListId) -> u64
+        ensures { (page : ℕ) → bit_at result (page % 64) ≡ 0 → slots_of self.now list.0 page ≡ None }
+    {
+        self.filter.word(list.0)
+    }
+
+    /// Adds a row to a page of a list that has none. It costs one way down the tree, and sets one bit of the filter.
     pub fn insert(&mut self, list: ListId, page: PageNo, slot: Slot)
         requires absent { slots_of self.old list.0 page ≡ None }
         requires room { 1 ≤ self.old.spare }
