@@ -73,7 +73,7 @@ rises-moved t u k i p side h q steps side_is reaches rises = record {
 }
 
 -- the parent of a node is there, and hidden
-above-hidden : (t : Tree) → IsForest t.nodes t.lists → (k p h q : ℕ) → IsPageAbove t k p h q → (above : Node) × (t.nodes h ≡ Some above) × (above.koid ≡ None)
+pub above-hidden : (t : Tree) → IsForest t.nodes t.lists → (k p h q : ℕ) → IsPageAbove t k p h q → (above : Node) × (t.nodes h ≡ Some above) × (above.koid ≡ None)
 above-hidden t f k p h q step = let below = f.by.below h k step.node step.at step.parent in (below.above, below.at, below.hidden)
 
 -- Rows go, and the visible node v gets some.

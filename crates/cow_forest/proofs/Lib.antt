@@ -18,6 +18,5 @@ pub mod EnterLaws
 pub mod MakingLaws
 pub mod SnapshotLaws
 pub mod OwnedLaws
-pub mod RangeLaws
-pub mod RisingLaws
-pub mod ZeroedLaws
+pub mod JumpLaws
+pub mod JumpKeptLaws

@@ -20,6 +20,7 @@ use Rattle.cow_split.specs.declared.answers.Holder.TheVariants as holder
 use Rattle.cow_split.specs.Trees.{tree_of, holder_of}
 use Rattle.cow_split.specs.Exact.{IsExact, all_in_sight}
 use Rattle.cow_split.proofs.RowLaws.{exact-in_use_alike}
+use Rattle.cow_split.proofs.PartLaws.{bare-same}
 use Rattle.cow_fork.specs.Frames.{IsSole}
 use Rattle.cow_fork.specs.Forking.{HasForked}
 use Rattle.cow_fork.proofs.LeafLaws.{IsLeaf, leaf-on, leaf-row}
@@ -66,6 +67,7 @@ module _ {arena : Arena} {rows : Rows Row} {v p : ℕ} {node : Node} (leaf : IsL
     stays = λ t is. (some_same (sym sole.shows ∙ is.shows), refl);
     taken = λ none. absurd (none tag sole);
     own = own;
+    rows = λ n at. bare-same (slots_of rows) n.list.0;
     frames = refl;
     spare = omega arith;
   }
@@ -103,6 +105,7 @@ module _ {arena : Arena} {rows : Rows Row} {v p : ℕ} {node : Node} (leaf : IsL
           stays = λ t sole. let moved = forked.moved t sole in (moved.0, same ∙ moved.1);
           taken = λ shared. let takes = forked.taken shared in record { below = takes.below; was_free = takes.was_free; taken = same ∙ takes.taken };
           own = λ room. forked.own;
+          rows = forked.rows;
           frames = frames ∙ forked.frames;
           spare = forked.spare;
         }

@@ -1,6 +1,7 @@
 -- How the fields of the forest are seen, and what holds of them.
 use Rattle.cow_forest.specs.declared.forest.CowForest.TheInside.{Inside}
-use Rattle.cow_forest.specs.Store.{Forest, IsStore}
+use Rattle.cow_forest.specs.Store.{Forest, tree, IsStore}
+use Rattle.cow_forest.specs.Jumps.{AreJumps}
 
 abbrev pub forest_of : Inside → Forest
 forest_of a = record {
@@ -13,6 +14,7 @@ forest_of a = record {
   vmos = a.vmos;
 }
 
--- the fields are a store
+-- the fields are a store, and the jumps say what its tree says
 pub record AreStore (a : Inside) : Type 0 where
   pub store : IsStore (forest_of a)
+  pub jumps : AreJumps (tree (forest_of a)) a.next a.jumps

@@ -6,4 +6,4 @@ pub mod Owning
 pub mod Looking
 pub mod Counting
 pub mod Viewing
-pub mod Ranges
+pub mod Jumps

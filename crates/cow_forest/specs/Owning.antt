@@ -10,6 +10,7 @@ use Rattle.page_list.specs.Lists.{slots_of}
 use Rattle.cow_arena.specs.declared.node.Node.{Node}
 use Rattle.cow_arena.specs.Nodes.{Arena, nodes_of}
 use Rattle.cow_arena.specs.Walk.{frame_at}
+use Rattle.cow_arena.specs.Ways.{KeepsBare}
 use Rattle.cow_split.specs.declared.answers.Holder.{Holder}
 use Rattle.cow_split.specs.declared.answers.Holder.TheVariants as holder
 use Rattle.cow_split.specs.Trees.{tree_of}
@@ -46,5 +47,7 @@ pub record HasOwned (arena : Arena) (old new : Rows Row) (before after : Pool) (
   pub taken : ((t : ℕ) → IsSole (tree_of arena old) v p t → ⊥) →
       Takes before after tag (bytes_shown before (frame_at (tree_of arena old) v p))
   pub own : 1 ≤ old.spare → HasOwnRow arena new v p tag
+  -- no list but that of v gets a row
+  pub rows : (node : Node) → nodes_of arena v ≡ Some node → KeepsBare (slots_of old) (slots_of new) node.list.0
   pub frames : after.frames ≡ before.frames
   pub spare : old.spare ≤ new.spare + 1

@@ -20,6 +20,8 @@ ghost use Rattle.cow_forest.specs.Owning.{HasOwnRow};
 ghost use Rattle.cow_forest.specs.Counting.{frame_row_count};
 ghost use Rattle.cow_forest.specs.Ranges.{rows_reached};
 
+use crate::jumping::note_pair;
+use crate::jumps::JumpTable;
 use crate::looking::{look_at, look_at_counted, next_shown};
 use crate::node_table::NodeTable;
 use crate::owning::own_page;
@@ -53,6 +55,8 @@ pub struct CowForest {
     next: u64,
     /// How many VMOs there are.
     vmos: u64,
+    /// Ways upwards over many nodes. Contracts do not see them.
+    jumps: JumpTable,
 }
 
 impl Model for CowForest {
@@ -80,6 +84,7 @@ impl CowForest {
             owners: NodeTable::new(alloc),
             next: 1,
             vmos: 0,
+            jumps: JumpTable::new(alloc),
         }
     }
 
@@ -124,7 +129,14 @@ impl CowForest {
         ensures cost { (most k : ℕ) → IsMostOfLookUp (row_count self.now.rows) most → node_in self.now.nodes v.0 ≡ link_to k →
             steps.new ≤ steps.old + depth (nodes_of self.now.arena) self.now.arena.lists k * most }
     {
-        look_at_counted(&self.arena, &self.lists, self.nodes.get(v.0), page, steps)
+        look_at_counted(
+            &self.arena,
+            &self.lists,
+            &self.jumps,
+            self.nodes.get(v.0),
+            page,
+            steps,
+        )
     }
 
     /// Makes `count` pages of a VMO from page `first` on zero, as `zero` makes each of them. There is room (`spare`) for each
@@ -223,6 +235,16 @@ impl PageStore for CowForest {
             seen,
             count,
         )?;
+        self.jumps.move_up(node, pair.hidden, pair.child);
+        self.jumps.grow(self.arena.capacity());
+        note_pair(
+            &mut self.jumps,
+            &self.arena,
+            &self.lists,
+            node,
+            pair,
+            koid.0,
+        );
         self.nodes.enter(koid.0, pair.child);
         self.owners
             .enter(self.arena.node(pair.hidden).list.0, pair.hidden);
@@ -241,7 +263,13 @@ impl PageStore for CowForest {
 
     #[inline(always)]
     fn look(&self, v: Koid, page: PageNo) -> Look {
-        look_at(&self.arena, &self.lists, self.nodes.get(v.0), page)
+        look_at(
+            &self.arena,
+            &self.lists,
+            &self.jumps,
+            self.nodes.get(v.0),
+            page,
+        )
     }
 
     #[inline(always)]
@@ -255,7 +283,14 @@ impl PageStore for CowForest {
             HasOwnRow self.new.arena self.new.rows k page result.0 }
     {
         let node = self.nodes.get(v.0);
-        own_page(&self.arena, &mut self.lists, &mut self.frames, node, page)
+        own_page(
+            &self.arena,
+            &mut self.lists,
+            &mut self.frames,
+            &self.jumps,
+            node,
+            page,
+        )
     }
 
     fn zero(&mut self, v: Koid, page: PageNo)
@@ -280,6 +315,7 @@ impl PageStore for CowForest {
         ensures rows { row_count self.new.rows ≤ row_count self.old.rows }
     {
         let node = self.nodes.get(v.0);
+        self.jumps.forget(self.next);
         if count < self.arena.node(node).count {
             shrink(
                 &mut self.arena,
@@ -299,6 +335,7 @@ impl PageStore for CowForest {
         ensures rows { row_count self.new.rows ≤ row_count self.old.rows }
     {
         let node = self.nodes.get(v.0);
+        self.jumps.forget(self.next);
         let merged = disown(&mut self.owners, &self.arena, node);
         close(&mut self.arena, &mut self.lists, &mut self.frames, node);
         leave_other(&mut self.owners, &self.arena, merged);

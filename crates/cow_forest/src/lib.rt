@@ -7,6 +7,8 @@
 #![tactic(auto)]
 
 mod forest;
+mod jumping;
+mod jumps;
 mod looking;
 mod node_table;
 mod owning;

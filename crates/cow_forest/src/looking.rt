@@ -8,26 +8,36 @@ ghost use Rattle.cow_split.specs.Trees.{tree_of, holder_of};
 ghost use Rattle.cow_split.specs.Cost.{IsMostOfLookUp, depth};
 ghost use Rattle.cow_split.specs.Sight.{IsPage};
 ghost use Rattle.cow_split.specs.Exact.{IsExact, all_in_sight};
+ghost use Rattle.cow_forest.specs.Jumps.{AreJumps};
 ghost use Rattle.cow_forest.specs.Looking.{look_in, IsLook, ShowsNoneIn, ShowsNoneFrom, IsNextBelow, nearer_page};
 
+use crate::jumping::{above_by_jumps, holder_by_jumps_counted};
+use crate::jumps::JumpTable;
 use cow_arena::{CowArena, NodeId};
-use cow_split::{Holder, holder, holder_above, holder_counted, is_last};
+use cow_split::{Holder, holder, is_last};
 use page_list::{ListId, PageLists, Slot, Steps};
 use page_store::Look;
 use std::sync::ledger::Ledger;
 use vm_base::PageNo;
 
-/// What a page of a VMO's node is. If the page has a row of its own or lies outside the node's window, it costs one
-/// look-up in the lists.
-pub(crate) fn look_at(arena: &CowArena, lists: &PageLists, leaf: NodeId, page: PageNo) -> Look
+/// What a page of a VMO's node is. One with a row of its own, or outside the node's window,
+/// costs one look-up in the lists.
+pub(crate) fn look_at(
+    arena: &CowArena,
+    lists: &PageLists,
+    jumps: &JumpTable,
+    leaf: NodeId,
+    page: PageNo,
+) -> Look
     requires exact { (in_use : ℕ → Bool) × IsExact (tree_of arena.now lists.now) all_in_sight in_use }
+    requires jumps { (next : ℕ) × AreJumps (tree_of arena.now lists.now) next jumps.now }
     requires page { IsPage (tree_of arena.now lists.now) leaf.0 page }
     ensures { IsLook (tree_of arena.now lists.now) leaf.0 page result }
 {
     if let Some(slot) = lists.find(arena.look(leaf).list, page) {
         return look_in(slot);
     }
-    look_upwards(arena, lists, leaf, page)
+    look_upwards(arena, lists, jumps, leaf, page)
 }
 
 /// What a page with this row of its own is.
@@ -42,8 +52,15 @@ fn look_in(slot: Slot) -> Look
 
 /// Does what `look_at` does, by the walk upwards. The page has no row of its own.
 #[inline(never)]
-fn look_upwards(arena: &CowArena, lists: &PageLists, leaf: NodeId, page: PageNo) -> Look
+fn look_upwards(
+    arena: &CowArena,
+    lists: &PageLists,
+    jumps: &JumpTable,
+    leaf: NodeId,
+    page: PageNo,
+) -> Look
     requires exact { (in_use : ℕ → Bool) × IsExact (tree_of arena.now lists.now) all_in_sight in_use }
+    requires jumps { (next : ℕ) × AreJumps (tree_of arena.now lists.now) next jumps.now }
     requires page { IsPage (tree_of arena.now lists.now) leaf.0 page }
     requires bare { IsSomeAnd (nodes_of arena.now leaf.0) (λ node. slots_of lists.now node.list.0 page ≡ None) }
     ensures { IsLook (tree_of arena.now lists.now) leaf.0 page result }
@@ -51,25 +68,27 @@ fn look_upwards(arena: &CowArena, lists: &PageLists, leaf: NodeId, page: PageNo)
     if arena.look(leaf).seen <= page {
         return Look::Zero;
     }
-    let found = holder_above(arena, lists, leaf, page);
+    let found = above_by_jumps(arena, lists, jumps, leaf, page);
     look_found(arena, lists, leaf, page, found)
 }
 
-/// Does what `look_at` does, and counts the steps of the walk upwards: one look-up for each node on the way.
+/// Does what `look_at` does, and counts the steps of the walk upwards: one look-up for each node to which it comes.
 pub(crate) fn look_at_counted<L: Ledger>(
     arena: &CowArena,
     lists: &PageLists,
+    jumps: &JumpTable,
     leaf: NodeId,
     page: PageNo,
     steps: &mut Steps<L>,
 ) -> Look
     requires exact { (in_use : ℕ → Bool) × IsExact (tree_of arena.now lists.now) all_in_sight in_use }
+    requires jumps { (next : ℕ) × AreJumps (tree_of arena.now lists.now) next jumps.now }
     requires page { IsPage (tree_of arena.now lists.now) leaf.0 page }
     ensures look { IsLook (tree_of arena.now lists.now) leaf.0 page result }
     ensures cost { (most : ℕ) → IsMostOfLookUp (row_count lists.now) most →
         steps.new ≤ steps.old + depth (nodes_of arena.now) arena.now.lists leaf.0 * most }
 {
-    let found = holder_counted(arena, lists, leaf, page, steps);
+    let found = holder_by_jumps_counted(arena, lists, jumps, leaf, page, steps);
     look_found(arena, lists, leaf, page, found)
 }
 

@@ -1,6 +1,6 @@
 //! Owning a page before it is written.
 
-ghost use Rattle.std.specs.Prelude.{◌≡◌, ◌≤◌, ◌⊎◌, None};
+ghost use Rattle.std.specs.Prelude.{◌≡◌, ◌≤◌, ◌⊎◌, ℕ, None};
 ghost use Rattle.frame_pool.specs.Pool.{is_taken};
 ghost use Rattle.cow_arena.specs.Walk.{walk};
 ghost use Rattle.cow_split.specs.Trees.{tree_of, holder_of};
@@ -8,11 +8,14 @@ ghost use Rattle.cow_split.specs.Sight.{IsPage};
 ghost use Rattle.cow_split.specs.Exact.{IsExact, all_in_sight};
 ghost use Rattle.cow_fork.specs.Frames.{HasSole, HasFree};
 ghost use Rattle.cow_merge.specs.Ranges.{AreLinked};
+ghost use Rattle.cow_forest.specs.Jumps.{AreJumps};
 ghost use Rattle.cow_forest.specs.Owning.{own_frame, HasOwned};
 
+use crate::jumping::holder_by_jumps;
+use crate::jumps::JumpTable;
 use cow_arena::{CowArena, NodeId};
 use cow_fork::fork_holder;
-use cow_split::{Holder, holder};
+use cow_split::Holder;
 use frame_pool::{Backlink, FramePool};
 use page_list::{PageLists, Slot};
 use vm_base::{PageNo, Tag};
@@ -35,16 +38,18 @@ pub(crate) fn own_page(
     arena: &CowArena,
     lists: &mut PageLists,
     frames: &mut FramePool,
+    jumps: &JumpTable,
     leaf: NodeId,
     page: PageNo,
 ) -> Tag
     requires exact { IsExact (tree_of arena.now lists.old) all_in_sight (is_taken frames.old) }
+    requires jumps { (next : ℕ) × AreJumps (tree_of arena.now lists.old) next jumps.now }
     requires linked { AreLinked lists.old frames.old }
     requires page { IsPage (tree_of arena.now lists.old) leaf.0 page }
     requires room { HasSole (tree_of arena.now lists.old) leaf.0 page ⊎ ((1 ≤ lists.old.spare) × HasFree frames.old) }
     ensures { HasOwned arena.now lists.old lists.new frames.old frames.new leaf.0 page result.0 }
 {
-    let found = holder(arena, lists, leaf, page);
+    let found = holder_by_jumps(arena, lists, jumps, leaf, page);
     if let Some(tag) = own_tag(found) {
         return tag;
     }

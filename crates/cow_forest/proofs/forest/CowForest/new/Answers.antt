@@ -1,9 +1,10 @@
 use Rattle.std.proofs.Common.{refl}
-use Rattle.cow_forest.specs.Store.{Forest}
+use Rattle.cow_forest.specs.Store.{Forest, tree}
 use Rattle.cow_forest.proofs.EmptyLaws.{HasNothing, store-empty, content-empty}
+use Rattle.cow_forest.proofs.JumpLaws.{empty-jumps}
 use Rattle.cow_forest.proofs.forest.CowForest.new.Goals as goal
 
-abbrev made : goal.After-new-5 → Forest
+abbrev made : goal.After-new-6 → Forest
 made c = record {
   arena = c.new.result;
   rows = c.new-2.result;
@@ -14,7 +15,7 @@ made c = record {
   vmos = 0;
 }
 
-nothing-there : (c : goal.After-new-5) → HasNothing (made c)
+nothing-there : (c : goal.After-new-6) → HasNothing (made c)
 nothing-there c = record {
   nodes = c.new.ensures.nodes;
   lists = c.new.ensures.lists;
@@ -28,7 +29,10 @@ nothing-there c = record {
 }
 
 pub invariant_of-result : goal.invariant_of-result
-invariant_of-result c = record { store = store-empty (made c) (nothing-there c) }
+invariant_of-result c = record {
+  store = store-empty (made c) (nothing-there c);
+  jumps = empty-jumps (tree (made c)) 1 c.new-6.result c.new-6.ensures;
+}
 
 pub returns : goal.returns
 returns c = record { content = content-empty (made c) (nothing-there c) c.new-3.ensures.frames }

@@ -7,6 +7,7 @@ use Rattle.cow_arena.specs.Nodes.{Nodes, nodes_of}
 use Rattle.cow_forest.specs.Fields.{forest_of}
 use Rattle.cow_forest.proofs.EnterLaws.{store-alike, vmos_le}
 use Rattle.cow_forest.proofs.MakingLaws.{HasRoot, store-made, content-made}
+use Rattle.cow_forest.proofs.JumpKeptLaws.{jumps-alike, tree-alike, jumps-root}
 use Rattle.cow_forest.proofs.forest.CowForestPageStore.create.Goals as goal
 
 -- nothing came where there was no room
@@ -15,6 +16,7 @@ invariant_of-self c = record {
   store = store-alike (forest_of c.self.inside) _ _ _
       (record { arena_nodes = refl; lists = refl; visible = refl; nodes_in = c.make_room.ensures.nodes; owners_in = c.make_room.ensures.owners })
       c.self.invariant.store;
+  jumps = c.self.invariant.jumps;
 }
 
 pub invariant_of-self-in_err-node : goal.invariant_of-self-in_err-node
@@ -28,6 +30,8 @@ invariant_of-self-in_err-node c = record {
         owners_in = c.make_room.ensures.owners;
       })
       c.self.invariant.store;
+  jumps = jumps-alike _ _ c.self.inside.next c.self.inside.jumps
+      (tree-alike c.self.inside.arena c.add_root.new.self c.self.inside.lists c.in_err-node.ensures.err c.in_err-node.ensures.err_lists) c.self.invariant.jumps;
 }
 
 pub node-requires : goal.node-requires
@@ -52,7 +56,11 @@ came c = record {
 }
 
 pub invariant_of-self-2 : goal.invariant_of-self-2
-invariant_of-self-2 c = record { store = store-made (forest_of c.self.inside) c.self.invariant.store _ _ _ _ _ (came c) }
+invariant_of-self-2 c = record {
+  store = store-made (forest_of c.self.inside) c.self.invariant.store _ _ _ _ _ (came c);
+  jumps = jumps-root (forest_of c.self.inside) c.self.invariant.store c.add_root.new.self c.in_ok-node.node.0 c.self.inside.next c.args.count c.in_ok-node.ensures.new
+      c.in_ok-node.ensures.nodes c.add_root.ensures.forest c.self.inside.next c.self.inside.jumps c.self.invariant.jumps;
+}
 
 pub returns-clause-ok : goal.returns-clause-ok
 returns-clause-ok c = rw (← c.self.view_is) (content-made (forest_of c.self.inside) c.self.invariant.store _ _ _ _ _ (came c))

@@ -1,7 +1,9 @@
 use Rattle.std.proofs.Common.{ap}
 use Rattle.std.specs.Prelude.{is_some}
 use Rattle.cow_forest.specs.Fields.{forest_of}
+use Rattle.cow_forest.specs.Store.{tree}
 use Rattle.cow_forest.proofs.LeavingLaws.{one-of, store-left, content-left}
+use Rattle.cow_forest.proofs.JumpLaws.{no-jumps}
 use Rattle.cow_forest.proofs.forest.CowForestPageStore.drop_vmo.Goals as goal
 
 pub disown-merged-requires-clause-leaf : goal.disown-merged-requires-clause-leaf
@@ -28,6 +30,7 @@ invariant_of-self c =
       store = store-left (forest_of c.self.inside) _ _ _ _ _ _ c.args.v.0 c.get-node.result.0 s h c.close.ensures c.disown-merged.result
           (record { family = c.disown-merged.ensures.family; root = c.disown-merged.ensures.root }) c.disown-merged.ensures.disowned c.leave_other.ensures
           c.leave.ensures;
+      jumps = no-jumps (tree (forest_of c.self.inside)) _ c.self.inside.next c.self.inside.jumps c.forget.new.self c.forget.ensures.jumps c.forget.ensures.floor c.self.invariant.jumps;
     }
 
 pub returns-clause-content : goal.returns-clause-content

@@ -24,6 +24,7 @@ pub invariant_of-self : goal.invariant_of-self
 invariant_of-self c = record {
   store = either (forest_of c.self.inside) c.fill.new.self c.fill.result c.self.invariant.store (rw (← c.self.view_is) at c.requires.empty)
       c.fill.ensures.taken c.fill.ensures.err;
+  jumps = c.self.invariant.jumps;
 }
 
 pub returns-clause-ok : goal.returns-clause-ok

@@ -4,8 +4,10 @@ use Rattle.vm_base.proofs.EntryLaws.{some_same}
 use Rattle.cow_arena.specs.declared.node.Node.{Node}
 use Rattle.cow_merge.specs.Merging.{HasShrunk}
 use Rattle.cow_forest.specs.Fields.{forest_of}
+use Rattle.cow_forest.specs.Store.{tree}
 use Rattle.cow_forest.proofs.ContentLaws.{node-visible}
 use Rattle.cow_forest.proofs.ResizingLaws.{shrunk-grown, store-resized, content-resized}
+use Rattle.cow_forest.proofs.JumpLaws.{no-jumps}
 use Rattle.cow_forest.proofs.forest.CowForestPageStore.set_count.Goals as goal
 
 pub shrink-requires-clause-leaf : goal.shrink-requires-clause-leaf
@@ -25,7 +27,10 @@ pub invariant_of-self : goal.invariant_of-self
 invariant_of-self c =
     let s = c.self.invariant.store in
     let h = s.named c.args.v.0 c.get-node.result c.get-node.ensures in
-    record { store = store-resized (forest_of c.self.inside) _ _ _ c.args.v.0 c.get-node.result.0 c.args.count s h c.shrink.ensures c.requires.count }
+    record {
+      store = store-resized (forest_of c.self.inside) _ _ _ c.args.v.0 c.get-node.result.0 c.args.count s h c.shrink.ensures c.requires.count;
+      jumps = no-jumps (tree (forest_of c.self.inside)) _ c.self.inside.next c.self.inside.jumps c.forget.new.self c.forget.ensures.jumps c.forget.ensures.floor c.self.invariant.jumps;
+    }
 
 pub returns-then-count-node-clause-content : goal.returns-then-count-node-clause-content
 returns-then-count-node-clause-content c =
@@ -46,7 +51,10 @@ pub invariant_of-self-else-count-node : goal.invariant_of-self-else-count-node
 invariant_of-self-else-count-node c =
     let s = c.self.invariant.store in
     let h = s.named c.args.v.0 c.get-node.result c.get-node.ensures in
-    record { store = store-resized (forest_of c.self.inside) _ _ _ c.args.v.0 c.get-node.result.0 c.args.count s h (grown c) c.requires.count }
+    record {
+      store = store-resized (forest_of c.self.inside) _ _ _ c.args.v.0 c.get-node.result.0 c.args.count s h (grown c) c.requires.count;
+      jumps = no-jumps (tree (forest_of c.self.inside)) _ c.self.inside.next c.self.inside.jumps c.forget.new.self c.forget.ensures.jumps c.forget.ensures.floor c.self.invariant.jumps;
+    }
 
 pub returns-else-count-node-clause-content : goal.returns-else-count-node-clause-content
 returns-else-count-node-clause-content c =

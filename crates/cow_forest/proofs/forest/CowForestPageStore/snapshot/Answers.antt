@@ -1,11 +1,17 @@
-use Rattle.std.proofs.Common.{ℕ, Option, refl, ap, ◌∙◌, arith}
+use Rattle.std.proofs.Common.{ℕ, Option, refl, sym, ap, ◌∙◌, arith}
 use Rattle.std.specs.Prelude.{is_some}
 use Rattle.vm_base.specs.Entries.{with_key}
 use Rattle.cow_arena.specs.declared.node.NodeId.{NodeId}
+use Rattle.frame_pool.specs.Pool.{is_taken}
+use Rattle.cow_arena.specs.Nodes.{nodes_of}
+use Rattle.cow_arena.proofs.ForestLaws.{held_apart}
+use Rattle.cow_split.specs.Trees.{tree_of}
 use Rattle.cow_forest.specs.Fields.{forest_of}
+use Rattle.cow_forest.proofs.JumpLaws.{fewer-jumps}
 use Rattle.cow_forest.proofs.ContentLaws.{pages-of}
 use Rattle.cow_forest.proofs.EnterLaws.{found-node, store-alike, vmos_le}
 use Rattle.cow_forest.proofs.SnapshotLaws.{hidden-held, leaf-held, HasPair, store-shared, content-shared}
+use Rattle.cow_forest.proofs.JumpKeptLaws.{jumps-alike, tree-alike, jumps-shared}
 use Rattle.cow_forest.proofs.forest.CowForestPageStore.snapshot.Goals as goal
 
 -- nothing came where there was no room
@@ -14,6 +20,7 @@ invariant_of-self c = record {
   store = store-alike (forest_of c.self.inside) _ _ _
       (record { arena_nodes = refl; lists = refl; visible = refl; nodes_in = c.make_room.ensures.nodes; owners_in = c.make_room.ensures.owners })
       c.self.invariant.store;
+  jumps = c.self.invariant.jumps;
 }
 
 pub invariant_of-self-in_err-pair : goal.invariant_of-self-in_err-pair
@@ -27,6 +34,8 @@ invariant_of-self-in_err-pair c = rw c.in_err-pair.ensures.err_rows (record {
         owners_in = c.make_room.ensures.owners;
       })
       c.self.invariant.store;
+  jumps = jumps-alike _ _ c.self.inside.next c.self.inside.jumps
+      (tree-alike c.self.inside.arena c.share.new.arena c.self.inside.lists c.in_err-pair.ensures.err c.in_err-pair.ensures.err_lists) c.self.invariant.jumps;
 })
 
 pub share-requires-clause-leaf : goal.share-requires-clause-leaf
@@ -70,7 +79,10 @@ came c = record {
 pub invariant_of-self-2 : goal.invariant_of-self-2
 invariant_of-self-2 c =
     let h = found-node (forest_of c.self.inside) c.self.invariant.store _ c.make_room.ensures.nodes c.args.of.0 _ c.get-node.ensures in
-    record { store = store-shared (forest_of c.self.inside) c.self.invariant.store _ _ _ _ c.args.of.0 _ _ _ _ _ h (came c) }
+    record {
+      store = store-shared (forest_of c.self.inside) c.self.invariant.store _ _ _ _ c.args.of.0 _ _ _ _ _ h (came c);
+      jumps = c.note_pair.ensures;
+    }
 
 pub returns-clause-ok : goal.returns-clause-ok
 returns-clause-ok c =
@@ -80,3 +92,31 @@ returns-clause-ok c =
 -- no row came, so there is room for as many
 pub returns-clause-kept : goal.returns-clause-kept
 returns-clause-kept c = rw (← c.self.view_is) (omega (arith, c.in_ok-pair.ensures.ok.spare))
+
+-- ---- the jumps
+
+pub move_up-requires-clause-to : goal.move_up-requires-clause-to
+move_up-requires-clause-to c =
+    let h = found-node (forest_of c.self.inside) c.self.invariant.store _ c.make_room.ensures.nodes c.args.of.0 _ c.get-node.ensures in
+    λ same. held_apart (nodes_of c.self.inside.arena) c.get-node.result.0 c.in_ok-pair.pair.hidden.0 h.node h.is.at c.in_ok-pair.ensures.ok.new_hidden (sym same)
+
+pub move_up-requires-clause-other : goal.move_up-requires-clause-other
+move_up-requires-clause-other c = λ same. c.in_ok-pair.ensures.ok.apart (sym same)
+
+pub note_pair-requires-clause-leaf : goal.note_pair-requires-clause-leaf
+note_pair-requires-clause-leaf c =
+    let h = found-node (forest_of c.self.inside) c.self.invariant.store _ c.make_room.ensures.nodes c.args.of.0 _ c.get-node.ensures in
+    leaf-held (forest_of c.self.inside) c.self.invariant.store _ _ c.args.of.0 _ c.in_ok-pair.pair _ _ _ h c.in_ok-pair.ensures.ok
+
+pub note_pair-requires-clause-child : goal.note_pair-requires-clause-child
+note_pair-requires-clause-child c = ap is_some c.in_ok-pair.ensures.ok.comes
+
+pub note_pair-requires-clause-forest : goal.note_pair-requires-clause-forest
+note_pair-requires-clause-forest c = (c.in_ok-pair.ensures.ok.exact (is_taken c.self.inside.frames) c.self.invariant.store.exact).forest
+
+pub note_pair-requires-clause-jumps : goal.note_pair-requires-clause-jumps
+note_pair-requires-clause-jumps c =
+    let h = found-node (forest_of c.self.inside) c.self.invariant.store _ c.make_room.ensures.nodes c.args.of.0 _ c.get-node.ensures in
+    fewer-jumps (tree_of c.share.new.arena c.share.new.lists) c.self.inside.next c.move_up.new.self c.grow.new.self c.grow.ensures.jumps (omega (arith, c.grow.ensures.floor))
+    (jumps-shared (forest_of c.self.inside) c.self.invariant.store c.share.new.arena c.share.new.lists c.args.of.0 c.get-node.result.0 c.in_ok-pair.pair _ _ _ _ h
+    c.in_ok-pair.ensures.ok c.self.inside.next c.self.inside.jumps c.move_up.new.self c.self.invariant.jumps c.move_up.ensures)

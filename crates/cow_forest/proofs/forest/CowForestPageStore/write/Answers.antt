@@ -9,6 +9,7 @@ pub invariant_of-self : goal.invariant_of-self
 invariant_of-self c = record {
   store = store-written (forest_of c.self.inside) c.self.invariant.store c.write.new.self c.args.tag.0 c.args.at c.args.bytes.now
       (rw (← c.self.view_is) at c.requires.shown) c.write.ensures.frames c.write.ensures.links c.write.ensures.taken;
+  jumps = c.self.invariant.jumps;
 }
 
 pub returns-clause-bytes : goal.returns-clause-bytes

@@ -1,0 +1,222 @@
+-- The jumps stay right where rows go, where a VMO's node gets rows, where a VMO comes, and where a snapshot is made.
+use Rattle.std.proofs.Common.{◌≡◌, ◌≢◌, ℕ, ◌+◌, Option, None, Some, IsSome, inl, inr, refl, sym, ap, subst, ◌∙◌, arith}
+use Rattle.std.specs.Prelude.{is_some, if◌then◌else◌, ◌==◌, Bool, true, false}
+use Rattle.std.specs.Option.{option_map}
+use Rattle.std.proofs.lemmas.Bool.{cases_eq}
+use Rattle.vm_base.specs.declared.names.Koid.{Koid}
+use Rattle.vm_base.specs.Entries.{with_key}
+use Rattle.vm_base.proofs.EntryLaws.{some_same, with_key-same, with_key-other}
+use Rattle.balanced_tree.specs.Rows.{Rows}
+use Rattle.page_list.specs.declared.row.Row.{Row}
+use Rattle.page_list.specs.Lists.{slots_of}
+use Rattle.frame_pool.specs.Pool.{is_taken}
+use Rattle.cow_arena.specs.declared.node.Node.{Node}
+use Rattle.cow_arena.specs.declared.node.Pair.{Pair}
+use Rattle.cow_arena.specs.Nodes.{Arena, Nodes, nodes_of, IsVisible}
+use Rattle.cow_arena.specs.Walk.{Tree, Slots, tree_with}
+use Rattle.cow_arena.specs.Forest.{IsForest}
+use Rattle.cow_arena.specs.Changes.{root_node, paired}
+use Rattle.cow_arena.specs.Ways.{KeepsBare}
+use Rattle.cow_arena.proofs.PairWalkLaws.{paired_tree, leaf-at, hidden-at, other-at}
+use Rattle.cow_arena.proofs.RelinkLaws.{relinked-stays, relinked-was}
+use Rattle.cow_arena.proofs.RisesLaws.{rises-bare, rises-stays, rises-paired, rises-hidden}
+use Rattle.cow_arena.proofs.MovedLaws.{IsChangeOf}
+use Rattle.cow_arena.proofs.WindowWalkLaws.{node-added}
+use Rattle.cow_split.specs.Trees.{tree_of}
+use Rattle.cow_fork.specs.Sharing.{HasShared}
+use Rattle.cow_fork.specs.Snapshots.{split_slots, split_row, is_taken_in}
+use Rattle.cow_forest.specs.declared.jumps.Jump.{Jump}
+use Rattle.cow_forest.specs.declared.jumps.JumpTable.{JumpTable}
+use Rattle.cow_forest.specs.Jumps.{jump_in, IsJump, AreJumps, AreMovedUp}
+use Rattle.cow_forest.specs.Store.{Forest, tree, HasNode, IsStore}
+use Rattle.cow_forest.proofs.ContentLaws.{node-visible}
+
+-- the same tree has the same jumps
+pub jumps-alike : (t u : Tree) (next : ℕ) (table : JumpTable) → t ≡ u → AreJumps t next table → AreJumps u next table
+jumps-alike t u next table same are = subst (λ (x : Tree). AreJumps x next table) same are
+
+pub tree-alike : (old new : Arena) (rows : Rows Row) → nodes_of new ≡ nodes_of old → new.lists ≡ old.lists → tree_of old rows ≡ tree_of new rows
+tree-alike old new rows nodes lists = λ i. record (tree_of old rows) { nodes = sym nodes i; lists = sym lists i }
+
+-- rows with room for more
+pub jumps-roomy : (arena : Arena) (old new : Rows Row) → new.rows ≡ old.rows → (next : ℕ) (table : JumpTable) → AreJumps (tree_of arena old) next table →
+    AreJumps (tree_of arena new) next table
+jumps-roomy arena old new rows next table are =
+    jumps-alike (tree_of arena old) (tree_of arena new) next table (λ i. tree_of arena (record new { rows = sym rows i })) are
+
+-- ---- rows go, and a VMO's node gets some
+
+jump-bare : (t : Tree) (f : IsForest t.nodes t.lists) (slots : Slots) (v : ℕ) (leaf : Node) (visible : IsVisible t.nodes v leaf) →
+    KeepsBare t.slots slots leaf.list.0 → (k : ℕ) (jump : Jump) → IsJump t k jump → IsJump (record { nodes = t.nodes; slots = slots; lists = t.lists }) k jump
+jump-bare t f slots v leaf visible keeps k jump is = record {
+  there = is.there;
+  rises = λ p node at inside below clear.
+      rises-bare t f slots v leaf visible keeps k p jump.side jump.to.0 (p + jump.shift) (is.rises p node at inside below clear);
+}
+
+pub jumps-bare : (t : Tree) (f : IsForest t.nodes t.lists) (slots : Slots) (v : ℕ) (leaf : Node) (visible : IsVisible t.nodes v leaf) →
+    KeepsBare t.slots slots leaf.list.0 → (next : ℕ) (table : JumpTable) → AreJumps t next table →
+    AreJumps (record { nodes = t.nodes; slots = slots; lists = t.lists }) next table
+jumps-bare t f slots v leaf visible keeps next table are = record {
+  jumps = λ k jump has taken. jump-bare t f slots v leaf visible keeps k jump (are.jumps k jump has taken);
+  made = are.made;
+}
+
+pub jumps-rows : (f : Forest) (s : IsStore f) (rows : Rows Row) (v k : ℕ) (h : HasNode f v k) →
+    ((node : Node) → nodes_of f.arena k ≡ Some node → KeepsBare (slots_of f.rows) (slots_of rows) node.list.0) → (next : ℕ) (table : JumpTable) →
+    AreJumps (tree f) next table → AreJumps (tree_of f.arena rows) next table
+jumps-rows f s rows v k h keeps next table are =
+    jumps-bare (tree f) s.exact.forest (slots_of rows) k h.node (node-visible f s v k h) (keeps h.node h.is.at) next table are
+
+-- ---- a VMO comes
+
+pub jumps-root : (f : Forest) (s : IsStore f) (arena : Arena) (k : ℕ) (koid count : ℕ) → nodes_of f.arena k ≡ None →
+    nodes_of arena ≡ with_key (nodes_of f.arena) k (root_node (record { 0 = koid }) f.arena.lists count) → IsForest (nodes_of arena) arena.lists →
+    (next : ℕ) (table : JumpTable) → AreJumps (tree f) next table → AreJumps (tree_of arena f.rows) (next + 1) table
+jumps-root f s arena k koid count free nodes forest next table are = record {
+  jumps = λ j jump has taken. elim (cases_eq j k) [
+    | inl here ↦ subst (λ i. IsJump (tree_of arena f.rows) i jump) (sym here) (root jump)
+    | inr apart ↦ other j jump apart (are.jumps j jump has taken)
+  ];
+  made = λ j jump has. let made = are.made j jump has in omega arith;
+}
+  where
+    root_at : nodes_of arena k ≡ Some (root_node (record { 0 = koid }) f.arena.lists count)
+    root_at = ap (λ (n : Nodes). n k) nodes ∙ with_key-same (nodes_of f.arena) k (root_node (record { 0 = koid }) f.arena.lists count)
+
+    unseen : (node : Node) → nodes_of arena k ≡ Some node → node.seen ≡ 0
+    unseen node at = ap (λ (n : Node). n.seen) (some_same (sym at ∙ root_at))
+
+    -- the new node sees no page
+    root : (jump : Jump) → IsJump (tree_of arena f.rows) k jump
+    root jump = record {
+      there = λ node at some. let none = unseen node at in absurd (omega arith);
+      rises = λ p node at inside below clear. let none = unseen node at in absurd (omega arith);
+    }
+
+    stay : (j : ℕ) (node : Node) → nodes_of f.arena j ≡ Some node → nodes_of arena j ≡ Some node
+    stay j node at = ap (λ (n : Nodes). n j) nodes
+        ∙ (with_key-other (nodes_of f.arena) k (root_node (record { 0 = koid }) f.arena.lists count) j
+        (λ same. let none = ap (nodes_of f.arena) same ∙ free in absurd (cc)) ∙ at)
+
+    was : (j : ℕ) (node : Node) → j ≢ k → nodes_of arena j ≡ Some node → nodes_of f.arena j ≡ Some node
+    was j node apart at = sym (ap (λ (n : Nodes). n j) nodes ∙ with_key-other (nodes_of f.arena) k (root_node (record { 0 = koid }) f.arena.lists count) j apart) ∙ at
+
+    held : (j : ℕ) (o : Option Node) → nodes_of f.arena j ≡ o → IsSome o → IsSome (nodes_of arena j)
+    held j None at some = absurd (cc)
+    held j (Some node) at some = ap is_some (stay j node at)
+
+    other : (j : ℕ) (jump : Jump) → j ≢ k → IsJump (tree f) j jump → IsJump (tree_of arena f.rows) j jump
+    other j jump apart is = record {
+      there = λ node at some. held jump.to.0 (nodes_of f.arena jump.to.0) refl (is.there node (was j node apart at) some);
+      rises = λ p node at inside below clear.
+          rises-stays (tree f) (nodes_of arena) arena.lists k s.exact.forest forest
+          (subst (λ (n : Nodes). IsChangeOf (nodes_of f.arena) n k) (sym nodes) (node-added (nodes_of f.arena) k (root_node (record { 0 = koid }) f.arena.lists count) free))
+          j p jump.side jump.to.0 (p + jump.shift) apart (is.rises p node (was j node apart at) inside below clear);
+    }
+
+-- ---- a snapshot is made
+
+-- a row that is split is there where it was
+split-bare : (slots : Slots) (l first seen list : ℕ) → KeepsBare slots (split_slots slots l first seen) list
+unfolding split_slots
+split-bare slots l first seen list = record { bare = λ m q apart none. still m q (m == l) none }
+  where
+    still : (m q : ℕ) (b : Bool) → slots m q ≡ None →
+        (if b then option_map (split_row (is_taken_in first seen q)) (slots m q) else slots m q) ≡ None
+    still m q true none = ap (option_map (split_row (is_taken_in first seen q))) none
+    still m q false none = none
+
+module _ (t : Tree) (f : IsForest t.nodes t.lists) (v : ℕ) (leaf : Node) (visible : IsVisible t.nodes v leaf) (h c : ℕ) (koid : Koid) (first seen count : ℕ)
+    (no_h : t.nodes h ≡ None) (no_c : t.nodes c ≡ None) (apart : h ≢ c) (g : IsForest (paired t.nodes v leaf h c t.lists koid first seen count) (t.lists + 2))
+    (next : ℕ) (old new : JumpTable) (are : AreJumps t next old) (moved : AreMovedUp old new v h c) where
+  abbrev after : Tree
+  after = paired_tree t v leaf h c koid first seen count
+
+  -- a node that is there is one that was, with the same window, or it is one of the three
+  was : (k : ℕ) (node : Node) → k ≢ v → k ≢ h → k ≢ c → after.nodes k ≡ Some node → (before : Node) × (t.nodes k ≡ Some before) × (node.seen ≡ before.seen)
+  unfolding paired
+  was k node k_v k_h k_c at =
+      let it = relinked-was t.nodes leaf.parent v h k node
+      (sym (with_key-other _ c _ k k_c ∙ (with_key-other _ v _ k k_v ∙ with_key-other _ h _ k k_h)) ∙ at) in
+      (it.0, it.1, it.2.seen)
+
+  held : (k : ℕ) → IsSome (t.nodes k) → IsSome (after.nodes k)
+  held k some = there (t.nodes k) refl some
+    where
+      there : (o : Option Node) → t.nodes k ≡ o → IsSome o → IsSome (after.nodes k)
+      there None at some = absurd (cc)
+      there (Some node) at some = elim (cases_eq k v) [
+        | inl here ↦ subst (λ i. IsSome (after.nodes i)) (sym here)
+            (ap is_some (leaf-at t f v leaf visible h c koid first seen count no_h no_c apart g))
+        | inr other ↦ ap is_some (other-at t f v leaf visible h c koid first seen count no_h no_c apart g k node at other
+            ∙ (relinked-stays t.nodes leaf.parent v h k node at).1)
+      ]
+
+  jump-other : (k : ℕ) (jump : Jump) → k ≢ v → k ≢ h → k ≢ c → IsJump t k jump → IsJump after k jump
+  jump-other k jump k_v k_h k_c is = record {
+    there = λ node at some. let it = was k node k_v k_h k_c at in held jump.to.0 (is.there it.0 it.1 (omega (arith, it.2)));
+    rises = λ p node at inside below clear.
+        let it = was k node k_v k_h k_c at in
+        rises-paired t f v leaf visible h c koid first seen count no_h no_c apart g k p jump.side jump.to.0 (p + jump.shift) k_v
+        (is.rises p it.0 it.1 (omega (arith, it.2)) below clear);
+  }
+
+  -- the hidden node has the window of the leaf
+  hidden-seen : (node : Node) → after.nodes h ≡ Some node → node.seen ≡ leaf.seen
+  hidden-seen node at = ap (λ (n : Node). n.seen) (some_same (sym at ∙ hidden-at t f v leaf visible h c koid first seen count no_h no_c apart g))
+
+  jump-hidden : (jump : Jump) → IsJump t v jump → IsJump after h jump
+  jump-hidden jump is = record {
+    there = λ node at some. let same = hidden-seen node at in held jump.to.0 (is.there leaf visible.at (omega arith));
+    rises = λ p node at inside below clear.
+        let same = hidden-seen node at in
+        rises-hidden t f v leaf visible h c koid first seen count no_h no_c apart g p jump.side jump.to.0 (p + jump.shift)
+        (is.rises p leaf visible.at (omega arith) below clear);
+  }
+
+  pub jumps-paired : AreJumps after next new
+  jumps-paired = record {
+    jumps = λ k jump has taken. elim (cases_eq k h) [
+      | inl here ↦
+          let mine = moved.hidden jump (ap (jump_in new) (sym here) ∙ has) in
+          subst (λ i. IsJump after i jump) (sym here) (jump-hidden jump (are.jumps v jump mine.0 mine.1))
+      | inr k_h ↦ elim (cases_eq k v) [
+        | inl here ↦ absurd (let none = ap (jump_in new) here ∙ moved.leaf in cc)
+        | inr k_v ↦ elim (cases_eq k c) [
+          | inl here ↦ absurd (let none = ap (jump_in new) here ∙ moved.child in cc)
+          | inr k_c ↦ jump-other k jump k_v k_h k_c (are.jumps k jump (sym (moved.others k k_v k_h k_c) ∙ has) (let same = moved.floor in omega arith))
+        ]
+      ]
+    ];
+    made = λ k jump has. elim (cases_eq k h) [
+      | inl here ↦ are.made v jump (moved.hidden jump (ap (jump_in new) (sym here) ∙ has)).0
+      | inr k_h ↦ elim (cases_eq k v) [
+        | inl here ↦ absurd (let none = ap (jump_in new) here ∙ moved.leaf in cc)
+        | inr k_v ↦ elim (cases_eq k c) [
+          | inl here ↦ absurd (let none = ap (jump_in new) here ∙ moved.child in cc)
+          | inr k_c ↦ are.made k jump (sym (moved.others k k_v k_h k_c) ∙ has)
+        ]
+      ]
+    ];
+  }
+
+pub jumps-shared : (f : Forest) (s : IsStore f) (arena : Arena) (rows : Rows Row) (v k : ℕ) (pair : Pair) (koid : Koid) (first seen count : ℕ) (h : HasNode f v k) →
+    HasShared f.arena arena f.rows rows k pair koid first seen count → (next : ℕ) (old new : JumpTable) → AreJumps (tree f) next old →
+    AreMovedUp old new k pair.hidden.0 pair.child.0 → AreJumps (tree_of arena rows) next new
+jumps-shared f s arena rows v k pair koid first seen count h shared next old new are moved =
+    let visible = node-visible f s v k h in
+    let nodes = shared.nodes h.node h.is.at in
+    let now = (shared.exact (is_taken f.pool) s.exact).forest in
+    let g : IsForest (paired (nodes_of f.arena) k h.node pair.hidden.0 pair.child.0 f.arena.lists koid first seen count) (f.arena.lists + 2) =
+    subst (λ (n : Nodes). IsForest n (f.arena.lists + 2)) nodes (subst (IsForest (nodes_of arena)) shared.lists now) in
+    let pairs = jumps-paired (tree f) s.exact.forest k h.node visible pair.hidden.0 pair.child.0 koid first seen count shared.new_hidden shared.new_child shared.apart g
+    next old new are moved in
+    let same : paired_tree (tree f) k h.node pair.hidden.0 pair.child.0 koid first seen count ≡ tree_with (nodes_of arena) arena.lists (slots_of f.rows) =
+    λ i. record { nodes = sym nodes i; slots = slots_of f.rows; lists = sym shared.lists i } in
+    let leaf = shared.stays k h.node visible in
+    jumps-bare (tree_with (nodes_of arena) arena.lists (slots_of f.rows)) now (slots_of rows) k leaf.after
+    (record { at = leaf.at; koid = subst IsSome (sym leaf.koid) visible.koid })
+    (subst (λ (slots : Slots). KeepsBare (slots_of f.rows) slots leaf.after.list.0) (sym (shared.slots h.node h.is.at))
+    (split-bare (slots_of f.rows) h.node.list.0 first seen leaf.after.list.0))
+    next new (jumps-alike _ _ next new same pairs)
