@@ -1,6 +1,3 @@
-mod RunLaws
-mod Served
-mod Answered
+mod PlainLaws
 mod Beginning
-mod Writing
 mod WorkLaws

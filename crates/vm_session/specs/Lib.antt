@@ -1,4 +1,4 @@
 pub mod Outcome
 pub mod Tasks
-pub mod Serving
+pub mod Plain
 pub mod Working

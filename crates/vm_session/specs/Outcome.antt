@@ -1,43 +1,27 @@
 -- How a run ends, over the bytes that a source gave, the bytes that a sink took, and what a store contains. What a
--- source has left and what a sink took are known if the source and the sink tell their bytes.
-use Rattle.std.specs.Prelude.{◌≡◌, ℕ, ◌+◌, ◌-◌, ◌^◌, ◌<◌, ◌≤◌, ◌⊎◌, ◌&&◌, nat_le, Bool, List, [], ◌∷◌, ◌++◌, length, take, map, codes, nat_eq, if◌then◌else◌, Option, None, Some, option_map, Result, slice_get, MatchResult}
-use Rattle.std.specs.Cmp.Lexicographic.{pointwise}
-use Rattle.std.specs.Io.KnownBytes.{Appends, Consumes, IsAtEnd}
+-- source has left and what a sink took are known where these tell them.
+use Rattle.std.specs.Prelude.{◌≡◌, ℕ, ◌-◌, ◌^◌, ◌<◌, List, [], ◌∷◌, ◌++◌, length, take, map, codes, if◌then◌else◌, Option, None, Some, option_map, slice_get}
+use Rattle.std.specs.Io.KnownBytes.{Appends}
 use Rattle.std.specs.String.{string_bytes}
 use Rattle.std.specs.declared.string.String.{String}
 use Rattle.std.specs.declared.alloc.Global.{Global}
 use Rattle.script_io.specs.declared.status.Status.{Status}
 use Rattle.script_io.specs.declared.status.Status.TheVariants.{Done, Usage, HostMemory, ReadFault, WriteFault, ScriptLimit}
 use Rattle.script_io.specs.Faults.{IsCutOff}
-use Rattle.vm_base.specs.declared.limits.TheConstants.{DEFAULT_FRAMES, FRAMES, SCRIPT_BYTES, WORK_COUNT}
+use Rattle.vm_base.specs.declared.limits.TheConstants.{SCRIPT_BYTES, WORK_COUNT}
 use Rattle.vm_model.specs.declared.reply.Reply.{Reply}
 use Rattle.vm_model.specs.Contents.Content.{Content}
 use Rattle.vm_model.specs.Machine.Machine.{Machine, IsGoodMachine, empty_machine}
 use Rattle.vm_model.specs.Language.Text.{texts}
-use Rattle.vm_model.specs.Language.Reading.{is_hex, number, ◌>>=◌}
+use Rattle.vm_model.specs.Language.Reading.{◌>>=◌}
 use Rattle.vm_core.specs.Vm.{HasNoVmo}
-use Rattle.vm_model.specs.Scripts.Run.{lines_of, whole_lines, Gives, Run, Legal}
+use Rattle.vm_model.specs.Scripts.Run.{Gives, Run, Legal}
 use Rattle.vm_model.specs.Scripts.Workload.{IsWorked}
+use Rattle.served.specs.Words.{is_text, decimal_of_word, frames_in}
+use Rattle.served.specs.Outcome.{Completes, StopsReading, ReachesLimit, BreaksOff}
 use Rattle.vm_session.specs.declared.words.Task.{Task}
 
 -- ---- the words of the command line
-
-abbrev pub is_text : List ℕ → List ℕ → Bool
-is_text = pointwise nat_eq
-
--- at most so many digits, and a number from least to most
-abbrev pub within : (len least most : ℕ) → List ℕ → Option ℕ → Option ℕ
-within len least most word o = do
-  n ← o
-  if nat_le (length word) len && (nat_le least n && nat_le n most) then Some n else None
-
--- such a number, which isn't written in hexadecimal
-unfoldable pub decimal_of_word : (len least most : ℕ) → List ℕ → Option ℕ
-decimal_of_word len least most word = if is_hex word then None else within len least most word (number word)
-
--- a number of frames: one to five digits, from 1 to FRAMES
-abbrev pub frames_of_word : List ℕ → Option ℕ
-frames_of_word = decimal_of_word 5 1 FRAMES
 
 -- the number of a workload: one to twenty digits, below 2^64
 abbrev pub number_of_word : List ℕ → Option ℕ
@@ -46,12 +30,6 @@ number_of_word = decimal_of_word 20 0 (2 ^ 64 - 1)
 -- how many commands a workload has: one to seven digits, at most WORK_COUNT
 abbrev pub count_of_word : List ℕ → Option ℕ
 count_of_word = decimal_of_word 7 0 WORK_COUNT
-
--- no more words, for DEFAULT_FRAMES frames, or `--frames N`
-abbrev pub frames_in : List (List ℕ) → Option ℕ
-frames_in [] = Some DEFAULT_FRAMES
-frames_in (flag ∷ frames ∷ []) = if is_text flag (codes "--frames") then frames_of_word frames else None
-frames_in _ = None
 
 -- a workload, behind `work`: its number and its count, and then the frames
 abbrev pub work_in : List (List ℕ) → Option Task
@@ -83,20 +61,8 @@ pub record AskForWork (words : List (String Global)) : Type 0 where
 
 -- ---- what was answered
 
--- a call that may fail writing: the sink took all of these bytes, or a part of them
-abbrev pub SinkTakes : {T E : Type 0} → Result T E → Option (List ℕ) → Option (List ℕ) → List ℕ → Type 0
-SinkTakes result sink_old sink_new out =
-    MatchResult result (λ _. Appends sink_old sink_new out) (λ _. IsCutOff sink_old sink_new out)
-
--- from old, the line was answered, and its replies were written
-pub record AnswersLine {T E : Type 0} (line : List ℕ) (old new : Machine) (sink_old sink_new : Option (List ℕ))
-    (result : Result T E) : Type 0 where
-  pub replies : List Reply
-  pub gives : Gives line old replies new
-  pub written : SinkTakes result sink_old sink_new (texts replies)
-
--- The lines were answered as on a machine with this many frames, and their replies were written. The store has what the
--- machine has in the end, and this machine is good.
+-- The lines were answered as on a machine with this many frames, their replies were written, and the store has what the
+-- machine has in the end, which is a good state.
 pub record AnswersAll (frames : ℕ) (lines : List (List ℕ)) (sink_old sink_new : Option (List ℕ))
     (content : Content) : Type 0 where
   pub out : List ℕ
@@ -127,42 +93,7 @@ pub record AnswersPart (frames : ℕ) (lines : List (List ℕ)) (sink_old sink_n
   pub written : Appends sink_old sink_new (texts before ++ part)
   pub store : content ≡ last.state.content
 
--- ---- how a run ends. Each form speaks of the script that the source gave in the call
-
--- the script was given to its end, within the limit, and every line was answered
-pub record Completes (frames limit : ℕ) (source_old source_new sink_old sink_new : Option (List ℕ))
-    (content : Content) : Type 0 where
-  pub script : List ℕ
-  pub given : Consumes source_old source_new script
-  pub ended : IsAtEnd source_new
-  pub short : length script ≤ limit
-  pub answers : AnswersAll frames (lines_of script) sink_old sink_new content
-
--- reading failed within the limit, and every whole line that was given was answered
-pub record StopsReading (frames limit : ℕ) (source_old source_new sink_old sink_new : Option (List ℕ))
-    (content : Content) : Type 0 where
-  pub script : List ℕ
-  pub given : Consumes source_old source_new script
-  pub short : length script ≤ limit
-  pub answers : AnswersAll frames (whole_lines script) sink_old sink_new content
-
--- one byte over the limit was given, and the lines whose line feed lies within the limit were answered
-pub record ReachesLimit (frames limit : ℕ) (source_old source_new sink_old sink_new : Option (List ℕ))
-    (content : Content) : Type 0 where
-  pub script : List ℕ
-  pub given : Consumes source_old source_new script
-  pub long : length script ≡ limit + 1
-  pub answers : AnswersAll frames (whole_lines (take limit script)) sink_old sink_new content
-
--- Writing failed, and the lines up to one were done. Its line feed lies within the limit, or it is the last piece of a
--- script within the limit.
-pub record BreaksOff (frames limit : ℕ) (source_old source_new sink_old sink_new : Option (List ℕ))
-    (content : Content) : Type 0 where
-  pub script : List ℕ
-  pub given : Consumes source_old source_new script
-  pub at_most : length script ≤ limit + 1
-  pub answers : AnswersPart frames (whole_lines (take limit script)) sink_old sink_new content
-      ⊎ (AnswersPart frames (lines_of script) sink_old sink_new content × IsAtEnd source_new × (length script ≤ limit))
+-- ---- how a run ends
 
 -- nothing was read and nothing was written, and the store has no VMO
 pub record NothingDone (source_old source_new sink_old sink_new : Option (List ℕ)) (content : Content) : Type 0 where
@@ -174,13 +105,13 @@ pub record NothingDone (source_old source_new sink_old sink_new : Option (List �
 abbrev pub EndsAs : Status → ℕ → ℕ → Option (List ℕ) → Option (List ℕ) → Option (List ℕ) → Option (List ℕ)
     → Content → Type 0
 EndsAs Done frames limit source_old source_new sink_old sink_new content =
-    Completes frames limit source_old source_new sink_old sink_new content
+    Completes (λ lines. AnswersAll frames lines sink_old sink_new content) limit source_old source_new
 EndsAs ReadFault frames limit source_old source_new sink_old sink_new content =
-    StopsReading frames limit source_old source_new sink_old sink_new content
+    StopsReading (λ lines. AnswersAll frames lines sink_old sink_new content) limit source_old source_new
 EndsAs ScriptLimit frames limit source_old source_new sink_old sink_new content =
-    ReachesLimit frames limit source_old source_new sink_old sink_new content
+    ReachesLimit (λ lines. AnswersAll frames lines sink_old sink_new content) limit source_old source_new
 EndsAs WriteFault frames limit source_old source_new sink_old sink_new content =
-    BreaksOff frames limit source_old source_new sink_old sink_new content
+    BreaksOff (λ lines. AnswersPart frames lines sink_old sink_new content) limit source_old source_new
 EndsAs HostMemory frames limit source_old source_new sink_old sink_new content =
     NothingDone source_old source_new sink_old sink_new content
 EndsAs Usage frames limit source_old source_new sink_old sink_new content = ⊥

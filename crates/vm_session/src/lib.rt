@@ -1,13 +1,12 @@
 //! A run of the machine over a script, from the bytes of a source to the bytes of a sink, or over
 //! commands that are generated from a number.
 //!
-//! It stands on `vm_core` for the step, on `script_text`, `reply_text` and `word_text` for lines and
-//! replies, and on `script_io` for sources and sinks. `run` is the call that the program makes, and
+//! It stands on `vm_core` for the step, on `served` for the loop over lines, on `script_text`, `reply_text` and
+//! `word_text` for lines and replies, and on `script_io` for sources and sinks. `run` is the call that the program makes, and
 //! its contract is the theorem of the whole project.
 #![tactic(auto)]
 
-mod answers;
-mod replies;
+mod interpreter;
 mod rooms;
 mod serving;
 mod session;

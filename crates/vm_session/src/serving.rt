@@ -5,10 +5,10 @@ ghost use Rattle.script_io.specs.Faults.{HasFailed};
 ghost use Rattle.vm_model.specs.Contents.Content.{nothing};
 ghost use Rattle.vm_session.specs.Outcome.{EndsAs};
 
-use crate::answers::answer_next;
+use crate::interpreter::VmInterpreter;
 use crate::rooms::Rooms;
 use page_store::PageStore;
-use script_io::{Lines, Sink, Source, Status};
+use script_io::{Sink, Source, Status};
 use std::alloc::Global;
 use vm_base::FRAMES;
 use vm_core::Vm;
@@ -37,20 +37,12 @@ pub fn serve<P: PageStore, S: Source, K: Sink>(
     ensures write_cause { result ≡ Status.WriteFault → HasFailed (K.faults sink.old) (K.faults sink.new) }
     ensures host_memory { result ≡ Status.HostMemory → (source.new ≡ source.old) × (sink.new ≡ sink.old) }
 {
-    let Ok(mut lines) = Lines::new(alloc, limit) else {
-        return Status::HostMemory;
+    let mut interpreter = VmInterpreter {
+        vm: Vm::new(alloc),
+        rooms: Rooms::new(),
     };
-    let Ok(()) = store.fill(frames) else {
-        return Status::HostMemory;
-    };
-    let mut vm = Vm::new(alloc);
-    let mut rooms = Rooms::new();
-    loop {
-        let next = answer_next(store, &mut vm, &mut lines, source, sink, &mut rooms);
-        if let Some(status) = next {
-            // By one call: at the end of the body its tables would be dropped one by one, each with a proof.
-            drop(vm);
-            return status;
-        }
-    }
+    let status = served::serve(alloc, frames, limit, store, &mut interpreter, source, sink);
+    // By one call: at the end of the body its tables would be let go, and that proved, one by one.
+    drop(interpreter);
+    status
 }

@@ -1,13 +1,13 @@
 //! The words of the command line.
 
-ghost use Rattle.std.specs.Prelude.{◌≡◌, ◌≤◌, map, option_map, IfSome};
+ghost use Rattle.std.specs.Prelude.{◌≡◌, map, option_map, IfSome};
 ghost use Rattle.std.specs.String.{string_bytes};
-ghost use Rattle.vm_model.specs.Language.Reading.{number};
-ghost use Rattle.vm_session.specs.Outcome.{decimal_of_word, frames_in, task_asked, within, work_in};
+ghost use Rattle.served.specs.Words.{frames_in};
+ghost use Rattle.vm_session.specs.Outcome.{task_asked, work_in};
 ghost use Rattle.vm_session.specs.Tasks.{HasBounds};
 
-use script_text::number;
-use vm_base::{DEFAULT_FRAMES, FRAMES, WORK_COUNT};
+use served::{decimal_of_word, frames_in};
+use vm_base::WORK_COUNT;
 
 /// What the words ask for.
 #[derive(Clone, Copy)]
@@ -48,7 +48,7 @@ fn run_asked(words: &[String]) -> Option<Task>
     ensures task { result ≡ option_map (λ frames. Task.Run frames) (frames_in (map string_bytes words.now)) }
     ensures bounds { IfSome result HasBounds }
 {
-    let frames = frames_asked(words)?;
+    let frames = frames_in(words)?;
     Some(Task::Run { frames })
 }
 
@@ -62,50 +62,10 @@ fn work_asked(words: &[String]) -> Option<Task>
     };
     let number = decimal_of_word(number.as_bytes(), 20, 0, u64::MAX)?;
     let count = decimal_of_word(count.as_bytes(), 7, 0, WORK_COUNT)?;
-    let frames = frames_asked(behind)?;
+    let frames = frames_in(behind)?;
     Some(Task::Work {
         number,
         count,
         frames,
     })
-}
-
-/// How many page frames the last words ask for: `--frames N`, or no words.
-fn frames_asked(words: &[String]) -> Option<u32>
-    ensures frames { result ≡ frames_in (map string_bytes words.now) }
-    ensures range { IfSome result (λ frames. 1 ≤ frames × frames ≤ FRAMES) }
-{
-    match words {
-        [] => Some(DEFAULT_FRAMES),
-        [flag, frames] if flag.as_bytes() == b"--frames".as_slice() => {
-            let frames = decimal_of_word(frames.as_bytes(), 5, 1, FRAMES as u64)?;
-            Some(frames as u32)
-        }
-        _ => None,
-    }
-}
-
-/// A decimal number of at most `len` bytes, from `least` to `most`.
-#[tactic(auto, unfolding(crate::specs::Outcome::decimal_of_word))]
-fn decimal_of_word(word: &[u8], len: usize, least: u64, most: u64) -> Option<u64>
-    ensures value { result ≡ decimal_of_word len least most word.now }
-    ensures range { IfSome result (λ value. least ≤ value × value ≤ most) }
-{
-    match word {
-        [b'0', b'x', ..] => None,
-        _ => within(word, len, least, most),
-    }
-}
-
-/// A number of at most `len` bytes, from `least` to `most`.
-fn within(word: &[u8], len: usize, least: u64, most: u64) -> Option<u64>
-    ensures value { result ≡ within len least most word.now (number word.now) }
-    ensures range { IfSome result (λ value. least ≤ value × value ≤ most) }
-{
-    let value = number(word)?;
-    if word.len() <= len && (least <= value && value <= most) {
-        Some(value)
-    } else {
-        None
-    }
 }

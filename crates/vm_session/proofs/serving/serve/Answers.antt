@@ -1,65 +1,21 @@
-use Rattle.std.proofs.Common.{◌∙◌, Some, refl, ap, arith}
-use Rattle.script_io.specs.declared.status.Status.{Status}
+use Rattle.std.proofs.Common.{refl, arith}
+use Rattle.vm_model.proofs.MachineLaws.{IsGoodMachine-empty}
 use Rattle.vm_core.proofs.StartLaws.{filled_fresh, machine_of-filled}
-use Rattle.vm_session.proofs.Beginning.{NothingDone-yet, HasFailed-earlier, IsServed-fresh, IsReady-fresh}
+use Rattle.vm_session.proofs.PlainLaws.{ends_plain}
 use Rattle.vm_session.proofs.serving.serve.Goals as goal
 
-pub returns-in_default-clause-ends : goal.returns-in_default-clause-ends
-returns-in_default-clause-ends g c = NothingDone-yet _ _ _ _ refl c.requires.empty
+pub serve-status-requires-clause-agrees : goal.serve-status-requires-clause-agrees
+serve-status-requires-clause-agrees g c =
+    let fresh = filled_fresh c.args.frames _ _ refl refl in
+    c.new.ensures.agrees _ fresh.0 (omega (arith, fresh.1))
 
-pub returns-in_default-fill-clause-ends : goal.returns-in_default-fill-clause-ends
-returns-in_default-fill-clause-ends g c = NothingDone-yet _ _ _ _ c.in_default-fill.ensures.err c.requires.empty
+pub serve-status-requires-clause-start : goal.serve-status-requires-clause-start
+serve-status-requires-clause-start g c =
+    machine_of-filled c.args.frames _ _ c.new.result c.new.ensures.bare refl refl
 
-pub loop-status-init : goal.loop-status-init
-loop-status-init g c =
-    let empty = machine_of-filled c.args.frames _ _ c.new-vm.result c.new-vm.ensures.bare c.in-Ok-fill.ensures.ok
-    c.requires.empty in
-    let fresh = filled_fresh c.args.frames _ _ c.in-Ok-fill.ensures.ok c.requires.empty in
-    record {
-      served = IsServed-fresh c.args.frames c.args.limit _ _ _ _ c.in-Ok.ensures empty;
-      agrees = c.new-vm.ensures.agrees _ fresh.0 (omega (arith, fresh.1));
-      ready = IsReady-fresh c.args.frames c.args.limit _ _ _ c.in-Ok.ensures empty;
-      limit = ap (λ r. r.limit) c.in-Ok.ensures;
-      read_later = omega arith;
-      write_later = omega arith;
-    }
+pub serve-status-requires-clause-good : goal.serve-status-requires-clause-good
+serve-status-requires-clause-good g c = IsGoodMachine-empty c.args.frames
 
-pub loop-status-preserved : goal.loop-status-preserved
-loop-status-preserved g c = record {
-  served = c.in_default-next.ensures.served c.args.frames c.args.limit _ _ c.loop-status.invariant.served;
-  agrees = c.in_default-next.ensures.agrees;
-  ready = c.in_default-next.ensures.ready;
-  limit = c.in_default-next.ensures.limit ∙ c.loop-status.invariant.limit;
-  read_later = omega (arith, c.loop-status.invariant.read_later, c.in_default-next.ensures.read_later);
-  write_later = omega (arith, c.loop-status.invariant.write_later, c.in_default-next.ensures.write_later);
-}
-
-pub answer_next-next-requires-clause-agrees : goal.answer_next-next-requires-clause-agrees
-answer_next-next-requires-clause-agrees g c = c.loop-status.invariant.agrees
-
-pub answer_next-next-requires-clause-ready : goal.answer_next-next-requires-clause-ready
-answer_next-next-requires-clause-ready g c = c.loop-status.invariant.ready
-
-pub answer_next-next-requires-clause-limit : goal.answer_next-next-requires-clause-limit
-answer_next-next-requires-clause-limit g c = omega (arith, c.loop-status.invariant.limit, c.requires.limit)
-
-pub returns-in-Some-clause-ends : goal.returns-in-Some-clause-ends
-returns-in-Some-clause-ends g c =
-    c.in-Some.ensures.served c.args.frames c.args.limit _ _ c.loop-status.invariant.served
-
-pub returns-in-Some-clause-read_cause : goal.returns-in-Some-clause-read_cause
-returns-in-Some-clause-read_cause g c = λ e.
-    HasFailed-earlier _ _ _ c.loop-status.invariant.read_later
-    (c.in-Some.ensures.read_cause (ap (λ (s : Status). Some s) e))
-
-pub returns-in-Some-clause-write_cause : goal.returns-in-Some-clause-write_cause
-returns-in-Some-clause-write_cause g c = λ e.
-    HasFailed-earlier _ _ _ c.loop-status.invariant.write_later
-    (c.in-Some.ensures.write_cause (ap (λ (s : Status). Some s) e))
-
-pub returns-in-Some-clause-host_memory : goal.returns-in-Some-clause-host_memory
-returns-in-Some-clause-host_memory g c = λ e.
-    absurd (c.in-Some.ensures.host_memory (ap (λ (s : Status). Some s) e))
-
-pub loop-status-smaller : goal.loop-status-smaller
-loop-status-smaller g c = c.in_default-next.ensures.falls
+pub returns-clause-ends : goal.returns-clause-ends
+returns-clause-ends g c =
+    ends_plain c.serve-status.result c.args.frames c.args.limit _ _ _ _ _ c.serve-status.ensures.ends

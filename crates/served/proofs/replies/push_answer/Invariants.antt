@@ -3,7 +3,7 @@ use Rattle.std.specs.List.{concat}
 use Rattle.std.specs.Io.KnownBytes.{Appends}
 use Rattle.vm_model.specs.Language.Text.{reply_lines}
 use Rattle.vm_model.specs.Machine.Lent.{reply_for}
-use Rattle.vm_session.proofs.replies.push_answer.Given as goal
+use Rattle.served.proofs.replies.push_answer.Given as goal
 
 abbrev pub invariant-loop-index : goal.invariant-loop-index
 invariant-loop-index g l = record {

@@ -1,22 +1,15 @@
--- What a sink took of the text of replies.
-use Rattle.std.proofs.Common.{◌≡◌, ℕ, zero, suc, ◌+◌, ◌<◌, ◌≤◌, List, [], ◌∷◌, ◌++◌, length, take, Option, Some, Result, Ok, Err, refl, sym, ap, subst, ◌∙◌, append_assoc, append-nil, arith}
-use Rattle.std.specs.Prelude.{slice_get, OnOk, OnErr}
+-- What a sink took of the text of a reply.
+use Rattle.std.proofs.Common.{◌≡◌, ℕ, zero, suc, ◌+◌, ◌<◌, ◌≤◌, List, [], ◌∷◌, ◌++◌, length, take, Option, Some, sym, ap, subst, ◌∙◌, append_assoc, append-nil, arith}
+use Rattle.std.specs.Prelude.{slice_get}
 use Rattle.std.specs.List.{concat}
 use Rattle.std.specs.Io.KnownBytes.{Appends}
 use Rattle.std.proofs.KnownBytes.{Appends-trans}
 use Rattle.std.proofs.lemmas.List.{length-append, take_all}
 use Rattle.script_io.specs.Faults.{IsCutOff}
-use Rattle.vm_base.specs.declared.refusal.Refusal.TheVariants.{Syntax}
 use Rattle.vm_model.specs.declared.reply.Reply.{Reply}
 use Rattle.vm_model.specs.declared.reply.Reply.TheVariants.{Done, Number, Bytes, Pins, Address, Access, Faults, Info}
 use Rattle.vm_model.specs.declared.reply.Reply.TheVariants.{Runs, Stat, Refused}
-use Rattle.vm_model.specs.declared.command.Command.{Command}
-use Rattle.vm_model.specs.Machine.Machine.{Machine}
-use Rattle.vm_model.specs.Machine.MachineStep.{MachineStep}
-use Rattle.vm_model.specs.Language.Reading.{Reading, Order, Outside, reading}
-use Rattle.vm_model.specs.Language.Text.{reply_lines, text, texts}
-use Rattle.vm_model.specs.Scripts.Run.{GivesAs}
-use Rattle.vm_session.specs.Outcome.{SinkTakes, AnswersLine}
+use Rattle.vm_model.specs.Language.Text.{reply_lines, text}
 
 -- the pieces up to one, the piece, and those behind it
 pub concat_parts : (xs : List (List ℕ)) (i : ℕ) (x : List ℕ) → slice_get xs i ≡ Some x → (concat (take (i + 1) xs) ≡ concat (take i xs) ++ x) × ((rest : List ℕ) × (concat xs ≡ concat (take i xs) ++ (x ++ rest)))
@@ -69,31 +62,3 @@ reply_cut reply i line before mid after e first cut =
       left = omega (arith, cut.left, length-append cut.rest parts.0);
       taken = Appends-trans before mid after front cut.part first cut.taken;
     }
-
--- ---- one line of a script
-
-one_text : (reply : Reply) → text reply ≡ texts (reply ∷ [])
-one_text reply = sym (append-nil (text reply))
-
--- a reply that was pushed, whole or in part
-pub SinkTakes-one : {T E : Type 0} (result : Result T E) (before after : Option (List ℕ)) (reply : Reply) → OnOk result (Appends before after (text reply)) → OnErr result (IsCutOff before after (text reply)) → SinkTakes result before after (texts (reply ∷ []))
-SinkTakes-one (Ok x) before after reply ok err = subst (Appends before after) (one_text reply) ok
-SinkTakes-one (Err e) before after reply ok err = subst (IsCutOff before after) (one_text reply) err
-
--- a line that is an order, one step, and its reply
-pub AnswersLine-order : {T E : Type 0} (line : List ℕ) (command : Command) (old new : Machine) (reply : Reply) (before after : Option (List ℕ)) (result : Result T E)
-    → Order command ≡ reading line → MachineStep old command reply new → OnOk result (Appends before after (text reply)) → OnErr result (IsCutOff before after (text reply)) → AnswersLine line old new before after result
-AnswersLine-order line command old new reply before after result e step ok err = record {
-  replies = reply ∷ [];
-  gives = record { answer = subst (λ (r : Reading). GivesAs r old (reply ∷ []) new) e (reply, refl, step) };
-  written = SinkTakes-one result before after reply ok err;
-}
-
--- a line outside the grammar, and its refusal
-pub AnswersLine-outside : {T E : Type 0} (line : List ℕ) (old : Machine) (before after : Option (List ℕ)) (result : Result T E)
-    → Outside ≡ reading line → OnOk result (Appends before after (text (Refused Syntax))) → OnErr result (IsCutOff before after (text (Refused Syntax))) → AnswersLine line old old before after result
-AnswersLine-outside line old before after result e ok err = record {
-  replies = Refused Syntax ∷ [];
-  gives = record { answer = subst (λ (r : Reading). GivesAs r old (Refused Syntax ∷ []) old) e (refl, refl) };
-  written = SinkTakes-one result before after (Refused Syntax) ok err;
-}

@@ -1,8 +1,8 @@
 use Rattle.std.proofs.Common.{take, arith}
 use Rattle.std.proofs.KnownBytes.{Appends-nil}
 use Rattle.vm_model.specs.Machine.Lent.{reply_for}
-use Rattle.vm_session.proofs.Writing.{line_written, reply_written, reply_cut, some_line}
-use Rattle.vm_session.proofs.replies.push_answer.Goals as goal
+use Rattle.served.proofs.Writing.{line_written, reply_written, reply_cut, some_line}
+use Rattle.served.proofs.replies.push_answer.Goals as goal
 use Rattle.script_io.proofs.Moving.{on_err}
 
 pub write_answer_line-first-requires-clause-index : goal.write_answer_line-first-requires-clause-index

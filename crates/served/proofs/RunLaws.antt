@@ -1,10 +1,7 @@
 -- Laws of lines and runs.
 use Rattle.std.proofs.Common.{◌≡◌, ◌≢◌, ℕ, suc, ◌<◌, cond, List, [], ◌∷◌, ◌++◌, length, get_or, refl, sym, ap, subst, ◌∙◌, append_assoc, append-nil, arith}
-use Rattle.std.proofs.lemmas.Grind.{flat_map-append}
-use Rattle.vm_model.specs.declared.reply.Reply.{Reply}
-use Rattle.vm_model.specs.Machine.Machine.{Machine}
-use Rattle.vm_model.specs.Language.Text.{text, texts}
-use Rattle.vm_model.specs.Scripts.Run.{onto_first, lines_of, before_whole, whole_lines, Gives, Run}
+use Rattle.vm_model.specs.Scripts.Run.{onto_first, lines_of, before_whole, whole_lines}
+use Rattle.served.specs.Answering.{Answering, Run}
 use Rattle.vm_base.proofs.SearchLaws.{eqb_apart}
 
 -- no byte is a line feed
@@ -51,17 +48,13 @@ pub lines_of-piece : (piece : List ℕ) → 0 < length piece → HasNoFeed piece
 lines_of-piece [] some h = absurd (omega arith)
 lines_of-piece (b ∷ piece) some h = lines_of-last b piece h
 
--- the text of replies, and of more
-pub texts-append : (xs ys : List Reply) → texts (xs ++ ys) ≡ texts xs ++ texts ys
-texts-append xs ys = flat_map-append text xs ys
-
 -- a run, and one line more
-pub Run-more : (old mid new : Machine) (lines : List (List ℕ)) (line : List ℕ) (before now : List Reply) → Run old lines before mid → Gives line mid now new → Run old (lines ++ line ∷ []) (before ++ now) new
-Run-more old mid new [] line before now run gives =
-    let here : Gives line old now new = subst (λ (s : Machine). Gives line s now new) run.1 gives in
-    let all : before ++ now ≡ now ++ [] = ap (λ (rs : List Reply). rs ++ now) run.0 ∙ sym (append-nil now) in
+pub Run-more : {S : Type 0} (m : Answering S) (old mid new : S) (lines : List (List ℕ)) (line : List ℕ) (before now : List ℕ) → Run m old lines before mid → m.Gives line mid now new → Run m old (lines ++ line ∷ []) (before ++ now) new
+Run-more m old mid new [] line before now run gives =
+    let here = subst (λ s. m.Gives line s now new) run.1 gives in
+    let all : before ++ now ≡ now ++ [] = ap (λ (rs : List ℕ). rs ++ now) run.0 ∙ sym (append-nil now) in
     (new, now, [], here, (refl, refl), all)
-Run-more old mid new (first ∷ lines) line before now run gives =
-    let rest = Run-more run.0 mid new lines line run.2 now run.4 gives in
-    let all : before ++ now ≡ run.1 ++ (run.2 ++ now) = ap (λ (rs : List Reply). rs ++ now) run.5 ∙ append_assoc run.1 run.2 now in
+Run-more m old mid new (first ∷ lines) line before now run gives =
+    let rest = Run-more m run.0 mid new lines line run.2 now run.4 gives in
+    let all : before ++ now ≡ run.1 ++ (run.2 ++ now) = ap (λ (rs : List ℕ). rs ++ now) run.5 ∙ append_assoc run.1 run.2 now in
     (run.0, run.1, run.2 ++ now, run.3, rest, all)

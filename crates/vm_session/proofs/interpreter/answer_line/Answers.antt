@@ -1,8 +1,8 @@
 use Rattle.std.proofs.Math.Nat.{le-add_right}
 use Rattle.vm_core.proofs.AgreeLaws.{agrees_good}
 use Rattle.vm_model.specs.Machine.Lent.{command_of, reply_for}
-use Rattle.vm_session.proofs.Writing.{AnswersLine-order, AnswersLine-outside}
-use Rattle.vm_session.proofs.answers.answer_line.Goals as goal
+use Rattle.vm_session.proofs.PlainLaws.{AnswersLine-order, AnswersLine-outside}
+use Rattle.vm_session.proofs.interpreter.answer_line.Goals as goal
 
 pub returns-in-Ok-Some : goal.returns-in-Ok-Some
 returns-in-Ok-Some g c =
@@ -19,7 +19,7 @@ returns-in-Ok-Some g c =
 
 pub returns-in-Err : goal.returns-in-Err
 returns-in-Err g c = record {
-  answer = AnswersLine-outside c.args.line.now _ _ _ c.push_syntax.result (c.in-Err.ensures)
+  answer = AnswersLine-outside c.args.line.now _ _ _ c.push_syntax.result c.in-Err.ensures
       c.push_syntax.ensures.ok c.push_syntax.ensures.err;
   agrees = c.requires.agrees;
   good = agrees_good _ _ c.requires.agrees;

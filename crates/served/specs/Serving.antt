@@ -6,10 +6,8 @@ use Rattle.script_io.specs.Fetching.{IsPending, Fetches}
 use Rattle.script_io.specs.declared.line_reader.Fetch.{Fetch}
 use Rattle.script_io.specs.declared.status.Status.{Status}
 use Rattle.script_io.specs.declared.status.Status.TheVariants.{WriteFault}
-use Rattle.vm_model.specs.declared.reply.Reply.{Reply}
-use Rattle.vm_model.specs.Machine.Machine.{Machine, IsGoodMachine, empty_machine}
-use Rattle.vm_model.specs.Language.Text.{texts}
-use Rattle.vm_model.specs.Scripts.Run.{lines_of, whole_lines, Run}
+use Rattle.vm_model.specs.Scripts.Run.{lines_of, whole_lines}
+use Rattle.served.specs.Answering.{Answering, Run}
 
 -- These bytes are these lines, each with its line feed: whatever comes behind them begins a line.
 pub record AreLines (bytes : List ℕ) (lines : List (List ℕ)) : Type 0 where
@@ -22,10 +20,10 @@ pub record AreAll (reader : Reader) (bytes pending : List ℕ) (lines : List (Li
   pub behind : pending ≡ []
   pub ended : reader.ended ≡ true
 
--- The source gave a script: bytes whose lines were answered, and bytes that are pending in the reader. The replies were
--- written, and the machine is in a good state.
-pub record IsServed (frames limit : ℕ) (reader : Reader) (source_old source_now sink_old sink_now : Option (List ℕ))
-    (now : Machine) : Type 0 where
+-- The source gave a script: bytes whose lines were answered, and bytes that are pending in the reader. The text of the
+-- answers was written, and the machine is in a good state.
+pub record IsServed {S : Type 0} (m : Answering S) (frames limit : ℕ) (reader : Reader)
+    (source_old source_now sink_old sink_now : Option (List ℕ)) (now : S) : Type 0 where
   pub front : List ℕ
   pub pending : List ℕ
   pub lines : List (List ℕ)
@@ -35,10 +33,10 @@ pub record IsServed (frames limit : ℕ) (reader : Reader) (source_old source_no
   pub taken : reader.taken ≡ length (front ++ pending)
   pub within : length front ≤ limit
   pub split : AreLines front lines ⊎ AreAll reader front pending lines
-  pub replies : List Reply
-  pub run : Run (empty_machine frames) lines replies now
-  pub good : IsGoodMachine now
-  pub written : Appends sink_old sink_now (texts replies)
+  pub out : List ℕ
+  pub run : Run m (m.start frames) lines out now
+  pub good : m.IsGood now
+  pub written : Appends sink_old sink_now out
 
 -- Bytes are pending, and every KOID was given for a byte that was used up.
 pub record IsReady (reader : Reader) (remaining : Option (List ℕ)) (next : ℕ) : Type 0 where
@@ -50,13 +48,13 @@ pub record IsReady (reader : Reader) (remaining : Option (List ℕ)) (next : ℕ
 abbrev pub bytes_left : Reader → ℕ
 bytes_left reader = (reader.limit + 1 - reader.taken) + (reader.dropped + length reader.held)
 
--- From old, whatever was pending, one fetch led to new. A call that promises this uses up one line at most, so the
--- line's replies are written before the next line is looked at.
+-- From old, whatever was pending, one fetch led to new. A call that says this uses up one line at most, and so its
+-- text is written before the next line is looked at.
 abbrev pub FetchesOnce : Reader → Reader → Option (List ℕ) → Option (List ℕ) → Type 0
 FetchesOnce old new source_old source_new = (pending : List ℕ) → IsPending old source_old pending
     → (answer : Fetch) × Fetches old new source_old source_new pending answer
 
--- the status that a run ends with behind a reply, if any
+-- the status that serving ends with behind a line, if any
 abbrev pub write_fault : {T E : Type 0} → Result T E → Option Status
 write_fault (Ok x) = None
 write_fault (Err e) = Some WriteFault

@@ -7,13 +7,12 @@ use Rattle.std.proofs.lemmas.List.{length-append}
 use Rattle.script_io.specs.Faults.{IsCutOff}
 use Rattle.script_io.specs.Reader.{Reader, HasNoFeed}
 use Rattle.script_io.specs.Fetching.{IsPending, IsFirstLine}
-use Rattle.vm_model.specs.declared.reply.Reply.{Reply}
-use Rattle.vm_model.specs.Machine.Machine.{Machine, IsGoodMachine, empty_machine}
-use Rattle.vm_model.specs.Language.Text.{texts}
-use Rattle.vm_model.specs.Scripts.Run.{lines_of, whole_lines, Gives, Run}
-use Rattle.vm_session.proofs.RunLaws.{lines_of-line, lines_of-piece, lines_of-nil, whole_lines-line, whole_lines-none, texts-append, Run-more}
-use Rattle.vm_session.specs.Outcome.{AnswersAll, AnswersPart, Completes, StopsReading, ReachesLimit, BreaksOff, SinkTakes}
-use Rattle.vm_session.specs.Serving.{AreLines, AreAll, IsServed}
+use Rattle.vm_model.specs.Contents.Content.{Content}
+use Rattle.vm_model.specs.Scripts.Run.{lines_of, whole_lines}
+use Rattle.served.specs.Answering.{Answering, Run}
+use Rattle.served.proofs.RunLaws.{lines_of-line, lines_of-piece, lines_of-nil, whole_lines-line, whole_lines-none, Run-more}
+use Rattle.served.specs.Outcome.{AnswersAll, AnswersPart, Completes, StopsReading, ReachesLimit, BreaksOff, SinkTakes}
+use Rattle.served.specs.Serving.{AreLines, AreAll, IsServed}
 
 -- ---- lists
 
@@ -80,24 +79,27 @@ still_lines old front pending part line left lines ended none (inr all) first =
 -- ---- bytes that were taken behind those of the lines that were answered
 
 -- every line was answered
-answers_all : (frames limit : ℕ) (reader : Reader) (source_old source_now sink_old sink_now : Option (List ℕ)) (now : Machine) (lines : List (List ℕ))
-    (s : IsServed frames limit reader source_old source_now sink_old sink_now now) → lines ≡ s.lines → AnswersAll frames lines sink_old sink_now now.state.content
-answers_all frames limit reader source_old source_now sink_old sink_now now lines s e = record {
-  out = texts s.replies;
+answers_all : {S : Type 0} (m : Answering S) (frames limit : ℕ) (reader : Reader) (source_old source_now sink_old sink_now : Option (List ℕ)) (now : S) (c : Content) (lines : List (List ℕ)) → m.content now ≡ c →
+    (s : IsServed m frames limit reader source_old source_now sink_old sink_now now) → lines ≡ s.lines → AnswersAll m frames lines sink_old sink_now c
+answers_all m frames limit reader source_old source_now sink_old sink_now now c lines holds s e = record {
+  out = s.out;
   last = now;
-  legal = record { replies = s.replies; run = subst (λ (ls : List (List ℕ)). Run (empty_machine frames) ls s.replies now) (sym e) s.run; text = refl };
+  run = subst (λ (ls : List (List ℕ)). Run m (m.start frames) ls s.out now) (sym e) s.run;
   good = s.good;
   written = s.written;
-  store = refl;
+  store = sym holds;
 }
 
 no_bytes : (xs : List ℕ) → length xs ≡ 0 → xs ≡ []
 no_bytes [] e = refl
 no_bytes (x ∷ xs) e = absurd (omega (arith, e))
 
-module _ (frames limit : ℕ) (old new : Reader) (source_old source_mid source_new sink_old sink_now : Option (List ℕ)) (now : Machine)
-    (s : IsServed frames limit old source_old source_mid sink_old sink_now now) (part : List ℕ) (consumes : Consumes source_mid source_new part)
+module _ {S : Type 0} (m : Answering S) (frames limit : ℕ) (old new : Reader) (source_old source_mid source_new sink_old sink_now : Option (List ℕ)) (now : S) (c : Content) (holds : m.content now ≡ c)
+    (s : IsServed m frames limit old source_old source_mid sink_old sink_now now) (part : List ℕ) (consumes : Consumes source_mid source_new part)
     (taken : new.taken ≡ old.taken + length part) (same : new.limit ≡ old.limit) where
+  abbrev All : List (List ℕ) → Type 0
+  All lines = AnswersAll m frames lines sink_old sink_now c
+
   abbrev script : List ℕ
   script = (s.front ++ s.pending) ++ part
 
@@ -108,7 +110,7 @@ module _ (frames limit : ℕ) (old new : Reader) (source_old source_mid source_n
   size = omega (arith, taken, s.taken, length-append (s.front ++ s.pending) part)
 
   -- nothing is pending, and nothing comes
-  pub Completes-end : IsAtEnd source_new → s.pending ++ part ≡ [] → Completes frames limit source_old source_new sink_old sink_now now.state.content
+  pub Completes-end : IsAtEnd source_new → s.pending ++ part ≡ [] → Completes All limit source_old source_new
   Completes-end at_end none =
       let empty : length s.pending + length part ≡ 0 = omega (arith, length-append s.pending part, ap (λ (xs : List ℕ). length xs) none) in
       let no_part : part ≡ [] = no_bytes part (omega (arith, empty)) in
@@ -119,7 +121,7 @@ module _ (frames limit : ℕ) (old new : Reader) (source_old source_mid source_n
         given = subst (Consumes source_old source_new) (ap (λ (xs : List ℕ). (s.front ++ s.pending) ++ xs) no_part ∙ (append-nil (s.front ++ s.pending) ∙ all)) given;
         ended = at_end;
         short = s.within;
-        answers = answers_all frames limit old source_old source_mid sink_old sink_now now (lines_of s.front) s (go s.split);
+        answers = answers_all m frames limit old source_old source_mid sink_old sink_now now c (lines_of s.front) holds s (go s.split);
       } where
         go : (AreLines s.front s.lines ⊎ AreAll old s.front s.pending s.lines) → lines_of s.front ≡ s.lines
         go (inl so_far) = lines_of-all s.front s.lines so_far
@@ -127,12 +129,12 @@ module _ (frames limit : ℕ) (old new : Reader) (source_old source_mid source_n
 
   -- the bytes that are left hold no line feed, and the script doesn't end there
   pub StopsReading-there : HasNoFeed (s.pending ++ part) → (old.ended ≡ true → ⊥) → new.taken ≤ new.limit
-      → StopsReading frames limit source_old source_new sink_old sink_now now.state.content
+      → StopsReading All limit source_old source_new
   StopsReading-there none going within = record {
     script = script;
     given = given;
     short = omega (arith, within, size, same, s.bounded);
-    answers = answers_all frames limit old source_old source_mid sink_old sink_now now (whole_lines script) s
+    answers = answers_all m frames limit old source_old source_mid sink_old sink_now now c (whole_lines script) holds s
         (ap whole_lines (append_assoc s.front s.pending part) ∙ whole_lines-rest s.front (s.pending ++ part) s.lines (go s.split) none);
   } where
     go : (AreLines s.front s.lines ⊎ AreAll old s.front s.pending s.lines) → AreLines s.front s.lines
@@ -141,12 +143,12 @@ module _ (frames limit : ℕ) (old new : Reader) (source_old source_mid source_n
 
   -- one byte over the limit was taken, and no line feed is left before it
   pub ReachesLimit-there : HasNoFeed (take (length (s.pending ++ part) - 1) (s.pending ++ part)) → (old.ended ≡ true → new.taken ≡ old.taken) → new.taken ≡ new.limit + 1
-      → ReachesLimit frames limit source_old source_new sink_old sink_now now.state.content
+      → ReachesLimit All limit source_old source_new
   ReachesLimit-there none going over = record {
     script = script;
     given = given;
     long = long;
-    answers = answers_all frames limit old source_old source_mid sink_old sink_now now (whole_lines (take limit script)) s
+    answers = answers_all m frames limit old source_old source_mid sink_old sink_now now c (whole_lines (take limit script)) holds s
         (ap whole_lines (ap (take limit) (append_assoc s.front s.pending part) ∙ take_behind limit (length bytes - 1) s.front bytes room) ∙ whole_lines-rest s.front (take (length bytes - 1) bytes) s.lines (go s.split) none);
   } where
     bytes : List ℕ
@@ -165,27 +167,29 @@ module _ (frames limit : ℕ) (old new : Reader) (source_old source_mid source_n
 -- ---- one line more
 
 -- From these pending bytes a line was fetched, and it was answered.
-pub record IsAnswered {T E : Type 0} (old new : Reader) (source_old source_new sink_old sink_new : Option (List ℕ)) (before after : Machine) (pending : List ℕ) (result : Result T E) : Type 0 where
+pub record IsAnswered {S T E : Type 0} (m : Answering S) (old new : Reader) (source_old source_new sink_old sink_new : Option (List ℕ)) (before after : S) (pending : List ℕ) (result : Result T E) : Type 0 where
   pub part : List ℕ
   pub left : List ℕ
   pub line : List ℕ
-  pub replies : List Reply
+  pub text : List ℕ
   pub consumes : Consumes source_old source_new part
   pub taken : new.taken ≡ old.taken + length part
   pub still : IsPending new source_new left
   pub first : IsFirstLine new.ended (pending ++ part) line left
   pub within : new.taken ≤ new.limit
-  pub gives : Gives line before replies after
-  pub good : IsGoodMachine after
-  pub written : SinkTakes result sink_old sink_new (texts replies)
-  pub koids : after.state.content.next ≤ before.state.content.next + 1
+  pub gives : m.Gives line before text after
+  pub good : m.IsGood after
+  pub written : SinkTakes result sink_old sink_new text
 
-module _ {T E : Type 0} (frames limit : ℕ) (old new : Reader) (source_old source_mid source_new sink_old sink_mid sink_new : Option (List ℕ)) (before after : Machine)
-    (result : Result T E) (s : IsServed frames limit old source_old source_mid sink_old sink_mid before)
-    (a : IsAnswered old new source_mid source_new sink_mid sink_new before after s.pending result)
+module _ {S T E : Type 0} (m : Answering S) (frames limit : ℕ) (old new : Reader) (source_old source_mid source_new sink_old sink_mid sink_new : Option (List ℕ)) (before after : S) (c : Content) (holds : m.content after ≡ c)
+    (result : Result T E) (s : IsServed m frames limit old source_old source_mid sink_old sink_mid before)
+    (a : IsAnswered m old new source_mid source_new sink_mid sink_new before after s.pending result)
     (same : new.limit ≡ old.limit) (none : old.ended ≡ true → new.taken ≡ old.taken) where
   so_far : AreLines s.front s.lines
   so_far = still_lines old s.front s.pending a.part a.line a.left s.lines new.ended (λ e. omega (arith, a.taken, none e)) s.split a.first
+
+  abbrev Part : List (List ℕ) → Type 0
+  Part lines = AnswersPart m frames lines sink_old sink_new c
 
   abbrev taken_all : List ℕ
   taken_all = (s.front ++ s.pending) ++ a.part
@@ -197,13 +201,12 @@ module _ {T E : Type 0} (frames limit : ℕ) (old new : Reader) (source_old sour
   size_all = omega (arith, a.taken, s.taken, length-append (s.front ++ s.pending) a.part)
 
   -- it was answered whole
-  pub IsServed-answered : (x : T) → result ≡ Ok x → IsServed frames limit new source_old source_new sink_old sink_new after
+  pub IsServed-answered : (x : T) → result ≡ Ok x → IsServed m frames limit new source_old source_new sink_old sink_new after
   IsServed-answered x is = go a.first.parts where
-    written : Appends sink_old sink_new (texts (s.replies ++ a.replies))
-    written = subst (Appends sink_old sink_new) (sym (texts-append s.replies a.replies))
-        (Appends-trans sink_old sink_mid sink_new (texts s.replies) (texts a.replies) s.written (subst (λ (r : Result T E). SinkTakes r sink_mid sink_new (texts a.replies)) is a.written))
+    written : Appends sink_old sink_new (s.out ++ a.text)
+    written = Appends-trans sink_old sink_mid sink_new s.out a.text s.written (subst (λ (r : Result T E). SinkTakes r sink_mid sink_new a.text) is a.written)
 
-    served : (front : List ℕ) → taken_all ≡ front ++ a.left → (AreLines front (s.lines ++ a.line ∷ []) ⊎ AreAll new front a.left (s.lines ++ a.line ∷ [])) → IsServed frames limit new source_old source_new sink_old sink_new after
+    served : (front : List ℕ) → taken_all ≡ front ++ a.left → (AreLines front (s.lines ++ a.line ∷ []) ⊎ AreAll new front a.left (s.lines ++ a.line ∷ [])) → IsServed m frames limit new source_old source_new sink_old sink_new after
     served front parts split = record {
       front = front;
       pending = a.left;
@@ -214,13 +217,13 @@ module _ {T E : Type 0} (frames limit : ℕ) (old new : Reader) (source_old sour
       taken = size_all ∙ ap (λ (xs : List ℕ). length xs) parts;
       within = omega (arith, a.within, size_all, ap (λ (xs : List ℕ). length xs) parts, length-append front a.left, same, s.bounded);
       split = split;
-      replies = s.replies ++ a.replies;
-      run = Run-more (empty_machine frames) before after s.lines a.line s.replies a.replies s.run a.gives;
+      out = s.out ++ a.text;
+      run = Run-more m (m.start frames) before after s.lines a.line s.out a.text s.run a.gives;
       good = a.good;
       written = written;
     }
 
-    go : ((s.pending ++ a.part ≡ a.line ++ 10 ∷ a.left) ⊎ ((s.pending ++ a.part ≡ a.line) × (a.left ≡ []) × (0 < length a.line) × (new.ended ≡ true))) → IsServed frames limit new source_old source_new sink_old sink_new after
+    go : ((s.pending ++ a.part ≡ a.line ++ 10 ∷ a.left) ⊎ ((s.pending ++ a.part ≡ a.line) × (a.left ≡ []) × (0 < length a.line) × (new.ended ≡ true))) → IsServed m frames limit new source_old source_new sink_old sink_new after
     go (inl e) = served (s.front ++ (a.line ++ 10 ∷ []))
         (append_assoc s.front s.pending a.part ∙ (ap (λ (xs : List ℕ). s.front ++ xs) e ∙ sym (line_behind s.front a.line a.left)))
         (inl (AreLines-more s.front a.line s.lines so_far a.first.no_feed))
@@ -229,24 +232,24 @@ module _ {T E : Type 0} (frames limit : ℕ) (old new : Reader) (source_old sour
         (inr (record { each = lines_of-more s.front a.line s.lines so_far a.first.no_feed h.2; behind = h.1; ended = h.3 }))
 
   -- its replies were cut off
-  pub BreaksOff-answered : (x : E) → result ≡ Err x → BreaksOff frames limit source_old source_new sink_old sink_new after.state.content
+  pub BreaksOff-answered : (x : E) → result ≡ Err x → BreaksOff Part limit source_old source_new
   BreaksOff-answered x is = go a.first.parts where
-    cut : IsCutOff sink_mid sink_new (texts a.replies)
-    cut = subst (λ (r : Result T E). SinkTakes r sink_mid sink_new (texts a.replies)) is a.written
+    cut : IsCutOff sink_mid sink_new a.text
+    cut = subst (λ (r : Result T E). SinkTakes r sink_mid sink_new a.text) is a.written
 
     short : length taken_all ≤ limit
     short = omega (arith, a.within, size_all, same, s.bounded)
 
     -- the lines up to the one that was cut off
-    answers : (lines : List (List ℕ)) (rest : List (List ℕ)) → lines ≡ s.lines ++ a.line ∷ rest → AnswersPart frames lines sink_old sink_new after.state.content
+    answers : (lines : List (List ℕ)) (rest : List (List ℕ)) → lines ≡ s.lines ++ a.line ∷ rest → Part lines
     answers lines rest e = record {
       answered = length s.lines;
       line = a.line;
       next = ap (λ (ls : List (List ℕ)). slice_get ls (length s.lines)) e ∙ get_behind s.lines a.line rest;
-      before = s.replies;
+      before = s.out;
       mid = before;
-      run = subst (λ (ls : List (List ℕ)). Run (empty_machine frames) ls s.replies before) (sym (ap (take (length s.lines)) e ∙ take_front s.lines (a.line ∷ rest))) s.run;
-      replies = a.replies;
+      run = subst (λ (ls : List (List ℕ)). Run m (m.start frames) ls s.out before) (sym (ap (take (length s.lines)) e ∙ take_front s.lines (a.line ∷ rest))) s.run;
+      text = a.text;
       last = after;
       gives = a.gives;
       good = a.good;
@@ -254,15 +257,15 @@ module _ {T E : Type 0} (frames limit : ℕ) (old new : Reader) (source_old sour
       rest = cut.rest;
       cut = cut.whole;
       left = cut.left;
-      written = Appends-trans sink_old sink_mid sink_new (texts s.replies) cut.part s.written cut.taken;
-      store = refl;
+      written = Appends-trans sink_old sink_mid sink_new s.out cut.part s.written cut.taken;
+      store = sym holds;
     }
 
-    breaks : (AnswersPart frames (whole_lines (take limit taken_all)) sink_old sink_new after.state.content
-        ⊎ (AnswersPart frames (lines_of taken_all) sink_old sink_new after.state.content × IsAtEnd source_new × (length taken_all ≤ limit))) → BreaksOff frames limit source_old source_new sink_old sink_new after.state.content
+    breaks : (Part (whole_lines (take limit taken_all))
+        ⊎ (Part (lines_of taken_all) × IsAtEnd source_new × (length taken_all ≤ limit))) → BreaksOff Part limit source_old source_new
     breaks parts = record { script = taken_all; given = given_all; at_most = omega (arith, short); answers = parts }
 
-    go : ((s.pending ++ a.part ≡ a.line ++ 10 ∷ a.left) ⊎ ((s.pending ++ a.part ≡ a.line) × (a.left ≡ []) × (0 < length a.line) × (new.ended ≡ true))) → BreaksOff frames limit source_old source_new sink_old sink_new after.state.content
+    go : ((s.pending ++ a.part ≡ a.line ++ 10 ∷ a.left) ⊎ ((s.pending ++ a.part ≡ a.line) × (a.left ≡ []) × (0 < length a.line) × (new.ended ≡ true))) → BreaksOff Part limit source_old source_new
     go (inl e) =
         let parts : taken_all ≡ s.front ++ (a.line ++ 10 ∷ a.left) = append_assoc s.front s.pending a.part ∙ ap (λ (xs : List ℕ). s.front ++ xs) e in
         breaks (inl (answers (whole_lines (take limit taken_all)) (whole_lines a.left)

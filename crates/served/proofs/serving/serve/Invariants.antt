@@ -1,15 +1,15 @@
 use Rattle.std.proofs.Common.{◌≡◌, ◌≤◌}
-use Rattle.vm_core.specs.Vm.{Agrees, machine_of}
-use Rattle.vm_session.specs.Serving.{IsServed, IsReady, bytes_left}
-use Rattle.vm_session.proofs.serving.serve.Given as goal
+use Rattle.served.specs.Serving.{IsServed, IsReady, bytes_left}
+use Rattle.served.proofs.serving.serve.Given as goal
 
 abbrev pub invariant-loop-status : goal.invariant-loop-status
 invariant-loop-status g l =
-    let machine = machine_of (g.P.PageStore.content l.store) l.vm in
+    let state = g.I.Interpreter.state l.interpreter (g.P.PageStore.content l.store) in
     record {
-      served : IsServed l.fn.frames l.fn.limit l.lines (g.S.Source.remaining l.fn.source)
-          (g.S.Source.remaining l.source) (g.K.Sink.contents l.fn.sink) (g.K.Sink.contents l.sink) machine;
-      agrees : Agrees (g.P.PageStore.content l.store) l.vm;
+      served : IsServed g.I.Interpreter.rules l.fn.frames l.fn.limit l.lines (g.S.Source.remaining l.fn.source)
+          (g.S.Source.remaining l.source) (g.K.Sink.contents l.fn.sink) (g.K.Sink.contents l.sink) state;
+      agrees : g.I.Interpreter.Agrees l.interpreter (g.P.PageStore.content l.store);
+      good : g.I.Interpreter.rules.IsGood state;
       ready : IsReady l.lines (g.S.Source.remaining l.source) (g.P.PageStore.content l.store).next;
       limit : l.lines.limit ≡ l.fn.limit;
       read_later : g.S.Source.faults l.fn.source ≤ g.S.Source.faults l.source;

@@ -1,0 +1,5 @@
+mod RunLaws
+mod Served
+mod Answered
+mod Beginning
+mod Writing

@@ -1,0 +1,100 @@
+//! Serving a script line by line.
+
+ghost use Rattle.std.specs.Prelude.{◌≡◌, ◌↔◌, ℕ, ◌^◌, ◌<◌, ◌≤◌, None, IfSome};
+ghost use Rattle.script_io.specs.Faults.{HasFailed};
+ghost use Rattle.vm_model.specs.Contents.Content.{nothing};
+ghost use Rattle.served.specs.Outcome.{EndsAs};
+ghost use Rattle.served.specs.Words.{frames_asked};
+
+use crate::answers::answer_next;
+use crate::interpreter::Interpreter;
+use crate::words::frames_asked;
+use page_store::PageStore;
+use script_io::{Lines, Sink, Source, Status};
+use std::alloc::Global;
+use vm_base::{FRAMES, SCRIPT_BYTES};
+
+/// Has the lines of the script that a source gives answered, one after another, over a store
+/// with `frames` page frames, from 1 to 65,536. The answer to a line is pushed whole before the next
+/// line is looked at, and all bytes that were pulled are used up before more are.
+///
+/// `HostMemory` where the host has too little memory for the buffers and the frames, and then nothing
+/// was read. `ReadFault` and `WriteFault` where the source and the sink fail. `ScriptLimit` where the
+/// source gives more than `limit` bytes, and then the lines that end within them were answered. At
+/// most `limit + 1` bytes are taken of the source.
+pub fn serve<P: PageStore, I: Interpreter<P>, S: Source, K: Sink>(
+    alloc: Global,
+    frames: u32,
+    limit: u64,
+    store: &mut P,
+    interpreter: &mut I,
+    source: &mut S,
+    sink: &mut K,
+) -> Status
+    requires empty { P.content store.old ≡ nothing }
+    requires frames { 1 ≤ frames × frames ≤ FRAMES }
+    requires limit { limit < 2 ^ 63 }
+
+    // Over a store with nothing but frames the interpreter stands for its first state, which is good.
+    requires agrees { I.Agrees interpreter.old (record nothing { frames = frames }) }
+    requires start { I.state interpreter.old (record nothing { frames = frames }) ≡ I.rules.start frames }
+    requires good { I.rules.IsGood (I.rules.start frames) }
+    ensures ends { EndsAs I.rules result frames limit (S.remaining source.old) (S.remaining source.new)
+        (K.contents sink.old) (K.contents sink.new) (P.content store.new) }
+    ensures read_cause { result ≡ Status.ReadFault → HasFailed (S.faults source.old) (S.faults source.new) }
+    ensures write_cause { result ≡ Status.WriteFault → HasFailed (K.faults sink.old) (K.faults sink.new) }
+    ensures host_memory { result ≡ Status.HostMemory → (source.new ≡ source.old) × (sink.new ≡ sink.old) }
+{
+    let Ok(mut lines) = Lines::new(alloc, limit) else {
+        return Status::HostMemory;
+    };
+    let Ok(()) = store.fill(frames) else {
+        return Status::HostMemory;
+    };
+    loop {
+        let next = answer_next(store, interpreter, &mut lines, source, sink);
+        if let Some(status) = next {
+            return status;
+        }
+    }
+}
+
+/// Does `serve` for the words of a command line that are `verb`, and behind it nothing or `--frames N`: over 1,024 page frames, or
+/// as many as N says with one to five digits, from 1 to 65,536. A script has at most `SCRIPT_BYTES` bytes. `Usage` exactly where
+/// the words are others, and then nothing is touched.
+pub fn serve_words<P: PageStore, I: Interpreter<P>, S: Source, K: Sink>(
+    alloc: Global,
+    verb: &[u8],
+    words: &[String],
+    store: &mut P,
+    interpreter: &mut I,
+    source: &mut S,
+    sink: &mut K,
+) -> Status
+    requires empty { P.content store.old ≡ nothing }
+    requires agrees { (frames : ℕ) → I.Agrees interpreter.old (record nothing { frames = frames }) }
+    requires start { (frames : ℕ) → I.state interpreter.old (record nothing { frames = frames }) ≡ I.rules.start frames }
+    requires good { (frames : ℕ) → I.rules.IsGood (I.rules.start frames) }
+    ensures ends { IfSome (frames_asked verb.now words.now) (λ frames.
+        EndsAs I.rules result frames SCRIPT_BYTES (S.remaining source.old) (S.remaining source.new)
+        (K.contents sink.old) (K.contents sink.new) (P.content store.new)) }
+    ensures read_cause { result ≡ Status.ReadFault → HasFailed (S.faults source.old) (S.faults source.new) }
+    ensures write_cause { result ≡ Status.WriteFault → HasFailed (K.faults sink.old) (K.faults sink.new) }
+    ensures host_memory { result ≡ Status.HostMemory → (source.new ≡ source.old) × (sink.new ≡ sink.old) }
+    ensures usage { (result ≡ Status.Usage) ↔ (frames_asked verb.now words.now ≡ None) }
+    ensures untouched { result ≡ Status.Usage → (source.new ≡ source.old) × (sink.new ≡ sink.old)
+        × (store.new ≡ store.old) }
+{
+    match frames_asked(verb, words) {
+        Some(frames) => serve(
+            alloc,
+            frames,
+            SCRIPT_BYTES,
+            store,
+            interpreter,
+            source,
+            sink,
+        ),
+        None => Status::Usage,
+    }
+}

@@ -1,0 +1,78 @@
+//! Answering one line of a script.
+
+ghost use Rattle.std.specs.Prelude.{◌+◌, ◌≤◌, ◌<◌};
+ghost use Rattle.script_io.specs.Faults.{HasCause};
+ghost use Rattle.vm_model.specs.Machine.Machine.{IsGoodMachine};
+ghost use Rattle.vm_core.specs.Vm.{Agrees, machine_of};
+ghost use Rattle.served.specs.Outcome.{AnswersLine};
+ghost use Rattle.vm_session.specs.Plain.{plain};
+
+use crate::rooms::Rooms;
+use page_store::PageStore;
+use script_io::Sink;
+use script_text::read_call;
+use served::{Interpreter, push_answer, push_syntax};
+use vm_base::{Failed, KOIDS};
+use vm_core::Vm;
+
+/// A machine, and the room for the data of a line that it answers.
+#[derive(Drop)]
+pub(crate) struct VmInterpreter {
+    pub(crate) vm: Vm,
+    pub(crate) rooms: Rooms,
+}
+
+impl<P: PageStore> Interpreter<P> for VmInterpreter {
+    ghost use Rattle.std.specs.Prelude.{refl};
+    ghost use Rattle.vm_model.specs.Machine.Machine.{Machine};
+    ghost use Rattle.vm_session.specs.Plain.{GivesText-long};
+
+    ghost State = { Machine };
+
+    ghost rules = { plain };
+
+    ghost state = { λ x c. machine_of c x.vm };
+
+    ghost Agrees = { λ x c. Agrees c x.vm };
+
+    fn answer_line<K: Sink>(
+        &mut self,
+        store: &mut P,
+        sink: &mut K,
+        line: &[u8],
+    ) -> Result<(), Failed> {
+        answer_line(store, &mut self.vm, sink, &mut self.rooms, line)
+    }
+
+    ghost holds = { λ x c. refl };
+
+    ghost long = { GivesText-long };
+}
+
+/// Answers one line. `Failed` where the sink failed; the line was done all the same.
+#[inline(always)]
+fn answer_line<P: PageStore, K: Sink>(
+    store: &mut P,
+    vm: &mut Vm,
+    sink: &mut K,
+    rooms: &mut Rooms,
+    line: &[u8],
+) -> Result<(), Failed>
+    requires agrees { Agrees (P.content store.old) vm.old }
+    requires next { (P.content store.old).next < KOIDS }
+    ensures answer { AnswersLine plain line.now (machine_of (P.content store.old) vm.old)
+        (machine_of (P.content store.new) vm.new) (K.contents sink.old) (K.contents sink.new) result }
+    ensures agrees { Agrees (P.content store.new) vm.new }
+    ensures good { IsGoodMachine (machine_of (P.content store.new) vm.new) }
+    ensures next { (P.content store.new).next ≤ (P.content store.old).next + 1 }
+    ensures cause { HasCause (K.faults sink.old) (K.faults sink.new) result }
+{
+    match read_call(line, &mut rooms.written) {
+        Ok(None) => Ok(()),
+        Ok(Some(call)) => {
+            let answer = vm.answer(store, &call, &mut rooms.read, &mut rooms.pinned);
+            push_answer(sink, &answer, &mut rooms.reply)
+        }
+        Err(_) => push_syntax(sink),
+    }
+}
