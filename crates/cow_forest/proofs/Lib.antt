@@ -20,3 +20,6 @@ pub mod SnapshotLaws
 pub mod OwnedLaws
 pub mod JumpLaws
 pub mod JumpKeptLaws
+pub mod RangeLaws
+pub mod RisingLaws
+pub mod ZeroedLaws

@@ -7,3 +7,4 @@ pub mod Looking
 pub mod Counting
 pub mod Viewing
 pub mod Jumps
+pub mod Ranges

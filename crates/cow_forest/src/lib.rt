@@ -13,6 +13,7 @@ mod looking;
 mod node_table;
 mod owning;
 mod ranges;
+mod sending;
 mod tables;
 mod viewing;
 
