@@ -1,11 +1,11 @@
 -- The jumps stay right where rows go, where a VMO's node gets rows, where a VMO comes, and where a snapshot is made.
-use Rattle.std.proofs.Common.{◌≡◌, ◌≢◌, ℕ, ◌+◌, Option, None, Some, IsSome, inl, inr, refl, sym, ap, subst, ◌∙◌, arith}
+use Rattle.std.proofs.Common.{◌≡◌, ◌≢◌, ◌⊎◌, ℕ, ◌+◌, Option, None, Some, IsSome, inl, inr, refl, sym, ap, subst, ◌∙◌, arith}
 use Rattle.std.specs.Prelude.{is_some, if◌then◌else◌, ◌==◌, Bool, true, false}
 use Rattle.std.specs.Option.{option_map}
-use Rattle.std.proofs.lemmas.Bool.{cases_eq}
+use Rattle.std.proofs.lemmas.Bool.{cases_Bool, cases_eq}
 use Rattle.vm_base.specs.declared.names.Koid.{Koid}
 use Rattle.vm_base.specs.Entries.{with_key}
-use Rattle.vm_base.proofs.EntryLaws.{some_same, with_key-same, with_key-other}
+use Rattle.vm_base.proofs.EntryLaws.{some_same, none_is, with_key-same, with_key-other}
 use Rattle.balanced_tree.specs.Rows.{Rows}
 use Rattle.page_list.specs.declared.row.Row.{Row}
 use Rattle.page_list.specs.Lists.{slots_of}
@@ -67,6 +67,21 @@ pub jumps-rows : (f : Forest) (s : IsStore f) (rows : Rows Row) (v k : ℕ) (h :
     AreJumps (tree f) next table → AreJumps (tree_of f.arena rows) next table
 jumps-rows f s rows v k h keeps next table are =
     jumps-bare (tree f) s.exact.forest (slots_of rows) k h.node (node-visible f s v k h) (keeps h.node h.is.at) next table are
+
+-- pages of a VMO's node were made zero, by which no place but places of its list gets a row
+pub jumps-places : (f : Forest) (s : IsStore f) (rows : Rows Row) (v k : ℕ) (h : HasNode f v k) (Is : ℕ → Type 0) →
+    ((node : Node) → nodes_of f.arena k ≡ Some node → (l q : ℕ) → IsSome (slots_of rows l q) →
+        IsSome (slots_of f.rows l q) ⊎ ((l ≡ node.list.0) × Is q)) → (next : ℕ) (table : JumpTable) →
+    AreJumps (tree f) next table → AreJumps (tree_of f.arena rows) next table
+jumps-places f s rows v k h Is places = jumps-rows f s rows v k h (λ node at. record {
+  bare = λ l q apart none. elim (cases_Bool (is_some (slots_of rows l q))) [
+    | inl some ↦ absurd (elim (places node at l q some) [
+      | inl had ↦ let no = ap is_some none in absurd (cc)
+      | inr here ↦ apart here.0
+    ])
+    | inr no ↦ none_is (slots_of rows l q) no
+  ];
+})
 
 -- ---- a VMO comes
 

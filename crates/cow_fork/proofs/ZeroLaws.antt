@@ -30,11 +30,11 @@ use Rattle.cow_split.specs.Cutting.{HasCut, frame_left}
 use Rattle.cow_split.proofs.ExactLaws.{cases_place}
 use Rattle.cow_split.proofs.RowLaws.{without_frame-none, with_frame-none, exact-in_use_alike, exact-in_sight, own_comes-shows, exact-own_gone, exact-own_comes, with_row-twice, frame-once, frame-shown}
 use Rattle.cow_fork.specs.Frames.{IsSole, LeavesFrame}
-use Rattle.cow_split.proofs.PartLaws.{part-with_pair, part-cut, bare-same, bare-part, bare-then, stood-with_pair}
+use Rattle.cow_split.proofs.PartLaws.{part-with_pair, part-cut, stood-with_pair}
 use Rattle.cow_fork.specs.Zeroing.{HasZeroed}
 use Rattle.cow_fork.proofs.PoolLaws.{given-without, taken-same}
 use Rattle.cow_fork.proofs.HolderLaws.{own-shown, held-shown}
-use Rattle.cow_fork.proofs.LeafLaws.{IsLeaf, with_row-there, others-on, put-tree, put-row, put-others, put-rows}
+use Rattle.cow_fork.proofs.LeafLaws.{IsLeaf, with_row-there, others-on, put-tree, put-row, put-others}
 use Rattle.cow_fork.specs.ZeroSteps.{HasLetGo, HasHidden}
 use Rattle.cow_fork.proofs.CutOffLaws.{cut-bare, cut-exact, cut-other, cut_off, leaves_cases}
 
@@ -139,7 +139,9 @@ hidden-marked {arena} {old} {v} {p} {node} leaf new in_use found is shown exact 
       others = put-others leaf new (Some slot.Zero) put;
       stood = λ l q row tag at frame.
           stood-with_pair (slots_of old) node.list.0 p slot.Zero l q row tag (ap (λ (s : Slots). s l q) (sym put) ∙ at) frame (λ e. absurd (cc));
-      rows = put-rows leaf new (Some slot.Zero) put;
+      places = λ n at l q some.
+          subst (λ (m : Node). IsSome (slots_of old l q) ⊎ ((l ≡ m.list.0) × (q ≡ p))) (some_same (sym leaf.visible.at ∙ at))
+          (put-places (slots_of old) node.list.0 p slot.Zero l q (subst (λ (s : Slots). IsSome (s l q)) put some));
       spare = omega (arith, spare);
     }
 
@@ -157,7 +159,7 @@ hidden-bare arena old in_use v p found is none bare exact =
       needed = λ n at own. let free = bare n at in absurd (cc);
       others = λ w q page differs. refl;
       stood = λ l q row tag at frame. at;
-      rows = λ n at. bare-same (slots_of old) n.list.0;
+      places = λ n at l q some. inl some;
       spare = omega arith;
     }
 
@@ -217,8 +219,6 @@ zeroed {arena} {old} {mid} {new} {v} {p} {answer} before after found is shown go
       given = λ tag sole. let it : Tag = record { 0 = tag } in given it ((gone.last it).1 sole);
       kept = λ shared. ap taken_frames (kept (λ leaves. shared leaves.tag.0 ((gone.last leaves.tag).0 leaves.last)));
       stood = λ l q row tag at frame. gone.part.had l q row (hidden.stood l q row tag at frame);
-      rows = λ n at. bare-then (slots_of old) (slots_of mid) (slots_of new) n.list.0
-          (bare-part (slots_of old) (slots_of mid) n.list.0 gone.part) (hidden.rows n at);
       links = links;
       frames = frames;
       gives = given-gives before after answer given kept;

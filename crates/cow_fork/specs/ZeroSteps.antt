@@ -8,7 +8,7 @@ use Rattle.page_list.specs.Lists.{slots_of}
 use Rattle.cow_arena.specs.declared.node.Node.{Node}
 use Rattle.cow_arena.specs.Nodes.{Arena, nodes_of}
 use Rattle.cow_arena.specs.Walk.{frame_at, frame_in}
-use Rattle.cow_arena.specs.Ways.{IsPartOf, KeepsBare}
+use Rattle.cow_arena.specs.Ways.{IsPartOf}
 use Rattle.cow_split.specs.declared.answers.Cut.{Cut}
 use Rattle.cow_split.specs.declared.answers.Cut.TheVariants as cut
 use Rattle.cow_split.specs.Trees.{tree_of}
@@ -34,5 +34,6 @@ pub record HasHidden (arena : Arena) (old new : Rows Row) (in_use : ℕ → Bool
   pub needed : IsNeeded arena new v p
   pub others : OthersShowSame (tree_of arena old) (tree_of arena new) v p
   pub stood : (l q : ℕ) (row : Slot) (t : ℕ) → slots_of new l q ≡ Some row → frame_in row ≡ Some t → slots_of old l q ≡ Some row
-  pub rows : (node : Node) → nodes_of arena v ≡ Some node → KeepsBare (slots_of old) (slots_of new) node.list.0
+  pub places : (node : Node) → nodes_of arena v ≡ Some node → (l q : ℕ) → IsSome (slots_of new l q) →
+      IsSome (slots_of old l q) ⊎ ((l ≡ node.list.0) × (q ≡ p))
   pub spare : old.spare ≤ new.spare + 1

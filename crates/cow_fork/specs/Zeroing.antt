@@ -10,7 +10,7 @@ use Rattle.frame_pool.specs.Pool.{Pool, taken_frames, is_taken, links_of}
 use Rattle.cow_arena.specs.declared.node.Node.{Node}
 use Rattle.cow_arena.specs.Nodes.{Arena, nodes_of}
 use Rattle.cow_arena.specs.Walk.{frame_at, frame_in}
-use Rattle.cow_arena.specs.Ways.{HadRow, KeepsBare}
+use Rattle.cow_arena.specs.Ways.{HadRow}
 use Rattle.cow_split.specs.Trees.{tree_of, with_row}
 use Rattle.cow_split.specs.Sight.{OthersShowSame}
 use Rattle.cow_split.specs.Exact.{IsExact, all_in_sight}
@@ -32,8 +32,6 @@ pub record HasZeroed (arena : Arena) (old new : Rows Row) (before after : Pool) 
   -- each row with a frame had this frame there before, and no backlink changes
   pub stood : (l q : ℕ) (row : Slot) (t : ℕ) → slots_of new l q ≡ Some row → frame_in row ≡ Some t →
       HadRow (slots_of old) l q row
-  -- no list but that of v gets a row
-  pub rows : (node : Node) → nodes_of arena v ≡ Some node → KeepsBare (slots_of old) (slots_of new) node.list.0
   pub links : links_of after ≡ links_of before
   pub frames : after.frames ≡ before.frames
   -- no other frame changes, and no place but this page's gets a row

@@ -6,6 +6,7 @@ use Rattle.cow_forest.specs.Fields.{forest_of}
 use Rattle.cow_forest.specs.Ranges.{rows_reached}
 use Rattle.cow_forest.specs.Store.{tree}
 use Rattle.cow_forest.proofs.ContentLaws.{vmo-found}
+use Rattle.cow_forest.proofs.JumpKeptLaws.{jumps-places}
 use Rattle.cow_forest.proofs.ZeroedLaws.{range-fits, range-ready, store-ranged, content-ranged, spare-ranged}
 use Rattle.cow_forest.proofs.forest.CowForest.zero_range.Goals as goal
 
@@ -27,7 +28,11 @@ zero_pages-requires g c =
 pub invariant_of-self : goal.invariant_of-self
 invariant_of-self g c =
     let h = c.self.invariant.store.named c.args.v.0 c.get-node.result c.get-node.ensures in
-    record { store = store-ranged (forest_of c.self.inside) c.self.invariant.store c.args.v.0 c.get-node.result.0 h _ _ _ _ c.zero_pages.ensures.some }
+    record {
+      store = store-ranged (forest_of c.self.inside) c.self.invariant.store c.args.v.0 c.get-node.result.0 h _ _ _ _ c.zero_pages.ensures.some;
+      jumps = jumps-places (forest_of c.self.inside) c.self.invariant.store c.zero_pages.new.lists c.args.v.0 c.get-node.result.0 h _
+          c.zero_pages.ensures.some.places c.self.inside.next c.self.inside.jumps c.self.invariant.jumps;
+    }
 
 pub returns-clause-content : goal.returns-clause-content
 returns-clause-content g c =
