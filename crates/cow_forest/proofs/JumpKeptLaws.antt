@@ -79,7 +79,7 @@ jumps-places f s rows v k h Is places = jumps-rows f s rows v k h (λ node at. r
       | inl had ↦ let no = ap is_some none in absurd (cc)
       | inr here ↦ apart here.0
     ])
-    | inr no ↦ none_is (slots_of rows l q) no
+    | inr free ↦ none_is (slots_of rows l q) free
   ];
 })
 

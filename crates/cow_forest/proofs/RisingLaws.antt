@@ -18,7 +18,7 @@ use Rattle.cow_split.specs.Cost.{nodes_up, depth}
 use Rattle.cow_split.specs.Sight.{IsPage}
 use Rattle.cow_split.proofs.RowLaws.{frame-shown}
 use Rattle.cow_split.proofs.CostLaws.{parent-there}
-use Rattle.cow_merge.proofs.RangeLaws.{frame-from, up-less}
+use Rattle.cow_merge.proofs.PassingLaws.{frame-from, up-less}
 use Rattle.cow_forest.specs.Ranges.{rows_in, rows_over, rows_up, rows_reached, IsReady, HasZeroedSome, AreZero, HasNoFrame}
 use Rattle.cow_forest.proofs.LookLaws.{none-from}
 use Rattle.cow_forest.proofs.RangeLaws.{rows-less, page-on, zeroed-none, zeroed-then, ready-page, ready-on}
