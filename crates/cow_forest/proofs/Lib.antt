@@ -23,3 +23,4 @@ pub mod JumpKeptLaws
 pub mod RangeLaws
 pub mod RisingLaws
 pub mod ZeroedLaws
+pub mod ReachedLaws

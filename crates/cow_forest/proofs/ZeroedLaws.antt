@@ -10,6 +10,8 @@ use Rattle.vm_model.proofs.ZeroingLaws.{cases_zeroed, page-zeroed_in, page-zeroe
 use Rattle.frame_pool.specs.declared.frame_pool.Backlink.{Backlink}
 use Rattle.frame_pool.specs.Pool.{Pool, is_taken, frame_bytes}
 use Rattle.page_list.specs.declared.row.Row.{Row}
+use Rattle.cow_arena.specs.declared.node.NodeId.{NodeId}
+use Rattle.cow_arena.specs.Nodes.{nodes_of, link_to}
 use Rattle.cow_arena.specs.Walk.{frame_at}
 use Rattle.cow_split.specs.Trees.{tree_of}
 use Rattle.cow_split.specs.Exact.{all_in_sight}
@@ -17,7 +19,8 @@ use Rattle.cow_split.proofs.RowLaws.{frame-in_use}
 use Rattle.cow_merge.specs.Ranges.{AreLinked}
 use Rattle.page_store.specs.Held.{held_from}
 use Rattle.page_store.proofs.HeldLaws.{same_content}
-use Rattle.cow_forest.specs.Store.{Forest, tree, content_of, page_showing, HasNode, IsStore}
+use Rattle.cow_forest.specs.Tables.{node_in}
+use Rattle.cow_forest.specs.Store.{Forest, tree, content_of, count_from, page_showing, HasNode, IsStore}
 use Rattle.cow_forest.specs.Ranges.{shown_from, IsReady, HasZeroedSome, AreZero}
 use Rattle.cow_forest.proofs.ContentLaws.{node-visible, one-vmo, page-of, pages-of}
 use Rattle.cow_forest.proofs.StoreLaws.{with_rows, node-kept, store-kept, page-same}
@@ -25,6 +28,14 @@ use Rattle.cow_forest.proofs.StoreLaws.{with_rows, node-kept, store-kept, page-s
 showing-there : (pool : Pool) (frame : Option ℕ) → is_some (page_showing pool frame) ≡ is_some frame
 showing-there pool None = refl
 showing-there pool (Some t) = refl
+
+-- a VMO that has a page count has a node
+pub node-there : (f : Forest) (v n : ℕ) → (content_of f).count v ≡ Some n → (k : ℕ) × (node_in f.nodes v ≡ link_to k)
+node-there f v n has = go (node_in f.nodes v) refl has
+  where
+    go : (o : Option NodeId) → node_in f.nodes v ≡ o → count_from (nodes_of f.arena) o ≡ Some n → (k : ℕ) × (node_in f.nodes v ≡ link_to k)
+    go None is e = absurd (cc)
+    go (Some at) is e = (at.0, is)
 
 module _ (f : Forest) (s : IsStore f) (v k : ℕ) (h : HasNode f v k) where
   -- as many pages are held as show a frame

@@ -100,9 +100,10 @@ impl CowForest {
         (self.frames.frames() - self.frames.free()) as u64
     }
 
-    /// How many rows there are, with frames and without.
+    /// How many rows there are, with frames and without. No range of pages reaches more of them.
     pub fn rows(&self) -> u64
-        ensures { result ≡ row_count self.now.rows }
+        ensures count { result ≡ row_count self.now.rows }
+        ensures reached { (k from end : ℕ) → rows_reached (tree self.now) k from end ≤ row_count self.now.rows }
     {
         self.lists.rows()
     }
