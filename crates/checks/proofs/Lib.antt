@@ -1,1 +1,2 @@
 mod ChainLaws
+mod WholeLaws

@@ -14,6 +14,7 @@ mod reading;
 mod regions;
 mod replying;
 mod streams;
+mod zeroing;
 
 /// Why a text fails.
 #[derive(Debug, Drop)]

@@ -26,6 +26,7 @@ mod creating;
 mod edges;
 mod endings;
 mod forks;
+mod greatest;
 mod lines;
 mod mapping_refusals;
 mod mappings;
