@@ -17,3 +17,4 @@ pub mod ViewLaws
 pub mod RenamedLaws
 pub mod RenamedOverLaws
 pub mod RisesLaws
+pub mod RisesSplicedLaws

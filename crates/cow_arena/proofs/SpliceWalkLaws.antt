@@ -55,14 +55,14 @@ module _ (nodes : Nodes) (lists : ℕ) (f : IsForest nodes lists) (k h s : ℕ) 
 
 module _ (t : Tree) (f : IsForest t.nodes t.lists) (k h s : ℕ) (leaf parent sibling : Node) (family : AreFamily t.nodes k h s leaf parent sibling)
     (visible : IsVisible t.nodes k leaf) (empty : (p : ℕ) → t.slots parent.list.0 p ≡ None) (g : IsForest (spliced t.nodes k h s parent sibling) t.lists) where
-  abbrev after : Tree
+  abbrev pub after : Tree
   after = record t { nodes = spliced t.nodes k h s parent sibling }
 
   -- a node that stays
-  abbrev IsOther : ℕ → Type 0
+  abbrev pub IsOther : ℕ → Type 0
   IsOther j = (node : Node) × (t.nodes j ≡ Some node) × (j ≢ k) × (j ≢ h)
 
-  sibling_at : after.nodes s ≡ Some (lifted parent sibling)
+  pub sibling_at : after.nodes s ≡ Some (lifted parent sibling)
   unfolding spliced
   sibling_at = with_key-same _ s _
 
@@ -71,7 +71,7 @@ module _ (t : Tree) (f : IsForest t.nodes t.lists) (k h s : ℕ) (leaf parent si
   other_at j j_k j_h j_s = with_key-other _ s _ j j_s ∙ (without_key-other _ k j j_k ∙ without_key-other _ h j j_h)
 
   -- what is further up than the parent stays, and is no sibling
-  above_parent : (x : ℕ) → parent.parent ≡ link_to x → IsOther x × (x ≢ s)
+  pub above_parent : (x : ℕ) → parent.parent ≡ link_to x → IsOther x × (x ≢ s)
   above_parent x up =
       let below = f.by.below x h parent family.parent_at up in
       let deeper = below.deeper in
@@ -81,7 +81,7 @@ module _ (t : Tree) (f : IsForest t.nodes t.lists) (k h s : ℕ) (leaf parent si
       )
 
   -- so is the parent of a node that stays and is no sibling
-  above_other : (j x : ℕ) (node : Node) → t.nodes j ≡ Some node → node.parent ≡ link_to x → j ≢ k → j ≢ s → IsOther x
+  pub above_other : (j x : ℕ) (node : Node) → t.nodes j ≡ Some node → node.parent ≡ link_to x → j ≢ k → j ≢ s → IsOther x
   above_other j x node at up j_k j_s =
       let below = f.by.below x j node at up in (
         below.above,
@@ -129,14 +129,14 @@ module _ (t : Tree) (f : IsForest t.nodes t.lists) (k h s : ℕ) (leaf parent si
       }
 
   -- the sibling is on the side of the parent
-  lifted_side : side_in after.nodes s ≡ side_in t.nodes h
+  pub lifted_side : side_in after.nodes s ≡ side_in t.nodes h
   lifted_side = same-side t.nodes after.nodes t.lists t.lists f g h s parent (lifted parent sibling) family.parent_at sibling_at refl (λ x above a up at child.
       let x_other = above_parent x up in
       let b = relinked-here t.nodes h s x above a at child in
       (b.0, other_at x x_other.0.2 x_other.0.3 x_other.1 ∙ (ap (λ (o : Option NodeId). relinked t.nodes o h s x) up ∙ b.1), b.2))
 
   -- the window of the sibling over what was above the parent
-  lifted-first : (p : ℕ) → p < (lifted parent sibling).seen → (lifted parent sibling).first ≡ sibling.first + parent.first
+  pub lifted-first : (p : ℕ) → p < (lifted parent sibling).seen → (lifted parent sibling).first ≡ sibling.first + parent.first
   lifted-first p inside = rw (eqb_apart (min sibling.seen (parent.seen - sibling.first)) 0 (λ none. absurd (omega arith))) refl
 
   lifted_climbs : (p x q : ℕ) → t.slots sibling.list.0 p ≡ None → p < sibling.seen → Climbs t h (sibling.first + p) x q → Climbs after s p x q

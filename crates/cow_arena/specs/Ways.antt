@@ -102,3 +102,9 @@ pub record Rises (t : Tree) (k p : ℕ) (side : Side) (h q : ℕ) : Type 0 where
 -- no list but this one gets a row at a page that had none
 pub record KeepsBare (old new : Slots) (list : ℕ) : Type 0 where
   pub bare : (l q : ℕ) → l ≢ list → old l q ≡ None → new l q ≡ None
+
+-- Rows of a hidden node, which was this parent, may be gone or have moved into the list of its child, the sibling: no other list gets a
+-- row at a page that had none, and this one none at a page at which the parent had none either.
+pub record KeepsBelow (old new : Slots) (parent sibling : Node) : Type 0 where
+  pub others : (l q : ℕ) → l ≢ sibling.list.0 → old l q ≡ None → new l q ≡ None
+  pub child : (p : ℕ) → old sibling.list.0 p ≡ None → old parent.list.0 (sibling.first + p) ≡ None → new sibling.list.0 p ≡ None

@@ -58,6 +58,7 @@ lifted-pool arena old slots before between after k h s of was taken gives = reco
   bare = was.bare;
   held = was.held;
   gives = gives-then before between after was.gives gives;
+  rows = was.rows;
 }
 
 -- ---- one page

@@ -12,3 +12,4 @@ pub mod SeenLaws
 pub mod UncoverLaws
 pub mod BesideLaws
 pub mod WitnessLaws
+pub mod KeptWaysLaws

@@ -21,7 +21,8 @@ use Rattle.cow_arena.specs.declared.node.Side.TheVariants as side
 use Rattle.cow_arena.specs.Nodes.{Arena, nodes_of, IsVisible, AreFamily, link_to, other_side, side_of, side_in, child_on}
 use Rattle.cow_arena.specs.Walk.{Slots, Tree, tree_with, Found, walk, frame_in, frame_at}
 use Rattle.cow_arena.specs.Forest.{IsForest}
-use Rattle.cow_arena.specs.Ways.{Climbs}
+use Rattle.cow_arena.specs.Ways.{Climbs, KeepsBelow}
+use Rattle.cow_arena.proofs.RisesSplicedLaws.{below-same, below-then, below-fewer, below-gone, below-moved}
 use Rattle.cow_arena.proofs.ReachLaws.{side-is, side-of-child, reach-one, reach-through, found-of-reach, walk-ends}
 use Rattle.cow_arena.proofs.AlikeLaws.{with_pair-same, with_pair-other}
 use Rattle.cow_arena.proofs.SpliceWalkLaws.{family-side, family-parent}
@@ -32,6 +33,7 @@ use Rattle.cow_split.specs.Search.{reached_from}
 use Rattle.cow_split.specs.Sight.{IsPage, IsSeenFrom}
 use Rattle.cow_split.specs.Exact.{Denies, AreSplitBits, IsExact, IsOnlyOf, all_in_sight, leaving_out, without_frame}
 use Rattle.cow_split.specs.Cutting.{split_on, answer_on, slots_from, answer_from, slots_after, answer_after, cut_slots, cut_answer, frame_left}
+use Rattle.cow_split.proofs.PartLaws.{part-none}
 use Rattle.cow_split.proofs.SearchLaws.{leaf-alone}
 use Rattle.cow_split.proofs.RowLaws.{left_out-in_sight, only-more, exact-in_use_alike, with_row-twice}
 use Rattle.cow_split.proofs.ExactLaws.{cases_place}
@@ -469,6 +471,7 @@ lifting-again arena old new before after k h s was = record {
     bare = was.lifted.bare;
     held = was.lifted.held;
     gives = gives-same after;
+    rows = below-same (slots_of new) was.of.parent was.of.sibling;
   };
   linked = λ linked. linked;
   spare = omega arith;
@@ -500,6 +503,7 @@ lifting-found arena old new before after k h s was parent at = record {
     bare = was.lifted.bare;
     held = was.lifted.held;
     gives = was.lifted.gives;
+    rows = subst (λ (n : Node). KeepsBelow (slots_of old) (slots_of new) n was.of.sibling) (some_same (sym was.of.family.parent_at ∙ at)) was.lifted.rows;
   };
   linked = was.linked;
   spare = was.spare;
@@ -523,6 +527,7 @@ lifting-start arena old new before after k s hidden was of =
         held = λ p tag below sight shown. subst (λ n. IsHeldBy (nodes_of arena) (slots_of new) hidden.0 n p) same
             (was.spares p tag (omega arith) (subst (λ (n : Node). p < n.count) (sym same) below) sight shown);
         gives = leaving.gives;
+        rows = below-fewer (slots_of old) (slots_of new) of.parent of.sibling (part-none (slots_of old) (slots_of new) leaving.part);
       };
       linked = linked-part old new before after leaving.part leaving.links;
       spare = leaving.spare;
@@ -619,8 +624,8 @@ module _ (arena : Arena) (old : Rows Row) (first : Slots) (before between after 
   lifted-next : (slots : Slots) (left : Option ℕ) (now : ℕ → ℕ → Bool) → IsCut first_tree k of.node q slots was.out now (is_taken between) left →
       ((x : ℕ) → is_taken after x ≡ without_frame (is_taken between) left x) →
       ((l p : ℕ) → l ≢ of.sibling.list.0 → ((l ≡ of.parent.list.0) × (p ≡ q) → ⊥) → slots l p ≡ first l p) →
-      AreLifted arena old slots before after k h s of
-  lifted-next slots left now is_cut taken beside = record {
+      KeepsBelow first slots of.parent of.sibling → AreLifted arena old slots before after k h s of
+  lifted-next slots left now is_cut taken beside below = record {
     out = now;
     exact = exact-in_use_alike (record first_tree { slots = slots }) now (without_frame (is_taken between) left) (is_taken after) (λ x. sym (taken x)) is_cut.exact;
     only = is_cut.only;
@@ -640,6 +645,7 @@ module _ (arena : Arena) (old : Rows Row) (first : Slots) (before between after 
           inside = held.inside;
         };
     gives = gives-then before between after was.gives gives;
+    rows = below-then (slots_of old) first slots of.parent of.sibling three-lists.2 was.rows below;
   }
 
   zero-still : row ≡ slot.Zero → StillThere first_tree k of.node of.parent.list.0 q row was.out (is_taken between)
@@ -655,7 +661,7 @@ module _ (arena : Arena) (old : Rows Row) (first : Slots) (before between after 
           AreLifted arena old (with_pair first of.parent.list.0 q None) before after k h s of
       next left now frame is_cut = lifted-next (with_pair first of.parent.list.0 q None) left now is_cut
           (λ x. taken x ∙ ap (λ (o : Option ℕ). without_frame (is_taken between) o x) frame)
-          (λ l p _ apart. with_pair-other first of.parent.list.0 q None l p (λ a b. apart (a, b)))
+          (λ l p _ apart. with_pair-other first of.parent.list.0 q None l p (λ a b. apart (a, b))) (below-gone first of.parent of.sibling q)
 
       goes : (r : Slot) → row ≡ r → AreLifted arena old (with_pair first of.parent.list.0 q None) before after k h s of
       goes slot.Zero e = next None _ (ap frame_in e)
@@ -681,6 +687,7 @@ module _ (arena : Arena) (old : Rows Row) (first : Slots) (before between after 
           (λ l p list apart.
           with_pair-other _ of.sibling.list.0 (q - of.sibling.first) (Some now) l p (λ a _. list a)
           ∙ with_pair-other first of.parent.list.0 q None l p (λ a b. apart (a, b)))
+          (below-moved first (with_pair first of.parent.list.0 q None) of.parent of.sibling q row (Some now) has sees.from (below-gone first of.parent of.sibling q))
 
       moves : (r : Slot) → row ≡ r →
           AreLifted arena old (with_pair (with_pair first of.parent.list.0 q None) of.sibling.list.0 (q - of.sibling.first) (Some now)) before after k h s of

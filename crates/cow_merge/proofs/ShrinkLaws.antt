@@ -16,6 +16,7 @@ use Rattle.cow_arena.specs.Walk.{Tree, frame_at}
 use Rattle.cow_arena.specs.Forest.{IsForest}
 use Rattle.cow_arena.specs.Changes.{window_first, with_window}
 use Rattle.cow_arena.specs.Counts.{hidden_count, visible_count}
+use Rattle.cow_arena.specs.Ways.{IsPartOf}
 use Rattle.cow_split.specs.Trees.{tree_of}
 use Rattle.cow_split.specs.Sight.{IsPage}
 use Rattle.cow_split.specs.Exact.{IsExact, all_in_sight}
@@ -132,11 +133,11 @@ module _ (arena between new : Arena) (v count : ℕ) (node : Node) (visible : Is
       ∙ with_key-twice (nodes_of arena) v (with_window node node.first (min node.seen count)) (with_count node count))
 
   pub shrunk : (rows late : Rows Row) (before after : Pool) → count ≤ node.count →
-      HasLeftOut arena rows late before after v node count →
+      HasLeftOut arena rows late before after v node count → IsPartOf (slots_of rows) (slots_of late) →
       ((node : Node) → nodes_of between v ≡ Some node → nodes_of new ≡ with_key (nodes_of between) v (record node { count = count })) →
       new.lists ≡ between.lists → hidden_count new ≡ hidden_count between → visible_count new ≡ visible_count between →
       IsForest (nodes_of new) new.lists → HasShrunk arena new rows late before after v count
-  shrunk rows late before after few left counted lists hidden shown forest =
+  shrunk rows late before after few left part counted lists hidden shown forest =
       let nodes = counted-nodes counted in
       let t : Tree = tree_of arena late in
       let same_lists : new.lists ≡ arena.lists = lists ∙ narrowed.lists in
@@ -158,6 +159,7 @@ module _ (arena between new : Arena) (v count : ℕ) (node : Node) (visible : Is
         linked = left.linked;
         spare = left.spare;
         fewer = left.count;
+        part = part;
       }
     where
       rows-page : (w q : ℕ) → IsPage (tree_of arena late) w q → IsPage (tree_of arena rows) w q

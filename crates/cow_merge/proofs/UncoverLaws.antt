@@ -20,6 +20,8 @@ use Rattle.cow_arena.proofs.AlikeLaws.{with_pair-other}
 use Rattle.cow_arena.proofs.WalkLaws.{walk-own}
 use Rattle.cow_split.specs.Trees.{tree_of}
 use Rattle.cow_split.specs.Exact.{IsExact, IsOnlyOf, all_in_sight, leaving_out, without_frame}
+use Rattle.cow_arena.specs.Ways.{KeepsBelow}
+use Rattle.cow_arena.proofs.RisesSplicedLaws.{below-same, below-then, below-gone, below-moved}
 use Rattle.cow_split.proofs.NodeLaws.{stays-page}
 use Rattle.cow_split.proofs.ExactLaws.{cases_place}
 use Rattle.cow_split.proofs.RowLaws.{left_out-other, left_out-here, only-more, only-none, exact-in_use_alike, exact-own_out, exact-own_in}
@@ -167,8 +169,8 @@ module _ (arena : Arena) (old first : Rows Row) (before between : Pool) (k h s f
             ]
           ]
 
-      uncovered-next : first.spare ≤ new.spare → row_count new ≤ row_count first → IsUncovering arena old new before after k h s (p + 1)
-      uncovered-next spare count = record {
+      uncovered-next : KeepsBelow (slots_of first) slots parent sibling → first.spare ≤ new.spare → row_count new ≤ row_count first → IsUncovering arena old new before after k h s (p + 1)
+      uncovered-next below spare count = record {
         of = was.of;
         exact = subst (λ (x : Slots). IsExact (record t { slots = x }) all_in_sight (is_taken after)) (sym is) exact-now;
         shows = λ w r there sight.
@@ -176,6 +178,8 @@ module _ (arena : Arena) (old first : Rows Row) (before between : Pool) (k h s f
             ∙ (shows-now w r (page-over (tree_of arena old) (slots_of first) w r there) refl ∙ was.shows w r there sight);
         free = free-now;
         gives = gives-then before between after was.gives gives;
+        rows = subst (λ (x : Slots). KeepsBelow (slots_of old) x parent sibling) (sym is)
+            (below-then (slots_of old) (slots_of first) slots parent sibling lists.2 was.rows below);
         linked = λ ok. linked (was.linked ok);
         spare = omega (arith, was.spare);
         count = omega (arith, was.count);
@@ -209,7 +213,10 @@ module _ (arena : Arena) (old first : Rows Row) (before between : Pool) (k h s f
             (moved-linked arena first mid new between after k h s was.of q row has taken_out moved)
             (λ r. with_pair-other (with_pair (slots_of first) parent.list.0 q None) sibling.list.0 (q - sibling.first) (Some moved.now) node.list.0 r (λ list _. lists.1 list)
             ∙ with_pair-other (slots_of first) parent.list.0 q None node.list.0 r (λ list _. lists.0 list))
-            list_now none (omega (arith, moved.spare)) (omega (arith, moved.count))
+            list_now none
+            (below-moved (slots_of first) (with_pair (slots_of first) parent.list.0 q None) parent sibling q row (Some moved.now) has (sees on).from
+            (below-gone (slots_of first) parent sibling q))
+            (omega (arith, moved.spare)) (omega (arith, moved.count))
 
         goes : (r : Slot) → row ≡ r → done.seen ≡ false → HasGone mid new between after row → IsUncovering arena old new before after k h s (p + 1)
         goes (slot.Frame tag left right) e off gone =
@@ -223,7 +230,7 @@ module _ (arena : Arena) (old first : Rows Row) (before between : Pool) (k h s f
             (λ x. gone.given.taken x ∙ (ap (λ (o : Option ℕ). without_frame (is_taken between) o x) (ap frame_in e) ∙ sym (without-none (is_taken between) x)))
             gone.given.gives (gone-linked arena first mid new between after k h s was.of q row has taken_out gone)
             (λ r. with_pair-other (slots_of first) parent.list.0 q None node.list.0 r (λ list _. lists.0 list))
-            list_now none (omega arith) (omega arith)
+            list_now none (below-gone (slots_of first) parent sibling q) (omega arith) (omega arith)
 
 -- ---- all rows
 
@@ -236,6 +243,7 @@ uncovered-start arena rows pool k h s of exact = record {
   shows = λ w p page sight. refl;
   free = λ p less. absurd (omega arith);
   gives = gives-same pool;
+  rows = below-same (slots_of rows) of.parent of.sibling;
   linked = λ ok. ok;
   spare = omega arith;
   count = omega arith;
@@ -258,6 +266,7 @@ uncovered-more arena old new before after k h s from end leaf at was none =
             (none p past less (subst (λ (n : Node). IsHeldBy (nodes_of arena) (slots_of new) h n p) (sym one) held))
       ];
       gives = was.gives;
+      rows = was.rows;
       linked = was.linked;
       spare = was.spare;
       count = was.count;

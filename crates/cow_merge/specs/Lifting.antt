@@ -13,6 +13,7 @@ use Rattle.cow_arena.specs.declared.node.Node.{Node}
 use Rattle.cow_arena.specs.declared.node.Side.TheVariants as side
 use Rattle.cow_arena.specs.Nodes.{Arena, nodes_of, AreFamily, IsVisible, side_of}
 use Rattle.cow_arena.specs.Walk.{Slots, Tree, tree_with, frame_in, frame_at}
+use Rattle.cow_arena.specs.Ways.{KeepsBelow}
 use Rattle.cow_split.specs.Trees.{tree_of}
 use Rattle.cow_split.specs.Search.{reached_from}
 use Rattle.cow_split.specs.Exact.{IsExact, IsOnlyOf}
@@ -60,6 +61,7 @@ pub record AreLifted (arena : Arena) (old : Rows Row) (slots : Slots) (before af
   pub held : (p tag : ℕ) → p < of.node.count → out k p ≡ false →
       frame_at (tree_with (nodes_of arena) arena.lists slots) k p ≡ Some tag → IsHeldBy (nodes_of arena) slots h of.node p
   pub gives : GivesBack before after
+  pub rows : KeepsBelow (slots_of old) slots of.parent of.sibling
 
 -- the same for the rows of the lists; the backlinks of their frames lead to them
 pub record IsLifting (arena : Arena) (old new : Rows Row) (before after : Pool) (k h s : ℕ) : Type 0 where

@@ -2,7 +2,7 @@
 use Rattle.std.specs.Prelude.{◌≡◌, ◌≢◌, ◌⊎◌, ℕ, ◌≤◌, suc, min, None, Some, IsSome}
 use Rattle.balanced_tree.specs.Rows.{Rows}
 use Rattle.page_list.specs.declared.row.Row.{Row}
-use Rattle.page_list.specs.Lists.{row_count}
+use Rattle.page_list.specs.Lists.{row_count, slots_of}
 use Rattle.vm_base.specs.Entries.{with_key}
 use Rattle.frame_pool.specs.Pool.{Pool, is_taken}
 use Rattle.cow_arena.specs.declared.node.Node.{Node}
@@ -11,6 +11,7 @@ use Rattle.cow_arena.specs.Forest.{IsChild}
 use Rattle.cow_arena.specs.Changes.{with_window}
 use Rattle.cow_arena.specs.Counts.{hidden_count, visible_count}
 use Rattle.cow_arena.specs.Walk.{frame_at}
+use Rattle.cow_arena.specs.Ways.{IsPartOf}
 use Rattle.cow_split.specs.Trees.{tree_of}
 use Rattle.cow_split.specs.Sight.{IsPage, StaysVisible}
 use Rattle.cow_split.specs.Exact.{IsExact, all_in_sight}
@@ -41,6 +42,7 @@ pub record HasShrunk (old new : Arena) (rows rows_after : Rows Row) (before afte
   pub linked : AreLinked rows before → AreLinked rows_after after
   pub spare : rows.spare ≤ rows_after.spare
   pub fewer : row_count rows_after ≤ row_count rows
+  pub part : IsPartOf (slots_of rows) (slots_of rows_after)
 
 -- node j was there, with the koid that it has now
 pub record WasThere (old : Nodes) (j : ℕ) (now : Node) : Type 0 where

@@ -9,6 +9,7 @@ use Rattle.page_list.specs.Lists.{slots_of, row_count}
 use Rattle.frame_pool.specs.Pool.{Pool, is_taken}
 use Rattle.cow_arena.specs.declared.node.Node.{Node}
 use Rattle.cow_arena.specs.Nodes.{Arena, nodes_of}
+use Rattle.cow_arena.specs.Ways.{KeepsBelow}
 use Rattle.cow_split.specs.Trees.{tree_of}
 use Rattle.cow_split.specs.Exact.{IsExact, all_in_sight}
 use Rattle.cow_merge.specs.Ranges.{ShowsSame, AreLinked, GivesBack, IsHeldBy}
@@ -22,6 +23,7 @@ pub record IsUncovering (arena : Arena) (old new : Rows Row) (before after : Poo
   pub shows : ShowsSame (tree_of arena old) (tree_of arena new) all_in_sight
   pub free : (p : ℕ) → p < from → IsHeldBy (nodes_of arena) (slots_of new) h of.node p → slots_of new of.node.list.0 p ≡ None
   pub gives : GivesBack before after
+  pub rows : KeepsBelow (slots_of old) (slots_of new) of.parent of.sibling
   pub linked : AreLinked old before → AreLinked new after
   pub spare : old.spare ≤ new.spare
   pub count : row_count new ≤ row_count old

@@ -2,6 +2,7 @@
 
 ghost use Rattle.std.specs.Prelude.{IsSomeAnd, IsSome};
 ghost use Rattle.cow_arena.specs.Nodes.{nodes_of};
+ghost use Rattle.cow_arena.specs.Views.{KeepsRises};
 ghost use Rattle.cow_split.specs.Trees.{tree_of};
 ghost use Rattle.cow_split.specs.Exact.{IsExact, all_in_sight};
 ghost use Rattle.frame_pool.specs.Pool.{is_taken};
@@ -37,7 +38,8 @@ use page_list::PageLists;
 pub fn close(arena: &mut CowArena, lists: &mut PageLists, frames: &mut FramePool, leaf: NodeId)
     requires exact { IsExact (tree_of arena.old lists.old) all_in_sight (is_taken frames.old) }
     requires leaf { IsSomeAnd (nodes_of arena.old leaf.0) (λ node. IsSome node.koid) }
-    ensures { HasClosed arena.old arena.new lists.old lists.new frames.old frames.new leaf.0 }
+    ensures closed { HasClosed arena.old arena.new lists.old lists.new frames.old frames.new leaf.0 }
+    ensures ways { KeepsRises (tree_of arena.old lists.old) (tree_of arena.new lists.new) leaf.0 }
 {
     let (Some(hidden), Some(sibling)) = (arena.node(leaf).parent, arena.sibling(leaf)) else {
         leave_out(arena, lists, frames, leaf, 0);

@@ -10,7 +10,7 @@ ghost use Rattle.cow_arena.specs.declared.node.Node.{Node};
 ghost use Rattle.cow_arena.specs.declared.node.NodeId.{NodeId};
 ghost use Rattle.cow_arena.specs.Nodes.{nodes_of};
 ghost use Rattle.cow_arena.specs.Walk.{frame_in};
-ghost use Rattle.cow_arena.specs.Ways.{HasRow, Reaches};
+ghost use Rattle.cow_arena.specs.Ways.{HasRow, Reaches, IsPartOf};
 ghost use Rattle.cow_split.specs.Trees.{tree_of};
 ghost use Rattle.cow_split.specs.Searching.{ComesTo};
 ghost use Rattle.cow_split.specs.Exact.{IsExact, all_in_sight};
@@ -47,8 +47,9 @@ pub(crate) fn leave_out(
 )
     requires exact { IsExact (tree_of arena.now lists.old) all_in_sight (is_taken frames.old) }
     requires leaf { IsSomeAnd (nodes_of arena.now leaf.0) (λ node. IsSome node.koid) }
-    ensures { (node : Node) → nodes_of arena.now leaf.0 ≡ Some node →
+    ensures left { (node : Node) → nodes_of arena.now leaf.0 ≡ Some node →
         HasLeftOut arena.now lists.old lists.new frames.old frames.new leaf.0 node first }
+    ensures part { IsPartOf (slots_of lists.old) (slots_of lists.new) }
 {
     drop_rows(arena, lists, frames, leaf, first);
     let node = arena.node(leaf);

@@ -13,6 +13,7 @@ use Rattle.cow_merge.specs.Ranges.{IsHeldBy}
 use Rattle.cow_merge.proofs.UncoverLaws.{closed-then}
 use Rattle.cow_merge.proofs.SeenLaws.{seen-start, seen-kept}
 use Rattle.cow_merge.proofs.LiftedLaws.{lifting-start, lifting-again, lifting-end}
+use Rattle.cow_merge.proofs.KeptWaysLaws.{keeps-root, keeps-spliced_rows, keeps-over_rows}
 use Rattle.cow_merge.proofs.closing.close.Goals as goal
 use Rattle.cow_merge.proofs.closing.close.Goals.{in_default-via-in-Some+in_default, in_default-via-in_default}
 
@@ -25,8 +26,8 @@ remove_root-requires c =
       | in_default-via-in_default w ↦ w.in_default.is-0
     ])
 
-pub returns-in_default : goal.returns-in_default
-returns-in_default c =
+pub returns-in_default-clause-closed : goal.returns-in_default-clause-closed
+returns-in_default-clause-closed c =
     let visible = visible-of c.args.arena.now c.args.leaf.0 c.node.result c.requires.leaf c.node.ensures in
     closed-root c.args.arena.now c.remove_root.new.self c.args.lists.now c.leave_out.new.lists c.args.frames.now c.leave_out.new.frames c.args.leaf.0
     c.node.result visible (elim c.in_default.branch [
@@ -34,7 +35,7 @@ returns-in_default c =
           root-of c.node.result c.sibling.result (c.sibling.ensures.root c.node.result c.node.ensures) w.in_default.is-1
       | in_default-via-in_default w ↦ w.in_default.is-0
     ])
-    (c.leave_out.ensures c.node.result c.node.ensures) c.remove_root.ensures.nodes c.remove_root.ensures.lists
+    (c.leave_out.ensures.left c.node.result c.node.ensures) c.remove_root.ensures.nodes c.remove_root.ensures.lists
     c.remove_root.ensures.visible c.remove_root.ensures.forest
 
 pub leave_out_above-requires-clause-leaf : goal.leave_out_above-requires-clause-leaf
@@ -64,8 +65,8 @@ lift_rows-requires c =
     (family-of c.args.arena.now c.requires.exact.forest c.args.leaf.0 c.node.result visible c.in-Some-Some.hidden c.in-Some-Some.sibling
     c.in-Some-Some.is-0 c.in-Some-Some.ensures.sibling))
 
-pub returns-else-goes_over : goal.returns-else-goes_over
-returns-else-goes_over c =
+pub returns-else-goes_over-clause-closed : goal.returns-else-goes_over-clause-closed
+returns-else-goes_over-clause-closed c =
     let visible = visible-of c.args.arena.now c.args.leaf.0 c.node.result c.requires.leaf c.node.ensures in
     let was = c.lift_rows.ensures.lifting c.args.lists.now c.args.frames.now
     (lifting-start c.args.arena.now c.args.lists.now c.leave_out_above-else-goes_over.new.lists c.args.frames.now c.leave_out_above-else-goes_over.new.frames c.args.leaf.0
@@ -124,8 +125,8 @@ hand_over-requires-clause-seen c = λ node parent at parent_at.
     (freed.free p held.inside
     (subst (λ (n : Node). IsHeldBy (nodes_of c.args.arena.now) (slots_of c.uncover.new.lists) c.in-Some-Some.hidden.0 n p) (sym one) held))))
 
-pub returns-then-goes_over : goal.returns-then-goes_over
-returns-then-goes_over c =
+pub returns-then-goes_over-clause-closed : goal.returns-then-goes_over-clause-closed
+returns-then-goes_over-clause-closed c =
     let visible = visible-of c.args.arena.now c.args.leaf.0 c.node.result c.requires.leaf c.node.ensures in
     let over = c.hand_over.ensures c.uncover.new.lists c.uncover.new.frames
     (lifting-start c.args.arena.now c.uncover.new.lists c.leave_out_above.new.lists c.uncover.new.frames c.leave_out_above.new.frames c.args.leaf.0
@@ -138,3 +139,43 @@ returns-then-goes_over c =
     c.in-Some-Some.hidden.0 c.in-Some-Some.sibling.0 over
     (c.splice_over.ensures.nodes c.in-Some-Some.hidden.0 c.in-Some-Some.sibling.0 over.of.node over.of.parent over.of.sibling over.of.family)
     c.splice_over.ensures.lists c.splice_over.ensures.visible)
+
+-- ---- the ways upwards
+
+pub returns-in_default-clause-ways : goal.returns-in_default-clause-ways
+returns-in_default-clause-ways c =
+    let visible = visible-of c.args.arena.now c.args.leaf.0 c.node.result c.requires.leaf c.node.ensures in
+    keeps-root c.args.arena.now c.remove_root.new.self c.args.lists.now c.leave_out.new.lists c.requires.exact.forest c.args.leaf.0 c.node.result visible
+    (elim c.in_default.branch [
+      | in_default-via-in-Some+in_default w ↦
+          root-of c.node.result c.sibling.result (c.sibling.ensures.root c.node.result c.node.ensures) w.in_default.is-1
+      | in_default-via-in_default w ↦ w.in_default.is-0
+    ])
+    c.leave_out.ensures.part c.remove_root.ensures.nodes c.remove_root.ensures.lists c.remove_root.ensures.forest
+
+pub returns-else-goes_over-clause-ways : goal.returns-else-goes_over-clause-ways
+returns-else-goes_over-clause-ways c =
+    let visible = visible-of c.args.arena.now c.args.leaf.0 c.node.result c.requires.leaf c.node.ensures in
+    let was = c.lift_rows.ensures.lifting c.args.lists.now c.args.frames.now
+    (lifting-start c.args.arena.now c.args.lists.now c.leave_out_above-else-goes_over.new.lists c.args.frames.now c.leave_out_above-else-goes_over.new.frames c.args.leaf.0
+    c.in-Some-Some.sibling.0 c.in-Some-Some.hidden c.leave_out_above-else-goes_over.ensures.sparing
+    (family-of c.args.arena.now c.requires.exact.forest c.args.leaf.0 c.node.result visible c.in-Some-Some.hidden c.in-Some-Some.sibling
+    c.in-Some-Some.is-0 c.in-Some-Some.ensures.sibling)) in
+    let of = was.of in
+    keeps-spliced_rows c.args.arena.now c.splice.new.self c.args.lists.now c.lift_rows.new.lists c.requires.exact.forest c.args.leaf.0 c.in-Some-Some.hidden.0
+    c.in-Some-Some.sibling.0 of was.lifted.rows (λ p. c.lift_rows.ensures.empty of.parent of.family.parent_at p (omega arith) tt)
+    (c.splice.ensures.nodes c.in-Some-Some.hidden.0 c.in-Some-Some.sibling.0 of.node of.parent of.sibling of.family) c.splice.ensures.lists c.splice.ensures.forest
+
+pub returns-then-goes_over-clause-ways : goal.returns-then-goes_over-clause-ways
+returns-then-goes_over-clause-ways c =
+    let visible = visible-of c.args.arena.now c.args.leaf.0 c.node.result c.requires.leaf c.node.ensures in
+    let over = c.hand_over.ensures c.uncover.new.lists c.uncover.new.frames
+    (lifting-start c.args.arena.now c.uncover.new.lists c.leave_out_above.new.lists c.uncover.new.frames c.leave_out_above.new.frames c.args.leaf.0
+    c.in-Some-Some.sibling.0 c.in-Some-Some.hidden c.leave_out_above.ensures.sparing
+    (family-of c.args.arena.now c.requires.exact.forest c.args.leaf.0 c.node.result visible c.in-Some-Some.hidden c.in-Some-Some.sibling
+    c.in-Some-Some.is-0 c.in-Some-Some.ensures.sibling)) in
+    keeps-over_rows c.args.arena.now c.splice_over.new.self c.args.lists.now c.uncover.new.lists c.hand_over.new.lists c.args.frames.now c.uncover.new.frames
+    c.hand_over.new.frames c.requires.exact.forest c.args.leaf.0 c.in-Some-Some.hidden.0 c.in-Some-Some.sibling.0 c.node.result.seen
+    (c.uncover.ensures c.node.result c.node.ensures) over
+    (c.splice_over.ensures.nodes c.in-Some-Some.hidden.0 c.in-Some-Some.sibling.0 over.of.node over.of.parent over.of.sibling over.of.family)
+    c.splice_over.ensures.lists c.splice_over.ensures.forest

@@ -11,8 +11,8 @@ use Rattle.cow_merge.proofs.CloseLaws.{root-of, family-of}
 use Rattle.cow_merge.proofs.PassedLaws.{bare-up}
 use Rattle.cow_merge.proofs.ranges.leave_out.Goals as goal
 
-pub returns-in_default : goal.returns-in_default
-returns-in_default c = λ node at.
+pub returns-in_default-clause-left : goal.returns-in_default-clause-left
+returns-in_default-clause-left c = λ node at.
     sparing-none c.args.arena.now c.args.lists.now c.drop_rows.new.lists c.args.frames.now c.drop_rows.new.frames c.args.leaf.0 c.args.first node at
     (passing-top c.args.arena.now c.args.lists.now c.drop_rows.new.lists c.args.frames.now c.drop_rows.new.frames c.args.leaf.0 c.args.first no_pages None
     c.node-node.result 0 c.node-node.result.seen
@@ -21,8 +21,8 @@ returns-in_default c = λ node at.
     (λ parent is q from one two apart. no-parent c.node-node.result.parent parent
     (root-of c.node-node.result c.sibling.result (c.sibling.ensures.root c.node-node.result c.node-node.ensures) c.in_default.is-1) is))
 
-pub returns-in_default-2 : goal.returns-in_default-2
-returns-in_default-2 c = λ node at.
+pub returns-in_default-2-clause-left : goal.returns-in_default-2-clause-left
+returns-in_default-2-clause-left c = λ node at.
     sparing-none c.args.arena.now c.args.lists.now c.drop_rows.new.lists c.args.frames.now c.drop_rows.new.frames c.args.leaf.0 c.args.first node at
     (passing-top c.args.arena.now c.args.lists.now c.drop_rows.new.lists c.args.frames.now c.drop_rows.new.frames c.args.leaf.0 c.args.first no_pages None
     c.node-node.result 0 c.node-node.result.seen
@@ -30,8 +30,8 @@ returns-in_default-2 c = λ node at.
     c.node-node.result c.drop_rows.ensures.bare c.node-node.ensures)
     (λ parent is q from one two apart. absurd (let root = c.sibling.ensures.root c.node-node.result c.node-node.ensures in cc)))
 
-pub returns-then-node-first : goal.returns-then-node-first
-returns-then-node-first c = λ node at.
+pub returns-then-node-first-clause-left : goal.returns-then-node-first-clause-left
+returns-then-node-first-clause-left c = λ node at.
     sparing-none c.args.arena.now c.args.lists.now c.drop_rows.new.lists c.args.frames.now c.drop_rows.new.frames c.args.leaf.0 c.args.first node at
     (passing-top c.args.arena.now c.args.lists.now c.drop_rows.new.lists c.args.frames.now c.drop_rows.new.frames c.args.leaf.0 c.args.first no_pages None
     c.node-node.result 0 c.node-node.result.seen
@@ -99,10 +99,28 @@ pub leave_out_further-requires-clause-end : goal.leave_out_further-requires-clau
 leave_out_further-requires-clause-end c = λ node at.
     subst (λ (n : Node). c.node-node.result.first + c.node-node.result.seen ≤ c.node-node.result.first + n.seen) (some_same (sym c.node-node.ensures ∙ at)) (omega arith)
 
-pub returns : goal.returns
-returns c = λ node at.
+pub returns-clause-left : goal.returns-clause-left
+returns-clause-left c = λ node at.
     sparing-none c.args.arena.now c.args.lists.now c.leave_out_further.new.lists c.args.frames.now c.leave_out_further.new.frames c.args.leaf.0 c.args.first node at
     (c.leave_out_further.ensures.sparing c.args.lists.now c.args.frames.now None c.node-above.result c.node-above.ensures
     (c.cut_rows.ensures.passing c.args.lists.now c.args.frames.now None
     (passing-parent c.args.arena.now c.args.lists.now c.drop_rows.new.lists c.args.frames.now c.drop_rows.new.frames c.args.leaf.0 c.args.first
     c.node-node.result c.in-Some-Some.hidden c.node-above.result c.drop_rows.ensures.bare c.node-node.ensures c.in-Some-Some.is-0 c.node-above.ensures)))
+
+-- ---- the rows that are left stood there
+
+pub returns-in_default-clause-part : goal.returns-in_default-clause-part
+returns-in_default-clause-part c = c.drop_rows.ensures.bare.leaving.part
+
+pub returns-in_default-2-clause-part : goal.returns-in_default-2-clause-part
+returns-in_default-2-clause-part c = c.drop_rows.ensures.bare.leaving.part
+
+pub returns-then-node-first-clause-part : goal.returns-then-node-first-clause-part
+returns-then-node-first-clause-part c = c.drop_rows.ensures.bare.leaving.part
+
+pub returns-clause-part : goal.returns-clause-part
+returns-clause-part c =
+    (c.leave_out_further.ensures.sparing c.args.lists.now c.args.frames.now None c.node-above.result c.node-above.ensures
+    (c.cut_rows.ensures.passing c.args.lists.now c.args.frames.now None
+    (passing-parent c.args.arena.now c.args.lists.now c.drop_rows.new.lists c.args.frames.now c.drop_rows.new.frames c.args.leaf.0 c.args.first
+    c.node-node.result c.in-Some-Some.hidden c.node-above.result c.drop_rows.ensures.bare c.node-node.ensures c.in-Some-Some.is-0 c.node-above.ensures))).bare.leaving.part
