@@ -12,5 +12,5 @@ mod region_maps;
 mod vmo_info;
 
 pub use machine_stat::stat;
-pub use region_maps::maps;
+pub use region_maps::{maps, runs_in};
 pub use vmo_info::info;

@@ -41,9 +41,9 @@ pub fn maps(
     runs_in(alloc, maps, above.root, above.first, above.count)
 }
 
-/// The runs of what is mapped on `count` pages of an address space from `first` on. `HostMemory` only if one of them is
-/// mapped.
-fn runs_in(
+/// The runs of what is mapped on `count` pages of an address space from `first` on, as `maps` lists those of a region that a
+/// caller has found. `HostMemory` only where one of them is mapped.
+pub fn runs_in(
     alloc: Global,
     maps: &MappingSet,
     root: RegionName,

@@ -128,7 +128,7 @@ fn allocate_in(
     if !ready {
         return Err(Refusal::HostMemory);
     }
-    match regions.allocate(name, parent, first, count, caps) {
+    match regions.allocate_below(name, parent, above, first, count, caps) {
         Ok(()) => Ok(first * PAGE),
         Err(_) => Err(Refusal::HostMemory),
     }

@@ -2,12 +2,11 @@
 //! one (`map`), the pages of a range are unmapped (`unmap`), what accesses to them may do is changed (`protect`), and a
 //! region is destroyed with all below it (`destroy`).
 //!
-//! It stands on `region_tree` and `mapping_set`, and on `vmo_table` and any store of pages: each entry keeps its VMO,
-//! and a VMO leaves with the last entry, pin or name that keeps it. Each call promises that it is the step of its
-//! command (`vm_model`), whatever else the state has. The layer above has looked the names up, so a call begins with
-//! the refusals that rest on regions and arguments. Each call also has a form that is handed the region that was found.
-//! The forms that place something require that the live children of each region are noted (`AreNoted` of
-//! `region_tree`), and keep it so.
+//! It stands on `region_tree` and `mapping_set`, and on `vmo_table` and any store of pages: each entry keeps its VMO, which
+//! leaves with the last that keeps it. Each call promises that it is the step of its command (`vm_model`), whatever else
+//! the state has. The layer above has looked the names up, so that a call begins with the refusals that rest on regions
+//! and arguments. Of each call there is one that is handed the region that was found. `allocate_noted`, and `map_in` if it is
+//! told so, rest on that the live children of each region are noted (`AreNoted` of `region_tree`), and all keep it so.
 #![tactic(auto,
 // where a region and a place in it end
 using(crate::proofs::PlaceLaws::live_end, crate::proofs::PlaceLaws::place_inside, crate::proofs::PlaceLaws::place_end),
@@ -24,6 +23,6 @@ mod ranges;
 mod unmapping;
 
 pub use allocating::{allocate, allocate_noted};
-pub use mapping::{map, map_noted};
+pub use mapping::{map, map_in};
 pub use protecting::{protect, protect_in};
 pub use unmapping::{destroy, destroy_in, unmap, unmap_in};

@@ -78,40 +78,9 @@ pub fn map<P: PageStore>(
     )
 }
 
-/// Does what `map` does, in a live region, which is `above`. The set of mappings has noted the live children of each
-/// region, and what is noted stays as it is. A place costs one search, also if there is none.
-pub fn map_noted<P: PageStore>(
-    store: &mut P,
-    vmos: &mut VmoTable,
-    regions: &Regions,
-    maps: &mut MappingSet,
-    region: RegionName,
-    above: Region,
-    offset: u64,
-    t: &Target,
-    vmo_offset: u64,
-    len: u64,
-    perm: Perm,
-    flags: MapFlags,
-) -> Result<u64, Refusal>
-    requires above { regions_of regions.now region.0 ≡ Some above }
-    requires live { above.live ≡ true }
-    requires named { IsNamed (names_of vmos.old) t.now }
-    requires well { AreAllWell (P.content store.old) vmos.old (spaces_of (regions_of regions.now) (table_of maps.old)) }
-    requires noted { AreNoted (regions_of regions.now) (places_of maps.old) }
-    ensures does { (name : VmoName) → names_of vmos.old name.0 ≡ Some t.now →
-        Does (P.content store.old) vmos.old (spaces_of (regions_of regions.now) (table_of maps.old))
-        (Command.VmarMap region offset name vmo_offset len perm flags) (reply_of (λ address. Reply.Address address) result)
-        (P.content store.new) vmos.new (spaces_of (regions_of regions.now) (table_of maps.new)) }
-    ensures places { places_of maps.new ≡ places_of maps.old }
-{
-    map_in(
-        store, vmos, regions, maps, region, above, offset, t, vmo_offset, len, perm, flags, true,
-    )
-}
-
-/// Maps into a live region, which is `above`.
-fn map_in<P: PageStore>(
+/// What `map` does in a live region, which is `above`. With `noted` the set of mappings has noted the live children of each
+/// region: a place costs one search then, also where there is none, and what is noted stays as it is.
+pub fn map_in<P: PageStore>(
     store: &mut P,
     vmos: &mut VmoTable,
     regions: &Regions,

@@ -126,12 +126,12 @@ pub fn destroy_in<P: PageStore>(
     let mut from = region;
     while let Some(leaf) = regions.destroy_next_from(region, from, dying.first, dying.count) {
         clear_region(store, vmos, maps, dying.root, leaf.name);
-        free_in_parent(regions, maps, leaf.name);
+        free_in_parent(maps, leaf.region);
         from = leaf.next;
     }
-    regions.destroy_one(region);
+    regions.destroy_childless(region, dying);
     clear_region(store, vmos, maps, dying.root, region);
-    free_in_parent(regions, maps, region);
+    free_in_parent(maps, dying);
 }
 
 /// Takes the entries of `count` pages from `first` on out of an address space. `HostMemory` if the host has too little
@@ -194,21 +194,17 @@ fn destroy_within(
 {
     let mut from = region;
     while let Some(leaf) = regions.destroy_next_from(region, from, first, count) {
-        free_in_parent(regions, maps, leaf.name);
+        free_in_parent(maps, leaf.region);
         from = leaf.next;
     }
 }
 
-/// Takes back the note of a region in its parent, if it has one. The region has just died.
-fn free_in_parent(regions: &Regions, maps: &mut MappingSet, name: RegionName)
+/// Takes back that a region is noted in its parent, if it has one. `region` is what it was before it died.
+fn free_in_parent(maps: &mut MappingSet, region: Region)
     ensures table { table_of maps.new ≡ table_of maps.old }
-    ensures noted { (was : ℕ → Option Region) → is_live_region was name.0 ≡ true
-        → regions_of regions.now ≡ with_one_dead was name.0 → AreNoted was (places_of maps.old)
-        → AreNoted (regions_of regions.now) (places_of maps.new) }
+    ensures noted { (was now : ℕ → Option Region) (n : ℕ) → was n ≡ Some region → region.live ≡ true
+        → now ≡ with_one_dead was n → AreNoted was (places_of maps.old) → AreNoted now (places_of maps.new) }
 {
-    let Some(region) = regions.get(name) else {
-        return;
-    };
     let Some(parent) = region.parent else {
         return;
     };

@@ -10,13 +10,13 @@ use Rattle.vm_base.proofs.EntryLaws.{entry_count_le, some_same}
 use Rattle.vm_base.proofs.SearchLaws.{eqb_same, eqb_is}
 use Rattle.vm_model.specs.declared.space.Region.{Region}
 use Rattle.vm_model.specs.Space.Regions.{end_of, lies_in, parent_of, is_child, any_child, parent_in, is_above, is_below, killed, given_count, AreGoodRegions}
-use Rattle.vm_model.proofs.RegionLaws.{reaches_over_parts, is_child_parts, region_bounds, is_below-step, is_above-none, lies_in_parts, lies_in_from}
+use Rattle.vm_model.proofs.RegionLaws.{reaches_over_parts, is_child_parts, region_bounds, is_below-step, is_above-none, lies_in_parts, lies_in_from, killed-at}
 use Rattle.vm_model.proofs.SpaceLaws.{none_child}
 use Rattle.balanced_tree.specs.Pairs.{IsNext}
 use Rattle.pair_map.specs.declared.stretch_row.Extent.{Extent}
 use Rattle.pair_map.specs.Maps.{Covers, StandApart}
 use Rattle.region_tree.specs.Tree.{has_child, with_one_dead, IsWithin, HasNoneWithin, IsStart, extent_for}
-use Rattle.region_tree.specs.TreeFields.{IsTree, IsBetween, HasNoneBetween, IsOver, HasNoneOver}
+use Rattle.region_tree.specs.TreeFields.{IsTree, IsBetween, HasNoneBetween, IsOver, HasNoneOver, IsAbove}
 use Rattle.region_tree.proofs.PlaceLaws.{child_at}
 
 -- a live region whose parent is this is a child
@@ -282,10 +282,22 @@ parent-within regions good above first end name region up p below e f apart give
 }
 
 -- what died lies below what it lay below
-pub dead-below : (regions new : ℕ → Option Region) (above first end name : ℕ) → IsWithin regions above first end name → new ≡ with_one_dead regions name
+dead-below : (regions new : ℕ → Option Region) (above first end name : ℕ) → IsWithin regions above first end name → new ≡ with_one_dead regions name
     → is_below new above name ≡ true
 dead-below regions new above first end name within e =
     ap (λ (r : ℕ → Option Region). is_below r above name) e ∙ (is_below-killed regions (λ n. n == name) above name ∙ within.below)
+
+-- so it tells the parent that it had
+pub dead-above : (regions new : ℕ → Option Region) (above first end name : ℕ) → IsWithin regions above first end name → new ≡ with_one_dead regions name
+    → (dying : Region) → regions name ≡ Some dying → IsAbove new above dying.parent
+dead-above regions new above first end name within e dying given = record {
+  name = name;
+  region = record dying { live = false };
+  given = ap (λ (r : ℕ → Option Region). r name) e
+      ∙ (killed-at regions (λ n. n == name) name dying given ∙ ap (λ (b : Bool). Some (cond b (record dying { live = false }) dying)) (eqb_same name));
+  below = dead-below regions new above first end name within e;
+  parent_is = refl;
+}
 
 -- two extents of a list that have one number are the same
 covers-same : (children : ℕ → ℕ → Option (Extent RegionName)) → StandApart children → (p q n m : ℕ) (d e : Extent RegionName) → Covers (children p) q n d → Covers (children p) q m e → d ≡ e

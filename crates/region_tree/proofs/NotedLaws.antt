@@ -1,31 +1,29 @@
 -- Places that are noted for the live children of regions: with them the list of a region tells what is free in it. They stay right
 -- as regions come and go.
-use Rattle.std.proofs.Common.{◌≡◌, ◌≢◌, ℕ, ◌+◌, ◌*◌, ◌<◌, ◌≤◌, Bool, true, false, cond, ◌&&◌, ◌==◌, Option, None, Some, is_some, ◌⊎◌, ◌↔◌, IsTrue, refl, sym, ap, subst, ◌∙◌, inl, inr, arith}
+use Rattle.std.proofs.Common.{◌≡◌, ◌≢◌, ℕ, ◌+◌, ◌<◌, ◌≤◌, Bool, true, false, ◌&&◌, ◌==◌, Option, None, Some, is_some, ◌⊎◌, ◌↔◌, IsTrue, refl, sym, ap, subst, ◌∙◌, inl, inr, arith}
 use Rattle.std.specs.Prelude.{nat_lt}
 use Rattle.std.specs.Option.{MatchOption}
-use Rattle.std.proofs.lemmas.Bool.{cases_order, and_parts, both_ways, false_from_ne_true, leb-true, ltb-true}
+use Rattle.std.proofs.lemmas.Bool.{cases_order, and_parts, both_ways, false_from_ne_true, ltb-true}
 use Rattle.vm_base.specs.Entries.{with_key}
 use Rattle.vm_base.specs.declared.limits.TheConstants.{NAMES}
 use Rattle.vm_base.specs.declared.names.RegionName.{RegionName}
 use Rattle.vm_base.proofs.EntryLaws.{with_key-same, with_key-other, some_same}
-use Rattle.vm_base.proofs.SearchLaws.{eqb_same, eqb_apart, eqb_is}
+use Rattle.vm_base.proofs.SearchLaws.{eqb_same, eqb_apart}
 use Rattle.vm_model.specs.declared.space.Entry.{Entry}
 use Rattle.vm_model.specs.declared.space.Region.{Region}
 use Rattle.vm_model.specs.Space.Regions.{end_of, region_below, reaches_over, is_child, meets, meets_child, AreGoodRegions}
 use Rattle.vm_model.specs.Space.Places.{is_free}
-use Rattle.vm_model.proofs.RegionLaws.{reaches_over_parts, is_child_parts, region_bounds, meets_at, killed-at, killed-stays, killed-was, is_child-killed}
+use Rattle.vm_model.proofs.RegionLaws.{reaches_over_parts, is_child_parts, region_bounds, meets_at, killed-stays, killed-was, is_child-killed}
 use Rattle.vm_model.proofs.SpaceLaws.{child_none}
 use Rattle.balanced_tree.specs.Pairs.{with_pair}
 use Rattle.pair_map.specs.declared.stretch_row.Extent.{Extent}
-use Rattle.pair_map.specs.Maps.{IsOpen}
 use Rattle.mapping_set.specs.Pieces.{list_number}
 use Rattle.mapping_set.specs.Tables.{IsClear, HasNoClear, IsFirstClear, with_place}
 use Rattle.mapping_set.proofs.PieceLaws.{list_numbers}
 use Rattle.mapping_set.proofs.TableLaws.{with_pair-cases, with_pair-same}
-use Rattle.region_tree.specs.Tree.{is_live_region, with_one_dead, spaces_of, extent_for, IsChildAt, IsNoted, IsChildIn, AreNoted, IsVacant}
+use Rattle.region_tree.specs.Tree.{with_one_dead, spaces_of, extent_for, IsNoted, IsChildIn, AreNoted, IsVacant}
 use Rattle.region_tree.specs.TreeFields.{IsTree, IsClearPlace}
 use Rattle.region_tree.proofs.PlaceLaws.{free-clear, clear-free}
-use Rattle.region_tree.proofs.TreeLaws.{live-is, live-none}
 use Rattle.region_tree.proofs.BelowLaws.{is_child_from}
 
 -- nothing is noted where there is no region
@@ -290,28 +288,12 @@ module _ (regions : ℕ → Option Region) (places : ℕ → ℕ → Option (Ext
   AreNoted-less more None up same = subst (AreNoted (with_one_dead regions n)) (sym same) (AreNoted-dead_root up)
   AreNoted-less more (Some parent) up same = subst (AreNoted (with_one_dead regions n)) (sym same) (AreNoted-dead parent up)
 
--- a region that died just now: its place is taken back
-pub AreNoted-gone : (was now : ℕ → Option Region) (places more : ℕ → ℕ → Option (Extent RegionName)) (n : ℕ) → is_live_region was n ≡ true → now ≡ with_one_dead was n → AreNoted was places
-    → (region : Region) → now n ≡ Some region → MatchOption region.parent (more ≡ places) (λ parent. more ≡ with_pair places (list_number parent.0 region.root.0) region.first None)
+-- a region dies, and its place is taken back
+pub AreNoted-gone : (was now : ℕ → Option Region) (places more : ℕ → ℕ → Option (Extent RegionName)) (n : ℕ) (dying : Region) → was n ≡ Some dying → dying.live ≡ true → now ≡ with_one_dead was n
+    → AreNoted was places → MatchOption dying.parent (more ≡ places) (λ parent. more ≡ with_pair places (list_number parent.0 dying.root.0) dying.first None)
     → AreNoted now more
-AreNoted-gone was now places more n live dead noted region there less = by (was n) refl where
-  by : (o : Option Region) → was n ≡ o → AreNoted now more
-  by None none = absurd (let off = live-none was n none in cc)
-  by (Some dying) given =
-      let died : now n ≡ Some (record dying { live = false }) = ap (λ (m : ℕ → Option Region). m n) dead
-      ∙ (killed-at was (λ k. k == n) n dying given ∙ ap (λ (b : Bool). Some (cond b (record dying { live = false }) dying)) (eqb_same n)) in
-      let same : region ≡ record dying { live = false } = some_same (sym there ∙ died) in
-      let lives : dying.live ≡ true = sym (live-is was n dying given) ∙ live in
-      subst (λ (m : ℕ → Option Region). AreNoted m more) (sym dead)
-      (AreNoted-less was places noted n dying given lives more dying.parent refl
-      (subst (λ (r : Region). MatchOption r.parent (more ≡ places) (λ parent. more ≡ with_pair places (list_number parent.0 r.root.0) r.first None)) same less))
-
--- there is none, where it is not known
-pub AreNoted-lost : (was now : ℕ → Option Region) (n : ℕ) → is_live_region was n ≡ true → now ≡ with_one_dead was n → now n ≡ None → ⊥
-AreNoted-lost was now n live dead none = by (was n) refl where
-  by : (o : Option Region) → was n ≡ o → ⊥
-  by None is = let off = live-none was n is in absurd cc
-  by (Some dying) given = let died = ap (λ (m : ℕ → Option Region). m n) dead ∙ killed-at was (λ k. k == n) n dying given in absurd cc
+AreNoted-gone was now places more n dying given live dead noted less =
+    subst (λ (m : ℕ → Option Region). AreNoted m more) (sym dead) (AreNoted-less was places noted n dying given live more dying.parent refl less)
 
 -- ---- a range that meets no live child
 

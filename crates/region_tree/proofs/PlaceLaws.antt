@@ -18,7 +18,7 @@ use Rattle.balanced_tree.specs.Rows.{Rows}
 use Rattle.pair_map.specs.declared.pair_row.PairRow.{PairRow}
 use Rattle.pair_map.specs.declared.stretch_row.Extent.{Extent}
 use Rattle.pair_map.specs.Maps.{Covers, IsOpen}
-use Rattle.mapping_set.specs.Tables.{HasNoGap, IsFirstGap, IsClear, HasNoClear, IsFirstClear}
+use Rattle.mapping_set.specs.Tables.{HasNoGap, IsFirstGap, IsClear, HasNoClear}
 use Rattle.region_tree.specs.Tree.{regions_of, spaces_of, extent_for}
 use Rattle.region_tree.specs.TreeFields.{IsTree, IsClearPlace, ReachesOut}
 

@@ -48,7 +48,15 @@ pub record IsClearPlace (extents : ℕ → Option (Extent RegionName)) (table : 
   pub not_past : p + count ≤ limit
   pub clear : IsClear extents table root region p count
 
--- an extent that has this page also has a number before `first`, or one from `end` on
+-- some region below `above`, dead or live, has this parent
+pub record IsAbove (regions : ℕ → Option Region) (above : ℕ) (parent : Option RegionName) : Type 0 where
+  pub name : ℕ
+  pub region : Region
+  pub given : regions name ≡ Some region
+  pub below : is_below regions above name ≡ true
+  pub parent_is : region.parent ≡ parent
+
+-- an extent has this page, and a number before `first`, or one from `end` on
 pub record ReachesOut (extents : ℕ → Option (Extent RegionName)) (page first end : ℕ) : Type 0 where
   pub start : ℕ
   pub extent : Extent RegionName

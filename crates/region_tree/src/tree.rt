@@ -1,16 +1,16 @@
 //! The tree of regions.
 
-ghost use Rattle.std.specs.Prelude.{◌≡◌, ℕ, ◌+◌, ◌≤◌, true, false, None, IfSome, OnOk, OnErr};
+ghost use Rattle.std.specs.Prelude.{◌≡◌, ℕ, ◌+◌, ◌≤◌, true, false, None, Some, IfSome, OnOk, OnErr};
 ghost use Rattle.std.specs.Option.{MatchOption};
 ghost use Rattle.vm_base.specs.declared.limits.TheConstants.{PAGES_END};
 ghost use Rattle.vm_base.specs.Entries.{with_key};
-ghost use Rattle.vm_model.specs.Space.Regions.{region_of, root_region, region_below, reaches_over, meets_child, cuts_child, is_below};
+ghost use Rattle.vm_model.specs.Space.Regions.{region_of, root_region, region_below, reaches_over, meets_child, cuts_child};
 ghost use Rattle.vm_model.specs.Space.Regions.{AreGoodRegions};
 ghost use Rattle.vm_model.specs.Space.Places.{is_free, has_place};
 ghost use Rattle.mapping_set.specs.Tables.{table_of, places_of};
 ghost use Rattle.region_tree.specs.Tree.{regions_of, is_live_region, has_child, with_one_dead, spaces_of};
 ghost use Rattle.region_tree.specs.Tree.{IsWithin, HasNoneWithin, IsStart, AreNoted};
-ghost use Rattle.region_tree.specs.TreeFields.{HasNoneOver};
+ghost use Rattle.region_tree.specs.TreeFields.{HasNoneOver, IsAbove};
 
 use crate::fields::{
     child_in, end_within, gap_in, held, leave_parent, lies_in, reaches_out, reaches_over,
@@ -30,7 +30,9 @@ const ALL: Perm = Perm(Perm::READ.0 + Perm::WRITE.0 + Perm::EXECUTE.0);
 pub struct Destroyed {
     /// The region that was destroyed.
     pub name: RegionName,
-    /// Its parent, if the parent is live and lies in the range too. Otherwise the region of which the range was given.
+    /// What it was before.
+    pub region: Region,
+    /// Its parent, where that is live and lies in the range too, or else the region that the range is asked for by.
     pub next: RegionName,
 }
 
@@ -114,9 +116,32 @@ impl Regions {
             (region_below parent.0 (region_of (regions_of self.old) parent.0) first count caps.0)) }
         ensures err { OnErr result (regions_of self.new ≡ regions_of self.old) }
     {
-        // The bound on the number of names rests on the range of their numbers.
+        let above = self.live(parent);
+        self.allocate_below(name, parent, above, first, count, caps)
+    }
+
+    /// What `allocate` does below a live region, which is `above`.
+    pub fn allocate_below(
+        &mut self,
+        name: RegionName,
+        parent: RegionName,
+        above: Region,
+        first: PageNo,
+        count: u64,
+        caps: Perm,
+    ) -> Result<(), HostMemory>
+        requires name { regions_of self.old name.0 ≡ None }
+        requires above { regions_of self.old parent.0 ≡ Some above }
+        requires live { above.live ≡ true }
+        requires some { 1 ≤ count }
+        requires inside { reaches_over first (first + count) (region_of (regions_of self.old) parent.0) ≡ true }
+        requires apart { meets_child (regions_of self.old) parent.0 first (first + count) ≡ false }
+        ensures ok { OnOk result (regions_of self.new ≡ with_key (regions_of self.old) name.0
+            (region_below parent.0 (region_of (regions_of self.old) parent.0) first count caps.0)) }
+        ensures err { OnErr result (regions_of self.new ≡ regions_of self.old) }
+    {
+        // How many names there are rests on the range of their numbers.
         prove!(name.0 <= u32::MAX);
-        let above = held(&self.regions, parent);
         let Ok(()) = self.regions.reserve(1) else {
             return Err(HostMemory);
         };
@@ -307,14 +332,21 @@ impl Regions {
             (λ gone. regions_of self.new ≡ with_one_dead (regions_of self.old) gone.name.0) }
         ensures next { IfSome result
             (λ gone. IsStart (regions_of self.new) region.0 first (first + count) gone.next.0) }
+        ensures was { IfSome result (λ gone. regions_of self.old gone.name.0 ≡ Some gone.region) }
+        ensures lived { IfSome result (λ gone. gone.region.live ≡ true) }
     {
         let Some(within) = self.within_from(region, start, first, count) else {
             return None;
         };
         let leaf = self.childless(within);
-        self.destroy_one(leaf);
-        let next = self.start_above(region, leaf, first, count);
-        Some(Destroyed { name: leaf, next })
+        let dying = self.live(leaf);
+        self.destroy_childless(leaf, dying);
+        let next = self.start_above(region, dying.parent, first, count);
+        Some(Destroyed {
+            name: leaf,
+            region: dying,
+            next,
+        })
     }
 
     /// Destroys a live region that has no live child.
@@ -323,7 +355,17 @@ impl Regions {
         requires childless { has_child (regions_of self.old) region.0 ≡ false }
         ensures { regions_of self.new ≡ with_one_dead (regions_of self.old) region.0 }
     {
-        let dying = held(&self.regions, region);
+        let dying = self.live(region);
+        self.destroy_childless(region, dying);
+    }
+
+    /// What `destroy_one` does to a live region, which is `dying`.
+    pub fn destroy_childless(&mut self, region: RegionName, dying: Region)
+        requires dying { regions_of self.old region.0 ≡ Some dying }
+        requires live { dying.live ≡ true }
+        requires childless { has_child (regions_of self.old) region.0 ≡ false }
+        ensures { regions_of self.new ≡ with_one_dead (regions_of self.old) region.0 }
+    {
         let dead = Region {
             live: false,
             ..dying
@@ -332,8 +374,17 @@ impl Regions {
         leave_parent(&mut self.children, dying);
     }
 
-    /// A live region below a live one, with all of its pages among `count` pages from `first` on: the region to begin
-    /// at, if that is one.
+    /// The region of a name that was given to one that is live.
+    fn live(&self, name: RegionName) -> Region
+        requires { is_live_region (regions_of self.now) name.0 ≡ true }
+        ensures region { regions_of self.now name.0 ≡ Some result }
+        ensures live { result.live ≡ true }
+    {
+        held(&self.regions, name)
+    }
+
+    /// A live region below a live one that has no page but of `count` pages from `first` on: the one to begin at, where
+    /// that is one.
     fn within_from(
         &self,
         region: RegionName,
@@ -351,22 +402,19 @@ impl Regions {
         self.within(region, first, count)
     }
 
-    /// Where to go on above a region below a live one: at its parent, if the parent is live and lies in `count` pages
-    /// from `first` on. Otherwise at the live region.
+    /// Where to go on above a region below a live one, which has this parent: at the parent, where that is live and has no
+    /// page but of `count` pages from `first` on, or else at the live one.
     fn start_above(
         &self,
         region: RegionName,
-        gone: RegionName,
+        parent: Option<RegionName>,
         first: PageNo,
         count: u64,
     ) -> RegionName
-        requires { is_below (regions_of self.now) region.0 gone.0 ≡ true }
+        requires { IsAbove (regions_of self.now) region.0 parent }
         ensures { IsStart (regions_of self.now) region.0 first (first + count) result.0 }
     {
-        let Some(below) = self.regions.find(0, gone.0 as u64) else {
-            return region;
-        };
-        let Some(parent) = below.parent else {
+        let Some(parent) = parent else {
             return region;
         };
         let Some(above) = self.regions.find(0, parent.0 as u64) else {

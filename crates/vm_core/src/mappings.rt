@@ -57,8 +57,9 @@ pub(crate) fn vmar_map<P: PageStore>(
     if !above.live {
         return Answer::Refused(Refusal::BadState);
     }
-    match region_ops::map_noted(
+    match region_ops::map_in(
         store, vmos, regions, maps, region, above, offset, &target, vmo_offset, len, perm, flags,
+        true,
     ) {
         Ok(address) => {
             forget_pages(translations, above.root, page_of(address), page_count(len));
@@ -158,7 +159,7 @@ pub(crate) fn list_maps(
     if !listed.live {
         return Answer::Refused(Refusal::BadState);
     }
-    match attribution::maps(alloc, regions, maps, region) {
+    match attribution::runs_in(alloc, maps, listed.root, listed.first, listed.count) {
         Ok(runs) => Answer::Runs(runs),
         Err(_) => Answer::Refused(Refusal::HostMemory),
     }

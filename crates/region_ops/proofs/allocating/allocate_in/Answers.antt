@@ -1,5 +1,4 @@
-use Rattle.std.proofs.Common.{◌≡◌, ◌*◌, ◌/◌, ◌∙◌, refl, sym, arith}
-use Rattle.vm_base.specs.declared.limits.TheConstants.{PAGE}
+use Rattle.std.proofs.Common.{◌∙◌, refl, sym, arith}
 use Rattle.vm_model.proofs.RegionLaws.{region_of-at}
 use Rattle.mapping_set.specs.Tables.{table_of}
 use Rattle.region_tree.specs.Tree.{regions_of, spaces_of}
@@ -7,11 +6,11 @@ use Rattle.region_ops.specs.Spaces.{with_spaces}
 use Rattle.region_ops.proofs.PlaceLaws.{place_inside, place_end, allocate_done, allocate_lacks, allocated}
 use Rattle.region_ops.proofs.allocating.allocate_in.Goals as goal
 
-pub allocate-requires-clause-inside : goal.allocate-requires-clause-inside
-allocate-requires-clause-inside c = (place_inside _ _ _ refl _ _ _ _ _ c.in_ok-first.ensures).0
+pub allocate_below-requires-clause-inside : goal.allocate_below-requires-clause-inside
+allocate_below-requires-clause-inside c = (place_inside _ _ _ refl _ _ _ _ _ c.in_ok-first.ensures).0
 
-pub allocate-requires-clause-apart : goal.allocate-requires-clause-apart
-allocate-requires-clause-apart c = (place_inside _ _ _ refl _ _ _ _ _ c.in_ok-first.ensures).1
+pub allocate_below-requires-clause-apart : goal.allocate_below-requires-clause-apart
+allocate_below-requires-clause-apart c = (place_inside _ _ _ refl _ _ _ _ _ c.in_ok-first.ensures).1
 
 pub overflow_mul-result : goal.overflow_mul-result
 overflow_mul-result c =

@@ -1,7 +1,5 @@
-use Rattle.std.proofs.Common.{◌≡◌, ◌/◌, ◌∙◌, refl, sym, arith}
+use Rattle.std.proofs.Common.{◌∙◌, arith}
 use Rattle.vm_model.proofs.RegionLaws.{region_bounds}
-use Rattle.mapping_set.specs.Tables.{table_of, places_of}
-use Rattle.region_tree.specs.Tree.{regions_of, spaces_of}
 use Rattle.region_tree.proofs.NotedLaws.{apart-vacant, AreNoted-allocated}
 use Rattle.region_ops.proofs.PlaceLaws.{allocated_some, allocated_inside, allocated_apart, allocated_bare, on_ok}
 use Rattle.region_ops.proofs.allocating.allocate_noted.Goals as goal

@@ -1,5 +1,4 @@
 use Rattle.std.proofs.Common.{refl, inl, ◌∙◌}
-use Rattle.region_tree.proofs.TreeLaws.{within-live}
 use Rattle.region_ops.proofs.DyingLaws.{underway_start, within_live, within_next, within_fewer, within_end}
 use Rattle.region_ops.proofs.unmapping.destroy_within.Goals as goal
 
@@ -17,7 +16,7 @@ loop-leaf-preserved c = record {
   under = within_next _ _ _ _ _ c.requires.good c.loop-leaf.invariant.under _ _ c.in-Some.ensures.within c.in-Some.ensures.regions;
   start = c.in-Some.ensures.next;
   table = c.free_in_parent.ensures.table ∙ c.loop-leaf.invariant.table;
-  noted = λ noted. c.free_in_parent.ensures.noted _ (within-live _ c.in-Some.ensures.within) c.in-Some.ensures.regions (c.loop-leaf.invariant.noted noted);
+  noted = λ noted. c.free_in_parent.ensures.noted _ _ _ c.in-Some.ensures.was c.in-Some.ensures.lived c.in-Some.ensures.regions (c.loop-leaf.invariant.noted noted);
 }
 
 pub returns-clause-regions : goal.returns-clause-regions

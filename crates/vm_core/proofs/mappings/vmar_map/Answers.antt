@@ -1,4 +1,5 @@
 use Rattle.std.proofs.Common.{◌/◌, refl, sym, arith}
+use Rattle.std.proofs.lemmas.Bool.{not-false}
 use Rattle.vm_base.specs.Pages.{rounded}
 use Rattle.vm_base.specs.declared.limits.TheConstants.{PAGE}
 use Rattle.vm_model.specs.declared.command.Command.TheVariants.{VmarMap}
@@ -9,10 +10,14 @@ use Rattle.region_tree.specs.Tree.{regions_of, spaces_of}
 use Rattle.region_ops.specs.Spaces.{with_all, with_spaces}
 use Rattle.fault.specs.Table.{places_of}
 use Rattle.vm_core.specs.Resets.{without_pages}
+use Rattle.vm_model.proofs.RegionLaws.{region_bounds}
 use Rattle.vm_core.proofs.BoundLaws.{done_bounds}
 use Rattle.vm_core.proofs.LeavesLaws.{left_region}
 use Rattle.vm_core.proofs.RefusedLaws.{dead, refused_spaces, left_spaces}
 use Rattle.vm_core.proofs.mappings.vmar_map.Goals as goal
+
+pub map_in-requires-clause-end : goal.map_in-requires-clause-end
+map_in-requires-clause-end g c = (region_bounds _ c.requires.well.well.good.spaces.regions _ _ (sym c.in-Some.ensures.region) (not-false _ c.if-not-above.false)).0
 
 pub forget_pages-requires : goal.forget_pages-requires
 forget_pages-requires g c =
@@ -41,12 +46,12 @@ returns-then-not-above g c =
     }
 
 pub returns-in-Err : goal.returns-in-Err
-returns-in-Err g c = record { step = c.in-Err.ensures.does c.args.name (sym c.in-Some-resolve.ensures); left = left_spaces; noted = rw c.in-Err.ensures.places c.requires.noted }
+returns-in-Err g c = record { step = c.in-Err.ensures.does c.args.name (sym c.in-Some-resolve.ensures); left = left_spaces; noted = rw (c.in-Err.ensures.places refl) c.requires.noted }
 
 pub returns-in-Ok : goal.returns-in-Ok
 returns-in-Ok g c = record {
   step = c.in-Ok.ensures.does c.args.name (sym c.in-Some-resolve.ensures);
-  noted = rw c.in-Ok.ensures.places c.requires.noted;
+  noted = rw (c.in-Ok.ensures.places refl) c.requires.noted;
   left = record {
     left = λ s d.
         left_region (with_spaces s (spaces_of (regions_of c.args.regions.now) (table_of c.args.maps.now))) c.args.region.0

@@ -1,6 +1,4 @@
-use Rattle.std.proofs.Common.{sym, ap, subst, arith}
-use Rattle.mapping_set.specs.Tables.{table_of}
-use Rattle.region_tree.specs.Tree.{regions_of}
+use Rattle.std.proofs.Common.{arith}
 use Rattle.region_tree.proofs.PlaceLaws.{seen, place-is}
 use Rattle.region_tree.proofs.TreeLaws.{region-end}
 use Rattle.region_tree.proofs.NotedLaws.{clear-place}
