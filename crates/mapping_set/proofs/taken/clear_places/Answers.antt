@@ -1,7 +1,6 @@
-use Rattle.std.proofs.Common.{refl, ap, sym, subst, ◌∙◌}
+use Rattle.std.proofs.Common.{ap, sym, subst, ◌∙◌}
 use Rattle.std.proofs.Common.{is_some, rules}
-use Rattle.pair_map.specs.Maps.{extents_of, IsOpen}
-use Rattle.mapping_set.specs.Taken.{pieces_in}
+use Rattle.pair_map.specs.Maps.{IsOpen}
 use Rattle.mapping_set.proofs.TakenLaws.{place-less, meeting-place, meeting-not_open}
 use Rattle.mapping_set.proofs.taken.clear_places.Goals as goal
 

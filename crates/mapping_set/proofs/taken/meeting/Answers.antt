@@ -1,5 +1,4 @@
-use Rattle.std.proofs.Common.{refl, sym, ap, ◌∙◌, arith}
-use Rattle.mapping_set.proofs.TakenLaws.{meeting-at, meeting-next, meeting-none}
+use Rattle.mapping_set.proofs.TakenLaws.{meeting-at}
 use Rattle.mapping_set.proofs.taken.meeting.Goals as goal
 
 pub returns-in-Some : goal.returns-in-Some
