@@ -1,18 +1,19 @@
 -- Laws of the ways upwards from a page of a node, whether it has a row there or not: they are joined, and stay where rows go, where
 -- a visible node gets rows or changes, and where a snapshot is made.
-use Rattle.std.proofs.Common.{◌≡◌, ◌≢◌, ℕ, ◌+◌, ◌<◌, ◌⊎◌, None, Some, inl, inr, refl, sym, ap, ◌∙◌, subst, arith}
+use Rattle.std.proofs.Common.{◌≡◌, ◌≢◌, ℕ, ◌+◌, ◌<◌, None, Some, inl, inr, refl, sym, ap, ◌∙◌, subst, arith}
+use Rattle.std.specs.Prelude.{IsSome, is_some}
 use Rattle.vm_base.specs.declared.names.Koid.{Koid}
 use Rattle.vm_base.proofs.EntryLaws.{some_same}
 use Rattle.cow_arena.specs.declared.node.Node.{Node}
 use Rattle.cow_arena.specs.declared.node.Side.{Side}
-use Rattle.cow_arena.specs.Nodes.{Nodes, IsVisible, link_to, side_in}
+use Rattle.cow_arena.specs.Nodes.{Nodes, IsVisible, side_in}
 use Rattle.cow_arena.specs.Walk.{Tree, Slots}
 use Rattle.cow_arena.specs.Forest.{IsForest}
 use Rattle.cow_arena.specs.Changes.{paired}
 use Rattle.cow_arena.specs.Ways.{Climbs, Reaches, IsPageAbove, Rises, KeepsBare}
 use Rattle.cow_arena.proofs.WalkLaws.{climb_below}
-use Rattle.cow_arena.proofs.ReachLaws.{reach-one, reach-more, reach-each, hidden-apart}
-use Rattle.cow_arena.proofs.MovedLaws.{SameStep, IsChangeOf, other-same, reach-stays}
+use Rattle.cow_arena.proofs.ReachLaws.{reach-one, reach-more, reach-each, hidden-apart, hidden-of-child}
+use Rattle.cow_arena.proofs.MovedLaws.{SameStep, IsChangeOf, other-same, same-side, reach-stays}
 use Rattle.cow_arena.proofs.PairWalkLaws.{paired_tree, pair-same-hidden, pair-same-other, pair-reach-other}
 
 module _ (t : Tree) where
@@ -126,6 +127,31 @@ module _ (t : Tree) (nodes : Nodes) (lists v : ℕ) (f : IsForest t.nodes t.list
       rises-moved t with_nodes k k p side h q
       (λ j r step. record { node = step.node; at = change.stay k step.node step.at apart; inside = step.inside; parent = step.parent; page = step.page }) same.side
       (λ j r step way. above-stays k p j r side h q step way) rises
+
+  -- from the node itself, at a page that it sees where it saw it
+  pub rises-changed : (p : ℕ) (side : Side) (h q : ℕ) (leaf now : Node) → t.nodes v ≡ Some leaf → nodes v ≡ Some now → now.parent ≡ leaf.parent →
+      now.first ≡ leaf.first → p < now.seen → Rises t v p side h q → Rises with_nodes v p side h q
+  rises-changed p side h q leaf now at now_at parent first inside rises = rises-moved t with_nodes v v p side h q
+      (λ j r step.
+      let same : step.node ≡ leaf = some_same (sym step.at ∙ at) in
+      let was = ap (λ (n : Node). n.first) same in
+      record {
+        node = now;
+        at = now_at;
+        inside = inside;
+        parent = parent ∙ (ap (λ (n : Node). n.parent) (sym same) ∙ step.parent);
+        page = let page = step.page in omega arith;
+      })
+      (same-side t.nodes nodes t.lists lists f g v v leaf now at now_at parent (λ x above s _ above_at child.
+      let hidden = hidden-of-child t.nodes t.lists f x v above s above_at child in (
+        above,
+        change.stay x above above_at (λ same. no_leaf above hidden (change.leaf above (sym (ap t.nodes same) ∙ above_at))),
+        child,
+      )))
+      (λ j r step way. above-stays v p j r side h q step way) rises
+    where
+      no_leaf : (above : Node) → above.koid ≡ None → IsSome above.koid → ⊥
+      no_leaf above hidden visible = let none = ap is_some hidden in absurd (cc)
 
 -- A snapshot of node v, which was this leaf, is made.
 module _ (t : Tree) (f : IsForest t.nodes t.lists) (v : ℕ) (leaf : Node) (visible : IsVisible t.nodes v leaf) (h c : ℕ) (koid : Koid) (first seen count : ℕ)

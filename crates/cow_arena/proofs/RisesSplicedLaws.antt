@@ -4,7 +4,6 @@ use Rattle.std.proofs.lemmas.Bool.{cases_eq}
 use Rattle.vm_base.proofs.EntryLaws.{some_same}
 use Rattle.balanced_tree.specs.Pairs.{with_pair}
 use Rattle.page_list.specs.declared.row.Slot.{Slot}
-use Rattle.cow_arena.specs.declared.node.NodeId.{NodeId}
 use Rattle.cow_arena.specs.declared.node.Node.{Node}
 use Rattle.cow_arena.specs.declared.node.Side.{Side}
 use Rattle.cow_arena.specs.Nodes.{IsVisible, link_to, side_in, AreFamily}
@@ -13,8 +12,8 @@ use Rattle.cow_arena.specs.Forest.{IsForest}
 use Rattle.cow_arena.specs.Changes.{lifted, spliced}
 use Rattle.cow_arena.specs.Renamed.{renamed, renamed_node}
 use Rattle.cow_arena.specs.Ways.{Climbs, Reaches, IsPageAbove, Rises, KeepsBelow}
-use Rattle.cow_arena.proofs.WalkLaws.{link_same, climb_below}
-use Rattle.cow_arena.proofs.ReachLaws.{reach-one, reach-more, reach-each, reach-cases, hidden-apart}
+use Rattle.cow_arena.proofs.WalkLaws.{link_same}
+use Rattle.cow_arena.proofs.ReachLaws.{reach-one, reach-more, reach-each, reach-cases}
 use Rattle.cow_arena.proofs.MovedLaws.{SameStep, climbs-moved}
 use Rattle.cow_arena.proofs.AlikeLaws.{with_pair-same, with_pair-other}
 use Rattle.cow_arena.proofs.RenamedLaws.{renamed-at, side-renamed}

@@ -1,15 +1,16 @@
 -- The jumps stay right where rows go, where a VMO's node gets rows, where a VMO comes, and where a snapshot is made.
-use Rattle.std.proofs.Common.{◌≡◌, ◌≢◌, ◌⊎◌, ℕ, ◌+◌, Option, None, Some, IsSome, inl, inr, refl, sym, ap, subst, ◌∙◌, arith}
+use Rattle.std.proofs.Common.{◌≡◌, ◌≢◌, ◌⊎◌, min, ℕ, ◌+◌, Option, None, Some, IsSome, inl, inr, refl, sym, ap, subst, ◌∙◌, arith, ◌<◌}
 use Rattle.std.specs.Prelude.{is_some, if◌then◌else◌, ◌==◌, Bool, true, false}
 use Rattle.std.specs.Option.{option_map}
 use Rattle.std.proofs.lemmas.Bool.{cases_Bool, cases_eq}
 use Rattle.vm_base.specs.declared.names.Koid.{Koid}
 use Rattle.vm_base.specs.Entries.{with_key}
-use Rattle.vm_base.proofs.EntryLaws.{some_same, none_is, with_key-same, with_key-other}
+use Rattle.vm_base.proofs.SearchLaws.{eqb_apart}
+use Rattle.vm_base.proofs.EntryLaws.{some_same, some_is, none_is, with_key-same, with_key-other}
 use Rattle.balanced_tree.specs.Rows.{Rows}
 use Rattle.page_list.specs.declared.row.Row.{Row}
 use Rattle.page_list.specs.Lists.{slots_of}
-use Rattle.frame_pool.specs.Pool.{is_taken}
+use Rattle.frame_pool.specs.Pool.{Pool, is_taken}
 use Rattle.cow_arena.specs.declared.node.Node.{Node}
 use Rattle.cow_arena.specs.declared.node.Pair.{Pair}
 use Rattle.cow_arena.specs.Nodes.{Arena, Nodes, nodes_of, IsVisible}
@@ -19,15 +20,18 @@ use Rattle.cow_arena.specs.Changes.{root_node, paired}
 use Rattle.cow_arena.specs.Ways.{KeepsBare}
 use Rattle.cow_arena.proofs.PairWalkLaws.{paired_tree, leaf-at, hidden-at, other-at}
 use Rattle.cow_arena.proofs.RelinkLaws.{relinked-stays, relinked-was}
-use Rattle.cow_arena.proofs.RisesLaws.{rises-bare, rises-stays, rises-paired, rises-hidden}
+use Rattle.cow_arena.specs.Views.{KeepsRises}
+use Rattle.cow_arena.proofs.RisesLaws.{rises-bare, rises-stays, rises-changed, rises-paired, rises-hidden}
 use Rattle.cow_arena.proofs.MovedLaws.{IsChangeOf}
-use Rattle.cow_arena.proofs.WindowWalkLaws.{node-added}
+use Rattle.cow_arena.proofs.WindowWalkLaws.{node-added, leaf-changed}
 use Rattle.cow_split.specs.Trees.{tree_of}
+use Rattle.cow_split.proofs.PartLaws.{bare-part}
 use Rattle.cow_fork.specs.Sharing.{HasShared}
 use Rattle.cow_fork.specs.Snapshots.{split_slots, split_row, is_taken_in}
+use Rattle.cow_merge.specs.Merging.{with_count, HasShrunk}
 use Rattle.cow_forest.specs.declared.jumps.Jump.{Jump}
 use Rattle.cow_forest.specs.declared.jumps.JumpTable.{JumpTable}
-use Rattle.cow_forest.specs.Jumps.{jump_in, IsJump, AreJumps, AreMovedUp}
+use Rattle.cow_forest.specs.Jumps.{jump_in, serial_in, IsTaken, IsJump, AreJumps, AreMovedUp, ArePairRetired}
 use Rattle.cow_forest.specs.Store.{Forest, tree, HasNode, IsStore}
 use Rattle.cow_forest.proofs.ContentLaws.{node-visible}
 
@@ -60,6 +64,7 @@ pub jumps-bare : (t : Tree) (f : IsForest t.nodes t.lists) (slots : Slots) (v : 
 jumps-bare t f slots v leaf visible keeps next table are = record {
   jumps = λ k jump has taken. jump-bare t f slots v leaf visible keeps k jump (are.jumps k jump has taken);
   made = are.made;
+  serials = are.serials;
 }
 
 pub jumps-rows : (f : Forest) (s : IsStore f) (rows : Rows Row) (v k : ℕ) (h : HasNode f v k) →
@@ -94,6 +99,7 @@ jumps-root f s arena k koid count free nodes forest next table are = record {
     | inr apart ↦ other j jump apart (are.jumps j jump has taken)
   ];
   made = λ j jump has. let made = are.made j jump has in omega arith;
+  serials = λ j. let was = are.serials j in omega arith;
 }
   where
     root_at : nodes_of arena k ≡ Some (root_node (record { 0 = koid }) f.arena.lists count)
@@ -144,7 +150,7 @@ split-bare slots l first seen list = record { bare = λ m q apart none. still m 
 
 module _ (t : Tree) (f : IsForest t.nodes t.lists) (v : ℕ) (leaf : Node) (visible : IsVisible t.nodes v leaf) (h c : ℕ) (koid : Koid) (first seen count : ℕ)
     (no_h : t.nodes h ≡ None) (no_c : t.nodes c ≡ None) (apart : h ≢ c) (g : IsForest (paired t.nodes v leaf h c t.lists koid first seen count) (t.lists + 2))
-    (next : ℕ) (old new : JumpTable) (are : AreJumps t next old) (moved : AreMovedUp old new v h c) where
+    (next : ℕ) (old new : JumpTable) (are : AreJumps t next old) (moved : AreMovedUp old new v h c next) where
   abbrev after : Tree
   after = paired_tree t v leaf h c koid first seen count
 
@@ -190,7 +196,18 @@ module _ (t : Tree) (f : IsForest t.nodes t.lists) (v : ℕ) (leaf : Node) (visi
         (is.rises p leaf visible.at (omega arith) below clear);
   }
 
-  pub jumps-paired : AreJumps after next new
+  -- a jump that is to be taken leads to no node that is new
+  taken-was : (jump : Jump) → jump.serial < next → IsTaken new jump → IsTaken old jump
+  taken-was jump less taken = elim (cases_eq jump.to.0 h) [
+    | inl here ↦ absurd (no moved.now (ap (serial_in new) (sym here) ∙ taken.same))
+    | inr other ↦ record { some = taken.some; same = sym (moved.serials jump.to.0 other) ∙ taken.same }
+  ]
+    where
+      no : (serial_in new h ≡ next) ⊎ (serial_in new h ≡ 0) → serial_in new h ≡ jump.serial → ⊥
+      no (inl is) same = absurd (omega arith)
+      no (inr is) same = let some = taken.some in absurd (omega arith)
+
+  pub jumps-paired : AreJumps after (next + 1) new
   jumps-paired = record {
     jumps = λ k jump has taken. elim (cases_eq k h) [
       | inl here ↦
@@ -200,25 +217,38 @@ module _ (t : Tree) (f : IsForest t.nodes t.lists) (v : ℕ) (leaf : Node) (visi
         | inl here ↦ absurd (let none = ap (jump_in new) here ∙ moved.leaf in cc)
         | inr k_v ↦ elim (cases_eq k c) [
           | inl here ↦ absurd (let none = ap (jump_in new) here ∙ moved.child in cc)
-          | inr k_c ↦ jump-other k jump k_v k_h k_c (are.jumps k jump (sym (moved.others k k_v k_h k_c) ∙ has) (let same = moved.floor in omega arith))
+          | inr k_c ↦
+              let was = sym (moved.others k k_v k_h k_c) ∙ has in
+              jump-other k jump k_v k_h k_c (are.jumps k jump was (taken-was jump (are.made k jump was) taken))
         ]
       ]
     ];
-    made = λ k jump has. elim (cases_eq k h) [
-      | inl here ↦ are.made v jump (moved.hidden jump (ap (jump_in new) (sym here) ∙ has)).0
-      | inr k_h ↦ elim (cases_eq k v) [
-        | inl here ↦ absurd (let none = ap (jump_in new) here ∙ moved.leaf in cc)
-        | inr k_v ↦ elim (cases_eq k c) [
-          | inl here ↦ absurd (let none = ap (jump_in new) here ∙ moved.child in cc)
-          | inr k_c ↦ are.made k jump (sym (moved.others k k_v k_h k_c) ∙ has)
-        ]
-      ]
+    made = λ k jump has. let less = less-made k jump has in omega arith;
+    serials = λ k. elim (cases_eq k h) [
+      | inl here ↦ let same = ap (serial_in new) here in new-less same moved.now
+      | inr other ↦ let was = are.serials k in let same = moved.serials k other in omega arith
     ];
   }
+    where
+      new-less : {n : ℕ} → n ≡ serial_in new h → (serial_in new h ≡ next) ⊎ (serial_in new h ≡ 0) → n < next + 1
+      new-less same (inl is) = omega arith
+      new-less same (inr is) = omega arith
+
+      less-made : (k : ℕ) (jump : Jump) → jump_in new k ≡ Some jump → jump.serial < next
+      less-made k jump has = elim (cases_eq k h) [
+        | inl here ↦ are.made v jump (moved.hidden jump (ap (jump_in new) (sym here) ∙ has)).0
+        | inr k_h ↦ elim (cases_eq k v) [
+          | inl here ↦ absurd (let none = ap (jump_in new) here ∙ moved.leaf in cc)
+          | inr k_v ↦ elim (cases_eq k c) [
+            | inl here ↦ absurd (let none = ap (jump_in new) here ∙ moved.child in cc)
+            | inr k_c ↦ are.made k jump (sym (moved.others k k_v k_h k_c) ∙ has)
+          ]
+        ]
+      ]
 
 pub jumps-shared : (f : Forest) (s : IsStore f) (arena : Arena) (rows : Rows Row) (v k : ℕ) (pair : Pair) (koid : Koid) (first seen count : ℕ) (h : HasNode f v k) →
     HasShared f.arena arena f.rows rows k pair koid first seen count → (next : ℕ) (old new : JumpTable) → AreJumps (tree f) next old →
-    AreMovedUp old new k pair.hidden.0 pair.child.0 → AreJumps (tree_of arena rows) next new
+    AreMovedUp old new k pair.hidden.0 pair.child.0 next → AreJumps (tree_of arena rows) (next + 1) new
 jumps-shared f s arena rows v k pair koid first seen count h shared next old new are moved =
     let visible = node-visible f s v k h in
     let nodes = shared.nodes h.node h.is.at in
@@ -234,4 +264,110 @@ jumps-shared f s arena rows v k pair koid first seen count h shared next old new
     (record { at = leaf.at; koid = subst IsSome (sym leaf.koid) visible.koid })
     (subst (λ (slots : Slots). KeepsBare (slots_of f.rows) slots leaf.after.list.0) (sym (shared.slots h.node h.is.at))
     (split-bare (slots_of f.rows) h.node.list.0 first seen leaf.after.list.0))
-    next new (jumps-alike _ _ next new same pairs)
+    (next + 1) new (jumps-alike _ _ (next + 1) new same pairs)
+
+-- ---- a VMO changes its page count
+
+module _ (f : Forest) (s : IsStore f) (arena : Arena) (rows : Rows Row) (pool : Pool) (v k count : ℕ) (h : HasNode f v k)
+    (shrunk : HasShrunk f.arena arena f.rows rows f.pool pool k count) where
+  abbrev mid : Tree
+  mid = tree_with (nodes_of f.arena) f.arena.lists (slots_of rows)
+
+  visible : IsVisible (nodes_of f.arena) k h.node
+  visible = node-visible f s v k h
+
+  nodes : nodes_of arena ≡ with_key (nodes_of f.arena) k (with_count h.node count)
+  nodes = shrunk.nodes h.node h.is.at
+
+  change : IsChangeOf (nodes_of f.arena) (nodes_of arena) k
+  change = subst (λ (n : Nodes). IsChangeOf (nodes_of f.arena) n k) (sym nodes) (leaf-changed (nodes_of f.arena) k h.node (with_count h.node count) visible)
+
+  now_at : nodes_of arena k ≡ Some (with_count h.node count)
+  now_at = ap (λ (n : Nodes). n k) nodes ∙ with_key-same (nodes_of f.arena) k (with_count h.node count)
+
+  node-was : (j : ℕ) (node : Node) → j ≢ k → nodes_of arena j ≡ Some node → nodes_of f.arena j ≡ Some node
+  node-was j node apart at = sym (ap (λ (n : Nodes). n j) nodes ∙ with_key-other (nodes_of f.arena) k (with_count h.node count) j apart) ∙ at
+
+  still-there : (j : ℕ) → IsSome (nodes_of f.arena j) → IsSome (nodes_of arena j)
+  still-there j some = elim (cases_eq j k) [
+    | inl here ↦ subst (λ i. IsSome (nodes_of arena i)) (sym here) (ap is_some now_at)
+    | inr apart ↦ let it = some_is (nodes_of f.arena j) some in ap is_some (change.stay j it.0 it.1 apart)
+  ]
+
+  bare : (j : ℕ) (jump : Jump) → IsJump (tree f) j jump → IsJump mid j jump
+  bare j jump = jump-bare (tree f) s.exact.forest (slots_of rows) k h.node visible (bare-part (slots_of f.rows) (slots_of rows) h.node.list.0 shrunk.part) j jump
+
+  -- of the node itself, at the pages of the window that it has now
+  own : (jump : Jump) → IsJump mid k jump → IsJump (tree_of arena rows) k jump
+  own jump mine = record {
+    there = λ node at some.
+        let seen = ap (λ (n : Node). n.seen) (some_same (sym at ∙ now_at)) in
+        still-there jump.to.0 (mine.there h.node h.is.at (omega arith));
+    rises = λ p node at inside below clear.
+        let seen = ap (λ (n : Node). n.seen) (some_same (sym at ∙ now_at)) in
+        rises-changed mid (nodes_of arena) arena.lists k s.exact.forest shrunk.exact.forest change p jump.side jump.to.0 (p + jump.shift)
+        h.node (with_count h.node count) h.is.at now_at refl (rw (eqb_apart (min h.node.seen count) 0 (λ none. absurd (omega arith))) refl) (omega arith)
+        (mine.rises p h.node h.is.at (omega arith) below clear);
+  }
+
+  other : (j : ℕ) (jump : Jump) → j ≢ k → IsJump mid j jump → IsJump (tree_of arena rows) j jump
+  other j jump apart mine = record {
+    there = λ node at some. still-there jump.to.0 (mine.there node (node-was j node apart at) some);
+    rises = λ p node at inside below clear.
+        rises-stays mid (nodes_of arena) arena.lists k s.exact.forest shrunk.exact.forest change j p jump.side jump.to.0 (p + jump.shift) apart
+        (mine.rises p node (node-was j node apart at) inside below clear);
+  }
+
+  pub jumps-resized : (next : ℕ) (table : JumpTable) → AreJumps (tree f) next table → AreJumps (tree_of arena rows) next table
+  jumps-resized next table are = record {
+    jumps = λ j jump has taken. elim (cases_eq j k) [
+      | inl here ↦
+          subst (λ i. IsJump (tree_of arena rows) i jump) (sym here)
+          (own jump (subst (λ i. IsJump mid i jump) here (bare j jump (are.jumps j jump has taken))))
+      | inr apart ↦ other j jump apart (bare j jump (are.jumps j jump has taken))
+    ];
+    made = are.made;
+    serials = are.serials;
+  }
+
+-- ---- a VMO closes
+
+pub jumps-closed : (t u : Tree) (next v : ℕ) (old new : JumpTable) → AreJumps t next old → ArePairRetired t.nodes old new v → KeepsRises t u v →
+    ((k : ℕ) (now : Node) → u.nodes k ≡ Some now → (node : Node) × (t.nodes k ≡ Some node)) → AreJumps u next new
+jumps-closed t u next v old new are retired keeps came = record {
+  jumps = λ k jump has taken. jump-closed k jump taken (are.jumps k jump (sym (retired.jumps k) ∙ has) (taken-was jump taken));
+  made = λ k jump has. are.made k jump (sym (retired.jumps k) ∙ has);
+  serials = λ k. less k (retired.others k);
+}
+  where
+    less : (k : ℕ) → (serial_in new k ≡ serial_in old k) ⊎ (serial_in new k ≡ 0) → serial_in new k < next
+    less k (inl same) = let was = are.serials k in omega arith
+    less k (inr none) = let was = are.serials k in omega arith
+
+    -- a jump that is to be taken leads to a node that stays
+    numbered : (jump : Jump) → IsTaken new jump → (k : ℕ) → jump.to.0 ≡ k → serial_in new k ≡ 0 → ⊥
+    numbered jump taken k here none = let some = taken.some in let same = taken.same in let at = ap (serial_in new) here in absurd (omega arith)
+
+    taken-was : (jump : Jump) → IsTaken new jump → IsTaken old jump
+    taken-was jump taken = elim (retired.others jump.to.0) [
+      | inl same ↦ record { some = taken.some; same = sym same ∙ taken.same }
+      | inr none ↦ absurd (numbered jump taken jump.to.0 refl none)
+    ]
+
+    stays : (jump : Jump) → IsTaken new jump → IsSome (t.nodes jump.to.0) → IsSome (u.nodes jump.to.0)
+    stays jump taken some =
+        let it = some_is (t.nodes jump.to.0) some in
+        keeps.stays jump.to.0 it.0 it.1 (λ same. numbered jump taken v same retired.leaf) (λ child. numbered jump taken jump.to.0 refl (retired.parent jump.to.0 child))
+
+    jump-closed : (k : ℕ) (jump : Jump) → IsTaken new jump → IsJump t k jump → IsJump u k jump
+    jump-closed k jump taken is = record {
+      there = λ now at some.
+          let node = came k now at in
+          let seen = keeps.seen k node.0 now node.1 at in
+          stays jump taken (is.there node.0 node.1 (omega arith));
+      rises = λ p now at inside below clear.
+          let node = came k now at in
+          let seen = keeps.seen k node.0 now node.1 at in
+          keeps.rises k p jump.side jump.to.0 (p + jump.shift) (ap is_some at) (stays jump taken (is.there node.0 node.1 (omega arith)))
+          (is.rises p node.0 node.1 (omega arith) below clear);
+    }

@@ -22,7 +22,7 @@ use Rattle.cow_split.proofs.OthersLaws.{reach-joined}
 use Rattle.cow_forest.specs.declared.jumps.Jump.{Jump}
 use Rattle.cow_forest.specs.declared.jumps.Place.{Place}
 use Rattle.cow_forest.specs.declared.jumps.JumpTable.{JumpTable}
-use Rattle.cow_forest.specs.Jumps.{jump_in, IsJump, AreJumps, IsServed, IsGiven}
+use Rattle.cow_forest.specs.Jumps.{jump_in, serial_in, IsTaken, IsJump, AreJumps, IsNewJump, IsServed, IsGiven}
 
 -- what is not clear of two words is not clear of either
 either-clear : (a b i : ℕ) → bit_at (bit_or a b) i ≡ 0 → (bit_at a i ≡ 0) × (bit_at b i ≡ 0)
@@ -157,19 +157,24 @@ module _ (t : Tree) (f : IsForest t.nodes t.lists) where
 
 -- ---- the table
 
+-- a jump that is to be taken was, where the serial numbers are the same
+taken-same : (old new : JumpTable) (jump : Jump) → ((k : ℕ) → serial_in new k ≡ serial_in old k) → IsTaken new jump → IsTaken old jump
+taken-same old new jump serials taken = record { some = taken.some; same = sym (serials jump.to.0) ∙ taken.same }
+
 -- a node gets a jump that is one of its own
 pub given-jumps : (t : Tree) (next k : ℕ) (jump : Option Jump) (old new : JumpTable) → AreJumps t next old → IsGiven new k jump →
-    ((j : ℕ) → j ≢ k → jump_in new j ≡ jump_in old j) → new.floor ≡ old.floor →
-    ((one : Jump) → jump ≡ Some one → IsJump t k one × (one.made < next)) → AreJumps t next new
-given-jumps t next k jump old new are given others floor right = record {
+    ((j : ℕ) → j ≢ k → jump_in new j ≡ jump_in old j) → ((j : ℕ) → serial_in new j ≡ serial_in old j) →
+    ((one : Jump) → jump ≡ Some one → IsNewJump t old k one) → AreJumps t next new
+given-jumps t next k jump old new are given others serials right = record {
   jumps = λ j one has taken. elim (cases_eq j k) [
-    | inl here ↦ subst (λ i. IsJump t i one) (sym here) (right one (mine j one here has)).0
-    | inr apart ↦ are.jumps j one (sym (others j apart) ∙ has) (let same = floor in omega arith)
+    | inl here ↦ subst (λ i. IsJump t i one) (sym here) (right one (mine j one here has)).is
+    | inr apart ↦ are.jumps j one (sym (others j apart) ∙ has) (taken-same old new one serials taken)
   ];
   made = λ j one has. elim (cases_eq j k) [
-    | inl here ↦ (right one (mine j one here has)).1
+    | inl here ↦ (right one (mine j one here has)).serial next are
     | inr apart ↦ are.made j one (sym (others j apart) ∙ has)
   ];
+  serials = λ j. let was = are.serials j in let same = serials j in omega arith;
 }
   where
     mine : (j : ℕ) (one : Jump) → j ≡ k → jump_in new j ≡ Some one → jump ≡ Some one
@@ -178,39 +183,34 @@ given-jumps t next k jump old new are given others floor right = record {
       | inr none ↦ absurd (let nothing = sym (ap (jump_in new) here ∙ none) ∙ has in cc)
     ]
 
-pub some-jump : (t : Tree) (k koid : ℕ) (jump : Option Jump) → IfSome jump (λ one. IsJump t k one × (one.made ≡ koid)) →
-    (one : Jump) → jump ≡ Some one → IsJump t k one × (one.made < koid + 1)
-some-jump t k koid None right one is = absurd (cc)
-some-jump t k koid (Some has) right one is =
-    let same = some_same is in
-    subst (λ (j : Jump). IsJump t k j × (j.made < koid + 1)) same (right.0, omega (arith, right.1))
+pub some-jump : (t : Tree) (table : JumpTable) (k : ℕ) (jump : Option Jump) → IfSome jump (λ one. IsNewJump t table k one) →
+    (one : Jump) → jump ≡ Some one → IsNewJump t table k one
+some-jump t table k None right one is = absurd (cc)
+some-jump t table k (Some has) right one is = subst (IsNewJump t table k) (some_same is) right
 
 -- the koid rises
 pub later-jumps : (t : Tree) (next later : ℕ) (table : JumpTable) → next ≤ later → AreJumps t next table → AreJumps t later table
 later-jumps t next later table less are = record {
   jumps = are.jumps;
   made = λ k jump has. let made = are.made k jump has in omega arith;
+  serials = λ k. let was = are.serials k in omega arith;
 }
 
--- a table with the same jumps, of which no more are to be taken
-pub fewer-jumps : (t : Tree) (next : ℕ) (old new : JumpTable) → ((k : ℕ) → jump_in new k ≡ jump_in old k) → old.floor ≤ new.floor → AreJumps t next old → AreJumps t next new
-fewer-jumps t next old new same floor are = record {
-  jumps = λ k jump has taken. are.jumps k jump (sym (same k) ∙ has) (omega arith);
+-- a table with the same jumps and serial numbers
+pub same-jumps : (t : Tree) (next : ℕ) (old new : JumpTable) → ((k : ℕ) → jump_in new k ≡ jump_in old k) → ((k : ℕ) → serial_in new k ≡ serial_in old k) →
+    AreJumps t next old → AreJumps t next new
+same-jumps t next old new same serials are = record {
+  jumps = λ k jump has taken. are.jumps k jump (sym (same k) ∙ has) (taken-same old new jump serials taken);
   made = λ k jump has. are.made k jump (sym (same k) ∙ has);
-}
-
--- no jump is to be taken
-pub no-jumps : (t u : Tree) (next : ℕ) (old new : JumpTable) → ((k : ℕ) → jump_in new k ≡ jump_in old k) → new.floor ≡ next → AreJumps t next old → AreJumps u next new
-no-jumps t u next old new same floor are = record {
-  jumps = λ k jump has taken. let made = are.made k jump (sym (same k) ∙ has) in absurd (omega arith);
-  made = λ k jump has. are.made k jump (sym (same k) ∙ has);
+  serials = λ k. let was = are.serials k in let now = serials k in omega arith;
 }
 
 -- there are none
-pub empty-jumps : (t : Tree) (next : ℕ) (table : JumpTable) → ((k : ℕ) → jump_in table k ≡ None) → AreJumps t next table
-empty-jumps t next table none = record {
+pub empty-jumps : (t : Tree) (next : ℕ) (table : JumpTable) → 1 ≤ next → ((k : ℕ) → jump_in table k ≡ None) → ((k : ℕ) → serial_in table k ≡ 0) → AreJumps t next table
+empty-jumps t next table some none numbers = record {
   jumps = λ k jump has taken. absurd (let nothing = none k in cc);
   made = λ k jump has. absurd (let nothing = none k in cc);
+  serials = λ k. let is = numbers k in omega arith;
 }
 
 -- ---- a walk by jumps
@@ -234,6 +234,16 @@ pub jump-pushed : (xs ys : List (Option Jump)) (k : ℕ) → ys ≡ xs ++ None �
 jump-pushed xs ys k is = ap (λ zs. slice_index_or zs k None) is ∙ more xs k
   where
     more : (xs : List (Option Jump)) (k : ℕ) → slice_index_or (xs ++ None ∷ []) k None ≡ slice_index_or xs k None
+    more [] zero = refl
+    more [] (suc k) = refl
+    more (x ∷ xs) zero = refl
+    more (x ∷ xs) (suc k) = more xs k
+
+-- a place more, without a serial number
+pub serial-pushed : (xs ys : List ℕ) (k : ℕ) → ys ≡ xs ++ 0 ∷ [] → slice_index_or ys k 0 ≡ slice_index_or xs k 0
+serial-pushed xs ys k is = ap (λ zs. slice_index_or zs k 0) is ∙ more xs k
+  where
+    more : (xs : List ℕ) (k : ℕ) → slice_index_or (xs ++ 0 ∷ []) k 0 ≡ slice_index_or xs k 0
     more [] zero = refl
     more [] (suc k) = refl
     more (x ∷ xs) zero = refl

@@ -13,6 +13,7 @@ use Rattle.vm_model.proofs.ZeroingLaws.{page-zeroed_in, page-zeroed_out}
 use Rattle.frame_pool.specs.Pool.{Pool, frame_bytes, is_taken}
 use Rattle.page_list.specs.declared.row.ListId.{ListId}
 use Rattle.page_list.specs.declared.row.Row.{Row}
+use Rattle.page_list.specs.Lists.{slots_of}
 use Rattle.cow_arena.specs.declared.node.Node.{Node}
 use Rattle.cow_arena.specs.declared.node.NodeId.{NodeId}
 use Rattle.cow_arena.specs.Nodes.{Arena, Nodes, nodes_of, IsVisible}
@@ -25,6 +26,7 @@ use Rattle.cow_split.specs.Trees.{tree_of}
 use Rattle.cow_split.specs.Sight.{IsPage}
 use Rattle.cow_split.specs.Exact.{IsExact, all_in_sight}
 use Rattle.cow_split.proofs.RowLaws.{frame-in_use}
+use Rattle.cow_split.proofs.PartLaws.{part-same}
 use Rattle.cow_merge.specs.Ranges.{GivesBack}
 use Rattle.cow_merge.specs.Merging.{with_count, HasShrunk}
 use Rattle.cow_merge.proofs.CountLaws.{walk-grown, exact-grown}
@@ -96,6 +98,7 @@ shrunk-grown old new rows pool k count node exact visible more nodes lists hidde
       linked = λ linked. linked;
       spare = omega arith;
       fewer = omega arith;
+      part = part-same (slots_of rows);
     }
 
 -- ---- the forest

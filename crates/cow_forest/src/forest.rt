@@ -20,7 +20,7 @@ ghost use Rattle.cow_forest.specs.Owning.{HasOwnRow};
 ghost use Rattle.cow_forest.specs.Counting.{frame_row_count};
 ghost use Rattle.cow_forest.specs.Ranges.{rows_reached};
 
-use crate::jumping::note_pair;
+use crate::jumping::{note_pair, retire_pair};
 use crate::jumps::JumpTable;
 use crate::looking::{look_at, look_at_counted, next_shown};
 use crate::node_table::NodeTable;
@@ -236,16 +236,9 @@ impl PageStore for CowForest {
             seen,
             count,
         )?;
-        self.jumps.move_up(node, pair.hidden, pair.child);
         self.jumps.grow(self.arena.capacity());
-        note_pair(
-            &mut self.jumps,
-            &self.arena,
-            &self.lists,
-            node,
-            pair,
-            koid.0,
-        );
+        self.jumps.move_up(node, pair.hidden, pair.child, koid.0);
+        note_pair(&mut self.jumps, &self.arena, &self.lists, node, pair.child);
         self.nodes.enter(koid.0, pair.child);
         self.owners
             .enter(self.arena.node(pair.hidden).list.0, pair.hidden);
@@ -316,7 +309,6 @@ impl PageStore for CowForest {
         ensures rows { row_count self.new.rows ≤ row_count self.old.rows }
     {
         let node = self.nodes.get(v.0);
-        self.jumps.forget(self.next);
         if count < self.arena.node(node).count {
             shrink(
                 &mut self.arena,
@@ -336,7 +328,7 @@ impl PageStore for CowForest {
         ensures rows { row_count self.new.rows ≤ row_count self.old.rows }
     {
         let node = self.nodes.get(v.0);
-        self.jumps.forget(self.next);
+        retire_pair(&mut self.jumps, &self.arena, node);
         let merged = disown(&mut self.owners, &self.arena, node);
         close(&mut self.arena, &mut self.lists, &mut self.frames, node);
         leave_other(&mut self.owners, &self.arena, merged);

@@ -10,10 +10,10 @@ ghost use Rattle.cow_arena.specs.Ways.{Rises};
 ghost use Rattle.cow_arena.specs.Forest.{IsForest};
 ghost use Rattle.cow_split.specs.Trees.{tree_of, holder_of};
 ghost use Rattle.cow_split.specs.Cost.{IsMostOfLookUp, depth};
-ghost use Rattle.cow_forest.specs.Jumps.{IsJump, AreJumps};
+ghost use Rattle.cow_forest.specs.Jumps.{IsJump, AreJumps, IsNewJump, ArePairRetired};
 
 use crate::jumps::{Jump, JumpTable, Place};
-use cow_arena::{CowArena, NodeId, Pair};
+use cow_arena::{CowArena, NodeId};
 use cow_split::Holder;
 use page_list::{PageLists, Steps};
 use std::marker::Brand;
@@ -168,54 +168,59 @@ fn next_place(
     })
 }
 
-/// Notes the jumps after a snapshot with this koid: the hidden node has that of the node of which the snapshot was made, and the
-/// two nodes below it get new ones.
+/// Gives the two nodes below the hidden node of a snapshot their jumps.
 pub(crate) fn note_pair(
     jumps: &mut JumpTable,
     arena: &CowArena,
     lists: &PageLists,
     leaf: NodeId,
-    pair: Pair,
-    koid: u64,
+    child: NodeId,
 )
     requires forest { IsForest (nodes_of arena.now) arena.now.lists }
     requires leaf { IsSome (nodes_of arena.now leaf.0) }
-    requires child { IsSome (nodes_of arena.now pair.child.0) }
-    requires jumps { AreJumps (tree_of arena.now lists.now) koid jumps.old }
-    ensures { AreJumps (tree_of arena.now lists.now) (koid + 1) jumps.new }
+    requires child { IsSome (nodes_of arena.now child.0) }
+    requires jumps { (next : ℕ) × AreJumps (tree_of arena.now lists.now) next jumps.old }
+    ensures { (next : ℕ) → AreJumps (tree_of arena.now lists.now) next jumps.old →
+        AreJumps (tree_of arena.now lists.now) next jumps.new }
 {
-    note_jump(jumps, arena, lists, leaf, koid);
-    note_jump(jumps, arena, lists, pair.child, koid);
+    note_jump(jumps, arena, lists, leaf);
+    note_jump(jumps, arena, lists, child);
+}
+
+/// Lets no jump to a node that goes be taken any more, nor to its parent, which goes with it.
+pub(crate) fn retire_pair(jumps: &mut JumpTable, arena: &CowArena, leaf: NodeId)
+    requires { IsSome (nodes_of arena.now leaf.0) }
+    ensures { ArePairRetired (nodes_of arena.now) jumps.old jumps.new leaf.0 }
+{
+    jumps.retire(leaf);
+    if let Some(parent) = arena.look(leaf).parent {
+        jumps.retire(parent);
+    }
 }
 
 /// Gives a node a new jump, if one can be made.
-fn note_jump(jumps: &mut JumpTable, arena: &CowArena, lists: &PageLists, at: NodeId, koid: u64)
+fn note_jump(jumps: &mut JumpTable, arena: &CowArena, lists: &PageLists, at: NodeId)
     requires forest { IsForest (nodes_of arena.now) arena.now.lists }
     requires node { IsSome (nodes_of arena.now at.0) }
-    requires jumps { AreJumps (tree_of arena.now lists.now) (koid + 1) jumps.old }
-    ensures { AreJumps (tree_of arena.now lists.now) (koid + 1) jumps.new }
+    requires jumps { (next : ℕ) × AreJumps (tree_of arena.now lists.now) next jumps.old }
+    ensures { (next : ℕ) → AreJumps (tree_of arena.now lists.now) next jumps.old →
+        AreJumps (tree_of arena.now lists.now) next jumps.new }
 {
-    let jump = far_jump(arena, lists, jumps, at, koid);
+    let jump = far_jump(arena, lists, jumps, at);
     jumps.set(at, jump);
 }
 
 /// The jump that a node is to have: as far as the jump or step of its parent and the jump or step from there lead, where these
 /// two lead over as many nodes. So from a node with n nodes above it, a walk comes to its root by O(log n) jumps and steps.
-fn far_jump(
-    arena: &CowArena,
-    lists: &PageLists,
-    jumps: &JumpTable,
-    at: NodeId,
-    koid: u64,
-) -> Option<Jump>
+fn far_jump(arena: &CowArena, lists: &PageLists, jumps: &JumpTable, at: NodeId) -> Option<Jump>
     requires forest { IsForest (nodes_of arena.now) arena.now.lists }
     requires node { IsSome (nodes_of arena.now at.0) }
-    requires jumps { AreJumps (tree_of arena.now lists.now) (koid + 1) jumps.now }
-    ensures { IfSome result (λ jump. IsJump (tree_of arena.now lists.now) at.0 jump × (jump.made ≡ koid)) }
+    requires jumps { (next : ℕ) × AreJumps (tree_of arena.now lists.now) next jumps.now }
+    ensures { IfSome result (λ jump. IsNewJump (tree_of arena.now lists.now) jumps.now at.0 jump) }
 {
-    let step = step_of(arena, lists, at, koid)?;
-    let near = jump_of(arena, lists, jumps, step.to, koid)?;
-    let far = jump_of(arena, lists, jumps, near.to, koid)?;
+    let step = step_of(arena, lists, jumps, at)?;
+    let near = jump_of(arena, lists, jumps, step.to)?;
+    let far = jump_of(arena, lists, jumps, near.to)?;
     if near.over != far.over {
         return None;
     }
@@ -224,33 +229,26 @@ fn far_jump(
 }
 
 /// The jump of a node that sees some page, or else its step.
-fn jump_of(
-    arena: &CowArena,
-    lists: &PageLists,
-    jumps: &JumpTable,
-    at: NodeId,
-    koid: u64,
-) -> Option<Jump>
+fn jump_of(arena: &CowArena, lists: &PageLists, jumps: &JumpTable, at: NodeId) -> Option<Jump>
     requires forest { IsForest (nodes_of arena.now) arena.now.lists }
     requires node { IsSome (nodes_of arena.now at.0) }
-    requires jumps { AreJumps (tree_of arena.now lists.now) (koid + 1) jumps.now }
-    ensures { IfSome result (λ jump. IsJump (tree_of arena.now lists.now) at.0 jump × IsSome (nodes_of arena.now jump.to.0)) }
+    requires jumps { (next : ℕ) × AreJumps (tree_of arena.now lists.now) next jumps.now }
+    ensures { IfSome result (λ jump. IsNewJump (tree_of arena.now lists.now) jumps.now at.0 jump × IsSome (nodes_of arena.now jump.to.0)) }
 {
     if arena.look(at).seen == 0 {
         return None;
     }
     match jumps.get(at) {
         Some(jump) => Some(jump),
-        None => step_of(arena, lists, at, koid),
+        None => step_of(arena, lists, jumps, at),
     }
 }
 
 /// The step from a node to its parent, as a jump over one node. `None` where the node has no parent.
-fn step_of(arena: &CowArena, lists: &PageLists, at: NodeId, koid: u64) -> Option<Jump>
+fn step_of(arena: &CowArena, lists: &PageLists, jumps: &JumpTable, at: NodeId) -> Option<Jump>
     requires forest { IsForest (nodes_of arena.now) arena.now.lists }
     requires node { IsSome (nodes_of arena.now at.0) }
-    ensures { IfSome result (λ jump. IsJump (tree_of arena.now lists.now) at.0 jump × IsSome (nodes_of arena.now jump.to.0)
-        × (jump.made ≡ koid)) }
+    ensures { IfSome result (λ jump. IsNewJump (tree_of arena.now lists.now) jumps.now at.0 jump × IsSome (nodes_of arena.now jump.to.0)) }
 {
     let node = arena.look(at);
     let parent = node.parent?;
@@ -261,7 +259,7 @@ fn step_of(arena: &CowArena, lists: &PageLists, at: NodeId, koid: u64) -> Option
         end: node.seen,
         barred: 0,
         over: 1,
-        made: koid,
+        serial: jumps.serial(parent),
     })
 }
 
@@ -272,7 +270,7 @@ fn joined(arena: &CowArena, lists: &PageLists, at: NodeId, jump: Jump, next: Jum
     requires jump { IsJump (tree_of arena.now lists.now) at.0 jump }
     requires next { IsJump (tree_of arena.now lists.now) jump.to.0 next }
     requires to { IsSome (nodes_of arena.now next.to.0) }
-    ensures { IfSome result (λ both. IsJump (tree_of arena.now lists.now) at.0 both × (both.made ≡ jump.made) × (both.to ≡ next.to)) }
+    ensures { IfSome result (λ both. IsJump (tree_of arena.now lists.now) at.0 both × (both.serial ≡ next.serial) × (both.to ≡ next.to)) }
 {
     let node = arena.look(jump.to);
     let end = next.end.min(node.seen).checked_sub(jump.shift)?;
@@ -284,7 +282,7 @@ fn joined(arena: &CowArena, lists: &PageLists, at: NodeId, jump: Jump, next: Jum
         end: end.min(jump.end),
         barred: jump.barred | turned(barred, jump.shift),
         over: jump.over.checked_add(next.over)?,
-        made: jump.made,
+        serial: next.serial,
     })
 }
 

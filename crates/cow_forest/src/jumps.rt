@@ -1,8 +1,7 @@
 //! The table of jumps: ways upwards in the clone tree over many nodes at once.
 
-ghost use Rattle.std.specs.Prelude.{◌≡◌, ◌≢◌, ◌⊎◌, ◌≤◌, ◌<◌, ℕ, ◌+◌, ◌%◌, None, Some, IfSome};
-ghost use Rattle.std.specs.Int.{bit_at};
-ghost use Rattle.cow_forest.specs.Jumps.{jump_in, IsServed, AreMovedUp};
+ghost use Rattle.std.specs.Prelude.{◌≡◌, ◌≢◌, ◌⊎◌, ℕ, None, Some, IfSome};
+ghost use Rattle.cow_forest.specs.Jumps.{jump_in, serial_in, IsTaken, IsServed, IsGiven, AreMovedUp, AreRetired};
 
 use cow_arena::{NodeId, Side};
 use std::alloc::Global;
@@ -24,8 +23,8 @@ pub(crate) struct Jump {
     pub(crate) barred: u64,
     /// How many nodes further up it leads.
     pub(crate) over: u64,
-    /// The koid of the snapshot at which it was made.
-    pub(crate) made: u64,
+    /// The serial number of the node to which it leads.
+    pub(crate) serial: u64,
 }
 
 /// Where a way upwards comes to.
@@ -36,39 +35,54 @@ pub(crate) struct Place {
     pub(crate) side: Side,
 }
 
-/// The jump of each node, if it has one. A jump says nothing that the tree does not say: a walk may take it in place of its
-/// steps. No call but `grow` asks the host for memory, and none fails.
+/// The jump of each node, if it has one, and the serial number of each hidden node: the koid of the snapshot at which it was made.
+/// A jump says nothing that the tree does not say: a walk may take it in place of its steps. A jump to a node that is gone is not
+/// taken, nor is one to a later node of the same number. No call but `grow` asks the host for memory, and none fails.
 #[derive(Drop)]
 pub(crate) struct JumpTable {
     /// By the number of the node. A node past the last has no jump.
     entries: Vec<Option<Jump>>,
-    /// The jumps that were made at the snapshots of lesser koids are no longer taken.
-    floor: u64,
+    /// By the number of the node. It is 0 where the node is gone or not hidden, and so is that of a node past the last.
+    serials: Vec<u64>,
 }
 
 impl JumpTable {
     /// No node has a jump. It takes no memory.
     pub(crate) fn new(alloc: Global) -> JumpTable
-        ensures { (k : ℕ) → jump_in result k ≡ None }
+        ensures jumps { (k : ℕ) → jump_in result k ≡ None }
+        ensures serials { (k : ℕ) → serial_in result k ≡ 0 }
     {
         JumpTable {
             entries: Vec::new(alloc),
-            floor: 0,
+            serials: Vec::new(alloc),
         }
     }
 
-    /// The jump of a node, if it has one that is to be taken.
+    /// The serial number of a node. 0 where it has none.
+    #[inline(always)]
+    pub(crate) fn serial(&self, at: NodeId) -> u64
+        ensures { result ≡ serial_in self.now at.0 }
+    {
+        if at.0 < self.serials.len() {
+            self.serials[at.0]
+        } else {
+            0
+        }
+    }
+
+    /// The jump of a node, if it has one that is to be taken: the node to which it leads is still there.
     #[inline(always)]
     pub(crate) fn get(&self, at: NodeId) -> Option<Jump>
-        ensures { IfSome result (λ jump. (jump_in self.now at.0 ≡ Some jump) × (self.now.floor ≤ jump.made)) }
+        ensures { IfSome result (λ jump. (jump_in self.now at.0 ≡ Some jump) × IsTaken self.now jump) }
     {
         if self.entries.len() <= at.0 {
             return None;
         }
-        match self.entries[at.0] {
-            Some(jump) if self.floor <= jump.made => Some(jump),
-            _ => None,
+        let jump = self.entries[at.0]?;
+        if jump.serial == 0 || jump.serial != self.serial(jump.to) {
+            return None;
         }
+        Some(jump)
     }
 
     /// Where the jump of a node leads from a page, if the node has one that serves the page.
@@ -90,32 +104,59 @@ impl JumpTable {
 
     /// Gives a node a jump, or none, where there is room for it.
     pub(crate) fn set(&mut self, at: NodeId, jump: Option<Jump>)
-        ensures here { (jump_in self.new at.0 ≡ jump) ⊎ (jump_in self.new at.0 ≡ None) }
+        ensures here { IsGiven self.new at.0 jump }
         ensures others { (k : ℕ) → k ≢ at.0 → jump_in self.new k ≡ jump_in self.old k }
-        ensures floor { self.new.floor ≡ self.old.floor }
+        ensures serials { (k : ℕ) → serial_in self.new k ≡ serial_in self.old k }
     {
         if at.0 < self.entries.len() {
             self.entries[at.0] = jump;
         }
     }
 
-    /// Gives a node the jump of another, which has none then, and neither has a third.
-    pub(crate) fn move_up(&mut self, from: NodeId, to: NodeId, other: NodeId)
+    /// Gives a node a serial number, where there is room for it.
+    fn set_serial(&mut self, at: NodeId, serial: u64)
+        ensures here { (serial_in self.new at.0 ≡ serial) ⊎ (serial_in self.new at.0 ≡ 0) }
+        ensures others { (k : ℕ) → k ≢ at.0 → serial_in self.new k ≡ serial_in self.old k }
+        ensures jumps { (k : ℕ) → jump_in self.new k ≡ jump_in self.old k }
+    {
+        if at.0 < self.serials.len() {
+            self.serials[at.0] = serial;
+        }
+    }
+
+    /// Gives a hidden node, which is new, its serial number and the jump of another, which has none then, and neither has a third.
+    pub(crate) fn move_up(&mut self, from: NodeId, to: NodeId, other: NodeId, serial: u64)
         requires to { to.0 ≢ from.0 }
         requires other { other.0 ≢ to.0 }
-        ensures { AreMovedUp self.old self.new from.0 to.0 other.0 }
+        ensures { AreMovedUp self.old self.new from.0 to.0 other.0 serial }
     {
         let jump = self.get(from);
         self.set(from, None);
         self.set(other, None);
         self.set(to, jump);
+        self.set_serial(to, serial);
     }
 
-    /// Makes room for the jumps of nodes whose numbers are below this. Where the host has too little memory, there is room for
-    /// fewer. No jump changes.
+    /// Lets no jump to a node be taken any more.
+    pub(crate) fn retire(&mut self, at: NodeId)
+        ensures { AreRetired self.old self.new at.0 }
+    {
+        self.set_serial(at, 0);
+    }
+
+    /// Makes room for the jumps and the serial numbers of nodes whose numbers are below this. Where the host has too little memory,
+    /// there is room for fewer. No jump changes.
     pub(crate) fn grow(&mut self, nodes: usize)
         ensures jumps { (k : ℕ) → jump_in self.new k ≡ jump_in self.old k }
-        ensures floor { self.new.floor ≡ self.old.floor }
+        ensures serials { (k : ℕ) → serial_in self.new k ≡ serial_in self.old k }
+    {
+        self.grow_entries(nodes);
+        self.grow_serials(nodes);
+    }
+
+    fn grow_entries(&mut self, nodes: usize)
+        ensures jumps { (k : ℕ) → jump_in self.new k ≡ jump_in self.old k }
+        ensures serials { self.new.serials ≡ self.old.serials }
     {
         while self.entries.len() < nodes {
             let Ok(()) = self.entries.push(None) else {
@@ -124,11 +165,14 @@ impl JumpTable {
         }
     }
 
-    /// Lets no jump be taken that was made at the snapshot of a koid below this.
-    pub(crate) fn forget(&mut self, koid: u64)
-        ensures jumps { (k : ℕ) → jump_in self.new k ≡ jump_in self.old k }
-        ensures floor { self.new.floor ≡ koid }
+    fn grow_serials(&mut self, nodes: usize)
+        ensures entries { self.new.entries ≡ self.old.entries }
+        ensures serials { (k : ℕ) → serial_in self.new k ≡ serial_in self.old k }
     {
-        self.floor = koid;
+        while self.serials.len() < nodes {
+            let Ok(()) = self.serials.push(0) else {
+                return;
+            };
+        }
     }
 }

@@ -1,7 +1,6 @@
 -- The ways upwards stay where a VMO's node goes, alone or with its parent.
-use Rattle.std.proofs.Common.{◌≡◌, ◌≢◌, ℕ, ◌+◌, ◌-◌, min, ◌≤◌, Option, None, Some, IsSome, inl, inr, refl, sym, ap, subst, ◌∙◌, arith}
+use Rattle.std.proofs.Common.{◌≡◌, ◌≢◌, ℕ, ◌≤◌, None, Some, IsSome, inl, inr, sym, ap, subst, ◌∙◌, arith}
 use Rattle.std.specs.Prelude.{is_some}
-use Rattle.std.specs.Option.{option_map}
 use Rattle.std.proofs.lemmas.Bool.{cases_eq}
 use Rattle.balanced_tree.specs.Rows.{Rows}
 use Rattle.vm_base.specs.Entries.{without_key}
@@ -10,15 +9,13 @@ use Rattle.page_list.specs.declared.row.Row.{Row}
 use Rattle.page_list.specs.Lists.{slots_of}
 use Rattle.frame_pool.specs.Pool.{Pool}
 use Rattle.cow_arena.specs.declared.node.Node.{Node}
-use Rattle.cow_arena.specs.declared.node.Side.{Side}
-use Rattle.cow_arena.specs.Nodes.{Arena, Nodes, nodes_of, IsVisible, AreFamily, link_to}
+use Rattle.cow_arena.specs.Nodes.{Arena, Nodes, nodes_of, IsVisible, AreFamily}
 use Rattle.cow_arena.specs.Walk.{Tree, Slots, tree_with}
 use Rattle.cow_arena.specs.Forest.{IsForest, IsChild}
 use Rattle.cow_arena.specs.Changes.{lifted, spliced, spliced_over}
-use Rattle.cow_arena.specs.Renamed.{exchanged, renamed, renamed_node, renamed_nodes}
+use Rattle.cow_arena.specs.Renamed.{exchanged, renamed, renamed_nodes}
 use Rattle.cow_arena.specs.Views.{KeepsRises}
-use Rattle.cow_arena.specs.Ways.{Rises, IsPartOf, KeepsBelow}
-use Rattle.cow_arena.proofs.MovedLaws.{IsChangeOf}
+use Rattle.cow_arena.specs.Ways.{IsPartOf, KeepsBelow}
 use Rattle.cow_arena.proofs.RenamedLaws.{renamed-at, renamed-was}
 use Rattle.cow_arena.proofs.RenamedOverLaws.{tree-over, over-exchange}
 use Rattle.cow_arena.proofs.RisesLaws.{rises-bare, rises-stays}

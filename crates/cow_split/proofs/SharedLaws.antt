@@ -1,6 +1,6 @@
 -- Laws of pages that another VMO shows too: who comes to the page of a leaf's parent to which the leaf comes sees each row
 -- further up that the leaf sees there. So such pages are left out of sight at once, and no row changes.
-use Rattle.std.proofs.Common.{◌≡◌, ℕ, Bool, true, false, None, Some, inl, inr, refl, sym, ap, ◌∙◌, subst, arith}
+use Rattle.std.proofs.Common.{◌≡◌, ℕ, Bool, true, false, None, Some, inl, inr, sym, ap, ◌∙◌, subst, arith}
 use Rattle.std.specs.Prelude.{is_some}
 use Rattle.std.proofs.lemmas.Bool.{cases_Bool}
 use Rattle.vm_base.proofs.EntryLaws.{some_same}

@@ -3,5 +3,8 @@ use Rattle.cow_forest.proofs.jumping.jump_of.Goals as goal
 
 pub returns-in-Some : goal.returns-in-Some
 returns-in-Some c =
-    let is = c.requires.jumps.jumps c.args.at.0 c.in-Some.jump c.in-Some.ensures.0 c.in-Some.ensures.1 in
-    (is, is.there c.look.result.now c.look.ensures (let some = c.if-look-eq0.false in omega arith))
+    let has = c.in-Some.ensures in
+    let is = c.requires.jumps.1.jumps c.args.at.0 c.in-Some.jump has.0 has.1 in (
+      record { is = is; serial = λ next are. are.made c.args.at.0 c.in-Some.jump has.0 },
+      is.there c.look.result.now c.look.ensures (let some = c.if-look-eq0.false in omega arith),
+    )

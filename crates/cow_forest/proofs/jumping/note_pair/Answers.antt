@@ -1,8 +1,7 @@
-use Rattle.std.proofs.Common.{◌+◌, arith}
-use Rattle.cow_split.specs.Trees.{tree_of}
-use Rattle.cow_forest.proofs.JumpLaws.{later-jumps}
 use Rattle.cow_forest.proofs.jumping.note_pair.Goals as goal
 
-pub note_jump-requires-clause-jumps : goal.note_jump-requires-clause-jumps
-note_jump-requires-clause-jumps c =
-    later-jumps (tree_of c.args.arena.now c.args.lists.now) c.args.koid (c.args.koid + 1) c.args.jumps.now (omega arith) c.requires.jumps
+pub note_jump-requires-2-clause-jumps : goal.note_jump-requires-2-clause-jumps
+note_jump-requires-2-clause-jumps c = (c.requires.jumps.0, c.note_jump.ensures c.requires.jumps.0 c.requires.jumps.1)
+
+pub returns : goal.returns
+returns c = λ next are. c.note_jump-2.ensures next (c.note_jump.ensures next are)

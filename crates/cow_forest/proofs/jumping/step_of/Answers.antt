@@ -1,4 +1,4 @@
-use Rattle.std.proofs.Common.{refl, ap}
+use Rattle.std.proofs.Common.{refl, ap, arith}
 use Rattle.std.specs.Prelude.{is_some}
 use Rattle.cow_split.specs.Trees.{tree_of}
 use Rattle.cow_split.proofs.CostLaws.{parent-there}
@@ -10,8 +10,10 @@ look-requires c = parent-there _ _ c.requires.forest _ _ _ c.look-node.ensures c
 
 pub returns : goal.returns
 returns c = (
-  step-jump (tree_of c.args.arena.now c.args.lists.now) c.args.at.0 c.in_ok-parent.parent c.look-node.result.now c.look.result.now c.side_of.result _
-      c.look-node.ensures c.in_ok-parent.was c.look.ensures c.side_of.ensures refl refl refl,
+  record {
+    is = step-jump (tree_of c.args.arena.now c.args.lists.now) c.args.at.0 c.in_ok-parent.parent c.look-node.result.now c.look.result.now c.side_of.result _
+        c.look-node.ensures c.in_ok-parent.was c.look.ensures c.side_of.ensures refl refl refl;
+    serial = λ next are. let is = c.serial.ensures in let was = are.serials c.in_ok-parent.parent.0 in omega arith;
+  },
   ap is_some c.look.ensures,
-  refl,
 )

@@ -1,4 +1,4 @@
-use Rattle.std.proofs.Common.{refl}
+use Rattle.std.proofs.Common.{refl, arith}
 use Rattle.cow_forest.specs.Store.{Forest, tree}
 use Rattle.cow_forest.proofs.EmptyLaws.{HasNothing, store-empty, content-empty}
 use Rattle.cow_forest.proofs.JumpLaws.{empty-jumps}
@@ -31,7 +31,7 @@ nothing-there c = record {
 pub invariant_of-result : goal.invariant_of-result
 invariant_of-result c = record {
   store = store-empty (made c) (nothing-there c);
-  jumps = empty-jumps (tree (made c)) 1 c.new-6.result c.new-6.ensures;
+  jumps = empty-jumps (tree (made c)) 1 c.new-6.result (omega arith) c.new-6.ensures.jumps c.new-6.ensures.serials;
 }
 
 pub returns : goal.returns

@@ -1,4 +1,4 @@
-use Rattle.std.proofs.Common.{◌+◌, ◌≤◌, refl, sym, subst, ◌∙◌, arith}
+use Rattle.std.proofs.Common.{◌+◌, ◌≤◌, ◌<◌, refl, sym, subst, ◌∙◌, arith}
 use Rattle.cow_arena.specs.Nodes.{nodes_of}
 use Rattle.cow_arena.proofs.WalkLaws.{link_same}
 use Rattle.cow_split.specs.Cost.{depth}
@@ -30,8 +30,8 @@ invariant_of-self g c =
     let h = c.self.invariant.store.named c.args.v.0 c.get-node.result c.get-node.ensures in
     record {
       store = store-ranged (forest_of c.self.inside) c.self.invariant.store c.args.v.0 c.get-node.result.0 h _ _ _ _ c.zero_pages.ensures.some;
-      jumps = jumps-places (forest_of c.self.inside) c.self.invariant.store c.zero_pages.new.lists c.args.v.0 c.get-node.result.0 h _
-          c.zero_pages.ensures.some.places c.self.inside.next c.self.inside.jumps c.self.invariant.jumps;
+      jumps = jumps-places (forest_of c.self.inside) c.self.invariant.store c.zero_pages.new.lists c.args.v.0 c.get-node.result.0 h
+          (λ q. (c.args.first ≤ q) × (q < c.args.first + c.args.count)) c.zero_pages.ensures.some.places c.self.inside.next c.self.inside.jumps c.self.invariant.jumps;
     }
 
 pub returns-clause-content : goal.returns-clause-content

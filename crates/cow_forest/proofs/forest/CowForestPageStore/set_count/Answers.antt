@@ -4,10 +4,9 @@ use Rattle.vm_base.proofs.EntryLaws.{some_same}
 use Rattle.cow_arena.specs.declared.node.Node.{Node}
 use Rattle.cow_merge.specs.Merging.{HasShrunk}
 use Rattle.cow_forest.specs.Fields.{forest_of}
-use Rattle.cow_forest.specs.Store.{tree}
 use Rattle.cow_forest.proofs.ContentLaws.{node-visible}
 use Rattle.cow_forest.proofs.ResizingLaws.{shrunk-grown, store-resized, content-resized}
-use Rattle.cow_forest.proofs.JumpLaws.{no-jumps}
+use Rattle.cow_forest.proofs.JumpKeptLaws.{jumps-resized}
 use Rattle.cow_forest.proofs.forest.CowForestPageStore.set_count.Goals as goal
 
 pub shrink-requires-clause-leaf : goal.shrink-requires-clause-leaf
@@ -29,7 +28,7 @@ invariant_of-self c =
     let h = s.named c.args.v.0 c.get-node.result c.get-node.ensures in
     record {
       store = store-resized (forest_of c.self.inside) _ _ _ c.args.v.0 c.get-node.result.0 c.args.count s h c.shrink.ensures c.requires.count;
-      jumps = no-jumps (tree (forest_of c.self.inside)) _ c.self.inside.next c.self.inside.jumps c.forget.new.self c.forget.ensures.jumps c.forget.ensures.floor c.self.invariant.jumps;
+      jumps = jumps-resized (forest_of c.self.inside) s c.shrink.new.arena c.shrink.new.lists c.shrink.new.frames c.args.v.0 c.get-node.result.0 c.args.count h c.shrink.ensures c.self.inside.next c.self.inside.jumps c.self.invariant.jumps;
     }
 
 pub returns-then-count-node-clause-content : goal.returns-then-count-node-clause-content
@@ -53,7 +52,7 @@ invariant_of-self-else-count-node c =
     let h = s.named c.args.v.0 c.get-node.result c.get-node.ensures in
     record {
       store = store-resized (forest_of c.self.inside) _ _ _ c.args.v.0 c.get-node.result.0 c.args.count s h (grown c) c.requires.count;
-      jumps = no-jumps (tree (forest_of c.self.inside)) _ c.self.inside.next c.self.inside.jumps c.forget.new.self c.forget.ensures.jumps c.forget.ensures.floor c.self.invariant.jumps;
+      jumps = jumps-resized (forest_of c.self.inside) s c.set_count.new.self c.self.inside.lists c.self.inside.frames c.args.v.0 c.get-node.result.0 c.args.count h (grown c) c.self.inside.next c.self.inside.jumps c.self.invariant.jumps;
     }
 
 pub returns-else-count-node-clause-content : goal.returns-else-count-node-clause-content

@@ -1,4 +1,4 @@
-use Rattle.std.proofs.Common.{ℕ, Option, refl, sym, ap, ◌∙◌, arith}
+use Rattle.std.proofs.Common.{ℕ, ◌+◌, Option, refl, sym, ap, ◌∙◌, arith}
 use Rattle.std.specs.Prelude.{is_some}
 use Rattle.vm_base.specs.Entries.{with_key}
 use Rattle.cow_arena.specs.declared.node.NodeId.{NodeId}
@@ -7,7 +7,9 @@ use Rattle.cow_arena.specs.Nodes.{nodes_of}
 use Rattle.cow_arena.proofs.ForestLaws.{held_apart}
 use Rattle.cow_split.specs.Trees.{tree_of}
 use Rattle.cow_forest.specs.Fields.{forest_of}
-use Rattle.cow_forest.proofs.JumpLaws.{fewer-jumps}
+use Rattle.cow_forest.specs.Store.{tree}
+use Rattle.cow_forest.specs.Jumps.{AreJumps}
+use Rattle.cow_forest.proofs.JumpLaws.{same-jumps}
 use Rattle.cow_forest.proofs.ContentLaws.{pages-of}
 use Rattle.cow_forest.proofs.EnterLaws.{found-node, store-alike, vmos_le}
 use Rattle.cow_forest.proofs.SnapshotLaws.{hidden-held, leaf-held, HasPair, store-shared, content-shared}
@@ -76,12 +78,21 @@ came c = record {
   below = c.requires.count;
 }
 
+-- the jumps before the two nodes get theirs
+jumps-now : (c : goal.After-self-2-1) → AreJumps (tree_of c.share.new.arena c.share.new.lists) (c.self.inside.next + 1) c.move_up.new.self
+jumps-now c =
+    let h = found-node (forest_of c.self.inside) c.self.invariant.store _ c.make_room.ensures.nodes c.args.of.0 _ c.get-node.ensures in
+    jumps-shared (forest_of c.self.inside) c.self.invariant.store c.share.new.arena c.share.new.lists c.args.of.0 c.get-node.result.0
+    c.in_ok-pair.pair _ _ _ _ h c.in_ok-pair.ensures.ok c.self.inside.next c.grow.new.self c.move_up.new.self
+    (same-jumps (tree (forest_of c.self.inside)) c.self.inside.next c.self.inside.jumps c.grow.new.self c.grow.ensures.jumps c.grow.ensures.serials c.self.invariant.jumps)
+    c.move_up.ensures
+
 pub invariant_of-self-2 : goal.invariant_of-self-2
 invariant_of-self-2 c =
     let h = found-node (forest_of c.self.inside) c.self.invariant.store _ c.make_room.ensures.nodes c.args.of.0 _ c.get-node.ensures in
     record {
       store = store-shared (forest_of c.self.inside) c.self.invariant.store _ _ _ _ c.args.of.0 _ _ _ _ _ h (came c);
-      jumps = c.note_pair.ensures;
+      jumps = c.note_pair.ensures _ (jumps-now c);
     }
 
 pub returns-clause-ok : goal.returns-clause-ok
@@ -116,7 +127,10 @@ note_pair-requires-clause-forest c = (c.in_ok-pair.ensures.ok.exact (is_taken c.
 
 pub note_pair-requires-clause-jumps : goal.note_pair-requires-clause-jumps
 note_pair-requires-clause-jumps c =
-    let h = found-node (forest_of c.self.inside) c.self.invariant.store _ c.make_room.ensures.nodes c.args.of.0 _ c.get-node.ensures in
-    fewer-jumps (tree_of c.share.new.arena c.share.new.lists) c.self.inside.next c.move_up.new.self c.grow.new.self c.grow.ensures.jumps (omega (arith, c.grow.ensures.floor))
-    (jumps-shared (forest_of c.self.inside) c.self.invariant.store c.share.new.arena c.share.new.lists c.args.of.0 c.get-node.result.0 c.in_ok-pair.pair _ _ _ _ h
-    c.in_ok-pair.ensures.ok c.self.inside.next c.self.inside.jumps c.move_up.new.self c.self.invariant.jumps c.move_up.ensures)
+    let h = found-node (forest_of c.self.inside) c.self.invariant.store _ c.make_room.ensures.nodes c.args.of.0 _ c.get-node.ensures in (
+      c.self.inside.next + 1,
+      jumps-shared (forest_of c.self.inside) c.self.invariant.store c.share.new.arena c.share.new.lists c.args.of.0 c.get-node.result.0
+          c.in_ok-pair.pair _ _ _ _ h c.in_ok-pair.ensures.ok c.self.inside.next c.grow.new.self c.move_up.new.self
+          (same-jumps (tree (forest_of c.self.inside)) c.self.inside.next c.self.inside.jumps c.grow.new.self c.grow.ensures.jumps c.grow.ensures.serials c.self.invariant.jumps)
+          c.move_up.ensures,
+    )

@@ -1,3 +1,4 @@
+use Rattle.std.proofs.Common.{◌≡◌}
 use Rattle.cow_forest.specs.Fields.{forest_of}
 use Rattle.cow_forest.proofs.ContentLaws.{page-found, page-at}
 use Rattle.cow_forest.proofs.OwnedLaws.{store-zeroed, content-zero}
@@ -16,7 +17,7 @@ invariant_of-self c =
     record {
       store = store-zeroed (forest_of c.self.inside) c.self.invariant.store c.args.v.0 c.args.page (rw (← c.self.view_is) at c.requires.page) _ c.get-node.ensures _ _ c.mark_zero.ensures;
       jumps = jumps-places (forest_of c.self.inside) c.self.invariant.store c.mark_zero.new.lists c.args.v.0 c.get-node.result.0
-          (c.self.invariant.store.named c.args.v.0 c.get-node.result c.get-node.ensures) _ c.mark_zero.ensures.places c.self.inside.next c.self.inside.jumps c.self.invariant.jumps;
+          (c.self.invariant.store.named c.args.v.0 c.get-node.result c.get-node.ensures) (λ q. q ≡ c.args.page) c.mark_zero.ensures.places c.self.inside.next c.self.inside.jumps c.self.invariant.jumps;
     }
 
 pub returns-clause-zero : goal.returns-clause-zero
