@@ -1,4 +1,4 @@
-use Rattle.std.proofs.Common.{◌+◌, ◌≤◌, ◌<◌, refl, sym, subst, ◌∙◌, arith}
+use Rattle.std.proofs.Common.{◌+◌, ◌≤◌, ◌<◌, inl, inr, refl, sym, subst, ◌∙◌, arith}
 use Rattle.cow_arena.specs.Nodes.{nodes_of}
 use Rattle.cow_arena.proofs.WalkLaws.{link_same}
 use Rattle.cow_split.specs.Cost.{depth}
@@ -31,7 +31,11 @@ invariant_of-self g c =
     record {
       store = store-ranged (forest_of c.self.inside) c.self.invariant.store c.args.v.0 c.get-node.result.0 h _ _ _ _ c.zero_pages.ensures.some;
       jumps = jumps-places (forest_of c.self.inside) c.self.invariant.store c.zero_pages.new.lists c.args.v.0 c.get-node.result.0 h
-          (λ q. (c.args.first ≤ q) × (q < c.args.first + c.args.count)) c.zero_pages.ensures.some.places c.self.inside.next c.self.inside.jumps c.self.invariant.jumps;
+          (λ q. (c.args.first ≤ q) × (q < c.args.first + c.args.count))
+          (λ node at l q some. elim (c.zero_pages.ensures.some.places node at l q some) [
+            | inl had ↦ inl had
+            | inr here ↦ inr (here.0, (here.1, here.2))
+          ]) c.self.inside.next c.self.inside.jumps c.self.invariant.jumps;
     }
 
 pub returns-clause-content : goal.returns-clause-content
