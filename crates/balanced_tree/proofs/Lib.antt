@@ -14,3 +14,4 @@ pub mod GapTrees
 pub mod ApartLaws
 pub mod ListLaws
 pub mod PairLaws
+pub mod Moves

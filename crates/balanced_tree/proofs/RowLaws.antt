@@ -1,16 +1,16 @@
 -- The rows of a tree as a list: what insertion, removal and look-up are of it.
-use Rattle.std.proofs.Common.{◌≡◌, ℕ, ◌+◌, ◌<◌, ◌≤◌, Bool, true, false, not, cond, ltb, leb, eqb, List, [], ◌∷◌, ◌++◌, length, Option, None, Some, refl, sym, ap, ◌∙◌, subst, inl, inr, arith}
-use Rattle.std.specs.List.{filter, find}
+use Rattle.std.proofs.Common.{◌≡◌, ℕ, ◌+◌, ◌<◌, ◌≤◌, Bool, true, false, not, cond, ltb, leb, eqb, List, [], ◌∷◌, ◌++◌, length, Option, None, Some, is_some, refl, sym, ap, ◌∙◌, subst, inl, inr, arith}
+use Rattle.std.specs.List.{filter, find, AllByRecursion}
 use Rattle.std.specs.Option.{option_or}
-use Rattle.std.proofs.lemmas.Bool.{lt-ltb, le-ltb, le-leb, lt-leb, ne_eqb, cond-true, cond-false, cases_order}
+use Rattle.std.proofs.lemmas.Bool.{lt-ltb, le-ltb, le-leb, lt-leb, ne_eqb, cond-true, cond-false, cond_both, cases_order}
 use Rattle.std.proofs.lemmas.List.{append_assoc, append-nil}
 use Rattle.std.proofs.lemmas.Grind.{common_steps}
 use Rattle.std.proofs.lemmas.List.Elements.{filter-append}
 use Rattle.std.proofs.lemmas.List.Folds.{find-append}
 use Rattle.balanced_tree.specs.Row.{Functions, AreLawful, plain}
-use Rattle.balanced_tree.specs.Rows.{if_at, row_at, row_from, row_to, with_row, without_rank, RisesWithin}
-use Rattle.balanced_tree.specs.Tree.{Tree, Leaf, Node, is_leaf, rows_of, IsOrdered, has_rank, row_in, found, inserted, least, without_least, without_root, removed}
-use Rattle.balanced_tree.proofs.TreeLaws.{rows-balanced}
+use Rattle.balanced_tree.specs.Rows.{if_at, row_at, row_from, row_to, with_row, without_rank, IsBeside, AreAllBeside, RisesWithin}
+use Rattle.balanced_tree.specs.Tree.{Tree, Leaf, Node, is_leaf, rows_of, IsOrdered, has_rank, row_in, found, inserted, least, without_least, without_root, removed, moved, AreBeside}
+use Rattle.balanced_tree.proofs.TreeLaws.{rows-balanced, moved-left, moved-right, moved-here, ordered-below, ordered-above}
 
 pub option_or-none : {A : Type 0} (o : Option A) → option_or o None ≡ o
 option_or-none None = refl
@@ -71,6 +71,30 @@ module _ {R : Type 0} (f : Functions R) where
       let from = h.0 in
       ap (λ o. option_or o (cond (leb (f.rank x) n) (Some x) None)) (row_to-behind n (f.rank x + 1) high xs h.1 (omega arith))
       ∙ cond-false (leb (f.rank x) n) (Some x) None (lt-leb (f.rank x) n (omega arith))
+
+  RisesWithin-lower : (low more high : ℕ) (xs : List R) → low ≤ more → RisesWithin f more high xs → RisesWithin f low high xs
+  RisesWithin-lower low more high [] less h = omega arith
+  RisesWithin-lower low more high (x ∷ xs) less h = (omega (arith, h.0), h.1)
+
+  -- rows that are left rise as before
+  pub rises-filter : (keeps : R → Bool) (low high : ℕ) (xs : List R) → RisesWithin f low high xs → RisesWithin f low high (filter keeps xs)
+  rises-filter keeps low high [] h = h
+  rises-filter keeps low high (x ∷ xs) h =
+      let rest = rises-filter keeps (f.rank x + 1) high xs h.1 in
+      cond_both (keeps x) (x ∷ filter keeps xs) (filter keeps xs) (RisesWithin f low high)
+      (λ _. (h.0, rest)) (λ _. RisesWithin-lower low (f.rank x + 1) high (filter keeps xs) (omega (arith, h.0)) rest)
+
+  below-left : (n : ℕ) (xs : List R) → filter (λ y. ltb (f.rank y) n) (filter (λ y. not (eqb (f.rank y) n)) xs) ≡ filter (λ y. ltb (f.rank y) n) xs
+  below-left n [] = refl
+  below-left n (x ∷ xs) = grind (arith, common_steps, below-left n xs)
+
+  above-left : (n : ℕ) (xs : List R) → filter (λ y. ltb n (f.rank y)) (filter (λ y. not (eqb (f.rank y) n)) xs) ≡ filter (λ y. ltb n (f.rank y)) xs
+  above-left n [] = refl
+  above-left n (x ∷ xs) = grind (arith, common_steps, above-left n xs)
+
+  -- a row comes in place of the one of its rank, also where that one went before
+  pub with_row-without : (x : R) (rows : List R) → with_row f x (without_rank f (f.rank x) rows) ≡ with_row f x rows
+  with_row-without x rows = rw (below-left (f.rank x) rows, above-left (f.rank x) rows) refl
 
   below : R → R → Bool
   below x y = ltb (f.rank y) (f.rank x)
@@ -217,6 +241,65 @@ module _ {R : Type 0} (f : Functions R) where
         let right = without_rank-right n (plain f x) low high (rows_of f l) (rows_of f r) s.left s.right in
         let root = rows-without_root l p x r in
         grind (arith, common_steps, rank-plain, rows-balanced f, rows-removed n low (f.rank x) l h.0, rows-removed n (f.rank x + 1) high r h.1)
+
+    -- a row between others
+    with_row-between : (w : R) (low high : ℕ) (xs ys : List R) → RisesWithin f low (f.rank w) xs → RisesWithin f (f.rank w + 1) high ys → with_row f w (xs ++ ys) ≡ xs ++ w ∷ ys
+    with_row-between w low high xs ys left right =
+        ap (with_row f w) (sym (without_rank-here (f.rank w) w low high xs ys left right refl))
+        ∙ (with_row-without w (xs ++ w ∷ ys) ∙ with_row-here w w low high xs ys left right refl)
+
+    -- a row comes in place of one of another rank, and no other lies between
+    pub rows-moved : (n : ℕ) (w : R) (low high : ℕ) (t : Tree R) → IsOrdered f low high t → AreBeside f n (f.rank w) t → low ≤ f.rank w → f.rank w < high → has_rank f n t ≡ true
+        → rows_of f (moved f n w t) ≡ with_row f (plain f w) (without_rank f n (rows_of f t))
+    rows-moved n w low high Leaf o b g h there = absurd cc
+    rows-moved n w low high (Node l p x r) o b g h there =
+        let s = sides low high l p x r o in
+        let ex = rank-plain x in
+        let ew = rank-plain w in
+        let xs = rows_of f l in
+        let ys = rows_of f r in
+        elim (cases_order n (f.rank x)) [
+          | inl same ↦
+              let lower : RisesWithin f low (f.rank (plain f w)) xs = subst (λ k. RisesWithin f low k (rows_of f l)) (sym ew) (rises-rows low (f.rank w) l (ordered-below f n (f.rank w) low (f.rank x) l o.0 b.1 (omega arith) g)) in
+              let upper : RisesWithin f (f.rank (plain f w) + 1) high ys = subst (λ k. RisesWithin f (k + 1) high (rows_of f r)) (sym ew) (rises-rows (f.rank w + 1) high r (ordered-above f n (f.rank w) (f.rank x + 1) high r o.1 b.2 (omega arith) h)) in
+              ap (rows_of f) (moved-here f n w l p x r same)
+              ∙ sym (ap (with_row f (plain f w)) (without_rank-here n (plain f x) low high xs ys s.left s.right (omega arith))
+              ∙ with_row-between (plain f w) low high xs ys lower upper)
+          | inr (inl less) ↦
+              let inside : has_rank f n l ≡ true = sym (ap is_some (cond-true (ltb n (f.rank x)) _ _ (lt-ltb n (f.rank x) less))) ∙ there in
+              let before = b.0.1 less in
+              ap (rows_of f) (moved-left f n w l p x r less)
+              ∙ (ap (λ u. u ++ plain f x ∷ rows_of f r) (rows-moved n w low (f.rank x) l o.0 b.1 g before inside)
+              ∙ sym (ap (with_row f (plain f w)) (without_rank-left n (plain f x) low high xs ys s.left s.right (omega arith))
+              ∙ with_row-left (plain f w) (plain f x) low high (without_rank f n xs) ys (rises-filter _ low (f.rank (plain f x)) xs s.left) s.right (omega arith)))
+          | inr (inr more) ↦
+              let inside : has_rank f n r ≡ true = sym (ap is_some (cond-false (ltb n (f.rank x)) _ _ (le-ltb n (f.rank x) (omega arith)) ∙ cond-true (ltb (f.rank x) n) _ _ (lt-ltb (f.rank x) n more))) ∙ there in
+              let behind = b.0.0 more in
+              ap (rows_of f) (moved-right f n w l p x r more)
+              ∙ (ap (λ u. rows_of f l ++ plain f x ∷ u) (rows-moved n w (f.rank x + 1) high r o.1 b.2 (omega arith) h inside)
+              ∙ sym (ap (with_row f (plain f w)) (without_rank-right n (plain f x) low high xs ys s.left s.right (omega arith))
+              ∙ with_row-right (plain f w) (plain f x) low high xs (without_rank f n ys) s.left (rises-filter _ (f.rank (plain f x) + 1) high ys s.right) (omega arith)))
+        ]
+
+    all-parts : (P : R → Type 0) (xs : List R) (y : R) (ys : List R) → AllByRecursion P (xs ++ y ∷ ys) → AllByRecursion P xs × P y × AllByRecursion P ys
+    all-parts P [] y ys h = (tt, h.0, h.1)
+    all-parts P (x ∷ xs) y ys h = let rest = all-parts P xs y ys h.1 in ((h.0, rest.0), rest.1, rest.2)
+
+    -- a rank is beside itself
+    pub beside-itself : (n : ℕ) (rows : List R) → AreAllBeside f n n rows
+    beside-itself n [] = tt
+    beside-itself n (x ∷ rows) = ((λ less. less, λ more. more), beside-itself n rows)
+
+    -- a row comes in place of the one of its rank
+    pub with_row-again : (x : R) (rows : List R) → with_row f (plain f x) (without_rank f (f.rank x) rows) ≡ with_row f (plain f x) rows
+    with_row-again x rows = ap (λ k. with_row f (plain f x) (without_rank f k rows)) (sym (rank-plain x)) ∙ with_row-without (plain f x) rows
+
+    -- the same is said of the rows and of the tree
+    pub beside-rows : (n m : ℕ) (t : Tree R) → AreAllBeside f n m (rows_of f t) → AreBeside f n m t
+    beside-rows n m Leaf h = tt
+    beside-rows n m (Node l p x r) h =
+        let parts = all-parts (IsBeside f n m) (rows_of f l) (plain f x) (rows_of f r) h in
+        (subst (λ k. (k < n → k < m) × (n < k → m < k)) (rank-plain x) parts.1, beside-rows n m l parts.0, beside-rows n m r parts.2)
 
     -- what the way down finds
     pub found-row_from : (n : ℕ) (best : Option R) (low high : ℕ) (t : Tree R) → IsOrdered f low high t → found f false n best t ≡ option_or (row_from f n (rows_of f t)) best

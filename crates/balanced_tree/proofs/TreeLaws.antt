@@ -1,10 +1,11 @@
 -- What insertion and removal make of a tree's rows, heights and balance.
-use Rattle.std.proofs.Common.{◌≡◌, ◌⊎◌, inl, inr, ℕ, ◌+◌, ◌<◌, ◌≤◌, ◌^◌, max, true, cond, ltb, List, ◌∷◌, ◌++◌, refl, arith}
-use Rattle.std.proofs.lemmas.Bool.{ltb-true, ltb-false, cond_both}
+use Rattle.std.proofs.Common.{◌≡◌, ◌⊎◌, inl, inr, ℕ, ◌+◌, ◌<◌, ◌≤◌, ◌^◌, max, true, cond, ltb, List, ◌∷◌, ◌++◌, length, length-append, refl, sym, ap, ◌∙◌, subst, arith}
+use Rattle.std.proofs.lemmas.Bool.{ltb-true, ltb-false, cond_both, cond-true, cond-false, lt-ltb, le-ltb, cases_order}
 use Rattle.std.proofs.lemmas.Grind.{common_steps}
 use Rattle.std.proofs.lemmas.List.{append_assoc}
 use Rattle.balanced_tree.specs.Row.{Functions, AreLawful, plain}
-use Rattle.balanced_tree.specs.Tree.{Tree, Leaf, Node, is_leaf, height, IsBalanced, stored, rows_of, leaned_right, leaned_left, balanced, inserted, least, without_least, without_root, removed}
+use Rattle.balanced_tree.specs.Tree.{Tree, Leaf, Node, is_leaf, height, IsBalanced, stored, rows_of, leaned_right, leaned_left, balanced, inserted, least, without_least, without_root, removed, place_of, IsOrdered, moved, AreBeside}
+use Rattle.balanced_tree.proofs.Spelling.{IsOrdered-bounds}
 use Rattle.balanced_tree.proofs.Nodes.{stored-short}
 
 module _ {R : Type 0} (f : Functions R) where
@@ -168,3 +169,81 @@ module _ {R : Type 0} (f : Functions R) where
       (λ e. cond_both (ltb (f.rank x) n) (balanced f l p x (removed f n r)) (without_root f (Node l p x r)) (IsShrunk (Node l p x r))
       (λ g. shrunk-right laws l (removed f n r) p x x r h short (shrunk-removed laws n r h.3 (omega arith)))
       (λ g. shrunk-without_root laws l p x r h short))
+
+-- ---- a row that comes in place of another
+
+module _ {R : Type 0} (f : Functions R) (n : ℕ) (w : R) where
+  pub moved-left : (l : Tree R) (p : ℕ) (x : R) (r : Tree R) → n < f.rank x → moved f n w (Node l p x r) ≡ Node (moved f n w l) p x r
+  unfolding moved
+  moved-left l p x r h = cond-true (ltb n (f.rank x)) _ _ (lt-ltb _ _ h)
+
+  pub moved-right : (l : Tree R) (p : ℕ) (x : R) (r : Tree R) → f.rank x < n → moved f n w (Node l p x r) ≡ Node l p x (moved f n w r)
+  unfolding moved
+  moved-right l p x r h = cond-false (ltb n (f.rank x)) _ _ (le-ltb _ _ (omega arith)) ∙ cond-true (ltb (f.rank x) n) _ _ (lt-ltb _ _ h)
+
+  pub moved-here : (l : Tree R) (p : ℕ) (x : R) (r : Tree R) → n ≡ f.rank x → moved f n w (Node l p x r) ≡ Node l p w r
+  unfolding moved
+  moved-here l p x r h = cond-false (ltb n (f.rank x)) _ _ (le-ltb _ _ (omega arith)) ∙ cond-false (ltb (f.rank x) n) _ _ (le-ltb _ _ (omega arith))
+
+  pub moved-leaf : moved f n w Leaf ≡ Leaf
+  unfolding moved
+  moved-leaf = refl
+
+  -- each row keeps its place and its height
+  pub place-moved : (t : Tree R) → place_of (moved f n w t) ≡ place_of t
+  place-moved Leaf = ap place_of moved-leaf
+  place-moved (Node l p x r) = elim (cases_order n (f.rank x)) [
+    | inl same ↦ ap place_of (moved-here l p x r same)
+    | inr (inl less) ↦ ap place_of (moved-left l p x r less)
+    | inr (inr more) ↦ ap place_of (moved-right l p x r more)
+  ]
+
+  pub height-moved : (t : Tree R) → height (moved f n w t) ≡ height t
+  height-moved Leaf = ap height moved-leaf
+  height-moved (Node l p x r) = elim (cases_order n (f.rank x)) [
+    | inl same ↦ ap height (moved-here l p x r same)
+    | inr (inl less) ↦ ap height (moved-left l p x r less) ∙ ap (λ k. max k (height r) + 1) (height-moved l)
+    | inr (inr more) ↦ ap height (moved-right l p x r more) ∙ ap (λ k. max (height l) k + 1) (height-moved r)
+  ]
+
+  pub balanced-moved : (t : Tree R) → IsBalanced t → IsBalanced (moved f n w t)
+  balanced-moved Leaf h = subst IsBalanced (sym moved-leaf) tt
+  balanced-moved (Node l p x r) h = elim (cases_order n (f.rank x)) [
+    | inl same ↦ subst IsBalanced (sym (moved-here l p x r same)) h
+    | inr (inl less) ↦
+        let same = height-moved l in
+        subst IsBalanced (sym (moved-left l p x r less)) (omega (arith, h.0), omega (arith, h.1), balanced-moved l h.2, h.3)
+    | inr (inr more) ↦
+        let same = height-moved r in
+        subst IsBalanced (sym (moved-right l p x r more)) (omega (arith, h.0), omega (arith, h.1), h.2, balanced-moved r h.3)
+  ]
+
+  pub length-moved : (t : Tree R) → length (rows_of f (moved f n w t)) ≡ length (rows_of f t)
+  length-moved Leaf = ap (λ t. length (rows_of f t)) moved-leaf
+  length-moved (Node l p x r) = elim (cases_order n (f.rank x)) [
+    | inl same ↦
+        let is = ap (λ t. length (rows_of f t)) (moved-here l p x r same) in
+        omega (arith, is, length-append (rows_of f l) (plain f w ∷ rows_of f r), length-append (rows_of f l) (plain f x ∷ rows_of f r))
+    | inr (inl less) ↦
+        let is = ap (λ t. length (rows_of f t)) (moved-left l p x r less) in
+        omega (arith, is, length-moved l, length-append (rows_of f (moved f n w l)) (plain f x ∷ rows_of f r), length-append (rows_of f l) (plain f x ∷ rows_of f r))
+    | inr (inr more) ↦
+        let is = ap (λ t. length (rows_of f t)) (moved-right l p x r more) in
+        omega (arith, is, length-moved r, length-append (rows_of f l) (plain f x ∷ rows_of f (moved f n w r)), length-append (rows_of f l) (plain f x ∷ rows_of f r))
+  ]
+
+-- rows that lie before the old rank lie before the new one, and so behind
+module _ {R : Type 0} (f : Functions R) (n m : ℕ) where
+  pub ordered-below : (low high : ℕ) (t : Tree R) → IsOrdered f low high t → AreBeside f n m t → high ≤ n → low ≤ m → IsOrdered f low m t
+  ordered-below low high Leaf o b h g = g
+  ordered-below low high (Node l p x r) o b h g =
+      let end = IsOrdered-bounds f (f.rank x + 1) high r o.1 in
+      let less = b.0.0 (omega arith) in
+      (o.0, ordered-below (f.rank x + 1) high r o.1 b.2 h (omega arith))
+
+  pub ordered-above : (low high : ℕ) (t : Tree R) → IsOrdered f low high t → AreBeside f n m t → n < low → m < high → IsOrdered f (m + 1) high t
+  ordered-above low high Leaf o b h g = omega arith
+  ordered-above low high (Node l p x r) o b h g =
+      let from = IsOrdered-bounds f low (f.rank x) l o.0 in
+      let more = b.0.1 (omega arith) in
+      (ordered-above low (f.rank x) l o.0 b.1 h more, o.1)

@@ -1,14 +1,14 @@
 -- The rows that a slab and a link show are those of the tree that stands there.
-use Rattle.std.proofs.Common.{◌≡◌, inl, ℕ, zero, suc, ◌+◌, ◌-◌, ◌*◌, ◌<◌, ◌≤◌, ◌^◌, true, false, [], length, Option, None, Some, is_some, IsSome, IsNone, slice_index_or, count_by, refl, sym, ap, ◌∙◌, subst, arith}
+use Rattle.std.proofs.Common.{◌≡◌, ℕ, zero, suc, ◌+◌, ◌-◌, ◌*◌, ◌<◌, ◌≤◌, ◌^◌, true, false, [], length, Option, None, Some, is_some, IsSome, IsNone, slice_index_or, count_by, refl, sym, ap, ◌∙◌, subst, arith}
 use Rattle.slab.specs.Slab.{Slab, slab_len}
 use Rattle.balanced_tree.specs.Row.{Functions, AreLawful, plain}
-use Rattle.balanced_tree.specs.Rows.{if_at, row_at, row_from, row_to, with_row, without_rank, IsRising}
-use Rattle.balanced_tree.specs.Tree.{Tree, Leaf, Node, place_of, height, child_of, rows_of, has_rank, row_in, found, inserted, removed}
-use Rattle.balanced_tree.specs.Standing.{Spells, IsStanding, StandsFor, HasInserted, HasRemoved, height_at, rows_down, rows_in, IsTree}
+use Rattle.balanced_tree.specs.Rows.{if_at, row_at, row_from, row_to, with_row, without_rank, AreAllBeside, IsRising}
+use Rattle.balanced_tree.specs.Tree.{Tree, Leaf, Node, place_of, height, child_of, rows_of, has_rank, row_in, found, inserted, removed, moved, AreBeside}
+use Rattle.balanced_tree.specs.Standing.{Spells, IsStanding, HasInserted, HasRemoved, HasMoved, height_at, rows_down, rows_in, IsTree}
 use Rattle.balanced_tree.proofs.Spelling.{link_of-child_of, child_at-place_of}
 use Rattle.balanced_tree.proofs.Nodes.{height_at-standing}
-use Rattle.balanced_tree.proofs.TreeLaws.{IsGrown, IsShrunk, grown-inserted, shrunk-removed}
-use Rattle.balanced_tree.proofs.RowLaws.{option_or-none, rises-rows, rows-inserted, rows-removed, found-row_from, found-row_to, row_in-row_at, length-inserted, length-removed, row_at-row_from}
+use Rattle.balanced_tree.proofs.TreeLaws.{IsGrown, IsShrunk, grown-inserted, shrunk-removed, place-moved, height-moved, balanced-moved, length-moved}
+use Rattle.balanced_tree.proofs.RowLaws.{option_or-none, rises-rows, rows-inserted, rows-removed, rows-moved, beside-rows, found-row_from, found-row_to, row_in-row_at, length-inserted, length-removed, row_at-row_from}
 use Rattle.balanced_tree.proofs.Costs.{height-short, look_cost, change_cost}
 
 module _ {R : Type 0} (f : Functions R) (laws : AreLawful f) where
@@ -149,23 +149,41 @@ module _ {R : Type 0} (f : Functions R) (laws : AreLawful f) where
     pub row_at-removed : row_at f n (rows_in f s root).rows ≡ y
     row_at-removed = sym (made.row ∙ row_in-IsTree n h)
 
+  module _ {s s1 : Slab R} {root : Option ℕ} (n : ℕ) (w : R) {before after : ℕ} (h : IsTree f s root) (made : HasMoved f s s1 n w h.tree 0 (2 ^ 128) before after) where
+    moved_standing : IsStanding f s1 root (moved f n w h.tree) 0 (2 ^ 128)
+    moved_standing =
+        record {
+          spelled = made.becomes.spelled;
+          is_at = place-moved f n w h.tree ∙ h.standing.is_at;
+          ordered = made.becomes.ordered;
+          short = omega (arith, height-moved f n w h.tree, h.standing.short);
+        }
+
+    pub IsTree-moved : s1.capacity ≡ s.capacity → IsTree f s1 root
+    IsTree-moved same =
+        record {
+          tree = moved f n w h.tree;
+          standing = moved_standing;
+          balanced = balanced-moved f n w h.tree h.balanced;
+          count = omega (arith, made.len, h.count, length-moved f n w h.tree);
+          holds = omega (arith, made.len, h.holds);
+          fits = omega (arith, h.fits);
+        }
+
+    pub rows-IsTree_moved : AreBeside f n (f.rank w) h.tree → f.rank w < 2 ^ 128 → has_rank f n h.tree ≡ true
+        → (rows_in f s1 root).rows ≡ with_row f (plain f w) (without_rank f n (rows_in f s root).rows)
+    rows-IsTree_moved beside below there =
+        rows_in-standing moved_standing ∙ rows-moved f laws n w 0 (2 ^ 128) h.tree h.standing.ordered beside (omega arith) below there
+        ∙ ap (λ u. with_row f (plain f w) (without_rank f n u)) (sym (rows_in-standing h.standing))
+
+  -- no row of the tree has a rank between, as none of those that are seen has
+  pub beside-IsTree : {s : Slab R} {root : Option ℕ} (n m : ℕ) → (h : IsTree f s root) → AreAllBeside f n m (rows_in f s root).rows → AreBeside f n m h.tree
+  beside-IsTree n m h all = beside-rows f laws n m h.tree (subst (AreAllBeside f n m) (rows_in-standing h.standing) all)
+
   -- what a look-up by rank answers, from what the way down finds
   module _ {s : Slab R} {root : Option ℕ} (n : ℕ) (o : Option R) (h : IsTree f s root) (is : o ≡ found f false n None h.tree) where
     pub at_found : row_at f n (rows_in f s root).rows ≡ if_at f n o
     at_found = row_at-IsTree n h ∙ ap (if_at f n) (sym is)
-
-  -- an insertion where a row has the rank needs no room
-  pub StandsFor-present : {s : Slab R} {root : Option ℕ} (n : ℕ) → n < 2 ^ 128 → IsTree f s root → IsSome (row_at f n (rows_in f s root).rows) → StandsFor f s root n
-  StandsFor-present n fits h some =
-      record {
-        tree = h.tree;
-        low = 0;
-        high = 2 ^ 128;
-        standing = h.standing;
-        from_low = omega arith;
-        below_high = fits;
-        room = inl (has_rank-IsTree n h ∙ some);
-      }
 
   pub not_there : {s : Slab R} {root : Option ℕ} (n : ℕ) → (h : IsTree f s root) → IsNone (row_at f n (rows_in f s root).rows) → has_rank f n h.tree ≡ false
   not_there n h none = has_rank-IsTree n h ∙ is_some-none _ none where

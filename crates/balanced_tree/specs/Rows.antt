@@ -1,5 +1,6 @@
 -- A tree as its callers see it: its rows by rising rank, each with no children, and the room for more.
-use Rattle.std.specs.Prelude.{ℕ, ◌+◌, ◌^◌, ◌≤◌, not, ◌==◌, nat_lt, nat_le, List, [], ◌∷◌, ◌++◌, filter, find, cond, Option, None, Some, refl}
+use Rattle.std.specs.Prelude.{ℕ, ◌+◌, ◌^◌, ◌<◌, ◌≤◌, not, ◌==◌, nat_lt, nat_le, List, [], ◌∷◌, ◌++◌, filter, find, cond, Option, None, Some, refl}
+use Rattle.std.specs.List.{AllByRecursion}
 use Rattle.std.specs.Option.{option_or}
 use Rattle.std.specs.Coded.{Coded, code_by, coded×, coded_ℕ, coded_list}
 use Rattle.balanced_tree.specs.Row.{Functions}
@@ -46,6 +47,14 @@ module _ {R : Type 0} (f : Functions R) where
   -- the rows of other ranks
   abbrev pub without_rank : ℕ → List R → List R
   without_rank n rows = filter (λ y. not (f.rank y == n)) rows
+
+  -- the rank of the row lies on one side of n and m, or is n
+  abbrev pub IsBeside : ℕ → ℕ → R → Type 0
+  IsBeside n m x = (f.rank x < n → f.rank x < m) × (n < f.rank x → m < f.rank x)
+
+  -- no row has the rank m or one between n and m
+  abbrev pub AreAllBeside : ℕ → ℕ → List R → Type 0
+  AreAllBeside n m rows = AllByRecursion (IsBeside n m) rows
 
   -- the ranks rise, from low on and below high
   abbrev pub RisesWithin : ℕ → ℕ → List R → Type 0

@@ -4,7 +4,7 @@ use Rattle.slab.specs.Slab.{Slab, get, slab_len, HasRoomFor}
 use Rattle.balanced_tree.specs.declared.children.Child.{Child}
 use Rattle.balanced_tree.specs.Row.{Functions, height_in, plain}
 use Rattle.balanced_tree.specs.Rows.{Rows}
-use Rattle.balanced_tree.specs.Tree.{Tree, Leaf, Node, place_of, height, IsBalanced, child_of, rows_of, IsOrdered, has_rank, row_in, inserted, removed, least, without_least, without_root}
+use Rattle.balanced_tree.specs.Tree.{Tree, Leaf, Node, place_of, height, IsBalanced, child_of, rows_of, IsOrdered, has_rank, row_in, inserted, removed, least, without_least, without_root, moved, AreBeside}
 
 module _ {R : Type 0} where
   -- a row with the link to it, if there is one
@@ -57,6 +57,16 @@ module _ {R : Type 0} (f : Functions R) where
     pub below_high : n < high
     pub room : IsTrue (has_rank f n tree) ⊎ HasRoomFor s 1
 
+  -- some tree stands under this link whose bounds hold m, and in which no row has the rank m or one between n and m
+  pub record StandsBeside (s : Slab R) (at : Option ℕ) (n m : ℕ) : Type 0 where
+    pub tree : Tree R
+    pub low : ℕ
+    pub high : ℕ
+    pub standing : IsStanding s at tree low high
+    pub beside : AreBeside f n m tree
+    pub from_low : low ≤ m
+    pub below_high : m < high
+
   -- each row whose rank is outside these bounds stands where it stood
   pub record Keeps (low high : ℕ) (old new : Slab R) : Type 0 where
     pub kept : (p : ℕ) (x : R) → get old p ≡ Some x → (f.rank x < low) ⊎ (high ≤ f.rank x) → get new p ≡ Some x
@@ -102,8 +112,14 @@ module _ {R : Type 0} (f : Functions R) where
     pub len : slab_len new ≡ slab_len old + cond (has_rank f (f.rank w) t) 0 1
     pub steps : after ≤ before + 13 * height t + 1
 
-  -- The new slab has the tree without the row of rank n, which is y with no children, and c is the link to its root. If
-  -- a row had this rank, it has one row less.
+  -- The new slab has the tree with the row w in place of that of rank n. The count of steps went from `before` to `after`.
+  pub record HasMoved (old new : Slab R) (n : ℕ) (w : R) (t : Tree R) (low high before after : ℕ) : Type 0 where
+    pub becomes : Becomes old new (moved f n w t) low high
+    pub len : slab_len new ≡ slab_len old
+    pub steps : after ≤ before + 13 * height t
+
+  -- The new slab has the tree without the row of rank n, which is y with no children, and c is the link to its root. It
+  -- has a row less where a row had this rank.
   pub record HasRemoved (old new : Slab R) (n : ℕ) (t : Tree R) (low high : ℕ) (y : Option R) (c : Option ℕ)
       (before after : ℕ) : Type 0 where
     pub becomes : Becomes old new (removed f n t) low high

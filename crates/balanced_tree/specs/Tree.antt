@@ -2,6 +2,7 @@
 use Rattle.std.specs.Prelude.{ℕ, ◌+◌, ◌≤◌, max, Bool, true, false, not, cond, nat_lt, List, [], ◌∷◌, ◌++◌, Option, None, Some, is_some}
 use Rattle.balanced_tree.specs.declared.children.Child.{Child}
 use Rattle.balanced_tree.specs.Row.{Functions, height_in, plain}
+use Rattle.balanced_tree.specs.Rows.{IsBeside}
 
 pub data Tree (R : Type 0) : Type 0 where
   Leaf : Tree R
@@ -129,3 +130,17 @@ module _ {R : Type 0} (f : Functions R) where
       (nat_lt n (f.rank x))
       (balanced (removed n l) p x r)
       (cond (nat_lt (f.rank x) n) (balanced l p x (removed n r)) (without_root (Node l p x r)))
+
+  -- the tree with the row w in place of the one of rank n
+  unfoldable pub moved : ℕ → R → Tree R → Tree R
+  moved n w Leaf = Leaf
+  moved n w (Node l p x r) =
+      cond
+      (nat_lt n (f.rank x))
+      (Node (moved n w l) p x r)
+      (cond (nat_lt (f.rank x) n) (Node l p x (moved n w r)) (Node l p w r))
+
+  -- no row has the rank m or one between n and m
+  abbrev pub AreBeside : ℕ → ℕ → Tree R → Type 0
+  AreBeside n m Leaf = Unit {0}
+  AreBeside n m (Node l p x r) = IsBeside f n m x × AreBeside n m l × AreBeside n m r

@@ -4,12 +4,13 @@ ghost use Rattle.std.specs.Prelude.{◌≡◌, ◌+◌, ◌-◌, ◌^◌, ◌<�
 ghost use Rattle.std.specs.Option.{MatchOption, option_map};
 ghost use Rattle.balanced_tree.specs.Gaps.{AreApart, HasNoGap, IsFirstGap};
 ghost use Rattle.balanced_tree.specs.Row.{plain};
-ghost use Rattle.balanced_tree.specs.Rows.{if_at, row_at, row_from, row_to, with_row, without_rank, IsRising};
+ghost use Rattle.balanced_tree.specs.Rows.{if_at, row_at, row_from, row_to, with_row, without_rank, AreAllBeside, IsRising};
 
 use crate::descent::{find_below, first_below};
 use crate::extent_row::ExtentRow;
 use crate::gaps::gap_below;
 use crate::insertion::insert_below;
+use crate::moving::move_below;
 use crate::removal::remove_below;
 use crate::row_slab::RowSlab;
 use crate::steps::Steps;
@@ -128,9 +129,22 @@ impl<R: TreeRow> BalancedTree<R> {
         ensures spare { self.new.spare ≡ self.old.spare }
         ensures cost { 2 ^ (steps.new - steps.old) ≤ (length self.old.rows + 2) ^ 32 }
     {
+        let rank = row.rank();
+        self.replace_at_counted(rank, row, steps);
+    }
+
+    /// Puts a row in place of the one of this rank. Its own rank may be another one, if no row has it or a rank between the
+    /// two: each row keeps its place, under the place in the slab where it stands.
+    pub fn replace_at_counted<L: Ledger>(&mut self, rank: u128, row: R, steps: &mut Steps<L>)
+        requires there { IsSome (row_at R.functions rank self.old.rows) }
+        requires beside { AreAllBeside R.functions rank (R.functions.rank row) self.old.rows }
+        ensures rows { self.new.rows ≡
+            with_row R.functions (plain R.functions row) (without_rank R.functions rank self.old.rows) }
+        ensures spare { self.new.spare ≡ self.old.spare }
+        ensures cost { 2 ^ (steps.new - steps.old) ≤ (length self.old.rows + 2) ^ 32 }
+    {
         let _rank = row.rank();
-        let root = insert_below(&mut self.rows, self.root, &row, steps);
-        self.root = Some(root);
+        move_below(&mut self.rows, self.root, rank, &row, steps);
     }
 
     /// Takes the row of this rank out, and answers it.
@@ -187,6 +201,18 @@ impl<R: TreeRow> BalancedTree<R> {
         ensures spare { self.new.spare ≡ self.old.spare }
     {
         replace_with::<R, Brand>(self, row, Blank::new(1));
+    }
+
+    /// Puts a row in place of the one of this rank. Its own rank may be another one, if no row has it or a rank between the
+    /// two.
+    pub fn replace_at(&mut self, rank: u128, row: R)
+        requires there { IsSome (row_at R.functions rank self.old.rows) }
+        requires beside { AreAllBeside R.functions rank (R.functions.rank row) self.old.rows }
+        ensures rows { self.new.rows ≡
+            with_row R.functions (plain R.functions row) (without_rank R.functions rank self.old.rows) }
+        ensures spare { self.new.spare ≡ self.old.spare }
+    {
+        replace_at_with::<R, Brand>(self, rank, row, Blank::new(1));
     }
 
     /// Takes the row of this rank out, and answers it.
@@ -315,6 +341,23 @@ fn replace_with<R: TreeRow, L: Ledger>(tree: &mut BalancedTree<R>, row: R, blank
 {
     let mut steps = Steps::<L>::new(blank);
     tree.replace_counted(row, &mut steps);
+}
+
+fn replace_at_with<R: TreeRow, L: Ledger>(
+    tree: &mut BalancedTree<R>,
+    rank: u128,
+    row: R,
+    blank: Blank,
+)
+    requires ledger { (blank.name ≡ L.name) × (blank.parts ≡ L.parts) × (0 < blank.parts) }
+    requires there { IsSome (row_at R.functions rank tree.old.rows) }
+    requires beside { AreAllBeside R.functions rank (R.functions.rank row) tree.old.rows }
+    ensures rows { tree.new.rows ≡
+        with_row R.functions (plain R.functions row) (without_rank R.functions rank tree.old.rows) }
+    ensures spare { tree.new.spare ≡ tree.old.spare }
+{
+    let mut steps = Steps::<L>::new(blank);
+    tree.replace_at_counted(rank, row, &mut steps);
 }
 
 fn remove_with<R: TreeRow, L: Ledger>(tree: &mut BalancedTree<R>, rank: u128, blank: Blank) -> R

@@ -13,6 +13,7 @@ mod descent;
 mod extent_row;
 mod gaps;
 mod insertion;
+mod moving;
 mod pairs;
 mod removal;
 mod rotation;

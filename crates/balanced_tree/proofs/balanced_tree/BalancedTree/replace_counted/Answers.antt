@@ -1,48 +1,22 @@
-use Rattle.std.proofs.Common.{ℕ, ◌+◌, ◌-◌, ◌^◌, ◌≤◌, cond, length, IsSome, ap, subst, sym, ◌∙◌, arith}
+use Rattle.std.proofs.Common.{IsSome, sym, ap, subst, ◌∙◌}
 use Rattle.balanced_tree.specs.Row.{plain}
-use Rattle.balanced_tree.specs.Rows.{row_at, with_row}
-use Rattle.balanced_tree.proofs.Views.{IsTree-inserted, rows-IsTree_inserted, change_cost-IsTree, there, StandsFor-present}
+use Rattle.balanced_tree.specs.Rows.{row_at, with_row, without_rank, AreAllBeside}
+use Rattle.balanced_tree.proofs.RowLaws.{beside-itself, with_row-again}
 use Rattle.balanced_tree.proofs.balanced_tree.BalancedTree.replace_counted.Goals as goal
 
-pub insert_below-root-requires : goal.insert_below-root-requires
-insert_below-root-requires g c =
+pub replace_at_counted-requires-clause-there : goal.replace_at_counted-requires-clause-there
+replace_at_counted-requires-clause-there g c =
     let f = g.R.TreeRow.functions in
-    let law = g.met.R.TreeRow.lawful in
-    let h = c.self.invariant in
-    StandsFor-present f law (f.rank c.args.row) (omega (arith, c.rank-rank.ensures, c.rank-rank.type_inv)) h (subst (λ v. IsSome (row_at f (f.rank c.args.row) v.rows)) (sym c.self.view_is) c.requires)
+    subst (λ n. IsSome (row_at f n c.args.self.now.rows)) (sym c.rank-rank.ensures) c.requires
 
-pub invariant_of-self : goal.invariant_of-self
-invariant_of-self g c =
+pub replace_at_counted-requires-clause-beside : goal.replace_at_counted-requires-clause-beside
+replace_at_counted-requires-clause-beside g c =
     let f = g.R.TreeRow.functions in
-    let law = g.met.R.TreeRow.lawful in
-    let h = c.self.invariant in
-    let made = c.insert_below-root.ensures.inserted h.tree 0 (2 ^ 128) h.standing (omega arith) (omega (arith, c.rank-rank.ensures, c.rank-rank.type_inv)) in
-    let present = there f law (f.rank c.args.row) h (subst (λ v. IsSome (row_at f (f.rank c.args.row) v.rows)) (sym c.self.view_is) c.requires) in
-    let spare = ap (λ v. v.spare) c.self.view_is in
-    IsTree-inserted f law c.args.row h made c.insert_below-root.ensures.capacity (omega (arith, made.len, h.holds, ap {B = ℕ} (λ b. cond b 0 1) present))
+    subst (λ n. AreAllBeside f n (f.rank c.args.row) c.args.self.now.rows) (sym c.rank-rank.ensures) (beside-itself f g.met.R.TreeRow.lawful (f.rank c.args.row) c.args.self.now.rows)
 
 pub returns-clause-rows : goal.returns-clause-rows
 returns-clause-rows g c =
     let f = g.R.TreeRow.functions in
-    let law = g.met.R.TreeRow.lawful in
-    let h = c.self.invariant in
-    let made = c.insert_below-root.ensures.inserted h.tree 0 (2 ^ 128) h.standing (omega arith) (omega (arith, c.rank-rank.ensures, c.rank-rank.type_inv)) in
-    rows-IsTree_inserted f law c.args.row h made ∙ ap (λ v. with_row f (plain f c.args.row) v.rows) c.self.view_is
-
-pub returns-clause-spare : goal.returns-clause-spare
-returns-clause-spare g c =
-    let f = g.R.TreeRow.functions in
-    let law = g.met.R.TreeRow.lawful in
-    let h = c.self.invariant in
-    let made = c.insert_below-root.ensures.inserted h.tree 0 (2 ^ 128) h.standing (omega arith) (omega (arith, c.rank-rank.ensures, c.rank-rank.type_inv)) in
-    let present = there f law (f.rank c.args.row) h (subst (λ v. IsSome (row_at f (f.rank c.args.row) v.rows)) (sym c.self.view_is) c.requires) in
-    let spare = ap (λ v. v.spare) c.self.view_is in
-    omega (arith, made.len, ap {B = ℕ} (λ b. cond b 0 1) present, c.insert_below-root.ensures.capacity)
-
-pub returns-clause-cost : goal.returns-clause-cost
-returns-clause-cost g c =
-    let f = g.R.TreeRow.functions in
-    let law = g.met.R.TreeRow.lawful in
-    let h = c.self.invariant in
-    let made = c.insert_below-root.ensures.inserted h.tree 0 (2 ^ 128) h.standing (omega arith) (omega (arith, c.rank-rank.ensures, c.rank-rank.type_inv)) in
-    subst (λ v. 2 ^ (c.insert_below-root.new.steps - c.args.steps.now) ≤ (length v.rows + 2) ^ 32) c.self.view_is (change_cost-IsTree f law _ _ h (omega (arith, made.steps)))
+    c.replace_at_counted.ensures.rows
+    ∙ (ap (λ n. with_row f (plain f c.args.row) (without_rank f n c.args.self.now.rows)) c.rank-rank.ensures
+    ∙ with_row-again f g.met.R.TreeRow.lawful c.args.row c.args.self.now.rows)

@@ -1,0 +1,159 @@
+-- What a row that comes in place of one of another rank does to a tree, case by case.
+use Rattle.std.proofs.Common.{◌≡◌, ℕ, ◌+◌, ◌<◌, ◌≤◌, Option, None, Some, inl, inr, refl, sym, ap, ◌∙◌, subst, arith}
+use Rattle.std.proofs.lemmas.Bool.{cases_lt}
+use Rattle.slab.specs.Slab.{Slab, get, slab_len, ContainsKey, Updates}
+use Rattle.balanced_tree.specs.Row.{Functions, AreLawful}
+use Rattle.balanced_tree.specs.Tree.{Tree, Leaf, Node, moved, AreBeside}
+use Rattle.balanced_tree.specs.Standing.{child_at, IsStanding, StandsBeside, Becomes, IsSplit, HasMoved}
+use Rattle.balanced_tree.proofs.Spelling.{Keeps-refl, Same-refl, child_at-link, ContainsKey-place_of, place_over-tree}
+use Rattle.balanced_tree.proofs.Nodes.{IsNode, node_of, standing-at, rank_here, height-left, height-right, right_is, left_is, same_again, again_left, again_right, split_left, split_right, left_kept, right_kept}
+use Rattle.balanced_tree.proofs.Insertions.{Becomes-left, Becomes-right}
+use Rattle.balanced_tree.proofs.TreeLaws.{moved-left, moved-right, moved-here, moved-leaf, place-moved, ordered-below, ordered-above}
+
+module _ {R : Type 0} (f : Functions R) where
+  pub move-leaf : {s : Slab R} {at : Option ℕ} (t : Tree R) {low high before : ℕ} (n : ℕ) (w : R) → at ≡ None → IsStanding f s at t low high → HasMoved f s s n w t low high before before
+  move-leaf {s} Leaf {low} {high} n w none h = record {
+    becomes = subst (λ u. Becomes f s s u low high) (sym (moved-leaf f n w)) (record { spelled = tt; ordered = h.ordered; kept = Keeps-refl f low high s });
+    len = refl;
+    steps = omega arith;
+  }
+  move-leaf {s} (Node l p x r) n w none h = let some : Some p ≡ None = h.is_at ∙ none in absurd cc
+
+  module _ {s s1 s2 : Slab R} {p : ℕ} {here again w : R} {t : Tree R} {low high n before b1 b2 b3 after : ℕ} {left right : Option ℕ}
+      (laws : AreLawful f) (d : IsNode f s p here t low high) (left_link : left ≡ f.left here) (right_link : right ≡ f.right here) where
+    -- where the way down went to the left
+    pub move-left : n < f.rank here → HasMoved f s s1 n w d.left low (f.rank d.row) b1 b2
+        → get s1 p ≡ Some again → Updates s1 s2 p (Some (f.linked again (child_at s1 left) (child_at s1 right))) → slab_len s2 ≡ slab_len s1 → b1 ≤ before + 1 → b3 ≤ b2 + 1 → after ≤ b3 + 3
+        → HasMoved f s s2 n w t low high before after
+    move-left less sub e u len g1 g2 g3 =
+        let again_is = again_left f d sub.becomes.kept e in
+        let on_left = child_at-link f s1 (moved f n w d.left) sub.becomes.spelled (place-moved f n w d.left ∙ (d.left_standing.is_at ∙ sym left_link)) in
+        let on_right = child_at-link f s1 d.right (right_kept f d laws sub.becomes.kept) (d.right_standing.is_at ∙ sym right_link) in
+        let made = place_over-tree f laws (split_left f d laws sub.becomes) (same_again f d again_is) on_left on_right refl u refl in
+        let is = ap (moved f n w) d.is ∙ moved-left f n w d.left p d.row d.right (omega (arith, rank_here f d)) in
+        record {
+          becomes = Becomes-left f d sub.becomes (subst (λ u. Becomes f s1 s2 u low high) (sym is) made.becomes);
+          len = len ∙ sub.len;
+          steps = omega (arith, sub.steps, height-left f d);
+        }
+
+    -- and to the right
+    pub move-right : f.rank here < n → HasMoved f s s1 n w d.right (f.rank d.row + 1) high b1 b2
+        → get s1 p ≡ Some again → Updates s1 s2 p (Some (f.linked again (child_at s1 left) (child_at s1 right))) → slab_len s2 ≡ slab_len s1 → b1 ≤ before + 1 → b3 ≤ b2 + 1 → after ≤ b3 + 3
+        → HasMoved f s s2 n w t low high before after
+    move-right more sub e u len g1 g2 g3 =
+        let again_is = again_right f d sub.becomes.kept e in
+        let on_left = child_at-link f s1 d.left (left_kept f d laws sub.becomes.kept) (d.left_standing.is_at ∙ sym left_link) in
+        let on_right = child_at-link f s1 (moved f n w d.right) sub.becomes.spelled (place-moved f n w d.right ∙ (d.right_standing.is_at ∙ sym right_link)) in
+        let made = place_over-tree f laws (split_right f d laws sub.becomes) (same_again f d again_is) on_left on_right refl u refl in
+        let is = ap (moved f n w) d.is ∙ moved-right f n w d.left p d.row d.right (omega (arith, rank_here f d)) in
+        record {
+          becomes = Becomes-right f d sub.becomes (subst (λ u. Becomes f s1 s2 u low high) (sym is) made.becomes);
+          len = len ∙ sub.len;
+          steps = omega (arith, sub.steps, height-right f d);
+        }
+
+  -- the parts of a node are beside both ranks too
+  beside-node : {s : Slab R} {p : ℕ} {here : R} {t : Tree R} {low high : ℕ} (n m : ℕ) (d : IsNode f s p here t low high) → AreBeside f n m t → AreBeside f n m (Node d.left p d.row d.right)
+  beside-node n m d b = subst (AreBeside f n m) d.is b
+
+  pub sub-left : {s : Slab R} {p : ℕ} {here : R} {t : Tree R} {low high k : ℕ} (n m : ℕ) (d : IsNode f s p here t low high) → AreBeside f n m t → k ≡ f.rank here → n < k
+      → AreBeside f n m d.left × (m < f.rank d.row)
+  sub-left n m d b is less = let sides = beside-node n m d b in let same = rank_here f d in (sides.1, sides.0.1 (omega arith))
+
+  pub sub-right : {s : Slab R} {p : ℕ} {here : R} {t : Tree R} {low high k : ℕ} (n m : ℕ) (d : IsNode f s p here t low high) → AreBeside f n m t → k ≡ f.rank here → k < n
+      → AreBeside f n m d.right × (f.rank d.row + 1 ≤ m)
+  sub-right n m d b is more = let sides = beside-node n m d b in let same = rank_here f d in let above = sides.0.0 (omega arith) in (sides.2, omega arith)
+
+  pub move-here : {s s2 : Slab R} {p : ℕ} {here w : R} {t : Tree R} {low high n before after : ℕ} {left right : Option ℕ}
+      → AreLawful f → (d : IsNode f s p here t low high) → f.rank here ≤ n → n ≤ f.rank here → AreBeside f n (f.rank w) t → low ≤ f.rank w → f.rank w < high
+      → left ≡ f.left here → right ≡ f.right here
+      → Updates s s2 p (Some (f.linked w (child_at s left) (child_at s right))) → slab_len s2 ≡ slab_len s → after ≤ before + 4
+      → HasMoved f s s2 n w t low high before after
+  move-here {s} {s2} {p} {here} {w} {t} {low} {high} {n} laws d g h b from below left_link right_link u len steps =
+      let sides = beside-node n (f.rank w) d b in
+      let same = rank_here f d in
+      let split : IsSplit f s d.left p w d.right low high = elim (cases_lt (f.rank w) n) [
+        | inl less ↦ record {
+          middle = f.rank w;
+          past = f.rank d.row + 1;
+          had = here;
+          at = d.at;
+          left = d.left_standing.spelled;
+          right = d.right_standing.spelled;
+          left_ordered = ordered-below f n (f.rank w) low (f.rank d.row) d.left d.left_standing.ordered sides.1 (omega arith) from;
+          right_ordered = d.right_standing.ordered;
+          had_from = omega arith;
+          had_below = omega arith;
+          row_from = omega arith;
+          row_below = omega arith;
+        }
+        | inr more ↦ record {
+          middle = f.rank d.row;
+          past = f.rank w + 1;
+          had = here;
+          at = d.at;
+          left = d.left_standing.spelled;
+          right = d.right_standing.spelled;
+          left_ordered = d.left_standing.ordered;
+          right_ordered = ordered-above f n (f.rank w) (f.rank d.row + 1) high d.right d.right_standing.ordered sides.2 (omega arith) below;
+          had_from = omega arith;
+          had_below = omega arith;
+          row_from = omega arith;
+          row_below = omega arith;
+        }
+      ] in
+      let made = place_over-tree f laws split (Same-refl f w) (left_is f d left_link) (right_is f d right_link) refl u refl in
+      let is = ap (moved f n w) d.is ∙ moved-here f n w d.left p d.row d.right (omega arith) in
+      record {
+        becomes = subst (λ u. Becomes f s s2 u low high) (sym is) made.becomes;
+        len = len;
+        steps = omega (arith, height-left f d);
+      }
+
+  -- what a recursion into a part asks
+  pub StandsBeside-left : {s : Slab R} {at link : Option ℕ} {p n m : ℕ} {here : R} → AreLawful f → StandsBeside f s at n m → at ≡ Some p → get s p ≡ Some here → link ≡ f.left here → n < f.rank here → StandsBeside f s link n m
+  StandsBeside-left {n = n} {m} laws h is at e less =
+      let d = node_of f laws h.standing is at in
+      let sides = beside-node n m d h.beside in
+      let same = rank_here f d in
+      record {
+        tree = d.left;
+        low = h.low;
+        high = f.rank d.row;
+        standing = standing-at f (sym e) d.left_standing;
+        beside = sides.1;
+        from_low = h.from_low;
+        below_high = sides.0.1 (omega arith);
+      }
+
+  pub StandsBeside-right : {s : Slab R} {at link : Option ℕ} {p n m : ℕ} {here : R} → AreLawful f → StandsBeside f s at n m → at ≡ Some p → get s p ≡ Some here → link ≡ f.right here → f.rank here < n → StandsBeside f s link n m
+  StandsBeside-right {n = n} {m} laws h is at e more =
+      let d = node_of f laws h.standing is at in
+      let sides = beside-node n m d h.beside in
+      let same = rank_here f d in
+      let above = sides.0.0 (omega arith) in
+      record {
+        tree = d.right;
+        low = f.rank d.row + 1;
+        high = h.high;
+        standing = standing-at f (sym e) d.right_standing;
+        beside = sides.2;
+        from_low = omega arith;
+        below_high = h.below_high;
+      }
+
+  -- the links to the parts of a node lead to rows, also after a change of one part
+  module _ {s s1 : Slab R} {p n : ℕ} {here w : R} {t : Tree R} {low high b1 b2 : ℕ} {left right : Option ℕ}
+      (laws : AreLawful f) (d : IsNode f s p here t low high) (left_link : left ≡ f.left here) (right_link : right ≡ f.right here) where
+    pub left-readable : HasMoved f s s1 n w d.left low (f.rank d.row) b1 b2 → (q : ℕ) → left ≡ Some q → ContainsKey s1 q
+    left-readable sub q e = ContainsKey-place_of f s1 (moved f n w d.left) q sub.becomes.spelled (place-moved f n w d.left ∙ (d.left_standing.is_at ∙ (sym left_link ∙ e)))
+
+    pub left-beside : HasMoved f s s1 n w d.left low (f.rank d.row) b1 b2 → (q : ℕ) → right ≡ Some q → ContainsKey s1 q
+    left-beside sub q e = ContainsKey-place_of f s1 d.right q (right_kept f d laws sub.becomes.kept) (d.right_standing.is_at ∙ (sym right_link ∙ e))
+
+    pub right-readable : HasMoved f s s1 n w d.right (f.rank d.row + 1) high b1 b2 → (q : ℕ) → right ≡ Some q → ContainsKey s1 q
+    right-readable sub q e = ContainsKey-place_of f s1 (moved f n w d.right) q sub.becomes.spelled (place-moved f n w d.right ∙ (d.right_standing.is_at ∙ (sym right_link ∙ e)))
+
+    pub right-beside : HasMoved f s s1 n w d.right (f.rank d.row + 1) high b1 b2 → (q : ℕ) → left ≡ Some q → ContainsKey s1 q
+    right-beside sub q e = ContainsKey-place_of f s1 d.left q (left_kept f d laws sub.becomes.kept) (d.left_standing.is_at ∙ (sym left_link ∙ e))

@@ -1,0 +1,46 @@
+//! A row that comes in place of one of another rank.
+
+ghost use Rattle.std.specs.Prelude.{◌≡◌, ℕ, ◌<◌, ◌≤◌};
+ghost use Rattle.balanced_tree.specs.Tree.{Tree, AreBeside};
+ghost use Rattle.balanced_tree.specs.Standing.{IsStanding, StandsBeside, HasMoved};
+
+use crate::rotation::put_over;
+use crate::row_slab::RowSlab;
+use crate::steps::Steps;
+use crate::tree_row::TreeRow;
+use std::sync::ledger::Ledger;
+
+/// Puts a row in place of the one of this rank in the tree under a link, if there is one. No row of the tree has a rank
+/// between the two, so each row keeps its place and its height.
+pub fn move_below<R: TreeRow, L: Ledger>(
+    rows: &mut RowSlab<R>,
+    at: Option<usize>,
+    rank: u128,
+    row: &R,
+    steps: &mut Steps<L>,
+)
+    requires { StandsBeside R.functions rows.old at rank (R.functions.rank row.now) }
+    ensures moved { (t : Tree R) (low high : ℕ) → IsStanding R.functions rows.old at t low high
+        → AreBeside R.functions rank (R.functions.rank row.now) t
+        → low ≤ R.functions.rank row.now → R.functions.rank row.now < high
+        → HasMoved R.functions rows.old rows.new rank row.now t low high steps.old steps.new }
+    ensures capacity { rows.new.capacity ≡ rows.old.capacity }
+{
+    let Some(place) = at else {
+        return;
+    };
+    let here = rows.look(place, steps);
+    let there = here.rank();
+    let (left, right) = (here.left(), here.right());
+    if rank < there {
+        move_below(rows, left, rank, row, steps);
+        let again = rows.row(place, steps);
+        put_over(rows, place, again, left, right, steps);
+    } else if there < rank {
+        move_below(rows, right, rank, row, steps);
+        let again = rows.row(place, steps);
+        put_over(rows, place, again, left, right, steps);
+    } else {
+        put_over(rows, place, *row, left, right, steps);
+    }
+}
