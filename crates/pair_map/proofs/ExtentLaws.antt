@@ -42,7 +42,7 @@ module _ {V : Type 0} where
           by false is = absurd (cc)
 
   -- the row of an extent that the map has
-  record IsRowOf (rows : List (StretchRow V)) (l p : ℕ) (e : Extent V) (row : StretchRow V) : Type 0 where
+  pub record IsRowOf (rows : List (StretchRow V)) (l p : ℕ) (e : Extent V) (row : StretchRow V) : Type 0 where
     pub at : row_at stretch_functions (pair_rank l p) rows ≡ Some row
     pub list : row.list ≡ l
     pub first : row.first ≡ p
@@ -51,7 +51,7 @@ module _ {V : Type 0} where
     pub end : p + e.count ≤ 2 ^ 63
 
   module _ (rows : List (StretchRow V)) (h : AreExtents rows) where
-    row-of : (l p : ℕ) (e : Extent V) → value_at stretch_functions extent_of rows l p ≡ Some e → (row : StretchRow V) × IsRowOf rows l p e row
+    pub row-of : (l p : ℕ) (e : Extent V) → value_at stretch_functions extent_of rows l p ≡ Some e → (row : StretchRow V) × IsRowOf rows l p e row
     row-of l p e is = elim (cases_lt p (2 ^ 64)) [
       | inl few ↦ by few _ refl (sym (value-seen stretch_rows rows rows refl l p (pair_rank l p) few refl) ∙ is)
       | inr past ↦ absurd (let none = value-past stretch_rows rows l p past in cc)
@@ -121,7 +121,7 @@ module _ {V : Type 0} where
             ]
 
     -- a range that is open has no extent at its first number
-    open-none : IsRising stretch_functions rows → (l p size : ℕ) → 1 ≤ size → IsOpen (value_at stretch_functions extent_of rows l) p size
+    pub open-none : IsRising stretch_functions rows → (l p size : ℕ) → 1 ≤ size → IsOpen (value_at stretch_functions extent_of rows l) p size
         → value_at stretch_functions extent_of rows l p ≡ None
     open-none rising l p size some free = by _ refl
       where

@@ -179,7 +179,7 @@ impl<V: Copy> ExtentMap<V> {
     }
 
     /// Takes the numbers before `to` out of the extent of a list that begins at `first` and ends just before `end`. The
-    /// numbers from there on are then an extent, with another value.
+    /// numbers from there on are then an extent, with another value. It changes one row.
     pub fn advance(&mut self, list: u64, first: u64, end: u64, to: u64, value: V)
         requires extent { IsExtent (extents_of self.old list) first end }
         requires order { (first ≤ to) × (to < end) }
@@ -188,9 +188,18 @@ impl<V: Copy> ExtentMap<V> {
         ensures count { count_of self.new ≡ count_of self.old }
         ensures spare { spare_of self.new ≡ spare_of self.old }
     {
-        let _apart = self.len();
-        self.remove(list, first);
-        self.insert(list, to, end - to, value);
+        let _rising = self.tree.len();
+        self.tree.replace_at(
+            pair_rank(list, first),
+            StretchRow::new(
+                list,
+                to,
+                Extent {
+                    count: end - to,
+                    value,
+                },
+            ),
+        );
     }
 
     /// The lowest number from `from` on at which `count` numbers of the list are in no extent and end at the limit or
