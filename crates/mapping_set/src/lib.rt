@@ -6,9 +6,9 @@
 //! first page, a gap among the mappings of a region and each of its pieces are found with no look at other mappings. The third
 //! has all that is taken in a region: its pieces, and the places of other regions in it that the callers note
 //! (`MappingSet::hold_place`), so that one search tells a place that is free of both, or that there is none
-//! (`MappingSet::first_clear`). No call goes over pages: it costs the pieces that it touches. A piece that is cut, or loses
-//! pages, keeps its row in each table if the row keeps its place in the order, and each part more of it is one row more. The
-//! layer above makes a set by `MappingSet::new`, and takes room by `MappingSet::reserve` before it calls what takes some.
+//! (`MappingSet::first_clear`). No call goes over pages: it costs the pieces that it touches. What is left of a piece
+//! that is cut, or loses pages, takes its row in the tables, and a second part is one row more. The layer above makes a set by
+//! `MappingSet::new`, and takes room by `MappingSet::reserve` before it calls what takes some.
 #![tactic(auto)]
 
 mod mapping_set;
