@@ -140,10 +140,13 @@ impl CowForest {
         )
     }
 
-    /// Makes `count` pages of a VMO from page `first` on zero, as `zero` makes each of them. There is room (`spare`) for each
-    /// page of them that is held. It takes no memory, and goes from row to row of the nodes from the VMO's up to its root, on the
-    /// pages to which the range comes through their windows. A step is one call of `PageLists::next_counted`: there is at most one
-    /// for each such row, and one for each node, whatever the range is long.
+    /// Makes `count` pages of a VMO from page `first` on zero, which `zero` does with one (whole pages of `ZX_VMO_OP_ZERO`). The
+    /// range ends at or below the VMO's page count, and `spare` is at least the number of its held pages. It takes no memory, and
+    /// room for one row at most for each of them.
+    ///
+    /// It goes from row to row: of the VMO's node, and then of each node up to the root, on the pages that the range reaches
+    /// through the windows. A step is one call of `PageLists::next_counted`. There is at most one for each of these rows and one
+    /// for each node, however long the range is.
     pub fn zero_range<L: Ledger>(
         &mut self,
         v: Koid,

@@ -61,8 +61,8 @@ pub(crate) fn zero_pages<L: Ledger>(
     }
 }
 
-/// Makes those pages of a VMO's node zero that come to the rows of a list on its pages from `here` to below `to`. Page `first`
-/// comes to page `here`, and the pages behind it to those behind that. It takes a step for each row, and one more.
+/// Makes those pages of a VMO's node zero that come to the rows of a list on its pages from `here` to below `to`: the page that
+/// is so far behind `first` as the row's page is behind `here`. It takes a step for each row, and one more.
 fn zero_rows<L: Ledger>(
     arena: &CowArena,
     lists: &mut PageLists,

@@ -34,7 +34,7 @@ pub record HasZeroed (arena : Arena) (old new : Rows Row) (before after : Pool) 
       HadRow (slots_of old) l q row
   pub links : links_of after ≡ links_of before
   pub frames : after.frames ≡ before.frames
-  -- no other frame changes, and no place but this page's gets a row
+  -- each frame keeps its bytes or is given back, and no place but this page's gets a row
   pub gives : (t : ℕ) → (taken_frames after t ≡ taken_frames before t) ⊎ (taken_frames after t ≡ None)
   pub places : (node : Node) → nodes_of arena v ≡ Some node → (l q : ℕ) → IsSome (slots_of new l q) →
       IsSome (slots_of old l q) ⊎ ((l ≡ node.list.0) × (q ≡ p))
