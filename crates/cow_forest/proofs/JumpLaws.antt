@@ -1,9 +1,11 @@
 -- Laws of jumps: a step is one, two in a row are one, and a walk that takes them comes to the rows to which its steps lead.
-use Rattle.std.proofs.Common.{◌≡◌, ◌≢◌, inl, inr, ℕ, ◌+◌, ◌-◌, ◌*◌, ◌^◌, ◌%◌, ◌<◌, ◌≤◌, Option, None, Some, IsSome, IsSomeAnd, refl, sym, ap, subst, ◌∙◌, arith}
+use Rattle.std.proofs.Common.{◌≡◌, ◌≢◌, inl, inr, ℕ, ◌+◌, ◌-◌, ◌*◌, ◌^◌, ◌%◌, ◌<◌, ◌≤◌, Option, None, Some, IsSome, IsSomeAnd, refl, sym, ap, subst, ◌∙◌, arith, ◌/◌, w64}
 use Rattle.std.specs.Prelude.{zero, suc, List, [], ◌∷◌, ◌++◌, slice_index_or, is_some, bit_or, IfSome}
-use Rattle.std.specs.Int.{bit_at}
-use Rattle.std.proofs.lemmas.Bool.{cases_eq}
-use Rattle.std.proofs.lemmas.Nat.Bits.{bit_at_or, bit_at_ones}
+use Rattle.std.specs.Int.{bit_at, rotate_right}
+use Rattle.std.proofs.lemmas.Bool.{cases_eq, cases_lt}
+use Rattle.std.proofs.Math.Nat.{div-add-mod, mod-lt}
+use Rattle.std.proofs.lemmas.Nat.{pow_pos}
+use Rattle.std.proofs.lemmas.Nat.Bits.{bit_at_or, bit_at_cat_low, bit_at_cat_high}
 use Rattle.vm_base.proofs.EntryLaws.{some_same}
 use Rattle.page_list.specs.declared.row.Slot.{Slot}
 use Rattle.cow_arena.specs.declared.node.Node.{Node}
@@ -28,9 +30,44 @@ use Rattle.cow_forest.specs.Jumps.{jump_in, serial_in, IsTaken, IsJump, AreJumps
 either-clear : (a b i : ℕ) → bit_at (bit_or a b) i ≡ 0 → (bit_at a i ≡ 0) × (bit_at b i ≡ 0)
 either-clear a b i clear = let both = bit_at_or a b i in (omega (arith, both, clear), omega (arith, both, clear))
 
--- all bits are set, so that nothing is clear
-pub none-clear : (p : ℕ) → bit_at (2 ^ 64 - 1) (p % 64) ≡ 0 → ⊥
-none-clear p clear = let set = bit_at_ones 64 (p % 64) (omega arith) in absurd (omega (arith, set, clear))
+-- ---- turned words
+
+by-parts : (n m : ℕ) → n ≡ n / m * m + n % m
+by-parts n m = let parts = div-add-mod n m in omega (arith, parts)
+
+-- the bits of a word without its low ones, and of its low ones alone
+bit-high : (n s i : ℕ) → bit_at n (i + s) ≡ bit_at (n / 2 ^ s) i
+bit-high n s i =
+    ap (λ x. bit_at x (i + s)) (by-parts n (2 ^ s))
+    ∙ (bit_at_cat_high (n / 2 ^ s) s (n % 2 ^ s) (i + s) (mod-lt n (pow_pos s)) (omega arith) ∙ ap (bit_at (n / 2 ^ s)) (omega arith))
+
+bit-low : (n s i : ℕ) → i < s → bit_at n i ≡ bit_at (n % 2 ^ s) i
+bit-low n s i less = ap (λ x. bit_at x i) (by-parts n (2 ^ s)) ∙ bit_at_cat_low (n / 2 ^ s) s (n % 2 ^ s) i less
+
+bit-raised : (n s i : ℕ) → s ≤ i → bit_at (n * 2 ^ s) i ≡ bit_at n (i - s)
+bit-raised n s i more = ap (λ x. bit_at x i) (omega arith) ∙ bit_at_cat_high n s 0 i (pow_pos s) more
+
+turned-parts : (n s i : ℕ) → s < 64 → i < 64 → bit_at (bit_or (n / 2 ^ s) (n * 2 ^ ((64 - s) % 64) % 2 ^ 64)) i ≡ 0 → bit_at n ((i + s) % 64) ≡ 0
+turned-parts n s i few less clear =
+    let parts = either-clear (n / 2 ^ s) (n * 2 ^ ((64 - s) % 64) % 2 ^ 64) i clear in
+    elim (cases_lt (i + s) 64) [
+      | inl inside ↦
+          let at : (i + s) % 64 ≡ i + s = omega arith in
+          ap (bit_at n) at ∙ (bit-high n s i ∙ parts.0)
+      | inr past ↦
+          let by : (64 - s) % 64 ≡ 64 - s = omega arith in
+          let at : (i + s) % 64 ≡ i - (64 - s) = omega arith in
+          let raised : bit_at (n * 2 ^ (64 - s) % 2 ^ 64) i ≡ 0 = ap (λ k. bit_at (n * 2 ^ k % 2 ^ 64) i) (sym by) ∙ parts.1 in
+          ap (bit_at n) at ∙ (sym (bit-raised n (64 - s) i (omega arith)) ∙ (bit-low (n * 2 ^ (64 - s)) 64 i less ∙ raised))
+    ]
+
+-- a word that is turned by a shift has the bits of the pages that are so many further on
+pub turned-clear : (pages shift by : ℕ) → by ≡ shift % 64 → (p : ℕ) → bit_at (rotate_right w64 pages by) (p % 64) ≡ 0 → bit_at pages ((p + shift) % 64) ≡ 0
+turned-clear pages shift by is p clear =
+    let small : by % 64 ≡ by = omega arith in
+    let at : (p + shift) % 64 ≡ (p % 64 + by) % 64 = omega arith in
+    ap (bit_at pages) at ∙ turned-parts pages by (p % 64) (omega arith) (omega arith)
+    (ap (λ s. bit_at (bit_or (pages / 2 ^ s) (pages * 2 ^ ((64 - s) % 64) % 2 ^ 64)) (p % 64)) (sym small) ∙ clear)
 
 -- ---- jumps
 

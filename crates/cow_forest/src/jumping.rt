@@ -286,13 +286,9 @@ fn joined(arena: &CowArena, lists: &PageLists, at: NodeId, jump: Jump, next: Jum
     })
 }
 
-/// Pages by their numbers modulo 64, where these are so many less. All of them, where the shift is no multiple of 64 and there are any.
+/// Pages by their numbers modulo 64, of a node to which they come this many pages further on.
 fn turned(pages: u64, shift: u64) -> u64
     ensures { (p : ℕ) → bit_at result (p % 64) ≡ 0 → bit_at pages ((p + shift) % 64) ≡ 0 }
 {
-    if pages == 0 || shift % 64 == 0 {
-        pages
-    } else {
-        u64::MAX
-    }
+    pages.rotate_right((shift % 64) as u32)
 }
