@@ -185,20 +185,22 @@ module _ (a : Inside) (h : AreMappings a) (now : Mappings) (seen : mappings_of a
   pages-end = sound_x.pages
 
   -- no piece ends on its pages before the last one
+  pub none-between : (b : ℕ) → x.first ≤ b → b < last → values root b ≡ None
+  none-between b low high = by (values root b) refl where
+    by : (p : Option Piece) → values root b ≡ p → p ≡ None
+    by None none = refl
+    by (Some y) at =
+        let was = h.pieces.sound root b y at in
+        let end = was.last_is in
+        let some = was.some in
+        let same = one_piece values h.pieces root b last y x b at is_x (omega arith) (omega arith) low (omega arith) in
+        absurd (omega arith)
+
   pub absent-within : (o : Option Piece) (pieces : ℕ → ℕ → Option Piece) → pieces ≡ with_pair values root last o → (b : ℕ) → x.first ≤ b → b < last → pieces root b ≡ None
   absent-within o pieces is b low high = ap (λ (m : ℕ → ℕ → Option Piece). m root b) is ∙ elim (with_pair-cases values root last o root b) [
     | inl here ↦ absurd (let same = here.1 in omega arith)
-    | inr other ↦ other.1 ∙ by (values root b) refl
+    | inr other ↦ other.1 ∙ none-between b low high
   ]
-    where
-      by : (p : Option Piece) → values root b ≡ p → p ≡ None
-      by None none = refl
-      by (Some y) at =
-          let was = h.pieces.sound root b y at in
-          let end = was.last_is in
-          let some = was.some in
-          let same = one_piece values h.pieces root b last y x b at is_x (omega arith) (omega arith) low (omega arith) in
-          absurd (omega arith)
 
   in-index : (e : Extent Unit) × (pieces_in taken l x.first ≡ Some e) × (e.count ≡ x.count)
   in-index = let found = h.taken.listed root last x is_x in (found.0, ap (λ k. pieces_in taken k x.first) l_is ∙ found.1, found.2)

@@ -457,9 +457,8 @@ impl MappingSet {
         let _apart = self.taken.len();
         let list = list_number(piece.entry.region, root);
         let count = page - piece.first;
-        self.pieces.remove(root.0 as u64, last);
         self.pieces
-            .insert(root.0 as u64, page - 1, piece.until(page));
+            .replace_at(root.0 as u64, last, page - 1, piece.until(page));
         self.lists.shorten(list, piece.first, count, ());
         self.taken.shorten(list, piece.first, count, None);
     }

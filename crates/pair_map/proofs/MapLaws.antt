@@ -1,16 +1,18 @@
 -- Rows whose ranks are pairs, as the maps over them see them.
-use Rattle.std.proofs.Common.{◌≡◌, ℕ, ◌+◌, ◌<◌, ◌≤◌, ◌^◌, ◌==◌, Bool, true, false, cond, Option, None, Some, IsSome, IfSome}
+use Rattle.std.proofs.Common.{◌≡◌, ℕ, ◌+◌, ◌-◌, ◌*◌, ◌<◌, ◌≤◌, ◌^◌, ◌==◌, ◌&&◌, min, max, Bool, true, false, cond, List, Option, None, Some, IsSome, IfSome}
 use Rattle.std.proofs.Common.{refl, sym, ap, ◌∙◌, subst, inl, inr, arith}
 use Rattle.std.specs.Option.{option_map, IsNone, MatchOption}
-use Rattle.std.proofs.lemmas.Bool.{cases_Bool, cond-true, cond-false}
+use Rattle.std.proofs.lemmas.Bool.{cases_Bool, cases_lt, cond-true, cond-false}
+use Rattle.std.proofs.lemmas.Grind.{common_steps}
 use Rattle.std.proofs.lemmas.Bool.Decides.{Decides-eqb}
 use Rattle.balanced_tree.specs.Row.{Functions, plain}
-use Rattle.balanced_tree.specs.Rows.{Rows, row_at, row_from, row_to, with_row, IsRising}
+use Rattle.balanced_tree.specs.Rows.{Rows, row_at, row_from, row_to, with_row, without_rank, IsBeside, AreAllBeside, IsRising}
 use Rattle.balanced_tree.specs.Pairs.{pair_rank, value_at, ArePairs, with_pair, IsNext, second_in}
-use Rattle.balanced_tree.proofs.PairLaws.{row-absent, row-there, values-put, value-found, value-seen, next-is, length-inserted, length-replaced}
-use Rattle.balanced_tree.proofs.ListLaws.{row_from-some, row_to-none, row_to-some}
+use Rattle.balanced_tree.proofs.PairLaws.{row-absent, row-there, values-put, values-taken, value-found, value-seen, next-is, length-inserted, length-replaced, length-taken}
+use Rattle.balanced_tree.proofs.ListLaws.{row_from-some, row_to-none, row_to-some, found-each}
+use Rattle.balanced_tree.proofs.RowLaws.{rises-filter}
 use Rattle.pair_map.specs.Maps.{count_of}
-use Rattle.pair_map.specs.Pairs.{pair_under, IsLast}
+use Rattle.pair_map.specs.Pairs.{pair_under, IsLast, HasNoneBetween}
 
 -- the rows of a map as they were inside, and as they were seen
 pub seen_rows : {R : Type 0} {was old : Rows R} → was ≡ old → was.rows ≡ old.rows
@@ -114,3 +116,60 @@ module _ {R V : Type 0} {f : Functions R} {first second : R → ℕ} {value : R 
                     (sym (cond-false _ _ _ there))
                     (λ b less. no-value b less (found.greatest (pair_rank a b) (omega arith) (omega arith)))
               ]
+
+  -- a pair gets another second number, where no other lies between
+  module _ {was old : Rows R} (seen : was ≡ old) (rising : IsRising f was.rows) (a q to n : ℕ) (n_is : n ≡ pair_rank a q) (few_q : q < 2 ^ 64) (few : to < 2 ^ 64)
+      (none : HasNoneBetween (value_at f value old.rows a) q to) where
+    between : (x : R) → row_at f (f.rank x) was.rows ≡ Some x → (k : ℕ) → f.rank x ≡ pair_rank a k → (k ≡ q → ⊥) → min q to ≤ k → k ≤ max q to → ⊥
+    between x at k rank apart low high =
+        let found = value-found pairs was.rows old.rows (seen_rows seen) a k (f.rank x) (omega arith) rank x at in
+        let gone = none k apart low high in
+        absurd cc
+
+    pub beside-pair : AreAllBeside f n (pair_rank a to) was.rows
+    beside-pair = found-each f (IsBeside f n (pair_rank a to)) 0 (2 ^ 128) was.rows rising each
+      where
+        each : (x : R) → row_at f (f.rank x) was.rows ≡ Some x → IsBeside f n (pair_rank a to) x
+        each x at = (
+          λ less. elim (cases_lt (f.rank x) (pair_rank a to)) [
+            | inl before ↦ before
+            | inr past ↦ absurd (between x at (f.rank x - a * 2 ^ 64) (omega arith) (λ same. absurd (omega arith)) (omega arith) (omega arith))
+          ],
+          λ more. elim (cases_lt (pair_rank a to) (f.rank x)) [
+            | inl behind ↦ behind
+            | inr short ↦ absurd (between x at (f.rank x - a * 2 ^ 64) (omega arith) (λ same. absurd (omega arith)) (omega arith) (omega arith))
+          ],
+        )
+
+    abbrev left_rows : List R
+    left_rows = without_rank f n was.rows
+
+    left_rising : IsRising f left_rows
+    left_rising = rises-filter f _ 0 (2 ^ 128) was.rows rising
+
+    left_values : value_at f value left_rows ≡ with_pair (value_at f value was.rows) a q None
+    left_values = values-taken pairs was.rows was.rows refl a q n few_q n_is left_rows refl
+
+    left_none : value_at f value left_rows a to ≡ None
+    unfolding with_pair
+    left_none = ap (λ (m : ℕ → ℕ → Option V). m a to) left_values ∙ elim (cases_Bool ((a == a) && (to == q))) [
+      | inl here ↦ cond-true _ _ _ here
+      | inr there ↦
+          cond-false _ _ _ there
+          ∙ (ap (λ (m : Rows R). value_at f value m.rows a to) seen
+          ∙ none to (λ same. let on : ((a == a) && (to == q)) ≡ true = grind (arith, common_steps) in absurd cc) (omega arith) (omega arith))
+    ]
+
+    module _ {v : V} (row : R) (rank : f.rank row ≡ pair_rank a to) (is : value row ≡ v) (new : Rows R) (put : new.rows ≡ with_row f (plain f row) left_rows) where
+      pub values-moved : value_at f value new.rows ≡ with_pair (with_pair (value_at f value old.rows) a q None) a to (Some v)
+      values-moved =
+          values-put pairs left_rows left_rows refl a to (f.rank row) few rank new.rows row refl put
+          ∙ (ap (λ w. with_pair (value_at f value left_rows) a to (Some w)) is
+          ∙ (ap (λ (m : ℕ → ℕ → Option V). with_pair m a to (Some v)) left_values
+          ∙ ap (λ (m : Rows R). with_pair (with_pair (value_at f value m.rows) a q None) a to (Some v)) seen))
+
+      pub count-moved : IsSome (value_at f value old.rows a q) → count_of new ≡ count_of old
+      count-moved some =
+          let more = length-inserted pairs left_rows left_rows refl a to (f.rank row) few rank new.rows left_rising row refl put left_none in
+          let less = length-taken pairs was.rows old.rows (seen_rows seen) a q n few_q n_is left_rows rising refl some in
+          omega (arith, more, less)

@@ -5,6 +5,7 @@ ghost use Rattle.std.specs.Option.{option_map};
 ghost use Rattle.balanced_tree.specs.Pairs.{with_pair, IsNext};
 ghost use Rattle.pair_map.specs.Maps.{values_of, count_of, spare_of};
 ghost use Rattle.pair_map.specs.PairRows.{value_of, pair_in};
+ghost use Rattle.pair_map.specs.Pairs.{HasNoneBetween};
 
 use crate::pair_row::PairRow;
 use balanced_tree::{BalancedTree, pair_rank};
@@ -102,6 +103,21 @@ impl<V: Copy> PairMap<V> {
     {
         let _rising = self.tree.len();
         self.tree.replace(PairRow::new(first, second, value));
+    }
+
+    /// Gives the pair of `first` and `to` a value in place of the pair of `first` and `second`, which has none then. Under
+    /// `first` no other number from one of the two to the other has a value. It changes one row.
+    pub fn replace_at(&mut self, first: u64, second: u64, to: u64, value: V)
+        requires there { IsSome (values_of self.old first second) }
+        requires between { HasNoneBetween (values_of self.old first) second to }
+        ensures values { values_of self.new ≡
+            with_pair (with_pair (values_of self.old) first second None) first to (Some value) }
+        ensures count { count_of self.new ≡ count_of self.old }
+        ensures spare { spare_of self.new ≡ spare_of self.old }
+    {
+        let _rising = self.tree.len();
+        self.tree
+            .replace_at(pair_rank(first, second), PairRow::new(first, to, value));
     }
 
     /// Takes the value of a pair away, and answers it.

@@ -1,13 +1,12 @@
 use Rattle.std.proofs.Common.{◌+◌, ◌-◌, Some, refl, ap, ◌∙◌, arith}
 use Rattle.balanced_tree.specs.Pairs.{with_pair}
-use Rattle.mapping_set.proofs.PartLaws.{LosesPages, absent-within, in-lists, in-taken, keep-head}
+use Rattle.mapping_set.proofs.PartLaws.{LosesPages, none-between, in-lists, in-taken, keep-head}
 use Rattle.mapping_set.proofs.mapping_set.MappingSet.keep_head.Goals as goal
 
-pub insert-requires-clause-absent : goal.insert-requires-clause-absent
-insert-requires-clause-absent c =
+pub replace_at-requires-clause-between : goal.replace_at-requires-clause-between
+replace_at-requires-clause-between c =
     let page = c.requires.page in
-    absent-within _ c.self.invariant _ c.self.view_is c.args.root.0 c.args.last c.args.piece c.requires.piece _ c.list_number-list.ensures.number c.len-apart.ensures.apart
-    _ _ c.remove.ensures.values (c.args.page - 1) (omega (arith, page.0)) (omega (arith, page.0, page.1))
+    λ b apart low high. none-between _ c.self.invariant _ c.self.view_is c.args.root.0 c.args.last c.args.piece c.requires.piece _ c.list_number-list.ensures.number c.len-apart.ensures.apart b (omega (arith, low, page.0, page.1)) (omega (arith, high, apart, page.0, page.1))
 
 pub shorten-requires-clause-head : goal.shorten-requires-clause-head
 shorten-requires-clause-head c =
@@ -21,11 +20,11 @@ shorten-requires-2-clause-head c =
     let e = in-taken _ c.self.invariant _ c.self.view_is c.args.root.0 c.args.last c.args.piece c.requires.piece _ c.list_number-list.ensures.number c.len-apart.ensures.apart in
     record { extent = e.extent; is = e.is; most = omega (arith, e.ends, page.1) }
 
-made : (c : goal.After-shorten-2) → LosesPages c.args.self.now (record { pieces = c.insert.new.self; lists = c.shorten.new.self; taken = c.shorten-2.new.self }) c.args.root.0 c.args.page (c.args.last + 1)
+made : (c : goal.After-shorten-2) → LosesPages c.args.self.now (record { pieces = c.replace_at.new.self; lists = c.shorten.new.self; taken = c.shorten-2.new.self }) c.args.root.0 c.args.page (c.args.last + 1)
 made c =
     let page = c.requires.page in
     keep-head _ c.self.invariant _ c.self.view_is c.args.root.0 c.args.last c.args.piece c.requires.piece _ c.list_number-list.ensures.number c.len-apart.ensures.apart
-    c.args.page page.0 page.1 c.until.result c.until.ensures _ _ refl (c.insert.ensures.values ∙ ap (λ m. with_pair m c.args.root.0 (c.args.page - 1) (Some c.until.result)) c.remove.ensures.values)
+    c.args.page page.0 page.1 c.until.result c.until.ensures _ _ refl c.replace_at.ensures.values
     c.shorten.ensures.extents c.shorten-2.ensures.extents
 
 pub invariant_of-self : goal.invariant_of-self
