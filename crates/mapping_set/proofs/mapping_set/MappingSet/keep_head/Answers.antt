@@ -1,5 +1,4 @@
-use Rattle.std.proofs.Common.{◌+◌, ◌-◌, Some, refl, ap, ◌∙◌, arith}
-use Rattle.balanced_tree.specs.Pairs.{with_pair}
+use Rattle.std.proofs.Common.{◌+◌, ◌-◌, refl, arith}
 use Rattle.mapping_set.proofs.PartLaws.{LosesPages, none-between, in-lists, in-taken, keep-head}
 use Rattle.mapping_set.proofs.mapping_set.MappingSet.keep_head.Goals as goal
 
