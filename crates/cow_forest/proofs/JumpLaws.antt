@@ -19,7 +19,7 @@ use Rattle.cow_arena.proofs.ReachLaws.{reach-each, reach-hidden, walk-arrives}
 use Rattle.cow_arena.proofs.RisesLaws.{rises-parent, rises-reach, rises-on, above-hidden}
 use Rattle.cow_split.specs.Cost.{IsMostOfLookUp, depth}
 use Rattle.cow_split.proofs.CostLaws.{depth-up, depth-some}
-use Rattle.cow_split.proofs.ClimbLaws.{IsClimbing, climb-start}
+use Rattle.cow_split.proofs.ClimbLaws.{IsClimbing, climb-start, climb-past}
 use Rattle.cow_split.proofs.OthersLaws.{reach-joined}
 use Rattle.cow_forest.specs.declared.jumps.Jump.{Jump}
 use Rattle.cow_forest.specs.declared.jumps.Place.{Place}
@@ -121,6 +121,21 @@ module _ (t : Tree) where
       (subst (λ (x : NodeId). Rises t k p jump.side x.0 place.page) (sym served.node)
       (subst (λ q. Rises t k p jump.side jump.to.0 q) (sym served.page) rises))
 
+-- A walk from page p of node k, that began at so many steps, has come to page q of node h, whose list has no row there. The
+-- steps that it has taken and may yet take are not more than those for each node above k.
+pub record IsRising (t : Tree) (rows k p start steps h q : ℕ) : Type 0 where
+  pub node : Node
+  pub climbing : IsClimbing t k p h q node
+  pub cost : (most : ℕ) → IsMostOfLookUp rows most →
+      steps + depth t.nodes t.lists h * most ≤ start + depth t.nodes t.lists k * most
+
+pub rising-start : (t : Tree) (rows k p start : ℕ) → IsSomeAnd (t.nodes k) (λ n. t.slots n.list.0 p ≡ None) → IsRising t rows k p start start k p
+rising-start t rows k p start bare = at (t.nodes k) refl
+  where
+    at : (o : Option Node) → t.nodes k ≡ o → IsRising t rows k p start start k p
+    at None is = absurd (rw is at bare)
+    at (Some node) is = record { node = node; climbing = climb-start t k p node is bare; cost = λ most m. omega arith }
+
 module _ (t : Tree) (f : IsForest t.nodes t.lists) where
   -- the parent has every page of the window
   pub window-fits : (k : ℕ) (parent : NodeId) (node above : Node) → t.nodes k ≡ Some node → node.parent ≡ Some parent → t.nodes parent.0 ≡ Some above →
@@ -161,36 +176,64 @@ module _ (t : Tree) (f : IsForest t.nodes t.lists) where
       let wide : down * most ≡ up * most + most + more * most = ap (λ d. d * most) all ∙ omega arith in
       omega arith
 
-  module _ (rows k p start steps h q : ℕ) (node : Node) (c : IsClimbing t rows k p start steps h q node) (side : Side) (g r : ℕ) (above : Node) (now : ℕ)
-      (rises : Rises t h q side g r) (above_at : t.nodes g ≡ Some above) (looked : 2 ^ (now - steps) ≤ (rows + 1) ^ 2) where
-    on : Reaches t h q side g r
-    on = rises-reach t h q side g r node c.there c.free rises
+  -- a look-up in the list of one node costs no more than one for each node up to the root
+  pub cost_of_one : (rows k start now : ℕ) (node : Node) → t.nodes k ≡ Some node → 2 ^ (now - start) ≤ (rows + 1) ^ 2 →
+      (most : ℕ) → IsMostOfLookUp rows most → now ≤ start + depth t.nodes t.lists k * most
+  cost_of_one rows k start now node at looked most m =
+      let few = m.most_is (now - start) looked in
+      let some = depth-some t.nodes t.lists f k node at in
+      let up = depth t.nodes t.lists k - 1 in
+      let all : depth t.nodes t.lists k ≡ up + 1 = omega arith in
+      omega (arith, ap (λ d. d * most) all)
 
-    way : Reaches t k p side g r
-    way = way-joined k p c.from h q side g r c.way on
-
-    cost_on : (most : ℕ) → IsMostOfLookUp rows most → now + depth t.nodes t.lists g * most ≤ start + depth t.nodes t.lists k * most
-    cost_on most m = look_cost rows most steps now (depth t.nodes t.lists g) (depth t.nodes t.lists h) (start + depth t.nodes t.lists k * most) m looked
-        (depth-reach h q side g r on) (c.cost most m)
-
-    -- the node has a row there, at which the walk ends
-    pub rise-found : (slot : Slot) → t.slots above.list.0 r ≡ Some slot → walk t k p ≡ Some (record { node = g; page = r; side = Some side; slot = slot })
-    rise-found slot row = walk-arrives t f k p (Some side) g r slot way (record { node = above; at = above_at; row = row })
-
-    pub rise-cost : (most : ℕ) → IsMostOfLookUp rows most → now + most ≤ start + depth t.nodes t.lists k * most
-    rise-cost most m =
-        let some = depth-some t.nodes t.lists f g above above_at in
-        let up = depth t.nodes t.lists g - 1 in
-        let all : depth t.nodes t.lists g ≡ up + 1 = omega arith in
-        let after = cost_on most m in
+  module _ (rows k p start steps h q : ℕ) (c : IsRising t rows k p start steps h q) where
+    -- what it cost to come here, where no look-up was done since
+    pub rise-ended : (most : ℕ) → IsMostOfLookUp rows most → steps + most ≤ start + depth t.nodes t.lists k * most
+    rise-ended most m =
+        let some = depth-some t.nodes t.lists f h c.node c.climbing.there in
+        let up = depth t.nodes t.lists h - 1 in
+        let all : depth t.nodes t.lists h ≡ up + 1 = omega arith in
+        let before = c.cost most m in
         omega (arith, ap (λ d. d * most) all)
 
-    -- it has none
-    pub rise-on : t.slots above.list.0 r ≡ None → IsClimbing t rows k p start now g r above
-    rise-on free = record { from = Some side; there = above_at; way = way; free = free; cost = cost_on }
+    -- the walk ends with nothing at a page outside the node's window
+    pub rise-past : ((node : Node) → t.nodes h ≡ Some node → node.seen ≤ q) → walk t k p ≡ None
+    rise-past outside = climb-past t f k p h q c.node c.climbing (outside c.node c.climbing.there)
 
-    pub rise-less : depth t.nodes t.lists g < depth t.nodes t.lists h
-    rise-less = let less = depth-reach h q side g r on in omega arith
+    module _ (side : Side) (g r : ℕ) (above : Node) (now : ℕ) (rises : Rises t h q side g r) (above_at : t.nodes g ≡ Some above)
+        (looked : 2 ^ (now - steps) ≤ (rows + 1) ^ 2) where
+      on : Reaches t h q side g r
+      on = rises-reach t h q side g r c.node c.climbing.there c.climbing.free rises
+
+      way : Reaches t k p side g r
+      way = way-joined k p c.climbing.from h q side g r c.climbing.way on
+
+      cost_on : (most : ℕ) → IsMostOfLookUp rows most → now + depth t.nodes t.lists g * most ≤ start + depth t.nodes t.lists k * most
+      cost_on most m = look_cost rows most steps now (depth t.nodes t.lists g) (depth t.nodes t.lists h) (start + depth t.nodes t.lists k * most) m looked
+          (depth-reach h q side g r on) (c.cost most m)
+
+      -- the node has a row there, at which the walk ends
+      pub rise-found : (slot : Slot) → t.slots above.list.0 r ≡ Some slot → walk t k p ≡ Some (record { node = g; page = r; side = Some side; slot = slot })
+      rise-found slot row = walk-arrives t f k p (Some side) g r slot way (record { node = above; at = above_at; row = row })
+
+      pub rise-cost : (most : ℕ) → IsMostOfLookUp rows most → now + most ≤ start + depth t.nodes t.lists k * most
+      rise-cost most m =
+          let some = depth-some t.nodes t.lists f g above above_at in
+          let up = depth t.nodes t.lists g - 1 in
+          let all : depth t.nodes t.lists g ≡ up + 1 = omega arith in
+          let after = cost_on most m in
+          omega (arith, ap (λ d. d * most) all)
+
+      -- it has none
+      pub rise-on : t.slots above.list.0 r ≡ None → IsRising t rows k p start now g r
+      rise-on free = record {
+        node = above;
+        climbing = record { from = Some side; there = above_at; way = way; free = free };
+        cost = cost_on;
+      }
+
+      pub rise-less : depth t.nodes t.lists g < depth t.nodes t.lists h
+      rise-less = let less = depth-reach h q side g r on in omega arith
 
 -- ---- the table
 
@@ -251,18 +294,6 @@ empty-jumps t next table some none numbers = record {
 }
 
 -- ---- a walk by jumps
-
--- A walk from page p of node k, that began at so many steps, has come to page q of node h, whose list has no row there.
-pub record IsRising (t : Tree) (rows k p start steps h q : ℕ) : Type 0 where
-  pub node : Node
-  pub climbing : IsClimbing t rows k p start steps h q node
-
-pub rising-start : (t : Tree) (rows k p start : ℕ) → IsSomeAnd (t.nodes k) (λ n. t.slots n.list.0 p ≡ None) → IsRising t rows k p start start k p
-rising-start t rows k p start bare = at (t.nodes k) refl
-  where
-    at : (o : Option Node) → t.nodes k ≡ o → IsRising t rows k p start start k p
-    at None is = absurd (rw is at bare)
-    at (Some node) is = record { node = node; climbing = climb-start t rows k p start node is bare }
 
 -- ---- the list of jumps
 

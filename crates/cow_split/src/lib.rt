@@ -16,7 +16,7 @@ mod search;
 mod viewers;
 
 pub use answers::{Cut, Holder};
-pub use climbing::{holder, holder_above, holder_counted};
+pub use climbing::{holder, holder_above};
 pub use cutting::{cut, cut_holder, cut_row, is_last};
 pub use existing::reached_from;
 pub use search::{sees, side_seen};

@@ -1,7 +1,7 @@
 use Rattle.std.proofs.Common.{sym, ap}
 use Rattle.cow_arena.proofs.WalkLaws.{walk-row}
 use Rattle.cow_split.specs.Trees.{tree_of, holder_of}
-use Rattle.cow_split.proofs.ClimbLaws.{cost_of_one}
+use Rattle.cow_forest.proofs.JumpLaws.{cost_of_one}
 use Rattle.cow_forest.proofs.jumping.holder_by_jumps_counted.Goals as goal
 
 pub returns-in-Some-clause-holder : goal.returns-in-Some-clause-holder

@@ -1,5 +1,11 @@
+use Rattle.cow_arena.specs.Nodes.{nodes_of}
+use Rattle.cow_split.specs.Trees.{tree_of}
+use Rattle.cow_split.specs.Cost.{depth}
+use Rattle.cow_split.proofs.ClimbLaws.{IsClimbing}
 use Rattle.cow_split.proofs.climbing.holder_above.Given as goal
 
--- the ledger of the count that is thrown away
-abbrev pub ghosts-climb_with : goal.ghosts-climb_with
-ghosts-climb_with a = record { name = a.blank.name; parts = a.blank.parts }
+abbrev pub invariant-loop-node : goal.invariant-loop-node
+invariant-loop-node l = IsClimbing (tree_of l.arena l.lists) l.fn.leaf.0 l.fn.page l.at.0 l.here l.node
+
+abbrev pub decreases-loop-node : goal.decreases-loop-node
+decreases-loop-node l = depth (nodes_of l.arena) l.arena.lists l.at.0
