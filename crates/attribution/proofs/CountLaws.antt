@@ -15,7 +15,7 @@ use Rattle.vm_model.proofs.ContentLaws.{IsOfHeld, IsOfHeld-held}
 use Rattle.page_store.specs.declared.page_store.Look.TheVariants as look
 use Rattle.page_store.specs.Pages.{look_at}
 use Rattle.attribution.specs.declared.counts.Counts.{Counts}
-use Rattle.attribution.specs.Counts.{AreCounts}
+use Rattle.attribution.specs.inside.Counts.{AreCounts}
 use Rattle.attribution.proofs.AttributionLaws.{is_held-some, is_shared-some, is_charged-at, is_charged_page-some, is_charged-least, IsOfHeld-sole, IsOfHeld-shared, IsOfHeld-charged}
 
 -- ---- a test as a number

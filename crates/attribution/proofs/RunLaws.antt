@@ -12,7 +12,7 @@ use Rattle.vm_model.specs.Space.Table.{entry_behind, mapping_from}
 use Rattle.vm_model.specs.Space.Mappings.{is_mapped_in, page_run, goes_on, run_before, runs_of}
 use Rattle.mapping_set.specs.declared.piece.Piece.{Piece}
 use Rattle.mapping_set.specs.Tables.{IsBare, IsFirstPiece}
-use Rattle.attribution.specs.BegunRuns.{begun_before, run_of}
+use Rattle.attribution.specs.inside.BegunRuns.{begun_before, run_of}
 
 -- ---- a run before runs
 

@@ -5,7 +5,7 @@ ghost use Rattle.vm_model.specs.Contents.Content.{pages_of, IsGood};
 ghost use Rattle.vm_model.specs.Machine.Attribution.{is_charged};
 ghost use Rattle.page_store.specs.declared.page_store.Look.{Look};
 ghost use Rattle.page_store.specs.Pages.{look_at};
-ghost use Rattle.attribution.specs.Counts.{AreCounts};
+ghost use Rattle.attribution.specs.inside.Counts.{AreCounts};
 
 use page_store::{Look, PageStore};
 use vm_base::{Koid, PageNo, Tag};

@@ -8,7 +8,7 @@ ghost use Rattle.vm_model.specs.Space.Mappings.{is_mapped_in, goes_on, run_befor
 ghost use Rattle.vm_model.specs.Space.Regions.{end_of, region_of};
 ghost use Rattle.mapping_set.specs.Tables.{table_of, IsBare, IsFirstPiece};
 ghost use Rattle.region_tree.specs.Tree.{regions_of, is_live_region};
-ghost use Rattle.attribution.specs.BegunRuns.{begun_before, run_of};
+ghost use Rattle.attribution.specs.inside.BegunRuns.{begun_before, run_of};
 
 use mapping_set::{MappingSet, Piece};
 use region_tree::Regions;

@@ -5,7 +5,7 @@ use Rattle.std.proofs.Math.Pow.{pow_mono}
 use Rattle.std.proofs.lemmas.Bool.{cases_lt}
 use Rattle.std.proofs.lemmas.Nat.{pow-add, mul-pow}
 use Rattle.balanced_tree.specs.Row.{Functions, plain}
-use Rattle.balanced_tree.specs.Tree.{Tree, Leaf, Node, height, IsBalanced, rows_of}
+use Rattle.balanced_tree.specs.inside.Tree.{Tree, Leaf, Node, height, IsBalanced, rows_of}
 
 square_sum : (a b c : ℕ) → c ≤ a ^ 2 → c ≤ b ^ 2 → 4 * c ≤ (a + b) ^ 2
 square_sum a b c g h =

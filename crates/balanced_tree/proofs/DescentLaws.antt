@@ -3,8 +3,8 @@ use Rattle.std.proofs.Common.{◌≡◌, ℕ, ◌+◌, ◌<◌, ◌≤◌, Bool,
 use Rattle.std.specs.Option.{option_map}
 use Rattle.slab.specs.Slab.{Slab, get, ContainsKey}
 use Rattle.balanced_tree.specs.Row.{Functions, AreLawful, plain}
-use Rattle.balanced_tree.specs.Tree.{Tree, Leaf, height, found}
-use Rattle.balanced_tree.specs.Standing.{IsStanding, Stands, height_at}
+use Rattle.balanced_tree.specs.inside.Tree.{Tree, Leaf, height, found}
+use Rattle.balanced_tree.specs.inside.Standing.{IsStanding, Stands, height_at}
 use Rattle.balanced_tree.proofs.Spelling.{ContainsKey-place_of}
 use Rattle.balanced_tree.proofs.Nodes.{node_of, standing-at, height_at-standing, height-left, height-right, falls-left, lower-left, lower-right, found-leaf, found-left, found-right, found-here}
 

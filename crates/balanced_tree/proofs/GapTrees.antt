@@ -8,9 +8,9 @@ use Rattle.balanced_tree.specs.declared.spans.Span.{Span}
 use Rattle.balanced_tree.specs.Row.{Functions, AreLawful, plain}
 use Rattle.balanced_tree.specs.Extents.{Extents, AreSpanned, highest_over, span_over, span_in}
 use Rattle.balanced_tree.specs.Gaps.{ApartWithin, IsFree, HasNoGap, IsFirstGap}
-use Rattle.balanced_tree.specs.GapSearch.{span_of, HasSearched}
-use Rattle.balanced_tree.specs.Tree.{Tree, Leaf, Node, height, child_of, rows_of}
-use Rattle.balanced_tree.specs.Standing.{child_under, child_at, IsStanding}
+use Rattle.balanced_tree.specs.inside.GapSearch.{span_of, HasSearched}
+use Rattle.balanced_tree.specs.inside.Tree.{Tree, Leaf, Node, height, child_of, rows_of}
+use Rattle.balanced_tree.specs.inside.Standing.{child_under, child_at, IsStanding}
 use Rattle.balanced_tree.proofs.Spelling.{child_at-place_of}
 use Rattle.balanced_tree.proofs.Nodes.{IsNode, height-left, height-right}
 use Rattle.balanced_tree.proofs.GapLaws.{IsApartAt, ApartWithin-split, ApartWithin-join, ApartWithin-bounds, ApartWithin-lower, IsFree-behind, IsFree-gap, HasNoGap-gap, gap_within, gap_within-append, IsFirstGap-left, searched-right, searched-start}

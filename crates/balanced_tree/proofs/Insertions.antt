@@ -3,8 +3,8 @@ use Rattle.std.proofs.Common.{◌≡◌, ℕ, ◌+◌, ◌<◌, ◌≤◌, cond,
 use Rattle.std.proofs.lemmas.Bool.{lt-ltb, le-ltb, cond-true, cond-false}
 use Rattle.slab.specs.Slab.{Slab, get, slab_len, Updates}
 use Rattle.balanced_tree.specs.Row.{Functions, AreLawful}
-use Rattle.balanced_tree.specs.Tree.{Tree, Leaf, Node, place_of, balanced, inserted}
-use Rattle.balanced_tree.specs.Standing.{child_at, Same, IsStanding, Becomes, IsSplit, HasInserted}
+use Rattle.balanced_tree.specs.inside.Tree.{Tree, Leaf, Node, place_of, balanced, inserted}
+use Rattle.balanced_tree.specs.inside.Standing.{child_at, Same, IsStanding, Becomes, IsSplit, HasInserted}
 use Rattle.balanced_tree.proofs.Spelling.{Keeps-trans, Same-refl, split_over, split_with, place_over-tree}
 use Rattle.balanced_tree.proofs.Nodes.{IsNode, rank_here, height-left, height-right, right_is, left_is, same_again, left_again, right_again, again_left, again_right, split_left, split_right, kept_wider_left, kept_wider_right, has_rank-left, has_rank-right, has_rank-here}
 

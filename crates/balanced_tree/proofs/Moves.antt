@@ -3,8 +3,8 @@ use Rattle.std.proofs.Common.{◌≡◌, ℕ, ◌+◌, ◌<◌, ◌≤◌, Optio
 use Rattle.std.proofs.lemmas.Bool.{cases_lt}
 use Rattle.slab.specs.Slab.{Slab, get, slab_len, ContainsKey, Updates}
 use Rattle.balanced_tree.specs.Row.{Functions, AreLawful}
-use Rattle.balanced_tree.specs.Tree.{Tree, Leaf, Node, moved, AreBeside}
-use Rattle.balanced_tree.specs.Standing.{child_at, IsStanding, StandsBeside, Becomes, IsSplit, HasMoved}
+use Rattle.balanced_tree.specs.inside.Tree.{Tree, Leaf, Node, moved, AreBeside}
+use Rattle.balanced_tree.specs.inside.Standing.{child_at, IsStanding, StandsBeside, Becomes, IsSplit, HasMoved}
 use Rattle.balanced_tree.proofs.Spelling.{Keeps-refl, Same-refl, child_at-link, ContainsKey-place_of, place_over-tree}
 use Rattle.balanced_tree.proofs.Nodes.{IsNode, node_of, standing-at, rank_here, height-left, height-right, right_is, left_is, same_again, again_left, again_right, split_left, split_right, left_kept, right_kept}
 use Rattle.balanced_tree.proofs.Insertions.{Becomes-left, Becomes-right}

@@ -5,8 +5,8 @@ use Rattle.std.proofs.lemmas.Option.{same_Some}
 use Rattle.slab.specs.Slab.{Slab, get, ContainsKey, HasRoomFor}
 use Rattle.std.specs.Option.{option_map}
 use Rattle.balanced_tree.specs.Row.{Functions, AreLawful, height_in, plain}
-use Rattle.balanced_tree.specs.Tree.{Tree, Leaf, Node, place_of, height, child_of, stored, has_rank, row_in, found}
-use Rattle.balanced_tree.specs.Standing.{child_at, Spells, Same, IsStanding, Stands, StandsFor, Keeps, Becomes, IsSplit, Splits, height_at}
+use Rattle.balanced_tree.specs.inside.Tree.{Tree, Leaf, Node, place_of, height, child_of, stored, has_rank, row_in, found}
+use Rattle.balanced_tree.specs.inside.Standing.{child_at, Spells, Same, IsStanding, Stands, StandsFor, Keeps, Becomes, IsSplit, Splits, height_at}
 use Rattle.balanced_tree.proofs.Spelling.{link_of-child_of, child_at-place_of, IsOrdered-bounds, Same-linked, Spells-kept, split_over, split_with, ContainsKey-place_of}
 
 module _ {R : Type 0} (f : Functions R) where

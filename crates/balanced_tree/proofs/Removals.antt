@@ -4,8 +4,8 @@ use Rattle.std.proofs.lemmas.Bool.{lt-ltb, le-ltb, cond-true, cond-false}
 use Rattle.std.proofs.lemmas.Option.{same_Some}
 use Rattle.slab.specs.Slab.{Slab, get, slab_len, Updates}
 use Rattle.balanced_tree.specs.Row.{Functions, AreLawful, plain}
-use Rattle.balanced_tree.specs.Tree.{Tree, Leaf, Node, is_leaf, place_of, IsOrdered, balanced, least, without_least, without_root, removed}
-use Rattle.balanced_tree.specs.Standing.{Spells, Same, IsStanding, Keeps, Becomes, IsSplit, Splits, HasRemoved, HasTakenLeast, HasTakenRoot}
+use Rattle.balanced_tree.specs.inside.Tree.{Tree, Leaf, Node, is_leaf, place_of, IsOrdered, balanced, least, without_least, without_root, removed}
+use Rattle.balanced_tree.specs.inside.Standing.{Spells, Same, IsStanding, Keeps, Becomes, IsSplit, Splits, HasRemoved, HasTakenLeast, HasTakenRoot}
 use Rattle.balanced_tree.proofs.Spelling.{Keeps-refl, Keeps-trans, Keeps-wider, Keeps-Updates, Spells-kept, split_over}
 use Rattle.balanced_tree.proofs.Nodes.{IsNode, rank_here, height-left, height-right, in_low, in_high, same_again, left_again, right_again, stays_left, stays_right, again_left, again_right, right_kept, left_kept, split_left, split_right, kept_wider_left, has_rank-left, has_rank-right, has_rank-here, row_in-left, row_in-right, row_in-here, IsSplit-Same}
 use Rattle.balanced_tree.proofs.Insertions.{Balances, Becomes-left, Becomes-right}

@@ -9,7 +9,7 @@ use Rattle.std.proofs.lemmas.List.Elements.{filter-append}
 use Rattle.std.proofs.lemmas.List.Folds.{find-append}
 use Rattle.balanced_tree.specs.Row.{Functions, AreLawful, plain}
 use Rattle.balanced_tree.specs.Rows.{if_at, row_at, row_from, row_to, with_row, without_rank, IsBeside, AreAllBeside, RisesWithin}
-use Rattle.balanced_tree.specs.Tree.{Tree, Leaf, Node, is_leaf, rows_of, IsOrdered, has_rank, row_in, found, inserted, least, without_least, without_root, removed, moved, AreBeside}
+use Rattle.balanced_tree.specs.inside.Tree.{Tree, Leaf, Node, is_leaf, rows_of, IsOrdered, has_rank, row_in, found, inserted, least, without_least, without_root, removed, moved, AreBeside}
 use Rattle.balanced_tree.proofs.TreeLaws.{rows-balanced, moved-left, moved-right, moved-here, ordered-below, ordered-above}
 
 pub option_or-none : {A : Type 0} (o : Option A) → option_or o None ≡ o

@@ -6,8 +6,8 @@ use Rattle.std.specs.Option.{ForSome}
 use Rattle.slab.specs.Slab.{Slab, get, ContainsKey, Updates}
 use Rattle.balanced_tree.specs.declared.children.Child.{Child}
 use Rattle.balanced_tree.specs.Row.{Functions, AreLawful, link_of, height_in}
-use Rattle.balanced_tree.specs.Tree.{Tree, Leaf, Node, place_of, child_of, stored, IsOrdered}
-use Rattle.balanced_tree.specs.Standing.{child_under, child_at, Spells, Same, Keeps, Becomes, IsSplit, height_at}
+use Rattle.balanced_tree.specs.inside.Tree.{Tree, Leaf, Node, place_of, child_of, stored, IsOrdered}
+use Rattle.balanced_tree.specs.inside.Standing.{child_under, child_at, Spells, Same, Keeps, Becomes, IsSplit, height_at}
 
 -- what is picked of one thing or none is that thing
 pub picked-is : {A : Type 0} (b : Bool) (o picked : Option A) (m : A) → picked ≡ cond b o None → picked ≡ Some m → o ≡ Some m

@@ -4,7 +4,7 @@ use Rattle.std.proofs.lemmas.Bool.{ltb-true, ltb-false, cond_both, cond-true, co
 use Rattle.std.proofs.lemmas.Grind.{common_steps}
 use Rattle.std.proofs.lemmas.List.{append_assoc}
 use Rattle.balanced_tree.specs.Row.{Functions, AreLawful, plain}
-use Rattle.balanced_tree.specs.Tree.{Tree, Leaf, Node, is_leaf, height, IsBalanced, stored, rows_of, leaned_right, leaned_left, balanced, inserted, least, without_least, without_root, removed, place_of, IsOrdered, moved, AreBeside}
+use Rattle.balanced_tree.specs.inside.Tree.{Tree, Leaf, Node, is_leaf, height, IsBalanced, stored, rows_of, leaned_right, leaned_left, balanced, inserted, least, without_least, without_root, removed, place_of, IsOrdered, moved, AreBeside}
 use Rattle.balanced_tree.proofs.Spelling.{IsOrdered-bounds}
 use Rattle.balanced_tree.proofs.Nodes.{stored-short}
 

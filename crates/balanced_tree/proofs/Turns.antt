@@ -5,8 +5,8 @@ use Rattle.std.proofs.lemmas.Option.{same_Some}
 use Rattle.slab.specs.Slab.{Slab, Updates}
 use Rattle.balanced_tree.specs.declared.children.Child.{Child}
 use Rattle.balanced_tree.specs.Row.{Functions, AreLawful, height_in}
-use Rattle.balanced_tree.specs.Tree.{Tree, Leaf, Node, place_of, child_of, stored, leaned_right, leaned_left, balanced}
-use Rattle.balanced_tree.specs.Standing.{child_at, Spells, Same, Keeps, IsSplit, height_at}
+use Rattle.balanced_tree.specs.inside.Tree.{Tree, Leaf, Node, place_of, child_of, stored, leaned_right, leaned_left, balanced}
+use Rattle.balanced_tree.specs.inside.Standing.{child_at, Spells, Same, Keeps, IsSplit, height_at}
 use Rattle.balanced_tree.proofs.Spelling.{link_of-child_of, child_at-place_of, height_at-link, IsOrdered-bounds, Spells-kept, Keeps-trans, Keeps-wider, Same-linked, IsPlaced, split_over, split_with, place_over-tree, picked-is, picked-test, not_picked}
 
 module _ {R : Type 0} (f : Functions R) where

@@ -3,8 +3,8 @@ use Rattle.std.proofs.Common.{◌≡◌, ℕ, zero, suc, ◌+◌, ◌-◌, ◌*�
 use Rattle.slab.specs.Slab.{Slab, slab_len}
 use Rattle.balanced_tree.specs.Row.{Functions, AreLawful, plain}
 use Rattle.balanced_tree.specs.Rows.{if_at, row_at, row_from, row_to, with_row, without_rank, AreAllBeside, IsRising}
-use Rattle.balanced_tree.specs.Tree.{Tree, Leaf, Node, place_of, height, child_of, rows_of, has_rank, row_in, found, inserted, removed, moved, AreBeside}
-use Rattle.balanced_tree.specs.Standing.{Spells, IsStanding, HasInserted, HasRemoved, HasMoved, height_at, rows_down, rows_in, IsTree}
+use Rattle.balanced_tree.specs.inside.Tree.{Tree, Leaf, Node, place_of, height, child_of, rows_of, has_rank, row_in, found, inserted, removed, moved, AreBeside}
+use Rattle.balanced_tree.specs.inside.Standing.{Spells, IsStanding, HasInserted, HasRemoved, HasMoved, height_at, rows_down, rows_in, IsTree}
 use Rattle.balanced_tree.proofs.Spelling.{link_of-child_of, child_at-place_of}
 use Rattle.balanced_tree.proofs.Nodes.{height_at-standing}
 use Rattle.balanced_tree.proofs.TreeLaws.{IsGrown, IsShrunk, grown-inserted, shrunk-removed, place-moved, height-moved, balanced-moved, length-moved}

@@ -1,9 +1,6 @@
 pub mod Row
 pub mod Rows
 pub mod Pairs
-pub mod Tree
-pub mod Standing
-pub mod Placing
 pub mod Extents
 pub mod Gaps
-pub mod GapSearch
+pub mod inside

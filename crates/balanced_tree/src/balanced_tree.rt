@@ -38,7 +38,7 @@ impl<R: TreeRow> Model for BalancedTree<R> {
 
     ghost coded = { rows_code R.code };
 
-    ghost use Rattle.balanced_tree.specs.Standing.{rows_in, IsTree};
+    ghost use Rattle.balanced_tree.specs.inside.Standing.{rows_in, IsTree};
 
     ghost view = { λ t. rows_in R.functions t.rows t.root };
 

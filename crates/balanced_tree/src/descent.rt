@@ -3,8 +3,8 @@
 ghost use Rattle.std.specs.Prelude.{◌≡◌, ℕ, ◌+◌, ◌≤◌, false, Some, None, cond, option_copied};
 ghost use Rattle.std.specs.Option.{option_map};
 ghost use Rattle.balanced_tree.specs.Row.{plain};
-ghost use Rattle.balanced_tree.specs.Standing.{IsStanding, Stands};
-ghost use Rattle.balanced_tree.specs.Tree.{Tree, height, found};
+ghost use Rattle.balanced_tree.specs.inside.Standing.{IsStanding, Stands};
+ghost use Rattle.balanced_tree.specs.inside.Tree.{Tree, height, found};
 
 use crate::row_slab::RowSlab;
 use crate::steps::Steps;

@@ -3,9 +3,9 @@
 ghost use Rattle.std.specs.Prelude.{◌≡◌, ◌⊎◌, ◌↔◌, ℕ, ◌+◌, ◌<◌, ◌≤◌, IsTrue};
 ghost use Rattle.std.specs.Prelude.{if◌then◌else◌, nat_le, Some, None};
 ghost use Rattle.balanced_tree.specs.Gaps.{ApartWithin};
-ghost use Rattle.balanced_tree.specs.GapSearch.{HasSearched};
-ghost use Rattle.balanced_tree.specs.Standing.{IsStanding, Stands};
-ghost use Rattle.balanced_tree.specs.Tree.{Tree, rows_of};
+ghost use Rattle.balanced_tree.specs.inside.GapSearch.{HasSearched};
+ghost use Rattle.balanced_tree.specs.inside.Standing.{IsStanding, Stands};
+ghost use Rattle.balanced_tree.specs.inside.Tree.{Tree, rows_of};
 
 use crate::extent_row::ExtentRow;
 use crate::row_slab::RowSlab;

@@ -1,8 +1,8 @@
 //! A row that is put into the tree.
 
 ghost use Rattle.std.specs.Prelude.{◌≡◌, ℕ, ◌<◌, ◌≤◌};
-ghost use Rattle.balanced_tree.specs.Tree.{Tree};
-ghost use Rattle.balanced_tree.specs.Standing.{IsStanding, StandsFor, HasInserted};
+ghost use Rattle.balanced_tree.specs.inside.Tree.{Tree};
+ghost use Rattle.balanced_tree.specs.inside.Standing.{IsStanding, StandsFor, HasInserted};
 
 use crate::rotation::{balance, put_over};
 use crate::row_slab::RowSlab;

@@ -1,8 +1,8 @@
 //! A row that comes in place of one of another rank.
 
 ghost use Rattle.std.specs.Prelude.{◌≡◌, ℕ, ◌<◌, ◌≤◌};
-ghost use Rattle.balanced_tree.specs.Tree.{Tree, AreBeside};
-ghost use Rattle.balanced_tree.specs.Standing.{IsStanding, StandsBeside, HasMoved};
+ghost use Rattle.balanced_tree.specs.inside.Tree.{Tree, AreBeside};
+ghost use Rattle.balanced_tree.specs.inside.Standing.{IsStanding, StandsBeside, HasMoved};
 
 use crate::rotation::put_over;
 use crate::row_slab::RowSlab;

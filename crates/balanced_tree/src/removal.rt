@@ -1,8 +1,8 @@
 //! A row that is taken out of the tree.
 
 ghost use Rattle.std.specs.Prelude.{◌≡◌, ℕ, Some};
-ghost use Rattle.balanced_tree.specs.Tree.{Tree};
-ghost use Rattle.balanced_tree.specs.Standing.{IsStanding, Stands, HasRemoved, HasTakenLeast, HasTakenRoot};
+ghost use Rattle.balanced_tree.specs.inside.Tree.{Tree};
+ghost use Rattle.balanced_tree.specs.inside.Standing.{IsStanding, Stands, HasRemoved, HasTakenLeast, HasTakenRoot};
 
 use crate::rotation::balance;
 use crate::row_slab::RowSlab;

@@ -4,9 +4,9 @@ ghost use Rattle.std.specs.Prelude.{◌≡◌, ℕ, ◌+◌, ◌^◌, ◌<◌, �
 ghost use Rattle.std.specs.Option.{ForSome};
 ghost use Rattle.slab.specs.Slab.{slab_len, ContainsKey, Updates};
 ghost use Rattle.balanced_tree.specs.Row.{height_in};
-ghost use Rattle.balanced_tree.specs.Tree.{Tree, place_of, leaned_right, leaned_left, balanced};
-ghost use Rattle.balanced_tree.specs.Placing.{PlacesThree};
-ghost use Rattle.balanced_tree.specs.Standing.{child_at, height_at, IsSplit, Splits, Becomes, Same};
+ghost use Rattle.balanced_tree.specs.inside.Tree.{Tree, place_of, leaned_right, leaned_left, balanced};
+ghost use Rattle.balanced_tree.specs.inside.Placing.{PlacesThree};
+ghost use Rattle.balanced_tree.specs.inside.Standing.{child_at, height_at, IsSplit, Splits, Becomes, Same};
 
 use crate::children::Child;
 use crate::row_slab::RowSlab;

@@ -12,7 +12,7 @@ use Rattle.cow_arena.specs.Nodes.{Nodes, Arena, AreFamily, link_to, nodes_of, no
 use Rattle.cow_arena.specs.Forest.{IsForest, IsForestBy}
 use Rattle.cow_arena.specs.Changes.{root_node, window_first, relinked, hidden_over, below_hidden, snapshot_node, paired, lifted, spliced}
 use Rattle.cow_arena.specs.Counts.{hidden_count, visible_count}
-use Rattle.cow_arena.specs.Fields.{arena_of, root_count, IsArena}
+use Rattle.cow_arena.specs.inside.Fields.{arena_of, root_count, IsArena}
 use Rattle.cow_arena.proofs.LinkLaws.{link_same}
 use Rattle.cow_arena.proofs.SlotLaws.{nodes_written}
 use Rattle.cow_arena.proofs.ForestLaws.{SamePlace, IsFit, some_and, fits_window, fits_count, no_nodes, resized_by, rooted_by, unrooted_by, root_rank}

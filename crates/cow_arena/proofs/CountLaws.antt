@@ -15,7 +15,7 @@ use Rattle.cow_arena.specs.Forest.{IsForestBy}
 use Rattle.cow_arena.specs.Changes.{moved_link, relinked, paired, spliced, hidden_over, below_hidden, snapshot_node, lifted}
 use Rattle.cow_arena.specs.Counts.{visible_count, HasFewerHidden}
 use Rattle.cow_arena.specs.declared.arena.CowArena.TheInside.{Inside}
-use Rattle.cow_arena.specs.Fields.{arena_of, root_count, IsArena}
+use Rattle.cow_arena.specs.inside.Fields.{arena_of, root_count, IsArena}
 use Rattle.cow_arena.proofs.LinkLaws.{moved, relinked_at}
 use Rattle.cow_arena.proofs.ForestLaws.{held_apart}
 

@@ -12,7 +12,7 @@ use Rattle.cow_arena.specs.Nodes.{Nodes, Arena, nodes_of, IsVisible, AreFamily}
 use Rattle.cow_arena.specs.Walk.{Tree, Slots, tree_with, walk, frame_found}
 use Rattle.cow_arena.specs.Forest.{IsForest, AreListed}
 use Rattle.cow_arena.specs.Changes.{paired, spliced}
-use Rattle.cow_arena.specs.Fields.{arena_of, IsArena}
+use Rattle.cow_arena.specs.inside.Fields.{arena_of, IsArena}
 use Rattle.cow_arena.specs.Views.{ShowsSnapshot, KeepsWalks, KeepsListed}
 use Rattle.cow_arena.proofs.ForestLaws.{some_and}
 use Rattle.cow_arena.proofs.WalkLaws.{walk-absent}

@@ -6,4 +6,4 @@ pub mod Forest
 pub mod Changes
 pub mod Renamed
 pub mod Counts
-pub mod Fields
+pub mod inside

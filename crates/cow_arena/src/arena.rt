@@ -37,7 +37,7 @@ impl Model for CowArena {
 
     ghost Value = { Arena };
 
-    ghost use Rattle.cow_arena.specs.Fields.{arena_of, IsArena};
+    ghost use Rattle.cow_arena.specs.inside.Fields.{arena_of, IsArena};
 
     ghost view = { arena_of };
 

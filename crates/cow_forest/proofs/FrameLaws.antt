@@ -18,7 +18,7 @@ use Rattle.page_store.specs.Pages.{look_at, ShowsTag, IsShown, IsShownOnce, Over
 use Rattle.page_store.specs.declared.page_store.Look.{Look}
 use Rattle.page_store.specs.declared.page_store.Look.TheVariants as look
 use Rattle.page_store.proofs.FlatOwning.{is_some-with_key}
-use Rattle.cow_forest.specs.Looking.{IsLook}
+use Rattle.cow_forest.specs.inside.Looking.{IsLook}
 use Rattle.cow_forest.specs.Store.{Forest, tree, content_of, page_with, page_showing, HasNode, IsStore}
 use Rattle.cow_forest.proofs.ContentLaws.{HasPage, ShownBy, page-of, page-shown, shown-page, vmo-shows, sole-last, one-node}
 use Rattle.cow_forest.proofs.StoreLaws.{IsChangedAt, store-kept, content-held}

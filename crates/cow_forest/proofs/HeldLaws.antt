@@ -6,7 +6,7 @@ use Rattle.frame_pool.specs.Pool.{Pool}
 use Rattle.cow_arena.specs.declared.node.Node.{Node}
 use Rattle.cow_arena.specs.Nodes.{nodes_of}
 use Rattle.cow_arena.specs.Walk.{frame_at}
-use Rattle.cow_forest.specs.Looking.{ShowsNoneIn, ShowsNoneFrom}
+use Rattle.cow_forest.specs.inside.Looking.{ShowsNoneIn, ShowsNoneFrom}
 use Rattle.cow_forest.specs.Store.{Forest, tree, content_of, page_showing, HasNode, IsStore}
 use Rattle.cow_forest.proofs.ContentLaws.{page-of}
 

@@ -31,7 +31,7 @@ use Rattle.cow_fork.specs.Snapshots.{split_slots, split_row, is_taken_in}
 use Rattle.cow_merge.specs.Merging.{with_count, HasShrunk}
 use Rattle.cow_forest.specs.declared.jumps.Jump.{Jump}
 use Rattle.cow_forest.specs.declared.jumps.JumpTable.{JumpTable}
-use Rattle.cow_forest.specs.Jumps.{jump_in, serial_in, IsTaken, IsJump, AreJumps, AreMovedUp, ArePairRetired}
+use Rattle.cow_forest.specs.inside.Jumps.{jump_in, serial_in, IsTaken, IsJump, AreJumps, AreMovedUp, ArePairRetired}
 use Rattle.cow_forest.specs.Store.{Forest, tree, HasNode, IsStore}
 use Rattle.cow_forest.proofs.ContentLaws.{node-visible}
 
@@ -76,7 +76,7 @@ jumps-rows f s rows v k h keeps next table are =
 -- pages of a VMO's node were made zero, by which no place but places of its list gets a row
 pub jumps-places : (f : Forest) (s : IsStore f) (rows : Rows Row) (v k : ℕ) (h : HasNode f v k) (Is : ℕ → Type 0) →
     ((node : Node) → nodes_of f.arena k ≡ Some node → (l q : ℕ) → IsSome (slots_of rows l q) →
-        IsSome (slots_of f.rows l q) ⊎ ((l ≡ node.list.0) × Is q)) → (next : ℕ) (table : JumpTable) →
+    IsSome (slots_of f.rows l q) ⊎ ((l ≡ node.list.0) × Is q)) → (next : ℕ) (table : JumpTable) →
     AreJumps (tree f) next table → AreJumps (tree_of f.arena rows) next table
 jumps-places f s rows v k h Is places = jumps-rows f s rows v k h (λ node at. record {
   bare = λ l q apart none. elim (cases_Bool (is_some (slots_of rows l q))) [

@@ -24,7 +24,7 @@ use Rattle.cow_split.proofs.OthersLaws.{reach-joined}
 use Rattle.cow_forest.specs.declared.jumps.Jump.{Jump}
 use Rattle.cow_forest.specs.declared.jumps.Place.{Place}
 use Rattle.cow_forest.specs.declared.jumps.JumpTable.{JumpTable}
-use Rattle.cow_forest.specs.Jumps.{jump_in, serial_in, IsTaken, IsJump, AreJumps, IsNewJump, IsServed, IsGiven}
+use Rattle.cow_forest.specs.inside.Jumps.{jump_in, serial_in, IsTaken, IsJump, AreJumps, IsNewJump, IsServed, IsGiven}
 
 -- what is not clear of two words is not clear of either
 either-clear : (a b i : ℕ) → bit_at (bit_or a b) i ≡ 0 → (bit_at a i ≡ 0) × (bit_at b i ≡ 0)

@@ -24,7 +24,7 @@ use Rattle.cow_split.specs.Exact.{IsExact, all_in_sight}
 use Rattle.cow_split.specs.Cutting.{cut_answer, leaves_frame}
 use Rattle.cow_split.proofs.RowLaws.{only-none, frame-shown, frame-once}
 use Rattle.cow_split.proofs.CutLaws.{cut-last}
-use Rattle.cow_forest.specs.Looking.{look_in, IsLook}
+use Rattle.cow_forest.specs.inside.Looking.{look_in, IsLook}
 use Rattle.cow_fork.proofs.LeafLaws.{IsLeaf, leaf-is}
 use Rattle.cow_fork.proofs.HolderLaws.{held-shown, own-row, bare-row}
 

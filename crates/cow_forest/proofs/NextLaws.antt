@@ -16,7 +16,7 @@ use Rattle.cow_split.specs.Sight.{IsPage}
 use Rattle.cow_split.specs.Exact.{IsExact, all_in_sight}
 use Rattle.cow_split.proofs.CostLaws.{parent-there}
 use Rattle.cow_merge.proofs.PassingLaws.{frame-from, up-less}
-use Rattle.cow_forest.specs.Looking.{ShowsNoneIn, ShowsNoneFrom, IsNextBelow, nearer_page}
+use Rattle.cow_forest.specs.inside.Looking.{ShowsNoneIn, ShowsNoneFrom, IsNextBelow, nearer_page}
 use Rattle.cow_forest.proofs.LookLaws.{page-past}
 
 -- ---- one node

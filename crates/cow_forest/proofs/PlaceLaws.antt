@@ -9,7 +9,7 @@ use Rattle.vm_base.proofs.EntryLaws.{some_same, with_key-here, with_key-other, w
 use Rattle.cow_arena.specs.declared.node.NodeId.{NodeId}
 use Rattle.cow_forest.specs.declared.node_table.TheConstants.{PLACES}
 use Rattle.cow_forest.specs.Tables.{NodeEntries, own_node, unless_own, displaced_in, node_in}
-use Rattle.cow_forest.specs.TableFields.{IsPlaced}
+use Rattle.cow_forest.specs.inside.TableFields.{IsPlaced}
 
 abbrev Entry : Type 0
 Entry = ℕ × NodeId

@@ -20,7 +20,7 @@ use Rattle.cow_split.specs.Exact.{IsExact, all_in_sight}
 use Rattle.cow_split.proofs.ExactLaws.{cases_place}
 use Rattle.cow_fork.specs.Zeroing.{HasZeroed}
 use Rattle.cow_fork.proofs.HolderLaws.{held-shown}
-use Rattle.cow_forest.specs.Looking.{IsNextBelow}
+use Rattle.cow_forest.specs.inside.Looking.{IsNextBelow}
 use Rattle.cow_forest.specs.Ranges.{rows_in, shown_from, IsReady, HasZeroedSome, HasNoFrame}
 
 -- ---- the rows of a range

@@ -39,7 +39,7 @@ use Rattle.cow_split.proofs.RowLaws.{frame-shown}
 use Rattle.cow_split.proofs.SearchLaws.{contains-none, contains-one, contains-first}
 use Rattle.cow_split.proofs.ViewersLaws.{distinct-append, distinct-one, viewer-visible, viewer-sees, viewer-side, viewers-distinct}
 use Rattle.cow_fork.proofs.HolderLaws.{held-shown}
-use Rattle.cow_forest.specs.Viewing.{ShowsFrame, AreViewers, IsViewerCount, IsLeastKoidOf, HasFrameRow}
+use Rattle.cow_forest.specs.inside.Viewing.{ShowsFrame, AreViewers, IsViewerCount, IsLeastKoidOf, HasFrameRow}
 use Rattle.cow_forest.specs.Tables.{node_in}
 use Rattle.cow_forest.specs.Store.{Forest, tree, content_of, page_showing, HasNode, IsStore}
 use Rattle.cow_forest.proofs.ContentLaws.{ShownBy, frame-showing, page-of, one-node, vmo-shows, shown-views, views-shown, vmo-below}

@@ -64,7 +64,7 @@ impl Model for CowForest {
 
     ghost Value = { Forest };
 
-    ghost use Rattle.cow_forest.specs.Fields.{forest_of, AreStore};
+    ghost use Rattle.cow_forest.specs.inside.Fields.{forest_of, AreStore};
 
     ghost view = { forest_of };
 

@@ -10,7 +10,7 @@ ghost use Rattle.cow_arena.specs.Ways.{Rises};
 ghost use Rattle.cow_arena.specs.Forest.{IsForest};
 ghost use Rattle.cow_split.specs.Trees.{tree_of, holder_of};
 ghost use Rattle.cow_split.specs.Cost.{IsMostOfLookUp, depth};
-ghost use Rattle.cow_forest.specs.Jumps.{IsJump, AreJumps, IsNewJump, ArePairRetired};
+ghost use Rattle.cow_forest.specs.inside.Jumps.{IsJump, AreJumps, IsNewJump, ArePairRetired};
 
 use crate::jumps::{Jump, JumpTable, Place};
 use cow_arena::{CowArena, NodeId};

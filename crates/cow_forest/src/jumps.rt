@@ -1,7 +1,7 @@
 //! The table of jumps: ways upwards in the clone tree over many nodes at once.
 
 ghost use Rattle.std.specs.Prelude.{◌≡◌, ◌≢◌, ◌⊎◌, ℕ, None, Some, IfSome};
-ghost use Rattle.cow_forest.specs.Jumps.{jump_in, serial_in, IsTaken, IsServed, IsGiven, AreMovedUp, AreRetired};
+ghost use Rattle.cow_forest.specs.inside.Jumps.{jump_in, serial_in, IsTaken, IsServed, IsGiven, AreMovedUp, AreRetired};
 
 use cow_arena::{NodeId, Side};
 use std::alloc::Global;

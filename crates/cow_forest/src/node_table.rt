@@ -32,7 +32,7 @@ impl Model for NodeTable {
 
     ghost Value = { NodeEntries };
 
-    ghost use Rattle.cow_forest.specs.TableFields.{entries_of, ArePlaced};
+    ghost use Rattle.cow_forest.specs.inside.TableFields.{entries_of, ArePlaced};
 
     ghost view = { entries_of };
 

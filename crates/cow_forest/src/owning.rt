@@ -8,7 +8,7 @@ ghost use Rattle.cow_split.specs.Sight.{IsPage};
 ghost use Rattle.cow_split.specs.Exact.{IsExact, all_in_sight};
 ghost use Rattle.cow_fork.specs.Frames.{HasSole, HasFree};
 ghost use Rattle.cow_merge.specs.Ranges.{AreLinked};
-ghost use Rattle.cow_forest.specs.Jumps.{AreJumps};
+ghost use Rattle.cow_forest.specs.inside.Jumps.{AreJumps};
 ghost use Rattle.cow_forest.specs.Owning.{own_frame, HasOwned};
 
 use crate::jumping::holder_by_jumps;

@@ -10,7 +10,7 @@ ghost use Rattle.cow_split.specs.Trees.{tree_of};
 ghost use Rattle.cow_split.specs.Cost.{depth};
 ghost use Rattle.cow_split.specs.Sight.{IsPage};
 ghost use Rattle.cow_split.specs.Exact.{IsExact, all_in_sight};
-ghost use Rattle.cow_forest.specs.Looking.{IsNextBelow};
+ghost use Rattle.cow_forest.specs.inside.Looking.{IsNextBelow};
 ghost use Rattle.cow_forest.specs.Ranges.{rows_in, rows_reached, IsReady, HasZeroedSome, AreZero, HasNoFrame};
 
 use cow_arena::{CowArena, NodeId};

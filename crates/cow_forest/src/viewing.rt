@@ -6,7 +6,7 @@ ghost use Rattle.cow_arena.specs.Walk.{frame_at};
 ghost use Rattle.cow_split.specs.Trees.{tree_of};
 ghost use Rattle.cow_split.specs.Sight.{IsPage};
 ghost use Rattle.cow_split.specs.Exact.{IsExact, all_in_sight};
-ghost use Rattle.cow_forest.specs.Viewing.{HasFrameRow, IsViewerCount, IsLeastKoidOf};
+ghost use Rattle.cow_forest.specs.inside.Viewing.{HasFrameRow, IsViewerCount, IsLeastKoidOf};
 
 use cow_arena::{CowArena, NodeId, Side};
 use cow_split::{Holder, holder, least_koid, lesser, viewer_count};

@@ -35,7 +35,7 @@ use Rattle.cow_fork.specs.Zeroing.{HasZeroed}
 use Rattle.cow_fork.proofs.PoolLaws.{given-without, taken-same}
 use Rattle.cow_fork.proofs.HolderLaws.{own-shown, held-shown}
 use Rattle.cow_fork.proofs.LeafLaws.{IsLeaf, with_row-there, others-on, put-tree, put-row, put-others}
-use Rattle.cow_fork.specs.ZeroSteps.{HasLetGo, HasHidden}
+use Rattle.cow_fork.specs.inside.ZeroSteps.{HasLetGo, HasHidden}
 use Rattle.cow_fork.proofs.CutOffLaws.{cut-bare, cut-exact, cut-other, cut_off, leaves_cases}
 
 -- ---- an own frame goes

@@ -15,7 +15,7 @@ ghost use Rattle.cow_split.specs.Exact.{IsExact, all_in_sight, leaving_out};
 ghost use Rattle.cow_split.specs.declared.answers.Cut.TheVariants as cut;
 ghost use Rattle.cow_fork.specs.Frames.{LeavesFrame};
 ghost use Rattle.cow_fork.specs.Zeroing.{HasZeroed};
-ghost use Rattle.cow_fork.specs.ZeroSteps.{HasLetGo, HasHidden};
+ghost use Rattle.cow_fork.specs.inside.ZeroSteps.{HasLetGo, HasHidden};
 
 use cow_arena::{CowArena, NodeId};
 use cow_split::{Cut, Holder, cut_holder, holder, holder_above};

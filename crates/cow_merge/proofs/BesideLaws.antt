@@ -30,9 +30,9 @@ use Rattle.cow_split.proofs.HolderLaws.{held-row, held-way, own-cut, nothing-cut
 use Rattle.cow_split.proofs.RowLaws.{left_out-in_sight}
 use Rattle.cow_split.proofs.PartLaws.{part-none}
 use Rattle.cow_merge.specs.declared.witness.Way.{Way}
-use Rattle.cow_merge.specs.Lifting.{IsFamilyOf}
+use Rattle.cow_merge.specs.inside.Lifting.{IsFamilyOf}
 use Rattle.cow_merge.specs.Ranges.{no_pages, CameTo, IsSpared, IsPassing, IsOnlyWay, HasPassedRow, HasLeftPageOut, HasKept, IsExactFor, KeepsList, KeepsOthers}
-use Rattle.cow_merge.specs.Witness.{IsWithin, IsEntered, ComesBeside, IsBeside, SeesRowOf, HasLeftPage, IsPageCut}
+use Rattle.cow_merge.specs.inside.Witness.{IsWithin, IsEntered, ComesBeside, IsBeside, SeesRowOf, HasLeftPage, IsPageCut}
 use Rattle.cow_arena.proofs.SpliceWalkLaws.{family-parent}
 use Rattle.cow_merge.proofs.LiftedLaws.{family-other}
 use Rattle.cow_merge.proofs.RangeLaws.{gives-same, arrives-part, leaving-more, leaving-again, leaving-kept}

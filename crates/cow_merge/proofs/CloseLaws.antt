@@ -28,8 +28,8 @@ use Rattle.cow_split.specs.Trees.{tree_of}
 use Rattle.cow_split.specs.Sight.{IsPage}
 use Rattle.cow_split.specs.Exact.{IsExact, IsOnlyOf, all_in_sight}
 use Rattle.cow_merge.specs.Ranges.{leaving_range, ShowsSame, AreLinked, GivesBack, IsAllOut, HasLeftOut}
-use Rattle.cow_merge.specs.Lifting.{IsFamilyOf}
-use Rattle.cow_merge.specs.HandingOver.{HasHandedOver}
+use Rattle.cow_merge.specs.inside.Lifting.{IsFamilyOf}
+use Rattle.cow_merge.specs.inside.HandingOver.{HasHandedOver}
 use Rattle.cow_merge.specs.Merging.{WasThere, HasListOfParent, HasClosed}
 use Rattle.cow_split.specs.Sight.{StaysVisible}
 use Rattle.cow_merge.proofs.CountLaws.{outside-other}

@@ -26,8 +26,8 @@ use Rattle.cow_split.proofs.RowLaws.{exact-in_use_alike, with_row-twice}
 use Rattle.frame_pool.specs.declared.frame_pool.Backlink.{Backlink}
 use Rattle.frame_pool.specs.Pool.{Pool, taken_frames, is_taken, links_of}
 use Rattle.cow_merge.specs.Ranges.{bit_on, AreLinked, GivesBack, HasGiven}
-use Rattle.cow_merge.specs.Lifting.{IsLifting, IsBefore, IsFamilyOf, AreLifted, SeesRow, IsMoved, has_frame}
-use Rattle.cow_merge.specs.HandingOver.{frame_there, HasNoRow, HasRowPut, SeesFromStart, AreSeenFrom, IsHandingOver, HasHandedOver}
+use Rattle.cow_merge.specs.inside.Lifting.{IsLifting, IsBefore, IsFamilyOf, AreLifted, SeesRow, IsMoved, has_frame}
+use Rattle.cow_merge.specs.inside.HandingOver.{frame_there, HasNoRow, HasRowPut, SeesFromStart, AreSeenFrom, IsHandingOver, HasHandedOver}
 use Rattle.cow_merge.proofs.RangeLaws.{gives-then, gives-same, given-none}
 use Rattle.cow_merge.proofs.LiftedLaws.{has-frame, of-has-frame, link-same, family-lists, row-sees, row-bit, without-none, lifted-gone, lifted-moved}
 

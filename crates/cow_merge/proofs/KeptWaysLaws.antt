@@ -24,9 +24,9 @@ use Rattle.cow_arena.proofs.SpliceForestLaws.{spliced_by}
 use Rattle.cow_arena.proofs.SpliceWalkLaws.{sibling_at, splice-same}
 use Rattle.cow_split.specs.Trees.{tree_of}
 use Rattle.cow_split.proofs.PartLaws.{bare-part}
-use Rattle.cow_merge.specs.Lifting.{IsFamilyOf}
-use Rattle.cow_merge.specs.HandingOver.{HasHandedOver}
-use Rattle.cow_merge.specs.Uncovering.{IsUncovering}
+use Rattle.cow_merge.specs.inside.Lifting.{IsFamilyOf}
+use Rattle.cow_merge.specs.inside.HandingOver.{HasHandedOver}
+use Rattle.cow_merge.specs.inside.Uncovering.{IsUncovering}
 use Rattle.cow_merge.proofs.SpliceLaws.{spliced-kept, spliced-gone, spliced-parent_gone}
 use Rattle.cow_merge.proofs.UncoverLaws.{two-lists}
 

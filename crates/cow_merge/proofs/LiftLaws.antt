@@ -29,7 +29,7 @@ use Rattle.cow_split.proofs.SearchLaws.{reached-seen, seen-reached, reached-kept
 use Rattle.cow_split.proofs.ExactLaws.{with_row-changes, frame-stays, frame-gone, frame-comes, exact-changed, seen-carried, Fits, FollowFrame}
 use Rattle.cow_split.proofs.RowLaws.{exact-in_use_alike, with_row-twice}
 use Rattle.cow_merge.specs.Ranges.{ShowsSame}
-use Rattle.cow_merge.specs.Lifting.{IsMoved, IsAside}
+use Rattle.cow_merge.specs.inside.Lifting.{IsMoved, IsAside}
 use Rattle.cow_merge.proofs.SpliceLaws.{family-apart}
 
 -- ---- rows that are moved

@@ -41,7 +41,7 @@ use Rattle.cow_split.proofs.CutLaws.{exact-cut, cut-shows}
 use Rattle.frame_pool.specs.declared.frame_pool.Backlink.{Backlink}
 use Rattle.frame_pool.specs.Pool.{Pool, taken_frames, is_taken}
 use Rattle.cow_merge.specs.Ranges.{bit_on, leaving_range, ShowsSame, AreLinked, GivesBack, HasLeftOut, IsHeldBy, IsSparing}
-use Rattle.cow_merge.specs.Lifting.{IsAside, AreLifted, IsLifting, IsBefore, IsFamilyOf, SeesRow, IsMoved, TellsSeen, HasGone, HasMoved, HasSettled, has_frame}
+use Rattle.cow_merge.specs.inside.Lifting.{IsAside, AreLifted, IsLifting, IsBefore, IsFamilyOf, SeesRow, IsMoved, TellsSeen, HasGone, HasMoved, HasSettled, has_frame}
 use Rattle.cow_merge.proofs.RangeLaws.{gives-then, gives-same}
 use Rattle.cow_merge.proofs.PassingLaws.{linked-part, range-exact, range-shows}
 use Rattle.cow_merge.proofs.SpliceLaws.{family-apart}

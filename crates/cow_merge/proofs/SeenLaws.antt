@@ -12,7 +12,7 @@ use Rattle.cow_arena.proofs.ReachLaws.{reach-one, side-is, found-of-reach}
 use Rattle.cow_split.specs.Exact.{IsExact, all_in_sight}
 use Rattle.cow_merge.specs.Ranges.{IsHeldBy}
 use Rattle.cow_merge.specs.Ranges.{bit_on}
-use Rattle.cow_merge.specs.HandingOver.{AreSeenFrom}
+use Rattle.cow_merge.specs.inside.HandingOver.{AreSeenFrom}
 use Rattle.cow_merge.proofs.LiftedLaws.{denies-on}
 
 -- A row with a frame that a page of the node sees is seen from its side.

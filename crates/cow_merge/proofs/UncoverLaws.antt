@@ -27,10 +27,10 @@ use Rattle.cow_split.proofs.ExactLaws.{cases_place}
 use Rattle.cow_split.proofs.RowLaws.{left_out-other, left_out-here, only-more, only-none, exact-in_use_alike, exact-own_out, exact-own_in}
 use Rattle.frame_pool.specs.Pool.{Pool, taken_frames, is_taken}
 use Rattle.cow_merge.specs.Ranges.{bit_on, ShowsSame, AreLinked, GivesBack, IsHeldBy}
-use Rattle.cow_merge.specs.Lifting.{IsFamilyOf, SeesRow, IsMoved, HasGone, HasMoved, HasSettled}
-use Rattle.cow_merge.specs.HandingOver.{frame_there}
+use Rattle.cow_merge.specs.inside.Lifting.{IsFamilyOf, SeesRow, IsMoved, HasGone, HasMoved, HasSettled}
+use Rattle.cow_merge.specs.inside.HandingOver.{frame_there}
 use Rattle.cow_merge.specs.Merging.{HasClosed}
-use Rattle.cow_merge.specs.Uncovering.{IsUncovering, HasNothing, HasRowSettled}
+use Rattle.cow_merge.specs.inside.Uncovering.{IsUncovering, HasNothing, HasRowSettled}
 use Rattle.cow_merge.proofs.RangeLaws.{gives-then, gives-same}
 use Rattle.cow_merge.proofs.LiftLaws.{page-over, leaf-step}
 use Rattle.cow_merge.proofs.LiftedLaws.{IsCut, StillThere, untold, settle-sees, without-none, one-bit, denies-on, family-lists, family-other, none-seen, bits, row-sees, zero-gone, row-moved, gone-slots, gone-linked, moved-slots, moved-linked, settled-list}

@@ -27,7 +27,7 @@ use Rattle.cow_split.specs.Exact.{IsExact, IsOnlyOf}
 use Rattle.cow_split.proofs.SharedLaws.{beside-way, exact-shared}
 use Rattle.cow_merge.specs.declared.witness.Way.{Way}
 use Rattle.cow_merge.specs.Ranges.{IsSpared, IsParent, IsPassing}
-use Rattle.cow_merge.specs.Witness.{IsBeside}
+use Rattle.cow_merge.specs.inside.Witness.{IsBeside}
 use Rattle.cow_merge.proofs.PassingLaws.{bare-inside}
 use Rattle.cow_merge.proofs.BesideLaws.{goes-up}
 

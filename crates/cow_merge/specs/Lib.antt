@@ -1,6 +1,3 @@
 pub mod Ranges
-pub mod Lifting
-pub mod Witness
-pub mod Uncovering
-pub mod HandingOver
 pub mod Merging
+pub mod inside

@@ -8,8 +8,8 @@ ghost use Rattle.cow_arena.specs.declared.node.Node.{Node};
 ghost use Rattle.cow_arena.specs.Nodes.{nodes_of};
 ghost use Rattle.cow_arena.specs.Walk.{frame_in};
 ghost use Rattle.frame_pool.specs.Pool.{Pool, taken_frames};
-ghost use Rattle.cow_merge.specs.Lifting.{IsLifting};
-ghost use Rattle.cow_merge.specs.HandingOver.{frame_there, HasNoRow, HasRowPut, SeesFromStart, AreSeenFrom, IsHandingOver, HasHandedOver};
+ghost use Rattle.cow_merge.specs.inside.Lifting.{IsLifting};
+ghost use Rattle.cow_merge.specs.inside.HandingOver.{frame_there, HasNoRow, HasRowPut, SeesFromStart, AreSeenFrom, IsHandingOver, HasHandedOver};
 
 use crate::lifting::{lift_rows, note_place};
 use crate::ranges::give_back_frame;

@@ -14,7 +14,7 @@ ghost use Rattle.cow_arena.specs.Walk.{frame_in};
 ghost use Rattle.cow_split.specs.Trees.{tree_of};
 ghost use Rattle.frame_pool.specs.Pool.{Pool, taken_frames, links_of};
 ghost use Rattle.cow_merge.specs.Ranges.{bit_on};
-ghost use Rattle.cow_merge.specs.Lifting.{IsLifting, IsBefore, HasSettled, SeesRow, IsMoved, has_frame};
+ghost use Rattle.cow_merge.specs.inside.Lifting.{IsLifting, IsBefore, HasSettled, SeesRow, IsMoved, has_frame};
 
 use crate::ranges::give_back_frame;
 use cow_arena::{CowArena, Node, NodeId, Side};

@@ -11,9 +11,9 @@ ghost use Rattle.cow_split.specs.Trees.{tree_of};
 ghost use Rattle.cow_split.specs.Exact.{IsExact, all_in_sight};
 ghost use Rattle.frame_pool.specs.Pool.{taken_frames, is_taken};
 ghost use Rattle.cow_merge.specs.Ranges.{bit_on};
-ghost use Rattle.cow_merge.specs.Lifting.{IsFamilyOf, SeesRow};
-ghost use Rattle.cow_merge.specs.HandingOver.{frame_there};
-ghost use Rattle.cow_merge.specs.Uncovering.{IsUncovering, HasNothing, HasRowSettled};
+ghost use Rattle.cow_merge.specs.inside.Lifting.{IsFamilyOf, SeesRow};
+ghost use Rattle.cow_merge.specs.inside.HandingOver.{frame_there};
+ghost use Rattle.cow_merge.specs.inside.Uncovering.{IsUncovering, HasNothing, HasRowSettled};
 
 use crate::lifting::settle;
 use crate::ranges::next_below;

@@ -10,9 +10,9 @@ ghost use Rattle.cow_arena.specs.declared.node.NodeId.{NodeId};
 ghost use Rattle.cow_arena.specs.declared.node.Side.{Side};
 ghost use Rattle.cow_arena.specs.Nodes.{nodes_of};
 ghost use Rattle.cow_arena.specs.Forest.{IsForest, IsChild};
-ghost use Rattle.cow_merge.specs.Lifting.{IsFamilyOf};
+ghost use Rattle.cow_merge.specs.inside.Lifting.{IsFamilyOf};
 ghost use Rattle.cow_merge.specs.Ranges.{no_pages, IsPassing, IsUnderWay, IsExactFor, KeepsList};
-ghost use Rattle.cow_merge.specs.Witness.{IsGoingDown, IsBeside, IsEntered, IsPageCut};
+ghost use Rattle.cow_merge.specs.inside.Witness.{IsGoingDown, IsBeside, IsEntered, IsPageCut};
 
 use crate::ranges::{Pages, cut_off, next_below};
 use cow_arena::{CowArena, NodeId};

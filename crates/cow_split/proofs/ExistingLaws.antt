@@ -14,7 +14,7 @@ use Rattle.cow_arena.specs.Forest.{IsForest}
 use Rattle.cow_arena.proofs.ReachLaws.{hidden-of-child, child-there}
 use Rattle.cow_split.specs.Search.{viewers_from, has_some}
 use Rattle.cow_split.specs.Searching.{viewers_at, Below, IsOnward, at_start, IsPassed, GoesOn, IsAhead}
-use Rattle.cow_split.specs.Existing.{hidden_at, IsOnwardBelow}
+use Rattle.cow_split.specs.inside.Existing.{hidden_at, IsOnwardBelow}
 use Rattle.cow_split.specs.declared.viewers.Cursor.{Cursor}
 use Rattle.cow_split.proofs.WayLaws.{found-through}
 

@@ -6,4 +6,4 @@ pub mod Cutting
 pub mod Cost
 pub mod Viewers
 pub mod Searching
-pub mod Existing
+pub mod inside

@@ -8,7 +8,7 @@ ghost use Rattle.cow_arena.specs.Forest.{IsForest};
 ghost use Rattle.cow_split.specs.Trees.{tree_of};
 ghost use Rattle.cow_split.specs.Search.{has_some, reached_from};
 ghost use Rattle.cow_split.specs.Searching.{viewers_at};
-ghost use Rattle.cow_split.specs.Existing.{hidden_at, IsMetBelow};
+ghost use Rattle.cow_split.specs.inside.Existing.{hidden_at, IsMetBelow};
 
 use crate::viewers::{Cursor, Met, meet, next_after};
 use cow_arena::{CowArena, NodeId, Side};

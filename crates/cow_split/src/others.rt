@@ -7,7 +7,7 @@ ghost use Rattle.cow_arena.specs.Ways.{Reaches};
 ghost use Rattle.cow_split.specs.Trees.{tree_of};
 ghost use Rattle.cow_split.specs.Search.{has_some, reached_from};
 ghost use Rattle.cow_split.specs.Searching.{viewers_at, IsLeafOn};
-ghost use Rattle.cow_split.specs.Existing.{IsReachedByOthers};
+ghost use Rattle.cow_split.specs.inside.Existing.{IsReachedByOthers};
 
 use crate::existing::{is_viewer, look_below, reached_from};
 use crate::viewers::Met;

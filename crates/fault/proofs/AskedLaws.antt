@@ -16,8 +16,8 @@ use Rattle.vm_model.specs.Machine.Refusals.{read_refusals, write_refusals, first
 use Rattle.fault.specs.declared.writable.WritablePage.{WritablePage}
 use Rattle.fault.specs.Table.{Places, ready_of}
 use Rattle.fault.specs.Access.{IsDenied}
-use Rattle.fault.specs.Needing.{LacksRoom}
-use Rattle.fault.specs.Writable.{IsWritable, fault_of}
+use Rattle.fault.specs.inside.Needing.{LacksRoom}
+use Rattle.fault.specs.inside.Writable.{IsWritable, fault_of}
 use Rattle.fault.proofs.CheckLaws.{access_refusal-here, access_refusal-behind, access_refusal-nil}
 use Rattle.fault.proofs.TouchingLaws.{any-read_faults}
 

@@ -5,8 +5,8 @@ use Rattle.vm_model.specs.Contents.Content.{Content, IsGood}
 use Rattle.vm_model.specs.Contents.Owning.{need_each}
 use Rattle.vm_model.specs.Machine.Access.{page_shown}
 use Rattle.fault.specs.declared.writable.WritablePage.{WritablePage}
-use Rattle.fault.specs.Both.{AreFound, Finds}
-use Rattle.fault.specs.Needing.{IsReady}
+use Rattle.fault.specs.inside.Both.{AreFound, Finds}
+use Rattle.fault.specs.inside.Needing.{IsReady}
 use Rattle.fault.specs.Table.{Places, AreTrue}
 
 pub AreFound-ready : (c d : Content) (table : ℕ → ℕ → Option Entry) (places now : Places) (root p : ℕ) (first second : WritablePage) (need faults rows room : ℕ)

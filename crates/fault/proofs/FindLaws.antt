@@ -9,8 +9,8 @@ use Rattle.balanced_tree.specs.Pairs.{IsNext}
 use Rattle.fault.specs.declared.translation.Kept.{Kept}
 use Rattle.fault.specs.declared.translation.Place.{Place}
 use Rattle.fault.specs.declared.translation.FrameList.{FrameList}
-use Rattle.fault.specs.Lists.{place_at, frame_list, list_with, AreListed}
-use Rattle.fault.specs.Walks.{Keeping, IsListAt, HasList, HasNoList, IsNextList, HasNoMember, IsNextMember}
+use Rattle.fault.specs.inside.Lists.{place_at, frame_list, list_with, AreListed}
+use Rattle.fault.specs.inside.Walks.{Keeping, IsListAt, HasList, HasNoList, IsNextList, HasNoMember, IsNextMember}
 use Rattle.fault.proofs.PairLaws.{missing}
 
 module _ (places : Keeping) (lists : ℕ → ℕ → Option FrameList) (members : ℕ → ℕ → Option Place) (next : ℕ) (h : AreListed places lists members next) where

@@ -14,8 +14,8 @@ use Rattle.fault.specs.declared.translation.Translation.{Translation}
 use Rattle.fault.specs.declared.translation.Kept.{Kept}
 use Rattle.fault.specs.declared.translation.FrameList.{FrameList}
 use Rattle.fault.specs.Table.{Places, number_of, frame_in, without, is_outdated}
-use Rattle.fault.specs.Lists.{frame_list}
-use Rattle.fault.specs.Walks.{Keeping, changed_where, dropped, is_member, holds_other, HoldFrame, HoldsOther, HasNoMember, HasNoList, IsListAt, HasList, Stays}
+use Rattle.fault.specs.inside.Lists.{frame_list}
+use Rattle.fault.specs.inside.Walks.{Keeping, changed_where, dropped, is_member, holds_other, HoldFrame, HoldsOther, HasNoMember, HasNoList, IsListAt, HasList, Stays}
 use Rattle.fault.proofs.PlaceLaws.{changed-none, changed-alike, dropped-left, dropped-gone, places-without}
 
 -- frames of one number are the same

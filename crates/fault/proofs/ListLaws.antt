@@ -9,8 +9,8 @@ use Rattle.fault.specs.declared.translation.Translation.{Translation}
 use Rattle.fault.specs.declared.translation.Kept.{Kept}
 use Rattle.fault.specs.declared.translation.Place.{Place}
 use Rattle.fault.specs.declared.translation.FrameList.{FrameList}
-use Rattle.fault.specs.Lists.{place_at, frame_list, list_with, IsListed, AreListed, DropsEmpty}
-use Rattle.fault.specs.Walks.{Keeping}
+use Rattle.fault.specs.inside.Lists.{place_at, frame_list, list_with, IsListed, AreListed, DropsEmpty}
+use Rattle.fault.specs.inside.Walks.{Keeping}
 use Rattle.fault.proofs.PairLaws.{missing, pair-left, pair-other, pair-here, pair-cases}
 
 module _ (places : Keeping) (lists : ℕ → ℕ → Option FrameList) (members : ℕ → ℕ → Option Place) (next : ℕ) (h : AreListed places lists members next) where

@@ -16,9 +16,9 @@ use Rattle.vm_model.proofs.SoleLaws.{sole-hold_keeps}
 use Rattle.vm_model.proofs.WritingLaws.{Written-from_WritesPiece, WritesPiece-keeps}
 use Rattle.page_store.specs.Pages.{look_at}
 use Rattle.page_store.proofs.ViewerLaws.{in_use-viewers, sole-viewers, IsOneMore-hold, IsOneMore-zeroed, IsOneMore-moved, viewers-more}
-use Rattle.fault.specs.Needing.{need_by, have_one_frame}
+use Rattle.fault.specs.inside.Needing.{need_by, have_one_frame}
 use Rattle.fault.specs.declared.writable.WritablePage.{WritablePage}
-use Rattle.fault.specs.Writable.{MayOwn, IsLooked}
+use Rattle.fault.specs.inside.Writable.{MayOwn, IsLooked}
 use Rattle.vm_model.specs.Machine.Access.{page_shown}
 
 -- ---- a page with a frame that is counted as new

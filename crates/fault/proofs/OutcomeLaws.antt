@@ -11,7 +11,7 @@ use Rattle.vm_model.proofs.OwningLaws.{length-shown}
 use Rattle.fault.specs.declared.checking.TouchedPage.{TouchedPage}
 use Rattle.fault.specs.Table.{Places, ready_of}
 use Rattle.fault.specs.Access.{Reads}
-use Rattle.fault.specs.Touching.{IsTouched, ReadsPage, missing_in}
+use Rattle.fault.specs.inside.Touching.{IsTouched, ReadsPage, missing_in}
 use Rattle.fault.proofs.AskedLaws.{AreAsked, AreAsked-one, AreAsked-two, none-refuses_read}
 use Rattle.fault.proofs.TouchingLaws.{refusal_at-touched, read_faults-more, read_faults-nil}
 use Rattle.fault.proofs.ReadLaws.{bytes_through-page, bytes_through-append}

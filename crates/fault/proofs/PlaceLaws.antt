@@ -14,7 +14,7 @@ use Rattle.fault.specs.declared.translation.Kept.{Kept}
 use Rattle.fault.specs.Table.{Places, without, with_translation, with_read_only, restricted as restrict_one}
 use Rattle.fault.specs.declared.translation.Change.{Change}
 use Rattle.fault.specs.declared.translation.Change.TheVariants.{Forget, Restrict}
-use Rattle.fault.specs.Walks.{Keeping, become, changed_where, dropped, restricted, change_by, is_place}
+use Rattle.fault.specs.inside.Walks.{Keeping, become, changed_where, dropped, restricted, change_by, is_place}
 
 -- a change that leaves what it made
 abbrev pub IsOnce : (Kept → Option Kept) → Type 0

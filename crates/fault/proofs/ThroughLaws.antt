@@ -10,7 +10,7 @@ use Rattle.vm_model.specs.Machine.Access.{Memory, WritesPage, WritesThrough, pag
 use Rattle.fault.specs.declared.writable.WritablePage.{WritablePage}
 use Rattle.fault.specs.Table.{Places, AreTrue, IsOfEntry}
 use Rattle.fault.specs.Access.{Writes}
-use Rattle.fault.specs.Writable.{IsWritable, WritesTo, fault_of, MayOwn}
+use Rattle.fault.specs.inside.Writable.{IsWritable, WritesTo, fault_of, MayOwn}
 use Rattle.vm_base.proofs.SearchLaws.{count_below_le}
 use Rattle.vm_model.proofs.RangeLaws.{touched-nil}
 use Rattle.fault.proofs.AskedLaws.{AreAsked, AreAsked-none, none-refuses, fault-found}

@@ -16,7 +16,7 @@ use Rattle.vm_model.specs.Machine.Access.{refusal_at, read_faults}
 use Rattle.fault.specs.declared.translation.Translation.{Translation}
 use Rattle.fault.specs.declared.checking.TouchedPage.{TouchedPage}
 use Rattle.fault.specs.Table.{Places, AreTrue, ready_of, frame_in, with_translation, without, is_outdated}
-use Rattle.fault.specs.Touching.{IsTouched, IsOf, IsFound, ReadsPage, missing_in}
+use Rattle.fault.specs.inside.Touching.{IsTouched, IsOf, IsFound, ReadsPage, missing_in}
 use Rattle.fault.proofs.CheckLaws.{below-free}
 use Rattle.fault.proofs.TranslationLaws.{AreTrue-with_translation, ready_of-with_translation, with_translation-other}
 

@@ -10,7 +10,7 @@ use Rattle.vm_model.specs.Space.Readiness.{shows_in}
 use Rattle.fault.specs.declared.translation.Kept.{Kept}
 use Rattle.fault.specs.declared.translation.Place.{Place}
 use Rattle.fault.specs.declared.translation.FrameList.{FrameList}
-use Rattle.fault.specs.Walks.{Keeping, changed_where, is_place, is_member, HasNoPlace, IsNextPlace, HasNoList, IsNextList, HasNoMember, IsNextMember}
+use Rattle.fault.specs.inside.Walks.{Keeping, changed_where, is_place, is_member, HasNoPlace, IsNextPlace, HasNoList, IsNextList, HasNoMember, IsNextMember}
 use Rattle.fault.proofs.PairLaws.{missing}
 use Rattle.fault.proofs.PlaceLaws.{IsOnce, changed-none, changed-then, changed-rest}
 

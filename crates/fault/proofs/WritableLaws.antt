@@ -17,10 +17,10 @@ use Rattle.fault.specs.declared.translation.Translation.{Translation}
 use Rattle.fault.specs.declared.checking.TouchedPage.{TouchedPage}
 use Rattle.fault.specs.declared.writable.WritablePage.{WritablePage}
 use Rattle.fault.specs.Table.{Places, AreTrue, ready_of, frame_in, IsOfEntry}
-use Rattle.fault.specs.Touching.{IsTouched}
+use Rattle.fault.specs.inside.Touching.{IsTouched}
 use Rattle.page_store.specs.Pages.{look_at}
 use Rattle.page_store.specs.declared.page_store.Look.{Look}
-use Rattle.fault.specs.Writable.{writing_frame, sole_frame, IsAbsent, IsSoleWith, IsWritable, MayOwn}
+use Rattle.fault.specs.inside.Writable.{writing_frame, sole_frame, IsAbsent, IsSoleWith, IsWritable, MayOwn}
 use Rattle.fault.proofs.CheckLaws.{below-free}
 
 -- a page that is ready for writing is ready for that

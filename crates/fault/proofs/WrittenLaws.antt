@@ -25,7 +25,7 @@ use Rattle.vm_model.proofs.ReadinessLaws.{keeps_frame-from, keeps_frame-parts, s
 use Rattle.fault.specs.declared.translation.Translation.{Translation}
 use Rattle.fault.specs.declared.writable.WritablePage.{WritablePage}
 use Rattle.fault.specs.Table.{Places, AreTrue, ready_of, without, is_outdated}
-use Rattle.fault.specs.Writable.{IsSoleWith, IsWritable, WritesTo}
+use Rattle.fault.specs.inside.Writable.{IsSoleWith, IsWritable, WritesTo}
 use Rattle.page_store.proofs.PartLaws.{WritesPiece-from_parts}
 use Rattle.fault.proofs.OwnedLaws.{frame_at-overwritten}
 use Rattle.fault.proofs.WritableLaws.{is_writable-is}

@@ -1,9 +1,3 @@
 pub mod Table
 pub mod Access
-pub mod Lists
-pub mod Fields
-pub mod Walks
-pub mod Touching
-pub mod Writable
-pub mod Needing
-pub mod Both
+pub mod inside

@@ -5,7 +5,7 @@ ghost use Rattle.mapping_set.specs.Tables.{table_of};
 ghost use Rattle.vm_model.specs.Machine.Access.{refusal_at};
 ghost use Rattle.vm_base.specs.declared.refusal.Refusal.TheVariants as Refusal;
 ghost use Rattle.fault.specs.Table.{AreBacked, AreTrue, places_of, room_of};
-ghost use Rattle.fault.specs.Touching.{IsTouched, missing_in};
+ghost use Rattle.fault.specs.inside.Touching.{IsTouched, missing_in};
 
 use crate::translation::Translation;
 use crate::translations::Translations;

@@ -6,8 +6,8 @@ ghost use Rattle.vm_base.specs.declared.limits.TheConstants.{PAGES_END};
 ghost use Rattle.vm_model.specs.Contents.Content.{pages_of};
 ghost use Rattle.fault.specs.Table.{number_of, places_of, room_of, without, is_of, is_stale, is_outdated, is_at, with_read_only};
 ghost use Rattle.vm_model.specs.Space.Readiness.{shows_in, is_same_frame};
-ghost use Rattle.fault.specs.Walks.{kept_of, changed_where, dropped, restricted, change_by, is_place, is_member, holds_other};
-ghost use Rattle.fault.specs.Walks.{HasList, HasNoMember, HoldFrame, Stays};
+ghost use Rattle.fault.specs.inside.Walks.{kept_of, changed_where, dropped, restricted, change_by, is_place, is_member, holds_other};
+ghost use Rattle.fault.specs.inside.Walks.{HasList, HasNoMember, HoldFrame, Stays};
 
 use crate::frames::frame_of;
 use crate::translation::{Change, FrameList, Translation};

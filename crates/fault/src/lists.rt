@@ -4,7 +4,7 @@ ghost use Rattle.std.specs.Prelude.{◌≡◌, ◌+◌, ◌≤◌, ◌⊎◌, No
 ghost use Rattle.std.specs.Option.{option_map};
 ghost use Rattle.balanced_tree.specs.Pairs.{with_pair};
 ghost use Rattle.pair_map.specs.Maps.{values_of, spare_of};
-ghost use Rattle.fault.specs.Lists.{DropsEmpty, frame_list};
+ghost use Rattle.fault.specs.inside.Lists.{DropsEmpty, frame_list};
 
 use crate::translation::{FrameList, Kept, Place};
 use pair_map::PairMap;

@@ -4,8 +4,8 @@ ghost use Rattle.std.specs.Prelude.{◌≡◌, ◌&&◌, ◌==◌, [], ◌∷◌
 ghost use Rattle.vm_model.specs.Contents.Content.{IsGood};
 ghost use Rattle.vm_model.specs.Contents.Owning.{need_each};
 ghost use Rattle.vm_model.specs.Machine.Access.{page_shown};
-ghost use Rattle.fault.specs.Needing.{need_by, have_one_frame};
-ghost use Rattle.fault.specs.Writable.{IsInStore, IsLooked};
+ghost use Rattle.fault.specs.inside.Needing.{need_by, have_one_frame};
+ghost use Rattle.fault.specs.inside.Writable.{IsInStore, IsLooked};
 
 use crate::writable::WritablePage;
 use page_store::{Look, PageStore};

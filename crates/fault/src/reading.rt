@@ -7,7 +7,7 @@ ghost use Rattle.vm_model.specs.Contents.Content.{shown, pages_of};
 ghost use Rattle.mapping_set.specs.Tables.{table_of};
 ghost use Rattle.fault.specs.Table.{AreBacked, AreTrue, places_of, room_of};
 ghost use Rattle.fault.specs.Access.{Reads, RefusesRead, AnswersRead};
-ghost use Rattle.fault.specs.Touching.{IsFound, IsOf, ReadsPage, missing_in};
+ghost use Rattle.fault.specs.inside.Touching.{IsFound, IsOf, ReadsPage, missing_in};
 
 use crate::checking::TouchedPage;
 use crate::frames::frame_of;

@@ -4,9 +4,9 @@ ghost use Rattle.std.specs.Prelude.{◌≡◌, ◌↔◌, ℕ, IsTrue, ◌+◌, 
 ghost use Rattle.std.specs.Option.{option_map, MatchOption};
 ghost use Rattle.balanced_tree.specs.Pairs.{with_pair};
 ghost use Rattle.fault.specs.Table.{places_of, room_of, number_of, frame_in, with_translation, without, is_outdated, IsOfEntry};
-ghost use Rattle.fault.specs.Walks.{kept_of, changed_where, dropped, is_place, HasNoPlace, IsNextPlace};
-ghost use Rattle.fault.specs.Walks.{HasList, IsListAt, HasNoList, IsNextList, HasNoMember, IsNextMember, HoldsOther};
-ghost use Rattle.fault.specs.Lists.{list_with};
+ghost use Rattle.fault.specs.inside.Walks.{kept_of, changed_where, dropped, is_place, HasNoPlace, IsNextPlace};
+ghost use Rattle.fault.specs.inside.Walks.{HasList, IsListAt, HasNoList, IsNextList, HasNoMember, IsNextMember, HoldsOther};
+ghost use Rattle.fault.specs.inside.Lists.{list_with};
 
 use crate::lists::{drop_empty, list_or_new};
 use crate::translation::{FrameList, Kept, Place, Translation};
@@ -38,7 +38,7 @@ impl Model for Translations {
 
     ghost Value = { Table };
 
-    ghost use Rattle.fault.specs.Fields.{table_of, IsTable};
+    ghost use Rattle.fault.specs.inside.Fields.{table_of, IsTable};
 
     ghost view = { table_of };
 

@@ -8,7 +8,7 @@ ghost use Rattle.vm_model.specs.Contents.Content.{pages_of};
 ghost use Rattle.vm_model.specs.Space.Rights.{writing};
 ghost use Rattle.vm_model.specs.Machine.Access.{refusal_at};
 ghost use Rattle.fault.specs.Table.{AreBacked, AreTrue, places_of};
-ghost use Rattle.fault.specs.Writable.{IsWritable, IsLooked, IsSoleWith, fault_of, writing_frame};
+ghost use Rattle.fault.specs.inside.Writable.{IsWritable, IsLooked, IsSoleWith, fault_of, writing_frame};
 
 use crate::translation::Translation;
 use crate::translations::Translations;

@@ -8,9 +8,9 @@ ghost use Rattle.vm_model.specs.Contents.Content.{IsGood};
 ghost use Rattle.vm_model.specs.Contents.Owning.{Owns};
 ghost use Rattle.fault.specs.Table.{AreBacked, AreTrue, IsOfEntry, places_of, room_of};
 ghost use Rattle.fault.specs.Access.{AnswersWrite, Writes};
-ghost use Rattle.fault.specs.Both.{AreFound, Finds, RefusesTwo};
-ghost use Rattle.fault.specs.Writable.{IsInStore, IsAbsent, MayOwn, WritesTo, fault_of, faulted, sole_frame};
-ghost use Rattle.fault.specs.Needing.{IsReady, LacksRoom};
+ghost use Rattle.fault.specs.inside.Both.{AreFound, Finds, RefusesTwo};
+ghost use Rattle.fault.specs.inside.Writable.{IsInStore, IsAbsent, MayOwn, WritesTo, fault_of, faulted, sole_frame};
+ghost use Rattle.fault.specs.inside.Needing.{IsReady, LacksRoom};
 
 use crate::needing::{frames_needed, need_of};
 use crate::translation::Translation;

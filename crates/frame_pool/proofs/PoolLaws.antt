@@ -14,7 +14,7 @@ use Rattle.vm_base.specs.Search.{count_below}
 use Rattle.vm_base.proofs.SearchLaws.{count_below_same, bit-true}
 use Rattle.vm_base.proofs.EntryLaws.{some_is, with_key-other, with_key-stays, entry_count-empty, entry_count-change, entry_count-with_key, entry_count-without_key}
 use Rattle.frame_pool.specs.declared.frame_pool.FramePool.TheInside.{Inside}
-use Rattle.frame_pool.specs.PoolFields.{pool_of, ArePool}
+use Rattle.frame_pool.specs.inside.PoolFields.{pool_of, ArePool}
 use Rattle.frame_pool.specs.declared.frame_pool.Backlink.{Backlink}
 use Rattle.frame_pool.specs.Pool.{Pool, is_idle, taken_frames, frame_bytes, taken_count, links_of, no_link, Takes, AreDistinctBelow, IsPool}
 

@@ -40,7 +40,7 @@ impl Model for FramePool {
 
     ghost Value = { Pool };
 
-    ghost use Rattle.frame_pool.specs.PoolFields.{pool_of, ArePool};
+    ghost use Rattle.frame_pool.specs.inside.PoolFields.{pool_of, ArePool};
 
     ghost view = { pool_of };
 

@@ -12,7 +12,7 @@ use Rattle.vm_model.specs.declared.space.Entry.{Entry}
 use Rattle.vm_model.specs.Space.Table.{mapping_from, is_in, has_entry}
 use Rattle.mapping_set.specs.declared.piece.Piece.{Piece}
 use Rattle.mapping_set.specs.Pieces.{list_number, table_in, ArePieces, AreListed}
-use Rattle.mapping_set.specs.Taken.{pieces_in}
+use Rattle.mapping_set.specs.inside.Taken.{pieces_in}
 use Rattle.mapping_set.specs.Tables.{places_in, IsBare, IsFirstGap, HasNoGap, IsClear, HasNoClear, IsFirstClear}
 use Rattle.mapping_set.proofs.TableLaws.{table_in-found, table_in-at}
 use Rattle.mapping_set.proofs.TakenLaws.{open-both, open-pieces, open-places}

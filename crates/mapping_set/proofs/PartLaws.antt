@@ -12,8 +12,8 @@ use Rattle.vm_model.proofs.TableLaws.{with_pages-in}
 use Rattle.mapping_set.specs.declared.piece.Piece.{Piece}
 use Rattle.mapping_set.specs.declared.mapping_set.MappingSet.TheInside.{Inside}
 use Rattle.mapping_set.specs.Pieces.{list_number, piece_from, piece_until, piece_with_perm, table_in, IsSound, ArePieces, AreListed}
-use Rattle.mapping_set.specs.SetFields.{mappings_of, AreMappings}
-use Rattle.mapping_set.specs.Taken.{pieces_in}
+use Rattle.mapping_set.specs.inside.SetFields.{mappings_of, AreMappings}
+use Rattle.mapping_set.specs.inside.Taken.{pieces_in}
 use Rattle.mapping_set.specs.Tables.{Mappings, table_of, places_of, with_piece, without_piece, IsBare}
 use Rattle.mapping_set.proofs.ChangeLaws.{with_pages-beside, taken-tail, taken-head, taken-perm}
 use Rattle.mapping_set.proofs.CutLaws.{taken-bare}

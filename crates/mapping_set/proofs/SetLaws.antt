@@ -7,8 +7,8 @@ use Rattle.pair_map.specs.Maps.{IsOpen, values_of, extents_of}
 use Rattle.mapping_set.specs.declared.piece.Piece.{Piece}
 use Rattle.mapping_set.specs.declared.mapping_set.MappingSet.TheInside.{Inside}
 use Rattle.mapping_set.specs.Pieces.{list_number, table_in, IsSound, ArePieces, AreListed}
-use Rattle.mapping_set.specs.SetFields.{mappings_of, AreMappings}
-use Rattle.mapping_set.specs.Taken.{pieces_in}
+use Rattle.mapping_set.specs.inside.SetFields.{mappings_of, AreMappings}
+use Rattle.mapping_set.specs.inside.Taken.{pieces_in}
 use Rattle.mapping_set.specs.Tables.{Mappings, places_in, places_of, table_of, with_piece, without_piece, IsBare, IsPieceOf}
 use Rattle.mapping_set.proofs.TableLaws.{shown_whole}
 use Rattle.mapping_set.proofs.TakenLaws.{open-both}

@@ -6,7 +6,7 @@ use Rattle.vm_base.proofs.EntryLaws.{some_same}
 use Rattle.balanced_tree.specs.Pairs.{with_pair}
 use Rattle.pair_map.specs.declared.stretch_row.Extent.{Extent}
 use Rattle.pair_map.specs.Maps.{Covers, IsOpen, StandApart}
-use Rattle.mapping_set.specs.Taken.{piece_by, piece_at, pieces_in, IsMeeting}
+use Rattle.mapping_set.specs.inside.Taken.{piece_by, piece_at, pieces_in, IsMeeting}
 use Rattle.mapping_set.specs.Tables.{place_by, place_at, places_in}
 use Rattle.mapping_set.proofs.TableLaws.{with_pair-cases, with_pair-same}
 

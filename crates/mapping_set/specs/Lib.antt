@@ -1,4 +1,3 @@
 pub mod Pieces
-pub mod Taken
 pub mod Tables
-pub mod SetFields
+pub mod inside

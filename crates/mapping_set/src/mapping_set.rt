@@ -40,7 +40,7 @@ impl Model for MappingSet {
 
     ghost Value = { Mappings };
 
-    ghost use Rattle.mapping_set.specs.SetFields.{mappings_of, AreMappings};
+    ghost use Rattle.mapping_set.specs.inside.SetFields.{mappings_of, AreMappings};
 
     ghost view = { mappings_of };
 

@@ -6,7 +6,7 @@ ghost use Rattle.balanced_tree.specs.Pairs.{with_pair};
 ghost use Rattle.pair_map.specs.Maps.{extents_of, spare_of, IsOpen};
 ghost use Rattle.vm_base.specs.declared.limits.TheConstants.{PAGES_END};
 ghost use Rattle.mapping_set.specs.Tables.{places_in, with_place};
-ghost use Rattle.mapping_set.specs.Taken.{pieces_in, IsMeeting};
+ghost use Rattle.mapping_set.specs.inside.Taken.{pieces_in, IsMeeting};
 
 use pair_map::ExtentMap;
 use vm_base::{PAGES_END, PageNo, RegionName};

@@ -9,7 +9,7 @@ use Rattle.page_list.specs.declared.filter.Filter.{Filter}
 use Rattle.page_list.specs.declared.row.Row.{Row}
 use Rattle.page_list.specs.Order.{row_functions}
 use Rattle.page_list.specs.Lists.{slots_of}
-use Rattle.page_list.specs.Filter.{has_bit, IsMore, AreFiltered, AreFilteredBelow}
+use Rattle.page_list.specs.inside.Filter.{has_bit, IsMore, AreFiltered, AreFilteredBelow}
 use Rattle.page_list.proofs.SlotLaws.{row_pairs}
 use Rattle.page_list.proofs.FilterLaws.{none-some}
 

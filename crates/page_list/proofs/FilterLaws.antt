@@ -16,7 +16,7 @@ use Rattle.page_list.specs.declared.row.Row.{Row}
 use Rattle.page_list.specs.declared.row.Slot.{Slot}
 use Rattle.page_list.specs.Order.{row_functions}
 use Rattle.page_list.specs.Lists.{slots_of}
-use Rattle.page_list.specs.Filter.{word_in, has_bit, IsMore, AreFiltered}
+use Rattle.page_list.specs.inside.Filter.{word_in, has_bit, IsMore, AreFiltered}
 use Rattle.page_list.proofs.SlotLaws.{row_pairs}
 
 -- what is None is not Some

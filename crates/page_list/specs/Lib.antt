@@ -1,3 +1,3 @@
 pub mod Order
 pub mod Lists
-pub mod Filter
+pub mod inside

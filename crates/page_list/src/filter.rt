@@ -1,7 +1,7 @@
 //! The filter beside the rows: which pages of which lists may have one.
 
 ghost use Rattle.std.specs.Prelude.{◌≡◌, true, OnErr};
-ghost use Rattle.page_list.specs.Filter.{word_in, has_bit, IsMore, AreFiltered};
+ghost use Rattle.page_list.specs.inside.Filter.{word_in, has_bit, IsMore, AreFiltered};
 
 use crate::row::Row;
 use balanced_tree::{BalancedTree, pair_rank};

@@ -39,7 +39,7 @@ impl Model for PageLists {
 
     ghost view = { λ l. l.tree };
 
-    ghost use Rattle.page_list.specs.Filter.{AreFiltered};
+    ghost use Rattle.page_list.specs.inside.Filter.{AreFiltered};
 
     ghost invariant = { λ l. AreFiltered l.filter l.tree };
 }

@@ -8,9 +8,9 @@ use Rattle.vm_base.specs.Entries.{passes, entry_count}
 use Rattle.vm_base.proofs.SearchLaws.{bit_same}
 use Rattle.vm_base.proofs.EntryLaws.{passes-some, any_entry-count, entry_count_le, entry_count_hit, entry_count-empty, entry_count-with_key, entry_count-without_key, with_key-other, with_key-cases, without_key-other, without_key-some}
 use Rattle.vm_model.proofs.PinLaws.{covers_at, any_pinned_at, none_pinned}
-use Rattle.pin_table.specs.Pages.{pins_at, AreKept, AddsPin}
+use Rattle.pin_table.specs.inside.Pages.{pins_at, AreKept, AddsPin}
 use Rattle.pin_table.specs.Table.{IsNextPinned}
-use Rattle.pin_table.specs.TableFields.{AreCounted}
+use Rattle.pin_table.specs.inside.TableFields.{AreCounted}
 use Rattle.pair_map.specs.Maps.{IsNext}
 use Rattle.std.specs.Prelude.{unwrap_or, IsSome}
 

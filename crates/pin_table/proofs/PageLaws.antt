@@ -6,7 +6,7 @@ use Rattle.std.proofs.lemmas.Bool.{and_parts, cases_Bool, cond-true, cond-false}
 use Rattle.std.proofs.lemmas.Bool.Decides.{Decides-eqb, nat_tests}
 use Rattle.pair_map.specs.Maps.{with_pair}
 use Rattle.vm_model.specs.Contents.Zeroing.{is_within}
-use Rattle.pin_table.specs.Pages.{pins_at, AreKept, AddsPin}
+use Rattle.pin_table.specs.inside.Pages.{pins_at, AreKept, AddsPin}
 
 cond-same : (b : Bool) → ◌≡◌ {A = ℕ} (cond b 0 0) 0
 cond-same true = refl

@@ -1,3 +1,2 @@
-pub mod Pages
 pub mod Table
-pub mod TableFields
+pub mod inside

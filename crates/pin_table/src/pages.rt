@@ -3,7 +3,7 @@
 ghost use Rattle.std.specs.Prelude.{ℕ, ◌+◌, ◌<◌, ◌≤◌};
 ghost use Rattle.vm_base.specs.declared.limits.TheConstants.{PAGES_END, NAMES};
 ghost use Rattle.pair_map.specs.Maps.{values_of, spare_of};
-ghost use Rattle.pin_table.specs.Pages.{pins_at, AreKept, AddsPin};
+ghost use Rattle.pin_table.specs.inside.Pages.{pins_at, AreKept, AddsPin};
 
 use pair_map::PairMap;
 use vm_base::{Koid, PAGES_END, PageNo};

@@ -35,7 +35,7 @@ impl Model for PinTable {
 
     ghost Value = { Table };
 
-    ghost use Rattle.pin_table.specs.TableFields.{table_of, IsTable};
+    ghost use Rattle.pin_table.specs.inside.TableFields.{table_of, IsTable};
 
     ghost view = { table_of };
 

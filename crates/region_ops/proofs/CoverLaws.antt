@@ -15,7 +15,7 @@ use Rattle.vm_model.specs.Space.AddressSpaces.{Spaces, mapped_count}
 use Rattle.vm_model.specs.Space.Mappings.{protected, has_hole, forbids}
 use Rattle.mapping_set.specs.declared.piece.Piece.{Piece}
 use Rattle.mapping_set.specs.Tables.{IsFull, IsBareFrom, IsNextPiece}
-use Rattle.region_ops.specs.Covers.{IsCovered}
+use Rattle.region_ops.specs.inside.Covers.{IsCovered}
 use Rattle.vm_model.proofs.MappingLaws.{shows-protected}
 
 -- ---- what a region finds, piece by piece

@@ -21,7 +21,7 @@ use Rattle.vmo_table.proofs.SettleLaws.{leaving_vmo, settled_pruned}
 use Rattle.mapping_set.specs.declared.piece.Piece.{Piece}
 use Rattle.mapping_set.specs.Tables.{without_piece, IsPieceOf}
 use Rattle.region_ops.specs.Spaces.{with_entries, AreWell, LetsGo}
-use Rattle.region_ops.specs.Leaving.{IsTaken}
+use Rattle.region_ops.specs.inside.Leaving.{IsTaken}
 use Rattle.region_ops.proofs.CountLaws.{HasLess, HasLess-piece, AreGoodSpaces-less, mapped_count-piece, is_mapped-piece, piece_vmo}
 use Rattle.region_ops.proofs.PrunedLaws.{pruned-twice_spaces}
 

@@ -26,7 +26,7 @@ use Rattle.vmo_table.specs.Table.{Table as Vmos, names_of, lineage_in, keepers_o
 use Rattle.mapping_set.specs.declared.piece.Piece.{Piece}
 use Rattle.mapping_set.specs.Tables.{with_piece, without_piece, IsBare}
 use Rattle.region_ops.specs.Spaces.{with_entries, LetsGo}
-use Rattle.region_ops.specs.Mapping.{IsPuttable}
+use Rattle.region_ops.specs.inside.Mapping.{IsPuttable}
 use Rattle.region_ops.proofs.CountLaws.{IsPieceMore, mapped_count-more, is_mapped-more}
 use Rattle.region_ops.proofs.PrunedLaws.{pruned-alike}
 use Rattle.vm_model.proofs.PinLaws.{pin_count_le}

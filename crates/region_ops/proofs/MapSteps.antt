@@ -34,7 +34,7 @@ use Rattle.vm_model.proofs.StepLaws.{AllOff-from_none, Step-done, Step-lacks}
 use Rattle.page_store.proofs.NameLaws.{IsInside-good, name_few}
 use Rattle.region_tree.specs.Tree.{spaces_of}
 use Rattle.region_ops.specs.Spaces.{HasNoPlace}
-use Rattle.region_ops.specs.Mapping.{map_rows, no_entries, IsPuttable}
+use Rattle.region_ops.specs.inside.Mapping.{map_rows, no_entries, IsPuttable}
 use Rattle.region_ops.proofs.HolderLaws.{free_bare}
 use Rattle.region_ops.proofs.PlaceLaws.{has_place_at}
 

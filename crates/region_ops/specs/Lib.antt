@@ -1,5 +1,3 @@
 pub mod Spaces
 pub mod Holders
-pub mod Mapping
-pub mod Leaving
-pub mod Covers
+pub mod inside

@@ -6,7 +6,7 @@ ghost use Rattle.vm_model.specs.declared.space.Entry.{Entry};
 ghost use Rattle.vm_model.specs.Space.Table.{with_pages};
 ghost use Rattle.mapping_set.specs.Tables.{table_of, spare_of, places_of, without_piece, IsPieceOf};
 ghost use Rattle.region_ops.specs.Spaces.{without_entries, AreWell, LetsGo};
-ghost use Rattle.region_ops.specs.Leaving.{IsTaken};
+ghost use Rattle.region_ops.specs.inside.Leaving.{IsTaken};
 
 use mapping_set::{MappingSet, Piece};
 use page_store::{PageStore, drop_gone};

@@ -18,7 +18,7 @@ ghost use Rattle.vmo_table.specs.Table.{names_of, IsNamed};
 ghost use Rattle.mapping_set.specs.Tables.{table_of, spare_of, places_of, IsBare};
 ghost use Rattle.region_tree.specs.Tree.{regions_of, is_live_region, spaces_of, AreNoted, IsVacant};
 ghost use Rattle.region_ops.specs.Spaces.{AreWell, AreAllWell, Does, LetsGo, HasNoPlace};
-ghost use Rattle.region_ops.specs.Mapping.{map_rows, no_entries, IsPuttable, Puts};
+ghost use Rattle.region_ops.specs.inside.Mapping.{map_rows, no_entries, IsPuttable, Puts};
 
 use crate::leaving::clear_range;
 use crate::placing::{Wanted, allows, find_place, is_misplaced, live_region};

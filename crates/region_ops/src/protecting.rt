@@ -12,7 +12,7 @@ ghost use Rattle.vm_base.specs.declared.limits.TheConstants.{ROOT_END};
 ghost use Rattle.mapping_set.specs.Tables.{table_of, places_of};
 ghost use Rattle.region_tree.specs.Tree.{regions_of, is_live_region, spaces_of};
 ghost use Rattle.region_ops.specs.Spaces.{with_spaces};
-ghost use Rattle.region_ops.specs.Covers.{IsCovered};
+ghost use Rattle.region_ops.specs.inside.Covers.{IsCovered};
 
 use crate::placing::{allows, live_region};
 use crate::ranges::{is_outside, lacks_reading};

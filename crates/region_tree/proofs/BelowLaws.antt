@@ -16,7 +16,7 @@ use Rattle.balanced_tree.specs.Pairs.{IsNext}
 use Rattle.pair_map.specs.declared.stretch_row.Extent.{Extent}
 use Rattle.pair_map.specs.Maps.{Covers, StandApart}
 use Rattle.region_tree.specs.Tree.{has_child, with_one_dead, IsWithin, HasNoneWithin, IsStart, extent_for}
-use Rattle.region_tree.specs.TreeFields.{IsTree, IsBetween, HasNoneBetween, IsOver, HasNoneOver, IsAbove}
+use Rattle.region_tree.specs.inside.TreeFields.{IsTree, IsBetween, HasNoneBetween, IsOver, HasNoneOver, IsAbove}
 use Rattle.region_tree.proofs.PlaceLaws.{child_at}
 
 -- a live region whose parent is this is a child

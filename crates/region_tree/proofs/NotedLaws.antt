@@ -22,7 +22,7 @@ use Rattle.mapping_set.specs.Tables.{IsClear, HasNoClear, IsFirstClear, with_pla
 use Rattle.mapping_set.proofs.PieceLaws.{list_numbers}
 use Rattle.mapping_set.proofs.TableLaws.{with_pair-cases, with_pair-same}
 use Rattle.region_tree.specs.Tree.{with_one_dead, spaces_of, extent_for, IsNoted, IsChildIn, AreNoted, IsVacant}
-use Rattle.region_tree.specs.TreeFields.{IsTree, IsClearPlace}
+use Rattle.region_tree.specs.inside.TreeFields.{IsTree, IsClearPlace}
 use Rattle.region_tree.proofs.PlaceLaws.{free-clear, clear-free}
 use Rattle.region_tree.proofs.BelowLaws.{is_child_from}
 

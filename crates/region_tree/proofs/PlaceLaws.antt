@@ -20,7 +20,7 @@ use Rattle.pair_map.specs.declared.stretch_row.Extent.{Extent}
 use Rattle.pair_map.specs.Maps.{Covers, IsOpen}
 use Rattle.mapping_set.specs.Tables.{HasNoGap, IsFirstGap, IsClear, HasNoClear}
 use Rattle.region_tree.specs.Tree.{regions_of, spaces_of, extent_for}
-use Rattle.region_tree.specs.TreeFields.{IsTree, IsClearPlace, ReachesOut}
+use Rattle.region_tree.specs.inside.TreeFields.{IsTree, IsClearPlace, ReachesOut}
 
 -- what the fields hold, as it is seen
 pub seen : {was now : Rows (PairRow Region)} {children : ℕ → ℕ → Option (Extent RegionName)} → was ≡ now → IsTree (regions_of was) children → IsTree (regions_of now) children

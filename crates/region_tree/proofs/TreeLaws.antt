@@ -18,7 +18,7 @@ use Rattle.pair_map.specs.declared.pair_row.PairRow.{PairRow}
 use Rattle.pair_map.specs.declared.stretch_row.Extent.{Extent}
 use Rattle.pair_map.specs.Maps.{values_of}
 use Rattle.region_tree.specs.Tree.{regions_of, is_live_region, has_child, with_one_dead, IsWithin, IsChildAt, extent_for}
-use Rattle.region_tree.specs.TreeFields.{IsTree}
+use Rattle.region_tree.specs.inside.TreeFields.{IsTree}
 use Rattle.region_tree.proofs.PlaceLaws.{child_at, apart-open}
 use Rattle.region_tree.proofs.BelowLaws.{is_child_from}
 

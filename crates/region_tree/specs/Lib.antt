@@ -1,2 +1,2 @@
 pub mod Tree
-pub mod TreeFields
+pub mod inside

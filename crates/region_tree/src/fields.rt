@@ -8,7 +8,7 @@ ghost use Rattle.pair_map.specs.Maps.{values_of, extents_of};
 ghost use Rattle.vm_model.specs.Space.Regions.{end_of, lies_in, reaches_over};
 ghost use Rattle.mapping_set.specs.Tables.{table_of, HasNoClear};
 ghost use Rattle.region_tree.specs.Tree.{is_live_region};
-ghost use Rattle.region_tree.specs.TreeFields.{IsClearPlace, ReachesOut, IsBetween, HasNoneBetween};
+ghost use Rattle.region_tree.specs.inside.TreeFields.{IsClearPlace, ReachesOut, IsBetween, HasNoneBetween};
 
 use mapping_set::MappingSet;
 use pair_map::{ExtentMap, PairMap};

@@ -10,7 +10,7 @@ ghost use Rattle.vm_model.specs.Space.Places.{is_free, has_place};
 ghost use Rattle.mapping_set.specs.Tables.{table_of, places_of};
 ghost use Rattle.region_tree.specs.Tree.{regions_of, is_live_region, has_child, with_one_dead, spaces_of};
 ghost use Rattle.region_tree.specs.Tree.{IsWithin, HasNoneWithin, IsStart, AreNoted};
-ghost use Rattle.region_tree.specs.TreeFields.{HasNoneOver, IsAbove};
+ghost use Rattle.region_tree.specs.inside.TreeFields.{HasNoneOver, IsAbove};
 
 use crate::fields::{
     child_in, end_within, gap_in, held, leave_parent, lies_in, reaches_out, reaches_over,
@@ -55,7 +55,7 @@ impl Model for Regions {
     ghost Value = { Rows (PairRow Region) };
 
     ghost use Rattle.pair_map.specs.Maps.{values_of, extents_of};
-    ghost use Rattle.region_tree.specs.TreeFields.{IsTree};
+    ghost use Rattle.region_tree.specs.inside.TreeFields.{IsTree};
 
     ghost view = { λ r. r.regions };
 

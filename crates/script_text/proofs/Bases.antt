@@ -2,7 +2,7 @@
 use Rattle.std.proofs.Common.{◌≤◌, arith}
 use Rattle.script_text.specs.declared.fields.Radix.{Radix}
 use Rattle.script_text.specs.declared.fields.Radix.TheVariants.{Decimal, Hex}
-use Rattle.script_text.specs.Radixes.{base_of}
+use Rattle.script_text.specs.inside.Radixes.{base_of}
 
 pub base_of-pos : (radix : Radix) → 1 ≤ base_of radix
 base_of-pos Decimal = omega arith

@@ -19,8 +19,8 @@ use Rattle.vm_model.specs.declared.command.Command.{Command}
 use Rattle.vm_model.specs.declared.command.Command.TheVariants.{VmoRead, VmoWrite}
 use Rattle.vm_model.specs.Language.Reading.{words, is_blank, begins_blank, byte_data, vmo, number, of_vmo_range, vmo_write, command}
 use Rattle.script_text.specs.Lines.{order_in}
-use Rattle.script_text.specs.Shapes.{only_data, ends_blank}
-use Rattle.script_text.specs.Groups.{range_of_vmo, vmo_and_number}
+use Rattle.script_text.specs.inside.Shapes.{only_data, ends_blank}
+use Rattle.script_text.specs.inside.Groups.{range_of_vmo, vmo_and_number}
 use Rattle.script_text.proofs.GroupLaws.{of_two, joined, behind_two}
 use Rattle.script_text.proofs.ShapeLaws.{steps}
 use Rattle.script_text.proofs.Cutting.{words-blank, words-first, len-solid, len-blank}

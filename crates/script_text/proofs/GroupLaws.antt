@@ -16,8 +16,8 @@ use Rattle.vm_model.specs.declared.command.Command.TheVariants.{VmoCreate, VmoCh
 use Rattle.vm_model.specs.Language.Reading.{vmo, region, number, byte, byte_data, perm, pin}
 use Rattle.vm_model.specs.Language.Reading.{vmo_write, vmo_fill, vmo_pin, vmar_protect, mem_write, child_kind, are_flags, stands}
 use Rattle.vm_model.specs.Language.Reading.{vmo_create, vmo_create_child, vmo_set_size, vmar_allocate, vmar_map}
-use Rattle.script_text.specs.Groups.{vmo_and_number, range_of_vmo, region_and_number, range_of_region, child, range}
-use Rattle.script_text.specs.Shapes.{region_flag_words, region_flags, region_caps, map_flag_words, map_flags}
+use Rattle.script_text.specs.inside.Groups.{vmo_and_number, range_of_vmo, region_and_number, range_of_region, child, range}
+use Rattle.script_text.specs.inside.Shapes.{region_flag_words, region_flags, region_caps, map_flag_words, map_flags}
 
 -- a word of a list
 abbrev pub word : List (Bor (List ℕ)) → Bor (List ℕ) → ℕ → List ℕ

@@ -11,7 +11,7 @@ use Rattle.vm_model.specs.declared.command.Command.{Command}
 use Rattle.vm_model.specs.Language.Reading.{command, flagged, are_flags, stands, is_word, vmo, region, number}
 use Rattle.vm_model.specs.Language.Reading.{child_kind, perm, vmo_create, vmo_create_child, vmar_allocate, vmar_map}
 use Rattle.script_text.specs.Lines.{order_in}
-use Rattle.script_text.specs.Shapes.{map_flag_words, region_flag_words}
+use Rattle.script_text.specs.inside.Shapes.{map_flag_words, region_flag_words}
 
 -- three tests that hold
 three : (a b c : Bool) → (a && not b && c) ≡ true → (a ≡ true) × (b ≡ false) × (c ≡ true)

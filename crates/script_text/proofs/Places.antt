@@ -10,7 +10,7 @@ use Rattle.std.proofs.lemmas.List.Sums.{prefix_len-le-length}
 use Rattle.std.proofs.lemmas.Option.{slice_get-get_or}
 use Rattle.std.proofs.Math.Seq.{take-add, get_or-append_seam, take-append_seam}
 use Rattle.vm_model.specs.Language.Reading.{words, is_blank, begins_blank, before_first}
-use Rattle.script_text.specs.Places.{IsWordFrom}
+use Rattle.script_text.specs.inside.Places.{IsWordFrom}
 use Rattle.script_text.proofs.Cutting.{is_solid, words-blank, words-alone, words-longer, words-first, words-start}
 use Rattle.script_text.proofs.Cutting.{len-solid, len-blank, start-blank, start-solid}
 

@@ -7,7 +7,7 @@ use Rattle.std.proofs.lemmas.Bool.{eqb-false, ne_eqb}
 use Rattle.std.proofs.lemmas.Slice.Eq.{bytes_eq-Decides}
 use Rattle.vm_model.specs.declared.command.Command.{Command}
 use Rattle.vm_model.specs.Language.Reading.{by_word, command, commands, is_word}
-use Rattle.script_text.specs.Rows.{rows_of}
+use Rattle.script_text.specs.inside.Rows.{rows_of}
 
 abbrev Row : Type 0
 Row = List ℕ × (List (List ℕ) → Option Command)

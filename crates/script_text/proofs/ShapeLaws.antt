@@ -5,7 +5,7 @@ use Rattle.vm_base.specs.declared.names.VmoName.{VmoName}
 use Rattle.vm_base.specs.declared.names.RegionName.{RegionName}
 use Rattle.vm_model.specs.declared.command.Command.{Command}
 use Rattle.vm_model.specs.Language.Reading.{vmo, region, number, of_vmo, of_vmo_range, of_region, of_region_range}
-use Rattle.script_text.specs.Shapes.{one_vmo, vmo_range, one_region, region_range}
+use Rattle.script_text.specs.inside.Shapes.{one_vmo, vmo_range, one_region, region_range}
 
 pub of_vmo_by_one : (command : VmoName → Command) (arguments : List (List ℕ))
     → of_vmo command arguments ≡ option_and_then (λ name. Some (command name)) (one_vmo arguments)

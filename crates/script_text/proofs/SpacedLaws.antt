@@ -4,7 +4,7 @@ use Rattle.std.proofs.Common.{append-nil, append_assoc}
 use Rattle.std.specs.Prelude.{slice_get}
 use Rattle.std.specs.List.{join_with_byte}
 use Rattle.vm_model.specs.Language.Spelling.{set_flags}
-use Rattle.script_text.specs.Spaced.{spaced}
+use Rattle.script_text.specs.inside.Spaced.{spaced}
 
 -- joined words are the first one, and the others behind spaces
 join-spaced : (w : List ℕ) (ws : List (List ℕ)) → join_with_byte 32 (w ∷ ws) ≡ w ++ spaced ws

@@ -1,8 +1,2 @@
-pub mod Radixes
 pub mod Lines
-pub mod Rows
-pub mod Spaced
-pub mod Subjects
-pub mod Shapes
-pub mod Places
-pub mod Groups
+pub mod inside

@@ -3,7 +3,7 @@
 ghost use Rattle.std.specs.Prelude.{◌≡◌, ◌≤◌, length, map, option_map};
 ghost use Rattle.vm_model.specs.Language.Reading.{by_word, command};
 ghost use Rattle.vm_model.specs.Machine.Lent.{command_of};
-ghost use Rattle.script_text.specs.Rows.{rows_of};
+ghost use Rattle.script_text.specs.inside.Rows.{rows_of};
 
 use crate::region_commands::{
     maps, mem_read, mem_write, root_create, stat, vmar_allocate, vmar_destroy, vmar_map,

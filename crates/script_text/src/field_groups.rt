@@ -1,7 +1,7 @@
 //! Fields that stand side by side in several commands.
 
 ghost use Rattle.std.specs.Prelude.{◌≡◌};
-ghost use Rattle.script_text.specs.Groups.{child, range, range_of_region, range_of_vmo, region_and_number, vmo_and_number};
+ghost use Rattle.script_text.specs.inside.Groups.{child, range, range_of_region, range_of_vmo, region_and_number, vmo_and_number};
 
 use crate::fields::{child_kind, number, region, vmo};
 use vm_base::{RegionName, VmoName};

@@ -3,7 +3,7 @@
 ghost use Rattle.std.specs.Prelude.{◌≡◌, ◌≤◌, ◌^◌, length};
 ghost use Rattle.vm_model.specs.Language.Reading.{below, digits, number, byte, name_behind, vmo, region, pin};
 ghost use Rattle.vm_model.specs.Language.Reading.{byte_data, perm, child_kind};
-ghost use Rattle.script_text.specs.Radixes.{base_of, value_in};
+ghost use Rattle.script_text.specs.inside.Radixes.{base_of, value_in};
 
 use crate::words::is_word;
 use vm_base::{DATA_BYTES, Perm, PinName, RegionName, VmoName};

@@ -5,7 +5,7 @@ ghost use Rattle.std.specs.Prelude.{◌≡◌, ◌≤◌, ◌==◌, ◌++◌, le
 ghost use Rattle.vm_model.specs.Language.Reading.{words, begins_blank, of_vmo_range, vmo_write};
 ghost use Rattle.vm_model.specs.declared.command.Command.TheVariants.{VmoRead};
 ghost use Rattle.vm_model.specs.Machine.Lent.{command_of};
-ghost use Rattle.script_text.specs.Shapes.{only_data, ends_blank};
+ghost use Rattle.script_text.specs.inside.Shapes.{only_data, ends_blank};
 
 use crate::field_groups::{range_of_vmo, vmo_and_number};
 use crate::fields::byte_data_into;

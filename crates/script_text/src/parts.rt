@@ -4,7 +4,7 @@
 
 ghost use Rattle.std.specs.Prelude.{◌≡◌, ◌+◌, ◌<◌, ◌≤◌, [], ◌∷◌, ◌++◌, length, take, codes, decimal};
 ghost use Rattle.vm_model.specs.Language.Spelling.{Has32, Has64, kind_word, pin_word, region_word, set_flags, vmo_word};
-ghost use Rattle.script_text.specs.Spaced.{spaced};
+ghost use Rattle.script_text.specs.inside.Spaced.{spaced};
 
 use vm_base::{DATA_BYTES, PinName, RegionName, VmoName};
 use vm_model::ChildKind;

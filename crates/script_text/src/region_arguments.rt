@@ -3,8 +3,8 @@
 ghost use Rattle.std.specs.Prelude.{◌≡◌, ◌+◌, ◌≤◌, [], ◌∷◌, ◌++◌, length, take, drop, codes, decimal};
 ghost use Rattle.vm_model.specs.Language.Spelling.{Has32, Has64, HasRanges, command_words, region_word, set_flags};
 ghost use Rattle.vm_model.specs.Space.Rights.{has};
-ghost use Rattle.script_text.specs.Subjects.{subject_of, OfMappings, OfRegion};
-ghost use Rattle.script_text.specs.Spaced.{spaced};
+ghost use Rattle.script_text.specs.inside.Subjects.{subject_of, OfMappings, OfRegion};
+ghost use Rattle.script_text.specs.inside.Spaced.{spaced};
 
 use crate::parts::{ARGUMENT_BYTES, put_flag, put_range, put_region};
 use crate::vmo_arguments::put_vmo_range;

@@ -7,8 +7,8 @@ ghost use Rattle.vm_model.specs.Language.Reading.{vmar_protect, mem_write, stat}
 ghost use Rattle.vm_model.specs.declared.command.Command.TheVariants.{RootCreate, VmarUnmap, VmarDestroy, Maps};
 ghost use Rattle.vm_model.specs.declared.command.Command.TheVariants.{MemRead};
 ghost use Rattle.vm_model.specs.Machine.Lent.{command_of};
-ghost use Rattle.script_text.specs.Shapes.{map_flag_words, map_flags, one_region, region_caps, region_flag_words};
-ghost use Rattle.script_text.specs.Shapes.{region_flags, region_range};
+ghost use Rattle.script_text.specs.inside.Shapes.{map_flag_words, map_flags, one_region, region_caps, region_flag_words};
+ghost use Rattle.script_text.specs.inside.Shapes.{region_flags, region_range};
 
 use crate::field_groups::{range_of_region, range_of_vmo, region_and_number};
 use crate::fields::{byte_data_into, perm, region};

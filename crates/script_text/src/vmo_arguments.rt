@@ -3,8 +3,8 @@
 ghost use Rattle.std.specs.Prelude.{◌≡◌, ◌+◌, ◌≤◌, [], ◌∷◌, ◌++◌, length, take, drop, codes, decimal};
 ghost use Rattle.vm_model.specs.Language.Spelling.{Has32, Has64, HasRanges, command_words, kind_word, set_flags};
 ghost use Rattle.vm_model.specs.Language.Spelling.{vmo_word};
-ghost use Rattle.script_text.specs.Subjects.{subject_of, OfPages, OfVmo};
-ghost use Rattle.script_text.specs.Spaced.{spaced};
+ghost use Rattle.script_text.specs.inside.Subjects.{subject_of, OfPages, OfVmo};
+ghost use Rattle.script_text.specs.inside.Spaced.{spaced};
 
 use crate::parts::{ARGUMENT_BYTES, put_byte, put_flag, put_kind, put_pin, put_range, put_vmo};
 use vm_base::VmoName;

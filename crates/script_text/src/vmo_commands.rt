@@ -7,7 +7,7 @@ ghost use Rattle.vm_model.specs.Language.Reading.{vmo_write, vmo_fill, vmo_pin, 
 ghost use Rattle.vm_model.specs.declared.command.Command.TheVariants.{VmoClose, VmoSize, VmoRead, VmoCommit};
 ghost use Rattle.vm_model.specs.declared.command.Command.TheVariants.{VmoDecommit, VmoZero, VmoInfo};
 ghost use Rattle.vm_model.specs.Machine.Lent.{command_of};
-ghost use Rattle.script_text.specs.Shapes.{one_vmo, vmo_range};
+ghost use Rattle.script_text.specs.inside.Shapes.{one_vmo, vmo_range};
 
 use crate::field_groups::{child, range, range_of_vmo, vmo_and_number};
 use crate::fields::{byte, byte_data_into, pin, vmo};

@@ -4,7 +4,7 @@ ghost use Rattle.std.specs.Prelude.{◌≡◌, ◌<◌, ◌≤◌, ◌↔◌, fa
 ghost use Rattle.std.specs.Prelude.{slice_get, slice_range, MatchOption, IfSome, IsNone};
 ghost use Rattle.std.specs.List.{position_or_len};
 ghost use Rattle.vm_model.specs.Language.Reading.{words, is_blank, is_word};
-ghost use Rattle.script_text.specs.Places.{IsWordFrom};
+ghost use Rattle.script_text.specs.inside.Places.{IsWordFrom};
 
 use memchr::memchr3;
 

@@ -3,7 +3,7 @@
 ghost use Rattle.std.specs.Prelude.{◌≡◌, ◌+◌, ◌<◌, ◌≤◌, true, [], ◌∷◌, ◌++◌, length, take, drop, slice_get};
 ghost use Rattle.vm_model.specs.Language.Reading.{reading, Order};
 ghost use Rattle.vm_model.specs.Language.Spelling.{HasRanges, command_words, has_spelling, spelling};
-ghost use Rattle.script_text.specs.Spaced.{spaced};
+ghost use Rattle.script_text.specs.inside.Spaced.{spaced};
 
 use crate::parts::ARGUMENT_BYTES;
 use crate::region_arguments::{put_mapping_arguments, put_region_arguments};

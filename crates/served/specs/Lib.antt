@@ -1,4 +1,4 @@
 pub mod Answering
 pub mod Outcome
-pub mod Serving
 pub mod Words
+pub mod inside

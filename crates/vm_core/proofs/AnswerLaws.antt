@@ -11,9 +11,9 @@ use Rattle.vm_model.proofs.MachineLaws.{KeepsMachine, MachineStep-keeps}
 use Rattle.mapping_set.specs.Tables.{table_of}
 use Rattle.fault.specs.Table.{Table as Translations, Places, places_of, ready_of, AreTrue}
 use Rattle.vm_core.specs.declared.groups.Group.{Group}
-use Rattle.vm_core.specs.Calls.{Handles, DoesAccess}
-use Rattle.vm_core.specs.Resets.{IsNoAccess}
-use Rattle.vm_core.specs.Groups.{group_of}
+use Rattle.vm_core.specs.inside.Calls.{Handles, DoesAccess}
+use Rattle.vm_core.specs.inside.Resets.{IsNoAccess}
+use Rattle.vm_core.specs.inside.Groups.{group_of}
 use Rattle.vm_core.specs.Vm.{Parts, spaces_in, state_of, machine_of, Agrees}
 use Rattle.vm_core.proofs.AgreeLaws.{agrees_good}
 use Rattle.vm_core.proofs.ResetLaws.{steps_so, true_of_new}

@@ -13,7 +13,7 @@ use Rattle.vm_model.specs.Machine.Attribution.{info_at}
 use Rattle.vm_model.proofs.NamesLaws.{target_of-at}
 use Rattle.vmo_table.specs.Table.{Table as Vmos, names_of, with_vmos}
 use Rattle.vmo_ops.proofs.StepRows.{first_of-skip, Step-done, open_at, size_of-at}
-use Rattle.vm_core.specs.Calls.{StepsVmos}
+use Rattle.vm_core.specs.inside.Calls.{StepsVmos}
 
 module _ {c : Content} (vmos : Vmos) (name : VmoName) (target : Target)
     (named : Some target ≡ names_of vmos name.0) where

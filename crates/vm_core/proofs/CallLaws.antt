@@ -18,8 +18,8 @@ use Rattle.vmo_ops.proofs.NameLaws.{parts_inside}
 use Rattle.region_tree.specs.Tree.{spaces_of}
 use Rattle.region_ops.specs.Spaces.{AreAllWell, Does}
 use Rattle.fault.specs.Table.{Places}
-use Rattle.vm_core.specs.Calls.{AreCounted, StepsVmos, Steps, StepsSpaces, LeavesVmos, LeavesTables, LeavesSpaces, DoesTables, DoesSpaces, StepsSame, state_with, Handles}
-use Rattle.vm_core.specs.Resets.{left_by}
+use Rattle.vm_core.specs.inside.Calls.{AreCounted, StepsVmos, Steps, StepsSpaces, LeavesVmos, LeavesTables, LeavesSpaces, DoesTables, DoesSpaces, StepsSame, state_with, Handles}
+use Rattle.vm_core.specs.inside.Resets.{left_by}
 use Rattle.vm_core.proofs.LeavesLaws.{left_all}
 
 -- a store and a table of VMOs are parts of what they are parts of together with the pins

@@ -35,7 +35,7 @@ use Rattle.vm_model.proofs.RegionLaws.{region_of-at}
 use Rattle.vm_model.proofs.StepLaws.{AllOff-from_none}
 use Rattle.fault.specs.declared.translation.Translation.{Translation}
 use Rattle.fault.specs.Table.{Places, ready_of, AreTrue, without, is_stale, is_at}
-use Rattle.vm_core.specs.Resets.{with_read_only_but, left_after, IsNoAccess}
+use Rattle.vm_core.specs.inside.Resets.{with_read_only_but, left_after, IsNoAccess}
 use Rattle.vm_core.proofs.AgreeLaws.{machine_with}
 use Rattle.vm_core.proofs.OutsideLaws.{LeavesOthers-owns, ChangesWithin, ChangesWithin-wider, ChangesWithin-zeroed, touched_reaches, ChangesWithin-writes, ChangesWithin-owns, ChangesWithin-zeroes}
 use Rattle.region_ops.proofs.CountLaws.{entry_bounds}

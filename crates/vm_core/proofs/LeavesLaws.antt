@@ -30,7 +30,7 @@ use Rattle.pin_table.specs.Table.{IsNextPinned}
 use Rattle.fault.specs.declared.translation.Translation.{Translation}
 use Rattle.fault.specs.Table.{Places, without, with_read_only, restricted}
 use Rattle.vmo_table.specs.Table.{Table as Vmos, names_of, with_vmos}
-use Rattle.vm_core.specs.Resets.{restricted_but, with_read_only_but, left_by, left_after, unless_refused, without_changed, IsFirstBelow, IsReached}
+use Rattle.vm_core.specs.inside.Resets.{restricted_but, with_read_only_but, left_by, left_after, unless_refused, without_changed, IsFirstBelow, IsReached}
 use Rattle.vm_core.proofs.BoundLaws.{bounds_of, done_bounds}
 
 -- ---- ranges of bytes

@@ -14,7 +14,7 @@ use Rattle.vm_model.proofs.ReadinessLaws.{keeps_frame-from, settled-kept, settle
 use Rattle.fault.specs.declared.translation.Translation.{Translation}
 use Rattle.vm_core.proofs.AgreeLaws.{readiness_of}
 use Rattle.fault.specs.Table.{Places, ready_of, frame_in, AreTrue, without, is_at}
-use Rattle.vm_core.specs.Resets.{restricted_but, with_read_only_but}
+use Rattle.vm_core.specs.inside.Resets.{restricted_but, with_read_only_but}
 use Rattle.fault.proofs.WrittenLaws.{without-some}
 
 -- a page that is the same has the same frame

@@ -16,7 +16,7 @@ use Rattle.pin_table.specs.Table.{Table as Pins}
 use Rattle.vmo_ops.specs.Targets.{with_tables}
 use Rattle.region_ops.specs.Spaces.{with_all, with_spaces, Does}
 use Rattle.fault.specs.Table.{Places}
-use Rattle.vm_core.specs.Calls.{Steps, StepsSpaces, LeavesVmos, LeavesTables, LeavesSpaces}
+use Rattle.vm_core.specs.inside.Calls.{Steps, StepsSpaces, LeavesVmos, LeavesTables, LeavesSpaces}
 
 step_refused : (s : State) (command : Command) (refusal : Refusal) → first_of (refusals s command) ≡ Some refusal → Step s command (Refused refusal) s
 step_refused s command refusal refused = record {

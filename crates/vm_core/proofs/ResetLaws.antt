@@ -16,7 +16,7 @@ use Rattle.vm_model.specs.Machine.MachineStep.{MachineStep}
 use Rattle.vm_model.proofs.MachineLaws.{machine_step, MachineStep-keeps}
 use Rattle.fault.specs.declared.translation.Translation.{Translation}
 use Rattle.fault.specs.Table.{Places, ready_of, frame_in, AreTrue}
-use Rattle.vm_core.specs.Resets.{left_after, IsNoAccess}
+use Rattle.vm_core.specs.inside.Resets.{left_after, IsNoAccess}
 use Rattle.vm_core.proofs.AgreeLaws.{machine_with, readiness_of, IsGoodMachine-from}
 use Rattle.vm_core.proofs.EffectLaws.{effect_settles}
 

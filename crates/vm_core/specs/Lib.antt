@@ -1,5 +1,2 @@
 pub mod Vm
-pub mod VmFields
-pub mod Calls
-pub mod Groups
-pub mod Resets
+pub mod inside

@@ -7,7 +7,7 @@ ghost use Rattle.vm_model.specs.Machine.Lent.{reply_for};
 ghost use Rattle.mapping_set.specs.Tables.{table_of};
 ghost use Rattle.region_tree.specs.Tree.{regions_of, spaces_of};
 ghost use Rattle.fault.specs.Table.{places_of, AreBacked, AreTrue};
-ghost use Rattle.vm_core.specs.Calls.{DoesAccess};
+ghost use Rattle.vm_core.specs.inside.Calls.{DoesAccess};
 
 use fault::Translations;
 use mapping_set::MappingSet;

@@ -6,7 +6,7 @@ ghost use Rattle.vm_base.specs.declared.limits.TheConstants.{DATA_BYTES};
 ghost use Rattle.vm_model.specs.declared.command.Command.{Command};
 ghost use Rattle.vm_model.specs.Machine.Lent.{reply_for};
 ghost use Rattle.vmo_table.specs.Table.{AreParts};
-ghost use Rattle.vm_core.specs.Calls.{StepsVmos};
+ghost use Rattle.vm_core.specs.inside.Calls.{StepsVmos};
 
 use attribution::info;
 use page_store::{PageStore, size_of_name};

@@ -10,8 +10,8 @@ ghost use Rattle.vm_model.specs.Machine.Step.{reply_of};
 ghost use Rattle.vmo_table.specs.Table.{AreParts};
 ghost use Rattle.vmo_ops.specs.Targets.{AreTogether};
 ghost use Rattle.fault.specs.Table.{places_of};
-ghost use Rattle.vm_core.specs.Calls.{LeavesVmos, Steps, StepsVmos};
-ghost use Rattle.vm_core.specs.Resets.{unless_refused, without_changed, IsReached};
+ghost use Rattle.vm_core.specs.inside.Calls.{LeavesVmos, Steps, StepsVmos};
+ghost use Rattle.vm_core.specs.inside.Resets.{unless_refused, without_changed, IsReached};
 
 use crate::resets::{forget_changed, forget_past};
 use fault::Translations;

@@ -10,8 +10,8 @@ ghost use Rattle.vm_model.specs.Machine.Lent.{command_of, reply_for};
 ghost use Rattle.vmo_table.specs.Table.{IsWellCounted};
 ghost use Rattle.region_ops.specs.Spaces.{AreAllWell};
 ghost use Rattle.fault.specs.Table.{places_of, AreBacked, AreTrue};
-ghost use Rattle.vm_core.specs.Calls.{state_with, AreCounted, DoesTables, DoesSpaces, DoesAccess, Handles, StepsSame};
-ghost use Rattle.vm_core.specs.Groups.{group_of};
+ghost use Rattle.vm_core.specs.inside.Calls.{state_with, AreCounted, DoesTables, DoesSpaces, DoesAccess, Handles, StepsSame};
+ghost use Rattle.vm_core.specs.inside.Groups.{group_of};
 ghost use Rattle.vm_core.specs.declared.groups.Group.{Group};
 
 use crate::accessing::{mem_read, mem_write};

@@ -1,7 +1,7 @@
 //! The groups of commands, by which they are handled.
 
 ghost use Rattle.std.specs.Prelude.{◌≡◌};
-ghost use Rattle.vm_core.specs.Groups.{group_of};
+ghost use Rattle.vm_core.specs.inside.Groups.{group_of};
 
 use vm_model::Call;
 

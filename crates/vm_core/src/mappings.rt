@@ -11,7 +11,7 @@ ghost use Rattle.mapping_set.specs.Tables.{table_of, places_of as notes_of};
 ghost use Rattle.region_tree.specs.Tree.{regions_of, spaces_of, AreNoted};
 ghost use Rattle.region_ops.specs.Spaces.{AreAllWell, Does};
 ghost use Rattle.fault.specs.Table.{places_of};
-ghost use Rattle.vm_core.specs.Calls.{LeavesSpaces, StepsSpaces};
+ghost use Rattle.vm_core.specs.inside.Calls.{LeavesSpaces, StepsSpaces};
 
 use crate::resets::forget_pages;
 use fault::Translations;

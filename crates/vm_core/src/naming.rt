@@ -9,7 +9,7 @@ ghost use Rattle.vm_model.specs.Machine.State.{State};
 ghost use Rattle.vmo_table.specs.Table.{keepers_of, with_vmos, AreParts, IsWellCounted};
 ghost use Rattle.vmo_ops.specs.Targets.{AreTogether};
 ghost use Rattle.fault.specs.Table.{places_of};
-ghost use Rattle.vm_core.specs.Calls.{LeavesTables, Steps, StepsVmos};
+ghost use Rattle.vm_core.specs.inside.Calls.{LeavesTables, Steps, StepsVmos};
 
 use crate::resets::child_made;
 use fault::Translations;

@@ -6,7 +6,7 @@ ghost use Rattle.vm_base.specs.declared.limits.TheConstants.{NAMES, PIN_PAGES};
 ghost use Rattle.vm_model.specs.declared.command.Command.{Command};
 ghost use Rattle.vm_model.specs.Machine.Lent.{reply_for};
 ghost use Rattle.fault.specs.Table.{places_of};
-ghost use Rattle.vm_core.specs.Calls.{AreCounted, KeepsCounts, LeavesVmos, Steps};
+ghost use Rattle.vm_core.specs.inside.Calls.{AreCounted, KeepsCounts, LeavesVmos, Steps};
 
 use crate::resets::forget_changed;
 use fault::Translations;

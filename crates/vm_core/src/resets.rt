@@ -9,7 +9,7 @@ ghost use Rattle.vm_model.specs.Contents.Writing.{touched};
 ghost use Rattle.vm_model.specs.Naming.Pins.{is_pinned};
 ghost use Rattle.pin_table.specs.Table.{pins_of};
 ghost use Rattle.fault.specs.Table.{places_of};
-ghost use Rattle.vm_core.specs.Resets.{shared_by, without_changed, without_pages, without_past, with_read_only_but, with_shared, IsFirstBelow, IsReached, IsShared};
+ghost use Rattle.vm_core.specs.inside.Resets.{shared_by, without_changed, without_pages, without_past, with_read_only_but, with_shared, IsFirstBelow, IsReached, IsShared};
 
 use fault::Translations;
 use page_store::{PageStore, pages_of_name};

@@ -38,7 +38,7 @@ impl Model for Vm {
 
     ghost Value = { Parts };
 
-    ghost use Rattle.vm_core.specs.VmFields.{parts_of, IsCounted};
+    ghost use Rattle.vm_core.specs.inside.VmFields.{parts_of, IsCounted};
 
     ghost view = { parts_of };
 

@@ -18,7 +18,7 @@ use Rattle.served.specs.Answering.{Run as Answered, syntax_text}
 use Rattle.served.specs.Outcome.{SinkTakes, AnswersLine}
 use Rattle.served.specs.Outcome.{AnswersAll as ServesAll, AnswersPart as ServesPart, EndsAs as ServingEndsAs}
 use Rattle.vm_session.specs.Outcome.{AnswersAll, AnswersPart, EndsAs}
-use Rattle.vm_session.specs.Plain.{plain, GivesText-outside}
+use Rattle.vm_session.specs.inside.Plain.{plain, GivesText-outside}
 
 -- ---- one line of a script
 

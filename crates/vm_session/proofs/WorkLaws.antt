@@ -9,7 +9,7 @@ use Rattle.vm_model.specs.Machine.MachineStep.{MachineStep}
 use Rattle.vm_model.specs.Scripts.Workload.{number_after, command_for, workload, StepsThrough, is_success, is_refusal, is_lack, count_of, workload_line}
 use Rattle.vm_session.specs.declared.tally.Tally.{Tally}
 use Rattle.vm_session.specs.Outcome.{Works}
-use Rattle.vm_session.specs.Working.{more, with_reply, Counts, StepsOn, IsUnderWay, tally_text}
+use Rattle.vm_session.specs.inside.Working.{more, with_reply, Counts, StepsOn, IsUnderWay, tally_text}
 
 -- a reply more, counted early or later
 counted : (test : Reply → Bool) (n : ℕ) (reply : Reply) (later : List Reply) → n + count_of test (reply ∷ later) ≡ more (test reply) n + count_of test later

@@ -1,4 +1,2 @@
 pub mod Outcome
-pub mod Tasks
-pub mod Plain
-pub mod Working
+pub mod inside

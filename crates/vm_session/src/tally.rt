@@ -4,7 +4,7 @@ ghost use Rattle.std.specs.Prelude.{◌≡◌, ◌+◌, ◌<◌, ◌≤◌, ◌+
 ghost use Rattle.vm_model.specs.Contents.Content.{used, vmos_of};
 ghost use Rattle.vm_model.specs.Language.Text.{ok_line};
 ghost use Rattle.vm_model.specs.Machine.Lent.{reply_for};
-ghost use Rattle.vm_session.specs.Working.{tally_text, with_reply};
+ghost use Rattle.vm_session.specs.inside.Working.{tally_text, with_reply};
 
 use page_store::PageStore;
 use vm_base::{Refusal, TEXT_ROOM};

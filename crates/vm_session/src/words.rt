@@ -4,7 +4,7 @@ ghost use Rattle.std.specs.Prelude.{◌≡◌, map, option_map, IfSome};
 ghost use Rattle.std.specs.String.{string_bytes};
 ghost use Rattle.served.specs.Words.{frames_in};
 ghost use Rattle.vm_session.specs.Outcome.{task_asked, work_in};
-ghost use Rattle.vm_session.specs.Tasks.{HasBounds};
+ghost use Rattle.vm_session.specs.inside.Tasks.{HasBounds};
 
 use served::{decimal_of_word, frames_in};
 use vm_base::WORK_COUNT;

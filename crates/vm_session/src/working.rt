@@ -7,7 +7,7 @@ ghost use Rattle.vm_model.specs.Contents.Content.{nothing};
 ghost use Rattle.vm_model.specs.Machine.Machine.{IsGoodMachine};
 ghost use Rattle.vm_core.specs.Vm.{Agrees, machine_of};
 ghost use Rattle.vm_session.specs.Outcome.{WorkEndsAs};
-ghost use Rattle.vm_session.specs.Working.{StepsOn};
+ghost use Rattle.vm_session.specs.inside.Working.{StepsOn};
 
 use crate::rooms::Rooms;
 use crate::tally::{Tally, write_tally};

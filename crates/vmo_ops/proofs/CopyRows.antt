@@ -31,7 +31,7 @@ use Rattle.vm_model.proofs.OwningLaws.{Owned-from_Owns}
 use Rattle.vm_model.proofs.SharingLaws.{page-snapshotted_cases, count-snapshotted_new, IsGood-snapshotted}
 use Rattle.vm_model.proofs.StepLaws.{Step-done, Step-lacks}
 use Rattle.pin_table.specs.Table.{IsNextPinned}
-use Rattle.vmo_ops.specs.Copies.{copies_of, IsNextCopy}
+use Rattle.vmo_ops.specs.inside.Copies.{copies_of, IsNextCopy}
 use Rattle.vmo_ops.proofs.CreateLaws.{snapshotted-first}
 
 -- ---- the copies

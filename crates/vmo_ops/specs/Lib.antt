@@ -1,4 +1,2 @@
 pub mod Targets
-pub mod Costs
-pub mod Copies
-pub mod Pinning
+pub mod inside

@@ -7,7 +7,7 @@ ghost use Rattle.vm_model.specs.Contents.Content.{pages_of, used, IsGood};
 ghost use Rattle.vm_model.specs.Contents.Owning.{OwnsAll};
 ghost use Rattle.vm_model.specs.Naming.Pins.{is_pinned};
 ghost use Rattle.pin_table.specs.Table.{pins_of};
-ghost use Rattle.vmo_ops.specs.Copies.{copies_of, IsNextCopy};
+ghost use Rattle.vmo_ops.specs.inside.Copies.{copies_of, IsNextCopy};
 
 use page_store::PageStore;
 use pin_table::PinTable;

@@ -16,7 +16,7 @@ ghost use Rattle.vm_model.specs.Machine.Step.{Step, seen_pages, reply_of};
 ghost use Rattle.page_store.specs.Names.{IsInside};
 ghost use Rattle.vmo_table.specs.Table.{names_of, keepers_of, IsNamed};
 ghost use Rattle.pin_table.specs.Table.{pins_of};
-ghost use Rattle.vmo_ops.specs.Copies.{copies_of};
+ghost use Rattle.vmo_ops.specs.inside.Copies.{copies_of};
 ghost use Rattle.vmo_ops.specs.Targets.{AreTogether, with_tables, koid_given};
 
 use crate::copies::{count_copies, own_copies};

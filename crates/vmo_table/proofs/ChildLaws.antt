@@ -12,7 +12,7 @@ use Rattle.vm_base.specs.Entries.{passes}
 use Rattle.vm_base.specs.declared.names.Koid.{Koid}
 use Rattle.vm_model.specs.Naming.Names.{is_parent}
 use Rattle.vmo_table.specs.declared.child_rows.ChildRow.{ChildRow}
-use Rattle.vmo_table.specs.ChildRows.{row_functions, parent_in, child_in, row_of, is_under, IsChange}
+use Rattle.vmo_table.specs.inside.ChildRows.{row_functions, parent_in, child_in, row_of, is_under, IsChange}
 
 pub row_pairs : ArePairs row_functions parent_in child_in child_in
 row_pairs = record { rank_is = λ x. refl; rank_kept = λ x. refl; value_kept = λ x. refl }

@@ -12,7 +12,7 @@ use Rattle.vm_model.specs.Naming.Names.{Lineage, is_parent, has_parent, child_co
 use Rattle.vmo_table.specs.declared.child_rows.ChildRow.{ChildRow}
 use Rattle.vmo_table.specs.declared.vmos.Vmo.{Vmo}
 use Rattle.vmo_table.specs.Vmos.{koid_number, lineage_of_vmo, lineages, koid_after, vmos_without}
-use Rattle.vmo_table.specs.ChildRows.{is_under, IsChange, AreChildren, MayLeave}
+use Rattle.vmo_table.specs.inside.ChildRows.{is_under, IsChange, AreChildren, MayLeave}
 use Rattle.vmo_table.proofs.CountLaws.{funext}
 use Rattle.vmo_table.proofs.VmosLaws.{lineage-at, is_some-lineages, lineages-with_key, lineages-without, child-with_key, child-without, one_parent}
 use Rattle.vmo_table.proofs.ChildLaws.{under-below}

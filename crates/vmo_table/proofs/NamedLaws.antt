@@ -15,7 +15,7 @@ use Rattle.vm_model.specs.declared.names.Target.{Target}
 use Rattle.vm_model.specs.Naming.Names.{is_named, is_kind, names_as, is_of, is_of_as}
 use Rattle.vmo_table.specs.declared.vmos.Vmo.{Vmo}
 use Rattle.vmo_table.specs.Vmos.{kind_bit, fewer_names, count_of, adopted, vmos_without}
-use Rattle.vmo_table.specs.TableFields.{name_count, AreNamed}
+use Rattle.vmo_table.specs.inside.TableFields.{name_count, AreNamed}
 use Rattle.vmo_table.proofs.CountLaws.{count-at, count-there, count-same, count-with_key, count-adopted, count-without}
 
 pub AreNamed-empty : (names : ℕ → Option Target) (vmos : ℕ → Option Vmo) → ((n : ℕ) → names n ≡ None) →

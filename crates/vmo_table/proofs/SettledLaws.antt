@@ -13,9 +13,9 @@ use Rattle.balanced_tree.specs.Rows.{Rows}
 use Rattle.vmo_table.specs.declared.vmos.Vmo.{Vmo}
 use Rattle.vmo_table.specs.declared.child_rows.ChildRow.{ChildRow}
 use Rattle.vmo_table.specs.Vmos.{koid_number, lineage_of_vmo, lineages, adopted, vmos_without, is_kept, settled, vmo_count, keepers_in, IsForest, MayGet}
-use Rattle.vmo_table.specs.ChildRows.{AreChildren, MayLeave}
+use Rattle.vmo_table.specs.inside.ChildRows.{AreChildren, MayLeave}
 use Rattle.vmo_table.specs.Table.{parent_of, Settles}
-use Rattle.vmo_table.specs.TableFields.{AreNamed}
+use Rattle.vmo_table.specs.inside.TableFields.{AreNamed}
 use Rattle.vmo_table.proofs.CountLaws.{funext, count-at, count-with_key, count-adopted, count-without}
 use Rattle.vmo_table.proofs.VmosLaws.{lineage-at, lineages-written, lineages-without, without-written, without-childless, without_key-absent, child_count_le, left-there}
 use Rattle.vmo_table.proofs.ForestLaws.{parent-there, IsForest-written, IsForest-left, not_own, parent_counts, lineages-left}

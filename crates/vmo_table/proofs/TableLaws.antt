@@ -14,11 +14,11 @@ use Rattle.vm_model.specs.declared.names.Target.{Target}
 use Rattle.vm_model.specs.Naming.Names.{Lineage, is_parent, has_parent, child_count, names_as, is_created, children, may_decommit}
 use Rattle.vmo_table.specs.declared.vmos.Vmo.{Vmo}
 use Rattle.vmo_table.specs.declared.child_rows.ChildRow.{ChildRow}
-use Rattle.vmo_table.specs.ChildRows.{AreChildren}
+use Rattle.vmo_table.specs.inside.ChildRows.{AreChildren}
 use Rattle.vmo_table.specs.declared.vmo_table.VmoTable.TheInside.{Inside}
 use Rattle.vmo_table.specs.Vmos.{koid_number, vmos_in, lineage_of_vmo, lineages, fewer_names, settled, IsForest, MayGet}
 use Rattle.vmo_table.specs.Table.{names_in, room_of}
-use Rattle.vmo_table.specs.TableFields.{table_of, AreNamed, IsTable}
+use Rattle.vmo_table.specs.inside.TableFields.{table_of, AreNamed, IsTable}
 use Rattle.vmo_table.proofs.ChildLaws.{under-none, under-same}
 use Rattle.vmo_table.proofs.CountLaws.{count-at}
 use Rattle.vmo_table.proofs.VmosLaws.{lineage-at, is_some-lineages, children_le}

@@ -1,4 +1,3 @@
 pub mod Vmos
-pub mod ChildRows
 pub mod Table
-pub mod TableFields
+pub mod inside

@@ -5,7 +5,7 @@ ghost use Rattle.std.specs.Option.{option_map};
 ghost use Rattle.vm_base.specs.declared.names.Koid.{Koid};
 ghost use Rattle.balanced_tree.specs.Row.{height_in};
 ghost use Rattle.balanced_tree.specs.Pairs.{second_in};
-ghost use Rattle.vmo_table.specs.ChildRows.{row_of, parent_in, child_in, is_under, IsChange};
+ghost use Rattle.vmo_table.specs.inside.ChildRows.{row_of, parent_in, child_in, is_under, IsChange};
 ghost use Rattle.vmo_table.specs.Vmos.{koid_number};
 
 use balanced_tree::{BalancedTree, Child, TreeRow, link_to, pair_rank};
@@ -51,7 +51,7 @@ fn height_of(child: Option<Child<ChildRow>>) -> u32
 impl TreeRow for ChildRow {
     ghost use Rattle.std.specs.Prelude.{refl};
     ghost use Rattle.balanced_tree.specs.Row.{link_of, height_over};
-    ghost use Rattle.vmo_table.specs.ChildRows.{row_functions};
+    ghost use Rattle.vmo_table.specs.inside.ChildRows.{row_functions};
 
     ghost functions = { row_functions };
 

@@ -29,7 +29,7 @@ impl Model for VmoTable {
 
     ghost Value = { Table };
 
-    ghost use Rattle.vmo_table.specs.TableFields.{table_of, IsTable};
+    ghost use Rattle.vmo_table.specs.inside.TableFields.{table_of, IsTable};
 
     ghost view = { table_of };
 

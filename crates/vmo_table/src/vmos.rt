@@ -7,7 +7,7 @@ ghost use Rattle.vm_base.specs.declared.limits.TheConstants.{NAMES};
 ghost use Rattle.vm_model.specs.Naming.Names.{is_parent, child_count};
 ghost use Rattle.vmo_table.specs.Vmos.{koid_number, vmos_in, lineages, kind_bit, more_names, fewer_names};
 ghost use Rattle.vmo_table.specs.Vmos.{adopted, vmos_without, is_kept, settled, MayGet};
-ghost use Rattle.vmo_table.specs.ChildRows.{is_under, AreChildren, MayLeave};
+ghost use Rattle.vmo_table.specs.inside.ChildRows.{is_under, AreChildren, MayLeave};
 ghost use Rattle.vmo_table.specs.declared.vmos.Vmo.{Vmo};
 
 use crate::child_rows::{ChildRows, add_child, first_child, remove_child};

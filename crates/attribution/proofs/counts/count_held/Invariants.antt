@@ -1,6 +1,6 @@
 use Rattle.std.proofs.Common.{◌≤◌, ◌-◌}
 use Rattle.vm_model.specs.Contents.Content.{pages_of}
-use Rattle.attribution.specs.Counts.{AreCounts}
+use Rattle.attribution.specs.inside.Counts.{AreCounts}
 use Rattle.attribution.proofs.counts.count_held.Given as goal
 
 abbrev pub invariant-loop-page : goal.invariant-loop-page

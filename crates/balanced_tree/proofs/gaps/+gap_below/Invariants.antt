@@ -1,4 +1,4 @@
-use Rattle.balanced_tree.specs.Standing.{height_at}
+use Rattle.balanced_tree.specs.inside.Standing.{height_at}
 use Rattle.balanced_tree.proofs.gaps.+gap_below.Given as goal
 
 abbrev pub decreases-gap_below : goal.decreases-gap_below

@@ -1,4 +1,4 @@
-use Rattle.balanced_tree.specs.Standing.{height_at}
+use Rattle.balanced_tree.specs.inside.Standing.{height_at}
 use Rattle.balanced_tree.proofs.insertion.+insert_below.Given as goal
 
 abbrev pub decreases-insert_below : goal.decreases-insert_below

@@ -1,4 +1,4 @@
-use Rattle.balanced_tree.specs.Standing.{height_at}
+use Rattle.balanced_tree.specs.inside.Standing.{height_at}
 use Rattle.balanced_tree.proofs.moving.+move_below.Given as goal
 
 abbrev pub decreases-move_below : goal.decreases-move_below

@@ -1,4 +1,4 @@
-use Rattle.balanced_tree.specs.Standing.{height_at}
+use Rattle.balanced_tree.specs.inside.Standing.{height_at}
 use Rattle.balanced_tree.proofs.removal.+remove_below.Given as goal
 
 abbrev pub decreases-remove_below : goal.decreases-remove_below

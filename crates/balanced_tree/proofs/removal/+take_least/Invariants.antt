@@ -1,5 +1,5 @@
 use Rattle.std.proofs.Common.{Some}
-use Rattle.balanced_tree.specs.Standing.{height_at}
+use Rattle.balanced_tree.specs.inside.Standing.{height_at}
 use Rattle.balanced_tree.proofs.removal.+take_least.Given as goal
 
 abbrev pub decreases-take_least : goal.decreases-take_least

@@ -3,7 +3,7 @@ use Rattle.std.proofs.Common.{refl, sym, ap, subst, ◌∙◌, arith}
 use Rattle.balanced_tree.specs.Rows.{Rows}
 use Rattle.page_list.specs.declared.row.Row.{Row}
 use Rattle.page_list.specs.Lists.{slots_of}
-use Rattle.cow_merge.specs.HandingOver.{IsHandingOver}
+use Rattle.cow_merge.specs.inside.HandingOver.{IsHandingOver}
 use Rattle.cow_merge.proofs.HandLaws.{hand-taken, hand-under, hand-apart, hand-below, hand-next, over-end}
 use Rattle.cow_merge.proofs.handing.hand_rows.Goals as goal
 

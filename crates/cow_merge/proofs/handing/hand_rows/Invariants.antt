@@ -2,7 +2,7 @@ use Rattle.std.proofs.Common.{◌-◌, ◌^◌}
 use Rattle.balanced_tree.specs.Rows.{Rows}
 use Rattle.page_list.specs.declared.row.Row.{Row}
 use Rattle.frame_pool.specs.Pool.{Pool}
-use Rattle.cow_merge.specs.HandingOver.{IsHandingOver}
+use Rattle.cow_merge.specs.inside.HandingOver.{IsHandingOver}
 use Rattle.cow_merge.proofs.handing.hand_rows.Given as goal
 
 abbrev pub invariant-loop-page : goal.invariant-loop-page

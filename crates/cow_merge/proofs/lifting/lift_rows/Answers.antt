@@ -8,7 +8,7 @@ use Rattle.page_list.specs.Lists.{slots_of}
 use Rattle.cow_arena.specs.declared.node.Node.{Node}
 use Rattle.cow_arena.specs.Nodes.{side_of}
 use Rattle.cow_merge.specs.Ranges.{bit_on}
-use Rattle.cow_merge.specs.Lifting.{IsLifting, SeesRow}
+use Rattle.cow_merge.specs.inside.Lifting.{IsLifting, SeesRow}
 use Rattle.cow_merge.proofs.LiftedLaws.{lifting-found, lifting-settled, lifting-list, row-taken, row-sees-mid, passed-more, left-was, ahead-less, gone-here}
 use Rattle.cow_merge.proofs.lifting.lift_rows.Goals as goal
 

@@ -4,7 +4,7 @@ use Rattle.page_list.specs.declared.row.Row.{Row}
 use Rattle.page_list.specs.declared.row.Slot.{Slot}
 use Rattle.page_list.specs.Lists.{slots_of}
 use Rattle.frame_pool.specs.Pool.{Pool}
-use Rattle.cow_merge.specs.Lifting.{IsLifting}
+use Rattle.cow_merge.specs.inside.Lifting.{IsLifting}
 use Rattle.cow_merge.proofs.LiftedLaws.{still_ahead}
 use Rattle.cow_merge.proofs.lifting.lift_rows.Given as goal
 

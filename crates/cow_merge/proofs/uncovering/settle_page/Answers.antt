@@ -5,7 +5,7 @@ use Rattle.cow_arena.specs.declared.node.Node.{Node}
 use Rattle.balanced_tree.specs.Pairs.{with_pair}
 use Rattle.std.specs.Prelude.{◌≡◌, None, Some}
 use Rattle.vm_base.proofs.EntryLaws.{some_same}
-use Rattle.cow_merge.specs.HandingOver.{frame_there}
+use Rattle.cow_merge.specs.inside.HandingOver.{frame_there}
 use Rattle.cow_merge.proofs.UncoverLaws.{mid-sees}
 use Rattle.cow_merge.proofs.uncovering.settle_page.Goals as goal
 

@@ -2,7 +2,7 @@
 use Rattle.std.proofs.Common.{◌≡◌, refl, sym, subst, ◌∙◌, arith}
 use Rattle.cow_arena.specs.declared.node.Node.{Node}
 use Rattle.vm_base.proofs.EntryLaws.{some_same}
-use Rattle.cow_merge.specs.Uncovering.{IsUncovering}
+use Rattle.cow_merge.specs.inside.Uncovering.{IsUncovering}
 use Rattle.cow_merge.proofs.UncoverLaws.{uncovered-start, uncovered-more, page-sees, page-uncovered, two-lists, page-fits}
 use Rattle.cow_merge.proofs.uncovering.uncover.Goals as goal
 

@@ -1,5 +1,5 @@
 use Rattle.std.proofs.Common.{◌-◌, ◌^◌}
-use Rattle.cow_merge.specs.Uncovering.{IsUncovering}
+use Rattle.cow_merge.specs.inside.Uncovering.{IsUncovering}
 use Rattle.cow_merge.proofs.uncovering.uncover.Given as goal
 
 abbrev pub invariant-loop-page : goal.invariant-loop-page

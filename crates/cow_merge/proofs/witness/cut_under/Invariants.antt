@@ -7,7 +7,7 @@ use Rattle.cow_arena.specs.declared.node.NodeId.{NodeId}
 use Rattle.cow_arena.specs.declared.node.Side.{Side}
 use Rattle.cow_arena.specs.Nodes.{nodes_of}
 use Rattle.cow_merge.specs.Ranges.{KeepsList}
-use Rattle.cow_merge.specs.Witness.{IsBeside}
+use Rattle.cow_merge.specs.inside.Witness.{IsBeside}
 use Rattle.cow_merge.proofs.witness.cut_under.Given as goal
 
 abbrev pub invariant-loop-page : goal.invariant-loop-page

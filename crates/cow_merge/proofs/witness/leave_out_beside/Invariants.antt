@@ -6,7 +6,7 @@ use Rattle.cow_arena.specs.declared.node.Node.{Node}
 use Rattle.cow_arena.specs.declared.node.NodeId.{NodeId}
 use Rattle.cow_arena.specs.Nodes.{nodes_of, other_side, side_of}
 use Rattle.cow_merge.specs.Ranges.{no_pages, IsPassing, KeepsList}
-use Rattle.cow_merge.specs.Witness.{IsBeside}
+use Rattle.cow_merge.specs.inside.Witness.{IsBeside}
 use Rattle.cow_merge.proofs.witness.leave_out_beside.Given as goal
 
 abbrev pub invariant-loop-left : goal.invariant-loop-left

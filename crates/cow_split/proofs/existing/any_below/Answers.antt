@@ -3,7 +3,7 @@ use Rattle.std.proofs.Common.{sym, ap, arith}
 use Rattle.page_list.specs.Lists.{slots_of}
 use Rattle.cow_split.specs.Trees.{tree_of}
 use Rattle.cow_split.specs.Search.{has_some}
-use Rattle.cow_split.specs.Existing.{hidden_at}
+use Rattle.cow_split.specs.inside.Existing.{hidden_at}
 use Rattle.cow_split.proofs.WayLaws.{finds-here, finds-end, goes-some, goes-onward_by}
 use Rattle.cow_split.proofs.WeightLaws.{less-onward, weight-here}
 use Rattle.cow_split.proofs.ExistingLaws.{hidden-begins, goes-first, goes-past}

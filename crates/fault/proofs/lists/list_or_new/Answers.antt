@@ -1,6 +1,6 @@
 use Rattle.std.proofs.Common.{Some}
 use Rattle.pair_map.specs.Maps.{values_of}
-use Rattle.fault.specs.Lists.{frame_list}
+use Rattle.fault.specs.inside.Lists.{frame_list}
 use Rattle.fault.proofs.PairLaws.{with_pair-kept}
 use Rattle.fault.proofs.lists.list_or_new.Goals as goal
 

@@ -1,5 +1,5 @@
 use Rattle.std.proofs.Common.{ap, sym, ◌∙◌}
-use Rattle.fault.specs.Needing.{need_by}
+use Rattle.fault.specs.inside.Needing.{need_by}
 use Rattle.fault.proofs.NeedingLaws.{need-same, need-apart, need-third, need-last}
 use Rattle.fault.proofs.needing.frames_needed.Goals as goal
 

@@ -1,6 +1,6 @@
 use Rattle.std.proofs.Common.{◌≡◌, ◌≤◌}
 use Rattle.pair_map.specs.Maps.{extents_of, count_of, spare_of, IsOpen}
-use Rattle.mapping_set.specs.Taken.{pieces_in}
+use Rattle.mapping_set.specs.inside.Taken.{pieces_in}
 use Rattle.mapping_set.proofs.taken.clear_places.Given as goal
 
 abbrev pub invariant-loop-start : goal.invariant-loop-start

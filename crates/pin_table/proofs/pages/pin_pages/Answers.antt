@@ -1,6 +1,6 @@
 use Rattle.std.proofs.Common.{◌≡◌, ℕ, ◌+◌, subst, arith}
 use Rattle.pair_map.specs.Maps.{values_of}
-use Rattle.pin_table.specs.Pages.{AddsPin}
+use Rattle.pin_table.specs.inside.Pages.{AddsPin}
 use Rattle.pin_table.proofs.pages.pin_pages.Goals as goal
 
 -- the loop ends with the last page

@@ -1,6 +1,6 @@
 use Rattle.std.proofs.Common.{◌+◌, ◌≤◌}
 use Rattle.pair_map.specs.Maps.{values_of, spare_of}
-use Rattle.pin_table.specs.Pages.{AreKept, AddsPin}
+use Rattle.pin_table.specs.inside.Pages.{AreKept, AddsPin}
 use Rattle.pin_table.proofs.pages.pin_pages.Given as goal
 
 -- the pages up to here have a pin more, and no more room was taken than pages were passed

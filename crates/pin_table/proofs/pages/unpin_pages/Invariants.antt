@@ -1,5 +1,5 @@
 use Rattle.pair_map.specs.Maps.{values_of}
-use Rattle.pin_table.specs.Pages.{AreKept, AddsPin}
+use Rattle.pin_table.specs.inside.Pages.{AreKept, AddsPin}
 use Rattle.pin_table.proofs.pages.unpin_pages.Given as goal
 
 -- the pages up to here have a pin less

@@ -1,6 +1,6 @@
 use Rattle.std.proofs.Common.{◌-◌, ◌≤◌}
 use Rattle.mapping_set.specs.Tables.{table_of}
-use Rattle.region_ops.specs.Covers.{IsCovered}
+use Rattle.region_ops.specs.inside.Covers.{IsCovered}
 use Rattle.region_ops.proofs.protecting.cover_of.Given as goal
 
 -- the pages up to here are covered

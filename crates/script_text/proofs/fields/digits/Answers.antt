@@ -1,7 +1,7 @@
 -- A number that does not fit stays so, whatever digits follow.
 use Rattle.std.proofs.Common.{◌^◌, ◌+◌, ◌*◌, ◌≤◌, sym, ◌∙◌, ap, arith}
 use Rattle.vm_model.specs.Language.Reading.{below}
-use Rattle.script_text.specs.Radixes.{base_of, value_in}
+use Rattle.script_text.specs.inside.Radixes.{base_of, value_in}
 use Rattle.script_text.proofs.Horner.{digits_from-overflow}
 use Rattle.script_text.proofs.Bases.{base_of-pos}
 use Rattle.script_text.proofs.fields.digits.Goals as goal

@@ -1,6 +1,6 @@
 use Rattle.std.proofs.Common.{◌≡◌, ◌^◌, ◌<◌, drop}
 use Rattle.vm_model.specs.Language.Reading.{digits_from, digits}
-use Rattle.script_text.specs.Radixes.{base_of, value_in}
+use Rattle.script_text.specs.inside.Radixes.{base_of, value_in}
 use Rattle.script_text.proofs.fields.digits.Given as goal
 
 abbrev pub invariant-loop-byte : goal.invariant-loop-byte

@@ -1,5 +1,5 @@
 use Rattle.std.proofs.Common.{sym, ◌∙◌, ap}
-use Rattle.script_text.specs.Shapes.{only_data}
+use Rattle.script_text.specs.inside.Shapes.{only_data}
 use Rattle.script_text.proofs.FrequentLaws.{data_of_whole}
 use Rattle.script_text.proofs.frequent.only_data.Goals as goal
 

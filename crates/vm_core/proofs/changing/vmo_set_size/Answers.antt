@@ -6,7 +6,7 @@ use Rattle.vm_model.specs.declared.reply.Reply.TheVariants.{Done}
 use Rattle.vmo_table.specs.Table.{with_vmos}
 use Rattle.vmo_ops.specs.Targets.{with_tables}
 use Rattle.fault.specs.Table.{places_of}
-use Rattle.vm_core.specs.Resets.{without_past}
+use Rattle.vm_core.specs.inside.Resets.{without_past}
 use Rattle.vm_core.proofs.BoundLaws.{done_bounds}
 use Rattle.vm_core.proofs.CallLaws.{parts_of, inside_named, steps_named_with}
 use Rattle.vm_core.proofs.LeavesLaws.{left_named}

@@ -9,7 +9,7 @@ use Rattle.mapping_set.specs.Tables.{table_of}
 use Rattle.region_tree.specs.Tree.{regions_of, spaces_of}
 use Rattle.region_ops.specs.Spaces.{with_all, with_spaces}
 use Rattle.fault.specs.Table.{places_of}
-use Rattle.vm_core.specs.Resets.{without_pages}
+use Rattle.vm_core.specs.inside.Resets.{without_pages}
 use Rattle.vm_model.proofs.RegionLaws.{region_bounds}
 use Rattle.vm_core.proofs.BoundLaws.{done_bounds}
 use Rattle.vm_core.proofs.LeavesLaws.{left_region}

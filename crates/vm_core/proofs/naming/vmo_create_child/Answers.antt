@@ -6,7 +6,7 @@ use Rattle.vm_model.specs.declared.reply.Reply.TheVariants.{Done}
 use Rattle.pin_table.specs.Table.{pins_of}
 use Rattle.vmo_ops.specs.Targets.{with_tables}
 use Rattle.fault.specs.Table.{places_of}
-use Rattle.vm_core.specs.Resets.{shared_by, IsShared}
+use Rattle.vm_core.specs.inside.Resets.{shared_by, IsShared}
 use Rattle.vm_core.proofs.BoundLaws.{bounds_of}
 use Rattle.vm_core.proofs.LeavesLaws.{asked_named, left_named}
 use Rattle.vm_core.proofs.RefusedLaws.{left_tables}

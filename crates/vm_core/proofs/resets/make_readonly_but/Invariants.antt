@@ -2,7 +2,7 @@ use Rattle.std.proofs.Common.{◌≡◌, ◌-◌, ◌≤◌}
 use Rattle.vm_model.specs.Naming.Pins.{is_pinned}
 use Rattle.pin_table.specs.Table.{pins_of}
 use Rattle.fault.specs.Table.{places_of}
-use Rattle.vm_core.specs.Resets.{with_read_only_but}
+use Rattle.vm_core.specs.inside.Resets.{with_read_only_but}
 use Rattle.vm_core.proofs.resets.make_readonly_but.Given as goal
 
 -- the pages up to here are for reading alone, but for the pinned ones

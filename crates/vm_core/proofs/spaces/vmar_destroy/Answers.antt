@@ -7,7 +7,7 @@ use Rattle.mapping_set.specs.Tables.{table_of}
 use Rattle.region_tree.specs.Tree.{regions_of, spaces_of}
 use Rattle.region_ops.specs.Spaces.{with_all, with_spaces}
 use Rattle.fault.specs.Table.{places_of}
-use Rattle.vm_core.specs.Resets.{without_pages}
+use Rattle.vm_core.specs.inside.Resets.{without_pages}
 use Rattle.vm_core.proofs.LeavesLaws.{asked_region, left_region}
 use Rattle.vm_core.proofs.spaces.vmar_destroy.Goals as goal
 

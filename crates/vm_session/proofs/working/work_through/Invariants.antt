@@ -1,6 +1,6 @@
 use Rattle.std.proofs.Common.{◌+◌, ◌-◌, ◌≤◌}
 use Rattle.vm_core.specs.Vm.{Agrees, machine_of}
-use Rattle.vm_session.specs.Working.{IsUnderWay}
+use Rattle.vm_session.specs.inside.Working.{IsUnderWay}
 use Rattle.vm_session.proofs.working.work_through.Given as goal
 
 abbrev pub invariant-loop : goal.invariant-loop

@@ -1,7 +1,7 @@
 use Rattle.std.proofs.Common.{◌≡◌, ◌+◌, ◌-◌, ◌≤◌, length}
 use Rattle.vm_model.specs.Naming.Pins.{is_pinned}
 use Rattle.pin_table.specs.Table.{pins_of}
-use Rattle.vmo_ops.specs.Copies.{copies_of}
+use Rattle.vmo_ops.specs.inside.Copies.{copies_of}
 use Rattle.vmo_ops.proofs.copies.count_copies.Given as goal
 
 -- the copies before this page were counted

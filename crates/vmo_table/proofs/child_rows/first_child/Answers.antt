@@ -2,7 +2,7 @@ use Rattle.std.proofs.Common.{None, refl, ap, ◌∙◌, arith}
 use Rattle.std.specs.Option.{option_map}
 use Rattle.balanced_tree.proofs.PairLaws.{next-is}
 use Rattle.balanced_tree.specs.Pairs.{value_at, IsNext}
-use Rattle.vmo_table.specs.ChildRows.{row_functions, child_in}
+use Rattle.vmo_table.specs.inside.ChildRows.{row_functions, child_in}
 use Rattle.vmo_table.specs.Vmos.{koid_number}
 use Rattle.vmo_table.proofs.ChildLaws.{row_pairs, under-value}
 use Rattle.vmo_table.proofs.child_rows.first_child.Goals as goal

@@ -2,7 +2,7 @@ use Rattle.std.proofs.Common.{◌≡◌, true, false, Option, ap, sym, subst}
 use Rattle.std.specs.Option.{option_map}
 use Rattle.vm_base.specs.declared.names.Koid.{Koid}
 use Rattle.vmo_table.specs.Vmos.{koid_number}
-use Rattle.vmo_table.specs.ChildRows.{is_under, IsChange}
+use Rattle.vmo_table.specs.inside.ChildRows.{is_under, IsChange}
 use Rattle.vmo_table.proofs.ChildLaws.{at_parent, row_there, under-below, changed-removed, changed-not}
 use Rattle.vmo_table.proofs.child_rows.remove_child.Goals as goal
 

@@ -1,7 +1,7 @@
 use Rattle.std.proofs.Common.{◌≡◌}
 use Rattle.vm_model.specs.Naming.Names.{child_count}
 use Rattle.vmo_table.specs.Vmos.{vmos_in, lineages, vmos_without}
-use Rattle.vmo_table.specs.ChildRows.{MayLeave}
+use Rattle.vmo_table.specs.inside.ChildRows.{MayLeave}
 use Rattle.vmo_table.proofs.vmos.move_children.Given as goal
 
 -- the VMO may leave still, and what it leaves is what it left at the start

@@ -4,7 +4,7 @@ use Rattle.std.proofs.lemmas.Bool.{cond-true, cond-false}
 use Rattle.vmo_table.specs.declared.vmos.Vmo.{Vmo}
 use Rattle.vm_model.specs.Naming.Names.{Lineage}
 use Rattle.vmo_table.specs.Vmos.{koid_number, lineages, adopted, settled}
-use Rattle.vmo_table.specs.ChildRows.{AreChildren}
+use Rattle.vmo_table.specs.inside.ChildRows.{AreChildren}
 use Rattle.vmo_table.proofs.VmosLaws.{lineages-adopted}
 use Rattle.vmo_table.proofs.SettledLaws.{AreChildren-got, may_leave, left_fits}
 use Rattle.vmo_table.proofs.EntryLaws.{vmo_count_le}

@@ -1,7 +1,7 @@
 use Rattle.std.proofs.Common.{sym, subst, ◌∙◌, ℕ, Option}
 use Rattle.vmo_table.specs.declared.vmos.Vmo.{Vmo}
 use Rattle.vmo_table.specs.Vmos.{lineages}
-use Rattle.vmo_table.specs.ChildRows.{AreChildren}
+use Rattle.vmo_table.specs.inside.ChildRows.{AreChildren}
 use Rattle.vmo_table.proofs.VmosLaws.{without-childless}
 use Rattle.vmo_table.proofs.EntryLaws.{vmos_in-removed}
 use Rattle.vmo_table.proofs.MovedLaws.{row_under, no_children, AreChildren-left}

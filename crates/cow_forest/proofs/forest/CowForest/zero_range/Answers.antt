@@ -2,7 +2,7 @@ use Rattle.std.proofs.Common.{◌+◌, ◌≤◌, ◌<◌, inl, inr, refl, sym, 
 use Rattle.cow_arena.specs.Nodes.{nodes_of}
 use Rattle.cow_arena.proofs.WalkLaws.{link_same}
 use Rattle.cow_split.specs.Cost.{depth}
-use Rattle.cow_forest.specs.Fields.{forest_of}
+use Rattle.cow_forest.specs.inside.Fields.{forest_of}
 use Rattle.cow_forest.specs.Ranges.{rows_reached}
 use Rattle.cow_forest.specs.Store.{tree}
 use Rattle.cow_forest.proofs.ContentLaws.{vmo-found}

@@ -4,7 +4,7 @@ use Rattle.vm_base.specs.Entries.{with_key}
 use Rattle.vm_base.proofs.EntryLaws.{with_key-same}
 use Rattle.cow_arena.specs.declared.node.NodeId.{NodeId}
 use Rattle.cow_arena.specs.Nodes.{Nodes, nodes_of}
-use Rattle.cow_forest.specs.Fields.{forest_of}
+use Rattle.cow_forest.specs.inside.Fields.{forest_of}
 use Rattle.cow_forest.proofs.EnterLaws.{store-alike, vmos_le}
 use Rattle.cow_forest.proofs.MakingLaws.{HasRoot, store-made, content-made}
 use Rattle.cow_forest.proofs.JumpKeptLaws.{jumps-alike, tree-alike, jumps-root}

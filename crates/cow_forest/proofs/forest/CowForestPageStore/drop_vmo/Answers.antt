@@ -1,6 +1,6 @@
 use Rattle.std.proofs.Common.{ap}
 use Rattle.std.specs.Prelude.{is_some}
-use Rattle.cow_forest.specs.Fields.{forest_of}
+use Rattle.cow_forest.specs.inside.Fields.{forest_of}
 use Rattle.cow_forest.specs.Store.{tree}
 use Rattle.cow_forest.proofs.LeavingLaws.{one-of, store-left, content-left}
 use Rattle.cow_forest.proofs.JumpKeptLaws.{jumps-closed}

@@ -1,7 +1,7 @@
 use Rattle.std.proofs.Common.{◌≡◌, ℕ, Result, Ok, Err, None, OnOk, OnErr, sym, subst}
 use Rattle.frame_pool.specs.Pool.{Pool, taken_frames}
 use Rattle.vm_model.specs.Contents.Content.{nothing}
-use Rattle.cow_forest.specs.Fields.{forest_of}
+use Rattle.cow_forest.specs.inside.Fields.{forest_of}
 use Rattle.cow_forest.specs.Store.{Forest, content_of, IsStore}
 use Rattle.cow_forest.proofs.EmptyLaws.{no-frames, store-filled, content-filled}
 use Rattle.cow_forest.proofs.forest.CowForestPageStore.fill.Goals as goal

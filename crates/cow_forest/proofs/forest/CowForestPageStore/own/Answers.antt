@@ -1,4 +1,4 @@
-use Rattle.cow_forest.specs.Fields.{forest_of}
+use Rattle.cow_forest.specs.inside.Fields.{forest_of}
 use Rattle.cow_forest.proofs.ContentLaws.{page-found, page-at}
 use Rattle.cow_forest.proofs.OwnedLaws.{room-own, store-owned, owns, owned-row}
 use Rattle.cow_forest.proofs.JumpKeptLaws.{jumps-rows}

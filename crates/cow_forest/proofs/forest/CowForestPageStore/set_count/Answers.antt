@@ -3,7 +3,7 @@ use Rattle.std.specs.Prelude.{is_some}
 use Rattle.vm_base.proofs.EntryLaws.{some_same}
 use Rattle.cow_arena.specs.declared.node.Node.{Node}
 use Rattle.cow_merge.specs.Merging.{HasShrunk}
-use Rattle.cow_forest.specs.Fields.{forest_of}
+use Rattle.cow_forest.specs.inside.Fields.{forest_of}
 use Rattle.cow_forest.proofs.ContentLaws.{node-visible}
 use Rattle.cow_forest.proofs.ResizingLaws.{shrunk-grown, store-resized, content-resized}
 use Rattle.cow_forest.proofs.JumpKeptLaws.{jumps-resized}

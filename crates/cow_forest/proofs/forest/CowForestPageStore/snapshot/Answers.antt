@@ -6,9 +6,9 @@ use Rattle.frame_pool.specs.Pool.{is_taken}
 use Rattle.cow_arena.specs.Nodes.{nodes_of}
 use Rattle.cow_arena.proofs.ForestLaws.{held_apart}
 use Rattle.cow_split.specs.Trees.{tree_of}
-use Rattle.cow_forest.specs.Fields.{forest_of}
+use Rattle.cow_forest.specs.inside.Fields.{forest_of}
 use Rattle.cow_forest.specs.Store.{tree}
-use Rattle.cow_forest.specs.Jumps.{AreJumps}
+use Rattle.cow_forest.specs.inside.Jumps.{AreJumps}
 use Rattle.cow_forest.proofs.JumpLaws.{same-jumps}
 use Rattle.cow_forest.proofs.ContentLaws.{pages-of}
 use Rattle.cow_forest.proofs.EnterLaws.{found-node, store-alike, vmos_le}

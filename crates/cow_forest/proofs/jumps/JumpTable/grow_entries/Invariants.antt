@@ -1,6 +1,6 @@
 use Rattle.std.proofs.Common.{◌≡◌, ℕ, ◌-◌}
 use Rattle.std.specs.Vec.{vec_len}
-use Rattle.cow_forest.specs.Jumps.{jump_in}
+use Rattle.cow_forest.specs.inside.Jumps.{jump_in}
 use Rattle.cow_forest.proofs.jumps.JumpTable.grow_entries.Given as goal
 
 abbrev pub invariant-loop-self : goal.invariant-loop-self

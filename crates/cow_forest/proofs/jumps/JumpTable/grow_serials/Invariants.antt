@@ -1,6 +1,6 @@
 use Rattle.std.proofs.Common.{◌≡◌, ℕ, ◌-◌}
 use Rattle.std.specs.Vec.{vec_len}
-use Rattle.cow_forest.specs.Jumps.{serial_in}
+use Rattle.cow_forest.specs.inside.Jumps.{serial_in}
 use Rattle.cow_forest.proofs.jumps.JumpTable.grow_serials.Given as goal
 
 abbrev pub invariant-loop-self : goal.invariant-loop-self

@@ -1,6 +1,6 @@
 use Rattle.std.proofs.Common.{sym, ap, ◌∙◌}
 use Rattle.std.specs.Prelude.{is_some}
-use Rattle.cow_forest.specs.TableFields.{entries_of}
+use Rattle.cow_forest.specs.inside.TableFields.{entries_of}
 use Rattle.cow_forest.proofs.PlaceLaws.{found-own, found-displaced}
 use Rattle.cow_forest.proofs.node_table.NodeTable.get.Goals as goal
 

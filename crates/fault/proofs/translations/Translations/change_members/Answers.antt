@@ -1,5 +1,5 @@
 use Rattle.std.proofs.Common.{Bool, is_some, ap, arith}
-use Rattle.fault.specs.Walks.{kept_of}
+use Rattle.fault.specs.inside.Walks.{kept_of}
 use Rattle.fault.proofs.PlaceLaws.{change_by-once}
 use Rattle.fault.proofs.WalkLaws.{members-start, members-next, members-end}
 use Rattle.fault.proofs.translations.Translations.change_members.Goals as goal

@@ -1,6 +1,6 @@
 use Rattle.std.proofs.Common.{◌+◌, true, refl, arith}
 use Rattle.vm_model.specs.Space.Readiness.{shows_in}
-use Rattle.fault.specs.Walks.{kept_of, change_by, is_member}
+use Rattle.fault.specs.inside.Walks.{kept_of, change_by, is_member}
 use Rattle.fault.proofs.PlaceLaws.{change_by-once, changed-all, changed-all_of}
 use Rattle.fault.proofs.WalkLaws.{pages-start, pages-next, pages-end}
 use Rattle.fault.proofs.translations.Translations.change_pages.Goals as goal

@@ -1,6 +1,6 @@
 use Rattle.std.proofs.Common.{◌≡◌, ◌≤◌, ◌-◌, true}
 use Rattle.fault.specs.Table.{room_of}
-use Rattle.fault.specs.Walks.{kept_of, changed_where, change_by}
+use Rattle.fault.specs.inside.Walks.{kept_of, changed_where, change_by}
 use Rattle.fault.proofs.WalkLaws.{page_below}
 use Rattle.fault.proofs.translations.Translations.change_pages.Given as goal
 

@@ -1,5 +1,5 @@
 use Rattle.pair_map.specs.Maps.{values_of}
-use Rattle.fault.specs.Walks.{dropped}
+use Rattle.fault.specs.inside.Walks.{dropped}
 use Rattle.fault.proofs.ListLaws.{AreListed-removed}
 use Rattle.fault.proofs.PlaceLaws.{changed-place}
 use Rattle.fault.proofs.translations.Translations.drop_place.Goals as goal

@@ -1,6 +1,6 @@
 use Rattle.std.proofs.Common.{◌+◌, arith}
 use Rattle.fault.specs.Table.{is_at}
-use Rattle.fault.specs.Walks.{kept_of, dropped}
+use Rattle.fault.specs.inside.Walks.{kept_of, dropped}
 use Rattle.fault.proofs.PlaceLaws.{dropped-once, places-without}
 use Rattle.fault.proofs.WalkLaws.{places-start, places-next, places-end}
 use Rattle.fault.proofs.translations.Translations.forget_at.Goals as goal

@@ -1,6 +1,6 @@
 use Rattle.std.proofs.Common.{◌≡◌, ◌≤◌, ◌-◌}
 use Rattle.fault.specs.Table.{room_of}
-use Rattle.fault.specs.Walks.{kept_of, changed_where, dropped}
+use Rattle.fault.specs.inside.Walks.{kept_of, changed_where, dropped}
 use Rattle.fault.proofs.WalkLaws.{place_below}
 use Rattle.fault.proofs.translations.Translations.forget_at.Given as goal
 

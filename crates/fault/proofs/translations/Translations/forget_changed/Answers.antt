@@ -2,7 +2,7 @@ use Rattle.std.proofs.Common.{◌+◌, sym, ap, ◌∙◌, arith}
 use Rattle.vm_model.proofs.ContentLaws.{pages_of-at}
 use Rattle.vm_model.specs.Space.Readiness.{frame_at}
 use Rattle.fault.specs.Table.{is_stale, number_of}
-use Rattle.fault.specs.Walks.{kept_of, dropped, holds_other}
+use Rattle.fault.specs.inside.Walks.{kept_of, dropped, holds_other}
 use Rattle.fault.proofs.PlaceLaws.{dropped-once, places-without}
 use Rattle.fault.proofs.WalkLaws.{pages-start, pages-next, pages-end}
 use Rattle.fault.proofs.translations.Translations.forget_changed.Goals as goal

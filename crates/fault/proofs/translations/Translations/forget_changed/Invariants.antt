@@ -1,7 +1,7 @@
 use Rattle.std.proofs.Common.{◌≡◌, ◌≤◌, ◌-◌}
 use Rattle.vm_model.specs.Space.Readiness.{frame_at}
 use Rattle.fault.specs.Table.{room_of}
-use Rattle.fault.specs.Walks.{kept_of, changed_where, dropped, holds_other}
+use Rattle.fault.specs.inside.Walks.{kept_of, changed_where, dropped, holds_other}
 use Rattle.fault.proofs.WalkLaws.{page_below}
 use Rattle.fault.proofs.translations.Translations.forget_changed.Given as goal
 

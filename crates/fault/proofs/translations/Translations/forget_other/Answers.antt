@@ -1,5 +1,5 @@
 use Rattle.std.proofs.Common.{sym, ◌∙◌}
-use Rattle.fault.specs.Walks.{kept_of}
+use Rattle.fault.specs.inside.Walks.{kept_of}
 use Rattle.fault.proofs.ForgettingLaws.{other-same, other-gone, none-left, Stays-same}
 use Rattle.fault.proofs.translations.Translations.forget_other.Goals as goal
 

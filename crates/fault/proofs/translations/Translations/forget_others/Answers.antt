@@ -1,5 +1,5 @@
 use Rattle.fault.specs.Table.{number_of}
-use Rattle.fault.specs.Walks.{kept_of}
+use Rattle.fault.specs.inside.Walks.{kept_of}
 use Rattle.fault.proofs.ForgettingLaws.{outdated-gone, outdated-none, HasList-left}
 use Rattle.fault.proofs.translations.Translations.forget_others.Goals as goal
 

@@ -1,6 +1,6 @@
 use Rattle.std.proofs.Common.{◌∙◌}
 use Rattle.fault.specs.Table.{places_of, number_of}
-use Rattle.fault.specs.Walks.{kept_of}
+use Rattle.fault.specs.inside.Walks.{kept_of}
 use Rattle.fault.proofs.ForgettingLaws.{HoldsOther-none}
 use Rattle.fault.proofs.TouchingLaws.{ReadsPage-translated}
 use Rattle.fault.proofs.TranslationLaws.{IsOfEntry-none}

@@ -1,5 +1,5 @@
 use Rattle.std.proofs.Common.{sym}
-use Rattle.fault.specs.Walks.{kept_of, restricted}
+use Rattle.fault.specs.inside.Walks.{kept_of, restricted}
 use Rattle.fault.proofs.PlaceLaws.{changed-place}
 use Rattle.fault.proofs.translations.Translations.restrict.Goals as goal
 

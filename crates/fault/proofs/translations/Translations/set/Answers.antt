@@ -1,7 +1,7 @@
 use Rattle.std.proofs.Common.{sym, ap, ◌∙◌, subst}
 use Rattle.fault.specs.Table.{Places, with_translation, frame_in}
-use Rattle.fault.specs.Lists.{list_with}
-use Rattle.fault.specs.Walks.{kept_of, HoldsOther}
+use Rattle.fault.specs.inside.Lists.{list_with}
+use Rattle.fault.specs.inside.Walks.{kept_of, HoldsOther}
 use Rattle.fault.proofs.ForgettingLaws.{entry-kept, same-here}
 use Rattle.fault.proofs.PlaceLaws.{places-set}
 use Rattle.fault.proofs.translations.Translations.set.Goals as goal

@@ -1,6 +1,6 @@
 use Rattle.std.proofs.Common.{ap, ◌∙◌}
 use Rattle.fault.specs.Table.{Places, with_translation, is_outdated, frame_in}
-use Rattle.fault.specs.Walks.{kept_of}
+use Rattle.fault.specs.inside.Walks.{kept_of}
 use Rattle.fault.proofs.ForgettingLaws.{gone-here}
 use Rattle.fault.proofs.PlaceLaws.{places-without}
 use Rattle.fault.proofs.translations.Translations.translate.Goals as goal

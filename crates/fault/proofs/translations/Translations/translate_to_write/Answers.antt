@@ -1,5 +1,5 @@
 use Rattle.std.proofs.Common.{Some}
-use Rattle.fault.specs.Walks.{kept_of}
+use Rattle.fault.specs.inside.Walks.{kept_of}
 use Rattle.fault.proofs.ForgettingLaws.{HoldsOther-none}
 use Rattle.fault.proofs.translations.Translations.translate_to_write.Goals as goal
 

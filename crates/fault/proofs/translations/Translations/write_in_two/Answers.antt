@@ -2,7 +2,7 @@ use Rattle.std.proofs.Common.{◌+◌, refl}
 use Rattle.mapping_set.specs.Tables.{table_of}
 use Rattle.fault.specs.Access.{Writes}
 use Rattle.fault.specs.Table.{places_of, AreTrue}
-use Rattle.fault.specs.Writable.{fault_of}
+use Rattle.fault.specs.inside.Writable.{fault_of}
 use Rattle.fault.proofs.BothLaws.{AreFound-ready}
 use Rattle.fault.proofs.AskedLaws.{AreAsked-two, IsDenied-room, wants-two}
 use Rattle.fault.proofs.TouchedLaws.{touched-two}

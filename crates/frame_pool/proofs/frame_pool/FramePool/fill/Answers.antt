@@ -1,6 +1,6 @@
 use Rattle.std.proofs.Common.{◌∙◌, arith}
 use Rattle.std.proofs.lemmas.Bool.{cond-true}
-use Rattle.frame_pool.specs.PoolFields.{pool_of}
+use Rattle.frame_pool.specs.inside.PoolFields.{pool_of}
 use Rattle.frame_pool.proofs.PoolLaws.{all_free, IsPool-filled}
 use Rattle.frame_pool.proofs.frame_pool.FramePool.fill.Goals as goal
 

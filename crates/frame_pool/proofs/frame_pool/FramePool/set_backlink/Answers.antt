@@ -1,4 +1,4 @@
-use Rattle.frame_pool.specs.PoolFields.{pool_of}
+use Rattle.frame_pool.specs.inside.PoolFields.{pool_of}
 use Rattle.frame_pool.proofs.PoolLaws.{has_link, links_of-noted, IsPool-linked, taken_frames-linked}
 use Rattle.frame_pool.proofs.frame_pool.FramePool.set_backlink.Goals as goal
 

@@ -1,5 +1,5 @@
 use Rattle.std.proofs.Common.{[], ◌∷◌, ◌++◌, reverse, refl, arith}
-use Rattle.frame_pool.specs.PoolFields.{pool_of}
+use Rattle.frame_pool.specs.inside.PoolFields.{pool_of}
 use Rattle.frame_pool.proofs.PoolLaws.{HasTaken, in_range, frame_bytes-read, idle_below, pushed, popped, all_taken}
 use Rattle.frame_pool.proofs.frame_pool.FramePool.take_copy.Goals as goal
 

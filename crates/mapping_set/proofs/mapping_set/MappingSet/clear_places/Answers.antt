@@ -1,7 +1,7 @@
 use Rattle.std.proofs.Common.{ap, sym, subst, ◌+◌, ◌∙◌}
 use Rattle.pair_map.specs.Maps.{extents_of, IsOpen}
 use Rattle.mapping_set.specs.Pieces.{list_number}
-use Rattle.mapping_set.specs.Taken.{pieces_in}
+use Rattle.mapping_set.specs.inside.Taken.{pieces_in}
 use Rattle.mapping_set.specs.Tables.{Mappings, table_of, places_in, places_of, IsBare}
 use Rattle.mapping_set.proofs.GapLaws.{bare-open}
 use Rattle.mapping_set.proofs.TakenLaws.{open-both, open-places}

@@ -1,5 +1,5 @@
 use Rattle.std.proofs.Common.{◌-◌, ◌^◌}
-use Rattle.page_list.specs.Filter.{AreFilteredBelow}
+use Rattle.page_list.specs.inside.Filter.{AreFilteredBelow}
 use Rattle.page_list.proofs.filter.Filter.fill.Given as goal
 
 -- the bits of the rows up to here are set

@@ -2,7 +2,7 @@ use Rattle.std.proofs.Common.{◌≡◌, ◌≤◌, refl, ap, ◌∙◌, arith}
 use Rattle.vm_base.specs.Entries.{with_key}
 use Rattle.pair_map.specs.Maps.{values_of}
 use Rattle.pin_table.specs.Table.{Table, pins_in, pins_of}
-use Rattle.pin_table.specs.TableFields.{table_of}
+use Rattle.pin_table.specs.inside.TableFields.{table_of}
 use Rattle.pin_table.proofs.EntryLaws.{pins_in-put, from_ok}
 use Rattle.pin_table.proofs.CountedLaws.{AreCounted-same, AreCounted-added, pins_few}
 use Rattle.pin_table.proofs.pin_table.PinTable.add.Goals as goal

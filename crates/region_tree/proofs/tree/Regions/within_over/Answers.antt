@@ -1,6 +1,6 @@
 use Rattle.std.proofs.Common.{◌+◌, subst}
 use Rattle.region_tree.specs.Tree.{regions_of, IsWithin}
-use Rattle.region_tree.specs.TreeFields.{HasNoneOver}
+use Rattle.region_tree.specs.inside.TreeFields.{HasNoneOver}
 use Rattle.region_tree.proofs.BelowLaws.{between-within, step-under, none-over, over-step, deeper-child}
 use Rattle.region_tree.proofs.tree.Regions.within_over.Goals as goal
 

@@ -2,7 +2,7 @@ use Rattle.std.proofs.Common.{◌≡◌, ◌+◌, ◌-◌, ◌⊎◌, true}
 use Rattle.vm_base.specs.declared.limits.TheConstants.{NAMES}
 use Rattle.vm_model.specs.Space.Regions.{is_below}
 use Rattle.pair_map.specs.Maps.{values_of}
-use Rattle.region_tree.specs.TreeFields.{HasNoneOver}
+use Rattle.region_tree.specs.inside.TreeFields.{HasNoneOver}
 use Rattle.region_tree.proofs.BelowLaws.{depth_of}
 use Rattle.region_tree.proofs.tree.Regions.within_over.Given as goal
 

@@ -1,7 +1,7 @@
 use Rattle.std.proofs.Common.{◌∙◌}
 use Rattle.vm_model.specs.Machine.Lent.{command_of, reply_for}
 use Rattle.vm_core.specs.Vm.{Parts}
-use Rattle.vm_core.specs.VmFields.{parts_of}
+use Rattle.vm_core.specs.inside.VmFields.{parts_of}
 use Rattle.vm_core.proofs.AnswerLaws.{no_access, Answers, command_answered, access_answered}
 use Rattle.vm_core.proofs.vm.Vm.answer.Given as given
 use Rattle.vm_core.proofs.vm.Vm.answer.Goals as goal

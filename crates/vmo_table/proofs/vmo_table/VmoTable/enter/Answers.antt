@@ -8,7 +8,7 @@ use Rattle.vm_model.specs.Naming.Names.{has_parent}
 use Rattle.vmo_table.specs.declared.vmos.Vmo.{Vmo}
 use Rattle.vmo_table.specs.Vmos.{koid_number, vmos_in, lineage_of_vmo, lineages, keepers_in, adopted}
 use Rattle.vmo_table.specs.Table.{names_in}
-use Rattle.vmo_table.specs.ChildRows.{AreChildren}
+use Rattle.vmo_table.specs.inside.ChildRows.{AreChildren}
 use Rattle.vmo_table.proofs.EntryLaws.{names_in-put, vmos_in-put, vmo_count_le, from_ok}
 use Rattle.vmo_table.proofs.CountLaws.{keepers-at, keepers-same, keepers-adopted}
 use Rattle.vmo_table.proofs.VmosLaws.{lineages-none, lineages-adopted, lineages-with_key}

@@ -4,7 +4,7 @@ use Rattle.pair_map.specs.Maps.{values_of, extents_of}
 use Rattle.mapping_set.specs.declared.mapping_set.MappingSet.TheInside.{Inside}
 use Rattle.mapping_set.specs.Pieces.{ArePieces, AreListed}
 use Rattle.mapping_set.specs.Tables.{Mappings}
-use Rattle.mapping_set.specs.Taken.{pieces_in}
+use Rattle.mapping_set.specs.inside.Taken.{pieces_in}
 
 abbrev pub mappings_of : Inside → Mappings
 mappings_of a = record { pieces = a.pieces; spare = min (min a.pieces.spare a.lists.spare) a.taken.spare; taken = a.taken }

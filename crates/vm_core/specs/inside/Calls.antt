@@ -16,7 +16,7 @@ use Rattle.vmo_ops.specs.Targets.{with_tables}
 use Rattle.region_ops.specs.Spaces.{Does}
 use Rattle.fault.specs.Table.{Places, ready_of, AreTrue}
 use Rattle.vm_core.specs.Vm.{bare_state}
-use Rattle.vm_core.specs.Resets.{left_after}
+use Rattle.vm_core.specs.inside.Resets.{left_after}
 
 -- A store and the two tables are parts of one good state, and the table of VMOs counts right what keeps each VMO of it.
 pub record AreCounted (c : Content) (vmos : Vmos) (pins : Pins) : Type 0 where

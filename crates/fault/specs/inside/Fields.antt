@@ -3,7 +3,7 @@ use Rattle.std.specs.Prelude.{◌-◌, ◌^◌, min}
 use Rattle.pair_map.specs.Maps.{values_of, spare_of}
 use Rattle.fault.specs.declared.translations.Translations.TheInside.{Inside}
 use Rattle.fault.specs.Table.{Table}
-use Rattle.fault.specs.Lists.{AreListed}
+use Rattle.fault.specs.inside.Lists.{AreListed}
 
 -- One translation more takes room in each map, and a number.
 abbrev pub table_of : Inside → Table

@@ -10,7 +10,7 @@ use Rattle.vm_model.specs.Space.Rights.{writing}
 use Rattle.fault.specs.declared.writable.WritablePage.{WritablePage}
 use Rattle.fault.specs.Table.{Places, AreTrue}
 use Rattle.fault.specs.Access.{IsDenied}
-use Rattle.fault.specs.Writable.{IsLooked, IsWritable}
+use Rattle.fault.specs.inside.Writable.{IsLooked, IsWritable}
 
 -- what a check for writing finds of page p, which may be written
 abbrev pub Finds : Content → (ℕ → ℕ → Option Entry) → Places → (root p : ℕ) → WritablePage → Type 0

@@ -11,7 +11,7 @@ use Rattle.fault.specs.declared.translation.FrameList.{FrameList}
 use Rattle.fault.specs.declared.translation.Change.{Change}
 use Rattle.fault.specs.declared.translation.Change.TheVariants.{Forget, Restrict}
 use Rattle.fault.specs.Table.{Table, frame_in}
-use Rattle.fault.specs.Lists.{frame_list}
+use Rattle.fault.specs.inside.Lists.{frame_list}
 
 -- what is kept of each page of each address space
 abbrev pub Keeping : Type 0

@@ -13,7 +13,7 @@ use Rattle.cow_arena.specs.Ways.{KeepsBelow}
 use Rattle.cow_split.specs.Trees.{tree_of}
 use Rattle.cow_split.specs.Exact.{IsExact, all_in_sight}
 use Rattle.cow_merge.specs.Ranges.{ShowsSame, AreLinked, GivesBack, IsHeldBy}
-use Rattle.cow_merge.specs.Lifting.{IsFamilyOf, HasSettled}
+use Rattle.cow_merge.specs.inside.Lifting.{IsFamilyOf, HasSettled}
 
 -- Rows of h, the parent of the VMO's node k, that stood under own rows of k below page `from`, went or moved into the
 -- list of s, the other child of h. Each VMO shows what it showed, and none of these own rows covers a row of h.

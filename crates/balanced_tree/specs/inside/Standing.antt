@@ -4,7 +4,7 @@ use Rattle.slab.specs.Slab.{Slab, get, slab_len, HasRoomFor}
 use Rattle.balanced_tree.specs.declared.children.Child.{Child}
 use Rattle.balanced_tree.specs.Row.{Functions, height_in, plain}
 use Rattle.balanced_tree.specs.Rows.{Rows}
-use Rattle.balanced_tree.specs.Tree.{Tree, Leaf, Node, place_of, height, IsBalanced, child_of, rows_of, IsOrdered, has_rank, row_in, inserted, removed, least, without_least, without_root, moved, AreBeside}
+use Rattle.balanced_tree.specs.inside.Tree.{Tree, Leaf, Node, place_of, height, IsBalanced, child_of, rows_of, IsOrdered, has_rank, row_in, inserted, removed, least, without_least, without_root, moved, AreBeside}
 
 module _ {R : Type 0} where
   -- a row with the link to it, if there is one

@@ -15,7 +15,7 @@ use Rattle.cow_arena.specs.Renamed.{exchanged, AreExchanged}
 use Rattle.cow_arena.specs.Walk.{Slots, frame_in}
 use Rattle.cow_split.specs.Exact.{without_frame}
 use Rattle.cow_merge.specs.Ranges.{bit_on, AreLinked, GivesBack, HasGiven}
-use Rattle.cow_merge.specs.Lifting.{IsFamilyOf, AreLifted, has_frame}
+use Rattle.cow_merge.specs.inside.Lifting.{IsFamilyOf, AreLifted, has_frame}
 
 -- the frame of the row that a page has, if it has one
 abbrev pub frame_there : Option Slot → Option ℕ

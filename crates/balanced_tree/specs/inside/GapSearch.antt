@@ -5,7 +5,7 @@ use Rattle.balanced_tree.specs.declared.spans.Span.{Span}
 use Rattle.balanced_tree.specs.Row.{Functions}
 use Rattle.balanced_tree.specs.Extents.{Extents, span_over}
 use Rattle.balanced_tree.specs.Gaps.{HasNoGap, IsFirstGap}
-use Rattle.balanced_tree.specs.Tree.{Tree, Leaf, Node, height, rows_of}
+use Rattle.balanced_tree.specs.inside.Tree.{Tree, Leaf, Node, height, rows_of}
 
 module _ {R : Type 0} (f : Functions R) (e : Extents R) where
   -- the span of a tree that has a row

@@ -6,7 +6,7 @@ use Rattle.vm_base.specs.Entries.{entry_count}
 use Rattle.vm_model.specs.Naming.Pins.{Pin, covers}
 use Rattle.pair_map.specs.Maps.{values_of, spare_of}
 use Rattle.pin_table.specs.declared.pin_table.PinTable.TheInside.{Inside}
-use Rattle.pin_table.specs.Pages.{pins_at, AreKept}
+use Rattle.pin_table.specs.inside.Pages.{pins_at, AreKept}
 use Rattle.pin_table.specs.Table.{Table, pins_in}
 
 -- a pin takes room for itself and for as many pages as it may have

@@ -9,7 +9,7 @@ use Rattle.vm_model.specs.Naming.Names.{is_of, names_as}
 use Rattle.vmo_table.specs.declared.vmos.Vmo.{Vmo}
 use Rattle.vmo_table.specs.declared.vmo_table.VmoTable.TheInside.{Inside}
 use Rattle.vmo_table.specs.Vmos.{vmos_in, count_of, lineages, IsForest}
-use Rattle.vmo_table.specs.ChildRows.{AreChildren}
+use Rattle.vmo_table.specs.inside.ChildRows.{AreChildren}
 use Rattle.vmo_table.specs.Table.{Table, names_in}
 
 abbrev pub table_of : Inside → Table

@@ -6,7 +6,7 @@ use Rattle.vm_base.specs.declared.flags.MapFlags.{MapFlags}
 use Rattle.vm_base.specs.declared.flags.Perm.{Perm}
 use Rattle.vm_model.specs.Space.Rights.{reading, writing, executing, specific, overwrite, upper_limit, allow_faults}
 use Rattle.vm_model.specs.Language.Reading.{vmo, region, byte_data, bit, is_blank, stands}
-use Rattle.script_text.specs.Groups.{range_of_vmo, range_of_region}
+use Rattle.script_text.specs.inside.Groups.{range_of_vmo, range_of_region}
 
 -- the argument of a command of one VMO
 abbrev pub one_vmo : List (List ℕ) → Option VmoName

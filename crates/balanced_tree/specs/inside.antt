@@ -1,0 +1,4 @@
+pub mod Tree
+pub mod Standing
+pub mod Placing
+pub mod GapSearch

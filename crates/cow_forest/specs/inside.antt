@@ -1,0 +1,5 @@
+pub mod Fields
+pub mod TableFields
+pub mod Looking
+pub mod Viewing
+pub mod Jumps

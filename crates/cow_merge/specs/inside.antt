@@ -1,0 +1,4 @@
+pub mod Lifting
+pub mod Witness
+pub mod Uncovering
+pub mod HandingOver

@@ -1,0 +1,4 @@
+pub mod VmFields
+pub mod Calls
+pub mod Groups
+pub mod Resets

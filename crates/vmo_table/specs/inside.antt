@@ -1,0 +1,2 @@
+pub mod ChildRows
+pub mod TableFields
