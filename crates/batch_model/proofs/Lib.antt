@@ -1,0 +1,9 @@
+pub mod RowLaws
+pub mod TreatLaws
+pub mod SettleLaws
+pub mod AllowLaws
+pub mod SplitLaws
+pub mod StepLaws
+pub mod TileLaws
+pub mod JobLaws
+pub mod GoodLaws
