@@ -9,6 +9,7 @@ use Rattle.vm_base.specs.declared.refusal.Refusal.{Refusal}
 use Rattle.vm_base.specs.declared.refusal.Refusal.TheVariants.{HostMemory}
 use Rattle.vm_base.proofs.EntryLaws.{some_is, with_key-same, with_key-cases, without_key-some}
 use Rattle.vm_model.specs.Machine.State.{State, is_open, target_of, koid_of, size_of, IsGoodState}
+use Rattle.vm_model.specs.Machine.Machine.{IsGoodMachine}
 use Rattle.vm_model.specs.Machine.Refusals.{first_of}
 use Rattle.vm_model.proofs.ContentLaws.{pages_of-at}
 use Rattle.vm_model.proofs.MachineLaws.{MachineStep-keeps}
@@ -22,9 +23,9 @@ use Rattle.batch_model.specs.declared.command.BatchCommand.TheVariants.{Plain as
 use Rattle.batch_model.specs.declared.command.BatchReply.{BatchReply}
 use Rattle.batch_model.specs.declared.command.BatchReply.TheVariants.{Plain as PlainReply, Left}
 use Rattle.batch_model.specs.Pieces.{plain, begun, whole_of, left_of, piece_len, piece_of, advanced, IsOfPages}
-use Rattle.batch_model.specs.Batch.{BatchState, batch_refusals, jobs_after, DoesPiece, IsRefusedBatch, BatchStepAfter, BatchStep, AreGoodJobs, IsGoodBatch, HasBatchRanges}
+use Rattle.batch_model.specs.Batch.{BatchState, batch_refusals, jobs_after, DoesPiece, IsRefusedBatch, BatchStepAfter, BatchStep, IsGoodJob, AreGoodJobs, IsGoodBatch, HasBatchRanges}
 use Rattle.batch_model.proofs.AllowLaws.{GivesName-plain}
-use Rattle.batch_model.proofs.StepLaws.{step_cases, gives_left, gives_plain, jobs_after-none, jobs_after-some, IsOfPages-advanced}
+use Rattle.batch_model.proofs.StepLaws.{step_cases, event_leads, gives_left, gives_plain, jobs_after-none, jobs_after-some, IsOfPages-advanced}
 
 -- ---- a job as it begins
 
@@ -72,9 +73,9 @@ size_few s name len good there fits =
     omega (arith, inside, pages_of-at s.content (koid_of s name) count.0 count.1, good.content.counts (koid_of s name) count.0 count.1)
 
 -- the jobs stay good with another good one
-jobs_with : (jobs : ℕ → Option Job) (name : ℕ) (job : Job) → AreGoodJobs jobs → IsOfPages job × (job.end ≤ VMO_PAGES * PAGE) → AreGoodJobs (with_key jobs name job)
+jobs_with : (jobs : ℕ → Option Job) (name : ℕ) (job : Job) → AreGoodJobs jobs → IsGoodJob job → AreGoodJobs (with_key jobs name job)
 jobs_with jobs name job good fine n other e = elim (with_key-cases jobs name job n other e) [
-  | inl new ↦ subst (λ (j : Job). IsOfPages j × (j.end ≤ VMO_PAGES * PAGE)) new.1 fine
+  | inl new ↦ subst IsGoodJob new.1 fine
   | inr was ↦ good n other was.1
 ]
 
@@ -89,12 +90,12 @@ jobs_further jobs name job pages good there some =
       | inl none ↦ subst AreGoodJobs (sym (jobs_after-none jobs name (advanced job pages) none)) (jobs_without jobs name good)
       | inr more ↦
           subst AreGoodJobs (sym (jobs_after-some jobs name (advanced job pages) more))
-          (jobs_with jobs name (advanced job pages) good (IsOfPages-advanced job fine.0 pages some more, fine.1))
+          (jobs_with jobs name (advanced job pages) good (record { pages = IsOfPages-advanced job fine.pages pages some more; few = fine.few }))
     ]
 
 -- a refused command
-refused_keeps : (old : BatchState) (refusal : Refusal) (reply : BatchReply) (new : BatchState) → IsGoodBatch old → IsRefusedBatch old refusal reply new → IsGoodBatch new
-refused_keeps old refusal reply new good refused = subst IsGoodBatch (sym refused.same) good
+refused_jobs : (old : BatchState) (refusal : Refusal) (reply : BatchReply) (new : BatchState) → AreGoodJobs old.jobs → IsRefusedBatch old refusal reply new → AreGoodJobs new.jobs
+refused_jobs old refusal reply new good refused = subst (λ (b : BatchState). AreGoodJobs b.jobs) (sym refused.same) good
 
 -- the jobs after a piece
 piece_jobs : (old : BatchState) (name pages : ℕ) (reply : BatchReply) (new : BatchState) → AreGoodJobs old.jobs → pages ≢ 0 → DoesPiece old name pages reply new → AreGoodJobs new.jobs
@@ -103,34 +104,48 @@ piece_jobs old name pages (PlainReply reply) new good some done =
 piece_jobs old name pages (Left left) new good some done =
     subst AreGoodJobs (sym (gives_left done.answer old.jobs name (advanced done.job pages) left new.jobs done.gives).1) (jobs_further old.jobs name done.job pages good done.is some)
 
-pub BatchStep-keeps : (old new : BatchState) (command : BatchCommand) (reply : BatchReply) → IsGoodBatch old → HasBatchRanges command → BatchStep old command reply new → IsGoodBatch new
-BatchStep-keeps old new (PlainCommand command) reply good ranges step = elim step.outcome [
+-- the jobs after any step
+pub BatchStep-jobs : (old new : BatchState) (command : BatchCommand) (reply : BatchReply) → IsGoodState old.machine.state → AreGoodJobs old.jobs → BatchStep old command reply new → AreGoodJobs new.jobs
+BatchStep-jobs old new (PlainCommand command) reply good jobs step = elim step.outcome [
   | inr lacked ↦ absurd (let none = lacked.1 in cc)
-  | inl done ↦ record {
-    machine = (MachineStep-keeps old.machine command done.answer new.machine good.machine (GivesName-from command ranges) done.step).good;
-    jobs = subst AreGoodJobs (sym done.jobs) good.jobs;
-  }
+  | inl done ↦ subst AreGoodJobs (sym done.jobs) jobs
 ]
-BatchStep-keeps old new (Begin job kind name offset len) reply good ranges step = go (first_of (batch_refusals old (Begin job kind name offset len))) refl step.outcome where
-  go : (o : Option Refusal) → first_of (batch_refusals old (Begin job kind name offset len)) ≡ o → BatchStepAfter o old (Begin job kind name offset len) reply new → IsGoodBatch new
-  go (Some refusal) e refused = refused_keeps old refusal reply new good refused
-  go None e (inr lacked) = refused_keeps old HostMemory reply new good lacked.0
+BatchStep-jobs old new (Begin job kind name offset len) reply good jobs step = go (first_of (batch_refusals old (Begin job kind name offset len))) refl step.outcome where
+  go : (o : Option Refusal) → first_of (batch_refusals old (Begin job kind name offset len)) ≡ o → BatchStepAfter o old (Begin job kind name offset len) reply new → AreGoodJobs new.jobs
+  go (Some refusal) e refused = refused_jobs old refusal reply new jobs refused
+  go None e (inr lacked) = refused_jobs old HostMemory reply new jobs lacked.0
   go None e (inl done) =
       let parts = begin_parts old job kind name offset len e in
-      let few = size_few old.machine.state name.0 (offset + len) good.machine.state parts.0 parts.2 in
-      subst IsGoodBatch (sym done.1) (record { machine = good.machine; jobs = jobs_with old.jobs job.0 (begun kind name offset len) good.jobs (parts.1, few) })
-BatchStep-keeps old new (Step job pages) reply good ranges step = elim (step_cases old job pages reply new step) [
-  | inl refused ↦ refused_keeps old refused.0 reply new good refused.1
-  | inr piece ↦
-      let done = piece.1 in
-      let j = done.job in
-      record {
-        machine = (MachineStep-keeps old.machine (piece_of j pages) done.answer new.machine good.machine (GivesName-plain j.kind j.name j.next (piece_len j pages)) done.step).good;
-        jobs = piece_jobs old job.0 pages reply new good.jobs piece.0 done;
-      }
+      let few = size_few old.machine.state name.0 (offset + len) good parts.0 parts.2 in
+      subst (λ (b : BatchState). AreGoodJobs b.jobs) (sym done.1) (jobs_with old.jobs job.0 (begun kind name offset len) jobs (record { pages = parts.1; few = few }))
+BatchStep-jobs old new (Step job pages) reply good jobs step = elim (step_cases old job pages reply new step) [
+  | inl refused ↦ refused_jobs old refused.0 reply new jobs refused.1
+  | inr piece ↦ piece_jobs old job.0 pages reply new jobs piece.0 piece.1
 ]
-BatchStep-keeps old new (Drop job) reply good ranges step = go (first_of (batch_refusals old (Drop job))) step.outcome where
-  go : (o : Option Refusal) → BatchStepAfter o old (Drop job) reply new → IsGoodBatch new
-  go (Some refusal) refused = refused_keeps old refusal reply new good refused
-  go None (inr lacked) = refused_keeps old HostMemory reply new good lacked.0
-  go None (inl done) = subst IsGoodBatch (sym done.1) (record { machine = good.machine; jobs = jobs_without old.jobs job.0 good.jobs })
+BatchStep-jobs old new (Drop job) reply good jobs step = go (first_of (batch_refusals old (Drop job))) step.outcome where
+  go : (o : Option Refusal) → BatchStepAfter o old (Drop job) reply new → AreGoodJobs new.jobs
+  go (Some refusal) refused = refused_jobs old refusal reply new jobs refused
+  go None (inr lacked) = refused_jobs old HostMemory reply new jobs lacked.0
+  go None (inl done) = subst (λ (b : BatchState). AreGoodJobs b.jobs) (sym done.1) (jobs_without old.jobs job.0 jobs)
+
+-- the machine after any step, by a command whose fields are within their types
+machine_kept : (old new : BatchState) (command : BatchCommand) (reply : BatchReply) → IsGoodMachine old.machine → HasBatchRanges command → BatchStep old command reply new → IsGoodMachine new.machine
+machine_kept old new (PlainCommand command) reply good ranges step = elim step.outcome [
+  | inr lacked ↦ absurd (let none = lacked.1 in cc)
+  | inl done ↦ (MachineStep-keeps old.machine command done.answer new.machine good (GivesName-from command ranges) done.step).good
+]
+machine_kept old new (Begin job kind name offset len) reply good ranges step =
+    subst IsGoodMachine (event_leads old (Begin job kind name offset len) reply new step).1 good
+machine_kept old new (Step job pages) reply good ranges step = elim (step_cases old job pages reply new step) [
+  | inl refused ↦ subst (λ (b : BatchState). IsGoodMachine b.machine) (sym refused.1.same) good
+  | inr piece ↦
+      let j = piece.1.job in
+      (MachineStep-keeps old.machine (piece_of j pages) piece.1.answer new.machine good (GivesName-plain j.kind j.name j.next (piece_len j pages)) piece.1.step).good
+]
+machine_kept old new (Drop job) reply good ranges step = subst IsGoodMachine (event_leads old (Drop job) reply new step).1 good
+
+pub BatchStep-keeps : (old new : BatchState) (command : BatchCommand) (reply : BatchReply) → IsGoodBatch old → HasBatchRanges command → BatchStep old command reply new → IsGoodBatch new
+BatchStep-keeps old new command reply good ranges step = record {
+  machine = machine_kept old new command reply good.machine ranges step;
+  jobs = BatchStep-jobs old new command reply good.machine.state good.jobs step;
+}

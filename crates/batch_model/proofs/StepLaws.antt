@@ -128,7 +128,7 @@ last_machine-both old [] more = refl
 last_machine-both old (event ∷ events) more = last_machine-both event.after events more
 
 -- the events are steps of the machine from old to new
-abbrev Leads : Machine → List MachineEvent → Machine → Type 0
+abbrev pub Leads : Machine → List MachineEvent → Machine → Type 0
 Leads old events new = MachineRun old events × (last_machine old events ≡ new)
 
 -- none, where the machine stays
@@ -139,7 +139,7 @@ stays old new same = (tt, sym same)
 refused_same : (old : BatchState) (refusal : Refusal) (reply : BatchReply) (new : BatchState) → IsRefusedBatch old refusal reply new → new.machine ≡ old.machine
 refused_same old refusal reply new refused = ap (λ (b : BatchState). b.machine) refused.same
 
-event_leads : (old : BatchState) (command : BatchCommand) (reply : BatchReply) (new : BatchState) → BatchStep old command reply new
+pub event_leads : (old : BatchState) (command : BatchCommand) (reply : BatchReply) (new : BatchState) → BatchStep old command reply new
     → Leads old.machine (events_of old command reply new.machine) new.machine
 event_leads old (PlainCommand command) reply new step = elim step.outcome [
   | inr lacked ↦ absurd (let none = lacked.1 in cc)

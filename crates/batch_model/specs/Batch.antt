@@ -106,9 +106,14 @@ pub record BatchStep (old : BatchState) (command : BatchCommand) (reply : BatchR
 
 -- ---- what holds of every machine with jobs that is come to
 
--- each job is of whole pages, and ends inside the greatest VMO
+-- a job is of whole pages, and ends inside the greatest VMO
+pub record IsGoodJob (job : Job) : Type 0 where
+  pub pages : IsOfPages job
+  pub few : job.end ≤ VMO_PAGES * PAGE
+
+-- each job is
 abbrev pub AreGoodJobs : (ℕ → Option Job) → Type 0
-AreGoodJobs jobs = (n : ℕ) (job : Job) → jobs n ≡ Some job → IsOfPages job × (job.end ≤ VMO_PAGES * PAGE)
+AreGoodJobs jobs = (n : ℕ) (job : Job) → jobs n ≡ Some job → IsGoodJob job
 
 pub record IsGoodBatch (batch : BatchState) : Type 0 where
   pub machine : IsGoodMachine batch.machine

@@ -11,6 +11,8 @@
 mod command;
 mod job;
 pub mod laws;
+mod lent;
 
 pub use command::{BatchCommand, BatchReply};
 pub use job::{Job, JobKind, JobName};
+pub use lent::{BatchAnswer, BatchCall};

@@ -1,0 +1,14 @@
+//! The machine with jobs: range operations that are done a few pages at a time, while other commands come between.
+//!
+//! It stands on `vm_core`, whose step a plain command and a piece of a job each are, and on `pair_map` for the jobs. Its contract is
+//! the step relation of `batch_model`. The layers above make a `Batch` by `Batch::new` and give it commands by `Batch::step`.
+#![tactic(auto)]
+
+mod batch;
+mod beginning;
+mod job_table;
+mod pieces;
+mod stepping;
+
+pub use batch::Batch;
+pub use batch_model::{BatchAnswer, BatchCall, BatchCommand, BatchReply, Job, JobKind, JobName};
