@@ -87,10 +87,14 @@ batch_reading line = reading_beside (reading line) (if nat_lt LINE_BYTES (length
 
 -- ---- replies
 
+-- how many pages of a job are left
+abbrev pub left_line : ℕ → List ℕ
+left_line pages = ok_line (field (codes "left") pages)
+
 -- the lines of a reply
 unfoldable pub batch_reply_lines : BatchReply → List (List ℕ)
 batch_reply_lines (PlainReply reply) = reply_lines reply
-batch_reply_lines (Left pages) = ok_line (field (codes "left") pages) ∷ []
+batch_reply_lines (Left pages) = left_line pages ∷ []
 
 -- the text of a reply
 unfoldable pub batch_text : BatchReply → List ℕ

@@ -1,2 +1,4 @@
 pub mod TableLaws
 pub mod BatchLaws
+pub mod PlaceLaws
+pub mod LineLaws

@@ -7,7 +7,7 @@ use Rattle.vm_model.specs.Machine.Machine.{IsGoodMachine}
 use Rattle.vm_core.specs.Vm.{Parts, machine_of, Agrees}
 use Rattle.batch_model.specs.declared.command.BatchCommand.{BatchCommand}
 use Rattle.batch_model.specs.declared.command.BatchReply.{BatchReply}
-use Rattle.batch_model.specs.Batch.{BatchState, BatchStep}
+use Rattle.batch_model.specs.Batch.{BatchState, BatchStep, AreGoodJobs}
 use Rattle.batch_vm.specs.Jobs.{Jobs, jobs_of}
 
 -- the parts of the machine, and the table of jobs
@@ -18,6 +18,11 @@ pub record BatchParts : Type 0 where
 -- the machine that a store and the parts are, and the jobs
 abbrev pub batch_of : Content → BatchParts → BatchState
 batch_of c batch = record { machine = machine_of c batch.vm; jobs = jobs_of batch.jobs }
+
+-- The store and the parts of the machine agree, and each job is of whole pages.
+pub record AgreesBatch (c : Content) (batch : BatchParts) : Type 0 where
+  pub vm : Agrees c batch.vm
+  pub jobs : AreGoodJobs (jobs_of batch.jobs)
 
 -- ---- what the handlers of commands promise
 

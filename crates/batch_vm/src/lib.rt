@@ -6,9 +6,17 @@
 
 mod batch;
 mod beginning;
+mod interpreter;
 mod job_table;
 mod pieces;
+mod reading;
+mod serving;
 mod stepping;
+mod words;
+mod writing;
 
 pub use batch::Batch;
 pub use batch_model::{BatchAnswer, BatchCall, BatchCommand, BatchReply, Job, JobKind, JobName};
+pub use reading::{BatchLine, read_batch_call, read_batch_line};
+pub use serving::run_batch;
+pub use writing::{batch_line_count, write_batch_line};
