@@ -5,6 +5,7 @@
 #![tactic(auto)]
 
 mod top;
+mod verbs;
 
 use crate::top::top;
 use cow_forest::CowForest;
