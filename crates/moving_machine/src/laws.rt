@@ -1,0 +1,116 @@
+//! What holds of machines whose pages move. Each law is the contract of a function that does nothing.
+
+ghost use Rattle.std.specs.Prelude.{◌≡◌, ◌⊎◌, ◌+◌, ◌≤◌, ℕ, true, false, List, None, Some};
+ghost use Rattle.std.specs.List.{AllByRecursion};
+ghost use Rattle.vm_base.specs.declared.refusal.Refusal.TheVariants.{HostMemory};
+ghost use Rattle.vm_model.specs.declared.command.Command.{Command};
+ghost use Rattle.vm_model.specs.declared.reply.Reply.{Reply};
+ghost use Rattle.vm_model.specs.Contents.Content.{Page};
+ghost use Rattle.vm_model.specs.Language.Reading.{reading, Order};
+ghost use Rattle.vm_model.specs.Naming.Pins.{is_pinned};
+ghost use Rattle.vm_model.specs.Machine.State.{State, IsGoodState};
+ghost use Rattle.vm_model.specs.Machine.Given.{GivesName};
+ghost use Rattle.vm_model.specs.Machine.Refusals.{refusals, first_of};
+ghost use Rattle.vm_model.specs.Machine.Machine.{Machine, IsGoodMachine};
+ghost use Rattle.vm_model.specs.Machine.MachineStep.{may_want_memory, MachineStep};
+ghost use Rattle.vm_model.specs.Scripts.Run.{Legal};
+ghost use Rattle.moving_machine.specs.Renaming.{Renaming, KeepsFrom, KeepsPinned, state_renamed, machine_renamed, reply_renamed};
+ghost use Rattle.moving_machine.specs.Moving.{MovingStep, HasMoved, MovingLegal, TellsNoFrames, tells_choice};
+
+/// Pages that move, seen one by one, are pages in renamed frames: each page shows its bytes and is held
+/// where it was, frames are shared as they were, and pinned pages keep theirs. Renamed pages have moved so.
+pub fn pages_that_moved_are_renamed()
+    ensures renamed { (old new : State) → IsGoodState old → HasMoved old new →
+        (r : Renaming) × KeepsFrom r old.content.frames × KeepsPinned r old × (new ≡ state_renamed r old) }
+    ensures moved { (r : Renaming) (old : State) → IsGoodState old → KeepsFrom r old.content.frames →
+        KeepsPinned r old → HasMoved old (state_renamed r old) }
+{}
+
+/// What is legal is legal where pages move: they may stay.
+pub fn what_is_legal_is_legal_where_pages_move()
+    ensures { (frames : ℕ) (lines : List (List ℕ)) (out : List ℕ) (last : Machine) →
+        Legal frames lines out last → MovingLegal frames lines out }
+{}
+
+/// Where no reply tells frames, what is legal where pages move is legal where they stay.
+pub fn moves_are_not_seen_where_no_frames_are_told()
+    ensures { (frames : ℕ) (lines : List (List ℕ)) (out : List ℕ) (legal : MovingLegal frames lines out) →
+        AllByRecursion TellsNoFrames legal.replies → (last : Machine) × Legal frames lines out last }
+{}
+
+/// Let one permutation of the frames of a good machine rename the frames before and after a step of any
+/// command. What comes out is a step again, with the frames in the reply renamed. Where the pages that are
+/// pinned afterwards keep their frames, the reply is the same.
+pub fn a_step_under_other_numbers_is_a_step()
+    ensures renamed { (r : Renaming) (old new : Machine) (command : Command) (reply : Reply) →
+        KeepsFrom r old.state.content.frames → IsGoodMachine old → GivesName command →
+        MachineStep old command reply new →
+        MachineStep (machine_renamed r old) command (reply_renamed r reply) (machine_renamed r new) }
+    ensures same_reply { (r : Renaming) (old new : Machine) (command : Command) (reply : Reply) →
+        KeepsFrom r old.state.content.frames → IsGoodMachine old → GivesName command →
+        KeepsPinned r new.state → MachineStep old command reply new →
+        MachineStep (machine_renamed r old) command reply (machine_renamed r new) }
+{}
+
+/// Two steps of a good machine with one reply to one command lead to machines that differ by a renaming of
+/// frames. It keeps the frames of the pages that were pinned before, and of those that are pinned then.
+pub fn two_steps_with_one_reply_differ_by_a_renaming()
+    ensures { (old one other : Machine) (command : Command) (reply : Reply) →
+        IsGoodMachine old → GivesName command → MachineStep old command reply one → MachineStep old command reply other →
+        (r : Renaming) × KeepsFrom r old.state.content.frames × KeepsPinned r old.state × KeepsPinned r one.state
+        × (other ≡ machine_renamed r one) }
+{}
+
+/// A good machine has one reply to a command, but for the place where a region or a mapping is put, the
+/// frames of a pin, and want of memory.
+pub fn a_reply_is_fixed_but_for_places_and_frames()
+    ensures { (old one other : Machine) (command : Command) (reply again : Reply) →
+        IsGoodMachine old → tells_choice command ≡ false →
+        MachineStep old command reply one → MachineStep old command again other →
+        (reply ≡ again) ⊎ (reply ≡ Reply.Refused HostMemory) ⊎ (again ≡ Reply.Refused HostMemory) }
+{}
+
+/// A page that is pinned before and after a step keeps its frame, also where pages move.
+pub fn a_pinned_page_keeps_its_frame()
+    ensures stays { (old new : Machine) (command : Command) (reply : Reply) → IsGoodMachine old →
+        MachineStep old command reply new → (v p : ℕ) (before : Page) → old.state.content.page v p ≡ Some before →
+        is_pinned old.state.pins v p ≡ true → is_pinned new.state.pins v p ≡ true →
+        (after : Page) × (new.state.content.page v p ≡ Some after) × (after.tag ≡ before.tag) }
+    ensures moving { (old new : Machine) (command : Command) (reply : Reply) → IsGoodMachine old →
+        MovingStep old command reply new → (v p : ℕ) (before : Page) → old.state.content.page v p ≡ Some before →
+        is_pinned old.state.pins v p ≡ true → is_pinned new.state.pins v p ≡ true →
+        (after : Page) × (new.state.content.page v p ≡ Some after) × (after.tag ≡ before.tag) }
+{}
+
+/// A good machine has a reply to each command, be it want of memory.
+pub fn each_command_has_a_reply()
+    ensures { (old : Machine) (command : Command) → IsGoodMachine old →
+        (reply : Reply) × (new : Machine) × MachineStep old command reply new }
+{}
+
+/// Want of memory is a reply where nothing refuses the command and the command may want memory, and nowhere
+/// else. It leaves the machine as it is.
+pub fn want_of_memory_comes_only_where_it_may()
+    ensures only { (old new : Machine) (command : Command) → MachineStep old command (Reply.Refused HostMemory) new →
+        (first_of (refusals old.state command) ≡ None) × (may_want_memory old command ≡ true) × (new ≡ old) }
+    ensures may { (old : Machine) (command : Command) → first_of (refusals old.state command) ≡ None →
+        may_want_memory old command ≡ true → MachineStep old command (Reply.Refused HostMemory) old }
+{}
+
+/// A step where pages move leads from a good machine to a good machine. It gives at most one koid, and the
+/// machine keeps its frames.
+pub fn a_step_where_pages_move_keeps_the_machine_good()
+    ensures good { (old new : Machine) (command : Command) (reply : Reply) →
+        IsGoodMachine old → GivesName command → MovingStep old command reply new → IsGoodMachine new }
+    ensures koids { (old new : Machine) (command : Command) (reply : Reply) →
+        IsGoodMachine old → GivesName command → MovingStep old command reply new →
+        new.state.content.next ≤ old.state.content.next + 1 }
+    ensures frames { (old new : Machine) (command : Command) (reply : Reply) →
+        IsGoodMachine old → GivesName command → MovingStep old command reply new →
+        new.state.content.frames ≡ old.state.content.frames }
+{}
+
+/// A command that is read from a line gives a name that there is, if it gives one.
+pub fn a_line_gives_a_name_that_there_is()
+    ensures { (line : List ℕ) (command : Command) → reading line ≡ Order command → GivesName command }
+{}
