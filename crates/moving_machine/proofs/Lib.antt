@@ -21,3 +21,4 @@ pub mod GroupLaws
 pub mod MovedLaws
 pub mod PinsLaws
 pub mod MovingLaws
+pub mod TranscriptLaws

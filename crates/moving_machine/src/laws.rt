@@ -1,6 +1,6 @@
 //! What holds of machines whose pages move. Each law is the contract of a function that does nothing.
 
-ghost use Rattle.std.specs.Prelude.{◌≡◌, ◌⊎◌, ◌+◌, ◌≤◌, ℕ, true, false, List, None, Some};
+ghost use Rattle.std.specs.Prelude.{◌≡◌, ◌⊎◌, ◌+◌, ◌≤◌, ◌++◌, ℕ, true, false, List, [], ◌∷◌, None, Some};
 ghost use Rattle.std.specs.List.{AllByRecursion};
 ghost use Rattle.vm_base.specs.declared.refusal.Refusal.TheVariants.{HostMemory};
 ghost use Rattle.vm_model.specs.declared.command.Command.{Command};
@@ -16,6 +16,7 @@ ghost use Rattle.vm_model.specs.Machine.MachineStep.{may_want_memory, MachineSte
 ghost use Rattle.vm_model.specs.Scripts.Run.{Legal};
 ghost use Rattle.moving_machine.specs.Renaming.{Renaming, KeepsFrom, KeepsPinned, state_renamed, machine_renamed, reply_renamed};
 ghost use Rattle.moving_machine.specs.Moving.{MovingStep, HasMoved, MovingLegal, TellsNoFrames, tells_choice};
+ghost use Rattle.moving_machine.specs.Transcript.{Told, Asked, told, IsWhole, script_of, answers_of, ArePossible, AreWhole};
 
 /// Pages that move, seen one by one, are pages in renamed frames: each page shows its bytes and is held
 /// where it was, frames are shared as they were, and pinned pages keep theirs. Renamed pages have moved so.
@@ -113,4 +114,24 @@ pub fn a_step_where_pages_move_keeps_the_machine_good()
 /// A command that is read from a line gives a name that there is, if it gives one.
 pub fn a_line_gives_a_name_that_there_is()
     ensures { (line : List ℕ) (command : Command) → reading line ≡ Order command → GivesName command }
+{}
+
+/// A whole transcript tells a script and a text that are legal where pages move. What is legal where pages move
+/// is told by a whole transcript.
+pub fn a_whole_transcript_is_legal()
+    ensures legal { (frames : ℕ) (lines : List Told) (last : Machine) → IsWhole frames lines last →
+        MovingLegal frames (script_of lines) (answers_of lines) }
+    ensures whole { (frames : ℕ) (lines : List (List ℕ)) (out : List ℕ) → MovingLegal frames lines out →
+        (tells : List Told) × (last : Machine) × IsWhole frames tells last
+        × (script_of tells ≡ lines) × (answers_of tells ≡ out) }
+{}
+
+/// No lines are a transcript, a transcript is possible, and so is what a possible one begins with. Behind a
+/// transcript each line of a script may come.
+pub fn what_may_stand_in_a_transcript()
+    ensures none { (frames : ℕ) → AreWhole frames [] }
+    ensures whole { (frames : ℕ) (lines : List (List ℕ)) → AreWhole frames lines → ArePossible frames lines }
+    ensures before { (frames : ℕ) (lines more : List (List ℕ)) → ArePossible frames (lines ++ more) → ArePossible frames lines }
+    ensures asked { (frames : ℕ) (lines : List (List ℕ)) (line script : List ℕ) → AreWhole frames lines →
+        told line ≡ Some (Asked script) → ArePossible frames (lines ++ line ∷ []) }
 {}
