@@ -14,7 +14,7 @@ use vm_model::PinNumbers;
 const MOST_DIGITS: usize = 20;
 
 /// The address that a reply line tells, without its line feed: `OK` and `0x` with hexadecimal digits, in
-/// lower case and without leading zeros. `None` exactly where the line is that of no address.
+/// lower case and without leading zeros. `None` exactly if the line is that of no address.
 pub fn read_address(line: &[u8]) -> Option<u64>
     ensures { MatchOption result
         ((address : ℕ) → address < 2 ^ 64 → reply_lines (Reply.Address address) ≢ (line.now ++ codes "\n") ∷ [])
@@ -27,7 +27,7 @@ pub fn read_address(line: &[u8]) -> Option<u64>
 }
 
 /// The frames of a pin that a reply line tells, without its line feed: `OK`, and each number in decimal behind a
-/// space. `None` exactly where the line is that of no frames, or of more than 256.
+/// space. `None` exactly if no list of at most 256 frames has this line.
 pub fn read_pins(line: &[u8]) -> Option<PinNumbers>
     ensures { MatchOption result
         ((numbers : List ℕ) → length numbers ≤ PIN_PAGES → AllByRecursion (λ n. n < 2 ^ 64) numbers →
@@ -96,7 +96,7 @@ fn first_space(text: &[u8]) -> Option<usize>
     text.iter().position(|byte| *byte == b' ')
 }
 
-/// What stands behind the front of a line, or `None` where the line begins otherwise.
+/// What stands behind the front of a line, or `None` if the line begins otherwise.
 fn behind<'a>(front: &[u8], line: &'a [u8]) -> Option<&'a [u8]>
     ensures { MatchOption result ((rest : List ℕ) → line.now ≢ front.now ++ rest) (λ rest. line.now ≡ front.now ++ rest.now) }
 {
@@ -104,7 +104,7 @@ fn behind<'a>(front: &[u8], line: &'a [u8]) -> Option<&'a [u8]>
 }
 
 /// The number that a word spells in decimal or in hexadecimal, in lower case and without leading zeros.
-/// `None` where it spells none of 64 bits.
+/// `None` if it spells none of 64 bits.
 fn spelled(base: u64, word: &[u8]) -> Option<u64>
     requires base { (base ≡ 10) ⊎ (base ≡ 16) }
     ensures { MatchOption result ((n : ℕ) → n < 2 ^ 64 → word.now ≢ digits base false n) (λ n. word.now ≡ digits base false n) }
@@ -127,8 +127,8 @@ fn spelled(base: u64, word: &[u8]) -> Option<u64>
     appended(base, high, digit)
 }
 
-/// The number with one more digit behind those of `high`. `None` where that would be a leading zero, or does not
-/// fit.
+/// The number with one more digit behind those of `high`. `None` if `high` would be a leading zero, or the number does
+/// not fit.
 fn appended(base: u64, high: u64, digit: u64) -> Option<u64>
     requires base { (base ≡ 10) ⊎ (base ≡ 16) }
     requires digit { digit < base }
@@ -142,7 +142,7 @@ fn appended(base: u64, high: u64, digit: u64) -> Option<u64>
     Some(high * base + digit)
 }
 
-/// The value of a digit, in lower case. `None` where the byte is no digit of the base.
+/// The value of a digit, in lower case. `None` if the byte is no digit of the base.
 fn digit_of(base: u64, byte: u8) -> Option<u64>
     requires base { (base ≡ 10) ⊎ (base ≡ 16) }
     ensures { MatchOption result ((d : ℕ) → d < base → byte ≢ digit_glyph false d) (λ d. (d < base) × (byte ≡ digit_glyph false d)) }
