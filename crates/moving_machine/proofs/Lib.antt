@@ -22,3 +22,8 @@ pub mod MovedLaws
 pub mod PinsLaws
 pub mod MovingLaws
 pub mod TranscriptLaws
+pub mod StandingLaws
+pub mod StandingPinLaws
+pub mod FitLaws
+pub mod ReplyTextLaws
+pub mod FollowingLaws

@@ -10,6 +10,8 @@ use Rattle.vm_base.specs.declared.limits.TheConstants.{PAGE, VMO_PAGES}
 use Rattle.vm_base.specs.declared.refusal.Refusal.{Refusal}
 use Rattle.vm_base.specs.declared.refusal.Refusal.TheVariants.{HostMemory}
 use Rattle.vm_base.proofs.EntryLaws.{some_same, none_is}
+use Rattle.vm_base.specs.declared.names.PinName.{PinName}
+use Rattle.vm_base.specs.declared.names.VmoName.{VmoName}
 use Rattle.vm_model.specs.declared.command.Command.{Command}
 use Rattle.vm_model.specs.declared.command.Command.TheVariants.{VmoChild, VmoWrite, VmoFill, VmoCommit, VmoZero, VmoPin, VmarAllocate, VmarMap, MemRead, MemWrite}
 use Rattle.vm_model.specs.declared.command.ChildKind.TheVariants.{Snapshot}
@@ -160,6 +162,19 @@ through_outcomes table root addr bytes (p ∷ ps) old one other faults again goo
 
 -- ---- all commands
 
+-- two pins, whatever frames they tell
+pub pin_outcomes : (old one other : Machine) (pin : PinName) (name : VmoName) (offset len : ℕ) (reply again : Reply) → IsGoodMachine old
+    → first_of (refusals old.state (VmoPin pin name offset len)) ≡ None → MachineEffect old (VmoPin pin name offset len) reply one → MachineEffect old (VmoPin pin name offset len) again other → AreOutcomes old one other
+pin_outcomes old one other pin name offset len reply again good none e f =
+    let v = koid_of old.state name.0 in
+    let at = place_of old.state name.0 offset in
+    let off = AllOff-from_none (refusals old.state (VmoPin pin name offset len)) none in
+    let is = names-open old.state name.0 (not-false (is_open old.state name.0) off.0) in
+    let inside = place_inside old.state name.0 (target_of old.state name.0) offset len good.state is (ltb-false (size_of old.state name.0) (offset + len) off.1.1.1.0) in
+    twin_outcome old one other (VmoPin pin name offset len) reply (record (old.state) { pins = with_key old.state.pins pin.0 (pin_at old.state name.0 offset len) }) good.state
+    (owns_twins (is_pinned old.state.pins) (pages_at v (touched at len)) old.state.content one.state.content other.state.content good.state.content (touched_fit old.state.content v at len good.state.content inside) e.0.2 f.0.2)
+    e.0.1 f.0.1 e.1 f.1
+
 effect_outcomes : (old one other : Machine) (command : Command) (reply : Reply) → IsGoodMachine old → first_of (refusals old.state command) ≡ None → MachineEffect old command reply one
     → MachineEffect old command reply other → AreOutcomes old one other
 unfolding snapshotted with_snapshot pages_of
@@ -213,15 +228,7 @@ effect_outcomes old one other (VmoZero name offset len) reply good none e f =
     let inside = change_inside old.state name.0 offset len owned good.state none in
     twin_outcome old one other (VmoZero name offset len) reply old.state good.state
     (zero_twins (is_pinned old.state.pins) v at len old.state.content one.state.content other.state.content good.state.content inside e.0.2 f.0.2) e.0.1 f.0.1 e.1 f.1
-effect_outcomes old one other (VmoPin pin name offset len) reply good none e f =
-    let v = koid_of old.state name.0 in
-    let at = place_of old.state name.0 offset in
-    let off = AllOff-from_none (refusals old.state (VmoPin pin name offset len)) none in
-    let is = names-open old.state name.0 (not-false (is_open old.state name.0) off.0) in
-    let inside = place_inside old.state name.0 (target_of old.state name.0) offset len good.state is (ltb-false (size_of old.state name.0) (offset + len) off.1.1.1.0) in
-    twin_outcome old one other (VmoPin pin name offset len) reply (record (old.state) { pins = with_key old.state.pins pin.0 (pin_at old.state name.0 offset len) }) good.state
-    (owns_twins (is_pinned old.state.pins) (pages_at v (touched at len)) old.state.content one.state.content other.state.content good.state.content (touched_fit old.state.content v at len good.state.content inside) e.0.2 f.0.2)
-    e.0.1 f.0.1 e.1 f.1
+effect_outcomes old one other (VmoPin pin name offset len) reply good none e f = pin_outcomes old one other pin name offset len reply reply good none e f
 effect_outcomes old one other (VmarAllocate region parent offset len flags caps) reply good none e f =
     let same : e.0.0 ≡ f.0.0 = first_same e.0.0 f.0.0 (sym e.0.1 ∙ f.0.1) in
     let above = region_of old.state.spaces.regions parent.0 in

@@ -89,7 +89,7 @@ MovingLegal-from frames lines out last legal =
 
 -- ---- where no reply tells frames
 
-told_alike : (r : Renaming) (reply : Reply) → TellsNoFrames reply → reply_renamed r reply ≡ reply
+pub told_alike : (r : Renaming) (reply : Reply) → TellsNoFrames reply → reply_renamed r reply ≡ reply
 told_alike r (Pins numbers) none = absurd (none numbers refl)
 told_alike r reply none = refl
 

@@ -118,11 +118,11 @@ has_turn line (Order command) e old good =
     (step.0 ∷ [], step.1, (step.0, refl, MovingStep-from old step.1 command step.0 step.2))
 has_turn line Outside e old good = (Refused Syntax ∷ [], old, (refl, refl))
 
-turns-append : (turns : List Turn) (old mid : Machine) (turn : Turn) (new : Machine) → Turns old turns mid → MovingGives turn.line mid turn.replies new → Turns old (turns ++ turn ∷ []) new
+pub turns-append : (turns : List Turn) (old mid : Machine) (turn : Turn) (new : Machine) → Turns old turns mid → MovingGives turn.line mid turn.replies new → Turns old (turns ++ turn ∷ []) new
 turns-append [] old mid turn new run gives = (new, subst (λ (m : Machine). MovingGives turn.line m turn.replies new) run gives, refl)
 turns-append (first ∷ turns) old mid turn new run gives = (run.0, run.1, turns-append turns run.0 mid turn new run.2 gives)
 
-told-append : (turns : List Turn) (turn : Turn) → turns_told (turns ++ turn ∷ []) ≡ turns_told turns ++ turn_told turn
+pub told-append : (turns : List Turn) (turn : Turn) → turns_told (turns ++ turn ∷ []) ≡ turns_told turns ++ turn_told turn
 told-append [] turn = append-nil (turn_told turn)
 told-append (first ∷ turns) turn = ap (λ (rest : List Told). turn_told first ++ rest) (told-append turns turn) ∙ sym (append_assoc (turn_told first) (turns_told turns) (turn_told turn))
 

@@ -1,3 +1,5 @@
 pub mod Renaming
 pub mod Moving
 pub mod Transcript
+pub mod Standing
+pub mod Following

@@ -33,14 +33,14 @@ pub fn what_is_legal_is_legal_where_pages_move()
         Legal frames lines out last → MovingLegal frames lines out }
 {}
 
-/// Where no reply tells frames, what is legal where pages move is legal where they stay.
+/// If no reply tells frames, what is legal where pages move is legal where they stay.
 pub fn moves_are_not_seen_where_no_frames_are_told()
     ensures { (frames : ℕ) (lines : List (List ℕ)) (out : List ℕ) (legal : MovingLegal frames lines out) →
         AllByRecursion TellsNoFrames legal.replies → (last : Machine) × Legal frames lines out last }
 {}
 
 /// Let one permutation of the frames of a good machine rename the frames before and after a step of any
-/// command. What comes out is a step again, with the frames in the reply renamed. Where the pages that are
+/// command. What comes out is a step again, with the frames in the reply renamed. If the pages that are
 /// pinned afterwards keep their frames, the reply is the same.
 pub fn a_step_under_other_numbers_is_a_step()
     ensures renamed { (r : Renaming) (old new : Machine) (command : Command) (reply : Reply) →
@@ -89,7 +89,7 @@ pub fn each_command_has_a_reply()
         (reply : Reply) × (new : Machine) × MachineStep old command reply new }
 {}
 
-/// Want of memory is a reply where nothing refuses the command and the command may want memory, and nowhere
+/// Want of memory is a reply if nothing refuses the command and the command may want memory, and never
 /// else. It leaves the machine as it is.
 pub fn want_of_memory_comes_only_where_it_may()
     ensures only { (old new : Machine) (command : Command) → MachineStep old command (Reply.Refused HostMemory) new →

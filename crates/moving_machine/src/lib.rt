@@ -8,4 +8,5 @@
 //! It stands on `vm_model`, and has no code.
 #![tactic(auto)]
 
+pub mod following;
 pub mod laws;
