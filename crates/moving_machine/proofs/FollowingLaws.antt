@@ -9,7 +9,7 @@ use Rattle.vm_model.specs.declared.command.Command.{Command}
 use Rattle.vm_model.specs.declared.command.Command.TheVariants.{VmoChild, VmoPin, VmarAllocate, VmarMap, MemRead, MemWrite}
 use Rattle.vm_model.specs.declared.command.ChildKind.TheVariants.{Snapshot}
 use Rattle.vm_model.specs.declared.reply.Reply.{Reply}
-use Rattle.vm_model.specs.declared.reply.Reply.TheVariants.{Pins, Runs as RunsReply, Refused}
+use Rattle.vm_model.specs.declared.reply.Reply.TheVariants.{Address, Pins, Runs as RunsReply, Refused}
 use Rattle.vm_model.specs.Contents.Content.{nothing}
 use Rattle.vm_model.specs.Naming.Pins.{is_pinned, covers}
 use Rattle.vm_model.specs.Language.Reading.{Reading, Blank, Order, Outside, reading}
@@ -21,13 +21,14 @@ use Rattle.vm_model.specs.Machine.MachineStep.{MachineEffect, MachineStepAfter, 
 use Rattle.vm_base.specs.declared.limits.TheConstants.{NAMES}
 use Rattle.vm_base.proofs.EntryLaws.{any_entry_found}
 use Rattle.moving_machine.specs.Renaming.{Renaming, machine_renamed}
-use Rattle.moving_machine.specs.Moving.{MovingStep, MovingGivesAs, MovingGives, TellsNoFrames, tells_choice}
+use Rattle.moving_machine.specs.Moving.{MovingStep, MovingGivesAs, MovingGives, TellsNoFrames, tells_choice, tells_place}
 use Rattle.moving_machine.specs.Transcript.{Told, Asked, Answered, Turn, turns_told, Turns, MayBegin}
 use Rattle.moving_machine.specs.Standing.{StandsFor, with_seen, Fits, AreSeen, AreLeft}
 use Rattle.moving_machine.specs.Following.{Follows, MayAnswer, first_line}
 use Rattle.moving_machine.proofs.ReadingLaws.{reading_gives}
 use Rattle.moving_machine.proofs.OutcomeLaws.{one_reply}
 use Rattle.moving_machine.proofs.ReplyTextLaws.{refused_text}
+use Rattle.moving_machine.proofs.PlaceLaws.{place_cases, address_text, step_address}
 use Rattle.moving_machine.proofs.StandingLaws.{stands_left, stands_all, stands_same, other_step, stands_forth, stands_back, stands_step, stands_good}
 use Rattle.moving_machine.proofs.StandingPinLaws.{pins_forth, pins_back, pins_some}
 use Rattle.moving_machine.proofs.TranscriptLaws.{turns-append, told-append}
@@ -324,3 +325,28 @@ pub follows_outside : (frames : ℕ) (own : Machine) (numbers : ℕ → Option �
     → Follows frames own numbers (tells ++ Asked line ∷ map Answered (reply_lines (Refused Syntax)))
 follows_outside frames own numbers tells line follows e =
     follows_turn frames own numbers tells line (reply_lines (Refused Syntax)) own numbers follows (turns_outside own numbers line e follows.some)
+
+-- A step whose reply tells no frames, and is told apart by its first line from each other that there may be
+pub follows_apart : (frames : ℕ) (own next : Machine) (numbers : ℕ → Option ℕ) (tells : List Told) (line : List ℕ) (command : Command) (reply : Reply) → Follows frames own numbers tells
+    → IsGoodMachine own → reading line ≡ Order command → TellsNoFrames reply → MachineStep own command reply next
+    → ((other new : Machine) (again : Reply) → StandsFor own numbers other → MovingStep other command again new → first_line again ≡ first_line reply → again ≡ reply)
+    → Follows frames next numbers (tells ++ Asked line ∷ map Answered (reply_lines reply))
+follows_apart frames own next numbers tells line command reply follows good e none step unique =
+    follows_turn frames own numbers tells line (reply_lines reply) next numbers follows (turns_order own next numbers line command reply e good none step follows.some unique)
+
+-- After a step that tells a place it stands for what may have come of it, whatever place was told.
+pub follows_placed : (frames : ℕ) (own next : Machine) (numbers : ℕ → Option ℕ) (tells : List Told) (line : List ℕ) (command : Command) (address : ℕ) → Follows frames own numbers tells
+    → IsGoodMachine own → reading line ≡ Order command → tells_place command ≡ true → MachineStep own command (Address address) next
+    → Follows frames next numbers (tells ++ Asked line ∷ map Answered (reply_lines (Address address)))
+follows_placed frames own next numbers tells line command address follows good e place step =
+    let none : TellsNoFrames (Address address) = λ mine f. absurd cc in
+    let gives = reading_gives line command e in
+    follows_apart frames own next numbers tells line command (Address address) follows good e none step (λ other new again stands moving first.
+    let fine = stands_good own next command (Address address) good gives none step numbers other stands in
+    elim (place_cases other moving.mid command again place moving.step) [
+      | inr refused ↦ absurd (let same = refused_text (Address address) refused.0 (sym first ∙ ap first_line refused.1) in cc)
+      | inl placed ↦
+          let mid : MachineStep other command (Address placed.0) moving.mid = subst (λ (a : Reply). MachineStep other command a moving.mid) placed.1 moving.step in
+          let same = address_text placed.0 address (step_address other moving.mid command placed.0 fine mid) (step_address own next command address good step) (sym (ap first_line placed.1) ∙ first) in
+          placed.1 ∙ ap (λ (a : ℕ). Address a) same
+    ])

@@ -27,3 +27,4 @@ pub mod StandingPinLaws
 pub mod FitLaws
 pub mod ReplyTextLaws
 pub mod FollowingLaws
+pub mod PlaceLaws

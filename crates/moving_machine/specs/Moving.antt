@@ -71,3 +71,9 @@ tells_choice (VmoPin pin name offset len) = true
 tells_choice (VmarAllocate region parent offset len flags caps) = true
 tells_choice (VmarMap region offset name vmo_offset len perm flags) = true
 tells_choice command = false
+
+-- the command is one whose reply tells a place
+abbrev pub tells_place : Command → Bool
+tells_place (VmarAllocate region parent offset len flags caps) = true
+tells_place (VmarMap region offset name vmo_offset len perm flags) = true
+tells_place command = false

@@ -14,7 +14,7 @@ ghost use Rattle.vm_model.specs.Language.Text.{reply_lines};
 ghost use Rattle.vm_model.specs.Machine.Given.{GivesName};
 ghost use Rattle.vm_model.specs.Machine.Machine.{Machine, empty_machine, IsGoodMachine};
 ghost use Rattle.vm_model.specs.Machine.MachineStep.{MachineStep};
-ghost use Rattle.moving_machine.specs.Moving.{MovingStep, TellsNoFrames, tells_choice};
+ghost use Rattle.moving_machine.specs.Moving.{MovingStep, TellsNoFrames, tells_choice, tells_place};
 ghost use Rattle.moving_machine.specs.Transcript.{Told, Asked, Answered, MayBegin};
 ghost use Rattle.moving_machine.specs.Standing.{StandsFor, with_seen, Fits, may_tell, AreSeen, AreLeft};
 ghost use Rattle.moving_machine.specs.Following.{Follows, MayAnswer, first_line};
@@ -68,7 +68,8 @@ pub fn what_was_seen_is_of_pinned_pages()
 {}
 
 /// The own machine follows a transcript, turn by turn: from no lines on, over blank lines and lines outside the
-/// grammar, over commands that tell no choice, refusals and pins; and if it forgets what is pinned no more.
+/// grammar, over commands that tell no choice, refusals, places and pins whose numbers fit; and if it forgets what is
+/// pinned no more. Of the numbers that a pin tells its line must tell them apart from others that there may be.
 pub fn the_own_machine_follows_a_transcript()
     ensures begins { (frames : ℕ) (numbers : ℕ → Option ℕ) → Follows frames (empty_machine frames) numbers [] }
     ensures blank { (frames : ℕ) (own : Machine) (numbers : ℕ → Option ℕ) (tells : List Told) (line : List ℕ) →
@@ -84,6 +85,10 @@ pub fn the_own_machine_follows_a_transcript()
         (command : Command) (refusal : Refusal) → Follows frames own numbers tells → IsGoodMachine own →
         reading line ≡ Order command → MachineStep own command (Reply.Refused refusal) own →
         Follows frames own numbers (tells ++ Asked line ∷ map Answered (reply_lines (Reply.Refused refusal))) }
+    ensures placed { (frames : ℕ) (own next : Machine) (numbers : ℕ → Option ℕ) (tells : List Told) (line : List ℕ)
+        (command : Command) (address : ℕ) → Follows frames own numbers tells → IsGoodMachine own →
+        reading line ≡ Order command → tells_place command ≡ true → MachineStep own command (Reply.Address address) next →
+        Follows frames next numbers (tells ++ Asked line ∷ map Answered (reply_lines (Reply.Address address))) }
     ensures pins { (frames : ℕ) (own next : Machine) (numbers : ℕ → Option ℕ) (tells : List Told) (line : List ℕ)
         (pin : PinName) (name : VmoName) (offset len : ℕ) (mine told : List ℕ) → Follows frames own numbers tells →
         IsGoodMachine own → reading line ≡ Order (Command.VmoPin pin name offset len) →

@@ -1,6 +1,6 @@
 //! What holds of machines whose pages move. Each law is the contract of a function that does nothing.
 
-ghost use Rattle.std.specs.Prelude.{◌≡◌, ◌⊎◌, ◌+◌, ◌≤◌, ◌++◌, ℕ, true, false, List, [], ◌∷◌, None, Some};
+ghost use Rattle.std.specs.Prelude.{◌≡◌, ◌⊎◌, ◌+◌, ◌<◌, ◌≤◌, ◌^◌, ◌++◌, ℕ, true, false, List, [], ◌∷◌, None, Some};
 ghost use Rattle.std.specs.List.{AllByRecursion};
 ghost use Rattle.vm_base.specs.declared.refusal.Refusal.TheVariants.{HostMemory};
 ghost use Rattle.vm_model.specs.declared.command.Command.{Command};
@@ -134,4 +134,12 @@ pub fn what_may_stand_in_a_transcript()
     ensures before { (frames : ℕ) (lines more : List (List ℕ)) → ArePossible frames (lines ++ more) → ArePossible frames lines }
     ensures asked { (frames : ℕ) (lines : List (List ℕ)) (line script : List ℕ) → AreWhole frames lines →
         told line ≡ Some (Asked script) → ArePossible frames (lines ++ line ∷ []) }
+{}
+
+/// An address that is told has 64 bits, also where pages move.
+pub fn an_address_has_64_bits()
+    ensures stays { (old new : Machine) (command : Command) (address : ℕ) → IsGoodMachine old →
+        MachineStep old command (Reply.Address address) new → address < 2 ^ 64 }
+    ensures moving { (old new : Machine) (command : Command) (address : ℕ) → IsGoodMachine old →
+        MovingStep old command (Reply.Address address) new → address < 2 ^ 64 }
 {}

@@ -4,6 +4,7 @@ use Rattle.std.specs.Prelude.{MatchOption}
 use Rattle.std.specs.Str.Parse.{digits_value}
 use Rattle.std.specs.Fmt.{digits, digit_glyph, decimal}
 use Rattle.std.proofs.lemmas.Bool.{cases_lt, cond-true, lt-ltb}
+use Rattle.std.proofs.lemmas.List.{same_from_push}
 use Rattle.std.proofs.lemmas.Fmt.{hex_one_digit, decimal_digit, decimal_step, length-decimal-le, digits_is_IsNumeral, decimal_is_IsNumeral}
 use Rattle.reply_text.proofs.Hex.{hex_step, hex_short}
 
@@ -46,22 +47,6 @@ same_digits base m n (inr is) h l e =
 -- digits that look alike are the same
 pub same_glyphs : (c d : ℕ) → c < 16 → d < 16 → digit_glyph false c ≡ digit_glyph false d → c ≡ d
 same_glyphs c d h l e = grind arith
-
--- ---- the last digit
-
-heads_same : (a b : ℕ) (xs ys : List ℕ) → a ∷ xs ≡ b ∷ ys → (a ≡ b) × (xs ≡ ys)
-heads_same a b xs ys e = (cc, cc)
-
-pub last_same : (xs ys : List ℕ) (x y : ℕ) → xs ++ x ∷ [] ≡ ys ++ y ∷ [] → (xs ≡ ys) × (x ≡ y)
-last_same [] [] x y e = (refl, cc)
-last_same [] (b ∷ []) x y e = absurd cc
-last_same [] (b ∷ c ∷ ys) x y e = absurd cc
-last_same (a ∷ []) [] x y e = absurd cc
-last_same (a ∷ b ∷ xs) [] x y e = absurd cc
-last_same (a ∷ xs) (b ∷ ys) x y e =
-    let parts = heads_same a b (xs ++ x ∷ []) (ys ++ y ∷ []) e in
-    let rest = last_same xs ys x y parts.1 in
-    ((λ i. parts.0 i ∷ rest.0 i), rest.1)
 
 -- ---- one digit behind others
 
@@ -119,11 +104,11 @@ pub ends : (base n : ℕ) (front : List ℕ) (last : ℕ) → IsBase base → n 
     → (last ≡ digit_glyph false (n % base)) × (((front ≡ []) × (n < base)) ⊎ ((base ≤ n) × (front ≡ digits base false (n / base))))
 ends base n front last is fits e = elim (cases_lt n base) [
   | inl less ↦
-      let parts = last_same front [] last (digit_glyph false n) (e ∙ one_digit base n is less) in
+      let parts = same_from_push front [] last (digit_glyph false n) (e ∙ one_digit base n is less) in
       let same : n % base ≡ n = rest base n is less in
       (parts.1 ∙ ap (digit_glyph false) (sym same), inl (parts.0, less))
   | inr more ↦
-      let parts = last_same front (digits base false (n / base)) last (digit_glyph false (n % base)) (e ∙ more_digits base n is more fits) in
+      let parts = same_from_push front (digits base false (n / base)) last (digit_glyph false (n % base)) (e ∙ more_digits base n is more fits) in
       (parts.1, inr (more, parts.0))
 ] where
   rest : (b m : ℕ) → IsBase b → m < b → m % b ≡ m

@@ -3,11 +3,11 @@ use Rattle.std.proofs.Common.{◌≡◌, ◌≢◌, ℕ, ◌^◌, ◌<◌, ◌�
 use Rattle.std.specs.Prelude.{MatchOption}
 use Rattle.std.specs.Fmt.{digits}
 use Rattle.std.specs.List.{AllByRecursion}
+use Rattle.std.proofs.lemmas.List.{same_from_push}
 use Rattle.vm_model.specs.Language.Text.{reply_lines}
 use Rattle.vm_model.specs.declared.reply.Reply.TheVariants.{Address, Pins}
 use Rattle.vm_base.specs.declared.limits.TheConstants.{PIN_PAGES}
 use Rattle.reply_text.specs.Spaces.{all_spaced}
-use Rattle.reply_text.proofs.DigitLaws.{last_same}
 
 -- the only line of a list
 one_line : (xs ys : List ℕ) → ◌≡◌ {A = List (List ℕ)} (xs ∷ []) (ys ∷ []) → xs ≡ ys
@@ -24,7 +24,7 @@ pins_line numbers = refl
 module _ (line : List ℕ) where
   -- the line of an address begins so
   pub address_front : (a : ℕ) → reply_lines (Address a) ≡ (line ++ codes "\n") ∷ [] → line ≡ codes "OK 0x" ++ digits 16 false a
-  address_front a e = sym (last_same (codes "OK 0x" ++ digits 16 false a) line 10 10 (one_line _ _ (sym (address_line a) ∙ e))).0
+  address_front a e = sym (same_from_push (codes "OK 0x" ++ digits 16 false a) line 10 10 (one_line _ _ (sym (address_line a) ∙ e))).0
 
   -- and what begins so is one where digits are behind it
   pub address_is : (word : List ℕ) (o : Option ℕ) → line ≡ codes "OK 0x" ++ word → MatchOption o ((n : ℕ) → n < 2 ^ 64 → word ≢ digits 16 false n) (λ n. word ≡ digits 16 false n)
@@ -36,7 +36,7 @@ module _ (line : List ℕ) where
 
   -- the line of frames begins so
   pub pins_front : (numbers : List ℕ) → reply_lines (Pins numbers) ≡ (line ++ codes "\n") ∷ [] → line ≡ codes "OK" ++ all_spaced numbers
-  pins_front numbers e = sym (last_same (codes "OK" ++ all_spaced numbers) line 10 10 (one_line _ _ (sym (pins_line numbers) ∙ e))).0
+  pins_front numbers e = sym (same_from_push (codes "OK" ++ all_spaced numbers) line 10 10 (one_line _ _ (sym (pins_line numbers) ∙ e))).0
 
   -- and what begins so is one where numbers are behind it
   pub pins_is : (text : List ℕ) (o : Option (List ℕ)) → line ≡ codes "OK" ++ text

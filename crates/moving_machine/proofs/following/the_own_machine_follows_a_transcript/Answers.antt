@@ -1,4 +1,4 @@
-use Rattle.moving_machine.proofs.FollowingLaws.{follows_begin, follows_blank, follows_outside, follows_plain, follows_refused, follows_pin, follows_left}
+use Rattle.moving_machine.proofs.FollowingLaws.{follows_begin, follows_blank, follows_outside, follows_plain, follows_refused, follows_placed, follows_pin, follows_left}
 use Rattle.moving_machine.proofs.following.the_own_machine_follows_a_transcript.Goals as goal
 
 pub returns-clause-begins : goal.returns-clause-begins
@@ -21,3 +21,6 @@ returns-clause-pins c = follows_pin
 
 pub returns-clause-left : goal.returns-clause-left
 returns-clause-left c = follows_left
+
+pub returns-clause-placed : goal.returns-clause-placed
+returns-clause-placed c = follows_placed
