@@ -1,6 +1,6 @@
 -- Laws of following a transcript: what an own machine stands for after each turn, and what may come next.
-use Rattle.std.proofs.Common.{◌≡◌, ◌≢◌, ℕ, true, false, List, [], ◌∷◌, ◌++◌, map, Option, None, Some, refl, sym, ap, subst, ◌∙◌, inl, inr, append-nil, append_assoc}
-use Rattle.std.specs.List.{flat_map}
+use Rattle.std.proofs.Common.{◌≡◌, ◌≢◌, ℕ, ◌<◌, ◌≤◌, ◌^◌, true, false, List, [], ◌∷◌, ◌++◌, map, Option, None, Some, refl, sym, ap, subst, ◌∙◌, inl, inr, append-nil, append_assoc, arith}
+use Rattle.std.specs.List.{AllByRecursion, flat_map}
 use Rattle.vm_base.specs.declared.refusal.Refusal.{Refusal}
 use Rattle.vm_base.specs.declared.refusal.Refusal.TheVariants.{Syntax, HostMemory}
 use Rattle.vm_base.specs.declared.names.PinName.{PinName}
@@ -28,9 +28,13 @@ use Rattle.moving_machine.specs.Following.{Follows, MayAnswer, first_line}
 use Rattle.moving_machine.proofs.ReadingLaws.{reading_gives}
 use Rattle.moving_machine.proofs.OutcomeLaws.{one_reply}
 use Rattle.moving_machine.proofs.ReplyTextLaws.{refused_text}
+use Rattle.moving_machine.proofs.PinTextLaws.{pins_text, pin_cases}
+use Rattle.moving_machine.proofs.NumberLaws.{to_below}
+use Rattle.moving_machine.proofs.GoodLaws.{IsGoodMachine-renamed}
+use Rattle.moving_machine.proofs.RowLaws.{all_map, all_over}
 use Rattle.moving_machine.proofs.PlaceLaws.{place_cases, address_text, step_address}
 use Rattle.moving_machine.proofs.StandingLaws.{stands_left, stands_all, stands_same, other_step, stands_forth, stands_back, stands_step, stands_good}
-use Rattle.moving_machine.proofs.StandingPinLaws.{pins_forth, pins_back, pins_some}
+use Rattle.moving_machine.proofs.StandingPinLaws.{pins_same, pins_forth, pins_back, pins_some}
 use Rattle.moving_machine.proofs.TranscriptLaws.{turns-append, told-append}
 
 -- ---- the beginning
@@ -349,4 +353,31 @@ follows_placed frames own next numbers tells line command address follows good e
           let mid : MachineStep other command (Address placed.0) moving.mid = subst (λ (a : Reply). MachineStep other command a moving.mid) placed.1 moving.step in
           let same = address_text placed.0 address (step_address other moving.mid command placed.0 fine mid) (step_address own next command address good step) (sym (ap first_line placed.1) ∙ first) in
           placed.1 ∙ ap (λ (a : ℕ). Address a) same
+    ])
+
+-- The line of a pin tells its numbers apart, since they are those of frames.
+pub follows_pinned : (frames : ℕ) (own next : Machine) (numbers : ℕ → Option ℕ) (tells : List Told) (line : List ℕ) (pin : PinName) (name : VmoName) (offset len : ℕ) (mine told : List ℕ)
+    → Follows frames own numbers tells → IsGoodMachine own → own.state.content.frames ≤ 2 ^ 64 → reading line ≡ Order (VmoPin pin name offset len)
+    → MachineStep own (VmoPin pin name offset len) (Pins mine) next → Fits own numbers mine told
+    → Follows frames next (with_seen numbers mine told) (tells ++ Asked line ∷ map Answered (reply_lines (Pins told)))
+follows_pinned frames own next numbers tells line pin name offset len mine told follows good few e step fits =
+    let command = VmoPin pin name offset len in
+    let gives = reading_gives line command e in
+    let n = own.state.content.frames in
+    let all_64 : (ts : List ℕ) → AllByRecursion (λ t. t < n) ts → AllByRecursion (λ t. t < 2 ^ 64) ts = λ ts low. all_map (λ t. t < n) (λ t. t < 2 ^ 64) ts (λ t h. omega (arith, h, few)) low in
+    follows_pin frames own next numbers tells line pin name offset len mine told follows good e step fits (λ other new again stands moving first.
+    let other_fine = subst IsGoodMachine (sym stands.is) (IsGoodMachine-renamed stands.by own stands.within good) in
+    let same_frames : other.state.content.frames ≡ n = ap (λ (m : Machine). m.state.content.frames) stands.is in
+    elim (pin_cases other moving.mid pin name offset len again other_fine gives moving.step) [
+      | inr refused ↦ absurd (let same = refused_text (Pins told) refused.0 (sym first ∙ ap first_line refused.1) in cc)
+      | inl pinned ↦
+          let theirs = all_64 pinned.0 (subst (λ (k : ℕ). AllByRecursion (λ t. t < k) pinned.0) same_frames pinned.2) in
+          elim (pin_cases own next pin name offset len (Pins mine) good gives step) [
+            | inr refused ↦ absurd (let no_reply = refused.1 in cc)
+            | inl known ↦
+                let low : AllByRecursion (λ t. t < n) mine = subst (λ (ts : List ℕ). AllByRecursion (λ t. t < n) ts) (sym (pins_same mine known.0 known.1)) known.2 in
+                let told_low : AllByRecursion (λ t. t < n) told = subst (λ (ts : List ℕ). AllByRecursion (λ t. t < n) ts) fits.tells
+                (all_over fits.by.to (λ t. t < n) mine (all_map (λ t. t < n) (λ t. fits.by.to t < n) mine (λ t h. to_below fits.by n t fits.within h) low)) in
+                pinned.1 ∙ ap (λ (ts : List ℕ). Pins ts) (pins_text pinned.0 told theirs (all_64 told told_low) (sym (ap first_line pinned.1) ∙ first))
+          ]
     ])

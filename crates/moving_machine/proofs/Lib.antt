@@ -28,3 +28,4 @@ pub mod FitLaws
 pub mod ReplyTextLaws
 pub mod FollowingLaws
 pub mod PlaceLaws
+pub mod PinTextLaws

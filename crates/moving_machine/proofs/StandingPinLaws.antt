@@ -72,7 +72,7 @@ seen_from g first (suc n) (j ∷ told) numbers t k e = elim (seen_from g (first 
 
 -- ---- a pin
 
-pins_same : (a b : List ℕ) → Pins a ≡ Pins b → a ≡ b
+pub pins_same : (a b : List ℕ) → Pins a ≡ Pins b → a ≡ b
 pins_same a b e = cc
 
 -- where frames are told, the pin was made

@@ -1,6 +1,6 @@
 //! What a checker of transcripts rests on: an own machine that stands for all that may have answered so.
 
-ghost use Rattle.std.specs.Prelude.{◌≡◌, ◌++◌, ◌<◌, ◌↔◌, ℕ, true, false, List, [], ◌∷◌, map, Option, None};
+ghost use Rattle.std.specs.Prelude.{◌≡◌, ◌++◌, ◌<◌, ◌≤◌, ◌^◌, ℕ, true, false, List, [], ◌∷◌, map, Option, None};
 ghost use Rattle.std.specs.List.{AllByRecursion};
 ghost use Rattle.vm_base.specs.declared.limits.TheConstants.{NAMES};
 ghost use Rattle.vm_base.specs.declared.names.PinName.{PinName};
@@ -17,7 +17,7 @@ ghost use Rattle.vm_model.specs.Machine.MachineStep.{MachineStep};
 ghost use Rattle.moving_machine.specs.Moving.{MovingStep, TellsNoFrames, tells_choice, tells_place};
 ghost use Rattle.moving_machine.specs.Transcript.{Told, Asked, Answered, MayBegin};
 ghost use Rattle.moving_machine.specs.Standing.{StandsFor, with_seen, Fits, may_tell, AreSeen, AreLeft};
-ghost use Rattle.moving_machine.specs.Following.{Follows, MayAnswer, first_line};
+ghost use Rattle.moving_machine.specs.Following.{Follows, MayAnswer};
 
 /// After a step of the own machine whose reply tells no frames, it stands for exactly those machines to which
 /// a machine may come with this reply for which the own one stood.
@@ -69,7 +69,7 @@ pub fn what_was_seen_is_of_pinned_pages()
 
 /// The own machine follows a transcript, turn by turn: from no lines on, over blank lines and lines outside the
 /// grammar, over commands that tell no choice, refusals, places and pins whose numbers fit; and if it forgets what is
-/// pinned no more. Of the numbers that a pin tells its line must tell them apart from others that there may be.
+/// pinned no more.
 pub fn the_own_machine_follows_a_transcript()
     ensures begins { (frames : ℕ) (numbers : ℕ → Option ℕ) → Follows frames (empty_machine frames) numbers [] }
     ensures blank { (frames : ℕ) (own : Machine) (numbers : ℕ → Option ℕ) (tells : List Told) (line : List ℕ) →
@@ -91,11 +91,9 @@ pub fn the_own_machine_follows_a_transcript()
         Follows frames next numbers (tells ++ Asked line ∷ map Answered (reply_lines (Reply.Address address))) }
     ensures pins { (frames : ℕ) (own next : Machine) (numbers : ℕ → Option ℕ) (tells : List Told) (line : List ℕ)
         (pin : PinName) (name : VmoName) (offset len : ℕ) (mine told : List ℕ) → Follows frames own numbers tells →
-        IsGoodMachine own → reading line ≡ Order (Command.VmoPin pin name offset len) →
+        IsGoodMachine own → own.state.content.frames ≤ 2 ^ 64 →
+        reading line ≡ Order (Command.VmoPin pin name offset len) →
         MachineStep own (Command.VmoPin pin name offset len) (Reply.Pins mine) next → Fits own numbers mine told →
-        ((other new : Machine) (again : Reply) → StandsFor own numbers other →
-        MovingStep other (Command.VmoPin pin name offset len) again new →
-        first_line again ≡ first_line (Reply.Pins told) → again ≡ Reply.Pins told) →
         Follows frames next (with_seen numbers mine told) (tells ++ Asked line ∷ map Answered (reply_lines (Reply.Pins told))) }
     ensures left { (frames : ℕ) (own : Machine) (numbers later : ℕ → Option ℕ) (tells : List Told) →
         Follows frames own numbers tells → AreLeft own numbers later → Follows frames own later tells }

@@ -1,4 +1,4 @@
-use Rattle.moving_machine.proofs.FollowingLaws.{follows_begin, follows_blank, follows_outside, follows_plain, follows_refused, follows_placed, follows_pin, follows_left}
+use Rattle.moving_machine.proofs.FollowingLaws.{follows_begin, follows_blank, follows_outside, follows_plain, follows_refused, follows_placed, follows_pinned, follows_left}
 use Rattle.moving_machine.proofs.following.the_own_machine_follows_a_transcript.Goals as goal
 
 pub returns-clause-begins : goal.returns-clause-begins
@@ -17,7 +17,7 @@ pub returns-clause-refused : goal.returns-clause-refused
 returns-clause-refused c = follows_refused
 
 pub returns-clause-pins : goal.returns-clause-pins
-returns-clause-pins c = follows_pin
+returns-clause-pins c = follows_pinned
 
 pub returns-clause-left : goal.returns-clause-left
 returns-clause-left c = follows_left
