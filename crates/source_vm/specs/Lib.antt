@@ -1,0 +1,6 @@
+pub mod Sources
+pub mod State
+pub mod Commands
+pub mod Reading
+pub mod Good
+pub mod Table

@@ -1,0 +1,219 @@
+//! What one line of a script of page sources says.
+
+ghost use Rattle.std.specs.Prelude.{◌≡◌, map};
+ghost use Rattle.source_vm.specs.Reading.{name_in, range_in, reading_of, source_child, source_command, source_create};
+ghost use Rattle.source_vm.specs.Reading.{source_reading, source_reading_of_words, source_stat, source_write, order_in};
+ghost use Rattle.source_vm.specs.Reading.{of_name, of_range};
+ghost use Rattle.source_vm.specs.declared.command.SourceCommand.TheVariants.{Close, Read, Supply, Evict};
+ghost use Rattle.vm_model.specs.Language.Reading.{is_comment, words};
+
+use crate::command::SourceCommand;
+use arrayvec::ArrayVec;
+use script_text::{SyntaxFault, byte_data, next_word, number, vmo};
+use vm_base::{LINE_BYTES, VmoName};
+
+/// The most words that a command has, its own and five arguments.
+const MOST_WORDS: usize = 6;
+
+/// What a line says.
+#[derive(Drop)]
+pub enum SourceLine {
+    /// Nothing: it has no word, or it is a comment, whose first word begins with `#`.
+    Blank,
+    /// A command.
+    Order(SourceCommand),
+}
+
+/// Reads one line of a script, without its line feed. `SyntaxFault` where it has more than `LINE_BYTES`
+/// bytes, or where it is not blank, no comment and no command.
+#[tactic(auto, unfolding(crate::specs::Reading::source_reading))]
+pub fn read_source_line(line: &[u8]) -> Result<SourceLine, SyntaxFault>
+    ensures { reading_of result ≡ source_reading line.now }
+{
+    if line.len() > LINE_BYTES {
+        return Err(SyntaxFault);
+    }
+    let Some((word, _)) = next_word(line) else {
+        return Ok(SourceLine::Blank);
+    };
+    if is_comment(word) {
+        return Ok(SourceLine::Blank);
+    }
+    match order(line) {
+        Some(command) => Ok(SourceLine::Order(command)),
+        None => Err(SyntaxFault),
+    }
+}
+
+/// Whether a word begins with `#`.
+fn is_comment(word: &[u8]) -> bool
+    ensures { result ≡ is_comment word.now }
+{
+    matches!(word, [b'#', ..])
+}
+
+/// The command of a line, or `None` where it has none.
+fn order(line: &[u8]) -> Option<SourceCommand>
+    ensures { result ≡ order_in (words line.now) }
+{
+    let mut found: ArrayVec<&[u8], MOST_WORDS> = ArrayVec::new();
+    let mut rest = line;
+    while let Some((word, behind)) = next_word(rest) {
+        if found.is_full() {
+            return None;
+        }
+        found.push(word);
+        rest = behind;
+    }
+    match found.as_slice() {
+        [word, arguments @ ..] => command(word, arguments),
+        [] => None,
+    }
+}
+
+/// The command of this word and these arguments, or `None` where there is none.
+#[tactic(auto, unfolding(crate::specs::Reading::source_command))]
+fn command(word: &[u8], arguments: &[&[u8]]) -> Option<SourceCommand>
+    ensures { result ≡ source_command word.now (map (λ a. a.now) arguments.now) }
+{
+    if word == b"vmo_read".as_slice() {
+        read(arguments)
+    } else if word == b"vmo_write".as_slice() {
+        write(arguments)
+    } else if word == b"supply".as_slice() {
+        supply(arguments)
+    } else if word == b"evict".as_slice() {
+        evict(arguments)
+    } else if word == b"source_create".as_slice() {
+        create(arguments)
+    } else if word == b"vmo_create_child".as_slice() {
+        child(arguments)
+    } else if word == b"vmo_close".as_slice() {
+        close(arguments)
+    } else if word == b"stat".as_slice() {
+        stat(arguments)
+    } else {
+        None
+    }
+}
+
+/// The one argument of a command of a VMO.
+fn name_in(arguments: &[&[u8]]) -> Option<VmoName>
+    ensures { result ≡ name_in (map (λ a. a.now) arguments.now) }
+{
+    let [name] = arguments else {
+        return None;
+    };
+    vmo(name)
+}
+
+/// The arguments of a command of a range of a VMO: its name, the offset and the length.
+fn range_in(arguments: &[&[u8]]) -> Option<(VmoName, u64, u64)>
+    ensures { result ≡ range_in (map (λ a. a.now) arguments.now) }
+{
+    let [name, offset, len] = arguments else {
+        return None;
+    };
+    Some((vmo(name)?, number(offset)?, number(len)?))
+}
+
+/// `vmo_read VMO OFFSET LEN`
+fn read(arguments: &[&[u8]]) -> Option<SourceCommand>
+    ensures { result ≡ of_range Read (map (λ a. a.now) arguments.now) }
+{
+    let (name, offset, len) = range_in(arguments)?;
+    Some(SourceCommand::Read { name, offset, len })
+}
+
+/// `supply VMO OFFSET LEN`
+fn supply(arguments: &[&[u8]]) -> Option<SourceCommand>
+    ensures { result ≡ of_range Supply (map (λ a. a.now) arguments.now) }
+{
+    let (name, offset, len) = range_in(arguments)?;
+    Some(SourceCommand::Supply { name, offset, len })
+}
+
+/// `evict VMO OFFSET LEN`
+fn evict(arguments: &[&[u8]]) -> Option<SourceCommand>
+    ensures { result ≡ of_range Evict (map (λ a. a.now) arguments.now) }
+{
+    let (name, offset, len) = range_in(arguments)?;
+    Some(SourceCommand::Evict { name, offset, len })
+}
+
+/// `vmo_close VMO`
+fn close(arguments: &[&[u8]]) -> Option<SourceCommand>
+    ensures { result ≡ of_name Close (map (λ a. a.now) arguments.now) }
+{
+    let name = name_in(arguments)?;
+    Some(SourceCommand::Close { name })
+}
+
+/// `source_create VMO SIZE KIND SEED`
+fn create(arguments: &[&[u8]]) -> Option<SourceCommand>
+    ensures { result ≡ source_create (map (λ a. a.now) arguments.now) }
+{
+    let [name, size, kind, seed] = arguments else {
+        return None;
+    };
+    let name = vmo(name)?;
+    let size = number(size)?;
+    let kind = number(kind)?;
+    let seed = number(seed)?;
+    Some(SourceCommand::Create {
+        name,
+        size,
+        kind,
+        seed,
+    })
+}
+
+/// `vmo_create_child VMO PARENT snapshot OFFSET SIZE`
+fn child(arguments: &[&[u8]]) -> Option<SourceCommand>
+    ensures { result ≡ source_child (map (λ a. a.now) arguments.now) }
+{
+    let [name, parent, kind, offset, size] = arguments else {
+        return None;
+    };
+    let name = vmo(name)?;
+    let parent = vmo(parent)?;
+    let offset = number(offset)?;
+    let size = number(size)?;
+    if *kind == b"snapshot".as_slice() {
+        Some(SourceCommand::Child {
+            name,
+            parent,
+            offset,
+            size,
+        })
+    } else {
+        None
+    }
+}
+
+/// `vmo_write VMO OFFSET DATA`
+fn write(arguments: &[&[u8]]) -> Option<SourceCommand>
+    ensures { result ≡ source_write (map (λ a. a.now) arguments.now) }
+{
+    let [name, offset, bytes] = arguments else {
+        return None;
+    };
+    let name = vmo(name)?;
+    let offset = number(offset)?;
+    let bytes = byte_data(bytes)?;
+    Some(SourceCommand::Write {
+        name,
+        offset,
+        bytes,
+    })
+}
+
+/// `stat`
+fn stat(arguments: &[&[u8]]) -> Option<SourceCommand>
+    ensures { result ≡ source_stat (map (λ a. a.now) arguments.now) }
+{
+    match arguments {
+        [] => Some(SourceCommand::Stat),
+        _ => None,
+    }
+}

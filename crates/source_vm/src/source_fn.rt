@@ -1,0 +1,39 @@
+//! A function that is known to give the bytes of a source.
+
+ghost use Rattle.std.specs.Prelude.{◌≡◌, ℕ, ◌^◌, ◌<◌, ◌≤◌};
+ghost use Rattle.source_vm.specs.declared.limits.TheConstants.{SOURCE_BYTES};
+ghost use Rattle.source_vm.specs.Sources.{source_byte};
+
+/// A function for the bytes of sources of one kind, beside the fact that it gives them: what the machine is handed where the kernel
+/// would ask a pager. It is called with a seed and an offset in bytes.
+#[derive(Drop)]
+pub struct SourceFn {
+    kind: u8,
+    f: fn(u64, u64) -> u8,
+    ghost known: { kind ≤ 2 },
+    ghost callable: { (seed offset : ℕ) → seed < 2 ^ 64 → offset < SOURCE_BYTES → pre f seed offset },
+    ghost answers: { (seed offset byte : ℕ) → seed < 2 ^ 64 → offset < SOURCE_BYTES → post f seed offset byte
+        → byte ≡ source_byte kind seed offset },
+}
+
+impl SourceFn {
+    /// Keeps a function that may be called for each seed and each offset below `SOURCE_BYTES`, and answers what `src_byte` does of this
+    /// kind, at most 2.
+    pub fn new(kind: u8, f: fn(u64, u64) -> u8) -> SourceFn
+        requires known { kind ≤ 2 }
+        requires callable { (seed offset : ℕ) → seed < 2 ^ 64 → offset < SOURCE_BYTES → pre f seed offset }
+        requires answers { (seed offset byte : ℕ) → seed < 2 ^ 64 → offset < SOURCE_BYTES → post f seed offset byte
+            → byte ≡ source_byte kind seed offset }
+        ensures { result.kind ≡ kind }
+    {
+        SourceFn { kind, f }
+    }
+
+    /// The byte of a source of its kind.
+    pub(crate) fn byte(&self, seed: u64, offset: u64) -> u8
+        requires { offset < SOURCE_BYTES }
+        ensures { result ≡ source_byte self.now.kind seed offset }
+    {
+        (self.f)(seed, offset)
+    }
+}
