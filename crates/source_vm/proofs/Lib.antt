@@ -1,1 +1,5 @@
 mod Many
+mod FillingLaws
+mod SupplyLaws
+mod WriteLaws
+mod EvictLaws

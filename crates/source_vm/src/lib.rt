@@ -9,6 +9,8 @@
 mod backing;
 mod command;
 mod limits;
+mod pages;
+mod ranges;
 mod reading;
 mod source_byte;
 mod source_fn;

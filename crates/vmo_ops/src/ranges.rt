@@ -44,7 +44,7 @@ fn is_in_range<P: PageStore>(store: &P, t: &Target, offset: u64, len: u64) -> bo
 /// The first page that holds a byte of the range, and the page behind the last one. If the range has no byte, the two
 /// are the same.
 #[tactic(auto, using(crate::proofs::NeedLaws::touched_laws))]
-pub(crate) fn touched_pages(offset: u64, len: u64) -> (PageNo, PageNo)
+pub fn touched_pages(offset: u64, len: u64) -> (PageNo, PageNo)
     requires { offset + len ≤ VMO_PAGES * PAGE }
     ensures first { result.0 ≡ offset / PAGE }
     ensures order { result.0 ≤ result.1 }
@@ -64,7 +64,7 @@ pub(crate) fn touched_pages(offset: u64, len: u64) -> (PageNo, PageNo)
 /// The part of a range of a VMO that falls into one page: `len` bytes, `at` bytes into the page and
 /// `from` bytes into the range.
 #[derive(Clone, Copy)]
-pub(crate) struct PagePart {
+pub struct PagePart {
     pub at: u64,
     pub from: u64,
     pub len: u64,
@@ -72,7 +72,7 @@ pub(crate) struct PagePart {
 
 /// The part of a range that falls into a page that it touches.
 #[tactic(auto, unfolding(vm_model::specs::Contents::Writing::part_at))]
-pub(crate) fn part_in_page(offset: u64, len: u64, page: PageNo) -> PagePart
+pub fn part_in_page(offset: u64, len: u64, page: PageNo) -> PagePart
     requires range { offset + len ≤ VMO_PAGES * PAGE }
     requires first { offset / PAGE ≤ page }
     requires last { page * PAGE < offset + len }

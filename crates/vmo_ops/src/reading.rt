@@ -59,9 +59,9 @@ pub fn read_into<'a, P: PageStore>(
     Ok(LentBytes::new(out))
 }
 
-// Reads the bytes of a range inside the VMO. Most ranges lie in one page.
+/// Reads the bytes of a range inside a VMO, `offset` bytes into it. Most ranges lie in one page.
 #[tactic(auto, using(page_store::proofs::NameLaws::pages_of_le))]
-fn read_range<P: PageStore>(store: &P, v: Koid, offset: u64, out: &mut [u8])
+pub fn read_range<P: PageStore>(store: &P, v: Koid, offset: u64, out: &mut [u8])
     requires good { IsGood (P.content store.now) }
     requires inside { offset + length out.old ≤ pages_of (P.content store.now) v.0 * PAGE }
     ensures { out.new ≡ bytes_in (P.content store.now) v.0 offset (length out.old) }

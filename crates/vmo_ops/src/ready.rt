@@ -72,7 +72,7 @@ pub(crate) fn ready_to_own<P: PageStore>(
 /// `HostMemory` only if one of these pages is not sole. If the range is short and frames are free for all of it, no
 /// page is looked at.
 #[inline(always)]
-pub(crate) fn reserve_to_own<P: PageStore>(
+pub fn reserve_to_own<P: PageStore>(
     store: &mut P,
     v: Koid,
     offset: u64,
