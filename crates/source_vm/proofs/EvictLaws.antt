@@ -1,7 +1,6 @@
 -- Laws of pages that are evicted.
-use Rattle.std.proofs.Common.{◌≡◌, ◌≢◌, ℕ, zero, suc, ◌+◌, ◌-◌, ◌<◌, ◌≤◌, ◌⊎◌, inl, inr, ◌&&◌, ◌==◌, Bool, true, false, cond, List, Option, None, Some, refl, sym, ap, subst, ◌∙◌, arith}
-use Rattle.std.specs.Prelude.{is_some}
-use Rattle.std.proofs.lemmas.Bool.{cases_Bool, cases_eq, cases_lt}
+use Rattle.std.proofs.Common.{◌≡◌, ◌≢◌, ℕ, ◌+◌, ◌<◌, ◌≤◌, ◌⊎◌, inl, inr, ◌&&◌, ◌==◌, Bool, true, false, cond, Option, None, Some, refl, sym, ap, ◌∙◌, arith}
+use Rattle.std.proofs.lemmas.Bool.{cases_eq, cases_lt}
 use Rattle.vm_base.proofs.SearchLaws.{eqb_same, eqb_apart, none_from}
 use Rattle.vm_base.specs.Search.{any_from}
 use Rattle.vm_model.specs.Contents.Content.{Content, Page, IsGood, pages_of}
@@ -64,9 +63,9 @@ module _ (b : Backing) (c : Content) (v first end : ℕ) where
 -- no page of the range is clean
 pub cleared-none : (b : Backing) (c : Content) (v first end : ℕ) → ((q : ℕ) → first ≤ q → q < end → is_clean_at b c v q ≡ false) → c ≡ cleared b c v first end
 cleared-none b c v first end none = by_page b c v first end c refl refl refl (λ q. elim (cases_lt q first) [
-  inl before ↦ sym (page-cleared_out b c v first end q (inl before))
+  | inl before ↦ sym (page-cleared_out b c v first end q (inl before))
   | inr low ↦ elim (cases_lt q end) [
-    inl less ↦ sym (page-cleared_in b c v first end q low less ∙ ap (λ (t : Bool). cond t None (c.page v q)) (none q low less))
+    | inl less ↦ sym (page-cleared_in b c v first end q low less ∙ ap (λ (t : Bool). cond t None (c.page v q)) (none q low less))
     | inr past ↦ sym (page-cleared_out b c v first end q (inr past))
   ]
 ]) (λ w q apart. refl)
@@ -75,9 +74,9 @@ cleared-none b c v first end none = by_page b c v first end c refl refl refl (λ
 pub cleared-one : (b : Backing) (c : Content) (v p : ℕ) → is_clean_at b c v p ≡ true → zeroed c v p (p + 1) ≡ cleared b c v p (p + 1)
 unfolding zeroed
 cleared-one b c v p clean = by_page b c v p (p + 1) (zeroed c v p (p + 1)) refl refl refl (λ q. elim (cases_lt q p) [
-  inl before ↦ page-zeroed_out c v p (p + 1) v q (λ e. inl before) ∙ sym (page-cleared_out b c v p (p + 1) q (inl before))
+  | inl before ↦ page-zeroed_out c v p (p + 1) v q (λ e. inl before) ∙ sym (page-cleared_out b c v p (p + 1) q (inl before))
   | inr low ↦ elim (cases_lt q (p + 1)) [
-    inl less ↦ let here : q ≡ p = omega (arith, low, less) in
+    | inl less ↦ let here : q ≡ p = omega (arith, low, less) in
         page-zeroed_in c v p (p + 1) v q refl low less ∙ sym (page-cleared_in b c v p (p + 1) q low less
         ∙ ap (λ (t : Bool). cond t None (c.page v q)) (ap (is_clean_at b c v) here ∙ clean))
     | inr past ↦ page-zeroed_out c v p (p + 1) v q (λ e. inr past) ∙ sym (page-cleared_out b c v p (p + 1) q (inr past))
@@ -102,16 +101,16 @@ module _ (b : Backing) (old now : Content) (v first from page : ℕ) (is : now �
 
   same_at : (q : ℕ) → (cleared b now v page (page + 1)).page v q ≡ (cleared b old v first (page + 1)).page v q
   same_at q = elim (cases_lt q first) [
-    inl before ↦ page-cleared_out b now v page (page + 1) q (inl (omega (arith, before, order, low))) ∙ (now_out q (inl before) ∙ sym (page-cleared_out b old v first (page + 1) q (inl before)))
+    | inl before ↦ page-cleared_out b now v page (page + 1) q (inl (omega (arith, before, order, low))) ∙ (now_out q (inl before) ∙ sym (page-cleared_out b old v first (page + 1) q (inl before)))
     | inr above ↦ elim (cases_lt q from) [
-      inl done ↦ page-cleared_out b now v page (page + 1) q (inl (omega (arith, done, low))) ∙ (now_in q above done ∙ sym (page-cleared_in b old v first (page + 1) q above (omega (arith, done, low))))
+      | inl done ↦ page-cleared_out b now v page (page + 1) q (inl (omega (arith, done, low))) ∙ (now_in q above done ∙ sym (page-cleared_in b old v first (page + 1) q above (omega (arith, done, low))))
       | inr later ↦ elim (cases_lt q page) [
-        inl between ↦
+        | inl between ↦
             let none : old.page v q ≡ None = sym (now_out q (inr later)) ∙ gap q later between in
             page-cleared_out b now v page (page + 1) q (inl between) ∙ (gap q later between
             ∙ sym (page-cleared_in b old v first (page + 1) q above (omega (arith, between)) ∙ nothing_left q (is_clean_at b old v q) none))
         | inr at ↦ elim (cases_lt q (page + 1)) [
-          inl less ↦ page-cleared_in b now v page (page + 1) q at less ∙ (ap (λ (o : Option Page). cond (is_clean_page b o q) None o) (now_out q (inr later))
+          | inl less ↦ page-cleared_in b now v page (page + 1) q at less ∙ (ap (λ (o : Option Page). cond (is_clean_page b o q) None o) (now_out q (inr later))
               ∙ sym (page-cleared_in b old v first (page + 1) q above less))
           | inr past ↦ page-cleared_out b now v page (page + 1) q (inr past) ∙ (now_out q (inr later) ∙ sym (page-cleared_out b old v first (page + 1) q (inr past)))
         ]
@@ -132,11 +131,11 @@ unfolding cleared
 cleared-end b old now v first from end is order gap h = by_page b old v first end now
     (ap (λ (c : Content). c.frames) is) (ap (λ (c : Content). c.next) is) (ap (λ (c : Content). c.count) is)
     (λ q. elim (cases_lt q first) [
-      inl before ↦ ap (λ (c : Content). c.page v q) is ∙ (page-cleared_out b old v first from q (inl before) ∙ sym (page-cleared_out b old v first end q (inl before)))
+      | inl before ↦ ap (λ (c : Content). c.page v q) is ∙ (page-cleared_out b old v first from q (inl before) ∙ sym (page-cleared_out b old v first end q (inl before)))
       | inr above ↦ elim (cases_lt q from) [
-        inl done ↦ ap (λ (c : Content). c.page v q) is ∙ (page-cleared_in b old v first from q above done ∙ sym (page-cleared_in b old v first end q above (omega (arith, done, h))))
+        | inl done ↦ ap (λ (c : Content). c.page v q) is ∙ (page-cleared_in b old v first from q above done ∙ sym (page-cleared_in b old v first end q above (omega (arith, done, h))))
         | inr later ↦ elim (cases_lt q end) [
-          inl left ↦
+          | inl left ↦
               let out = ap (λ (c : Content). c.page v q) is ∙ page-cleared_out b old v first from q (inr later) in
               let none : old.page v q ≡ None = sym out ∙ gap q later left in
               gap q later left ∙ sym (page-cleared_in b old v first end q above left ∙ either (is_clean_at b old v q) (old.page v q) none)
@@ -163,9 +162,9 @@ pub none_clean-more : (b : Backing) (c : Content) (v first from page : ℕ) → 
     → ((p : ℕ) → from ≤ p → p < page → c.page v p ≡ None) → is_clean_at b c v page ≡ false
     → (p : ℕ) → first ≤ p → p < page + 1 → is_clean_at b c v p ≡ false
 none_clean-more b c v first from page before gap here p low less = elim (cases_lt p from) [
-  inl done ↦ before p low done
+  | inl done ↦ before p low done
   | inr later ↦ elim (cases_lt p page) [
-    inl between ↦ clean-unheld b c v p (gap p later between)
+    | inl between ↦ clean-unheld b c v p (gap p later between)
     | inr at ↦ let same : p ≡ page = omega (arith, at, less) in ap (is_clean_at b c v) same ∙ here
   ]
 ]
@@ -173,7 +172,7 @@ none_clean-more b c v first from page before gap here p low less = elim (cases_l
 pub none_clean-end : (b : Backing) (c : Content) (v first from end : ℕ) → ((p : ℕ) → first ≤ p → p < from → is_clean_at b c v p ≡ false)
     → ((p : ℕ) → from ≤ p → p < end → c.page v p ≡ None) → any_from first end (is_clean_at b c v) ≡ false
 none_clean-end b c v first from end before gap = none_from (is_clean_at b c v) first end (λ p low less. elim (cases_lt p from) [
-  inl done ↦ before p low done
+  | inl done ↦ before p low done
   | inr later ↦ clean-unheld b c v p (gap p later less)
 ])
 

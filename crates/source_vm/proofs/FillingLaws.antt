@@ -7,17 +7,17 @@ use Rattle.std.proofs.lemmas.Bool.{false_from_ne_true, lt-ltb, ltb-true}
 use Rattle.vm_base.specs.declared.limits.TheConstants.{PAGE}
 use Rattle.vm_base.specs.Pages.{zeros, replaced}
 use Rattle.vm_base.proofs.PageLaws.{length-zeros, length-replaced}
-use Rattle.vm_model.specs.Contents.Content.{Content, Page, IsGood, pages_of, shown, hold, bytes_of}
+use Rattle.vm_model.specs.Contents.Content.{Content, Page, IsGood, pages_of, shown, hold}
 use Rattle.vm_model.specs.Contents.Writing.{Piece, WritesPiece}
 use Rattle.vm_base.proofs.SearchLaws.{eqb_same, eqb_is}
-use Rattle.vm_model.proofs.ContentLaws.{same_page, page-hold_here, bytes_of-some, bytes_of-none}
+use Rattle.vm_model.proofs.ContentLaws.{same_page, page-hold_here, bytes_of-some}
 use Rattle.vm_model.proofs.OwningLaws.{Owned, Owned-from_Owns, length-shown}
 use Rattle.vm_model.proofs.WritingLaws.{Written, Written-from_WritesPiece, Written-other}
 use Rattle.source_vm.specs.declared.backing.Backing.{Backing}
 use Rattle.source_vm.specs.Sources.{source_byte, source_page, backing_text, held_text, text_over}
 use Rattle.std.specs.Prelude.{is_some}
 use Rattle.vm_base.specs.Entries.{passes}
-use Rattle.source_vm.specs.State.{SourceState, state_over, pushed, Fills, is_absent}
+use Rattle.source_vm.specs.State.{state_over, pushed, Fills, is_absent}
 use Rattle.std.specs.List.{range_with_len}
 use Rattle.std.specs.Prelude.{nat_eq}
 use Rattle.std.specs.Cmp.Lexicographic.{pointwise}
@@ -106,7 +106,7 @@ module _ (b : Backing) (old new : Content) (v p at : ℕ) (bytes whole : List �
     text_at : (u q : ℕ) → text_over new backing u q ≡ pushed (text_over old backing) part u q
     unfolding text_over held_text
     text_at u q = elim (same_page v p u q) [
-      inl same ↦ rw (same.0, same.1) (ap (λ (o : Option Page). held_text o (backing_text (backing v) p)) now_held ∙ (here ∙ sym (pushed-here (text_over old backing) part)))
+      | inl same ↦ rw (same.0, same.1) (ap (λ (o : Option Page). held_text o (backing_text (backing v) p)) now_held ∙ (here ∙ sym (pushed-here (text_over old backing) part)))
       | inr apart ↦ ap (λ (o : Option Page). held_text o (backing_text (backing u) q)) (Written-other old new v p written u q apart)
           ∙ sym (pushed-other (text_over old backing) part u q apart)
     ]
@@ -132,7 +132,7 @@ FillsPage-held b old new v p at bytes held good h fits is w =
     let whole : List ℕ = replaced held.bytes at bytes in
     let size : length whole ≡ PAGE = length-replaced held.bytes at bytes (omega (arith, fits, good.whole v p held is)) ∙ good.whole v p held is in
     let both : replaced (shown w.owned v p) at bytes ≡ replaced (shown w.owned v p) 0 whole =
-        ap (λ (xs : List ℕ). replaced xs at bytes) shows ∙ sym (replaced-whole (shown w.owned v p) whole (length-shown w.owned v p owned.good ∙ sym size)) in
+    ap (λ (xs : List ℕ). replaced xs at bytes) shows ∙ sym (replaced-whole (shown w.owned v p) whole (length-shown w.owned v p owned.good ∙ sym size)) in
     FillsPage-from b old new v p at bytes whole good h fits
     (ap (λ (o : Option Page). replaced (held_text o (backing_text (Some b) p)) at bytes) (sym is))
     (record {
@@ -194,6 +194,6 @@ Written-from_fills b old new v p at bytes good h fits fills =
     let part : Piece = record { koid = v; page = p; at = at; bytes = bytes } in
     let before = length-held_text old v p (Some b) good in
     let size : length (pushed text part v p) ≡ PAGE = ap (λ (xs : List ℕ). length xs) (pushed-here text part)
-        ∙ (length-replaced (text v p) at bytes (omega (arith, fits, before)) ∙ before) in
+    ∙ (length-replaced (text v p) at bytes (omega (arith, fits, before)) ∙ before) in
     Written-from_WritesPiece old (record { koid = v; page = p; at = 0; bytes = pushed text part v p }) new good h (omega (arith, size))
     (fills.each (λ n. None) (λ w. Some b) refl).content

@@ -3,3 +3,7 @@ mod FillingLaws
 mod SupplyLaws
 mod WriteLaws
 mod EvictLaws
+mod TextLaws
+mod StepLaws
+mod TableLaws
+mod RowLaws

@@ -1,17 +1,16 @@
 -- Laws of a loop that supplies the absent pages of a row.
-use Rattle.std.proofs.Common.{◌≡◌, ◌≢◌, ℕ, zero, suc, ◌+◌, ◌-◌, ◌<◌, ◌≤◌, ◌⊎◌, ◌&&◌, not, nat_lt, inl, inr, Bool, true, false, cond, List, [], ◌∷◌, length, map, Option, None, Some, refl, sym, ap, subst, ◌∙◌, arith}
+use Rattle.std.proofs.Common.{◌≡◌, ◌≢◌, ℕ, zero, suc, ◌+◌, ◌-◌, ◌<◌, ◌≤◌, ◌⊎◌, ◌&&◌, not, nat_lt, inl, inr, Bool, true, false, cond, List, [], ◌∷◌, length, map, Option, Some, refl, sym, ap, subst, ◌∙◌, arith}
 use Rattle.std.specs.List.{filter, range_with_len}
 use Rattle.std.specs.Prelude.{is_some}
 use Rattle.vm_base.specs.Entries.{passes}
 use Rattle.std.proofs.lemmas.Bool.{cases_Bool, cases_lt}
-use Rattle.vm_base.specs.declared.limits.TheConstants.{PAGE}
 use Rattle.vm_model.specs.Contents.Content.{Content, Page, IsGood, pages_of, used, sole}
 use Rattle.vm_model.specs.Contents.Writing.{Piece}
-use Rattle.vm_model.proofs.ContentLaws.{sole_held, sole-zero}
+use Rattle.vm_model.proofs.ContentLaws.{sole_held}
 use Rattle.vm_model.proofs.OwningLaws.{count_from, count_from-same}
-use Rattle.vm_model.proofs.WritingLaws.{Written, IsKept-same}
+use Rattle.vm_model.proofs.WritingLaws.{IsKept-same}
 use Rattle.vmo_ops.proofs.ModelLaws.{count_from-next}
-use Rattle.vmo_ops.proofs.RowLaws.{Run, Takes, IsUnderWay, IsUnderWay-start, IsUnderWay-step, IsDone}
+use Rattle.vmo_ops.proofs.RowLaws.{Run, Takes, IsUnderWay, IsUnderWay-start, IsUnderWay-step}
 use Rattle.source_vm.specs.declared.backing.Backing.{Backing}
 use Rattle.source_vm.specs.State.{state_over, is_absent, supply_of}
 use Rattle.source_vm.specs.Pages.{FillsPage, FillsPages, IsSupplied}
@@ -117,10 +116,10 @@ module _ (b : Backing) (v : ℕ) (start : Content) where
         let cost = (absent e).1 in
         let written = Written-from_fills b now mid v from 0 [] s.way.good (omega (arith, s.way.inside, h)) (omega arith) fills in
         let others : (q : ℕ) → q ≢ from → is_absent mid (Some b) v q ≡ is_absent now (Some b) v q
-            = λ q apart. absent-same now mid b v q (written.other_page q apart) in
+        = λ q apart. absent-same now mid b v q (written.other_page q apart) in
         let one : ◌≡◌ {A = ℕ} (cond (takes now from) 1 0) 1 = ap (λ (t : Bool). cond t 1 0) e in
         let rest : count_from (takes mid) (from + 1) (end - (from + 1)) ≡ count_from (takes now) (from + 1) (end - (from + 1)) =
-            count_from-same (takes mid) (takes now) (from + 1) (end - (from + 1)) (λ q low less. let apart : q ≢ from = omega arith in others q apart) in
+        count_from-same (takes mid) (takes now) (from + 1) (end - (from + 1)) (λ q low less. let apart : q ≢ from = omega arith in others q apart) in
         let gone : is_absent mid (Some b) v from ≡ false = let held = sole_held mid v from written.alone in absent-held mid (Some b) v from held.0 held.1 in
         let began : is_absent start (Some b) v from ≡ true = sym (s.same from (omega arith)) ∙ e in
         record {

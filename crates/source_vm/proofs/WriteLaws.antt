@@ -1,11 +1,11 @@
 -- Laws of a loop that writes the pages of a range.
-use Rattle.std.proofs.Common.{◌≡◌, ℕ, zero, suc, ◌+◌, ◌-◌, ◌*◌, ◌/◌, ◌<◌, ◌≤◌, ◌⊎◌, inl, inr, Bool, true, false, not, cond, List, [], ◌∷◌, length, map, refl, sym, ap, subst, ◌∙◌, arith}
+use Rattle.std.proofs.Common.{◌≡◌, ℕ, zero, suc, ◌+◌, ◌/◌, ◌<◌, ◌≤◌, inl, inr, Bool, true, false, not, cond, List, map, refl, sym, ap, subst, arith}
 use Rattle.std.specs.List.{list_any, range_with_len}
 use Rattle.vm_base.specs.declared.limits.TheConstants.{PAGE}
 use Rattle.vm_base.specs.declared.refusal.Refusal.{Refusal}
-use Rattle.vm_model.specs.Contents.Content.{Content, IsGood, sole, used}
+use Rattle.vm_model.specs.Contents.Content.{Content, sole}
 use Rattle.vm_model.specs.Contents.Owning.{need}
-use Rattle.vm_model.specs.Contents.Writing.{Piece, piece, pieces, part_at, part_bytes, touched}
+use Rattle.vm_model.specs.Contents.Writing.{piece, part_at, part_bytes, touched}
 use Rattle.vm_model.proofs.OwningLaws.{count_from, unowned, need-row}
 use Rattle.vm_model.proofs.RangeLaws.{part_fits, touched-row, touched-nil}
 use Rattle.vmo_ops.specs.Costs.{LacksRoom}

@@ -10,11 +10,11 @@ use Rattle.source_vm.specs.Good.{IsGoodSources}
 
 -- the koid of each name
 abbrev pub names_of : SourceTable → ℕ → Option ℕ
-names_of t n = option_map (λ (v : Koid). v.0) (values_of t.names 0 n)
+names_of t = λ n. option_map (λ (v : Koid). v.0) (values_of t.names 0 n)
 
 -- the backing of each VMO
 abbrev pub backings_of : SourceTable → ℕ → Option Backing
-backings_of t v = values_of t.backings 0 v
+backings_of t = λ v. values_of t.backings 0 v
 
 -- the state that the tables and the content of their store stand for
 abbrev pub state_of : Content → SourceTable → SourceState

@@ -6,8 +6,10 @@
 //! line, and on `served` for the loop over lines. The definitions of the step are its own (`specs/Commands`).
 #![tactic(auto)]
 
+mod accesses;
 mod backing;
 mod command;
+mod lifetimes;
 mod limits;
 mod pages;
 mod ranges;

@@ -59,6 +59,9 @@ pub(crate) fn supply_pages<P: PageStore>(
     requires order { first ≤ end }
     requires pages { end ≤ pages_of (P.content store.old) v.0 }
     ensures ok { OnOk result (IsSupplied backing.now v.0 (P.content store.old) first end (P.content store.new)) }
+    ensures free { OnOk result (used (P.content store.old)
+        + length (filter (is_absent (P.content store.old) (Some backing.now) v.0) (range_with_len first (end - first)))
+        ≤ (P.content store.old).frames) }
     ensures same { OnErr result (P.content store.new ≡ P.content store.old) }
     ensures err { IfErr result (LacksFrames (P.content store.old)
         (length (filter (is_absent (P.content store.old) (Some backing.now) v.0) (range_with_len first (end - first))))) }
@@ -141,6 +144,8 @@ pub(crate) fn write_pages<P: PageStore>(
     requires vmo { IsSome ((P.content store.old).count v.0) }
     requires inside { offset + length bytes.now ≤ pages_of (P.content store.old) v.0 * PAGE }
     ensures ok { OnOk result (FillsPages backing.now v.0 (P.content store.old) (pieces v.0 offset bytes.now) (P.content store.new)) }
+    ensures free { OnOk result (used (P.content store.old) + need (P.content store.old) v.0 (touched offset (length bytes.now))
+        ≤ (P.content store.old).frames) }
     ensures same { OnErr result (P.content store.new ≡ P.content store.old) }
     ensures err { IfErr result (LacksFrames (P.content store.old) (need (P.content store.old) v.0 (touched offset (length bytes.now)))) }
 {

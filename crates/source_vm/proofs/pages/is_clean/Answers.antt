@@ -13,8 +13,8 @@ returns-in-Held g c =
     let held = held_look _ _ _ _ _ c.in-Held.ensures in
     let backing = c.args.backing.now in
     let bytes = read_whole c.read.new.out held.0.bytes (omega arith)
-        (c.requires.good.whole _ _ held.0 held.1)
-        (c.read.ensures c.args.v.0 c.args.page held.0 (record { page = held.1; tag = held.2 })) in
+    (c.requires.good.whole _ _ held.0 held.1)
+    (c.read.ensures c.args.v.0 c.args.page held.0 (record { page = held.1; tag = held.2 })) in
     c.eq.ensures ∙ (ap (λ (xs : List ℕ). pointwise nat_eq xs c.load_page.new.out) bytes
     ∙ (ap (λ (xs : List ℕ). pointwise nat_eq held.0.bytes xs) c.load_page.ensures
     ∙ sym (clean-held backing _ c.args.page held.0 held.1)))

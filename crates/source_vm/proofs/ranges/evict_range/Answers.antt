@@ -1,4 +1,4 @@
-use Rattle.std.proofs.Common.{◌∙◌, ◌<◌, ◌≤◌, ℕ, sym, ap, subst, arith}
+use Rattle.std.proofs.Common.{◌∙◌, sym, ap, subst, arith}
 use Rattle.std.specs.Prelude.{IsSome}
 use Rattle.vm_model.specs.Contents.Content.{Content, IsGood, pages_of}
 use Rattle.source_vm.proofs.EvictLaws.{cleared-nothing, cleared-step, cleared-end, count-cleared, IsGood-cleared, pages_of-cleared}
@@ -23,7 +23,7 @@ evict_page-requires-clause-good g c =
 pub evict_page-requires-clause-page : goal.evict_page-requires-clause-page
 evict_page-requires-clause-page g c =
     let same = ap (λ (d : Content). pages_of d c.args.v.0) c.loop-page.invariant.cleared
-        ∙ pages_of-cleared c.args.backing.now _ c.args.v.0 c.args.first c.loop-page.from c.args.v.0 in
+    ∙ pages_of-cleared c.args.backing.now _ c.args.v.0 c.args.first c.loop-page.from c.args.v.0 in
     omega (arith, same, c.requires.pages, c.in-Some.ensures.some.1)
 
 pub loop-page-preserved : goal.loop-page-preserved

@@ -1,4 +1,4 @@
-use Rattle.std.proofs.Common.{◌≡◌, ◌+◌, ◌-◌, ◌≤◌}
+use Rattle.std.proofs.Common.{◌≡◌, ◌-◌, ◌≤◌}
 use Rattle.source_vm.specs.Pages.{cleared}
 use Rattle.source_vm.proofs.ranges.evict_range.Given as goal
 

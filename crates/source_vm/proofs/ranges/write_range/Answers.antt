@@ -2,7 +2,7 @@ use Rattle.std.proofs.Common.{length, refl, arith, rules}
 use Rattle.vm_model.specs.Contents.Writing.{pieces}
 use Rattle.vmo_ops.proofs.OwningLaws.{IsOwning-start, IsOwning-room, IsOwning-end}
 use Rattle.vmo_ops.proofs.PartLaws.{part_bytes-slice}
-use Rattle.source_vm.proofs.WriteLaws.{IsOwning-filled, filling}
+use Rattle.source_vm.proofs.WriteLaws.{IsOwning-filled}
 use Rattle.source_vm.proofs.SupplyLaws.{FillsPages-none}
 use Rattle.source_vm.proofs.ranges.write_range.Goals as goal
 

@@ -1,0 +1,86 @@
+-- Laws of steps: what a call found and did is a step of its command.
+use Rattle.std.proofs.Common.{◌≡◌, ℕ, ◌+◌, ◌*◌, ◌<◌, ◌≤◌, ◌-◌, nat_le, ◌%◌, ◌==◌, inl, inr, Bool, true, false, [], ◌∷◌, nat_lt, Option, None, Some, refl, sym, ap, subst, ◌∙◌, arith}
+use Rattle.std.specs.Prelude.{IsTrue, ◌↔◌}
+use Rattle.std.proofs.lemmas.Bool.{lt-ltb, ltb-true, le-leb, leb-true, false_from_ne_true}
+use Rattle.vm_base.specs.declared.limits.TheConstants.{PAGE}
+use Rattle.vm_base.proofs.SearchLaws.{eqb_same}
+use Rattle.vm_base.specs.declared.refusal.Refusal.{Refusal}
+use Rattle.vm_base.specs.declared.refusal.Refusal.TheVariants.{NoMemory, HostMemory}
+use Rattle.vm_model.specs.declared.reply.Reply.{Reply}
+use Rattle.vm_model.specs.declared.reply.Reply.TheVariants.{Refused}
+use Rattle.vm_model.specs.Contents.Content.{Content, used}
+use Rattle.vm_model.specs.Machine.Refusals.{first_of}
+use Rattle.source_vm.specs.declared.command.SourceCommand.{SourceCommand}
+use Rattle.source_vm.specs.declared.backing.Backing.{Backing}
+use Rattle.source_vm.specs.State.{SourceState, state_over, koid_of}
+use Rattle.source_vm.specs.Commands.{SourceStep, StepAfter, Effect, refusals, may_lack_memory, lacks}
+use Rattle.source_vm.specs.Pages.{LacksFrames}
+
+pub koid_of-named : (s : SourceState) (name v : ℕ) → s.names name ≡ Some v → koid_of s name ≡ v
+unfolding koid_of
+koid_of-named s name v e = rw e refl
+
+-- a range that lies in its VMO, and one that does not
+pub in_range : (answer : Bool) (bytes end : ℕ) → IsTrue answer ↔ (end ≤ bytes) → answer ≡ true → nat_lt bytes end ≡ false
+in_range answer bytes end test e = false_from_ne_true (nat_lt bytes end) (λ past. let less = ltb-true bytes end past in omega (arith, less, test.0 e))
+
+pub out_of_range : (answer : Bool) (bytes end : ℕ) → IsTrue answer ↔ (end ≤ bytes) → answer ≡ false → nat_lt bytes end ≡ true
+out_of_range answer bytes end test e = lt-ltb bytes end (past (λ inside. let yes = test.1 inside in cc)) where
+  past : (end ≤ bytes → ⊥) → bytes < end
+  past outside = omega (arith, outside)
+
+module _ (s : SourceState) (command : SourceCommand) where
+  pub refused : (refusal : Refusal) → first_of (refusals s command) ≡ Some refusal → SourceStep s command (Refused refusal) s
+  refused refusal e = record {
+    outcome = subst (λ (o : Option Refusal). StepAfter o s command (Refused refusal) s) (sym e) (record { answer = refl; same = refl });
+  }
+
+  pub lacked : first_of (refusals s command) ≡ None → may_lack_memory s command ≡ true → SourceStep s command (Refused HostMemory) s
+  lacked e lack = record {
+    outcome = subst (λ (o : Option Refusal). StepAfter o s command (Refused HostMemory) s) (sym e) (inr (record { answer = refl; same = refl }, lack));
+  }
+
+  pub done : (reply : Reply) (new : SourceState) → first_of (refusals s command) ≡ None → Effect s command reply new → SourceStep s command reply new
+  done reply new e effect = record {
+    outcome = subst (λ (o : Option Refusal). StepAfter o s command reply new) (sym e) (inl effect);
+  }
+
+  -- the frames that a command takes are the last that may be refused
+  pub short : (n : ℕ) (refusal : Refusal) → first_of (refusals s command) ≡ first_of ((lacks s n, NoMemory) ∷ []) → may_lack_memory s command ≡ nat_lt 0 n
+      → LacksFrames s.content n refusal → SourceStep s command (Refused refusal) s
+  short n refusal rows wants (inl few) =
+      subst (λ (r : Refusal). SourceStep s command (Refused r) s) (sym few.0)
+      (refused NoMemory (rows ∙ ap (λ (t : Bool). first_of ((t, NoMemory) ∷ [])) (lt-ltb s.content.frames (used s.content + n) few.1)))
+  short n refusal rows wants (inr host) =
+      subst (λ (r : Refusal). SourceStep s command (Refused r) s) (sym host.0)
+      (lacked (rows ∙ ap (λ (t : Bool). first_of ((t, NoMemory) ∷ [])) (enough host.1)) (wants ∙ lt-ltb 0 n host.2)) where
+        enough : used s.content + n ≤ s.content.frames → lacks s n ≡ false
+        enough h = false_from_ne_true (lacks s n) (λ past. let less = ltb-true s.content.frames (used s.content + n) past in omega (arith, less, h))
+
+pub not_lacking : (s : SourceState) (n : ℕ) → used s.content + n ≤ s.content.frames → lacks s n ≡ false
+not_lacking s n h = false_from_ne_true (lacks s n) (λ past. let less = ltb-true s.content.frames (used s.content + n) past in omega (arith, less, h))
+
+-- the test of a range, where its length is no more than the VMO has, and where it is more
+pub range_fits : (offset len n p : ℕ) → len ≤ n * PAGE → p ≡ n → IsTrue (nat_le offset (n * PAGE - len)) ↔ (offset + len ≤ p * PAGE)
+range_fits offset len n p h e = (
+  λ t. let low = leb-true offset (n * PAGE - len) t in omega (arith, low, h, e),
+  λ inside. le-leb offset (n * PAGE - len) (omega (arith, inside, e)),
+)
+
+pub range_past : (offset len n p : ℕ) (answer : Bool) → (len ≤ n * PAGE → ⊥) → (IsTrue answer → len ≤ n * PAGE) → p ≡ n → IsTrue answer ↔ (offset + len ≤ p * PAGE)
+range_past offset len n p answer over says e = (
+  λ t. absurd (over (says t)),
+  λ inside. absurd (over (omega (arith, inside, e))),
+)
+
+-- a refusal, where the store contains what it did
+pub kept_content : (c d : Content) (names : ℕ → Option ℕ) (backing : ℕ → Option Backing) (command : SourceCommand) (reply : Reply) → d ≡ c
+    → SourceStep (state_over c names backing) command reply (state_over c names backing) → SourceStep (state_over c names backing) command reply (state_over d names backing)
+kept_content c d names backing command reply same step =
+    subst (λ (x : Content). SourceStep (state_over c names backing) command reply (state_over x names backing)) (sym same) step
+
+pub no_more : (most n : ℕ) → n ≤ most → nat_lt most n ≡ false
+no_more most n h = false_from_ne_true (nat_lt most n) (λ past. let less = ltb-true most n past in omega (arith, less, h))
+
+pub aligned_from : (offset rest : ℕ) → rest ≡ offset % PAGE → rest ≡ 0 → (offset % PAGE == 0) ≡ true
+aligned_from offset rest e zero_rest = ap (λ (n : ℕ). n == 0) (sym e ∙ zero_rest) ∙ eqb_same 0

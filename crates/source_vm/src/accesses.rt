@@ -1,0 +1,177 @@
+//! Accesses to the pages of VMOs: reading, writing, supplying and evicting.
+
+ghost use Rattle.std.specs.Prelude.{◌≡◌, ◌↔◌, ℕ, ◌+◌, ◌*◌, ◌<◌, ◌≤◌, ◌&&◌, [], ◌∷◌, map, length, IsTrue, IsSome};
+ghost use Rattle.vm_model.specs.Contents.Content.{pages_of, IsGood};
+ghost use Rattle.vm_model.specs.Contents.Writing.{bytes_in};
+ghost use Rattle.vm_model.specs.Machine.Lent.{reply_for};
+ghost use Rattle.source_vm.specs.declared.command.SourceCommand.{SourceCommand};
+ghost use Rattle.source_vm.specs.Commands.{SourceStep, is_aligned};
+ghost use Rattle.source_vm.specs.Table.{Agrees, state_of};
+
+use crate::ranges::{evict_pages, supply_pages, write_pages};
+use crate::source_fn::SourceFn;
+use crate::table::{SourceTable, resolve};
+use page_store::PageStore;
+use vm_base::{DATA_BYTES, Koid, PAGE, Refusal, VmoName, in_page, page_of};
+use vm_model::{Answer, LentBytes};
+use vmo_ops::{read_range, touched_pages};
+
+/// Whether a range lies inside a VMO. An offset and a length whose sum passes 2^64 do not.
+fn is_in_range<P: PageStore>(store: &P, v: Koid, offset: u64, len: u64) -> bool
+    requires good { IsGood (P.content store.now) }
+    requires vmo { IsSome ((P.content store.now).count v.0) }
+    ensures { IsTrue result ↔ (offset + len ≤ pages_of (P.content store.now) v.0 * PAGE) }
+{
+    let bytes = store.count(v) * PAGE;
+    len <= bytes && offset <= bytes - len
+}
+
+/// Whether an offset and a length are whole pages.
+fn are_aligned(offset: u64, len: u64) -> bool
+    ensures { result ≡ (is_aligned offset && is_aligned len) }
+{
+    in_page(offset) == 0 && in_page(len) == 0
+}
+
+/// Reads `len` bytes, at most `DATA_BYTES`, into `room`, and lends them. The absent pages that are touched are supplied.
+pub(crate) fn read<'a, P: PageStore>(
+    store: &mut P,
+    table: &SourceTable,
+    functions: &[SourceFn; 3],
+    name: VmoName,
+    offset: u64,
+    len: u64,
+    room: &'a mut [u8],
+) -> Answer<'a>
+    requires kinds { map (λ f. f.kind) functions.now ≡ 0 ∷ 1 ∷ 2 ∷ [] }
+    requires agrees { Agrees (P.content store.old) table.now }
+    requires room { DATA_BYTES ≤ length room.old }
+    ensures { SourceStep (state_of (P.content store.old) table.now) (SourceCommand.Read name offset len)
+        (reply_for result) (state_of (P.content store.new) table.now) }
+{
+    let Some((v, backing)) = resolve(table, name) else {
+        return Answer::Refused(Refusal::BadHandle);
+    };
+    if len > DATA_BYTES as u64 {
+        return Answer::Refused(Refusal::InvalidArgs);
+    }
+    if !is_in_range(store, v, offset, len) {
+        return Answer::Refused(Refusal::OutOfRange);
+    }
+    let (first, end) = touched_pages(offset, len);
+    match supply_pages(store, functions, &backing, v, first, end) {
+        Ok(()) => Answer::Bytes(read_into(store, v, offset, len, room)),
+        Err(refusal) => Answer::Refused(refusal),
+    }
+}
+
+/// Reads the bytes that the pages of a range inside a VMO have in the store, and lends them.
+fn read_into<'a, P: PageStore>(
+    store: &P,
+    v: Koid,
+    offset: u64,
+    len: u64,
+    room: &'a mut [u8],
+) -> LentBytes<'a>
+    requires good { IsGood (P.content store.now) }
+    requires few { len ≤ DATA_BYTES }
+    requires room { DATA_BYTES ≤ length room.old }
+    requires inside { offset + len ≤ pages_of (P.content store.now) v.0 * PAGE }
+    ensures { result ≡ bytes_in (P.content store.now) v.0 offset len }
+{
+    let out = &mut room[..len as usize];
+    read_range(store, v, offset, out);
+    LentBytes::new(out)
+}
+
+/// Writes bytes. Each page that they touch is filled, if it is absent.
+pub(crate) fn write<'a, P: PageStore>(
+    store: &mut P,
+    table: &SourceTable,
+    functions: &[SourceFn; 3],
+    name: VmoName,
+    offset: u64,
+    bytes: &[u8],
+) -> Answer<'a>
+    requires kinds { map (λ f. f.kind) functions.now ≡ 0 ∷ 1 ∷ 2 ∷ [] }
+    requires agrees { Agrees (P.content store.old) table.now }
+    ensures { SourceStep (state_of (P.content store.old) table.now) (SourceCommand.Write name offset bytes.now)
+        (reply_for result) (state_of (P.content store.new) table.now) }
+{
+    let Some((v, backing)) = resolve(table, name) else {
+        return Answer::Refused(Refusal::BadHandle);
+    };
+    if !is_in_range(store, v, offset, bytes.len() as u64) {
+        return Answer::Refused(Refusal::OutOfRange);
+    }
+    match write_pages(store, functions, &backing, v, offset, bytes) {
+        Ok(()) => Answer::Done,
+        Err(refusal) => Answer::Refused(refusal),
+    }
+}
+
+/// Supplies the absent pages of a range of whole pages.
+pub(crate) fn supply<'a, P: PageStore>(
+    store: &mut P,
+    table: &SourceTable,
+    functions: &[SourceFn; 3],
+    name: VmoName,
+    offset: u64,
+    len: u64,
+) -> Answer<'a>
+    requires kinds { map (λ f. f.kind) functions.now ≡ 0 ∷ 1 ∷ 2 ∷ [] }
+    requires agrees { Agrees (P.content store.old) table.now }
+    ensures { SourceStep (state_of (P.content store.old) table.now) (SourceCommand.Supply name offset len)
+        (reply_for result) (state_of (P.content store.new) table.now) }
+{
+    let Some((v, backing)) = resolve(table, name) else {
+        return Answer::Refused(Refusal::BadHandle);
+    };
+    if !are_aligned(offset, len) {
+        return Answer::Refused(Refusal::InvalidArgs);
+    }
+    if !is_in_range(store, v, offset, len) {
+        return Answer::Refused(Refusal::OutOfRange);
+    }
+    let (first, end) = touched_pages(offset, len);
+    match supply_pages(store, functions, &backing, v, first, end) {
+        Ok(()) => Answer::Done,
+        Err(refusal) => Answer::Refused(refusal),
+    }
+}
+
+/// Drops the clean pages of a range of whole pages.
+pub(crate) fn evict<'a, P: PageStore>(
+    store: &mut P,
+    table: &SourceTable,
+    functions: &[SourceFn; 3],
+    name: VmoName,
+    offset: u64,
+    len: u64,
+) -> Answer<'a>
+    requires kinds { map (λ f. f.kind) functions.now ≡ 0 ∷ 1 ∷ 2 ∷ [] }
+    requires agrees { Agrees (P.content store.old) table.now }
+    ensures { SourceStep (state_of (P.content store.old) table.now) (SourceCommand.Evict name offset len)
+        (reply_for result) (state_of (P.content store.new) table.now) }
+{
+    let Some((v, backing)) = resolve(table, name) else {
+        return Answer::Refused(Refusal::BadHandle);
+    };
+    if !are_aligned(offset, len) {
+        return Answer::Refused(Refusal::InvalidArgs);
+    }
+    if !is_in_range(store, v, offset, len) {
+        return Answer::Refused(Refusal::OutOfRange);
+    }
+    match evict_pages(
+        store,
+        functions,
+        &backing,
+        v,
+        page_of(offset),
+        page_of(offset + len),
+    ) {
+        Ok(()) => Answer::Done,
+        Err(_) => Answer::Refused(Refusal::HostMemory),
+    }
+}

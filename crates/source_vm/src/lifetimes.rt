@@ -1,0 +1,156 @@
+//! VMOs that come and go.
+
+ghost use Rattle.std.specs.Prelude.{◌≡◌, ◌+◌, ◌/◌, ◌^◌, ◌<◌, ◌≤◌, ◌==◌, if◌then◌else◌, IfSome, IfNone};
+ghost use Rattle.vm_base.specs.Pages.{rounded};
+ghost use Rattle.vm_base.specs.declared.limits.TheConstants.{PAGE};
+ghost use Rattle.vm_model.specs.Machine.Lent.{reply_for};
+ghost use Rattle.source_vm.specs.declared.command.SourceCommand.{SourceCommand};
+ghost use Rattle.source_vm.specs.Commands.{SourceStep};
+ghost use Rattle.source_vm.specs.State.{moved, seen_of};
+ghost use Rattle.source_vm.specs.Table.{Agrees, state_of};
+
+use crate::backing::Backing;
+use crate::limits::SOURCE_BYTES;
+use crate::table::{SourceTable, enter, find, leave, reserve, resolve};
+use page_store::PageStore;
+use vm_base::{KOIDS, PageNo, Refusal, VmoName, in_page, page_of, round_up};
+use vm_model::Answer;
+
+/// Makes a VMO whose pages come from a source, and lets a name stand for it.
+pub(crate) fn create<'a, P: PageStore>(
+    store: &mut P,
+    table: &mut SourceTable,
+    name: VmoName,
+    size: u64,
+    kind: u64,
+    seed: u64,
+) -> Answer<'a>
+    requires agrees { Agrees (P.content store.old) table.old }
+    requires next { (P.content store.old).next < KOIDS }
+    ensures { SourceStep (state_of (P.content store.old) table.old) (SourceCommand.Create name size kind seed)
+        (reply_for result) (state_of (P.content store.new) table.new) }
+{
+    if find(table, name).is_some() {
+        return Answer::Refused(Refusal::NameInUse);
+    }
+    if kind > 2 {
+        return Answer::Refused(Refusal::InvalidArgs);
+    }
+    let Some(bytes) = round_up(size, SOURCE_BYTES) else {
+        return Answer::Refused(Refusal::OutOfRange);
+    };
+    let Ok(()) = reserve(table) else {
+        return Answer::Refused(Refusal::HostMemory);
+    };
+    let pages = page_of(bytes);
+    let Ok(v) = store.create(pages) else {
+        return Answer::Refused(Refusal::HostMemory);
+    };
+    let backing = Backing {
+        kind: kind as u8,
+        seed,
+        base: 0,
+        seen: pages,
+    };
+    enter(table, name, v, backing);
+    Answer::Done
+}
+
+/// Makes a snapshot of a VMO, and lets a name stand for it.
+pub(crate) fn child<'a, P: PageStore>(
+    store: &mut P,
+    table: &mut SourceTable,
+    name: VmoName,
+    parent: VmoName,
+    offset: u64,
+    size: u64,
+) -> Answer<'a>
+    requires agrees { Agrees (P.content store.old) table.old }
+    requires next { (P.content store.old).next < KOIDS }
+    ensures { SourceStep (state_of (P.content store.old) table.old) (SourceCommand.Child name parent offset size)
+        (reply_for result) (state_of (P.content store.new) table.new) }
+{
+    let Some((of, backing)) = resolve(table, parent) else {
+        return Answer::Refused(Refusal::BadHandle);
+    };
+    if find(table, name).is_some() {
+        return Answer::Refused(Refusal::NameInUse);
+    }
+    if in_page(offset) != 0 {
+        return Answer::Refused(Refusal::InvalidArgs);
+    }
+    let Some(pages) = pages_behind(offset, size) else {
+        return Answer::Refused(Refusal::OutOfRange);
+    };
+    let Ok(()) = reserve(table) else {
+        return Answer::Refused(Refusal::HostMemory);
+    };
+    let start = page_of(offset);
+    let seen = seen_pages(store.count(of), start, pages);
+    let Ok(v) = store.snapshot(of, first_of(start, seen), seen, pages) else {
+        return Answer::Refused(Refusal::HostMemory);
+    };
+    enter(table, name, v, moved(&backing, start, pages));
+    Answer::Done
+}
+
+/// Closes a name, whose VMO leaves.
+pub(crate) fn close<'a, P: PageStore>(
+    store: &mut P,
+    table: &mut SourceTable,
+    name: VmoName,
+) -> Answer<'a>
+    requires agrees { Agrees (P.content store.old) table.old }
+    ensures { SourceStep (state_of (P.content store.old) table.old) (SourceCommand.Close name)
+        (reply_for result) (state_of (P.content store.new) table.new) }
+{
+    let Some((v, _)) = resolve(table, name) else {
+        return Answer::Refused(Refusal::BadHandle);
+    };
+    store.drop_vmo(v);
+    leave(table, name, v);
+    Answer::Done
+}
+
+/// How many pages `size` bytes take, where they end within `SOURCE_BYTES` behind `offset`.
+fn pages_behind(offset: u64, size: u64) -> Option<PageNo>
+    ensures some { IfSome result (λ pages. (pages ≡ rounded size / PAGE) × (offset + rounded size ≤ SOURCE_BYTES)) }
+    ensures none { IfNone result (SOURCE_BYTES < offset + rounded size) }
+{
+    let bytes = round_up(size, SOURCE_BYTES)?;
+    if offset <= SOURCE_BYTES - bytes {
+        Some(page_of(bytes))
+    } else {
+        None
+    }
+}
+
+/// How many of `have` pages a child of `pages` pages sees from page `start` on.
+fn seen_pages(have: u64, start: PageNo, pages: u64) -> u64
+    ensures { result ≡ seen_of have start pages }
+{
+    pages.min(have.saturating_sub(start))
+}
+
+/// The first page that a child shows of its parent: 0 where it shows none.
+fn first_of(start: PageNo, seen: u64) -> PageNo
+    ensures { result ≡ (if seen == 0 then 0 else start) }
+{
+    if seen == 0 { 0 } else { start }
+}
+
+/// The backing of a child: that of its parent, from page `start` on.
+#[tactic(auto, unfolding(crate::specs::State::moved))]
+fn moved(backing: &Backing, start: PageNo, pages: u64) -> Backing
+    requires { backing.now.base + start < 2 ^ 64 }
+    ensures { result ≡ moved start pages backing.now }
+{
+    let seen = seen_pages(backing.seen, start, pages);
+    let base = if seen == 0 { 0 } else { backing.base + start };
+    Backing {
+        kind: backing.kind,
+        seed: backing.seed,
+        base,
+        seen,
+    }
+}
