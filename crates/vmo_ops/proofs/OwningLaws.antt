@@ -11,7 +11,7 @@ use Rattle.vm_model.proofs.WritingLaws.{Written}
 use Rattle.vmo_ops.proofs.ModelLaws.{count_from-next}
 use Rattle.vm_base.specs.declared.limits.TheConstants.{PAGE}
 use Rattle.vm_model.specs.Contents.Writing.{touched}
-use Rattle.vmo_ops.specs.inside.Costs.{HasRows}
+use Rattle.vmo_ops.specs.Costs.{HasRows}
 use Rattle.vmo_ops.proofs.RowLaws.{Run, Takes, IsUnderWay, IsUnderWay-start, IsUnderWay-step}
 
 -- owning a page takes a frame where it is not sole

@@ -19,7 +19,7 @@ use Rattle.vm_model.proofs.WritingLaws.{IsKept-same}
 use Rattle.vm_model.proofs.PinLaws.{any_pinned_at, none_pinned}
 use Rattle.vm_model.proofs.ZeroesLaws.{ZeroedPage, ZeroedPage-from_ZeroesPage}
 use Rattle.vmo_ops.proofs.ModelLaws.{ZeroesPage-none, Zeroes-none, need-zero}
-use Rattle.vmo_ops.specs.inside.Costs.{held_touched}
+use Rattle.vmo_ops.specs.Costs.{held_touched}
 use Rattle.vmo_ops.proofs.CountLaws.{IsNextHeld, held_below, count_from-held}
 use Rattle.vm_model.specs.Contents.Writing.{part_at}
 use Rattle.vmo_ops.proofs.PartLaws.{part_bytes-replicate}

@@ -11,7 +11,7 @@ ghost use Rattle.vm_model.specs.Machine.State.{State};
 ghost use Rattle.vm_model.specs.Machine.Step.{Step, reply_of};
 ghost use Rattle.vmo_table.specs.Table.{names_of, IsNamed};
 ghost use Rattle.pin_table.specs.Table.{pins_of};
-ghost use Rattle.vmo_ops.specs.inside.Costs.{held_touched};
+ghost use Rattle.vmo_ops.specs.Costs.{held_touched};
 ghost use Rattle.vmo_ops.specs.Targets.{AreTogether, with_tables};
 
 use crate::owning::reserve_rows;

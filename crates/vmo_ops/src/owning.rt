@@ -65,23 +65,9 @@ pub(crate) fn is_sole<P: PageStore>(store: &P, v: Koid, page: PageNo) -> bool
     }
 }
 
-<<<<<<< HEAD
 /// Makes room for owning `pages` pages, or for zeroing them. `wanting` of them need a row of the store. `HostMemory` if
 /// the host has too little memory, but never if no page needs a row.
-pub(crate) fn reserve_rows<P: PageStore>(
-=======
-/// Makes room for owning so many pages, or for zeroing them, where some of them want a row of the store.
-/// `HostMemory` where the host has too little memory, and never where none does.
-<<<<<<< HEAD
-pub fn reserve_rows<P: PageStore>(
->>>>>>> c4efc9db (Fill, supply, write and evict the pages of a source VMO)
-    store: &mut P,
-    wanting: u64,
-    pages: u64,
-) -> Result<(), HostMemory>
-=======
 pub fn reserve_rows<P: PageStore>(store: &mut P, wanting: u64, pages: u64) -> Result<(), HostMemory>
->>>>>>> aa3b5965 (Do the commands of page sources, each a step of its definition)
     ensures room { OnOk result ((wanting ≡ 0) ⊎ (pages ≤ P.spare store.new)) }
     ensures same { P.content store.new ≡ P.content store.old }
     ensures err { OnErr result (0 < wanting) }

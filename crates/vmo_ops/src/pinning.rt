@@ -15,7 +15,7 @@ ghost use Rattle.vm_model.specs.Machine.Step.{Step, frame_of, frames_of, reply_o
 ghost use Rattle.page_store.specs.Names.{IsInside};
 ghost use Rattle.vmo_table.specs.Table.{keepers_of, lineage_in, names_of, CountsKeepers, IsNamed, IsWellCounted};
 ghost use Rattle.pin_table.specs.Table.{pins_of, room_of};
-ghost use Rattle.vmo_ops.specs.inside.Costs.{HasRows};
+ghost use Rattle.vmo_ops.specs.Costs.{HasRows};
 ghost use Rattle.vmo_ops.specs.inside.Pinning.{pin_in, IsPinnable, IsPinRange, IsUnpinnable};
 ghost use Rattle.vmo_ops.specs.Targets.{with_tables};
 

@@ -6,7 +6,7 @@ ghost use Rattle.vm_model.specs.Contents.Content.{pages_of, used, IsGood};
 ghost use Rattle.vm_model.specs.Contents.Owning.{need};
 ghost use Rattle.vm_model.specs.Contents.Writing.{touched};
 ghost use Rattle.page_store.specs.Names.{IsInside};
-ghost use Rattle.vmo_ops.specs.inside.Costs.{HasRows, LacksRoom};
+ghost use Rattle.vmo_ops.specs.Costs.{HasRows, LacksRoom};
 ghost use Rattle.vmo_ops.specs.Targets.{IsPlaced, IsBarred};
 
 use crate::owning::{need_of, reserve_rows, reserve_unseen};

@@ -12,7 +12,7 @@ ghost use Rattle.vm_model.specs.Machine.Step.{reply_of};
 ghost use Rattle.page_store.specs.Names.{IsInside};
 ghost use Rattle.pin_table.specs.Table.{pins_of};
 ghost use Rattle.vmo_ops.specs.Targets.{DoesWith};
-ghost use Rattle.vmo_ops.specs.inside.Costs.{held_touched, LacksRoomToZero};
+ghost use Rattle.vmo_ops.specs.Costs.{held_touched, LacksRoomToZero};
 
 use crate::filling::fill_part;
 use crate::held_pages::next_held_below;

@@ -9,7 +9,7 @@ use Rattle.vm_model.specs.Contents.Writing.{touched}
 use Rattle.vm_model.specs.declared.names.Target.{Target}
 use Rattle.vm_model.specs.Machine.State.{name_pages}
 use Rattle.vm_model.specs.Naming.Pins.{Pin}
-use Rattle.vmo_ops.specs.inside.Costs.{HasRows}
+use Rattle.vmo_ops.specs.Costs.{HasRows}
 use Rattle.vmo_ops.specs.Targets.{IsPlaced}
 
 -- a range of whole pages, from 1 to PIN_PAGES of them

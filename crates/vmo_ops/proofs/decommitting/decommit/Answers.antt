@@ -2,7 +2,7 @@ use Rattle.std.proofs.Common.{◌<◌, sym, ◌∙◌, inl, inr, rules, arith}
 use Rattle.vm_model.proofs.StepLaws.{Step-lacks}
 use Rattle.vm_model.specs.Machine.State.{target_of, lineage_of}
 use Rattle.vmo_ops.specs.Targets.{with_tables}
-use Rattle.vmo_ops.specs.inside.Costs.{held_touched}
+use Rattle.vmo_ops.specs.Costs.{held_touched}
 use Rattle.vmo_ops.proofs.NameLaws.{named_inside, named_known}
 use Rattle.vmo_ops.proofs.ZeroLaws.{wants_held}
 use Rattle.vmo_ops.proofs.decommitting.decommit.Goals as goal
