@@ -28,7 +28,7 @@ filled_is frames new old filled e = filled ∙ ap (λ (c : Content). record c { 
 abbrev pub fresh : ℕ → Reader
 fresh limit = record { limit = limit; taken = 0; dropped = 0; held = []; line = []; ended = false }
 
-IsPending-fresh : (limit : ℕ) (source : Option (List ℕ)) → IsPending (fresh limit) source []
+pub IsPending-fresh : (limit : ℕ) (source : Option (List ℕ)) → IsPending (fresh limit) source []
 IsPending-fresh limit source = record { front = []; no_feed = λ k d l. absurd (omega (arith, l)); size = refl; parts = refl; at_end = λ e. absurd cc }
 
 -- no line was answered yet

@@ -1,5 +1,5 @@
-mod RunLaws
-mod Served
-mod Answered
-mod Beginning
-mod Writing
+pub mod RunLaws
+pub mod Served
+pub mod Answered
+pub mod Beginning
+pub mod Writing

@@ -78,13 +78,13 @@ still_lines old front pending part line left lines ended none (inr all) first =
 
 -- ---- bytes that were taken behind those of the lines that were answered
 
--- every line was answered
-answers_all : {S : Type 0} (m : Answering S) (frames limit : ℕ) (reader : Reader) (source_old source_now sink_old sink_now : Option (List ℕ)) (now : S) (c : Content) (lines : List (List ℕ)) → m.content now ≡ c →
-    (s : IsServed m frames limit reader source_old source_now sink_old sink_now now) → lines ≡ s.lines → AnswersAll m frames lines sink_old sink_now c
-answers_all m frames limit reader source_old source_now sink_old sink_now now c lines holds s e = record {
+-- the lines so far were answered
+pub answers_all : {S : Type 0} (m : Answering S) (frames limit : ℕ) (reader : Reader) (source_old source_now sink_old sink_now : Option (List ℕ)) (now : S) (c : Content) → m.content now ≡ c →
+    (s : IsServed m frames limit reader source_old source_now sink_old sink_now now) → AnswersAll m frames s.lines sink_old sink_now c
+answers_all m frames limit reader source_old source_now sink_old sink_now now c holds s = record {
   out = s.out;
   last = now;
-  run = subst (λ (ls : List (List ℕ)). Run m (m.start frames) ls s.out now) (sym e) s.run;
+  run = s.run;
   good = s.good;
   written = s.written;
   store = sym holds;
@@ -94,11 +94,12 @@ no_bytes : (xs : List ℕ) → length xs ≡ 0 → xs ≡ []
 no_bytes [] e = refl
 no_bytes (x ∷ xs) e = absurd (omega (arith, e))
 
-module _ {S : Type 0} (m : Answering S) (frames limit : ℕ) (old new : Reader) (source_old source_mid source_new sink_old sink_now : Option (List ℕ)) (now : S) (c : Content) (holds : m.content now ≡ c)
-    (s : IsServed m frames limit old source_old source_mid sink_old sink_now now) (part : List ℕ) (consumes : Consumes source_mid source_new part)
+-- Whatever holds of the lines that were answered holds of those of the script, where it ends there.
+module _ {S : Type 0} (m : Answering S) (frames limit : ℕ) (old new : Reader) (source_old source_mid source_new sink_old sink_now : Option (List ℕ)) (now : S)
+    (s : IsServed m frames limit old source_old source_mid sink_old sink_now now) (All : List (List ℕ) → Type 0) (all : All s.lines) (part : List ℕ) (consumes : Consumes source_mid source_new part)
     (taken : new.taken ≡ old.taken + length part) (same : new.limit ≡ old.limit) where
-  abbrev All : List (List ℕ) → Type 0
-  All lines = AnswersAll m frames lines sink_old sink_now c
+  all_of : (lines : List (List ℕ)) → lines ≡ s.lines → All lines
+  all_of lines e = subst All (sym e) all
 
   abbrev script : List ℕ
   script = (s.front ++ s.pending) ++ part
@@ -121,7 +122,7 @@ module _ {S : Type 0} (m : Answering S) (frames limit : ℕ) (old new : Reader) 
         given = subst (Consumes source_old source_new) (ap (λ (xs : List ℕ). (s.front ++ s.pending) ++ xs) no_part ∙ (append-nil (s.front ++ s.pending) ∙ all)) given;
         ended = at_end;
         short = s.within;
-        answers = answers_all m frames limit old source_old source_mid sink_old sink_now now c (lines_of s.front) holds s (go s.split);
+        answers = all_of (lines_of s.front) (go s.split);
       } where
         go : (AreLines s.front s.lines ⊎ AreAll old s.front s.pending s.lines) → lines_of s.front ≡ s.lines
         go (inl so_far) = lines_of-all s.front s.lines so_far
@@ -134,7 +135,7 @@ module _ {S : Type 0} (m : Answering S) (frames limit : ℕ) (old new : Reader) 
     script = script;
     given = given;
     short = omega (arith, within, size, same, s.bounded);
-    answers = answers_all m frames limit old source_old source_mid sink_old sink_now now c (whole_lines script) holds s
+    answers = all_of (whole_lines script)
         (ap whole_lines (append_assoc s.front s.pending part) ∙ whole_lines-rest s.front (s.pending ++ part) s.lines (go s.split) none);
   } where
     go : (AreLines s.front s.lines ⊎ AreAll old s.front s.pending s.lines) → AreLines s.front s.lines
@@ -148,7 +149,7 @@ module _ {S : Type 0} (m : Answering S) (frames limit : ℕ) (old new : Reader) 
     script = script;
     given = given;
     long = long;
-    answers = answers_all m frames limit old source_old source_mid sink_old sink_now now c (whole_lines (take limit script)) holds s
+    answers = all_of (whole_lines (take limit script))
         (ap whole_lines (ap (take limit) (append_assoc s.front s.pending part) ∙ take_behind limit (length bytes - 1) s.front bytes room) ∙ whole_lines-rest s.front (take (length bytes - 1) bytes) s.lines (go s.split) none);
   } where
     bytes : List ℕ

@@ -24,6 +24,26 @@ concat_parts (y ∷ xs) (suc i) x e =
       (found.1.0, ap (λ (z : List ℕ). y ++ z) found.1.1 ∙ sym (append_assoc y (concat (take i xs)) (x ++ found.1.0))),
     )
 
+-- one piece more was written
+pub piece_written : (pieces : List (List ℕ)) (i : ℕ) (piece : List ℕ) (before mid after : Option (List ℕ)) → slice_get pieces i ≡ Some piece
+    → Appends before mid (concat (take i pieces)) → Appends mid after piece → Appends before after (concat (take (i + 1) pieces))
+piece_written pieces i piece before mid after e first second =
+    subst (Appends before after) (sym (concat_parts pieces i piece e).0) (Appends-trans before mid after (concat (take i pieces)) piece first second)
+
+-- a piece was cut off
+pub piece_cut : (pieces : List (List ℕ)) (i : ℕ) (piece : List ℕ) (before mid after : Option (List ℕ)) → slice_get pieces i ≡ Some piece
+    → Appends before mid (concat (take i pieces)) → IsCutOff mid after piece → IsCutOff before after (concat pieces)
+piece_cut pieces i piece before mid after e first cut =
+    let front = concat (take i pieces) in
+    let parts = (concat_parts pieces i piece e).1 in
+    record {
+      part = front ++ cut.part;
+      rest = cut.rest ++ parts.0;
+      whole = parts.1 ∙ (ap (λ (xs : List ℕ). front ++ (xs ++ parts.0)) cut.whole ∙ (ap (λ (xs : List ℕ). front ++ xs) (append_assoc cut.part cut.rest parts.0) ∙ sym (append_assoc front cut.part (cut.rest ++ parts.0))));
+      left = omega (arith, cut.left, length-append cut.rest parts.0);
+      taken = Appends-trans before mid after front cut.part first cut.taken;
+    }
+
 -- each reply has a line
 pub some_line : (reply : Reply) → 0 < length (reply_lines reply)
 unfolding reply_lines
@@ -41,8 +61,7 @@ some_line (Refused r) = omega arith
 
 -- one line more was written
 pub line_written : (reply : Reply) (i : ℕ) (line : List ℕ) (before mid after : Option (List ℕ)) → slice_get (reply_lines reply) i ≡ Some line → Appends before mid (concat (take i (reply_lines reply))) → Appends mid after line → Appends before after (concat (take (i + 1) (reply_lines reply)))
-line_written reply i line before mid after e first second =
-    subst (Appends before after) (sym (concat_parts (reply_lines reply) i line e).0) (Appends-trans before mid after (concat (take i (reply_lines reply))) line first second)
+line_written reply = piece_written (reply_lines reply)
 
 -- all lines were written
 pub reply_written : (reply : Reply) (i : ℕ) (before after : Option (List ℕ)) → length (reply_lines reply) ≤ i → Appends before after (concat (take i (reply_lines reply))) → Appends before after (text reply)
@@ -52,13 +71,4 @@ reply_written reply i before after all written = subst (λ (ls : List (List ℕ)
 -- a line was cut off
 pub reply_cut : (reply : Reply) (i : ℕ) (line : List ℕ) (before mid after : Option (List ℕ)) → slice_get (reply_lines reply) i ≡ Some line → Appends before mid (concat (take i (reply_lines reply))) → IsCutOff mid after line → IsCutOff before after (text reply)
 unfolding text
-reply_cut reply i line before mid after e first cut =
-    let front = concat (take i (reply_lines reply)) in
-    let parts = (concat_parts (reply_lines reply) i line e).1 in
-    record {
-      part = front ++ cut.part;
-      rest = cut.rest ++ parts.0;
-      whole = parts.1 ∙ (ap (λ (xs : List ℕ). front ++ (xs ++ parts.0)) cut.whole ∙ (ap (λ (xs : List ℕ). front ++ xs) (append_assoc cut.part cut.rest parts.0) ∙ sym (append_assoc front cut.part (cut.rest ++ parts.0))));
-      left = omega (arith, cut.left, length-append cut.rest parts.0);
-      taken = Appends-trans before mid after front cut.part first cut.taken;
-    }
+reply_cut reply = piece_cut (reply_lines reply)

@@ -15,4 +15,4 @@ mod words;
 pub use interpreter::Interpreter;
 pub use replies::{push_answer, push_syntax};
 pub use serving::{serve, serve_words};
-pub use words::{decimal_of_word, frames_in};
+pub use words::{decimal_of_word, frames_asked, frames_in};

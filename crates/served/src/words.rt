@@ -9,7 +9,7 @@ use script_text::number;
 use vm_base::{DEFAULT_FRAMES, FRAMES};
 
 /// How many page frames the words ask for, if they are `verb`, and behind it `--frames N` or no words. `None` for any other words.
-pub(crate) fn frames_asked(verb: &[u8], words: &[String]) -> Option<u32>
+pub fn frames_asked(verb: &[u8], words: &[String]) -> Option<u32>
     ensures frames { result ≡ frames_asked verb.now words.now }
     ensures range { IfSome result (λ frames. 1 ≤ frames × frames ≤ FRAMES) }
 {

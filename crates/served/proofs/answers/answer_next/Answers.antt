@@ -1,7 +1,8 @@
 use Rattle.std.proofs.Common.{◌∙◌, refl, sym, arith}
 use Rattle.std.proofs.Math.Nat.{le_refl, le-add_right}
 use Rattle.std.proofs.lemmas.List.{length-append}
-use Rattle.served.proofs.Served.{Completes-end, StopsReading-there, ReachesLimit-there}
+use Rattle.served.specs.Outcome.{AnswersAll}
+use Rattle.served.proofs.Served.{answers_all, Completes-end, StopsReading-there, ReachesLimit-there}
 use Rattle.script_io.specs.declared.line_reader.Fetch.TheVariants.{Line, TooLong, End, Fault, Limit}
 use Rattle.script_io.specs.declared.status.Status.TheVariants.{Done, HostMemory, ReadFault, ScriptLimit, WriteFault}
 use Rattle.served.proofs.Answered.{used_up, IsAnswered-line, IsAnswered-long, IsReady-answered, IsServed-after, bytes_left-answered, write_fault-none, write_fault-caused, write_fault-no_read, write_fault-no_memory, other_status}
@@ -12,7 +13,9 @@ returns-in-End g c = record {
   served = λ frames limit source_old sink_old s.
       let f = c.in-End.ensures.fetches s.pending s.still in
       let end = f.fetched in
-      Completes-end g.I.Interpreter.rules frames limit c.args.lines.now c.next.new.self source_old _ _ sink_old _ _ _ (g.met.I.Interpreter.holds c.args.interpreter.now (g.P.PageStore.content c.args.store.now)) s f.part f.consumes
+      Completes-end g.I.Interpreter.rules frames limit c.args.lines.now c.next.new.self source_old _ _ sink_old _ _ s
+      (λ lines. AnswersAll g.I.Interpreter.rules frames lines sink_old (g.K.Sink.contents c.args.sink.now) (g.P.PageStore.content c.args.store.now))
+      (answers_all _ _ _ _ _ _ _ _ _ _ (g.met.I.Interpreter.holds c.args.interpreter.now (g.P.PageStore.content c.args.store.now)) s) f.part f.consumes
       f.taken c.in-End.ensures.limit (f.still.at_end end.2) end.0;
   once = λ pending still. (End, c.in-End.ensures.fetches pending still);
   agrees = c.requires.agrees;
@@ -31,7 +34,9 @@ pub returns-in-Fault : goal.returns-in-Fault
 returns-in-Fault g c = record {
   served = λ frames limit source_old sink_old s.
       let f = c.in-Fault.ensures.fetches s.pending s.still in
-      StopsReading-there g.I.Interpreter.rules frames limit c.args.lines.now c.next.new.self source_old _ _ sink_old _ _ _ (g.met.I.Interpreter.holds c.args.interpreter.now (g.P.PageStore.content c.args.store.now)) s f.part f.consumes
+      StopsReading-there g.I.Interpreter.rules frames limit c.args.lines.now c.next.new.self source_old _ _ sink_old _ _ s
+      (λ lines. AnswersAll g.I.Interpreter.rules frames lines sink_old (g.K.Sink.contents c.args.sink.now) (g.P.PageStore.content c.args.store.now))
+      (answers_all _ _ _ _ _ _ _ _ _ _ (g.met.I.Interpreter.holds c.args.interpreter.now (g.P.PageStore.content c.args.store.now)) s) f.part f.consumes
       f.taken c.in-Fault.ensures.limit f.fetched.1 (λ e. (c.in-Fault.ensures.ended e).2 refl) f.fetched.3;
   once = λ pending still. (Fault, c.in-Fault.ensures.fetches pending still);
   agrees = c.requires.agrees;
@@ -50,7 +55,9 @@ pub returns-in-Limit : goal.returns-in-Limit
 returns-in-Limit g c = record {
   served = λ frames limit source_old sink_old s.
       let f = c.in-Limit.ensures.fetches s.pending s.still in
-      ReachesLimit-there g.I.Interpreter.rules frames limit c.args.lines.now c.next.new.self source_old _ _ sink_old _ _ _ (g.met.I.Interpreter.holds c.args.interpreter.now (g.P.PageStore.content c.args.store.now)) s f.part f.consumes
+      ReachesLimit-there g.I.Interpreter.rules frames limit c.args.lines.now c.next.new.self source_old _ _ sink_old _ _ s
+      (λ lines. AnswersAll g.I.Interpreter.rules frames lines sink_old (g.K.Sink.contents c.args.sink.now) (g.P.PageStore.content c.args.store.now))
+      (answers_all _ _ _ _ _ _ _ _ _ _ (g.met.I.Interpreter.holds c.args.interpreter.now (g.P.PageStore.content c.args.store.now)) s) f.part f.consumes
       f.taken c.in-Limit.ensures.limit f.fetched.1.no_feed (λ e. (c.in-Limit.ensures.ended e).1) f.fetched.3;
   once = λ pending still. (Limit, c.in-Limit.ensures.fetches pending still);
   agrees = c.requires.agrees;
