@@ -10,8 +10,9 @@
 //!     tree COUNTS    how many hidden nodes, rows and rows with a page frame the clone tree is to have in the end
 //!
 //! Each script is run over the clone tree and over the plain store, on an empty machine each, and once more over the clone
-//! tree by `Vm::step` in place of `run`. Each must write exactly the replies.
+//! tree by `Vm::step` in place of `run`, or by `Batch::step` in place of `run_batch`. Each must write exactly the replies.
 
+use self::job_steps::job_stepped;
 use self::reading::read_script;
 use self::runs::{Counts, compare, written};
 use self::steps::stepped;
@@ -27,6 +28,8 @@ mod edges;
 mod endings;
 mod forks;
 mod greatest;
+mod job_steps;
+mod jobs;
 mod lines;
 mod mapping_refusals;
 mod mappings;
@@ -71,7 +74,10 @@ fn check_script(alloc: Global, text: &str) -> Result<(), Fault> {
     let (written, counts) = written(alloc, script.words.as_slice(), script.lines.as_str())?;
     compare(alloc, script.replies.as_str(), written.as_str())?;
     compare_counts(alloc, script.counts.as_str(), counts)?;
-    match stepped(alloc, script.words.as_slice(), script.lines.as_str())? {
+    if let Some(written) = stepped(alloc, script.words.as_slice(), script.lines.as_str())? {
+        return compare(alloc, script.replies.as_str(), written.as_str());
+    }
+    match job_stepped(alloc, script.words.as_slice(), script.lines.as_str())? {
         Some(written) => compare(alloc, script.replies.as_str(), written.as_str()),
         None => Ok(()),
     }

@@ -4,9 +4,10 @@ ghost use Rattle.std.specs.Prelude.{◌≡◌};
 ghost use Rattle.vm_model.specs.Contents.Content.{nothing};
 
 use super::text_fault::Fault;
+use batch_vm::run_batch;
 use cow_forest::CowForest;
 use page_store::{FlatStore, PageStore};
-use script_io::{MemSink, MemSource, SureSource};
+use script_io::{MemSink, MemSource, Sink, Source, SureSource};
 use std::alloc::Global;
 use vm_session::{Status, run, serve};
 
@@ -63,6 +64,22 @@ fn end_of(alloc: Global, status: Status, sink: &MemSink) -> Result<End, Fault> {
     Ok(End { status, written })
 }
 
+/// Runs a script by the call for its words.
+fn run_by_words<P: PageStore, S: Source, K: Sink>(
+    alloc: Global,
+    words: &[String],
+    store: &mut P,
+    source: &mut S,
+    sink: &mut K,
+) -> Status
+    requires { P.content store.old ≡ nothing }
+{
+    match words {
+        [verb, ..] if verb.as_str() == "batch" => run_batch(alloc, words, store, source, sink),
+        _ => run(alloc, words, store, source, sink),
+    }
+}
+
 /// Runs a script in which no call fails.
 fn run_sure<P: PageStore>(
     alloc: Global,
@@ -76,7 +93,7 @@ fn run_sure<P: PageStore>(
     let Ok(mut sink) = MemSink::new(alloc, ROOM, ROOM, &[]) else {
         return Err(Fault::HostMemory);
     };
-    let status = run(alloc, words, store, &mut source, &mut sink);
+    let status = run_by_words(alloc, words, store, &mut source, &mut sink);
     end_of(alloc, status, &sink)
 }
 
@@ -98,7 +115,7 @@ fn run_failing<P: PageStore>(
     let Ok(mut sink) = MemSink::new(alloc, ROOM, pieces.pushed.max(1), &[push]) else {
         return Err(Fault::HostMemory);
     };
-    let status = run(alloc, words, store, &mut source, &mut sink);
+    let status = run_by_words(alloc, words, store, &mut source, &mut sink);
     end_of(alloc, status, &sink)
 }
 

@@ -26,11 +26,12 @@ enum Asking {
     Twice,
 }
 
-/// How many page frames the words of a command line give to a script. `None` if they run none.
-fn frames_for(words: &[String]) -> Option<u32> {
+/// How many page frames the words of a command line give to a script, if the first word is `verb`. `None` if they run no
+/// such script.
+pub(crate) fn frames_for(words: &[String], verb: &str) -> Option<u32> {
     match words {
-        [verb] if verb.as_str() == "run" => Some(1024),
-        [verb, _, frames] if verb.as_str() == "run" => frames.parse::<u32>().ok(),
+        [first] if first.as_str() == verb => Some(1024),
+        [first, _, frames] if first.as_str() == verb => frames.parse::<u32>().ok(),
         _ => None,
     }
 }
@@ -150,7 +151,7 @@ pub(crate) fn stepped(
     words: &[String],
     script: &str,
 ) -> Result<Option<String>, Fault> {
-    let Some(frames) = frames_for(words) else {
+    let Some(frames) = frames_for(words, "run") else {
         return Ok(None);
     };
     let mut tree = CowForest::new(alloc);
@@ -168,7 +169,7 @@ pub(crate) fn stepped_refusing(
     script: &str,
     call: u64,
 ) -> Result<(String, u64), Fault> {
-    let Some(frames) = frames_for(words) else {
+    let Some(frames) = frames_for(words, "run") else {
         return Err(Fault::NoForm);
     };
     let Ok(mut store) = RefusingStore::new(alloc, CowForest::new(alloc), &[call]) else {
