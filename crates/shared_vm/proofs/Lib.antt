@@ -1,0 +1,9 @@
+mod FourLaws
+mod RunLaws
+mod RoomLaws
+mod StartLaws
+mod TurnLaws
+mod TaskLaws
+mod GatherLaws
+mod TextLaws
+mod OutcomeLaws

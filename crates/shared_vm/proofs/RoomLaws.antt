@@ -1,0 +1,106 @@
+-- A room, and one turn more.
+use Rattle.std.proofs.Common.{◌≡◌, ◌≢◌, ℕ, ◌+◌, ◌^◌, ◌<◌, ◌≤◌, ◌==◌, Bool, true, false, List, [], ◌∷◌, ◌++◌, length, get_or, Some, refl, sym, ap, subst, ◌∙◌, arith}
+use Rattle.std.specs.Prelude.{slice_get}
+use Rattle.std.proofs.lemmas.Bool.{eqb-true, eqb-false}
+use Rattle.std.proofs.lemmas.Option.{slice_get_within, slice_get-get_or}
+use Rattle.vm_base.specs.declared.limits.TheConstants.{KOIDS}
+use Rattle.vm_model.specs.Contents.Content.{Content}
+use Rattle.vm_model.specs.declared.reply.Reply.{Reply}
+use Rattle.vm_model.specs.Machine.Machine.{Machine}
+use Rattle.vm_core.specs.Vm.{Parts, Agrees, machine_of}
+use Rattle.shared_vm.specs.declared.counts.Counts.{Counts}
+use Rattle.shared_vm.specs.declared.task.Task.{Task}
+use Rattle.shared_vm.specs.declared.task.Deed.{Deed}
+use Rattle.shared_vm.specs.Tasks.{Lists, tasks_of, task_count}
+use Rattle.shared_vm.specs.Journal.{done_by, one_by, Does, JournalRun}
+use Rattle.shared_vm.specs.Rooms.{Session, IsRoom, TurnsOnce, count_of, raised, machine_in}
+use Rattle.shared_vm.proofs.FourLaws.{fewer, some_of_all, raised_all, raised_own, raised_other}
+use Rattle.shared_vm.proofs.RunLaws.{done_by-more, one_by-own, one_by-other, RunsOn-more}
+
+-- the same tasks, with another journal, machine and store
+abbrev pub with_journal : {S : Type 0} → Session S → List Deed → Parts → S → Session S
+with_journal s journal vm store = record s { journal = journal; vm = vm; store = store }
+
+-- the task at a place
+pub task_at : (lists : Lists) (actor at count : ℕ) (tasks : List Task) (task : Task) → tasks ≡ tasks_of lists actor → at ≡ count → task ≡ get_or tasks at task → at < length tasks
+    → slice_get (tasks_of lists actor) count ≡ Some task
+task_at lists actor at count tasks task e f is less =
+    subst (λ (ts : List Task). slice_get ts count ≡ Some task) e
+    (subst (λ (n : ℕ). slice_get tasks n ≡ Some task) f (slice_get-get_or tasks at task less ∙ ap (λ (t : Task). Some t) (sym is)))
+
+module _ {S : Type 0} (content : S → Content) (s : Session S) (done : Counts) (len capacity : ℕ) (room : IsRoom content s done len capacity) (actor : ℕ) (le : actor ≤ 3) where
+  -- a task is left, so there is room for its deed
+  pub room_left : count_of done actor < length (tasks_of s.lists actor) → len < capacity
+  room_left less = omega (arith, room.all, room.room, fewer s.lists done actor le room.within less)
+
+  pub count_small : count_of done actor < length (tasks_of s.lists actor) → count_of done actor + 1 < 2 ^ 64
+  count_small less = omega (arith, less, room.few, some_of_all s.lists actor le)
+
+  pub koid_left : count_of done actor < length (tasks_of s.lists actor) → (content s.store).next < KOIDS
+  koid_left less = omega (arith, room.koids, room.few, room.all, fewer s.lists done actor le room.within less)
+
+  module _ (task : Task) (reply : Reply) (vm : Parts) (store : S) (next : slice_get (tasks_of s.lists actor) (count_of done actor) ≡ Some task)
+      (does : Does task reply (machine_in content s) (machine_of (content store) vm)) where
+    abbrev deed : Deed
+    deed = record { actor = actor; reply = reply }
+
+    legal : JournalRun s.frames s.lists (s.journal ++ deed ∷ []) (machine_of (content store) vm)
+    legal = record {
+      run = RunsOn-more s.lists [] _ (machine_in content s) (machine_of (content store) vm) s.journal deed task room.legal.run le
+          (subst (λ (n : ℕ). slice_get (tasks_of s.lists actor) n ≡ Some task) (room.counted actor le) next) does;
+    }
+
+    counted : (a : ℕ) → a ≤ 3 → count_of (raised done actor) a ≡ done_by a (s.journal ++ deed ∷ [])
+    counted a less = elim (actor == a) as (λ t. (actor == a) ≡ t → count_of (raised done actor) a ≡ done_by a (s.journal ++ deed ∷ [])) [
+      | true ↦ λ e. subst (λ (n : ℕ). count_of (raised done actor) n ≡ done_by n (s.journal ++ deed ∷ [])) (eqb-true actor a e)
+          (omega (arith, raised_own done actor le, room.counted actor le, done_by-more actor s.journal deed, one_by-own actor reply))
+      | false ↦ λ e. omega (
+        arith,
+        raised_other done actor a le less (eqb-false actor a e),
+        room.counted a less,
+        done_by-more a s.journal deed,
+        one_by-other a actor reply (eqb-false actor a e),
+      )
+    ] refl
+
+    within : (a : ℕ) → a ≤ 3 → count_of (raised done actor) a ≤ length (tasks_of s.lists a)
+    within a less = elim (actor == a) as (λ t. (actor == a) ≡ t → count_of (raised done actor) a ≤ length (tasks_of s.lists a)) [
+      | true ↦ λ e. subst (λ (n : ℕ). count_of (raised done actor) n ≤ length (tasks_of s.lists n)) (eqb-true actor a e)
+          (omega (arith, raised_own done actor le, slice_get_within (tasks_of s.lists actor) (count_of done actor) task next))
+      | false ↦ λ e. omega (arith, raised_other done actor a le less (eqb-false actor a e), room.within a less)
+    ] refl
+
+    IsRoom-turned : Agrees (content store) vm → (content store).next ≤ (content s.store).next + 1
+        → IsRoom content (with_journal s (s.journal ++ deed ∷ []) vm store) (raised done actor) (len + 1) capacity
+    IsRoom-turned agrees koids = record {
+      legal = legal;
+      agrees = agrees;
+      koids = omega (arith, koids, room.koids);
+      few = room.few;
+      counted = counted;
+      within = within;
+      all = omega (arith, room.all, raised_all done actor le);
+      room = room.room;
+    }
+
+    -- the same by what its parts are equal to
+    pub IsRoom-after : (journal : List Deed) (after : Counts) (len_after capacity_after : ℕ) → Agrees (content store) vm → (content store).next ≤ (content s.store).next + 1
+        → journal ≡ s.journal ++ deed ∷ [] → after ≡ raised done actor → len_after ≡ len + 1 → capacity_after ≡ capacity
+        → IsRoom content (with_journal s journal vm store) after len_after capacity_after
+    IsRoom-after journal after len_after capacity_after agrees koids e f g h =
+        subst (λ (j : List Deed). IsRoom content (with_journal s j vm store) after len_after capacity_after) (sym e)
+        (subst (λ (d : Counts). IsRoom content (with_journal s (s.journal ++ deed ∷ []) vm store) d len_after capacity_after) (sym f)
+        (subst (λ (n : ℕ). IsRoom content (with_journal s (s.journal ++ deed ∷ []) vm store) (raised done actor) n capacity_after) (sym g)
+        (subst (λ (n : ℕ). IsRoom content (with_journal s (s.journal ++ deed ∷ []) vm store) (raised done actor) (len + 1) n) (sym h)
+        (IsRoom-turned agrees koids))))
+
+    pub TurnsOnce-after : (journal : List Deed) → journal ≡ s.journal ++ deed ∷ [] → TurnsOnce content s (with_journal s journal vm store) actor
+    TurnsOnce-after journal e = record {
+      reply = reply;
+      task = task;
+      next = subst (λ (n : ℕ). slice_get (tasks_of s.lists actor) n ≡ Some task) (room.counted actor le) next;
+      does = does;
+      journal = e;
+      lists = refl;
+      frames = refl;
+    }

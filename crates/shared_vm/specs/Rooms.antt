@@ -1,0 +1,66 @@
+-- What a room is to its callers: the machine, the tasks of the actors, and what they did.
+use Rattle.std.specs.Prelude.{◌≡◌, ℕ, ◌+◌, ◌^◌, ◌<◌, ◌≤◌, ◌==◌, Bool, true, false, List, [], ◌∷◌, ◌++◌, length, if◌then◌else◌}
+use Rattle.vm_model.specs.Contents.Content.{Content}
+use Rattle.vm_model.specs.declared.reply.Reply.{Reply}
+use Rattle.vm_model.specs.Machine.Machine.{Machine}
+use Rattle.vm_core.specs.Vm.{Parts, Agrees, machine_of}
+use Rattle.shared_vm.specs.declared.counts.Counts.{Counts}
+use Rattle.shared_vm.specs.declared.task.Task.{Task}
+use Rattle.shared_vm.specs.declared.task.Deed.{Deed}
+use Rattle.shared_vm.specs.Tasks.{Lists, tasks_of, task_count}
+use Rattle.shared_vm.specs.Journal.{done_by, IsNext, Does, JournalRun}
+
+-- A machine began with so many frames, the actors have tasks and did some of them, and the machine's parts and its store are
+-- what these deeds led to. S is the type of the store.
+pub record Session (S : Type 0) : Type 0 where
+  pub frames : ℕ
+  pub lists : Lists
+  pub journal : List Deed
+  pub vm : Parts
+  pub store : S
+
+-- the machine that the parts and the store stand for
+abbrev pub machine_in : {S : Type 0} → (S → Content) → Session S → Machine
+machine_in content s = machine_of (content s.store) s.vm
+
+-- the journal is a run that ends in this machine
+abbrev pub IsLegal : {S : Type 0} → (S → Content) → Session S → Type 0
+IsLegal content s = JournalRun s.frames s.lists s.journal (machine_in content s)
+
+-- the count of an actor
+abbrev pub count_of : Counts → ℕ → ℕ
+count_of done actor = if actor == 0 then done.a0 else (if actor == 1 then done.a1 else (if actor == 2 then done.a2 else done.a3))
+
+-- one more for an actor
+abbrev pub raised : Counts → ℕ → Counts
+raised done actor =
+    if actor == 0 then record done { a0 = done.a0 + 1 }
+    else (if actor == 1 then record done { a1 = done.a1 + 1 }
+    else (if actor == 2 then record done { a2 = done.a2 + 1 } else record done { a3 = done.a3 + 1 }))
+
+-- What holds of every room: the journal is a run, the deeds of each actor are counted, there is room for a deed for each task,
+-- and the machine agrees with its store and gave a koid for a deed at most.
+pub record IsRoom {S : Type 0} (content : S → Content) (s : Session S) (done : Counts) (len capacity : ℕ) : Type 0 where
+  pub legal : IsLegal content s
+  pub agrees : Agrees (content s.store) s.vm
+  pub koids : (content s.store).next ≤ 1 + len
+  pub few : task_count s.lists < 2 ^ 32
+  pub counted : (actor : ℕ) → actor ≤ 3 → count_of done actor ≡ done_by actor s.journal
+  pub within : (actor : ℕ) → actor ≤ 3 → count_of done actor ≤ length (tasks_of s.lists actor)
+  pub all : len ≡ done.a0 + done.a1 + done.a2 + done.a3
+  pub room : task_count s.lists ≤ capacity
+
+-- the actor did its next task, and one deed more tells it
+pub record TurnsOnce {S : Type 0} (content : S → Content) (old new : Session S) (actor : ℕ) : Type 0 where
+  pub reply : Reply
+  pub task : Task
+  pub next : IsNext old.lists old.journal (record { actor = actor; reply = reply }) task
+  pub does : Does task reply (machine_in content old) (machine_in content new)
+  pub journal : new.journal ≡ old.journal ++ record { actor = actor; reply = reply } ∷ []
+  pub lists : new.lists ≡ old.lists
+  pub frames : new.frames ≡ old.frames
+
+-- a turn of an actor: it did a task, or it had none left
+abbrev pub Turns : {S : Type 0} → (S → Content) → Session S → Session S → ℕ → Bool → Type 0
+Turns content old new actor true = TurnsOnce content old new actor
+Turns content old new actor false = (new ≡ old) × (done_by actor old.journal ≡ length (tasks_of old.lists actor))

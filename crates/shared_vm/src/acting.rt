@@ -1,0 +1,129 @@
+//! The actors on threads of their own.
+
+ghost use Rattle.std.specs.Prelude.{◌≡◌, ◌≢◌, ◌≤◌, ℕ, length};
+ghost use Rattle.shared_vm.specs.Journal.{done_by, IsWhole};
+ghost use Rattle.shared_vm.specs.Rooms.{IsLegal};
+ghost use Rattle.shared_vm.specs.Tasks.{Lists, no_tasks, tasks_of};
+
+use crate::gate::Gate;
+use crate::room::Room;
+use page_store::PageStore;
+use std::marker::{Brand, PhantomData};
+use std::sync::{Mutex, Wait};
+use std::thread::{Threads, join};
+
+/// Names the frames and the tasks of a room. The call that puts a room under a lock picks them, so that the type of what lies
+/// under the lock says which they are.
+trait Naming {
+    /// How many page frames the machine began with.
+    ghost frames: { ℕ };
+
+    /// The tasks of the actors.
+    ghost lists: { Lists };
+}
+
+impl Naming for Brand {
+    ghost frames = { 0 };
+
+    ghost lists = { no_tasks };
+}
+
+/// What lies under the lock. Nothing is known of it when the lock is taken but what its type says.
+#[derive(Drop)]
+struct Held<J: Naming, P: PageStore> {
+    room: Room<P>,
+    of: PhantomData<J>,
+    ghost frames: { room.frames ≡ J.frames },
+    ghost lists: { room.lists ≡ J.lists },
+}
+
+impl<J: Naming, P: PageStore> Held<J, P> {
+    /// Does one turn of an actor.
+    fn turn(&mut self, actor: u32) -> bool
+        requires { actor ≤ 3 }
+    {
+        self.room.turn(actor)
+    }
+}
+
+/// Does the tasks of an actor, each under the lock. The lock is not held while the gate is called.
+fn act<J: Naming, R: Wait, P: PageStore, G: Gate>(
+    rt: &R,
+    gate: &G,
+    held: &Mutex<Held<J, P>>,
+    actor: u32,
+)
+    requires { actor ≤ 3 }
+{
+    for index in 0..u64::MAX {
+        gate.before(actor, index);
+        let more = held.lock(rt).turn(actor);
+        gate.after(actor, index);
+        if !more {
+            break;
+        }
+    }
+}
+
+/// Puts the room under a lock, has each actor act on a thread of its own, and takes the room out when all have ended.
+fn act_on<J: Naming + Send + Sync, R: Threads + Wait + Sync, P: PageStore + Send, G: Gate>(
+    rt: &R,
+    gate: &G,
+    room: Room<P>,
+) -> Room<P>
+    requires frames { room.frames ≡ J.frames }
+    requires lists { room.lists ≡ J.lists }
+    ensures frames { result.frames ≡ room.frames }
+    ensures lists { result.lists ≡ room.lists }
+{
+    let lock: Mutex<Held<J, P>> = Mutex::new(Held {
+        room,
+        of: PhantomData,
+    });
+    let held = &lock;
+    join(
+        rt,
+        || {
+            join(rt, || act(rt, gate, held, 0), || act(rt, gate, held, 1));
+        },
+        || {
+            join(rt, || act(rt, gate, held, 2), || act(rt, gate, held, 3));
+        },
+    );
+    lock.into_inner().room
+}
+
+/// Does the turns that an actor has left.
+fn finish<P: PageStore>(room: &mut Room<P>, actor: u32)
+    requires { actor ≤ 3 }
+    ensures frames { room.new.frames ≡ room.old.frames }
+    ensures lists { room.new.lists ≡ room.old.lists }
+    ensures done { done_by actor room.new.journal ≡ length (tasks_of room.new.lists actor) }
+    ensures others { (a : ℕ) → a ≢ actor → done_by a room.new.journal ≡ done_by a room.old.journal }
+{
+    while room.left(actor) > 0 {
+        room.turn(actor);
+    }
+}
+
+/// Has the four actors do all their tasks, each on a thread of its own, and each task under one lock. Before and after each
+/// turn the gate is told of it, while the lock is not held. Turns that an actor might leave are done behind the joins, so the
+/// journal is whole whatever the actors did. The call may wait for the lock and for the actors.
+pub fn act_all<R: Threads + Wait + Sync, P: PageStore + Send, G: Gate>(
+    rt: &R,
+    gate: &G,
+    room: Room<P>,
+) -> Room<P>
+    ensures frames { result.frames ≡ room.frames }
+    ensures lists { result.lists ≡ room.lists }
+    ensures whole { IsWhole result.lists result.journal }
+    ensures legal { IsLegal P.content result }
+{
+    let mut room = act_on::<Brand, R, P, G>(rt, gate, room);
+    finish(&mut room, 0);
+    finish(&mut room, 1);
+    finish(&mut room, 2);
+    finish(&mut room, 3);
+    let _legal = room.left(3);
+    room
+}

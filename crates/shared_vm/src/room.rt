@@ -1,0 +1,144 @@
+//! The machine that the actors share, and what they did on it.
+
+ghost use Rattle.std.specs.Prelude.{◌≡◌, ◌+◌, ◌^◌, ◌<◌, ◌≤◌, [], length, vec_len, vec_capacity, IfOk};
+ghost use Rattle.vm_base.specs.declared.limits.TheConstants.{FRAMES, KOIDS};
+ghost use Rattle.vm_model.specs.Contents.Content.{nothing};
+ghost use Rattle.vm_core.specs.Vm.{Agrees, machine_of};
+ghost use Rattle.shared_vm.specs.Journal.{done_by, Does};
+ghost use Rattle.shared_vm.specs.Rooms.{IsLegal, Turns};
+ghost use Rattle.shared_vm.specs.Tasks.{task_count, tasks_of};
+
+use crate::counts::Counts;
+use crate::scripts::Scripts;
+use crate::task::{Deed, Task};
+use page_store::PageStore;
+use std::alloc::Global;
+use std::marker::Model;
+use vm_base::{HostMemory, Refusal};
+use vm_core::Vm;
+use vm_model::Reply;
+
+/// A machine and its store, the tasks of the actors, and the journal of what they did. Contracts see these, and the number of
+/// page frames that the machine began with. In every room the journal is a run of the machine from nothing but its frames:
+/// each deed is the next task of its actor, and the machine and its store stand for the state in which this run ends.
+#[derive(Drop)]
+pub struct Room<P: PageStore> {
+    frames: u32,
+    vm: Vm,
+    store: P,
+    scripts: Scripts,
+    /// How many tasks each actor did.
+    done: Counts,
+    /// It has room for a deed for each task.
+    journal: Vec<Deed>,
+}
+
+impl<P: PageStore> Model for Room<P> {
+    ghost use Rattle.std.specs.Prelude.{vec_len, vec_capacity};
+    ghost use Rattle.shared_vm.specs.Rooms.{Session, IsRoom};
+
+    ghost Value = { Session P };
+
+    ghost view = { λ r. record { frames = r.frames; lists = r.scripts; journal = r.journal.items; vm = r.vm; store = r.store } };
+
+    ghost invariant = { λ r. IsRoom P.content
+        (record { frames = r.frames; lists = r.scripts; journal = r.journal.items; vm = r.vm; store = r.store })
+        r.done (vec_len r.journal) (vec_capacity r.journal) };
+}
+
+impl<P: PageStore> Room<P> {
+    /// A room with an empty journal, over a store that has nothing, which gets so many page frames, from 1 to `FRAMES`. The
+    /// tasks are fewer than 2^32 together. The room for their deeds is taken here. `HostMemory` if the host has too little
+    /// memory for it or for the frames, and then the tasks and the store are given up.
+    pub fn new(
+        alloc: Global,
+        frames: u32,
+        scripts: Scripts,
+        store: P,
+    ) -> Result<Room<P>, HostMemory>
+        requires few { task_count scripts < 2 ^ 32 }
+        requires frames { 1 ≤ frames × frames ≤ FRAMES }
+        requires empty { P.content store ≡ nothing }
+        ensures frames { IfOk result (λ r. r.frames ≡ frames) }
+        ensures lists { IfOk result (λ r. r.lists ≡ scripts) }
+        ensures journal { IfOk result (λ r. r.journal ≡ []) }
+        ensures legal { IfOk result (λ r. IsLegal P.content r) }
+    {
+        let mut store = store;
+        let journal = journal_for(alloc, scripts.count())?;
+        store.fill(frames)?;
+        Ok(Room {
+            frames,
+            vm: Vm::new(alloc),
+            store,
+            scripts,
+            done: Counts::none(),
+            journal,
+        })
+    }
+
+    /// Does the next task of an actor, from 0 to 3, and notes it in the journal. `false` if the actor has no task left, and
+    /// then nothing changes. No memory is taken for the journal.
+    pub fn turn(&mut self, actor: u32) -> bool
+        requires { actor ≤ 3 }
+        ensures turns { Turns P.content self.old self.new actor result }
+        ensures legal { IsLegal P.content self.new }
+    {
+        let at = self.done.of(actor) as usize;
+        let tasks = self.scripts.tasks(actor);
+        if at >= tasks.len() {
+            return false;
+        }
+        let reply = reply_to(&mut self.vm, &mut self.store, &tasks[at]);
+        self.journal.push_reserved(Deed { actor, reply });
+        self.done = self.done.raised(actor);
+        true
+    }
+
+    /// How many tasks an actor, from 0 to 3, has not done.
+    pub fn left(&self, actor: u32) -> u64
+        requires { actor ≤ 3 }
+        ensures left { result + done_by actor self.now.journal ≡ length (tasks_of self.now.lists actor) }
+        ensures legal { IsLegal P.content self.now }
+    {
+        self.scripts.tasks(actor).len() as u64 - self.done.of(actor)
+    }
+
+    /// What the actors did, the first deed first.
+    pub fn journal(&self) -> &[Deed]
+        ensures journal { result.now ≡ self.now.journal }
+        ensures legal { IsLegal P.content self.now }
+    {
+        self.journal.as_slice()
+    }
+
+    /// The store, as the last deed left it.
+    pub fn into_store(self) -> P
+        ensures { result ≡ self.store }
+    {
+        self.store
+    }
+}
+
+/// An empty journal with room for so many deeds.
+fn journal_for(alloc: Global, count: u64) -> Result<Vec<Deed>, HostMemory>
+    ensures items { IfOk result (λ v. v.items ≡ []) }
+    ensures len { IfOk result (λ v. vec_len v ≡ 0) }
+    ensures room { IfOk result (λ v. vec_capacity v ≡ count) }
+{
+    Vec::with_capacity(alloc, count as usize).map_err(|_| HostMemory)
+}
+
+/// The machine's reply to a task, which it does.
+fn reply_to<P: PageStore>(vm: &mut Vm, store: &mut P, task: &Task) -> Reply
+    requires agrees { Agrees (P.content store.old) vm.old }
+    requires next { (P.content store.old).next < KOIDS }
+    ensures does { Does task.now result (machine_of (P.content store.old) vm.old) (machine_of (P.content store.new) vm.new) }
+    ensures agrees { Agrees (P.content store.new) vm.new }
+    ensures next { (P.content store.new).next ≤ (P.content store.old).next + 1 }
+{
+    match task {
+        Task::Order(command) => vm.step(store, command),
+        Task::Outside => Reply::Refused(Refusal::Syntax),
+    }
+}

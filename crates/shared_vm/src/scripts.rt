@@ -1,0 +1,163 @@
+//! The tasks of the actors.
+
+ghost use Rattle.std.specs.Prelude.{◌≡◌, ◌+◌, ◌^◌, ◌<◌, ◌≤◌, [], ◌∷◌, ◌++◌, length, OnOk, OnErr};
+ghost use Rattle.vm_base.specs.declared.limits.TheConstants.{LINE_BYTES};
+ghost use Rattle.vm_model.specs.Language.Reading.{reading_of_words, words, is_comment};
+ghost use Rattle.shared_vm.specs.Tasks.{actor_of, no_tasks, task_count, tasks_of, with_behind, with_line, with_reading, with_task};
+ghost use Rattle.shared_vm.specs.declared.task.Task.TheVariants.{Outside};
+
+use crate::task::Task;
+use script_text::{Line, next_word, read_line};
+use std::alloc::Global;
+use std::marker::Model;
+use vm_base::{HostMemory, LINE_BYTES};
+
+/// The tasks of the actors a0 to a3, four lists. Contracts see them as these lists.
+#[derive(Drop)]
+pub struct Scripts {
+    a0: Vec<Task>,
+    a1: Vec<Task>,
+    a2: Vec<Task>,
+    a3: Vec<Task>,
+}
+
+impl Model for Scripts {
+    ghost use Rattle.shared_vm.specs.Tasks.{Lists};
+
+    ghost Value = { Lists };
+
+    ghost view = { λ s. record { a0 = s.a0.items; a1 = s.a1.items; a2 = s.a2.items; a3 = s.a3.items } };
+}
+
+impl Scripts {
+    /// Four lists without tasks.
+    pub fn new(alloc: Global) -> Scripts
+        ensures { result ≡ no_tasks }
+    {
+        Scripts {
+            a0: Vec::new(alloc),
+            a1: Vec::new(alloc),
+            a2: Vec::new(alloc),
+            a3: Vec::new(alloc),
+        }
+    }
+
+    /// Adds the task of a line of at most `LINE_BYTES` bytes, without its line feed. If the first word is `a0`, `a1`, `a2` or
+    /// `a3`, the task is that actor's: what follows the word is read as a line of a script, and is a command, or is outside the
+    /// grammar, or says nothing and gives no task. Any other line that is neither blank nor a comment is a task of a0 that is
+    /// outside the grammar. `HostMemory` if the host has too little memory, and then the lists stay.
+    pub fn add(&mut self, line: &[u8]) -> Result<(), HostMemory>
+        requires { length line.now ≤ LINE_BYTES }
+        ensures ok { OnOk result (self.new ≡ with_line self.old line.now) }
+        ensures err { OnErr result (self.new ≡ self.old) }
+    {
+        match next_word(line) {
+            Some((word, behind)) => self.add_words(word, behind),
+            None => Ok(()),
+        }
+    }
+
+    /// Adds a task of a0 that is outside the grammar. It is that of a line of more than `LINE_BYTES` bytes. `HostMemory` if the
+    /// host has too little memory, and then the lists stay.
+    pub fn add_outside(&mut self) -> Result<(), HostMemory>
+        ensures ok { OnOk result (self.new ≡ with_task self.old 0 Outside) }
+        ensures err { OnErr result (self.new ≡ self.old) }
+    {
+        self.push(0, Task::Outside)
+    }
+
+    /// Adds the task of a line with this first word.
+    fn add_words(&mut self, word: &[u8], behind: &[u8]) -> Result<(), HostMemory>
+        requires { length behind.now ≤ LINE_BYTES }
+        ensures ok { OnOk result
+            (self.new ≡ with_behind self.old word.now (words behind.now) (actor_of word.now)) }
+        ensures err { OnErr result (self.new ≡ self.old) }
+    {
+        match actor_of(word) {
+            Some(actor) => self.add_behind(actor, behind),
+            None if is_comment(word) => Ok(()),
+            None => self.add_outside(),
+        }
+    }
+
+    /// Adds what the rest of a line says to an actor.
+    fn add_behind(&mut self, actor: u32, behind: &[u8]) -> Result<(), HostMemory>
+        requires { length behind.now ≤ LINE_BYTES }
+        ensures ok { OnOk result (self.new ≡ with_reading self.old actor (reading_of_words (words behind.now))) }
+        ensures err { OnErr result (self.new ≡ self.old) }
+    {
+        match read_line(behind) {
+            Ok(Line::Blank) => Ok(()),
+            Ok(Line::Order(command)) => self.push(actor, Task::Order(command)),
+            Err(_) => self.push(actor, Task::Outside),
+        }
+    }
+
+    /// Adds a task of an actor.
+    fn push(&mut self, actor: u32, task: Task) -> Result<(), HostMemory>
+        ensures ok { OnOk result (self.new ≡ with_task self.old actor task) }
+        ensures err { OnErr result (self.new ≡ self.old) }
+    {
+        match actor {
+            0 => push_to(&mut self.a0, task),
+            1 => push_to(&mut self.a1, task),
+            2 => push_to(&mut self.a2, task),
+            _ => push_to(&mut self.a3, task),
+        }
+    }
+
+    /// The tasks of an actor.
+    pub(crate) fn tasks(&self, actor: u32) -> &[Task]
+        ensures { result.now ≡ tasks_of self.now actor }
+    {
+        match actor {
+            0 => self.a0.as_slice(),
+            1 => self.a1.as_slice(),
+            2 => self.a2.as_slice(),
+            _ => self.a3.as_slice(),
+        }
+    }
+
+    /// How many tasks the actors have together.
+    pub(crate) fn count(&self) -> u64
+        requires { task_count self.now < 2 ^ 32 }
+        ensures { result ≡ task_count self.now }
+    {
+        (self.a0.len() + self.a1.len() + self.a2.len() + self.a3.len()) as u64
+    }
+}
+
+/// Adds a task behind those of a list.
+fn push_to(tasks: &mut Vec<Task>, task: Task) -> Result<(), HostMemory>
+    ensures ok { OnOk result (tasks.new.items ≡ tasks.old.items ++ task ∷ []) }
+    ensures err { OnErr result (tasks.new.items ≡ tasks.old.items) }
+{
+    match tasks.push(task) {
+        Ok(()) => Ok(()),
+        Err(_) => Err(HostMemory),
+    }
+}
+
+/// The actor that a word names.
+fn actor_of(word: &[u8]) -> Option<u32>
+    ensures { result ≡ actor_of word.now }
+{
+    if word == b"a0".as_slice() {
+        Some(0)
+    } else if word == b"a1".as_slice() {
+        Some(1)
+    } else if word == b"a2".as_slice() {
+        Some(2)
+    } else if word == b"a3".as_slice() {
+        Some(3)
+    } else {
+        None
+    }
+}
+
+/// Whether a word begins with `#`.
+fn is_comment(word: &[u8]) -> bool
+    ensures { result ≡ is_comment word.now }
+{
+    matches!(word, [b'#', ..])
+}
