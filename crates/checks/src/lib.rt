@@ -1,4 +1,5 @@
-//! Checks of the whole machine: scripts with the replies that are wanted, and calls of the tables below it.
+//! Checks of the whole machine: scripts with the replies that are wanted, runs of actors on threads, and calls of the tables
+//! below it.
 //!
 //! No clause is repeated here. A check shows what no clause can say: that a call which may answer want of memory has it
 //! where there is plenty, that the definitions are those that were meant, by replies from outside, and which of several
@@ -6,6 +7,8 @@
 //! the call that it makes.
 #![tactic(auto)]
 
+#[cfg(test)]
+mod actors;
 #[cfg(test)]
 mod calls;
 #[cfg(test)]
