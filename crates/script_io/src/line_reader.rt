@@ -92,7 +92,9 @@ impl Lines {
 
     /// Fetches the next line. The reader pulls bytes only if those that it pulled before have no line feed left, and
     /// none once the source has said that it is at its end. If a pull fails, the answer is `Fault`, and the next call
-    /// pulls again.
+    /// pulls again. The function is inlined: a program has a loop over lines for each of its words, and no line should pay
+    /// for a call.
+    #[inline(always)]
     pub fn next<S: Source>(&mut self, source: &mut S) -> Fetch
         ensures fetches { (pending : List ℕ)
             → IsPending self.old (S.remaining source.old) pending

@@ -16,7 +16,7 @@ use Rattle.vm_base.specs.declared.limits.TheConstants.{LINE_BYTES}
 use Rattle.vm_model.specs.Contents.Content.{Content}
 use Rattle.served.specs.Answering.{Answering, syntax_text}
 use Rattle.served.specs.Outcome.{AnswersLine, EndsAs, SinkTakes}
-use Rattle.served.specs.inside.Serving.{IsServed, IsReady, bytes_left, write_fault}
+use Rattle.served.specs.Serving.{IsServed, IsReady, bytes_left, write_fault}
 use Rattle.served.proofs.Served.{IsAnswered, IsServed-answered, BreaksOff-answered}
 
 -- a text that was pushed, whole or in part

@@ -7,7 +7,7 @@ use Rattle.script_io.specs.Faults.{HasFailed}
 use Rattle.script_io.specs.Reader.{Reader}
 use Rattle.script_io.specs.Fetching.{IsPending}
 use Rattle.served.specs.Outcome.{NothingDone}
-use Rattle.served.specs.inside.Serving.{IsServed, IsReady}
+use Rattle.served.specs.Serving.{IsServed, IsReady}
 use Rattle.served.proofs.Served.{AreLines-none}
 
 -- nothing was done to a store that contains nothing

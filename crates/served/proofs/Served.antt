@@ -12,7 +12,7 @@ use Rattle.vm_model.specs.Scripts.Run.{lines_of, whole_lines}
 use Rattle.served.specs.Answering.{Answering, Run}
 use Rattle.served.proofs.RunLaws.{lines_of-line, lines_of-piece, lines_of-nil, whole_lines-line, whole_lines-none, Run-more}
 use Rattle.served.specs.Outcome.{AnswersAll, AnswersPart, Completes, StopsReading, ReachesLimit, BreaksOff, SinkTakes}
-use Rattle.served.specs.inside.Serving.{AreLines, AreAll, IsServed}
+use Rattle.served.specs.Serving.{AreLines, AreAll, IsServed}
 
 -- ---- lists
 

@@ -1,4 +1,4 @@
 pub mod Answering
 pub mod Outcome
 pub mod Words
-pub mod inside
+pub mod Serving

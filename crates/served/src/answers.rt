@@ -3,7 +3,7 @@
 ghost use Rattle.std.specs.Prelude.{◌≡◌, ◌+◌, ◌^◌, ◌<◌, ◌≤◌, ℕ, Option, List, IfNone, Some, MatchOption, ◌≢◌};
 ghost use Rattle.script_io.specs.Faults.{HasFailed};
 ghost use Rattle.served.specs.Outcome.{EndsAs};
-ghost use Rattle.served.specs.inside.Serving.{IsServed, IsReady, FetchesOnce, bytes_left, write_fault};
+ghost use Rattle.served.specs.Serving.{IsServed, IsReady, FetchesOnce, bytes_left, write_fault};
 
 use crate::interpreter::Interpreter;
 use crate::replies::push_syntax;

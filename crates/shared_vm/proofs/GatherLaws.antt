@@ -11,7 +11,7 @@ use Rattle.script_io.specs.Fetching.{IsPending, IsFirstLine, Fetches}
 use Rattle.script_io.specs.declared.line_reader.Fetch.TheVariants.{Line, TooLong}
 use Rattle.vm_base.specs.declared.limits.TheConstants.{LINE_BYTES}
 use Rattle.served.specs.Answering.{Run}
-use Rattle.served.specs.inside.Serving.{IsServed, IsReady, bytes_left}
+use Rattle.served.specs.Serving.{IsServed, IsReady, bytes_left}
 use Rattle.served.proofs.Served.{IsAnswered, IsServed-answered}
 use Rattle.served.proofs.Beginning.{fresh, IsPending-fresh}
 use Rattle.served.proofs.Answered.{IsReady-answered, bytes_left-answered}

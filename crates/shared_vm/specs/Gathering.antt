@@ -7,7 +7,7 @@ use Rattle.script_io.specs.Reader.{Reader}
 use Rattle.vm_model.specs.Contents.Content.{nothing}
 use Rattle.served.specs.Answering.{Answering}
 use Rattle.served.specs.Outcome.{Completes, StopsReading, ReachesLimit}
-use Rattle.served.specs.inside.Serving.{IsServed}
+use Rattle.served.specs.Serving.{IsServed}
 use Rattle.shared_vm.specs.declared.limits.TheConstants.{INPUT_BYTES}
 use Rattle.shared_vm.specs.Tasks.{Lists, no_tasks, with_line, lists_of}
 

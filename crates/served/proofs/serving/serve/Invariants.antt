@@ -1,5 +1,5 @@
 use Rattle.std.proofs.Common.{◌≡◌, ◌≤◌}
-use Rattle.served.specs.inside.Serving.{IsServed, IsReady, bytes_left}
+use Rattle.served.specs.Serving.{IsServed, IsReady, bytes_left}
 use Rattle.served.proofs.serving.serve.Given as goal
 
 abbrev pub invariant-loop-status : goal.invariant-loop-status
