@@ -13,7 +13,10 @@ pub use numbers::{
 };
 pub use pins::{a_pin_is_told, a_removed_pin_is_told};
 pub use scripts::{
-    a_flag_stands_once, a_leading_zero_is_no_name, a_tab_parts_words,
-    a_word_of_a_byte_more_is_no_data, bytes_are_read_from_the_word, data_may_end_before_a_tab,
-    offset_comes_before_length, the_greatest_number_is_read, two_to_the_64_is_no_number,
+    a_comment_has_more_than_its_mark, a_flag_is_written_by_its_word, a_flag_stands_once,
+    a_leading_zero_is_no_name, a_line_of_the_greatest_length_is_read, a_longer_word_is_no_command,
+    a_tab_parts_words, a_word_of_a_byte_more_is_no_data, bytes_are_read_from_the_word,
+    data_may_end_before_a_tab, offset_comes_before_length,
+    offset_of_a_read_comes_before_its_length, the_greatest_number_is_read,
+    two_to_the_64_is_no_number,
 };

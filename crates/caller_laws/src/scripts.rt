@@ -1,14 +1,14 @@
 //! Words and lines of scripts.
 
-ghost use Rattle.std.specs.Prelude.{◌≡◌, ◌≤◌, ◌+◌, ◌-◌, ◌*◌, ◌^◌, ◌∷◌, [], Some, None, length};
-ghost use Rattle.vm_base.specs.declared.limits.TheConstants.{DATA_BYTES};
-ghost use Rattle.vm_model.specs.Language.Reading.{Order, Outside};
-ghost use Rattle.vm_model.specs.declared.command.Command.TheVariants.{VmoZero, VmoSize, VmoWrite};
+ghost use Rattle.std.specs.Prelude.{◌≡◌, ◌≤◌, ◌+◌, ◌-◌, ◌*◌, ◌^◌, ◌∷◌, [], Some, None, length, take, codes};
+ghost use Rattle.vm_base.specs.declared.limits.TheConstants.{DATA_BYTES, LINE_BYTES, TEXT_ROOM};
+ghost use Rattle.vm_model.specs.Language.Reading.{Blank, Order, Outside, words, reading_of_words};
+ghost use Rattle.vm_model.specs.declared.command.Command.TheVariants.{VmoZero, VmoSize, VmoRead, VmoWrite};
 ghost use Rattle.script_text.specs.Lines.{reading_of_call};
 
-use script_text::{SyntaxFault, byte_data_into, number, read_call, vmo};
+use script_text::{SyntaxFault, byte_data_into, number, read_call, vmo, write_command};
 use vm_base::VmoName;
-use vm_model::{Call, LentBytes};
+use vm_model::{Call, ChildKind, Command, LentBytes};
 
 /// A number of 2^64 is refused.
 #[tactic(auto, unfolding(vm_model::specs::Language::Reading::number, vm_model::specs::Language::Reading::digits_from))]
@@ -90,4 +90,66 @@ pub fn data_may_end_before_a_tab<'a>(room: &'a mut [u8]) -> Result<Option<Call<'
     ensures { reading_of_call result ≡ Order (VmoWrite (record { 0 = 1 }) 0 (10 ∷ [])) }
 {
     read_call(b"vmo_write v1 0 0a\t", room)
+}
+
+/// A word that begins as a command's word does is no command.
+#[tactic(auto, unfolding(vm_model::specs::Language::Reading::command, vm_model::specs::Language::Reading::reading, vm_model::specs::Language::Reading::words))]
+pub fn a_longer_word_is_no_command<'a>(room: &'a mut [u8]) -> Result<Option<Call<'a>>, SyntaxFault>
+    requires { DATA_BYTES ≤ length room.old }
+    ensures { reading_of_call result ≡ Outside }
+{
+    read_call(b"vmo_reads v1 4096 16", room)
+}
+
+/// A read has its offset before its length, too.
+#[tactic(auto, unfolding(vm_model::specs::Language::Reading::command, vm_model::specs::Language::Reading::reading, vm_model::specs::Language::Reading::words, vm_model::specs::Language::Reading::number, vm_model::specs::Language::Reading::digits_from, vm_model::specs::Language::Reading::vmo))]
+pub fn offset_of_a_read_comes_before_its_length<'a>(
+    room: &'a mut [u8],
+) -> Result<Option<Call<'a>>, SyntaxFault>
+    requires { DATA_BYTES ≤ length room.old }
+    ensures { reading_of_call result ≡ Order (VmoRead (record { 0 = 1 }) 4096 16) }
+{
+    read_call(b"vmo_read v1 4096 16", room)
+}
+
+/// A comment has its mark and what follows.
+#[tactic(auto, unfolding(vm_model::specs::Language::Reading::reading, vm_model::specs::Language::Reading::words))]
+pub fn a_comment_has_more_than_its_mark<'a>(
+    room: &'a mut [u8],
+) -> Result<Option<Call<'a>>, SyntaxFault>
+    requires { DATA_BYTES ≤ length room.old }
+    ensures { reading_of_call result ≡ Blank }
+{
+    read_call(b"#note", room)
+}
+
+/// A line may have as many bytes as a line can have.
+#[tactic(auto, unfolding(vm_model::specs::Language::Reading::reading))]
+pub fn a_line_of_the_greatest_length_is_read<'a>(
+    line: &[u8],
+    room: &'a mut [u8],
+) -> Result<Option<Call<'a>>, SyntaxFault>
+    requires line { length line.now ≡ LINE_BYTES }
+    requires room { DATA_BYTES ≤ length room.old }
+    ensures { reading_of_call result ≡ reading_of_words (words line.now) }
+{
+    read_call(line, room)
+}
+
+/// Each flag is written by its own word.
+#[tactic(auto, unfolding(vm_model::specs::Language::Spelling::command_words, vm_model::specs::Language::Spelling::has_spelling, vm_model::specs::Language::Spelling::spelling))]
+pub fn a_flag_is_written_by_its_word(out: &mut [u8]) -> usize
+    requires { TEXT_ROOM ≤ length out.old }
+    ensures { take result out.new ≡ codes "vmo_create_child v2 v1 slice 0 4096 no_write\n" }
+{
+    let child = Command::VmoChild {
+        name: VmoName(2),
+        parent: VmoName(1),
+        kind: ChildKind::Slice,
+        offset: 0,
+        size: 4096,
+        resizable: false,
+        no_write: true,
+    };
+    write_command(&child, out)
 }
