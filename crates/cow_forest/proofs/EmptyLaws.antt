@@ -20,7 +20,7 @@ use Rattle.cow_split.specs.Trees.{tree_of}
 use Rattle.cow_split.specs.Exact.{IsExact, all_in_sight}
 use Rattle.cow_split.proofs.RowLaws.{exact-in_use_alike}
 use Rattle.cow_fork.proofs.RootLaws.{exact-empty}
-use Rattle.page_store.proofs.HeldLaws.{same_content}
+use Rattle.vm_model.proofs.ContentLaws.{same_content}
 use Rattle.cow_forest.specs.Tables.{node_in}
 use Rattle.cow_forest.specs.Store.{Forest, tree, content_of, count_from, frame_from, page_showing, IsNodeOf, IsStore}
 use Rattle.cow_forest.proofs.ContentLaws.{page-shown, taken-shown}

@@ -20,8 +20,8 @@ use Rattle.cow_split.specs.Trees.{tree_of}
 use Rattle.cow_split.specs.Sight.{IsPage, StaysVisible}
 use Rattle.cow_split.specs.Exact.{IsExact, all_in_sight}
 use Rattle.cow_merge.specs.Ranges.{AreLinked}
-use Rattle.page_store.proofs.HeldLaws.{same_content}
-use Rattle.page_store.proofs.ViewerLaws.{vmos_of-same, vmos_of-created}
+use Rattle.vm_model.proofs.ContentLaws.{same_content}
+use Rattle.vm_model.proofs.CountLaws.{vmos_of-same, vmos_of-created}
 use Rattle.cow_forest.specs.Tables.{NodeEntries, node_in}
 use Rattle.cow_forest.specs.Store.{Forest, tree, content_of, count_from, pages_in, frame_from, page_showing, HasNode, IsNodeOf, IsStore}
 use Rattle.cow_forest.proofs.ContentLaws.{node-visible, frame-past}

@@ -21,8 +21,8 @@ use Rattle.cow_arena.specs.Walk.{frame_at}
 use Rattle.cow_arena.specs.Forest.{IsForest, IsChild}
 use Rattle.cow_split.specs.Sight.{IsPage}
 use Rattle.cow_merge.specs.Merging.{HasListOfParent, HasClosed}
-use Rattle.page_store.proofs.HeldLaws.{same_content}
-use Rattle.page_store.proofs.ViewerLaws.{vmos_of-same, vmos_of-less}
+use Rattle.vm_model.proofs.ContentLaws.{same_content}
+use Rattle.vm_model.proofs.CountLaws.{vmos_of-same, vmos_of-less}
 use Rattle.cow_forest.specs.Tables.{NodeEntries, node_in, IsDisowned, AreMerged, HasOneOf}
 use Rattle.cow_forest.specs.Store.{Forest, tree, content_of, count_from, pages_in, frame_from, page_showing, HasNode, IsNodeOf, IsStore}
 use Rattle.cow_forest.proofs.ContentLaws.{node-visible, node-of, one-node, one-vmo, vmo-below, page-of, count-of, frame-past}

@@ -31,8 +31,8 @@ use Rattle.cow_merge.specs.Ranges.{GivesBack}
 use Rattle.cow_merge.specs.Merging.{with_count, HasShrunk}
 use Rattle.cow_merge.proofs.CountLaws.{walk-grown, exact-grown}
 use Rattle.cow_merge.proofs.ShrinkLaws.{tree-now}
-use Rattle.page_store.proofs.HeldLaws.{same_content}
-use Rattle.page_store.proofs.ViewerLaws.{vmos_of-same}
+use Rattle.vm_model.proofs.ContentLaws.{same_content}
+use Rattle.vm_model.proofs.CountLaws.{vmos_of-same}
 use Rattle.cow_forest.specs.Tables.{node_in}
 use Rattle.cow_forest.specs.Store.{Forest, tree, content_of, count_from, pages_in, frame_from, page_showing, HasNode, IsNodeOf, IsStore}
 use Rattle.cow_forest.proofs.ContentLaws.{node-visible, node-of, one-vmo, page-of, pages-of, count-of, frame-past}

@@ -4,7 +4,7 @@ use Rattle.std.proofs.lemmas.Bool.{cases_lt}
 use Rattle.balanced_tree.specs.Rows.{Rows}
 use Rattle.vm_model.specs.Contents.Content.{Content, hold}
 use Rattle.vm_model.specs.Contents.Zeroing.{zeroed}
-use Rattle.vm_model.proofs.ContentLaws.{same_page, page-hold_here, page-hold_other}
+use Rattle.vm_model.proofs.ContentLaws.{same_page, page-hold_here, page-hold_other, same_content}
 use Rattle.vm_model.proofs.ZeroingLaws.{page-zeroed_in, page-zeroed_out}
 use Rattle.frame_pool.specs.Pool.{Pool, frame_bytes, is_taken}
 use Rattle.page_list.specs.declared.row.Row.{Row}
@@ -14,8 +14,7 @@ use Rattle.cow_split.specs.Trees.{tree_of}
 use Rattle.cow_split.specs.Sight.{IsPage, OthersShowSame}
 use Rattle.cow_split.specs.Exact.{IsExact, all_in_sight}
 use Rattle.cow_merge.specs.Ranges.{AreLinked}
-use Rattle.page_store.proofs.HeldLaws.{same_content}
-use Rattle.page_store.proofs.ViewerLaws.{vmos_of-same}
+use Rattle.vm_model.proofs.CountLaws.{vmos_of-same}
 use Rattle.cow_forest.specs.Tables.{node_in}
 use Rattle.cow_forest.specs.Store.{Forest, tree, content_of, frame_from, page_with, page_showing, HasNode, IsStore}
 use Rattle.cow_forest.proofs.ContentLaws.{node-visible, one-vmo, page-of, frame-past}

@@ -18,7 +18,7 @@ use Rattle.cow_split.specs.Exact.{all_in_sight}
 use Rattle.cow_split.proofs.RowLaws.{frame-in_use}
 use Rattle.cow_merge.specs.Ranges.{AreLinked}
 use Rattle.page_store.specs.Held.{held_from}
-use Rattle.page_store.proofs.HeldLaws.{same_content}
+use Rattle.vm_model.proofs.ContentLaws.{same_content}
 use Rattle.cow_forest.specs.Tables.{node_in}
 use Rattle.cow_forest.specs.Store.{Forest, tree, content_of, count_from, page_showing, HasNode, IsStore}
 use Rattle.cow_forest.specs.Ranges.{shown_from, IsReady, HasZeroedSome, AreZero}

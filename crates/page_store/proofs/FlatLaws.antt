@@ -17,7 +17,7 @@ use Rattle.pair_map.specs.Maps.{values_of, with_pair, count_of, IsNext}
 use Rattle.vm_model.specs.Contents.Content.{Page, Content, has_tag, nothing, pages_of, views, in_use, used, vmos_of, is_sole_page, sole, created, IsGood}
 use Rattle.vm_model.specs.Contents.Sharing.{viewers, IsLeastViewer, snapshotted, without, only}
 use Rattle.vm_model.specs.Contents.Zeroing.{zeroed, resized}
-use Rattle.vm_model.proofs.ContentLaws.{in_use_at, count_from_page, views_found, zero_not_held, held_once, has_tag_held, has_tag_from, IsGood-created, IsGood-nothing}
+use Rattle.vm_model.proofs.ContentLaws.{in_use_at, count_from_page, views_found, zero_not_held, held_once, has_tag_held, has_tag_from, IsGood-created, IsGood-nothing, same_content}
 use Rattle.vm_model.proofs.SharingLaws.{views_held, koid_held, koid_some, IsGood-only, IsGood-snapshotted}
 use Rattle.vm_model.proofs.ZeroingLaws.{IsGood-resized, page_past}
 use Rattle.page_store.specs.Pages.{look_at, ShowsTag, IsShown}
@@ -25,8 +25,9 @@ use Rattle.page_store.specs.declared.page_store.Look.TheVariants as look
 use Rattle.page_store.specs.Held.{IsNextBelow, HasNoneBelow, held_from, showing}
 use Rattle.page_store.specs.Flat.{Flat, page_with, page_from, content_of, IsFlat}
 use Rattle.page_store.proofs.NameLaws.{pages_of_le}
-use Rattle.page_store.proofs.HeldLaws.{same_content, showing-created}
-use Rattle.page_store.proofs.ViewerLaws.{in_use-viewers, sole-viewers, viewers-pages, vmos_of-same, vmos_of-created, vmos_of-without}
+use Rattle.page_store.proofs.HeldLaws.{showing-created}
+use Rattle.vm_model.proofs.CountLaws.{vmos_of-same, vmos_of-created, vmos_of-without}
+use Rattle.page_store.proofs.ViewerLaws.{in_use-viewers, sole-viewers, viewers-pages}
 
 -- a held page has the frame of its entry
 pub page_found : (pool : Pool) (o : Option Tag) (held : Page) → page_from pool o ≡ Some held → (tag : Tag) × (o ≡ Some tag) × (page_with pool tag ≡ held)

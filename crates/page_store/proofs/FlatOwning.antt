@@ -17,10 +17,10 @@ use Rattle.vm_model.specs.Contents.Content.{Page, shown, has_tag, pages_of, in_u
 use Rattle.vm_model.specs.Contents.Owning.{Owns}
 use Rattle.vm_model.specs.Contents.Sharing.{viewers}
 use Rattle.vm_model.specs.Contents.Zeroing.{zeroed}
-use Rattle.vm_model.proofs.ContentLaws.{has_tag_held, not_in_use, sole-zero, IsGood-hold_new, bytes_of-none, bytes_of-some}
+use Rattle.vm_model.proofs.ContentLaws.{has_tag_held, not_in_use, sole-zero, IsGood-hold_new, bytes_of-none, bytes_of-some, same_content}
 use Rattle.page_store.specs.Flat.{Flat, page_with, page_from, content_of, IsFlat}
-use Rattle.page_store.proofs.HeldLaws.{same_content}
-use Rattle.page_store.proofs.ViewerLaws.{IsOneMore-hold, IsOneMore-zeroed, IsOneMore-moved, viewers-more, vmos_of-same}
+use Rattle.vm_model.proofs.CountLaws.{vmos_of-same}
+use Rattle.page_store.proofs.ViewerLaws.{IsOneMore-hold, IsOneMore-zeroed, IsOneMore-moved, viewers-more}
 use Rattle.page_store.proofs.FlatLaws.{taken_in_use, used_taken, page_is, frame_is, share_is, sole_is}
 
 -- a list of counts where one is set

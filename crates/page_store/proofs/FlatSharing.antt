@@ -12,12 +12,12 @@ use Rattle.pair_map.specs.Maps.{values_of, with_pair}
 use Rattle.vm_model.specs.Contents.Content.{Content, vmos_of, hold, IsGood}
 use Rattle.vm_model.specs.Contents.Sharing.{viewers}
 use Rattle.vm_model.specs.Contents.Zeroing.{zeroed}
-use Rattle.vm_model.proofs.ContentLaws.{in_use_at}
+use Rattle.vm_model.proofs.ContentLaws.{in_use_at, same_content}
 use Rattle.vm_model.proofs.ZeroingLaws.{cases_zeroed, page-zeroed_in, page-zeroed_out, IsGood-zeroed, zeroed-none}
 use Rattle.page_store.specs.Pages.{IsShown}
 use Rattle.page_store.specs.Flat.{Flat, page_with, page_from, content_of, IsFlat}
-use Rattle.page_store.proofs.HeldLaws.{same_content}
-use Rattle.page_store.proofs.ViewerLaws.{in_use-viewers, viewers_le, IsOneMore-hold, IsOneMore-zeroed, viewers-more, vmos_of-same}
+use Rattle.vm_model.proofs.CountLaws.{vmos_of-same}
+use Rattle.page_store.proofs.ViewerLaws.{in_use-viewers, viewers_le, IsOneMore-hold, IsOneMore-zeroed, viewers-more}
 use Rattle.page_store.proofs.FlatLaws.{shown_frame, page_is, tag_below}
 use Rattle.page_store.proofs.FlatOwning.{set_at}
 

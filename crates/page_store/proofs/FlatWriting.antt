@@ -12,12 +12,12 @@ use Rattle.pair_map.specs.Maps.{values_of}
 use Rattle.vm_model.specs.Contents.Content.{Page, Content, pages_of, views, has_tag, hold, IsGood}
 use Rattle.vm_model.specs.Contents.Sharing.{viewers}
 use Rattle.vm_base.specs.Pages.{replaced}
-use Rattle.vm_model.proofs.ContentLaws.{has_tag_from, has_tag_held, sole_from, IsGood-hold_bytes}
+use Rattle.vm_model.proofs.ContentLaws.{has_tag_from, has_tag_held, sole_from, IsGood-hold_bytes, same_content}
 use Rattle.vm_base.proofs.PageLaws.{length-replaced}
 use Rattle.page_store.specs.Pages.{ShowsTag, IsShown, IsShownOnce, Overwrites}
 use Rattle.page_store.specs.Flat.{Flat, page_from, content_of, IsFlat}
-use Rattle.page_store.proofs.HeldLaws.{same_content}
-use Rattle.page_store.proofs.ViewerLaws.{viewers-same, vmos_of-same}
+use Rattle.vm_model.proofs.CountLaws.{vmos_of-same}
+use Rattle.page_store.proofs.ViewerLaws.{viewers-same}
 use Rattle.page_store.proofs.FlatLaws.{shown_frame, shown_bytes}
 use Rattle.page_store.proofs.FlatOwning.{page_from-with, is_some-with_key}
 

@@ -6,14 +6,10 @@ use Rattle.vm_base.proofs.SearchLaws.{bit-true, count_below-suc, count_below_gap
 use Rattle.vm_model.specs.Contents.Content.{Content, Page, is_held, hold, created, IsGood}
 use Rattle.vm_model.specs.Contents.Sharing.{page_seen, snapshotted}
 use Rattle.vm_model.specs.Contents.Zeroing.{zeroed}
-use Rattle.vm_model.proofs.ContentLaws.{is_held-zero, IsGood-part, own_pages, pages_of-same}
+use Rattle.vm_model.proofs.ContentLaws.{same_content, is_held-zero, IsGood-part, own_pages, pages_of-same}
 use Rattle.vm_model.proofs.ZeroingLaws.{zeroed-none}
 use Rattle.vm_base.specs.Entries.{with_key}
 use Rattle.page_store.specs.Held.{IsNextBelow, HasNoneBelow, held_from, showing}
-
--- two contents that answer alike are equal
-pub same_content : (c d : Content) → c.frames ≡ d.frames → c.next ≡ d.next → ((v : ℕ) → c.count v ≡ d.count v) → ((v p : ℕ) → c.page v p ≡ d.page v p) → c ≡ d
-same_content c d frames next count page = λ i. record { frames = frames i; next = next i; count = λ v. count v i; page = λ v p. page v p i }
 
 -- ---- how many are held
 

@@ -12,6 +12,10 @@ use Rattle.vm_base.specs.Pages.{zeros}
 use Rattle.vm_base.proofs.EntryLaws.{with_key-other, with_key-cases}
 use Rattle.vm_base.proofs.SearchLaws.{any_below_found, any_below_at, any_below_same, count_below_same, count_below_one_more, count_below_none, eqb_same, eqb_apart, eqb_is}
 
+-- two contents that answer alike are equal
+pub same_content : (c d : Content) → c.frames ≡ d.frames → c.next ≡ d.next → ((v : ℕ) → c.count v ≡ d.count v) → ((v p : ℕ) → c.page v p ≡ d.page v p) → c ≡ d
+same_content c d frames next count page = λ i. record { frames = frames i; next = next i; count = λ v. count v i; page = λ v p. page v p i }
+
 -- ---- what the words say of options
 
 pub pages_of-at : (c : Content) (v n : ℕ) → c.count v ≡ Some n → pages_of c v ≡ n

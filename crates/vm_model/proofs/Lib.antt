@@ -1,6 +1,7 @@
 pub mod ContentLaws
 pub mod OwningLaws
 pub mod SharingLaws
+pub mod CountLaws
 pub mod ZeroingLaws
 pub mod RangeLaws
 pub mod WritingLaws
