@@ -1,0 +1,6 @@
+pub mod LinkLaws
+pub mod RowLaws
+pub mod ChangeLaws
+pub mod SnapshotLaws
+pub mod VmoLaws
+pub mod CountLaws

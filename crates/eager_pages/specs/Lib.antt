@@ -1,0 +1,2 @@
+pub mod Eager
+pub mod inside

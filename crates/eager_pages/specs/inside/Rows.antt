@@ -1,0 +1,48 @@
+-- What is found among the rows of a VMO, and among the VMOs that show a frame.
+use Rattle.std.specs.Prelude.{◌≡◌, ◌≢◌, ℕ, zero, suc, ◌+◌, ◌<◌, ◌≤◌, cond, Option, None, IsSome}
+use Rattle.vm_model.specs.Contents.Content.{Content, is_held}
+
+-- page p is the first of v that is held from page `from` on, and is below `end`
+pub record IsNextBelow (c : Content) (v from end p : ℕ) : Type 0 where
+  pub order : from ≤ p
+  pub below : p < end
+  pub held : IsSome (c.page v p)
+  pub gap : (q : ℕ) → from ≤ q → q < p → c.page v q ≡ None
+
+-- no page of v from `from` to below `end` is held
+pub record HasNoneBelow (c : Content) (v from end : ℕ) : Type 0 where
+  pub none : (q : ℕ) → from ≤ q → q < end → c.page v q ≡ None
+
+-- how many of the n pages of v from one on are held
+unfoldable pub held_in : Content → (v from n : ℕ) → ℕ
+held_in c v from zero = 0
+held_in c v from (suc n) = cond (is_held c v from) 1 0 + held_in c v (from + 1) n
+
+-- no VMO but v shows the frame
+pub record IsAlone (viewers : ℕ → Option ℕ) (v : ℕ) : Type 0 where
+  pub none : (w : ℕ) → w ≢ v → viewers w ≡ None
+
+-- a VMO other than v shows the frame
+pub record HasOther (viewers : ℕ → Option ℕ) (v : ℕ) : Type 0 where
+  pub w : ℕ
+  pub other : w ≢ v
+  pub shows : IsSome (viewers w)
+
+-- no VMO with a lesser koid than v shows the frame
+pub record HasNoLess (viewers : ℕ → Option ℕ) (v : ℕ) : Type 0 where
+  pub none : (w : ℕ) → w < v → viewers w ≡ None
+
+-- a VMO with a lesser koid than v shows the frame
+pub record HasLess (viewers : ℕ → Option ℕ) (v : ℕ) : Type 0 where
+  pub w : ℕ
+  pub below : w < v
+  pub shows : IsSome (viewers w)
+
+-- some VMO shows the frame
+pub record HasAny (viewers : ℕ → Option ℕ) : Type 0 where
+  pub w : ℕ
+  pub shows : IsSome (viewers w)
+
+-- no VMO shows the frame
+pub record HasNone (viewers : ℕ → Option ℕ) : Type 0 where
+  pub none : (w : ℕ) → viewers w ≡ None
