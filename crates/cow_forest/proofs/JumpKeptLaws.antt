@@ -1,4 +1,4 @@
--- The jumps stay right where rows go, where a VMO's node gets rows, where a VMO comes, and where a snapshot is made.
+-- The jumps stay right where a VMO's node gets rows, where a VMO comes, changes its page count or goes, and where a snapshot is made.
 use Rattle.std.proofs.Common.{◌≡◌, ◌≢◌, ◌⊎◌, min, ℕ, ◌+◌, Option, None, Some, IsSome, inl, inr, refl, sym, ap, subst, ◌∙◌, arith, ◌<◌}
 use Rattle.std.specs.Prelude.{is_some, if◌then◌else◌, ◌==◌, Bool, true, false}
 use Rattle.std.specs.Option.{option_map}
@@ -21,7 +21,7 @@ use Rattle.cow_arena.specs.Ways.{KeepsBare}
 use Rattle.cow_arena.proofs.PairWalkLaws.{paired_tree, leaf-at, hidden-at, other-at}
 use Rattle.cow_arena.proofs.RelinkLaws.{relinked-stays, relinked-was}
 use Rattle.cow_arena.specs.Views.{KeepsRises}
-use Rattle.cow_arena.proofs.RisesLaws.{rises-bare, rises-stays, rises-changed, rises-paired, rises-hidden}
+use Rattle.cow_arena.proofs.RisesLaws.{rises-stays, rises-changed, rises-paired, rises-hidden}
 use Rattle.cow_arena.proofs.MovedLaws.{IsChangeOf}
 use Rattle.cow_arena.proofs.WindowWalkLaws.{node-added, leaf-changed}
 use Rattle.cow_split.specs.Trees.{tree_of}
@@ -29,15 +29,12 @@ use Rattle.cow_split.proofs.PartLaws.{bare-part}
 use Rattle.cow_fork.specs.Sharing.{HasShared}
 use Rattle.cow_fork.specs.Snapshots.{split_slots, split_row, is_taken_in}
 use Rattle.cow_merge.specs.Merging.{with_count, HasShrunk}
-use Rattle.cow_forest.specs.declared.jumps.Jump.{Jump}
-use Rattle.cow_forest.specs.declared.jumps.JumpTable.{JumpTable}
-use Rattle.cow_forest.specs.inside.Jumps.{jump_in, serial_in, IsTaken, IsJump, AreJumps, AreMovedUp, ArePairRetired}
+use Rattle.cow_jump.specs.declared.jumps.Jump.{Jump}
+use Rattle.cow_jump.specs.declared.jumps.JumpTable.{JumpTable}
+use Rattle.cow_jump.proofs.JumpRowLaws.{jumps-alike, jump-bare, jumps-bare, taken-retired, less-retired}
+use Rattle.cow_jump.specs.Jumps.{jump_in, serial_in, IsTaken, IsJump, AreJumps, AreMovedUp, ArePairRetired}
 use Rattle.cow_forest.specs.Store.{Forest, tree, HasNode, IsStore}
 use Rattle.cow_forest.proofs.ContentLaws.{node-visible}
-
--- the same tree has the same jumps
-pub jumps-alike : (t u : Tree) (next : ℕ) (table : JumpTable) → t ≡ u → AreJumps t next table → AreJumps u next table
-jumps-alike t u next table same are = subst (λ (x : Tree). AreJumps x next table) same are
 
 pub tree-alike : (old new : Arena) (rows : Rows Row) → nodes_of new ≡ nodes_of old → new.lists ≡ old.lists → tree_of old rows ≡ tree_of new rows
 tree-alike old new rows nodes lists = λ i. record (tree_of old rows) { nodes = sym nodes i; lists = sym lists i }
@@ -49,23 +46,6 @@ jumps-roomy arena old new rows next table are =
     jumps-alike (tree_of arena old) (tree_of arena new) next table (λ i. tree_of arena (record new { rows = sym rows i })) are
 
 -- ---- rows go, and a VMO's node gets some
-
-jump-bare : (t : Tree) (f : IsForest t.nodes t.lists) (slots : Slots) (v : ℕ) (leaf : Node) (visible : IsVisible t.nodes v leaf) →
-    KeepsBare t.slots slots leaf.list.0 → (k : ℕ) (jump : Jump) → IsJump t k jump → IsJump (record { nodes = t.nodes; slots = slots; lists = t.lists }) k jump
-jump-bare t f slots v leaf visible keeps k jump is = record {
-  there = is.there;
-  rises = λ p node at inside below clear.
-      rises-bare t f slots v leaf visible keeps k p jump.side jump.to.0 (p + jump.shift) (is.rises p node at inside below clear);
-}
-
-pub jumps-bare : (t : Tree) (f : IsForest t.nodes t.lists) (slots : Slots) (v : ℕ) (leaf : Node) (visible : IsVisible t.nodes v leaf) →
-    KeepsBare t.slots slots leaf.list.0 → (next : ℕ) (table : JumpTable) → AreJumps t next table →
-    AreJumps (record { nodes = t.nodes; slots = slots; lists = t.lists }) next table
-jumps-bare t f slots v leaf visible keeps next table are = record {
-  jumps = λ k jump has taken. jump-bare t f slots v leaf visible keeps k jump (are.jumps k jump has taken);
-  made = are.made;
-  serials = are.serials;
-}
 
 pub jumps-rows : (f : Forest) (s : IsStore f) (rows : Rows Row) (v k : ℕ) (h : HasNode f v k) →
     ((node : Node) → nodes_of f.arena k ≡ Some node → KeepsBare (slots_of f.rows) (slots_of rows) node.list.0) → (next : ℕ) (table : JumpTable) →
@@ -335,24 +315,14 @@ module _ (f : Forest) (s : IsStore f) (arena : Arena) (rows : Rows Row) (pool : 
 pub jumps-closed : (t u : Tree) (next v : ℕ) (old new : JumpTable) → AreJumps t next old → ArePairRetired t.nodes old new v → KeepsRises t u v →
     ((k : ℕ) (now : Node) → u.nodes k ≡ Some now → (node : Node) × (t.nodes k ≡ Some node)) → AreJumps u next new
 jumps-closed t u next v old new are retired keeps came = record {
-  jumps = λ k jump has taken. jump-closed k jump taken (are.jumps k jump (sym (retired.jumps k) ∙ has) (taken-was jump taken));
+  jumps = λ k jump has taken. jump-closed k jump taken (are.jumps k jump (sym (retired.jumps k) ∙ has) (taken-retired t.nodes v old new retired jump taken));
   made = λ k jump has. are.made k jump (sym (retired.jumps k) ∙ has);
-  serials = λ k. less k (retired.others k);
+  serials = less-retired t.nodes v next old new retired are.serials;
 }
   where
-    less : (k : ℕ) → (serial_in new k ≡ serial_in old k) ⊎ (serial_in new k ≡ 0) → serial_in new k < next
-    less k (inl same) = let was = are.serials k in omega arith
-    less k (inr none) = let was = are.serials k in omega arith
-
     -- a jump that is to be taken leads to a node that stays
     numbered : (jump : Jump) → IsTaken new jump → (k : ℕ) → jump.to.0 ≡ k → serial_in new k ≡ 0 → ⊥
     numbered jump taken k here none = let some = taken.some in let same = taken.same in let at = ap (serial_in new) here in absurd (omega arith)
-
-    taken-was : (jump : Jump) → IsTaken new jump → IsTaken old jump
-    taken-was jump taken = elim (retired.others jump.to.0) [
-      | inl same ↦ record { some = taken.some; same = sym same ∙ taken.same }
-      | inr none ↦ absurd (numbered jump taken jump.to.0 refl none)
-    ]
 
     stays : (jump : Jump) → IsTaken new jump → IsSome (t.nodes jump.to.0) → IsSome (u.nodes jump.to.0)
     stays jump taken some =

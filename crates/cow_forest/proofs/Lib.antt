@@ -18,7 +18,6 @@ pub mod EnterLaws
 pub mod MakingLaws
 pub mod SnapshotLaws
 pub mod OwnedLaws
-pub mod JumpLaws
 pub mod JumpKeptLaws
 pub mod RangeLaws
 pub mod RisingLaws

@@ -2,4 +2,3 @@ pub mod Fields
 pub mod TableFields
 pub mod Looking
 pub mod Viewing
-pub mod Jumps

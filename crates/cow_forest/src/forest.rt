@@ -20,8 +20,6 @@ ghost use Rattle.cow_forest.specs.Owning.{HasOwnRow};
 ghost use Rattle.cow_forest.specs.Counting.{frame_row_count};
 ghost use Rattle.cow_forest.specs.Ranges.{rows_reached};
 
-use crate::jumping::{note_pair, retire_pair};
-use crate::jumps::JumpTable;
 use crate::looking::{look_at, look_at_counted, next_shown};
 use crate::node_table::NodeTable;
 use crate::owning::own_page;
@@ -30,7 +28,8 @@ use crate::tables::{disown, leave_other, make_room};
 use crate::viewing::{least_koid_of, viewer_count_of};
 use cow_arena::CowArena;
 use cow_fork::{mark_zero, share};
-use cow_merge::{close, shrink};
+use cow_jump::{JumpTable, note_pair, retire_pair};
+use cow_merge::{close_by_jumps, shrink_by_jumps};
 use frame_pool::FramePool;
 use page_list::{PageLists, Steps};
 use page_store::{Look, PageStore};
@@ -241,7 +240,14 @@ impl PageStore for CowForest {
         )?;
         self.jumps.grow(self.arena.capacity());
         self.jumps.move_up(node, pair.hidden, pair.child, koid.0);
-        note_pair(&mut self.jumps, &self.arena, &self.lists, node, pair.child);
+        note_pair(
+            &mut self.jumps,
+            &self.arena,
+            &self.lists,
+            pair.hidden,
+            node,
+            pair.child,
+        );
         self.nodes.enter(koid.0, pair.child);
         self.owners
             .enter(self.arena.node(pair.hidden).list.0, pair.hidden);
@@ -313,10 +319,11 @@ impl PageStore for CowForest {
     {
         let node = self.nodes.get(v.0);
         if count < self.arena.node(node).count {
-            shrink(
+            shrink_by_jumps(
                 &mut self.arena,
                 &mut self.lists,
                 &mut self.frames,
+                &self.jumps,
                 node,
                 count,
             );
@@ -333,7 +340,13 @@ impl PageStore for CowForest {
         let node = self.nodes.get(v.0);
         retire_pair(&mut self.jumps, &self.arena, node);
         let merged = disown(&mut self.owners, &self.arena, node);
-        close(&mut self.arena, &mut self.lists, &mut self.frames, node);
+        close_by_jumps(
+            &mut self.arena,
+            &mut self.lists,
+            &mut self.frames,
+            &self.jumps,
+            node,
+        );
         leave_other(&mut self.owners, &self.arena, merged);
         self.nodes.leave(v.0);
         self.vmos -= 1;

@@ -7,8 +7,6 @@
 #![tactic(auto)]
 
 mod forest;
-mod jumping;
-mod jumps;
 mod looking;
 mod node_table;
 mod owning;

@@ -8,12 +8,11 @@ ghost use Rattle.cow_split.specs.Trees.{tree_of, holder_of};
 ghost use Rattle.cow_split.specs.Cost.{IsMostOfLookUp, depth};
 ghost use Rattle.cow_split.specs.Sight.{IsPage};
 ghost use Rattle.cow_split.specs.Exact.{IsExact, all_in_sight};
-ghost use Rattle.cow_forest.specs.inside.Jumps.{AreJumps};
+ghost use Rattle.cow_jump.specs.Jumps.{AreJumps};
 ghost use Rattle.cow_forest.specs.inside.Looking.{look_in, IsLook, ShowsNoneIn, ShowsNoneFrom, IsNextBelow, nearer_page};
 
-use crate::jumping::{above_by_jumps, holder_by_jumps_counted};
-use crate::jumps::JumpTable;
 use cow_arena::{CowArena, NodeId};
+use cow_jump::{JumpTable, above_by_jumps, holder_by_jumps_counted};
 use cow_split::{Holder, holder, is_last};
 use page_list::{ListId, PageLists, Slot, Steps};
 use page_store::Look;

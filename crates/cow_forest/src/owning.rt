@@ -8,13 +8,12 @@ ghost use Rattle.cow_split.specs.Sight.{IsPage};
 ghost use Rattle.cow_split.specs.Exact.{IsExact, all_in_sight};
 ghost use Rattle.cow_fork.specs.Frames.{HasSole, HasFree};
 ghost use Rattle.cow_merge.specs.Ranges.{AreLinked};
-ghost use Rattle.cow_forest.specs.inside.Jumps.{AreJumps};
+ghost use Rattle.cow_jump.specs.Jumps.{AreJumps};
 ghost use Rattle.cow_forest.specs.Owning.{own_frame, HasOwned};
 
-use crate::jumping::holder_by_jumps;
-use crate::jumps::JumpTable;
 use cow_arena::{CowArena, NodeId};
 use cow_fork::fork_holder;
+use cow_jump::{JumpTable, holder_by_jumps};
 use cow_split::Holder;
 use frame_pool::{Backlink, FramePool};
 use page_list::{PageLists, Slot};

@@ -13,3 +13,4 @@ pub mod UncoverLaws
 pub mod BesideLaws
 pub mod WitnessLaws
 pub mod KeptWaysLaws
+pub mod JumpingLaws

@@ -1,11 +1,12 @@
 //! Closing a VMO.
 
-ghost use Rattle.std.specs.Prelude.{IsSomeAnd, IsSome};
+ghost use Rattle.std.specs.Prelude.{ℕ, IsSomeAnd, IsSome, option_copied};
 ghost use Rattle.cow_arena.specs.Nodes.{nodes_of};
 ghost use Rattle.cow_arena.specs.Views.{KeepsRises};
 ghost use Rattle.cow_split.specs.Trees.{tree_of};
 ghost use Rattle.cow_split.specs.Exact.{IsExact, all_in_sight};
 ghost use Rattle.frame_pool.specs.Pool.{is_taken};
+ghost use Rattle.cow_jump.specs.Jumps.{AreJumps, MayJump};
 ghost use Rattle.cow_merge.specs.Merging.{HasClosed};
 
 use crate::handing::{goes_over, hand_over};
@@ -13,6 +14,7 @@ use crate::lifting::lift_rows;
 use crate::ranges::{leave_out, leave_out_above};
 use crate::uncovering::uncover;
 use cow_arena::{CowArena, NodeId};
+use cow_jump::JumpTable;
 use frame_pool::FramePool;
 use page_list::PageLists;
 
@@ -28,7 +30,8 @@ use page_list::PageLists;
 ///   (`leave_out_beside`);
 /// - the rows above the parent that are reached by pages outside the windows of this way, which is all pages if the way
 ///   is longer than 64 nodes;
-/// - at each row of the last two kinds, a search for another VMO that sees there what the page sees;
+/// - for each row on this way, a walk up to the row that its page sees, past the nodes between or by jumps;
+/// - at each row above the parent, a search for another VMO that sees there what the page sees;
 /// - the rows of the parent, and for each that moves into a hidden sibling, a search on each side of the sibling;
 /// - if the list is taken over, in place of all rows of the parent: the sibling's rows, the rows under own rows of the
 ///   node, and the rows outside one of the two windows;
@@ -41,18 +44,52 @@ pub fn close(arena: &mut CowArena, lists: &mut PageLists, frames: &mut FramePool
     ensures closed { HasClosed arena.old arena.new lists.old lists.new frames.old frames.new leaf.0 }
     ensures ways { KeepsRises (tree_of arena.old lists.old) (tree_of arena.new lists.new) leaf.0 }
 {
+    close_with(arena, lists, frames, None, leaf);
+}
+
+/// Does what `close` does, and goes up to rows by jumps where they serve.
+pub fn close_by_jumps(
+    arena: &mut CowArena,
+    lists: &mut PageLists,
+    frames: &mut FramePool,
+    jumps: &JumpTable,
+    leaf: NodeId,
+)
+    requires exact { IsExact (tree_of arena.old lists.old) all_in_sight (is_taken frames.old) }
+    requires leaf { IsSomeAnd (nodes_of arena.old leaf.0) (λ node. IsSome node.koid) }
+    requires jumps { (next : ℕ) × AreJumps (tree_of arena.old lists.old) next jumps.now }
+    ensures closed { HasClosed arena.old arena.new lists.old lists.new frames.old frames.new leaf.0 }
+    ensures ways { KeepsRises (tree_of arena.old lists.old) (tree_of arena.new lists.new) leaf.0 }
+{
+    close_with(arena, lists, frames, Some(jumps), leaf);
+}
+
+/// Does what `close` does, by these jumps, if there are any.
+fn close_with(
+    arena: &mut CowArena,
+    lists: &mut PageLists,
+    frames: &mut FramePool,
+    jumps: Option<&JumpTable>,
+    leaf: NodeId,
+)
+    requires exact { IsExact (tree_of arena.old lists.old) all_in_sight (is_taken frames.old) }
+    requires leaf { IsSomeAnd (nodes_of arena.old leaf.0) (λ node. IsSome node.koid) }
+    requires jumps { MayJump (tree_of arena.old lists.old) (option_copied jumps) }
+    ensures closed { HasClosed arena.old arena.new lists.old lists.new frames.old frames.new leaf.0 }
+    ensures ways { KeepsRises (tree_of arena.old lists.old) (tree_of arena.new lists.new) leaf.0 }
+{
     let (Some(hidden), Some(sibling)) = (arena.node(leaf).parent, arena.sibling(leaf)) else {
-        leave_out(arena, lists, frames, leaf, 0);
+        leave_out(arena, lists, frames, jumps, leaf, 0);
         arena.remove_root(leaf);
         return;
     };
     if goes_over(arena, lists, hidden, sibling) {
         uncover(arena, lists, frames, leaf, hidden, sibling);
-        leave_out_above(arena, lists, frames, leaf, hidden, sibling);
+        leave_out_above(arena, lists, frames, jumps, leaf, hidden, sibling);
         hand_over(arena, lists, frames, leaf, hidden, sibling);
         arena.splice_over(leaf);
     } else {
-        leave_out_above(arena, lists, frames, leaf, hidden, sibling);
+        leave_out_above(arena, lists, frames, jumps, leaf, hidden, sibling);
         lift_rows(arena, lists, frames, leaf, hidden, sibling, 0, None);
         arena.splice(leaf);
     }

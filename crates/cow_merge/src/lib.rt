@@ -15,5 +15,5 @@ mod shrinking;
 mod uncovering;
 mod witness;
 
-pub use closing::close;
-pub use shrinking::shrink;
+pub use closing::{close, close_by_jumps};
+pub use shrinking::{shrink, shrink_by_jumps};

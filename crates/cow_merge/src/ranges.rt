@@ -1,6 +1,6 @@
 //! Leaving a range of pages of a VMO's node out of sight.
 
-ghost use Rattle.std.specs.Prelude.{◌≡◌, ◌+◌, ◌^◌, ◌<◌, ◌≤◌, ℕ, true, Option, None, Some, IsSome, IfSome, IfNone, IsSomeAnd};
+ghost use Rattle.std.specs.Prelude.{◌≡◌, ◌+◌, ◌^◌, ◌<◌, ◌≤◌, ℕ, true, Option, None, Some, IsSome, IfSome, IfNone, IsSomeAnd, option_copied};
 ghost use Rattle.balanced_tree.specs.Rows.{Rows};
 ghost use Rattle.page_list.specs.declared.row.Row.{Row};
 ghost use Rattle.page_list.specs.Lists.{slots_of};
@@ -17,11 +17,13 @@ ghost use Rattle.cow_split.specs.Exact.{IsExact, all_in_sight};
 ghost use Rattle.cow_split.specs.Cutting.{frame_left};
 ghost use Rattle.cow_split.specs.declared.answers.Cut.TheVariants as cut;
 ghost use Rattle.balanced_tree.specs.Pairs.{IsNext};
+ghost use Rattle.cow_jump.specs.Jumps.{MayJump};
 ghost use Rattle.cow_merge.specs.inside.Lifting.{IsFamilyOf};
 ghost use Rattle.cow_merge.specs.Ranges.{IsOutside, no_pages, IsNextOutside, bare_of, is_split, HasGiven, IsBare, IsPassing, IsUnderWay, IsSparing, IsOnlyWay, HasPassedRow, KeepsList, KeepsOthers, HasLeftOut, IsExactFor};
 
 use crate::witness::leave_out_beside;
 use cow_arena::{CowArena, Node, NodeId, Side};
+use cow_jump::JumpTable;
 use cow_split::{Cut, cut_row};
 use frame_pool::FramePool;
 use page_list::{ListId, PageLists, Slot};
@@ -42,11 +44,13 @@ pub(crate) fn leave_out(
     arena: &CowArena,
     lists: &mut PageLists,
     frames: &mut FramePool,
+    jumps: Option<&JumpTable>,
     leaf: NodeId,
     first: PageNo,
 )
     requires exact { IsExact (tree_of arena.now lists.old) all_in_sight (is_taken frames.old) }
     requires leaf { IsSomeAnd (nodes_of arena.now leaf.0) (λ node. IsSome node.koid) }
+    requires jumps { MayJump (tree_of arena.now lists.old) (option_copied jumps) }
     ensures left { (node : Node) → nodes_of arena.now leaf.0 ≡ Some node →
         HasLeftOut arena.now lists.old lists.new frames.old frames.new leaf.0 node first }
     ensures part { IsPartOf (slots_of lists.old) (slots_of lists.new) }
@@ -69,7 +73,7 @@ pub(crate) fn leave_out(
         arena, lists, frames, leaf, first, skip, hidden, above, side, shift, to,
     );
     leave_out_further(
-        arena, lists, frames, leaf, first, hidden, sibling, shift, to,
+        arena, lists, frames, jumps, leaf, first, hidden, sibling, shift, to,
     );
 }
 
@@ -79,6 +83,7 @@ pub(crate) fn leave_out_above(
     arena: &CowArena,
     lists: &mut PageLists,
     frames: &mut FramePool,
+    jumps: Option<&JumpTable>,
     leaf: NodeId,
     hidden: NodeId,
     sibling: NodeId,
@@ -86,6 +91,7 @@ pub(crate) fn leave_out_above(
     requires exact { IsExact (tree_of arena.now lists.old) all_in_sight (is_taken frames.old) }
     requires leaf { IsSomeAnd (nodes_of arena.now leaf.0) (λ node. IsSome node.koid × (node.parent ≡ Some hidden)) }
     requires family { IsFamilyOf arena.now leaf.0 hidden.0 sibling.0 }
+    requires jumps { MayJump (tree_of arena.now lists.old) (option_copied jumps) }
     ensures sparing { IsSparing arena.now lists.old lists.new frames.old frames.new leaf.0 0 (Some hidden) }
     ensures kept { (above : Node) → nodes_of arena.now hidden.0 ≡ Some above → KeepsList lists.old lists.new above.list.0 }
 {
@@ -95,7 +101,7 @@ pub(crate) fn leave_out_above(
     prove!(above.count <= u64::MAX);
     let to = node.first + node.seen;
     leave_out_further(
-        arena, lists, frames, leaf, 0, hidden, sibling, node.first, to,
+        arena, lists, frames, jumps, leaf, 0, hidden, sibling, node.first, to,
     );
 }
 
@@ -106,6 +112,7 @@ fn leave_out_further(
     arena: &CowArena,
     lists: &mut PageLists,
     frames: &mut FramePool,
+    jumps: Option<&JumpTable>,
     leaf: NodeId,
     first: PageNo,
     hidden: NodeId,
@@ -119,13 +126,14 @@ fn leave_out_further(
     requires base { (node : Node) → nodes_of arena.now leaf.0 ≡ Some node → shift ≡ node.first }
     requires end { (node : Node) → nodes_of arena.now leaf.0 ≡ Some node → to ≤ shift + node.seen }
     requires range { first + shift < 2 ^ 64 }
+    requires jumps { MayJump (tree_of arena.now lists.old) (option_copied jumps) }
     ensures sparing { (old : Rows Row) (before : Pool) (spared : Option NodeId) (above : Node) → nodes_of arena.now hidden.0 ≡ Some above →
         IsPassing arena.now old lists.old before frames.old leaf.0 first no_pages spared above shift to to →
         IsSparing arena.now old lists.new before frames.new leaf.0 first spared }
     ensures kept { (above : Node) → nodes_of arena.now hidden.0 ≡ Some above → KeepsList lists.old lists.new above.list.0 }
 {
     let skip = leave_out_beside(
-        arena, lists, frames, leaf, first, hidden, sibling, shift, to,
+        arena, lists, frames, jumps, leaf, first, hidden, sibling, shift, to,
     );
     let above = arena.node(hidden);
     cut_upwards(

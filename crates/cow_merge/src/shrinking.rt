@@ -1,16 +1,18 @@
 //! Shrinking a VMO.
 
-ghost use Rattle.std.specs.Prelude.{◌≡◌, ◌≤◌, Some, IsSomeAnd, IsSome};
+ghost use Rattle.std.specs.Prelude.{◌≡◌, ◌≤◌, ℕ, Some, IsSomeAnd, IsSome, option_copied};
 ghost use Rattle.cow_arena.specs.declared.node.Node.{Node};
 ghost use Rattle.cow_arena.specs.Nodes.{nodes_of};
 ghost use Rattle.cow_arena.specs.Forest.{IsForest};
 ghost use Rattle.cow_split.specs.Trees.{tree_of};
 ghost use Rattle.cow_split.specs.Exact.{IsExact, all_in_sight};
 ghost use Rattle.frame_pool.specs.Pool.{is_taken};
+ghost use Rattle.cow_jump.specs.Jumps.{AreJumps, MayJump};
 ghost use Rattle.cow_merge.specs.Merging.{HasShrunk, IsNarrowed};
 
 use crate::ranges::leave_out;
 use cow_arena::{CowArena, NodeId, window_first};
+use cow_jump::JumpTable;
 use frame_pool::FramePool;
 use page_list::PageLists;
 use vm_base::PageNo;
@@ -36,7 +38,41 @@ pub fn shrink(
     requires leaf { IsSomeAnd (nodes_of arena.old leaf.0) (λ node. IsSome node.koid × (count ≤ node.count)) }
     ensures { HasShrunk arena.old arena.new lists.old lists.new frames.old frames.new leaf.0 count }
 {
-    leave_out(arena, lists, frames, leaf, count);
+    shrink_with(arena, lists, frames, None, leaf, count);
+}
+
+/// Does what `shrink` does, and goes up to rows by jumps where they serve.
+pub fn shrink_by_jumps(
+    arena: &mut CowArena,
+    lists: &mut PageLists,
+    frames: &mut FramePool,
+    jumps: &JumpTable,
+    leaf: NodeId,
+    count: PageNo,
+)
+    requires exact { IsExact (tree_of arena.old lists.old) all_in_sight (is_taken frames.old) }
+    requires leaf { IsSomeAnd (nodes_of arena.old leaf.0) (λ node. IsSome node.koid × (count ≤ node.count)) }
+    requires jumps { (next : ℕ) × AreJumps (tree_of arena.old lists.old) next jumps.now }
+    ensures { HasShrunk arena.old arena.new lists.old lists.new frames.old frames.new leaf.0 count }
+{
+    shrink_with(arena, lists, frames, Some(jumps), leaf, count);
+}
+
+/// Does what `shrink` does, by these jumps, if there are any.
+fn shrink_with(
+    arena: &mut CowArena,
+    lists: &mut PageLists,
+    frames: &mut FramePool,
+    jumps: Option<&JumpTable>,
+    leaf: NodeId,
+    count: PageNo,
+)
+    requires exact { IsExact (tree_of arena.old lists.old) all_in_sight (is_taken frames.old) }
+    requires leaf { IsSomeAnd (nodes_of arena.old leaf.0) (λ node. IsSome node.koid × (count ≤ node.count)) }
+    requires jumps { MayJump (tree_of arena.old lists.old) (option_copied jumps) }
+    ensures { HasShrunk arena.old arena.new lists.old lists.new frames.old frames.new leaf.0 count }
+{
+    leave_out(arena, lists, frames, jumps, leaf, count);
     narrow(arena, leaf, count);
     arena.set_count(leaf, count);
 }

@@ -1,6 +1,6 @@
 //! Pages of a VMO's node that go out of sight at once, since another VMO, below the sibling, shows them too.
 
-ghost use Rattle.std.specs.Prelude.{◌≡◌, ◌+◌, ◌^◌, ◌<◌, ◌≤◌, ℕ, Option, None, Some, IsSome, IsSomeAnd};
+ghost use Rattle.std.specs.Prelude.{◌≡◌, ◌+◌, ◌^◌, ◌<◌, ◌≤◌, ℕ, Option, None, Some, IsSome, IsSomeAnd, option_copied};
 ghost use Rattle.balanced_tree.specs.Rows.{Rows};
 ghost use Rattle.page_list.specs.declared.row.Row.{Row};
 ghost use Rattle.page_list.specs.Lists.{slots_of};
@@ -10,13 +10,16 @@ ghost use Rattle.cow_arena.specs.declared.node.NodeId.{NodeId};
 ghost use Rattle.cow_arena.specs.declared.node.Side.{Side};
 ghost use Rattle.cow_arena.specs.Nodes.{nodes_of};
 ghost use Rattle.cow_arena.specs.Forest.{IsForest, IsChild};
+ghost use Rattle.cow_split.specs.Trees.{tree_of};
+ghost use Rattle.cow_jump.specs.Jumps.{MayJump};
 ghost use Rattle.cow_merge.specs.inside.Lifting.{IsFamilyOf};
 ghost use Rattle.cow_merge.specs.Ranges.{no_pages, IsPassing, IsUnderWay, IsExactFor, KeepsList};
 ghost use Rattle.cow_merge.specs.inside.Witness.{IsGoingDown, IsBeside, IsEntered, IsPageCut};
 
 use crate::ranges::{Pages, cut_off, next_below};
 use cow_arena::{CowArena, NodeId};
-use cow_split::{Holder, holder_above};
+use cow_jump::{JumpTable, above_with};
+use cow_split::Holder;
 use frame_pool::FramePool;
 use page_list::{ListId, PageLists};
 use vm_base::PageNo;
@@ -47,6 +50,7 @@ pub(crate) fn leave_out_beside(
     arena: &CowArena,
     lists: &mut PageLists,
     frames: &mut FramePool,
+    jumps: Option<&JumpTable>,
     leaf: NodeId,
     first: PageNo,
     hidden: NodeId,
@@ -59,6 +63,7 @@ pub(crate) fn leave_out_beside(
     requires family { IsFamilyOf arena.now leaf.0 hidden.0 sibling.0 }
     requires base { (node : Node) → nodes_of arena.now leaf.0 ≡ Some node → shift ≡ node.first }
     requires range { first + shift < 2 ^ 64 }
+    requires jumps { MayJump (tree_of arena.now lists.old) (option_copied jumps) }
     ensures passing { (old : Rows Row) (before : Pool) (spared : Option NodeId) (above : Node) → nodes_of arena.now hidden.0 ≡ Some above →
         IsPassing arena.now old lists.old before frames.old leaf.0 first no_pages spared above shift to to →
         IsPassing arena.now old lists.new before frames.new leaf.0 first result spared above shift to to }
@@ -69,7 +74,9 @@ pub(crate) fn leave_out_beside(
     let mut left = MOST_NODES;
     while left > 0 && way.from < way.to {
         let node = arena.node(way.at);
-        cut_under(arena, lists, frames, leaf, hidden, shift, way, node.list);
+        cut_under(
+            arena, lists, frames, jumps, leaf, hidden, shift, way, node.list,
+        );
         if node.koid.is_some() {
             return pages_of(way, shift);
         }
@@ -160,6 +167,7 @@ fn cut_under(
     arena: &CowArena,
     lists: &mut PageLists,
     frames: &mut FramePool,
+    jumps: Option<&JumpTable>,
     leaf: NodeId,
     hidden: NodeId,
     shift: PageNo,
@@ -168,6 +176,7 @@ fn cut_under(
 )
     requires down { IsGoingDown arena.now lists.old frames.old leaf.0 hidden.0 shift way }
     requires list { (node : Node) → nodes_of arena.now way.at.0 ≡ Some node → list ≡ node.list }
+    requires jumps { MayJump (tree_of arena.now lists.old) (option_copied jumps) }
     ensures beside { (old : Rows Row) (before : Pool) (first : ℕ) (spared : Option NodeId) (above : Node) (to : ℕ) (s : Side) →
         IsBeside arena.now old lists.old before frames.old leaf.0 first spared hidden.0 above shift to s way way.from →
         IsBeside arena.now old lists.new before frames.new leaf.0 first spared hidden.0 above shift to s way way.to }
@@ -176,7 +185,7 @@ fn cut_under(
     let mut from = way.from;
     while let Some(page) = next_below(lists, list, from, way.to) {
         let own = page + way.shift - shift;
-        cut_page(arena, lists, frames, leaf, own, hidden);
+        cut_page(arena, lists, frames, jumps, leaf, own, hidden);
         from = page + 1;
     }
 }
@@ -187,16 +196,18 @@ fn cut_page(
     arena: &CowArena,
     lists: &mut PageLists,
     frames: &mut FramePool,
+    jumps: Option<&JumpTable>,
     leaf: NodeId,
     own: PageNo,
     hidden: NodeId,
 )
     requires exact { IsExactFor arena.now lists.old frames.old leaf.0 }
     requires bare { (node : Node) → nodes_of arena.now leaf.0 ≡ Some node → slots_of lists.old node.list.0 own ≡ None }
+    requires jumps { MayJump (tree_of arena.now lists.old) (option_copied jumps) }
     ensures cut { IsPageCut arena.now lists.old lists.new frames.old frames.new leaf.0 own hidden.0 }
     ensures kept { (above : Node) → nodes_of arena.now hidden.0 ≡ Some above → KeepsList lists.old lists.new above.list.0 }
 {
-    let found = holder_above(arena, lists, leaf, own);
+    let found = above_with(arena, lists, jumps, leaf, own);
     if let Holder::Above {
         node,
         page,

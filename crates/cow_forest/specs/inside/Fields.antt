@@ -1,7 +1,7 @@
 -- How the fields of the forest are seen, and what holds of them.
 use Rattle.cow_forest.specs.declared.forest.CowForest.TheInside.{Inside}
 use Rattle.cow_forest.specs.Store.{Forest, tree, IsStore}
-use Rattle.cow_forest.specs.inside.Jumps.{AreJumps}
+use Rattle.cow_jump.specs.Jumps.{AreJumps}
 
 abbrev pub forest_of : Inside → Forest
 forest_of a = record {

@@ -9,6 +9,7 @@ use Rattle.cow_merge.proofs.RangeLaws.{visible-of}
 use Rattle.cow_merge.proofs.PassingLaws.{no-parent, passing-start, passing-parent, passing-top, passing-again, sparing-none}
 use Rattle.cow_merge.proofs.CloseLaws.{root-of, family-of}
 use Rattle.cow_merge.proofs.PassedLaws.{bare-up}
+use Rattle.cow_merge.proofs.JumpingLaws.{jumps-left}
 use Rattle.cow_merge.proofs.ranges.leave_out.Goals as goal
 
 pub returns-in_default-clause-left : goal.returns-in_default-clause-left
@@ -124,3 +125,13 @@ returns-clause-part c =
     (c.cut_rows.ensures.passing c.args.lists.now c.args.frames.now None
     (passing-parent c.args.arena.now c.args.lists.now c.drop_rows.new.lists c.args.frames.now c.drop_rows.new.frames c.args.leaf.0 c.args.first
     c.node-node.result c.in-Some-Some.hidden c.node-above.result c.drop_rows.ensures.bare c.node-node.ensures c.in-Some-Some.is-0 c.node-above.ensures))).bare.leaving.part
+
+-- ---- the jumps
+
+pub leave_out_further-requires-clause-jumps : goal.leave_out_further-requires-clause-jumps
+leave_out_further-requires-clause-jumps c =
+    jumps-left c.args.arena.now c.args.lists.now c.cut_rows.new.lists c.args.frames.now c.cut_rows.new.frames c.args.leaf.0 c.args.first
+    (c.cut_rows.ensures.passing c.args.lists.now c.args.frames.now None
+    (passing-parent c.args.arena.now c.args.lists.now c.drop_rows.new.lists c.args.frames.now c.drop_rows.new.frames c.args.leaf.0 c.args.first
+    c.node-node.result c.in-Some-Some.hidden c.node-above.result c.drop_rows.ensures.bare c.node-node.ensures c.in-Some-Some.is-0 c.node-above.ensures)).bare
+    _ c.requires.jumps

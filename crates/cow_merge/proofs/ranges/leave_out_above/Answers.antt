@@ -4,6 +4,7 @@ use Rattle.vm_base.proofs.EntryLaws.{some_same}
 use Rattle.page_list.specs.Lists.{slots_of}
 use Rattle.cow_arena.specs.declared.node.Node.{Node}
 use Rattle.cow_merge.proofs.PassingLaws.{passing-above, passing-again, above-there, above-fits, above-parent, above-visible, above-list}
+use Rattle.cow_merge.proofs.JumpingLaws.{jumps-left}
 use Rattle.cow_merge.proofs.ranges.leave_out_above.Goals as goal
 
 pub drop_rows-requires-clause-leaf : goal.drop_rows-requires-clause-leaf
@@ -49,3 +50,8 @@ returns-clause-kept c = λ above at q.
     (c.drop_rows.ensures.others c.node-node.result c.node-node.ensures c.node-above.result.list.0
     (above-list c.args.arena.now c.args.leaf.0 c.args.hidden c.requires.exact.forest c.node-node.result c.node-above.result c.requires.leaf c.node-node.ensures
     c.node-above.ensures) q)
+
+pub leave_out_further-requires-clause-jumps : goal.leave_out_further-requires-clause-jumps
+leave_out_further-requires-clause-jumps c =
+    jumps-left c.args.arena.now c.args.lists.now c.drop_rows.new.lists c.args.frames.now c.drop_rows.new.frames c.args.leaf.0 0 c.drop_rows.ensures.bare _
+    c.requires.jumps

@@ -4,6 +4,7 @@ use Rattle.balanced_tree.specs.Pairs.{IsNext}
 use Rattle.page_list.specs.declared.row.ListId.{ListId}
 use Rattle.page_list.specs.Lists.{slots_of}
 use Rattle.cow_merge.proofs.BesideLaws.{beside-exact, beside-bare, beside-cut, beside-end}
+use Rattle.cow_merge.proofs.JumpingLaws.{jumps-left}
 use Rattle.cow_merge.proofs.witness.cut_under.Goals as goal
 
 pub loop-page-init : goal.loop-page-init
@@ -75,3 +76,11 @@ returns-clause-beside c = λ old before first spared above to s was.
 
 pub returns-clause-kept : goal.returns-clause-kept
 returns-clause-kept c = c.loop-page.invariant.kept
+
+-- ---- the jumps
+
+pub cut_page-requires-clause-jumps : goal.cut_page-requires-clause-jumps
+cut_page-requires-clause-jumps c =
+    let down = c.requires.down in
+    let it = c.loop-page.invariant.beside c.args.lists.now c.args.frames.now down.first down.spared down.above down.to down.side down.beside in
+    jumps-left c.args.arena.now c.args.lists.now c.loop-page.lists c.args.frames.now c.loop-page.frames c.args.leaf.0 down.first it.bare _ c.requires.jumps

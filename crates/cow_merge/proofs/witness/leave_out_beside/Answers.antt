@@ -6,6 +6,7 @@ use Rattle.cow_arena.specs.declared.node.Node.{Node}
 use Rattle.cow_arena.specs.Nodes.{other_side, side_of}
 use Rattle.cow_merge.proofs.BesideLaws.{beside-start, beside-again, beside-down, beside-none, hidden-there, no-koid_of}
 use Rattle.cow_merge.proofs.WitnessLaws.{beside-witness}
+use Rattle.cow_merge.proofs.JumpingLaws.{jumps-left}
 use Rattle.cow_merge.proofs.witness.leave_out_beside.Goals as goal
 
 pub node-requires : goal.node-requires
@@ -109,3 +110,12 @@ returns-then-is_some-clause-passing c = λ old before spared above at was.
     (ap (λ (n : Node). is_some n.koid) (sym node) ∙ (sym c.is_some.ensures ∙ c.if-is_some.true))
     (ap (λ (n : Node). n.parent) (sym leaf) ∙ of.family.parent_is) (c.requires.base of.node of.family.at ∙ ap (λ (n : Node). n.first) leaf) refl
     c.pages_of.result.from c.pages_of.result.to c.pages_of.ensures.from c.pages_of.ensures.to (omega arith)
+
+-- ---- the jumps
+
+pub cut_under-requires-clause-jumps : goal.cut_under-requires-clause-jumps
+cut_under-requires-clause-jumps c =
+    let of = c.requires.family in
+    let under = c.requires.passing of.parent of.family.parent_at in
+    let there = c.loop-left.invariant.beside c.args.lists.now c.args.frames.now under.spared of.parent of.family.parent_at under.passing in
+    jumps-left c.args.arena.now c.args.lists.now c.loop-left.lists c.args.frames.now c.loop-left.frames c.args.leaf.0 c.args.first there.bare _ c.requires.jumps

@@ -1,7 +1,7 @@
 use Rattle.std.proofs.Common.{refl, arith}
 use Rattle.cow_forest.specs.Store.{Forest, tree}
 use Rattle.cow_forest.proofs.EmptyLaws.{HasNothing, store-empty, content-empty}
-use Rattle.cow_forest.proofs.JumpLaws.{empty-jumps}
+use Rattle.cow_jump.proofs.JumpLaws.{empty-jumps}
 use Rattle.cow_forest.proofs.forest.CowForest.new.Goals as goal
 
 abbrev made : goal.After-new-6 → Forest

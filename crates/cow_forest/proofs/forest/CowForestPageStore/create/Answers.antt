@@ -7,7 +7,8 @@ use Rattle.cow_arena.specs.Nodes.{Nodes, nodes_of}
 use Rattle.cow_forest.specs.inside.Fields.{forest_of}
 use Rattle.cow_forest.proofs.EnterLaws.{store-alike, vmos_le}
 use Rattle.cow_forest.proofs.MakingLaws.{HasRoot, store-made, content-made}
-use Rattle.cow_forest.proofs.JumpKeptLaws.{jumps-alike, tree-alike, jumps-root}
+use Rattle.cow_jump.proofs.JumpRowLaws.{jumps-alike}
+use Rattle.cow_forest.proofs.JumpKeptLaws.{tree-alike, jumps-root}
 use Rattle.cow_forest.proofs.forest.CowForestPageStore.create.Goals as goal
 
 -- nothing came where there was no room

@@ -3,6 +3,7 @@ use Rattle.std.specs.Prelude.{is_some}
 use Rattle.cow_forest.specs.inside.Fields.{forest_of}
 use Rattle.cow_forest.specs.Store.{tree}
 use Rattle.cow_forest.proofs.LeavingLaws.{one-of, store-left, content-left}
+use Rattle.cow_jump.proofs.JumpRowLaws.{jumps-retired}
 use Rattle.cow_forest.proofs.JumpKeptLaws.{jumps-closed}
 use Rattle.cow_forest.proofs.forest.CowForestPageStore.drop_vmo.Goals as goal
 
@@ -11,15 +12,15 @@ disown-merged-requires-clause-leaf c =
     let h = c.self.invariant.store.named c.args.v.0 c.get-node.result c.get-node.ensures in
     ap is_some h.is.at
 
-pub close-requires-clause-leaf : goal.close-requires-clause-leaf
-close-requires-clause-leaf c =
+pub close_by_jumps-requires-clause-leaf : goal.close_by_jumps-requires-clause-leaf
+close_by_jumps-requires-clause-leaf c =
     let h = c.self.invariant.store.named c.args.v.0 c.get-node.result c.get-node.ensures in
     rw h.is.at (ap is_some h.is.has_koid)
 
 pub leave_other-requires : goal.leave_other-requires
 leave_other-requires c =
     let s = c.self.invariant.store in
-    one-of (forest_of c.self.inside) _ _ _ _ c.get-node.result.0 c.disown-merged.result s.exact.forest c.close.ensures.closed
+    one-of (forest_of c.self.inside) _ _ _ _ c.get-node.result.0 c.disown-merged.result s.exact.forest c.close_by_jumps.ensures.closed
     (record { family = c.disown-merged.ensures.family; root = c.disown-merged.ensures.root })
 
 pub invariant_of-self : goal.invariant_of-self
@@ -27,11 +28,11 @@ invariant_of-self c =
     let s = c.self.invariant.store in
     let h = s.named c.args.v.0 c.get-node.result c.get-node.ensures in
     record {
-      store = store-left (forest_of c.self.inside) _ _ _ _ _ _ c.args.v.0 c.get-node.result.0 s h c.close.ensures.closed c.disown-merged.result
+      store = store-left (forest_of c.self.inside) _ _ _ _ _ _ c.args.v.0 c.get-node.result.0 s h c.close_by_jumps.ensures.closed c.disown-merged.result
           (record { family = c.disown-merged.ensures.family; root = c.disown-merged.ensures.root }) c.disown-merged.ensures.disowned c.leave_other.ensures
           c.leave.ensures;
       jumps = jumps-closed (tree (forest_of c.self.inside)) _ c.self.inside.next c.get-node.result.0 c.self.inside.jumps c.retire_pair.new.jumps c.self.invariant.jumps
-          c.retire_pair.ensures c.close.ensures.ways (λ k now at. let was = c.close.ensures.closed.came k now at in (was.node, was.at));
+          c.retire_pair.ensures c.close_by_jumps.ensures.ways (λ k now at. let was = c.close_by_jumps.ensures.closed.came k now at in (was.node, was.at));
     }
 
 pub returns-clause-content : goal.returns-clause-content
@@ -39,6 +40,13 @@ returns-clause-content c =
     let s = c.self.invariant.store in
     let h = s.named c.args.v.0 c.get-node.result c.get-node.ensures in
     rw (← c.self.view_is)
-    (content-left (forest_of c.self.inside) _ _ _ _ _ _ c.args.v.0 c.get-node.result.0 s h c.close.ensures.closed c.disown-merged.result
+    (content-left (forest_of c.self.inside) _ _ _ _ _ _ c.args.v.0 c.get-node.result.0 s h c.close_by_jumps.ensures.closed c.disown-merged.result
     (record { family = c.disown-merged.ensures.family; root = c.disown-merged.ensures.root }) c.disown-merged.ensures.disowned c.leave_other.ensures
     c.leave.ensures)
+
+pub close_by_jumps-requires-clause-jumps : goal.close_by_jumps-requires-clause-jumps
+close_by_jumps-requires-clause-jumps c = (
+  c.self.inside.next,
+  jumps-retired (tree (forest_of c.self.inside)) c.self.inside.next c.get-node.result.0 c.self.inside.jumps c.retire_pair.new.jumps c.self.invariant.jumps
+      c.retire_pair.ensures,
+)

@@ -9,8 +9,8 @@ use Rattle.cow_forest.proofs.ResizingLaws.{shrunk-grown, store-resized, content-
 use Rattle.cow_forest.proofs.JumpKeptLaws.{jumps-resized}
 use Rattle.cow_forest.proofs.forest.CowForestPageStore.set_count.Goals as goal
 
-pub shrink-requires-clause-leaf : goal.shrink-requires-clause-leaf
-shrink-requires-clause-leaf c =
+pub shrink_by_jumps-requires-clause-leaf : goal.shrink_by_jumps-requires-clause-leaf
+shrink_by_jumps-requires-clause-leaf c =
     let h = c.self.invariant.store.named c.args.v.0 c.get-node.result c.get-node.ensures in
     let count = ap (λ (n : Node). n.count) (some_same (sym h.is.at ∙ c.node.ensures)) in
     rw h.is.at (ap is_some h.is.has_koid, omega (arith, count, c.if-count-node.true))
@@ -27,15 +27,15 @@ invariant_of-self c =
     let s = c.self.invariant.store in
     let h = s.named c.args.v.0 c.get-node.result c.get-node.ensures in
     record {
-      store = store-resized (forest_of c.self.inside) _ _ _ c.args.v.0 c.get-node.result.0 c.args.count s h c.shrink.ensures c.requires.count;
-      jumps = jumps-resized (forest_of c.self.inside) s c.shrink.new.arena c.shrink.new.lists c.shrink.new.frames c.args.v.0 c.get-node.result.0 c.args.count h c.shrink.ensures c.self.inside.next c.self.inside.jumps c.self.invariant.jumps;
+      store = store-resized (forest_of c.self.inside) _ _ _ c.args.v.0 c.get-node.result.0 c.args.count s h c.shrink_by_jumps.ensures c.requires.count;
+      jumps = jumps-resized (forest_of c.self.inside) s c.shrink_by_jumps.new.arena c.shrink_by_jumps.new.lists c.shrink_by_jumps.new.frames c.args.v.0 c.get-node.result.0 c.args.count h c.shrink_by_jumps.ensures c.self.inside.next c.self.inside.jumps c.self.invariant.jumps;
     }
 
 pub returns-then-count-node-clause-content : goal.returns-then-count-node-clause-content
 returns-then-count-node-clause-content c =
     let s = c.self.invariant.store in
     let h = s.named c.args.v.0 c.get-node.result c.get-node.ensures in
-    rw (← c.self.view_is) (content-resized (forest_of c.self.inside) _ _ _ c.args.v.0 c.get-node.result.0 c.args.count s h c.shrink.ensures c.requires.count)
+    rw (← c.self.view_is) (content-resized (forest_of c.self.inside) _ _ _ c.args.v.0 c.get-node.result.0 c.args.count s h c.shrink_by_jumps.ensures c.requires.count)
 
 -- a node that grows
 grown : (c : goal.After-set_count) → HasShrunk c.self.inside.arena c.set_count.new.self c.self.inside.lists c.self.inside.lists c.self.inside.frames c.self.inside.frames c.get-node.result.0 c.args.count
@@ -60,3 +60,6 @@ returns-else-count-node-clause-content c =
     let s = c.self.invariant.store in
     let h = s.named c.args.v.0 c.get-node.result c.get-node.ensures in
     rw (← c.self.view_is) (content-resized (forest_of c.self.inside) _ _ _ c.args.v.0 c.get-node.result.0 c.args.count s h (grown c) c.requires.count)
+
+pub shrink_by_jumps-requires-clause-jumps : goal.shrink_by_jumps-requires-clause-jumps
+shrink_by_jumps-requires-clause-jumps c = (c.self.inside.next, c.self.invariant.jumps)

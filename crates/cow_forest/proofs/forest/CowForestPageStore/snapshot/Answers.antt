@@ -8,12 +8,13 @@ use Rattle.cow_arena.proofs.ForestLaws.{held_apart}
 use Rattle.cow_split.specs.Trees.{tree_of}
 use Rattle.cow_forest.specs.inside.Fields.{forest_of}
 use Rattle.cow_forest.specs.Store.{tree}
-use Rattle.cow_forest.specs.inside.Jumps.{AreJumps}
-use Rattle.cow_forest.proofs.JumpLaws.{same-jumps}
+use Rattle.cow_jump.specs.Jumps.{AreJumps}
+use Rattle.cow_jump.proofs.JumpLaws.{same-jumps}
 use Rattle.cow_forest.proofs.ContentLaws.{pages-of}
 use Rattle.cow_forest.proofs.EnterLaws.{found-node, store-alike, vmos_le}
 use Rattle.cow_forest.proofs.SnapshotLaws.{hidden-held, leaf-held, HasPair, store-shared, content-shared}
-use Rattle.cow_forest.proofs.JumpKeptLaws.{jumps-alike, tree-alike, jumps-shared}
+use Rattle.cow_jump.proofs.JumpRowLaws.{jumps-alike}
+use Rattle.cow_forest.proofs.JumpKeptLaws.{tree-alike, jumps-shared}
 use Rattle.cow_forest.proofs.forest.CowForestPageStore.snapshot.Goals as goal
 
 -- nothing came where there was no room
@@ -118,6 +119,11 @@ pub note_pair-requires-clause-leaf : goal.note_pair-requires-clause-leaf
 note_pair-requires-clause-leaf c =
     let h = found-node (forest_of c.self.inside) c.self.invariant.store _ c.make_room.ensures.nodes c.args.of.0 _ c.get-node.ensures in
     leaf-held (forest_of c.self.inside) c.self.invariant.store _ _ c.args.of.0 _ c.in_ok-pair.pair _ _ _ h c.in_ok-pair.ensures.ok
+
+pub note_pair-requires-clause-hidden : goal.note_pair-requires-clause-hidden
+note_pair-requires-clause-hidden c =
+    let h = found-node (forest_of c.self.inside) c.self.invariant.store _ c.make_room.ensures.nodes c.args.of.0 _ c.get-node.ensures in
+    hidden-held (forest_of c.self.inside) c.self.invariant.store _ _ c.args.of.0 _ c.in_ok-pair.pair _ _ _ h c.in_ok-pair.ensures.ok
 
 pub note_pair-requires-clause-child : goal.note_pair-requires-clause-child
 note_pair-requires-clause-child c = ap is_some c.in_ok-pair.ensures.ok.comes

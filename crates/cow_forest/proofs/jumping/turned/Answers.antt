@@ -1,8 +1,0 @@
-use Rattle.std.proofs.Common.{◌%◌, refl, sym, ap, ◌∙◌}
-use Rattle.std.specs.Int.{bit_at}
-use Rattle.cow_forest.proofs.JumpLaws.{turned-clear}
-use Rattle.cow_forest.proofs.jumping.turned.Goals as goal
-
-pub returns : goal.returns
-returns c = λ p clear.
-    turned-clear c.args.pages c.args.shift (c.args.shift % 64) refl p (ap (λ word. bit_at word (p % 64)) (sym c.rotate_right.ensures) ∙ clear)
