@@ -20,7 +20,7 @@ use Rattle.served.specs.Serving.{IsServed, IsReady, bytes_left, write_fault}
 use Rattle.served.proofs.Served.{IsAnswered, IsServed-answered, BreaksOff-answered}
 
 -- a text that was pushed, whole or in part
-written_or_cut : {T E : Type 0} (result : Result T E) (before after : Option (List ℕ)) (out : List ℕ) → OnOk result (Appends before after out) → OnErr result (IsCutOff before after out) → SinkTakes result before after out
+pub written_or_cut : {T E : Type 0} (result : Result T E) (before after : Option (List ℕ)) (out : List ℕ) → OnOk result (Appends before after out) → OnErr result (IsCutOff before after out) → SinkTakes result before after out
 written_or_cut (Ok x) before after out ok err = ok
 written_or_cut (Err e) before after out ok err = err
 

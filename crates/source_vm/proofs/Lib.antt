@@ -1,9 +1,12 @@
 mod Many
 mod FillingLaws
 mod SupplyLaws
+mod AbsentLaws
 mod WriteLaws
 mod EvictLaws
 mod TextLaws
 mod StepLaws
 mod TableLaws
 mod RowLaws
+mod GoodLaws
+mod LineLaws

@@ -1,12 +1,12 @@
 -- The steps of commands, by what their calls found and did.
-use Rattle.std.proofs.Common.{◌≡◌, ℕ, ◌+◌, ◌*◌, ◌/◌, ◌≤◌, ◌-◌, ◌&&◌, true, false, List, length, map, nat_lt, None, Some, refl, ap, ◌∙◌}
+use Rattle.std.proofs.Common.{◌≡◌, ℕ, ◌+◌, ◌*◌, ◌/◌, ◌≤◌, ◌-◌, ◌&&◌, not, Bool, true, false, List, [], ◌∷◌, length, map, nat_lt, None, Some, refl, ap, ◌∙◌}
 use Rattle.std.specs.List.{filter, range_with_len}
 use Rattle.vm_base.specs.Search.{any_from}
 use Rattle.vm_base.specs.Pages.{rounded}
 use Rattle.vm_base.specs.declared.limits.TheConstants.{PAGE, DATA_BYTES}
 use Rattle.vm_base.specs.declared.names.VmoName.{VmoName}
 use Rattle.vm_base.specs.declared.refusal.Refusal.{Refusal}
-use Rattle.vm_base.specs.declared.refusal.Refusal.TheVariants.{OutOfRange, HostMemory}
+use Rattle.vm_base.specs.declared.refusal.Refusal.TheVariants.{BadHandle, InvalidArgs, OutOfRange, NoMemory, HostMemory}
 use Rattle.vm_model.specs.declared.reply.Reply.TheVariants.{Done, Bytes, Refused}
 use Rattle.vm_model.specs.Contents.Content.{used, pages_of}
 use Rattle.vm_model.specs.Contents.Owning.{need}
@@ -14,8 +14,9 @@ use Rattle.vm_model.specs.Contents.Writing.{touched, pieces}
 use Rattle.source_vm.specs.declared.backing.Backing.{Backing}
 use Rattle.source_vm.specs.declared.command.SourceCommand.TheVariants.{Create, Child, Close, Read, Write, Supply, Evict}
 use Rattle.source_vm.specs.declared.limits.TheConstants.{SOURCE_BYTES}
-use Rattle.source_vm.specs.State.{SourceState, koid_of, is_absent, is_clean, supply_of, FillsEach, evicted, text_in, with_source, with_child, without_name}
-use Rattle.source_vm.specs.Commands.{SourceStep, is_aligned, lacks}
+use Rattle.source_vm.specs.State.{SourceState, is_open, size_of, koid_of, is_absent, is_clean, supply_of, FillsEach, evicted, text_in, with_source, with_child, without_name}
+use Rattle.source_vm.specs.Commands.{SourceStep, refusals, is_aligned, lacks, absent_need}
+use Rattle.vm_model.specs.Machine.Refusals.{first_of}
 use Rattle.source_vm.specs.Pages.{LacksFrames}
 use Rattle.source_vm.proofs.StepLaws.{refused, lacked, done, short, not_lacking}
 
@@ -38,15 +39,11 @@ module _ (s : SourceState) (name : VmoName) (v : ℕ) (named : s.names name.0 �
   unfolding koid_of
   write_past offset bytes past = refused s (Write name offset bytes) OutOfRange (rw (named, past) refl)
 
-  pub supply_past : (offset len : ℕ) → (is_aligned offset && is_aligned len) ≡ true → nat_lt bytes_of_v (offset + len) ≡ true
-      → SourceStep s (Supply name offset len) (Refused OutOfRange) s
+  -- a range of whole pages that passes the end of its VMO
+  pub whole_past : (offset len : ℕ) → (is_aligned offset && is_aligned len) ≡ true → nat_lt bytes_of_v (offset + len) ≡ true
+      → first_of (refusals s (Evict name offset len)) ≡ Some OutOfRange
   unfolding koid_of
-  supply_past offset len aligned past = refused s (Supply name offset len) OutOfRange (rw (named, aligned, past) refl)
-
-  pub evict_past : (offset len : ℕ) → (is_aligned offset && is_aligned len) ≡ true → nat_lt bytes_of_v (offset + len) ≡ true
-      → SourceStep s (Evict name offset len) (Refused OutOfRange) s
-  unfolding koid_of
-  evict_past offset len aligned past = refused s (Evict name offset len) OutOfRange (rw (named, aligned, past) refl)
+  whole_past offset len aligned past = rw (named, aligned, past) refl
 
   -- a write that lies in its VMO
   pub write_short : (offset : ℕ) (bytes : List ℕ) (refusal : Refusal) → nat_lt bytes_of_v (offset + length bytes) ≡ false
@@ -102,6 +99,20 @@ module _ (s : SourceState) (name : VmoName) (v : ℕ) (named : s.names name.0 �
     pub evict_done : (new : SourceState) → new ≡ record s { content = evicted s v (offset / PAGE) ((offset + len) / PAGE) } → SourceStep s (Evict name offset len) Done new
     unfolding koid_of
     evict_done new is = done s (Evict name offset len) Done new (rw (named, aligned, inside) refl) (refl, rw named is)
+
+-- what refuses a range of whole pages, refuses each command on one
+first_more : (a b c : Bool) (x y z : Refusal) (more : List (Bool × Refusal)) (refusal : Refusal)
+    → first_of ((a, x) ∷ (b, y) ∷ (c, z) ∷ []) ≡ Some refusal → first_of ((a, x) ∷ (b, y) ∷ (c, z) ∷ more) ≡ Some refusal
+first_more true b c x y z more refusal e = e
+first_more false true c x y z more refusal e = e
+first_more false false true x y z more refusal e = e
+first_more false false false x y z more refusal e = absurd cc
+
+pub supply_refused : (s : SourceState) (name : VmoName) (offset len : ℕ) (refusal : Refusal) → first_of (refusals s (Evict name offset len)) ≡ Some refusal
+    → SourceStep s (Supply name offset len) (Refused refusal) s
+supply_refused s name offset len refusal e =
+    refused s (Supply name offset len) refusal (first_more (not (is_open s name.0)) (not (is_aligned offset && is_aligned len)) (nat_lt (size_of s name.0) (offset + len))
+    BadHandle InvalidArgs OutOfRange ((lacks s (absent_need s name.0 offset len), NoMemory) ∷ []) refusal e)
 
 -- ---- new VMOs
 

@@ -1,7 +1,9 @@
 pub mod Sources
 pub mod State
 pub mod Commands
+pub mod Lent
 pub mod Reading
 pub mod Good
 pub mod Pages
 pub mod Table
+pub mod Answering

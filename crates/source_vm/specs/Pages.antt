@@ -1,5 +1,5 @@
 -- What becomes of pages of one VMO, whose backing is known: whatever names and other backings there are.
-use Rattle.std.specs.Prelude.{◌≡◌, ℕ, ◌+◌, ◌-◌, ◌<◌, ◌≤◌, ◌⊎◌, Bool, map, false, ◌&&◌, ◌==◌, nat_eq, List, if◌then◌else◌, Option, None, Some}
+use Rattle.std.specs.Prelude.{◌≡◌, ℕ, ◌+◌, ◌-◌, ◌*◌, ◌<◌, ◌≤◌, ◌⊎◌, Bool, map, true, false, ◌&&◌, ◌==◌, nat_eq, List, if◌then◌else◌, Option, None, Some}
 use Rattle.std.specs.List.{filter, range_with_len}
 use Rattle.vm_base.specs.declared.refusal.Refusal.{Refusal}
 use Rattle.vm_base.specs.declared.refusal.Refusal.TheVariants.{NoMemory, HostMemory}
@@ -10,7 +10,9 @@ use Rattle.vm_model.specs.Contents.Zeroing.{is_within}
 use Rattle.source_vm.specs.declared.backing.Backing.{Backing}
 use Rattle.source_vm.specs.declared.limits.TheConstants.{SOURCE_PAGES}
 use Rattle.source_vm.specs.Sources.{backing_text}
-use Rattle.source_vm.specs.State.{state_over, Fills, FillsEach, is_absent, supply_of}
+use Rattle.vm_base.specs.declared.limits.TheConstants.{PAGE}
+use Rattle.source_vm.specs.Commands.{is_aligned}
+use Rattle.source_vm.specs.State.{SourceState, state_over, Fills, FillsEach, is_absent, supply_of}
 
 -- a backing by one of the functions, within their bytes
 pub record IsSource (b : Backing) : Type 0 where
@@ -54,3 +56,10 @@ pub record IsSupplied (b : Backing) (v : ℕ) (old : Content) (first end : ℕ) 
 abbrev pub LacksFrames : Content → ℕ → Refusal → Type 0
 LacksFrames c n refusal =
     ((refusal ≡ NoMemory) × (c.frames < used c + n)) ⊎ ((refusal ≡ HostMemory) × (used c + n ≤ c.frames) × (0 < n))
+
+-- A range of whole pages lies inside the VMO v of an open name, which has this backing.
+pub record IsOfPages (s : SourceState) (name offset len v : ℕ) (b : Backing) : Type 0 where
+  pub named : s.names name ≡ Some v
+  pub backed : s.backing v ≡ Some b
+  pub aligned : (is_aligned offset && is_aligned len) ≡ true
+  pub inside : offset + len ≤ pages_of s.content v * PAGE

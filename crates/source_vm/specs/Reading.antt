@@ -1,19 +1,15 @@
 -- How a line of a script of page sources is read.
-use Rattle.std.specs.Prelude.{ℕ, ◌∷◌, ◌≡◌, nat_lt, List, [], length, codes, if◌then◌else◌, Option, None, Some, option_map, Result, Ok, Err}
+use Rattle.std.specs.Prelude.{ℕ, ◌∷◌, nat_lt, List, [], length, codes, if◌then◌else◌, Option, None, Some, option_map, Result, Ok, Err}
 use Rattle.vm_base.specs.declared.limits.TheConstants.{LINE_BYTES}
 use Rattle.vm_base.specs.declared.names.VmoName.{VmoName}
-use Rattle.vm_model.specs.declared.reply.Reply.{Reply}
 use Rattle.vm_model.specs.Language.Reading.{◌>>=◌, words, is_word, is_comment, vmo, number, byte_data}
-use Rattle.vm_model.specs.Language.Text.{text}
 use Rattle.script_text.specs.declared.reading.SyntaxFault.{SyntaxFault}
-use Rattle.served.specs.Answering.{Answering, syntax_text}
 use Rattle.source_vm.specs.declared.command.SourceCommand.{SourceCommand}
 use Rattle.source_vm.specs.declared.command.SourceCommand.TheVariants.{Create, Child, Close, Read, Write, Supply, Evict, Stat}
+use Rattle.source_vm.specs.declared.call.SourceCall.{SourceCall}
 use Rattle.source_vm.specs.declared.reading.SourceLine.{SourceLine}
 use Rattle.source_vm.specs.declared.reading.SourceLine.TheVariants.{Blank as BlankLine, Order as OrderLine}
-use Rattle.source_vm.specs.State.{SourceState, empty_sources}
-use Rattle.source_vm.specs.Commands.{SourceStep}
-use Rattle.source_vm.specs.Good.{IsGoodSources}
+use Rattle.source_vm.specs.Lent.{source_command_of}
 
 -- `source_create VMO SIZE KIND SEED`
 abbrev pub source_create : List (List ℕ) → Option SourceCommand
@@ -113,16 +109,8 @@ reading_of (Ok BlankLine) = Blank
 reading_of (Ok (OrderLine command)) = Order command
 reading_of (Err fault) = Outside
 
--- by which text a line that is read so may be answered: a blank line by none, a line outside the grammar by its refusal, an
--- order by that of one step's reply
-abbrev pub GivesAs : SourceReading → SourceState → List ℕ → SourceState → Type 0
-GivesAs Blank old out new = (out ≡ []) × (new ≡ old)
-GivesAs (Order command) old out new = (reply : Reply) × (out ≡ text reply) × SourceStep old command reply new
-GivesAs Outside old out new = (out ≡ syntax_text) × (new ≡ old)
-
-pub record SourceGives (line : List ℕ) (old : SourceState) (out : List ℕ) (new : SourceState) : Type 0 where
-  pub answer : GivesAs (source_reading line) old out new
-
--- the machine of page sources, as one that answers the lines of a script by text
-abbrev pub sources : Answering SourceState
-sources = record { start = empty_sources; content = λ s. s.content; IsGood = IsGoodSources; Gives = SourceGives }
+-- an answer of `read_source_call` as a reading
+abbrev pub reading_of_call : Result (Option SourceCall) SyntaxFault → SourceReading
+reading_of_call (Ok None) = Blank
+reading_of_call (Ok (Some call)) = Order (source_command_of call)
+reading_of_call (Err fault) = Outside

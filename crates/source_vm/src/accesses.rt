@@ -1,13 +1,16 @@
 //! Accesses to the pages of VMOs: reading, writing, supplying and evicting.
 
-ghost use Rattle.std.specs.Prelude.{◌≡◌, ◌↔◌, ℕ, ◌+◌, ◌*◌, ◌<◌, ◌≤◌, ◌&&◌, [], ◌∷◌, map, length, IsTrue, IsSome};
+ghost use Rattle.std.specs.Prelude.{◌≡◌, ◌↔◌, ℕ, ◌+◌, ◌*◌, ◌<◌, ◌≤◌, ◌&&◌, [], ◌∷◌, map, length, IsTrue, IsSome, Some, IfOk, IfErr};
 ghost use Rattle.vm_model.specs.Contents.Content.{pages_of, IsGood};
 ghost use Rattle.vm_model.specs.Contents.Writing.{bytes_in};
 ghost use Rattle.vm_model.specs.Machine.Lent.{reply_for};
 ghost use Rattle.source_vm.specs.declared.command.SourceCommand.{SourceCommand};
-ghost use Rattle.source_vm.specs.Commands.{SourceStep, is_aligned};
+ghost use Rattle.vm_model.specs.Machine.Refusals.{first_of};
+ghost use Rattle.source_vm.specs.Commands.{SourceStep, is_aligned, refusals};
+ghost use Rattle.source_vm.specs.Pages.{IsOfPages};
 ghost use Rattle.source_vm.specs.Table.{Agrees, state_of};
 
+use crate::backing::Backing;
 use crate::ranges::{evict_pages, supply_pages, write_pages};
 use crate::source_fn::SourceFn;
 use crate::table::{SourceTable, resolve};
@@ -110,6 +113,32 @@ pub(crate) fn write<'a, P: PageStore>(
     }
 }
 
+/// The VMO of a name and its backing, where a range of whole pages lies inside the VMO. `BadHandle` where the name is not open, else
+/// `InvalidArgs` where the offset or the length is not of whole pages, else `OutOfRange`.
+fn whole_pages<P: PageStore>(
+    store: &P,
+    table: &SourceTable,
+    name: VmoName,
+    offset: u64,
+    len: u64,
+) -> Result<(Koid, Backing), Refusal>
+    requires agrees { Agrees (P.content store.now) table.now }
+    ensures ok { IfOk result (λ r. IsOfPages (state_of (P.content store.now) table.now) name.0 offset len r.0.0 r.1) }
+    ensures err { IfErr result (λ refusal.
+        first_of (refusals (state_of (P.content store.now) table.now) (SourceCommand.Evict name offset len)) ≡ Some refusal) }
+{
+    let Some((v, backing)) = resolve(table, name) else {
+        return Err(Refusal::BadHandle);
+    };
+    if !are_aligned(offset, len) {
+        return Err(Refusal::InvalidArgs);
+    }
+    if !is_in_range(store, v, offset, len) {
+        return Err(Refusal::OutOfRange);
+    }
+    Ok((v, backing))
+}
+
 /// Supplies the absent pages of a range of whole pages.
 pub(crate) fn supply<'a, P: PageStore>(
     store: &mut P,
@@ -124,17 +153,12 @@ pub(crate) fn supply<'a, P: PageStore>(
     ensures { SourceStep (state_of (P.content store.old) table.now) (SourceCommand.Supply name offset len)
         (reply_for result) (state_of (P.content store.new) table.now) }
 {
-    let Some((v, backing)) = resolve(table, name) else {
-        return Answer::Refused(Refusal::BadHandle);
+    let found = match whole_pages(store, table, name, offset, len) {
+        Ok(found) => found,
+        Err(refusal) => return Answer::Refused(refusal),
     };
-    if !are_aligned(offset, len) {
-        return Answer::Refused(Refusal::InvalidArgs);
-    }
-    if !is_in_range(store, v, offset, len) {
-        return Answer::Refused(Refusal::OutOfRange);
-    }
     let (first, end) = touched_pages(offset, len);
-    match supply_pages(store, functions, &backing, v, first, end) {
+    match supply_pages(store, functions, &found.1, found.0, first, end) {
         Ok(()) => Answer::Done,
         Err(refusal) => Answer::Refused(refusal),
     }
@@ -154,23 +178,12 @@ pub(crate) fn evict<'a, P: PageStore>(
     ensures { SourceStep (state_of (P.content store.old) table.now) (SourceCommand.Evict name offset len)
         (reply_for result) (state_of (P.content store.new) table.now) }
 {
-    let Some((v, backing)) = resolve(table, name) else {
-        return Answer::Refused(Refusal::BadHandle);
+    let found = match whole_pages(store, table, name, offset, len) {
+        Ok(found) => found,
+        Err(refusal) => return Answer::Refused(refusal),
     };
-    if !are_aligned(offset, len) {
-        return Answer::Refused(Refusal::InvalidArgs);
-    }
-    if !is_in_range(store, v, offset, len) {
-        return Answer::Refused(Refusal::OutOfRange);
-    }
-    match evict_pages(
-        store,
-        functions,
-        &backing,
-        v,
-        page_of(offset),
-        page_of(offset + len),
-    ) {
+    let (first, end) = (page_of(offset), page_of(offset + len));
+    match evict_pages(store, functions, &found.1, found.0, first, end) {
         Ok(()) => Answer::Done,
         Err(_) => Answer::Refused(Refusal::HostMemory),
     }

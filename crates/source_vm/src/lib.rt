@@ -8,18 +8,27 @@
 
 mod accesses;
 mod backing;
+mod call;
 mod command;
+mod interpreter;
+mod laws;
 mod lifetimes;
 mod limits;
 mod pages;
 mod ranges;
 mod reading;
+mod serving;
 mod source_byte;
 mod source_fn;
 mod table;
+mod vm;
 
+pub use call::SourceCall;
 pub use command::SourceCommand;
+pub use laws::{a_step_keeps_the_sources_good, paging_changes_no_text, the_empty_sources_are_good};
 pub use limits::{SOURCE_BYTES, SOURCE_PAGES};
-pub use reading::{SourceLine, read_source_line};
+pub use reading::{SourceLine, read_source_call, read_source_line};
+pub use serving::run_sources;
 pub use source_byte::src_byte;
 pub use source_fn::SourceFn;
+pub use vm::SourceVm;

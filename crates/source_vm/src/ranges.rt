@@ -17,7 +17,18 @@ use page_store::PageStore;
 use vm_base::{HostMemory, Koid, PAGE, PageNo, Refusal};
 use vmo_ops::{part_in_page, reserve_rows, reserve_to_own, touched_pages};
 
-/// How many pages from `first` to below `end` are absent.
+/// The end of those pages from `first` to below `end` that come from a source: `first` where none does.
+fn seen_end(backing: &Backing, first: PageNo, end: PageNo) -> PageNo
+    requires { first ≤ end }
+    ensures first { first ≤ result }
+    ensures end { result ≤ end }
+    ensures seen { (p : ℕ) → first ≤ p → p < result → p < backing.now.seen }
+    ensures behind { (p : ℕ) → result ≤ p → p < end → backing.now.seen ≤ p }
+{
+    end.min(first.max(backing.seen))
+}
+
+/// How many pages from `first` to below `end` are absent, where all of these come from a source. It goes by the held pages.
 fn count_absent<P: PageStore>(
     store: &P,
     backing: &Backing,
@@ -25,26 +36,22 @@ fn count_absent<P: PageStore>(
     first: PageNo,
     end: PageNo,
 ) -> u64
+    requires vmo { IsSome ((P.content store.now).count v.0) }
     requires order { first ≤ end }
-    requires pages { end ≤ pages_of (P.content store.now) v.0 }
+    requires seen { (p : ℕ) → first ≤ p → p < end → p < backing.now.seen }
     ensures { result ≡ length (filter (is_absent (P.content store.now) (Some backing.now) v.0) (range_with_len first (end - first))) }
 {
-    let mut absent = 0;
-    for page in first..end {
-        absent += one_if(is_absent(store, backing, v, page));
+    let mut absent = end - first;
+    let mut from = first;
+    while let Some(page) = next_held_in(store, v, from, end) {
+        absent -= 1;
+        from = page + 1;
     }
     absent
 }
 
-/// 1 where a test holds, else 0.
-fn one_if(test: bool) -> u64
-    ensures { ◌≡◌ {A = ℕ} result (cond test 1 0) }
-{
-    if test { 1 } else { 0 }
-}
-
 /// Supplies the absent pages from `first` to below `end`. `NoMemory` where they are more than the free frames, else `HostMemory` only
-/// where there is one. The room is made before the first page changes.
+/// where there is one. The room is made before the first page changes. Pages that come from no source are not looked at.
 pub(crate) fn supply_pages<P: PageStore>(
     store: &mut P,
     functions: &[SourceFn; 3],
@@ -56,8 +63,37 @@ pub(crate) fn supply_pages<P: PageStore>(
     requires kinds { map (λ f. f.kind) functions.now ≡ 0 ∷ 1 ∷ 2 ∷ [] }
     requires source { IsSource backing.now }
     requires good { IsGood (P.content store.old) }
+    requires vmo { IsSome ((P.content store.old).count v.0) }
     requires order { first ≤ end }
     requires pages { end ≤ pages_of (P.content store.old) v.0 }
+    ensures ok { OnOk result (IsSupplied backing.now v.0 (P.content store.old) first end (P.content store.new)) }
+    ensures free { OnOk result (used (P.content store.old)
+        + length (filter (is_absent (P.content store.old) (Some backing.now) v.0) (range_with_len first (end - first)))
+        ≤ (P.content store.old).frames) }
+    ensures same { OnErr result (P.content store.new ≡ P.content store.old) }
+    ensures err { IfErr result (LacksFrames (P.content store.old)
+        (length (filter (is_absent (P.content store.old) (Some backing.now) v.0) (range_with_len first (end - first))))) }
+{
+    let last = seen_end(backing, first, end);
+    supply_seen(store, functions, backing, v, first, last)
+}
+
+/// Does what `supply_pages` does, where all of these pages come from a source.
+fn supply_seen<P: PageStore>(
+    store: &mut P,
+    functions: &[SourceFn; 3],
+    backing: &Backing,
+    v: Koid,
+    first: PageNo,
+    end: PageNo,
+) -> Result<(), Refusal>
+    requires kinds { map (λ f. f.kind) functions.now ≡ 0 ∷ 1 ∷ 2 ∷ [] }
+    requires source { IsSource backing.now }
+    requires good { IsGood (P.content store.old) }
+    requires vmo { IsSome ((P.content store.old).count v.0) }
+    requires order { first ≤ end }
+    requires pages { end ≤ pages_of (P.content store.old) v.0 }
+    requires seen { (p : ℕ) → first ≤ p → p < end → p < backing.now.seen }
     ensures ok { OnOk result (IsSupplied backing.now v.0 (P.content store.old) first end (P.content store.new)) }
     ensures free { OnOk result (used (P.content store.old)
         + length (filter (is_absent (P.content store.old) (Some backing.now) v.0) (range_with_len first (end - first)))
@@ -228,7 +264,8 @@ pub(crate) fn evict_pages<P: PageStore>(
 fn next_held_in<P: PageStore>(store: &P, v: Koid, from: PageNo, end: PageNo) -> Option<PageNo>
     requires { IsSome ((P.content store.now).count v.0) }
     ensures some { IfSome result (λ page. (from ≤ page) × (page < end)
-        × ((p : ℕ) → from ≤ p → p < page → (P.content store.now).page v.0 p ≡ None)) }
+        × ((p : ℕ) → from ≤ p → p < page → (P.content store.now).page v.0 p ≡ None)
+        × IsSome ((P.content store.now).page v.0 page)) }
     ensures none { IfNone result ((p : ℕ) → from ≤ p → p < end → (P.content store.now).page v.0 p ≡ None) }
 {
     let page = store.next_held(v, from)?;

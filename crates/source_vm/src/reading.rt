@@ -1,16 +1,19 @@
 //! What one line of a script of page sources says.
 
-ghost use Rattle.std.specs.Prelude.{◌≡◌, map};
-ghost use Rattle.source_vm.specs.Reading.{name_in, range_in, reading_of, source_child, source_command, source_create};
-ghost use Rattle.source_vm.specs.Reading.{source_reading, source_reading_of_words, source_stat, source_write, order_in};
+ghost use Rattle.std.specs.Prelude.{◌≡◌, ◌≤◌, map, length, option_map};
+ghost use Rattle.vm_base.specs.declared.limits.TheConstants.{DATA_BYTES};
+ghost use Rattle.source_vm.specs.Lent.{source_command_of};
+ghost use Rattle.source_vm.specs.Reading.{name_in, range_in, reading_of, reading_of_call, source_child, source_command, source_create};
+ghost use Rattle.source_vm.specs.Reading.{source_reading, source_stat, source_write, order_in};
 ghost use Rattle.source_vm.specs.Reading.{of_name, of_range};
 ghost use Rattle.source_vm.specs.declared.command.SourceCommand.TheVariants.{Close, Read, Supply, Evict};
 ghost use Rattle.vm_model.specs.Language.Reading.{is_comment, words};
 
+use crate::call::SourceCall;
 use crate::command::SourceCommand;
 use arrayvec::ArrayVec;
-use script_text::{SyntaxFault, byte_data, next_word, number, vmo};
-use vm_base::{LINE_BYTES, VmoName};
+use script_text::{SyntaxFault, byte_data_into, next_word, number, vmo};
+use vm_base::{DATA_BYTES, LINE_BYTES, VmoName};
 
 /// The most words that a command has, its own and five arguments.
 const MOST_WORDS: usize = 6;
@@ -26,21 +29,37 @@ pub enum SourceLine {
 
 /// Reads one line of a script, without its line feed. `SyntaxFault` where it has more than `LINE_BYTES`
 /// bytes, or where it is not blank, no comment and no command.
-#[tactic(auto, unfolding(crate::specs::Reading::source_reading))]
 pub fn read_source_line(line: &[u8]) -> Result<SourceLine, SyntaxFault>
     ensures { reading_of result ≡ source_reading line.now }
+{
+    let mut room = [0; DATA_BYTES];
+    match read_source_call(line, &mut room)? {
+        Some(call) => Ok(SourceLine::Order(call.to_command())),
+        None => Ok(SourceLine::Blank),
+    }
+}
+
+/// Reads one line as `read_source_line` does: `None` where it says nothing, and else the command, whose byte data is decoded to the
+/// front of `room` and lent from there. `room` has at least `DATA_BYTES` bytes.
+#[tactic(auto, unfolding(crate::specs::Reading::source_reading))]
+pub fn read_source_call<'a>(
+    line: &[u8],
+    room: &'a mut [u8],
+) -> Result<Option<SourceCall<'a>>, SyntaxFault>
+    requires { DATA_BYTES ≤ length room.old }
+    ensures { reading_of_call result ≡ source_reading line.now }
 {
     if line.len() > LINE_BYTES {
         return Err(SyntaxFault);
     }
     let Some((word, _)) = next_word(line) else {
-        return Ok(SourceLine::Blank);
+        return Ok(None);
     };
     if is_comment(word) {
-        return Ok(SourceLine::Blank);
+        return Ok(None);
     }
-    match order(line) {
-        Some(command) => Ok(SourceLine::Order(command)),
+    match order(line, room) {
+        Some(call) => Ok(Some(call)),
         None => Err(SyntaxFault),
     }
 }
@@ -53,8 +72,9 @@ fn is_comment(word: &[u8]) -> bool
 }
 
 /// The command of a line, or `None` where it has none.
-fn order(line: &[u8]) -> Option<SourceCommand>
-    ensures { result ≡ order_in (words line.now) }
+fn order<'a>(line: &[u8], room: &'a mut [u8]) -> Option<SourceCall<'a>>
+    requires { DATA_BYTES ≤ length room.old }
+    ensures { option_map source_command_of result ≡ order_in (words line.now) }
 {
     let mut found: ArrayVec<&[u8], MOST_WORDS> = ArrayVec::new();
     let mut rest = line;
@@ -66,20 +86,21 @@ fn order(line: &[u8]) -> Option<SourceCommand>
         rest = behind;
     }
     match found.as_slice() {
-        [word, arguments @ ..] => command(word, arguments),
+        [word, arguments @ ..] => call(word, arguments, room),
         [] => None,
     }
 }
 
 /// The command of this word and these arguments, or `None` where there is none.
 #[tactic(auto, unfolding(crate::specs::Reading::source_command))]
-fn command(word: &[u8], arguments: &[&[u8]]) -> Option<SourceCommand>
-    ensures { result ≡ source_command word.now (map (λ a. a.now) arguments.now) }
+fn call<'a>(word: &[u8], arguments: &[&[u8]], room: &'a mut [u8]) -> Option<SourceCall<'a>>
+    requires { DATA_BYTES ≤ length room.old }
+    ensures { option_map source_command_of result ≡ source_command word.now (map (λ a. a.now) arguments.now) }
 {
     if word == b"vmo_read".as_slice() {
         read(arguments)
     } else if word == b"vmo_write".as_slice() {
-        write(arguments)
+        write(arguments, room)
     } else if word == b"supply".as_slice() {
         supply(arguments)
     } else if word == b"evict".as_slice() {
@@ -118,40 +139,40 @@ fn range_in(arguments: &[&[u8]]) -> Option<(VmoName, u64, u64)>
 }
 
 /// `vmo_read VMO OFFSET LEN`
-fn read(arguments: &[&[u8]]) -> Option<SourceCommand>
-    ensures { result ≡ of_range Read (map (λ a. a.now) arguments.now) }
+fn read<'a>(arguments: &[&[u8]]) -> Option<SourceCall<'a>>
+    ensures { option_map source_command_of result ≡ of_range Read (map (λ a. a.now) arguments.now) }
 {
     let (name, offset, len) = range_in(arguments)?;
-    Some(SourceCommand::Read { name, offset, len })
+    Some(SourceCall::Read { name, offset, len })
 }
 
 /// `supply VMO OFFSET LEN`
-fn supply(arguments: &[&[u8]]) -> Option<SourceCommand>
-    ensures { result ≡ of_range Supply (map (λ a. a.now) arguments.now) }
+fn supply<'a>(arguments: &[&[u8]]) -> Option<SourceCall<'a>>
+    ensures { option_map source_command_of result ≡ of_range Supply (map (λ a. a.now) arguments.now) }
 {
     let (name, offset, len) = range_in(arguments)?;
-    Some(SourceCommand::Supply { name, offset, len })
+    Some(SourceCall::Supply { name, offset, len })
 }
 
 /// `evict VMO OFFSET LEN`
-fn evict(arguments: &[&[u8]]) -> Option<SourceCommand>
-    ensures { result ≡ of_range Evict (map (λ a. a.now) arguments.now) }
+fn evict<'a>(arguments: &[&[u8]]) -> Option<SourceCall<'a>>
+    ensures { option_map source_command_of result ≡ of_range Evict (map (λ a. a.now) arguments.now) }
 {
     let (name, offset, len) = range_in(arguments)?;
-    Some(SourceCommand::Evict { name, offset, len })
+    Some(SourceCall::Evict { name, offset, len })
 }
 
 /// `vmo_close VMO`
-fn close(arguments: &[&[u8]]) -> Option<SourceCommand>
-    ensures { result ≡ of_name Close (map (λ a. a.now) arguments.now) }
+fn close<'a>(arguments: &[&[u8]]) -> Option<SourceCall<'a>>
+    ensures { option_map source_command_of result ≡ of_name Close (map (λ a. a.now) arguments.now) }
 {
     let name = name_in(arguments)?;
-    Some(SourceCommand::Close { name })
+    Some(SourceCall::Close { name })
 }
 
 /// `source_create VMO SIZE KIND SEED`
-fn create(arguments: &[&[u8]]) -> Option<SourceCommand>
-    ensures { result ≡ source_create (map (λ a. a.now) arguments.now) }
+fn create<'a>(arguments: &[&[u8]]) -> Option<SourceCall<'a>>
+    ensures { option_map source_command_of result ≡ source_create (map (λ a. a.now) arguments.now) }
 {
     let [name, size, kind, seed] = arguments else {
         return None;
@@ -160,7 +181,7 @@ fn create(arguments: &[&[u8]]) -> Option<SourceCommand>
     let size = number(size)?;
     let kind = number(kind)?;
     let seed = number(seed)?;
-    Some(SourceCommand::Create {
+    Some(SourceCall::Create {
         name,
         size,
         kind,
@@ -169,8 +190,8 @@ fn create(arguments: &[&[u8]]) -> Option<SourceCommand>
 }
 
 /// `vmo_create_child VMO PARENT snapshot OFFSET SIZE`
-fn child(arguments: &[&[u8]]) -> Option<SourceCommand>
-    ensures { result ≡ source_child (map (λ a. a.now) arguments.now) }
+fn child<'a>(arguments: &[&[u8]]) -> Option<SourceCall<'a>>
+    ensures { option_map source_command_of result ≡ source_child (map (λ a. a.now) arguments.now) }
 {
     let [name, parent, kind, offset, size] = arguments else {
         return None;
@@ -180,7 +201,7 @@ fn child(arguments: &[&[u8]]) -> Option<SourceCommand>
     let offset = number(offset)?;
     let size = number(size)?;
     if *kind == b"snapshot".as_slice() {
-        Some(SourceCommand::Child {
+        Some(SourceCall::Child {
             name,
             parent,
             offset,
@@ -192,16 +213,17 @@ fn child(arguments: &[&[u8]]) -> Option<SourceCommand>
 }
 
 /// `vmo_write VMO OFFSET DATA`
-fn write(arguments: &[&[u8]]) -> Option<SourceCommand>
-    ensures { result ≡ source_write (map (λ a. a.now) arguments.now) }
+fn write<'a>(arguments: &[&[u8]], room: &'a mut [u8]) -> Option<SourceCall<'a>>
+    requires { DATA_BYTES ≤ length room.old }
+    ensures { option_map source_command_of result ≡ source_write (map (λ a. a.now) arguments.now) }
 {
     let [name, offset, bytes] = arguments else {
         return None;
     };
     let name = vmo(name)?;
     let offset = number(offset)?;
-    let bytes = byte_data(bytes)?;
-    Some(SourceCommand::Write {
+    let bytes = byte_data_into(bytes, room)?;
+    Some(SourceCall::Write {
         name,
         offset,
         bytes,
@@ -209,11 +231,11 @@ fn write(arguments: &[&[u8]]) -> Option<SourceCommand>
 }
 
 /// `stat`
-fn stat(arguments: &[&[u8]]) -> Option<SourceCommand>
-    ensures { result ≡ source_stat (map (λ a. a.now) arguments.now) }
+fn stat<'a>(arguments: &[&[u8]]) -> Option<SourceCall<'a>>
+    ensures { option_map source_command_of result ≡ source_stat (map (λ a. a.now) arguments.now) }
 {
     match arguments {
-        [] => Some(SourceCommand::Stat),
+        [] => Some(SourceCall::Stat),
         _ => None,
     }
 }

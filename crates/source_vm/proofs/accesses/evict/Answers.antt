@@ -1,44 +1,39 @@
 use Rattle.std.proofs.Common.{◌≡◌, ◌∙◌, ◌+◌, ◌/◌, ℕ, true, sym, ap, arith}
 use Rattle.page_store.proofs.NameLaws.{pages_of_le}
-use Rattle.source_vm.specs.Table.{names_of, backings_of, state_of}
-use Rattle.source_vm.proofs.StepLaws.{in_range, out_of_range, kept_content}
-use Rattle.source_vm.proofs.RowLaws.{evict_past, evict_lacked, evict_done}
-use Rattle.source_vm.proofs.accesses.evict.Goals as goal
-use Rattle.vm_base.specs.Search.{any_from}
-use Rattle.source_vm.proofs.TextLaws.{evict_tests, evicts}
 use Rattle.vm_base.specs.declared.limits.TheConstants.{PAGE}
+use Rattle.vm_base.specs.Search.{any_from}
 use Rattle.source_vm.specs.Pages.{cleared, is_clean_at}
-
-pub returns-then-not-is_in_range : goal.returns-then-not-is_in_range
-returns-then-not-is_in_range g c =
-    evict_past (state_of (g.P.PageStore.content c.args.store.now) c.args.table.now) c.args.name c.in-Some.v.0 c.in-Some.ensures.0 c.args.offset c.args.len
-    (sym c.are_aligned.ensures ∙ c.if-not-are_aligned.false) (out_of_range c.is_in_range.result _ _ c.is_in_range.ensures c.if-not-is_in_range.true)
+use Rattle.source_vm.specs.Table.{names_of, backings_of, state_of}
+use Rattle.source_vm.proofs.StepLaws.{kept_content, no_more}
+use Rattle.source_vm.proofs.RowLaws.{evict_lacked, evict_done}
+use Rattle.source_vm.proofs.TextLaws.{evict_tests, evicts}
+use Rattle.source_vm.proofs.accesses.evict.Goals as goal
 
 pub overflow_add-offset : goal.overflow_add-offset
-overflow_add-offset g c =
-    omega (arith, c.is_in_range.ensures.0 c.if-not-is_in_range.false, pages_of_le _ c.in-Some.v.0 c.requires.agrees.good.content)
+overflow_add-offset g c = omega (arith, c.in-Ok.ensures.ok.inside, pages_of_le _ c.in-Ok.found.0.0 c.requires.agrees.good.content)
 
-pub returns-in-Ok : goal.returns-in-Ok
-returns-in-Ok g c =
+pub returns-in-Ok-evict_pages : goal.returns-in-Ok-evict_pages
+returns-in-Ok-evict_pages g c =
     let t = c.args.table.now in
     let content = g.P.PageStore.content c.args.store.now in
-    let v = c.in-Some.v.0 in
-    let ends = c.in-Ok.ensures.ok ∙ (ap (λ (n : ℕ). cleared c.in-Some.backing content v n c.page_of-2.result) c.page_of.ensures
-    ∙ ap (λ (n : ℕ). cleared c.in-Some.backing content v (c.args.offset / PAGE) n) c.page_of-2.ensures) in
-    evict_done (state_of content t) c.args.name v c.in-Some.ensures.0 c.args.offset c.args.len (sym c.are_aligned.ensures ∙ c.if-not-are_aligned.false)
-    (in_range c.is_in_range.result _ _ c.is_in_range.ensures c.if-not-is_in_range.false) _
-    (evicts content (names_of t) (backings_of t) v c.in-Some.backing c.in-Some.ensures.1 _ (c.args.offset / PAGE) ((c.args.offset + c.args.len) / PAGE) ends)
+    let found = c.in-Ok.ensures.ok in
+    let v = c.in-Ok.found.0.0 in
+    let b = c.in-Ok.found.1 in
+    let ends = c.in-Ok-evict_pages.ensures.ok ∙ (ap (λ (n : ℕ). cleared b content v n c.page_of-end.result) c.page_of-first.ensures
+    ∙ ap (λ (n : ℕ). cleared b content v (c.args.offset / PAGE) n) c.page_of-end.ensures) in
+    evict_done (state_of content t) c.args.name v found.named c.args.offset c.args.len found.aligned (no_more _ _ found.inside) _
+    (evicts content (names_of t) (backings_of t) v b found.backed _ (c.args.offset / PAGE) ((c.args.offset + c.args.len) / PAGE) ends)
 
-pub returns-in-Err : goal.returns-in-Err
-returns-in-Err g c =
+pub returns-in-Err-evict_pages : goal.returns-in-Err-evict_pages
+returns-in-Err-evict_pages g c =
     let t = c.args.table.now in
     let content = g.P.PageStore.content c.args.store.now in
-    let v = c.in-Some.v.0 in
-    let backing = c.in-Some.backing in
-    let clean : any_from (c.args.offset / PAGE) ((c.args.offset + c.args.len) / PAGE) (is_clean_at backing content v) ≡ true =
-    ap (λ (n : ℕ). any_from n ((c.args.offset + c.args.len) / PAGE) (is_clean_at backing content v)) (sym c.page_of.ensures)
-    ∙ (ap (λ (n : ℕ). any_from c.page_of.result n (is_clean_at backing content v)) (sym c.page_of-2.ensures) ∙ c.in-Err.ensures.err) in
-    kept_content content _ (names_of t) (backings_of t) _ _ c.in-Err.ensures.same
-    (evict_lacked (state_of content t) c.args.name v c.in-Some.ensures.0 c.args.offset c.args.len (sym c.are_aligned.ensures ∙ c.if-not-are_aligned.false)
-    (in_range c.is_in_range.result _ _ c.is_in_range.ensures c.if-not-is_in_range.false)
-    (evict_tests content (names_of t) (backings_of t) v backing c.in-Some.ensures.1 (c.args.offset / PAGE) ((c.args.offset + c.args.len) / PAGE) ∙ clean))
+    let found = c.in-Ok.ensures.ok in
+    let v = c.in-Ok.found.0.0 in
+    let b = c.in-Ok.found.1 in
+    let clean : any_from (c.args.offset / PAGE) ((c.args.offset + c.args.len) / PAGE) (is_clean_at b content v) ≡ true =
+    ap (λ (n : ℕ). any_from n ((c.args.offset + c.args.len) / PAGE) (is_clean_at b content v)) (sym c.page_of-first.ensures)
+    ∙ (ap (λ (n : ℕ). any_from c.page_of-first.result n (is_clean_at b content v)) (sym c.page_of-end.ensures) ∙ c.in-Err-evict_pages.ensures.err) in
+    kept_content content _ (names_of t) (backings_of t) _ _ c.in-Err-evict_pages.ensures.same
+    (evict_lacked (state_of content t) c.args.name v found.named c.args.offset c.args.len found.aligned (no_more _ _ found.inside)
+    (evict_tests content (names_of t) (backings_of t) v b found.backed (c.args.offset / PAGE) ((c.args.offset + c.args.len) / PAGE) ∙ clean))

@@ -1,22 +1,38 @@
-use Rattle.std.proofs.Common.{◌≡◌, ℕ, ap, cond, Bool, Some, arith}
+use Rattle.std.proofs.Common.{Some, arith}
 use Rattle.source_vm.specs.State.{is_absent}
-use Rattle.source_vm.proofs.SupplyLaws.{filter_next, filter_end, bit_most}
+use Rattle.source_vm.proofs.AbsentLaws.{absent_first, absent_next, absent_last}
 use Rattle.source_vm.proofs.ranges.count_absent.Goals as goal
 
-pub overflow_add-absent : goal.overflow_add-absent
-overflow_add-absent g c =
-    omega (arith, c.one_if-absent.ensures, bit_most c.is_absent.result, c.loop-page.invariant.few)
+pub loop-page-init : goal.loop-page-init
+loop-page-init g c = record {
+  order = omega arith;
+  inside = c.requires.order;
+  counted = absent_first (is_absent (g.P.PageStore.content c.args.store.now) (Some c.args.backing.now) c.args.v.0) c.args.first c.args.end c.requires.order;
+}
+
+pub overflow_sub-absent-in-Some : goal.overflow_sub-absent-in-Some
+overflow_sub-absent-in-Some g c =
+    let found = c.in-Some.ensures.some in
+    let inv = c.loop-page.invariant in
+    omega (
+      arith,
+      (absent_next (g.P.PageStore.content c.args.store.now) c.args.backing.now c.args.v.0 c.args.first c.args.end c.requires.seen
+          c.loop-page.from c.in-Some.page c.loop-page.absent inv.order found.0 found.1 found.2 found.3 inv.counted).0,
+    )
 
 pub loop-page-preserved : goal.loop-page-preserved
 loop-page-preserved g c =
-    let absent = is_absent (g.P.PageStore.content c.args.store.now) (Some c.args.backing.now) c.args.v.0 in
-    let bit : ◌≡◌ {A = ℕ} (cond c.is_absent.result 1 0) (cond (absent c.loop-page.page) 1 0) = ap (λ (t : Bool). cond t 1 0) c.is_absent.ensures in
+    let found = c.in-Some.ensures.some in
+    let inv = c.loop-page.invariant in
     record {
-      counted = omega (arith, c.loop-page.invariant.counted, c.one_if-absent.ensures, bit, filter_next absent c.loop-page.page c.args.end c.loop-page-test.true);
-      few = omega (arith, c.loop-page.invariant.few, c.one_if-absent.ensures, bit_most c.is_absent.result);
+      order = omega (arith, found.0, inv.order);
+      inside = omega (arith, found.1);
+      counted = (absent_next (g.P.PageStore.content c.args.store.now) c.args.backing.now c.args.v.0 c.args.first c.args.end c.requires.seen
+          c.loop-page.from c.in-Some.page c.loop-page.absent inv.order found.0 found.1 found.2 found.3 inv.counted).1;
     }
 
 pub returns : goal.returns
 returns g c =
-    let absent = is_absent (g.P.PageStore.content c.args.store.now) (Some c.args.backing.now) c.args.v.0 in
-    omega (arith, c.loop-page.invariant.counted, filter_end absent c.loop-page.page c.args.end (omega arith))
+    let inv = c.loop-page.invariant in
+    absent_last (g.P.PageStore.content c.args.store.now) c.args.backing.now c.args.v.0 c.args.first c.args.end c.requires.seen
+    c.loop-page.from c.loop-page.absent inv.order inv.inside c.in_default.ensures.none inv.counted

@@ -7,6 +7,10 @@ abbrev pub invariant-loop-page : goal.invariant-loop-page
 invariant-loop-page g l =
     let absent = is_absent (g.P.PageStore.content l.store) (Some l.backing) l.v.0 in
     record {
-      counted : l.absent + length (filter absent (range_with_len l.page (l.end - l.page))) ≡ length (filter absent (range_with_len l.first (l.end - l.first)));
-      few : l.absent + l.first ≤ l.page;
+      order : l.first ≤ l.from;
+      inside : l.from ≤ l.end;
+      counted : l.absent ≡ length (filter absent (range_with_len l.first (l.from - l.first))) + (l.end - l.from);
     }
+
+abbrev pub decreases-loop-page : goal.decreases-loop-page
+decreases-loop-page g l = l.end - l.from

@@ -1,0 +1,93 @@
+-- What answering one line of a script of page sources comes to, and its beginning.
+use Rattle.std.proofs.Common.{◌≡◌, ℕ, List, Option, None, Result, refl, sym, ap, subst, ◌∙◌}
+use Rattle.std.specs.Prelude.{OnOk, OnErr}
+use Rattle.std.specs.Io.KnownBytes.{Appends}
+use Rattle.script_io.specs.Faults.{IsCutOff}
+use Rattle.vm_base.specs.Pages.{zeros}
+use Rattle.vm_model.specs.declared.reply.Reply.{Reply}
+use Rattle.vm_model.specs.Contents.Content.{Content, Page, nothing, IsGood}
+use Rattle.vm_model.specs.Language.Text.{text}
+use Rattle.vm_model.proofs.ContentLaws.{IsGood-nothing}
+use Rattle.vm_model.proofs.LeavingLaws.{page_none}
+use Rattle.served.specs.Answering.{syntax_text}
+use Rattle.served.specs.Outcome.{AnswersLine}
+use Rattle.served.proofs.Answered.{written_or_cut}
+use Rattle.source_vm.specs.declared.backing.Backing.{Backing}
+use Rattle.source_vm.specs.declared.command.SourceCommand.{SourceCommand}
+use Rattle.source_vm.specs.Sources.{backing_text, held_text, text_over}
+use Rattle.source_vm.specs.State.{SourceState, state_over, empty_sources}
+use Rattle.source_vm.specs.Commands.{SourceStep}
+use Rattle.source_vm.specs.Good.{IsGoodSources}
+use Rattle.source_vm.specs.Reading.{SourceReading, Order, Outside, source_reading}
+use Rattle.source_vm.specs.Answering.{GivesAs, source_rules}
+
+-- a line that is an order, one step, and its reply
+pub AnswersLine-order : {T E : Type 0} (line : List ℕ) (command : SourceCommand) (old new : SourceState) (reply : Reply) (before after : Option (List ℕ)) (result : Result T E)
+    → Order command ≡ source_reading line → SourceStep old command reply new → OnOk result (Appends before after (text reply)) → OnErr result (IsCutOff before after (text reply))
+    → AnswersLine source_rules line old new before after result
+AnswersLine-order line command old new reply before after result e step ok err = record {
+  text = text reply;
+  gives = record { answer = subst (λ (r : SourceReading). GivesAs r old (text reply) new) e (reply, refl, step) };
+  written = written_or_cut result before after (text reply) ok err;
+}
+
+-- a line outside the grammar, and its refusal
+pub AnswersLine-outside : {T E : Type 0} (line : List ℕ) (old : SourceState) (before after : Option (List ℕ)) (result : Result T E)
+    → Outside ≡ source_reading line → OnOk result (Appends before after syntax_text) → OnErr result (IsCutOff before after syntax_text) → AnswersLine source_rules line old old before after result
+AnswersLine-outside line old before after result e ok err = record {
+  text = syntax_text;
+  gives = record { answer = subst (λ (r : SourceReading). GivesAs r old syntax_text old) e (refl, refl) };
+  written = written_or_cut result before after syntax_text ok err;
+}
+
+-- ---- a machine with no names and no VMOs
+
+-- its state, over a store that has no VMO
+pub bare : (c : Content) (names : ℕ → Option ℕ) (backing : ℕ → Option Backing) → IsGood c → ((v : ℕ) → c.count v ≡ None) → names ≡ (λ n. None) → backing ≡ (λ v. None)
+    → state_over c names backing ≡ record (empty_sources c.frames) { content = c }
+unfolding empty_sources text_over held_text backing_text
+bare c names backing good none no_names no_backing =
+    ap (λ (ns : ℕ → Option ℕ). state_over c ns backing) no_names
+    ∙ (ap (λ (bs : ℕ → Option Backing). state_over c (λ n. None) bs) no_backing
+    ∙ λ i. record {
+      content = c;
+      names = λ n. None;
+      backing = λ v. None;
+      text = λ v p. held_text (page_none c v p good (none v) i) zeros;
+    })
+
+-- it is good
+pub IsGoodSources-bare : (c : Content) → IsGood c → ((v : ℕ) → c.count v ≡ None) → IsGoodSources (record (empty_sources c.frames) { content = c })
+unfolding empty_sources text_over held_text backing_text
+IsGoodSources-bare c good none = record {
+  content = good;
+  counts = λ v n e. absurd (let no = none v in cc);
+  named = λ v h. absurd (let no = none v in cc);
+  known = λ n v e. absurd cc;
+  once = λ n m v e f. absurd cc;
+  backed = λ v h. absurd (let no = none v in cc);
+  others = λ v e. refl;
+  backing = λ v b e. absurd cc;
+  text = λ v p. sym (ap (λ (o : Option Page). held_text o zeros) (page_none c v p good (none v)));
+}
+
+-- with page frames and nothing else
+pub IsGoodSources-empty : (frames : ℕ) → IsGoodSources (empty_sources frames)
+unfolding empty_sources nothing
+IsGoodSources-empty frames = IsGoodSources-bare (record nothing { frames = frames }) (IsGood-nothing frames) (λ v. refl)
+
+pub fresh : (frames v : ℕ) → (record nothing { frames = frames }).count v ≡ None
+unfolding nothing
+fresh frames v = refl
+
+pub starts : (frames : ℕ) → record (empty_sources frames) { content = record nothing { frames = frames } } ≡ empty_sources frames
+unfolding empty_sources
+starts frames = refl
+
+-- a store that had nothing, with page frames
+pub filled_bare : (frames : ℕ) (new old : Content) → new ≡ record old { frames = frames } → old ≡ nothing → IsGood new × ((v : ℕ) → new.count v ≡ None) × (new.next ≡ 1)
+unfolding nothing
+filled_bare frames new old filled e =
+    let with_frames = λ (c : Content). record c { frames = frames } in
+    let is : new ≡ record nothing { frames = frames } = filled ∙ ap with_frames e in
+    (subst IsGood (sym is) (IsGood-nothing frames), λ v. ap (λ (c : Content). c.count v) is, ap (λ (c : Content). c.next) is)

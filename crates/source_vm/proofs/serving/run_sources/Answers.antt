@@ -1,0 +1,13 @@
+use Rattle.std.proofs.Common.{◌∙◌}
+use Rattle.vm_model.proofs.ContentLaws.{IsGood-nothing}
+use Rattle.source_vm.proofs.LineLaws.{IsGoodSources-empty, fresh, starts}
+use Rattle.source_vm.proofs.serving.run_sources.Goals as goal
+
+pub serve_words-status-requires-clause-agrees : goal.serve_words-status-requires-clause-agrees
+serve_words-status-requires-clause-agrees g c = λ frames. c.new_interpreter-interpreter.ensures.agrees _ (IsGood-nothing frames) (fresh frames)
+
+pub serve_words-status-requires-clause-start : goal.serve_words-status-requires-clause-start
+serve_words-status-requires-clause-start g c = λ frames. c.new_interpreter-interpreter.ensures.empty _ (IsGood-nothing frames) (fresh frames) ∙ starts frames
+
+pub serve_words-status-requires-clause-good : goal.serve_words-status-requires-clause-good
+serve_words-status-requires-clause-good g c = IsGoodSources-empty
