@@ -83,11 +83,3 @@ fresh frames v = refl
 pub starts : (frames : ℕ) → record (empty_sources frames) { content = record nothing { frames = frames } } ≡ empty_sources frames
 unfolding empty_sources
 starts frames = refl
-
--- a store that had nothing, with page frames
-pub filled_bare : (frames : ℕ) (new old : Content) → new ≡ record old { frames = frames } → old ≡ nothing → IsGood new × ((v : ℕ) → new.count v ≡ None) × (new.next ≡ 1)
-unfolding nothing
-filled_bare frames new old filled e =
-    let with_frames = λ (c : Content). record c { frames = frames } in
-    let is : new ≡ record nothing { frames = frames } = filled ∙ ap with_frames e in
-    (subst IsGood (sym is) (IsGood-nothing frames), λ v. ap (λ (c : Content). c.count v) is, ap (λ (c : Content). c.next) is)
