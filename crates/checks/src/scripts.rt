@@ -10,11 +10,13 @@
 //!     tree COUNTS    how many hidden nodes, rows and rows with a page frame the clone tree is to have in the end
 //!
 //! Each script is run over the clone tree and over the plain store, on an empty machine each, and once more over the clone
-//! tree by `Vm::step` in place of `run`, or by `Batch::step` in place of `run_batch`. Each must write exactly the replies.
+//! tree by `Vm::step` in place of `run`, by `Batch::step` in place of `run_batch`, or by `SourceVm::step` in place of
+//! `run_sources`. Each must write exactly the replies.
 
 use self::job_steps::job_stepped;
 use self::reading::read_script;
 use self::runs::{Counts, compare, written};
+use self::source_steps::source_stepped;
 use self::steps::stepped;
 use self::text_fault::Fault;
 use std::alloc::Global;
@@ -45,6 +47,8 @@ mod regions;
 mod runs;
 mod sharing;
 mod sizes;
+mod source_steps;
+mod sources;
 mod steps;
 mod text_fault;
 mod texts;
@@ -75,6 +79,9 @@ fn check_script(alloc: Global, text: &str) -> Result<(), Fault> {
     compare(alloc, script.replies.as_str(), written.as_str())?;
     compare_counts(alloc, script.counts.as_str(), counts)?;
     if let Some(written) = stepped(alloc, script.words.as_slice(), script.lines.as_str())? {
+        return compare(alloc, script.replies.as_str(), written.as_str());
+    }
+    if let Some(written) = source_stepped(alloc, script.words.as_slice(), script.lines.as_str())? {
         return compare(alloc, script.replies.as_str(), written.as_str());
     }
     match job_stepped(alloc, script.words.as_slice(), script.lines.as_str())? {

@@ -94,6 +94,34 @@ none: Done OK|OK|OK 00aabb0000|
     )
 }
 
+/// The same of a script of page sources. Its lines have 26, 19 and 16 bytes, so that they end in the pulls 4, 7 and 9. Their replies
+/// have 3, 8 and 3 bytes, which take four pushes.
+#[test]
+fn each_pull_and_push_of_sources_may_fail(rt: HostRuntime) -> Result<(), Fail> {
+    check_ends(
+        rt.alloc(),
+        "sources",
+        "source_create v1 8192 1 7\nvmo_read v1 4095 2\nevict v1 0 8192\n",
+        "\
+pull 1: ReadFault
+pull 2: ReadFault
+pull 3: ReadFault
+pull 4: ReadFault
+pull 5: ReadFault OK|
+pull 6: ReadFault OK|
+pull 7: ReadFault OK|
+pull 8: ReadFault OK|OK 0607|
+pull 9: ReadFault OK|OK 0607|
+pull 10: ReadFault OK|OK 0607|OK|
+push 1: WriteFault
+push 2: WriteFault OK|
+push 3: WriteFault OK|OK 0
+push 4: WriteFault OK|OK 0607|
+none: Done OK|OK 0607|OK|
+",
+    )
+}
+
 /// A last piece without a line feed is a line if the script ends behind it, and none if the next pull fails.
 #[test]
 fn a_last_piece_is_a_line_at_the_end_alone(rt: HostRuntime) -> Result<(), Fail> {

@@ -8,6 +8,7 @@ use batch_vm::run_batch;
 use cow_forest::CowForest;
 use page_store::{FlatStore, PageStore};
 use script_io::{MemSink, MemSource, Sink, Source, SureSource};
+use source_vm::{SourceFn, run_sources, src_byte};
 use std::alloc::Global;
 use vm_session::{Status, run, serve};
 
@@ -64,6 +65,24 @@ fn end_of(alloc: Global, status: Status, sink: &MemSink) -> Result<End, Fault> {
     Ok(End { status, written })
 }
 
+/// Runs a script of page sources.
+fn run_by_sources<P: PageStore, S: Source, K: Sink>(
+    alloc: Global,
+    words: &[String],
+    store: &mut P,
+    source: &mut S,
+    sink: &mut K,
+) -> Status
+    requires { P.content store.old ≡ nothing }
+{
+    let functions = [
+        SourceFn::new(0, |seed, offset| src_byte(0, seed, offset)),
+        SourceFn::new(1, |seed, offset| src_byte(1, seed, offset)),
+        SourceFn::new(2, |seed, offset| src_byte(2, seed, offset)),
+    ];
+    run_sources(alloc, words, functions, store, source, sink)
+}
+
 /// Runs a script by the call for its words.
 fn run_by_words<P: PageStore, S: Source, K: Sink>(
     alloc: Global,
@@ -76,6 +95,9 @@ fn run_by_words<P: PageStore, S: Source, K: Sink>(
 {
     match words {
         [verb, ..] if verb.as_str() == "batch" => run_batch(alloc, words, store, source, sink),
+        [verb, ..] if verb.as_str() == "sources" => {
+            run_by_sources(alloc, words, store, source, sink)
+        }
         _ => run(alloc, words, store, source, sink),
     }
 }

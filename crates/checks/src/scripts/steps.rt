@@ -17,7 +17,7 @@ use vm_core::Vm;
 use vm_model::{Command, Reply};
 
 /// The most lines of a script.
-const LINES: u64 = 1_000_000;
+pub(crate) const LINES: u64 = 1_000_000;
 
 /// How often what finds no memory of the host is asked.
 #[derive(Clone, Copy, PartialEq, Eq)]
@@ -37,7 +37,7 @@ pub(crate) fn frames_for(words: &[String], verb: &str) -> Option<u32> {
 }
 
 /// Adds the lines of a reply to those that are written.
-fn add_reply(written: &mut String, reply: &Reply) -> Result<(), Fault> {
+pub(crate) fn add_reply(written: &mut String, reply: &Reply) -> Result<(), Fault> {
     let mut room = [0; TEXT_ROOM];
     for index in 0..line_count(reply) {
         let len = write_line(reply, index, &mut room);
