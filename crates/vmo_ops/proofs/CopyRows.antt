@@ -245,7 +245,7 @@ module _ {s : State} {name parent : VmoName} {t : Target} {offset size : ℕ} {r
   copies = copies_of (is_pinned s.pins t.koid.0) first seen 0
 
   -- the copies of pinned pages are those of the definition
-  copies-all : copies ≡ pinned_copies s t (offset / PAGE) (rounded size / PAGE)
+  pub copies-all : copies ≡ pinned_copies s t (offset / PAGE) (rounded size / PAGE)
   unfolding copies_of
   copies-all =
       let pinned = is_pinned s.pins t.koid.0 in
@@ -258,7 +258,7 @@ module _ {s : State} {name parent : VmoName} {t : Target} {offset size : ℕ} {r
       ap low none ∙ (same ∙ ap (λ (n : ℕ). filter (λ q. pinned (t.first + offset / PAGE + q)) (range_with_len 0 n)) asks.sees)
 
   -- what refuses it, behind the other tests
-  rows-are : first_of (refusals s command) ≡ cond (lacks_copies s t (offset / PAGE) (rounded size / PAGE)) (Some NoMemory) None
+  pub rows-are : first_of (refusals s command) ≡ cond (lacks_copies s t (offset / PAGE) (rounded size / PAGE)) (Some NoMemory) None
   rows-are =
       rows_off (not (is_open s parent.0)) (is_open s name.0) (not (offset % PAGE == 0) || (resizable && no_write)) (nat_lt (VMO_PAGES * PAGE) (offset + rounded size))
       (lacks_copies s (target_of s parent.0) (offset / PAGE) (rounded size / PAGE)) (ap (λ (o : Option Target). not (is_some o)) asks.named) (ap is_some asks.closed) asks.asked

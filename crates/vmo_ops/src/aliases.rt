@@ -72,8 +72,8 @@ fn pages_inside<P: PageStore>(store: &P, t: &Target, offset: u64, bytes: u64) ->
     Some(page_of(whole))
 }
 
-// What a slice of `pages` pages stands for, from the name's page `start` on.
-fn slice_target(t: &Target, start: PageNo, pages: PageNo, no_write: bool) -> Target
+/// What a slice of `pages` pages stands for, from the name's page `start` on.
+pub fn slice_target(t: &Target, start: PageNo, pages: PageNo, no_write: bool) -> Target
     requires { t.now.first + start < 2 ^ 64 }
     ensures { result ≡ slice_of t.now start pages no_write }
 {
@@ -120,8 +120,8 @@ pub(crate) fn reference(
     Ok(None)
 }
 
-// Whether a reference may not have these arguments. The name of which it is made may resize the VMO or not.
-fn is_contradictory(
+/// Whether a reference may not have these arguments. The name of which it is made may resize the VMO or not.
+pub fn is_contradictory(
     offset: u64,
     bytes: u64,
     resizable: bool,
@@ -133,15 +133,15 @@ fn is_contradictory(
     offset != 0 || bytes != 0 || (resizable && (no_write || !may_resize))
 }
 
-// Whether a name of this kind stands for a part of its VMO.
-fn is_slice(kind: NameKind) -> bool
+/// Whether a name of this kind stands for a part of its VMO.
+pub fn is_slice(kind: NameKind) -> bool
     ensures { result ≡ is_kind NameKind.Slice kind }
 {
     matches!(kind, NameKind::Slice)
 }
 
-// What a reference stands for: all of the VMO of the name.
-fn reference_target(t: &Target, resizable: bool, no_write: bool) -> Target
+/// What a reference stands for: all of the VMO of the name.
+pub fn reference_target(t: &Target, resizable: bool, no_write: bool) -> Target
     ensures { result ≡ reference_of t.now resizable no_write }
 {
     Target {

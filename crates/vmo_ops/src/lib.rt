@@ -36,9 +36,11 @@ mod snapshots;
 mod writing;
 mod zeroing;
 
+pub use aliases::{is_contradictory, is_slice, reference_target, slice_target};
 pub use children::create_child;
 pub use closing::close;
 pub use committing::commit;
+pub use copies::{count_copies, next_copy};
 pub use decommitting::decommit;
 pub use filling::fill;
 pub use making::create;
@@ -48,5 +50,6 @@ pub use ranges::{PagePart, part_in_page, touched_pages};
 pub use reading::{read, read_into, read_range};
 pub use ready::reserve_to_own;
 pub use sizes::resize;
+pub use snapshots::pages_within;
 pub use writing::{write, write_part};
 pub use zeroing::zero;

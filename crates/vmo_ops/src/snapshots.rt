@@ -116,8 +116,8 @@ fn snapshot_owned<P: PageStore>(
     Ok(koid)
 }
 
-// The page count of `size` bytes, if they end within the greatest size of a VMO, counted from `offset` on.
-fn pages_within(offset: u64, size: u64) -> Option<PageNo>
+/// The page count of `size` bytes, if they end within the greatest size of a VMO, counted from `offset` on.
+pub fn pages_within(offset: u64, size: u64) -> Option<PageNo>
     ensures some { IfSome result (λ pages. (pages ≡ rounded size / PAGE)
         × (offset + rounded size ≤ VMO_PAGES * PAGE) × (pages ≤ VMO_PAGES)) }
     ensures none { IfNone result (VMO_PAGES * PAGE < offset + rounded size) }
