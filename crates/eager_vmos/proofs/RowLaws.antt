@@ -1,0 +1,177 @@
+-- Which row of the refusals of a command is first.
+use Rattle.std.proofs.Common.{◌≡◌, ℕ, ◌+◌, ◌*◌, ◌/◌, ◌%◌, ◌≤◌, ◌⊎◌, ◌==◌, ◌&&◌, ◌||◌, Bool, true, false, not, cond, List, [], ◌∷◌, Option, None, Some, length, refl, sym, ap, subst, ◌∙◌, arith}
+use Rattle.std.specs.Prelude.{nat_lt, is_some, IsSome, IfSome}
+use Rattle.vm_base.specs.Pages.{rounded}
+use Rattle.vm_base.specs.declared.limits.TheConstants.{PAGE, VMO_PAGES, PIN_PAGES, DATA_BYTES}
+use Rattle.vm_base.specs.declared.refusal.Refusal.{Refusal}
+use Rattle.vm_base.specs.declared.refusal.Refusal.TheVariants.{BadHandle, NameInUse, BadState, AccessDenied, InvalidArgs, NotSupported, Unavailable, OutOfRange, NoMemory}
+use Rattle.vm_model.specs.declared.names.NameKind.TheVariants.{Slice as SliceName}
+use Rattle.vm_model.specs.declared.names.Target.{Target}
+use Rattle.vm_model.specs.Contents.Content.{pages_of, used}
+use Rattle.vm_model.specs.Contents.Owning.{need}
+use Rattle.vm_model.specs.Contents.Writing.{touched}
+use Rattle.vm_model.specs.Naming.Names.{is_kind, may_decommit}
+use Rattle.vm_model.specs.Naming.Pins.{any_pinned}
+use Rattle.vm_model.specs.Machine.State.{State, is_open, target_of, name_pages, lineage_of, seen_pages}
+use Rattle.vm_model.specs.Machine.Refusals.{first_of}
+use Rattle.vm_model.specs.declared.command.Command.TheVariants.{VmoChild}
+use Rattle.vm_model.specs.declared.command.ChildKind.TheVariants.{Snapshot}
+use Rattle.vm_base.specs.declared.names.VmoName.{VmoName}
+use Rattle.vm_base.proofs.EntryLaws.{some_is, none_is}
+use Rattle.vm_model.specs.Contents.Content.{Content}
+use Rattle.vm_model.specs.Naming.Names.{Lineage}
+use Rattle.vm_model.specs.Naming.Pins.{Pin, is_pinned}
+use Rattle.vm_model.specs.Machine.Refusals.{refusals}
+use Rattle.vm_model.proofs.NamesLaws.{target_of-at, lineage_of-at}
+use Rattle.vm_model.proofs.StepLaws.{AllOff, AllOff-from_none}
+use Rattle.vmo_ops.specs.inside.Pinning.{IsPinRange}
+use Rattle.vmo_ops.specs.inside.Copies.{copies_of}
+use Rattle.vmo_ops.proofs.CopyRows.{IsAsked, rows-are, copies-all}
+use Rattle.std.proofs.lemmas.Bool.{and_parts, or_parts, eqb-true, eqb-false, ltb-false, not-false}
+
+-- a row whose condition holds is first, and one whose condition does not hold is passed over
+pub hit : (a : Bool) (r : Refusal) (rest : Option Refusal) → a ≡ true → Some r ≡ cond a (Some r) rest
+hit a r rest e = ap (λ (b : Bool). cond b (Some r) rest) (sym e)
+
+pub skip : (a : Bool) (r : Refusal) (rest answer : Option Refusal) → a ≡ false → answer ≡ rest → answer ≡ cond a (Some r) rest
+skip a r rest answer e f = f ∙ ap (λ (b : Bool). cond b (Some r) rest) (sym e)
+
+-- the rows behind the first of a command by a name that is open, by what the name stands for
+pub by_name : (s : State) (name : ℕ) (target : Target) → s.names name ≡ Some target → (rows : Target → List (Bool × Refusal)) (answer : Option Refusal)
+    → answer ≡ first_of (rows target) → answer ≡ first_of ((not (is_open s name), BadHandle) ∷ rows (target_of s name))
+by_name s name target named rows answer e =
+    skip _ _ _ _ (ap (λ (o : Option Target). not (is_some o)) named) (e ∙ ap (λ (t : Target). first_of (rows t)) (sym (target_of-at s name target named)))
+
+-- ---- the rows of each command
+
+abbrev pub decommit_rows : State → (offset len : ℕ) → Target → List (Bool × Refusal)
+decommit_rows s offset len t =
+    (not t.may_write, AccessDenied)
+    ∷ (not (offset % PAGE == 0 && len % PAGE == 0), InvalidArgs)
+    ∷ (not (may_decommit s.names s.lineage t.koid.0 (lineage_of s t.koid.0)), NotSupported)
+    ∷ (nat_lt (name_pages s.content t * PAGE) (offset + len), OutOfRange)
+    ∷ (any_pinned s.pins t.koid.0 ((t.first * PAGE + offset) / PAGE) ((t.first * PAGE + (offset + len)) / PAGE), BadState)
+    ∷ []
+
+abbrev pub set_size_rows : State → (size : ℕ) → Target → List (Bool × Refusal)
+set_size_rows s size t =
+    (not t.may_write, AccessDenied)
+    ∷ (not t.may_resize, Unavailable)
+    ∷ (nat_lt (VMO_PAGES * PAGE) (rounded size), OutOfRange)
+    ∷ (any_pinned s.pins t.koid.0 (rounded size / PAGE) (pages_of s.content t.koid.0), BadState)
+    ∷ []
+
+abbrev pub read_rows : State → (offset len : ℕ) → Target → List (Bool × Refusal)
+read_rows s offset len t =
+    (nat_lt DATA_BYTES len, InvalidArgs)
+    ∷ (nat_lt (name_pages s.content t * PAGE) (offset + len), OutOfRange)
+    ∷ []
+
+abbrev pub pin_rows : State → (pin offset len : ℕ) → Target → List (Bool × Refusal)
+pin_rows s pin offset len t =
+    (is_some (s.pins pin), NameInUse)
+    ∷ (not (offset % PAGE == 0 && len % PAGE == 0) || (len == 0 || nat_lt (PIN_PAGES * PAGE) len), InvalidArgs)
+    ∷ (nat_lt (name_pages s.content t * PAGE) (offset + len), OutOfRange)
+    ∷ (nat_lt s.content.frames (used s.content + need s.content t.koid.0 (touched (t.first * PAGE + offset) len)), NoMemory)
+    ∷ []
+
+abbrev pub slice_rows : State → (name offset size : ℕ) (resizable : Bool) → Target → List (Bool × Refusal)
+slice_rows s name offset size resizable t =
+    (is_open s name, NameInUse)
+    ∷ (not (offset % PAGE == 0) || (resizable || nat_lt (name_pages s.content t * PAGE) (offset + rounded size)), InvalidArgs)
+    ∷ ((lineage_of s t.koid.0).resizable, NotSupported)
+    ∷ []
+
+abbrev pub reference_rows : State → (name offset size : ℕ) (resizable no_write : Bool) → Target → List (Bool × Refusal)
+reference_rows s name offset size resizable no_write t =
+    (is_open s name, NameInUse)
+    ∷ (not (offset == 0 && size == 0) || (resizable && (no_write || not t.may_resize)), InvalidArgs)
+    ∷ (is_kind SliceName t.kind, NotSupported)
+    ∷ []
+
+-- ---- single tests
+
+-- the lineage of a VMO that has one
+pub of_lineage : (s : State) (v : ℕ) (b : Bool) (test : Lineage → Bool) → IsSome (s.lineage v) → IfSome (s.lineage v) (λ l. b ≡ test l) → b ≡ test (lineage_of s v)
+of_lineage s v b test known e =
+    let found = some_is (s.lineage v) known in
+    let is : b ≡ test found.0 = subst (λ (o : Option Lineage). IfSome o (λ l. b ≡ test l)) found.1 e in
+    is ∙ ap test (sym (lineage_of-at s v found.0 found.1))
+
+-- both ends of a range are at pages
+pub whole_parts : (offset len : ℕ) → (offset % PAGE == 0 && len % PAGE == 0) ≡ true → (offset % PAGE ≡ 0) × (len % PAGE ≡ 0)
+whole_parts offset len e =
+    let parts = and_parts (offset % PAGE == 0) (len % PAGE == 0) e in
+    (eqb-true (offset % PAGE) 0 parts.0, eqb-true (len % PAGE) 0 parts.1)
+
+-- whether some page of a range of whole pages is pinned, by its place in the VMO
+pub pinned_row : (pins : ℕ → Option Pin) (v first offset len at p n : ℕ) → at ≡ first * PAGE + offset → p ≡ at / PAGE → n ≡ len / PAGE → (offset % PAGE ≡ 0) × (len % PAGE ≡ 0)
+    → any_pinned pins v ((first * PAGE + offset) / PAGE) ((first * PAGE + (offset + len)) / PAGE) ≡ any_pinned pins v p (p + n)
+pinned_row pins v first offset len at p n place begins counts whole =
+    let from : (first * PAGE + offset) / PAGE ≡ p = omega (arith, place, begins) in
+    let to : (first * PAGE + (offset + len)) / PAGE ≡ p + n = omega (arith, place, begins, counts, whole.0, whole.1) in
+    λ i. any_pinned pins v (from i) (to i)
+
+-- whether frames are lacking, by the place
+pub lacks_row : (c : Content) (v at place len : ℕ) (b x : Bool) → at ≡ place → b ≡ nat_lt c.frames (used c + need c v (touched at len)) → b ≡ x
+    → nat_lt c.frames (used c + need c v (touched place len)) ≡ x
+lacks_row c v at place len b x same are is = ap (λ (a : ℕ). nat_lt c.frames (used c + need c v (touched a len))) (sym same) ∙ (sym are ∙ is)
+
+-- what refuses a snapshot whose other tests do not
+pub snapshot_rows : (s : State) (name parent : VmoName) (t : Target) (offset size : ℕ) (resizable no_write : Bool) (first seen : ℕ)
+    → IsAsked s name parent t offset size resizable no_write first seen → (b : Bool)
+    → b ≡ nat_lt s.content.frames (used s.content + length (copies_of (is_pinned s.pins t.koid.0) first seen 0))
+    → cond b (Some NoMemory) None ≡ first_of (refusals s (VmoChild name parent Snapshot offset size resizable no_write))
+snapshot_rows s name parent t offset size resizable no_write first seen asks b e =
+    ap (λ (x : Bool). cond x (Some NoMemory) None) (e ∙ ap (λ (ps : List ℕ). nat_lt s.content.frames (used s.content + length ps)) (copies-all asks)) ∙ sym (rows-are asks)
+
+-- ---- what holds where nothing refuses
+
+-- a refusal is no leave
+pub refused_none : (o : Option Refusal) (r : Refusal) → o ≡ Some r → o ≡ None → ⊥
+refused_none o r e f = let no : Some r ≡ None = sym e ∙ f in absurd cc
+
+-- where nothing refuses a command by a name, the name is open
+pub open_name : (s : State) (name : ℕ) (rows : List (Bool × Refusal)) → first_of ((not (is_open s name), BadHandle) ∷ rows) ≡ None → is_open s name ≡ true
+open_name s name rows none = not-false (is_open s name) (AllOff-from_none ((not (is_open s name), BadHandle) ∷ rows) none).0
+
+-- and no condition of the rows behind holds
+pub rows_off_at : (s : State) (name : ℕ) (target : Target) → s.names name ≡ Some target → (rows : Target → List (Bool × Refusal))
+    → first_of ((not (is_open s name), BadHandle) ∷ rows (target_of s name)) ≡ None → AllOff (rows target)
+rows_off_at s name target named rows none = AllOff-from_none (rows target) (by_name s name target named rows (first_of (rows target)) refl ∙ none)
+
+-- a range that may be pinned is one of a pin
+pub pin_range : (offset len : ℕ) → (not (offset % PAGE == 0 && len % PAGE == 0) || (len == 0 || nat_lt (PIN_PAGES * PAGE) len)) ≡ false → IsPinRange offset len
+pin_range offset len off =
+    let parts = or_parts (not (offset % PAGE == 0 && len % PAGE == 0)) (len == 0 || nat_lt (PIN_PAGES * PAGE) len) off in
+    let whole = whole_parts offset len (not-false (offset % PAGE == 0 && len % PAGE == 0) parts.0) in
+    let sizes = or_parts (len == 0) (nat_lt (PIN_PAGES * PAGE) len) parts.1 in
+    let some = eqb-false len 0 sizes.0 in
+    (whole.0, whole.1, omega arith, ltb-false (PIN_PAGES * PAGE) len sizes.1)
+
+-- where nothing refuses a snapshot, its arguments are right
+module _ (s : State) (name parent : VmoName) (t : Target) (offset size : ℕ) (resizable no_write : Bool) (first seen : ℕ) (named : s.names parent.0 ≡ Some t)
+    (none : first_of (refusals s (VmoChild name parent Snapshot offset size resizable no_write)) ≡ None) where
+  pub snapshot_asks : seen ≡ seen_pages s.content t (offset / PAGE) (rounded size / PAGE) → (first ≡ t.first + offset / PAGE) ⊎ (seen ≡ 0)
+      → IsAsked s name parent t offset size resizable no_write first seen
+  snapshot_asks sees at =
+      let off = AllOff-from_none (refusals s (VmoChild name parent Snapshot offset size resizable no_write)) none in
+      record {
+        named = named;
+        closed = none_is (s.names name.0) off.1.0;
+        asked = off.1.1.0;
+        few = ltb-false (VMO_PAGES * PAGE) (offset + rounded size) off.1.1.1.0;
+        sees = sees;
+        at = at;
+      }
+
+  pub snapshot_free : IsAsked s name parent t offset size resizable no_write first seen
+      → used s.content + length (copies_of (is_pinned s.pins t.koid.0) first seen 0) ≤ s.content.frames
+  snapshot_free asks = ltb-false _ _ (row_off _ (snapshot_rows s name parent t offset size resizable no_write first seen asks _ refl ∙ none)) where
+    row_off : (b : Bool) → cond b (Some NoMemory) None ≡ None → b ≡ false
+    row_off true e = absurd cc
+    row_off false e = refl
+
+-- where a snapshot begins, by the page that was computed
+pub begins_at : (first start begin seen offset : ℕ) → begin ≡ offset / PAGE → (first ≡ start + begin) ⊎ (seen ≡ 0) → (first ≡ start + offset / PAGE) ⊎ (seen ≡ 0)
+begins_at first start begin seen offset is at = subst (λ (n : ℕ). (first ≡ start + n) ⊎ (seen ≡ 0)) is at

@@ -1,0 +1,12 @@
+use Rattle.std.proofs.Common.{sym, true, false, arith}
+use Rattle.std.proofs.lemmas.Bool.{lt-ltb, le-ltb}
+use Rattle.eager_vmos.proofs.FoundLaws.{zero_rows}
+use Rattle.eager_vmos.proofs.eager_vmos.EagerVmos.refusal_to_zero.Goals as goal
+
+pub returns-then-cost-from : goal.returns-then-cost-from
+returns-then-cost-from c = λ s.
+    sym (zero_rows c.in-Ok.ensures s true (sym (lt-ltb _ _ (omega (arith, c.cost_to_zero-cost.ensures.owned, c.free.ensures, c.from.ensures, c.if-cost-from.true)))))
+
+pub returns : goal.returns
+returns c = λ s.
+    sym (zero_rows c.in-Ok.ensures s false (sym (le-ltb _ _ (omega (arith, c.cost_to_zero-cost.ensures.owned, c.free.ensures, c.from.ensures, c.if-cost-from.false)))))

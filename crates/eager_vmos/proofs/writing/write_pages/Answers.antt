@@ -1,0 +1,23 @@
+use Rattle.std.proofs.Common.{length, refl, arith, rules}
+use Rattle.vm_model.specs.Contents.Writing.{pieces}
+use Rattle.vmo_ops.proofs.OwningLaws.{IsOwning-start, IsOwning-room, IsOwning-end}
+use Rattle.vmo_ops.proofs.PartLaws.{part_bytes-slice}
+use Rattle.vmo_ops.proofs.WriteLaws.{IsOwning-written}
+use Rattle.eager_vmos.proofs.writing.write_pages.Goals as goal
+
+pub loop-page-init : goal.loop-page-init
+loop-page-init c = search (rules, IsOwning-start)
+
+pub write-requires-clause-room : goal.write-requires-clause-room
+write-requires-clause-room c = IsOwning-room c.loop-page.invariant c.loop-page-test.true
+
+pub loop-page-preserved : goal.loop-page-preserved
+loop-page-preserved c =
+    let part = c.part_in_page-part.ensures in
+    IsOwning-written _ _ c.loop-page.invariant c.loop-page-test.true (omega arith) c.write.ensures.writes part.at
+    (part_bytes-slice c.args.offset (length c.args.bytes.now) c.loop-page.page _ _ part.from part.until _ refl)
+    c.write.ensures.spare
+
+pub returns : goal.returns
+unfolding pieces
+returns c = grind (arith, IsOwning-end)

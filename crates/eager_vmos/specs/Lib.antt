@@ -1,0 +1,2 @@
+pub mod Vmos
+pub mod inside

@@ -1,0 +1,40 @@
+//! The names, VMOs, pins and pages of an eager machine.
+
+ghost use Rattle.std.specs.Prelude.{◌≡◌, ℕ, None};
+ghost use Rattle.vm_model.specs.Contents.Content.{nothing};
+ghost use Rattle.vmo_table.specs.Table.{names_of, lineage_in, keepers_of};
+ghost use Rattle.pin_table.specs.Table.{pins_of};
+ghost use Rattle.eager_pages.specs.Eager.{content_of};
+
+use eager_pages::EagerPages;
+use pin_table::PinTable;
+use std::alloc::Global;
+use vmo_table::VmoTable;
+
+/// The names of VMOs, what is kept of each VMO, the pins, and the pages. Each part may be used by itself; the methods do
+/// the commands that speak of these parts alone.
+#[derive(Drop)]
+pub struct EagerVmos {
+    pub vmos: VmoTable,
+    /// The pins. Each is counted in `vmos` as a keeper of its VMO.
+    pub pins: PinTable,
+    /// The pages of the VMOs, and the page frames.
+    pub pages: EagerPages,
+}
+
+impl EagerVmos {
+    /// No names, no VMOs, no pins and no page frames, which `EagerPages::fill` gives.
+    pub fn new(alloc: Global) -> EagerVmos
+        ensures pages { content_of result.pages ≡ nothing }
+        ensures names { (name : ℕ) → names_of result.vmos name ≡ None }
+        ensures lineage { (v : ℕ) → lineage_in result.vmos v ≡ None }
+        ensures keepers { (v : ℕ) → keepers_of result.vmos v ≡ 0 }
+        ensures pins { (n : ℕ) → pins_of result.pins n ≡ None }
+    {
+        EagerVmos {
+            vmos: VmoTable::new(alloc),
+            pins: PinTable::new(alloc),
+            pages: EagerPages::new(alloc),
+        }
+    }
+}
