@@ -1,0 +1,3 @@
+pub mod StampLaws
+pub mod RowLaws
+pub mod SettledLaws

@@ -1,0 +1,378 @@
+-- What the calls leave of the rows.
+use Rattle.std.proofs.Common.{◌≡◌, ◌⊎◌, ℕ, ◌+◌, ◌<◌, ◌≤◌, Bool, true, false, not, cond, ◌&&◌, ◌||◌, ◌==◌, Option, None, Some, refl, sym, ap, ◌∙◌, inl, inr, arith}
+use Rattle.std.specs.Prelude.{nat_lt}
+use Rattle.std.specs.Option.{option_map}
+use Rattle.std.proofs.lemmas.Bool.{and_parts, and_from, eq-eqb}
+use Rattle.std.proofs.lemmas.Bool.Decides.{nat_tests}
+use Rattle.vm_base.specs.declared.names.Tag.{Tag}
+use Rattle.vm_base.specs.Entries.{passes}
+use Rattle.vm_base.proofs.EntryLaws.{some_same}
+use Rattle.vm_base.specs.Search.{any_from}
+use Rattle.vm_base.proofs.SearchLaws.{eqb_is, any_from_found, any_from_at}
+use Rattle.std.specs.Cmp.{both_ways}
+use Rattle.vm_model.specs.declared.space.Readiness.TheVariants.{Read}
+use Rattle.vm_model.specs.Naming.Pins.{Pin, is_pinned, any_pinned}
+use Rattle.vm_model.specs.Contents.Content.{Content}
+use Rattle.vm_model.specs.Contents.Zeroing.{is_within}
+use Rattle.vm_model.specs.Space.Readiness.{is_same_frame}
+use Rattle.vm_model.proofs.ContentLaws.{same_page}
+use Rattle.pair_map.specs.declared.pair_map.PairMap.{PairMap}
+use Rattle.pair_map.specs.Maps.{values_of, with_pair}
+use Rattle.eager_pages.proofs.LinkLaws.{pair-here, pair-other, pair-cases}
+use Rattle.ready_map.specs.declared.ready_map.ReadyPage.{ReadyPage}
+use Rattle.ready_map.specs.declared.stamps.Kept.{Kept}
+use Rattle.ready_map.specs.declared.stamps.Stamp.{Stamp}
+use Rattle.ready_map.specs.Notes.{Notes, Rows, ready_page, noted_under, rows_of, stamp_for, has_frame, row_if, with_row, kept_rows, without_range, limited_rows, limited, is_of, agrees, is_current, HasNoRow, AreNotes, number_of}
+use Rattle.ready_map.proofs.StampLaws.{row_of, page-reset, page-stamped, page-noted, page-limited, page-unlimited, page-current, page-settled}
+
+-- ---- nothing is noted
+
+pub rows-none : (m : Notes) → values_of m.places ≡ (λ a b. None) → rows_of m ≡ (λ root p. None)
+rows-none m none = λ i root p. noted_under (values_of m.stamps) (none i root p)
+
+pub AreNotes-new : (m : Notes) → values_of m.places ≡ (λ a b. None) → values_of m.stamps ≡ (λ a b. None) → m.time ≡ 0 → m.room ≡ 0 → AreNotes m
+AreNotes-new m no_place no_stamp time room = record {
+  made = λ r q k e. let none = ap (λ (map : ℕ → ℕ → Option Kept). map r q) no_place in absurd cc;
+  stamped = λ v p s e. let none = ap (λ (map : ℕ → ℕ → Option Stamp). map v p) no_stamp in absurd cc;
+  places_room = omega arith;
+  stamps_room = omega arith;
+  times = omega arith;
+}
+
+-- ---- one stamp changes
+
+-- the page of a note that is page p of the VMO v has the stamp of that page
+stamp_at : (stamps : ℕ → ℕ → Option Stamp) (v p : ℕ) (k : Kept) → ((k.koid.0 == v) && (k.page == p)) ≡ true → stamps k.koid.0 k.page ≡ stamps v p
+stamp_at stamps v p k hit =
+    let both = and_parts (k.koid.0 == v) (k.page == p) hit in
+    let koid = eqb_is k.koid.0 v both.0 in
+    let page = eqb_is k.page p both.1 in
+    λ i. stamps (koid i) (page i)
+
+-- what a change of that stamp makes of each note, it makes of each row
+module _ (places : ℕ → ℕ → Option Kept) (old new : ℕ → ℕ → Option Stamp) (v p : ℕ) (o : Option Stamp) (values : new ≡ with_pair old v p o) where
+  by_note : (change : Option ReadyPage → Option ReadyPage) → change None ≡ None
+      → ((k : Kept) (r q : ℕ) → places r q ≡ Some k → ready_page k (cond ((k.koid.0 == v) && (k.page == p)) o (old k.koid.0 k.page)) ≡ change (ready_page k (old k.koid.0 k.page)))
+      → (r q : ℕ) → noted_under new (places r q) ≡ change (noted_under old (places r q))
+  unfolding with_pair
+  by_note change empty each r q = go (places r q) refl where
+    go : (n : Option Kept) → places r q ≡ n → noted_under new n ≡ change (noted_under old n)
+    go None e = sym empty
+    go (Some k) e = ap (λ (map : ℕ → ℕ → Option Stamp). ready_page k (map k.koid.0 k.page)) values ∙ each k r q e
+
+module _ (m : Notes) (v p : ℕ) (stamps : PairMap Stamp) where
+  -- the stamp goes, or there was none
+  pub rows-reset : values_of stamps ≡ with_pair (values_of m.stamps) v p None → rows_of (record m { stamps = stamps }) ≡ kept_rows (λ row. not (is_of v p row)) (rows_of m)
+  unfolding kept_rows passes
+  rows-reset values = λ i r q. by_note (values_of m.places) (values_of m.stamps) (values_of stamps) v p None values (row_if (λ row. not (is_of v p row))) refl
+      (λ k r q e. page-reset k v p (values_of m.stamps k.koid.0 k.page)) r q i
+
+  pub rows-settled : values_of stamps ≡ with_pair (values_of m.stamps) v p None → (c : Content)
+      → ((s : Stamp) → values_of m.stamps v p ≡ Some s → has_frame c v p s.frame ≡ false)
+      → rows_of (record m { stamps = stamps }) ≡ kept_rows (is_current c v p (p + 1)) (rows_of m)
+  unfolding kept_rows passes
+  rows-settled values c other = λ i r q. by_note (values_of m.places) (values_of m.stamps) (values_of stamps) v p None values (row_if (is_current c v p (p + 1))) refl
+      (λ k r q e. page-settled c k v p (values_of m.stamps k.koid.0 k.page) (λ hit s is. other s (sym (stamp_at (values_of m.stamps) v p k hit) ∙ is))) r q i
+
+  -- the page is for reading alone from now on
+  pub rows-limited : AreNotes m → (s : Stamp) → values_of m.stamps v p ≡ Some s → values_of stamps ≡ with_pair (values_of m.stamps) v p (Some (record s { shared = m.time }))
+      → rows_of (record m { stamps = stamps }) ≡ limited_rows (λ q. false) v p (p + 1) (rows_of m)
+  unfolding limited_rows
+  rows-limited notes s found values = λ i r q. by_note (values_of m.places) (values_of m.stamps) (values_of stamps) v p (Some (record s { shared = m.time })) values
+      (option_map (limited (λ q. false) v p (p + 1))) refl
+      (λ k r q e. page-limited k v p m.time (values_of m.stamps k.koid.0 k.page) s (notes.made r q k e) (λ hit. stamp_at (values_of m.stamps) v p k hit ∙ found)) r q i
+
+-- there is no stamp, or the page stays
+pub rows-unlimited : (m : Notes) (v p : ℕ) (stays : Bool) → (values_of m.stamps v p ≡ None) ⊎ (stays ≡ true) → rows_of m ≡ limited_rows (λ q. stays) v p (p + 1) (rows_of m)
+unfolding limited_rows
+rows-unlimited m v p stays none = λ i r q. go (values_of m.places r q) i where
+  go : (n : Option Kept) → noted_under (values_of m.stamps) n ≡ option_map (limited (λ q. stays) v p (p + 1)) (noted_under (values_of m.stamps) n)
+  go None = refl
+  go (Some k) = page-unlimited k v p stays (values_of m.stamps k.koid.0 k.page) (λ hit. elim none [
+    | inl bare ↦ inl (stamp_at (values_of m.stamps) v p k hit ∙ bare)
+    | inr is ↦ inr is
+  ])
+
+-- the stamp has the frame
+pub rows-current : (m : Notes) (v p : ℕ) (c : Content) (s : Stamp) → values_of m.stamps v p ≡ Some s → has_frame c v p s.frame ≡ true
+    → rows_of m ≡ kept_rows (is_current c v p (p + 1)) (rows_of m)
+unfolding kept_rows passes
+rows-current m v p c s found same = λ i r q. go (values_of m.places r q) i where
+  go : (n : Option Kept) → noted_under (values_of m.stamps) n ≡ row_if (is_current c v p (p + 1)) (noted_under (values_of m.stamps) n)
+  go None = refl
+  go (Some k) = page-current c k v p (values_of m.stamps k.koid.0 k.page) (λ hit st is.
+      let one : s ≡ st = some_same (sym found ∙ (sym (stamp_at (values_of m.stamps) v p k hit) ∙ is)) in
+      ap (λ (x : Stamp). has_frame c v p x.frame) (sym one) ∙ same)
+
+-- the notes stay so
+pub AreNotes-unstamped : (m : Notes) (v p : ℕ) (stamps : PairMap Stamp) → AreNotes m → values_of stamps ≡ with_pair (values_of m.stamps) v p None → m.room ≤ stamps.spare
+    → AreNotes (record m { stamps = stamps })
+AreNotes-unstamped m v p stamps notes values room = record {
+  made = notes.made;
+  stamped = λ w q s e. elim (pair-cases (values_of m.stamps) v p None w q s (ap (λ (map : ℕ → ℕ → Option Stamp). map w q) (sym values) ∙ e)) [
+    | inl here ↦ absurd (let none = here.2 in cc)
+    | inr other ↦ notes.stamped w q s other.1
+  ];
+  places_room = notes.places_room;
+  stamps_room = room;
+  times = notes.times;
+}
+
+pub AreNotes-stamped : (m : Notes) (v p : ℕ) (stamps : PairMap Stamp) (s : Stamp) → AreNotes m → values_of stamps ≡ with_pair (values_of m.stamps) v p (Some s)
+    → s.since ≤ m.time → s.shared ≤ m.time → m.room ≤ stamps.spare → AreNotes (record m { stamps = stamps })
+AreNotes-stamped m v p stamps s notes values since shared room = record {
+  made = notes.made;
+  stamped = λ w q st e. elim (pair-cases (values_of m.stamps) v p (Some s) w q st (ap (λ (map : ℕ → ℕ → Option Stamp). map w q) (sym values) ∙ e)) [
+    | inl here ↦
+        let same : s ≡ st = some_same here.2 in
+        let first = ap (λ (x : Stamp). x.since) same in
+        let second = ap (λ (x : Stamp). x.shared) same in
+        (omega arith, omega arith)
+    | inr other ↦ notes.stamped w q st other.1
+  ];
+  places_room = notes.places_room;
+  stamps_room = room;
+  times = notes.times;
+}
+
+-- ---- one note more
+
+module _ (m : Notes) (root page : ℕ) (k : Kept) (frame : Option Tag) (notes : AreNotes m) (places : PairMap Kept) (stamps : PairMap Stamp) (room : ℕ)
+    (now : k.made ≡ m.time) (put : values_of places ≡ with_pair (values_of m.places) root page (Some k))
+    (values : values_of stamps ≡ with_pair (values_of m.stamps) k.koid.0 k.page (Some (stamp_for (values_of m.stamps k.koid.0 k.page) frame m.time))) where
+  abbrev after : Notes
+  after = record m { places = places; stamps = stamps; time = m.time + 1; room = room }
+
+  pub rows-set : rows_of after ≡ with_row (kept_rows (agrees k.koid.0 k.page frame) (rows_of m)) root page (record { koid = k.koid; page = k.page; frame = frame; readiness = k.readiness })
+  unfolding with_row kept_rows passes
+  rows-set = λ i r q. each r q i where
+    old_row : (r q : ℕ) → noted_under (values_of stamps) (values_of m.places r q) ≡ row_if (agrees k.koid.0 k.page frame) (rows_of m r q)
+    old_row = by_note (values_of m.places) (values_of m.stamps) (values_of stamps) k.koid.0 k.page (Some (stamp_for (values_of m.stamps k.koid.0 k.page) frame m.time)) values
+        (row_if (agrees k.koid.0 k.page frame)) refl
+        (λ j r q e. page-stamped j k.koid.0 k.page frame m.time (values_of m.stamps j.koid.0 j.page) (values_of m.stamps k.koid.0 k.page) (notes.made r q j e)
+        (λ hit. sym (stamp_at (values_of m.stamps) k.koid.0 k.page j hit)))
+
+    new_row : noted_under (values_of stamps) (Some k) ≡ Some (record { koid = k.koid; page = k.page; frame = frame; readiness = k.readiness })
+    new_row =
+        ap (λ (map : ℕ → ℕ → Option Stamp). ready_page k (map k.koid.0 k.page)) values
+        ∙ (ap (ready_page k) (pair-here (values_of m.stamps) k.koid.0 k.page (Some (stamp_for (values_of m.stamps k.koid.0 k.page) frame m.time)))
+        ∙ (ap (λ (t : ℕ). ready_page k (Some (stamp_for (values_of m.stamps k.koid.0 k.page) frame t))) (sym now)
+        ∙ page-noted k frame (values_of m.stamps k.koid.0 k.page) (λ s e. let low = notes.stamped k.koid.0 k.page s e in (omega (arith, low.0), omega (arith, low.1)))))
+
+    each : (r q : ℕ) → rows_of after r q
+        ≡ cond ((r == root) && (q == page)) (Some (record { koid = k.koid; page = k.page; frame = frame; readiness = k.readiness })) (row_if (agrees k.koid.0 k.page frame) (rows_of m r q))
+    each r q = elim (same_page root page r q) [
+      | inl here ↦
+          let hit : ((r == root) && (q == page)) ≡ true = and_from (r == root) (q == page) (eq-eqb r root here.0) (eq-eqb q page here.1) in
+          (λ i. noted_under (values_of stamps) (put i (here.0 i) (here.1 i)))
+          ∙ (ap (noted_under (values_of stamps)) (pair-here (values_of m.places) root page (Some k)) ∙ (new_row ∙ rw hit refl))
+      | inr apart ↦
+          let miss : ((r == root) && (q == page)) ≡ false = grind (arith, nat_tests) in
+          ap (λ (map : ℕ → ℕ → Option Kept). noted_under (values_of stamps) (map r q)) put
+          ∙ (ap (noted_under (values_of stamps)) (pair-other (values_of m.places) root page (Some k) r q apart) ∙ (old_row r q ∙ rw miss refl))
+    ]
+
+  pub AreNotes-set : room + 1 ≡ m.room → room ≤ places.spare → room ≤ stamps.spare → AreNotes after
+  AreNotes-set fewer low high = record {
+    made = λ r q j e. elim (pair-cases (values_of m.places) root page (Some k) r q j (ap (λ (map : ℕ → ℕ → Option Kept). map r q) (sym put) ∙ e)) [
+      | inl here ↦ let same = ap (λ (x : Kept). x.made) (some_same here.2) in omega arith
+      | inr other ↦ let before = notes.made r q j other.1 in omega arith
+    ];
+    stamped = λ v p s e. elim (pair-cases (values_of m.stamps) k.koid.0 k.page (Some (stamp_for (values_of m.stamps k.koid.0 k.page) frame m.time)) v p s (ap (λ (map : ℕ → ℕ → Option Stamp). map v p) (sym values) ∙ e)) [
+      | inl here ↦
+          let same = some_same here.2 in
+          let low = stamp_low (values_of m.stamps k.koid.0 k.page) (notes.stamped k.koid.0 k.page) in
+          let since = ap (λ (x : Stamp). x.since) same in
+          let shared = ap (λ (x : Stamp). x.shared) same in
+          (omega (arith, low.0), omega (arith, low.1))
+      | inr other ↦ let low = notes.stamped v p s other.1 in (omega (arith, low.0), omega (arith, low.1))
+    ];
+    places_room = low;
+    stamps_room = high;
+    times = let all = notes.times in omega arith;
+  }
+    where
+      stamp_low : (at : Option Stamp) → ((s : Stamp) → at ≡ Some s → (s.since ≤ m.time) × (s.shared ≤ m.time))
+          → ((stamp_for at frame m.time).since ≤ m.time) × ((stamp_for at frame m.time).shared ≤ m.time)
+      stamp_low None times = (omega arith, omega arith)
+      stamp_low (Some s) times = go (is_same_frame (number_of s.frame) (number_of frame)) (times s refl) where
+        go : (alike : Bool) → (s.since ≤ m.time) × (s.shared ≤ m.time)
+            → ((cond alike s (record { frame = frame; since = m.time; shared = m.time })).since ≤ m.time) × ((cond alike s (record { frame = frame; since = m.time; shared = m.time })).shared ≤ m.time)
+        go true low = low
+        go false low = (omega arith, omega arith)
+
+-- ---- pages of an address space are dropped
+
+module _ (m : Notes) (root p : ℕ) (places : PairMap Kept) (values : values_of places ≡ with_pair (values_of m.places) root p None) where
+  pub rows-dropped : rows_of (record m { places = places }) ≡ without_range (rows_of m) root p (p + 1)
+  unfolding without_range with_pair
+  rows-dropped = λ i r q. each r q i where
+    each : (r q : ℕ) → noted_under (values_of m.stamps) (values_of places r q) ≡ cond ((r == root) && is_within p (p + 1) q) None (rows_of m r q)
+    each r q = ap (λ (map : ℕ → ℕ → Option Kept). noted_under (values_of m.stamps) (map r q)) values ∙ elim (same_page root p r q) [
+      | inl here ↦
+          let hit : ((r == root) && (q == p)) ≡ true = and_from (r == root) (q == p) (eq-eqb r root here.0) (eq-eqb q p here.1) in
+          let page = here.1 in
+          let inside : ((r == root) && is_within p (p + 1) q) ≡ true = grind (arith, nat_tests) in
+          rw (hit, inside) refl
+      | inr apart ↦
+          let miss : ((r == root) && (q == p)) ≡ false = grind (arith, nat_tests) in
+          let outside : ((r == root) && is_within p (p + 1) q) ≡ false = grind (arith, nat_tests) in
+          rw (miss, outside) refl
+    ]
+
+  pub AreNotes-dropped : AreNotes m → m.room ≤ places.spare → AreNotes (record m { places = places })
+  AreNotes-dropped notes room = record {
+    made = λ r q k e. elim (pair-cases (values_of m.places) root p None r q k (ap (λ (map : ℕ → ℕ → Option Kept). map r q) (sym values) ∙ e)) [
+      | inl here ↦ absurd (let none = here.2 in cc)
+      | inr other ↦ notes.made r q k other.1
+    ];
+    stamped = notes.stamped;
+    places_room = room;
+    stamps_room = notes.stamps_room;
+    times = notes.times;
+  }
+
+-- one page of a range, and then the range
+pub dropped-after : (old new : Rows) (root first end p : ℕ) → first ≤ p → p < end → new ≡ without_range old root p (p + 1) → without_range new root first end ≡ without_range old root first end
+unfolding without_range
+dropped-after old new root first end p low high made = ap (λ (rows : Rows). without_range rows root first end) made ∙ λ i r q. each r q i where
+  each : (r q : ℕ) → cond ((r == root) && is_within first end q) None (cond ((r == root) && is_within p (p + 1) q) None (old r q)) ≡ cond ((r == root) && is_within first end q) None (old r q)
+  each r q = grind (arith, nat_tests)
+
+-- none of them has a note
+pub dropped-done : (m : Notes) (root first end : ℕ) → ((p : ℕ) → first ≤ p → p < end → values_of m.places root p ≡ None) → rows_of m ≡ without_range (rows_of m) root first end
+unfolding without_range
+dropped-done m root first end none = λ i r q. each r q i where
+  each : (r q : ℕ) → rows_of m r q ≡ cond ((r == root) && is_within first end q) None (rows_of m r q)
+  each r q =
+      let bare : r ≡ root → first ≤ q → q < end → rows_of m r q ≡ None = λ same low high.
+      ap (λ (k : ℕ). rows_of m k q) same ∙ ap (noted_under (values_of m.stamps)) (none q low high) in
+      grind (arith, nat_tests)
+
+-- ---- stamps that are looked for
+
+-- a row is of the page of its note
+noted_same : (k : Kept) (s : Stamp) (row : ReadyPage) → ready_page k (Some s) ≡ Some row → (k.koid.0 ≡ row.koid.0) × (k.page ≡ row.page)
+noted_same k s row is = past (nat_lt k.made s.since) is where
+  past : (b : Bool) → cond b None (Some (row_of k s)) ≡ Some row → (k.koid.0 ≡ row.koid.0) × (k.page ≡ row.page)
+  past true e = absurd cc
+  past false e = let same = some_same e in (ap (λ (x : ReadyPage). x.koid.0) same, ap (λ (x : ReadyPage). x.page) same)
+
+-- no stamp, no row
+pub HasNoRow-gap : (m : Notes) (v from end : ℕ) → ((q : ℕ) → from ≤ q → q < end → values_of m.stamps v q ≡ None) → HasNoRow (rows_of m) v from end
+HasNoRow-gap m v from end none = record { none = λ r q row e. go (values_of m.places r q) row e } where
+  go : (n : Option Kept) (row : ReadyPage) → noted_under (values_of m.stamps) n ≡ Some row → row.koid.0 ≡ v → from ≤ row.page → row.page < end → ⊥
+  go None row e vmo low high = absurd cc
+  go (Some k) row e vmo low high = stamped (values_of m.stamps k.koid.0 k.page) refl e where
+    stamped : (s : Option Stamp) → values_of m.stamps k.koid.0 k.page ≡ s → ready_page k s ≡ Some row → ⊥
+    stamped None at is = absurd cc
+    stamped (Some s) at is =
+        let same = noted_same k s row is in
+        let koid : k.koid.0 ≡ v = same.0 ∙ vmo in
+        let gone = none k.page (let page = same.1 in omega arith) (let page = same.1 in omega arith) in
+        let here : values_of m.stamps v k.page ≡ Some s = ap (λ (w : ℕ). values_of m.stamps w k.page) (sym koid) ∙ at in
+        absurd cc
+
+-- ---- pages of a VMO are settled, one after another
+
+-- a row is asked twice
+row_if-both : (a b : ReadyPage → Bool) (o : Option ReadyPage) → row_if a (row_if b o) ≡ row_if (λ x. b x && a x) o
+unfolding passes
+row_if-both a b None = refl
+row_if-both a b (Some x) = go (b x) refl where
+  go : (stays : Bool) → b x ≡ stays → row_if a (row_if b (Some x)) ≡ row_if (λ x. b x && a x) (Some x)
+  go true e = rw e refl
+  go false e = rw e refl
+
+row_if-same : (a b : ReadyPage → Bool) (o : Option ReadyPage) → ((x : ReadyPage) → o ≡ Some x → a x ≡ b x) → row_if a o ≡ row_if b o
+unfolding passes
+row_if-same a b None same = refl
+row_if-same a b (Some x) same = ap (λ (stays : Bool). cond stays (Some x) None) (same x refl)
+
+pub settled-start : (c : Content) (v first : ℕ) (rows : Rows) → rows ≡ kept_rows (is_current c v first first) rows
+unfolding kept_rows passes
+settled-start c v first rows = λ i r q. go (rows r q) i where
+  go : (o : Option ReadyPage) → o ≡ row_if (is_current c v first first) o
+  go None = refl
+  go (Some x) =
+      let stays : is_current c v first first x ≡ true = grind (arith, nat_tests) in
+      rw stays refl
+
+module _ (c : Content) (v first from end : ℕ) (rows now : Rows) (is : now ≡ kept_rows (is_current c v first from) rows) where
+  -- the rows that are there are those that were kept
+  there : (r q : ℕ) (x : ReadyPage) → rows r q ≡ Some x → is_current c v first from x ≡ true → now r q ≡ Some x
+  unfolding kept_rows passes
+  there r q x e stays = ap (λ (s : Rows). s r q) is ∙ rw (e, stays) refl
+
+  pub settled-next : (next : Rows) (p : ℕ) → first ≤ from → from ≤ p → HasNoRow now v from p → next ≡ kept_rows (is_current c v p (p + 1)) now → next ≡ kept_rows (is_current c v first (p + 1)) rows
+  unfolding kept_rows
+  settled-next next p order low none made = made ∙ (ap (kept_rows (is_current c v p (p + 1))) is ∙ λ i r q. each r q i) where
+    each : (r q : ℕ) → row_if (is_current c v p (p + 1)) (row_if (is_current c v first from) (rows r q)) ≡ row_if (is_current c v first (p + 1)) (rows r q)
+    each r q = row_if-both (is_current c v p (p + 1)) (is_current c v first from) (rows r q)
+        ∙ row_if-same (λ x. is_current c v first from x && is_current c v p (p + 1) x) (is_current c v first (p + 1)) (rows r q) (λ x e.
+        let gap : is_current c v first from x ≡ true → x.koid.0 ≡ v → from ≤ x.page → x.page < p → ⊥ = λ stays. none.none r q x (there r q x e stays) in
+        grind (arith, nat_tests))
+
+  pub settled-end : (from ≤ end) ⊎ (from ≡ first) → HasNoRow now v from end → now ≡ kept_rows (is_current c v first end) rows
+  unfolding kept_rows
+  settled-end order none = is ∙ λ i r q. each r q i where
+    each : (r q : ℕ) → row_if (is_current c v first from) (rows r q) ≡ row_if (is_current c v first end) (rows r q)
+    each r q = row_if-same (is_current c v first from) (is_current c v first end) (rows r q) (λ x e.
+        let gap : is_current c v first from x ≡ true → x.koid.0 ≡ v → from ≤ x.page → x.page < end → ⊥ = λ stays. none.none r q x (there r q x e stays) in
+        grind (arith, nat_tests))
+
+-- ---- pages of a VMO are restricted, one after another
+
+pub limited-start : (stays : ℕ → Bool) (v first : ℕ) (rows : Rows) → rows ≡ limited_rows stays v first first rows
+unfolding limited_rows
+limited-start stays v first rows = λ i r q. go (rows r q) i where
+  go : (o : Option ReadyPage) → o ≡ option_map (limited stays v first first) o
+  go None = refl
+  go (Some x) =
+      let out : ((x.koid.0 == v) && is_within first first x.page && not (stays x.page)) ≡ false = grind (arith, nat_tests) in
+      rw out refl
+
+-- a row that is limited twice
+limited-both : (row : ReadyPage) (a b c : Bool) → (c ≡ (a || b)) → record row { readiness = cond b Read (cond a Read row.readiness) } ≡ record row { readiness = cond c Read row.readiness }
+limited-both row true true c e = rw e refl
+limited-both row true false c e = rw e refl
+limited-both row false true c e = rw e refl
+limited-both row false false c e = rw e refl
+
+module _ (stays : ℕ → Bool) (v first from end : ℕ) (rows now : Rows) (is : now ≡ limited_rows stays v first from rows) where
+  limited_there : (r q : ℕ) (x : ReadyPage) → rows r q ≡ Some x → now r q ≡ Some (limited stays v first from x)
+  unfolding limited_rows
+  limited_there r q x e = ap (λ (s : Rows). s r q) is ∙ ap (option_map (limited stays v first from)) e
+
+  pub limited-next : (next : Rows) (p : ℕ) (b : Bool) → first ≤ from → from ≤ p → HasNoRow now v from p → b ≡ stays p → next ≡ limited_rows (λ q. b) v p (p + 1) now
+      → next ≡ limited_rows stays v first (p + 1) rows
+  unfolding limited_rows
+  limited-next next p b order low none bit made = made ∙ (ap (limited_rows (λ q. b) v p (p + 1)) is ∙ λ i r q. go r q (rows r q) refl i) where
+    go : (r q : ℕ) (o : Option ReadyPage) → rows r q ≡ o
+        → option_map (limited (λ k. b) v p (p + 1)) (option_map (limited stays v first from) o) ≡ option_map (limited stays v first (p + 1)) o
+    go r q None e = refl
+    go r q (Some x) e =
+        let gap : x.koid.0 ≡ v → from ≤ x.page → x.page < p → ⊥ = none.none r q (limited stays v first from x) (limited_there r q x e) in
+        let page : x.page ≡ p → b ≡ stays x.page = λ same. bit ∙ ap stays (sym same) in
+        ap (λ (row : ReadyPage). Some row) (limited-both x ((x.koid.0 == v) && is_within first from x.page && not (stays x.page)) ((x.koid.0 == v) && is_within p (p + 1) x.page && not b)
+        ((x.koid.0 == v) && is_within first (p + 1) x.page && not (stays x.page)) (grind (arith, nat_tests)))
+
+  pub limited-end : (from ≤ end) ⊎ (from ≡ first) → HasNoRow now v from end → now ≡ limited_rows stays v first end rows
+  unfolding limited_rows
+  limited-end order none = is ∙ λ i r q. go r q (rows r q) refl i where
+    go : (r q : ℕ) (o : Option ReadyPage) → rows r q ≡ o → option_map (limited stays v first from) o ≡ option_map (limited stays v first end) o
+    go r q None e = refl
+    go r q (Some x) e =
+        let gap : x.koid.0 ≡ v → from ≤ x.page → x.page < end → ⊥ = none.none r q (limited stays v first from x) (limited_there r q x e) in
+        let same : ((x.koid.0 == v) && is_within first from x.page && not (stays x.page)) ≡ ((x.koid.0 == v) && is_within first end x.page && not (stays x.page)) = grind (arith, nat_tests) in
+        ap (λ (b : Bool). Some (record x { readiness = cond b Read x.readiness })) same
+
+-- one page is pinned or not
+pub pinned-one : (pins : ℕ → Option Pin) (v p : ℕ) → any_pinned pins v p (p + 1) ≡ is_pinned pins v p
+unfolding any_pinned
+pinned-one pins v p = both_ways (any_from p (p + 1) (is_pinned pins v)) (is_pinned pins v p)
+    (λ e.
+    let found = any_from_found (is_pinned pins v) p (p + 1) e in
+    let same : found.0 ≡ p = let low = found.1 in let high = found.2 in omega arith in
+    ap (is_pinned pins v) (sym same) ∙ found.3)
+    (λ e. any_from_at (is_pinned pins v) p (p + 1) p (omega arith) (omega arith) e)

@@ -1,0 +1,16 @@
+use Rattle.std.proofs.Common.{◌≡◌, ◌⊎◌, ◌-◌, ◌≤◌}
+use Rattle.eager_pages.specs.Eager.{content_of}
+use Rattle.ready_map.specs.Notes.{rows_of, spare_of, kept_rows, is_current}
+use Rattle.ready_map.proofs.ready_map.ReadyMap.settle.Given as goal
+
+-- the pages up to here are settled
+abbrev pub invariant-loop-page : goal.invariant-loop-page
+invariant-loop-page l = record {
+  first : l.first ≤ l.from;
+  end : (l.from ≤ l.end) ⊎ (l.from ≡ l.first);
+  rows : rows_of l.self ≡ kept_rows (is_current (content_of l.pages) l.koid.0 l.first l.from) (rows_of l.initial.self);
+  spare : spare_of l.self ≡ spare_of l.initial.self;
+}
+
+abbrev pub decreases-loop-page : goal.decreases-loop-page
+decreases-loop-page l = l.end - l.from

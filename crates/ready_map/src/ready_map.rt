@@ -1,0 +1,235 @@
+//! The map of what is ready.
+
+ghost use Rattle.std.specs.Prelude.{◌≡◌, ℕ, ◌+◌, ◌<◌, ◌≤◌, not, None, IsSome, IfSome, IfNone, OnOk};
+ghost use Rattle.vm_model.specs.Naming.Pins.{is_pinned};
+ghost use Rattle.pair_map.specs.Maps.{values_of, count_of};
+ghost use Rattle.pin_table.specs.Table.{pins_of};
+ghost use Rattle.eager_pages.specs.Eager.{content_of};
+ghost use Rattle.ready_map.specs.Notes.{rows_of, spare_of, with_row, kept_rows, without_range, limited_rows, is_of, agrees, is_current, HasNoRow};
+
+use crate::stamps::{Kept, Stamp, has_frame, put, ready_page, stamp_for};
+use eager_pages::EagerPages;
+use pair_map::PairMap;
+use pin_table::PinTable;
+use std::alloc::Global;
+use std::marker::Model;
+use vm_base::{HostMemory, Koid, PageNo, RegionName, Tag};
+use vm_model::Readiness;
+
+/// What is noted of a page of an address space that is ready for an access.
+#[derive(Clone, Copy, Debug, PartialEq, Eq)]
+pub struct ReadyPage {
+    /// The VMO that the page shows.
+    pub koid: Koid,
+    /// The page of the VMO, counted from its first.
+    pub page: PageNo,
+    /// The frame that this page had. `None` if it was zero.
+    pub frame: Option<Tag>,
+    /// What an access may do with no page fault.
+    pub readiness: Readiness,
+}
+
+/// What the pages of all address spaces are ready for. Contracts see what is noted of each page that is ready (`rows_of`),
+/// by its root region and its number, and how many more can be noted with no memory from the host (`spare_of`).
+#[derive(Drop)]
+pub struct ReadyMap {
+    /// What was noted of each page, by root region and page. It counts only as the stamp says.
+    places: PairMap<Kept>,
+    /// The stamp of each page of a VMO, by koid and page.
+    stamps: PairMap<Stamp>,
+    /// The time of the next note. Each note has a later time than those before it.
+    time: u64,
+    /// How many more notes there is room for.
+    room: u64,
+}
+
+impl Model for ReadyMap {
+    ghost use Rattle.ready_map.specs.Notes.{Notes, notes_of, AreFields};
+
+    ghost Value = { Notes };
+
+    ghost view = { notes_of };
+
+    ghost invariant = { AreFields };
+}
+
+impl ReadyMap {
+    /// Nothing is ready.
+    pub fn new(alloc: Global) -> ReadyMap
+        ensures { rows_of result ≡ λ root p. None }
+    {
+        ReadyMap {
+            places: PairMap::new(alloc),
+            stamps: PairMap::new(alloc),
+            time: 0,
+            room: 0,
+        }
+    }
+
+    /// Makes room for `n` calls of `set`. `HostMemory` if the host has too little memory, or if the times would not fit 64
+    /// bits.
+    pub fn reserve(&mut self, n: u64) -> Result<(), HostMemory>
+        ensures room { OnOk result (n ≤ spare_of self.new) }
+        ensures same { rows_of self.new ≡ rows_of self.old }
+        ensures kept { spare_of self.old ≤ spare_of self.new }
+    {
+        if n <= self.room {
+            return Ok(());
+        }
+        if u64::MAX - self.time < n {
+            return Err(HostMemory);
+        }
+        let Ok(()) = self.places.reserve(n as usize) else {
+            return Err(HostMemory);
+        };
+        let Ok(()) = self.stamps.reserve(n as usize) else {
+            return Err(HostMemory);
+        };
+        self.room = n;
+        Ok(())
+    }
+
+    /// What is noted of a page of an address space. `None` if it is ready for nothing.
+    pub fn at(&self, root: RegionName, page: PageNo) -> Option<ReadyPage>
+        ensures { result ≡ rows_of self.now root.0 page }
+    {
+        match self.places.find(root.0 as u64, page) {
+            Some(kept) => ready_page(kept, self.stamps.find(kept.koid.0, kept.page)),
+            None => None,
+        }
+    }
+
+    /// Notes a page of an address space, in place of what was noted of it. Other notes of the same page of the VMO do not
+    /// count any more if they have another frame. There is room.
+    pub fn set(&mut self, root: RegionName, page: PageNo, row: ReadyPage)
+        requires room { 1 ≤ spare_of self.old }
+        ensures rows { rows_of self.new
+            ≡ with_row (kept_rows (agrees row.koid.0 row.page row.frame) (rows_of self.old)) root.0 page row }
+        ensures spare { spare_of self.new + 1 ≡ spare_of self.old }
+    {
+        let stamp = stamp_for(self.stamps.find(row.koid.0, row.page), row.frame, self.time);
+        put(&mut self.stamps, row.koid.0, row.page, stamp);
+        let kept = Kept {
+            koid: row.koid,
+            page: row.page,
+            readiness: row.readiness,
+            made: self.time,
+        };
+        put(&mut self.places, root.0 as u64, page, kept);
+        self.time += 1;
+        self.room -= 1;
+    }
+
+    /// Makes what shows a page of a VMO ready for nothing. The call costs the same however much that is.
+    pub fn reset(&mut self, koid: Koid, page: PageNo)
+        ensures rows { rows_of self.new ≡ kept_rows (λ row. not (is_of koid.0 page row)) (rows_of self.old) }
+        ensures spare { spare_of self.new ≡ spare_of self.old }
+    {
+        if self.stamps.find(koid.0, page).is_some() {
+            self.stamps.remove(koid.0, page);
+        }
+    }
+
+    /// Makes what shows a page of a VMO from `first` to below `end` ready for reading at most, unless a pin covers the page:
+    /// a snapshot shares the other pages. The call costs the pages of the range that have notes.
+    pub fn restrict(&mut self, koid: Koid, first: PageNo, end: PageNo, pins: &PinTable)
+        ensures rows { rows_of self.new
+            ≡ limited_rows (is_pinned (pins_of pins.now) koid.0) koid.0 first end (rows_of self.old) }
+        ensures spare { spare_of self.new ≡ spare_of self.old }
+    {
+        let mut from = first;
+        while let Some(page) = self.next_before(koid, from, end) {
+            self.restrict_page(koid, page, pins.pinned(koid, page, 1));
+            from = page + 1;
+        }
+    }
+
+    /// Makes what shows a page of a VMO from `first` to below `end` ready for nothing, if the page does not lie in the VMO or
+    /// has another frame now than was noted. The call costs the pages of the range that have notes.
+    pub fn settle(&mut self, pages: &EagerPages, koid: Koid, first: PageNo, end: PageNo)
+        requires { IsSome ((content_of pages.now).count koid.0) }
+        ensures rows { rows_of self.new ≡ kept_rows (is_current (content_of pages.now) koid.0 first end) (rows_of self.old) }
+        ensures spare { spare_of self.new ≡ spare_of self.old }
+    {
+        let mut from = first;
+        while let Some(page) = self.next_before(koid, from, end) {
+            self.settle_page(pages, koid, page);
+            from = page + 1;
+        }
+    }
+
+    /// Makes pages of an address space from `first` to below `end` ready for nothing. The call costs the notes of these
+    /// pages.
+    pub fn drop_range(&mut self, root: RegionName, first: PageNo, end: PageNo)
+        ensures rows { rows_of self.new ≡ without_range (rows_of self.old) root.0 first end }
+        ensures spare { spare_of self.new ≡ spare_of self.old }
+    {
+        while let Some(page) = self.place_before(root, first, end) {
+            self.drop_place(root, page);
+        }
+    }
+
+    // ---- steps of the calls
+
+    // The first page of a VMO that has a stamp, from page `from` to below `end`.
+    fn next_before(&self, koid: Koid, from: PageNo, end: PageNo) -> Option<PageNo>
+        ensures some { IfSome result (λ page. (from ≤ page) × (page < end) × HasNoRow (rows_of self.now) koid.0 from page) }
+        ensures none { IfNone result (HasNoRow (rows_of self.now) koid.0 from end) }
+    {
+        match self.stamps.next(koid.0, from) {
+            Some((page, _)) if page < end => Some(page),
+            _ => None,
+        }
+    }
+
+    // Makes what shows a page of a VMO ready for nothing, if the page does not lie in the VMO or has another frame now than
+    // was noted.
+    fn settle_page(&mut self, pages: &EagerPages, koid: Koid, page: PageNo)
+        requires { IsSome ((content_of pages.now).count koid.0) }
+        ensures rows { rows_of self.new
+            ≡ kept_rows (is_current (content_of pages.now) koid.0 page (page + 1)) (rows_of self.old) }
+        ensures spare { spare_of self.new ≡ spare_of self.old }
+    {
+        let Some(stamp) = self.stamps.find(koid.0, page) else {
+            return;
+        };
+        if !has_frame(pages, koid, page, stamp.frame) {
+            self.stamps.remove(koid.0, page);
+        }
+    }
+
+    // Makes what shows a page of a VMO ready for reading at most, unless it stays.
+    fn restrict_page(&mut self, koid: Koid, page: PageNo, stays: bool)
+        ensures rows { rows_of self.new ≡ limited_rows (λ q. stays) koid.0 page (page + 1) (rows_of self.old) }
+        ensures spare { spare_of self.new ≡ spare_of self.old }
+    {
+        let Some(stamp) = self.stamps.find(koid.0, page) else {
+            return;
+        };
+        if !stays {
+            let shared = self.time;
+            self.stamps.replace(koid.0, page, Stamp { shared, ..stamp });
+        }
+    }
+
+    // The first page of an address space that has a note, from page `first` to below `end`.
+    fn place_before(&self, root: RegionName, first: PageNo, end: PageNo) -> Option<PageNo>
+        ensures some { IfSome result (λ page. (first ≤ page) × (page < end) × IsSome (values_of self.now.places root.0 page)) }
+        ensures none { IfNone result ((p : ℕ) → first ≤ p → p < end → values_of self.now.places root.0 p ≡ None) }
+    {
+        match self.places.next(root.0 as u64, first) {
+            Some((page, _)) if page < end => Some(page),
+            _ => None,
+        }
+    }
+
+    // Takes the note of a page of an address space away.
+    fn drop_place(&mut self, root: RegionName, page: PageNo)
+        requires { IsSome (values_of self.old.places root.0 page) }
+        ensures rows { rows_of self.new ≡ without_range (rows_of self.old) root.0 page (page + 1) }
+        ensures fewer { count_of self.new.places + 1 ≡ count_of self.old.places }
+        ensures spare { spare_of self.new ≡ spare_of self.old }
+    {
+        self.places.remove(root.0 as u64, page);
+    }
+}
