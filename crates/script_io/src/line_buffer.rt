@@ -115,6 +115,7 @@ impl LineBuffer {
 
     /// Searches the bytes that were not searched for a line feed. If there is one, what stands before it is the line,
     /// and is used up with the line feed.
+    #[inline(always)]
     pub(crate) fn find_line(&mut self) -> bool
         ensures found { MatchBool result
             ((self.new.seen ≡ []) × (line : _) × HasNoFeed line
@@ -205,6 +206,7 @@ fn zero_bytes(alloc: Global) -> Result<Vec<u8>, HostMemory>
 }
 
 /// The place of the first line feed.
+#[inline(always)]
 fn feed_place(bytes: &[u8]) -> Option<usize>
     ensures { MatchOption result (HasNoFeed bytes.now) (λ n. (n < length bytes.now)
         × HasNoFeed (take n bytes.now) × (slice_index bytes.now n ≡ LINE_FEED)) }

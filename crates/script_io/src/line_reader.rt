@@ -118,6 +118,7 @@ impl Lines {
 
     /// Fetches a line from the bytes that are held. `None` if they have no line feed and more may come: the reader then
     /// keeps them as the front of a line, or drops them if that line is too long.
+    #[inline(always)]
     fn look(&mut self) -> Option<Fetch>
         requires { self.old.line ≡ [] }
         ensures looked { (remaining : Option (List ℕ)) (pending : List ℕ)
@@ -176,6 +177,7 @@ impl Lines {
 
 /// Tells whether the line in the buffer is lent or too long. `dropped` bytes of its front were dropped before. A line
 /// that is too long is lent no more.
+#[inline(always)]
 fn measure(buffer: &mut LineBuffer, dropped: &mut u64) -> Fetch
     requires fits { dropped.old + length buffer.old.line < 2 ^ 64 }
     requires long { 0 < dropped.old → LINE_BYTES < dropped.old }

@@ -43,6 +43,7 @@ pub fn read_line(line: &[u8]) -> Result<Line, SyntaxFault>
 /// Reads one line as `read_line` does. The answer is `None` if the line says nothing, and otherwise its command. Byte
 /// data is decoded to the front of `room`, which has at least `DATA_BYTES` bytes, and the command borrows it from
 /// there.
+#[inline(always)]
 #[tactic(auto, unfolding(vm_model::specs::Language::Reading::reading))]
 pub fn read_call<'a>(line: &[u8], room: &'a mut [u8]) -> Result<Option<Call<'a>>, SyntaxFault>
     requires { DATA_BYTES ≤ length room.old }
@@ -77,6 +78,7 @@ fn is_silent(line: &[u8]) -> bool
 }
 
 /// The command of a line. `None` if it has none. Most lines begin with one of two words.
+#[inline(always)]
 fn order<'a>(line: &[u8], room: &'a mut [u8]) -> Option<Call<'a>>
     requires { DATA_BYTES ≤ length room.old }
     ensures { option_map command_of result ≡ order_in (words line.now) }

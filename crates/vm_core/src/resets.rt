@@ -18,7 +18,7 @@ use vm_base::{Koid, PAGE, PageNo, RegionName, VMO_PAGES, page_count, page_of};
 use vm_model::{ChildKind, Target};
 
 /// A range of a name was changed. Forgets the translations of its pages that have another frame now.
-#[inline]
+#[inline(always)]
 #[tactic(auto, using(crate::proofs::LeavesLaws::without_none))]
 pub(crate) fn forget_changed<P: PageStore>(
     translations: &mut Translations,

@@ -88,6 +88,7 @@ impl Vm {
     /// Does what `step` does, for a command whose bytes are lent. The answer borrows the bytes that were read from
     /// `bytes`, which has room for `DATA_BYTES` bytes, and the frames of pinned pages from `numbers`, which has room
     /// for `PIN_PAGES` of them.
+    #[inline(always)]
     pub fn answer<'a, P: PageStore>(
         &mut self,
         store: &mut P,
