@@ -1,5 +1,5 @@
 -- A page that a VMO's node shows alone is owned, and one that was forked is, once its frame's backlink leads to its row.
-use Rattle.std.proofs.Common.{◌≡◌, ℕ, ◌≤◌, Bool, false, None, Some, IsSome, refl, sym, ap, cond, ◌∙◌, inl, inr, arith}
+use Rattle.std.proofs.Common.{◌≡◌, ℕ, ◌≤◌, Bool, false, Option, None, Some, IsSome, refl, sym, ap, cond, ◌∙◌, inl, inr, arith}
 use Rattle.std.specs.Prelude.{◌==◌, if◌then◌else◌}
 use Rattle.std.proofs.lemmas.Bool.{cases_eq, eq-eqb, ne_eqb, cond-true, cond-false}
 use Rattle.balanced_tree.specs.Rows.{Rows}
@@ -28,7 +28,7 @@ use Rattle.cow_fork.proofs.HolderLaws.{own-row, own-shown}
 use Rattle.cow_fork.proofs.PoolLaws.{taken-same}
 use Rattle.cow_fork.proofs.ZeroLaws.{own-last}
 use Rattle.cow_merge.specs.Ranges.{AreLinked}
-use Rattle.cow_forest.specs.Owning.{own_frame, HasOwnRow, HasOwned}
+use Rattle.cow_forest.specs.Owning.{tag_there, own_frame, HasOwnRow, HasOwned}
 
 -- an own row with a frame
 own-tag : (found : Holder) (tag : Tag) → own_frame found ≡ Some tag → (row : Slot) × (found ≡ holder.Own row) × (frame_in row ≡ Some tag.0)
@@ -82,6 +82,22 @@ module _ {arena : Arena} {rows : Rows Row} {v p : ℕ} {node : Node} (leaf : IsL
       owned-sole tag.0
       (record { shows = own-shown leaf its.0 own ∙ its.2; last = own-last (tree_of arena rows) (is_taken pool) v p node its.0 tag.0 exact leaf.visible own its.2 })
       (λ room. leaf-row leaf rows (Some (slot.Frame (record { 0 = tag.0 }) false false)) (own ∙ ap Some plain))
+
+  -- the row that the node's list has, if it has a frame
+  pub found-own : (tag : Tag) → tag_there (slots_of rows node.list.0 p) ≡ Some tag → HasOwned arena rows rows pool pool v p tag.0
+  found-own tag shown = there (slots_of rows node.list.0 p) refl shown
+    where
+      there : (o : Option Slot) → slots_of rows node.list.0 p ≡ o → tag_there o ≡ Some tag → HasOwned arena rows rows pool pool v p tag.0
+      there None at e = absurd (cc)
+      there (Some row) at e =
+          owned-own (holder.Own row) tag (sym (ap holder_of (walk-own (tree_of arena rows) leaf.forest v p node row leaf.visible.at at))) e
+
+  -- if it has none, the row that is found is no own one with a frame
+  pub found-bare : (found : Holder) → found ≡ holder_of (walk (tree_of arena rows) v p) → tag_there (slots_of rows node.list.0 p) ≡ None →
+      own_frame found ≡ None
+  found-bare (holder.Own row) is none = sym (ap tag_there (own-row leaf row is)) ∙ none
+  found-bare (holder.Above n q side row) is none = refl
+  found-bare holder.Nothing is none = refl
 
   -- the node's own row has no frame
   pub unowned : (found : Holder) → found ≡ holder_of (walk (tree_of arena rows) v p) → ((tag : Tag) → own_frame found ≡ Some tag → ⊥) →

@@ -24,6 +24,11 @@ abbrev pub tag_in : Slot → Option Tag
 tag_in (slot.Frame tag left right) = Some tag
 tag_in slot.Zero = None
 
+-- the frame of a row, if there is one
+abbrev pub tag_there : Option Slot → Option Tag
+tag_there None = None
+tag_there (Some row) = tag_in row
+
 -- the frame of the row that holds a page, if the row is the page's own
 abbrev pub own_frame : Holder → Option Tag
 own_frame (holder.Own row) = tag_in row

@@ -21,6 +21,7 @@ use vm_base::PageNo;
 
 /// What a page of a VMO's node is. One with a row of its own, or outside the node's window,
 /// costs one look-up in the lists.
+#[inline(always)]
 pub(crate) fn look_at(
     arena: &CowArena,
     lists: &PageLists,

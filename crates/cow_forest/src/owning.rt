@@ -1,7 +1,10 @@
 //! Owning a page before it is written.
 
-ghost use Rattle.std.specs.Prelude.{◌≡◌, ◌≤◌, ◌⊎◌, ℕ, None};
+ghost use Rattle.std.specs.Prelude.{◌≡◌, ◌≤◌, ◌⊎◌, ℕ, None, Some};
 ghost use Rattle.frame_pool.specs.Pool.{is_taken};
+ghost use Rattle.page_list.specs.Lists.{slots_of};
+ghost use Rattle.cow_arena.specs.declared.node.Node.{Node};
+ghost use Rattle.cow_arena.specs.Nodes.{nodes_of};
 ghost use Rattle.cow_arena.specs.Walk.{walk};
 ghost use Rattle.cow_split.specs.Trees.{tree_of, holder_of};
 ghost use Rattle.cow_split.specs.Sight.{IsPage};
@@ -9,23 +12,25 @@ ghost use Rattle.cow_split.specs.Exact.{IsExact, all_in_sight};
 ghost use Rattle.cow_fork.specs.Frames.{HasSole, HasFree};
 ghost use Rattle.cow_merge.specs.Ranges.{AreLinked};
 ghost use Rattle.cow_jump.specs.Jumps.{AreJumps};
-ghost use Rattle.cow_forest.specs.Owning.{own_frame, HasOwned};
+ghost use Rattle.cow_forest.specs.Owning.{tag_there, own_frame, HasOwned};
 
 use cow_arena::{CowArena, NodeId};
 use cow_fork::fork_holder;
 use cow_jump::{JumpTable, holder_by_jumps};
 use cow_split::Holder;
 use frame_pool::{Backlink, FramePool};
-use page_list::{PageLists, Slot};
+use page_list::{ListId, PageLists, Slot};
 use vm_base::{PageNo, Tag};
 
-/// The frame of the row that holds a page, if the row is the page's own.
-fn own_tag(found: Holder) -> Option<Tag>
-    ensures { result ≡ own_frame found }
+/// The frame of the row that a list has for a page, if it has one with a frame.
+#[inline(always)]
+fn own_tag(lists: &PageLists, list: ListId, page: PageNo) -> Option<Tag>
+    ensures { result ≡ tag_there (slots_of lists.now list.0 page) }
 {
-    match found {
-        Holder::Own(Slot::Frame { tag, .. }) => Some(tag),
-        _ => None,
+    match lists.find(list, page) {
+        Some(Slot::Frame { tag, .. }) => Some(tag),
+        Some(Slot::Zero) => None,
+        None => None,
     }
 }
 
@@ -48,16 +53,37 @@ pub(crate) fn own_page(
     requires room { HasSole (tree_of arena.now lists.old) leaf.0 page ⊎ ((1 ≤ lists.old.spare) × HasFree frames.old) }
     ensures { HasOwned arena.now lists.old lists.new frames.old frames.new leaf.0 page result.0 }
 {
-    let found = holder_by_jumps(arena, lists, jumps, leaf, page);
-    if let Some(tag) = own_tag(found) {
+    if let Some(tag) = own_tag(lists, arena.look(leaf).list, page) {
         return tag;
     }
+    own_further(arena, lists, frames, jumps, leaf, page)
+}
+
+/// Does what `own_page` does for a page that has no row of its own with a frame. The function is not inlined, so that the other pages
+/// pay nothing for it.
+#[inline(never)]
+fn own_further(
+    arena: &CowArena,
+    lists: &mut PageLists,
+    frames: &mut FramePool,
+    jumps: &JumpTable,
+    leaf: NodeId,
+    page: PageNo,
+) -> Tag
+    requires exact { IsExact (tree_of arena.now lists.old) all_in_sight (is_taken frames.old) }
+    requires jumps { (next : ℕ) × AreJumps (tree_of arena.now lists.old) next jumps.now }
+    requires linked { AreLinked lists.old frames.old }
+    requires page { IsPage (tree_of arena.now lists.old) leaf.0 page }
+    requires room { HasSole (tree_of arena.now lists.old) leaf.0 page ⊎ ((1 ≤ lists.old.spare) × HasFree frames.old) }
+    requires bare { (node : Node) → nodes_of arena.now leaf.0 ≡ Some node → tag_there (slots_of lists.old node.list.0 page) ≡ None }
+    ensures { HasOwned arena.now lists.old lists.new frames.old frames.new leaf.0 page result.0 }
+{
+    let found = holder_by_jumps(arena, lists, jumps, leaf, page);
     own_found(arena, lists, frames, leaf, page, found)
 }
 
 /// Does what `own_page` does. `found` is what `holder` answers for the page. It is no row of the page's own with a
 /// frame.
-#[inline(never)]
 fn own_found(
     arena: &CowArena,
     lists: &mut PageLists,

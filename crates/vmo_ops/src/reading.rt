@@ -97,6 +97,7 @@ fn read_pages<P: PageStore>(store: &P, v: Koid, offset: u64, out: &mut [u8])
 }
 
 // Reads what a page shows, from `at` bytes into the page on.
+#[inline(always)]
 #[tactic(auto, using(crate::proofs::LookLaws::look_laws))]
 fn read_page<P: PageStore>(store: &P, v: Koid, page: PageNo, at: u64, out: &mut [u8])
     requires page { page < pages_of (P.content store.now) v.0 }

@@ -89,6 +89,7 @@ fn write_pages<P: PageStore>(store: &mut P, v: Koid, offset: u64, bytes: &[u8])
 }
 
 /// Writes bytes to one page, from `at` bytes into the page on. The page is owned first.
+#[inline(always)]
 pub fn write_part<P: PageStore>(store: &mut P, v: Koid, page: PageNo, at: u64, bytes: &[u8])
     requires good { IsGood (P.content store.old) }
     requires page { page < pages_of (P.content store.old) v.0 }
