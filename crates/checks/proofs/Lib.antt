@@ -1,2 +1,3 @@
 mod ChainLaws
+mod EagerLaws
 mod WholeLaws

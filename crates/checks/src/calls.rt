@@ -9,6 +9,7 @@ use std::test::Fail;
 use vm_base::HostMemory;
 
 mod counting;
+mod eager;
 mod looking;
 mod reading;
 mod regions;
