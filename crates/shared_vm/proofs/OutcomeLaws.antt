@@ -1,6 +1,6 @@
 -- How a run of the actors ends.
 use Rattle.std.proofs.Common.{◌≡◌, ℕ, List, Option, None, Some, Result, Ok, Err, refl, sym, ap, subst, ◌∙◌}
-use Rattle.std.specs.Prelude.{OnOk, OnErr}
+use Rattle.std.specs.Prelude.{◌≢◌, OnOk, OnErr}
 use Rattle.std.specs.Io.KnownBytes.{Appends}
 use Rattle.std.proofs.lemmas.Option.{same_Some}
 use Rattle.script_io.specs.Faults.{IsCutOff}
@@ -98,3 +98,7 @@ status_of-fault (Err x) failed e = failed
 pub status_of-no_read : {T E P : Type 0} (result : Result T E) → status_of result ≡ ReadFault → P
 status_of-no_read (Ok x) e = absurd cc
 status_of-no_read (Err x) e = absurd cc
+
+pub status_of-ran : {T E P : Type 0} (result : Result T E) (status : Status) → status ≡ status_of result → status ≢ Done → status ≢ WriteFault → P
+status_of-ran (Ok x) status e done fault = absurd (done e)
+status_of-ran (Err x) status e done fault = absurd (fault e)

@@ -1,6 +1,6 @@
 //! The run of the actors, from the bytes of a source to the bytes of a sink.
 
-ghost use Rattle.std.specs.Prelude.{◌≡◌, ◌↔◌, ◌≤◌, codes, option_map, None, Some, IfSome};
+ghost use Rattle.std.specs.Prelude.{◌≡◌, ◌≢◌, ◌↔◌, ◌≤◌, codes, option_map, None, Some, IfSome};
 ghost use Rattle.script_io.specs.Faults.{HasFailed};
 ghost use Rattle.vm_base.specs.declared.limits.TheConstants.{FRAMES};
 ghost use Rattle.vm_model.specs.Contents.Content.{nothing};
@@ -46,6 +46,8 @@ fn run_on<R: Threads + Wait + Sync, P: PageStore + Send, G: Gate, S: Source, K: 
         (K.contents sink.old) (K.contents sink.new) (option_map P.content result.1) }
     ensures read_cause { result.0 ≡ Status.ReadFault → HasFailed (S.faults source.old) (S.faults source.new) }
     ensures write_cause { result.0 ≡ Status.WriteFault → HasFailed (K.faults sink.old) (K.faults sink.new) }
+    ensures unwritten { result.0 ≢ Status.Done → result.0 ≢ Status.WriteFault → sink.new ≡ sink.old }
+    ensures kept { result.1 ≡ None → result.0 ≡ Status.HostMemory }
 {
     let scripts = match read_input(alloc, source) {
         Ok(scripts) => scripts,
@@ -92,6 +94,12 @@ pub fn run_actors<R: Threads + Wait + Sync, P: PageStore + Send, G: Gate, S: Sou
     // A fault is answered only if the source or the sink failed.
     ensures read_cause { result.0 ≡ Status.ReadFault → HasFailed (S.faults source.old) (S.faults source.new) }
     ensures write_cause { result.0 ≡ Status.WriteFault → HasFailed (K.faults sink.old) (K.faults sink.new) }
+
+    // Nothing is written but the text of a journal whose tasks are all done.
+    ensures unwritten { result.0 ≢ Status.Done → result.0 ≢ Status.WriteFault → sink.new ≡ sink.old }
+
+    // The store is handed back, but where the host lacks memory.
+    ensures kept { result.1 ≡ None → result.0 ≡ Status.HostMemory }
 
     // Other words are refused, and nothing is touched.
     ensures usage { (result.0 ≡ Status.Usage) ↔ (frames_asked (codes "actors") words.now ≡ None) }

@@ -1,5 +1,5 @@
 use Rattle.std.proofs.Common.{sym, ◌∙◌}
-use Rattle.shared_vm.proofs.OutcomeLaws.{EndsAs-early, EndsAs-gone, EndsAs-acted, status_of-fault, status_of-no_read}
+use Rattle.shared_vm.proofs.OutcomeLaws.{EndsAs-early, EndsAs-gone, EndsAs-acted, status_of-fault, status_of-no_read, status_of-ran}
 use Rattle.shared_vm.proofs.running.run_on.Goals as goal
 
 pub returns-in-Err-clause-ends : goal.returns-in-Err-clause-ends
@@ -22,3 +22,6 @@ returns-clause-write_cause g c = λ e.
 
 pub returns-clause-read_cause : goal.returns-clause-read_cause
 returns-clause-read_cause g c = λ e. status_of-no_read c.push_journal.result (sym c.status_of-status.ensures ∙ e)
+
+pub returns-clause-unwritten : goal.returns-clause-unwritten
+returns-clause-unwritten g c = λ done fault. status_of-ran c.push_journal.result _ c.status_of-status.ensures done fault
