@@ -1,7 +1,9 @@
 //! The program: the machine over standard input and output.
 //!
 //! It makes the clone tree (`cow_forest`) as the store, hands it to `top` with standard input and output as a source
-//! and a sink, and ends with the status of the run. It writes nothing to standard error.
+//! and a sink, and ends with the status of the run. It hands on its own runtime as the one that starts threads and waits for them,
+//! which `top` does for actors alone, a gate that holds no actor back, and the functions that page sources are filled from. It
+//! writes nothing to standard error.
 #![tactic(auto)]
 
 mod top;
@@ -10,6 +12,8 @@ mod verbs;
 use crate::top::top;
 use cow_forest::CowForest;
 use script_io::{ReadSource, WriteSink};
+use shared_vm::OpenGate;
+use source_vm::{SourceFn, src_byte};
 use std::process::ExitCode;
 use std::rt::Env;
 use std::{env, io};
@@ -41,10 +45,24 @@ fn main(rt: HostRuntime) -> ExitCode {
         Ok(words) => words,
         Err(status) => return ExitCode::from(code(status)),
     };
-    let mut store = CowForest::new(rt.alloc());
+    let functions = [
+        SourceFn::new(0, |seed, offset| src_byte(0, seed, offset)),
+        SourceFn::new(1, |seed, offset| src_byte(1, seed, offset)),
+        SourceFn::new(2, |seed, offset| src_byte(2, seed, offset)),
+    ];
+    let mut store = Some(CowForest::new(rt.alloc()));
     let mut source = ReadSource::new(rt.stdin());
     let mut sink = WriteSink::new(rt.stdout());
-    let status = top(rt.alloc(), &words, &mut store, &mut source, &mut sink);
+    let status = top(
+        &rt,
+        rt.alloc(),
+        &words,
+        &OpenGate,
+        functions,
+        &mut store,
+        &mut source,
+        &mut sink,
+    );
     // By one call: at the end of the body its tables would be dropped one by one, each with a proof.
     drop(store);
     ExitCode::from(code(status))

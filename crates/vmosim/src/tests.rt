@@ -4,8 +4,12 @@
 use crate::top::top;
 use cow_forest::CowForest;
 use script_io::{MemSink, SureSource};
+use shared_vm::OpenGate;
+use source_vm::{SourceFn, src_byte};
 use std::alloc::{AllocError, Global};
+use std::sync::Wait;
 use std::test::Fail;
+use std::thread::Threads;
 use vm_session::Status;
 
 /// The words of a command line, parted by single blanks.
@@ -18,14 +22,34 @@ fn words_of(alloc: Global, line: &str) -> Result<Vec<String>, AllocError> {
 }
 
 /// How the call ends over an empty tree, what it writes, and the tree then.
-fn ended(alloc: Global, line: &str, script: &str) -> Result<(Status, MemSink, CowForest), Fail> {
+fn ended<R: Threads + Wait + Sync>(
+    rt: &R,
+    alloc: Global,
+    line: &str,
+    script: &str,
+) -> Result<(Status, MemSink, CowForest), Fail> {
     let words = words_of(alloc, line)?;
-    let mut tree = CowForest::new(alloc);
+    let functions = [
+        SourceFn::new(0, |seed, offset| src_byte(0, seed, offset)),
+        SourceFn::new(1, |seed, offset| src_byte(1, seed, offset)),
+        SourceFn::new(2, |seed, offset| src_byte(2, seed, offset)),
+    ];
+    let mut store = Some(CowForest::new(alloc));
     let mut source = SureSource::new(script.as_bytes());
     let mut sink = MemSink::new(alloc, 4096, 4096, &[])
         .ok()
         .ok_or("room for a sink")?;
-    let status = top(alloc, &words, &mut tree, &mut source, &mut sink);
+    let status = top(
+        rt,
+        alloc,
+        &words,
+        &OpenGate,
+        functions,
+        &mut store,
+        &mut source,
+        &mut sink,
+    );
+    let tree = store.ok_or("the tree")?;
     Ok((status, sink, tree))
 }
 
@@ -58,16 +82,27 @@ OK frames=1024 used=2 free=1022 vmos=2
 /// The snapshot leaves one hidden node, which has the page that `v2` shows; `v1` has a page of its own.
 #[test]
 fn a_script_is_run_over_the_clone_tree(rt: HostRuntime) -> Result<(), Fail> {
-    let (status, sink, tree) = ended(rt.alloc(), "run", SHARING)?;
+    let (status, sink, tree) = ended(&rt, rt.alloc(), "run", SHARING)?;
     assert_eq!(rt; status, Status::Done);
     assert_eq!(rt; sink.bytes(), SHARED.as_bytes());
     assert_eq!(rt; (tree.hidden(), tree.rows(), tree.frame_rows()), (1, 2, 2));
     Ok(())
 }
 
+/// The tasks of one actor stand in its own order, and the tree is the one that they leave.
+#[test]
+fn actors_run_over_the_clone_tree(rt: HostRuntime) -> Result<(), Fail> {
+    let script = "a2 vmo_create v1 4096\na2 vmo_write v1 0 11\n# note\na2 vmo_read v1 0 2\na2\n";
+    let (status, sink, tree) = ended(&rt, rt.alloc(), "actors --frames 1", script)?;
+    assert_eq!(rt; status, Status::Done);
+    assert_eq!(rt; sink.bytes(), b"a2 OK\na2 OK\na2 OK 1100\n".as_slice());
+    assert_eq!(rt; (tree.hidden(), tree.rows(), tree.frame_rows()), (0, 1, 1));
+    Ok(())
+}
+
 #[test]
 fn a_workload_has_one_line(rt: HostRuntime) -> Result<(), Fail> {
-    let (status, sink, _) = ended(rt.alloc(), "work 0 1", "")?;
+    let (status, sink, _) = ended(&rt, rt.alloc(), "work 0 1", "")?;
     assert_eq!(rt; status, Status::Done);
     assert_eq!(rt;
         sink.bytes(),
@@ -78,7 +113,7 @@ fn a_workload_has_one_line(rt: HostRuntime) -> Result<(), Fail> {
 
 #[test]
 fn other_words_are_usage(rt: HostRuntime) -> Result<(), Fail> {
-    let (status, sink, _) = ended(rt.alloc(), "run extra", "stat\n")?;
+    let (status, sink, _) = ended(&rt, rt.alloc(), "run extra", "stat\n")?;
     assert_eq!(rt; status, Status::Usage);
     assert_eq!(rt; sink.bytes(), b"".as_slice());
     Ok(())

@@ -1,6 +1,6 @@
 //! The whole machine over the clone tree.
 
-ghost use Rattle.std.specs.Prelude.{◌≡◌, ◌↔◌, None, IfSome, codes};
+ghost use Rattle.std.specs.Prelude.{◌≡◌, ◌≢◌, ◌↔◌, [], ◌∷◌, None, Some, IfSome, IsSome, codes, map, option_map};
 ghost use Rattle.script_io.specs.Faults.{HasFailed};
 ghost use Rattle.vm_base.specs.declared.limits.TheConstants.{SCRIPT_BYTES};
 ghost use Rattle.vm_model.specs.Contents.Content.{nothing};
@@ -9,37 +9,57 @@ ghost use Rattle.served.specs.Outcome.{EndsAs};
 ghost use Rattle.served.specs.Words.{frames_asked};
 ghost use Rattle.vm_session.specs.Outcome.{task_asked, AskForWork, TaskEndsAs};
 ghost use Rattle.batch_vm.specs.BatchAnswering.{batch_rules};
+ghost use Rattle.shared_vm.specs.Outcome.{IfThere};
+ghost use Rattle.shared_vm.specs.Outcome as actors;
 
 use crate::verbs::has_verb;
 use batch_vm::run_batch;
 use cow_forest::CowForest;
 use script_io::{Sink, Source};
+use shared_vm::{Gate, run_actors};
+use source_vm::SourceFn;
 use std::alloc::Global;
+use std::sync::Wait;
+use std::thread::Threads;
 use vm_session::{Status, run};
 
-/// Does what `words` ask for, over the clone tree: what `vm_session`'s `run` does over any store, and with its promises, or with
-/// the first word `batch` what `batch_vm`'s `run_batch` does. This is the call that the program makes.
+/// Does what `words` ask for, over the clone tree: what `vm_session`'s `run` does over any store, and with its promises; with the
+/// first word `batch` what `batch_vm`'s `run_batch` does; and with `actors` what `shared_vm`'s `run_actors` does. This is the call
+/// that the program makes.
 ///
 /// What is written is the replies of one legal run of the plain machine, in which a snapshot copies its range at once, and
-/// the tree has that machine's pages then. With `batch` the machine has jobs too.
-pub fn top<S: Source, K: Sink>(
+/// the tree has that machine's pages then. With `batch` the machine has jobs too. With `actors` the run does the tasks of four
+/// actors, which take turns on it in any order, and the call may wait; it promises this if it returns.
+///
+/// The tree is there at first and has nothing. It is there afterwards, but for an answer `HostMemory` to `actors`.
+pub fn top<R: Threads + Wait + Sync, G: Gate, S: Source, K: Sink>(
+    rt: &R,
     alloc: Global,
     words: &[String],
-    store: &mut CowForest,
+    gate: &G,
+    functions: [SourceFn; 3],
+    store: &mut Option<CowForest>,
     source: &mut S,
     sink: &mut K,
 ) -> Status
-    requires { content_of store.old ≡ nothing }
+    requires store { option_map content_of store.old ≡ Some nothing }
+    requires kinds { map (λ f. f.kind) functions ≡ 0 ∷ 1 ∷ 2 ∷ [] }
 
     // What each status says of the bytes that the source gave, the bytes that the sink took and what the tree contains.
-    ensures ends { IfSome (task_asked words.now) (λ task.
+    ensures ends { IfSome (task_asked words.now) (λ task. IfThere (option_map content_of store.new) (λ content.
         TaskEndsAs task result (S.remaining source.old) (S.remaining source.new)
-        (K.contents sink.old) (K.contents sink.new) (content_of store.new)) }
+        (K.contents sink.old) (K.contents sink.new) content)) }
 
     // The same of a script on the machine with jobs.
     ensures batch { IfSome (frames_asked (codes "batch") words.now) (λ frames.
+        IfThere (option_map content_of store.new) (λ content.
         EndsAs batch_rules result frames SCRIPT_BYTES (S.remaining source.old) (S.remaining source.new)
-        (K.contents sink.old) (K.contents sink.new) (content_of store.new)) }
+        (K.contents sink.old) (K.contents sink.new) content)) }
+
+    // The same of the tasks of four actors.
+    ensures actors { IfSome (frames_asked (codes "actors") words.now) (λ frames.
+        actors.EndsAs result frames (S.remaining source.old) (S.remaining source.new)
+        (K.contents sink.old) (K.contents sink.new) (option_map content_of store.new)) }
 
     // A workload is done without reading.
     ensures unread { AskForWork words.now → source.new ≡ source.old }
@@ -48,17 +68,43 @@ pub fn top<S: Source, K: Sink>(
     ensures read_cause { result ≡ Status.ReadFault → HasFailed (S.faults source.old) (S.faults source.new) }
     ensures write_cause { result ≡ Status.WriteFault → HasFailed (K.faults sink.old) (K.faults sink.new) }
 
-    // Memory is wanted only before anything is read.
-    ensures host_memory { result ≡ Status.HostMemory → (source.new ≡ source.old) × (sink.new ≡ sink.old) }
+    // But for actors, memory is wanted only before anything is read.
+    ensures host_memory { result ≡ Status.HostMemory → frames_asked (codes "actors") words.now ≡ None
+        → (source.new ≡ source.old) × (sink.new ≡ sink.old) }
+
+    // For actors nothing is written before all tasks are done.
+    ensures unwritten { IsSome (frames_asked (codes "actors") words.now) → result ≢ Status.Done → result ≢ Status.WriteFault
+        → sink.new ≡ sink.old }
+
+    // Only actors that lack memory take the tree with them.
+    ensures kept { store.new ≡ None
+        → (result ≡ Status.HostMemory) × IsSome (frames_asked (codes "actors") words.now) }
 
     // Other words are refused, and nothing is touched.
     ensures usage { (result ≡ Status.Usage)
-        ↔ ((task_asked words.now ≡ None) × (frames_asked (codes "batch") words.now ≡ None)) }
+        ↔ ((task_asked words.now ≡ None) × (frames_asked (codes "batch") words.now ≡ None)
+        × (frames_asked (codes "actors") words.now ≡ None)) }
     ensures untouched { result ≡ Status.Usage → (source.new ≡ source.old) × (sink.new ≡ sink.old)
         × (store.new ≡ store.old) }
 {
-    if has_verb(b"batch", words) {
-        return run_batch(alloc, words, store, source, sink);
+    if has_verb(b"actors", words) {
+        let Some(tree) = store.take() else {
+            unreachable!()
+        };
+        let (status, tree) = run_actors(rt, alloc, words, gate, tree, source, sink);
+        put_back(store, tree);
+        return status;
     }
-    run(alloc, words, store, source, sink)
+    let Some(tree) = store else { unreachable!() };
+    if has_verb(b"batch", words) {
+        return run_batch(alloc, words, tree, source, sink);
+    }
+    run(alloc, words, tree, source, sink)
+}
+
+/// Puts a tree in the place of another. It is a function of its own, so that the proof of `top` has no tree that is let go.
+fn put_back(store: &mut Option<CowForest>, tree: Option<CowForest>)
+    ensures { store.new ≡ tree }
+{
+    *store = tree;
 }
