@@ -22,7 +22,7 @@ use Rattle.eager_pages.proofs.LinkLaws.{pair-here, pair-other, pair-cases}
 use Rattle.ready_map.specs.declared.ready_map.ReadyPage.{ReadyPage}
 use Rattle.ready_map.specs.declared.stamps.Kept.{Kept}
 use Rattle.ready_map.specs.declared.stamps.Stamp.{Stamp}
-use Rattle.ready_map.specs.Notes.{Notes, Rows, ready_page, noted_under, rows_of, stamp_for, has_frame, row_if, with_row, kept_rows, without_range, limited_rows, limited, is_of, agrees, is_current, HasNoRow, AreNotes, number_of}
+use Rattle.ready_map.specs.Notes.{Notes, Rows, ready_page, noted_under, rows_of, stamp_for, has_frame, row_if, with_row, kept_rows, without_range, limited_rows, limited, is_of, is_outside, agrees, is_current, HasNoRow, AreNotes, number_of}
 use Rattle.ready_map.proofs.StampLaws.{row_of, page-reset, page-stamped, page-noted, page-limited, page-unlimited, page-current, page-settled}
 
 -- ---- nothing is noted
@@ -376,3 +376,25 @@ pinned-one pins v p = both_ways (any_from p (p + 1) (is_pinned pins v)) (is_pinn
     let same : found.0 ≡ p = let low = found.1 in let high = found.2 in omega arith in
     ap (is_pinned pins v) (sym same) ∙ found.3)
     (λ e. any_from_at (is_pinned pins v) p (p + 1) p (omega arith) (omega arith) e)
+
+-- ---- pages of a VMO are reset, one after another
+
+-- one page of a range, and then the range
+pub reset-after : (old new : Rows) (v first end p : ℕ) → first ≤ p → p < end → new ≡ kept_rows (λ row. not (is_of v p row)) old
+    → kept_rows (is_outside v first end) new ≡ kept_rows (is_outside v first end) old
+unfolding kept_rows
+reset-after old new v first end p low high made = ap (kept_rows (is_outside v first end)) made ∙ λ i r q. each r q i where
+  each : (r q : ℕ) → row_if (is_outside v first end) (row_if (λ row. not (is_of v p row)) (old r q)) ≡ row_if (is_outside v first end) (old r q)
+  each r q = row_if-both (is_outside v first end) (λ row. not (is_of v p row)) (old r q)
+      ∙ row_if-same (λ x. not (is_of v p x) && is_outside v first end x) (is_outside v first end) (old r q) (λ x e. grind (arith, nat_tests))
+
+-- none is left
+pub reset-done : (rows : Rows) (v first end : ℕ) → HasNoRow rows v first end → rows ≡ kept_rows (is_outside v first end) rows
+unfolding kept_rows passes
+reset-done rows v first end none = λ i r q. go r q (rows r q) refl i where
+  go : (r q : ℕ) (o : Option ReadyPage) → rows r q ≡ o → o ≡ row_if (is_outside v first end) o
+  go r q None e = refl
+  go r q (Some x) e =
+      let gap : x.koid.0 ≡ v → first ≤ x.page → x.page < end → ⊥ = none.none r q x e in
+      let out : is_outside v first end x ≡ true = grind (arith, nat_tests) in
+      rw out refl

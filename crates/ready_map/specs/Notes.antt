@@ -85,13 +85,17 @@ without_range rows root first end r q = if (r == root) && is_within first end q 
 abbrev pub is_of : (v p : ℕ) → ReadyPage → Bool
 is_of v p row = (row.koid.0 == v) && (row.page == p)
 
+-- the row is of no page of the VMO v from `first` to below `end`
+abbrev pub is_outside : (v first end : ℕ) → ReadyPage → Bool
+is_outside v first end row = not ((row.koid.0 == v) && is_within first end row.page)
+
 -- the row is of another page than page p of the VMO v, or has this frame
 abbrev pub agrees : (v p : ℕ) → Option Tag → ReadyPage → Bool
 agrees v p frame row = not (is_of v p row) || is_same_frame (number_of row.frame) (number_of frame)
 
--- the row is of no page of the VMO v from `first` to below `end`, or the page lies in the VMO and has the row's frame
+-- the row is of no such page, or the page lies in the VMO and has the row's frame
 abbrev pub is_current : Content → (v first end : ℕ) → ReadyPage → Bool
-is_current c v first end row = not ((row.koid.0 == v) && is_within first end row.page) || has_frame c v row.page row.frame
+is_current c v first end row = is_outside v first end row || has_frame c v row.page row.frame
 
 -- the row, for reading alone if it is of a page of the VMO v from `first` to below `end` that does not pass
 abbrev pub limited : (stays : ℕ → Bool) → (v first end : ℕ) → ReadyPage → ReadyPage

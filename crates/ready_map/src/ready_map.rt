@@ -5,7 +5,7 @@ ghost use Rattle.vm_model.specs.Naming.Pins.{is_pinned};
 ghost use Rattle.pair_map.specs.Maps.{values_of, count_of};
 ghost use Rattle.pin_table.specs.Table.{pins_of};
 ghost use Rattle.eager_pages.specs.Eager.{content_of};
-ghost use Rattle.ready_map.specs.Notes.{rows_of, spare_of, with_row, kept_rows, without_range, limited_rows, is_of, agrees, is_current, HasNoRow};
+ghost use Rattle.ready_map.specs.Notes.{rows_of, spare_of, with_row, kept_rows, without_range, limited_rows, is_of, is_outside, agrees, is_current, HasNoRow};
 
 use crate::stamps::{Kept, Stamp, has_frame, put, ready_page, stamp_for};
 use eager_pages::EagerPages;
@@ -120,13 +120,14 @@ impl ReadyMap {
         self.room -= 1;
     }
 
-    /// Makes what shows a page of a VMO ready for nothing. The call costs the same however much that is.
-    pub fn reset(&mut self, koid: Koid, page: PageNo)
-        ensures rows { rows_of self.new ≡ kept_rows (λ row. not (is_of koid.0 page row)) (rows_of self.old) }
+    /// Makes what shows a page of a VMO from `first` to below `end` ready for nothing, and forgets the stamps of these pages,
+    /// as those of a VMO that left. The call costs the pages of the range that have notes, and not what shows them.
+    pub fn reset(&mut self, koid: Koid, first: PageNo, end: PageNo)
+        ensures rows { rows_of self.new ≡ kept_rows (is_outside koid.0 first end) (rows_of self.old) }
         ensures spare { spare_of self.new ≡ spare_of self.old }
     {
-        if self.stamps.find(koid.0, page).is_some() {
-            self.stamps.remove(koid.0, page);
+        while let Some(page) = self.next_before(koid, first, end) {
+            self.reset_page(koid, page);
         }
     }
 
@@ -174,12 +175,23 @@ impl ReadyMap {
     // The first page of a VMO that has a stamp, from page `from` to below `end`.
     fn next_before(&self, koid: Koid, from: PageNo, end: PageNo) -> Option<PageNo>
         ensures some { IfSome result (λ page. (from ≤ page) × (page < end) × HasNoRow (rows_of self.now) koid.0 from page) }
+        ensures stamp { IfSome result (λ page. IsSome (values_of self.now.stamps koid.0 page)) }
         ensures none { IfNone result (HasNoRow (rows_of self.now) koid.0 from end) }
     {
         match self.stamps.next(koid.0, from) {
             Some((page, _)) if page < end => Some(page),
             _ => None,
         }
+    }
+
+    // Makes what shows a page of a VMO that has a stamp ready for nothing.
+    fn reset_page(&mut self, koid: Koid, page: PageNo)
+        requires { IsSome (values_of self.old.stamps koid.0 page) }
+        ensures rows { rows_of self.new ≡ kept_rows (λ row. not (is_of koid.0 page row)) (rows_of self.old) }
+        ensures fewer { count_of self.new.stamps + 1 ≡ count_of self.old.stamps }
+        ensures spare { spare_of self.new ≡ spare_of self.old }
+    {
+        self.stamps.remove(koid.0, page);
     }
 
     // Makes what shows a page of a VMO ready for nothing, if the page does not lie in the VMO or has another frame now than
