@@ -24,5 +24,9 @@ mod unmapping;
 
 pub use allocating::{allocate, allocate_noted};
 pub use mapping::{map, map_in};
+pub use placing::{Wanted, allows, find_place, is_misplaced};
 pub use protecting::{protect, protect_in};
-pub use unmapping::{destroy, destroy_in, unmap, unmap_in};
+pub use ranges::{is_outside, lacks_reading};
+pub use unmapping::{
+    destroy, destroy_in, destroy_within, free_in_parent, is_mapped_in, unmap, unmap_in,
+};

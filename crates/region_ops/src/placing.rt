@@ -32,7 +32,7 @@ pub(crate) fn live_region(regions: &Regions, name: RegionName) -> Region
 }
 
 /// Whether a region allows these permissions to what is in it.
-pub(crate) fn allows(region: Region, caps: Perm) -> bool
+pub fn allows(region: Region, caps: Perm) -> bool
     ensures { result ≡ has region.caps.0 caps.0 }
 {
     region.caps.contains(caps)
@@ -40,7 +40,7 @@ pub(crate) fn allows(region: Region, caps: Perm) -> bool
 
 /// Where a place is asked for.
 #[derive(Clone, Copy, Debug)]
-pub(crate) struct Wanted {
+pub struct Wanted {
     /// The place begins at the offset.
     pub fixed: bool,
     /// The place ends at the offset, or before it.
@@ -54,7 +54,7 @@ pub(crate) struct Wanted {
 
 impl Wanted {
     /// The place for which the options ask, with an offset.
-    pub(crate) fn by(flags: MapFlags, offset: u64) -> Wanted
+    pub fn by(flags: MapFlags, offset: u64) -> Wanted
         ensures { result ≡ record {
           fixed = has flags.0 specific;
           limited = has flags.0 upper_limit;
@@ -73,7 +73,7 @@ impl Wanted {
 
 /// Whether no place can be asked for like this: the offset is not at a page, `len` is 0, both of the two ways are asked
 /// for, an offset is given with neither, or a fixed place passes the end of the region.
-pub(crate) fn is_misplaced(above: Region, wanted: Wanted, len: u64) -> bool
+pub fn is_misplaced(above: Region, wanted: Wanted, len: u64) -> bool
     ensures { result ≡ is_misplaced above wanted.fixed wanted.limited wanted.offset len }
 {
     if in_page(wanted.offset) != 0 || len == 0 {
@@ -88,7 +88,7 @@ pub(crate) fn is_misplaced(above: Region, wanted: Wanted, len: u64) -> bool
 /// The first page of a free place of `count` pages in a live region, which is `above`. A fixed place ends in the
 /// region. Refusals: `AlreadyExists` if the fixed place is not free, `NoResources` if no free place fits. If the live
 /// children of each region are noted, the call costs one search.
-pub(crate) fn find_place(
+pub fn find_place(
     regions: &Regions,
     maps: &MappingSet,
     name: RegionName,

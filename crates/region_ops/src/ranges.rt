@@ -11,7 +11,7 @@ use vm_base::{Perm, in_page, page_count, page_of};
 
 /// Whether `len` bytes from an address on, rounded up to whole pages, are no range of a region: the address is not at a
 /// page, `len` is 0, or the bytes pass an end of the region.
-pub(crate) fn is_outside(region: Region, addr: u64, len: u64) -> bool
+pub fn is_outside(region: Region, addr: u64, len: u64) -> bool
     requires { region.first + region.count ≤ ROOT_END }
     ensures { result ≡ is_outside region addr len (rounded len / PAGE) }
 {
@@ -23,7 +23,7 @@ pub(crate) fn is_outside(region: Region, addr: u64, len: u64) -> bool
 }
 
 /// Whether permissions allow writing or executing without reading, which no mapping may.
-pub(crate) fn lacks_reading(perm: Perm) -> bool
+pub fn lacks_reading(perm: Perm) -> bool
     ensures { result ≡ lacks_reading perm.0 }
 {
     (perm.contains(Perm::WRITE) || perm.contains(Perm::EXECUTE)) && !perm.contains(Perm::READ)

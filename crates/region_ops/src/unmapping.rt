@@ -166,7 +166,7 @@ fn clear_mapped<P: PageStore>(
 }
 
 /// Whether one of `count` pages from `first` on of an address space has an entry.
-fn is_mapped_in(maps: &MappingSet, root: RegionName, first: PageNo, count: u64) -> bool
+pub fn is_mapped_in(maps: &MappingSet, root: RegionName, first: PageNo, count: u64) -> bool
     ensures { result ≡ is_mapped_in (table_of maps.now root.0) first (first + count) }
 {
     match maps.next_piece(root, first) {
@@ -177,7 +177,7 @@ fn is_mapped_in(maps: &MappingSet, root: RegionName, first: PageNo, count: u64) 
 
 /// Destroys all regions below a live one that have no page but of `count` pages from `first` on. A region without a
 /// live child comes before its parent.
-fn destroy_within(
+pub fn destroy_within(
     regions: &mut Regions,
     maps: &mut MappingSet,
     region: RegionName,
@@ -200,7 +200,7 @@ fn destroy_within(
 }
 
 /// Takes back that a region is noted in its parent, if it has one. `region` is what it was before it died.
-fn free_in_parent(maps: &mut MappingSet, region: Region)
+pub fn free_in_parent(maps: &mut MappingSet, region: Region)
     ensures table { table_of maps.new ≡ table_of maps.old }
     ensures noted { (was now : ℕ → Option Region) (n : ℕ) → was n ≡ Some region → region.live ≡ true
         → now ≡ with_one_dead was n → AreNoted was (places_of maps.old) → AreNoted now (places_of maps.new) }
