@@ -1,0 +1,18 @@
+use Rattle.eager_pages.specs.Eager.{content_of}
+use Rattle.std.proofs.Common.{◌≡◌, ◌+◌, None}
+use Rattle.vm_model.specs.Space.Table.{with_pages}
+use Rattle.mapping_set.specs.Tables.{table_of, spare_of, places_of}
+use Rattle.region_ops.proofs.ClearLaws.{IsOnTheWay, HasRoomLeft, entries_under}
+use Rattle.eager_spaces.proofs.leaving.clear_range.Given as goal
+
+abbrev pub invariant-loop-piece : goal.invariant-loop-piece
+invariant-loop-piece l = record {
+  way : IsOnTheWay (content_of l.initial.pages) l.initial.vmos (table_of l.initial.maps) (content_of l.pages) l.vmos (table_of l.maps);
+  cleared : with_pages (table_of l.maps) l.root.0 l.first (l.first + l.count) (λ p. None)
+      ≡ with_pages (table_of l.initial.maps) l.root.0 l.first (l.first + l.count) (λ p. None);
+  room : HasRoomLeft (spare_of l.initial.maps) (spare_of l.maps) (table_of l.maps l.root.0) l.first (l.first + l.count);
+  places : places_of l.maps ≡ places_of l.initial.maps;
+}
+
+abbrev pub decreases-loop-piece : goal.decreases-loop-piece
+decreases-loop-piece l = entries_under (table_of l.maps) l.root.0

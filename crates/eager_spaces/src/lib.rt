@@ -1,0 +1,21 @@
+//! What commands do to the address spaces of a machine whose pages are kept eagerly: a region is allocated at a place that a
+//! reply tells (`allocate`), the pages of a range are unmapped (`unmap`), and a region is destroyed with all below it
+//! (`destroy`). It is for a checker of what the machine answers, which stands on other code than the machine.
+//!
+//! It stands on `eager_pages`, `vmo_table`, `mapping_set` and `region_tree`, and calls no code of a store of pages: of
+//! `region_ops` it takes what needs none, as the search for a free place. `region_ops::protect` and `attribution::maps` need
+//! none either, so the layer above calls them. That layer has looked the names up. Each call is the step of its command, or
+//! answers that there is no such step, and keeps the live children of each region noted (`AreNoted` of `region_tree`).
+#![tactic(auto,
+// where a region and a place in it end
+using(region_ops::proofs::PlaceLaws::live_end, region_ops::proofs::PlaceLaws::place_inside, region_ops::proofs::PlaceLaws::place_end),
+// the region of a name
+unfolding(vm_model::specs::Space::Regions::region_of, vm_base::specs::Entries::passes))]
+
+mod allocating;
+mod leaving;
+mod placing;
+mod unmapping;
+
+pub use allocating::allocate;
+pub use unmapping::{destroy, unmap};
