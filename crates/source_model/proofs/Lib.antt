@@ -1,0 +1,11 @@
+pub mod FillingLaws
+pub mod WalkLaws
+pub mod LinkLaws
+pub mod FilledLaws
+pub mod LivingLaws
+pub mod BesideLaws
+pub mod ChildLaws
+pub mod KeepLaws
+pub mod GoodLaws
+pub mod ReachLaws
+pub mod TextLaws
