@@ -9,3 +9,4 @@ pub mod KeepLaws
 pub mod GoodLaws
 pub mod ReachLaws
 pub mod TextLaws
+pub mod CodeLaws

@@ -6,12 +6,14 @@
 #![tactic(auto)]
 
 mod backing;
+mod call;
 mod command;
 mod laws;
 mod limits;
 mod link;
 
 pub use backing::Backing;
+pub use call::SourceCall;
 pub use command::SourceCommand;
 pub use laws::{
     a_name_that_is_closed_leaves_what_lives, a_step_keeps_the_sources_good,
