@@ -9,6 +9,7 @@ ghost use Rattle.served.specs.Outcome.{EndsAs};
 ghost use Rattle.served.specs.Words.{frames_asked};
 ghost use Rattle.vm_session.specs.Outcome.{task_asked, AskForWork, TaskEndsAs};
 ghost use Rattle.batch_vm.specs.BatchAnswering.{batch_rules};
+ghost use Rattle.source_vm.specs.Answering.{source_rules};
 ghost use Rattle.shared_vm.specs.Outcome.{IfThere};
 ghost use Rattle.shared_vm.specs.Outcome as actors;
 
@@ -17,18 +18,19 @@ use batch_vm::run_batch;
 use cow_forest::CowForest;
 use script_io::{Sink, Source};
 use shared_vm::{Gate, run_actors};
-use source_vm::SourceFn;
+use source_vm::{SourceFn, run_sources};
 use std::alloc::Global;
 use std::sync::Wait;
 use std::thread::Threads;
 use vm_session::{Status, run};
 
 /// Does what `words` ask for, over the clone tree: what `vm_session`'s `run` does over any store, and with its promises; with the
-/// first word `batch` what `batch_vm`'s `run_batch` does; and with `actors` what `shared_vm`'s `run_actors` does. This is the call
-/// that the program makes.
+/// first word `batch` what `batch_vm`'s `run_batch` does; with `sources` what `source_vm`'s `run_sources` does; and with `actors` what
+/// `shared_vm`'s `run_actors` does. This is the call that the program makes.
 ///
 /// What is written is the replies of one legal run of the plain machine, in which a snapshot copies its range at once, and
-/// the tree has that machine's pages then. With `batch` the machine has jobs too. With `actors` the run does the tasks of four
+/// the tree has that machine's pages then. With `batch` the machine has jobs too. With `sources` it is another one, whose VMOs are
+/// filled from `functions`, one for each kind. With `actors` the run does the tasks of four
 /// actors, which take turns on it in any order, and the call may wait; it promises this if it returns.
 ///
 /// The tree is there at first and has nothing. It is there afterwards, but for an answer `HostMemory` to `actors`.
@@ -54,6 +56,12 @@ pub fn top<R: Threads + Wait + Sync, G: Gate, S: Source, K: Sink>(
     ensures batch { IfSome (frames_asked (codes "batch") words.now) (λ frames.
         IfThere (option_map content_of store.new) (λ content.
         EndsAs batch_rules result frames SCRIPT_BYTES (S.remaining source.old) (S.remaining source.new)
+        (K.contents sink.old) (K.contents sink.new) content)) }
+
+    // The same of a script on the machine of page sources.
+    ensures sources { IfSome (frames_asked (codes "sources") words.now) (λ frames.
+        IfThere (option_map content_of store.new) (λ content.
+        EndsAs source_rules result frames SCRIPT_BYTES (S.remaining source.old) (S.remaining source.new)
         (K.contents sink.old) (K.contents sink.new) content)) }
 
     // The same of the tasks of four actors.
@@ -83,7 +91,7 @@ pub fn top<R: Threads + Wait + Sync, G: Gate, S: Source, K: Sink>(
     // Other words are refused, and nothing is touched.
     ensures usage { (result ≡ Status.Usage)
         ↔ ((task_asked words.now ≡ None) × (frames_asked (codes "batch") words.now ≡ None)
-        × (frames_asked (codes "actors") words.now ≡ None)) }
+        × (frames_asked (codes "sources") words.now ≡ None) × (frames_asked (codes "actors") words.now ≡ None)) }
     ensures untouched { result ≡ Status.Usage → (source.new ≡ source.old) × (sink.new ≡ sink.old)
         × (store.new ≡ store.old) }
 {
@@ -98,6 +106,9 @@ pub fn top<R: Threads + Wait + Sync, G: Gate, S: Source, K: Sink>(
     let Some(tree) = store else { unreachable!() };
     if has_verb(b"batch", words) {
         return run_batch(alloc, words, tree, source, sink);
+    }
+    if has_verb(b"sources", words) {
+        return run_sources(alloc, words, functions, tree, source, sink);
     }
     run(alloc, words, tree, source, sink)
 }

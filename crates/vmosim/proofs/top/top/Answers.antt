@@ -10,6 +10,10 @@ pub returns-then-has_verb-clause-batch : goal.returns-then-has_verb-clause-batch
 returns-then-has_verb-clause-batch g c =
     rw (no_frames (codes "actors") (codes "batch") c.args.words.now refl (sym c.has_verb.ensures ∙ c.if-has_verb.true)) tt
 
+pub returns-then-has_verb-clause-sources : goal.returns-then-has_verb-clause-sources
+returns-then-has_verb-clause-sources g c =
+    rw (no_frames (codes "actors") (codes "sources") c.args.words.now refl (sym c.has_verb.ensures ∙ c.if-has_verb.true)) tt
+
 pub returns-then-has_verb-clause-unread : goal.returns-then-has_verb-clause-unread
 returns-then-has_verb-clause-unread g c = λ work.
     no_work c.args.words.now (no_task (codes "actors") c.args.words.now refl refl (sym c.has_verb.ensures ∙ c.if-has_verb.true)) work
@@ -28,7 +32,8 @@ returns-then-has_verb-clause-usage g c =
       (λ e. (
         no_task (codes "actors") c.args.words.now refl refl verb,
         no_frames (codes "actors") (codes "batch") c.args.words.now refl verb,
+        no_frames (codes "actors") (codes "sources") c.args.words.now refl verb,
         c.run_actors-status.ensures.usage.0 e,
       )),
-      (λ none. c.run_actors-status.ensures.usage.1 none.2),
+      (λ none. c.run_actors-status.ensures.usage.1 none.3),
     )
