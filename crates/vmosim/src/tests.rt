@@ -100,6 +100,57 @@ fn actors_run_over_the_clone_tree(rt: HostRuntime) -> Result<(), Fail> {
     Ok(())
 }
 
+/// Pages come from a source, leave while they are clean, and come back. A snapshot shows the bytes of its parent.
+const PAGING: &str = "\
+source_create v1 8192 1 7
+stat
+vmo_read v1 0 3
+vmo_read v1 4095 2
+vmo_create_child v2 v1 snapshot 4096 8192
+vmo_write v2 0 ff
+evict v1 0 4096
+vmo_write v2 0 ff
+vmo_read v2 0 2
+evict v2 0 8192
+stat
+evict v1 4096 4096
+vmo_read v1 4096 1
+vmo_read v1 0 1
+vmo_read v2 4096 1
+source_create v3 4096 3 0
+source_create v3 16777217 0 0
+";
+
+/// What it is answered on two page frames.
+const PAGED: &str = "\
+OK
+OK frames=2 used=0 free=2 vmos=1
+OK 070809
+OK 0607
+OK
+NO_MEMORY
+OK
+OK
+OK ff08
+OK
+OK frames=2 used=2 free=0 vmos=2
+OK
+OK 07
+NO_MEMORY
+OK 00
+INVALID_ARGS
+OUT_OF_RANGE
+";
+
+#[test]
+fn pages_come_from_the_functions(rt: HostRuntime) -> Result<(), Fail> {
+    let (status, sink, tree) = ended(&rt, rt.alloc(), "sources --frames 2", PAGING)?;
+    assert_eq!(rt; status, Status::Done);
+    assert_eq!(rt; sink.bytes(), PAGED.as_bytes());
+    assert_eq!(rt; tree.frame_rows(), 2);
+    Ok(())
+}
+
 #[test]
 fn a_workload_has_one_line(rt: HostRuntime) -> Result<(), Fail> {
     let (status, sink, _) = ended(&rt, rt.alloc(), "work 0 1", "")?;
