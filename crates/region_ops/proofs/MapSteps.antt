@@ -81,7 +81,7 @@ module _ (s : State) (region : RegionName) (offset : ℕ) (name : VmoName) (vmo_
   short = nat_lt (name_pages s.content t * PAGE) (vmo_offset + rounded len) && (not (has flags.0 allow_faults) || is_kind Slice t.kind)
 
   abbrev rows : List (Bool × Refusal)
-  rows = map_rows s.content s.spaces.regions region.0 above over fixed limited (has flags.0 allow_faults) offset t vmo_offset len perm.0
+  rows = map_rows (name_pages s.content t) s.spaces.regions region.0 above over fixed limited (has flags.0 allow_faults) offset t vmo_offset len perm.0
 
   -- the refusals of a place that is not free
   abbrev place_rows : List (Bool × Refusal)
@@ -98,17 +98,19 @@ module _ (s : State) (region : RegionName) (offset : ℕ) (name : VmoName) (vmo_
   refused_step refusal e = record { outcome = subst (λ (o : Option Refusal). StepAfter o s command (Refused refusal) s) (sym e) (record { answer = refl; same = refl }) }
 
   -- what refuses the mapping before a place is looked for refuses it
+  pub rows_refuse : (refusal : Refusal) → first_of rows ≡ Some refusal → first_of (refusals s command) ≡ Some refusal
+  rows_refuse refusal e = rows_left ∙ rw e at (first_append rows place_rows)
+
   pub refused_by : (refusal : Refusal) → first_of rows ≡ Some refusal → Step s command (Refused refusal) s
-  refused_by refusal e =
-      refused_step refusal (rows_left ∙ rw e at (first_append rows place_rows))
+  refused_by refusal e = refused_step refusal (rows_refuse refusal e)
 
   -- where nothing does, the place decides
   by_place : first_of rows ≡ None → first_of (refusals s command) ≡ first_of place_rows
   by_place e = rows_left ∙ rw e at (first_append rows place_rows)
 
   -- there is no place for it
-  pub refused_place : (refusal : Refusal) → first_of rows ≡ None → over ≡ false → HasNoPlace s.spaces region.0 fixed limited offset count refusal → Step s command (Refused refusal) s
-  refused_place refusal e new none = refused_step refusal (by_place e ∙ go fixed refl) where
+  pub place_refuses : (refusal : Refusal) → first_of rows ≡ None → over ≡ false → HasNoPlace s.spaces region.0 fixed limited offset count refusal → first_of (refusals s command) ≡ Some refusal
+  place_refuses refusal e new none = by_place e ∙ go fixed refl where
     go : (b : Bool) → fixed ≡ b → first_of place_rows ≡ Some refusal
     go true is =
         let taken = none.taken is in
@@ -121,12 +123,15 @@ module _ (s : State) (region : RegionName) (offset : ℕ) (name : VmoName) (vmo_
         ap (λ (r : Region). has_place s.spaces region.0 count (limit_of r limited offset)) (sym here) ∙ full.1 in
         grind (arith, is, new, off, full.0)
 
+  pub refused_place : (refusal : Refusal) → first_of rows ≡ None → over ≡ false → HasNoPlace s.spaces region.0 fixed limited offset count refusal → Step s command (Refused refusal) s
+  refused_place refusal e new none = refused_step refusal (place_refuses refusal e new none)
+
   module _ (first : ℕ) (none : first_of rows ≡ None) (place : IsMapPlace s.spaces region.0 over fixed limited offset count first) where
     right : IsMappedRightly s.spaces region.0 over fixed limited offset vmo_offset len perm.0
     right = mismapped_parts s.spaces region.0 over fixed limited offset vmo_offset len perm.0 (AllOff-from_none rows none).1.0
 
     -- nothing refuses the mapping where it has a place
-    none_refuses : first_of (refusals s command) ≡ None
+    pub none_refuses : first_of (refusals s command) ≡ None
     none_refuses = by_place none ∙ go over fixed refl refl where
       go : (o f : Bool) → over ≡ o → fixed ≡ f → first_of place_rows ≡ None
       go true true is also = absurd (both_ways (fixed && over) right.one_way (and_from fixed over also is))

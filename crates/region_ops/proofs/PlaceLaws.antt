@@ -114,7 +114,7 @@ module _ (s : State) (region parent : RegionName) (offset len : ℕ) (flags : Ma
   limited = has flags.0 upper_limit
 
   -- the first that refuses is one of the rows behind the names
-  rows_left : first_of (refusals s command) ≡ first_of (
+  pub rows_left : first_of (refusals s command) ≡ first_of (
       (not (has above.caps.0 caps.0), AccessDenied)
       ∷ (is_misplaced above fixed limited offset len, InvalidArgs)
       ∷ (fixed && not (is_free s.spaces parent.0 (above.first + offset / PAGE) (above.first + offset / PAGE + rounded len / PAGE)), AlreadyExists)
@@ -125,7 +125,7 @@ module _ (s : State) (region parent : RegionName) (offset len : ℕ) (flags : Ma
   module _ (first : ℕ) (allowed : has above.caps.0 caps.0 ≡ true) (right : is_misplaced above fixed limited offset len ≡ false)
       (place : IsPlace s.spaces parent.0 fixed limited offset (rounded len / PAGE) first) where
     -- none refuses it where there is a place
-    none_refuses : first_of (refusals s command) ≡ None
+    pub none_refuses : first_of (refusals s command) ≡ None
     none_refuses =
         let count = rounded len / PAGE in
         let at : fixed ≡ true → is_free s.spaces parent.0 (above.first + offset / PAGE) (above.first + offset / PAGE + count) ≡ true = λ e.

@@ -23,9 +23,9 @@ mod ranges;
 mod unmapping;
 
 pub use allocating::{allocate, allocate_noted};
-pub use mapping::{map, map_in};
+pub use mapping::{entry_of, find_map_place, map, map_in, map_refusal};
 pub use placing::{Wanted, allows, find_place, is_misplaced};
-pub use protecting::{protect, protect_in};
+pub use protecting::{Cover, cover_of, protect, protect_in};
 pub use ranges::{is_outside, lacks_reading};
 pub use unmapping::{
     destroy, destroy_in, destroy_within, free_in_parent, is_mapped_in, unmap, unmap_in,

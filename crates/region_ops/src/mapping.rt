@@ -13,7 +13,6 @@ ghost use Rattle.vm_model.specs.Space.Mappings.{cap_of, entry_of, is_mismapped, 
 ghost use Rattle.vm_model.specs.Space.Table.{with_pages};
 ghost use Rattle.vm_model.specs.Machine.Refusals.{first_of};
 ghost use Rattle.vm_model.specs.Machine.Step.{reply_of};
-ghost use Rattle.page_store.specs.Names.{IsInside};
 ghost use Rattle.vmo_table.specs.Table.{names_of, IsNamed};
 ghost use Rattle.mapping_set.specs.Tables.{table_of, spare_of, places_of, IsBare};
 ghost use Rattle.region_tree.specs.Tree.{regions_of, is_live_region, spaces_of, AreNoted, IsVacant};
@@ -109,8 +108,9 @@ pub fn map_in<P: PageStore>(
 {
     let wanted = Wanted::by(flags, offset);
     let faults = flags.contains(MapFlags::ALLOW_FAULTS);
-    if let Some(refusal) = refusal_of(
-        store, regions, region, above, wanted, t, vmo_offset, len, perm, faults,
+    let pages = pages_of_name(store, t);
+    if let Some(refusal) = map_refusal(
+        regions, region, above, wanted, t, pages, vmo_offset, len, perm, faults,
     ) {
         return Err(refusal);
     }
@@ -129,14 +129,15 @@ pub fn map_in<P: PageStore>(
     Ok(first * PAGE)
 }
 
-/// The refusal of a mapping that is decided before a place is looked for, if there is one.
-fn refusal_of<P: PageStore>(
-    store: &P,
+/// The refusal of a mapping that is decided before a place is looked for, if there is one. The name that is mapped has
+/// `pages` pages.
+pub fn map_refusal(
     regions: &Regions,
     region: RegionName,
     above: Region,
     wanted: Wanted,
     t: &Target,
+    pages: PageNo,
     vmo_offset: u64,
     len: u64,
     perm: Perm,
@@ -145,8 +146,7 @@ fn refusal_of<P: PageStore>(
     requires above { regions_of regions.now region.0 ≡ Some above }
     requires live { above.live ≡ true }
     requires end { above.first + above.count ≤ ROOT_END }
-    requires inside { IsInside (P.content store.now) t.now }
-    ensures { result ≡ first_of (map_rows (P.content store.now) (regions_of regions.now) region.0 above
+    ensures { result ≡ first_of (map_rows pages (regions_of regions.now) region.0 above
         wanted.overwriting wanted.fixed wanted.limited faults wanted.offset t.now vmo_offset len perm.0) }
 {
     if is_denied(above, t, perm) {
@@ -158,7 +158,7 @@ fn refusal_of<P: PageStore>(
     if passes(VMO_PAGES, vmo_offset, len) {
         return Some(Refusal::OutOfRange);
     }
-    if passes(pages_of_name(store, t), vmo_offset, len) && (!faults || is_slice(t)) {
+    if passes(pages, vmo_offset, len) && (!faults || is_slice(t)) {
         return Some(Refusal::BufferTooSmall);
     }
     None
@@ -221,7 +221,7 @@ fn passes(pages: PageNo, offset: u64, len: u64) -> bool
 
 /// The first page of a place for a mapping of `count` pages in a live region, which is `above`. A mapping that
 /// overwrites has its place at the offset. Any other has a free place, as `find_place` finds it.
-fn find_map_place(
+pub fn find_map_place(
     regions: &Regions,
     maps: &MappingSet,
     region: RegionName,
@@ -249,8 +249,9 @@ fn find_map_place(
     find_place(regions, maps, region, above, wanted, count, noted)
 }
 
-/// The entry of the first page of a mapping in a region.
-fn entry_of(above: Region, region: RegionName, t: &Target, vmo_offset: u64, perm: Perm) -> Entry
+/// The entry of the first page of a mapping in a region, which is `above`: it shows what the name stands for, from
+/// `vmo_offset` bytes into it on.
+pub fn entry_of(above: Region, region: RegionName, t: &Target, vmo_offset: u64, perm: Perm) -> Entry
     requires { t.now.first ≤ VMO_PAGES }
     ensures { result ≡ entry_of above region.0 t.now (vmo_offset / PAGE) perm }
 {

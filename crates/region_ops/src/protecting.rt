@@ -96,16 +96,16 @@ pub fn protect_in(
 
 /// What a region has on a range of pages whose permissions are to be changed.
 #[derive(Clone, Copy, Debug)]
-struct Cover {
+pub struct Cover {
     /// Each page has an entry that belongs to the region.
-    whole: bool,
+    pub whole: bool,
     /// If so, each entry may be changed to the permissions.
-    allowed: bool,
+    pub allowed: bool,
 }
 
 /// What a region has on the pages from `first` to below `end`. The function looks at each piece once, and at none
 /// behind a page that has no entry of the region.
-fn cover_of(
+pub fn cover_of(
     maps: &MappingSet,
     root: RegionName,
     region: RegionName,

@@ -12,7 +12,7 @@ use Rattle.vm_model.specs.Contents.Content.{Content}
 use Rattle.vm_model.specs.Naming.Names.{is_kind}
 use Rattle.vm_model.specs.Space.Rights.{has, writing}
 use Rattle.vm_model.specs.Space.Mappings.{is_mismapped}
-use Rattle.vm_model.specs.Machine.State.{State, name_pages}
+use Rattle.vm_model.specs.Machine.State.{State}
 use Rattle.vm_model.specs.Machine.Leaving.{pruned}
 use Rattle.vmo_table.specs.Table.{Table as Vmos, CountsKeepers, IsWellCounted, IsNamed}
 use Rattle.mapping_set.specs.declared.piece.Piece.{Piece}
@@ -25,13 +25,13 @@ abbrev pub no_entries : ℕ → ℕ → Option Entry
 no_entries root p = None
 
 -- the refusals of a mapping, without those for names and those for a place that is not free. They do not rest on what
--- is mapped
-abbrev pub map_rows : Content → (ℕ → Option Region) → (name : ℕ) → Region → (overwriting fixed limited faults : Bool) → (offset : ℕ) → Target → (vmo_offset len perm : ℕ) → List (Bool × Refusal)
-map_rows c regions name above overwriting fixed limited faults offset target vmo_offset len perm =
+-- is mapped. The name that is mapped has `pages` pages
+abbrev pub map_rows : (pages : ℕ) → (ℕ → Option Region) → (name : ℕ) → Region → (overwriting fixed limited faults : Bool) → (offset : ℕ) → Target → (vmo_offset len perm : ℕ) → List (Bool × Refusal)
+map_rows pages regions name above overwriting fixed limited faults offset target vmo_offset len perm =
     (not (has above.caps.0 perm) || (has perm writing && not target.may_write), AccessDenied)
     ∷ (is_mismapped (spaces_of regions no_entries) name overwriting fixed limited offset vmo_offset len perm, InvalidArgs)
     ∷ (nat_lt (VMO_PAGES * PAGE) (vmo_offset + rounded len), OutOfRange)
-    ∷ (nat_lt (name_pages c target * PAGE) (vmo_offset + rounded len) && (not faults || is_kind Slice target.kind), BufferTooSmall)
+    ∷ (nat_lt (pages * PAGE) (vmo_offset + rounded len) && (not faults || is_kind Slice target.kind), BufferTooSmall)
     ∷ []
 
 -- A piece may be put into an address space: it lies in it, shows a VMO for which a name stands, and has no page with an

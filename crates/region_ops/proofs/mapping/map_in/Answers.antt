@@ -9,8 +9,8 @@ use Rattle.region_ops.specs.Spaces.{with_all}
 use Rattle.region_ops.proofs.MapSteps.{refused_by, refused_place, lacks_step, done_step, puttable, placed_apart}
 use Rattle.region_ops.proofs.mapping.map_in.Goals as goal
 
-pub refusal_of-requires-clause-inside : goal.refusal_of-requires-clause-inside
-refusal_of-requires-clause-inside g c =
+pub pages_of_name-pages-requires : goal.pages_of_name-pages-requires
+pages_of_name-pages-requires g c =
     IsInside-good (with_all c.requires.well.rest _ c.args.vmos.now (spaces_of (regions_of c.args.regions.now) (table_of c.args.maps.now)))
     c.requires.named.0 _ c.requires.well.well.good c.requires.named.1
 
@@ -18,7 +18,7 @@ pub returns-in-Some-clause-does : goal.returns-in-Some-clause-does
 returns-in-Some-clause-does g c = λ name named. record {
   step = λ s well.
       refused_by _ _ _ _ _ _ _ _ _ _ c.requires.above c.requires.live named _
-      (rw c.by-wanted.ensures at (rw (c.contains-faults.ensures tt) at (sym c.refusal_of.ensures ∙ c.in-Some.is)));
+      (rw c.by-wanted.ensures at (rw (c.contains-faults.ensures tt) at (sym (rw c.pages_of_name-pages.ensures at c.map_refusal.ensures) ∙ c.in-Some.is)));
   counted = λ s well. well.counted;
 }
 
@@ -28,7 +28,7 @@ returns-in_err-first-clause-does g c =
     rw same (λ name named. record {
       step = λ s well.
           refused_place _ _ _ _ _ _ _ _ _ _ c.requires.above c.requires.live named _
-          (rw c.by-wanted.ensures at (rw (c.contains-faults.ensures tt) at (sym c.refusal_of.ensures ∙ c.in_default.is)))
+          (rw c.by-wanted.ensures at (rw (c.contains-faults.ensures tt) at (sym (rw c.pages_of_name-pages.ensures at c.map_refusal.ensures) ∙ c.in_default.is)))
           (rw c.by-wanted.ensures at c.in_err-first.ensures.0) (rw c.by-wanted.ensures at (rw c.page_count-count.ensures at c.in_err-first.ensures.1));
       counted = λ s well. well.counted;
     })
@@ -37,7 +37,7 @@ pub returns-in_default-reserve-clause-does : goal.returns-in_default-reserve-cla
 returns-in_default-reserve-clause-does g c = rw c.in_default-reserve.ensures.table (λ name named. record {
   step = λ s well.
       lacks_step _ _ _ _ _ _ _ _ _ _ c.requires.above c.requires.live named c.in_ok-first.first
-      (rw c.by-wanted.ensures at (rw (c.contains-faults.ensures tt) at (sym c.refusal_of.ensures ∙ c.in_default.is)))
+      (rw c.by-wanted.ensures at (rw (c.contains-faults.ensures tt) at (sym (rw c.pages_of_name-pages.ensures at c.map_refusal.ensures) ∙ c.in_default.is)))
       (rw c.by-wanted.ensures at (rw c.page_count-count.ensures at c.in_ok-first.ensures));
   counted = λ s well. well.counted;
 })
@@ -60,7 +60,7 @@ put-requires-clause-place g c =
     rw c.in-Ok.ensures.table (rw c.entry_of-entry.ensures (rw c.page_count-count.ensures (rw c.by-wanted.ensures
     (puttable old c.args.region c.args.offset (record { 0 = c.requires.named.0 }) c.args.vmo_offset c.args.len c.args.perm c.args.flags _ _
     c.requires.above c.requires.live c.requires.named.1 c.in_ok-first.first
-    (rw c.by-wanted.ensures at (rw (c.contains-faults.ensures tt) at (sym c.refusal_of.ensures ∙ c.in_default.is)))
+    (rw c.by-wanted.ensures at (rw (c.contains-faults.ensures tt) at (sym (rw c.pages_of_name-pages.ensures at c.map_refusal.ensures) ∙ c.in_default.is)))
     (rw c.by-wanted.ensures at (rw c.page_count-count.ensures at c.in_ok-first.ensures)) c.requires.well.well.good))))
 
 pub overflow_mul-result : goal.overflow_mul-result
@@ -68,7 +68,7 @@ overflow_mul-result g c =
     let old = with_all c.requires.well.rest (g.P.PageStore.content c.args.store.now) c.args.vmos.now (spaces_of (regions_of c.args.regions.now) (table_of c.args.maps.now)) in
     let may = puttable old c.args.region c.args.offset (record { 0 = c.requires.named.0 }) c.args.vmo_offset c.args.len c.args.perm c.args.flags _ _
     c.requires.above c.requires.live c.requires.named.1 c.in_ok-first.first
-    (rw c.by-wanted.ensures at (rw (c.contains-faults.ensures tt) at (sym c.refusal_of.ensures ∙ c.in_default.is)))
+    (rw c.by-wanted.ensures at (rw (c.contains-faults.ensures tt) at (sym (rw c.pages_of_name-pages.ensures at c.map_refusal.ensures) ∙ c.in_default.is)))
     (rw c.by-wanted.ensures at (rw c.page_count-count.ensures at c.in_ok-first.ensures)) c.requires.well.well.good in
     omega (arith, may.end)
 
@@ -76,7 +76,7 @@ pub returns-clause-does : goal.returns-clause-does
 returns-clause-does g c = λ name named. record {
   step = λ s well.
       done_step _ _ _ _ _ _ _ _ _ _ c.requires.above c.requires.live named c.in_ok-first.first
-      (rw c.by-wanted.ensures at (rw (c.contains-faults.ensures tt) at (sym c.refusal_of.ensures ∙ c.in_default.is)))
+      (rw c.by-wanted.ensures at (rw (c.contains-faults.ensures tt) at (sym (rw c.pages_of_name-pages.ensures at c.map_refusal.ensures) ∙ c.in_default.is)))
       (rw c.by-wanted.ensures at (rw c.page_count-count.ensures at c.in_ok-first.ensures)) _
       ((rw c.in-Ok.ensures.table at (rw c.entry_of-entry.ensures at (rw c.page_count-count.ensures at c.put.ensures.puts.put)))
       (with_all s (g.P.PageStore.content c.args.store.now) c.args.vmos.now (spaces_of (regions_of c.args.regions.now) (table_of c.args.maps.now))) well);
@@ -91,7 +91,7 @@ returns-clause-places g c = λ on.
     let good = c.requires.well.well.good.spaces.regions in
     let apart = placed_apart old c.args.region c.args.offset (record { 0 = c.requires.named.0 }) c.args.vmo_offset c.args.len c.args.perm c.args.flags _ _
     c.requires.above c.requires.live c.requires.named.1 c.in_ok-first.first
-    (rw c.by-wanted.ensures at (rw (c.contains-faults.ensures tt) at (sym c.refusal_of.ensures ∙ c.in_default.is)))
+    (rw c.by-wanted.ensures at (rw (c.contains-faults.ensures tt) at (sym (rw c.pages_of_name-pages.ensures at c.map_refusal.ensures) ∙ c.in_default.is)))
     (rw c.by-wanted.ensures at (rw c.page_count-count.ensures at c.in_ok-first.ensures)) in
     c.put.ensures.places (rw (c.entry_of-entry.ensures, c.page_count-count.ensures, c.in-Ok.ensures.places)
     (apart-vacant _ good _ (c.requires.noted on) _ _ _ _ (region_bounds _ good _ _ c.requires.above c.requires.live).1 apart)) ∙ c.in-Ok.ensures.places
