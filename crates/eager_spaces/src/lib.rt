@@ -13,9 +13,14 @@ using(region_ops::proofs::PlaceLaws::live_end, region_ops::proofs::PlaceLaws::pl
 unfolding(vm_model::specs::Space::Regions::region_of, vm_base::specs::Entries::passes))]
 
 mod allocating;
+mod asking;
 mod leaving;
 mod placing;
 mod unmapping;
 
 pub use allocating::allocate;
+pub use asking::{
+    refusal_by_region, refusal_to_allocate, refusal_to_create_root, refusal_to_map,
+    refusal_to_protect, refusal_to_unmap,
+};
 pub use unmapping::{destroy, unmap};

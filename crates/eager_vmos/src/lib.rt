@@ -28,3 +28,4 @@ mod zeroing;
 
 pub use closing::drop_gone;
 pub use eager_vmos::EagerVmos;
+pub use ranges::pages_of_name;

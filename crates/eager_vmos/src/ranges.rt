@@ -12,7 +12,7 @@ use vm_base::{PAGE, PageNo};
 use vmo_table::Target;
 
 /// How many pages a name has: as many as its limit says, or all of its VMO.
-pub(crate) fn pages_of_name(pages: &EagerPages, t: &Target) -> PageNo
+pub fn pages_of_name(pages: &EagerPages, t: &Target) -> PageNo
     requires { IsInside (content_of pages.now) t.now }
     ensures { result ≡ name_pages (content_of pages.now) t.now }
 {

@@ -1,12 +1,9 @@
-use Rattle.std.proofs.Common.{◌∙◌, refl, sym, ap, arith}
-use Rattle.vm_base.specs.Entries.{with_key}
-use Rattle.vm_model.specs.declared.space.Region.{Region}
-use Rattle.vm_model.specs.Space.Regions.{region_below}
+use Rattle.std.proofs.Common.{◌∙◌, refl, sym, arith}
 use Rattle.vm_model.proofs.RegionLaws.{region_of-at, region_bounds}
 use Rattle.mapping_set.specs.Tables.{table_of}
 use Rattle.region_tree.specs.Tree.{regions_of, spaces_of}
 use Rattle.region_tree.proofs.NotedLaws.{apart-vacant, AreNoted-allocated}
-use Rattle.region_ops.specs.Spaces.{with_spaces, IsAllocated}
+use Rattle.region_ops.specs.Spaces.{with_spaces}
 use Rattle.region_ops.proofs.PlaceLaws.{place_inside, place_end, allocate_done, allocate_lacks, allocated_some, allocated_apart, allocated_bare}
 use Rattle.eager_spaces.proofs.ToldLaws.{told_allocated}
 use Rattle.eager_spaces.proofs.allocating.allocate.Goals as goal

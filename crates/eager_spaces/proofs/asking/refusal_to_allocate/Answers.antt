@@ -1,0 +1,12 @@
+use Rattle.std.proofs.Common.{sym, ◌∙◌}
+use Rattle.std.proofs.lemmas.Bool.{not-false}
+use Rattle.vm_base.proofs.EntryLaws.{passes-some}
+use Rattle.vm_model.specs.declared.space.Region.{Region}
+use Rattle.region_ops.proofs.PlaceLaws.{live_end}
+use Rattle.region_tree.specs.Tree.{regions_of}
+use Rattle.eager_spaces.proofs.asking.refusal_to_allocate.Goals as goal
+
+pub denied_allocation-requires-clause-end : goal.denied_allocation-requires-clause-end
+denied_allocation-requires-clause-end c =
+    let given = sym c.get.ensures.region ∙ c.in-Some.is in
+    live_end _ _ _ c.get.ensures.good given (passes-some (λ (r : Region). r.live) (regions_of c.args.regions.now c.args.parent.0) _ given ∙ not-false _ c.if-not-above.false)
