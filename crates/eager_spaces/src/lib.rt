@@ -1,6 +1,7 @@
-//! What commands do to the address spaces of a machine whose pages are kept eagerly: a region is allocated at a place that a
-//! reply tells (`allocate`), the pages of a range are unmapped (`unmap`), and a region is destroyed with all below it
-//! (`destroy`). It is for a checker of what the machine answers, which stands on other code than the machine.
+//! What commands do to the address spaces of a machine whose pages are kept eagerly: a region is allocated (`allocate`) or a
+//! part of a VMO mapped (`map`) at a place that a reply tells, the pages of a range are unmapped (`unmap`), and a region is
+//! destroyed with all below it (`destroy`). What refuses a command on regions can be asked apart (`refusal_to_map` and the
+//! like). It is for a checker of what the machine answers, which stands on other code than the machine.
 //!
 //! It stands on `eager_pages`, `vmo_table`, `mapping_set` and `region_tree`, and calls no code of a store of pages: of
 //! `region_ops` it takes what needs none, as the search for a free place. `region_ops::protect` and `attribution::maps` need
@@ -15,6 +16,7 @@ unfolding(vm_model::specs::Space::Regions::region_of, vm_base::specs::Entries::p
 mod allocating;
 mod asking;
 mod leaving;
+mod mapping;
 mod placing;
 mod unmapping;
 
@@ -23,4 +25,5 @@ pub use asking::{
     refusal_by_region, refusal_to_allocate, refusal_to_create_root, refusal_to_map,
     refusal_to_protect, refusal_to_unmap,
 };
+pub use mapping::map;
 pub use unmapping::{destroy, unmap};
