@@ -1,12 +1,14 @@
-//! What commands do to the address spaces of a machine whose pages are kept eagerly: a region is allocated (`allocate`) or a
-//! part of a VMO mapped (`map`) at a place that a reply tells, the pages of a range are unmapped (`unmap`), and a region is
-//! destroyed with all below it (`destroy`). What refuses a command on regions can be asked apart (`refusal_to_map` and the
-//! like). It is for a checker of what the machine answers, which stands on other code than the machine.
+//! What commands do to the address spaces of a machine whose pages are kept eagerly: a root region is made
+//! (`create_root`), a region is allocated (`allocate`) or a part of a VMO mapped (`map`) at a place that a reply tells, the
+//! pages of a range are unmapped (`unmap`), and a region is destroyed with all below it (`destroy`). What refuses a command on
+//! regions can be asked apart, by its names (`refusal_to_map` and the like). It is for a checker of what the machine answers,
+//! which stands on other code than the machine.
 //!
 //! It stands on `eager_pages`, `vmo_table`, `mapping_set` and `region_tree`, and calls no code of a store of pages: of
 //! `region_ops` it takes what needs none, as the search for a free place. `region_ops::protect` and `attribution::maps` need
-//! none either, so the layer above calls them. That layer has looked the names up. Each call is the step of its command, or
-//! answers that there is no such step, and keeps the live children of each region noted (`AreNoted` of `region_tree`).
+//! none either, so the layer above calls them. That layer has looked the names up for what has an effect. Each such call is the
+//! step of its command, or answers that there is no such step, and keeps the live children of each region noted (`AreNoted` of
+//! `region_tree`).
 #![tactic(auto,
 // where a region and a place in it end
 using(region_ops::proofs::PlaceLaws::live_end, region_ops::proofs::PlaceLaws::place_inside, region_ops::proofs::PlaceLaws::place_end),
@@ -18,6 +20,7 @@ mod asking;
 mod leaving;
 mod mapping;
 mod placing;
+mod rooting;
 mod unmapping;
 
 pub use allocating::allocate;
@@ -26,4 +29,5 @@ pub use asking::{
     refusal_to_protect, refusal_to_unmap,
 };
 pub use mapping::map;
+pub use rooting::create_root;
 pub use unmapping::{destroy, unmap};
