@@ -10,6 +10,14 @@ use Rattle.served.specs.Words.{is_text, frames_in, frames_behind, frames_asked}
 use Rattle.vm_session.specs.Outcome.{task_in, task_asked, AskForWork}
 use Rattle.vmosim.specs.Verbs.{is_first, has_verb}
 
+-- with another first word, what a verb asks for
+frames-not : (verb : List ℕ) (ws : List (List ℕ)) → is_first verb ws ≡ false → frames_behind verb ws ≡ None
+frames-not verb [] e = refl
+frames-not verb (first ∷ behind) e = ap (λ t. cond t (frames_in behind) None) e
+
+pub no_frames_not : (verb : List ℕ) (words : List (String Global)) → has_verb verb words ≡ false → frames_asked verb words ≡ None
+no_frames_not verb words e = frames-not verb (map string_bytes words) e
+
 -- with this first word, what another verb asks for
 frames-apart : (verb other : List ℕ) (ws : List (List ℕ)) → is_text verb other ≡ false → is_first verb ws ≡ true → frames_behind other ws ≡ None
 frames-apart verb other [] apart e = refl
@@ -39,6 +47,15 @@ no_task verb words run work e = task-apart verb (map string_bytes words) run wor
 
 pub no_work : {P : Type 0} (words : List (String Global)) → task_asked words ≡ None → AskForWork words → P
 no_work words none work = let asked = work.asked in absurd cc
+
+pub not_asked : {P : Type 0} (asked : Option ℕ) → asked ≡ None → IsSome asked → P
+not_asked (Some frames) none some = absurd cc
+not_asked None none some = absurd cc
+
+-- a tree that is there is not gone
+pub is_there : {A P : Type 0} (tree : Option A) → IsSome tree → tree ≡ None → P
+is_there (Some x) some gone = absurd cc
+is_there None some gone = absurd cc
 
 -- what a refusal says of the words
 pub not_refused : (asked : Option ℕ) (status : Status) → (status ≡ Usage) ↔ (asked ≡ None) → status ≡ HostMemory → IsSome asked
