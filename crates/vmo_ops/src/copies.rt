@@ -15,7 +15,13 @@ use vm_base::{Koid, PageNo, VMO_PAGES};
 
 /// The first page from `from` on of a snapshot that is the copy of a pinned page. The snapshot sees `seen` pages of `of`
 /// from the page `first` of `of` on. `None` if and only if there is no such page.
-pub fn next_copy(pins: &PinTable, of: Koid, first: PageNo, seen: PageNo, from: PageNo) -> Option<PageNo>
+pub fn next_copy(
+    pins: &PinTable,
+    of: Koid,
+    first: PageNo,
+    seen: PageNo,
+    from: PageNo,
+) -> Option<PageNo>
     requires order { from ≤ seen }
     requires range { first + seen ≤ VMO_PAGES }
     ensures { IsNextCopy (is_pinned (pins_of pins.now) of.0) first seen from result }
