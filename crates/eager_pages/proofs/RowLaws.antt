@@ -19,8 +19,8 @@ use Rattle.vm_model.specs.Machine.Attribution.{is_charged, is_charged_page}
 use Rattle.vm_model.specs.Space.Readiness.{frame_at}
 use Rattle.vm_model.proofs.ContentLaws.{bytes_of-none, bytes_of-some, views_found, in_use_at, in_use_found, sole_from, sole_alone, sole-zero}
 use Rattle.vm_model.proofs.SharingLaws.{views_held, koid_held}
-use Rattle.eager_pages.specs.inside.Rows.{IsAlone, HasOther, HasNoLess, HasLess}
-use Rattle.eager_pages.specs.Eager.{Eager, content_of, page_of, IsEager}
+use Rattle.eager_pages.specs.inside.Rows.{IsAlone, HasOther, HasNoLess, HasLess, HasThird, HasNoThird}
+use Rattle.eager_pages.specs.Eager.{Eager, content_of, page_of, IsEager, IsSeenByThird}
 
 -- ---- the row of a page
 
@@ -139,6 +139,32 @@ module _ (f : Eager) (eager : IsEager f) where
     sole-is true alone other = sym (sole_where (alone refl))
     sole-is false alone other = sym (shared_where (other refl))
 
+    -- ---- pages that a third VMO shows
+
+    pub third_where : (w : ℕ) → HasThird (values_of f.viewers tag.0) v w → IsSeenByThird (content_of f) v p w
+    third_where w third =
+        let page = some_is (values_of f.viewers tag.0 third.u) third.shows in
+        record {
+          held = page_of f.pool tag;
+          is = row_page f v p tag found;
+          u = third.u;
+          q = page.0;
+          seen = page_of f.pool tag;
+          shows = page_of_viewer tag.0 third.u page.0 page.1;
+          same = refl;
+          other = third.other;
+          third = third.third;
+        }
+
+    pub no_third_where : (w : ℕ) → HasNoThird (values_of f.viewers tag.0) v w → IsSeenByThird (content_of f) v p w → ⊥
+    no_third_where w none third =
+        let mine : page_of f.pool tag ≡ third.held = some_same (sym (row_page f v p tag found) ∙ third.is) in
+        let frame : third.seen.tag ≡ tag.0 = third.same ∙ ap (λ (page : Page). page.tag) (sym mine) in
+        let shows : values_of f.viewers tag.0 third.u ≡ Some third.q =
+        subst (λ (t : ℕ). values_of f.viewers t third.u ≡ Some third.q) frame (viewer_of third.u third.q third.seen third.shows) in
+        let unseen = none.none third.u third.other third.third in
+        absurd cc
+
     -- where it is shared, there is a free frame
     pub room_held : HasOther (values_of f.viewers tag.0) v → (sole (content_of f) v p ≡ true) ⊎ (used (content_of f) < (content_of f).frames)
         → taken_count f.pool < f.pool.frames
@@ -166,6 +192,13 @@ module _ (f : Eager) (eager : IsEager f) where
   -- nor is it sole
   pub unsole : (v p : ℕ) → values_of f.rows v p ≡ None → false ≡ sole (content_of f) v p
   unsole v p none = sym (sole-zero (content_of f) v p (ap (option_map (page_of f.pool)) none))
+
+  -- nor does a third VMO show its frame
+  pub unseen : (v p w : ℕ) → values_of f.rows v p ≡ None → IsSeenByThird (content_of f) v p w → ⊥
+  unseen v p w none third =
+      let zero : (content_of f).page v p ≡ None = ap (option_map (page_of f.pool)) none in
+      let held = third.is in
+      absurd cc
 
   -- the koid of a page with a row is below the next
   pub koid_low : (v p : ℕ) (tag : Tag) → values_of f.rows v p ≡ Some tag → v < f.next

@@ -1,5 +1,5 @@
 -- The pages of the checked machine as the values of their fields, and the content that they stand for.
-use Rattle.std.specs.Prelude.{◌≡◌, ℕ, ◌≤◌, List, Option, Some, IsSome}
+use Rattle.std.specs.Prelude.{◌≡◌, ◌≢◌, ℕ, ◌≤◌, List, Option, Some, IsSome}
 use Rattle.std.specs.Option.{option_map}
 use Rattle.frame_pool.specs.Pool.{Pool, taken_frames, frame_bytes}
 use Rattle.pair_map.specs.declared.pair_map.PairMap.{PairMap}
@@ -36,6 +36,18 @@ content_of f = record {
 -- how many pages may be owned with no memory from the host
 abbrev pub spare_of : Eager → ℕ
 spare_of f = f.room
+
+-- Page p of v is held, and a VMO other than v and w shows its frame.
+pub record IsSeenByThird (c : Content) (v p w : ℕ) : Type 0 where
+  pub held : Page
+  pub is : c.page v p ≡ Some held
+  pub u : ℕ
+  pub q : ℕ
+  pub seen : Page
+  pub shows : c.page u q ≡ Some seen
+  pub same : seen.tag ≡ held.tag
+  pub other : u ≢ v
+  pub third : u ≢ w
 
 -- The rows of pages and the pages under frames are the same pairs, and the frames that are taken are those that a page
 -- shows.

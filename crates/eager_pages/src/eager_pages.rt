@@ -12,10 +12,10 @@ ghost use Rattle.vm_model.specs.Contents.Zeroing.{zeroed, resized};
 ghost use Rattle.vm_model.specs.Machine.Attribution.{is_charged};
 ghost use Rattle.vm_model.specs.Space.Readiness.{frame_at};
 ghost use Rattle.pair_map.specs.Maps.{values_of, count_of};
-ghost use Rattle.eager_pages.specs.Eager.{content_of, spare_of, page_of};
+ghost use Rattle.eager_pages.specs.Eager.{content_of, spare_of, page_of, IsSeenByThird};
 ghost use Rattle.eager_pages.specs.inside.Rows.{IsNextBelow, HasNoneBelow, held_in};
 
-use crate::frames::{give_back_unshown, is_alone, is_least, take_copy, take_zeros};
+use crate::frames::{give_back_unshown, has_third, is_alone, is_least, take_copy, take_zeros};
 use frame_pool::FramePool;
 use pair_map::PairMap;
 use std::alloc::Global;
@@ -162,6 +162,21 @@ impl EagerPages {
         let _next = self.next;
         match self.rows.find(v.0, page) {
             Some(tag) => is_alone(&self.viewers, tag, v),
+            None => false,
+        }
+    }
+
+    /// Whether a page is held, and a VMO other than its own and another one, `w`, shows its frame. The call costs the
+    /// look-ups of three VMOs, however many show the frame.
+    pub fn is_seen_by_third(&self, v: Koid, page: PageNo, w: Koid) -> bool
+        requires { w.0 < (content_of self.now).next }
+        ensures some { result ≡ true → IsSeenByThird (content_of self.now) v.0 page w.0 }
+        ensures none { result ≡ false → IsSeenByThird (content_of self.now) v.0 page w.0 → ⊥ }
+    {
+        // The koid of a VMO is below the next.
+        let _next = self.next;
+        match self.rows.find(v.0, page) {
+            Some(tag) => has_third(&self.viewers, tag, v, w),
             None => false,
         }
     }

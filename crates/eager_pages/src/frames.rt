@@ -5,7 +5,7 @@ ghost use Rattle.vm_base.specs.Entries.{without_key};
 ghost use Rattle.vm_base.specs.Pages.{zeros};
 ghost use Rattle.frame_pool.specs.Pool.{taken_frames, frame_bytes, taken_count, Takes};
 ghost use Rattle.pair_map.specs.Maps.{values_of};
-ghost use Rattle.eager_pages.specs.inside.Rows.{IsAlone, HasOther, HasNoLess, HasLess, HasAny, HasNone};
+ghost use Rattle.eager_pages.specs.inside.Rows.{IsAlone, HasOther, HasNoLess, HasLess, HasAny, HasNone, HasWithin, HasNoneIn, HasThird, HasNoThird};
 
 use frame_pool::FramePool;
 use pair_map::PairMap;
@@ -32,6 +32,35 @@ pub(crate) fn is_least(viewers: &PairMap<PageNo>, tag: Tag, v: Koid) -> bool
     match viewers.next(tag.0 as u64, 0) {
         Some((least, _)) => least == v.0,
         None => unreachable!(),
+    }
+}
+
+/// Whether a VMO other than these two has a page under a frame.
+pub(crate) fn has_third(viewers: &PairMap<PageNo>, tag: Tag, v: Koid, w: Koid) -> bool
+    requires first { v.0 + 1 < 2 ^ 64 }
+    requires second { w.0 + 1 < 2 ^ 64 }
+    ensures some { result ≡ true → HasThird (values_of viewers.now tag.0) v.0 w.0 }
+    ensures none { result ≡ false → HasNoThird (values_of viewers.now tag.0) v.0 w.0 }
+{
+    let low = v.0.min(w.0);
+    let high = v.0.max(w.0);
+    if has_within(viewers, tag, 0, low) {
+        return true;
+    }
+    if has_within(viewers, tag, low + 1, high) {
+        return true;
+    }
+    viewers.next(tag.0 as u64, high + 1).is_some()
+}
+
+// Whether a VMO with a koid from one to below another has a page under a frame.
+fn has_within(viewers: &PairMap<PageNo>, tag: Tag, from: u64, end: u64) -> bool
+    ensures some { result ≡ true → HasWithin (values_of viewers.now tag.0) from end }
+    ensures none { result ≡ false → HasNoneIn (values_of viewers.now tag.0) from end }
+{
+    match viewers.next(tag.0 as u64, from) {
+        Some((koid, _)) => koid < end,
+        None => false,
     }
 }
 

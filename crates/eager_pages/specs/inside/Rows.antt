@@ -38,6 +38,28 @@ pub record HasLess (viewers : ℕ → Option ℕ) (v : ℕ) : Type 0 where
   pub below : w < v
   pub shows : IsSome (viewers w)
 
+-- a VMO with a koid from `from` to below `end` shows the frame
+pub record HasWithin (viewers : ℕ → Option ℕ) (from end : ℕ) : Type 0 where
+  pub w : ℕ
+  pub order : from ≤ w
+  pub below : w < end
+  pub shows : IsSome (viewers w)
+
+-- no such VMO shows the frame
+pub record HasNoneIn (viewers : ℕ → Option ℕ) (from end : ℕ) : Type 0 where
+  pub none : (w : ℕ) → from ≤ w → w < end → viewers w ≡ None
+
+-- a VMO other than v and w shows the frame
+pub record HasThird (viewers : ℕ → Option ℕ) (v w : ℕ) : Type 0 where
+  pub u : ℕ
+  pub other : u ≢ v
+  pub third : u ≢ w
+  pub shows : IsSome (viewers u)
+
+-- no VMO but v and w shows the frame
+pub record HasNoThird (viewers : ℕ → Option ℕ) (v w : ℕ) : Type 0 where
+  pub none : (u : ℕ) → u ≢ v → u ≢ w → viewers u ≡ None
+
 -- some VMO shows the frame
 pub record HasAny (viewers : ℕ → Option ℕ) : Type 0 where
   pub w : ℕ
