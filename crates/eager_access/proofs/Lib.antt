@@ -1,0 +1,5 @@
+pub mod AskLaws
+pub mod NeedLaws
+pub mod NoteLaws
+pub mod ReadLaws
+pub mod WriteLaws

@@ -1,0 +1,142 @@
+//! Reading through mappings.
+
+ghost use Rattle.std.specs.Prelude.{◌≡◌, ℕ, ◌+◌, ◌%◌, ◌<◌, ◌≤◌, length, take, drop, Option, MatchResult};
+ghost use Rattle.vm_base.specs.declared.limits.TheConstants.{DATA_BYTES, PAGE};
+ghost use Rattle.vm_model.specs.declared.command.Command.{Command};
+ghost use Rattle.vm_model.specs.declared.reply.Reply.{Reply};
+ghost use Rattle.vm_model.specs.declared.space.Entry.{Entry};
+ghost use Rattle.vm_model.specs.Contents.Content.{shown};
+ghost use Rattle.mapping_set.specs.Tables.{table_of};
+ghost use Rattle.fault.specs.Table.{AreBacked};
+ghost use Rattle.eager_pages.specs.Eager.{content_of};
+ghost use Rattle.ready_map.specs.Notes.{rows_of, ready_of, spare_of, AreTrue};
+ghost use Rattle.eager_access.specs.Accesses.{IsAllowed, DoesAccess};
+ghost use Rattle.eager_access.specs.inside.Pages.{IsShown, ShowsPage, ReadsPage, Touches, read_fault};
+
+use crate::asking::lacks;
+use crate::needing::entry_of;
+use eager_pages::EagerPages;
+use mapping_set::MappingSet;
+use ready_map::{ReadyMap, ReadyPage};
+use vm_base::{HostMemory, PAGE, PageNo, RegionName, in_page, page_of};
+use vm_model::{Entry, Readiness};
+
+/// Reads bytes, at most `DATA_BYTES`, from an address of the address space of a root region on. Nothing refuses it
+/// (`refusal_to_read`). Answers how many page faults that took: one for each page that was not ready, which is ready for
+/// reading then. `HostMemory` if the host has too little memory. Then nothing is changed of what is ready.
+pub fn read(
+    pages: &EagerPages,
+    maps: &MappingSet,
+    ready: &mut ReadyMap,
+    region: RegionName,
+    addr: u64,
+    out: &mut [u8],
+) -> Result<u64, HostMemory>
+    requires backed { AreBacked (content_of pages.now) (table_of maps.now) }
+    requires true_rows { AreTrue (content_of pages.now) (table_of maps.now) (rows_of ready.old) }
+    requires len { length out.old ≤ DATA_BYTES }
+    requires may { IsAllowed (content_of pages.now) (table_of maps.now) (Command.MemRead region addr (length out.old)) }
+    ensures read { MatchResult result
+        (λ faults. DoesAccess (table_of maps.now) (content_of pages.now) (rows_of ready.old)
+        (Command.MemRead region addr (length out.old)) (Reply.Access faults out.new) (content_of pages.now) (rows_of ready.new))
+        (λ lack. rows_of ready.new ≡ rows_of ready.old) }
+    ensures true_rows { AreTrue (content_of pages.now) (table_of maps.now) (rows_of ready.new) }
+{
+    if out.is_empty() {
+        return Ok(0);
+    }
+    let Ok(()) = ready.reserve(2) else {
+        return Err(HostMemory);
+    };
+    if in_page(addr) + out.len() as u64 <= PAGE {
+        Ok(read_page(
+            pages,
+            maps,
+            ready,
+            region,
+            page_of(addr),
+            in_page(addr),
+            out,
+        ))
+    } else {
+        Ok(read_in_two(pages, maps, ready, region, addr, out))
+    }
+}
+
+// Reads bytes of two pages, one behind the other. There is room for two notes.
+fn read_in_two(
+    pages: &EagerPages,
+    maps: &MappingSet,
+    ready: &mut ReadyMap,
+    region: RegionName,
+    addr: u64,
+    out: &mut [u8],
+) -> u64
+    requires backed { AreBacked (content_of pages.now) (table_of maps.now) }
+    requires true_rows { AreTrue (content_of pages.now) (table_of maps.now) (rows_of ready.old) }
+    requires two { PAGE < addr % PAGE + length out.old }
+    requires len { length out.old ≤ DATA_BYTES }
+    requires may { IsAllowed (content_of pages.now) (table_of maps.now) (Command.MemRead region addr (length out.old)) }
+    requires room { 2 ≤ spare_of ready.old }
+    ensures read { DoesAccess (table_of maps.now) (content_of pages.now) (rows_of ready.old)
+        (Command.MemRead region addr (length out.old)) (Reply.Access result out.new) (content_of pages.now) (rows_of ready.new) }
+    ensures true_rows { AreTrue (content_of pages.now) (table_of maps.now) (rows_of ready.new) }
+{
+    let page = page_of(addr);
+    let at = in_page(addr);
+    let (here, behind) = out.split_at_mut((PAGE - at) as usize);
+    let faults = read_page(pages, maps, ready, region, page, at, here);
+    faults + read_page(pages, maps, ready, region, page + 1, 0, behind)
+}
+
+// Reads bytes of a page, from `at` bytes into the page on, and answers how many page faults that took. There is room for
+// a note.
+fn read_page(
+    pages: &EagerPages,
+    maps: &MappingSet,
+    ready: &mut ReadyMap,
+    root: RegionName,
+    page: PageNo,
+    at: u64,
+    out: &mut [u8],
+) -> u64
+    requires true_rows { AreTrue (content_of pages.now) (table_of maps.now) (rows_of ready.old) }
+    requires shows { ShowsPage (content_of pages.now) (table_of maps.now) root.0 page }
+    requires range { at + length out.old ≤ PAGE }
+    requires room { 1 ≤ spare_of ready.old }
+    ensures reads { ReadsPage (content_of pages.now) (table_of maps.now) root.0 page at (length out.old) (rows_of ready.old)
+        result out.new (rows_of ready.new) }
+    ensures room { spare_of ready.old ≤ spare_of ready.new + 1 }
+{
+    let entry = entry_of(maps, root, page);
+    pages.read(entry.koid, entry.page, at, out);
+    touch(pages, ready, root, page, entry)
+}
+
+// Makes a page ready for reading at least, and answers how many page faults that took. There is room for a note.
+fn touch(
+    pages: &EagerPages,
+    ready: &mut ReadyMap,
+    root: RegionName,
+    page: PageNo,
+    entry: Entry,
+) -> u64
+    requires { 1 ≤ spare_of ready.old }
+    ensures faults { result ≡ read_fault (ready_of (rows_of ready.old) root.0 page) }
+    ensures few { result ≤ 1 }
+    ensures touches { (table : ℕ → ℕ → Option Entry) → Touches (content_of pages.now) table root.0 page entry
+        (rows_of ready.old) (rows_of ready.new) }
+    ensures room { spare_of ready.old ≤ spare_of ready.new + 1 }
+{
+    if !lacks(ready, root, page, Readiness::Read) {
+        return 0;
+    }
+    let row = ReadyPage {
+        koid: entry.koid,
+        page: entry.page,
+        frame: pages.frame(entry.koid, entry.page),
+        readiness: Readiness::Read,
+    };
+    ready.set(root, page, row);
+    1
+}
