@@ -1,23 +1,21 @@
-//! Which handler does a command. `dispatch` finds the group of a call, and one function for each group calls the
+//! Which handler does a command. `Vm::answer` finds the group of a call, and one function for each group calls the
 //! handler, so that each function is a short `match`. Their argument `ready` is the translations: what pages are ready
 //! for.
 
-ghost use Rattle.std.specs.Prelude.{◌≡◌, ◌≢◌, ◌<◌, ◌≤◌, length};
+ghost use Rattle.std.specs.Prelude.{◌≡◌, ◌<◌, ◌≤◌, length};
 ghost use Rattle.mapping_set.specs.Tables.{table_of, places_of as notes_of};
 ghost use Rattle.region_tree.specs.Tree.{regions_of, spaces_of, AreNoted};
 ghost use Rattle.vm_base.specs.declared.limits.TheConstants.{DATA_BYTES, KOIDS, PIN_PAGES};
 ghost use Rattle.vm_model.specs.Machine.Lent.{command_of, reply_for};
-ghost use Rattle.vmo_table.specs.Table.{IsWellCounted};
 ghost use Rattle.region_ops.specs.Spaces.{AreAllWell};
 ghost use Rattle.fault.specs.Table.{places_of, AreBacked, AreTrue};
-ghost use Rattle.vm_core.specs.inside.Calls.{state_with, AreCounted, DoesTables, DoesSpaces, DoesAccess, Handles, StepsSame};
+ghost use Rattle.vm_core.specs.inside.Calls.{AreCounted, DoesTables, DoesSpaces, DoesAccess, StepsSame};
 ghost use Rattle.vm_core.specs.inside.Groups.{group_of};
 ghost use Rattle.vm_core.specs.declared.groups.Group.{Group};
 
 use crate::accessing::{mem_read, mem_write};
 use crate::asking::{vmo_info, vmo_read, vmo_size};
 use crate::changing::{vmo_commit, vmo_decommit, vmo_fill, vmo_set_size, vmo_write, vmo_zero};
-use crate::groups::{Group, group_of};
 use crate::mappings::{list_maps, vmar_map, vmar_protect, vmar_unmap};
 use crate::naming::{vmo_close, vmo_create, vmo_create_child};
 use crate::pinning::{vmo_pin, vmo_unpin};
@@ -32,46 +30,9 @@ use std::alloc::Global;
 use vm_model::{Answer, Call};
 use vmo_table::VmoTable;
 
-/// Hands a command that is no access through mappings to its handler. A read writes its bytes to `bytes`, and a pin the
-/// numbers of its frames to `numbers`. The answer borrows them from there.
-#[inline(always)]
-pub(crate) fn dispatch<'a, P: PageStore>(
-    alloc: Global,
-    store: &mut P,
-    vmos: &mut VmoTable,
-    pins: &mut PinTable,
-    regions: &mut Regions,
-    maps: &mut MappingSet,
-    ready: &mut Translations,
-    call: &Call<'_>,
-    bytes: &'a mut [u8],
-    numbers: &'a mut [u64],
-) -> Answer<'a>
-    requires group { group_of call.now ≢ Group.Memory }
-    requires well { IsWellCounted vmos.old (state_with (P.content store.old) vmos.old pins.old
-        (spaces_of (regions_of regions.old) (table_of maps.old))) }
-    requires noted { AreNoted (regions_of regions.old) (notes_of maps.old) }
-    requires next { (P.content store.old).next < KOIDS }
-    requires bytes { DATA_BYTES ≤ length bytes.old }
-    requires numbers { PIN_PAGES ≤ length numbers.old }
-    ensures handles { Handles (P.content store.old) vmos.old pins.old (spaces_of (regions_of regions.old) (table_of maps.old))
-        (places_of ready.old) (command_of call.now) (reply_for result) (P.content store.new) vmos.new pins.new
-        (spaces_of (regions_of regions.new) (table_of maps.new)) (places_of ready.new) }
-    ensures noted { AreNoted (regions_of regions.new) (notes_of maps.new) }
-{
-    match group_of(call) {
-        Group::Vmo => on_vmo(store, vmos, pins, ready, call),
-        Group::Pages => on_pages(store, vmos, pins, ready, call, bytes),
-        Group::Pin => on_pin(store, vmos, pins, ready, call, numbers),
-        Group::Region => on_region(alloc, store, vmos, regions, maps, ready, call),
-        Group::Machine => on_machine(store, call),
-        Group::Memory => unreachable!(),
-    }
-}
-
 /// Hands a command on a VMO as a whole to its handler.
 #[tactic(auto, using(crate::proofs::CallLaws::together_of))]
-fn on_vmo<P: PageStore>(
+pub(crate) fn on_vmo<P: PageStore>(
     store: &mut P,
     vmos: &mut VmoTable,
     pins: &PinTable,
@@ -111,7 +72,7 @@ fn on_vmo<P: PageStore>(
 
 /// Hands a command on pages of a VMO to its handler. A read writes its bytes to `bytes`.
 #[tactic(auto, using(crate::proofs::CallLaws::together_of))]
-fn on_pages<'a, P: PageStore>(
+pub(crate) fn on_pages<'a, P: PageStore>(
     store: &mut P,
     vmos: &VmoTable,
     pins: &PinTable,
@@ -152,7 +113,7 @@ fn on_pages<'a, P: PageStore>(
 }
 
 /// Hands a command on a pin to its handler. `vmo_pin` writes the numbers of the pinned frames to `numbers`.
-fn on_pin<'a, P: PageStore>(
+pub(crate) fn on_pin<'a, P: PageStore>(
     store: &mut P,
     vmos: &mut VmoTable,
     pins: &mut PinTable,
@@ -181,7 +142,7 @@ fn on_pin<'a, P: PageStore>(
 }
 
 /// Hands a command on a region, or on the mappings in one, to its handler.
-fn on_region<P: PageStore>(
+pub(crate) fn on_region<P: PageStore>(
     alloc: Global,
     store: &mut P,
     vmos: &mut VmoTable,
@@ -248,7 +209,7 @@ fn on_region<P: PageStore>(
 }
 
 /// Answers a question about the whole machine.
-fn on_machine<P: PageStore>(store: &P, call: &Call<'_>) -> Answer<'static>
+pub(crate) fn on_machine<P: PageStore>(store: &P, call: &Call<'_>) -> Answer<'static>
     requires { group_of call.now ≡ Group.Machine }
     ensures { StepsSame (P.content store.now) (command_of call.now) (reply_for result) }
 {

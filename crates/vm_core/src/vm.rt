@@ -4,7 +4,7 @@ ghost use Rattle.std.specs.Prelude.{◌≡◌, ◌+◌, ◌<◌, ◌≤◌, leng
 ghost use Rattle.vm_base.specs.declared.limits.TheConstants.{DATA_BYTES, KOIDS, PIN_PAGES};
 ghost use Rattle.vm_model.specs.Machine.Lent.{command_of, reply_for};
 
-use crate::dispatching::{dispatch, on_memory};
+use crate::dispatching::{on_machine, on_memory, on_pages, on_pin, on_region, on_vmo};
 use crate::groups::{Group, group_of};
 use fault::Translations;
 use mapping_set::MappingSet;
@@ -106,27 +106,48 @@ impl Vm {
         ensures good { IsGoodMachine (machine_of (P.content store.new) self.new) }
         ensures next { (P.content store.new).next ≤ (P.content store.old).next + 1 }
     {
-        if let Group::Memory = group_of(call) {
-            return on_memory(
+        match group_of(call) {
+            Group::Vmo => on_vmo(
+                store,
+                &mut self.vmos,
+                &self.pins,
+                &mut self.translations,
+                call,
+            ),
+            Group::Pages => on_pages(
+                store,
+                &self.vmos,
+                &self.pins,
+                &mut self.translations,
+                call,
+                bytes,
+            ),
+            Group::Pin => on_pin(
+                store,
+                &mut self.vmos,
+                &mut self.pins,
+                &mut self.translations,
+                call,
+                numbers,
+            ),
+            Group::Region => on_region(
+                self.alloc,
+                store,
+                &mut self.vmos,
+                &mut self.regions,
+                &mut self.maps,
+                &mut self.translations,
+                call,
+            ),
+            Group::Memory => on_memory(
                 store,
                 &self.regions,
                 &self.maps,
                 &mut self.translations,
                 call,
                 bytes,
-            );
+            ),
+            Group::Machine => on_machine(store, call),
         }
-        dispatch(
-            self.alloc,
-            store,
-            &mut self.vmos,
-            &mut self.pins,
-            &mut self.regions,
-            &mut self.maps,
-            &mut self.translations,
-            call,
-            bytes,
-            numbers,
-        )
     }
 }
