@@ -1,4 +1,4 @@
--- Lines of the two commands that most lines are.
+-- Lines of the four commands that most lines are.
 use Rattle.std.proofs.Common.{◌≡◌, ℕ, zero, suc, cond, ◌&&◌, ◌*◌, ◌<◌, ◌≤◌, Bool, true, false, List, [], ◌∷◌, ◌++◌, length, take, drop}
 use Rattle.std.proofs.Common.{get_or, refl, sym, ◌∙◌, ap, subst, inl, inr, arith, length-drop}
 use Rattle.std.specs.Prelude.{Option, Some, None, Ok, Err, Result, codes, nat_eq, nat_lt, nat_le, option_and_then, slice_get, ◌==◌, IfSome}
@@ -15,12 +15,13 @@ use Rattle.hex.specs.declared.error.FromHexError.{FromHexError}
 use Rattle.hex.proofs.HexLemmas.{decode_of-ok}
 use Rattle.vm_base.specs.declared.limits.TheConstants.{DATA_BYTES}
 use Rattle.vm_base.specs.declared.names.VmoName.{VmoName}
+use Rattle.vm_base.specs.declared.names.RegionName.{RegionName}
 use Rattle.vm_model.specs.declared.command.Command.{Command}
-use Rattle.vm_model.specs.declared.command.Command.TheVariants.{VmoRead, VmoWrite}
-use Rattle.vm_model.specs.Language.Reading.{words, is_blank, begins_blank, byte_data, vmo, number, of_vmo_range, vmo_write, command}
+use Rattle.vm_model.specs.declared.command.Command.TheVariants.{VmoRead, VmoWrite, MemRead, MemWrite}
+use Rattle.vm_model.specs.Language.Reading.{words, is_blank, begins_blank, byte_data, vmo, region, number, of_vmo_range, of_region_range, vmo_write, mem_write, command}
 use Rattle.script_text.specs.Lines.{order_in}
-use Rattle.script_text.specs.inside.Shapes.{only_data, ends_blank}
-use Rattle.script_text.specs.inside.Groups.{range_of_vmo, vmo_and_number}
+use Rattle.script_text.specs.inside.Shapes.{only_data, ends_blank, three_words}
+use Rattle.script_text.specs.inside.Groups.{range_of_vmo, range_of_region, vmo_and_number, region_and_number}
 use Rattle.script_text.proofs.GroupLaws.{of_two, joined, behind_two}
 use Rattle.script_text.proofs.ShapeLaws.{steps}
 use Rattle.script_text.proofs.Cutting.{words-blank, words-first, len-solid, len-blank}
@@ -42,6 +43,16 @@ words_vmo_write : (bs : List ℕ) → begins_blank bs ≡ true
 unfolding words
 words_vmo_write bs e = rw e refl
 
+words_mem_read : (bs : List ℕ) → begins_blank bs ≡ true
+    → words (codes "mem_read" ++ bs) ≡ codes "mem_read" ∷ words bs
+unfolding words
+words_mem_read bs e = rw e refl
+
+words_mem_write : (bs : List ℕ) → begins_blank bs ≡ true
+    → words (codes "mem_write" ++ bs) ≡ codes "mem_write" ∷ words bs
+unfolding words
+words_mem_write bs e = rw e refl
+
 -- a list with a first element is not empty
 not_none : {A : Type 0} (x : A) (xs : List A) → (length (x ∷ xs) == 0) ≡ false
 not_none x xs = ne_eqb (length (x ∷ xs)) 0 (λ e. absurd (omega (arith, e)))
@@ -60,11 +71,10 @@ no_word xs [] same begun = rw (← same) refl
 no_word xs (b ∷ bs) same begun =
     not_none b bs ∙ sym (some_word b bs begun) ∙ ap (λ ws. length ws == 0) same
 
--- a range with a word too many
-four : (command : VmoName → ℕ → ℕ → Command) (a b c : List ℕ) (ws : List (List ℕ)) → (length ws == 0) ≡ false
-    → of_vmo_range command (a ∷ b ∷ c ∷ ws) ≡ None
-four command a b c [] e = absurd cc
-four command a b c (d ∷ ds) e = refl
+-- a word too many
+four : (a b c : List ℕ) (ws : List (List ℕ)) → (length ws == 0) ≡ false → three_words (a ∷ b ∷ c ∷ ws) ≡ None
+four a b c [] e = absurd cc
+four a b c (d ∷ ds) e = refl
 
 none_behind : (ws : List (List ℕ)) → (length ws == 0) ≡ true → ws ≡ []
 none_behind [] e = refl
@@ -76,16 +86,30 @@ module _ (xs ys zs us a b c : List ℕ) (first : words xs ≡ a ∷ words ys) (s
   all : words xs ≡ a ∷ b ∷ c ∷ words us
   all = first ∙ ap (λ ws. a ∷ ws) (second ∙ ap (λ ws. b ∷ ws) third)
 
-  pub range-more : (command : VmoName → ℕ → ℕ → Command) → (length (words us) == 0) ≡ false
-      → of_vmo_range command (words xs) ≡ None
-  range-more command more = ap (of_vmo_range command) all ∙ four command a b c (words us) more
+  pub three-more : (length (words us) == 0) ≡ false → three_words (words xs) ≡ None
+  three-more more = ap three_words all ∙ four a b c (words us) more
 
-  pub range-three : (length (words us) == 0) ≡ true → (o : Option (VmoName × ℕ × ℕ)) → o ≡ range_of_vmo a b c
-      → option_and_then (λ (p : VmoName × ℕ × ℕ). Some (VmoRead p.0 p.1 p.2)) o ≡ of_vmo_range VmoRead (words xs)
-  range-three none o is =
-      ap (λ v. option_and_then (λ (p : VmoName × ℕ × ℕ). Some (VmoRead p.0 p.1 p.2)) v) is
-      ∙ sym (ap (of_vmo_range VmoRead) (all ∙ ap (λ ws. a ∷ b ∷ c ∷ ws) (none_behind (words us) none))
-      ∙ steps VmoRead (vmo a) (number b) (number c))
+  pub three-only : (length (words us) == 0) ≡ true → three_words (words xs) ≡ Some (a, b, c)
+  three-only none = ap three_words (all ∙ ap (λ ws. a ∷ b ∷ c ∷ ws) (none_behind (words us) none))
+
+-- a command of three words, by a field group of them
+pub vmo_range_of_three : (command : VmoName → ℕ → ℕ → Command) (ws : List (List ℕ)) → of_vmo_range command ws
+    ≡ option_and_then (λ (p : VmoName × ℕ × ℕ). Some (command p.0 p.1 p.2))
+    (option_and_then (λ (w : List ℕ × List ℕ × List ℕ). range_of_vmo w.0 w.1 w.2) (three_words ws))
+vmo_range_of_three command [] = refl
+vmo_range_of_three command (a ∷ []) = refl
+vmo_range_of_three command (a ∷ b ∷ []) = refl
+vmo_range_of_three command (a ∷ b ∷ c ∷ []) = steps command (vmo a) (number b) (number c)
+vmo_range_of_three command (a ∷ b ∷ c ∷ d ∷ ds) = refl
+
+pub region_range_of_three : (command : RegionName → ℕ → ℕ → Command) (ws : List (List ℕ)) → of_region_range command ws
+    ≡ option_and_then (λ (p : RegionName × ℕ × ℕ). Some (command p.0 p.1 p.2))
+    (option_and_then (λ (w : List ℕ × List ℕ × List ℕ). range_of_region w.0 w.1 w.2) (three_words ws))
+region_range_of_three command [] = refl
+region_range_of_three command (a ∷ []) = refl
+region_range_of_three command (a ∷ b ∷ []) = refl
+region_range_of_three command (a ∷ b ∷ c ∷ []) = steps command (region a) (number b) (number c)
+region_range_of_three command (a ∷ b ∷ c ∷ d ∷ ds) = refl
 
 -- one word too many for data
 pub data-more : (w : List ℕ) (ws : List (List ℕ)) → (length ws == 0) ≡ false → only_data (w ∷ ws) ≡ None
@@ -190,40 +214,68 @@ data_of_whole (b ∷ bs) begun solid =
     ]
 
 -- two steps before one that fails
-none_after_two : (o : Option VmoName) (p : Option ℕ)
+none_after_two : {A : Type 0} (o : Option A) (p : Option ℕ)
     → option_and_then {U = Command} (λ name. option_and_then {U = Command} (λ offset. None) p) o ≡ None
 none_after_two None p = refl
 none_after_two (Some x) None = refl
 none_after_two (Some x) (Some y) = refl
 
 -- the command `vmo_write` by its last word
-write_by_data : (a b : List ℕ) (ws : List (List ℕ)) → vmo_write (a ∷ b ∷ ws)
+vmo_write_by_data : (a b : List ℕ) (ws : List (List ℕ)) → vmo_write (a ∷ b ∷ ws)
     ≡ option_and_then (λ name. option_and_then (λ offset. option_and_then (λ bytes. Some (VmoWrite name offset bytes))
     (only_data ws)) (number b)) (vmo a)
-write_by_data a b [] = sym (none_after_two (vmo a) (number b))
-write_by_data a b (c ∷ []) = refl
-write_by_data a b (c ∷ d ∷ ds) = sym (none_after_two (vmo a) (number b))
+vmo_write_by_data a b [] = sym (none_after_two (vmo a) (number b))
+vmo_write_by_data a b (c ∷ []) = refl
+vmo_write_by_data a b (c ∷ d ∷ ds) = sym (none_after_two (vmo a) (number b))
 
--- its words, one behind another
-pub write_of_words : (xs ys zs a b : List ℕ) → words xs ≡ a ∷ words ys → words ys ≡ b ∷ words zs
-    → (o : Option (VmoName × ℕ)) (q : Option (List ℕ)) → o ≡ vmo_and_number a b → q ≡ only_data (words zs)
-    → of_two (λ (p : VmoName × ℕ) x. VmoWrite p.0 p.1 x) o q ≡ vmo_write (words xs)
-write_of_words xs ys zs a b first second o q front last =
-    joined (λ (p : VmoName × ℕ) x. VmoWrite p.0 p.1 x) o _ q _ front last
-    ∙ sym (ap vmo_write (first ∙ ap (λ ws. a ∷ ws) second) ∙ write_by_data a b (words zs)
-    ∙ behind_two VmoWrite (vmo a) (number b) (only_data (words zs)))
+-- the command `mem_write` by its last word
+mem_write_by_data : (a b : List ℕ) (ws : List (List ℕ)) → mem_write (a ∷ b ∷ ws)
+    ≡ option_and_then (λ name. option_and_then (λ addr. option_and_then (λ bytes. Some (MemWrite name addr bytes))
+    (only_data ws)) (number b)) (region a)
+mem_write_by_data a b [] = sym (none_after_two (region a) (number b))
+mem_write_by_data a b (c ∷ []) = refl
+mem_write_by_data a b (c ∷ d ∷ ds) = sym (none_after_two (region a) (number b))
 
--- no name, or no offset
-pub write_of_one : (xs ys a : List ℕ) → words xs ≡ a ∷ words ys → words ys ≡ [] → vmo_write (words xs) ≡ None
-write_of_one xs ys a first second = ap vmo_write (first ∙ ap (λ ws. a ∷ ws) second)
+-- their words, one behind another
+module _ (xs ys zs a b : List ℕ) (first : words xs ≡ a ∷ words ys) (second : words ys ≡ b ∷ words zs) where
+  pub vmo_write_of_words : (o : Option (VmoName × ℕ)) (q : Option (List ℕ)) → o ≡ vmo_and_number a b → q ≡ only_data (words zs)
+      → of_two (λ (p : VmoName × ℕ) x. VmoWrite p.0 p.1 x) o q ≡ vmo_write (words xs)
+  vmo_write_of_words o q front last =
+      joined (λ (p : VmoName × ℕ) x. VmoWrite p.0 p.1 x) o _ q _ front last
+      ∙ sym (ap vmo_write (first ∙ ap (λ ws. a ∷ ws) second) ∙ vmo_write_by_data a b (words zs)
+      ∙ behind_two VmoWrite (vmo a) (number b) (only_data (words zs)))
+
+  pub mem_write_of_words : (o : Option (RegionName × ℕ)) (q : Option (List ℕ)) → o ≡ region_and_number a b → q ≡ only_data (words zs)
+      → of_two (λ (p : RegionName × ℕ) x. MemWrite p.0 p.1 x) o q ≡ mem_write (words xs)
+  mem_write_of_words o q front last =
+      joined (λ (p : RegionName × ℕ) x. MemWrite p.0 p.1 x) o _ q _ front last
+      ∙ sym (ap mem_write (first ∙ ap (λ ws. a ∷ ws) second) ∙ mem_write_by_data a b (words zs)
+      ∙ behind_two MemWrite (region a) (number b) (only_data (words zs)))
+
+-- no name, or no number behind it
+pub vmo_write_of_one : (xs ys a : List ℕ) → words xs ≡ a ∷ words ys → words ys ≡ [] → vmo_write (words xs) ≡ None
+vmo_write_of_one xs ys a first second = ap vmo_write (first ∙ ap (λ ws. a ∷ ws) second)
+
+pub mem_write_of_one : (xs ys a : List ℕ) → words xs ≡ a ∷ words ys → words ys ≡ [] → mem_write (words xs) ≡ None
+mem_write_of_one xs ys a first second = ap mem_write (first ∙ ap (λ ws. a ∷ ws) second)
 
 -- what lines that begin with these words say
-pub read_line : (line behind : List ℕ) → line ≡ codes "vmo_read" ++ behind → begins_blank behind ≡ true
+pub vmo_read_line : (line behind : List ℕ) → line ≡ codes "vmo_read" ++ behind → begins_blank behind ≡ true
     → order_in (words line) ≡ of_vmo_range VmoRead (words behind)
 unfolding command
-read_line line behind is cut = ap order_in (ap words is ∙ words_vmo_read behind cut)
+vmo_read_line line behind is cut = ap order_in (ap words is ∙ words_vmo_read behind cut)
 
-pub write_line : (line behind : List ℕ) → line ≡ codes "vmo_write" ++ behind → begins_blank behind ≡ true
+pub vmo_write_line : (line behind : List ℕ) → line ≡ codes "vmo_write" ++ behind → begins_blank behind ≡ true
     → order_in (words line) ≡ vmo_write (words behind)
 unfolding command
-write_line line behind is cut = ap order_in (ap words is ∙ words_vmo_write behind cut)
+vmo_write_line line behind is cut = ap order_in (ap words is ∙ words_vmo_write behind cut)
+
+pub mem_read_line : (line behind : List ℕ) → line ≡ codes "mem_read" ++ behind → begins_blank behind ≡ true
+    → order_in (words line) ≡ of_region_range MemRead (words behind)
+unfolding command
+mem_read_line line behind is cut = ap order_in (ap words is ∙ words_mem_read behind cut)
+
+pub mem_write_line : (line behind : List ℕ) → line ≡ codes "mem_write" ++ behind → begins_blank behind ≡ true
+    → order_in (words line) ≡ mem_write (words behind)
+unfolding command
+mem_write_line line behind is cut = ap order_in (ap words is ∙ words_mem_write behind cut)

@@ -24,6 +24,7 @@ pub fn range_of_vmo(name: &[u8], offset: &[u8], len: &[u8]) -> Option<(VmoName, 
 }
 
 /// A region and a number.
+#[inline(always)]
 pub fn region_and_number(name: &[u8], value: &[u8]) -> Option<(RegionName, u64)>
     ensures { result ≡ region_and_number name.now value.now }
 {
@@ -31,6 +32,7 @@ pub fn region_and_number(name: &[u8], value: &[u8]) -> Option<(RegionName, u64)>
 }
 
 /// A region and a range of it, the address and the length.
+#[inline(always)]
 pub fn range_of_region(name: &[u8], addr: &[u8], len: &[u8]) -> Option<(RegionName, u64, u64)>
     ensures { result ≡ range_of_region name.now addr.now len.now }
 {

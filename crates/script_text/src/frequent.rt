@@ -1,13 +1,13 @@
-//! The lines of which most scripts consist: `vmo_read` and `vmo_write`. They are read word by word, with no list of
-//! their words.
+//! The lines of which most scripts consist: those of the four commands that read or write bytes, of a VMO or through
+//! mappings. They are read word by word, with no list of their words.
 
 ghost use Rattle.std.specs.Prelude.{◌≡◌, ◌≤◌, ◌==◌, ◌++◌, length, option_map, true, IfSome};
-ghost use Rattle.vm_model.specs.Language.Reading.{words, begins_blank, of_vmo_range, vmo_write};
-ghost use Rattle.vm_model.specs.declared.command.Command.TheVariants.{VmoRead};
+ghost use Rattle.vm_model.specs.Language.Reading.{words, begins_blank, mem_write, of_region_range, of_vmo_range, vmo_write};
+ghost use Rattle.vm_model.specs.declared.command.Command.TheVariants.{MemRead, VmoRead};
 ghost use Rattle.vm_model.specs.Machine.Lent.{command_of};
-ghost use Rattle.script_text.specs.inside.Shapes.{only_data, ends_blank};
+ghost use Rattle.script_text.specs.inside.Shapes.{only_data, ends_blank, three_words};
 
-use crate::field_groups::{range_of_vmo, vmo_and_number};
+use crate::field_groups::{range_of_region, range_of_vmo, region_and_number, vmo_and_number};
 use crate::fields::byte_data_into;
 use crate::words::{behind_blanks, is_blank, next_short_word};
 use vm_base::DATA_BYTES;
@@ -51,24 +51,45 @@ fn has_no_word(line: &[u8]) -> bool
     behind_blanks(line).is_empty()
 }
 
-/// The command `vmo_read` of these arguments. The function is not inlined, since the machine has registers enough for
-/// it alone.
-#[inline(never)]
-pub fn read_of<'a>(arguments: &[u8]) -> Option<Call<'a>>
-    ensures { option_map command_of result ≡ of_vmo_range VmoRead (words arguments.now) }
+/// The words of a line that has three. `None` if it has fewer or more.
+#[inline(always)]
+fn three_words(line: &[u8]) -> Option<(&[u8], &[u8], &[u8])>
+    ensures { option_map (λ p. (p.0.now, p.1.now, p.2.now)) result ≡ three_words (words line.now) }
 {
-    let (name, rest) = next_short_word(arguments)?;
-    let (offset, rest) = next_short_word(rest)?;
-    let (len, rest) = next_short_word(rest)?;
+    let (first, rest) = next_short_word(line)?;
+    let (second, rest) = next_short_word(rest)?;
+    let (third, rest) = next_short_word(rest)?;
     if !has_no_word(rest) {
         return None;
     }
+    Some((first, second, third))
+}
+
+/// The command `vmo_read` of these arguments. The function is not inlined, since the machine has registers enough for
+/// it alone.
+#[inline(never)]
+#[tactic(auto, using(crate::proofs::FrequentLaws::vmo_range_of_three))]
+pub fn vmo_read_of<'a>(arguments: &[u8]) -> Option<Call<'a>>
+    ensures { option_map command_of result ≡ of_vmo_range VmoRead (words arguments.now) }
+{
+    let (name, offset, len) = three_words(arguments)?;
     let (name, offset, len) = range_of_vmo(name, offset, len)?;
     Some(Call::VmoRead { name, offset, len })
 }
 
+/// The command `mem_read` of these arguments. The function is not inlined, as that of `vmo_read`.
+#[inline(never)]
+#[tactic(auto, using(crate::proofs::FrequentLaws::region_range_of_three))]
+pub fn mem_read_of<'a>(arguments: &[u8]) -> Option<Call<'a>>
+    ensures { option_map command_of result ≡ of_region_range MemRead (words arguments.now) }
+{
+    let (region, addr, len) = three_words(arguments)?;
+    let (region, addr, len) = range_of_region(region, addr, len)?;
+    Some(Call::MemRead { region, addr, len })
+}
+
 /// The command `vmo_write` of these arguments, whose data is lent from `room`.
-pub fn write_of<'a>(arguments: &[u8], room: &'a mut [u8]) -> Option<Call<'a>>
+pub fn vmo_write_of<'a>(arguments: &[u8], room: &'a mut [u8]) -> Option<Call<'a>>
     requires { DATA_BYTES ≤ length room.old }
     ensures { option_map command_of result ≡ vmo_write (words arguments.now) }
 {
@@ -79,6 +100,22 @@ pub fn write_of<'a>(arguments: &[u8], room: &'a mut [u8]) -> Option<Call<'a>>
     Some(Call::VmoWrite {
         name,
         offset,
+        bytes,
+    })
+}
+
+/// The command `mem_write` of these arguments, whose data is lent from `room`.
+pub fn mem_write_of<'a>(arguments: &[u8], room: &'a mut [u8]) -> Option<Call<'a>>
+    requires { DATA_BYTES ≤ length room.old }
+    ensures { option_map command_of result ≡ mem_write (words arguments.now) }
+{
+    let (region, rest) = next_short_word(arguments)?;
+    let (addr, rest) = next_short_word(rest)?;
+    let (region, addr) = region_and_number(region, addr)?;
+    let bytes = only_data(rest, room)?;
+    Some(Call::MemWrite {
+        region,
+        addr,
         bytes,
     })
 }

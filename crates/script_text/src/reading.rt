@@ -6,8 +6,8 @@ ghost use Rattle.vm_model.specs.Machine.Lent.{command_of};
 ghost use Rattle.script_text.specs.Lines.{is_silent, order_in, reading_of, reading_of_call};
 
 use crate::command_words::call;
-use crate::frequent::{behind_word, read_of, write_of};
-use crate::words::{behind_blanks, next_word};
+use crate::frequent::{behind_word, mem_read_of, mem_write_of, vmo_read_of, vmo_write_of};
+use crate::words::{behind_blanks, next_short_word};
 use arrayvec::ArrayVec;
 use vm_base::{DATA_BYTES, LINE_BYTES};
 use vm_model::{Call, Command};
@@ -77,16 +77,20 @@ fn is_silent(line: &[u8]) -> bool
     matches!(line, [] | [b'#', ..])
 }
 
-/// The command of a line. `None` if it has none. Most lines begin with one of two words.
+/// The command of a line. `None` if it has none. Most lines begin with one of four words.
 #[inline(always)]
 fn order<'a>(line: &[u8], room: &'a mut [u8]) -> Option<Call<'a>>
     requires { DATA_BYTES ≤ length room.old }
     ensures { option_map command_of result ≡ order_in (words line.now) }
 {
     if let Some(arguments) = behind_word(b"vmo_read", line) {
-        read_of(arguments)
+        vmo_read_of(arguments)
     } else if let Some(arguments) = behind_word(b"vmo_write", line) {
-        write_of(arguments, room)
+        vmo_write_of(arguments, room)
+    } else if let Some(arguments) = behind_word(b"mem_read", line) {
+        mem_read_of(arguments)
+    } else if let Some(arguments) = behind_word(b"mem_write", line) {
+        mem_write_of(arguments, room)
     } else {
         order_of_words(line, room)
     }
@@ -100,7 +104,7 @@ fn order_of_words<'a>(line: &[u8], room: &'a mut [u8]) -> Option<Call<'a>>
 {
     let mut found: ArrayVec<&[u8], MOST_WORDS> = ArrayVec::new();
     let mut rest = line;
-    while let Some((word, behind)) = next_word(rest) {
+    while let Some((word, behind)) = next_short_word(rest) {
         if found.is_full() {
             return None;
         }

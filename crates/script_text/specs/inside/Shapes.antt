@@ -1,5 +1,5 @@
 -- The arguments of commands of one shape, and the flags of regions and mappings.
-use Rattle.std.specs.Prelude.{ℕ, ◌+◌, Bool, false, List, [], ◌∷◌, length, slice_index, codes, Option, None}
+use Rattle.std.specs.Prelude.{ℕ, ◌+◌, Bool, false, List, [], ◌∷◌, length, slice_index, codes, Option, None, Some}
 use Rattle.vm_base.specs.declared.names.VmoName.{VmoName}
 use Rattle.vm_base.specs.declared.names.RegionName.{RegionName}
 use Rattle.vm_base.specs.declared.flags.MapFlags.{MapFlags}
@@ -17,6 +17,11 @@ one_vmo _ = None
 abbrev pub vmo_range : List (List ℕ) → Option (VmoName × ℕ × ℕ)
 vmo_range (a ∷ b ∷ c ∷ []) = range_of_vmo a b c
 vmo_range _ = None
+
+-- the three words that there are
+abbrev pub three_words : List (List ℕ) → Option (List ℕ × List ℕ × List ℕ)
+three_words (a ∷ b ∷ c ∷ []) = Some (a, b, c)
+three_words _ = None
 
 -- the byte data that is the only word
 abbrev pub only_data : List (List ℕ) → Option (List ℕ)
