@@ -1,10 +1,11 @@
--- The list of a hidden node goes over to its visible child: each page of it is as if its row had moved into the child's list.
+-- The list of a hidden node goes over to one of its children: each page of it is as if its row had moved into the child's list.
 use Rattle.std.proofs.Common.{◌≡◌, ◌≢◌, ℕ, zero, suc, ◌+◌, ◌-◌, ◌<◌, ◌≤◌, Bool, true, false, if◌then◌else◌, Option, None, Some, IsSome}
 use Rattle.std.proofs.Common.{◌⊎◌, refl, sym, ap, subst, ◌∙◌, inl, inr, arith}
 use Rattle.std.specs.Prelude.{is_some, not, ◌==◌}
 use Rattle.std.proofs.lemmas.Bool.{and_from, ne_eqb, cases_Bool, cases_eq, cases_lt, cond-true, cond-false}
 use Rattle.balanced_tree.specs.Pairs.{with_pair, IsNext}
 use Rattle.balanced_tree.specs.Rows.{Rows}
+use Rattle.vm_base.specs.declared.names.Koid.{Koid}
 use Rattle.vm_base.specs.declared.names.Tag.{Tag}
 use Rattle.vm_base.proofs.EntryLaws.{some_same}
 use Rattle.page_list.specs.Lists.{slots_of, row_count}
@@ -14,12 +15,15 @@ use Rattle.page_list.specs.declared.row.Slot.TheVariants as slot
 use Rattle.cow_arena.specs.declared.node.Node.{Node}
 use Rattle.cow_arena.specs.declared.node.Side.{Side}
 use Rattle.cow_arena.specs.declared.node.Side.TheVariants as side
-use Rattle.cow_arena.specs.Nodes.{Arena, nodes_of, IsVisible, other_side, side_of}
+use Rattle.cow_arena.specs.Nodes.{Arena, nodes_of, other_side, side_of}
 use Rattle.cow_arena.specs.Renamed.{exchanged}
 use Rattle.cow_arena.specs.Walk.{Slots, Tree, tree_with, frame_in}
+use Rattle.cow_arena.specs.Ways.{Reaches, KeepsBelow}
 use Rattle.cow_arena.proofs.AlikeLaws.{with_pair-same, with_pair-other}
+use Rattle.cow_arena.proofs.RisesSplicedLaws.{below-same, below-gone, below-moved}
 use Rattle.cow_arena.proofs.RenamedLaws.{exchanged-first, exchanged-second, exchanged-other}
-use Rattle.cow_split.specs.Trees.{with_row}
+use Rattle.cow_split.specs.Trees.{tree_of, with_row}
+use Rattle.cow_split.specs.Search.{reached_from}
 use Rattle.cow_split.specs.Exact.{without_frame}
 use Rattle.cow_split.proofs.ExactLaws.{cases_place}
 use Rattle.cow_split.proofs.RowLaws.{exact-in_use_alike, with_row-twice}
@@ -27,9 +31,12 @@ use Rattle.frame_pool.specs.declared.frame_pool.Backlink.{Backlink}
 use Rattle.frame_pool.specs.Pool.{Pool, taken_frames, is_taken, links_of}
 use Rattle.cow_merge.specs.Ranges.{bit_on, AreLinked, GivesBack, HasGiven}
 use Rattle.cow_merge.specs.inside.Lifting.{IsLifting, IsBefore, IsFamilyOf, AreLifted, SeesRow, IsMoved, has_frame}
-use Rattle.cow_merge.specs.inside.HandingOver.{frame_there, HasNoRow, HasRowPut, SeesFromStart, AreSeenFrom, IsHandingOver, HasHandedOver}
+use Rattle.cow_merge.specs.declared.ranges.Pages.{Pages}
+use Rattle.cow_merge.specs.inside.Sharing.{AreShared}
+use Rattle.cow_merge.specs.inside.HandingOver.{frame_there, HasNoRow, HasRowPut, AreSeenFrom, IsHandingOver, IsHandedUpTo, HasHandedOver}
 use Rattle.cow_merge.proofs.RangeLaws.{gives-then, gives-same, given-none}
-use Rattle.cow_merge.proofs.LiftedLaws.{has-frame, of-has-frame, link-same, family-lists, row-sees, row-bit, without-none, lifted-gone, lifted-moved}
+use Rattle.cow_merge.proofs.LiftedLaws.{has-frame, of-has-frame, link-same, family-lists, row-sees, row-bit, row-bit_below, without-none, lifted-gone, lifted-moved}
+use Rattle.cow_merge.proofs.SharingLaws.{some-left, reached-below, reached-found}
 
 -- both bits are clear
 both-clear : (from : Side) (left right : Bool) → bit_on from left right ≡ false → bit_on (other_side from) left right ≡ false → (left ≡ false) × (right ≡ false)
@@ -66,7 +73,7 @@ lifted-pool arena old slots before between after k h s of was taken gives = reco
 -- One page more has gone over.
 module _ (arena : Arena) (old new late : Rows Row) (before after last : Pool) (k h s q : ℕ) (was : IsHandingOver arena old new before after k h s q)
     (slots : Slots) (lifted : AreLifted arena old slots before last k h s was.of) (others : (l p : ℕ) → p ≢ q → slots l p ≡ was.slots l p)
-    (gone : slots was.of.parent.list.0 q ≡ None) (beside : (l p : ℕ) → p ≢ q → slots_of late l p ≡ slots_of new l p)
+    (keeps : KeepsBelow was.slots slots was.of.parent was.of.sibling) (gone : slots was.of.parent.list.0 q ≡ None) (beside : (l p : ℕ) → p ≢ q → slots_of late l p ≡ slots_of new l p)
     (here : (l : ℕ) → slots_of late l q ≡ slots (exchanged was.of.parent.list.0 was.of.sibling.list.0 l) q) where
   was-row : (p : ℕ) (row : Slot) → slots was.of.parent.list.0 p ≡ Some row → was.slots was.of.parent.list.0 p ≡ Some row
   was-row p row at = elim (cases_eq p q) [
@@ -80,7 +87,10 @@ module _ (arena : Arena) (old new late : Rows Row) (before after last : Pool) (k
     of = was.of;
     slots = slots;
     lifted = lifted;
-    sees = was.sees;
+    first = was.first;
+    shared = λ none p some from.
+        reached-below (tree_with (nodes_of arena) arena.lists was.slots) was.lifted.exact.forest slots was.of.parent was.of.sibling s was.of.family.sibling_at
+        keeps from p (was.shared none p (some-left (was.slots was.of.parent.list.0 p) (slots was.of.parent.list.0 p) (was-row p) some) from);
     passed = λ l p less. elim (cases_eq p q) [
       | inl same ↦ subst (λ x. slots_of late l x ≡ slots (exchanged was.of.parent.list.0 was.of.sibling.list.0 l) x) (sym same) (here l)
       | inr apart ↦
@@ -118,10 +128,7 @@ module _ (arena : Arena) (old new : Rows Row) (before after : Pool) (k h s q : �
   apart-lists same = (family-lists arena k h s was.lifted.exact.forest was.of).2 (sym same)
 
   its-page : q - was.of.sibling.first ≡ q
-  its-page = omega (arith, was.sees.first)
-
-  shown : IsVisible (nodes_of arena) s was.of.sibling
-  shown = record { at = was.of.family.sibling_at; koid = was.sees.visible }
+  its-page = omega (arith, was.first)
 
   -- the child has no row of its own there
   module _ (free : slots_of new own q ≡ None) where
@@ -130,24 +137,47 @@ module _ (arena : Arena) (old new : Rows Row) (before after : Pool) (k h s q : �
 
     sees-it : (row : Slot) → was.slots up q ≡ Some row → SeesRow was.slots was.of.sibling q
     sees-it row has = record {
-      from = omega (arith, was.sees.first);
-      inside = omega (arith, was.sees.first, was.inside q (ap is_some has));
+      from = omega (arith, was.first);
+      inside = omega (arith, was.first, was.inside q (ap is_some has));
       free = subst (λ x. was.slots own x ≡ None) (sym its-page) free-there;
     }
 
     its-bit : (row : Slot) → was.slots up q ≡ Some row → (tag : Tag) (left right : Bool) → row ≡ slot.Frame tag left right →
         bit_on (other_side (side_of was.of.parent k)) left right ≡ false
-    its-bit row has tag left right e =
-        row-bit now_tree k h s was.of.node was.of.parent was.of.sibling was.of.family was.of.visible q row has was.lifted.out (is_taken after) was.lifted.exact
-        was.lifted.only tag left right e shown (sees-it row has)
+    its-bit row has tag left right e = by_koid was.of.sibling.koid refl
+      where
+        by_koid : (o : Option Koid) → was.of.sibling.koid ≡ o → bit_on (other_side (side_of was.of.parent k)) left right ≡ false
+        by_koid (Some koid) is =
+            row-bit now_tree k h s was.of.node was.of.parent was.of.sibling was.of.family was.of.visible q row has was.lifted.out (is_taken after) was.lifted.exact
+            was.lifted.only tag left right e (record { at = was.of.family.sibling_at; koid = ap is_some is }) (sees-it row has)
+        by_koid None is =
+            let it = was.shared is q (ap is_some has) side.Left in
+            row-bit_below now_tree k h s was.of.node was.of.parent was.of.sibling was.of.family was.of.visible q row has was.lifted.out (is_taken after)
+            was.lifted.exact was.lifted.only tag left right e it.v it.p side.Left it.page
+            (subst (λ x. Reaches now_tree it.v it.p side.Left s x) (sym its-page) it.way) (sees-it row has)
+
+    -- its bits are clear
+    clear : (row : Slot) → was.slots up q ≡ Some row → (tag : Tag) (left right : Bool) → row ≡ slot.Frame tag left right → (left ≡ false) × (right ≡ false)
+    clear row has tag left right e =
+        both-clear (side_of was.of.parent k) left right ((was.seen (q + 1)).bit q tag left right (omega arith) (omega arith) (has ∙ ap Some e)) (its-bit row has tag left right e)
+
+    -- if the child is hidden, VMOs on both sides of it see the row
+    found : (row : Slot) → was.slots up q ≡ Some row → was.of.sibling.koid ≡ None → (from : Side) →
+        reached_from (with_row now_tree up q None) None from s (q - was.of.sibling.first) ≡ true
+    found row has none from =
+        subst (λ x. reached_from (with_row now_tree up q None) None from s x ≡ true) (sym its-page)
+        (reached-found (with_row now_tree up q None) was.lifted.exact.forest from s q
+        (reached-below now_tree was.lifted.exact.forest (with_pair was.slots up q None) was.of.parent was.of.sibling s was.of.family.sibling_at
+        (below-gone was.slots was.of.parent was.of.sibling q) from q (was.shared none q (ap is_some has) from)))
 
     -- a row with a frame is the one that the child would have
     same-row : (row : Slot) → was.slots up q ≡ Some row → IsMoved (with_row now_tree up q None) s (q - was.of.sibling.first) was.of.sibling row row
     same-row row has = record {
       frame = refl;
-      plain = λ tag left right e _.
-          both-clear (side_of was.of.parent k) left right ((was.seen (q + 1)).bit q tag left right (omega arith) (omega arith) (has ∙ ap Some e)) (its-bit row has tag left right e);
-      split = λ tag left right e none. absurd (let some = was.sees.visible in let no = ap is_some none in cc);
+      plain = λ tag left right e _. clear row has tag left right e;
+      split = λ tag left right e none.
+          let bits = clear row has tag left right e in
+          (bits.0 ∙ sym (ap not (found row has none side.Left)), bits.1 ∙ sym (ap not (found row has none side.Right)));
     }
 
     abbrev moved : Slot → Slots
@@ -163,11 +193,18 @@ module _ (arena : Arena) (old new : Rows Row) (before after : Pool) (k h s q : �
     moved-up row =
         with_pair-other (with_pair was.slots up q None) own q (Some row) up q (λ list _. apart-lists (sym list)) ∙ with_pair-same was.slots up q None
 
+    moved-keeps : (row : Slot) → was.slots up q ≡ Some row → KeepsBelow was.slots (moved row) was.of.parent was.of.sibling
+    moved-keeps row has =
+        subst (λ x. KeepsBelow was.slots (with_pair (with_pair was.slots up q None) own x (Some row)) was.of.parent was.of.sibling) its-page
+        (below-moved was.slots (with_pair was.slots up q None) was.of.parent was.of.sibling q row (Some row) has (omega (arith, was.first))
+        (below-gone was.slots was.of.parent was.of.sibling q))
+
     pub over-passed : IsHandingOver arena old new before after k h s (q + 1)
     over-passed = by_row (was.slots up q) refl
       where
         by_row : (o : Option Slot) → was.slots up q ≡ o → IsHandingOver arena old new before after k h s (q + 1)
-        by_row None none = over-next arena old new new before after after k h s q was was.slots was.lifted (λ l p apart. refl) none (λ l p apart. refl)
+        by_row None none = over-next arena old new new before after after k h s q was was.slots was.lifted (λ l p apart. refl)
+            (below-same was.slots was.of.parent was.of.sibling) none (λ l p apart. refl)
             (λ l. was.ahead l q (omega arith)
             ∙ by-exchange (λ a b. was.slots a q ≡ was.slots b q) up own (none ∙ sym free-there) (free-there ∙ sym none) (λ l l_a l_b. refl) l)
             (λ ok. ok) (omega arith) (omega arith)
@@ -175,7 +212,7 @@ module _ (arena : Arena) (old new : Rows Row) (before after : Pool) (k h s q : �
             (λ l p apart.
             with_pair-other (with_pair was.slots up q None) own q (Some row) l p (λ _ page. apart page)
             ∙ with_pair-other was.slots up q None l p (λ _ page. apart page))
-            (moved-up row) (λ l p apart. refl)
+            (moved-keeps row has) (moved-up row) (λ l p apart. refl)
             (λ l. was.ahead l q (omega arith)
             ∙ by-exchange (λ a b. was.slots a q ≡ moved row b q) up own
             (has ∙ sym (with_pair-same (with_pair was.slots up q None) own q (Some row)))
@@ -214,7 +251,7 @@ module _ (arena : Arena) (old new : Rows Row) (before after : Pool) (k h s q : �
     late-up : slots_of late up q ≡ Some row
     late-up = ap (λ (x : Slots). x up q) late-is ∙ with_pair-same (with_pair (slots_of new) own q None) up q (Some row)
 
-    late-own : slots_of late own q ≡ None
+    pub late-own : slots_of late own q ≡ None
     late-own =
         ap (λ (x : Slots). x own q) late-is
         ∙ (with_pair-other (with_pair (slots_of new) own q None) up q (Some row) own q (λ list _. apart-lists list)
@@ -262,9 +299,9 @@ module _ (arena : Arena) (old new : Rows Row) (before after : Pool) (k h s q : �
     over-put spare count = by_row (was.slots up q) refl
       where
         next : (slots : Slots) → AreLifted arena old slots before last k h s was.of → ((l p : ℕ) → p ≢ q → slots l p ≡ was.slots l p) →
-            slots up q ≡ None → slots own q ≡ Some row → ((l : ℕ) → l ≢ up → l ≢ own → slots l q ≡ was.slots l q) →
+            KeepsBelow was.slots slots was.of.parent was.of.sibling → slots up q ≡ None → slots own q ≡ Some row → ((l : ℕ) → l ≢ up → l ≢ own → slots l q ≡ was.slots l q) →
             IsHandingOver arena old late before last k h s (q + 1)
-        next slots lifted others gone at beside = over-next arena old new late before after last k h s q was slots lifted others gone
+        next slots lifted others keeps gone at beside = over-next arena old new late before after last k h s q was slots lifted others keeps gone
             (λ l p apart. late-other l p (λ both. apart both.1) (λ both. apart both.1)) (here-now slots at gone beside) put-linked
             (omega (arith, put.spare)) (omega (arith, put.count))
 
@@ -272,13 +309,13 @@ module _ (arena : Arena) (old new : Rows Row) (before after : Pool) (k h s q : �
         by_row None none = next was.slots
             (lifted-pool arena old was.slots before after last k h s was.of was.lifted
             (λ x. taken-now x ∙ (ap (λ (o : Option Slot). without_frame (is_taken after) (frame_there o) x) none ∙ sym (without-none (is_taken after) x))) put.gives)
-            (λ l p apart. refl) none has-there (λ l l_a l_b. refl)
+            (λ l p apart. refl) (below-same was.slots was.of.parent was.of.sibling) none has-there (λ l l_a l_b. refl)
         by_row (Some other) there = next (with_pair was.slots up q None)
             (lifted-gone arena old was.slots before after last k h s was.of q other was.lifted there put.gives
             ((λ tag left right e. bit-set tag left right e), (λ e sees. covers other sees))
             (λ x. taken-now x ∙ ap (λ (o : Option Slot). without_frame (is_taken after) (frame_there o) x) there))
             (λ l p apart. with_pair-other was.slots up q None l p (λ _ page. apart page))
-            (with_pair-same was.slots up q None)
+            (below-gone was.slots was.of.parent was.of.sibling q) (with_pair-same was.slots up q None)
             (with_pair-other was.slots up q None own q (λ list _. apart-lists list) ∙ has-there)
             (λ l l_a l_b. with_pair-other was.slots up q None l q (λ list _. l_a list))
           where
@@ -291,83 +328,108 @@ module _ (arena : Arena) (old new : Rows Row) (before after : Pool) (k h s q : �
 
 -- ---- all pages
 
--- it begins where the rows of the parent are all seen by both, but where the child has rows
-pub over-start : (arena : Arena) (old new : Rows Row) (before after : Pool) (k h s : ℕ) (was : IsLifting arena old new before after k h s) →
-    SeesFromStart was.of.sibling → ((q : ℕ) → IsSome (slots_of new was.of.parent.list.0 q) → q < was.of.sibling.seen) →
-    ((end : ℕ) → AreSeenFrom (slots_of new) was.of.parent k 0 end) → IsHandingOver arena old new before after k h s 0
-over-start arena old new before after k h s was sees inside seen = record {
+-- It begins where the rows of the parent were all seen in a window, those outside of it are gone, and the child shares the others.
+pub over-ready : (arena : Arena) (old first new : Rows Row) (before after : Pool) (k h s low high : ℕ) (pages : Pages)
+    (was : IsLifting arena old new before after k h s) → was.of.sibling.first ≡ 0 → AreSeenFrom (slots_of first) was.of.parent k low high →
+    low ≤ pages.from → pages.to ≤ high →
+    ((p : ℕ) → p < pages.from → slots_of new was.of.parent.list.0 p ≡ None) → ((p : ℕ) → pages.to ≤ p → slots_of new was.of.parent.list.0 p ≡ None) →
+    ((p : ℕ) (row : Slot) → slots_of new was.of.parent.list.0 p ≡ Some row → slots_of first was.of.parent.list.0 p ≡ Some row) →
+    AreShared (tree_of arena new) was.of.parent.list.0 s was.of.sibling pages → IsHandingOver arena old new before after k h s 0
+over-ready arena old first new before after k h s low high pages was start seen from within none_before none_from others shares = record {
   of = was.of;
   slots = slots_of new;
   lifted = was.lifted;
-  sees = sees;
+  first = start;
+  shared = λ none q some. let it = inside q some in shares.reached none q it.0 it.1 some;
   passed = λ l p less. absurd (omega arith);
-  ahead = λ l p from. refl;
+  ahead = λ l p least. refl;
   empty = λ p less. absurd (omega arith);
-  inside = inside;
-  seen = seen;
+  inside = λ q some. let it = inside q some in shares.below q it.0 it.1;
+  seen = λ end. record {
+    bit = λ q tag left right _ _ at.
+        let it = inside q (ap is_some at) in
+        seen.bit q tag left right (omega (arith, it.0)) (omega (arith, it.1)) (others q (slot.Frame tag left right) at);
+  };
   linked = was.linked;
   spare = was.spare;
   count = was.count;
 }
-
--- It begins where the rows of the parent were all seen in a window, and those outside of it are gone.
-pub over-ready : (arena : Arena) (old first new : Rows Row) (before after : Pool) (k h s low high end : ℕ) (was : IsLifting arena old new before after k h s) →
-    SeesFromStart was.of.sibling → AreSeenFrom (slots_of first) was.of.parent k low high → end ≤ was.of.sibling.seen → end ≤ high →
-    ((p : ℕ) → p < low → slots_of new was.of.parent.list.0 p ≡ None) → ((p : ℕ) → end ≤ p → slots_of new was.of.parent.list.0 p ≡ None) →
-    ((p : ℕ) (row : Slot) → slots_of new was.of.parent.list.0 p ≡ Some row → slots_of first was.of.parent.list.0 p ≡ Some row) →
-    IsHandingOver arena old new before after k h s 0
-over-ready arena old first new before after k h s low high end was sees seen fits within none_before none_from others =
-    over-start arena old new before after k h s was sees
-    (λ q some. elim (cases_lt q end) [
-      | inl less ↦ omega arith
-      | inr past ↦ absurd (let none = ap is_some (none_from q past) in cc)
-    ])
-    (λ last. record {
-      bit = λ q tag left right _ _ at. elim (cases_lt q end) [
-        | inr past ↦ absurd (let none = none_from q past in cc)
-        | inl less ↦ elim (cases_lt q low) [
-          | inl before ↦ absurd (let none = none_before q before in cc)
-          | inr from ↦ seen.bit q tag left right from (omega arith) (others q (slot.Frame tag left right) at)
-        ]
-      ];
-    })
-
--- the same of what was found: rows before the window of the leaf went, and then those from the end of the two windows on
-pub over-lifted : (arena : Arena) (old first mid new : Rows Row) (before after : Pool) (k h s end : ℕ) (leaf child : Node) → nodes_of arena k ≡ Some leaf →
-    nodes_of arena s ≡ Some child → IsLifting arena old new before after k h s →
-    ((node : Node) → nodes_of arena s ≡ Some node → SeesFromStart node) →
-    ((node parent : Node) → nodes_of arena k ≡ Some node → nodes_of arena h ≡ Some parent →
-    AreSeenFrom (slots_of first) parent k node.first (node.first + node.seen)) →
-    end ≤ child.seen → end ≤ leaf.first + leaf.seen →
-    ((parent : Node) → nodes_of arena h ≡ Some parent → (p : ℕ) → 0 ≤ p → IsBefore (Some leaf.first) p → slots_of mid parent.list.0 p ≡ None) →
-    ((parent : Node) → nodes_of arena h ≡ Some parent → (p : ℕ) (row : Slot) → slots_of mid parent.list.0 p ≡ Some row →
-    slots_of first parent.list.0 p ≡ Some row) →
-    ((parent : Node) → nodes_of arena h ≡ Some parent → (p : ℕ) → end ≤ p → IsBefore None p → slots_of new parent.list.0 p ≡ None) →
-    ((parent : Node) → nodes_of arena h ≡ Some parent → (p : ℕ) (row : Slot) → slots_of new parent.list.0 p ≡ Some row →
-    slots_of mid parent.list.0 p ≡ Some row) →
-    IsHandingOver arena old new before after k h s 0
-over-lifted arena old first mid new before after k h s end leaf child leaf_at child_at was sees seen short within empty others ended left =
-    let node : leaf ≡ was.of.node = some_same (sym leaf_at ∙ was.of.family.at) in
-    let sibling : child ≡ was.of.sibling = some_same (sym child_at ∙ was.of.family.sibling_at) in
-    let at = was.of.family.parent_at in
-    let low = ap (λ (n : Node). n.first) node in
-    let width = ap (λ (n : Node). n.seen) node in
-    let its = ap (λ (n : Node). n.seen) sibling in
-    over-ready arena old first new before after k h s was.of.node.first (was.of.node.first + was.of.node.seen) end was
-    (sees was.of.sibling was.of.family.sibling_at)
-    (seen was.of.node was.of.parent was.of.family.at at)
-    (omega arith) (omega arith)
-    (λ p before. none-kept (slots_of mid was.of.parent.list.0) (slots_of new was.of.parent.list.0) p (left was.of.parent at p)
-    (empty was.of.parent at p (omega arith) (omega arith)))
-    (λ p from. ended was.of.parent at p from tt)
-    (λ p row there. others was.of.parent at p row (left was.of.parent at p row there))
   where
-    none-kept : (old new : ℕ → Option Slot) (p : ℕ) → ((row : Slot) → new p ≡ Some row → old p ≡ Some row) → old p ≡ None → new p ≡ None
-    none-kept old new p was none = by_row (new p) refl
-      where
-        by_row : (o : Option Slot) → new p ≡ o → new p ≡ None
-        by_row None e = e
-        by_row (Some row) e = absurd (let some = was row e in cc)
+    inside : (q : ℕ) → IsSome (slots_of new was.of.parent.list.0 q) → (pages.from ≤ q) × (q < pages.to)
+    inside q some = elim (cases_lt q pages.from) [
+      | inl before ↦ absurd (let none = ap is_some (none_before q before) in cc)
+      | inr low ↦ elim (cases_lt q pages.to) [
+        | inl less ↦ (low, less)
+        | inr past ↦ absurd (let none = ap is_some (none_from q past) in cc)
+      ]
+    ]
+
+none-kept : (old new : ℕ → Option Slot) (p : ℕ) → ((row : Slot) → new p ≡ Some row → old p ≡ Some row) → old p ≡ None → new p ≡ None
+none-kept old new p was none = by_row (new p) refl
+  where
+    by_row : (o : Option Slot) → new p ≡ o → new p ≡ None
+    by_row None e = e
+    by_row (Some row) e = absurd (let some = was row e in cc)
+
+-- The same of what was found: the child shares pages, rows before the window of the leaf and before these pages went, and then those
+-- from the end of the two on.
+module _ (arena : Arena) (old first shared mid new : Rows Row) (before between after : Pool) (k h s from to : ℕ) (pages : Pages) (leaf : Node)
+    (leaf_at : nodes_of arena k ≡ Some leaf) (was : IsLifting arena old new before after k h s) (since : IsLifting arena shared new between after k h s) where
+  pub over-lifted :
+      ((node : Node) → nodes_of arena s ≡ Some node → node.first ≡ 0) →
+      ((node parent : Node) → nodes_of arena k ≡ Some node → nodes_of arena h ≡ Some parent →
+      AreSeenFrom (slots_of first) parent k node.first (node.first + node.seen)) →
+      leaf.first ≤ from → pages.from ≤ from → to ≤ leaf.first + leaf.seen → to ≤ pages.to →
+      ((parent : Node) → nodes_of arena h ≡ Some parent → (p : ℕ) (row : Slot) → slots_of shared parent.list.0 p ≡ Some row →
+      slots_of first parent.list.0 p ≡ Some row) →
+      ((parent node : Node) → nodes_of arena h ≡ Some parent → nodes_of arena s ≡ Some node →
+      AreShared (tree_of arena shared) parent.list.0 s node pages) →
+      ((parent : Node) → nodes_of arena h ≡ Some parent → (p : ℕ) → 0 ≤ p → IsBefore (Some from) p → slots_of mid parent.list.0 p ≡ None) →
+      ((parent : Node) → nodes_of arena h ≡ Some parent → (p : ℕ) (row : Slot) → slots_of mid parent.list.0 p ≡ Some row →
+      slots_of shared parent.list.0 p ≡ Some row) →
+      ((parent : Node) → nodes_of arena h ≡ Some parent → (p : ℕ) → to ≤ p → IsBefore None p → slots_of new parent.list.0 p ≡ None) →
+      ((parent : Node) → nodes_of arena h ≡ Some parent → (p : ℕ) (row : Slot) → slots_of new parent.list.0 p ≡ Some row →
+      slots_of mid parent.list.0 p ≡ Some row) →
+      IsHandingOver arena old new before after k h s 0
+  over-lifted start seen low lower high higher others shares empty others_mid ended left =
+      over-ready arena old first new before after k h s was.of.node.first (was.of.node.first + was.of.node.seen) (record { from = from; to = to }) was
+      (start was.of.sibling was.of.family.sibling_at)
+      (seen was.of.node was.of.parent was.of.family.at at)
+      (omega (arith, low_is)) (omega (arith, low_is, width_is))
+      (λ p before. none-kept (slots_of mid was.of.parent.list.0) (slots_of new was.of.parent.list.0) p (left was.of.parent at p)
+      (empty was.of.parent at p (omega arith) (omega arith)))
+      (λ p past. ended was.of.parent at p past tt)
+      (λ p row there. others was.of.parent at p row (to-shared p row there))
+      (record {
+        below = λ q least less. it.below q (omega arith) (omega arith);
+        reached = λ none q least less some side.
+            reached-below (tree_of arena shared) was.lifted.exact.forest (slots_of new) was.of.parent was.of.sibling s was.of.family.sibling_at keeps side q
+            (it.reached none q (omega arith) (omega arith)
+            (some-left (slots_of shared was.of.parent.list.0 q) (slots_of new was.of.parent.list.0 q) (to-shared q) some) side);
+      })
+    where
+      at : nodes_of arena h ≡ Some was.of.parent
+      at = was.of.family.parent_at
+
+      node : leaf ≡ was.of.node
+      node = some_same (sym leaf_at ∙ was.of.family.at)
+
+      low_is : leaf.first ≡ was.of.node.first
+      low_is = ap (λ (n : Node). n.first) node
+
+      width_is : leaf.seen ≡ was.of.node.seen
+      width_is = ap (λ (n : Node). n.seen) node
+
+      keeps : KeepsBelow (slots_of shared) (slots_of new) was.of.parent was.of.sibling
+      keeps =
+          subst (λ (n : Node). KeepsBelow (slots_of shared) (slots_of new) was.of.parent n) (some_same (sym since.of.family.sibling_at ∙ was.of.family.sibling_at))
+          (subst (λ (n : Node). KeepsBelow (slots_of shared) (slots_of new) n since.of.sibling) (some_same (sym since.of.family.parent_at ∙ at)) since.lifted.rows)
+
+      it : AreShared (tree_of arena shared) was.of.parent.list.0 s was.of.sibling pages
+      it = shares was.of.parent was.of.sibling at was.of.family.sibling_at
+
+      to-shared : (p : ℕ) (row : Slot) → slots_of new was.of.parent.list.0 p ≡ Some row → slots_of shared was.of.parent.list.0 p ≡ Some row
+      to-shared p row there = others_mid was.of.parent at p row (left was.of.parent at p row there)
 
 module _ (arena : Arena) (old new : Rows Row) (before after : Pool) (k h s : ℕ) (child : Node) (child_at : nodes_of arena s ≡ Some child) where
   -- pages at which the child has no rows go over as they are
@@ -381,10 +443,9 @@ module _ (arena : Arena) (old new : Rows Row) (before after : Pool) (k h s : ℕ
       subst (λ x. IsHandingOver arena old new before after k h s x) (omega arith)
       (over-skipped n (from + 1) here (λ p least less. none p (omega arith) (omega arith)))
 
-  -- and so do all that are left, where it has no more
-  pub over-end : (from : ℕ) → IsHandingOver arena old new before after k h s from → ((p : ℕ) → from ≤ p → slots_of new child.list.0 p ≡ None) →
+  over-all : (from : ℕ) → IsHandingOver arena old new before after k h s from → ((p : ℕ) → from ≤ p → slots_of new child.list.0 p ≡ None) →
       HasHandedOver arena old new before after k h s
-  over-end from was none =
+  over-all from was none =
       let last = over-skipped child.seen from was (λ p least less. none p least) in
       let one : child ≡ last.of.sibling = some_same (sym child_at ∙ last.of.family.sibling_at) in
       let count = ap (λ (x : Node). x.seen) one in
@@ -419,11 +480,27 @@ module _ (arena : Arena) (old new : Rows Row) (before after : Pool) (k h s : ℕ
           by_row past None e = e
           by_row past (Some row) e = absurd (let within = last.inside p (ap is_some e) in omega arith)
 
+  -- and so do all that are left, where it has no more
+  pub over-end : (from : ℕ) → IsHandedUpTo arena old new before after k h s from → ((p : ℕ) → from ≤ p → slots_of new child.list.0 p ≡ None) →
+      HasHandedOver arena old new before after k h s
+  over-end from up none = over-all up.at up.handing (λ p past. none p (let low = up.low in omega arith))
+
 -- a row of the child is next
-module _ (arena : Arena) (old new : Rows Row) (before after : Pool) (k h s from : ℕ) (was : IsHandingOver arena old new before after k h s from)
-    (child : Node) (child_at : nodes_of arena s ≡ Some child) (q : ℕ) (row : Slot) (least : from ≤ q) (has : slots_of new child.list.0 q ≡ Some row) where
+module _ (arena : Arena) (old new : Rows Row) (before after : Pool) (k h s from : ℕ) (up : IsHandedUpTo arena old new before after k h s from)
+    (child : Node) (child_at : nodes_of arena s ≡ Some child) (q : ℕ) (row : Slot) (next : IsNext (slots_of new child.list.0) from (Some q))
+    (has : slots_of new child.list.0 q ≡ Some row) where
+  abbrev was : IsHandingOver arena old new before after k h s up.at
+  was = up.handing
+
   child-is : child ≡ was.of.sibling
   child-is = some_same (sym child_at ∙ was.of.family.sibling_at)
+
+  least : up.at ≤ q
+  least = elim (cases_lt q up.at) [
+    | inr past ↦ past
+    | inl less ↦ absurd (
+        let none = subst (λ (n : Node). slots_of new n.list.0 q ≡ None) (sym child-is) (up.none q (next.least q refl).0 less) in cc)
+  ]
 
   its-row : was.slots was.of.sibling.list.0 q ≡ Some row
   its-row = sym (was.ahead was.of.sibling.list.0 q least) ∙ subst (λ (n : Node). slots_of new n.list.0 q ≡ Some row) child-is has
@@ -431,13 +508,6 @@ module _ (arena : Arena) (old new : Rows Row) (before after : Pool) (k h s from 
   -- its frame is taken
   pub hand-taken : (tag : ℕ) → frame_in row ≡ Some tag → IsSome (taken_frames after tag)
   hand-taken tag frame = was.lifted.exact.used was.of.sibling.list.0 q row tag its-row frame
-
-  -- and its page is one of the child
-  pub hand-below : q < child.count
-  hand-below =
-      let below = was.lifted.exact.below s q was.of.sibling row (record { at = was.of.family.sibling_at; koid = was.sees.visible }) its-row in
-      let count = ap (λ (n : Node). n.count) child-is in
-      omega arith
 
   module _ (parent : Node) (parent_at : nodes_of arena h ≡ Some parent) (mid : Rows Row) (taken_out : slots_of mid ≡ with_pair (slots_of new) child.list.0 q None) where
     parent-is : parent ≡ was.of.parent
@@ -471,23 +541,47 @@ module _ (arena : Arena) (old new : Rows Row) (before after : Pool) (k h s from 
         let it = frame-under (was.slots was.of.parent.list.0 q) tag (ap frame_there (sym under-is) ∙ e) in
         two-lists (was.lifted.exact.once was.of.sibling.list.0 q was.of.parent.list.0 q tag row it.0 its-row it.1 frame it.2).0
 
-    -- it was put there, and the pages before it have gone over
-    pub hand-next : IsNext (slots_of new child.list.0) from (Some q) → (late : Rows Row) (last : Pool) → HasRowPut mid late after last parent.list.0 q row →
-        mid.spare ≡ new.spare + 1 → row_count mid + 1 ≡ row_count new → IsHandingOver arena old late before last k h s (q + 1)
-    hand-next next late last put spare count =
-        let here = subst (λ x. IsHandingOver arena old new before after k h s x) (omega arith)
-        (over-skipped arena old new before after k h s child child_at (q - from) from was (λ p from_on less. (next.least q refl).2 p from_on (omega arith))) in
-        put-next here late last put spare count
-      where
-        put-next : (here : IsHandingOver arena old new before after k h s q) (late : Rows Row) (last : Pool) → HasRowPut mid late after last parent.list.0 q row →
-            mid.spare ≡ new.spare + 1 → row_count mid + 1 ≡ row_count new → IsHandingOver arena old late before last k h s (q + 1)
-        put-next here late last put =
-            let up : parent ≡ here.of.parent = some_same (sym parent_at ∙ here.of.family.parent_at) in
-            let own : child ≡ here.of.sibling = some_same (sym child_at ∙ here.of.family.sibling_at) in
-            over-put arena old new before after k h s q here mid late last row
-            (subst (λ (n : Node). slots_of new n.list.0 q ≡ Some row) own has)
-            (subst (λ (n : Node). slots_of mid ≡ with_pair (slots_of new) n.list.0 q None) own taken_out)
-            (subst (λ (n : Node). HasRowPut mid late after last n.list.0 q row) up put)
+    module _ (late : Rows Row) (last : Pool) (put : HasRowPut mid late after last parent.list.0 q row) where
+      -- the child has no row there then
+      pub hand-gone : slots_of late child.list.0 q ≡ None
+      hand-gone =
+          ap (λ (x : Slots). x child.list.0 q) put.slots
+          ∙ (with_pair-other (slots_of mid) parent.list.0 q (Some row) child.list.0 q
+          (λ list _. two-lists (sym (ap (λ (n : Node). n.list.0) child-is) ∙ (list ∙ ap (λ (n : Node). n.list.0) parent-is)))
+          ∙ (ap (λ (x : Slots). x child.list.0 q) taken_out ∙ with_pair-same (slots_of new) child.list.0 q None))
+
+      -- it was put there, and the pages before it have gone over
+      pub hand-next : mid.spare ≡ new.spare + 1 → row_count mid + 1 ≡ row_count new → IsHandedUpTo arena old late before last k h s q
+      hand-next spare count = put-next here
+        where
+          here : IsHandingOver arena old new before after k h s q
+          here = subst (λ x. IsHandingOver arena old new before after k h s x) (omega (arith, least))
+              (over-skipped arena old new before after k h s child child_at (q - up.at) up.at was
+              (λ p from_on less. (next.least q refl).2 p (let low = up.low in omega arith) (omega (arith, least))))
+
+          put-next : IsHandingOver arena old new before after k h s q → IsHandedUpTo arena old late before last k h s q
+          put-next here =
+              let up_is : parent ≡ here.of.parent = some_same (sym parent_at ∙ here.of.family.parent_at) in
+              let own : child ≡ here.of.sibling = some_same (sym child_at ∙ here.of.family.sibling_at) in
+              let over = over-put arena old new before after k h s q here mid late last row
+              (subst (λ (n : Node). slots_of new n.list.0 q ≡ Some row) own has)
+              (subst (λ (n : Node). slots_of mid ≡ with_pair (slots_of new) n.list.0 q None) own taken_out)
+              (subst (λ (n : Node). HasRowPut mid late after last n.list.0 q row) up_is put)
+              spare count in
+              let its : child ≡ over.of.sibling = some_same (sym child_at ∙ over.of.family.sibling_at) in
+              record {
+                at = q + 1;
+                handing = over;
+                low = omega arith;
+                none = λ p from less.
+                    let page : q ≡ p = omega arith in
+                    subst (λ x. slots_of late over.of.sibling.list.0 x ≡ None) page (subst (λ (n : Node). slots_of late n.list.0 q ≡ None) its hand-gone);
+              }
+
+-- it begins with no row passed
+pub handed-start : (arena : Arena) (old new : Rows Row) (before after : Pool) (k h s : ℕ) → IsHandingOver arena old new before after k h s 0 →
+    IsHandedUpTo arena old new before after k h s 0
+handed-start arena old new before after k h s was = record { at = 0; handing = was; low = omega arith; none = λ p from less. absurd (omega arith) }
 
 -- ---- one row that is put
 

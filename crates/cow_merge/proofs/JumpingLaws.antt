@@ -1,4 +1,4 @@
--- A walk may go by the same jumps where rows went, or moved into the list of a VMO's node.
+-- A walk may go by the same jumps where rows went.
 use Rattle.std.proofs.Common.{ℕ, Option}
 use Rattle.balanced_tree.specs.Rows.{Rows}
 use Rattle.page_list.specs.declared.row.Row.{Row}
@@ -8,9 +8,8 @@ use Rattle.cow_arena.specs.Nodes.{Arena}
 use Rattle.cow_split.specs.Trees.{tree_of}
 use Rattle.cow_jump.specs.declared.jumps.JumpTable.{JumpTable}
 use Rattle.cow_jump.specs.Jumps.{MayJump}
-use Rattle.cow_jump.proofs.JumpRowLaws.{may-jump_bare, may-jump_part}
+use Rattle.cow_jump.proofs.JumpRowLaws.{may-jump_part}
 use Rattle.cow_merge.specs.Ranges.{IsBare}
-use Rattle.cow_merge.specs.inside.HandingOver.{SeesFromStart}
 use Rattle.cow_merge.specs.inside.Uncovering.{IsUncovering}
 
 pub jumps-left : (arena : Arena) (old new : Rows Row) (before after : Pool) (v first : ℕ) → IsBare arena old new before after v first →
@@ -18,8 +17,7 @@ pub jumps-left : (arena : Arena) (old new : Rows Row) (before after : Pool) (v f
 jumps-left arena old new before after v first bare =
     may-jump_part (tree_of arena old) bare.leaving.exact.forest (slots_of new) v bare.node bare.visible bare.leaving.part
 
-pub jumps-uncovered : (arena : Arena) (old new : Rows Row) (before after : Pool) (k h s from : ℕ) (u : IsUncovering arena old new before after k h s from) →
-    SeesFromStart u.of.sibling → (jumps : Option JumpTable) → MayJump (tree_of arena old) jumps → MayJump (tree_of arena new) jumps
-jumps-uncovered arena old new before after k h s from u sees =
-    may-jump_bare (tree_of arena old) u.exact.forest (slots_of new) s u.of.sibling (record { at = u.of.family.sibling_at; koid = sees.visible })
-    (record { bare = u.rows.others })
+pub jumps-uncovered : (arena : Arena) (old new : Rows Row) (before after : Pool) (k h from : ℕ) (u : IsUncovering arena old new before after k h from) →
+    (jumps : Option JumpTable) → MayJump (tree_of arena old) jumps → MayJump (tree_of arena new) jumps
+jumps-uncovered arena old new before after k h from u =
+    may-jump_part (tree_of arena old) u.exact.forest (slots_of new) k u.node u.visible u.part

@@ -19,11 +19,11 @@ use Rattle.cow_arena.specs.Ways.{IsPartOf, KeepsBelow}
 use Rattle.cow_arena.proofs.RenamedLaws.{renamed-at, renamed-was}
 use Rattle.cow_arena.proofs.RenamedOverLaws.{tree-over, over-exchange}
 use Rattle.cow_arena.proofs.RisesLaws.{rises-bare, rises-stays}
-use Rattle.cow_arena.proofs.RisesSplicedLaws.{rises-spliced, rises-renamed, below-then}
+use Rattle.cow_arena.proofs.RisesSplicedLaws.{rises-spliced, rises-renamed, below-then, below-fewer}
 use Rattle.cow_arena.proofs.SpliceForestLaws.{spliced_by}
 use Rattle.cow_arena.proofs.SpliceWalkLaws.{sibling_at, splice-same}
 use Rattle.cow_split.specs.Trees.{tree_of}
-use Rattle.cow_split.proofs.PartLaws.{bare-part}
+use Rattle.cow_split.proofs.PartLaws.{bare-part, part-none}
 use Rattle.cow_merge.specs.inside.Lifting.{IsFamilyOf}
 use Rattle.cow_merge.specs.inside.HandingOver.{HasHandedOver}
 use Rattle.cow_merge.specs.inside.Uncovering.{IsUncovering}
@@ -141,17 +141,14 @@ keeps-renamed name twice t u v keeps = record {
         ap is_some (renamed-was name u.nodes k it.0 it.1).1
 
 pub keeps-over_rows : (arena new : Arena) (old rows late : Rows Row) (before between after : Pool) (f : IsForest (nodes_of arena) arena.lists) (v h s end : ℕ) →
-    IsUncovering arena old rows before between v h s end → (it : HasHandedOver arena rows late between after v h s) →
+    IsUncovering arena old rows before between v h end → (it : HasHandedOver arena rows late between after v h s) →
     nodes_of new ≡ spliced_over (nodes_of arena) v h s it.of.parent it.of.sibling → new.lists ≡ arena.lists → IsForest (nodes_of new) new.lists →
     KeepsRises (tree_of arena old) (tree_of new late) v
 keeps-over_rows arena new old rows late before between after f v h s end freed it nodes lists forest =
     let of = it.of in
     let name = exchanged of.parent.list.0 of.sibling.list.0 in
-    let up : freed.of.parent ≡ of.parent = some_same (sym freed.of.family.parent_at ∙ of.family.parent_at) in
-    let beside : freed.of.sibling ≡ of.sibling = some_same (sym freed.of.family.sibling_at ∙ of.family.sibling_at) in
     let first : KeepsBelow (slots_of old) (slots_of rows) of.parent of.sibling =
-    subst (λ (n : Node). KeepsBelow (slots_of old) (slots_of rows) of.parent n) beside
-    (subst (λ (n : Node). KeepsBelow (slots_of old) (slots_of rows) n freed.of.sibling) up freed.rows) in
+    below-fewer (slots_of old) (slots_of rows) of.parent of.sibling (part-none (slots_of old) (slots_of rows) freed.part) in
     let keeps = below-then (slots_of old) (slots_of rows) it.slots of.parent of.sibling
     (two-lists arena v h s f of of.parent of.sibling of.family.parent_at of.family.sibling_at) first it.lifted.rows in
     let g : IsForest (spliced (nodes_of arena) v h s of.parent of.sibling) arena.lists = record {

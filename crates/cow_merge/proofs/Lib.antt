@@ -14,3 +14,4 @@ pub mod BesideLaws
 pub mod WitnessLaws
 pub mod KeptWaysLaws
 pub mod JumpingLaws
+pub mod SharingLaws

@@ -113,7 +113,7 @@ untold : (bit found : Bool) → bit ≡ not found → bit ≡ false → found �
 untold bit true is e = refl
 untold bit false is e = absurd (cc)
 
-no-except : (v : ℕ) → leads_to None v ≡ false
+pub no-except : (v : ℕ) → leads_to None v ≡ false
 unfolding passes
 no-except v = refl
 
@@ -166,7 +166,7 @@ module _ (t : Tree) (f : IsForest t.nodes t.lists) (k h s : ℕ) (leaf parent si
           hidden-apart t f k k above.0 leaf above.1 above.2 visible refl
 
   -- the visible child is not below its sibling
-  not-below : (p : ℕ) (side : Side) (r : ℕ) → Reaches t k p side s r → ⊥
+  pub not-below : (p : ℕ) (side : Side) (r : ℕ) → Reaches t k p side s r → ⊥
   not-below p side r way =
       let less = deeper in
       elim (reach-cases t k p side s r way) [

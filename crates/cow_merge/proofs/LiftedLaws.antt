@@ -21,9 +21,9 @@ use Rattle.cow_arena.specs.declared.node.Side.TheVariants as side
 use Rattle.cow_arena.specs.Nodes.{Arena, nodes_of, IsVisible, AreFamily, link_to, other_side, side_of, side_in, child_on}
 use Rattle.cow_arena.specs.Walk.{Slots, Tree, tree_with, Found, walk, frame_in, frame_at}
 use Rattle.cow_arena.specs.Forest.{IsForest}
-use Rattle.cow_arena.specs.Ways.{Climbs, KeepsBelow}
+use Rattle.cow_arena.specs.Ways.{Climbs, Reaches, KeepsBelow}
 use Rattle.cow_arena.proofs.RisesSplicedLaws.{below-same, below-then, below-fewer, below-gone, below-moved}
-use Rattle.cow_arena.proofs.ReachLaws.{side-is, side-of-child, reach-one, reach-through, found-of-reach, walk-ends}
+use Rattle.cow_arena.proofs.ReachLaws.{side-is, side-of-child, reach-one, reach-on, reach-through, found-of-reach, walk-ends}
 use Rattle.cow_arena.proofs.AlikeLaws.{with_pair-same, with_pair-other}
 use Rattle.cow_arena.proofs.SpliceWalkLaws.{family-side, family-parent}
 use Rattle.cow_split.specs.declared.answers.Cut.{Cut}
@@ -45,7 +45,7 @@ use Rattle.cow_merge.specs.inside.Lifting.{IsAside, AreLifted, IsLifting, IsBefo
 use Rattle.cow_merge.proofs.RangeLaws.{gives-then, gives-same}
 use Rattle.cow_merge.proofs.PassingLaws.{linked-part, range-exact, range-shows}
 use Rattle.cow_merge.proofs.SpliceLaws.{family-apart}
-use Rattle.cow_merge.proofs.LiftLaws.{page-over, lists-apart, leaf-step, hidden, dropped-shows, dropped-exact, moved-shows, moved-exact}
+use Rattle.cow_merge.proofs.LiftLaws.{page-over, lists-apart, leaf-step, hidden, not-below, dropped-shows, dropped-exact, moved-shows, moved-exact}
 
 -- a slot that has a frame, by the test
 pub has-frame : (t : ℕ) (row : Slot) → frame_in row ≡ Some t → has_frame t row ≡ true
@@ -239,34 +239,49 @@ module _ (t : Tree) (k h s : ℕ) (leaf parent sibling : Node) (family : AreFami
           free = subst (λ x. t.slots sibling.list.0 x ≡ None) here (subst (λ (n : Node). t.slots n.list.0 it.0 ≡ None) same step.free);
         }
 
-    -- where the sibling is visible and sees it, its bit says so
-    pub row-bit : IsVisible t.nodes s sibling → SeesRow t.slots sibling q → bit_on (other_side leaf_side) left right ≡ false
-    row-bit shown sees = elim (cases_Bool (bit_on (other_side leaf_side) left right)) [
+    -- where another VMO's node comes to it from the sibling's side, its bit says so
+    pub row-bit_of : (v p : ℕ) → IsPage t v p → v ≢ k → Reaches t v p (other_side leaf_side) h q → bit_on (other_side leaf_side) left right ≡ false
+    row-bit_of v p page other way = elim (cases_Bool (bit_on (other_side leaf_side) left right)) [
       | inr off ↦ off
       | inl on ↦ absurd ((denies-on t out h q left right (other_side leaf_side) bits).is_true on (record {
-        v = s;
-        p = q - sibling.first;
-        sees = record {
-          page = record { node = sibling; visible = shown; below = omega (arith, sees.inside, f.by.seen s sibling family.sibling_at) };
-          slot = row;
-          found = found-of-reach t f s (q - sibling.first) (other_side leaf_side) h q parent row
-              (reach-one t s (q - sibling.first) (other_side leaf_side) h q (record {
-                node = sibling;
-                at = family.sibling_at;
-                free = sees.free;
-                inside = sees.inside;
-                parent = family-parent t.nodes t.lists f k h s leaf parent sibling family;
-                page = omega (arith, sees.from);
-              })
-              (side-of-child t.nodes t.lists f h s parent (other_side leaf_side) family.parent_at sides.1))
-              family.parent_at has;
-        };
-        in_sight = elim (cases_Bool (out s (q - sibling.first))) [
+        v = v;
+        p = p;
+        sees = record { page = page; slot = row; found = found-of-reach t f v p (other_side leaf_side) h q parent row way family.parent_at has };
+        in_sight = elim (cases_Bool (out v p)) [
           | inr sight ↦ sight
-          | inl hides ↦ absurd ((family-apart t.nodes t.lists f k h s leaf parent sibling family).0 (sym (only s (q - sibling.first) hides)))
+          | inl hides ↦ absurd (other (only v p hides))
         ];
       }))
     ]
+
+    -- the sibling's page goes on to the row
+    beside-step : SeesRow t.slots sibling q → Climbs t s (q - sibling.first) h q
+    beside-step sees = record {
+      node = sibling;
+      at = family.sibling_at;
+      free = sees.free;
+      inside = sees.inside;
+      parent = family-parent t.nodes t.lists f k h s leaf parent sibling family;
+      page = omega (arith, sees.from);
+    }
+
+    beside-side : side_in t.nodes s ≡ Some (other_side leaf_side)
+    beside-side = side-of-child t.nodes t.lists f h s parent (other_side leaf_side) family.parent_at sides.1
+
+    -- the sibling is one, if it is visible and sees the row
+    pub row-bit : IsVisible t.nodes s sibling → SeesRow t.slots sibling q → bit_on (other_side leaf_side) left right ≡ false
+    row-bit shown sees = row-bit_of s (q - sibling.first)
+        (record { node = sibling; visible = shown; below = omega (arith, sees.inside, f.by.seen s sibling family.sibling_at) })
+        (λ same. (family-apart t.nodes t.lists f k h s leaf parent sibling family).0 (sym same))
+        (reach-one t s (q - sibling.first) (other_side leaf_side) h q (beside-step sees) beside-side)
+
+    -- and so is one that comes to the sibling's page from below
+    pub row-bit_below : (v p : ℕ) (from : Side) → IsPage t v p → Reaches t v p from s (q - sibling.first) → SeesRow t.slots sibling q →
+        bit_on (other_side leaf_side) left right ≡ false
+    row-bit_below v p from page way sees = row-bit_of v p page
+        (λ same. not-below t f k h s leaf parent sibling family visible p from (q - sibling.first)
+        (subst (λ i. Reaches t i p from s (q - sibling.first)) same way))
+        (reach-on t v p from s (q - sibling.first) (other_side leaf_side) h q way (beside-step sees) beside-side)
 
   module _ (still : StillThere t k leaf parent.list.0 q row out in_use) where
     abbrev u : Tree
@@ -504,6 +519,39 @@ lifting-found arena old new before after k h s was parent at = record {
     held = was.lifted.held;
     gives = was.lifted.gives;
     rows = subst (λ (n : Node). KeepsBelow (slots_of old) (slots_of new) n was.of.sibling) (some_same (sym was.of.family.parent_at ∙ at)) was.lifted.rows;
+  };
+  linked = was.linked;
+  spare = was.spare;
+  count = was.count;
+}
+
+-- and the sibling too
+abbrev pub lifting-with : (arena : Arena) (old new : Rows Row) (before after : Pool) (k h s : ℕ) → IsLifting arena old new before after k h s →
+    (parent sibling : Node) → nodes_of arena h ≡ Some parent → nodes_of arena s ≡ Some sibling → IsLifting arena old new before after k h s
+lifting-with arena old new before after k h s was parent sibling at sibling_at = record {
+  of = record {
+    node = was.of.node;
+    parent = parent;
+    sibling = sibling;
+    family = record {
+      at = was.of.family.at;
+      parent_is = was.of.family.parent_is;
+      parent_at = at;
+      sibling_is = was.of.family.sibling_is;
+      sibling_at = sibling_at;
+    };
+    visible = was.of.visible;
+  };
+  lifted = record {
+    out = was.lifted.out;
+    exact = was.lifted.exact;
+    only = was.lifted.only;
+    shows = was.lifted.shows;
+    bare = was.lifted.bare;
+    held = was.lifted.held;
+    gives = was.lifted.gives;
+    rows = subst (λ (n : Node). KeepsBelow (slots_of old) (slots_of new) parent n) (some_same (sym was.of.family.sibling_at ∙ sibling_at))
+        (subst (λ (n : Node). KeepsBelow (slots_of old) (slots_of new) n was.of.sibling) (some_same (sym was.of.family.parent_at ∙ at)) was.lifted.rows);
   };
   linked = was.linked;
   spare = was.spare;

@@ -1,263 +1,287 @@
--- Rows of a hidden node under own rows of a VMO's node that goes: nobody sees them from its side.
-use Rattle.std.proofs.Common.{◌≡◌, ◌≢◌, ◌⊎◌, ℕ, ◌+◌, ◌-◌, ◌<◌, ◌≤◌, if◌then◌else◌, Bool, true, false, Option, None, Some, IsSome}
+-- Own rows of a VMO's node that goes, over rows of its parent: once they are gone, the node sees the rows of the parent.
+use Rattle.std.proofs.Common.{◌≡◌, ◌≢◌, ℕ, ◌+◌, ◌<◌, ◌≤◌, Bool, false, Option, None, Some, IsSome, IsSomeAnd}
 use Rattle.std.proofs.Common.{refl, sym, ap, subst, ◌∙◌, inl, inr, arith}
-use Rattle.std.specs.Prelude.{◌==◌, is_some}
-use Rattle.std.proofs.lemmas.Bool.{cases_Bool, cases_eq, cases_lt, cond-true, cond-false, eq-eqb, ne_eqb}
+use Rattle.std.specs.Prelude.{is_some}
+use Rattle.std.specs.Option.{option_map}
+use Rattle.std.proofs.lemmas.Bool.{cases_Bool, cases_eq, cases_lt}
 use Rattle.balanced_tree.specs.Pairs.{with_pair, IsNext}
 use Rattle.balanced_tree.specs.Rows.{Rows}
 use Rattle.vm_base.specs.declared.names.Tag.{Tag}
-use Rattle.vm_base.proofs.EntryLaws.{some_same, some_is}
-use Rattle.page_list.specs.Lists.{slots_of, row_count}
+use Rattle.vm_base.proofs.EntryLaws.{some_same}
+use Rattle.page_list.specs.Lists.{slots_of}
 use Rattle.page_list.specs.declared.row.Row.{Row}
 use Rattle.page_list.specs.declared.row.Slot.{Slot}
 use Rattle.page_list.specs.declared.row.Slot.TheVariants as slot
 use Rattle.cow_arena.specs.declared.node.Node.{Node}
+use Rattle.cow_arena.specs.declared.node.NodeId.{NodeId}
 use Rattle.cow_arena.specs.declared.node.Side.{Side}
-use Rattle.cow_arena.specs.Nodes.{Arena, nodes_of, other_side, side_of}
-use Rattle.cow_arena.specs.Walk.{Slots, Tree, frame_in, frame_found, frame_at}
+use Rattle.cow_arena.specs.declared.node.Side.TheVariants as side
+use Rattle.cow_arena.specs.Nodes.{Arena, nodes_of, IsVisible, link_to, child_on, other_side, side_of}
+use Rattle.cow_arena.specs.Walk.{Slots, Tree, Found, walk, frame_in, frame_at}
 use Rattle.cow_arena.specs.Forest.{IsForest}
-use Rattle.cow_arena.proofs.AlikeLaws.{with_pair-other}
+use Rattle.cow_arena.specs.Ways.{Climbs, SameFrames, IsPartOf}
+use Rattle.cow_arena.proofs.AlikeLaws.{with_pair-same, with_pair-other, frames-back, found-alike, frame-alike}
+use Rattle.cow_arena.proofs.ReachLaws.{side-is, side-of-parent, reach-one, reach-through, found-of-reach, walk-ends, hidden-apart}
 use Rattle.cow_arena.proofs.WalkLaws.{walk-own}
-use Rattle.cow_split.specs.Trees.{tree_of}
-use Rattle.cow_split.specs.Exact.{IsExact, IsOnlyOf, all_in_sight, leaving_out, without_frame}
-use Rattle.cow_arena.specs.Ways.{KeepsBelow}
-use Rattle.cow_arena.proofs.RisesSplicedLaws.{below-same, below-then, below-gone, below-moved}
+use Rattle.cow_split.specs.Trees.{tree_of, with_row}
+use Rattle.cow_split.specs.Sight.{IsPage, IsSeenFrom}
+use Rattle.cow_split.specs.Exact.{AreSplitBits, IsExact, all_in_sight, leaving_out, without_frame}
+use Rattle.cow_split.proofs.ExactLaws.{cases_place, FollowFrame, with_row-changes, frame-stays, exact-changed}
 use Rattle.cow_split.proofs.NodeLaws.{stays-page}
-use Rattle.cow_split.proofs.ExactLaws.{cases_place}
-use Rattle.cow_split.proofs.RowLaws.{left_out-other, left_out-here, only-more, only-none, exact-in_use_alike, exact-own_out, exact-own_in}
+use Rattle.cow_split.proofs.PartLaws.{part-same, part-with_pair, part-then}
+use Rattle.cow_split.proofs.RowLaws.{left_out-other, exact-in_use_alike, own-walks, own-shows, exact-own_gone}
 use Rattle.frame_pool.specs.Pool.{Pool, taken_frames, is_taken}
-use Rattle.cow_merge.specs.Ranges.{bit_on, ShowsSame, AreLinked, GivesBack, IsHeldBy}
-use Rattle.cow_merge.specs.inside.Lifting.{IsFamilyOf, SeesRow, IsMoved, HasGone, HasMoved, HasSettled}
-use Rattle.cow_merge.specs.inside.HandingOver.{frame_there}
+use Rattle.cow_merge.specs.Ranges.{bit_on, IsHeldBy}
 use Rattle.cow_merge.specs.Merging.{HasClosed}
-use Rattle.cow_merge.specs.inside.Uncovering.{IsUncovering, HasNothing, HasRowSettled}
+use Rattle.cow_merge.specs.inside.Lifting.{IsFamilyOf}
+use Rattle.cow_merge.specs.inside.Uncovering.{without_bits, IsRowUncovered, IsUncovered, IsUncovering}
 use Rattle.cow_merge.proofs.RangeLaws.{gives-then, gives-same}
-use Rattle.cow_merge.proofs.LiftLaws.{page-over, leaf-step}
-use Rattle.cow_merge.proofs.LiftedLaws.{IsCut, StillThere, untold, settle-sees, without-none, one-bit, denies-on, family-lists, family-other, none-seen, bits, row-sees, zero-gone, row-moved, gone-slots, gone-linked, moved-slots, moved-linked, settled-list}
+use Rattle.cow_merge.proofs.PassingLaws.{linked-part}
+use Rattle.cow_merge.proofs.LiftedLaws.{one-bit, denies-on, family-lists}
 
 -- ---- one row
 
-module _ (arena : Arena) (old first : Rows Row) (before between : Pool) (k h s from p q : ℕ) (was : IsUncovering arena old first before between k h s from)
-    (own : Slot) (own_at : slots_of first was.of.node.list.0 p ≡ Some own) (page : q ≡ was.of.node.first + p) (row : Slot)
-    (has : slots_of first was.of.parent.list.0 q ≡ Some row) where
-  abbrev t : Tree
-  t = tree_of arena first
+frame-kept : (row : Slot) → frame_in (without_bits row) ≡ frame_in row
+frame-kept slot.Zero = refl
+frame-kept (slot.Frame tag left right) = refl
 
-  abbrev node : Node
-  node = was.of.node
+-- what holds of one side and of the other one, holds of each
+pub both-sides : (from : Side) (P : Side → Type 0) → P from → P (other_side from) → (s : Side) → P s
+both-sides side.Left P one other side.Left = one
+both-sides side.Left P one other side.Right = other
+both-sides side.Right P one other side.Left = other
+both-sides side.Right P one other side.Right = one
 
-  abbrev parent : Node
-  parent = was.of.parent
+-- Page p of the leaf has an own row, and comes to a row of the parent. The own row goes, and the parent's row has no bit set then.
+module _ (t : Tree) (in_use : ℕ → Bool) (exact : IsExact t all_in_sight in_use) (k h p q : ℕ) (leaf parent : Node) (visible : IsVisible t.nodes k leaf)
+    (up : leaf.parent ≡ link_to h) (parent_at : t.nodes h ≡ Some parent) (inside : p < leaf.seen) (page : q ≡ leaf.first + p) (own row : Slot)
+    (own_at : t.slots leaf.list.0 p ≡ Some own) (row_at : t.slots parent.list.0 q ≡ Some row) where
+  abbrev f : IsForest t.nodes t.lists
+  f = exact.forest
 
-  abbrev sibling : Node
-  sibling = was.of.sibling
+  abbrev leaf_side : Side
+  leaf_side = side_of parent k
 
-  lists : (node.list.0 ≢ parent.list.0) × (node.list.0 ≢ sibling.list.0) × (parent.list.0 ≢ sibling.list.0)
-  lists = family-lists arena k h s was.exact.forest was.of
+  hidden : parent.koid ≡ None
+  hidden =
+      let below = f.by.below h k leaf visible.at up in
+      ap (λ (n : Node). n.koid) (some_same (sym parent_at ∙ below.at)) ∙ below.hidden
 
-  -- the page with the own row may be left out of sight
-  abbrev out : ℕ → ℕ → Bool
-  out = leaving_out all_in_sight k p
+  apart : leaf.list.0 ≢ parent.list.0
+  apart same = hidden-apart t f h k parent leaf parent_at hidden visible (sym (f.by.own k h leaf parent visible.at parent_at same))
 
-  out-exact : IsExact t out (is_taken between)
-  out-exact = exact-own_out t all_in_sight (is_taken between) k p node own was.of.family.at own_at was.exact
+  abbrev mid : Tree
+  mid = with_row t leaf.list.0 p None
 
-  out-only : IsOnlyOf out k
-  out-only = only-more all_in_sight k p (only-none k)
+  abbrev last : Tree
+  last = with_row mid parent.list.0 q (Some (without_bits row))
 
-  is-cut : IsCut t k node q (slots_of first) out out (is_taken between) None
-  is-cut = record {
-    exact = exact-in_use_alike t out (is_taken between) (without_frame (is_taken between) None) (without-none (is_taken between)) out-exact;
-    only = out-only;
-    aside = λ r at within.
-        let same : r ≡ p = omega arith in
-        subst (λ x. out k x ≡ true) (sym same) (left_out-here all_in_sight k p);
-    more = λ w r sight. sight;
-    shows = λ w r there sight. refl;
+  row-mid : mid.slots parent.list.0 q ≡ Some row
+  row-mid = with_pair-other t.slots leaf.list.0 p None parent.list.0 q (λ list _. apart (sym list)) ∙ row_at
+
+  alike : SameFrames mid.slots last.slots
+  alike = record {
+    same = λ l r. elim (cases_place parent.list.0 q l r) [
+      | inl here ↦ rw (here.0, here.1)
+          (ap (option_map frame_in) (with_pair-same mid.slots parent.list.0 q (Some (without_bits row)))
+          ∙ (ap Some (frame-kept row) ∙ sym (ap (option_map frame_in) row-mid)))
+      | inr differs ↦ ap (option_map frame_in) (with_pair-other mid.slots parent.list.0 q (Some (without_bits row)) l r (λ a b. differs (a, b)))
+    ];
   }
 
-  abbrev still : StillThere t k node parent.list.0 q row out (is_taken between)
-  still = record {
-    now = out;
-    slots = slots_of first;
-    is_cut = is-cut;
-    there = row;
-    at = has;
-    frame = refl;
-    same = refl;
-    beside = λ l r apart. refl;
-  }
+  -- the page comes to the row now
+  found : walk mid k p ≡ Some (record { node = h; page = q; side = Some leaf_side; slot = row })
+  found =
+      let step : Climbs mid k p h q = record {
+        node = leaf;
+        at = visible.at;
+        free = with_pair-same t.slots leaf.list.0 p None;
+        inside = inside;
+        parent = up;
+        page = page;
+      } in
+      found-of-reach mid f k p leaf_side h q parent row
+      (reach-one mid k p leaf_side h q step (side-is t.nodes t.lists f h k parent leaf parent_at visible.at up)) parent_at row-mid
 
-  -- a row with a frame is seen through the sibling, since someone sees it
-  frame-seen : (tag : Tag) (left right : Bool) → row ≡ slot.Frame tag left right → bit_on (other_side (side_of parent k)) left right ≡ true → ⊥
-  frame-seen tag left right e off =
-      let both = bits t k h s node parent sibling was.of.family was.of.visible q row has out (is_taken between) out-exact out-only tag left right e in
-      elim (cases_Bool (bit_on (side_of parent k) left right)) [
-        | inl on ↦ one-bit left right (side_of parent k) both.is_seen on off
-        | inr seen ↦
-            none-seen t k h s node parent sibling was.of.family was.of.visible q row has out (is_taken between) out-exact out-only
-            (λ r step.
-            let one = leaf-step t was.exact.forest k h s node parent sibling was.of.family was.of.visible r q step in
-            let same : step.node ≡ node = some_same (sym step.at ∙ was.of.family.at) in
-            let here : r ≡ p = omega (arith, one.0) in
-            let none : slots_of first node.list.0 p ≡ None =
-            subst (λ x. slots_of first node.list.0 x ≡ None) here (subst (λ (n : Node). slots_of first n.list.0 r ≡ None) same step.free) in
-            absurd (cc))
-            ((denies-on t out h q left right (side_of parent k) both).is_false seen)
-      ]
-
-  -- the frame of the row is taken
-  pub uncover-taken : (tag : ℕ) → frame_in row ≡ Some tag → IsSome (taken_frames between tag)
-  uncover-taken tag frame = was.exact.used parent.list.0 q row tag has frame
-
-  pub uncover-sees : (tag : Tag) (left right : Bool) → row ≡ slot.Frame tag left right → bit_on (side_of parent s) left right ≡ false →
-      SeesRow (slots_of first) sibling q
-  uncover-sees tag left right e seen =
-      row-sees t k h s node parent sibling was.of.family was.of.visible q row has out (is_taken between) out-exact out-only tag left right e
-      (ap (λ (side : Side). bit_on side left right) (sym (family-other arena k h s was.exact.forest was.of)) ∙ seen)
-
-  module _ (mid new : Rows Row) (after : Pool) (taken_out : slots_of mid ≡ with_pair (slots_of first) parent.list.0 q None) (inside : p < node.seen) where
-    -- the sibling's row there is as it was
-    beside-mid : (r : ℕ) → slots_of mid sibling.list.0 r ≡ slots_of first sibling.list.0 r
-    beside-mid r = ap (λ (x : Slots). x sibling.list.0 r) taken_out ∙ with_pair-other (slots_of first) parent.list.0 q None sibling.list.0 r (λ list _. lists.2 (sym list))
-
-    sees-first : SeesRow (slots_of mid) sibling q → SeesRow (slots_of first) sibling q
-    sees-first sees = record { from = sees.from; inside = sees.inside; free = sym (beside-mid (q - sibling.first)) ∙ sees.free }
-
-    sees-mid : SeesRow (slots_of first) sibling q → SeesRow (slots_of mid) sibling q
-    sees-mid sees = record { from = sees.from; inside = sees.inside; free = beside-mid (q - sibling.first) ∙ sees.free }
-
-    -- The rows are these then.
-    module _ (slots : Slots) (is : slots_of new ≡ slots) (cut : IsCut t k node q slots out out (is_taken between) None)
-        (taken : (x : ℕ) → is_taken after x ≡ is_taken between x) (gives : GivesBack between after) (linked : AreLinked first between → AreLinked new after)
-        (own_list : (r : ℕ) → slots node.list.0 r ≡ slots_of first node.list.0 r)
-        (parent_list : (r : ℕ) → slots_of new parent.list.0 r ≡ (if r == q then None else slots_of first parent.list.0 r))
-        (between_none : (r : ℕ) → from ≤ r → r < p → slots_of first node.list.0 r ≡ None) where
-      own-new : (r : ℕ) → slots_of new node.list.0 r ≡ slots_of first node.list.0 r
-      own-new r = ap (λ (x : Slots). x node.list.0 r) is ∙ own_list r
-
-      exact-now : IsExact (record t { slots = slots }) all_in_sight (is_taken after)
-      exact-now = exact-own_in (record t { slots = slots }) all_in_sight (is_taken after) k p node own was.of.family.at (own_list p ∙ own_at)
-          (exact-in_use_alike (record t { slots = slots }) out (without_frame (is_taken between) None) (is_taken after)
-          (λ x. sym (taken x ∙ without-none (is_taken between) x)) cut.exact)
-
-      shows-now : ShowsSame t (record t { slots = slots }) all_in_sight
-      shows-now w r there sight = elim (cases_place k p w r) [
-        | inr differs ↦ cut.shows w r there (left_out-other all_in_sight k p w r differs)
-        | inl here ↦
-            subst (λ x. frame_at (record t { slots = slots }) x r ≡ frame_at t x r) (sym here.0)
-            (subst (λ x. frame_at (record t { slots = slots }) k x ≡ frame_at t k x) (sym here.1)
-            (ap frame_found (walk-own (record t { slots = slots }) was.exact.forest k p node own was.of.family.at (own_list p ∙ own_at))
-            ∙ sym (ap frame_found (walk-own t was.exact.forest k p node own was.of.family.at own_at))))
-      ]
-
-      free-now : (r : ℕ) → r < p + 1 → IsHeldBy (nodes_of arena) (slots_of new) h node r → slots_of new node.list.0 r ≡ None
-      free-now r less held =
-          let same : held.above ≡ parent = some_same (sym held.at ∙ was.of.family.parent_at) in
-          let some : IsSome (slots_of new parent.list.0 (node.first + r)) = subst (λ (n : Node). IsSome (slots_of new n.list.0 (node.first + r))) same held.row in
-          elim (cases_eq r p) [
-            | inl here ↦
-                let at : node.first + r ≡ q = omega arith in
-                let none = parent_list (node.first + r) ∙ cond-true _ _ _ (eq-eqb (node.first + r) q at) in
-                absurd (let gone = ap is_some none in cc)
-            | inr apart ↦ elim (cases_lt r from) [
-              | inr past ↦ own-new r ∙ between_none r past (omega arith)
-              | inl before ↦
-                  let at : node.first + r ≡ q → ⊥ = λ e. absurd (omega arith) in
-                  let there = parent_list (node.first + r) ∙ cond-false _ _ _ (ne_eqb (node.first + r) q at) in
-                  own-new r ∙ was.free r before (record { above = parent; at = was.of.family.parent_at; row = ap is_some (sym there) ∙ some; inside = held.inside })
-            ]
-          ]
-
-      uncovered-next : KeepsBelow (slots_of first) slots parent sibling → first.spare ≤ new.spare → row_count new ≤ row_count first → IsUncovering arena old new before after k h s (p + 1)
-      uncovered-next below spare count = record {
-        of = was.of;
-        exact = subst (λ (x : Slots). IsExact (record t { slots = x }) all_in_sight (is_taken after)) (sym is) exact-now;
-        shows = λ w r there sight.
-            ap (λ (x : Slots). frame_at (record t { slots = x }) w r) is
-            ∙ (shows-now w r (page-over (tree_of arena old) (slots_of first) w r there) refl ∙ was.shows w r there sight);
-        free = free-now;
-        gives = gives-then before between after was.gives gives;
-        rows = subst (λ (x : Slots). KeepsBelow (slots_of old) x parent sibling) (sym is)
-            (below-then (slots_of old) (slots_of first) slots parent sibling lists.2 was.rows below);
-        linked = λ ok. linked (was.linked ok);
-        spare = omega (arith, was.spare);
-        count = omega (arith, was.count);
+  -- what is seen without the own row is seen with the other bits too
+  to-last : (side : Side) (g r : ℕ) (out : ℕ → ℕ → Bool) → IsSeenFrom mid out side g r → IsSeenFrom last all_in_sight side g r
+  to-last side g r out seen =
+      let it = found-alike mid last.slots alike f seen.v seen.p _ seen.sees.found in
+      let at = seen.sees.page in
+      record {
+        v = seen.v;
+        p = seen.p;
+        sees = record { page = record { node = at.node; visible = at.visible; below = at.below }; slot = it.0; found = it.1 };
+        in_sight = refl;
       }
 
-    pub uncovered-settled : HasSettled arena mid new between after parent s sibling q row → ((r : ℕ) → from ≤ r → r < p → slots_of first node.list.0 r ≡ None) →
-        mid.spare ≡ first.spare + 1 → row_count mid + 1 ≡ row_count first → IsUncovering arena old new before after k h s (p + 1)
-    uncovered-settled done none spare count = elim (cases_Bool done.seen) [
-      | inl on ↦ moves on (done.moves on)
-      | inr off ↦ goes row refl off (done.gone off)
-    ]
-      where
-        list_now : (r : ℕ) → slots_of new parent.list.0 r ≡ (if r == q then None else slots_of first parent.list.0 r)
-        list_now = settled-list arena first mid new between after k h s was.of q row has taken_out lists.2 done
+  -- and the other way round, if it is not the row of the parent
+  of-last : (side : Side) (g r : ℕ) (node : Node) → t.nodes g ≡ Some node → ((node.list.0 ≡ parent.list.0) × (r ≡ q) → ⊥) →
+      IsSeenFrom last all_in_sight side g r → IsSeenFrom mid (leaving_out all_in_sight k p) side g r
+  of-last side g r node at differs seen =
+      let it = found-alike last mid.slots (frames-back alike) f seen.v seen.p _ seen.sees.found in
+      let there = seen.sees.page in
+      record {
+        v = seen.v;
+        p = seen.p;
+        sees = record { page = record { node = there.node; visible = there.visible; below = there.below }; slot = it.0; found = it.1 };
+        in_sight = left_out-other all_in_sight k p seen.v seen.p (λ both.
+            let here = sym it.1 ∙ (ap (λ i. walk mid i seen.p) both.0 ∙ (ap (walk mid k) both.1 ∙ found)) in
+            let same = some_same here in
+            let one : node ≡ parent = some_same (sym at ∙ (ap t.nodes (ap (λ (x : Found). x.node) same) ∙ parent_at)) in
+            differs (ap (λ (n : Node). n.list.0) one, ap (λ (x : Found). x.page) same));
+      }
 
-        other : side_of parent s ≡ other_side (side_of parent k)
-        other = family-other arena k h s was.exact.forest was.of
+  seen-here : IsSeenFrom last all_in_sight leaf_side h q
+  seen-here =
+      let it = found-alike mid last.slots alike f k p _ found in
+      record {
+        v = k;
+        p = p;
+        sees = record {
+          page = record { node = leaf; visible = visible; below = omega (arith, inside, f.by.seen k leaf visible.at) };
+          slot = it.0;
+          found = it.1;
+        };
+        in_sight = refl;
+      }
 
-        sees : done.seen ≡ true → SeesRow (slots_of first) sibling q
-        sees on = sees-first (settle-sees (slots_of mid) parent s sibling q row done.seen done.tells
-            (λ tag left right e bit. sees-mid (uncover-sees tag left right e bit)) on)
+  -- nobody saw the row from the side of the leaf, since its own row covered it
+  none-here : IsSeenFrom t all_in_sight leaf_side h q → ⊥
+  none-here seen =
+      let from = side-of-parent t.nodes t.lists f h k leaf visible.at up in
+      let above_is : from.0 ≡ parent = some_same (sym from.2 ∙ parent_at) in
+      let side : from.1 ≡ leaf_side = some_same (sym from.4 ∙ side-is t.nodes t.lists f h k parent leaf parent_at visible.at up) in
+      let child : child_on parent leaf_side ≡ link_to k =
+      subst (λ (n : Node). child_on n leaf_side ≡ link_to k) above_is (subst (λ s. child_on from.0 s ≡ link_to k) side from.3) in
+      let way = (walk-ends t f seen.v seen.p _ seen.sees.found).way in
+      let it = reach-through t f seen.v seen.p leaf_side h q k parent way parent_at child in
+      let step = it.3 in
+      let same : step.node ≡ leaf = some_same (sym step.at ∙ visible.at) in
+      let first = ap (λ (n : Node). n.first) same in
+      let here : it.0 ≡ p = omega (arith, step.page) in
+      let none : t.slots leaf.list.0 p ≡ None =
+      subst (λ x. t.slots leaf.list.0 x ≡ None) here (subst (λ (n : Node). t.slots n.list.0 it.0 ≡ None) same step.free) in
+      absurd (cc)
 
-        moves : done.seen ≡ true → HasMoved arena mid new between after s sibling q row → IsUncovering arena old new before after k h s (p + 1)
-        moves on moved =
-            let slots : Slots = with_pair (with_pair (slots_of first) parent.list.0 q None) sibling.list.0 (q - sibling.first) (Some moved.now) in
-            uncovered-next slots (moved-slots arena first mid new between after k h s was.of q row has taken_out moved)
-            (row-moved t k h s node parent sibling was.of.family was.of.visible q row has out (is_taken between) out-exact out-only still moved.now (sees on)
-            (subst (λ (x : Slots). IsMoved (record (tree_of arena first) { slots = x }) s (q - sibling.first) sibling row moved.now) taken_out moved.moved))
-            (λ x. ap (λ f. is_some (f x)) moved.taken)
-            (record { frames = moved.frames; kept = λ x. inl (ap (λ f. f x) moved.taken) })
-            (moved-linked arena first mid new between after k h s was.of q row has taken_out moved)
-            (λ r. with_pair-other (with_pair (slots_of first) parent.list.0 q None) sibling.list.0 (q - sibling.first) (Some moved.now) node.list.0 r (λ list _. lists.1 list)
-            ∙ with_pair-other (slots_of first) parent.list.0 q None node.list.0 r (λ list _. lists.0 list))
-            list_now none
-            (below-moved (slots_of first) (with_pair (slots_of first) parent.list.0 q None) parent sibling q row (Some moved.now) has (sees on).from
-            (below-gone (slots_of first) parent sibling q))
-            (omega (arith, moved.spare)) (omega (arith, moved.count))
+  -- so it was seen from the other side
+  seen-beside : (tag : Tag) (left right : Bool) → row ≡ slot.Frame tag left right → IsSeenFrom last all_in_sight (other_side leaf_side) h q
+  seen-beside tag left right is_row =
+      let bits : AreSplitBits t all_in_sight h q left right = exact.bits h q parent tag left right parent_at hidden (row_at ∙ ap Some is_row) in
+      let off : bit_on (other_side leaf_side) left right ≡ false = elim (cases_Bool (bit_on (other_side leaf_side) left right)) [
+        | inr off ↦ off
+        | inl on ↦ elim (cases_Bool (bit_on leaf_side left right)) [
+          | inl both ↦ absurd (one-bit left right leaf_side bits.is_seen both on)
+          | inr seen ↦ absurd (none-here ((denies-on t all_in_sight h q left right leaf_side bits).is_false seen))
+        ]
+      ] in
+      carried ((denies-on t all_in_sight h q left right (other_side leaf_side) bits).is_false off)
+    where
+      carried : IsSeenFrom t all_in_sight (other_side leaf_side) h q → IsSeenFrom last all_in_sight (other_side leaf_side) h q
+      carried seen =
+          let at = seen.sees.page in
+          let differs : (seen.v ≡ k) × (seen.p ≡ p) → ⊥ = λ both.
+          let here = ap (λ i. walk t i seen.p) both.0 ∙ (ap (walk t k) both.1 ∙ walk-own t f k p leaf own visible.at own_at) in
+          absurd (let none = ap (λ (it : Found). it.side) (some_same (sym seen.sees.found ∙ here)) in cc) in
+          to-last (other_side leaf_side) h q all_in_sight (record {
+            v = seen.v;
+            p = seen.p;
+            sees = record {
+              page = record { node = at.node; visible = at.visible; below = at.below };
+              slot = seen.sees.slot;
+              found = own-walks t k p leaf visible f None seen.v seen.p differs ∙ seen.sees.found;
+            };
+            in_sight = refl;
+          })
 
-        goes : (r : Slot) → row ≡ r → done.seen ≡ false → HasGone mid new between after row → IsUncovering arena old new before after k h s (p + 1)
-        goes (slot.Frame tag left right) e off gone =
-            absurd (frame-seen tag left right e (ap (λ (side : Side). bit_on side left right) (sym other) ∙ untold _ _ (done.tells.frame tag left right e) off))
-        goes slot.Zero e off gone =
-            let spare_is = ap (λ (r : Rows Row). r.spare) gone.rows in
-            let count_is = ap (λ (r : Rows Row). row_count r) gone.rows in
-            uncovered-next (with_pair (slots_of first) parent.list.0 q None) (gone-slots arena first mid new between after k h s was.of q row has taken_out gone)
-            (zero-gone t k h s node parent sibling was.of.family was.of.visible q row has out (is_taken between) out-exact out-only still
-            (λ sees. let seen = (done.tells.zero e).1 (sees-mid sees) in absurd (cc)))
-            (λ x. gone.given.taken x ∙ (ap (λ (o : Option ℕ). without_frame (is_taken between) o x) (ap frame_in e) ∙ sym (without-none (is_taken between) x)))
-            gone.given.gives (gone-linked arena first mid new between after k h s was.of q row has taken_out gone)
-            (λ r. with_pair-other (slots_of first) parent.list.0 q None node.list.0 r (λ list _. lists.0 list))
-            list_now none (below-gone (slots_of first) parent sibling q) (omega arith) (omega arith)
+  bits-now : (r : Slot) → row ≡ r → (tag : Tag) (left right : Bool) → Some (without_bits r) ≡ Some (slot.Frame tag left right) →
+      AreSplitBits last all_in_sight h q left right
+  bits-now slot.Zero e tag left right is = absurd (let same = some_same is in cc)
+  bits-now (slot.Frame other a b) e tag left right is =
+      let same : slot.Frame other false false ≡ slot.Frame tag left right = some_same is in
+      let left_is : left ≡ false = cc in
+      let right_is : right ≡ false = cc in
+      let seen = both-sides leaf_side (λ s. IsSeenFrom last all_in_sight s h q) seen-here (seen-beside other a b e) in
+      record {
+        left_bit = record { is_true = λ on. absurd (cc); is_false = λ off. seen side.Left };
+        right_bit = record { is_true = λ on. absurd (cc); is_false = λ off. seen side.Right };
+        is_seen = rw left_is refl;
+      }
+
+  abbrev used_now : ℕ → Bool
+  used_now = without_frame in_use (frame_in own)
+
+  mid-exact : IsExact mid (leaving_out all_in_sight k p) used_now
+  mid-exact = exact-own_gone t k p leaf visible all_in_sight in_use own exact own_at
+
+  pub uncovered-exact : IsExact last all_in_sight used_now
+  uncovered-exact =
+      exact-changed mid last (leaving_out all_in_sight k p) all_in_sight used_now used_now h q parent (Some row) (Some (without_bits row)) mid-exact parent_at
+      (with_row-changes mid parent.list.0 q (Some row) (Some (without_bits row)) row-mid)
+      (subst (λ (o : Option ℕ). FollowFrame (frame_in row) o used_now used_now) (sym (frame-kept row))
+      (frame-stays (frame_in row) used_now (λ tag e. mid-exact.used parent.list.0 q row tag row-mid e)))
+      (λ shown. absurd (let none = ap is_some hidden in cc))
+      (record {
+        alike = λ g r node tag left right at none there differs from. (
+          to-last from g r (leaving_out all_in_sight k p),
+          of-last from g r node at differs,
+        );
+      })
+      (λ none. bits-now row refl)
+
+  pub uncovered-shows : (w x : ℕ) → w ≢ k → IsPage t w x → frame_at last w x ≡ frame_at t w x
+  uncovered-shows w x differs page = frame-alike mid last.slots alike f w x ∙ own-shows t k p leaf visible f None w x page (λ both. differs both.0)
+
+  pub uncovered-part : IsPartOf t.slots last.slots
+  uncovered-part = part-then t.slots mid.slots last.slots (part-with_pair t.slots leaf.list.0 p None (λ r e. absurd (cc)))
+      (part-with_pair mid.slots parent.list.0 q (Some (without_bits row))
+      (λ r e. record { row = row; at = row-mid; frame = ap frame_in (sym (some_same e)) ∙ frame-kept row }))
+
+  -- the own row is gone, and the others of the two lists are there as they were
+  pub uncovered-gone : last.slots leaf.list.0 p ≡ None
+  uncovered-gone =
+      with_pair-other mid.slots parent.list.0 q (Some (without_bits row)) leaf.list.0 p (λ list _. apart list) ∙ with_pair-same t.slots leaf.list.0 p None
+
+  pub uncovered-own : (r : ℕ) → r ≢ p → last.slots leaf.list.0 r ≡ t.slots leaf.list.0 r
+  uncovered-own r other =
+      with_pair-other mid.slots parent.list.0 q (Some (without_bits row)) leaf.list.0 r (λ list _. apart list)
+      ∙ with_pair-other t.slots leaf.list.0 p None leaf.list.0 r (λ _ same. other same)
+
+  pub uncovered-above : (r : ℕ) → r ≢ q → last.slots parent.list.0 r ≡ t.slots parent.list.0 r
+  uncovered-above r other =
+      with_pair-other mid.slots parent.list.0 q (Some (without_bits row)) parent.list.0 r (λ _ same. other same)
+      ∙ with_pair-other t.slots leaf.list.0 p None parent.list.0 r (λ list _. apart (sym list))
 
 -- ---- all rows
 
 -- it begins where nothing has changed
-pub uncovered-start : (arena : Arena) (rows : Rows Row) (pool : Pool) (k h s : ℕ) → IsFamilyOf arena k h s →
-    IsExact (tree_of arena rows) all_in_sight (is_taken pool) → IsUncovering arena rows rows pool pool k h s 0
-uncovered-start arena rows pool k h s of exact = record {
-  of = of;
+pub uncovered-start : (arena : Arena) (rows : Rows Row) (pool : Pool) (k h : ℕ) (node : Node) → IsVisible (nodes_of arena) k node → node.parent ≡ link_to h →
+    IsExact (tree_of arena rows) all_in_sight (is_taken pool) → IsUncovering arena rows rows pool pool k h 0
+uncovered-start arena rows pool k h node visible up exact = record {
+  node = node;
+  visible = visible;
+  up = up;
   exact = exact;
-  shows = λ w p page sight. refl;
+  shows = λ w p differs page. refl;
   free = λ p less. absurd (omega arith);
+  part = part-same (slots_of rows);
+  links = refl;
   gives = gives-same pool;
-  rows = below-same (slots_of rows) of.parent of.sibling;
-  linked = λ ok. ok;
   spare = omega arith;
   count = omega arith;
 }
 
 -- pages without own rows cover nothing
-pub uncovered-more : (arena : Arena) (old new : Rows Row) (before after : Pool) (k h s from end : ℕ) (leaf : Node) → nodes_of arena k ≡ Some leaf →
-    IsUncovering arena old new before after k h s from →
+pub uncovered-more : (arena : Arena) (old new : Rows Row) (before after : Pool) (k h from end : ℕ) (leaf : Node) → nodes_of arena k ≡ Some leaf →
+    IsUncovering arena old new before after k h from →
     ((p : ℕ) → from ≤ p → p < end → IsHeldBy (nodes_of arena) (slots_of new) h leaf p → slots_of new leaf.list.0 p ≡ None) →
-    IsUncovering arena old new before after k h s end
-uncovered-more arena old new before after k h s from end leaf at was none =
-    let one : leaf ≡ was.of.node = some_same (sym at ∙ was.of.family.at) in
+    IsUncovering arena old new before after k h end
+uncovered-more arena old new before after k h from end leaf at was none =
+    let one : leaf ≡ was.node = some_same (sym at ∙ was.visible.at) in
     record {
-      of = was.of;
+      node = was.node;
+      visible = was.visible;
+      up = was.up;
       exact = was.exact;
       shows = was.shows;
       free = λ p less held. elim (cases_lt p from) [
@@ -265,86 +289,136 @@ uncovered-more arena old new before after k h s from end leaf at was none =
         | inr past ↦ subst (λ (n : Node). slots_of new n.list.0 p ≡ None) one
             (none p past less (subst (λ (n : Node). IsHeldBy (nodes_of arena) (slots_of new) h n p) (sym one) held))
       ];
+      part = was.part;
+      links = was.links;
       gives = was.gives;
-      rows = was.rows;
-      linked = was.linked;
       spare = was.spare;
       count = was.count;
     }
 
--- the row under one own row is settled, if there is one
-module _ (arena : Arena) (old first new : Rows Row) (before between after : Pool) (k h s from p : ℕ) (was : IsUncovering arena old first before between k h s from)
-    (leaf parent child : Node) (leaf_at : nodes_of arena k ≡ Some leaf) (parent_at : nodes_of arena h ≡ Some parent) (child_at : nodes_of arena s ≡ Some child)
-    (next : IsNext (slots_of first leaf.list.0) from (Some p)) where
-  leaf-is : leaf ≡ was.of.node
-  leaf-is = some_same (sym leaf_at ∙ was.of.family.at)
+-- the next own row was looked at
+module _ (arena : Arena) (old first new : Rows Row) (before between after : Pool) (k h from p : ℕ) (was : IsUncovering arena old first before between k h from)
+    (leaf parent : Node) (leaf_at : nodes_of arena k ≡ Some leaf) (parent_at : nodes_of arena h ≡ Some parent)
+    (next : IsNext (slots_of first leaf.list.0) from (Some p)) (inside : p < leaf.seen) where
+  abbrev q : ℕ
+  q = leaf.first + p
 
-  parent-is : parent ≡ was.of.parent
-  parent-is = some_same (sym parent_at ∙ was.of.family.parent_at)
+  shown : IsVisible (nodes_of arena) k leaf
+  shown = subst (λ (n : Node). IsVisible (nodes_of arena) k n) (some_same (sym was.visible.at ∙ leaf_at)) was.visible
 
-  child-is : child ≡ was.of.sibling
-  child-is = some_same (sym child_at ∙ was.of.family.sibling_at)
+  link : leaf.parent ≡ link_to h
+  link = subst (λ (n : Node). n.parent ≡ link_to h) (some_same (sym was.visible.at ∙ leaf_at)) was.up
 
-  there : (row : Slot) × (slots_of first was.of.node.list.0 p ≡ Some row)
-  there = some_is (slots_of first was.of.node.list.0 p) (subst (λ (n : Node). IsSome (slots_of first n.list.0 p)) leaf-is (next.least p refl).1)
+  module _ (it : IsRowUncovered first new between after leaf.list.0 p parent.list.0 q) where
+    abbrev t_first : Tree
+    t_first = tree_of arena first
 
-  page-is : leaf.first + p ≡ was.of.node.first + p
-  page-is = let first_is = ap (λ (n : Node). n.first) leaf-is in omega arith
+    abbrev slots : Slots
+    slots = with_pair (with_pair (slots_of first) leaf.list.0 p None) parent.list.0 q (Some (without_bits it.row))
 
-  pub page-taken : (tag : ℕ) → frame_there (slots_of first parent.list.0 (leaf.first + p)) ≡ Some tag → IsSome (taken_frames between tag)
-  page-taken tag = by_row (slots_of first parent.list.0 (leaf.first + p)) refl
-    where
-      by_row : (o : Option Slot) → slots_of first parent.list.0 (leaf.first + p) ≡ o → frame_there o ≡ Some tag → IsSome (taken_frames between tag)
-      by_row None e frame = absurd (cc)
-      by_row (Some row) e frame = was.exact.used parent.list.0 (leaf.first + p) row tag e frame
+    own-new : (r : ℕ) → r ≢ p → slots_of new leaf.list.0 r ≡ slots_of first leaf.list.0 r
+    own-new r other = ap (λ (x : Slots). x leaf.list.0 r) it.slots
+        ∙ uncovered-own t_first (is_taken between) was.exact k h p q leaf parent shown link parent_at inside refl it.own it.row it.own_at it.row_at r other
 
-  pub page-sees : (tag : Tag) (left right : Bool) → slots_of first parent.list.0 (leaf.first + p) ≡ Some (slot.Frame tag left right) →
-      bit_on (side_of parent s) left right ≡ false → SeesRow (slots_of first) child (leaf.first + p)
-  page-sees tag left right e bit =
-      subst (λ (n : Node). SeesRow (slots_of first) n (leaf.first + p)) (sym child-is)
-      (uncover-sees arena old first before between k h s from p (leaf.first + p) was there.0 there.1 page-is (slot.Frame tag left right)
-      (ap (λ (n : Node). slots_of first n.list.0 (leaf.first + p)) (sym parent-is) ∙ e) tag left right refl
-      (ap (λ (n : Node). bit_on (side_of n s) left right) (sym parent-is) ∙ bit))
+    free-now : (r : ℕ) → r < p + 1 → IsHeldBy (nodes_of arena) (slots_of new) h leaf r → slots_of new leaf.list.0 r ≡ None
+    free-now r less held = elim (cases_eq r p) [
+      | inl same ↦ ap (slots_of new leaf.list.0) same ∙ (ap (λ (x : Slots). x leaf.list.0 p) it.slots
+          ∙ uncovered-gone t_first (is_taken between) was.exact k h p q leaf parent shown link parent_at inside refl it.own it.row it.own_at it.row_at)
+      | inr other ↦ elim (cases_lt r from) [
+        | inr past ↦ own-new r other ∙ (next.least p refl).2 r past (omega arith)
+        | inl before ↦
+            let above : held.above ≡ parent = some_same (sym held.at ∙ parent_at) in
+            let apart : leaf.first + r ≢ q = λ e. absurd (omega arith) in
+            let same : slots_of new parent.list.0 (leaf.first + r) ≡ slots_of first parent.list.0 (leaf.first + r) =
+            ap (λ (x : Slots). x parent.list.0 (leaf.first + r)) it.slots
+            ∙ uncovered-above t_first (is_taken between) was.exact k h p q leaf parent shown link parent_at inside refl it.own it.row it.own_at it.row_at
+            (leaf.first + r) apart in
+            let some : IsSome (slots_of new parent.list.0 (leaf.first + r)) = subst (λ (n : Node). IsSome (slots_of new n.list.0 (leaf.first + r))) above held.row in
+            let one : was.node ≡ leaf = some_same (sym was.visible.at ∙ leaf_at) in
+            let there : IsHeldBy (nodes_of arena) (slots_of first) h leaf r =
+            record { above = parent; at = parent_at; row = ap is_some (sym same) ∙ some; inside = held.inside } in
+            own-new r other ∙ subst (λ (n : Node). slots_of first n.list.0 r ≡ None) one
+            (was.free r before (subst (λ (n : Node). IsHeldBy (nodes_of arena) (slots_of first) h n r) (sym one) there))
+      ]
+    ]
 
-  pub page-uncovered : p < leaf.seen →
-      HasNothing first new between after parent (leaf.first + p) ⊎ HasRowSettled arena first new between after parent s child (leaf.first + p) →
-      IsUncovering arena old new before after k h s (p + 1)
-  page-uncovered less done = elim done [
+    uncovered-row : IsUncovering arena old new before after k h (p + 1)
+    uncovered-row = record {
+      node = leaf;
+      visible = shown;
+      up = link;
+      exact = subst (λ (x : Slots). IsExact (record t_first { slots = x }) all_in_sight (is_taken after)) (sym it.slots)
+          (exact-in_use_alike (record t_first { slots = slots }) all_in_sight (without_frame (is_taken between) (frame_in it.own)) (is_taken after)
+          (λ x. sym (it.given.taken x))
+          (uncovered-exact t_first (is_taken between) was.exact k h p q leaf parent shown link parent_at inside refl it.own it.row it.own_at it.row_at));
+      shows = λ w x differs page.
+          ap (λ (s : Slots). frame_at (record t_first { slots = s }) w x) it.slots
+          ∙ (uncovered-shows t_first (is_taken between) was.exact k h p q leaf parent shown link parent_at inside refl it.own it.row it.own_at it.row_at w x differs
+          (record { node = page.node; visible = page.visible; below = page.below })
+          ∙ was.shows w x differs page);
+      free = free-now;
+      part = part-then (slots_of old) (slots_of first) (slots_of new) was.part (subst (λ (s : Slots). IsPartOf (slots_of first) s) (sym it.slots)
+          (uncovered-part t_first (is_taken between) was.exact k h p q leaf parent shown link parent_at inside refl it.own it.row it.own_at it.row_at));
+      links = it.given.links ∙ was.links;
+      gives = gives-then before between after was.gives it.given.gives;
+      spare = omega (arith, was.spare, it.spare);
+      count = omega (arith, was.count, it.count);
+    }
+
+  pub uncovered-next : IsUncovered first new between after leaf.list.0 p parent.list.0 q → IsUncovering arena old new before after k h (p + 1)
+  uncovered-next done = elim done [
+    | inr it ↦ uncovered-row it
     | inl nothing ↦
-        subst (λ (r : Rows Row). IsUncovering arena old r before after k h s (p + 1)) (sym nothing.rows)
-        (subst (λ (x : Pool). IsUncovering arena old first before x k h s (p + 1)) (sym nothing.pool)
-        (uncovered-more arena old first before between k h s from (p + 1) leaf leaf_at was (λ r past below held.
+        subst (λ (r : Rows Row). IsUncovering arena old r before after k h (p + 1)) (sym nothing.rows)
+        (subst (λ (x : Pool). IsUncovering arena old first before x k h (p + 1)) (sym nothing.pool)
+        (uncovered-more arena old first before between k h from (p + 1) leaf leaf_at was (λ r past below held.
         elim (cases_eq r p) [
           | inl same ↦
               let above : held.above ≡ parent = some_same (sym held.at ∙ parent_at) in
-              let some : IsSome (slots_of first parent.list.0 (leaf.first + p)) =
+              let some : IsSome (slots_of first parent.list.0 q) =
               subst (λ x. IsSome (slots_of first parent.list.0 (leaf.first + x))) same
               (subst (λ (n : Node). IsSome (slots_of first n.list.0 (leaf.first + r))) above held.row) in
               absurd (let none = ap is_some nothing.none in cc)
           | inr apart ↦ (next.least p refl).2 r past (omega arith)
         ])))
-    | inr it ↦
-        let parent_row = ap (λ (n : Node). slots_of first n.list.0 (leaf.first + p)) (sym parent-is) ∙ it.has in
-        uncovered-settled arena old first before between k h s from p (leaf.first + p) was there.0 there.1 page-is it.row parent_row it.mid new after
-        (subst (λ (n : Node). slots_of it.mid ≡ with_pair (slots_of first) n.list.0 (leaf.first + p) None) parent-is it.taken_out)
-        (let seen_is = ap (λ (n : Node). n.seen) leaf-is in omega arith)
-        (subst (λ (n : Node). HasSettled arena it.mid new between after n s was.of.sibling (leaf.first + p) it.row) parent-is
-        (subst (λ (n : Node). HasSettled arena it.mid new between after parent s n (leaf.first + p) it.row) child-is it.settled))
-        (λ r past below. subst (λ (n : Node). slots_of first n.list.0 r ≡ None) leaf-is ((next.least p refl).2 r past below))
-        it.spare it.count
   ]
 
 -- ---- what the code asks on the way
 
--- a row of the child is not the one that was taken out
-pub mid-sees : (old mid : Slots) (parent child : Node) (q : ℕ) → mid ≡ with_pair old parent.list.0 q None → parent.list.0 ≢ child.list.0 → SeesRow old child q →
-    SeesRow mid child q
-mid-sees old mid parent child q taken_out apart sees = record {
-  from = sees.from;
-  inside = sees.inside;
-  free = ap (λ (x : Slots). x child.list.0 (q - child.first)) taken_out
-      ∙ (with_pair-other old parent.list.0 q None child.list.0 (q - child.first) (λ list _. apart (sym list)) ∙ sees.free);
-}
+-- the row of the other list is still there
+pub above-stays : (old new : Slots) (l p above q : ℕ) (row : Slot) → new ≡ with_pair old l p None → l ≢ above → old above q ≡ Some row → IsSome (new above q)
+above-stays old new l p above q row is apart at =
+    ap is_some (ap (λ (x : Slots). x above q) is ∙ (with_pair-other old l p None above q (λ list _. apart (sym list)) ∙ at))
+
+-- the node is visible, and this is its parent
+pub uncover-ready : (arena : Arena) (k : ℕ) (hidden : NodeId) (node : Node) → IsSomeAnd (nodes_of arena k) (λ node. IsSome node.koid × (node.parent ≡ Some hidden)) →
+    nodes_of arena k ≡ Some node → IsVisible (nodes_of arena) k node × (node.parent ≡ Some hidden)
+uncover-ready arena k hidden node some at =
+    let it = subst (λ (o : Option Node). IsSomeAnd o (λ node. IsSome node.koid × (node.parent ≡ Some hidden))) at some in
+    (record { at = at; koid = it.0 }, it.1)
+
+-- the frame of an own row is taken
+pub uncover-taken : (arena : Arena) (old new : Rows Row) (before after : Pool) (k h from p : ℕ) → IsUncovering arena old new before after k h from → (l : ℕ) (own : Slot) (tag : ℕ) →
+    slots_of new l p ≡ Some own → frame_in own ≡ Some tag → IsSome (taken_frames after tag)
+uncover-taken arena old new before after k h from p was l own tag at frame = was.exact.used l p own tag at frame
+
+-- the lists of the node and of its parent are two
+pub uncover-lists : (arena : Arena) (f : IsForest (nodes_of arena) arena.lists) (k h : ℕ) (leaf parent : Node) → IsVisible (nodes_of arena) k leaf →
+    leaf.parent ≡ link_to h → nodes_of arena h ≡ Some parent → leaf.list.0 ≢ parent.list.0
+uncover-lists arena f k h leaf parent visible up parent_at same =
+    let below = f.by.below h k leaf visible.at up in
+    let none = ap (λ (n : Node). n.koid) (some_same (sym parent_at ∙ below.at)) ∙ below.hidden in
+    hidden-apart (tree_of_nodes arena) f h k parent leaf parent_at none visible (sym (f.by.own k h leaf parent visible.at parent_at same))
+  where
+    tree_of_nodes : Arena → Tree
+    tree_of_nodes arena = record { nodes = nodes_of arena; slots = λ l p. None; lists = arena.lists }
+
+-- the page of the parent is a number of the machine, and so is the next one
+pub uncover-fits : (arena : Arena) (f : IsForest (nodes_of arena) arena.lists) (k h : ℕ) (leaf parent : Node) → nodes_of arena k ≡ Some leaf →
+    leaf.parent ≡ link_to h → nodes_of arena h ≡ Some parent → leaf.first + leaf.seen ≤ parent.count
+uncover-fits arena f k h leaf parent leaf_at up parent_at =
+    let below = f.by.below h k leaf leaf_at up in
+    subst (λ (n : Node). leaf.first + leaf.seen ≤ n.count) (some_same (sym below.at ∙ parent_at)) below.window
 
 -- the two lists are two
 pub two-lists : (arena : Arena) (k h s : ℕ) → IsForest (nodes_of arena) arena.lists → IsFamilyOf arena k h s → (parent child : Node) →
@@ -353,18 +427,11 @@ two-lists arena k h s f of parent child parent_at child_at same =
     (family-lists arena k h s f of).2
     (ap (λ (n : Node). n.list.0) (some_same (sym of.family.parent_at ∙ parent_at)) ∙ (same ∙ ap (λ (n : Node). n.list.0) (some_same (sym child_at ∙ of.family.sibling_at))))
 
--- the page of the parent is a number of the machine, and so is the next one
-pub page-fits : (arena : Arena) (k h s : ℕ) → IsForest (nodes_of arena) arena.lists → IsFamilyOf arena k h s → (leaf parent : Node) → nodes_of arena k ≡ Some leaf →
-    nodes_of arena h ≡ Some parent → leaf.first + leaf.seen ≤ parent.count
-page-fits arena k h s f of leaf parent leaf_at parent_at =
-    let below = f.by.below h k leaf leaf_at (ap (λ (n : Node). n.parent) (some_same (sym leaf_at ∙ of.family.at)) ∙ of.family.parent_is) in
-    subst (λ (n : Node). leaf.first + leaf.seen ≤ n.count) (some_same (sym below.at ∙ parent_at)) below.window
-
 -- ---- a VMO is closed that was uncovered before
 
-pub closed-then : (arena new : Arena) (old rows late : Rows Row) (before between after : Pool) (k h s end : ℕ) →
-    IsUncovering arena old rows before between k h s end → HasClosed arena new rows late between after k → HasClosed arena new old late before after k
-closed-then arena new old rows late before between after k h s end was c = record {
+pub closed-then : (arena new : Arena) (old rows late : Rows Row) (before between after : Pool) (k h end : ℕ) →
+    IsUncovering arena old rows before between k h end → HasClosed arena new rows late between after k → HasClosed arena new old late before after k
+closed-then arena new old rows late before between after k h end was c = record {
   exact = c.exact;
   gone = c.gone;
   stays = c.stays;
@@ -376,9 +443,11 @@ closed-then arena new old rows late before between after k h s end was c = recor
   lists = c.lists;
   visible = c.visible;
   shows = λ w q page.
-      c.shows w q page ∙ was.shows w q (stays-page (tree_of new late) (tree_of arena old) w q page (c.no_more w page.node page.visible)) refl;
+      c.shows w q page
+      ∙ was.shows w q (λ same. let none = ap (nodes_of new) same ∙ c.gone in let there = page.visible.at in absurd (cc))
+      (stays-page (tree_of new late) (tree_of arena old) w q page (c.no_more w page.node page.visible));
   pool = gives-then before between after was.gives c.pool;
-  linked = λ ok. c.linked (was.linked ok);
+  linked = λ ok. c.linked (linked-part old rows before between was.part was.links ok);
   spare = omega (arith, was.spare, c.spare);
   fewer = omega (arith, was.count, c.fewer);
 }

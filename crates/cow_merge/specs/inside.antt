@@ -1,4 +1,5 @@
 pub mod Lifting
 pub mod Witness
 pub mod Uncovering
+pub mod Sharing
 pub mod HandingOver

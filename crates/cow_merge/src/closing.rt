@@ -20,8 +20,8 @@ use page_list::PageLists;
 
 /// Removes a VMO's node. The frames that only it showed are given back. If the node has a parent, the parent goes too:
 /// its rows move into the sibling, if they are seen through the sibling, and the sibling takes its place. If the
-/// sibling is a VMO's node that sees the parent from page 0 on and has fewer rows than the parent, the sibling takes
-/// over the parent's list instead, and its rows move into this list.
+/// sibling sees the parent from page 0 on and has fewer rows than the parent, the sibling takes over the parent's list
+/// instead, and its rows move into this list.
 ///
 /// The call takes no memory. It costs:
 ///
@@ -33,8 +33,10 @@ use page_list::PageLists;
 /// - for each row on this way, a walk up to the row that its page sees, past the nodes between or by jumps;
 /// - at each row above the parent, a search for another VMO that sees there what the page sees;
 /// - the rows of the parent, and for each that moves into a hidden sibling, a search on each side of the sibling;
-/// - if the list is taken over, in place of all rows of the parent: the sibling's rows, the rows under own rows of the
-///   node, and the rows outside one of the two windows;
+/// - if the list is taken over, in place of all rows of the parent: the sibling's rows, and the rows of the parent
+///   outside one of the two windows; and if the sibling is hidden, the rows on a way down from each of its two children
+///   to a VMO's node, and the rows of the parent under these and outside the windows of the two ways, which is all rows
+///   of the parent if one of the ways is longer than 64 nodes (`share_rows`);
 /// - the rows of the smaller of the two lists, to decide which list stays.
 ///
 /// The tree is exact over the frames that are taken, before and after. Every other VMO shows what it showed.
@@ -84,7 +86,7 @@ fn close_with(
         return;
     };
     if goes_over(arena, lists, hidden, sibling) {
-        uncover(arena, lists, frames, leaf, hidden, sibling);
+        uncover(arena, lists, frames, leaf, hidden);
         leave_out_above(arena, lists, frames, jumps, leaf, hidden, sibling);
         hand_over(arena, lists, frames, leaf, hidden, sibling);
         arena.splice_over(leaf);

@@ -1,4 +1,4 @@
-//! Handing the list of a hidden node over to a visible child, before the two nodes are merged.
+//! Handing the list of a hidden node over to one of its children, before the two nodes are merged.
 
 ghost use Rattle.std.specs.Prelude.{◌≡◌, ◌+◌, ◌≤◌, ℕ, true, Some, IsSome};
 ghost use Rattle.balanced_tree.specs.Rows.{Rows};
@@ -9,24 +9,25 @@ ghost use Rattle.cow_arena.specs.Nodes.{nodes_of};
 ghost use Rattle.cow_arena.specs.Walk.{frame_in};
 ghost use Rattle.frame_pool.specs.Pool.{Pool, taken_frames};
 ghost use Rattle.cow_merge.specs.inside.Lifting.{IsLifting};
-ghost use Rattle.cow_merge.specs.inside.HandingOver.{frame_there, HasNoRow, HasRowPut, SeesFromStart, AreSeenFrom, IsHandingOver, HasHandedOver};
+ghost use Rattle.cow_merge.specs.inside.HandingOver.{frame_there, HasNoRow, HasRowPut, AreSeenFrom, IsHandingOver, HasHandedOver};
 
 use crate::lifting::{lift_rows, note_place};
 use crate::ranges::give_back_frame;
+use crate::sharing::share_rows;
 use cow_arena::{CowArena, NodeId};
 use frame_pool::FramePool;
 use page_list::{ListId, PageLists, Slot};
 use vm_base::PageNo;
 
-/// Whether a hidden node hands its list over to this child: the child is a VMO's node that sees the hidden node from
-/// page 0 on, and it has fewer rows.
+/// Whether a hidden node hands its list over to this child: the child sees the hidden node from page 0 on, and it has
+/// fewer rows.
 pub(crate) fn goes_over(arena: &CowArena, lists: &PageLists, hidden: NodeId, child: NodeId) -> bool
     requires hidden { IsSome (nodes_of arena.now hidden.0) }
     requires child { IsSome (nodes_of arena.now child.0) }
-    ensures { (node : Node) → nodes_of arena.now child.0 ≡ Some node → result ≡ true → SeesFromStart node }
+    ensures { (node : Node) → nodes_of arena.now child.0 ≡ Some node → result ≡ true → node.first ≡ 0 }
 {
     let node = arena.node(child);
-    if node.koid.is_none() || node.first != 0 {
+    if node.first != 0 {
         return false;
     }
     node.seen > 0 && has_fewer(lists, node.list, arena.node(hidden).list)
@@ -51,8 +52,9 @@ fn has_fewer(lists: &PageLists, list: ListId, other: ListId) -> bool {
 }
 
 /// Hands the list of a hidden node over to one child. The other child is a VMO's node that goes: it has no rows, and
-/// its pages show frames of the hidden node alone. Rows outside the windows of the two children, and rows under rows of
-/// the child, are settled one by one. The other rows stay as they are, since both children see them.
+/// its pages show frames of the hidden node alone. Rows outside its window and outside the pages that the child shares
+/// (`share_rows`) are settled one by one, and rows under rows of the child go. The other rows stay as they are: no
+/// split bit of them is set, since both children see them, and if the child is hidden, VMOs on both sides of it do.
 pub(crate) fn hand_over(
     arena: &CowArena,
     lists: &mut PageLists,
@@ -62,34 +64,23 @@ pub(crate) fn hand_over(
     child: NodeId,
 )
     requires lifting { IsLifting arena.now lists.old lists.old frames.old frames.old leaf.0 hidden.0 child.0 }
-    requires sees { (node : Node) → nodes_of arena.now child.0 ≡ Some node → SeesFromStart node }
+    requires sees { (node : Node) → nodes_of arena.now child.0 ≡ Some node → node.first ≡ 0 }
     requires seen { (node parent : Node) → nodes_of arena.now leaf.0 ≡ Some node → nodes_of arena.now hidden.0 ≡ Some parent →
         AreSeenFrom (slots_of lists.old) parent leaf.0 node.first (node.first + node.seen) }
     ensures { (old : Rows Row) (before : Pool) →
         IsLifting arena.now old lists.old before frames.old leaf.0 hidden.0 child.0 →
         HasHandedOver arena.now old lists.new before frames.new leaf.0 hidden.0 child.0 }
 {
+    let shared = share_rows(arena, lists, frames, leaf, hidden, child);
     let node = arena.node(leaf);
-    let end = node
-        .first
-        .saturating_add(node.seen)
-        .min(arena.node(child).seen);
-    lift_rows(
-        arena,
-        lists,
-        frames,
-        leaf,
-        hidden,
-        child,
-        0,
-        Some(node.first),
-    );
-    lift_rows(arena, lists, frames, leaf, hidden, child, end, None);
+    let from = node.first.max(shared.from);
+    let to = node.first.saturating_add(node.seen).min(shared.to);
+    lift_rows(arena, lists, frames, leaf, hidden, child, 0, Some(from));
+    lift_rows(arena, lists, frames, leaf, hidden, child, to, None);
     hand_rows(arena, lists, frames, leaf, hidden, child);
 }
 
-/// Puts each row of a VMO's node into the list of its parent, in place of the row there. The other child of the parent
-/// goes.
+/// Puts each row of a node into the list of its parent, in place of the row there. The other child of the parent goes.
 fn hand_rows(
     arena: &CowArena,
     lists: &mut PageLists,
@@ -104,12 +95,11 @@ fn hand_rows(
         HasHandedOver arena.now old lists.new before frames.new leaf.0 hidden.0 child.0 }
 {
     let to = arena.node(hidden).list;
-    let node = arena.node(child);
-    prove!(node.count <= u64::MAX);
+    let list = arena.node(child).list;
     let mut from = 0;
-    while let Some((page, slot)) = lists.take_next(node.list, from) {
+    while let Some((page, slot)) = lists.take_next(list, from) {
         put_row(lists, frames, to, page, slot);
-        from = page + 1;
+        from = page;
     }
 }
 

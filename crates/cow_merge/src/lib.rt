@@ -11,6 +11,7 @@ mod closing;
 mod handing;
 mod lifting;
 mod ranges;
+mod sharing;
 mod shrinking;
 mod uncovering;
 mod witness;

@@ -47,10 +47,11 @@ pub(crate) fn lift_rows(
     ensures others { (parent : Node) → nodes_of arena.now hidden.0 ≡ Some parent →
         (p : ℕ) (row : Slot) → slots_of lists.new parent.list.0 p ≡ Some row → slots_of lists.old parent.list.0 p ≡ Some row }
 {
-    let list = arena.node(hidden).list;
+    let above = arena.node(hidden);
+    let node = arena.node(child);
     let mut at = from;
-    while let Some((page, slot)) = take_below(lists, list, at, to) {
-        settle(arena, lists, frames, hidden, child, page, slot);
+    while let Some((page, slot)) = take_below(lists, above.list, at, to) {
+        settle(arena, lists, frames, above, child, node, page, slot);
         at = page;
     }
 }
@@ -90,36 +91,33 @@ fn is_past(page: PageNo, to: Option<PageNo>) -> bool
     }
 }
 
-/// Moves a row that was taken out of the list of a hidden node into the child's list, if it is seen through this child.
-/// Otherwise the frame of the row is given back, if it has one.
-pub(crate) fn settle(
+/// Moves a row that was taken out of the list of a hidden node into the list of its child `node`, if it is seen through
+/// this child. Otherwise the frame of the row is given back, if it has one.
+fn settle(
     arena: &CowArena,
     lists: &mut PageLists,
     frames: &mut FramePool,
-    hidden: NodeId,
+    above: Node,
     child: NodeId,
+    node: Node,
     page: PageNo,
     slot: Slot,
 )
     requires forest { IsForest (nodes_of arena.now) arena.now.lists }
-    requires parent { IsSome (nodes_of arena.now hidden.0) }
-    requires child { IsSome (nodes_of arena.now child.0) }
+    requires child { nodes_of arena.now child.0 ≡ Some node }
     requires room { 1 ≤ lists.old.spare }
     requires taken { (tag : ℕ) → frame_in slot ≡ Some tag → IsSome (taken_frames frames.old tag) }
-    requires seen { (parent node : Node) → nodes_of arena.now hidden.0 ≡ Some parent → nodes_of arena.now child.0 ≡ Some node →
-        (tag : Tag) (left right : Bool) → slot ≡ Slot.Frame tag left right →
-        bit_on (side_of parent child.0) left right ≡ false → SeesRow (slots_of lists.old) node page }
-    ensures { (parent node : Node) → nodes_of arena.now hidden.0 ≡ Some parent → nodes_of arena.now child.0 ≡ Some node →
-        HasSettled arena.now lists.old lists.new frames.old frames.new parent child.0 node page slot }
+    requires seen { (tag : Tag) (left right : Bool) → slot ≡ Slot.Frame tag left right →
+        bit_on (side_of above child.0) left right ≡ false → SeesRow (slots_of lists.old) node page }
+    ensures { HasSettled arena.now lists.old lists.new frames.old frames.new above child.0 node page slot }
 {
-    let side = arena.node(hidden).side_of(child);
-    let node = arena.node(child);
+    let side = above.side_of(child);
     if !is_seen_through(lists, side, node, page, slot) {
         give_back_frame(frames, slot);
         return;
     }
     let to = page - node.first;
-    let moved = slot_in(arena, lists, child, to, slot);
+    let moved = slot_in(arena, lists, child, node, to, slot);
     lists.insert(node.list, to, moved);
     note_place(frames, moved, node.list, to);
 }
@@ -149,16 +147,22 @@ fn sees_row(lists: &PageLists, node: Node, page: PageNo) -> bool
         && lists.find(node.list, page - node.first).is_none()
 }
 
-/// The slot with the bits that it has in the list of node `at`, at a page of this node. If the node is visible, both
-/// bits are clear. If it is hidden, each bit says whether no VMO on its side sees the row.
-fn slot_in(arena: &CowArena, lists: &PageLists, at: NodeId, page: PageNo, slot: Slot) -> Slot
+/// The slot with the bits that it has in the list of node `at`, which is `node`, at a page of this node. If the node is
+/// visible, both bits are clear. If it is hidden, each bit says whether no VMO on its side sees the row.
+fn slot_in(
+    arena: &CowArena,
+    lists: &PageLists,
+    at: NodeId,
+    node: Node,
+    page: PageNo,
+    slot: Slot,
+) -> Slot
     requires forest { IsForest (nodes_of arena.now) arena.now.lists }
-    requires node { IsSome (nodes_of arena.now at.0) }
-    ensures { (node : Node) → nodes_of arena.now at.0 ≡ Some node →
-        IsMoved (tree_of arena.now lists.now) at.0 page node slot result }
+    requires node { nodes_of arena.now at.0 ≡ Some node }
+    ensures { IsMoved (tree_of arena.now lists.now) at.0 page node slot result }
 {
     match slot {
-        Slot::Frame { tag, .. } if arena.node(at).koid.is_none() => Slot::Frame {
+        Slot::Frame { tag, .. } if node.koid.is_none() => Slot::Frame {
             tag,
             left: !reached_from(arena, lists, None, Side::Left, at, page),
             right: !reached_from(arena, lists, None, Side::Right, at, page),

@@ -1,80 +1,88 @@
-//! Rows of a hidden node that stand under own rows of a VMO's node that goes.
+//! Own rows of a VMO's node that goes, where they stand over rows of the node's parent.
 
-ghost use Rattle.std.specs.Prelude.{◌≡◌, ◌≢◌, ◌⊎◌, ℕ, Bool, false, Some, IsSome};
-ghost use Rattle.vm_base.specs.declared.names.Tag.{Tag};
-ghost use Rattle.page_list.specs.declared.row.Slot.{Slot};
+ghost use Rattle.std.specs.Prelude.{◌≡◌, ◌≢◌, ℕ, Some, IsSome, IsSomeAnd};
 ghost use Rattle.page_list.specs.Lists.{slots_of};
+ghost use Rattle.cow_arena.specs.Walk.{frame_in};
+ghost use Rattle.page_list.specs.declared.row.Slot.{Slot};
 ghost use Rattle.cow_arena.specs.declared.node.Node.{Node};
-ghost use Rattle.cow_arena.specs.Forest.{IsForest};
-ghost use Rattle.cow_arena.specs.Nodes.{nodes_of, side_of};
+ghost use Rattle.cow_arena.specs.Nodes.{nodes_of};
 ghost use Rattle.cow_split.specs.Trees.{tree_of};
 ghost use Rattle.cow_split.specs.Exact.{IsExact, all_in_sight};
 ghost use Rattle.frame_pool.specs.Pool.{taken_frames, is_taken};
-ghost use Rattle.cow_merge.specs.Ranges.{bit_on};
-ghost use Rattle.cow_merge.specs.inside.Lifting.{IsFamilyOf, SeesRow};
-ghost use Rattle.cow_merge.specs.inside.HandingOver.{frame_there};
-ghost use Rattle.cow_merge.specs.inside.Uncovering.{IsUncovering, HasNothing, HasRowSettled};
+ghost use Rattle.cow_merge.specs.inside.Uncovering.{IsUncovering, IsUncovered, without_bits};
 
-use crate::lifting::settle;
-use crate::ranges::next_below;
+use crate::ranges::{give_back_frame, next_below};
 use cow_arena::{CowArena, NodeId};
 use frame_pool::FramePool;
-use page_list::PageLists;
+use page_list::{ListId, PageLists, Slot};
 use vm_base::PageNo;
 
-/// Settles the rows of a hidden node that stand under own rows of a VMO's node that goes. Nobody sees them from that
-/// node's side. They move into the list of the other child if they are seen through it, and otherwise go with their
-/// frames.
+/// Removes the own rows of a VMO's node that goes, where its parent has a row of the same page, and gives their frames
+/// back. The node sees the rows of the parent then, and their split bits say so.
 pub(crate) fn uncover(
     arena: &CowArena,
     lists: &mut PageLists,
     frames: &mut FramePool,
     leaf: NodeId,
     hidden: NodeId,
-    child: NodeId,
 )
     requires exact { IsExact (tree_of arena.now lists.old) all_in_sight (is_taken frames.old) }
-    requires family { IsFamilyOf arena.now leaf.0 hidden.0 child.0 }
+    requires leaf { IsSomeAnd (nodes_of arena.now leaf.0) (λ node. IsSome node.koid × (node.parent ≡ Some hidden)) }
     ensures { (node : Node) → nodes_of arena.now leaf.0 ≡ Some node →
-        IsUncovering arena.now lists.old lists.new frames.old frames.new leaf.0 hidden.0 child.0 node.seen }
+        IsUncovering arena.now lists.old lists.new frames.old frames.new leaf.0 hidden.0 node.seen }
 {
     let node = arena.node(leaf);
     let above = arena.node(hidden);
     prove!(above.count <= u64::MAX);
     let mut from = 0;
     while let Some(page) = next_below(lists, node.list, from, node.seen) {
-        settle_page(arena, lists, frames, hidden, child, node.first + page);
+        uncover_row(
+            lists,
+            frames,
+            node.list,
+            page,
+            above.list,
+            node.first + page,
+        );
         from = page + 1;
     }
 }
 
-/// Settles the row of a page of a hidden node (`settle`), if it has one.
-fn settle_page(
-    arena: &CowArena,
+/// Removes the row of page `page` of a list, if the list `above` has a row of page `page_above`, and gives its frame
+/// back. The row of the list `above` has no split bit set then: it was seen from the other side, and now it is seen
+/// from this side too.
+fn uncover_row(
     lists: &mut PageLists,
     frames: &mut FramePool,
-    hidden: NodeId,
-    child: NodeId,
+    list: ListId,
     page: PageNo,
+    above: ListId,
+    page_above: PageNo,
 )
-    requires forest { IsForest (nodes_of arena.now) arena.now.lists }
-    requires parent { IsSome (nodes_of arena.now hidden.0) }
-    requires child { IsSome (nodes_of arena.now child.0) }
-    requires lists { (parent node : Node) → nodes_of arena.now hidden.0 ≡ Some parent → nodes_of arena.now child.0 ≡ Some node →
-        parent.list.0 ≢ node.list.0 }
-    requires taken { (parent : Node) → nodes_of arena.now hidden.0 ≡ Some parent →
-        (tag : ℕ) → frame_there (slots_of lists.old parent.list.0 page) ≡ Some tag → IsSome (taken_frames frames.old tag) }
-    requires seen { (parent node : Node) → nodes_of arena.now hidden.0 ≡ Some parent → nodes_of arena.now child.0 ≡ Some node →
-        (tag : Tag) (left right : Bool) → slots_of lists.old parent.list.0 page ≡ Some (Slot.Frame tag left right) →
-        bit_on (side_of parent child.0) left right ≡ false → SeesRow (slots_of lists.old) node page }
-    ensures { (parent node : Node) → nodes_of arena.now hidden.0 ≡ Some parent → nodes_of arena.now child.0 ≡ Some node →
-        HasNothing lists.old lists.new frames.old frames.new parent page
-        ⊎ HasRowSettled arena.now lists.old lists.new frames.old frames.new parent child.0 node page }
+    requires row { IsSome (slots_of lists.old list.0 page) }
+    requires taken { (own : Slot) (tag : ℕ) → slots_of lists.old list.0 page ≡ Some own → frame_in own ≡ Some tag →
+        IsSome (taken_frames frames.old tag) }
+    requires apart { list.0 ≢ above.0 }
+    ensures { IsUncovered lists.old lists.new frames.old frames.new list.0 page above.0 page_above }
 {
-    let list = arena.node(hidden).list;
-    let Some(slot) = lists.find(list, page) else {
+    let Some(slot) = lists.find(above, page_above) else {
         return;
     };
-    lists.remove(list, page);
-    settle(arena, lists, frames, hidden, child, page, slot);
+    let own = lists.remove(list, page);
+    give_back_frame(frames, own);
+    lists.replace(above, page_above, without_bits(slot));
+}
+
+/// The slot with no split bit set.
+fn without_bits(slot: Slot) -> Slot
+    ensures { result ≡ without_bits slot }
+{
+    match slot {
+        Slot::Frame { tag, .. } => Slot::Frame {
+            tag,
+            left: false,
+            right: false,
+        },
+        Slot::Zero => Slot::Zero,
+    }
 }

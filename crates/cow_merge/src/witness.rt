@@ -26,7 +26,7 @@ use vm_base::PageNo;
 
 /// The most nodes that are tried on the way down from the sibling. A longer way is given up: the pages are then cut off
 /// from the rows above one by one, which is slower.
-const MOST_NODES: u64 = 64;
+pub(crate) const MOST_NODES: u64 = 64;
 
 /// How far the way down from the sibling has come. The pages `from` to below `to` of node `at` lie in its window. They
 /// come to the pages of the leaf's parent that are `shift` pages further on, past no row above the node.
@@ -90,7 +90,7 @@ pub(crate) fn leave_out_beside(
 /// The way one node further down, to a child of a node. The way had the pages `from` to below `to` of that node, which
 /// come to pages of the leaf's parent `shift` further on. If none of them lies in the child's window, the new way has
 /// no pages.
-fn enter(arena: &CowArena, child: NodeId, shift: PageNo, from: PageNo, to: PageNo) -> Way
+pub(crate) fn enter(arena: &CowArena, child: NodeId, shift: PageNo, from: PageNo, to: PageNo) -> Way
     requires child { IsSome (nodes_of arena.now child.0) }
     ensures { (node : Node) → nodes_of arena.now child.0 ≡ Some node → IsEntered node child shift from to result }
 {
@@ -105,7 +105,7 @@ fn enter(arena: &CowArena, child: NodeId, shift: PageNo, from: PageNo, to: PageN
 
 /// The pages of the leaf that come to the same pages of its parent as the pages of a way. Pages of the leaf come to
 /// pages of the parent `shift` further on.
-fn pages_of(way: Way, shift: PageNo) -> Pages
+pub(crate) fn pages_of(way: Way, shift: PageNo) -> Pages
     requires from { shift ≤ way.from + way.shift }
     requires to { way.to + way.shift < 2 ^ 64 }
     requires some { way.from < way.to }
@@ -120,7 +120,7 @@ fn pages_of(way: Way, shift: PageNo) -> Pages
 
 /// The child of a hidden node into which the way goes on: the one whose window has more of the way's pages. If both
 /// have as many, it is one that is a VMO's node, or else one without rows.
-fn wider(arena: &CowArena, lists: &PageLists, way: Way) -> NodeId
+pub(crate) fn wider(arena: &CowArena, lists: &PageLists, way: Way) -> NodeId
     requires forest { IsForest (nodes_of arena.now) arena.now.lists }
     requires hidden { IsSomeAnd (nodes_of arena.now way.at.0) (λ node. node.koid ≡ None) }
     ensures { IsChild (nodes_of arena.now) way.at.0 result.0 }

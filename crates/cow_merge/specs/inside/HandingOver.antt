@@ -1,4 +1,4 @@
--- The list of a hidden node goes over to its visible child: the hidden node's rows stay in the list, and the child's
+-- The list of a hidden node goes over to one of its children: the hidden node's rows stay in the list, and the child's
 -- rows come to them.
 use Rattle.std.specs.Prelude.{◌≡◌, ℕ, ◌+◌, ◌<◌, ◌≤◌, Bool, false, if◌then◌else◌, Option, None, Some, IsSome}
 use Rattle.balanced_tree.specs.Pairs.{with_pair}
@@ -10,12 +10,14 @@ use Rattle.page_list.specs.declared.row.Slot.TheVariants as slot
 use Rattle.page_list.specs.Lists.{slots_of, row_count}
 use Rattle.frame_pool.specs.Pool.{Pool, is_taken, links_of}
 use Rattle.cow_arena.specs.declared.node.Node.{Node}
-use Rattle.cow_arena.specs.Nodes.{Arena, side_of}
+use Rattle.cow_arena.specs.declared.node.Side.{Side}
+use Rattle.cow_arena.specs.Nodes.{Arena, nodes_of, side_of}
 use Rattle.cow_arena.specs.Renamed.{exchanged, AreExchanged}
-use Rattle.cow_arena.specs.Walk.{Slots, frame_in}
+use Rattle.cow_arena.specs.Walk.{Slots, tree_with, frame_in}
 use Rattle.cow_split.specs.Exact.{without_frame}
 use Rattle.cow_merge.specs.Ranges.{bit_on, AreLinked, GivesBack, HasGiven}
 use Rattle.cow_merge.specs.inside.Lifting.{IsFamilyOf, AreLifted, has_frame}
+use Rattle.cow_merge.specs.inside.Sharing.{IsReached}
 
 -- the frame of the row that a page has, if it has one
 abbrev pub frame_there : Option Slot → Option ℕ
@@ -39,11 +41,6 @@ pub record HasRowPut (old new : Rows Row) (before after : Pool) (l q : ℕ) (row
   pub spare : old.spare ≤ new.spare + 1
   pub count : row_count new ≤ row_count old + 1
 
--- the node is that of a VMO, and its pages are those of its parent from page 0 on
-pub record SeesFromStart (node : Node) : Type 0 where
-  pub visible : IsSome node.koid
-  pub first : node.first ≡ 0
-
 -- no row of the pages `first` to below `end` of the parent, if it has a frame, says that nobody sees it from the side
 -- of the child k
 pub record AreSeenFrom (slots : Slots) (parent : Node) (k first end : ℕ) : Type 0 where
@@ -57,7 +54,9 @@ pub record IsHandingOver (arena : Arena) (old new : Rows Row) (before after : Po
   pub of : IsFamilyOf arena k h s
   pub slots : Slots
   pub lifted : AreLifted arena old slots before after k h s of
-  pub sees : SeesFromStart of.sibling
+  pub first : of.sibling.first ≡ 0
+  pub shared : of.sibling.koid ≡ None → (q : ℕ) → IsSome (slots of.parent.list.0 q) → (side : Side) →
+      IsReached (tree_with (nodes_of arena) arena.lists slots) side s q
   pub passed : (l p : ℕ) → p < from → slots_of new l p ≡ slots (exchanged of.parent.list.0 of.sibling.list.0 l) p
   pub ahead : (l p : ℕ) → from ≤ p → slots_of new l p ≡ slots l p
   pub empty : (p : ℕ) → p < from → slots of.parent.list.0 p ≡ None
@@ -67,6 +66,13 @@ pub record IsHandingOver (arena : Arena) (old new : Rows Row) (before after : Po
   pub linked : AreLinked old before → AreLinked new after
   pub spare : old.spare ≤ new.spare
   pub count : row_count new ≤ row_count old
+
+-- The same, with all rows of s below some page at or past `from` gone from its list.
+pub record IsHandedUpTo (arena : Arena) (old new : Rows Row) (before after : Pool) (k h s from : ℕ) : Type 0 where
+  pub at : ℕ
+  pub handing : IsHandingOver arena old new before after k h s at
+  pub low : from ≤ at
+  pub none : (p : ℕ) → from ≤ p → p < at → slots_of new handing.of.sibling.list.0 p ≡ None
 
 -- All rows of h have gone over. The tree is exact with `slots`, in which h has no rows. The rows are `slots` with the
 -- lists of h and s exchanged.

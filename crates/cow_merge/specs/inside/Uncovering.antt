@@ -1,45 +1,58 @@
--- Rows of a hidden node that stand under own rows of a child, if this child is a VMO's node that goes: each of them
--- goes, or moves into the list of the other child.
-use Rattle.std.specs.Prelude.{◌≡◌, ℕ, ◌+◌, ◌<◌, ◌≤◌, None, Some}
+-- Own rows of a VMO's node that goes, over rows of its parent: they go, and the node sees the rows of the parent.
+use Rattle.std.specs.Prelude.{◌≡◌, ◌≢◌, ◌⊎◌, ℕ, ◌+◌, ◌<◌, ◌≤◌, false, None, Some}
 use Rattle.balanced_tree.specs.Pairs.{with_pair}
 use Rattle.balanced_tree.specs.Rows.{Rows}
 use Rattle.page_list.specs.declared.row.Row.{Row}
 use Rattle.page_list.specs.declared.row.Slot.{Slot}
+use Rattle.page_list.specs.declared.row.Slot.TheVariants as slot
 use Rattle.page_list.specs.Lists.{slots_of, row_count}
-use Rattle.frame_pool.specs.Pool.{Pool, is_taken}
+use Rattle.frame_pool.specs.Pool.{Pool, is_taken, links_of}
 use Rattle.cow_arena.specs.declared.node.Node.{Node}
-use Rattle.cow_arena.specs.Nodes.{Arena, nodes_of}
-use Rattle.cow_arena.specs.Ways.{KeepsBelow}
+use Rattle.cow_arena.specs.Nodes.{Arena, nodes_of, IsVisible, link_to}
+use Rattle.cow_arena.specs.Walk.{frame_in, frame_at}
+use Rattle.cow_arena.specs.Ways.{IsPartOf}
 use Rattle.cow_split.specs.Trees.{tree_of}
+use Rattle.cow_split.specs.Sight.{IsPage}
 use Rattle.cow_split.specs.Exact.{IsExact, all_in_sight}
-use Rattle.cow_merge.specs.Ranges.{ShowsSame, AreLinked, GivesBack, IsHeldBy}
-use Rattle.cow_merge.specs.inside.Lifting.{IsFamilyOf, HasSettled}
+use Rattle.cow_merge.specs.Ranges.{GivesBack, HasGiven, IsHeldBy}
 
--- Rows of h, the parent of the VMO's node k, that stood under own rows of k below page `from`, went or moved into the
--- list of s, the other child of h. Each VMO shows what it showed, and none of these own rows covers a row of h.
-pub record IsUncovering (arena : Arena) (old new : Rows Row) (before after : Pool) (k h s from : ℕ) : Type 0 where
-  pub of : IsFamilyOf arena k h s
-  pub exact : IsExact (tree_of arena new) all_in_sight (is_taken after)
-  pub shows : ShowsSame (tree_of arena old) (tree_of arena new) all_in_sight
-  pub free : (p : ℕ) → p < from → IsHeldBy (nodes_of arena) (slots_of new) h of.node p → slots_of new of.node.list.0 p ≡ None
-  pub gives : GivesBack before after
-  pub rows : KeepsBelow (slots_of old) (slots_of new) of.parent of.sibling
-  pub linked : AreLinked old before → AreLinked new after
-  pub spare : old.spare ≤ new.spare
-  pub count : row_count new ≤ row_count old
+-- the slot with no bit set
+abbrev pub without_bits : Slot → Slot
+without_bits (slot.Frame tag left right) = slot.Frame tag false false
+without_bits slot.Zero = slot.Zero
 
--- page q of the parent had no row, and nothing has changed
-pub record HasNothing (old new : Rows Row) (before after : Pool) (parent : Node) (q : ℕ) : Type 0 where
-  pub none : slots_of old parent.list.0 q ≡ None
+-- The own row of page p of list l is gone, and its frame is free. The row of page q of the list above has no bit set.
+pub record IsRowUncovered (old new : Rows Row) (before after : Pool) (l p above q : ℕ) : Type 0 where
+  pub own : Slot
+  pub own_at : slots_of old l p ≡ Some own
+  pub row : Slot
+  pub row_at : slots_of old above q ≡ Some row
+  pub slots : slots_of new ≡ with_pair (with_pair (slots_of old) l p None) above q (Some (without_bits row))
+  pub given : HasGiven before after (frame_in own)
+  pub spare : new.spare ≡ old.spare + 1
+  pub count : row_count new + 1 ≡ row_count old
+
+-- the list above had no row of page q, and nothing has changed
+pub record IsNotUnder (old new : Rows Row) (before after : Pool) (above q : ℕ) : Type 0 where
+  pub none : slots_of old above q ≡ None
   pub rows : new ≡ old
   pub pool : after ≡ before
 
--- the row of page q of the parent was taken out, and has moved into the list of the child s, or is gone
-pub record HasRowSettled (arena : Arena) (old new : Rows Row) (before after : Pool) (parent : Node) (s : ℕ) (node : Node) (q : ℕ) : Type 0 where
-  pub row : Slot
-  pub has : slots_of old parent.list.0 q ≡ Some row
-  pub mid : Rows Row
-  pub taken_out : slots_of mid ≡ with_pair (slots_of old) parent.list.0 q None
-  pub settled : HasSettled arena mid new before after parent s node q row
-  pub spare : mid.spare ≡ old.spare + 1
-  pub count : row_count mid + 1 ≡ row_count old
+-- page p of list l was uncovered, if it covered a row
+abbrev pub IsUncovered : (old new : Rows Row) → (before after : Pool) → (l p above q : ℕ) → Type 0
+IsUncovered old new before after l p above q = IsNotUnder old new before after above q ⊎ IsRowUncovered old new before after l p above q
+
+-- Own rows of the VMO's node k below page `from`, over rows of its parent h, went. Each other VMO shows what it showed,
+-- and no own row that is left there covers a row of h.
+pub record IsUncovering (arena : Arena) (old new : Rows Row) (before after : Pool) (k h from : ℕ) : Type 0 where
+  pub node : Node
+  pub visible : IsVisible (nodes_of arena) k node
+  pub up : node.parent ≡ link_to h
+  pub exact : IsExact (tree_of arena new) all_in_sight (is_taken after)
+  pub shows : (w q : ℕ) → w ≢ k → IsPage (tree_of arena old) w q → frame_at (tree_of arena new) w q ≡ frame_at (tree_of arena old) w q
+  pub free : (p : ℕ) → p < from → IsHeldBy (nodes_of arena) (slots_of new) h node p → slots_of new node.list.0 p ≡ None
+  pub part : IsPartOf (slots_of old) (slots_of new)
+  pub links : links_of after ≡ links_of before
+  pub gives : GivesBack before after
+  pub spare : old.spare ≤ new.spare
+  pub count : row_count new ≤ row_count old

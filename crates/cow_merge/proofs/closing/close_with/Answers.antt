@@ -92,11 +92,10 @@ goes_over-requires-clause-child c =
     c.in-Some-Some.is-0 c.in-Some-Some.ensures.sibling in
     ap is_some of.family.sibling_at
 
-pub uncover-requires-clause-family : goal.uncover-requires-clause-family
-uncover-requires-clause-family c =
-    family-of c.args.arena.now c.requires.exact.forest c.args.leaf.0 c.node.result
-    (visible-of c.args.arena.now c.args.leaf.0 c.node.result c.requires.leaf c.node.ensures) c.in-Some-Some.hidden c.in-Some-Some.sibling
-    c.in-Some-Some.is-0 c.in-Some-Some.ensures.sibling
+pub uncover-requires-clause-leaf : goal.uncover-requires-clause-leaf
+uncover-requires-clause-leaf c =
+    child-ready c.args.arena.now c.args.leaf.0 c.node.result c.in-Some-Some.hidden
+    (visible-of c.args.arena.now c.args.leaf.0 c.node.result c.requires.leaf c.node.ensures) c.in-Some-Some.is-0
 
 pub leave_out_above-requires-clause-exact : goal.leave_out_above-requires-clause-exact
 leave_out_above-requires-clause-exact c = (c.uncover.ensures c.node.result c.node.ensures).exact
@@ -117,7 +116,7 @@ hand_over-requires-clause-seen c = λ node parent at parent_at.
     let up : node.parent ≡ Some c.in-Some-Some.hidden =
     ap (λ (n : Node). n.parent) (some_same (sym at ∙ c.node.ensures)) ∙ c.in-Some-Some.is-0 in
     let freed = c.uncover.ensures node at in
-    let one : freed.of.node ≡ node = some_same (sym freed.of.family.at ∙ at) in
+    let one : freed.node ≡ node = some_same (sym freed.visible.at ∙ at) in
     seen-kept (slots_of c.uncover.new.lists) (slots_of c.leave_out_above.new.lists) parent c.args.leaf.0 node.first (node.first + node.seen)
     (c.leave_out_above.ensures.kept parent parent_at)
     (seen-start (tree_of c.args.arena.now c.uncover.new.lists) (is_taken c.uncover.new.frames) freed.exact c.args.leaf.0 c.in-Some-Some.hidden.0 node parent visible
@@ -135,7 +134,7 @@ returns-then-goes_over-clause-closed c =
     (family-of c.args.arena.now c.requires.exact.forest c.args.leaf.0 c.node.result visible c.in-Some-Some.hidden c.in-Some-Some.sibling
     c.in-Some-Some.is-0 c.in-Some-Some.ensures.sibling)) in
     closed-then c.args.arena.now c.splice_over.new.self c.args.lists.now c.uncover.new.lists c.hand_over.new.lists c.args.frames.now c.uncover.new.frames
-    c.hand_over.new.frames c.args.leaf.0 c.in-Some-Some.hidden.0 c.in-Some-Some.sibling.0 c.node.result.seen (c.uncover.ensures c.node.result c.node.ensures)
+    c.hand_over.new.frames c.args.leaf.0 c.in-Some-Some.hidden.0 c.node.result.seen (c.uncover.ensures c.node.result c.node.ensures)
     (closed-over c.args.arena.now c.splice_over.new.self c.uncover.new.lists c.hand_over.new.lists c.uncover.new.frames c.hand_over.new.frames c.args.leaf.0
     c.in-Some-Some.hidden.0 c.in-Some-Some.sibling.0 over
     (c.splice_over.ensures.nodes c.in-Some-Some.hidden.0 c.in-Some-Some.sibling.0 over.of.node over.of.parent over.of.sibling over.of.family)
@@ -185,6 +184,5 @@ returns-then-goes_over-clause-ways c =
 
 pub leave_out_above-requires-clause-jumps : goal.leave_out_above-requires-clause-jumps
 leave_out_above-requires-clause-jumps c =
-    let freed = c.uncover.ensures c.node.result c.node.ensures in
     jumps-uncovered c.args.arena.now c.args.lists.now c.uncover.new.lists c.args.frames.now c.uncover.new.frames c.args.leaf.0 c.in-Some-Some.hidden.0
-    c.in-Some-Some.sibling.0 c.node.result.seen freed (c.goes_over.ensures freed.of.sibling freed.of.family.sibling_at c.if-goes_over.true) _ c.requires.jumps
+    c.node.result.seen (c.uncover.ensures c.node.result c.node.ensures) _ c.requires.jumps

@@ -1,60 +1,58 @@
 -- Each row of the child is put into the list of its parent; the pages between have gone over as they are.
-use Rattle.std.proofs.Common.{refl, sym, ap, subst, ◌∙◌, arith}
+use Rattle.std.proofs.Common.{refl, sym, ap, subst, ◌∙◌}
 use Rattle.balanced_tree.specs.Rows.{Rows}
 use Rattle.page_list.specs.declared.row.Row.{Row}
 use Rattle.page_list.specs.Lists.{slots_of}
-use Rattle.cow_merge.specs.inside.HandingOver.{IsHandingOver}
-use Rattle.cow_merge.proofs.HandLaws.{hand-taken, hand-under, hand-apart, hand-below, hand-next, over-end}
+use Rattle.cow_merge.specs.inside.HandingOver.{IsHandedUpTo}
+use Rattle.cow_merge.proofs.LiftedLaws.{ahead-less}
+use Rattle.cow_merge.proofs.HandLaws.{handed-start, hand-taken, hand-under, hand-apart, hand-gone, hand-next, over-end}
 use Rattle.cow_merge.proofs.handing.hand_rows.Goals as goal
 
 pub loop-page-init : goal.loop-page-init
-loop-page-init c = record { handing = λ old before was. was }
+loop-page-init c = record {
+  handing = λ old before was. handed-start c.args.arena.now old c.args.lists.now before c.args.frames.now c.args.leaf.0 c.args.hidden.0 c.args.child.0 was;
+}
 
 pub put_row-requires-clause-taken : goal.put_row-requires-clause-taken
 put_row-requires-clause-taken c =
-    let least = c.in-Some.ensures.page.least c.in-Some.page refl in
     hand-taken c.args.arena.now c.args.lists.now c.loop-page.lists c.args.frames.now c.loop-page.frames c.args.leaf.0 c.args.hidden.0 c.args.child.0 c.loop-page.from
-    (c.loop-page.invariant.handing c.args.lists.now c.args.frames.now c.requires) c.node-node.result c.node-node.ensures c.in-Some.page c.in-Some.slot least.0 c.in-Some.ensures.slot
+    (c.loop-page.invariant.handing c.args.lists.now c.args.frames.now c.requires) c.node-2.result c.node-2.ensures c.in-Some.page c.in-Some.slot c.in-Some.ensures.page
+    c.in-Some.ensures.slot
 
 pub put_row-requires-clause-under : goal.put_row-requires-clause-under
 put_row-requires-clause-under c =
-    let least = c.in-Some.ensures.page.least c.in-Some.page refl in
     hand-under c.args.arena.now c.args.lists.now c.loop-page.lists c.args.frames.now c.loop-page.frames c.args.leaf.0 c.args.hidden.0 c.args.child.0 c.loop-page.from
-    (c.loop-page.invariant.handing c.args.lists.now c.args.frames.now c.requires) c.node-node.result c.node-node.ensures c.in-Some.page c.in-Some.slot least.0 c.in-Some.ensures.slot
-    c.node.result c.node.ensures c.take_next.new.self c.in-Some.ensures.slots
+    (c.loop-page.invariant.handing c.args.lists.now c.args.frames.now c.requires) c.node-2.result c.node-2.ensures c.in-Some.page c.in-Some.slot c.in-Some.ensures.page
+    c.in-Some.ensures.slot c.node.result c.node.ensures c.take_next.new.self c.in-Some.ensures.slots
 
 pub put_row-requires-clause-apart : goal.put_row-requires-clause-apart
 put_row-requires-clause-apart c =
-    let least = c.in-Some.ensures.page.least c.in-Some.page refl in
     hand-apart c.args.arena.now c.args.lists.now c.loop-page.lists c.args.frames.now c.loop-page.frames c.args.leaf.0 c.args.hidden.0 c.args.child.0 c.loop-page.from
-    (c.loop-page.invariant.handing c.args.lists.now c.args.frames.now c.requires) c.node-node.result c.node-node.ensures c.in-Some.page c.in-Some.slot least.0 c.in-Some.ensures.slot
-    c.node.result c.node.ensures c.take_next.new.self c.in-Some.ensures.slots
-
-pub overflow_add-from : goal.overflow_add-from
-overflow_add-from c =
-    let least = c.in-Some.ensures.page.least c.in-Some.page refl in
-    let below = hand-below c.args.arena.now c.args.lists.now c.loop-page.lists c.args.frames.now c.loop-page.frames c.args.leaf.0 c.args.hidden.0 c.args.child.0 c.loop-page.from
-    (c.loop-page.invariant.handing c.args.lists.now c.args.frames.now c.requires) c.node-node.result c.node-node.ensures c.in-Some.page c.in-Some.slot least.0 c.in-Some.ensures.slot in
-    omega arith
+    (c.loop-page.invariant.handing c.args.lists.now c.args.frames.now c.requires) c.node-2.result c.node-2.ensures c.in-Some.page c.in-Some.slot c.in-Some.ensures.page
+    c.in-Some.ensures.slot c.node.result c.node.ensures c.take_next.new.self c.in-Some.ensures.slots
 
 pub loop-page-smaller : goal.loop-page-smaller
 loop-page-smaller c =
     let least = c.in-Some.ensures.page.least c.in-Some.page refl in
-    omega (arith, least.0, c.in-Some.ensures.fits)
+    ahead-less (slots_of c.loop-page.lists c.node-2.result.list.0) (slots_of c.put_row.new.lists c.node-2.result.list.0) c.loop-page.from c.in-Some.page c.in-Some.slot
+    least.0 c.in-Some.ensures.fits c.in-Some.ensures.slot
+    (hand-gone c.args.arena.now c.args.lists.now c.loop-page.lists c.args.frames.now c.loop-page.frames c.args.leaf.0 c.args.hidden.0 c.args.child.0 c.loop-page.from
+    (c.loop-page.invariant.handing c.args.lists.now c.args.frames.now c.requires) c.node-2.result c.node-2.ensures c.in-Some.page c.in-Some.slot c.in-Some.ensures.page
+    c.in-Some.ensures.slot c.node.result c.node.ensures c.take_next.new.self c.in-Some.ensures.slots c.put_row.new.lists c.put_row.new.frames c.put_row.ensures)
 
 pub loop-page-preserved : goal.loop-page-preserved
 loop-page-preserved c = record {
   handing = λ old before was.
       hand-next c.args.arena.now old c.loop-page.lists before c.loop-page.frames c.args.leaf.0 c.args.hidden.0 c.args.child.0 c.loop-page.from
-      (c.loop-page.invariant.handing old before was) c.node-node.result c.node-node.ensures c.in-Some.page c.in-Some.slot
-      (c.in-Some.ensures.page.least c.in-Some.page refl).0 c.in-Some.ensures.slot c.node.result c.node.ensures c.take_next.new.self c.in-Some.ensures.slots
-      c.in-Some.ensures.page c.put_row.new.lists c.put_row.new.frames c.put_row.ensures c.in-Some.ensures.spare c.in-Some.ensures.count;
+      (c.loop-page.invariant.handing old before was) c.node-2.result c.node-2.ensures c.in-Some.page c.in-Some.slot c.in-Some.ensures.page
+      c.in-Some.ensures.slot c.node.result c.node.ensures c.take_next.new.self c.in-Some.ensures.slots
+      c.put_row.new.lists c.put_row.new.frames c.put_row.ensures c.in-Some.ensures.spare c.in-Some.ensures.count;
 }
 
 pub returns : goal.returns
 returns c = λ old before was.
-    over-end c.args.arena.now old c.take_next.new.self before c.loop-page.frames c.args.leaf.0 c.args.hidden.0 c.args.child.0 c.node-node.result c.node-node.ensures
+    over-end c.args.arena.now old c.take_next.new.self before c.loop-page.frames c.args.leaf.0 c.args.hidden.0 c.args.child.0 c.node-2.result c.node-2.ensures
     c.loop-page.from
-    (subst (λ (rows : Rows Row). IsHandingOver c.args.arena.now old rows before c.loop-page.frames c.args.leaf.0 c.args.hidden.0 c.args.child.0 c.loop-page.from)
+    (subst (λ (rows : Rows Row). IsHandedUpTo c.args.arena.now old rows before c.loop-page.frames c.args.leaf.0 c.args.hidden.0 c.args.child.0 c.loop-page.from)
     (sym c.in_default.ensures.none) (c.loop-page.invariant.handing old before was))
-    (λ p from. ap (λ (rows : Rows Row). slots_of rows c.node-node.result.list.0 p) c.in_default.ensures.none ∙ c.in_default.ensures.page.none refl p from)
+    (λ p from. ap (λ (rows : Rows Row). slots_of rows c.node-2.result.list.0 p) c.in_default.ensures.none ∙ c.in_default.ensures.page.none refl p from)

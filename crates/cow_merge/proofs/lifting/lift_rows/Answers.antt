@@ -6,10 +6,8 @@ use Rattle.balanced_tree.specs.Rows.{Rows}
 use Rattle.page_list.specs.declared.row.Row.{Row}
 use Rattle.page_list.specs.Lists.{slots_of}
 use Rattle.cow_arena.specs.declared.node.Node.{Node}
-use Rattle.cow_arena.specs.Nodes.{side_of}
-use Rattle.cow_merge.specs.Ranges.{bit_on}
-use Rattle.cow_merge.specs.inside.Lifting.{IsLifting, SeesRow}
-use Rattle.cow_merge.proofs.LiftedLaws.{lifting-found, lifting-settled, lifting-list, row-taken, row-sees-mid, passed-more, left-was, ahead-less, gone-here}
+use Rattle.cow_merge.specs.inside.Lifting.{IsLifting}
+use Rattle.cow_merge.proofs.LiftedLaws.{lifting-with, lifting-settled, lifting-list, row-taken, row-sees-mid, passed-more, left-was, ahead-less, gone-here}
 use Rattle.cow_merge.proofs.lifting.lift_rows.Goals as goal
 
 pub loop-page-init : goal.loop-page-init
@@ -17,53 +15,49 @@ loop-page-init c = record { lifting = λ old before was. was; below = λ p least
 
 pub settle-requires-clause-taken : goal.settle-requires-clause-taken
 settle-requires-clause-taken c =
-    let was = lifting-found c.args.arena.now c.args.lists.now c.loop-page.lists c.args.frames.now c.loop-page.frames c.args.leaf.0 c.args.hidden.0 c.args.child.0
-    (c.loop-page.invariant.lifting c.args.lists.now c.args.frames.now c.requires) c.node.result c.node.ensures in
+    let was = lifting-with c.args.arena.now c.args.lists.now c.loop-page.lists c.args.frames.now c.loop-page.frames c.args.leaf.0 c.args.hidden.0 c.args.child.0
+    (c.loop-page.invariant.lifting c.args.lists.now c.args.frames.now c.requires) c.node-above.result c.node-node.result c.node-above.ensures c.node-node.ensures in
     row-taken c.args.arena.now c.args.lists.now c.loop-page.lists c.take_below.new.lists c.take_below.new.lists c.args.frames.now c.loop-page.frames c.loop-page.frames
     c.args.leaf.0 c.args.hidden.0 c.args.child.0 c.in-Some.page c.in-Some.slot was c.in-Some.ensures.slot c.in-Some.ensures.slots
 
 pub settle-requires-clause-seen : goal.settle-requires-clause-seen
-settle-requires-clause-seen c = λ parent node at there tag left right e seen.
-    let was = lifting-found c.args.arena.now c.args.lists.now c.loop-page.lists c.args.frames.now c.loop-page.frames c.args.leaf.0 c.args.hidden.0 c.args.child.0
-    (c.loop-page.invariant.lifting c.args.lists.now c.args.frames.now c.requires) c.node.result c.node.ensures in
-    let same : c.node.result ≡ parent = some_same (sym c.node.ensures ∙ at) in
-    let one = some_same (sym was.of.family.sibling_at ∙ there) in
-    subst (λ (n : Node). SeesRow (slots_of c.take_below.new.lists) n c.in-Some.page) one
-    (row-sees-mid c.args.arena.now c.args.lists.now c.loop-page.lists c.take_below.new.lists c.take_below.new.lists c.args.frames.now c.loop-page.frames c.loop-page.frames
-    c.args.leaf.0 c.args.hidden.0 c.args.child.0 c.in-Some.page c.in-Some.slot was c.in-Some.ensures.slot c.in-Some.ensures.slots tag left right e
-    (ap (λ (n : Node). bit_on (side_of n c.args.child.0) left right) same ∙ seen))
+settle-requires-clause-seen c = λ tag left right e seen.
+    let was = lifting-with c.args.arena.now c.args.lists.now c.loop-page.lists c.args.frames.now c.loop-page.frames c.args.leaf.0 c.args.hidden.0 c.args.child.0
+    (c.loop-page.invariant.lifting c.args.lists.now c.args.frames.now c.requires) c.node-above.result c.node-node.result c.node-above.ensures c.node-node.ensures in
+    row-sees-mid c.args.arena.now c.args.lists.now c.loop-page.lists c.take_below.new.lists c.take_below.new.lists c.args.frames.now c.loop-page.frames c.loop-page.frames
+    c.args.leaf.0 c.args.hidden.0 c.args.child.0 c.in-Some.page c.in-Some.slot was c.in-Some.ensures.slot c.in-Some.ensures.slots tag left right e seen
 
 pub loop-page-smaller : goal.loop-page-smaller
 loop-page-smaller c =
-    let was = lifting-found c.args.arena.now c.args.lists.now c.loop-page.lists c.args.frames.now c.loop-page.frames c.args.leaf.0 c.args.hidden.0 c.args.child.0
-    (c.loop-page.invariant.lifting c.args.lists.now c.args.frames.now c.requires) c.node.result c.node.ensures in
+    let was = lifting-with c.args.arena.now c.args.lists.now c.loop-page.lists c.args.frames.now c.loop-page.frames c.args.leaf.0 c.args.hidden.0 c.args.child.0
+    (c.loop-page.invariant.lifting c.args.lists.now c.args.frames.now c.requires) c.node-above.result c.node-node.result c.node-above.ensures c.node-node.ensures in
     let least = c.in-Some.ensures.page.least c.in-Some.page refl in
-    ahead-less (slots_of c.loop-page.lists c.node.result.list.0) (slots_of c.settle.new.lists c.node.result.list.0) c.loop-page.at c.in-Some.page
+    ahead-less (slots_of c.loop-page.lists c.node-above.result.list.0) (slots_of c.settle.new.lists c.node-above.result.list.0) c.loop-page.at c.in-Some.page
     c.in-Some.slot least.0 c.in-Some.ensures.fits c.in-Some.ensures.slot
     (lifting-list c.args.arena.now c.args.lists.now c.loop-page.lists c.take_below.new.lists c.settle.new.lists c.args.frames.now c.loop-page.frames c.settle.new.frames
     c.args.leaf.0 c.args.hidden.0 c.args.child.0 c.in-Some.page c.in-Some.slot was c.in-Some.ensures.slot c.in-Some.ensures.slots
-    (c.settle.ensures c.node.result was.of.sibling c.node.ensures was.of.family.sibling_at) c.in-Some.page ∙ gone-here _ c.in-Some.page)
+    c.settle.ensures c.in-Some.page ∙ gone-here _ c.in-Some.page)
 
 pub loop-page-preserved : goal.loop-page-preserved
 loop-page-preserved c =
-    let was = lifting-found c.args.arena.now c.args.lists.now c.loop-page.lists c.args.frames.now c.loop-page.frames c.args.leaf.0 c.args.hidden.0 c.args.child.0
-    (c.loop-page.invariant.lifting c.args.lists.now c.args.frames.now c.requires) c.node.result c.node.ensures in
+    let was = lifting-with c.args.arena.now c.args.lists.now c.loop-page.lists c.args.frames.now c.loop-page.frames c.args.leaf.0 c.args.hidden.0 c.args.child.0
+    (c.loop-page.invariant.lifting c.args.lists.now c.args.frames.now c.requires) c.node-above.result c.node-node.result c.node-above.ensures c.node-node.ensures in
     record {
       lifting = λ old before start.
-          let now = lifting-found c.args.arena.now old c.loop-page.lists before c.loop-page.frames c.args.leaf.0 c.args.hidden.0 c.args.child.0
-          (c.loop-page.invariant.lifting old before start) c.node.result c.node.ensures in
+          let now = lifting-with c.args.arena.now old c.loop-page.lists before c.loop-page.frames c.args.leaf.0 c.args.hidden.0 c.args.child.0
+          (c.loop-page.invariant.lifting old before start) c.node-above.result c.node-node.result c.node-above.ensures c.node-node.ensures in
           lifting-settled c.args.arena.now old c.loop-page.lists c.take_below.new.lists c.settle.new.lists before c.loop-page.frames c.settle.new.frames
           c.args.leaf.0 c.args.hidden.0 c.args.child.0 c.in-Some.page c.in-Some.slot now c.in-Some.ensures.slot c.in-Some.ensures.slots
-          (c.settle.ensures c.node.result now.of.sibling c.node.ensures now.of.family.sibling_at) c.in-Some.ensures.count c.in-Some.ensures.spare;
-      below = passed-more (slots_of c.loop-page.lists c.node.result.list.0) (slots_of c.settle.new.lists c.node.result.list.0) c.args.from c.loop-page.at c.in-Some.page
+          c.settle.ensures c.in-Some.ensures.count c.in-Some.ensures.spare;
+      below = passed-more (slots_of c.loop-page.lists c.node-above.result.list.0) (slots_of c.settle.new.lists c.node-above.result.list.0) c.args.from c.loop-page.at c.in-Some.page
           c.loop-page.invariant.below c.in-Some.ensures.page
           (lifting-list c.args.arena.now c.args.lists.now c.loop-page.lists c.take_below.new.lists c.settle.new.lists c.args.frames.now c.loop-page.frames c.settle.new.frames
           c.args.leaf.0 c.args.hidden.0 c.args.child.0 c.in-Some.page c.in-Some.slot was c.in-Some.ensures.slot c.in-Some.ensures.slots
-          (c.settle.ensures c.node.result was.of.sibling c.node.ensures was.of.family.sibling_at));
-      others = λ p row at. c.loop-page.invariant.others p row (left-was (slots_of c.loop-page.lists c.node.result.list.0) (slots_of c.settle.new.lists c.node.result.list.0) c.in-Some.page
+          c.settle.ensures);
+      others = λ p row at. c.loop-page.invariant.others p row (left-was (slots_of c.loop-page.lists c.node-above.result.list.0) (slots_of c.settle.new.lists c.node-above.result.list.0) c.in-Some.page
           (lifting-list c.args.arena.now c.args.lists.now c.loop-page.lists c.take_below.new.lists c.settle.new.lists c.args.frames.now c.loop-page.frames c.settle.new.frames
           c.args.leaf.0 c.args.hidden.0 c.args.child.0 c.in-Some.page c.in-Some.slot was c.in-Some.ensures.slot c.in-Some.ensures.slots
-          (c.settle.ensures c.node.result was.of.sibling c.node.ensures was.of.family.sibling_at)) p row at);
+          c.settle.ensures) p row at);
     }
 
 pub returns-clause-lifting : goal.returns-clause-lifting
@@ -73,16 +67,16 @@ returns-clause-lifting c = λ old before was.
 
 pub returns-clause-empty : goal.returns-clause-empty
 returns-clause-empty c = λ parent at p least less.
-    subst (λ (n : Node). slots_of c.take_below.new.lists n.list.0 p ≡ None) (some_same (sym c.node.ensures ∙ at))
-    (ap (λ (rows : Rows Row). slots_of rows c.node.result.list.0 p) c.in_default.ensures.none ∙ elim (cases_lt p c.loop-page.at) [
+    subst (λ (n : Node). slots_of c.take_below.new.lists n.list.0 p ≡ None) (some_same (sym c.node-above.ensures ∙ at))
+    (ap (λ (rows : Rows Row). slots_of rows c.node-above.result.list.0 p) c.in_default.ensures.none ∙ elim (cases_lt p c.loop-page.at) [
       | inl before ↦ c.loop-page.invariant.below p least before
       | inr past ↦ c.in_default.ensures.end p past less
     ])
 
 pub returns-clause-others : goal.returns-clause-others
 returns-clause-others c = λ parent at p row there.
-    let one : c.node.result ≡ parent = some_same (sym c.node.ensures ∙ at) in
+    let one : c.node-above.result ≡ parent = some_same (sym c.node-above.ensures ∙ at) in
     subst (λ (n : Node). slots_of c.args.lists.now n.list.0 p ≡ Some row) one
     (c.loop-page.invariant.others p row
-    (ap (λ (rows : Rows Row). slots_of rows c.node.result.list.0 p) (sym c.in_default.ensures.none)
+    (ap (λ (rows : Rows Row). slots_of rows c.node-above.result.list.0 p) (sym c.in_default.ensures.none)
     ∙ subst (λ (n : Node). slots_of c.take_below.new.lists n.list.0 p ≡ Some row) (sym one) there))

@@ -11,11 +11,11 @@ use Rattle.cow_merge.proofs.lifting.lift_rows.Given as goal
 abbrev pub invariant-loop-page : goal.invariant-loop-page
 invariant-loop-page l = record {
   lifting : (old : Rows Row) (before : Pool) →
-      IsLifting l.arena old l.fn.lists before l.fn.frames l.fn.leaf.0 l.hidden.0 l.child.0 →
-      IsLifting l.arena old l.lists before l.frames l.fn.leaf.0 l.hidden.0 l.child.0;
-  below : (p : ℕ) → l.from ≤ p → p < l.at → slots_of l.lists l.list.0 p ≡ None;
-  others : (p : ℕ) (row : Slot) → slots_of l.lists l.list.0 p ≡ Some row → slots_of l.fn.lists l.list.0 p ≡ Some row;
+      IsLifting l.arena old l.fn.lists before l.fn.frames l.fn.leaf.0 l.fn.hidden.0 l.child.0 →
+      IsLifting l.arena old l.lists before l.frames l.fn.leaf.0 l.fn.hidden.0 l.child.0;
+  below : (p : ℕ) → l.from ≤ p → p < l.at → slots_of l.lists l.above.list.0 p ≡ None;
+  others : (p : ℕ) (row : Slot) → slots_of l.lists l.above.list.0 p ≡ Some row → slots_of l.fn.lists l.above.list.0 p ≡ Some row;
 }
 
 abbrev pub decreases-loop-page : goal.decreases-loop-page
-decreases-loop-page l = still_ahead l.at (slots_of l.lists l.list.0 l.at)
+decreases-loop-page l = still_ahead l.at (slots_of l.lists l.above.list.0 l.at)

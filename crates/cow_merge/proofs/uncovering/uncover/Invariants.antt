@@ -4,7 +4,7 @@ use Rattle.cow_merge.proofs.uncovering.uncover.Given as goal
 
 abbrev pub invariant-loop-page : goal.invariant-loop-page
 invariant-loop-page l = record {
-  uncovering : IsUncovering l.arena l.fn.lists l.lists l.fn.frames l.frames l.fn.leaf.0 l.hidden.0 l.child.0 l.from;
+  uncovering : IsUncovering l.arena l.fn.lists l.lists l.fn.frames l.frames l.fn.leaf.0 l.fn.hidden.0 l.from;
 }
 
 abbrev pub decreases-loop-page : goal.decreases-loop-page
