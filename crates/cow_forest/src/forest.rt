@@ -24,7 +24,7 @@ use crate::looking::{look_at, look_at_counted, next_shown};
 use crate::node_table::NodeTable;
 use crate::owning::own_page;
 use crate::ranges::zero_pages;
-use crate::tables::{disown, leave_other, make_room};
+use crate::tables::{disown, leave_other, make_room, renew_merged};
 use crate::viewing::{least_koid_of, viewer_count_of};
 use cow_arena::CowArena;
 use cow_fork::{mark_zero, share};
@@ -348,6 +348,7 @@ impl PageStore for CowForest {
             node,
         );
         leave_other(&mut self.owners, &self.arena, merged);
+        renew_merged(&mut self.jumps, &self.arena, &self.lists, merged);
         self.nodes.leave(v.0);
         self.vmos -= 1;
     }

@@ -4,11 +4,14 @@ ghost use Rattle.std.specs.Prelude.{◌≡◌, ◌≢◌, ◌⊎◌, ◌≤◌, 
 ghost use Rattle.cow_arena.specs.declared.node.Node.{Node};
 ghost use Rattle.cow_arena.specs.Nodes.{nodes_of, link_to, sibling_in};
 ghost use Rattle.cow_arena.specs.Forest.{IsForest};
+ghost use Rattle.cow_split.specs.Trees.{tree_of};
+ghost use Rattle.cow_jump.specs.Jumps.{AreJumps};
 ghost use Rattle.cow_forest.specs.Tables.{node_in, IsDisowned, AreMerged, HasOneOf};
 
 use crate::node_table::NodeTable;
 use cow_arena::{CowArena, NodeId};
-use page_list::ListId;
+use cow_jump::{JumpTable, renew_jump};
+use page_list::{ListId, PageLists};
 use vm_base::HostMemory;
 
 /// Makes room for one more koid and for `lists` more lists. `HostMemory` if the host has too little memory. No entry
@@ -66,6 +69,25 @@ pub(crate) fn leave_other(
         return;
     };
     owners.leave(other_of(arena.node(node).list.0, one.0, other.0));
+}
+
+/// Gives the node that took the place of its parent a jump anew, if there is such a node and its own jump led to a node
+/// that went.
+pub(crate) fn renew_merged(
+    jumps: &mut JumpTable,
+    arena: &CowArena,
+    lists: &PageLists,
+    merged: Option<(NodeId, ListId, ListId)>,
+)
+    requires forest { IsForest (nodes_of arena.now) arena.now.lists }
+    requires merged { IfSome merged (λ it. HasOneOf (nodes_of arena.now) it.0.0 it.1.0 it.2.0) }
+    requires jumps { (next : ℕ) × AreJumps (tree_of arena.now lists.now) next jumps.old }
+    ensures { (next : ℕ) → AreJumps (tree_of arena.now lists.now) next jumps.old →
+        AreJumps (tree_of arena.now lists.now) next jumps.new }
+{
+    if let Some((node, _, _)) = merged {
+        renew_jump(jumps, arena, lists, node);
+    }
 }
 
 /// The one of two numbers that is not `number`.

@@ -212,6 +212,27 @@ pub fn note_pair(
     note_jump(jumps, arena, lists, child, hidden, further);
 }
 
+/// Gives a node a jump anew, if it has none that is to be taken, since the node to which its own led is gone. It leads as far as
+/// the jump or the step of its parent, and the jump or the step from there.
+pub fn renew_jump(jumps: &mut JumpTable, arena: &CowArena, lists: &PageLists, at: NodeId)
+    requires forest { IsForest (nodes_of arena.now) arena.now.lists }
+    requires node { IsSome (nodes_of arena.now at.0) }
+    requires jumps { (next : ℕ) × AreJumps (tree_of arena.now lists.now) next jumps.old }
+    ensures { (next : ℕ) → AreJumps (tree_of arena.now lists.now) next jumps.old →
+        AreJumps (tree_of arena.now lists.now) next jumps.new }
+{
+    if jumps.get(at).is_some() {
+        return;
+    }
+    let Some(parent) = arena.look(at).parent else {
+        return;
+    };
+    let Some(further) = way_of(arena, lists, jumps, parent) else {
+        return;
+    };
+    note_jump(jumps, arena, lists, at, parent, further);
+}
+
 /// Lets no jump to a node that goes be taken any more, nor to its parent, which goes with it.
 pub fn retire_pair(jumps: &mut JumpTable, arena: &CowArena, leaf: NodeId)
     requires { IsSome (nodes_of arena.now leaf.0) }
@@ -264,6 +285,39 @@ fn far_jump(arena: &CowArena, lists: &PageLists, jumps: &JumpTable, at: NodeId) 
     if near.over != far.over {
         return None;
     }
+    joined(arena, lists, at, near, far)
+}
+
+/// The way from a node as far as its jump or step and the jump or step from there lead. If the two bar every page, it is only the
+/// first of them.
+fn way_of(arena: &CowArena, lists: &PageLists, jumps: &JumpTable, at: NodeId) -> Option<Jump>
+    requires forest { IsForest (nodes_of arena.now) arena.now.lists }
+    requires node { IsSome (nodes_of arena.now at.0) }
+    requires jumps { (next : ℕ) × AreJumps (tree_of arena.now lists.now) next jumps.now }
+    ensures { IfSome result (λ jump. IsNewJump (tree_of arena.now lists.now) jumps.now at.0 jump × IsSome (nodes_of arena.now jump.to.0)) }
+{
+    let near = jump_of(arena, lists, jumps, at)?;
+    match two_jumps(arena, lists, jumps, at, near) {
+        Some(both) if both.barred != u64::MAX => Some(both),
+        _ => Some(near),
+    }
+}
+
+/// A jump or a step of a node, and the jump or the step from there, as one.
+fn two_jumps(
+    arena: &CowArena,
+    lists: &PageLists,
+    jumps: &JumpTable,
+    at: NodeId,
+    near: Jump,
+) -> Option<Jump>
+    requires forest { IsForest (nodes_of arena.now) arena.now.lists }
+    requires jumps { (next : ℕ) × AreJumps (tree_of arena.now lists.now) next jumps.now }
+    requires near { IsNewJump (tree_of arena.now lists.now) jumps.now at.0 near }
+    requires to { IsSome (nodes_of arena.now near.to.0) }
+    ensures { IfSome result (λ jump. IsNewJump (tree_of arena.now lists.now) jumps.now at.0 jump × IsSome (nodes_of arena.now jump.to.0)) }
+{
+    let far = jump_of(arena, lists, jumps, near.to)?;
     joined(arena, lists, at, near, far)
 }
 

@@ -31,8 +31,9 @@ invariant_of-self c =
       store = store-left (forest_of c.self.inside) _ _ _ _ _ _ c.args.v.0 c.get-node.result.0 s h c.close_by_jumps.ensures.closed c.disown-merged.result
           (record { family = c.disown-merged.ensures.family; root = c.disown-merged.ensures.root }) c.disown-merged.ensures.disowned c.leave_other.ensures
           c.leave.ensures;
-      jumps = jumps-closed (tree (forest_of c.self.inside)) _ c.self.inside.next c.get-node.result.0 c.self.inside.jumps c.retire_pair.new.jumps c.self.invariant.jumps
-          c.retire_pair.ensures c.close_by_jumps.ensures.ways (λ k now at. let was = c.close_by_jumps.ensures.closed.came k now at in (was.node, was.at));
+      jumps = c.renew_merged.ensures c.self.inside.next
+          (jumps-closed (tree (forest_of c.self.inside)) _ c.self.inside.next c.get-node.result.0 c.self.inside.jumps c.retire_pair.new.jumps c.self.invariant.jumps
+          c.retire_pair.ensures c.close_by_jumps.ensures.ways (λ k now at. let was = c.close_by_jumps.ensures.closed.came k now at in (was.node, was.at)));
     }
 
 pub returns-clause-content : goal.returns-clause-content
@@ -49,4 +50,20 @@ close_by_jumps-requires-clause-jumps c = (
   c.self.inside.next,
   jumps-retired (tree (forest_of c.self.inside)) c.self.inside.next c.get-node.result.0 c.self.inside.jumps c.retire_pair.new.jumps c.self.invariant.jumps
       c.retire_pair.ensures,
+)
+
+pub renew_merged-requires-clause-forest : goal.renew_merged-requires-clause-forest
+renew_merged-requires-clause-forest c = c.close_by_jumps.ensures.closed.exact.forest
+
+pub renew_merged-requires-clause-merged : goal.renew_merged-requires-clause-merged
+renew_merged-requires-clause-merged c =
+    let s = c.self.invariant.store in
+    one-of (forest_of c.self.inside) _ _ _ _ c.get-node.result.0 c.disown-merged.result s.exact.forest c.close_by_jumps.ensures.closed
+    (record { family = c.disown-merged.ensures.family; root = c.disown-merged.ensures.root })
+
+pub renew_merged-requires-clause-jumps : goal.renew_merged-requires-clause-jumps
+renew_merged-requires-clause-jumps c = (
+  c.self.inside.next,
+  jumps-closed (tree (forest_of c.self.inside)) _ c.self.inside.next c.get-node.result.0 c.self.inside.jumps c.retire_pair.new.jumps c.self.invariant.jumps
+      c.retire_pair.ensures c.close_by_jumps.ensures.ways (λ k now at. let was = c.close_by_jumps.ensures.closed.came k now at in (was.node, was.at)),
 )
