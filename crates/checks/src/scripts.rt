@@ -33,6 +33,7 @@ mod greatest;
 mod job_steps;
 mod jobs;
 mod lines;
+mod loose;
 mod mapping_refusals;
 mod mappings;
 mod naming;

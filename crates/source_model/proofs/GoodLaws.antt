@@ -107,7 +107,7 @@ read_good s new ends good fills =
 
 -- ---- evictions
 
-same_lists : (xs ys : List ℕ) → pointwise nat_eq xs ys ≡ true → xs ≡ ys
+pub same_lists : (xs ys : List ℕ) → pointwise nat_eq xs ys ≡ true → xs ≡ ys
 same_lists [] [] e = refl
 same_lists [] (y ∷ ys) e = absurd cc
 same_lists (x ∷ xs) [] e = absurd cc
@@ -182,7 +182,7 @@ module _ (s : SourceState) (good : IsGoodSources s) (v first end : ℕ) (unlinke
 
 -- ---- VMOs that come and go
 
-fresh_of : (s : SourceState) → IsGoodSources s → IsFresh s.content s.backing s.link
+pub fresh_of : (s : SourceState) → IsGoodSources s → IsFresh s.content s.backing s.link
 fresh_of s good =
     let none : s.content.count s.content.next ≡ None = no_count (s.content.count s.content.next) refl in
     record {

@@ -12,14 +12,14 @@ use Rattle.source_model.specs.State.{SourceState, below_of, pushed, supply_of, F
 use Rattle.source_model.specs.Commands.{SourceStep, StepAfter, Effect, refusals}
 use Rattle.source_model.proofs.FillingLaws.{replaced-none}
 
-pushed-none : (s : SourceState) (v p w q : ℕ) → pushed s (supply_of v p) w q ≡ s.text w q
+pub pushed-none : (s : SourceState) (v p w q : ℕ) → pushed s (supply_of v p) w q ≡ s.text w q
 unfolding pushed
 pushed-none s v p w q = go (shows (below_of s) v p w q) where
   go : (bit : Bool) → cond bit (replaced (s.text w q) 0 []) (s.text w q) ≡ s.text w q
   go true = replaced-none (s.text w q)
   go false = refl
 
-supplies_stay : {A : Type 0} (of : A → VmoPage) (old new : SourceState) (xs : List A) → FillsEach old (map (λ x. supply_of (of x).koid (of x).page) xs) new → (w q : ℕ) → new.text w q ≡ old.text w q
+pub supplies_stay : {A : Type 0} (of : A → VmoPage) (old new : SourceState) (xs : List A) → FillsEach old (map (λ x. supply_of (of x).koid (of x).page) xs) new → (w q : ℕ) → new.text w q ≡ old.text w q
 supplies_stay of old new [] fills w q = ap (λ (s : SourceState). s.text w q) fills
 supplies_stay of old new (x ∷ xs) fills w q =
     supplies_stay of fills.0 new xs fills.2 w q ∙ (ap (λ (s : SourceState). s.text w q) fills.1.rest ∙ pushed-none old (of x).koid (of x).page w q)

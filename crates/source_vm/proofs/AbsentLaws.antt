@@ -9,10 +9,10 @@ use Rattle.vm_base.proofs.EntryLaws.{some_is}
 use Rattle.vm_model.specs.Contents.Content.{Content}
 use Rattle.vm_model.proofs.OwningLaws.{count_from}
 use Rattle.vmo_ops.proofs.ModelLaws.{count_from-none, count_from-not, count_from-split, range_with_len-append}
-use Rattle.source_vm.specs.declared.backing.Backing.{Backing}
-use Rattle.source_vm.specs.State.{is_absent, supply_of}
-use Rattle.source_vm.specs.Pages.{FillsPages, IsSupplied}
-use Rattle.source_vm.proofs.FillingLaws.{absent-zero, absent-held}
+use Rattle.source_model.specs.declared.backing.Backing.{Backing}
+use Rattle.source_model.specs.State.{is_absent}
+use Rattle.source_model.proofs.FillingLaws.{absent-zero, absent-held}
+use Rattle.source_vm.specs.Pages.{Backings, Links, FillsPages, IsSupplied, end_piece, is_end_absent}
 use Rattle.source_vm.proofs.SupplyLaws.{filter_count}
 
 -- where all pass, all are counted
@@ -83,25 +83,25 @@ none_pass test first (suc n) each =
     ap (λ (t : Bool). cond t (first ∷ filter test (range_with_len (first + 1) n)) (filter test (range_with_len (first + 1) n))) (each first (omega arith) (omega arith))
     ∙ none_pass test (first + 1) n (λ p low less. each p (omega (arith, low)) (omega (arith, less)))
 
--- the absent pages of a range are those of its front that a source has
-pub absent_front : (c : Content) (b : Backing) (v first last end : ℕ) → first ≤ last → last ≤ end → ((p : ℕ) → last ≤ p → p < end → b.seen ≤ p)
-    → filter (is_absent c (Some b) v) (range_with_len first (last - first)) ≡ filter (is_absent c (Some b) v) (range_with_len first (end - first))
-absent_front c b v first last end low high behind =
-    let test = is_absent c (Some b) v in
+-- what passes in a range is what passes in its front
+pub filter_front : (test : ℕ → Bool) (first last end : ℕ) → first ≤ last → last ≤ end → ((p : ℕ) → last ≤ p → p < end → test p ≡ false)
+    → filter test (range_with_len first (last - first)) ≡ filter test (range_with_len first (end - first))
+filter_front test first last end low high behind =
     let size : end - first ≡ (last - first) + (end - last) = omega (arith, low, high) in
     let at : first + (last - first) ≡ last = omega (arith, low) in
     let none : filter test (range_with_len (first + (last - first)) (end - last)) ≡ [] =
-    none_pass test (first + (last - first)) (end - last) (λ p l less. absent-behind c b v p (behind p (omega (arith, at, l)) (omega (arith, at, high, less)))) in
+    none_pass test (first + (last - first)) (end - last) (λ p l less. behind p (omega (arith, at, l)) (omega (arith, at, high, less))) in
     sym (ap (λ (n : ℕ). filter test (range_with_len first n)) size
     ∙ (ap (filter test) (range_with_len-append first (last - first) (end - last))
     ∙ (filter-append test (range_with_len first (last - first)) (range_with_len (first + (last - first)) (end - last))
     ∙ (ap (λ (xs : List ℕ). filter test (range_with_len first (last - first)) ++ xs) none ∙ append-nil (filter test (range_with_len first (last - first)))))))
 
-pub IsSupplied-front : (b : Backing) (v : ℕ) (old new : Content) (first last end : ℕ) → first ≤ last → last ≤ end → ((p : ℕ) → last ≤ p → p < end → b.seen ≤ p)
-    → IsSupplied b v old first last new → IsSupplied b v old first end new
-IsSupplied-front b v old new first last end low high behind s = record {
-  fills = subst (λ (ps : List ℕ). FillsPages b v old (map (supply_of v) ps) new) (absent_front old b v first last end low high behind) s.fills;
-  none = λ p l less. elim (cases_lt p last) [ inl inside ↦ s.none p l inside | inr past ↦ absent-behind new b v p (behind p past less) ];
-  good = s.good;
+pub IsSupplied-front : (bs : Backings) (ls : Links) (v : ℕ) (old new : Content) (first last end : ℕ) → first ≤ last → last ≤ end
+    → ((c : Content) (p : ℕ) → last ≤ p → p < end → is_end_absent bs ls c v p ≡ false) → IsSupplied bs ls v old first last new → IsSupplied bs ls v old first end new
+IsSupplied-front bs ls v old new first last end low high behind s = record {
+  fills = subst (λ (ps : List ℕ). FillsPages bs ls old (map (end_piece ls old v) ps) new)
+      (filter_front (is_end_absent bs ls old v) first last end low high (behind old)) s.fills;
+  none = λ p l less. elim (cases_lt p last) [ inl inside ↦ s.none p l inside | inr past ↦ behind new p past less ];
+  readable = s.readable;
   pages = s.pages;
 }

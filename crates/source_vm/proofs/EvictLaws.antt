@@ -7,7 +7,7 @@ use Rattle.vm_model.specs.Contents.Content.{Content, Page, IsGood, pages_of}
 use Rattle.vm_model.specs.Contents.Zeroing.{is_within, zeroed}
 use Rattle.vm_model.proofs.ContentLaws.{IsGood-part, own_pages}
 use Rattle.vm_model.proofs.ZeroingLaws.{is_within-true, is_within-false, page-zeroed_in, page-zeroed_out}
-use Rattle.source_vm.specs.declared.backing.Backing.{Backing}
+use Rattle.source_model.specs.declared.backing.Backing.{Backing}
 use Rattle.source_vm.specs.Pages.{is_clean_page, is_clean_at, cleared}
 use Rattle.source_vm.proofs.FillingLaws.{clean-zero}
 

@@ -1,12 +1,16 @@
 mod Many
 mod FillingLaws
+mod EndLaws
 mod SupplyLaws
 mod AbsentLaws
 mod WriteLaws
+mod ReadLaws
 mod EvictLaws
 mod TextLaws
 mod StepLaws
 mod TableLaws
 mod RowLaws
-mod GoodLaws
+mod ClosingLaws
+mod AccessLaws
+mod ComingLaws
 mod LineLaws

@@ -1,5 +1,5 @@
 -- What answering one line of a script of page sources comes to, and its beginning.
-use Rattle.std.proofs.Common.{◌≡◌, ℕ, List, Option, None, Result, refl, sym, ap, subst, ◌∙◌}
+use Rattle.std.proofs.Common.{◌≡◌, ℕ, List, Option, None, Some, Result, refl, sym, ap, subst, ◌∙◌}
 use Rattle.std.specs.Prelude.{OnOk, OnErr}
 use Rattle.std.specs.Io.KnownBytes.{Appends}
 use Rattle.script_io.specs.Faults.{IsCutOff}
@@ -7,17 +7,20 @@ use Rattle.vm_base.specs.Pages.{zeros}
 use Rattle.vm_model.specs.declared.reply.Reply.{Reply}
 use Rattle.vm_model.specs.Contents.Content.{Content, Page, nothing, IsGood}
 use Rattle.vm_model.specs.Language.Text.{text}
-use Rattle.vm_model.proofs.ContentLaws.{IsGood-nothing}
 use Rattle.vm_model.proofs.LeavingLaws.{page_none}
 use Rattle.served.specs.Answering.{syntax_text}
 use Rattle.served.specs.Outcome.{AnswersLine}
 use Rattle.served.proofs.Answered.{written_or_cut}
-use Rattle.source_vm.specs.declared.backing.Backing.{Backing}
-use Rattle.source_vm.specs.declared.command.SourceCommand.{SourceCommand}
-use Rattle.source_vm.specs.Sources.{backing_text, held_text, text_over}
-use Rattle.source_vm.specs.State.{SourceState, state_over, empty_sources}
-use Rattle.source_vm.specs.Commands.{SourceStep}
-use Rattle.source_vm.specs.Good.{IsGoodSources}
+use Rattle.source_model.specs.declared.backing.Backing.{Backing}
+use Rattle.source_model.specs.declared.command.SourceCommand.{SourceCommand}
+use Rattle.source_model.specs.Sources.{backing_text}
+use Rattle.source_model.specs.State.{SourceState, state_over, empty_sources}
+use Rattle.source_model.specs.Commands.{SourceStep}
+use Rattle.source_model.specs.Good.{IsGoodSources}
+use Rattle.source_model.specs.declared.link.Link.{Link}
+use Rattle.source_model.specs.Links.{VmoPage, page_below, walked}
+use Rattle.source_model.proofs.LinkLaws.{below-unlinked, walked-end}
+use Rattle.source_vm.proofs.FillingLaws.{text-free}
 use Rattle.source_vm.specs.Reading.{SourceReading, Order, Outside, source_reading}
 use Rattle.source_vm.specs.Answering.{GivesAs, source_rules}
 
@@ -42,39 +45,48 @@ AnswersLine-outside line old before after result e ok err = record {
 
 -- ---- a machine with no names and no VMOs
 
+-- its text is zeros
+bare_text : (c : Content) (v p : ℕ) → IsGood c → c.count v ≡ None → walked c (λ w. None) (page_below c (λ w. None)) v p ≡ zeros
+unfolding backing_text
+bare_text c v p good none =
+    walked-end c (λ w. None) (page_below c (λ w. None)) v p (below-unlinked c (λ w. None) v p refl)
+    ∙ text-free c (λ w. None) v p (page_none c v p good none)
+
 -- its state, over a store that has no VMO
-pub bare : (c : Content) (names : ℕ → Option ℕ) (backing : ℕ → Option Backing) → IsGood c → ((v : ℕ) → c.count v ≡ None) → names ≡ (λ n. None) → backing ≡ (λ v. None)
-    → state_over c names backing ≡ record (empty_sources c.frames) { content = c }
-unfolding empty_sources text_over held_text backing_text
-bare c names backing good none no_names no_backing =
-    ap (λ (ns : ℕ → Option ℕ). state_over c ns backing) no_names
-    ∙ (ap (λ (bs : ℕ → Option Backing). state_over c (λ n. None) bs) no_backing
+pub bare : (c : Content) (names : ℕ → Option ℕ) (backing : ℕ → Option Backing) (link : ℕ → Option Link) → IsGood c → ((v : ℕ) → c.count v ≡ None)
+    → names ≡ (λ n. None) → backing ≡ (λ v. None) → link ≡ (λ v. None) → state_over c names backing link ≡ record (empty_sources c.frames) { content = c }
+unfolding empty_sources
+bare c names backing link good none no_names no_backing no_link =
+    ap (λ (ns : ℕ → Option ℕ). state_over c ns backing link) no_names
+    ∙ (ap (λ (bs : ℕ → Option Backing). state_over c (λ n. None) bs link) no_backing
+    ∙ (ap (λ (ls : ℕ → Option Link). state_over c (λ n. None) (λ v. None) ls) no_link
     ∙ λ i. record {
       content = c;
       names = λ n. None;
       backing = λ v. None;
-      text = λ v p. held_text (page_none c v p good (none v) i) zeros;
-    })
+      link = λ v. None;
+      text = λ v p. bare_text c v p good (none v) i;
+    }))
 
 -- it is good
 pub IsGoodSources-bare : (c : Content) → IsGood c → ((v : ℕ) → c.count v ≡ None) → IsGoodSources (record (empty_sources c.frames) { content = c })
-unfolding empty_sources text_over held_text backing_text
+unfolding empty_sources backing_text
 IsGoodSources-bare c good none = record {
   content = good;
   counts = λ v n e. absurd (let no = none v in cc);
-  named = λ v h. absurd (let no = none v in cc);
+  live = λ v h. absurd (let no = none v in cc);
   known = λ n v e. absurd cc;
   once = λ n m v e f. absurd cc;
-  backed = λ v h. absurd (let no = none v in cc);
-  others = λ v e. refl;
+  either = λ v h. absurd (let no = none v in cc);
+  others = λ v e. (refl, refl);
   backing = λ v b e. absurd cc;
-  text = λ v p. sym (ap (λ (o : Option Page). held_text o zeros) (page_none c v p good (none v)));
+  link = λ v l e. absurd cc;
+  text = record {
+    own = λ v p held e. absurd (let no : ◌≡◌ {A = Option Page} None (Some held) = sym (page_none c v p good (none v)) ∙ e in cc);
+    shown = λ v p at e. absurd (let no : ◌≡◌ {A = Option VmoPage} None (Some at) = sym (below-unlinked c (λ w. None) v p refl) ∙ e in cc);
+    backed = λ v p free e. refl;
+  };
 }
-
--- with page frames and nothing else
-pub IsGoodSources-empty : (frames : ℕ) → IsGoodSources (empty_sources frames)
-unfolding empty_sources nothing
-IsGoodSources-empty frames = IsGoodSources-bare (record nothing { frames = frames }) (IsGood-nothing frames) (λ v. refl)
 
 pub fresh : (frames v : ℕ) → (record nothing { frames = frames }).count v ≡ None
 unfolding nothing

@@ -10,10 +10,14 @@ use Rattle.vm_model.specs.declared.reply.Reply.{Reply}
 use Rattle.vm_model.specs.declared.reply.Reply.TheVariants.{Refused}
 use Rattle.vm_model.specs.Contents.Content.{Content, used}
 use Rattle.vm_model.specs.Machine.Refusals.{first_of}
-use Rattle.source_vm.specs.declared.command.SourceCommand.{SourceCommand}
-use Rattle.source_vm.specs.declared.backing.Backing.{Backing}
-use Rattle.source_vm.specs.State.{SourceState, state_over, koid_of}
-use Rattle.source_vm.specs.Commands.{SourceStep, StepAfter, Effect, refusals, may_lack_memory, lacks}
+use Rattle.source_model.specs.declared.command.SourceCommand.{SourceCommand}
+use Rattle.source_model.specs.declared.backing.Backing.{Backing}
+use Rattle.source_model.specs.State.{SourceState, state_over, koid_of}
+use Rattle.source_model.specs.Commands.{SourceStep, StepAfter, Effect, refusals, may_lack_memory, lacks}
+use Rattle.source_model.specs.declared.link.Link.{Link}
+use Rattle.source_model.specs.Good.{IsGoodSources}
+use Rattle.source_model.proofs.KeepLaws.{state_is}
+use Rattle.source_model.proofs.GoodLaws.{SourceStep-keeps}
 use Rattle.source_vm.specs.Pages.{LacksFrames}
 
 pub koid_of-named : (s : SourceState) (name v : ℕ) → s.names name ≡ Some v → koid_of s name ≡ v
@@ -74,10 +78,30 @@ range_past offset len n p answer over says e = (
 )
 
 -- a refusal, where the store contains what it did
-pub kept_content : (c d : Content) (names : ℕ → Option ℕ) (backing : ℕ → Option Backing) (command : SourceCommand) (reply : Reply) → d ≡ c
-    → SourceStep (state_over c names backing) command reply (state_over c names backing) → SourceStep (state_over c names backing) command reply (state_over d names backing)
-kept_content c d names backing command reply same step =
-    subst (λ (x : Content). SourceStep (state_over c names backing) command reply (state_over x names backing)) (sym same) step
+pub kept_content : (c d : Content) (names : ℕ → Option ℕ) (bs : ℕ → Option Backing) (ls : ℕ → Option Link) (command : SourceCommand) (reply : Reply) → d ≡ c
+    → SourceStep (state_over c names bs ls) command reply (state_over c names bs ls) → SourceStep (state_over c names bs ls) command reply (state_over d names bs ls)
+kept_content c d names bs ls command reply same step =
+    subst (λ (x : Content). SourceStep (state_over c names bs ls) command reply (state_over x names bs ls)) (sym same) step
+
+-- a refusal, where the tables are what they were as well
+pub kept_all : (c d : Content) (names ns : ℕ → Option ℕ) (bs bs_new : ℕ → Option Backing) (ls ls_new : ℕ → Option Link) (command : SourceCommand) (reply : Reply)
+    → d ≡ c → ns ≡ names → bs_new ≡ bs → ls_new ≡ ls
+    → SourceStep (state_over c names bs ls) command reply (state_over c names bs ls) → SourceStep (state_over c names bs ls) command reply (state_over d ns bs_new ls_new)
+kept_all c d names ns bs bs_new ls ls_new command reply e f g h step = rw (e, f, g, h) step
+
+-- A step to a state that is written out, where the content, the names, the backings and the links are those of that state: its text is
+-- what look-ups find there.
+pub settled : (s w : SourceState) (command : SourceCommand) (reply : Reply) (c : Content) (names : ℕ → Option ℕ) (bs : ℕ → Option Backing) (ls : ℕ → Option Link)
+    → IsGoodSources s → SourceStep s command reply w → c ≡ w.content → names ≡ w.names → bs ≡ w.backing → ls ≡ w.link
+    → SourceStep s command reply (state_over c names bs ls)
+settled s w command reply c names bs ls good step content_is names_is bs_is ls_is =
+    subst (SourceStep s command reply)
+    (state_is w (SourceStep-keeps s w command reply good step).good
+    ∙ sym (ap (λ (x : Content). state_over x names bs ls) content_is
+    ∙ (ap (λ (ns : ℕ → Option ℕ). state_over w.content ns bs ls) names_is
+    ∙ (ap (λ (b : ℕ → Option Backing). state_over w.content w.names b ls) bs_is
+    ∙ ap (λ (k : ℕ → Option Link). state_over w.content w.names w.backing k) ls_is))))
+    step
 
 pub no_more : (most n : ℕ) → n ≤ most → nat_lt most n ≡ false
 no_more most n h = false_from_ne_true (nat_lt most n) (λ past. let less = ltb-true most n past in omega (arith, less, h))

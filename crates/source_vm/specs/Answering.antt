@@ -7,9 +7,9 @@ use Rattle.vm_model.specs.declared.reply.Reply.{Reply}
 use Rattle.vm_model.specs.Language.Reading.{words}
 use Rattle.vm_model.specs.Language.Text.{text}
 use Rattle.served.specs.Answering.{Answering, syntax_text}
-use Rattle.source_vm.specs.State.{SourceState, empty_sources}
-use Rattle.source_vm.specs.Commands.{SourceStep}
-use Rattle.source_vm.specs.Good.{IsGoodSources}
+use Rattle.source_model.specs.State.{SourceState, empty_sources}
+use Rattle.source_model.specs.Commands.{SourceStep}
+use Rattle.source_model.specs.Good.{IsGoodSources}
 use Rattle.source_vm.specs.Reading.{SourceReading, Blank, Order, Outside, source_reading, source_reading_of_words}
 
 -- by which text a line that is read so may be answered: a blank line by none, a line outside the grammar by its refusal, an

@@ -1,9 +1,5 @@
-pub mod Sources
-pub mod State
-pub mod Commands
-pub mod Lent
 pub mod Reading
-pub mod Good
 pub mod Pages
 pub mod Table
+pub mod Closing
 pub mod Answering

@@ -1,33 +1,77 @@
--- What becomes of pages of one VMO, whose backing is known: whatever names and other backings there are.
-use Rattle.std.specs.Prelude.{◌≡◌, ℕ, ◌+◌, ◌-◌, ◌*◌, ◌<◌, ◌≤◌, ◌⊎◌, Bool, map, true, false, ◌&&◌, ◌==◌, nat_eq, List, if◌then◌else◌, Option, None, Some}
+-- What becomes of pages, over the backings and the links of a table, whatever names there are.
+use Rattle.std.specs.Prelude.{◌≡◌, ℕ, ◌+◌, ◌-◌, ◌*◌, ◌<◌, ◌≤◌, ◌⊎◌, Bool, map, false, true, ◌&&◌, ◌==◌, nat_eq, List, if◌then◌else◌, Option, None, Some}
 use Rattle.std.specs.List.{filter, range_with_len}
+use Rattle.std.specs.Cmp.Lexicographic.{pointwise}
+use Rattle.vm_base.specs.declared.limits.TheConstants.{PAGE}
 use Rattle.vm_base.specs.declared.refusal.Refusal.{Refusal}
 use Rattle.vm_base.specs.declared.refusal.Refusal.TheVariants.{NoMemory, HostMemory}
-use Rattle.std.specs.Cmp.Lexicographic.{pointwise}
 use Rattle.vm_model.specs.Contents.Content.{Content, Page, IsGood, pages_of, used}
 use Rattle.vm_model.specs.Contents.Writing.{Piece}
 use Rattle.vm_model.specs.Contents.Zeroing.{is_within}
-use Rattle.source_vm.specs.declared.backing.Backing.{Backing}
-use Rattle.source_vm.specs.declared.limits.TheConstants.{SOURCE_PAGES}
-use Rattle.source_vm.specs.Sources.{backing_text}
-use Rattle.vm_base.specs.declared.limits.TheConstants.{PAGE}
-use Rattle.source_vm.specs.Commands.{is_aligned}
-use Rattle.source_vm.specs.State.{SourceState, state_over, Fills, FillsEach, is_absent, supply_of}
+use Rattle.source_model.specs.declared.backing.Backing.{Backing}
+use Rattle.source_model.specs.declared.link.Link.{Link}
+use Rattle.source_model.specs.declared.limits.TheConstants.{SOURCE_PAGES}
+use Rattle.source_model.specs.Sources.{backing_text}
+use Rattle.source_model.specs.Links.{VmoPage, page_below, read_end}
+use Rattle.source_model.specs.State.{SourceState, state_over, Fills, FillsEach, is_absent, supply_of}
+use Rattle.source_model.specs.Commands.{is_aligned}
+use Rattle.source_vm.specs.declared.walk.Place.{Place}
+
+-- the backing of each VMO, and the link of each
+abbrev pub Backings : Type 0
+Backings = ℕ → Option Backing
+
+abbrev pub Links : Type 0
+Links = ℕ → Option Link
 
 -- a backing by one of the functions, within their bytes
 pub record IsSource (b : Backing) : Type 0 where
   pub kind : b.kind ≤ 2
   pub inside : b.base + b.seen ≤ SOURCE_PAGES
 
--- From old, with this backing of the piece's VMO, filling a page may lead to new.
-pub record FillsPage (b : Backing) (old : Content) (part : Piece) (new : Content) : Type 0 where
-  pub each : (names : ℕ → Option ℕ) (backing : ℕ → Option Backing) → backing part.koid ≡ Some b
-      → Fills (state_over old names backing) part (state_over new names backing)
+-- Pages may be looked up: the content is good, each backing is within its source, and each link leads to pages of an older VMO.
+pub record IsReadable (c : Content) (backings : Backings) (links : Links) : Type 0 where
+  pub good : IsGood c
+  pub sources : (v : ℕ) (b : Backing) → backings v ≡ Some b → IsSource b
+  pub smaller : (v : ℕ) (l : Link) → links v ≡ Some l → l.parent.0 < v
+  pub inside : (v : ℕ) (l : Link) → links v ≡ Some l → 0 < l.seen → l.base + l.seen ≤ pages_of c l.parent.0
+  pub either : (v : ℕ) (b : Backing) → backings v ≡ Some b → links v ≡ None
 
--- the same of pages of the VMO v, one after another
-pub record FillsPages (b : Backing) (v : ℕ) (old : Content) (parts : List Piece) (new : Content) : Type 0 where
-  pub each : (names : ℕ → Option ℕ) (backing : ℕ → Option Backing) → backing v ≡ Some b
-      → FillsEach (state_over old names backing) parts (state_over new names backing)
+-- a page, as the code has it
+abbrev pub page_at : Place → VmoPage
+page_at at = record { koid = at.koid.0; page = at.page }
+
+-- the page at which a look-up of page p of v ends
+abbrev pub end_of : Links → Content → ℕ → ℕ → VmoPage
+end_of links c v p = read_end (page_below c links) v p
+
+-- that page is absent
+unfoldable pub is_end_absent : Backings → Links → Content → ℕ → ℕ → Bool
+is_end_absent backings links c v p =
+    is_absent c (backings (end_of links c v p).koid) (end_of links c v p).koid (end_of links c v p).page
+
+-- the piece of supplying it
+abbrev pub end_piece : Links → Content → ℕ → ℕ → Piece
+end_piece links c v p = supply_of (end_of links c v p).koid (end_of links c v p).page
+
+-- the pages from `first` to below `end` of v whose look-ups end at absent pages
+abbrev pub absent_ends : Backings → Links → Content → ℕ → (first end : ℕ) → List ℕ
+absent_ends backings links c v first end = filter (is_end_absent backings links c v) (range_with_len first (end - first))
+
+-- From old, filling a page may lead to new.
+pub record FillsPage (backings : Backings) (links : Links) (old : Content) (part : Piece) (new : Content) : Type 0 where
+  pub each : (names : ℕ → Option ℕ) → Fills (state_over old names backings links) part (state_over new names backings links)
+
+-- the same of pages one after another
+pub record FillsPages (backings : Backings) (links : Links) (old : Content) (parts : List Piece) (new : Content) : Type 0 where
+  pub each : (names : ℕ → Option ℕ) → FillsEach (state_over old names backings links) parts (state_over new names backings links)
+
+-- The absent pages at which the look-ups of the pages from `first` to below `end` of v end were supplied: none of them is absent now.
+pub record IsSupplied (backings : Backings) (links : Links) (v : ℕ) (old : Content) (first end : ℕ) (new : Content) : Type 0 where
+  pub fills : FillsPages backings links old (map (end_piece links old v) (absent_ends backings links old v first end)) new
+  pub none : (p : ℕ) → first ≤ p → p < end → is_end_absent backings links new v p ≡ false
+  pub readable : IsReadable new backings links
+  pub pages : (w : ℕ) → pages_of new w ≡ pages_of old w
 
 -- a page is clean, by its backing
 unfoldable pub is_clean_page : Backing → Option Page → ℕ → Bool
@@ -44,22 +88,16 @@ cleared b c v first end = record c {
   page = λ w q. if (w == v) && (is_within first end q && is_clean_at b c v q) then None else c.page w q;
 }
 
--- The absent pages of v from `first` to below `end` were supplied, and the content is good: none of them is absent now.
-pub record IsSupplied (b : Backing) (v : ℕ) (old : Content) (first end : ℕ) (new : Content) : Type 0 where
-  pub fills : FillsPages b v old (map (supply_of v) (filter (is_absent old (Some b) v) (range_with_len first (end - first)))) new
-  pub none : (p : ℕ) → first ≤ p → p < end → is_absent new (Some b) v p ≡ false
-  pub good : IsGood new
-  pub pages : (w : ℕ) → pages_of new w ≡ pages_of old w
-
 -- So many new frames are refused: there are too few free frames, or there are enough and the host has too little memory, which is
 -- wanted where there is such a frame.
 abbrev pub LacksFrames : Content → ℕ → Refusal → Type 0
 LacksFrames c n refusal =
     ((refusal ≡ NoMemory) × (c.frames < used c + n)) ⊎ ((refusal ≡ HostMemory) × (used c + n ≤ c.frames) × (0 < n))
 
--- A range of whole pages lies inside the VMO v of an open name, which has this backing.
+-- A range of whole pages lies inside the VMO v of an open name, which is not loose and has this backing.
 pub record IsOfPages (s : SourceState) (name offset len v : ℕ) (b : Backing) : Type 0 where
   pub named : s.names name ≡ Some v
   pub backed : s.backing v ≡ Some b
+  pub unlinked : s.link v ≡ None
   pub aligned : (is_aligned offset && is_aligned len) ≡ true
   pub inside : offset + len ≤ pages_of s.content v * PAGE

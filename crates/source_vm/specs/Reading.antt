@@ -4,12 +4,12 @@ use Rattle.vm_base.specs.declared.limits.TheConstants.{LINE_BYTES}
 use Rattle.vm_base.specs.declared.names.VmoName.{VmoName}
 use Rattle.vm_model.specs.Language.Reading.{◌>>=◌, words, is_word, is_comment, vmo, number, byte_data}
 use Rattle.script_text.specs.declared.reading.SyntaxFault.{SyntaxFault}
-use Rattle.source_vm.specs.declared.command.SourceCommand.{SourceCommand}
-use Rattle.source_vm.specs.declared.command.SourceCommand.TheVariants.{Create, Child, Close, Read, Write, Supply, Evict, Stat}
-use Rattle.source_vm.specs.declared.call.SourceCall.{SourceCall}
+use Rattle.source_model.specs.declared.command.SourceCommand.{SourceCommand}
+use Rattle.source_model.specs.declared.command.SourceCommand.TheVariants.{Create, Child, Loose, Close, Read, Write, Supply, Evict, Stat}
+use Rattle.source_model.specs.declared.call.SourceCall.{SourceCall}
 use Rattle.source_vm.specs.declared.reading.SourceLine.{SourceLine}
 use Rattle.source_vm.specs.declared.reading.SourceLine.TheVariants.{Blank as BlankLine, Order as OrderLine}
-use Rattle.source_vm.specs.Lent.{source_command_of}
+use Rattle.source_model.specs.Lent.{source_command_of}
 
 -- `source_create VMO SIZE KIND SEED`
 abbrev pub source_create : List (List ℕ) → Option SourceCommand
@@ -21,14 +21,21 @@ source_create (a ∷ b ∷ c ∷ d ∷ []) = do
   Some (Create name size kind seed)
 source_create _ = None
 
--- `vmo_create_child VMO PARENT snapshot OFFSET SIZE`
+-- by which kind of child, which command
+abbrev pub child_of_kind : List ℕ → (name parent : VmoName) → (offset size : ℕ) → Option SourceCommand
+child_of_kind kind name parent offset size =
+    if is_word kind (codes "snapshot") then Some (Child name parent offset size)
+    else if is_word kind (codes "snapshot_at_least_on_write") then Some (Loose name parent offset size)
+    else None
+
+-- `vmo_create_child VMO PARENT snapshot OFFSET SIZE`, and the same with `snapshot_at_least_on_write`
 abbrev pub source_child : List (List ℕ) → Option SourceCommand
 source_child (a ∷ b ∷ kind ∷ c ∷ d ∷ []) = do
   name ← vmo a
   parent ← vmo b
   offset ← number c
   size ← number d
-  if is_word kind (codes "snapshot") then Some (Child name parent offset size) else None
+  child_of_kind kind name parent offset size
 source_child _ = None
 
 -- the one argument of a command of a VMO

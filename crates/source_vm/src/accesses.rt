@@ -1,23 +1,24 @@
 //! Accesses to the pages of VMOs: reading, writing, supplying and evicting.
 
-ghost use Rattle.std.specs.Prelude.{◌≡◌, ◌↔◌, ℕ, ◌+◌, ◌*◌, ◌<◌, ◌≤◌, ◌&&◌, [], ◌∷◌, map, length, IsTrue, IsSome, Some, IfOk, IfErr};
+ghost use Rattle.std.specs.Prelude.{◌≡◌, ◌↔◌, ℕ, ◌+◌, ◌*◌, ◌/◌, ◌<◌, ◌≤◌, ◌&&◌, false, [], ◌∷◌, map, length, IsTrue, IsSome, Some, IfOk, IfErr};
 ghost use Rattle.vm_model.specs.Contents.Content.{pages_of, IsGood};
-ghost use Rattle.vm_model.specs.Contents.Writing.{bytes_in};
 ghost use Rattle.vm_model.specs.Machine.Lent.{reply_for};
-ghost use Rattle.source_vm.specs.declared.command.SourceCommand.{SourceCommand};
 ghost use Rattle.vm_model.specs.Machine.Refusals.{first_of};
-ghost use Rattle.source_vm.specs.Commands.{SourceStep, is_aligned, refusals};
-ghost use Rattle.source_vm.specs.Pages.{IsOfPages};
-ghost use Rattle.source_vm.specs.Table.{Agrees, state_of};
+ghost use Rattle.source_model.specs.declared.command.SourceCommand.{SourceCommand};
+ghost use Rattle.source_model.specs.Commands.{SourceStep, is_aligned, refusals};
+ghost use Rattle.source_model.specs.State.{text_in};
+ghost use Rattle.source_vm.specs.Pages.{IsOfPages, IsReadable, is_end_absent};
+ghost use Rattle.source_vm.specs.Table.{Agrees, backings_of, links_of, state_of};
 
-use crate::backing::Backing;
-use crate::ranges::{evict_pages, supply_pages, write_pages};
+use crate::ranges::{evict_pages, read_range, supply_counted, supply_pages, write_pages};
 use crate::source_fn::SourceFn;
-use crate::table::{SourceTable, resolve};
+use crate::table::{SourceTable, find};
+use crate::walk::count_absent_ends;
 use page_store::PageStore;
+use source_model::Backing;
 use vm_base::{DATA_BYTES, Koid, PAGE, Refusal, VmoName, in_page, page_of};
 use vm_model::{Answer, LentBytes};
-use vmo_ops::{read_range, touched_pages};
+use vmo_ops::touched_pages;
 
 /// Whether a range lies inside a VMO. An offset and a length whose sum passes 2^64 do not.
 fn is_in_range<P: PageStore>(store: &P, v: Koid, offset: u64, len: u64) -> bool
@@ -36,7 +37,8 @@ fn are_aligned(offset: u64, len: u64) -> bool
     in_page(offset) == 0 && in_page(len) == 0
 }
 
-/// Reads `len` bytes, at most `DATA_BYTES`, into `room`, and lends them. The absent pages that are touched are supplied.
+/// Reads `len` bytes, at most `DATA_BYTES`, into `room`, and lends them. The absent pages at which the look-ups of the touched pages end
+/// are supplied.
 pub(crate) fn read<'a, P: PageStore>(
     store: &mut P,
     table: &SourceTable,
@@ -52,7 +54,7 @@ pub(crate) fn read<'a, P: PageStore>(
     ensures { SourceStep (state_of (P.content store.old) table.now) (SourceCommand.Read name offset len)
         (reply_for result) (state_of (P.content store.new) table.now) }
 {
-    let Some((v, backing)) = resolve(table, name) else {
+    let Some(v) = find(table, name) else {
         return Answer::Refused(Refusal::BadHandle);
     };
     if len > DATA_BYTES as u64 {
@@ -62,32 +64,36 @@ pub(crate) fn read<'a, P: PageStore>(
         return Answer::Refused(Refusal::OutOfRange);
     }
     let (first, end) = touched_pages(offset, len);
-    match supply_pages(store, functions, &backing, v, first, end) {
-        Ok(()) => Answer::Bytes(read_into(store, v, offset, len, room)),
+    let need = count_absent_ends(store, table, v, first, end);
+    match supply_counted(store, table, functions, v, first, end, need) {
+        Ok(()) => Answer::Bytes(read_into(store, table, v, offset, len, room)),
         Err(refusal) => Answer::Refused(refusal),
     }
 }
 
-/// Reads the bytes that the pages of a range inside a VMO have in the store, and lends them.
+/// Reads the bytes of a range inside a VMO, of which no look-up ends at an absent page, and lends them.
 fn read_into<'a, P: PageStore>(
     store: &P,
+    table: &SourceTable,
     v: Koid,
     offset: u64,
     len: u64,
     room: &'a mut [u8],
 ) -> LentBytes<'a>
-    requires good { IsGood (P.content store.now) }
+    requires readable { IsReadable (P.content store.now) (backings_of table.now) (links_of table.now) }
     requires few { len ≤ DATA_BYTES }
     requires room { DATA_BYTES ≤ length room.old }
     requires inside { offset + len ≤ pages_of (P.content store.now) v.0 * PAGE }
-    ensures { result ≡ bytes_in (P.content store.now) v.0 offset len }
+    requires supplied { (p : ℕ) → 0 < len → offset / PAGE ≤ p → p * PAGE < offset + len
+        → is_end_absent (backings_of table.now) (links_of table.now) (P.content store.now) v.0 p ≡ false }
+    ensures { result ≡ text_in (state_of (P.content store.now) table.now) v.0 offset len }
 {
     let out = &mut room[..len as usize];
-    read_range(store, v, offset, out);
+    read_range(store, table, v, offset, out);
     LentBytes::new(out)
 }
 
-/// Writes bytes. Each page that they touch is filled, if it is absent.
+/// Writes bytes. Each page that they touch is filled, if it is not held.
 pub(crate) fn write<'a, P: PageStore>(
     store: &mut P,
     table: &SourceTable,
@@ -101,20 +107,20 @@ pub(crate) fn write<'a, P: PageStore>(
     ensures { SourceStep (state_of (P.content store.old) table.now) (SourceCommand.Write name offset bytes.now)
         (reply_for result) (state_of (P.content store.new) table.now) }
 {
-    let Some((v, backing)) = resolve(table, name) else {
+    let Some(v) = find(table, name) else {
         return Answer::Refused(Refusal::BadHandle);
     };
     if !is_in_range(store, v, offset, bytes.len() as u64) {
         return Answer::Refused(Refusal::OutOfRange);
     }
-    match write_pages(store, functions, &backing, v, offset, bytes) {
+    match write_pages(store, table, functions, v, offset, bytes) {
         Ok(()) => Answer::Done,
         Err(refusal) => Answer::Refused(refusal),
     }
 }
 
 /// The VMO of a name and its backing, where a range of whole pages lies inside the VMO. `BadHandle` where the name is not open, else
-/// `InvalidArgs` where the offset or the length is not of whole pages, else `OutOfRange`.
+/// `InvalidArgs` where the offset or the length is not of whole pages, else `NotSupported` where the VMO is loose, else `OutOfRange`.
 fn whole_pages<P: PageStore>(
     store: &P,
     table: &SourceTable,
@@ -127,19 +133,22 @@ fn whole_pages<P: PageStore>(
     ensures err { IfErr result (λ refusal.
         first_of (refusals (state_of (P.content store.now) table.now) (SourceCommand.Evict name offset len)) ≡ Some refusal) }
 {
-    let Some((v, backing)) = resolve(table, name) else {
+    let Some(v) = find(table, name) else {
         return Err(Refusal::BadHandle);
     };
     if !are_aligned(offset, len) {
         return Err(Refusal::InvalidArgs);
     }
+    let Some(backing) = table.backings.find(0, v.0) else {
+        return Err(Refusal::NotSupported);
+    };
     if !is_in_range(store, v, offset, len) {
         return Err(Refusal::OutOfRange);
     }
     Ok((v, backing))
 }
 
-/// Supplies the absent pages of a range of whole pages.
+/// Supplies the absent pages of a range of whole pages of a VMO that is not loose.
 pub(crate) fn supply<'a, P: PageStore>(
     store: &mut P,
     table: &SourceTable,
@@ -158,13 +167,13 @@ pub(crate) fn supply<'a, P: PageStore>(
         Err(refusal) => return Answer::Refused(refusal),
     };
     let (first, end) = touched_pages(offset, len);
-    match supply_pages(store, functions, &found.1, found.0, first, end) {
+    match supply_pages(store, table, functions, &found.1, found.0, first, end) {
         Ok(()) => Answer::Done,
         Err(refusal) => Answer::Refused(refusal),
     }
 }
 
-/// Drops the clean pages of a range of whole pages.
+/// Drops the clean pages of a range of whole pages of a VMO that is not loose.
 pub(crate) fn evict<'a, P: PageStore>(
     store: &mut P,
     table: &SourceTable,

@@ -5,7 +5,7 @@ ghost use Rattle.script_io.specs.Faults.{HasCause};
 ghost use Rattle.vm_model.specs.Contents.Content.{Content, IsGood};
 ghost use Rattle.served.specs.Outcome.{AnswersLine};
 ghost use Rattle.source_vm.specs.Answering.{source_rules};
-ghost use Rattle.source_vm.specs.State.{empty_sources};
+ghost use Rattle.source_model.specs.State.{empty_sources};
 ghost use Rattle.source_vm.specs.Table.{Agrees, state_of};
 
 use crate::reading::read_source_call;
@@ -55,7 +55,7 @@ pub(crate) fn new_interpreter(alloc: Global, functions: [SourceFn; 3]) -> Source
 
 impl<P: PageStore> Interpreter<P> for SourceInterpreter {
     ghost use Rattle.std.specs.Prelude.{refl};
-    ghost use Rattle.source_vm.specs.State.{SourceState};
+    ghost use Rattle.source_model.specs.State.{SourceState};
     ghost use Rattle.source_vm.specs.Answering.{SourceGives-long};
 
     ghost State = { SourceState };

@@ -1,18 +1,18 @@
-//! VMOs that come and go.
+//! VMOs that come.
 
 ghost use Rattle.std.specs.Prelude.{◌≡◌, ◌+◌, ◌/◌, ◌^◌, ◌<◌, ◌≤◌, ◌==◌, if◌then◌else◌, IfSome, IfNone};
 ghost use Rattle.vm_base.specs.Pages.{rounded};
 ghost use Rattle.vm_base.specs.declared.limits.TheConstants.{PAGE};
 ghost use Rattle.vm_model.specs.Machine.Lent.{reply_for};
-ghost use Rattle.source_vm.specs.declared.command.SourceCommand.{SourceCommand};
-ghost use Rattle.source_vm.specs.Commands.{SourceStep};
-ghost use Rattle.source_vm.specs.State.{moved, seen_of};
-ghost use Rattle.source_vm.specs.Table.{Agrees, state_of};
+ghost use Rattle.source_model.specs.declared.command.SourceCommand.{SourceCommand};
+ghost use Rattle.source_model.specs.declared.limits.TheConstants.{SOURCE_BYTES};
+ghost use Rattle.source_model.specs.Commands.{SourceStep};
+ghost use Rattle.source_model.specs.State.{moved, seen_of};
+ghost use Rattle.source_vm.specs.Table.{Agrees, IsIndexed, state_of};
 
-use crate::backing::Backing;
-use crate::limits::SOURCE_BYTES;
-use crate::table::{SourceTable, enter, find, leave, reserve, resolve};
+use crate::table::{SourceTable, enter_backing, enter_link, enter_name, find, reserve};
 use page_store::PageStore;
+use source_model::{Backing, Link, SOURCE_BYTES};
 use vm_base::{KOIDS, PageNo, Refusal, VmoName, in_page, page_of, round_up};
 use vm_model::Answer;
 
@@ -27,8 +27,9 @@ pub(crate) fn create<'a, P: PageStore>(
 ) -> Answer<'a>
     requires agrees { Agrees (P.content store.old) table.old }
     requires next { (P.content store.old).next < KOIDS }
-    ensures { SourceStep (state_of (P.content store.old) table.old) (SourceCommand.Create name size kind seed)
+    ensures step { SourceStep (state_of (P.content store.old) table.old) (SourceCommand.Create name size kind seed)
         (reply_for result) (state_of (P.content store.new) table.new) }
+    ensures indexed { IsIndexed table.new }
 {
     if find(table, name).is_some() {
         return Answer::Refused(Refusal::NameInUse);
@@ -46,17 +47,18 @@ pub(crate) fn create<'a, P: PageStore>(
     let Ok(v) = store.create(pages) else {
         return Answer::Refused(Refusal::HostMemory);
     };
+    enter_name(table, name, v);
     let backing = Backing {
         kind: kind as u8,
         seed,
         base: 0,
         seen: pages,
     };
-    enter(table, name, v, backing);
+    enter_backing(table, v, backing);
     Answer::Done
 }
 
-/// Makes a snapshot of a VMO, and lets a name stand for it.
+/// Makes a snapshot of a VMO that is not loose, and lets a name stand for it.
 pub(crate) fn child<'a, P: PageStore>(
     store: &mut P,
     table: &mut SourceTable,
@@ -67,10 +69,54 @@ pub(crate) fn child<'a, P: PageStore>(
 ) -> Answer<'a>
     requires agrees { Agrees (P.content store.old) table.old }
     requires next { (P.content store.old).next < KOIDS }
-    ensures { SourceStep (state_of (P.content store.old) table.old) (SourceCommand.Child name parent offset size)
+    ensures step { SourceStep (state_of (P.content store.old) table.old) (SourceCommand.Child name parent offset size)
         (reply_for result) (state_of (P.content store.new) table.new) }
+    ensures indexed { IsIndexed table.new }
 {
-    let Some((of, backing)) = resolve(table, parent) else {
+    let Some(of) = find(table, parent) else {
+        return Answer::Refused(Refusal::BadHandle);
+    };
+    if find(table, name).is_some() {
+        return Answer::Refused(Refusal::NameInUse);
+    }
+    if in_page(offset) != 0 {
+        return Answer::Refused(Refusal::InvalidArgs);
+    }
+    let Some(backing) = table.backings.find(0, of.0) else {
+        return Answer::Refused(Refusal::NotSupported);
+    };
+    let Some(pages) = pages_behind(offset, size) else {
+        return Answer::Refused(Refusal::OutOfRange);
+    };
+    let Ok(()) = reserve(table) else {
+        return Answer::Refused(Refusal::HostMemory);
+    };
+    let start = page_of(offset);
+    let seen = seen_pages(store.count(of), start, pages);
+    let Ok(v) = store.snapshot(of, first_of(start, seen), seen, pages) else {
+        return Answer::Refused(Refusal::HostMemory);
+    };
+    enter_name(table, name, v);
+    enter_backing(table, v, moved(&backing, start, pages));
+    Answer::Done
+}
+
+/// Makes a loose child of a VMO, of which no page is held, and lets a name stand for it.
+pub(crate) fn loose<'a, P: PageStore>(
+    store: &mut P,
+    table: &mut SourceTable,
+    name: VmoName,
+    parent: VmoName,
+    offset: u64,
+    size: u64,
+) -> Answer<'a>
+    requires agrees { Agrees (P.content store.old) table.old }
+    requires next { (P.content store.old).next < KOIDS }
+    ensures step { SourceStep (state_of (P.content store.old) table.old) (SourceCommand.Loose name parent offset size)
+        (reply_for result) (state_of (P.content store.new) table.new) }
+    ensures indexed { IsIndexed table.new }
+{
+    let Some(of) = find(table, parent) else {
         return Answer::Refused(Refusal::BadHandle);
     };
     if find(table, name).is_some() {
@@ -87,28 +133,16 @@ pub(crate) fn child<'a, P: PageStore>(
     };
     let start = page_of(offset);
     let seen = seen_pages(store.count(of), start, pages);
-    let Ok(v) = store.snapshot(of, first_of(start, seen), seen, pages) else {
+    let Ok(v) = store.create(pages) else {
         return Answer::Refused(Refusal::HostMemory);
     };
-    enter(table, name, v, moved(&backing, start, pages));
-    Answer::Done
-}
-
-/// Closes a name, whose VMO leaves.
-pub(crate) fn close<'a, P: PageStore>(
-    store: &mut P,
-    table: &mut SourceTable,
-    name: VmoName,
-) -> Answer<'a>
-    requires agrees { Agrees (P.content store.old) table.old }
-    ensures { SourceStep (state_of (P.content store.old) table.old) (SourceCommand.Close name)
-        (reply_for result) (state_of (P.content store.new) table.new) }
-{
-    let Some((v, _)) = resolve(table, name) else {
-        return Answer::Refused(Refusal::BadHandle);
+    enter_name(table, name, v);
+    let link = Link {
+        parent: of,
+        base: start,
+        seen,
     };
-    store.drop_vmo(v);
-    leave(table, name, v);
+    enter_link(table, v, link);
     Answer::Done
 }
 
@@ -140,7 +174,7 @@ fn first_of(start: PageNo, seen: u64) -> PageNo
 }
 
 /// The backing of a child: that of its parent, from page `start` on.
-#[tactic(auto, unfolding(crate::specs::State::moved))]
+#[tactic(auto, unfolding(source_model::specs::State::moved))]
 fn moved(backing: &Backing, start: PageNo, pages: u64) -> Backing
     requires { backing.now.base + start < 2 ^ 64 }
     ensures { result ≡ moved start pages backing.now }

@@ -1,17 +1,20 @@
-//! The pages of one VMO, whose backing is known.
+//! The bytes of pages: what a page shows, and pages that are filled.
 
-ghost use Rattle.std.specs.Prelude.{◌≡◌, ◌+◌, ◌*◌, ◌<◌, ◌≤◌, ◌⊎◌, true, [], ◌∷◌, map, length, Some};
+ghost use Rattle.std.specs.Prelude.{◌≡◌, ◌+◌, ◌*◌, ◌<◌, ◌≤◌, ◌⊎◌, true, false, [], ◌∷◌, map, length, take, drop, Some};
 ghost use Rattle.std.specs.List.{range_with_len};
 ghost use Rattle.vm_base.specs.Pages.{replaced};
-ghost use Rattle.vm_model.specs.Contents.Content.{pages_of, sole, used, is_held, IsGood};
-ghost use Rattle.source_vm.specs.Sources.{source_byte, backing_text};
-ghost use Rattle.source_vm.specs.State.{is_absent};
-ghost use Rattle.source_vm.specs.Pages.{FillsPage, IsSource, is_clean_page};
+ghost use Rattle.vm_model.specs.Contents.Content.{pages_of, sole, used, IsGood};
+ghost use Rattle.source_model.specs.Links.{page_below, walked};
+ghost use Rattle.source_model.specs.Sources.{source_byte, backing_text, text_over};
+ghost use Rattle.source_model.specs.declared.backing.Backing.{Backing};
+ghost use Rattle.source_vm.specs.Pages.{FillsPage, IsReadable, IsSource, is_clean_page, is_end_absent};
+ghost use Rattle.source_vm.specs.Table.{backings_of, links_of};
 
-use crate::backing::Backing;
-use crate::limits::{SOURCE_BYTES, SOURCE_PAGES};
 use crate::source_fn::SourceFn;
+use crate::table::SourceTable;
+use crate::walk::{Place, find_end};
 use page_store::{Look, PageStore};
+use source_model::{Backing, SOURCE_BYTES, SOURCE_PAGES};
 use vm_base::{Koid, PAGE, PAGE_BYTES, PageNo};
 use vmo_ops::write_part;
 
@@ -62,14 +65,77 @@ fn patch(whole: &mut [u8], at: u64, bytes: &[u8])
     whole[at..at + bytes.len()].copy_from_slice(bytes);
 }
 
-/// Whether a page is absent: it is not held, and comes from a source.
-pub(crate) fn is_absent<P: PageStore>(store: &P, backing: &Backing, v: Koid, page: PageNo) -> bool
-    requires { page < pages_of (P.content store.now) v.0 }
-    ensures { result ≡ is_absent (P.content store.now) (Some backing.now) v.0 page }
+/// Fills `out`, of the size of a page, with the bytes that a page has in the store, or by its backing.
+fn load_end<P: PageStore>(
+    store: &P,
+    table: &SourceTable,
+    functions: &[SourceFn; 3],
+    end: Place,
+    out: &mut [u8],
+)
+    requires kinds { map (λ f. f.kind) functions.now ≡ 0 ∷ 1 ∷ 2 ∷ [] }
+    requires readable { IsReadable (P.content store.now) (backings_of table.now) (links_of table.now) }
+    requires page { end.page < pages_of (P.content store.now) end.koid.0 }
+    requires size { length out.old ≡ PAGE }
+    ensures { out.new ≡ text_over (P.content store.now) (backings_of table.now) end.koid.0 end.page }
 {
-    match store.look(v, page) {
-        Look::Zero => page < backing.seen,
-        Look::Held { .. } => false,
+    match store.look(end.koid, end.page) {
+        Look::Held { tag, .. } => store.read(tag, 0, out),
+        Look::Zero => load_backed(table, functions, end, out),
+    }
+}
+
+/// Fills `out`, of the size of a page, with the bytes that a page has by the backing of its VMO: zeros where it has none.
+fn load_backed(table: &SourceTable, functions: &[SourceFn; 3], end: Place, out: &mut [u8])
+    requires kinds { map (λ f. f.kind) functions.now ≡ 0 ∷ 1 ∷ 2 ∷ [] }
+    requires sources { (b : Backing) → backings_of table.now end.koid.0 ≡ Some b → IsSource b }
+    requires size { length out.old ≡ PAGE }
+    ensures { out.new ≡ backing_text (backings_of table.now end.koid.0) end.page }
+{
+    match table.backings.find(0, end.koid.0) {
+        Some(backing) => load_page(functions, &backing, end.page, out),
+        None => out.fill(0),
+    }
+}
+
+/// Fills `out`, of the size of a page, with the bytes that a page shows.
+fn load_text<P: PageStore>(
+    store: &P,
+    table: &SourceTable,
+    functions: &[SourceFn; 3],
+    at: Place,
+    out: &mut [u8],
+)
+    requires kinds { map (λ f. f.kind) functions.now ≡ 0 ∷ 1 ∷ 2 ∷ [] }
+    requires readable { IsReadable (P.content store.now) (backings_of table.now) (links_of table.now) }
+    requires page { at.page < pages_of (P.content store.now) at.koid.0 }
+    requires size { length out.old ≡ PAGE }
+    ensures { out.new ≡ walked (P.content store.now) (backings_of table.now)
+        (page_below (P.content store.now) (links_of table.now)) at.koid.0 at.page }
+{
+    let end = find_end(store, table, at);
+    load_end(store, table, functions, end, out);
+}
+
+/// Reads the bytes that a page shows, from `at` bytes into it on, where the look-up does not end at an absent page.
+pub(crate) fn read_shown<P: PageStore>(
+    store: &P,
+    table: &SourceTable,
+    place: Place,
+    at: u64,
+    out: &mut [u8],
+)
+    requires readable { IsReadable (P.content store.now) (backings_of table.now) (links_of table.now) }
+    requires page { place.page < pages_of (P.content store.now) place.koid.0 }
+    requires range { at + length out.old ≤ PAGE }
+    requires supplied { is_end_absent (backings_of table.now) (links_of table.now) (P.content store.now) place.koid.0 place.page ≡ false }
+    ensures { out.new ≡ take (length out.old) (drop at (walked (P.content store.now) (backings_of table.now)
+        (page_below (P.content store.now) (links_of table.now)) place.koid.0 place.page)) }
+{
+    let end = find_end(store, table, place);
+    match store.look(end.koid, end.page) {
+        Look::Held { tag, .. } => store.read(tag, at, out),
+        Look::Zero => out.fill(0),
     }
 }
 
@@ -77,31 +143,29 @@ pub(crate) fn is_absent<P: PageStore>(store: &P, backing: &Backing, v: Koid, pag
 /// supplied. A page that is held moves no more than the bytes.
 pub(crate) fn fill_page<P: PageStore>(
     store: &mut P,
+    table: &SourceTable,
     functions: &[SourceFn; 3],
-    backing: &Backing,
-    v: Koid,
-    page: PageNo,
+    place: Place,
     at: u64,
     bytes: &[u8],
 )
     requires kinds { map (λ f. f.kind) functions.now ≡ 0 ∷ 1 ∷ 2 ∷ [] }
-    requires source { IsSource backing.now }
-    requires good { IsGood (P.content store.old) }
-    requires page { page < pages_of (P.content store.old) v.0 }
+    requires readable { IsReadable (P.content store.old) (backings_of table.now) (links_of table.now) }
+    requires page { place.page < pages_of (P.content store.old) place.koid.0 }
     requires within { at + length bytes.now ≤ PAGE }
-    requires room { (sole (P.content store.old) v.0 page ≡ true)
+    requires room { (sole (P.content store.old) place.koid.0 place.page ≡ true)
         ⊎ ((1 ≤ P.spare store.old) × (used (P.content store.old) < (P.content store.old).frames)) }
-    ensures fills { FillsPage backing.now (P.content store.old)
-        (record { koid = v.0; page = page; at = at; bytes = bytes.now }) (P.content store.new) }
+    ensures fills { FillsPage (backings_of table.now) (links_of table.now) (P.content store.old)
+        (record { koid = place.koid.0; page = place.page; at = at; bytes = bytes.now }) (P.content store.new) }
     ensures spare { P.spare store.old ≤ P.spare store.new + 1 }
 {
-    match store.look(v, page) {
-        Look::Held { .. } => write_part(store, v, page, at, bytes),
+    match store.look(place.koid, place.page) {
+        Look::Held { .. } => write_part(store, place.koid, place.page, at, bytes),
         Look::Zero => {
             let mut whole = [0; PAGE_BYTES];
-            load_page(functions, backing, page, &mut whole);
+            load_text(store, table, functions, place, &mut whole);
             patch(&mut whole, at, bytes);
-            write_part(store, v, page, 0, &whole);
+            write_part(store, place.koid, place.page, 0, &whole);
         }
     }
 }

@@ -1,19 +1,22 @@
-//! Ranges of pages of one VMO, whose backing is known: supplying, writing and evicting.
+//! Ranges of pages of one VMO: supplying, writing and evicting.
 
-ghost use Rattle.std.specs.Prelude.{◌≡◌, ℕ, ◌+◌, ◌-◌, ◌*◌, ◌<◌, ◌≤◌, ◌⊎◌, cond, true, false, [], ◌∷◌, map, length, Some, None, IsSome, IfSome, IfNone, IfErr, OnOk, OnErr};
+ghost use Rattle.std.specs.Prelude.{◌≡◌, ℕ, ◌+◌, ◌-◌, ◌*◌, ◌/◌, ◌<◌, ◌≤◌, ◌⊎◌, cond, true, false, [], ◌∷◌, map, length, Some, None, IsSome, IfSome, IfNone, IfErr, OnOk, OnErr};
 ghost use Rattle.std.specs.List.{filter, range_with_len};
 ghost use Rattle.vm_base.specs.Search.{any_from};
 ghost use Rattle.vm_model.specs.Contents.Content.{pages_of, used, IsGood};
 ghost use Rattle.vm_model.specs.Contents.Owning.{need};
 ghost use Rattle.vm_model.specs.Contents.Writing.{touched, pieces};
 ghost use Rattle.vmo_ops.specs.Costs.{HasRows};
-ghost use Rattle.source_vm.specs.State.{is_absent, supply_of};
-ghost use Rattle.source_vm.specs.Pages.{FillsPages, IsSource, FillsPage, IsSupplied, LacksFrames, cleared, is_clean_at};
+ghost use Rattle.source_model.specs.State.{is_absent, text_in};
+ghost use Rattle.source_vm.specs.Pages.{FillsPages, IsReadable, IsSource, FillsPage, IsSupplied, LacksFrames, absent_ends, cleared, end_of, end_piece, is_clean_at, is_end_absent};
+ghost use Rattle.source_vm.specs.Table.{backings_of, links_of, state_of};
 
-use crate::backing::Backing;
-use crate::pages::{fill_page, is_absent, is_clean};
+use crate::pages::{fill_page, is_clean, read_shown};
 use crate::source_fn::SourceFn;
+use crate::table::SourceTable;
+use crate::walk::{Place, find_end, is_absent};
 use page_store::PageStore;
+use source_model::Backing;
 use vm_base::{HostMemory, Koid, PAGE, PageNo, Refusal};
 use vmo_ops::{part_in_page, reserve_rows, reserve_to_own, touched_pages};
 
@@ -50,10 +53,12 @@ fn count_absent<P: PageStore>(
     absent
 }
 
-/// Supplies the absent pages from `first` to below `end`. `NoMemory` where they are more than the free frames, else `HostMemory` only
-/// where there is one. The room is made before the first page changes. Pages that come from no source are not looked at.
+/// Supplies the absent pages from `first` to below `end` of a VMO that is not loose. `NoMemory` where they are more than the free
+/// frames, else `HostMemory` only where there is one. The room is made before the first page changes. Pages that come from no source
+/// are not looked at, and the absent ones are counted by the held ones.
 pub(crate) fn supply_pages<P: PageStore>(
     store: &mut P,
+    table: &SourceTable,
     functions: &[SourceFn; 3],
     backing: &Backing,
     v: Koid,
@@ -61,125 +66,154 @@ pub(crate) fn supply_pages<P: PageStore>(
     end: PageNo,
 ) -> Result<(), Refusal>
     requires kinds { map (λ f. f.kind) functions.now ≡ 0 ∷ 1 ∷ 2 ∷ [] }
-    requires source { IsSource backing.now }
-    requires good { IsGood (P.content store.old) }
+    requires readable { IsReadable (P.content store.old) (backings_of table.now) (links_of table.now) }
+    requires backed { backings_of table.now v.0 ≡ Some backing.now }
     requires vmo { IsSome ((P.content store.old).count v.0) }
     requires order { first ≤ end }
     requires pages { end ≤ pages_of (P.content store.old) v.0 }
-    ensures ok { OnOk result (IsSupplied backing.now v.0 (P.content store.old) first end (P.content store.new)) }
+    ensures ok { OnOk result (IsSupplied (backings_of table.now) (links_of table.now) v.0 (P.content store.old) first end (P.content store.new)) }
     ensures free { OnOk result (used (P.content store.old)
-        + length (filter (is_absent (P.content store.old) (Some backing.now) v.0) (range_with_len first (end - first)))
+        + (length (absent_ends (backings_of table.now) (links_of table.now) (P.content store.old) v.0 first end))
         ≤ (P.content store.old).frames) }
     ensures same { OnErr result (P.content store.new ≡ P.content store.old) }
     ensures err { IfErr result (LacksFrames (P.content store.old)
-        (length (filter (is_absent (P.content store.old) (Some backing.now) v.0) (range_with_len first (end - first))))) }
+        (length (absent_ends (backings_of table.now) (links_of table.now) (P.content store.old) v.0 first end))) }
 {
     let last = seen_end(backing, first, end);
-    supply_seen(store, functions, backing, v, first, last)
+    let need = count_absent(store, backing, v, first, last);
+    supply_counted(store, table, functions, v, first, last, need)
 }
 
-/// Does what `supply_pages` does, where all of these pages come from a source.
-fn supply_seen<P: PageStore>(
+/// Supplies the absent pages at which the look-ups of the pages from `first` to below `end` end, of which there are `need`. `NoMemory`
+/// where they are more than the free frames, else `HostMemory` only where there is one. The room is made before the first page
+/// changes.
+pub(crate) fn supply_counted<P: PageStore>(
     store: &mut P,
+    table: &SourceTable,
     functions: &[SourceFn; 3],
-    backing: &Backing,
     v: Koid,
     first: PageNo,
     end: PageNo,
+    need: u64,
 ) -> Result<(), Refusal>
     requires kinds { map (λ f. f.kind) functions.now ≡ 0 ∷ 1 ∷ 2 ∷ [] }
-    requires source { IsSource backing.now }
-    requires good { IsGood (P.content store.old) }
-    requires vmo { IsSome ((P.content store.old).count v.0) }
+    requires readable { IsReadable (P.content store.old) (backings_of table.now) (links_of table.now) }
     requires order { first ≤ end }
     requires pages { end ≤ pages_of (P.content store.old) v.0 }
-    requires seen { (p : ℕ) → first ≤ p → p < end → p < backing.now.seen }
-    ensures ok { OnOk result (IsSupplied backing.now v.0 (P.content store.old) first end (P.content store.new)) }
-    ensures free { OnOk result (used (P.content store.old)
-        + length (filter (is_absent (P.content store.old) (Some backing.now) v.0) (range_with_len first (end - first)))
-        ≤ (P.content store.old).frames) }
+    requires need { need ≡ length (absent_ends (backings_of table.now) (links_of table.now) (P.content store.old) v.0 first end) }
+    ensures ok { OnOk result (IsSupplied (backings_of table.now) (links_of table.now) v.0 (P.content store.old) first end (P.content store.new)) }
+    ensures free { OnOk result (used (P.content store.old) + need ≤ (P.content store.old).frames) }
     ensures same { OnErr result (P.content store.new ≡ P.content store.old) }
-    ensures err { IfErr result (LacksFrames (P.content store.old)
-        (length (filter (is_absent (P.content store.old) (Some backing.now) v.0) (range_with_len first (end - first))))) }
+    ensures err { IfErr result (LacksFrames (P.content store.old) need) }
 {
-    let need = count_absent(store, backing, v, first, end);
     if need > u64::from(store.free()) {
         return Err(Refusal::NoMemory);
     }
     let Ok(()) = reserve_rows(store, need, need) else {
         return Err(Refusal::HostMemory);
     };
-    supply_range(store, functions, backing, v, first, end);
+    supply_range(store, table, functions, v, first, end);
     Ok(())
 }
 
-/// Supplies the absent pages from `first` to below `end`, where the room for it is there.
+/// Supplies the absent pages at which the look-ups of the pages from `first` to below `end` end, where the room for it is there.
 fn supply_range<P: PageStore>(
     store: &mut P,
+    table: &SourceTable,
     functions: &[SourceFn; 3],
-    backing: &Backing,
     v: Koid,
     first: PageNo,
     end: PageNo,
 )
     requires kinds { map (λ f. f.kind) functions.now ≡ 0 ∷ 1 ∷ 2 ∷ [] }
-    requires source { IsSource backing.now }
-    requires good { IsGood (P.content store.old) }
+    requires readable { IsReadable (P.content store.old) (backings_of table.now) (links_of table.now) }
     requires order { first ≤ end }
     requires pages { end ≤ pages_of (P.content store.old) v.0 }
-    requires rows { length (filter (is_absent (P.content store.old) (Some backing.now) v.0) (range_with_len first (end - first)))
+    requires rows { length (absent_ends (backings_of table.now) (links_of table.now) (P.content store.old) v.0 first end)
         ≤ P.spare store.old }
     requires free { used (P.content store.old)
-        + length (filter (is_absent (P.content store.old) (Some backing.now) v.0) (range_with_len first (end - first)))
+        + (length (absent_ends (backings_of table.now) (links_of table.now) (P.content store.old) v.0 first end))
         ≤ (P.content store.old).frames }
-    ensures { IsSupplied backing.now v.0 (P.content store.old) first end (P.content store.new) }
+    ensures { IsSupplied (backings_of table.now) (links_of table.now) v.0 (P.content store.old) first end (P.content store.new) }
 {
     for page in first..end {
-        supply_page(store, functions, backing, v, page);
+        supply_end(store, table, functions, Place { koid: v, page });
     }
 }
 
-/// Supplies a page, if it is absent, where the room for it is there.
-fn supply_page<P: PageStore>(
+/// Supplies the page at which a look-up ends, if it is absent, where the room for it is there.
+fn supply_end<P: PageStore>(
     store: &mut P,
+    table: &SourceTable,
     functions: &[SourceFn; 3],
-    backing: &Backing,
-    v: Koid,
-    page: PageNo,
+    at: Place,
 )
     requires kinds { map (λ f. f.kind) functions.now ≡ 0 ∷ 1 ∷ 2 ∷ [] }
-    requires source { IsSource backing.now }
-    requires good { IsGood (P.content store.old) }
-    requires page { page < pages_of (P.content store.old) v.0 }
-    requires room { is_absent (P.content store.old) (Some backing.now) v.0 page ≡ true
+    requires readable { IsReadable (P.content store.old) (backings_of table.now) (links_of table.now) }
+    requires page { at.page < pages_of (P.content store.old) at.koid.0 }
+    requires room { is_end_absent (backings_of table.now) (links_of table.now) (P.content store.old) at.koid.0 at.page ≡ true
         → (1 ≤ P.spare store.old) × (used (P.content store.old) < (P.content store.old).frames) }
-    ensures absent { is_absent (P.content store.old) (Some backing.now) v.0 page ≡ true
-        → FillsPage backing.now (P.content store.old) (supply_of v.0 page) (P.content store.new)
+    ensures absent { is_end_absent (backings_of table.now) (links_of table.now) (P.content store.old) at.koid.0 at.page ≡ true
+        → FillsPage (backings_of table.now) (links_of table.now) (P.content store.old)
+        (end_piece (links_of table.now) (P.content store.old) at.koid.0 at.page) (P.content store.new)
         × (P.spare store.old ≤ P.spare store.new + 1) }
-    ensures other { is_absent (P.content store.old) (Some backing.now) v.0 page ≡ false → store.new ≡ store.old }
+    ensures other { is_end_absent (backings_of table.now) (links_of table.now) (P.content store.old) at.koid.0 at.page ≡ false
+        → store.new ≡ store.old }
+    ensures inside { (end_of (links_of table.now) (P.content store.old) at.koid.0 at.page).page
+        < pages_of (P.content store.old) (end_of (links_of table.now) (P.content store.old) at.koid.0 at.page).koid }
 {
-    if is_absent(store, backing, v, page) {
-        fill_page(store, functions, backing, v, page, 0, &[]);
+    let end = find_end(store, table, at);
+    if is_absent(store, table, end) {
+        fill_page(store, table, functions, end, 0, &[]);
     }
 }
 
-/// Writes bytes to a range inside the VMO, `offset` bytes into it. Each page that the range touches is filled, if it is absent.
+/// Reads the bytes of a range inside the VMO, `offset` bytes into it, each page at the end of its look-up. None of these ends is absent.
+#[tactic(auto, using(page_store::proofs::NameLaws::pages_of_le))]
+pub(crate) fn read_range<P: PageStore>(
+    store: &P,
+    table: &SourceTable,
+    v: Koid,
+    offset: u64,
+    out: &mut [u8],
+)
+    requires readable { IsReadable (P.content store.now) (backings_of table.now) (links_of table.now) }
+    requires inside { offset + length out.old ≤ pages_of (P.content store.now) v.0 * PAGE }
+    requires supplied { (p : ℕ) → 0 < length out.old → offset / PAGE ≤ p → p * PAGE < offset + length out.old
+        → is_end_absent (backings_of table.now) (links_of table.now) (P.content store.now) v.0 p ≡ false }
+    ensures { out.new ≡ text_in (state_of (P.content store.now) table.now) v.0 offset (length out.old) }
+{
+    let len = out.len() as u64;
+    let (first, end) = touched_pages(offset, len);
+    for page in first..end {
+        let part = part_in_page(offset, len, page);
+        let until = part.from + part.len;
+        read_shown(
+            store,
+            table,
+            Place { koid: v, page },
+            part.at,
+            &mut out[part.from as usize..until as usize],
+        );
+    }
+}
+
+/// Writes bytes to a range inside the VMO, `offset` bytes into it. Each page that the range touches is filled, if it is not held.
 /// `NoMemory` where the pages that are not sole are more than the free frames, else `HostMemory` only where there is one. The room is made
 /// before the first page changes.
 pub(crate) fn write_pages<P: PageStore>(
     store: &mut P,
+    table: &SourceTable,
     functions: &[SourceFn; 3],
-    backing: &Backing,
     v: Koid,
     offset: u64,
     bytes: &[u8],
 ) -> Result<(), Refusal>
     requires kinds { map (λ f. f.kind) functions.now ≡ 0 ∷ 1 ∷ 2 ∷ [] }
-    requires source { IsSource backing.now }
-    requires good { IsGood (P.content store.old) }
+    requires readable { IsReadable (P.content store.old) (backings_of table.now) (links_of table.now) }
     requires vmo { IsSome ((P.content store.old).count v.0) }
     requires inside { offset + length bytes.now ≤ pages_of (P.content store.old) v.0 * PAGE }
-    ensures ok { OnOk result (FillsPages backing.now v.0 (P.content store.old) (pieces v.0 offset bytes.now) (P.content store.new)) }
+    ensures ok { OnOk result (FillsPages (backings_of table.now) (links_of table.now) (P.content store.old) (pieces v.0 offset bytes.now) (P.content store.new)) }
     ensures free { OnOk result (used (P.content store.old) + need (P.content store.old) v.0 (touched offset (length bytes.now))
         ≤ (P.content store.old).frames) }
     ensures same { OnErr result (P.content store.new ≡ P.content store.old) }
@@ -187,7 +221,7 @@ pub(crate) fn write_pages<P: PageStore>(
 {
     match reserve_to_own(store, v, offset, bytes.len() as u64) {
         Ok(()) => {
-            write_range(store, functions, backing, v, offset, bytes);
+            write_range(store, table, functions, v, offset, bytes);
             Ok(())
         }
         Err(refusal) => Err(refusal),
@@ -198,20 +232,19 @@ pub(crate) fn write_pages<P: PageStore>(
 #[tactic(auto, using(page_store::proofs::NameLaws::pages_of_le))]
 fn write_range<P: PageStore>(
     store: &mut P,
+    table: &SourceTable,
     functions: &[SourceFn; 3],
-    backing: &Backing,
     v: Koid,
     offset: u64,
     bytes: &[u8],
 )
     requires kinds { map (λ f. f.kind) functions.now ≡ 0 ∷ 1 ∷ 2 ∷ [] }
-    requires source { IsSource backing.now }
-    requires good { IsGood (P.content store.old) }
+    requires readable { IsReadable (P.content store.old) (backings_of table.now) (links_of table.now) }
     requires inside { offset + length bytes.now ≤ pages_of (P.content store.old) v.0 * PAGE }
     requires room { HasRows (P.content store.old) v.0 (touched offset (length bytes.now)) (P.spare store.old) }
     requires free { used (P.content store.old) + need (P.content store.old) v.0 (touched offset (length bytes.now))
         ≤ (P.content store.old).frames }
-    ensures { FillsPages backing.now v.0 (P.content store.old) (pieces v.0 offset bytes.now) (P.content store.new) }
+    ensures { FillsPages (backings_of table.now) (links_of table.now) (P.content store.old) (pieces v.0 offset bytes.now) (P.content store.new) }
 {
     let len = bytes.len() as u64;
     let (first, end) = touched_pages(offset, len);
@@ -220,10 +253,9 @@ fn write_range<P: PageStore>(
         let until = part.from + part.len;
         fill_page(
             store,
+            table,
             functions,
-            backing,
-            v,
-            page,
+            Place { koid: v, page },
             part.at,
             &bytes[part.from as usize..until as usize],
         );

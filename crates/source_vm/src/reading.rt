@@ -2,17 +2,16 @@
 
 ghost use Rattle.std.specs.Prelude.{◌≡◌, ◌≤◌, map, length, option_map};
 ghost use Rattle.vm_base.specs.declared.limits.TheConstants.{DATA_BYTES};
-ghost use Rattle.source_vm.specs.Lent.{source_command_of};
-ghost use Rattle.source_vm.specs.Reading.{name_in, range_in, reading_of, reading_of_call, source_child, source_command, source_create};
+ghost use Rattle.source_model.specs.Lent.{source_command_of};
+ghost use Rattle.source_vm.specs.Reading.{child_of_kind, name_in, range_in, reading_of, reading_of_call, source_child, source_command, source_create};
 ghost use Rattle.source_vm.specs.Reading.{source_reading, source_stat, source_write, order_in};
 ghost use Rattle.source_vm.specs.Reading.{of_name, of_range};
-ghost use Rattle.source_vm.specs.declared.command.SourceCommand.TheVariants.{Close, Read, Supply, Evict};
+ghost use Rattle.source_model.specs.declared.command.SourceCommand.TheVariants.{Close, Read, Supply, Evict};
 ghost use Rattle.vm_model.specs.Language.Reading.{is_comment, words};
 
-use crate::call::SourceCall;
-use crate::command::SourceCommand;
 use arrayvec::ArrayVec;
 use script_text::{SyntaxFault, byte_data_into, next_word, number, vmo};
+use source_model::{SourceCall, SourceCommand};
 use vm_base::{DATA_BYTES, LINE_BYTES, VmoName};
 
 /// The most words that a command has, its own and five arguments.
@@ -189,7 +188,7 @@ fn create<'a>(arguments: &[&[u8]]) -> Option<SourceCall<'a>>
     })
 }
 
-/// `vmo_create_child VMO PARENT snapshot OFFSET SIZE`
+/// `vmo_create_child VMO PARENT KIND OFFSET SIZE`, where `KIND` is `snapshot` or `snapshot_at_least_on_write`
 fn child<'a>(arguments: &[&[u8]]) -> Option<SourceCall<'a>>
     ensures { option_map source_command_of result ≡ source_child (map (λ a. a.now) arguments.now) }
 {
@@ -200,8 +199,28 @@ fn child<'a>(arguments: &[&[u8]]) -> Option<SourceCall<'a>>
     let parent = vmo(parent)?;
     let offset = number(offset)?;
     let size = number(size)?;
-    if *kind == b"snapshot".as_slice() {
+    child_of_kind(kind, name, parent, offset, size)
+}
+
+/// The command that makes a child of the kind of this word, or `None` where there is no such kind.
+fn child_of_kind<'a>(
+    kind: &[u8],
+    name: VmoName,
+    parent: VmoName,
+    offset: u64,
+    size: u64,
+) -> Option<SourceCall<'a>>
+    ensures { option_map source_command_of result ≡ child_of_kind kind.now name parent offset size }
+{
+    if kind == b"snapshot".as_slice() {
         Some(SourceCall::Child {
+            name,
+            parent,
+            offset,
+            size,
+        })
+    } else if kind == b"snapshot_at_least_on_write".as_slice() {
+        Some(SourceCall::Loose {
             name,
             parent,
             offset,

@@ -1,13 +1,13 @@
 //! The bytes of sources.
 
 ghost use Rattle.std.specs.Prelude.{◌≡◌, ◌+◌, ◌%◌, ◌≤◌};
-ghost use Rattle.source_vm.specs.Sources.{source_byte};
+ghost use Rattle.source_model.specs.Sources.{source_byte};
 
 use vm_base::page_of;
 
 /// The byte of a source at an offset, in bytes from its first. A source of kind 0 has the seed throughout, in one of kind 1 the bytes
 /// count up from the seed, and in one of kind 2 the pages do, all modulo 256.
-#[tactic(auto, unfolding(crate::specs::Sources::source_byte))]
+#[tactic(auto, unfolding(source_model::specs::Sources::source_byte))]
 pub fn src_byte(kind: u8, seed: u64, offset: u64) -> u8
     requires { kind ≤ 2 }
     ensures { result ≡ source_byte kind seed offset }

@@ -1,8 +1,8 @@
 //! A function that is known to give the bytes of a source.
 
 ghost use Rattle.std.specs.Prelude.{◌≡◌, ℕ, ◌^◌, ◌<◌, ◌≤◌};
-ghost use Rattle.source_vm.specs.declared.limits.TheConstants.{SOURCE_BYTES};
-ghost use Rattle.source_vm.specs.Sources.{source_byte};
+ghost use Rattle.source_model.specs.declared.limits.TheConstants.{SOURCE_BYTES};
+ghost use Rattle.source_model.specs.Sources.{source_byte};
 
 /// A function for the bytes of sources of one kind, beside the fact that it gives them: what the machine is handed where the kernel
 /// would ask a pager. It is called with a seed and an offset in bytes.

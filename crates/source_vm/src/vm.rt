@@ -3,18 +3,18 @@
 ghost use Rattle.std.specs.Prelude.{◌≡◌, ◌+◌, ◌<◌, ◌≤◌, ℕ, [], ◌∷◌, map, length, None};
 ghost use Rattle.vm_base.specs.declared.limits.TheConstants.{DATA_BYTES, KOIDS};
 ghost use Rattle.vm_model.specs.Machine.Lent.{reply_for};
-ghost use Rattle.source_vm.specs.Commands.{SourceStep};
-ghost use Rattle.source_vm.specs.Lent.{source_command_of};
-ghost use Rattle.source_vm.specs.Table.{Agrees, state_of};
+ghost use Rattle.source_model.specs.Commands.{SourceStep};
+ghost use Rattle.source_model.specs.Lent.{source_command_of};
+ghost use Rattle.source_vm.specs.Table.{Agrees, IsIndexed, state_of};
 
 use crate::accesses::{evict, read, supply, write};
-use crate::call::SourceCall;
-use crate::command::SourceCommand;
-use crate::lifetimes::{child, close, create};
+use crate::closing::close;
+use crate::lifetimes::{child, create, loose};
 use crate::source_fn::SourceFn;
 use crate::table::{SourceTable, new_table};
 use attribution::stat;
 use page_store::PageStore;
+use source_model::{SourceCall, SourceCommand};
 use std::alloc::Global;
 use vm_base::DATA_BYTES;
 use vm_model::{Answer, Reply};
@@ -30,7 +30,7 @@ pub struct SourceVm {
 
 impl SourceVm {
     ghost use Rattle.vm_model.specs.Contents.Content.{Content, IsGood};
-    ghost use Rattle.source_vm.specs.State.{empty_sources};
+    ghost use Rattle.source_model.specs.State.{empty_sources};
 
     /// A machine with no names and no VMOs. It agrees with every store that has no VMO, whatever the store's next koid is.
     pub fn new(alloc: Global, functions: [SourceFn; 3]) -> SourceVm
@@ -91,8 +91,9 @@ fn dispatch<'a, P: PageStore>(
     requires agrees { Agrees (P.content store.old) table.old }
     requires next { (P.content store.old).next < KOIDS }
     requires bytes { DATA_BYTES ≤ length bytes.old }
-    ensures { SourceStep (state_of (P.content store.old) table.old) (source_command_of call.now)
+    ensures step { SourceStep (state_of (P.content store.old) table.old) (source_command_of call.now)
         (reply_for result) (state_of (P.content store.new) table.new) }
+    ensures indexed { IsIndexed table.new }
 {
     match call {
         SourceCall::Create {
@@ -107,6 +108,12 @@ fn dispatch<'a, P: PageStore>(
             offset,
             size,
         } => child(store, table, *name, *parent, *offset, *size),
+        SourceCall::Loose {
+            name,
+            parent,
+            offset,
+            size,
+        } => loose(store, table, *name, *parent, *offset, *size),
         SourceCall::Close { name } => close(store, table, *name),
         SourceCall::Read { name, offset, len } => {
             read(store, table, functions, *name, *offset, *len, bytes)

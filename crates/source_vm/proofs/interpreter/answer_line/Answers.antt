@@ -1,5 +1,5 @@
 use Rattle.vm_model.specs.Machine.Lent.{reply_for}
-use Rattle.source_vm.specs.Lent.{source_command_of}
+use Rattle.source_model.specs.Lent.{source_command_of}
 use Rattle.source_vm.proofs.LineLaws.{AnswersLine-order, AnswersLine-outside}
 use Rattle.source_vm.proofs.interpreter.answer_line.Goals as goal
 

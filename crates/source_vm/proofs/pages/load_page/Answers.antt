@@ -2,8 +2,8 @@ use Rattle.std.proofs.Common.{◌∙◌, ◌+◌, ◌*◌, sym, ap, map, replica
 use Rattle.std.specs.List.{range_with_len}
 use Rattle.vm_base.specs.declared.limits.TheConstants.{PAGE}
 use Rattle.vm_base.specs.Pages.{zeros}
-use Rattle.source_vm.specs.Sources.{source_byte}
-use Rattle.source_vm.proofs.FillingLaws.{backing-seen, backing-behind}
+use Rattle.source_model.specs.Sources.{source_byte}
+use Rattle.source_model.proofs.FillingLaws.{backing-seen, backing-behind}
 use Rattle.source_vm.proofs.pages.load_page.Goals as goal
 
 pub returns-then-page-backing : goal.returns-then-page-backing

@@ -1,6 +1,6 @@
 use Rattle.std.proofs.Common.{◌≡◌, map, take}
 use Rattle.std.specs.List.{range_with_len}
-use Rattle.source_vm.specs.Sources.{source_byte}
+use Rattle.source_model.specs.Sources.{source_byte}
 use Rattle.source_vm.proofs.pages.source_bytes.Given as goal
 
 abbrev pub invariant-loop-i : goal.invariant-loop-i

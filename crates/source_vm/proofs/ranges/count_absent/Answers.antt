@@ -1,5 +1,5 @@
 use Rattle.std.proofs.Common.{Some, arith}
-use Rattle.source_vm.specs.State.{is_absent}
+use Rattle.source_model.specs.State.{is_absent}
 use Rattle.source_vm.proofs.AbsentLaws.{absent_first, absent_next, absent_last}
 use Rattle.source_vm.proofs.ranges.count_absent.Goals as goal
 

@@ -1,6 +1,6 @@
 use Rattle.std.proofs.Common.{◌≡◌, ◌+◌, ◌-◌, ◌≤◌, length, Some}
 use Rattle.std.specs.List.{filter, range_with_len}
-use Rattle.source_vm.specs.State.{is_absent}
+use Rattle.source_model.specs.State.{is_absent}
 use Rattle.source_vm.proofs.ranges.count_absent.Given as goal
 
 abbrev pub invariant-loop-page : goal.invariant-loop-page

@@ -1,6 +1,7 @@
 use Rattle.std.proofs.Common.{◌∙◌}
 use Rattle.vm_model.proofs.ContentLaws.{IsGood-nothing}
-use Rattle.source_vm.proofs.LineLaws.{IsGoodSources-empty, fresh, starts}
+use Rattle.source_model.proofs.GoodLaws.{IsGoodSources-empty}
+use Rattle.source_vm.proofs.LineLaws.{fresh, starts}
 use Rattle.source_vm.proofs.serving.run_sources.Goals as goal
 
 pub serve_words-status-requires-clause-agrees : goal.serve_words-status-requires-clause-agrees

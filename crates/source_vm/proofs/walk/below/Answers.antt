@@ -1,0 +1,39 @@
+use Rattle.std.proofs.Common.{◌∙◌, sym, arith}
+use Rattle.page_store.proofs.NameLaws.{pages_of_le}
+use Rattle.vmo_ops.proofs.LookLaws.{zero_look, held_look}
+use Rattle.source_model.proofs.LinkLaws.{below-held, below-seen, below-past, below-unlinked}
+use Rattle.source_vm.specs.Table.{links_of}
+use Rattle.source_vm.proofs.walk.below.Goals as goal
+
+pub returns-in_default-clause-next : goal.returns-in_default-clause-next
+returns-in_default-clause-next g c =
+    let held = held_look _ _ _ _ _ c.in_default.ensures in
+    sym (below-held (g.P.PageStore.content c.args.store.now) (links_of c.args.table.now) c.args.at.koid.0 c.args.at.page held.0 held.1)
+
+pub returns-in_default-find-clause-next : goal.returns-in_default-find-clause-next
+returns-in_default-find-clause-next g c =
+    sym (below-unlinked (g.P.PageStore.content c.args.store.now) (links_of c.args.table.now) c.args.at.koid.0 c.args.at.page (sym c.find.ensures ∙ c.in_default-find.is))
+
+pub overflow_add-result : goal.overflow_add-result
+overflow_add-result g c =
+    let inside = c.requires.readable.inside c.args.at.koid.0 c.in-Some.link (sym c.find.ensures ∙ c.in-Some.is) (omega (arith, c.if-at-link.true)) in
+    omega (arith, c.if-at-link.true, inside, pages_of_le _ c.in-Some.link.parent.0 c.requires.readable.good)
+
+pub returns-then-at-link-clause-next : goal.returns-then-at-link-clause-next
+returns-then-at-link-clause-next g c =
+    sym (below-seen (g.P.PageStore.content c.args.store.now) (links_of c.args.table.now) c.args.at.koid.0 c.args.at.page c.in-Some.link
+    (zero_look _ _ _ c.in-Zero.ensures) (sym c.find.ensures ∙ c.in-Some.is) (omega (arith, c.if-at-link.true)))
+
+pub returns-then-at-link-clause-smaller : goal.returns-then-at-link-clause-smaller
+returns-then-at-link-clause-smaller g c =
+    c.requires.readable.smaller c.args.at.koid.0 c.in-Some.link (sym c.find.ensures ∙ c.in-Some.is)
+
+pub returns-then-at-link-clause-inside : goal.returns-then-at-link-clause-inside
+returns-then-at-link-clause-inside g c =
+    let inside = c.requires.readable.inside c.args.at.koid.0 c.in-Some.link (sym c.find.ensures ∙ c.in-Some.is) (omega (arith, c.if-at-link.true)) in
+    omega (arith, c.if-at-link.true, inside)
+
+pub returns-else-at-link-clause-next : goal.returns-else-at-link-clause-next
+returns-else-at-link-clause-next g c =
+    sym (below-past (g.P.PageStore.content c.args.store.now) (links_of c.args.table.now) c.args.at.koid.0 c.args.at.page c.in-Some.link
+    (sym c.find.ensures ∙ c.in-Some.is) (omega (arith, c.if-at-link.false)))
