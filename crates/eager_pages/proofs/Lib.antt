@@ -4,3 +4,4 @@ pub mod ChangeLaws
 pub mod SnapshotLaws
 pub mod VmoLaws
 pub mod CountLaws
+pub mod ViewerLaws

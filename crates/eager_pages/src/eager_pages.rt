@@ -191,6 +191,17 @@ impl EagerPages {
         }
     }
 
+    /// A VMO that shows a frame, and its page that has the frame. `None` if and only if no page has it.
+    pub fn viewer(&self, tag: Tag) -> Option<(Koid, PageNo)>
+        ensures some { IfSome result (λ at. frame_at (content_of self.now) at.0.0 at.1 ≡ Some tag.0) }
+        ensures none { IfNone result ((v p : ℕ) → frame_at (content_of self.now) v p ≡ Some tag.0 → ⊥) }
+    {
+        match self.viewers.next(tag.0 as u64, 0) {
+            Some((koid, page)) => Some((Koid(koid), page)),
+            None => None,
+        }
+    }
+
     /// Makes a page below the count sole, so that it may be written (copy on write), and answers its frame. A page that
     /// is sole keeps its frame. Any other needs room (`spare_of`) and a free frame, and then shows the same bytes in that
     /// frame.

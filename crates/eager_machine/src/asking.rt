@@ -1,0 +1,196 @@
+//! What refuses a command. Nothing changes.
+
+ghost use Rattle.std.specs.Prelude.{◌≡◌, ℕ, Option};
+ghost use Rattle.vm_model.specs.declared.command.Command.{Command};
+ghost use Rattle.vm_model.specs.declared.space.Entry.{Entry};
+ghost use Rattle.vm_model.specs.Machine.Lent.{command_of};
+ghost use Rattle.vm_model.specs.Machine.Refusals.{refusals, first_of};
+ghost use Rattle.vmo_table.specs.Table.{IsWellCounted};
+ghost use Rattle.mapping_set.specs.Tables.{table_of, places_of};
+ghost use Rattle.region_tree.specs.Tree.{regions_of, spaces_of, AreNoted};
+ghost use Rattle.eager_vmos.specs.Vmos.{AreCounted, IsRefusalOf};
+ghost use Rattle.eager_machine.specs.Machine.{state_in};
+ghost use Rattle.eager_machine.specs.inside.Groups.{group_of};
+ghost use Rattle.eager_machine.specs.declared.groups.Group.{Group};
+
+use crate::accessing::refusal_in_memory;
+use crate::groups::{Group, group_of};
+use eager_spaces::{
+    refusal_by_region, refusal_to_allocate, refusal_to_create_root, refusal_to_map,
+    refusal_to_protect, refusal_to_unmap,
+};
+use eager_vmos::EagerVmos;
+use mapping_set::MappingSet;
+use region_tree::Regions;
+use vm_base::{Refusal, VmoName};
+use vm_model::{Call, ChildKind};
+
+/// What refuses a command: the first of its refusals whose condition holds.
+pub(crate) fn refusal_to(
+    vmos: &EagerVmos,
+    regions: &Regions,
+    maps: &MappingSet,
+    call: &Call<'_>,
+) -> Option<Refusal>
+    requires well { IsWellCounted vmos.now.vmos (state_in vmos.now (spaces_of (regions_of regions.now) (table_of maps.now))) }
+    requires noted { AreNoted (regions_of regions.now) (places_of maps.now) }
+    ensures { result ≡ first_of (refusals (state_in vmos.now (spaces_of (regions_of regions.now) (table_of maps.now)))
+        (command_of call.now)) }
+{
+    match group_of(call) {
+        Group::Naming => refusal_in_naming(vmos, call),
+        Group::Pages => refusal_in_pages(vmos, call),
+        Group::Region => refusal_in_region(vmos, regions, maps, call),
+        Group::Memory => refusal_in_memory(vmos, regions, maps, call),
+        Group::Telling => refusal_in_telling(vmos, regions, call),
+    }
+}
+
+fn refusal_in_naming(vmos: &EagerVmos, call: &Call<'_>) -> Option<Refusal>
+    requires group { group_of call.now ≡ Group.Naming }
+    requires counted { AreCounted vmos.now }
+    ensures { IsRefusalOf vmos.now (command_of call.now) result }
+{
+    match call {
+        Call::VmoCreate { name, size, .. } => vmos.refusal_to_create(*name, *size),
+        Call::VmoChild {
+            name,
+            parent,
+            kind,
+            offset,
+            size,
+            resizable,
+            no_write,
+        } => refusal_to_child(
+            vmos, *name, *parent, *kind, *offset, *size, *resizable, *no_write,
+        ),
+        Call::VmoClose { name } => vmos.refusal_by_name(*name),
+        Call::VmoUnpin { pin } => vmos.refusal_to_unpin(*pin),
+        _ => unreachable!(),
+    }
+}
+
+fn refusal_to_child(
+    vmos: &EagerVmos,
+    name: VmoName,
+    parent: VmoName,
+    kind: ChildKind,
+    offset: u64,
+    size: u64,
+    resizable: bool,
+    no_write: bool,
+) -> Option<Refusal>
+    requires { AreCounted vmos.now }
+    ensures { IsRefusalOf vmos.now (Command.VmoChild name parent kind offset size resizable no_write) result }
+{
+    match kind {
+        ChildKind::Snapshot => {
+            vmos.refusal_to_snapshot(name, parent, offset, size, resizable, no_write)
+        }
+        ChildKind::Slice => vmos.refusal_to_slice(name, parent, offset, size, resizable),
+        ChildKind::Reference => {
+            vmos.refusal_to_reference(name, parent, offset, size, resizable, no_write)
+        }
+    }
+}
+
+fn refusal_in_pages(vmos: &EagerVmos, call: &Call<'_>) -> Option<Refusal>
+    requires group { group_of call.now ≡ Group.Pages }
+    requires counted { AreCounted vmos.now }
+    ensures { IsRefusalOf vmos.now (command_of call.now) result }
+{
+    match call {
+        Call::VmoWrite {
+            name,
+            offset,
+            bytes,
+        } => vmos.refusal_to_own(*name, *offset, bytes.as_slice().len() as u64),
+        Call::VmoFill {
+            name, offset, len, ..
+        } => vmos.refusal_to_own(*name, *offset, *len),
+        Call::VmoCommit { name, offset, len } => vmos.refusal_to_own(*name, *offset, *len),
+        Call::VmoZero { name, offset, len } => vmos.refusal_to_zero(*name, *offset, *len),
+        Call::VmoDecommit { name, offset, len } => vmos.refusal_to_decommit(*name, *offset, *len),
+        Call::VmoSetSize { name, size } => vmos.refusal_to_set_size(*name, *size),
+        Call::VmoPin {
+            pin,
+            name,
+            offset,
+            len,
+        } => vmos.refusal_to_pin(*pin, *name, *offset, *len),
+        _ => unreachable!(),
+    }
+}
+
+fn refusal_in_region(
+    vmos: &EagerVmos,
+    regions: &Regions,
+    maps: &MappingSet,
+    call: &Call<'_>,
+) -> Option<Refusal>
+    requires group { group_of call.now ≡ Group.Region }
+    requires well { IsWellCounted vmos.now.vmos (state_in vmos.now (spaces_of (regions_of regions.now) (table_of maps.now))) }
+    requires noted { AreNoted (regions_of regions.now) (places_of maps.now) }
+    ensures { result ≡ first_of (refusals (state_in vmos.now (spaces_of (regions_of regions.now) (table_of maps.now)))
+        (command_of call.now)) }
+{
+    match call {
+        Call::RootCreate { region } => refusal_to_create_root(regions, *region),
+        Call::VmarAllocate {
+            region,
+            parent,
+            offset,
+            len,
+            flags,
+            caps,
+        } => refusal_to_allocate(
+            regions, maps, *region, *parent, *offset, *len, *flags, *caps,
+        ),
+        Call::VmarMap {
+            region,
+            offset,
+            name,
+            vmo_offset,
+            len,
+            perm,
+            flags,
+        } => refusal_to_map(
+            &vmos.pages,
+            &vmos.vmos,
+            regions,
+            maps,
+            *region,
+            *offset,
+            *name,
+            *vmo_offset,
+            *len,
+            *perm,
+            *flags,
+        ),
+        Call::VmarUnmap { region, addr, len } => refusal_to_unmap(regions, *region, *addr, *len),
+        Call::VmarProtect {
+            region,
+            addr,
+            len,
+            perm,
+        } => refusal_to_protect(regions, maps, *region, *addr, *len, *perm),
+        Call::VmarDestroy { region } => refusal_by_region(regions, *region),
+        _ => unreachable!(),
+    }
+}
+
+fn refusal_in_telling(vmos: &EagerVmos, regions: &Regions, call: &Call<'_>) -> Option<Refusal>
+    requires group { group_of call.now ≡ Group.Telling }
+    requires counted { AreCounted vmos.now }
+    ensures { (table : ℕ → ℕ → Option Entry) →
+        result ≡ first_of (refusals (state_in vmos.now (spaces_of (regions_of regions.now) table)) (command_of call.now)) }
+{
+    match call {
+        Call::VmoRead { name, offset, len } => vmos.refusal_to_read(*name, *offset, *len),
+        Call::VmoSize { name } => vmos.refusal_by_name(*name),
+        Call::VmoInfo { name } => vmos.refusal_by_name(*name),
+        Call::Maps { region } => refusal_by_region(regions, *region),
+        Call::Stat => None,
+        _ => unreachable!(),
+    }
+}

@@ -1,0 +1,101 @@
+//! The pages of VMOs that commands reach.
+
+ghost use Rattle.std.specs.Prelude.{◌≡◌};
+ghost use Rattle.vm_model.specs.declared.command.Command.{Command};
+ghost use Rattle.vm_model.specs.Machine.Lent.{command_of};
+ghost use Rattle.vm_model.specs.Machine.State.{State};
+ghost use Rattle.eager_vmos.specs.Vmos.{state_with};
+ghost use Rattle.eager_machine.specs.inside.Acting.{MayDo};
+ghost use Rattle.eager_machine.specs.inside.Groups.{group_of};
+ghost use Rattle.eager_machine.specs.inside.Reaching.{range_of, reach_of, seen_of, HasRange, HasPart};
+ghost use Rattle.eager_machine.specs.declared.groups.Group.{Group};
+
+use eager_vmos::{EagerVmos, pages_of_name};
+use vm_base::{Koid, PAGE, PageNo, VMO_PAGES, VmoName, page_count, page_of};
+use vm_model::Call;
+use vmo_ops::touched_pages;
+
+/// Pages of a VMO in a row: those from `first` to below `end`.
+#[derive(Clone, Copy)]
+pub(crate) struct Reach {
+    pub koid: Koid,
+    pub first: PageNo,
+    pub end: PageNo,
+}
+
+/// The pages whose frames a command on pages may change. Nothing refuses it.
+pub(crate) fn reach_of(vmos: &EagerVmos, call: &Call<'_>) -> Reach
+    requires group { group_of call.now ≡ Group.Pages }
+    requires may { MayDo vmos.now (command_of call.now) }
+    ensures { (s : State) → result ≡ reach_of (state_with s vmos.now) (command_of call.now) }
+{
+    match call {
+        Call::VmoWrite {
+            name,
+            offset,
+            bytes,
+        } => range_of(vmos, *name, *offset, bytes.as_slice().len() as u64),
+        Call::VmoFill {
+            name, offset, len, ..
+        } => range_of(vmos, *name, *offset, *len),
+        Call::VmoCommit { name, offset, len } => range_of(vmos, *name, *offset, *len),
+        Call::VmoDecommit { name, offset, len } => range_of(vmos, *name, *offset, *len),
+        Call::VmoZero { name, offset, len } => range_of(vmos, *name, *offset, *len),
+        Call::VmoPin {
+            name, offset, len, ..
+        } => range_of(vmos, *name, *offset, *len),
+        Call::VmoSetSize { name, size } => behind(vmos, *name, *size),
+        _ => unreachable!(),
+    }
+}
+
+// The pages that a range of a name touches.
+fn range_of(vmos: &EagerVmos, name: VmoName, offset: u64, len: u64) -> Reach
+    requires { HasRange vmos.now name.0 offset len }
+    ensures { (s : State) → result ≡ range_of (state_with s vmos.now) name.0 offset len }
+{
+    let Some(target) = vmos.vmos.resolve(name) else {
+        unreachable!()
+    };
+    let at = target.first * PAGE + offset;
+    let (first, end) = touched_pages(at, len);
+    Reach {
+        koid: target.koid,
+        first,
+        end,
+    }
+}
+
+// The pages of a VMO behind a size.
+fn behind(vmos: &EagerVmos, name: VmoName, size: u64) -> Reach
+    requires { HasRange vmos.now name.0 0 0 }
+    ensures { (s : State) → result ≡ reach_of (state_with s vmos.now) (Command.VmoSetSize name size) }
+{
+    let Some(target) = vmos.vmos.resolve(name) else {
+        unreachable!()
+    };
+    Reach {
+        koid: target.koid,
+        first: page_count(size),
+        end: VMO_PAGES,
+    }
+}
+
+/// The pages that a snapshot of a part of a name sees.
+pub(crate) fn seen_by(vmos: &EagerVmos, parent: VmoName, offset: u64, size: u64) -> Reach
+    requires { HasPart vmos.now parent.0 }
+    ensures { (s : State) → result ≡ seen_of (state_with s vmos.now) parent.0 offset size }
+{
+    let Some(target) = vmos.vmos.resolve(parent) else {
+        unreachable!()
+    };
+    let start = page_of(offset);
+    let behind = pages_of_name(&vmos.pages, &target).saturating_sub(start);
+    let seen = page_count(size).min(behind);
+    let first = target.first + start;
+    Reach {
+        koid: target.koid,
+        first,
+        end: first + seen,
+    }
+}
