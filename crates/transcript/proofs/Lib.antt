@@ -1,0 +1,9 @@
+pub mod LineLaws
+pub mod TurnLaws
+pub mod JudgeLaws
+pub mod SeenLaws
+pub mod NumberLaws
+pub mod HearLaws
+pub mod CheckLaws
+pub mod CountLaws
+pub mod ReportLaws

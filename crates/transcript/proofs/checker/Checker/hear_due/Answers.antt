@@ -1,0 +1,15 @@
+use Rattle.std.proofs.Common.{◌++◌, subst, List, ℕ}
+use Rattle.std.specs.Prelude.{codes}
+use Rattle.transcript.specs.Hearing.{IsHeard}
+use Rattle.transcript.specs.declared.checker.Phase.TheVariants.{Due}
+use Rattle.transcript.proofs.CheckLaws.{in_phase, due_own, match_ok}
+use Rattle.transcript.proofs.checker.Checker.hear_due.Goals as goal
+
+pub returns : goal.returns
+returns c = λ frames tells is.
+    let old = c.args.self.now in
+    let line = c.args.reply.now ++ codes "\n" in
+    let h = in_phase frames old tells Due is c.requires.filled c.requires.due in
+    let heard = match_ok c.hear.result c.in_ok-heard.heard _ _ c.in_ok-heard.was (c.hear.ensures.heard frames h.1.before (due_own frames old tells is h)) in
+    c.settle.ensures frames tells line old.own is.some is.few is.frames_are c.requires.filled h.1
+    (subst (λ (p : List ℕ). IsHeard frames old.own c.hear.new.own p h.1.before line c.in_ok-heard.heard) c.as_slice.ensures.value heard)

@@ -1,0 +1,5 @@
+pub mod Checking
+pub mod Seen
+pub mod Hearing
+pub mod Verdicts
+pub mod Reports

@@ -1,0 +1,128 @@
+-- What is reported of a transcript, over the bytes that a source gave and the bytes that a sink took.
+use Rattle.std.specs.Prelude.{◌≡◌, ℕ, ◌+◌, ◌≤◌, ◌⊎◌, List, [], ◌∷◌, ◌++◌, length, codes, decimal, Option, None, Some, Result, Ok, Err}
+use Rattle.std.specs.Io.KnownBytes.{Appends, Consumes}
+use Rattle.script_io.specs.declared.status.Status.{Status}
+use Rattle.script_io.specs.declared.status.Status.TheVariants.{Done, Usage, HostMemory, ReadFault, WriteFault, ScriptLimit}
+use Rattle.script_io.specs.Faults.{IsCutOff}
+use Rattle.script_io.specs.Reader.{Reader}
+use Rattle.vm_base.specs.declared.limits.TheConstants.{SCRIPT_BYTES}
+use Rattle.vm_model.specs.Contents.Content.{nothing}
+use Rattle.served.specs.Answering.{Answering}
+use Rattle.served.specs.Outcome.{Completes, StopsReading, ReachesLimit}
+use Rattle.served.specs.Serving.{IsServed}
+use Rattle.moving_machine.specs.Transcript.{Told, Asked, Answered, told, ArePossible, AreWhole}
+use Rattle.transcript.specs.declared.verdict.Verdict.{Verdict}
+use Rattle.transcript.specs.declared.verdict.Verdict.TheVariants.{Illegal as IllegalLine, Malformed as MalformedLine}
+use Rattle.transcript.specs.declared.reports.Report.{Report}
+use Rattle.transcript.specs.declared.reports.Report.TheVariants.{Legal, Illegal, Malformed}
+use Rattle.transcript.specs.declared.reports.Check.{Check}
+use Rattle.transcript.specs.Verdicts.{HasRead, IsVerdict}
+
+-- ---- what a report says of the lines of a transcript
+
+-- how many of them are lines of the script
+abbrev pub is_asked : Option Told → ℕ
+is_asked (Some (Asked line)) = 1
+is_asked (Some (Answered line)) = 0
+is_asked None = 0
+
+abbrev pub asked_count : List (List ℕ) → ℕ
+asked_count [] = 0
+asked_count (line ∷ lines) = is_asked (told line) + asked_count lines
+
+-- Line k, from 1, is the first of which this is said. A transcript may begin with the lines before it.
+pub record IsFirst (frames : ℕ) (lines : List (List ℕ)) (verdict : Verdict) (k : ℕ) : Type 0 where
+  pub before : List (List ℕ)
+  pub line : List ℕ
+  pub after : List (List ℕ)
+  pub is : lines ≡ before ++ line ∷ after
+  pub number : k ≡ length before + 1
+  pub possible : ArePossible frames before
+  pub said : IsVerdict frames before line verdict
+
+-- The lines end while a reply line is missing, which would be line k.
+pub record IsMissing (frames : ℕ) (lines : List (List ℕ)) (k : ℕ) : Type 0 where
+  pub possible : ArePossible frames lines
+  pub part : AreWhole frames lines → ⊥
+  pub number : k ≡ length lines + 1
+
+-- Legal are the lines of a whole transcript.
+abbrev pub IsReport : ℕ → List (List ℕ) → Report → Type 0
+IsReport frames lines (Legal n) = AreWhole frames lines × (n ≡ asked_count lines)
+IsReport frames lines (Illegal k) = IsFirst frames lines IllegalLine k ⊎ IsMissing frames lines k
+IsReport frames lines (Malformed k) = IsFirst frames lines MalformedLine k
+
+-- the line that a report is written as
+abbrev pub report_text : Report → List ℕ
+report_text (Legal n) = codes "LEGAL" ++ codes " " ++ decimal n ++ codes "\n"
+report_text (Illegal k) = codes "ILLEGAL" ++ codes " " ++ decimal k ++ codes "\n"
+report_text (Malformed k) = codes "MALFORMED" ++ codes " " ++ decimal k ++ codes "\n"
+
+-- The report of the lines, and its text was written whole or in part.
+pub record Reports (Written : List ℕ → Type 0) (frames : ℕ) (lines : List (List ℕ)) : Type 0 where
+  pub report : Report
+  pub is : IsReport frames lines report
+  pub written : Written (report_text report)
+
+-- the source gave at most so many bytes
+pub record TakesAtMost (limit : ℕ) (source_old source_new : Option (List ℕ)) : Type 0 where
+  pub script : List ℕ
+  pub given : Consumes source_old source_new script
+  pub short : length script ≤ limit
+
+-- what each status says
+abbrev pub EndsAs : Status → ℕ → Option (List ℕ) → Option (List ℕ) → Option (List ℕ) → Option (List ℕ) → Type 0
+EndsAs Done frames source_old source_new sink_old sink_new = Completes (Reports (Appends sink_old sink_new) frames) SCRIPT_BYTES source_old source_new
+EndsAs WriteFault frames source_old source_new sink_old sink_new = Completes (Reports (IsCutOff sink_old sink_new) frames) SCRIPT_BYTES source_old source_new
+EndsAs ReadFault frames source_old source_new sink_old sink_new = StopsReading (λ lines. Unit {0}) SCRIPT_BYTES source_old source_new
+EndsAs ScriptLimit frames source_old source_new sink_old sink_new = ReachesLimit (λ lines. Unit {0}) SCRIPT_BYTES source_old source_new
+EndsAs HostMemory frames source_old source_new sink_old sink_new = TakesAtMost SCRIPT_BYTES source_old source_new
+EndsAs Usage frames source_old source_new sink_old sink_new = ⊥
+
+-- ---- a check that is under way
+
+-- what was found in the lines so far: nothing, and the checker has read them; or the first bad one
+abbrev pub HasFound : Option Report → ℕ → Check → List (List ℕ) → Type 0
+HasFound None frames check lines = HasRead frames check.checker lines × (check.asked ≡ asked_count lines)
+HasFound (Some (Legal n)) frames check lines = ⊥
+HasFound (Some (Illegal k)) frames check lines = IsFirst frames lines IllegalLine k
+HasFound (Some (Malformed k)) frames check lines = IsFirst frames lines MalformedLine k
+
+-- these lines were read
+pub record IsChecked (frames : ℕ) (check : Check) (lines : List (List ℕ)) : Type 0 where
+  pub count : check.lines ≡ length lines
+  pub found : HasFound check.bad frames check lines
+
+-- lines that are read as a machine that answers none, and to which each line adds itself
+abbrev pub gathering : Answering (List (List ℕ))
+gathering = record {
+  start = λ frames. [];
+  content = λ lines. nothing;
+  IsGood = λ lines. Unit {0};
+  Gives = λ line old out new. (out ≡ []) × (new ≡ old ++ line ∷ []);
+}
+
+-- the source gave bytes so far, and the lines of them that were fetched were read
+pub record IsUnderWay (frames : ℕ) (reader : Reader) (source_old source_now : Option (List ℕ)) (check : Check) : Type 0 where
+  pub lines : List (List ℕ)
+  pub served : IsServed gathering 0 SCRIPT_BYTES reader source_old source_now (Some []) (Some []) lines
+  pub checked : IsChecked frames check lines
+
+-- what a status says of the reading
+abbrev pub StopsAs : Status → ℕ → Option (List ℕ) → Option (List ℕ) → Check → Type 0
+StopsAs Done frames source_old source_new check = Completes (IsChecked frames check) SCRIPT_BYTES source_old source_new
+StopsAs ReadFault frames source_old source_new check = StopsReading (λ lines. Unit {0}) SCRIPT_BYTES source_old source_new
+StopsAs ScriptLimit frames source_old source_new check = ReachesLimit (λ lines. Unit {0}) SCRIPT_BYTES source_old source_new
+StopsAs HostMemory frames source_old source_new check = TakesAtMost SCRIPT_BYTES source_old source_new
+StopsAs WriteFault frames source_old source_new check = ⊥
+StopsAs Usage frames source_old source_new check = ⊥
+
+-- the status that reading ends with behind a line, if any
+abbrev pub lack : {T E : Type 0} → Result T E → Option Status
+lack (Ok x) = None
+lack (Err e) = Some HostMemory
+
+-- the status of a check whose report was written, or not
+abbrev pub status_of : {T E : Type 0} → Result T E → Status
+status_of (Ok x) = Done
+status_of (Err e) = WriteFault

@@ -1,0 +1,150 @@
+//! The check of a transcript, from the bytes of a source to the bytes of a sink.
+
+ghost use Rattle.std.specs.Prelude.{◌≡◌, ◌≢◌, ◌↔◌, ◌⊎◌, ◌+◌, ◌<◌, ◌≤◌, ℕ, List, Option, None, Some, codes, IfNone, IfSome, MatchOption};
+ghost use Rattle.std.specs.Io.KnownBytes.{Appends};
+ghost use Rattle.script_io.specs.Faults.{HasFailed, IsCutOff};
+ghost use Rattle.vm_base.specs.declared.limits.TheConstants.{FRAMES, SCRIPT_BYTES};
+ghost use Rattle.served.specs.Words.{frames_asked};
+ghost use Rattle.served.specs.Serving.{IsReady, bytes_left};
+ghost use Rattle.transcript.specs.Reports.{EndsAs, IsUnderWay, StopsAs, IsChecked, Reports, lack, status_of};
+
+use crate::reports::{Check, REPORT_BYTES, write_report};
+use script_io::{Fetch, Lines, Sink, Source, Status, push_all};
+use served::frames_asked;
+use std::alloc::Global;
+use vm_base::{Failed, HostMemory, SCRIPT_BYTES};
+
+/// The status that reading ends with behind a line: one if the host had too little memory for it, else none.
+fn lack(read: Result<(), HostMemory>) -> Option<Status>
+    ensures { result ≡ lack read }
+{
+    match read {
+        Ok(()) => None,
+        Err(_) => Some(Status::HostMemory),
+    }
+}
+
+/// The status of a check whose report was written, or not.
+fn status_of(pushed: Result<(), Failed>) -> Status
+    ensures { result ≡ status_of pushed }
+{
+    match pushed {
+        Ok(()) => Status::Done,
+        Err(_) => Status::WriteFault,
+    }
+}
+
+/// Fetches the next line of a transcript and reads it. A status if reading ends with it, `Done` at the end of the transcript.
+fn read_next<S: Source>(check: &mut Check, lines: &mut Lines, source: &mut S) -> Option<Status>
+    requires ready { IsReady lines.old (S.remaining source.old) (check.old.lines + 1) }
+    requires limit { lines.old.limit ≡ SCRIPT_BYTES }
+    requires way { (frames : ℕ) × (source_old : Option (List ℕ)) × IsUnderWay frames lines.old source_old (S.remaining source.old) check.old }
+    ensures way { (frames : ℕ) (source_old : Option (List ℕ)) → IsUnderWay frames lines.old source_old (S.remaining source.old) check.old
+        → MatchOption result (IsUnderWay frames lines.new source_old (S.remaining source.new) check.new)
+        (λ status. StopsAs status frames source_old (S.remaining source.new) check.new) }
+    ensures ready { IfNone result (IsReady lines.new (S.remaining source.new) (check.new.lines + 1)) }
+    ensures few { result ≡ Some Status.Done → check.new.lines ≤ SCRIPT_BYTES }
+    ensures limit { lines.new.limit ≡ lines.old.limit }
+    ensures falls { IfNone result (bytes_left lines.new < bytes_left lines.old) }
+    ensures later { S.faults source.old ≤ S.faults source.new }
+    ensures cause { result ≡ Some Status.ReadFault → HasFailed (S.faults source.old) (S.faults source.new) }
+{
+    match lines.next(source) {
+        Fetch::Line => lack(check.read(lines.line())),
+        Fetch::TooLong => {
+            check.pass();
+            None
+        }
+        Fetch::End => Some(Status::Done),
+        Fetch::Fault => Some(Status::ReadFault),
+        Fetch::Limit => Some(Status::ScriptLimit),
+    }
+}
+
+/// Reads a transcript to its end, and answers `Done`. Else the status that reading ends with.
+fn read_all<S: Source>(check: &mut Check, lines: &mut Lines, source: &mut S) -> Status
+    requires ready { IsReady lines.old (S.remaining source.old) (check.old.lines + 1) }
+    requires limit { lines.old.limit ≡ SCRIPT_BYTES }
+    requires way { (frames : ℕ) × IsUnderWay frames lines.old (S.remaining source.old) (S.remaining source.old) check.old }
+    ensures way { (frames : ℕ) → IsUnderWay frames lines.old (S.remaining source.old) (S.remaining source.old) check.old
+        → StopsAs result frames (S.remaining source.old) (S.remaining source.new) check.new }
+    ensures few { result ≡ Status.Done → check.new.lines ≤ SCRIPT_BYTES }
+    ensures cause { result ≡ Status.ReadFault → HasFailed (S.faults source.old) (S.faults source.new) }
+{
+    loop {
+        let next = read_next(check, lines, source);
+        if let Some(status) = next {
+            return status;
+        }
+    }
+}
+
+/// Checks a transcript on a machine with `frames` page frames.
+fn check_on<S: Source, K: Sink>(alloc: Global, frames: u32, source: &mut S, sink: &mut K) -> Status
+    requires { 1 ≤ frames × frames ≤ FRAMES }
+    ensures ends { EndsAs result frames (S.remaining source.old) (S.remaining source.new) (K.contents sink.old) (K.contents sink.new) }
+    ensures read_cause { result ≡ Status.ReadFault → HasFailed (S.faults source.old) (S.faults source.new) }
+    ensures write_cause { result ≡ Status.WriteFault → HasFailed (K.faults sink.old) (K.faults sink.new) }
+    ensures unwritten { result ≢ Status.Done → result ≢ Status.WriteFault → sink.new ≡ sink.old }
+{
+    let Ok(mut lines) = Lines::new(alloc, SCRIPT_BYTES) else {
+        return Status::HostMemory;
+    };
+    let mut check = Check::new(alloc, frames);
+    match read_all(&mut check, &mut lines, source) {
+        Status::Done => push_report(&check, sink),
+        status => status,
+    }
+}
+
+/// Writes the report of a check. `Done`, or `WriteFault` if the sink fails.
+fn push_report<K: Sink>(check: &Check, sink: &mut K) -> Status
+    requires { check.now.lines ≤ SCRIPT_BYTES }
+    ensures ends { (frames : ℕ) (source_old source_new : Option (List ℕ)) → StopsAs Status.Done frames source_old source_new check.now
+        → EndsAs result frames source_old source_new (K.contents sink.old) (K.contents sink.new) }
+    ensures no_read { result ≢ Status.ReadFault }
+    ensures either { (result ≡ Status.Done) ⊎ (result ≡ Status.WriteFault) }
+    ensures cause { result ≡ Status.WriteFault → HasFailed (K.faults sink.old) (K.faults sink.new) }
+{
+    let mut room = [0; REPORT_BYTES];
+    let len = write_report(check.report(), &mut room);
+    status_of(push_all(sink, &room[..len]))
+}
+
+/// Checks a transcript: `check`, and behind it nothing or `--frames N`. The machine has 1,024 page frames, or as many as N says
+/// with one to five digits, from 1 to 65,536.
+///
+/// The transcript, of at most `SCRIPT_BYTES` bytes, is read to its end line by line. Each line is `> ` and a line of a script, or
+/// `< ` and a line of a reply. Then one line is written. `LEGAL n` if the lines are a whole transcript, with n the number of lines
+/// of the script. `ILLEGAL k` or `MALFORMED k` with the number of the first line, from 1, of which `Checker::feed` says so;
+/// `ILLEGAL k` with the number of lines plus 1 if the lines end while a reply line is missing. The memory does not grow with the
+/// transcript.
+///
+/// `HostMemory` if the host has too little memory, `ReadFault` if the source fails, and `ScriptLimit` if it gives more than
+/// `SCRIPT_BYTES` bytes: nothing was written. `WriteFault` if the sink fails. `Usage` for other words, and nothing is touched.
+pub fn run_check<S: Source, K: Sink>(
+    alloc: Global,
+    words: &[String],
+    source: &mut S,
+    sink: &mut K,
+) -> Status
+    // What each status says of the bytes that the source gave and the bytes that the sink took.
+    ensures ends { IfSome (frames_asked (codes "check") words.now) (λ frames.
+        EndsAs result frames (S.remaining source.old) (S.remaining source.new) (K.contents sink.old) (K.contents sink.new)) }
+
+    // A fault is answered only if the source or the sink failed.
+    ensures read_cause { result ≡ Status.ReadFault → HasFailed (S.faults source.old) (S.faults source.new) }
+    ensures write_cause { result ≡ Status.WriteFault → HasFailed (K.faults sink.old) (K.faults sink.new) }
+
+    // Nothing is written but the report.
+    ensures unwritten { result ≢ Status.Done → result ≢ Status.WriteFault → sink.new ≡ sink.old }
+
+    // Other words are refused, and nothing is touched.
+    ensures usage { (result ≡ Status.Usage) ↔ (frames_asked (codes "check") words.now ≡ None) }
+    ensures untouched { result ≡ Status.Usage → (source.new ≡ source.old) × (sink.new ≡ sink.old) }
+{
+    match frames_asked(b"check", words) {
+        Some(frames) => check_on(alloc, frames, source, sink),
+        None => Status::Usage,
+    }
+}

@@ -1,0 +1,76 @@
+//! What the lines of a transcript tell, and what the reply lines among them do.
+
+ghost use Rattle.std.specs.Prelude.{◌≡◌, ◌≢◌, ◌≤◌, ◌<◌, ◌^◌, ◌++◌, ◌∷◌, [], ℕ, List, Option, Some, None, codes, length, take, IfSome, MatchOption, IsTrue, ◌↔◌, slice_get};
+ghost use Rattle.vm_base.specs.declared.limits.TheConstants.{LINE_BYTES, TEXT_ROOM, DATA_BYTES};
+ghost use Rattle.vm_model.specs.declared.reply.Reply.{Reply};
+ghost use Rattle.vm_model.specs.Language.Reading.{reading, Blank};
+ghost use Rattle.vm_model.specs.Language.Text.{reply_lines};
+ghost use Rattle.vm_model.specs.Machine.Lent.{reply_for};
+ghost use Rattle.moving_machine.specs.Transcript.{told, Asked, Answered};
+ghost use Rattle.moving_machine.specs.Following.{first_line};
+
+use reply_text::{read_address, write_answer_line};
+use script_text::read_call;
+use vm_model::Answer;
+
+/// The line of a script that a line of a transcript tells, behind `> `.
+#[tactic(auto, unfolding(moving_machine::specs::Transcript::told))]
+pub(crate) fn script_in(line: &[u8]) -> Option<&[u8]>
+    requires { length line.now ≤ LINE_BYTES }
+    ensures told { MatchOption result ((script : List ℕ) → told line.now ≢ Some (Asked script))
+        (λ script. told line.now ≡ Some (Asked script.now)) }
+    ensures short { IfSome result (λ script. length script.now ≤ length line.now) }
+{
+    line.strip_prefix(b"> ")
+}
+
+/// The reply line that a line of a transcript tells, behind `< `.
+#[tactic(auto, unfolding(moving_machine::specs::Transcript::told))]
+pub(crate) fn reply_in(line: &[u8]) -> Option<&[u8]>
+    requires { length line.now ≤ LINE_BYTES }
+    ensures { MatchOption result ((reply : List ℕ) → told line.now ≢ Some (Answered reply))
+        (λ reply. told line.now ≡ Some (Answered (reply.now ++ codes "\n"))) }
+{
+    line.strip_prefix(b"< ")
+}
+
+/// Whether a line of a script says nothing.
+pub(crate) fn is_blank(line: &[u8], room: &mut [u8]) -> bool
+    requires { DATA_BYTES ≤ length room.old }
+    ensures { IsTrue result ↔ (reading line.now ≡ Blank) }
+{
+    matches!(read_call(line, room), Ok(None))
+}
+
+/// Whether line `index` of an answer, counted from 0, is this one.
+pub(crate) fn is_line(answer: &Answer<'_>, index: u64, line: &[u8], room: &mut [u8]) -> bool
+    requires index { index < length (reply_lines (reply_for answer.now)) }
+    requires room { TEXT_ROOM ≤ length room.old }
+    ensures { IsTrue result ↔ (slice_get (reply_lines (reply_for answer.now)) index ≡ Some (line.now ++ codes "\n")) }
+{
+    let len = write_answer_line(answer, index, room);
+    ends_line(&room[..len], line)
+}
+
+/// Whether a text is this line and a line feed.
+fn ends_line(text: &[u8], line: &[u8]) -> bool
+    ensures { IsTrue result ↔ (text.now ≡ line.now ++ codes "\n") }
+{
+    match text.split_last() {
+        Some((last, front)) => *last == b'\n' && front == line,
+        None => false,
+    }
+}
+
+/// The address that a reply line tells, 0 if it tells none.
+pub(crate) fn address_in(line: &[u8]) -> u64
+    ensures { (address : ℕ) → address < 2 ^ 64 → first_line (Reply.Address address) ≡ line.now ++ codes "\n" → result ≡ address }
+{
+    match read_address(line) {
+        Some(address) => {
+            prove!(address <= u64::MAX);
+            address
+        }
+        None => 0,
+    }
+}

@@ -1,0 +1,12 @@
+//! What a checker says of a line.
+
+/// What a checker says of a line of a transcript.
+#[derive(Clone, Copy, Debug, PartialEq, Eq)]
+pub enum Verdict {
+    /// A transcript may begin with the lines so far and this one.
+    Fine,
+    /// No transcript begins so.
+    Illegal,
+    /// The line begins neither with `> ` nor with `< `.
+    Malformed,
+}
