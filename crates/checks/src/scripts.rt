@@ -53,6 +53,7 @@ mod sources;
 mod steps;
 mod text_fault;
 mod texts;
+mod transcripts;
 mod trees;
 mod unmapping;
 mod words;

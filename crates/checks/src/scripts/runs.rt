@@ -10,6 +10,7 @@ use page_store::{FlatStore, PageStore};
 use script_io::{MemSink, MemSource, Sink, Source, SureSource};
 use source_vm::{SourceFn, run_sources, src_byte};
 use std::alloc::Global;
+use transcript::run_check;
 use vm_session::{Status, run, serve};
 
 /// The room of a sink that is never full here, in bytes.
@@ -94,6 +95,7 @@ fn run_by_words<P: PageStore, S: Source, K: Sink>(
     requires { P.content store.old ≡ nothing }
 {
     match words {
+        [verb, ..] if verb.as_str() == "check" => run_check(alloc, words, source, sink),
         [verb, ..] if verb.as_str() == "batch" => run_batch(alloc, words, store, source, sink),
         [verb, ..] if verb.as_str() == "sources" => {
             run_by_sources(alloc, words, store, source, sink)
