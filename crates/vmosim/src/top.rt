@@ -12,6 +12,7 @@ ghost use Rattle.batch_vm.specs.BatchAnswering.{batch_rules};
 ghost use Rattle.source_vm.specs.Answering.{source_rules};
 ghost use Rattle.shared_vm.specs.Outcome.{IfThere};
 ghost use Rattle.shared_vm.specs.Outcome as actors;
+ghost use Rattle.transcript.specs.Reports as transcripts;
 
 use crate::verbs::has_verb;
 use batch_vm::run_batch;
@@ -22,16 +23,18 @@ use source_vm::{SourceFn, run_sources};
 use std::alloc::Global;
 use std::sync::Wait;
 use std::thread::Threads;
+use transcript::run_check;
 use vm_session::{Status, run};
 
 /// Does what `words` ask for, over the clone tree: what `vm_session`'s `run` does over any store, and with its promises; with the
-/// first word `batch` what `batch_vm`'s `run_batch` does; with `sources` what `source_vm`'s `run_sources` does; and with `actors` what
-/// `shared_vm`'s `run_actors` does. This is the call that the program makes.
+/// first word `batch` what `batch_vm`'s `run_batch` does; with `sources` what `source_vm`'s `run_sources` does; with `actors` what
+/// `shared_vm`'s `run_actors` does; and with `check` what `transcript`'s `run_check` does. This is the call that the program makes.
 ///
 /// What is written is the replies of one legal run of the plain machine, in which a snapshot copies its range at once, and
 /// the tree has that machine's pages then. With `batch` the machine has jobs too. With `sources` it is another one, whose VMOs are
 /// filled from `functions`, one for each kind. With `actors` the run does the tasks of four
-/// actors, which take turns on it in any order, and the call may wait; it promises this if it returns.
+/// actors, which take turns on it in any order, and the call may wait; it promises this if it returns. With `check` one line tells
+/// whether a script and its replies are a legal run, where the kernel may move pages that no pin covers, and the tree stays as it was.
 ///
 /// The tree is there at first and has nothing. It is there afterwards, but for an answer `HostMemory` to `actors`.
 pub fn top<R: Threads + Wait + Sync, G: Gate, S: Source, K: Sink>(
@@ -69,6 +72,12 @@ pub fn top<R: Threads + Wait + Sync, G: Gate, S: Source, K: Sink>(
         actors.EndsAs result frames (S.remaining source.old) (S.remaining source.new)
         (K.contents sink.old) (K.contents sink.new) (option_map content_of store.new)) }
 
+    // What each status says of a transcript that is checked. The tree has no part in it.
+    ensures check { IfSome (frames_asked (codes "check") words.now) (λ frames.
+        transcripts.EndsAs result frames (S.remaining source.old) (S.remaining source.new)
+        (K.contents sink.old) (K.contents sink.new)) }
+    ensures apart { IsSome (frames_asked (codes "check") words.now) → store.new ≡ store.old }
+
     // A workload is done without reading.
     ensures unread { AskForWork words.now → source.new ≡ source.old }
 
@@ -76,12 +85,16 @@ pub fn top<R: Threads + Wait + Sync, G: Gate, S: Source, K: Sink>(
     ensures read_cause { result ≡ Status.ReadFault → HasFailed (S.faults source.old) (S.faults source.new) }
     ensures write_cause { result ≡ Status.WriteFault → HasFailed (K.faults sink.old) (K.faults sink.new) }
 
-    // But for actors, memory is wanted only before anything is read.
+    // But for actors and transcripts, memory is wanted only before anything is read.
     ensures host_memory { result ≡ Status.HostMemory → frames_asked (codes "actors") words.now ≡ None
-        → (source.new ≡ source.old) × (sink.new ≡ sink.old) }
+        → frames_asked (codes "check") words.now ≡ None → (source.new ≡ source.old) × (sink.new ≡ sink.old) }
 
     // For actors nothing is written before all tasks are done.
     ensures unwritten { IsSome (frames_asked (codes "actors") words.now) → result ≢ Status.Done → result ≢ Status.WriteFault
+        → sink.new ≡ sink.old }
+
+    // Of a transcript nothing is written before its end.
+    ensures unreported { IsSome (frames_asked (codes "check") words.now) → result ≢ Status.Done → result ≢ Status.WriteFault
         → sink.new ≡ sink.old }
 
     // Only actors that lack memory take the tree with them.
@@ -91,7 +104,8 @@ pub fn top<R: Threads + Wait + Sync, G: Gate, S: Source, K: Sink>(
     // Other words are refused, and nothing is touched.
     ensures usage { (result ≡ Status.Usage)
         ↔ ((task_asked words.now ≡ None) × (frames_asked (codes "batch") words.now ≡ None)
-        × (frames_asked (codes "sources") words.now ≡ None) × (frames_asked (codes "actors") words.now ≡ None)) }
+        × (frames_asked (codes "sources") words.now ≡ None) × (frames_asked (codes "actors") words.now ≡ None)
+        × (frames_asked (codes "check") words.now ≡ None)) }
     ensures untouched { result ≡ Status.Usage → (source.new ≡ source.old) × (sink.new ≡ sink.old)
         × (store.new ≡ store.old) }
 {
@@ -109,6 +123,9 @@ pub fn top<R: Threads + Wait + Sync, G: Gate, S: Source, K: Sink>(
     }
     if has_verb(b"sources", words) {
         return run_sources(alloc, words, functions, tree, source, sink);
+    }
+    if has_verb(b"check", words) {
+        return run_check(alloc, words, source, sink);
     }
     run(alloc, words, tree, source, sink)
 }
