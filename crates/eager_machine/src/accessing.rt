@@ -46,14 +46,7 @@ pub(crate) fn refusal_in_memory(
             region,
             addr,
             bytes,
-        } => refusal_to_write(
-            &vmos.pages,
-            regions,
-            maps,
-            *region,
-            *addr,
-            bytes.as_slice(),
-        ),
+        } => refusal_to_write(&vmos.pages, regions, maps, *region, *addr, bytes.as_slice()),
         _ => unreachable!(),
     }
 }

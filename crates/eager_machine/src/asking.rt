@@ -106,7 +106,10 @@ fn refusal_in_pages(vmos: &EagerVmos, call: &Call<'_>) -> Option<Refusal>
             bytes,
         } => vmos.refusal_to_own(*name, *offset, bytes.as_slice().len() as u64),
         Call::VmoFill {
-            name, offset, len, ..
+            name,
+            offset,
+            len,
+            ..
         } => vmos.refusal_to_own(*name, *offset, *len),
         Call::VmoCommit { name, offset, len } => vmos.refusal_to_own(*name, *offset, *len),
         Call::VmoZero { name, offset, len } => vmos.refusal_to_zero(*name, *offset, *len),

@@ -151,9 +151,7 @@ fn on_region(
             addr,
             len,
             perm,
-        } => at_no_place(vmar_protect(
-            vmos, regions, maps, ready, *region, *addr, *len, *perm,
-        )),
+        } => at_no_place(vmar_protect(vmos, regions, maps, ready, *region, *addr, *len, *perm)),
         Call::VmarDestroy { region } => {
             vmar_destroy(vmos, regions, maps, ready, *region);
             Ok(Some(Answer::Done))

@@ -72,15 +72,12 @@ pub(crate) fn know_given(call: &Call<'_>)
 
 fn know_name(name: VmoName)
     ensures { name.0 < NAMES }
-{
-}
+{}
 
 fn know_pin(pin: PinName)
     ensures { pin.0 < NAMES }
-{
-}
+{}
 
 fn know_region(region: RegionName)
     ensures { region.0 < NAMES }
-{
-}
+{}

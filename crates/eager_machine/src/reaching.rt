@@ -36,13 +36,19 @@ pub(crate) fn reach_of(vmos: &EagerVmos, call: &Call<'_>) -> Reach
             bytes,
         } => range_of(vmos, *name, *offset, bytes.as_slice().len() as u64),
         Call::VmoFill {
-            name, offset, len, ..
+            name,
+            offset,
+            len,
+            ..
         } => range_of(vmos, *name, *offset, *len),
         Call::VmoCommit { name, offset, len } => range_of(vmos, *name, *offset, *len),
         Call::VmoDecommit { name, offset, len } => range_of(vmos, *name, *offset, *len),
         Call::VmoZero { name, offset, len } => range_of(vmos, *name, *offset, *len),
         Call::VmoPin {
-            name, offset, len, ..
+            name,
+            offset,
+            len,
+            ..
         } => range_of(vmos, *name, *offset, *len),
         Call::VmoSetSize { name, size } => behind(vmos, *name, *size),
         _ => unreachable!(),

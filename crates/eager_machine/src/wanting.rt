@@ -79,12 +79,7 @@ fn wants_in_pages(vmos: &EagerVmos, call: &Call<'_>) -> bool
     }
 }
 
-fn wants_in_region(
-    vmos: &EagerVmos,
-    regions: &Regions,
-    maps: &MappingSet,
-    call: &Call<'_>,
-) -> bool
+fn wants_in_region(vmos: &EagerVmos, regions: &Regions, maps: &MappingSet, call: &Call<'_>) -> bool
     requires group { group_of call.now ≡ Group.Region }
     requires may { MayDoAll vmos.now (spaces_of (regions_of regions.now) (table_of maps.now)) (command_of call.now) }
     ensures { result ≡ may_lack_memory (state_in vmos.now (spaces_of (regions_of regions.now) (table_of maps.now)))
@@ -100,12 +95,7 @@ fn wants_in_region(
     }
 }
 
-fn wants_in_telling(
-    vmos: &EagerVmos,
-    regions: &Regions,
-    maps: &MappingSet,
-    call: &Call<'_>,
-) -> bool
+fn wants_in_telling(vmos: &EagerVmos, regions: &Regions, maps: &MappingSet, call: &Call<'_>) -> bool
     requires group { group_of call.now ≡ Group.Telling }
     requires may { MayDoAll vmos.now (spaces_of (regions_of regions.now) (table_of maps.now)) (command_of call.now) }
     ensures { result ≡ may_lack_memory (state_in vmos.now (spaces_of (regions_of regions.now) (table_of maps.now)))

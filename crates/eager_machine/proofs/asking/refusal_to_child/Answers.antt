@@ -1,4 +1,3 @@
-
 use Rattle.eager_machine.proofs.asking.refusal_to_child.Goals as goal
 
 pub returns-in-Slice : goal.returns-in-Slice
