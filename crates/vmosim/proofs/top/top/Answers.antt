@@ -159,7 +159,7 @@ pub returns-then-has_verb-4-clause-check : goal.returns-then-has_verb-4-clause-c
 returns-then-has_verb-4-clause-check g c = c.run_check.ensures.ends
 
 pub returns-then-has_verb-4-clause-apart : goal.returns-then-has_verb-4-clause-apart
-returns-then-has_verb-4-clause-apart g c = λ asked. refl
+returns-then-has_verb-4-clause-apart g c = λ asked. sym c.in-Some-store.is
 
 pub returns-then-has_verb-4-clause-unreported : goal.returns-then-has_verb-4-clause-unreported
 returns-then-has_verb-4-clause-unreported g c = λ asked. c.run_check.ensures.unwritten
