@@ -32,6 +32,7 @@ mod forks;
 mod greatest;
 mod job_steps;
 mod jobs;
+mod judged;
 mod lines;
 mod loose;
 mod mapping_refusals;
