@@ -1,20 +1,22 @@
 -- What becomes of the frames that are taken and of their bytes, and of how many are taken.
 use Rattle.std.proofs.Common.{◌≡◌, ◌≢◌, ℕ, zero, suc, ◌+◌, ◌-◌, ◌<◌, ◌≤◌, Bool, true, false, cond, ◌==◌, List, [], ◌∷◌, ◌++◌, length, get_or, set, reverse, slice_get, Option, None, Some, IsSome, is_some, refl, sym, ap, subst, ◌∙◌, arith, length-set}
 use Rattle.std.specs.Vec.{vec_len, with_item}
+use Rattle.vm_base.specs.Pages.{zeros}
 use Rattle.std.proofs.lemmas.Bool.Decides.{nat_tests}
 use Rattle.std.specs.Prelude.{if◌then◌else◌}
 use Rattle.std.proofs.lemmas.Bool.{eqb-true, eqb-false}
 use Rattle.std.proofs.lemmas.Grind.{get_or-set_at}
-use Rattle.std.proofs.lemmas.List.{get_or-set_other, length_push, append-nil, reverse-append, length-reverse}
+use Rattle.std.proofs.lemmas.List.{get_or-set_other, length_push, append-nil, reverse-append}
 use Rattle.std.proofs.lemmas.Option.{slice_get-get_or, slice_get_past, slice_get_within}
 use Rattle.vm_base.specs.declared.limits.TheConstants.{FRAMES}
 use Rattle.vm_base.specs.declared.names.Tag.{Tag}
 use Rattle.vm_base.specs.Entries.{with_key, without_key, passes, entry_count}
 use Rattle.vm_base.specs.Search.{count_below}
 use Rattle.vm_base.proofs.SearchLaws.{count_below_same, bit-true}
-use Rattle.vm_base.proofs.EntryLaws.{some_is, with_key-other, with_key-stays, entry_count-empty, entry_count-change, entry_count-with_key, entry_count-without_key}
+use Rattle.vm_base.proofs.EntryLaws.{some_is, with_key-same, with_key-other, with_key-stays, entry_count-empty, entry_count-change, entry_count-with_key, entry_count-without_key}
 use Rattle.frame_pool.specs.declared.frame_pool.FramePool.TheInside.{Inside}
-use Rattle.frame_pool.specs.inside.PoolFields.{pool_of, ArePool}
+use Rattle.frame_pool.specs.inside.PoolFields.{shown, pool_of, ArePool}
+use Rattle.frame_pool.proofs.ShownLaws.{length-shown, shown_blank, shown_plain, shown-marked, shown-unmarked, shown-written}
 use Rattle.frame_pool.specs.declared.frame_pool.Backlink.{Backlink}
 use Rattle.frame_pool.specs.Pool.{Pool, is_idle, taken_frames, frame_bytes, taken_count, links_of, no_link, Takes, AreDistinctBelow, IsPool}
 
@@ -163,8 +165,8 @@ module _ (p : Pool) (next : ℕ) (bytes : List ℕ) (pool : IsPool p) (is : next
       let free = is_idle-past (length p.buffer) p.idle next pool.idle (omega arith) in
       same_map _ _ (λ u. rw (slice_get-push p.buffer bytes u) (grind (arith, nat_tests)))
 
-  has_pushed : HasTaken p longer next bytes
-  has_pushed =
+  pub pushed : HasTaken p longer next bytes
+  pushed =
       let free = past_buffer p next (omega arith) in
       let size = length_push p.buffer bytes in
       let low : next < p.frames = omega (arith, pool.fits) in
@@ -178,18 +180,15 @@ module _ (p : Pool) (next : ℕ) (bytes : List ℕ) (pool : IsPool p) (is : next
         takes = record { below = low; was_free = free; taken = taken_frames-longer };
       }
 
-  pub pushed : (all tags : List Tag) → all ≡ tags ++ [] → p.idle ≡ reverse all →
-      HasTaken p (record p { buffer = p.buffer ++ bytes ∷ []; idle = reverse tags }) next bytes
-  pushed all tags none seen = subst (λ (idle : List Tag). HasTaken p (record longer { idle = idle }) next bytes)
-      (seen ∙ ap reverse (none ∙ append-nil tags)) has_pushed
-
 -- where no frame is idle and all are in the buffer, all are taken
-pub all_taken : (p : Pool) (all tags : List Tag) → IsPool p → all ≡ tags ++ [] → p.idle ≡ reverse all →
-    length all ≡ 0 → length p.buffer ≡ p.frames → (taken_count p ≡ p.frames) × (record p { idle = reverse tags } ≡ p)
-all_taken p all tags pool none seen empty full = (
-  omega (arith, pool.counted, ap length seen, length-reverse all),
-  ap (λ (idle : List Tag). record p { idle = idle }) (sym (seen ∙ ap reverse (none ∙ append-nil tags))),
-)
+pub all_taken : (p : Pool) → IsPool p → p.idle ≡ [] → length p.buffer ≡ p.frames → taken_count p ≡ p.frames
+all_taken p pool empty full =
+    let none : length p.idle ≡ 0 = ap length empty in
+    omega (arith, pool.counted)
+
+-- one is looked for in vain
+pub not_popped : (all tags : List Tag) → all ≡ tags ++ [] → reverse tags ≡ reverse all
+not_popped all tags is = sym (ap reverse (is ∙ append-nil tags))
 
 -- the list of idle frames before a push, or after a pop
 pub reverse_push : (all tags : List Tag) (tag : Tag) → all ≡ tags ++ tag ∷ [] → reverse all ≡ tag ∷ reverse tags
@@ -298,19 +297,98 @@ module _ (p : Pool) (t : ℕ) (bytes : List ℕ) (pool : IsPool p) (taken : IsSo
         counted = rw taken_frames-written (omega (arith, pool.counted, as_many));
       }
 
--- the fields of the pool stay a pool
-pub ArePool-written : (a : Inside) (t : ℕ) (bytes : List ℕ) → ArePool a → IsSome (taken_frames (pool_of a) t) →
-    ArePool (record a { buffer = with_item a.buffer t bytes })
-ArePool-written a t bytes are taken = record {
-  pool = IsPool-written (pool_of a) t bytes are.pool taken;
-  buffer_room = are.buffer_room;
-  idle_room = are.idle_room;
-  linked = are.linked;
-}
+-- the fields of the pool, of which each frame of the buffer has a mark
+module _ (a : Inside) (are : ArePool a) where
+  pub as_many_marks : length a.blank.items ≡ length a.buffer.items
+  as_many_marks = omega (arith, are.marked, a.blank.ok.0, a.buffer.ok.0)
 
--- its bytes stand in the buffer
-pub in_range : (a : Inside) (t : ℕ) → IsSome (taken_frames (pool_of a) t) → t < vec_len a.buffer
-in_range a t taken = omega (arith, a.buffer.ok.0, (in_buffer (pool_of a) t taken).below)
+  pub as_many_shown : length (pool_of a).buffer ≡ vec_len a.buffer
+  as_many_shown = length-shown a.buffer.items a.blank.items ∙ sym a.buffer.ok.0
+
+  -- and which are no more than the machine has
+  pub few_frames : vec_len a.buffer ≤ a.frames
+  few_frames = omega (arith, as_many_shown, are.pool.fits)
+
+-- a taken frame
+module _ (a : Inside) (t : ℕ) (are : ArePool a) (taken : IsSome (taken_frames (pool_of a) t)) where
+  -- its bytes stand in the buffer
+  pub in_range : t < vec_len a.buffer
+  in_range = omega (arith, as_many_shown a are, (in_buffer (pool_of a) t taken).below)
+
+  -- and a mark of it in the marks
+  pub in_marks : t < vec_len a.blank
+  in_marks = omega (arith, are.marked, in_range)
+
+  in_frames : t < length a.buffer.items
+  in_frames = omega (arith, a.buffer.ok.0, in_range)
+
+  -- it is read where it is marked
+  pub reads_blank : (mark : Bool) → mark ≡ get_or a.blank.items t mark → mark ≡ true →
+      frame_bytes (pool_of a) t ≡ zeros
+  reads_blank mark read blank = frame_bytes-read (pool_of a) t zeros taken
+      (shown_blank a.buffer.items a.blank.items t mark in_frames (as_many_marks a are) read blank)
+
+  -- and where it is not
+  pub reads_plain : (frame : List ℕ) (mark : Bool) → mark ≡ get_or a.blank.items t mark → mark ≡ false →
+      frame ≡ get_or a.buffer.items t frame → frame_bytes (pool_of a) t ≡ frame
+  reads_plain frame mark read plain is = frame_bytes-read (pool_of a) t frame taken
+      (shown_plain a.buffer.items a.blank.items t frame mark in_frames (as_many_marks a are) read plain is)
+
+  -- it is marked
+  pub ArePool-marked : ArePool (record a { blank = with_item a.blank t true })
+  ArePool-marked = record {
+    pool = rw (shown-marked a.buffer.items a.blank.items t (as_many_marks a are))
+        (IsPool-written (pool_of a) t zeros are.pool taken);
+    marked = are.marked;
+    buffer_room = are.buffer_room;
+    blank_room = are.blank_room;
+    idle_room = are.idle_room;
+    linked = are.linked;
+  }
+
+  pub taken_frames-marked :
+      taken_frames (pool_of (record a { blank = with_item a.blank t true })) ≡ with_key (taken_frames (pool_of a)) t zeros
+  taken_frames-marked = rw (shown-marked a.buffer.items a.blank.items t (as_many_marks a are))
+      (taken_frames-written (pool_of a) t zeros are.pool taken)
+
+  -- it gets other bytes, and no mark
+  module _ (bytes : List ℕ) where
+    abbrev unmarked : Inside
+    unmarked = record a { buffer = with_item a.buffer t bytes; blank = with_item a.blank t false }
+
+    pub ArePool-unmarked : ArePool unmarked
+    ArePool-unmarked = record {
+      pool = rw (shown-unmarked a.buffer.items a.blank.items t bytes (as_many_marks a are))
+          (IsPool-written (pool_of a) t bytes are.pool taken);
+      marked = are.marked;
+      buffer_room = are.buffer_room;
+      blank_room = are.blank_room;
+      idle_room = are.idle_room;
+      linked = are.linked;
+    }
+
+    pub taken_frames-unmarked : taken_frames (pool_of unmarked) ≡ with_key (taken_frames (pool_of a)) t bytes
+    taken_frames-unmarked = rw (shown-unmarked a.buffer.items a.blank.items t bytes (as_many_marks a are))
+        (taken_frames-written (pool_of a) t bytes are.pool taken)
+
+  -- it has no mark, and gets other bytes
+  module _ (bytes : List ℕ) (mark : Bool) (read : mark ≡ get_or a.blank.items t mark) (plain : mark ≡ false) where
+    seen : shown (set a.buffer.items t bytes) a.blank.items ≡ set (pool_of a).buffer t bytes
+    seen = shown-written a.buffer.items a.blank.items t bytes mark in_frames (as_many_marks a are) read plain
+
+    pub ArePool-plain : ArePool (record a { buffer = with_item a.buffer t bytes })
+    ArePool-plain = record {
+      pool = rw seen (IsPool-written (pool_of a) t bytes are.pool taken);
+      marked = are.marked;
+      buffer_room = are.buffer_room;
+      blank_room = are.blank_room;
+      idle_room = are.idle_room;
+      linked = are.linked;
+    }
+
+    pub taken_frames-plain : taken_frames (pool_of (record a { buffer = with_item a.buffer t bytes }))
+        ≡ with_key (taken_frames (pool_of a)) t bytes
+    taken_frames-plain = rw seen (taken_frames-written (pool_of a) t bytes are.pool taken)
 
 -- how many frames are free
 pub free_frames : (p : Pool) → IsPool p → p.frames - length p.buffer + length p.idle + taken_count p ≡ p.frames
@@ -349,7 +427,7 @@ module _ (a : Inside) (t : ℕ) (are : ArePool a) (taken : IsSome (taken_frames 
       noted u true same = rw same (get_or-set_at a.links.items t u link no_link (eqb-true u t same) has_link_at)
       noted u false other = rw other (get_or-set_other a.links.items t u link no_link (eqb-false u t other))
 
--- ---- for callers
+-- ---- for callers and for a copy
 
 module _ (old new : Pool) (t : ℕ) (bytes : List ℕ) (takes : Takes old new t bytes) where
   -- the new frame is another than those before
@@ -359,3 +437,24 @@ module _ (old new : Pool) (t : ℕ) (bytes : List ℕ) (takes : Takes old new t 
       let some : is_some (taken_frames old t) ≡ true =
       ap (λ (k : ℕ). is_some (taken_frames old k)) (sym same) ∙ taken in
       absurd cc
+
+  -- and those are as they were
+  pub takes_kept : (u : ℕ) → IsSome (taken_frames old u) → taken_frames new u ≡ taken_frames old u
+  takes_kept u taken =
+      ap (λ (m : ℕ → Option (List ℕ)). m u) takes.taken ∙ with_key-other (taken_frames old) t bytes u (takes_apart u taken)
+
+  pub takes_itself : IsSome (taken_frames new t)
+  takes_itself = ap (λ (m : ℕ → Option (List ℕ)). is_some (m t)) takes.taken
+      ∙ ap is_some (with_key-same (taken_frames old) t bytes)
+
+  -- it gets the bytes of one of those
+  pub takes_copied : (after : Pool) (from : ℕ) → IsSome (taken_frames old from) →
+      taken_frames after ≡ with_key (taken_frames new) t (frame_bytes new from) →
+      Takes old after t (frame_bytes old from)
+  unfolding with_key
+  takes_copied after from taken copied = record {
+    below = takes.below;
+    was_free = takes.was_free;
+    taken = copied ∙ rw (takes_kept from taken, takes.taken)
+        (same_map _ _ (λ u. grind (arith, nat_tests)));
+  }

@@ -1,6 +1,6 @@
 //! The pool of page frames.
 
-ghost use Rattle.std.specs.Prelude.{◌≡◌, ℕ, ◌+◌, ◌<◌, ◌≤◌, ◌≢◌, ◌==◌, if◌then◌else◌, length, take, drop, None, IsSome, IfSome, IfNone, OnOk, OnErr};
+ghost use Rattle.std.specs.Prelude.{◌≡◌, ℕ, ◌+◌, ◌<◌, ◌≤◌, ◌≢◌, ◌==◌, if◌then◌else◌, length, take, drop, None, IsSome, IfSome, IfNone, OnOk, OnErr, [], replicate};
 ghost use Rattle.vm_base.specs.Entries.{with_key, without_key};
 ghost use Rattle.vm_base.specs.Pages.{zeros, replaced};
 ghost use Rattle.frame_pool.specs.Pool.{Pool, taken_frames, frame_bytes, taken_count, links_of, Takes};
@@ -29,6 +29,9 @@ pub struct FramePool {
     frames: u32,
     /// The bytes of the frames that were taken at some time, by tag.
     buffer: Vec<[u8; PAGE_BYTES]>,
+    /// Which of these are blank: a blank frame shows zeros, whatever its bytes are. So a frame that is taken again is
+    /// only marked, and its bytes are touched no sooner than it is written.
+    blank: Vec<bool>,
     /// The backlink of each frame, by tag.
     links: Vec<Backlink>,
     /// The frames of the buffer that were given back, the last one last.
@@ -56,6 +59,7 @@ impl FramePool {
         FramePool {
             frames: 0,
             buffer: Vec::new(alloc),
+            blank: Vec::new(alloc),
             links: Vec::new(alloc),
             idle: Vec::new(alloc),
         }
@@ -75,6 +79,9 @@ impl FramePool {
         let Ok(()) = self.buffer.reserve_exact(count) else {
             return Err(HostMemory);
         };
+        let Ok(()) = self.blank.reserve_exact(count) else {
+            return Err(HostMemory);
+        };
         let Ok(()) = self.links.reserve_exact(count) else {
             return Err(HostMemory);
         };
@@ -86,22 +93,35 @@ impl FramePool {
         Ok(())
     }
 
-    /// Takes a free frame, and makes its bytes zeros. `None` if and only if no frame is free.
+    /// Takes a free frame, which shows zeros then. `None` if and only if no frame is free.
     pub fn take(&mut self) -> Option<Tag>
         ensures frames { self.new.frames ≡ self.old.frames }
         ensures links { links_of self.new ≡ links_of self.old }
         ensures some { IfSome result (λ tag. Takes self.old self.new tag.0 zeros) }
         ensures none { IfNone result ((taken_count self.old ≡ self.old.frames) × (self.new ≡ self.old)) }
     {
-        if let Some(idle) = self.idle.pop() {
-            self.buffer[idle.0 as usize] = blank_frame();
-            return Some(idle);
-        }
+        let Some(idle) = self.idle.pop() else {
+            return self.take_fresh();
+        };
+        self.blank[idle.0 as usize] = true;
+        Some(idle)
+    }
+
+    /// Takes a frame that was never taken, where no frame was given back. Apart, so that `take` stays short.
+    #[inline(never)]
+    fn take_fresh(&mut self) -> Option<Tag>
+        requires { self.old.idle ≡ [] }
+        ensures frames { self.new.frames ≡ self.old.frames }
+        ensures links { links_of self.new ≡ links_of self.old }
+        ensures some { IfSome result (λ tag. Takes self.old self.new tag.0 zeros) }
+        ensures none { IfNone result ((taken_count self.old ≡ self.old.frames) × (self.new ≡ self.old)) }
+    {
         let next = self.buffer.len() as u32;
         if next == self.frames {
             return None;
         }
         self.buffer.push_reserved(blank_frame());
+        self.blank.push_reserved(false);
         Some(Tag(next))
     }
 
@@ -113,10 +133,26 @@ impl FramePool {
         ensures some { IfSome result (λ tag. Takes self.old self.new tag.0 (frame_bytes self.old from.0)) }
         ensures none { IfNone result ((taken_count self.old ≡ self.old.frames) × (self.new ≡ self.old)) }
     {
-        if let Some(idle) = self.idle.pop() {
-            let bytes = self.buffer[from.0 as usize];
-            self.buffer[idle.0 as usize] = bytes;
-            return Some(idle);
+        if self.idle.is_empty() {
+            return self.take_fresh_copy(from);
+        }
+        let to = self.take()?;
+        self.copy(from, to);
+        Some(to)
+    }
+
+    /// Takes a frame that was never taken, where no frame was given back, and copies the bytes of a taken frame to it.
+    #[inline(never)]
+    fn take_fresh_copy(&mut self, from: Tag) -> Option<Tag>
+        requires idle { self.old.idle ≡ [] }
+        requires taken { IsSome (taken_frames self.old from.0) }
+        ensures frames { self.new.frames ≡ self.old.frames }
+        ensures links { links_of self.new ≡ links_of self.old }
+        ensures some { IfSome result (λ tag. Takes self.old self.new tag.0 (frame_bytes self.old from.0)) }
+        ensures none { IfNone result ((taken_count self.old ≡ self.old.frames) × (self.new ≡ self.old)) }
+    {
+        if self.blank[from.0 as usize] {
+            return self.take_fresh();
         }
         let next = self.buffer.len() as u32;
         if next == self.frames {
@@ -124,6 +160,7 @@ impl FramePool {
         }
         let bytes = self.buffer[from.0 as usize];
         self.buffer.push_reserved(bytes);
+        self.blank.push_reserved(false);
         Some(Tag(next))
     }
 
@@ -143,9 +180,13 @@ impl FramePool {
         requires range { at + length out.old ≤ PAGE }
         ensures { out.new ≡ take (length out.old) (drop at (frame_bytes self.now tag.0)) }
     {
+        let frame = tag.0 as usize;
+        if self.blank[frame] {
+            return clear_all(out);
+        }
         let from = at as usize;
         let end = from + out.len();
-        out.copy_from_slice(&self.buffer[tag.0 as usize][from..end]);
+        out.copy_from_slice(&self.buffer[frame][from..end]);
     }
 
     /// Writes bytes to a taken frame, from `at` bytes into it on.
@@ -157,7 +198,24 @@ impl FramePool {
         ensures taken { taken_frames self.new
             ≡ with_key (taken_frames self.old) tag.0 (replaced (frame_bytes self.old tag.0) at bytes.now) }
     {
-        overwrite(&mut self.buffer[tag.0 as usize], at as usize, bytes);
+        let frame = tag.0 as usize;
+        if self.blank[frame] {
+            return self.write_blank(tag, at, bytes);
+        }
+        overwrite(&mut self.buffer[frame], at as usize, bytes);
+    }
+
+    /// Writes bytes to a taken frame as if it showed zeros, and it is not blank then. Apart, so that `write` stays short.
+    #[inline(never)]
+    fn write_blank(&mut self, tag: Tag, at: u64, bytes: &[u8])
+        requires taken { IsSome (taken_frames self.old tag.0) }
+        requires range { at + length bytes.now ≤ PAGE }
+        ensures frames { self.new.frames ≡ self.old.frames }
+        ensures links { links_of self.new ≡ links_of self.old }
+        ensures taken { taken_frames self.new ≡ with_key (taken_frames self.old) tag.0 (replaced zeros at bytes.now) }
+    {
+        overwrite_zeros(&mut self.buffer[tag.0 as usize], at as usize, bytes);
+        self.blank[tag.0 as usize] = false;
     }
 
     /// Copies all bytes of one taken frame to another.
@@ -170,8 +228,12 @@ impl FramePool {
         ensures taken { taken_frames self.new
             ≡ with_key (taken_frames self.old) to.0 (frame_bytes self.old from.0) }
     {
+        if self.blank[from.0 as usize] {
+            return self.clear(to);
+        }
         let bytes = self.buffer[from.0 as usize];
         self.buffer[to.0 as usize] = bytes;
+        self.blank[to.0 as usize] = false;
     }
 
     /// Makes all bytes of a taken frame zeros.
@@ -181,7 +243,7 @@ impl FramePool {
         ensures links { links_of self.new ≡ links_of self.old }
         ensures taken { taken_frames self.new ≡ with_key (taken_frames self.old) tag.0 zeros }
     {
-        self.buffer[tag.0 as usize] = blank_frame();
+        self.blank[tag.0 as usize] = true;
     }
 
     /// Sets the backlink of a taken frame: the row that has the frame.
@@ -232,4 +294,24 @@ fn overwrite(frame: &mut [u8; PAGE_BYTES], at: usize, bytes: &[u8])
     ensures { frame.new ≡ replaced frame.old at bytes.now }
 {
     frame[at..at + bytes.len()].copy_from_slice(bytes);
+}
+
+/// Puts bytes into a frame, from `at` bytes into it on, and zeros into the rest of it.
+fn overwrite_zeros(frame: &mut [u8; PAGE_BYTES], at: usize, bytes: &[u8])
+    requires { at + length bytes.now ≤ PAGE }
+    ensures { frame.new ≡ replaced zeros at bytes.now }
+{
+    if bytes.len() == PAGE_BYTES {
+        return frame.copy_from_slice(bytes);
+    }
+    *frame = blank_frame();
+    overwrite(frame, at, bytes);
+}
+
+/// Makes all bytes zeros.
+#[inline(never)]
+fn clear_all(out: &mut [u8])
+    ensures { out.new ≡ replicate (length out.old) 0 }
+{
+    out.fill(0);
 }

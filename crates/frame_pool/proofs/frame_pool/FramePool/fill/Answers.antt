@@ -9,14 +9,16 @@ invariant_of-self-2 c =
     let had = c.self.invariant in
     let none = rw (← c.self.view_is) at c.requires.empty in
     record {
-      pool = rw (c.reserve_exact.ensures.items, c.reserve_exact-3.ensures.items)
+      pool = rw (c.reserve_exact.ensures.items, c.reserve_exact-2.ensures.items, c.reserve_exact-4.ensures.items)
           (IsPool-filled (pool_of c.self.inside) _ _ had.pool none c.requires.frames.1);
+      marked = omega (arith, had.marked, c.reserve_exact.ensures.len, c.reserve_exact-2.ensures.len);
       buffer_room = omega (arith, c.in-Ok.ensures.ok);
-      idle_room = omega (arith, c.in-Ok-reserve_exact-2.ensures.ok);
+      blank_room = omega (arith, c.in-Ok-reserve_exact.ensures.ok);
+      idle_room = omega (arith, c.in-Ok-reserve_exact-3.ensures.ok);
       linked = c.resize.ensures.len ∙ cond-true _ _ _ (c.resize.ensures.succeeds
-          (omega (arith, had.linked, none, c.reserve_exact-2.ensures.len, c.in-Ok-reserve_exact.ensures.ok)));
+          (omega (arith, had.linked, none, c.reserve_exact-3.ensures.len, c.in-Ok-reserve_exact-2.ensures.ok)));
     }
 
 pub returns-clause-taken : goal.returns-clause-taken
-returns-clause-taken c = rw (c.reserve_exact.ensures.items, c.reserve_exact-3.ensures.items)
+returns-clause-taken c = rw (c.reserve_exact.ensures.items, c.reserve_exact-2.ensures.items, c.reserve_exact-4.ensures.items)
     (all_free (pool_of c.self.inside) _ _ c.self.invariant.pool (rw (← c.self.view_is) at c.requires.empty))

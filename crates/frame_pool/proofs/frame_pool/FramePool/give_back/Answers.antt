@@ -12,7 +12,9 @@ pub invariant_of-self : goal.invariant_of-self
 invariant_of-self c = record {
   pool = rw (reverse_push _ _ _ c.push_reserved.ensures.items)
       (IsPool-returned _ c.args.tag c.self.invariant.pool (rw (← c.self.view_is) at c.requires));
+  marked = c.self.invariant.marked;
   buffer_room = c.self.invariant.buffer_room;
+  blank_room = c.self.invariant.blank_room;
   idle_room = omega (arith, c.self.invariant.idle_room, c.push_reserved.ensures.capacity);
   linked = c.self.invariant.linked;
 }

@@ -8,7 +8,9 @@ index_mut-requires c = has_link c.self.inside c.args.tag.0 c.self.invariant (rw 
 pub invariant_of-self : goal.invariant_of-self
 invariant_of-self c = record {
   pool = IsPool-linked (pool_of c.self.inside) _ c.self.invariant.pool;
+  marked = c.self.invariant.marked;
   buffer_room = c.self.invariant.buffer_room;
+  blank_room = c.self.invariant.blank_room;
   idle_room = c.self.invariant.idle_room;
   linked = c.self.invariant.linked;
 }

@@ -1,46 +1,40 @@
-use Rattle.std.proofs.Common.{[], ◌∷◌, ◌++◌, reverse, refl, arith}
-use Rattle.frame_pool.specs.inside.PoolFields.{pool_of}
-use Rattle.frame_pool.proofs.PoolLaws.{HasTaken, idle_below, pushed, popped, all_taken}
+use Rattle.std.proofs.Common.{refl, arith}
+use Rattle.vm_base.specs.Pages.{zeros}
+use Rattle.frame_pool.proofs.ShownLaws.{shown-marked}
+use Rattle.frame_pool.proofs.PoolLaws.{as_many_marks, as_many_shown, idle_below, popped, not_popped}
 use Rattle.frame_pool.proofs.frame_pool.FramePool.take.Goals as goal
 
 pub index_mut-requires : goal.index_mut-requires
-index_mut-requires c =
-    omega (arith, c.self.inside.buffer.ok.0, idle_below _ _ _ _ c.self.invariant.pool c.in-Some.ensures.items refl)
+index_mut-requires c = omega (
+  arith,
+  idle_below _ _ _ _ c.self.invariant.pool c.in-Some.ensures.items refl,
+  as_many_shown c.self.inside c.self.invariant,
+  c.self.invariant.marked,
+)
 
 pub invariant_of-self : goal.invariant_of-self
 invariant_of-self c = record {
-  pool = (popped _ _ _ _ c.self.invariant.pool c.in-Some.ensures.items refl _).pool;
+  pool = rw (not_popped _ _ c.in_default.ensures.items) c.self.invariant.pool;
+  marked = c.self.invariant.marked;
   buffer_room = c.self.invariant.buffer_room;
+  blank_room = c.self.invariant.blank_room;
   idle_room = omega (arith, c.self.invariant.idle_room, c.pop.ensures.capacity);
   linked = c.self.invariant.linked;
 }
 
-pub returns-in-Some-clause-some : goal.returns-in-Some-clause-some
-returns-in-Some-clause-some c = rw (c.blank_frame.ensures, ← c.self.view_is)
-    (popped _ _ _ _ c.self.invariant.pool c.in-Some.ensures.items refl _).takes
-
-pub returns-then-next-self-clause-none : goal.returns-then-next-self-clause-none
-returns-then-next-self-clause-none c = rw (← c.self.view_is) (all_taken (pool_of c.self.inside) _ _
-    c.self.invariant.pool c.in_default.ensures.items refl
-    (omega (arith, c.in_default.ensures.cases.0, c.self.inside.idle.ok.0))
-    (omega (arith, c.len-next.ensures, c.if-next-self.true, c.self.inside.buffer.ok.0)))
-
--- the next frame of the buffer is taken
-fresh : (c : goal.After-push_reserved) → HasTaken (pool_of c.self.inside) (record (pool_of c.self.inside) {
-  buffer = c.self.inside.buffer.items ++ c.blank_frame-2.result ∷ [];
-  idle = reverse c.pop.new.self.items;
-}) c.len-next.result c.blank_frame-2.result
-fresh c = pushed _ _ _ c.self.invariant.pool (omega (arith, c.len-next.ensures, c.self.inside.buffer.ok.0))
-    c.if-next-self.false _ _ c.in_default.ensures.items refl
-
 pub invariant_of-self-2 : goal.invariant_of-self-2
 invariant_of-self-2 c = record {
-  pool = rw c.push_reserved.ensures.items (fresh c).pool;
-  buffer_room = omega (arith, c.self.invariant.buffer_room, c.push_reserved.ensures.capacity);
+  pool = rw (shown-marked _ _ c.in-Some.idle.0 (as_many_marks c.self.inside c.self.invariant))
+      (popped _ _ _ _ c.self.invariant.pool c.in-Some.ensures.items refl zeros).pool;
+  marked = c.self.invariant.marked;
+  buffer_room = c.self.invariant.buffer_room;
+  blank_room = c.self.invariant.blank_room;
   idle_room = omega (arith, c.self.invariant.idle_room, c.pop.ensures.capacity);
   linked = c.self.invariant.linked;
 }
 
 pub returns-clause-some : goal.returns-clause-some
-returns-clause-some c =
-    rw (c.push_reserved.ensures.items, ← c.blank_frame-2.ensures, ← c.self.view_is) (fresh c).takes
+returns-clause-some c = rw (
+  shown-marked _ _ c.in-Some.idle.0 (as_many_marks c.self.inside c.self.invariant),
+  ← c.self.view_is,
+) (popped _ _ _ _ c.self.invariant.pool c.in-Some.ensures.items refl zeros).takes
