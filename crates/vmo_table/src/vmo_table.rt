@@ -152,10 +152,10 @@ impl VmoTable {
         ensures vmo { Closes (names_of self.old) (names_of self.new) (keepers_of self.old)
             (lineage_in self.old) (lineage_in self.new) name.0 result }
     {
-        let target = self.names[&name];
-        let vmo = self.vmos[&target.koid];
-        let _closed = self.names.remove(&name);
-        let left = vmo.take_name(target.kind);
+        let Some(target) = self.names.remove(&name) else {
+            unreachable!()
+        };
+        let left = self.vmos[&target.koid].take_name(target.kind);
         settle(&mut self.vmos, &mut self.child_rows, target.koid, left)
     }
 
