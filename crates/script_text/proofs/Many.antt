@@ -10,7 +10,6 @@ use Rattle.std.proofs.lemmas.Slice.Eq.{bytes_eq-Decides}
 use Rattle.vm_model.specs.declared.command.Command.{Command}
 use Rattle.vm_model.specs.Language.Reading.{command, flagged, are_flags, stands, is_word, vmo, region, number}
 use Rattle.vm_model.specs.Language.Reading.{child_kind, perm, vmo_create, vmo_create_child, vmar_allocate, vmar_map}
-use Rattle.script_text.specs.Lines.{order_in}
 use Rattle.script_text.specs.inside.Shapes.{map_flag_words, region_flag_words}
 
 -- three tests that hold
@@ -127,7 +126,8 @@ command_of_six word a b c d e f ws h =
     (row-none (is_word word (codes "mem_write")) _ _ refl
     (row-none (is_word word (codes "stat")) _ _ refl refl)))))))))))))))))))))))
 
-command_of_many : (word : List ℕ) (arguments : List (List ℕ)) → 10 < length arguments
+-- a command word and more than ten arguments
+pub command_of_many : (word : List ℕ) (arguments : List (List ℕ)) → 10 < length arguments
     → command word arguments ≡ None
 command_of_many word [] h = absurd (omega arith)
 command_of_many word (a ∷ []) h = absurd (omega arith)
@@ -136,8 +136,3 @@ command_of_many word (a ∷ b ∷ c ∷ []) h = absurd (omega arith)
 command_of_many word (a ∷ b ∷ c ∷ d ∷ []) h = absurd (omega arith)
 command_of_many word (a ∷ b ∷ c ∷ d ∷ e ∷ []) h = absurd (omega arith)
 command_of_many word (a ∷ b ∷ c ∷ d ∷ e ∷ f ∷ ws) h = command_of_six word a b c d e f ws (omega arith)
-
--- a command word and more than ten arguments
-pub order_of_many : (ws : List (List ℕ)) → 11 < length ws → order_in ws ≡ None
-order_of_many [] h = absurd (omega arith)
-order_of_many (word ∷ arguments) h = command_of_many word arguments (omega arith)

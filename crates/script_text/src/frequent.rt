@@ -45,7 +45,7 @@ fn is_cut(behind: &[u8]) -> bool
 /// Whether a line has no word.
 #[inline(always)]
 #[tactic(auto, using(crate::proofs::FrequentLaws::no_word))]
-fn has_no_word(line: &[u8]) -> bool
+pub(crate) fn has_no_word(line: &[u8]) -> bool
     ensures { result ≡ (length (words line.now) == 0) }
 {
     behind_blanks(line).is_empty()

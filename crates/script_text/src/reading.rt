@@ -1,19 +1,21 @@
 //! What one line of a script says.
 
-ghost use Rattle.std.specs.Prelude.{◌≡◌, ◌≤◌, length, option_map, if◌then◌else◌};
-ghost use Rattle.vm_model.specs.Language.Reading.{order_or_outside, reading, reading_of_words, words, Blank};
+ghost use Rattle.std.specs.Prelude.{◌≡◌, ◌≤◌, ◌∷◌, length, option_map, if◌then◌else◌};
+ghost use Rattle.vm_model.specs.Language.Reading.{command, order_or_outside, reading, reading_of_words, words, Blank};
 ghost use Rattle.vm_model.specs.Machine.Lent.{command_of};
 ghost use Rattle.script_text.specs.Lines.{is_silent, order_in, reading_of, reading_of_call};
 
 use crate::command_words::call;
-use crate::frequent::{behind_word, mem_read_of, mem_write_of, vmo_read_of, vmo_write_of};
+use crate::frequent::{
+    behind_word, has_no_word, mem_read_of, mem_write_of, vmo_read_of, vmo_write_of,
+};
 use crate::words::{behind_blanks, next_short_word};
 use arrayvec::ArrayVec;
 use vm_base::{DATA_BYTES, LINE_BYTES};
 use vm_model::{Call, Command};
 
-/// The most words that a command has, its own and ten arguments.
-const MOST_WORDS: usize = 11;
+/// The most arguments that a command has.
+const MOST_ARGUMENTS: usize = 10;
 
 /// The line is outside the grammar.
 #[derive(Clone, Copy, Debug, PartialEq, Eq)]
@@ -96,23 +98,47 @@ fn order<'a>(line: &[u8], room: &'a mut [u8]) -> Option<Call<'a>>
     }
 }
 
-/// Does what `order` does, for any command. It cuts the line into its words once.
-#[tactic(auto, using(crate::proofs::Many::order_of_many))]
+/// Does what `order` does, for any command. A line of three words at most is read word by word, with no list of them.
 fn order_of_words<'a>(line: &[u8], room: &'a mut [u8]) -> Option<Call<'a>>
     requires { DATA_BYTES ≤ length room.old }
     ensures { option_map command_of result ≡ order_in (words line.now) }
 {
-    let mut found: ArrayVec<&[u8], MOST_WORDS> = ArrayVec::new();
-    let mut rest = line;
-    while let Some((word, behind)) = next_short_word(rest) {
-        if found.is_full() {
+    let (word, rest) = next_short_word(line)?;
+    let Some((first, rest)) = next_short_word(rest) else {
+        return call(word, &[], room);
+    };
+    let Some((second, rest)) = next_short_word(rest) else {
+        return call(word, &[first], room);
+    };
+    if has_no_word(rest) {
+        return call(word, &[first, second], room);
+    }
+    order_of_more(word, first, second, rest, room)
+}
+
+/// The command of a line that begins with these three words. It cuts the rest of the line into its words once. The function is not
+/// inlined: a function writes all of its locals, and a short line should not pay for the list of words.
+#[inline(never)]
+fn order_of_more<'a>(
+    word: &[u8],
+    first: &[u8],
+    second: &[u8],
+    rest: &[u8],
+    room: &'a mut [u8],
+) -> Option<Call<'a>>
+    requires { DATA_BYTES ≤ length room.old }
+    ensures { option_map command_of result ≡ command word.now (first.now ∷ second.now ∷ words rest.now) }
+{
+    let mut arguments: ArrayVec<&[u8], MOST_ARGUMENTS> = ArrayVec::new();
+    arguments.push(first);
+    arguments.push(second);
+    let mut left = rest;
+    while let Some((argument, behind)) = next_short_word(left) {
+        if arguments.is_full() {
             return None;
         }
-        found.push(word);
-        rest = behind;
+        arguments.push(argument);
+        left = behind;
     }
-    match found.as_slice() {
-        [word, arguments @ ..] => call(word, arguments, room),
-        [] => None,
-    }
+    call(word, arguments.as_slice(), room)
 }
