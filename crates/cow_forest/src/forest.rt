@@ -362,7 +362,13 @@ impl PageStore for CowForest {
     }
 
     fn next_held(&self, v: Koid, from: PageNo) -> Option<PageNo> {
-        next_shown(&self.arena, &self.lists, self.nodes.get(v.0), from)
+        next_shown(
+            &self.arena,
+            &self.lists,
+            &self.jumps,
+            self.nodes.get(v.0),
+            from,
+        )
     }
 
     fn least_viewer(&self, tag: Tag) -> Koid {

@@ -12,8 +12,8 @@ ghost use Rattle.cow_jump.specs.Jumps.{AreJumps};
 ghost use Rattle.cow_forest.specs.inside.Looking.{look_in, IsLook, ShowsNoneIn, ShowsNoneFrom, IsNextBelow, nearer_page};
 
 use cow_arena::{CowArena, NodeId};
-use cow_jump::{JumpTable, above_by_jumps, holder_by_jumps_counted};
-use cow_split::{Holder, holder, is_last};
+use cow_jump::{JumpTable, above_by_jumps, holder_by_jumps, holder_by_jumps_counted};
+use cow_split::{Holder, is_last};
 use page_list::{ListId, PageLists, Slot, Steps};
 use page_store::Look;
 use std::sync::ledger::Ledger;
@@ -123,10 +123,12 @@ fn look_found(
 pub(crate) fn next_shown(
     arena: &CowArena,
     lists: &PageLists,
+    jumps: &JumpTable,
     leaf: NodeId,
     from: PageNo,
 ) -> Option<PageNo>
     requires exact { (in_use : ℕ → Bool) × IsExact (tree_of arena.now lists.now) all_in_sight in_use }
+    requires jumps { (next : ℕ) × AreJumps (tree_of arena.now lists.now) next jumps.now }
     requires leaf { IsSomeAnd (nodes_of arena.now leaf.0) (λ node. IsSome node.koid) }
     ensures some { IfSome result (λ page. (from ≤ page) × IsSome (frame_at (tree_of arena.now lists.now) leaf.0 page)
         × ShowsNoneIn (tree_of arena.now lists.now) leaf.0 from page) }
@@ -134,7 +136,10 @@ pub(crate) fn next_shown(
 {
     let mut at = from;
     while let Some(page) = next_row(arena, lists, leaf, at) {
-        if holder(arena, lists, leaf, page).frame().is_some() {
+        if holder_by_jumps(arena, lists, jumps, leaf, page)
+            .frame()
+            .is_some()
+        {
             return Some(page);
         }
         at = page + 1;

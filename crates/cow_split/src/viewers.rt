@@ -61,6 +61,7 @@ pub fn least_koid(
 }
 
 /// The lesser of two koids, or the only one, if one of them is `None`.
+#[inline(always)]
 pub fn lesser(one: Option<Koid>, other: Option<Koid>) -> Option<Koid>
     ensures { result ≡ lesser_of one other }
 {
@@ -100,6 +101,7 @@ fn search_below(arena: &CowArena, side: Side, node: NodeId, page: PageNo) -> Opt
 
 /// The next visible node that a search finds, and where the search goes on after it. `None` if the search finds no
 /// more.
+#[inline(always)]
 fn next_viewer(
     arena: &CowArena,
     lists: &PageLists,
@@ -141,6 +143,7 @@ pub(crate) enum Met {
 }
 
 /// What a search meets at a node that it enters with this page of the node's parent.
+#[inline(always)]
 pub(crate) fn meet(
     arena: &CowArena,
     lists: &PageLists,
@@ -169,6 +172,7 @@ pub(crate) fn meet(
 }
 
 /// What a search meets at a visible node: nobody, if the node is the excepted one.
+#[inline(always)]
 #[tactic(auto, unfolding(vm_base::specs::Entries::passes))]
 fn viewer(except: Option<NodeId>, at: NodeId) -> Met
     ensures { result ≡ viewer_met (leads_to except at.0) }
@@ -181,6 +185,7 @@ fn viewer(except: Option<NodeId>, at: NodeId) -> Met
 
 /// Where a search goes on once it is done with a node and all below it: at the next node to the right, with the page of
 /// the parent of that node. `None` if the search has entered all nodes at and below the one at which it began.
+#[inline(always)]
 pub(crate) fn next_after(arena: &CowArena, passed: Cursor) -> Option<Cursor>
     requires forest { IsForest (nodes_of arena.now) arena.now.lists }
     requires passed { IsPassedBySome (nodes_of arena.now) arena.now.lists passed.start.0 passed.at.0 passed.page }
