@@ -26,6 +26,7 @@ mod accesses;
 mod alike;
 mod chains;
 mod creating;
+mod digits;
 mod edges;
 mod endings;
 mod forks;

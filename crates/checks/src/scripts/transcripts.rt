@@ -3,7 +3,7 @@
 use super::check;
 use std::test::Fail;
 
-/// A script with its replies is legal; each digit of a reply that changes is not.
+/// A script with its replies is legal; where a reply differs, the check names its line.
 #[test]
 fn transcripts_are_judged(rt: HostRuntime) -> Result<(), Fail> {
     check(
