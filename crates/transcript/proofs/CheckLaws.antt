@@ -332,3 +332,7 @@ match_ok (Ok y) x P Q e h = subst P (ok_same e) h where
   ok_same : {A E : Type 0} {a b : A} → ◌≡◌ {A = Result A E} (Ok a) (Ok b) → a ≡ b
   ok_same f = cc
 match_ok (Err y) x P Q e h = absurd cc
+
+-- two verdicts are not one
+pub malformed_not_fine : {P : Type 0} → ◌≡◌ {A = Verdict} Malformed Fine → P
+malformed_not_fine e = absurd cc

@@ -7,7 +7,7 @@ use Rattle.std.proofs.lemmas.List.{get_or-set_same, get_or_read, length-set}
 use Rattle.vm_base.specs.Entries.{with_key, without_key, passes}
 use Rattle.vm_base.proofs.EntryLaws.{some_same, passes_found, passes-some}
 use Rattle.vm_base.proofs.SearchLaws.{any_below_found, any_below_at, eqb_is, eqb_same, eqb_apart}
-use Rattle.moving_machine.specs.Standing.{is_taken, may_have, may_tell}
+use Rattle.moving_machine.specs.Standing.{is_taken, may_have, may_tell, with_seen}
 use Rattle.transcript.specs.Seen.{number_of, AreInverse}
 
 -- ---- one list
@@ -183,3 +183,34 @@ pub number_of-empty : (n t : ℕ) → number_of (replicate n None) t ≡ None
 number_of-empty zero t = refl
 number_of-empty (suc n) zero = refl
 number_of-empty (suc n) (suc t) = number_of-empty n t
+
+-- ---- numbers that are told one after another
+
+pub tells_end : (bound : ℕ) (numbers : ℕ → Option ℕ) (frames told : List ℕ) (r : Bool) → length frames ≡ 0 → r ≡ (length told == 0) → r ≡ may_tell bound numbers frames told
+tells_end bound numbers [] [] r h e = e
+tells_end bound numbers [] (k ∷ told) r h e = e ∙ eqb_apart (length (k ∷ told)) 0 (λ f. absurd (omega (arith, f)))
+tells_end bound numbers (frame ∷ frames) told r h e = absurd (omega (arith, h))
+
+pub seen_end : (numbers : ℕ → Option ℕ) (frames told : List ℕ) → length frames ≡ 0 → numbers ≡ with_seen numbers frames told
+seen_end numbers [] told h = refl
+seen_end numbers (frame ∷ frames) told h = absurd (omega (arith, h))
+
+pub tells_short : (bound : ℕ) (numbers : ℕ → Option ℕ) (all told : List ℕ) (frame : ℕ) (frames : List ℕ) → all ≡ frame ∷ frames → length told ≡ 0 → false ≡ may_tell bound numbers all told
+tells_short bound numbers [] told frame frames e h = absurd cc
+tells_short bound numbers (x ∷ xs) [] frame frames e h = refl
+tells_short bound numbers (x ∷ xs) (k ∷ told) frame frames e h = absurd (omega (arith, h))
+
+pub tells_other : (bound : ℕ) (numbers : ℕ → Option ℕ) (all all_told : List ℕ) (frame : ℕ) (frames : List ℕ) (k : ℕ) (told : List ℕ) (r : Bool) → all ≡ frame ∷ frames → all_told ≡ k ∷ told
+    → r ≡ may_have bound numbers (numbers frame) k → r ≡ false → false ≡ may_tell bound numbers all all_told
+tells_other bound numbers all all_told frame frames k told r e f is off =
+    sym ((λ i. may_tell bound numbers (e i) (f i)) ∙ ap (λ (b : Bool). b && may_tell bound (with_key numbers frame k) frames told) (sym is ∙ off))
+
+pub tells_more : (bound after : ℕ) (numbers later : ℕ → Option ℕ) (all all_told : List ℕ) (frame : ℕ) (frames : List ℕ) (k : ℕ) (told : List ℕ) (r more : Bool) → all ≡ frame ∷ frames → all_told ≡ k ∷ told
+    → r ≡ may_have bound numbers (numbers frame) k → r ≡ true → later ≡ with_key numbers frame k → after ≡ bound → more ≡ may_tell after later frames told → more ≡ may_tell bound numbers all all_told
+tells_more bound after numbers later all all_told frame frames k told r more e f is on seen len rest =
+    rest ∙ ((λ i. may_tell (len i) (seen i) frames told)
+    ∙ (ap (λ (b : Bool). b && may_tell bound (with_key numbers frame k) frames told) (sym on ∙ is) ∙ sym (λ i. may_tell bound numbers (e i) (f i))))
+
+pub seen_more : (numbers later last : ℕ → Option ℕ) (all all_told : List ℕ) (frame : ℕ) (frames : List ℕ) (k : ℕ) (told : List ℕ) → all ≡ frame ∷ frames → all_told ≡ k ∷ told → later ≡ with_key numbers frame k
+    → last ≡ with_seen later frames told → last ≡ with_seen numbers all all_told
+seen_more numbers later last all all_told frame frames k told e f seen rest = rest ∙ ((λ i. with_seen (seen i) frames told) ∙ sym (λ i. with_seen numbers (e i) (f i)))

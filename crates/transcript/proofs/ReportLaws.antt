@@ -1,5 +1,5 @@
 -- Laws of a transcript that is read line by line, and of its report.
-use Rattle.std.proofs.Common.{◌≡◌, ◌≢◌, ℕ, ◌+◌, ◌<◌, ◌≤◌, ◌^◌, ◌⊎◌, true, List, [], ◌∷◌, ◌++◌, length, Option, Some, Result, Ok, Err, refl, sym, ap, subst, ◌∙◌, inl, inr, append_assoc, append-nil, arith}
+use Rattle.std.proofs.Common.{◌≡◌, ◌≢◌, ℕ, ◌+◌, ◌<◌, ◌≤◌, ◌^◌, ◌⊎◌, true, List, [], ◌∷◌, ◌++◌, length, Option, None, Some, Result, Ok, Err, refl, sym, ap, subst, ◌∙◌, inl, inr, append_assoc, append-nil, arith}
 use Rattle.std.specs.Prelude.{IfNone, MatchOption, MatchResult, OnOk, OnErr}
 use Rattle.std.specs.Io.KnownBytes.{Appends, Consumes}
 use Rattle.std.proofs.KnownBytes.{Appends-nil, Consumes-trans}
@@ -127,10 +127,21 @@ pub lack_no_fault : {T E P : Type 0} (result : Result T E) → lack result ≡ S
 lack_no_fault (Ok x) e = absurd cc
 lack_no_fault (Err x) e = absurd cc
 
+-- no status is not one
+pub none_not_some : {P : Type 0} (status : Status) → ◌≡◌ {A = Option Status} None (Some status) → P
+none_not_some status e = absurd cc
+
 -- how many lines there may be
 pub lines_few : (old new : Reader) (source_old source_new : Option (List ℕ)) (line : List ℕ) (before : ℕ) (r : IsReady old source_old (before + 1)) → IsFetched old new source_old source_new r.pending line → new.limit ≡ old.limit
     → old.limit ≡ SCRIPT_BYTES → before < 2 ^ 63
 lines_few old new source_old source_new line before r f same limit = omega (arith, r.koids, f.taken, f.within, same, limit)
+
+-- the same at the end of the transcript, over plain numbers
+pub few_lines : (lines pending taken part now limit before : ℕ) → (lines + 1) + pending ≤ taken + 1 → now ≡ taken + part → now ≤ limit → limit ≡ before → before ≡ SCRIPT_BYTES → lines ≤ SCRIPT_BYTES
+few_lines lines pending taken part now limit before koids more within same is = omega (arith, koids, more, within, same, is)
+
+pub count_few : (n lines : ℕ) → n < 2 ^ 63 → n ≡ lines → lines < 2 ^ 63
+count_few n lines h e = omega (arith, h, e)
 
 -- the lines that were fetched are those that were read
 pub way_lines : (frames : ℕ) (reader : Reader) (source_old source_now : Option (List ℕ)) (check : Check) (w : IsUnderWay frames reader source_old source_now check) → IsChecked frames check w.served.lines

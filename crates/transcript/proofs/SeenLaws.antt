@@ -1,5 +1,5 @@
 -- Laws of the numbers that were seen, once pages may be pinned no more.
-use Rattle.std.proofs.Common.{◌≡◌, ◌≢◌, ℕ, ◌+◌, ◌-◌, ◌<◌, ◌≤◌, Bool, true, false, ltb, ◌||◌, ◌==◌, List, [], ◌∷◌, ◌++◌, Option, None, Some, ◌⊎◌, refl, sym, ap, subst, ◌∙◌, inl, inr, arith}
+use Rattle.std.proofs.Common.{◌≡◌, ◌≢◌, ℕ, ◌+◌, ◌-◌, ◌<◌, ◌≤◌, Bool, true, false, ltb, ◌||◌, ◌==◌, List, [], ◌∷◌, ◌++◌, length, Option, None, Some, ◌⊎◌, refl, sym, ap, subst, ◌∙◌, inl, inr, arith}
 use Rattle.std.specs.List.{AllByRecursion, list_any}
 use Rattle.std.specs.Option.{option_map}
 use Rattle.std.proofs.lemmas.Bool.{cases_Bool, cases_eq, cases_lt, cond-true, cond-false, ltb-true, ltb-false, lt-ltb, le-ltb}
@@ -185,3 +185,11 @@ cleared_both m was mid later frame freed one rest = record {
   kept = λ t h. rest.kept t h ∙ one.kept t h;
   gone = (λ k e. one.gone.0 k (rest.sub frame k e), rest.gone);
 }
+
+-- the same of a list by its first frame and the others
+pub cleared_empty : (m : Machine) (was : ℕ → Option ℕ) (freed : List ℕ) → length freed ≡ 0 → IsCleared m was was freed
+cleared_empty m was [] e = cleared_none m was
+cleared_empty m was (frame ∷ freed) e = absurd (omega (arith, e))
+
+pub cleared_split : (m : Machine) (was mid later : ℕ → Option ℕ) (all : List ℕ) (frame : ℕ) (freed : List ℕ) → all ≡ frame ∷ freed → IsCleared m was mid (frame ∷ []) → IsCleared m mid later freed → IsCleared m was later all
+cleared_split m was mid later all frame freed e one rest = subst (IsCleared m was later) (sym e) (cleared_both m was mid later frame freed one rest)

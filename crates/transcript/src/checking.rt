@@ -91,8 +91,30 @@ fn check_on<S: Source, K: Sink>(alloc: Global, frames: u32, source: &mut S, sink
         return Status::HostMemory;
     };
     let mut check = Check::new(alloc, frames);
-    match read_all(&mut check, &mut lines, source) {
-        Status::Done => push_report(&check, sink),
+    let status = read_and_report(&mut check, &mut lines, source, sink);
+    // By one call: at the end of the body its tables would be let go, and that proved, one by one.
+    drop(check);
+    status
+}
+
+/// Reads a transcript to its end and writes the report of it.
+fn read_and_report<S: Source, K: Sink>(
+    check: &mut Check,
+    lines: &mut Lines,
+    source: &mut S,
+    sink: &mut K,
+) -> Status
+    requires ready { IsReady lines.old (S.remaining source.old) (check.old.lines + 1) }
+    requires limit { lines.old.limit ≡ SCRIPT_BYTES }
+    requires way { (frames : ℕ) × IsUnderWay frames lines.old (S.remaining source.old) (S.remaining source.old) check.old }
+    ensures ends { (frames : ℕ) → IsUnderWay frames lines.old (S.remaining source.old) (S.remaining source.old) check.old
+        → EndsAs result frames (S.remaining source.old) (S.remaining source.new) (K.contents sink.old) (K.contents sink.new) }
+    ensures read_cause { result ≡ Status.ReadFault → HasFailed (S.faults source.old) (S.faults source.new) }
+    ensures write_cause { result ≡ Status.WriteFault → HasFailed (K.faults sink.old) (K.faults sink.new) }
+    ensures unwritten { result ≢ Status.Done → result ≢ Status.WriteFault → sink.new ≡ sink.old }
+{
+    match read_all(check, lines, source) {
+        Status::Done => push_report(check, sink),
         status => status,
     }
 }

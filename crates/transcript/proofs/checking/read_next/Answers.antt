@@ -1,11 +1,11 @@
-use Rattle.std.proofs.Common.{List, ℕ, sym, refl, ◌∙◌, arith}
+use Rattle.std.proofs.Common.{List, ℕ, sym, refl, ◌∙◌}
 use Rattle.script_io.specs.declared.status.Status.TheVariants.{Done, ReadFault, ScriptLimit}
 use Rattle.served.proofs.Served.{Completes-end, StopsReading-there, ReachesLimit-there}
 use Rattle.served.proofs.Answered.{other_status}
 use Rattle.vm_base.specs.declared.limits.TheConstants.{SCRIPT_BYTES}
 use Rattle.transcript.specs.Reports.{gathering, IsChecked}
 use Rattle.std.proofs.Common.{Some, []}
-use Rattle.transcript.proofs.ReportLaws.{fetched_line, fetched_long, way_more, way_read, ready_more, ready_read, falls_more, falls_read, lack_no_end, lack_no_fault, lines_few, way_lines}
+use Rattle.transcript.proofs.ReportLaws.{fetched_line, fetched_long, way_more, way_read, ready_more, ready_read, falls_more, falls_read, lack_no_end, lack_no_fault, none_not_some, lines_few, few_lines, count_few, way_lines}
 use Rattle.transcript.proofs.checking.read_next.Goals as goal
 
 pub returns-in-End : goal.returns-in-End
@@ -20,7 +20,7 @@ returns-in-End g c = record {
   few = λ e.
       let ready = c.requires.ready in
       let f = c.in-End.ensures.fetches ready.pending ready.still in
-      omega (arith, ready.koids, f.taken, f.fetched.4, c.in-End.ensures.limit, c.requires.limit);
+      few_lines _ _ _ _ _ _ _ ready.koids f.taken f.fetched.4 c.in-End.ensures.limit c.requires.limit;
   limit = c.in-End.ensures.limit;
   falls = tt;
   later = c.in-End.ensures.later;
@@ -65,7 +65,7 @@ read-requires g c =
     let w = c.requires.way in
     let f = fetched_line c.args.lines.now c.next.new.self _ _ ready.pending c.line.result.now (c.in-Line.ensures.fetches ready.pending ready.still) c.line.ensures.bytes in
     let few = lines_few c.args.lines.now c.next.new.self _ _ c.line.result.now _ ready f c.in-Line.ensures.limit c.requires.limit in
-    record { short = c.line.ensures.len; checked = (w.0, w.2.lines, w.2.checked, omega (arith, few, w.2.checked.count)) }
+    record { short = c.line.ensures.len; checked = (w.0, w.2.lines, w.2.checked, count_few _ _ few w.2.checked.count) }
 
 pub pass-requires : goal.pass-requires
 pass-requires g c =
@@ -102,9 +102,9 @@ returns-in-TooLong g c =
           way_more frames c.args.lines.now c.next.new.self source_old _ _ f.fetched.0 c.args.check.now c.pass.new.self w
           (fetched_long c.args.lines.now c.next.new.self _ _ w.served.pending f) (c.pass.ensures.checked frames w.lines f.fetched.0 w.checked f.fetched.2) c.in-TooLong.ensures.limit (λ e. (c.in-TooLong.ensures.ended e).1);
       ready = ready_more c.args.lines.now c.next.new.self _ _ first.fetched.0 _ _ ready (fetched_long c.args.lines.now c.next.new.self _ _ ready.pending first) c.pass.ensures.lines;
-      few = λ e. absurd cc;
+      few = λ e. none_not_some Done e;
       limit = c.in-TooLong.ensures.limit;
       falls = falls_more c.args.lines.now c.next.new.self _ _ first.fetched.0 _ ready (fetched_long c.args.lines.now c.next.new.self _ _ ready.pending first) c.in-TooLong.ensures.limit;
       later = c.in-TooLong.ensures.later;
-      cause = λ e. absurd cc;
+      cause = λ e. none_not_some ReadFault e;
     }

@@ -1,11 +1,12 @@
-use Rattle.std.proofs.Common.{◌++◌, arith}
+use Rattle.std.proofs.Common.{◌++◌}
+use Rattle.std.proofs.Math.Nat.{le_trans}
 use Rattle.std.specs.Prelude.{codes}
 use Rattle.moving_machine.specs.Transcript.{Asked, Answered}
-use Rattle.transcript.proofs.CheckLaws.{judged_verdict, judged_result, none_told, read_length, match_ok}
+use Rattle.transcript.proofs.CheckLaws.{judged_verdict, judged_result, none_told, read_length, match_ok, malformed_not_fine}
 use Rattle.transcript.proofs.checker.Checker.feed.Goals as goal
 
 pub ask-requires-clause-short : goal.ask-requires-clause-short
-ask-requires-clause-short c = omega (arith, c.in-Some.ensures.short, c.requires.short)
+ask-requires-clause-short c = le_trans c.in-Some.ensures.short c.requires.short
 
 pub returns-in-Some : goal.returns-in-Some
 returns-in-Some c = record {
@@ -28,4 +29,4 @@ returns-in-Some-reply_in c = record {
 }
 
 pub returns-in-None : goal.returns-in-None
-returns-in-None c = record { verdict = λ frames lines read. (none_told c.args.line.now c.in_default.ensures.told c.in-None.ensures, λ e. absurd cc) }
+returns-in-None c = record { verdict = λ frames lines read. (none_told c.args.line.now c.in_default.ensures.told c.in-None.ensures, λ e. malformed_not_fine e) }
