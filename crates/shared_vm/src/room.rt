@@ -116,6 +116,10 @@ impl<P: PageStore> Room<P> {
     pub fn into_store(self) -> P
         ensures { result ≡ self.store }
     {
+        // By one call each: at the end of the body their tables would be dropped one by one, each with a proof.
+        drop(self.vm);
+        drop(self.scripts);
+        drop(self.journal);
         self.store
     }
 }
