@@ -55,7 +55,7 @@ pub fn read_batch_call<'a>(
 }
 
 /// The command on jobs that a line is, or `None` where it is none.
-fn job_call(line: &[u8]) -> Option<BatchCall<'static>>
+fn job_call<'a>(line: &[u8]) -> Option<BatchCall<'a>>
     ensures { option_map batch_command_of result ≡ (if nat_lt LINE_BYTES (length line.now) then None else job_order (words line.now)) }
 {
     if line.len() > LINE_BYTES {
@@ -65,7 +65,7 @@ fn job_call(line: &[u8]) -> Option<BatchCall<'static>>
 }
 
 /// The same of a line of any length.
-fn call_of_words(line: &[u8]) -> Option<BatchCall<'static>>
+fn call_of_words<'a>(line: &[u8]) -> Option<BatchCall<'a>>
     ensures { option_map batch_command_of result ≡ order_at (words line.now) }
 {
     let verb = word(line, 0)?;
@@ -81,7 +81,7 @@ fn call_of_words(line: &[u8]) -> Option<BatchCall<'static>>
 }
 
 /// `begin JOB KIND VMO OFFSET LEN`, behind its first word.
-fn begin_call(line: &[u8]) -> Option<BatchCall<'static>>
+fn begin_call<'a>(line: &[u8]) -> Option<BatchCall<'a>>
     ensures { option_map batch_command_of result ≡ begin_at (words line.now) }
 {
     let job = job_name_at(line, 1)?;
@@ -102,7 +102,7 @@ fn begin_call(line: &[u8]) -> Option<BatchCall<'static>>
 }
 
 /// `step JOB PAGES`, behind its first word.
-fn step_call(line: &[u8]) -> Option<BatchCall<'static>>
+fn step_call<'a>(line: &[u8]) -> Option<BatchCall<'a>>
     ensures { option_map batch_command_of result ≡ step_at (words line.now) }
 {
     let job = job_name_at(line, 1)?;
@@ -114,7 +114,7 @@ fn step_call(line: &[u8]) -> Option<BatchCall<'static>>
 }
 
 /// `drop JOB`, behind its first word.
-fn drop_call(line: &[u8]) -> Option<BatchCall<'static>>
+fn drop_call<'a>(line: &[u8]) -> Option<BatchCall<'a>>
     ensures { option_map batch_command_of result ≡ drop_at (words line.now) }
 {
     let job = job_name_at(line, 1)?;
