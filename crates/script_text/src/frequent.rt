@@ -9,25 +9,21 @@ ghost use Rattle.script_text.specs.inside.Shapes.{only_data, ends_blank, three_w
 
 use crate::field_groups::{range_of_region, range_of_vmo, region_and_number, vmo_and_number};
 use crate::fields::byte_data_into;
-use crate::words::{behind_blanks, is_blank, next_short_word};
+use crate::words::{begins_with, behind_blanks, is_blank, next_short_word};
 use vm_base::DATA_BYTES;
 use vm_model::{Call, LentBytes};
 
-/// What stands behind a word of five bytes or more, if a line begins with this word. Two bytes tell most other lines
-/// apart, so those pay little.
+/// What stands behind a word, if a line begins with this word.
 #[inline(always)]
 #[tactic(auto, using(crate::proofs::FrequentLaws::begins_with))]
 pub fn behind_word<'a>(word: &[u8], line: &'a [u8]) -> Option<&'a [u8]>
     ensures line { IfSome result (λ behind. line.now ≡ word.now ++ behind.now) }
     ensures cut { IfSome result (λ behind. begins_blank behind.now ≡ true) }
 {
-    let ([first, _, _, _, fifth, ..], [its_first, _, _, _, its_fifth, ..]) = (line, word) else {
-        return None;
-    };
-    if *first != *its_first || *fifth != *its_fifth {
+    if !begins_with(line, word) {
         return None;
     }
-    let behind = line.strip_prefix(word)?;
+    let (_, behind) = line.split_at(word.len());
     if is_cut(behind) { Some(behind) } else { None }
 }
 

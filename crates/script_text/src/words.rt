@@ -1,7 +1,8 @@
 //! The words of a line: the longest runs of bytes that are not blank.
 
 ghost use Rattle.std.specs.Prelude.{◌≡◌, ◌<◌, ◌≤◌, ◌↔◌, false, [], ◌∷◌, length, take, drop, not, position};
-ghost use Rattle.std.specs.Prelude.{slice_get, slice_range, MatchOption, IfSome, IsNone};
+ghost use Rattle.std.specs.Prelude.{nat_eq, slice_get, slice_range, MatchOption, IfSome, IsNone};
+ghost use Rattle.std.specs.Cmp.Lexicographic.{pointwise};
 ghost use Rattle.std.specs.List.{position_or_len};
 ghost use Rattle.vm_model.specs.Language.Reading.{words, is_blank, is_word};
 ghost use Rattle.script_text.specs.inside.Places.{IsWordFrom};
@@ -16,12 +17,29 @@ pub fn is_blank(byte: u8) -> bool
     matches!(byte, b' ' | b'\t' | b'\r')
 }
 
+/// Whether a line begins with these bytes. They are compared one by one: if they are known to the compiler, as the words of
+/// commands are, this costs less than to compare many at a time.
+#[inline(always)]
+pub fn begins_with(line: &[u8], front: &[u8]) -> bool
+    ensures { result ≡ pointwise nat_eq (take (length front.now) line.now) front.now }
+{
+    if line.len() < front.len() {
+        return false;
+    }
+    for place in 0..front.len() {
+        if line[place] != front[place] {
+            return false;
+        }
+    }
+    true
+}
+
 /// Whether two words are the same.
 #[inline(always)]
 pub fn is_word(word: &[u8], known: &[u8]) -> bool
     ensures { result ≡ is_word word.now known.now }
 {
-    word == known
+    word.len() == known.len() && begins_with(word, known)
 }
 
 /// Where the first word of a line begins.
