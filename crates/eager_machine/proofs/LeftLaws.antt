@@ -38,9 +38,9 @@ use Rattle.ready_map.proofs.SettledLaws.{ready-settled, true-settled, ready-drop
 use Rattle.eager_machine.specs.inside.Leaving.{settled_rows, rows_after}
 use Rattle.eager_machine.specs.declared.reaching.Reach.{Reach}
 use Rattle.eager_machine.specs.inside.Reaching.{range_of, reach_of}
-use Rattle.eager_machine.proofs.OutsideLaws.{LeavesOthers-owns, ChangesWithin, ChangesWithin-wider, ChangesWithin-zeroed, touched_reaches, ChangesWithin-writes, ChangesWithin-owns, ChangesWithin-zeroes}
+use Rattle.vmo_ops.proofs.OutsideLaws.{LeavesOthers-owns, ChangesWithin, ChangesWithin-wider, ChangesWithin-zeroed, touched_reaches, ChangesWithin-writes, ChangesWithin-owns, ChangesWithin-zeroes}
 use Rattle.eager_machine.proofs.StayLaws.{SparesEntries, SparesEntries-kept, SparesEntries-same, KeepsVmo-created, KeepsVmo-copied, KeepsVmo-only, ChangesRange-within, ChangesRange-resized, ready-stays, true-stays, settled-unready, unready-bare}
-use Rattle.eager_machine.proofs.DestroyedLaws.{destroyed-in, destroyed-out}
+use Rattle.region_ops.proofs.DestroyedLaws.{destroyed-in, destroyed-out}
 
 -- the machine of a state, with these notes
 abbrev pub machine_with : State → Rows → Machine

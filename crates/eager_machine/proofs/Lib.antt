@@ -1,6 +1,4 @@
-pub mod OutsideLaws
 pub mod StayLaws
-pub mod DestroyedLaws
 pub mod LeftLaws
 pub mod ReachLaws
 pub mod ActLaws

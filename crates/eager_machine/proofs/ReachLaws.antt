@@ -24,7 +24,7 @@ use Rattle.eager_vmos.specs.Vmos.{content_in, state_with}
 use Rattle.eager_machine.specs.declared.reaching.Reach.{Reach}
 use Rattle.eager_machine.specs.inside.Acting.{MayDo}
 use Rattle.eager_machine.specs.inside.Reaching.{reach_at, range_of, reach_of, seen_of, HasRange, HasPart}
-use Rattle.eager_machine.proofs.OutsideLaws.{touched-in_row}
+use Rattle.vmo_ops.proofs.OutsideLaws.{touched-in_row}
 
 -- ---- ranges of names
 

@@ -18,7 +18,7 @@ use Rattle.vm_model.proofs.ZeroingLaws.{page_past, count-resized_here, count-res
 use Rattle.vm_model.proofs.ReadinessLaws.{keeps_frame-from, settled-same}
 use Rattle.ready_map.specs.declared.ready_map.ReadyPage.{ReadyPage}
 use Rattle.ready_map.specs.Notes.{Rows, ready_of, number_of, ChangesRange, AreTrue}
-use Rattle.eager_machine.proofs.OutsideLaws.{ChangesWithin, LeavesOthers}
+use Rattle.vmo_ops.proofs.OutsideLaws.{ChangesWithin, LeavesOthers}
 
 -- a page that is the same has the same frame
 frame_at-same : (c d : Content) (v p : ℕ) → d.page v p ≡ c.page v p → frame_at d v p ≡ frame_at c v p

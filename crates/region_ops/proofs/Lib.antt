@@ -11,3 +11,4 @@ pub mod UnmapLaws
 pub mod DestroyLaws
 pub mod ClearLaws
 pub mod CoverLaws
+pub mod DestroyedLaws

@@ -38,7 +38,7 @@ use Rattle.vm_model.proofs.ZeroesLaws.{zeroed-keeps, Zeroes-keeps}
 use Rattle.page_store.specs.Names.{IsInside}
 use Rattle.page_store.proofs.NameLaws.{name_few, pages_of_le, IsInside-good}
 use Rattle.vm_core.specs.inside.Resets.{IsReached, IsShared}
-use Rattle.vm_core.proofs.OutsideLaws.{LeavesOthers-owns}
+use Rattle.vmo_ops.proofs.OutsideLaws.{LeavesOthers-owns}
 use Rattle.vm_core.proofs.StaysLaws.{count-copied, name_pages-copied}
 
 -- what the calls that forget translations ask for after a command, where the store contains this then

@@ -37,7 +37,7 @@ use Rattle.fault.specs.declared.translation.Translation.{Translation}
 use Rattle.fault.specs.Table.{Places, ready_of, AreTrue, without, is_stale, is_at}
 use Rattle.vm_core.specs.inside.Resets.{with_read_only_but, left_after, IsNoAccess}
 use Rattle.vm_core.proofs.AgreeLaws.{machine_with}
-use Rattle.vm_core.proofs.OutsideLaws.{LeavesOthers-owns, ChangesWithin, ChangesWithin-wider, ChangesWithin-zeroed, touched_reaches, ChangesWithin-writes, ChangesWithin-owns, ChangesWithin-zeroes}
+use Rattle.vmo_ops.proofs.OutsideLaws.{LeavesOthers-owns, ChangesWithin, ChangesWithin-wider, ChangesWithin-zeroed, touched_reaches, ChangesWithin-writes, ChangesWithin-owns, ChangesWithin-zeroes}
 use Rattle.region_ops.proofs.CountLaws.{entry_bounds}
 use Rattle.vm_core.proofs.LeftLaws.{StaysAt, Fits, Fits-all, Fits-read_only_but}
 use Rattle.vm_core.proofs.StaysLaws.{name_pages-copied, StaysAt-same, StaysAt-created, StaysAt-copied, StaysAt-pruned, Fits-changed, Fits-resized}

@@ -5,10 +5,8 @@ mod BoundLaws
 mod AnswerLaws
 pub mod StartLaws
 pub mod AgreeLaws
-pub mod OutsideLaws
 pub mod LeftLaws
 pub mod StaysLaws
-pub mod DestroyedLaws
 pub mod SpacesLeftLaws
 pub mod EffectLaws
 pub mod ResetLaws

@@ -16,7 +16,7 @@ use Rattle.fault.specs.Table.{Places, ready_of, AreTrue, without, is_at}
 use Rattle.region_ops.proofs.CountLaws.{entry_bounds}
 use Rattle.vm_core.proofs.LeftLaws.{StaysAt, settled-bare, Fits, Fits-settled, Fits-unready}
 use Rattle.vm_core.proofs.StaysLaws.{StaysAt-same, StaysAt-pruned}
-use Rattle.vm_core.proofs.DestroyedLaws.{destroyed-in, destroyed-out}
+use Rattle.region_ops.proofs.DestroyedLaws.{destroyed-in, destroyed-out}
 
 -- ---- the changed range of a table
 

@@ -23,7 +23,7 @@ use Rattle.vm_model.proofs.ReadinessLaws.{is_same_frame-is}
 use Rattle.vm_model.proofs.LiveLaws.{is_live-mapped}
 use Rattle.fault.specs.declared.translation.Translation.{Translation}
 use Rattle.fault.specs.Table.{Places, ready_of, frame_in, AreTrue, without, is_of, is_stale}
-use Rattle.vm_core.proofs.OutsideLaws.{ChangesWithin, LeavesOthers}
+use Rattle.vmo_ops.proofs.OutsideLaws.{ChangesWithin, LeavesOthers}
 use Rattle.vm_core.proofs.LeftLaws.{frame_at-same, StaysAt, settled-lost, Fits, Fits-settled}
 
 -- where the VMO has as many pages, and the page that is shown is the same

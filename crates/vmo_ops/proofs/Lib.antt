@@ -17,3 +17,4 @@ pub mod DecommitLaws
 pub mod FrameLaws
 pub mod KeeperLaws
 pub mod PinLaws
+pub mod OutsideLaws
