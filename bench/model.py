@@ -1,5 +1,5 @@
-"""A model of the machine, in Python. A VMO is a map of its pages, and a snapshot copies the map; an address space is a map of its
-entries. It shares no code and no data structure with the program. What it answers is what docs/MACHINE.md says. Where that leaves a
+"""A model of the machine, in Python. A VMO is a map of its pages, and a snapshot copies the map; an address space is a list of its
+mappings. It shares no code and no data structure with the program. What it answers is what docs/MACHINE.md says. Where that leaves a
 choice (a place, the frames of a pin, want of memory), the model chooses what it is told, if it may."""
 import os
 import re
@@ -11,7 +11,7 @@ MOST_PINNED = 256
 MOST_DATA = 4096
 LINE_BYTES = 16_384
 ROOT_FIRST, ROOT_END = 0x200000 // PAGE, (1 << 56) // PAGE
-NOT_READY, READY_TO_READ, READY_TO_WRITE = range(3)
+READY_TO_READ, READY_TO_WRITE = 1, 2
 
 
 class Refusal(Exception):
@@ -143,7 +143,7 @@ class Frame:
 
 
 class Vmo:
-    """A VMO: how many pages it has, the frame of each that is held, and the entries that show it."""
+    """A VMO: how many pages it has, the frame of each that is held, and the mappings that show it."""
 
     def __init__(self, koid, count, resizable, parent=None):
         self.koid = koid
@@ -152,7 +152,7 @@ class Vmo:
         self.parent = parent
         self.is_snapshot = parent is not None
         self.pages = {}
-        self.entries = set()
+        self.mappings = set()
 
     def held(self, pages):
         """Returns those of a range of pages that are held, in order."""
@@ -183,8 +183,7 @@ class Pin:
 
 
 class Region:
-    """A region: its pages, what it allows, and the regions made in it. A root region has the entries of its address space by
-    their pages."""
+    """A region: its pages, what it allows, and the regions made in it. A root region has the mappings of its address space."""
 
     def __init__(self, name, root, pages, rights):
         self.name = name
@@ -193,37 +192,71 @@ class Region:
         self.rights = rights
         self.is_live = True
         self.inner = []
-        self.entries = {}
+        self.mappings = []
 
     def live(self):
         return [it for it in self.inner if it.is_live]
 
+    def own_mappings(self):
+        """Returns the mappings that were made in this region."""
+        return [it for it in self.root.mappings if it.region is self]
+
     def shown(self, pages):
-        """Returns the pages of a range that have an entry, in order."""
-        return sorted(it for it in self.root.entries if it in pages)
+        """Returns the mappings that show a page of a range."""
+        return [it for it in self.root.mappings if meet(it.pages, pages)]
+
+    def shown_at(self, page):
+        """Returns the mapping of a page, or None."""
+        return next(iter(self.shown(range(page, page + 1))), None)
+
+    def cut(self, pages):
+        """Cuts the mappings of the address space at both ends of a range, and returns those in it, in order."""
+        for it in self.shown(pages):
+            ends = sorted({it.pages.start, it.pages.stop, max(it.pages.start, pages.start), min(it.pages.stop, pages.stop)})
+            if len(ends) > 2:
+                self.take_out(it)
+                for first, end in zip(ends, ends[1:]):
+                    self.put_in(it.part(range(first, end)))
+        return sorted(self.shown(pages), key=lambda it: it.pages.start)
+
+    def put_in(self, mapping):
+        self.root.mappings.append(mapping)
+        mapping.vmo.mappings.add(mapping)
+
+    def take_out(self, mapping):
+        """Takes a mapping out, and returns its VMO."""
+        self.root.mappings.remove(mapping)
+        mapping.vmo.mappings.remove(mapping)
+        return mapping.vmo
 
     def is_free(self, pages):
         """Whether a range is a free place."""
-        return bool(pages) and is_inside(pages, self.pages) and not any(meet(it.pages, pages) for it in self.live()) and not any(
-            it in pages for it, entry in self.root.entries.items() if entry.region is self)
+        return bool(pages) and is_inside(pages, self.pages) and not any(meet(it.pages, pages) for it in [*self.live(), *self.own_mappings()])
 
     def first_free(self, count, limit):
         """Returns the lowest page at which so many free pages begin that end at or below the limit, or None."""
-        ends = [self.pages.start, *(it.pages.stop for it in self.live())]
-        ends += [it + 1 for it, entry in self.root.entries.items() if entry.region is self]
+        ends = [self.pages.start, *(it.pages.stop for it in [*self.live(), *self.own_mappings()])]
         return next((it for it in sorted(ends) if it + count <= limit and self.is_free(range(it, it + count))), None)
 
 
-class Entry:
-    """An entry of a page: the page of a VMO that it shows, what may be done, the region, and what it is ready for."""
+class Mapping:
+    """Pages of an address space that show pages of a VMO, each the one so many pages ahead: what may be done, the region, and
+    what each page is ready for, if it is ready."""
 
-    def __init__(self, vmo, page, rights, cap, region):
+    def __init__(self, pages, vmo, ahead, rights, cap, region):
+        self.pages = pages
         self.vmo = vmo
-        self.page = page
+        self.ahead = ahead
         self.rights = rights
         self.cap = cap
         self.region = region
-        self.ready = NOT_READY
+        self.ready = {}
+
+    def part(self, pages):
+        """Returns a part of the mapping by itself."""
+        it = Mapping(pages, self.vmo, self.ahead, self.rights, self.cap, self.region)
+        it.ready = {page: ready for page, ready in self.ready.items() if page in pages}
+        return it
 
 
 def len_of(pages):
@@ -284,9 +317,8 @@ class Machine:
     @staticmethod
     def reset(vmo, page):
         """What shows a page is not ready any more."""
-        for entry in vmo.entries:
-            if entry.page == page:
-                entry.ready = NOT_READY
+        for it in vmo.mappings:
+            it.ready.pop(page - it.ahead, None)
 
     def give_up(self, vmo, page):
         """Makes a page zero."""
@@ -336,7 +368,7 @@ class Machine:
         """Lets the VMOs go that nothing keeps."""
         kept = {it.vmo for it in [*self.names.values(), *self.pins.values()]}
         for vmo in set(vmos):
-            if vmo in kept or vmo.entries:
+            if vmo in kept or vmo.mappings:
                 continue
             for page in list(vmo.pages):
                 self.give_up(vmo, page)
@@ -379,9 +411,9 @@ class Machine:
             frame.koids.add(child.koid)
             if page in pinned:
                 self.own(child, page - first)
-        for entry in of.vmo.entries:
-            if entry.page in seen and entry.page not in pinned:
-                entry.ready = min(entry.ready, READY_TO_READ)
+        for it in of.vmo.mappings:
+            seen_here = [page for page in it.ready if page + it.ahead in seen and page + it.ahead not in pinned]
+            it.ready.update(dict.fromkeys(seen_here, READY_TO_READ))
         return Name(child, "owner", not no_write, resizable)
 
     def slice(self, of, offset, size, resizable, no_write):
@@ -420,9 +452,8 @@ class Machine:
         it.vmo.count = count
         for page in [it for it in it.vmo.pages if it >= count]:
             self.give_up(it.vmo, page)
-        for entry in it.vmo.entries:
-            if entry.page >= count:
-                entry.ready = NOT_READY
+        for mapping in it.vmo.mappings:
+            mapping.ready = {page: ready for page, ready in mapping.ready.items() if page + mapping.ahead < count}
 
     def vmo_read(self, name, offset, length):
         it = self.name(name)
@@ -616,27 +647,17 @@ class Machine:
         )
         first = at if "specific_overwrite" in ways else self.place(of, offset, count, ways)
         self.may_want_memory()
-        gone = [self.take_out(of, page) for page in of.shown(range(first, first + count))]
-        for page in range(first, first + count):
-            entry = Entry(it.vmo, it.first + vmo_offset // PAGE + page - first, rights,
-                          of.rights if it.may_write else of.rights - {"w"}, of)
-            of.root.entries[page] = entry
-            it.vmo.entries.add(entry)
+        pages = range(first, first + count)
+        gone = [of.take_out(it) for it in of.cut(pages)]
+        cap = of.rights if it.may_write else of.rights - {"w"}
+        of.put_in(Mapping(pages, it.vmo, it.first + vmo_offset // PAGE - first, rights, cap, of))
         self.prune(*gone)
         return f"{first * PAGE:#x}"
 
-    @staticmethod
-    def take_out(region, page):
-        """Takes out the entry of a page, and returns its VMO."""
-        entry = region.root.entries.pop(page)
-        entry.vmo.entries.remove(entry)
-        return entry.vmo
-
     def end_region(self, region):
-        """Destroys a region and all below it, and returns the VMOs of the entries that go."""
+        """Destroys a region and all below it, and returns the VMOs of the mappings that go."""
         region.is_live = False
-        mine = [it for it, entry in region.root.entries.items() if entry.region is region]
-        gone = [self.take_out(region, page) for page in mine]
+        gone = [region.take_out(it) for it in region.own_mappings()]
         for it in region.live():
             gone += self.end_region(it)
         return gone
@@ -653,7 +674,7 @@ class Machine:
         pages = self.range_of(of, address, length)
         refuse_where((any(meet(it.pages, pages) and not is_inside(it.pages, pages) for it in of.live()), "INVALID_ARGS"))
         self.may_want_memory(of.shown(pages))
-        gone = [self.take_out(of, page) for page in of.shown(pages)]
+        gone = [of.take_out(it) for it in of.cut(pages)]
         for it in of.live():
             if is_inside(it.pages, pages):
                 gone += self.end_region(it)
@@ -663,32 +684,31 @@ class Machine:
         of = self.live_region(region)
         refuse_where((not rights <= of.rights, "ACCESS_DENIED"))
         pages = self.range_of(of, address, length)
-        entries = [of.root.entries[it] for it in of.shown(pages)]
+        shown = of.cut(pages)
         refuse_where(
             (any(meet(it.pages, pages) for it in of.live()) or rights and "r" not in rights, "INVALID_ARGS"),
-            (sum(it.region is of for it in entries) < len_of(pages), "NOT_FOUND"),
-            (not all(rights <= it.cap for it in entries), "ACCESS_DENIED"),
+            (sum(len_of(it.pages) for it in shown if it.region is of) < len_of(pages), "NOT_FOUND"),
+            (not all(rights <= it.cap for it in shown), "ACCESS_DENIED"),
         )
         self.may_want_memory()
-        for entry in entries:
-            entry.rights = rights
-            entry.ready = NOT_READY
+        for it in shown:
+            it.rights = rights
+            it.ready = {}
 
     def vmar_destroy(self, region):
         self.prune(*self.end_region(self.live_region(region)))
 
     def maps(self, region):
         of = self.live_region(region)
-        shown = of.shown(of.pages)
+        shown = of.cut(of.pages)
         self.may_want_memory(shown)
         runs = []
-        for page in shown:
-            entry = of.root.entries[page]
-            like = (entry.vmo.koid, entry.page - page, entry.rights, entry.region.name)
-            if runs and runs[-1][1] == page and runs[-1][2] == like:
-                runs[-1][1] += 1
+        for it in shown:
+            like = (it.vmo.koid, it.ahead, it.rights, it.region.name)
+            if runs and runs[-1][1] == it.pages.start and runs[-1][2] == like:
+                runs[-1][1] = it.pages.stop
             else:
-                runs.append([page, page + 1, like])
+                runs.append([it.pages.start, it.pages.stop, like])
         lines = [str(len(runs))]
         for first, end, (koid, ahead, rights, name) in runs:
             lines.append(f"+ {first * PAGE:#x} {(end - first) * PAGE} {spelled(rights)} vmo={koid} "
@@ -698,37 +718,39 @@ class Machine:
     # ---- accesses
 
     def accessed(self, region, address, length, right):
-        """Returns the address space, and the entries of the pages that an access touches."""
+        """Returns the pages that an access touches, each with its mapping and the page of the VMO that it shows."""
         refuse_where((region.root is not region or right == "r" and length > MOST_READ, "INVALID_ARGS"))
-        entries = [region.entries.get(it) for it in touched(address, length)]
-        for entry in entries:
+        pages = []
+        for page in touched(address, length):
+            it = region.shown_at(page)
             refuse_where(
-                (entry is None, "NOT_FOUND"),
-                (entry and right not in entry.rights, "ACCESS_DENIED"),
-                (entry and entry.page >= entry.vmo.count, "OUT_OF_RANGE"),
+                (it is None, "NOT_FOUND"),
+                (it and right not in it.rights, "ACCESS_DENIED"),
+                (it and page + it.ahead >= it.vmo.count, "OUT_OF_RANGE"),
             )
-        return entries
+            pages.append((page, it, page + it.ahead))
+        return pages
 
     def mem_read(self, region, address, length):
-        entries = self.accessed(self.live_region(region), address, length, "r")
-        faults = sum(it.ready == NOT_READY for it in entries)
+        pages = self.accessed(self.live_region(region), address, length, "r")
+        faults = sum(page not in it.ready for page, it, _ in pages)
         self.may_want_memory(faults)
-        for entry in entries:
-            entry.ready = max(entry.ready, READY_TO_READ)
-        shown = b"".join(it.vmo.pages[it.page].data if it.page in it.vmo.pages else bytes(PAGE) for it in entries)
+        for page, it, _ in pages:
+            it.ready.setdefault(page, READY_TO_READ)
+        shown = b"".join(it.vmo.pages[of].data if of in it.vmo.pages else bytes(PAGE) for _, it, of in pages)
         return f"faults={faults} {shown[address % PAGE : address % PAGE + length].hex() or '-'}"
 
     def mem_write(self, region, address, written):
-        entries = self.accessed(self.live_region(region), address, len(written), "w")
-        refuse_where((self.lacks((it.vmo, it.page) for it in entries), "NO_MEMORY"))
-        self.may_want_memory(any(it.ready != READY_TO_WRITE for it in entries))
+        pages = self.accessed(self.live_region(region), address, len(written), "w")
+        refuse_where((self.lacks((it.vmo, of) for _, it, of in pages), "NO_MEMORY"))
+        self.may_want_memory(any(it.ready.get(page) != READY_TO_WRITE for page, it, _ in pages))
         faults, done = 0, 0
-        for entry in entries:
-            faults += entry.ready != READY_TO_WRITE
+        for page, it, of in pages:
+            faults += it.ready.get(page) != READY_TO_WRITE
             place = (address + done) % PAGE
             part = written[done : done + PAGE - place]
-            self.own(entry.vmo, entry.page).data[place : place + len(part)] = part
-            entry.ready = READY_TO_WRITE
+            self.own(it.vmo, of).data[place : place + len(part)] = part
+            it.ready[page] = READY_TO_WRITE
             done += len(part)
         return f"faults={faults}"
 
