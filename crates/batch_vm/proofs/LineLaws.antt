@@ -3,9 +3,8 @@ use Rattle.std.proofs.Common.{◌≡◌, ℕ, List, Option, Result, Ok, Err, ref
 use Rattle.std.specs.Prelude.{OnOk, OnErr}
 use Rattle.std.specs.Io.KnownBytes.{Appends}
 use Rattle.script_io.specs.Faults.{IsCutOff}
-use Rattle.vm_model.specs.Contents.Content.{Content, nothing}
+use Rattle.vm_model.specs.Contents.Content.{Content, nothing, HasNoVmo}
 use Rattle.vm_model.proofs.MachineLaws.{IsGoodMachine-empty}
-use Rattle.vm_core.specs.Vm.{HasNoVmo}
 use Rattle.vm_core.proofs.AgreeLaws.{agrees_good}
 use Rattle.vm_core.proofs.StartLaws.{filled_fresh}
 use Rattle.served.specs.Answering.{syntax_text}

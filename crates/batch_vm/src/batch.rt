@@ -33,8 +33,8 @@ impl Model for Batch {
 }
 
 impl Batch {
-    ghost use Rattle.vm_model.specs.Contents.Content.{Content};
-    ghost use Rattle.vm_core.specs.Vm.{Agrees, HasNoVmo, bare_machine};
+    ghost use Rattle.vm_model.specs.Contents.Content.{Content, HasNoVmo};
+    ghost use Rattle.vm_core.specs.Vm.{Agrees, bare_machine};
     ghost use Rattle.batch_model.specs.Batch.{BatchStep, IsGoodBatch, empty_batch};
     ghost use Rattle.batch_model.specs.BatchLent.{batch_command_of, batch_reply_for};
     ghost use Rattle.batch_vm.specs.Batch.{batch_of};

@@ -39,8 +39,7 @@ pub(crate) struct BatchInterpreter {
 
 impl BatchInterpreter {
     ghost use Rattle.std.specs.Prelude.{◌≡◌};
-    ghost use Rattle.vm_model.specs.Contents.Content.{Content};
-    ghost use Rattle.vm_core.specs.Vm.{HasNoVmo};
+    ghost use Rattle.vm_model.specs.Contents.Content.{Content, HasNoVmo};
     ghost use Rattle.batch_model.specs.Batch.{empty_batch};
 
     /// A machine with no jobs and nothing else.

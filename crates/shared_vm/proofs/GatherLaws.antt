@@ -9,14 +9,13 @@ use Rattle.script_io.specs.declared.status.Status.TheVariants.{Done, Usage, Host
 use Rattle.script_io.specs.Reader.{Reader, HasNoFeed}
 use Rattle.script_io.specs.Fetching.{IsPending, IsFirstLine, Fetches}
 use Rattle.script_io.specs.declared.line_reader.Fetch.TheVariants.{Line, TooLong}
-use Rattle.vm_base.specs.declared.limits.TheConstants.{LINE_BYTES}
+use Rattle.vm_base.specs.declared.limits.TheConstants.{LINE_BYTES, INPUT_BYTES}
 use Rattle.served.specs.Answering.{Run}
 use Rattle.served.specs.Serving.{IsServed, IsReady, bytes_left}
 use Rattle.served.proofs.Served.{IsAnswered, IsServed-answered}
 use Rattle.served.proofs.Beginning.{fresh, IsPending-fresh}
 use Rattle.served.proofs.Answered.{IsReady-answered, bytes_left-answered}
 use Rattle.vm_model.specs.Contents.Content.{nothing}
-use Rattle.shared_vm.specs.declared.limits.TheConstants.{INPUT_BYTES}
 use Rattle.shared_vm.specs.declared.task.Task.{Task}
 use Rattle.shared_vm.specs.Tasks.{Lists, no_tasks, task_count, with_task, with_line, with_lines}
 use Rattle.shared_vm.specs.Gathering.{gathering, IsGathered, TakesAtMost, EndsReading, Gathers, GathersAs, lack, told}

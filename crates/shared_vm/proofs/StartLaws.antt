@@ -1,7 +1,7 @@
 -- A room in which nothing was done yet.
 use Rattle.std.proofs.Common.{◌≡◌, ℕ, ◌+◌, ◌^◌, ◌<◌, ◌≤◌, List, [], length, refl, sym, subst, arith}
-use Rattle.vm_model.specs.Contents.Content.{Content, nothing}
-use Rattle.vm_core.specs.Vm.{Parts, Agrees, HasNoVmo, bare_machine, machine_of}
+use Rattle.vm_model.specs.Contents.Content.{Content, nothing, HasNoVmo}
+use Rattle.vm_core.specs.Vm.{Parts, Agrees, bare_machine, machine_of}
 use Rattle.vm_core.proofs.StartLaws.{filled_fresh, machine_of-filled}
 use Rattle.shared_vm.specs.declared.counts.Counts.{Counts}
 use Rattle.shared_vm.specs.declared.task.Deed.{Deed}

@@ -8,7 +8,7 @@ use Rattle.vm_model.specs.Contents.Content.{nothing}
 use Rattle.served.specs.Answering.{Answering}
 use Rattle.served.specs.Outcome.{Completes, StopsReading, ReachesLimit}
 use Rattle.served.specs.Serving.{IsServed}
-use Rattle.shared_vm.specs.declared.limits.TheConstants.{INPUT_BYTES}
+use Rattle.vm_base.specs.declared.limits.TheConstants.{INPUT_BYTES}
 use Rattle.shared_vm.specs.Tasks.{Lists, no_tasks, with_line, lists_of}
 
 -- the lists of tasks as a machine that answers no line, and to which each line adds its task

@@ -1,5 +1,6 @@
 -- What the actors did, one deed after another, as a run of the machine.
 use Rattle.std.specs.Prelude.{◌≡◌, ℕ, ◌+◌, ◌≤◌, ◌==◌, List, [], ◌∷◌, ◌++◌, length, if◌then◌else◌, Some, slice_get}
+use Rattle.vm_base.specs.declared.limits.TheConstants.{ACTOR_MAX}
 use Rattle.vm_base.specs.declared.refusal.Refusal.TheVariants.{Syntax}
 use Rattle.vm_model.specs.declared.reply.Reply.{Reply}
 use Rattle.vm_model.specs.declared.reply.Reply.TheVariants.{Refused}
@@ -31,7 +32,7 @@ IsNext lists earlier deed task = slice_get (tasks_of lists deed.actor) (done_by 
 abbrev pub RunsOn : Lists → List Deed → Machine → List Deed → Machine → Type 0
 RunsOn lists earlier old [] last = last ≡ old
 RunsOn lists earlier old (deed ∷ deeds) last =
-    (task : Task) × (mid : Machine) × (deed.actor ≤ 3) × IsNext lists earlier deed task
+    (task : Task) × (mid : Machine) × (deed.actor ≤ ACTOR_MAX) × IsNext lists earlier deed task
     × Does task deed.reply old mid × RunsOn lists (earlier ++ deed ∷ []) mid deeds last
 
 -- On a machine with this many frames and nothing else, the actors may have done these deeds, each in the order of its own
@@ -41,4 +42,4 @@ pub record JournalRun (frames : ℕ) (lists : Lists) (journal : List Deed) (last
 
 -- each actor has as many deeds as tasks
 abbrev pub IsWhole : Lists → List Deed → Type 0
-IsWhole lists journal = (actor : ℕ) → actor ≤ 3 → done_by actor journal ≡ length (tasks_of lists actor)
+IsWhole lists journal = (actor : ℕ) → actor ≤ ACTOR_MAX → done_by actor journal ≡ length (tasks_of lists actor)

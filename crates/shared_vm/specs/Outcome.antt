@@ -5,11 +5,10 @@ use Rattle.std.specs.Io.KnownBytes.{Appends}
 use Rattle.script_io.specs.declared.status.Status.{Status}
 use Rattle.script_io.specs.declared.status.Status.TheVariants.{Done, Usage, HostMemory, ReadFault, WriteFault, ScriptLimit}
 use Rattle.script_io.specs.Faults.{IsCutOff}
-use Rattle.vm_model.specs.Contents.Content.{Content, nothing}
+use Rattle.vm_model.specs.Contents.Content.{Content, nothing, HasNoVmo}
 use Rattle.vm_model.specs.Machine.Machine.{Machine}
-use Rattle.vm_core.specs.Vm.{HasNoVmo}
 use Rattle.served.specs.Outcome.{Completes, StopsReading, ReachesLimit}
-use Rattle.shared_vm.specs.declared.limits.TheConstants.{INPUT_BYTES}
+use Rattle.vm_base.specs.declared.limits.TheConstants.{INPUT_BYTES}
 use Rattle.shared_vm.specs.declared.task.Deed.{Deed}
 use Rattle.shared_vm.specs.Tasks.{lists_of}
 use Rattle.shared_vm.specs.Journal.{JournalRun, IsWhole}

@@ -1,5 +1,6 @@
 -- What a room is to its callers: the machine, the tasks of the actors, and what they did.
 use Rattle.std.specs.Prelude.{◌≡◌, ℕ, ◌+◌, ◌^◌, ◌<◌, ◌≤◌, ◌==◌, Bool, true, false, List, [], ◌∷◌, ◌++◌, length, if◌then◌else◌}
+use Rattle.vm_base.specs.declared.limits.TheConstants.{ACTOR_MAX}
 use Rattle.vm_model.specs.Contents.Content.{Content}
 use Rattle.vm_model.specs.declared.reply.Reply.{Reply}
 use Rattle.vm_model.specs.Machine.Machine.{Machine}
@@ -45,8 +46,8 @@ pub record IsRoom {S : Type 0} (content : S → Content) (s : Session S) (done :
   pub agrees : Agrees (content s.store) s.vm
   pub koids : (content s.store).next ≤ 1 + len
   pub few : task_count s.lists < 2 ^ 32
-  pub counted : (actor : ℕ) → actor ≤ 3 → count_of done actor ≡ done_by actor s.journal
-  pub within : (actor : ℕ) → actor ≤ 3 → count_of done actor ≤ length (tasks_of s.lists actor)
+  pub counted : (actor : ℕ) → actor ≤ ACTOR_MAX → count_of done actor ≡ done_by actor s.journal
+  pub within : (actor : ℕ) → actor ≤ ACTOR_MAX → count_of done actor ≤ length (tasks_of s.lists actor)
   pub all : len ≡ done.a0 + done.a1 + done.a2 + done.a3
   pub room : task_count s.lists ≤ capacity
 

@@ -1,6 +1,7 @@
 //! The actors on threads of their own.
 
 ghost use Rattle.std.specs.Prelude.{◌≡◌, ◌≢◌, ◌≤◌, ℕ, length};
+ghost use Rattle.vm_base.specs.declared.limits.TheConstants.{ACTOR_MAX};
 ghost use Rattle.shared_vm.specs.Journal.{done_by, IsWhole};
 ghost use Rattle.shared_vm.specs.Rooms.{IsLegal};
 ghost use Rattle.shared_vm.specs.Tasks.{Lists, no_tasks, tasks_of};
@@ -40,7 +41,7 @@ struct Held<J: Naming, P: PageStore> {
 impl<J: Naming, P: PageStore> Held<J, P> {
     /// Does one turn of an actor.
     fn turn(&mut self, actor: u32) -> bool
-        requires { actor ≤ 3 }
+        requires { actor ≤ ACTOR_MAX }
     {
         self.room.turn(actor)
     }
@@ -53,7 +54,7 @@ fn act<J: Naming, R: Wait, P: PageStore, G: Gate>(
     held: &Mutex<Held<J, P>>,
     actor: u32,
 )
-    requires { actor ≤ 3 }
+    requires { actor ≤ ACTOR_MAX }
 {
     for index in 0..u64::MAX {
         gate.before(actor, index);
@@ -95,7 +96,7 @@ fn act_on<J: Naming + Send + Sync, R: Threads + Wait + Sync, P: PageStore + Send
 
 /// Does the turns that an actor has left.
 fn finish<P: PageStore>(room: &mut Room<P>, actor: u32)
-    requires { actor ≤ 3 }
+    requires { actor ≤ ACTOR_MAX }
     ensures frames { room.new.frames ≡ room.old.frames }
     ensures lists { room.new.lists ≡ room.old.lists }
     ensures done { done_by actor room.new.journal ≡ length (tasks_of room.new.lists actor) }

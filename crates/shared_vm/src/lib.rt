@@ -13,7 +13,6 @@
 mod acting;
 mod counts;
 mod gate;
-mod limits;
 mod reading;
 mod room;
 mod running;
@@ -24,7 +23,6 @@ mod writing;
 
 pub use acting::act_all;
 pub use gate::{Gate, OpenGate};
-pub use limits::INPUT_BYTES;
 pub use room::Room;
 pub use running::run_actors;
 pub use scripts::Scripts;

@@ -5,13 +5,12 @@ ghost use Rattle.script_io.specs.Faults.{HasFailed};
 ghost use Rattle.served.specs.Serving.{IsReady, bytes_left};
 ghost use Rattle.shared_vm.specs.Gathering.{EndsReading, Gathers, GathersAs, IsGathered, lack, told};
 ghost use Rattle.shared_vm.specs.Tasks.{task_count};
-ghost use Rattle.shared_vm.specs.declared.limits.TheConstants.{INPUT_BYTES};
+ghost use Rattle.vm_base.specs.declared.limits.TheConstants.{INPUT_BYTES};
 
-use crate::limits::INPUT_BYTES;
 use crate::scripts::Scripts;
 use script_io::{Fetch, Lines, Source, Status};
 use std::alloc::Global;
-use vm_base::HostMemory;
+use vm_base::{HostMemory, INPUT_BYTES};
 
 /// The status that reading ends with behind a line: one if the host had too little memory for its task, else none.
 fn lack(added: Result<(), HostMemory>) -> Option<Status>

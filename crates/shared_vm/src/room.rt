@@ -1,7 +1,7 @@
 //! The machine that the actors share, and what they did on it.
 
 ghost use Rattle.std.specs.Prelude.{◌≡◌, ◌+◌, ◌^◌, ◌<◌, ◌≤◌, [], length, vec_len, vec_capacity, IfOk};
-ghost use Rattle.vm_base.specs.declared.limits.TheConstants.{FRAMES, KOIDS};
+ghost use Rattle.vm_base.specs.declared.limits.TheConstants.{ACTOR_MAX, FRAMES, KOIDS};
 ghost use Rattle.vm_model.specs.Contents.Content.{nothing};
 ghost use Rattle.vm_core.specs.Vm.{Agrees, machine_of};
 ghost use Rattle.shared_vm.specs.Journal.{done_by, Does};
@@ -80,7 +80,7 @@ impl<P: PageStore> Room<P> {
     /// Does the next task of an actor, from 0 to 3, and notes it in the journal. `false` if the actor has no task left, and
     /// then nothing changes. No memory is taken for the journal.
     pub fn turn(&mut self, actor: u32) -> bool
-        requires { actor ≤ 3 }
+        requires { actor ≤ ACTOR_MAX }
         ensures turns { Turns P.content self.old self.new actor result }
         ensures legal { IsLegal P.content self.new }
     {
@@ -97,7 +97,7 @@ impl<P: PageStore> Room<P> {
 
     /// How many tasks an actor, from 0 to 3, has not done.
     pub fn left(&self, actor: u32) -> u64
-        requires { actor ≤ 3 }
+        requires { actor ≤ ACTOR_MAX }
         ensures left { result + done_by actor self.now.journal ≡ length (tasks_of self.now.lists actor) }
         ensures legal { IsLegal P.content self.now }
     {

@@ -4,7 +4,7 @@ use Rattle.std.specs.Prelude.{IsSome, is_some, nat_eq, nat_lt, unwrap_or, option
 use Rattle.std.specs.List.{AllByRecursion, filter, range_with_len}
 use Rattle.std.specs.Cmp.Lexicographic.{pointwise}
 use Rattle.std.proofs.lemmas.Bool.{cases_eq, and_parts, not-false, ltb-false, ltb-true}
-use Rattle.vm_base.specs.declared.limits.TheConstants.{PAGE}
+use Rattle.vm_base.specs.declared.limits.TheConstants.{PAGE, SOURCE_PAGES, SOURCE_BYTES}
 use Rattle.vm_base.specs.declared.refusal.Refusal.{Refusal}
 use Rattle.vm_base.specs.Entries.{with_key, passes}
 use Rattle.vm_base.specs.Pages.{rounded}
@@ -24,7 +24,6 @@ use Rattle.source_model.specs.declared.backing.Backing.{Backing}
 use Rattle.source_model.specs.declared.link.Link.{Link}
 use Rattle.source_model.specs.declared.command.SourceCommand.{SourceCommand}
 use Rattle.source_model.specs.declared.command.SourceCommand.TheVariants.{Create, Child, Loose, Close, Read, Write, Supply, Evict, Stat}
-use Rattle.source_model.specs.declared.limits.TheConstants.{SOURCE_PAGES, SOURCE_BYTES}
 use Rattle.source_model.specs.Sources.{backing_text, held_text, text_over}
 use Rattle.source_model.specs.Links.{VmoPage, page_below, read_end, walked}
 use Rattle.source_model.specs.State.{SourceState, empty_sources, state_over, below_of, is_open, koid_of, FillsEach, is_absent, supply_of, is_clean, evicted, seen_of, moved, with_source, with_child, with_loose}

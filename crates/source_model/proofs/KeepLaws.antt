@@ -3,7 +3,7 @@ use Rattle.std.proofs.Common.{◌≡◌, ◌≢◌, ℕ, ◌+◌, ◌<◌, ◌�
 use Rattle.std.specs.Prelude.{IsSome, is_some, unwrap_or}
 use Rattle.std.specs.List.{AllByRecursion}
 use Rattle.std.proofs.lemmas.Bool.{cases_eq}
-use Rattle.vm_base.specs.declared.limits.TheConstants.{PAGE}
+use Rattle.vm_base.specs.declared.limits.TheConstants.{PAGE, SOURCE_PAGES}
 use Rattle.vm_base.specs.Entries.{with_key, without_key}
 use Rattle.vm_base.specs.Pages.{replaced}
 use Rattle.vm_base.proofs.EntryLaws.{some_is, some_same, with_key-same, with_key-other, with_key-cases, without_key-some}
@@ -13,7 +13,6 @@ use Rattle.vm_model.proofs.ContentLaws.{IsGood-part, own_pages}
 use Rattle.vm_model.proofs.WritingLaws.{IsKept, IsKept-same, IsKept-trans}
 use Rattle.source_model.specs.declared.backing.Backing.{Backing}
 use Rattle.source_model.specs.declared.link.Link.{Link}
-use Rattle.source_model.specs.declared.limits.TheConstants.{SOURCE_PAGES}
 use Rattle.source_model.specs.Sources.{backing_text}
 use Rattle.source_model.specs.Links.{page_below, walked}
 use Rattle.source_model.specs.State.{SourceState, state_over, Fills, FillsEach, pushed}

@@ -2,7 +2,7 @@
 use Rattle.std.specs.Prelude.{◌≡◌, ℕ, ◌+◌, ◌/◌, ◌%◌, Bool, true, false, not, ◌&&◌, ◌==◌, nat_lt, List, [], ◌∷◌, length, map, ◌⊎◌, Option, None, Some}
 use Rattle.vm_base.specs.Pages.{rounded}
 use Rattle.vm_base.specs.Search.{any_from}
-use Rattle.vm_base.specs.declared.limits.TheConstants.{PAGE, DATA_BYTES}
+use Rattle.vm_base.specs.declared.limits.TheConstants.{PAGE, DATA_BYTES, SOURCE_BYTES, SOURCE_KIND_MAX}
 use Rattle.vm_base.specs.declared.refusal.Refusal.{Refusal}
 use Rattle.vm_base.specs.declared.refusal.Refusal.TheVariants.{BadHandle, NameInUse, InvalidArgs, NotSupported, OutOfRange, NoMemory, HostMemory}
 use Rattle.vm_model.specs.declared.reply.Reply.{Reply}
@@ -13,7 +13,6 @@ use Rattle.vm_model.specs.Contents.Writing.{touched, pieces}
 use Rattle.vm_model.specs.Machine.Attribution.{stat_of}
 use Rattle.vm_model.specs.Machine.Refusals.{first_of}
 use Rattle.vm_model.specs.Machine.Step.{IsRefused}
-use Rattle.source_model.specs.declared.limits.TheConstants.{SOURCE_BYTES}
 use Rattle.source_model.specs.declared.command.SourceCommand.{SourceCommand}
 use Rattle.source_model.specs.declared.command.SourceCommand.TheVariants.{Create, Child, Loose, Close, Read, Write, Supply, Evict, Stat}
 use Rattle.source_model.specs.State.{SourceState, is_open, is_loose, koid_of, size_of, text_in, absent_in, wanted, supply_of, FillsEach, is_clean, evicted, with_source, with_child, with_loose}
@@ -46,7 +45,7 @@ write_need s name offset len = need s.content (koid_of s name) (touched offset l
 abbrev pub refusals : SourceState → SourceCommand → List (Bool × Refusal)
 refusals s (Create name size kind seed) =
     (is_open s name.0, NameInUse)
-    ∷ (nat_lt 2 kind, InvalidArgs)
+    ∷ (nat_lt SOURCE_KIND_MAX kind, InvalidArgs)
     ∷ (nat_lt SOURCE_BYTES (rounded size), OutOfRange)
     ∷ []
 refusals s (Child name parent offset size) =

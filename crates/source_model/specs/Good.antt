@@ -3,7 +3,7 @@ use Rattle.std.specs.Prelude.{◌≡◌, ℕ, ◌+◌, ◌<◌, ◌≤◌, not, 
 use Rattle.vm_model.specs.Contents.Content.{Content, Page, IsGood, pages_of}
 use Rattle.source_model.specs.declared.backing.Backing.{Backing}
 use Rattle.source_model.specs.declared.link.Link.{Link}
-use Rattle.source_model.specs.declared.limits.TheConstants.{SOURCE_PAGES}
+use Rattle.vm_base.specs.declared.limits.TheConstants.{SOURCE_PAGES, SOURCE_KIND_MAX}
 use Rattle.source_model.specs.Links.{VmoPage}
 use Rattle.source_model.specs.Sources.{backing_text}
 use Rattle.source_model.specs.State.{SourceState, below_of}
@@ -11,7 +11,7 @@ use Rattle.source_model.specs.Living.{IsLive}
 
 -- a backing of the VMO v
 pub record IsGoodBacking (c : Content) (v : ℕ) (b : Backing) : Type 0 where
-  pub kind : b.kind ≤ 2
+  pub kind : b.kind ≤ SOURCE_KIND_MAX
   pub seen : b.seen ≤ pages_of c v
   pub inside : b.base + b.seen ≤ SOURCE_PAGES
 

@@ -9,7 +9,6 @@ mod backing;
 mod call;
 mod command;
 mod laws;
-mod limits;
 mod link;
 
 pub use backing::Backing;
@@ -20,5 +19,4 @@ pub use laws::{
     a_write_comes_to_what_shows_its_page, look_ups_find_the_text, paging_changes_no_text,
     the_empty_sources_are_good,
 };
-pub use limits::{SOURCE_BYTES, SOURCE_PAGES};
 pub use link::Link;

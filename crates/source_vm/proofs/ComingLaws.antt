@@ -3,7 +3,7 @@ use Rattle.std.proofs.Common.{◌≡◌, ℕ, ◌+◌, ◌/◌, ◌==◌, true, 
 use Rattle.std.specs.Prelude.{option_map}
 use Rattle.vm_base.specs.Entries.{with_key}
 use Rattle.vm_base.specs.Pages.{rounded}
-use Rattle.vm_base.specs.declared.limits.TheConstants.{PAGE}
+use Rattle.vm_base.specs.declared.limits.TheConstants.{PAGE, SOURCE_BYTES}
 use Rattle.vm_base.specs.declared.names.Koid.{Koid}
 use Rattle.vm_base.specs.declared.names.VmoName.{VmoName}
 use Rattle.vm_model.specs.declared.reply.Reply.TheVariants.{Done}
@@ -11,7 +11,6 @@ use Rattle.vm_model.specs.Contents.Content.{Content, pages_of, created}
 use Rattle.vm_model.specs.Contents.Sharing.{snapshotted}
 use Rattle.source_model.specs.declared.backing.Backing.{Backing}
 use Rattle.source_model.specs.declared.command.SourceCommand.TheVariants.{Create, Child, Loose}
-use Rattle.source_model.specs.declared.limits.TheConstants.{SOURCE_BYTES}
 use Rattle.source_model.specs.declared.link.Link.{Link}
 use Rattle.source_model.specs.State.{SourceState, state_over, seen_of, moved, with_source, with_child, with_loose}
 use Rattle.source_model.specs.Commands.{SourceStep, is_aligned}

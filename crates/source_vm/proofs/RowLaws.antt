@@ -3,7 +3,7 @@ use Rattle.std.proofs.Common.{◌≡◌, ℕ, ◌+◌, ◌*◌, ◌/◌, ◌≤�
 use Rattle.std.specs.List.{filter, range_with_len}
 use Rattle.vm_base.specs.Search.{any_from}
 use Rattle.vm_base.specs.Pages.{rounded}
-use Rattle.vm_base.specs.declared.limits.TheConstants.{PAGE, DATA_BYTES}
+use Rattle.vm_base.specs.declared.limits.TheConstants.{PAGE, DATA_BYTES, SOURCE_BYTES}
 use Rattle.vm_base.specs.declared.names.VmoName.{VmoName}
 use Rattle.vm_base.specs.declared.refusal.Refusal.{Refusal}
 use Rattle.vm_base.specs.declared.refusal.Refusal.TheVariants.{BadHandle, InvalidArgs, NotSupported, OutOfRange, NoMemory, HostMemory}
@@ -15,7 +15,6 @@ use Rattle.source_model.specs.declared.backing.Backing.{Backing}
 use Rattle.source_model.specs.declared.link.Link.{Link}
 use Rattle.vm_base.specs.Entries.{without_key}
 use Rattle.source_model.specs.declared.command.SourceCommand.TheVariants.{Create, Child, Loose, Close, Read, Write, Supply, Evict}
-use Rattle.source_model.specs.declared.limits.TheConstants.{SOURCE_BYTES}
 use Rattle.source_model.specs.Links.{VmoPage}
 use Rattle.source_model.specs.Living.{Leaves}
 use Rattle.source_model.specs.State.{SourceState, is_open, is_loose, size_of, koid_of, is_absent, wanted, is_clean, supply_of, FillsEach, evicted, text_in, with_source, with_child, with_loose}

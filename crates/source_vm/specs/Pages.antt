@@ -2,7 +2,7 @@
 use Rattle.std.specs.Prelude.{◌≡◌, ℕ, ◌+◌, ◌-◌, ◌*◌, ◌<◌, ◌≤◌, ◌⊎◌, Bool, map, false, true, ◌&&◌, ◌==◌, nat_eq, List, if◌then◌else◌, Option, None, Some}
 use Rattle.std.specs.List.{filter, range_with_len}
 use Rattle.std.specs.Cmp.Lexicographic.{pointwise}
-use Rattle.vm_base.specs.declared.limits.TheConstants.{PAGE}
+use Rattle.vm_base.specs.declared.limits.TheConstants.{PAGE, SOURCE_PAGES, SOURCE_KIND_MAX}
 use Rattle.vm_base.specs.declared.refusal.Refusal.{Refusal}
 use Rattle.vm_base.specs.declared.refusal.Refusal.TheVariants.{NoMemory, HostMemory}
 use Rattle.vm_model.specs.Contents.Content.{Content, Page, IsGood, pages_of, used}
@@ -10,7 +10,6 @@ use Rattle.vm_model.specs.Contents.Writing.{Piece}
 use Rattle.vm_model.specs.Contents.Zeroing.{is_within}
 use Rattle.source_model.specs.declared.backing.Backing.{Backing}
 use Rattle.source_model.specs.declared.link.Link.{Link}
-use Rattle.source_model.specs.declared.limits.TheConstants.{SOURCE_PAGES}
 use Rattle.source_model.specs.Sources.{backing_text}
 use Rattle.source_model.specs.Links.{VmoPage, page_below, read_end}
 use Rattle.source_model.specs.State.{SourceState, state_over, Fills, FillsEach, is_absent, supply_of}
@@ -26,7 +25,7 @@ Links = ℕ → Option Link
 
 -- a backing by one of the functions, within their bytes
 pub record IsSource (b : Backing) : Type 0 where
-  pub kind : b.kind ≤ 2
+  pub kind : b.kind ≤ SOURCE_KIND_MAX
   pub inside : b.base + b.seen ≤ SOURCE_PAGES
 
 -- Pages may be looked up: the content is good, each backing is within its source, and each link leads to pages of an older VMO.

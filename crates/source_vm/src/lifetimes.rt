@@ -2,18 +2,19 @@
 
 ghost use Rattle.std.specs.Prelude.{◌≡◌, ◌+◌, ◌/◌, ◌^◌, ◌<◌, ◌≤◌, ◌==◌, if◌then◌else◌, IfSome, IfNone};
 ghost use Rattle.vm_base.specs.Pages.{rounded};
-ghost use Rattle.vm_base.specs.declared.limits.TheConstants.{PAGE};
+ghost use Rattle.vm_base.specs.declared.limits.TheConstants.{PAGE, SOURCE_BYTES};
 ghost use Rattle.vm_model.specs.Machine.Lent.{reply_for};
 ghost use Rattle.source_model.specs.declared.command.SourceCommand.{SourceCommand};
-ghost use Rattle.source_model.specs.declared.limits.TheConstants.{SOURCE_BYTES};
 ghost use Rattle.source_model.specs.Commands.{SourceStep};
 ghost use Rattle.source_model.specs.State.{moved, seen_of};
 ghost use Rattle.source_vm.specs.Table.{Agrees, IsIndexed, state_of};
 
 use crate::table::{SourceTable, enter_backing, enter_link, enter_name, find, reserve};
 use page_store::PageStore;
-use source_model::{Backing, Link, SOURCE_BYTES};
-use vm_base::{KOIDS, PageNo, Refusal, VmoName, in_page, page_of, round_up};
+use source_model::{Backing, Link};
+use vm_base::{
+    KOIDS, PageNo, Refusal, SOURCE_BYTES, SOURCE_KIND_MAX, VmoName, in_page, page_of, round_up,
+};
 use vm_model::Answer;
 
 /// Makes a VMO whose pages come from a source, and lets a name stand for it.
@@ -34,7 +35,7 @@ pub(crate) fn create<'a, P: PageStore>(
     if find(table, name).is_some() {
         return Answer::Refused(Refusal::NameInUse);
     }
-    if kind > 2 {
+    if kind > SOURCE_KIND_MAX {
         return Answer::Refused(Refusal::InvalidArgs);
     }
     let Some(bytes) = round_up(size, SOURCE_BYTES) else {

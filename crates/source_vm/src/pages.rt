@@ -2,6 +2,7 @@
 
 ghost use Rattle.std.specs.Prelude.{◌≡◌, ◌+◌, ◌*◌, ◌<◌, ◌≤◌, ◌⊎◌, true, false, [], ◌∷◌, map, length, take, drop, Some};
 ghost use Rattle.std.specs.List.{range_with_len};
+ghost use Rattle.vm_base.specs.declared.limits.TheConstants.{SOURCE_BYTES, SOURCE_KIND_MAX};
 ghost use Rattle.vm_base.specs.Pages.{replaced};
 ghost use Rattle.vm_model.specs.Contents.Content.{pages_of, sole, used, IsGood};
 ghost use Rattle.source_model.specs.Links.{page_below, walked};
@@ -14,14 +15,14 @@ use crate::source_fn::SourceFn;
 use crate::table::SourceTable;
 use crate::walk::{Place, find_end};
 use page_store::{Look, PageStore};
-use source_model::{Backing, SOURCE_BYTES, SOURCE_PAGES};
-use vm_base::{Koid, PAGE, PAGE_BYTES, PageNo};
+use source_model::Backing;
+use vm_base::{Koid, PAGE, PAGE_BYTES, PageNo, SOURCE_BYTES, SOURCE_PAGES};
 use vmo_ops::write_part;
 
 /// The function of a kind, of the three.
 fn function_of(functions: &[SourceFn; 3], kind: u8) -> &SourceFn
     requires kinds { map (λ f. f.kind) functions.now ≡ 0 ∷ 1 ∷ 2 ∷ [] }
-    requires kind { kind ≤ 2 }
+    requires kind { kind ≤ SOURCE_KIND_MAX }
     ensures { result.now.kind ≡ kind }
 {
     match kind {

@@ -1,6 +1,7 @@
 //! The bytes of sources.
 
 ghost use Rattle.std.specs.Prelude.{◌≡◌, ◌+◌, ◌%◌, ◌≤◌};
+ghost use Rattle.vm_base.specs.declared.limits.TheConstants.{SOURCE_KIND_MAX};
 ghost use Rattle.source_model.specs.Sources.{source_byte};
 
 use vm_base::page_of;
@@ -9,7 +10,7 @@ use vm_base::page_of;
 /// count up from the seed, and in one of kind 2 the pages do, all modulo 256.
 #[tactic(auto, unfolding(source_model::specs::Sources::source_byte))]
 pub fn src_byte(kind: u8, seed: u64, offset: u64) -> u8
-    requires { kind ≤ 2 }
+    requires { kind ≤ SOURCE_KIND_MAX }
     ensures { result ≡ source_byte kind seed offset }
 {
     match kind {

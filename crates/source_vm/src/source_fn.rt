@@ -1,7 +1,7 @@
 //! A function that is known to give the bytes of a source.
 
 ghost use Rattle.std.specs.Prelude.{◌≡◌, ℕ, ◌^◌, ◌<◌, ◌≤◌};
-ghost use Rattle.source_model.specs.declared.limits.TheConstants.{SOURCE_BYTES};
+ghost use Rattle.vm_base.specs.declared.limits.TheConstants.{SOURCE_BYTES, SOURCE_KIND_MAX};
 ghost use Rattle.source_model.specs.Sources.{source_byte};
 
 /// A function for the bytes of sources of one kind, beside the fact that it gives them: what the machine is handed where the kernel
@@ -10,7 +10,7 @@ ghost use Rattle.source_model.specs.Sources.{source_byte};
 pub struct SourceFn {
     kind: u8,
     f: fn(u64, u64) -> u8,
-    ghost known: { kind ≤ 2 },
+    ghost known: { kind ≤ SOURCE_KIND_MAX },
     ghost callable: { (seed offset : ℕ) → seed < 2 ^ 64 → offset < SOURCE_BYTES → pre f seed offset },
     ghost answers: { (seed offset byte : ℕ) → seed < 2 ^ 64 → offset < SOURCE_BYTES → post f seed offset byte
         → byte ≡ source_byte kind seed offset },
@@ -20,7 +20,7 @@ impl SourceFn {
     /// Keeps a function that may be called for each seed and each offset below `SOURCE_BYTES`, and answers what `src_byte` does of this
     /// kind, at most 2.
     pub fn new(kind: u8, f: fn(u64, u64) -> u8) -> SourceFn
-        requires known { kind ≤ 2 }
+        requires known { kind ≤ SOURCE_KIND_MAX }
         requires callable { (seed offset : ℕ) → seed < 2 ^ 64 → offset < SOURCE_BYTES → pre f seed offset }
         requires answers { (seed offset byte : ℕ) → seed < 2 ^ 64 → offset < SOURCE_BYTES → post f seed offset byte
             → byte ≡ source_byte kind seed offset }

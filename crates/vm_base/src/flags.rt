@@ -32,6 +32,12 @@ impl Perm {
     ];
 }
 
+const _: () = prove!(Perm::READ.0 == 1 << 0);
+
+const _: () = prove!(Perm::WRITE.0 == 1 << 1);
+
+const _: () = prove!(Perm::EXECUTE.0 == 1 << 2);
+
 impl Flags for Perm {
     type Bits = u32;
 
@@ -89,6 +95,14 @@ impl MapFlags {
         },
     ];
 }
+
+const _: () = prove!(MapFlags::SPECIFIC.0 == 1 << 0);
+
+const _: () = prove!(MapFlags::OVERWRITE.0 == 1 << 1);
+
+const _: () = prove!(MapFlags::UPPER_LIMIT.0 == 1 << 2);
+
+const _: () = prove!(MapFlags::ALLOW_FAULTS.0 == 1 << 3);
 
 impl Flags for MapFlags {
     type Bits = u32;

@@ -1,7 +1,7 @@
 -- A machine with no names, pins, regions and translations, over a store without VMOs.
 use Rattle.std.proofs.Common.{◌≡◌, ℕ, ◌≤◌, None, sym, ap, subst, ◌∙◌, ◌==◌, arith}
 use Rattle.std.specs.Prelude.{is_some}
-use Rattle.vm_model.specs.Contents.Content.{Content, nothing, IsGood}
+use Rattle.vm_model.specs.Contents.Content.{Content, nothing, HasNoVmo, IsGood}
 use Rattle.vm_model.specs.Machine.State.{IsGoodState, empty_state}
 use Rattle.vm_base.specs.declared.limits.TheConstants.{NAMES}
 use Rattle.vm_base.proofs.EntryLaws.{entry_count-empty}
@@ -13,7 +13,7 @@ use Rattle.mapping_set.specs.Tables.{table_of}
 use Rattle.region_tree.specs.Tree.{regions_of}
 use Rattle.vm_model.specs.Machine.Machine.{empty_machine}
 use Rattle.fault.specs.Table.{places_of, ready_of, AreTrue}
-use Rattle.vm_core.specs.Vm.{Parts, spaces_in, HasNoVmo, bare_state, bare_machine, state_of, machine_of, Agrees}
+use Rattle.vm_core.specs.Vm.{Parts, spaces_in, bare_state, bare_machine, state_of, machine_of, Agrees}
 use Rattle.vm_model.proofs.SpaceLaws.{AreGoodSpaces-none, mapped_count-none}
 
 -- tables in which nothing stands

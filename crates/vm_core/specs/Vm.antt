@@ -48,8 +48,3 @@ bare_machine c = record { state = bare_state c; ready = λ root p. None }
 pub record Agrees (c : Content) (vm : Parts) : Type 0 where
   pub good : IsGoodState (state_of c vm)
   pub translations : AreTrue c (table_of vm.maps) (places_of vm.translations)
-
--- the store has no VMO, and so no page
-pub record HasNoVmo (c : Content) : Type 0 where
-  pub none : (v : ℕ) → c.count v ≡ None
-  pub no_page : (v p : ℕ) → c.page v p ≡ None

@@ -46,10 +46,10 @@ impl Model for Vm {
 }
 
 impl Vm {
-    ghost use Rattle.vm_model.specs.Contents.Content.{Content};
+    ghost use Rattle.vm_model.specs.Contents.Content.{Content, HasNoVmo};
     ghost use Rattle.vm_model.specs.Machine.Machine.{IsGoodMachine, empty_machine};
     ghost use Rattle.vm_model.specs.Machine.MachineStep.{MachineStep};
-    ghost use Rattle.vm_core.specs.Vm.{Agrees, HasNoVmo, bare_machine, machine_of};
+    ghost use Rattle.vm_core.specs.Vm.{Agrees, bare_machine, machine_of};
 
     /// A machine with no names, pins, regions and translations. It agrees with every store that has no VMO, whatever
     /// the store's next koid is, from 1 on. If that is 1, the two are the empty machine.

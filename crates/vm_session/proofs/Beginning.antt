@@ -1,8 +1,7 @@
 -- What a store contains before its first VMO.
 use Rattle.std.proofs.Common.{◌≡◌, ℕ, List, Option, refl, ap, ◌∙◌}
-use Rattle.vm_model.specs.Contents.Content.{Content, nothing}
+use Rattle.vm_model.specs.Contents.Content.{Content, nothing, HasNoVmo}
 use Rattle.vm_model.specs.Machine.Machine.{Machine, empty_machine}
-use Rattle.vm_core.specs.Vm.{HasNoVmo}
 use Rattle.vm_model.proofs.StepLaws.{next-empty}
 use Rattle.vm_session.specs.Outcome.{NothingDone}
 

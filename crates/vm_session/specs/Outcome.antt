@@ -10,11 +10,10 @@ use Rattle.script_io.specs.declared.status.Status.TheVariants.{Done, Usage, Host
 use Rattle.script_io.specs.Faults.{IsCutOff}
 use Rattle.vm_base.specs.declared.limits.TheConstants.{SCRIPT_BYTES, WORK_COUNT}
 use Rattle.vm_model.specs.declared.reply.Reply.{Reply}
-use Rattle.vm_model.specs.Contents.Content.{Content}
+use Rattle.vm_model.specs.Contents.Content.{Content, HasNoVmo}
 use Rattle.vm_model.specs.Machine.Machine.{Machine, IsGoodMachine, empty_machine}
 use Rattle.vm_model.specs.Language.Text.{texts}
 use Rattle.vm_model.specs.Language.Reading.{◌>>=◌}
-use Rattle.vm_core.specs.Vm.{HasNoVmo}
 use Rattle.vm_model.specs.Scripts.Run.{Gives, Run, Legal}
 use Rattle.vm_model.specs.Scripts.Workload.{IsWorked}
 use Rattle.served.specs.Words.{is_text, decimal_of_word, frames_in}

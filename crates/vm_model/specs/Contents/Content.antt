@@ -23,6 +23,11 @@ pub record Content : Type 0 where
 unfoldable pub nothing : Content
 nothing = record { frames = 0; next = 1; count = λ v. None; page = λ v p. None }
 
+-- the content has no VMO, and so no page
+pub record HasNoVmo (c : Content) : Type 0 where
+  pub none : (v : ℕ) → c.count v ≡ None
+  pub no_page : (v p : ℕ) → c.page v p ≡ None
+
 -- the bytes that a page shows
 unfoldable pub bytes_of : Option Page → List ℕ
 bytes_of None = zeros

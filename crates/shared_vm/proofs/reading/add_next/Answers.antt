@@ -2,7 +2,7 @@ use Rattle.std.proofs.Common.{◌≡◌, List, ℕ, [], Some, refl, sym, ◌∙�
 use Rattle.script_io.specs.declared.status.Status.TheVariants.{Done, ReadFault, ScriptLimit}
 use Rattle.served.proofs.Served.{Completes-end, StopsReading-there, ReachesLimit-there}
 use Rattle.served.proofs.Answered.{other_status}
-use Rattle.shared_vm.specs.declared.limits.TheConstants.{INPUT_BYTES}
+use Rattle.vm_base.specs.declared.limits.TheConstants.{INPUT_BYTES}
 use Rattle.shared_vm.specs.Tasks.{no_tasks, lists_of}
 use Rattle.shared_vm.specs.Gathering.{gathering}
 use Rattle.shared_vm.proofs.GatherLaws.{gathered, IsGathered-more, IsReady-more, falls-more, lack-no_end, lack-no_fault, IsFetched-line, IsFetched-long, added-long}

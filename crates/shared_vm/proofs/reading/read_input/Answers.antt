@@ -1,7 +1,7 @@
 use Rattle.std.proofs.Common.{[], Some, Err, refl, ap, ◌∙◌, sym, arith}
 use Rattle.std.proofs.KnownBytes.{Consumes-nil}
 use Rattle.served.proofs.Beginning.{HasFailed-earlier, IsServed-fresh}
-use Rattle.shared_vm.specs.declared.limits.TheConstants.{INPUT_BYTES}
+use Rattle.vm_base.specs.declared.limits.TheConstants.{INPUT_BYTES}
 use Rattle.shared_vm.specs.Gathering.{gathering}
 use Rattle.shared_vm.proofs.GatherLaws.{IsReady-none, told-gathers, told-few, told-fault}
 use Rattle.shared_vm.proofs.reading.read_input.Goals as goal

@@ -1,6 +1,6 @@
 use Rattle.std.proofs.Common.{◌≡◌, ◌+◌, ◌≤◌}
 use Rattle.served.specs.Serving.{IsReady, bytes_left}
-use Rattle.shared_vm.specs.declared.limits.TheConstants.{INPUT_BYTES}
+use Rattle.vm_base.specs.declared.limits.TheConstants.{INPUT_BYTES}
 use Rattle.shared_vm.specs.Gathering.{IsGathered}
 use Rattle.shared_vm.specs.Tasks.{task_count}
 use Rattle.shared_vm.proofs.reading.read_input.Given as goal

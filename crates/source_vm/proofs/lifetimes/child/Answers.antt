@@ -2,7 +2,7 @@ use Rattle.std.proofs.Common.{◌∙◌, ℕ, refl, sym, ap, arith}
 use Rattle.std.proofs.lemmas.Bool.{lt-ltb}
 use Rattle.vm_base.specs.Entries.{with_key}
 use Rattle.vm_model.proofs.ContentLaws.{pages_of-at}
-use Rattle.source_model.specs.declared.limits.TheConstants.{SOURCE_BYTES}
+use Rattle.vm_base.specs.declared.limits.TheConstants.{SOURCE_BYTES}
 use Rattle.source_model.specs.State.{seen_of}
 use Rattle.source_vm.specs.Table.{names_of, owners_of, backings_of, links_of, children_of, state_of}
 use Rattle.source_vm.proofs.StepLaws.{no_more, aligned_from, kept_all}

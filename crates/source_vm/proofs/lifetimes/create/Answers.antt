@@ -1,8 +1,7 @@
 use Rattle.std.proofs.Common.{◌∙◌, ◌/◌, ℕ, refl, ap, arith}
-use Rattle.vm_base.specs.declared.limits.TheConstants.{PAGE}
+use Rattle.vm_base.specs.declared.limits.TheConstants.{PAGE, SOURCE_BYTES}
 use Rattle.vm_base.specs.Entries.{with_key}
 use Rattle.source_model.specs.declared.backing.Backing.{Backing}
-use Rattle.source_model.specs.declared.limits.TheConstants.{SOURCE_BYTES}
 use Rattle.source_vm.specs.Table.{names_of, owners_of, backings_of, links_of, children_of, state_of}
 use Rattle.source_vm.proofs.StepLaws.{no_more}
 use Rattle.source_vm.proofs.TableLaws.{closed_from}
