@@ -117,14 +117,16 @@ FORMS = {
 }
 
 
-def read_line(line):
-    """Returns the command of a line, its arguments and its flags; or None of a line without a reply."""
+def read_line(line, forms=None):
+    """Returns the command of a line, its arguments and its flags; or None of a line without a reply. `forms` are those of the
+    machine if none are given."""
+    forms = forms or FORMS
     syntax(len(line.encode()) <= LINE_BYTES)
     words = [it for it in re.split("[ \t\r]", line) if it]
     if not words or words[0].startswith("#"):
         return None
-    syntax(words[0] in FORMS)
-    arguments, flags = FORMS[words[0]]
+    syntax(words[0] in forms)
+    arguments, flags = forms[words[0]]
     given, flagged = words[1 : 1 + len(arguments)], words[1 + len(arguments) :]
     syntax(len(given) == len(arguments) and len(set(flagged)) == len(flagged) and set(flagged) <= set(flags.split()))
     return words[0], [READERS[it](word) for it, word in zip(arguments, given)], set(flagged)
@@ -276,7 +278,32 @@ def spelled(rights):
     return next(word for word, it in RIGHTS.items() if it == rights)
 
 
-class Machine:
+class Answering:
+    """What answers lines, by a method for each command of its forms."""
+
+    forms = FORMS
+    told = ""
+
+    def answer(self, line, told=""):
+        """Does a line of a script, and returns the lines of its reply. Where the machine may choose, it chooses the reply whose
+        first line is `told`, if it may."""
+        self.told = told
+        try:
+            command = read_line(line, self.forms)
+            if command is None:
+                return []
+            word, arguments, flags = command
+            said = getattr(self, word)(*arguments, *([flags] if self.forms[word][1] else []))
+        except Refusal as refusal:
+            return [str(refusal)]
+        return ("OK" if said is None else f"OK {said}").split("\n")
+
+    def may_want_memory(self, holds=True):
+        """Where the command may want the host's memory, and is told to, it does."""
+        refuse_where((holds and self.told == "HOST_MEMORY", "HOST_MEMORY"))
+
+
+class Machine(Answering):
     """A machine with so many frames."""
 
     def __init__(self, frames):
@@ -287,25 +314,6 @@ class Machine:
         self.names = {}
         self.pins = {}
         self.regions = {}
-        self.told = ""
-
-    def answer(self, line, told=""):
-        """Does a line of a script, and returns the lines of its reply. Where the machine may choose, it chooses the reply whose
-        first line is `told`, if it may."""
-        self.told = told
-        try:
-            command = read_line(line)
-            if command is None:
-                return []
-            word, arguments, flags = command
-            said = getattr(self, word)(*arguments, *([flags] if FORMS[word][1] else []))
-        except Refusal as refusal:
-            return [str(refusal)]
-        return ("OK" if said is None else f"OK {said}").split("\n")
-
-    def may_want_memory(self, holds=True):
-        """Where the command may want the host's memory, and is told to, it does."""
-        refuse_where((holds and self.told == "HOST_MEMORY", "HOST_MEMORY"))
 
     # ---- what a VMO is made of
 

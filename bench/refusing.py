@@ -1,13 +1,14 @@
 """Runs inside gdb: runs the program again and again, and lets one call for memory fail in each run, the first in the first.
 
-It reads from the environment: SCRIPT, the file of the script; ROOM, a folder for what the runs write. For run N it writes
-ROOM/N, and tells the exit status on a line of ROOM/statuses. It ends where a run makes fewer calls than N.
+It reads from the environment: SCRIPT, the file of the script; WORDS, the words of the command line, with blanks between; ROOM, a
+folder for what the runs write. For run N it writes ROOM/N, and tells the exit status on a line of ROOM/statuses. It ends where a
+run makes fewer calls than N. A program may have several threads: the call that fails is the Nth of all.
 """
 import os
 
 import gdb
 
-SCRIPT, ROOM = os.environ["SCRIPT"], os.environ["ROOM"]
+SCRIPT, WORDS, ROOM = (os.environ[it] for it in ("SCRIPT", "WORDS", "ROOM"))
 MOST = 100_000
 
 
@@ -49,7 +50,7 @@ def main():
         for failing in range(1, MOST):
             Asking.count, Asking.failing = 0, failing
             gdb.execute("set $_exitcode = (void) 0")
-            gdb.execute(f"run run <{SCRIPT} >{ROOM}/{failing}", to_string=True)
+            gdb.execute(f"run {WORDS} <{SCRIPT} >{ROOM}/{failing}", to_string=True)
             statuses.write(f"{failing} {end_run()} {Asking.count}\n")
             if Asking.count < failing:
                 return

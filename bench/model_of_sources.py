@@ -1,0 +1,256 @@
+"""A model of the machine of page sources, in Python. Each VMO has the bytes of all its pages, whether they are in memory or not, and
+a write is pushed down into the pages that show the one that is written. So nothing is looked up through parents, except which
+page a read supplies. What the model answers is what docs/MACHINE.md says of page sources."""
+import functools
+from typing import NamedTuple
+
+from model import MOST_READ, PAGE, READERS, Answering, pages_in, refuse_where, syntax, touched
+
+MOST_BYTES = 1 << 24
+LAST_KIND = 2
+KINDS = ("snapshot", "snapshot_at_least_on_write")
+ZEROS = bytes(PAGE)
+
+
+def child_kind(word):
+    syntax(word in KINDS)
+    return word
+
+
+READERS["c"] = child_kind
+
+
+@functools.cache
+def run_of(first, step):
+    """Returns the bytes of a page that begins with a byte and goes on by a step."""
+    return bytes((first + at * step) % 256 for at in range(PAGE))
+
+
+def source_page(kind, seed, page):
+    """Returns the bytes of a page of a source."""
+    first = seed + (0, page * PAGE, page)[kind]
+    return run_of(first % 256, int(kind == 1))
+
+
+class Backing(NamedTuple):
+    """Where pages of a VMO come from: the first `seen` pages are those of a source from its page `base` on."""
+
+    kind: int
+    seed: int
+    base: int
+    seen: int
+
+    def page(self, page):
+        """Returns the bytes of a page by the source, which are zeros past those that are seen."""
+        return source_page(self.kind, self.seed, self.base + page) if page < self.seen else ZEROS
+
+    def part(self, first, count):
+        """Returns the same of so many pages from a page on."""
+        return Backing(self.kind, self.seed, self.base + first, min(count, max(self.seen - first, 0)))
+
+
+class Link(NamedTuple):
+    """What a loose VMO shows: its first `seen` pages are those of the parent from its page `base` on."""
+
+    parent: "SourceVmo"
+    base: int
+    seen: int
+
+
+class SourceVmo:
+    """A VMO: the bytes of its pages, and of each page that is held the koids of the VMOs that show its frame."""
+
+    def __init__(self, koid, text, backing=None, link=None):
+        self.koid = koid
+        self.text = text
+        self.backing = backing
+        self.link = link
+        self.loose = []
+        self.held = {}
+
+    def size(self):
+        return len(self.text) * PAGE
+
+    def shown(self, first, count):
+        """Returns the bytes of so many pages from a page on, zeros past the end."""
+        pages = self.text[first : first + count]
+        return pages + [ZEROS] * (count - len(pages))
+
+    def is_absent(self, page):
+        """Whether a page comes from a source and is not held."""
+        return page not in self.held and self.backing is not None and page < self.backing.seen
+
+    def is_sole(self, page):
+        return page in self.held and len(self.held[page]) == 1
+
+    def is_clean(self, page):
+        """Whether a page is held and has the bytes that it has by its source."""
+        return page in self.held and self.text[page] == self.backing.page(page)
+
+    def read_at(self, page):
+        """Returns the VMO and the page of it at which a read of a page ends."""
+        vmo = self
+        while vmo.link and page not in vmo.held and page < vmo.link.seen:
+            vmo, page = vmo.link.parent, vmo.link.base + page
+        return vmo, page
+
+    def push(self, page, at, written):
+        """Writes into a page, and into the pages of loose children that show it."""
+        shown = self.text[page]
+        self.text[page] = shown[:at] + written + shown[at + len(written) :]
+        for child in self.loose:
+            its_page = page - child.link.base
+            if 0 <= its_page < child.link.seen and its_page not in child.held:
+                child.push(its_page, at, written)
+
+
+class SourceMachine(Answering):
+    """A machine of page sources with so many frames."""
+
+    forms = {
+        "source_create": ("vnnn", ""),
+        "vmo_create_child": ("vvcnn", ""),
+        "vmo_close": ("v", ""),
+        "vmo_read": ("vnn", ""),
+        "vmo_write": ("vnd", ""),
+        "supply": ("vnn", ""),
+        "evict": ("vnn", ""),
+        "stat": ("", ""),
+    }
+
+    def __init__(self, frames):
+        self.frames = frames
+        self.used = 0
+        self.next = 1
+        self.vmos = []
+        self.names = {}
+
+    # ---- what there is
+
+    def vmo(self, name):
+        refuse_where((name not in self.names, "BAD_HANDLE"))
+        return self.names[name]
+
+    def add(self, name, text, backing=None, link=None):
+        """Adds a VMO with a name, and returns it."""
+        it = SourceVmo(self.next, text, backing, link)
+        self.next += 1
+        self.vmos.append(it)
+        self.names[name] = it
+        return it
+
+    def give_up(self, vmo, page):
+        """Takes the frame of a page from a VMO."""
+        koids = vmo.held.pop(page)
+        koids.remove(vmo.koid)
+        self.used -= not koids
+
+    def own(self, vmo, page):
+        """Gives a page a frame that no other VMO shows."""
+        if not vmo.is_sole(page):
+            if page in vmo.held:
+                self.give_up(vmo, page)
+            vmo.held[page] = {vmo.koid}
+            self.used += 1
+
+    def supply_each(self, pages):
+        """Supplies absent pages, each of a VMO."""
+        refuse_where((len(pages) > self.frames - self.used, "NO_MEMORY"))
+        self.may_want_memory(pages)
+        for vmo, page in pages:
+            self.own(vmo, page)
+
+    def prune(self, vmo):
+        """Lets a VMO go that has no name and no loose child, and then its parent, if it has none either."""
+        while vmo and vmo not in self.names.values() and not vmo.loose:
+            for page in list(vmo.held):
+                self.give_up(vmo, page)
+            self.vmos.remove(vmo)
+            parent = vmo.link.parent if vmo.link else None
+            if parent:
+                parent.loose.remove(vmo)
+            vmo = parent
+
+    # ---- commands
+
+    def source_create(self, name, size, kind, seed):
+        count = pages_in(size)
+        refuse_where(
+            (name in self.names, "NAME_IN_USE"),
+            (kind > LAST_KIND, "INVALID_ARGS"),
+            (count * PAGE > MOST_BYTES, "OUT_OF_RANGE"),
+        )
+        self.may_want_memory()
+        backing = Backing(kind, seed, 0, count)
+        self.add(name, [backing.page(it) for it in range(count)], backing)
+
+    def vmo_create_child(self, name, parent, kind, offset, size):
+        of = self.vmo(parent)
+        is_loose, count, first = kind != "snapshot", pages_in(size), offset // PAGE
+        refuse_where(
+            (name in self.names, "NAME_IN_USE"),
+            (offset % PAGE, "INVALID_ARGS"),
+            (of.link and not is_loose, "NOT_SUPPORTED"),
+            (offset + count * PAGE > MOST_BYTES, "OUT_OF_RANGE"),
+        )
+        self.may_want_memory()
+        text = of.shown(first, count)
+        if is_loose:
+            seen = min(count, max(len(of.text) - first, 0))
+            of.loose.append(self.add(name, text, link=Link(of, first, seen)))
+            return
+        child = self.add(name, text, of.backing.part(first, count))
+        for page in range(first, min(first + count, len(of.text))):
+            if page in of.held:
+                child.held[page - first] = of.held[page]
+                of.held[page].add(child.koid)
+
+    def vmo_close(self, name):
+        it = self.vmo(name)
+        del self.names[name]
+        self.prune(it)
+
+    def vmo_read(self, name, offset, length):
+        it = self.vmo(name)
+        refuse_where((length > MOST_READ, "INVALID_ARGS"), (offset + length > it.size(), "OUT_OF_RANGE"))
+        pages = touched(offset, length)
+        ends = [it.read_at(page) for page in pages]
+        self.supply_each([(vmo, page) for vmo, page in ends if vmo.is_absent(page)])
+        shown = b"".join(it.text[page] for page in pages)
+        return shown[offset % PAGE : offset % PAGE + length].hex() or "-"
+
+    def vmo_write(self, name, offset, written):
+        it = self.vmo(name)
+        refuse_where((offset + len(written) > it.size(), "OUT_OF_RANGE"))
+        pages = touched(offset, len(written))
+        need = sum(not it.is_sole(page) for page in pages)
+        refuse_where((need > self.frames - self.used, "NO_MEMORY"))
+        self.may_want_memory(need)
+        for page in pages:
+            start, end = max(offset, page * PAGE), min(offset + len(written), (page + 1) * PAGE)
+            it.push(page, start - page * PAGE, written[start - offset : end - offset])
+            self.own(it, page)
+
+    def whole_pages(self, name, offset, length):
+        """Returns the VMO of a name that is not loose, and the pages of a range of whole pages."""
+        it = self.vmo(name)
+        refuse_where(
+            (offset % PAGE or length % PAGE, "INVALID_ARGS"),
+            (it.link, "NOT_SUPPORTED"),
+            (offset + length > it.size(), "OUT_OF_RANGE"),
+        )
+        return it, touched(offset, length)
+
+    def supply(self, name, offset, length):
+        it, pages = self.whole_pages(name, offset, length)
+        self.supply_each([(it, page) for page in pages if it.is_absent(page)])
+
+    def evict(self, name, offset, length):
+        it, pages = self.whole_pages(name, offset, length)
+        clean = [page for page in pages if it.is_clean(page)]
+        self.may_want_memory(clean)
+        for page in clean:
+            self.give_up(it, page)
+
+    def stat(self):
+        return f"frames={self.frames} used={self.used} free={self.frames - self.used} vmos={len(self.vmos)}"
