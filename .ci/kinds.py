@@ -163,7 +163,10 @@ class Speaking:
 
     def clause(self, body, result):
         """Returns the kinds of the answer of a type that a clause speaks of."""
-        return self.term(term(tokens(body)), "result", result, True)
+        words = term(tokens(body))
+        if self.all_kinds(result) == {()}:
+            return {()} if has(words, "result") else set()
+        return self.term(words, "result", result, True)
 
     def all_kinds(self, result):
         return set(self.answers.kinds(result))
