@@ -26,6 +26,8 @@ CASES = {
 TESTS = {"IsSome": "Some", "IsNone": "None", "IsOk": "Ok", "IsErr": "Err", "IsTrue": "true", "IsFalse": "false"}
 # The relations of the standard library that speak of all kinds of an answer that they are handed.
 STANDARD = {"WriteAppends", "ReadConsumes"}
+# How a definition of a word begins.
+DEFINED = r"^(?:(?:pub|abbrev|unfoldable|record|data) )+{}\b"
 NOTHING = (["⊤"], ["Unit"], ["Unit", ["{", "0"]])
 
 
@@ -287,22 +289,20 @@ class Speaking:
         """Returns the kinds that a relation speaks of, which is handed the answer at a place."""
         if head in STANDARD:
             return self.all_kinds(result)
-        path = self.file_of(head)
-        if path is None:
+        path, name = self.file_of(head)
+        if path is None or not re.search(DEFINED.format(name), text_of(path), re.M):
             raise ValueError(f"{self.path.relative_to(self.top)}: where {head} is defined is not known")
-        inner = Speaking(self.answers, path, self.top)
-        return inner.definition(head.rpartition(".")[2], place, result, is_sure)
+        return Speaking(self.answers, path, self.top).definition(name, place, result, is_sure)
 
     def file_of(self, head):
-        """Returns the file that defines a word which this file brings in, or has itself."""
+        """Returns the file that defines a word which this file brings in, or else this file, and the name of the word there."""
         module, _, name = head.rpartition(".")
         brought = brought_in(self.path)
         if module:
-            return definitions_file(brought[module][0], self.top) if module in brought else None
+            return definitions_file(brought[module][0], self.top) if module in brought else None, name
         if name in brought:
-            return definitions_file(brought[name][0], self.top)
-        is_here = self.path.suffix == ".antt" and re.search(rf"^((pub|abbrev|unfoldable|record|data) )+{name}\b", text_of(self.path), re.M)
-        return self.path if is_here else None
+            return definitions_file(brought[name][0], self.top), brought[name][1]
+        return self.path, name
 
     def definition(self, name, place, result, is_sure):
         """Returns the kinds that a definition of this file speaks of."""
@@ -344,7 +344,7 @@ class Speaking:
             everything = self.all_kinds(result)
             is_used = case != "_" and has(body, case)
             return everything, set() if body in NOTHING else self.term(body, case, result, is_sure) if is_used else everything
-        kinds = self.under(case, result)
+        kinds = self.made(pattern, result)
         if body in NOTHING:
             return kinds, set()
         of, name = cases[case], pattern[1] if len(pattern) == 2 else None
