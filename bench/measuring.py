@@ -9,16 +9,17 @@ import tempfile
 import time
 
 TOP = os.path.dirname(os.path.dirname(os.path.realpath(__file__)))
-PROGRAM = f"{TOP}/crates/vmosim/out/vmosim"
+# The file of the proved program, or nothing if it is not built from the sources as they stand.
+PROGRAM = subprocess.run([f"{TOP}/vmosim", "--path"], stdout=subprocess.PIPE, stderr=subprocess.DEVNULL, text=True, check=False).stdout.strip()
 RUNS = 3
 # A run that takes more seconds than these is not repeated.
 LONG = 5
 
 
 def check_built():
-    """Ends where the program is not built."""
-    if not os.access(PROGRAM, os.X_OK):
-        sys.exit("bench: the program is not built; `./vmosim run </dev/null` at the top builds it")
+    """Ends where the program is not built from the sources as they stand."""
+    if not PROGRAM:
+        sys.exit("bench: the program is not built, or is older than its sources; `./vmosim --build` at the top builds it")
 
 
 def script(before, lines, count):
