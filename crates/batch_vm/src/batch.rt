@@ -39,8 +39,8 @@ impl Batch {
     ghost use Rattle.batch_model.specs.BatchLent.{batch_command_of, batch_reply_for};
     ghost use Rattle.batch_vm.specs.Batch.{batch_of};
 
-    /// A machine with no jobs and nothing else. It agrees with every store that has no VMO, whatever its next koid is, from 1 on.
-    /// Where that is 1, they are the empty machine with jobs.
+    /// A machine with no jobs and nothing else. It agrees with every store that has no VMO, whatever its next koid is, from 1
+    /// on, as `PageStore::next_koid` says of any store. If that is 1, they are the empty machine with jobs.
     pub fn new(alloc: Global) -> Batch
         ensures bare { (c : Content) → batch_of c result ≡ record { machine = bare_machine c; jobs = λ n. None } }
         ensures agrees { (c : Content) → HasNoVmo c → 1 ≤ c.next → Agrees c result.vm }

@@ -392,4 +392,8 @@ impl PageStore for CowForest {
     fn vmos(&self) -> u64 {
         self.vmos
     }
+
+    fn next_koid(&self) -> Koid {
+        Koid(self.next)
+    }
 }

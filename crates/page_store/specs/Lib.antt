@@ -2,4 +2,5 @@ pub mod Pages
 pub mod Names
 pub mod Held
 pub mod Flat
+pub mod Requests
 pub mod Refusing

@@ -355,6 +355,10 @@ impl PageStore for FlatStore {
     fn vmos(&self) -> u64 {
         self.vmos.len() as u64
     }
+
+    fn next_koid(&self) -> Koid {
+        Koid(self.next)
+    }
 }
 
 /// Takes a free frame, of which there is one. Its bytes are zeros.

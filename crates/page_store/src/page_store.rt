@@ -1,11 +1,12 @@
 //! The contract of a store of pages.
 
-ghost use Rattle.std.specs.Prelude.{◌≡◌, ℕ, ◌+◌, ◌<◌, ◌≤◌, ◌⊎◌, true, length, IsSome, None, Some, IfSome, IfNone, IfOk, OnOk, OnErr};
+ghost use Rattle.std.specs.Prelude.{◌≡◌, ℕ, ◌+◌, ◌<◌, ◌≤◌, ◌⊎◌, Bool, true, length, is_ok, IsSome, None, Some, IfSome, IfNone, IfOk, OnOk, OnErr};
 ghost use Rattle.vm_model.specs.Contents.Content.{Content, nothing, used, sole, pages_of, created, vmos_of};
 ghost use Rattle.vm_model.specs.Contents.Owning.{Owns};
 ghost use Rattle.vm_model.specs.Contents.Sharing.{viewers, IsLeastViewer, snapshotted, without};
 ghost use Rattle.vm_model.specs.Contents.Zeroing.{zeroed, resized};
 ghost use Rattle.page_store.specs.Pages.{look_at, IsShown, IsShownOnce, AreBytesOf, Overwrites};
+ghost use Rattle.page_store.specs.Requests.{Request, Fill, Create, Snapshot, Reserve};
 
 use vm_base::{FRAMES, HostMemory, KOIDS, Koid, PAGE, PageNo, Tag, VMO_PAGES};
 
@@ -33,6 +34,11 @@ pub trait PageStore: Drop {
     /// that change the store promise nothing of it if they succeed.
     ghost spare: { Self → ℕ };
 
+    /// What may come of a call that asks the host for memory: the store before it, the call, whether it succeeds, and
+    /// the store afterwards. A store that leaves this as it stands here may refuse such a call at any time. A store
+    /// over another one says by it that an answer is the inner store's.
+    ghost answers: { Self → Request → Bool → Self → Type 0 } = { λ store request ok after. Unit {0} };
+
     /// Gives a store that has nothing its page frames, from 1 to `FRAMES` of them. All are free. `HostMemory` if the
     /// host has too little memory.
     fn fill(&mut self, frames: u32) -> Result<(), HostMemory>
@@ -40,7 +46,8 @@ pub trait PageStore: Drop {
         requires frames { (1 ≤ frames) × (frames ≤ FRAMES) }
         ensures ok { OnOk result (content self.new ≡ record (content self.old) { frames = frames }) }
         ensures err { OnErr result (content self.new ≡ content self.old) }
-        ensures kept { OnErr result (spare self.old ≤ spare self.new) };
+        ensures kept { OnErr result (spare self.old ≤ spare self.new) }
+        ensures answer { answers self.old (Fill frames) (is_ok result) self.new };
 
     /// Makes a VMO of `count` zero pages under the next koid, and answers the koid. `HostMemory` if the host has too
     /// little memory.
@@ -50,7 +57,8 @@ pub trait PageStore: Drop {
         ensures koid { IfOk result (λ v. v.0 ≡ (content self.old).next) }
         ensures ok { OnOk result (content self.new ≡ created (content self.old) count) }
         ensures err { OnErr result (content self.new ≡ content self.old) }
-        ensures kept { OnErr result (spare self.old ≤ spare self.new) };
+        ensures kept { OnErr result (spare self.old ≤ spare self.new) }
+        ensures answer { answers self.old (Create count) (is_ok result) self.new };
 
     /// Makes a snapshot of a VMO under the next koid, and answers the koid. The snapshot has `count` pages. The first
     /// `seen` of them are the pages of `of` from `first` on: they show the same frames, so no frame is taken. The
@@ -71,13 +79,15 @@ pub trait PageStore: Drop {
         ensures koid { IfOk result (λ v. v.0 ≡ (content self.old).next) }
         ensures ok { OnOk result (content self.new ≡ snapshotted (content self.old) of.0 first seen count) }
         ensures err { OnErr result (content self.new ≡ content self.old) }
-        ensures kept { spare self.old ≤ spare self.new };
+        ensures kept { spare self.old ≤ spare self.new }
+        ensures answer { answers self.old (Snapshot of.0 first seen count) (is_ok result) self.new };
 
     /// Makes room for owning `n` pages, or for making them zero. `HostMemory` if the host has too little memory.
     fn reserve(&mut self, n: u64) -> Result<(), HostMemory>
         ensures room { OnOk result (n ≤ spare self.new) }
         ensures same { content self.new ≡ content self.old }
-        ensures kept { spare self.old ≤ spare self.new };
+        ensures kept { spare self.old ≤ spare self.new }
+        ensures answer { answers self.old (Reserve n) (is_ok result) self.new };
 
     /// What a page below the count is.
     fn look(&self, v: Koid, page: PageNo) -> Look
@@ -161,4 +171,10 @@ pub trait PageStore: Drop {
     /// How many VMOs there are.
     fn vmos(&self) -> u64
         ensures { result ≡ vmos_of (content self.now) };
+
+    /// Returns the koid that the next VMO gets. It is 1 or more in every store, whatever the store's type. `create` and
+    /// `snapshot` may be called while it is below `KOIDS`.
+    fn next_koid(&self) -> Koid
+        ensures koid { result.0 ≡ (content self.now).next }
+        ensures first { 1 ≤ (content self.now).next };
 }

@@ -1,12 +1,13 @@
 //! A store that refuses on demand.
 
-ghost use Rattle.std.specs.Prelude.{◌≡◌, ℕ, ◌+◌, ◌<◌, ◌≤◌, ◌⊎◌, ◌↔◌, true, length, IsSome, IsTrue, IfOk, OnOk, OnErr, IsErr, Contains};
+ghost use Rattle.std.specs.Prelude.{◌≡◌, ℕ, ◌+◌, ◌<◌, ◌≤◌, ◌⊎◌, ◌↔◌, true, length, is_ok, IsSome, IsTrue, IfOk, OnOk, OnErr, IsErr, Contains};
 ghost use Rattle.vm_base.specs.declared.limits.TheConstants.{FRAMES, KOIDS, PAGE, VMO_PAGES};
 ghost use Rattle.vm_model.specs.Contents.Content.{nothing, used, sole, pages_of, created};
 ghost use Rattle.vm_model.specs.Contents.Owning.{Owns};
 ghost use Rattle.vm_model.specs.Contents.Sharing.{snapshotted, without};
 ghost use Rattle.vm_model.specs.Contents.Zeroing.{zeroed, resized};
 ghost use Rattle.page_store.specs.Pages.{IsShownOnce, Overwrites};
+ghost use Rattle.page_store.specs.Requests.{Fill, Create, Snapshot, Reserve};
 ghost use Rattle.page_store.specs.Refusing.{Refusals, next_call, counted};
 
 use crate::page_store::{Look, PageStore};
@@ -100,6 +101,9 @@ impl<P: PageStore> PageStore for RefusingStore<P> {
 
     ghost spare = { λ s. P.spare s.0 };
 
+    ghost answers = { λ s request ok after.
+        ¬ (Contains s.1.refuse (next_call s.1.calls)) → P.answers s.0 request ok after.0 };
+
     fn fill(&mut self, frames: u32) -> Result<(), HostMemory>
         requires empty { P.content self.old.0 ≡ nothing }
         requires frames { (1 ≤ frames) × (frames ≤ FRAMES) }
@@ -107,6 +111,7 @@ impl<P: PageStore> PageStore for RefusingStore<P> {
         ensures err { OnErr result (P.content self.new.0 ≡ P.content self.old.0) }
         ensures kept { OnErr result (P.spare self.old.0 ≤ P.spare self.new.0) }
         ensures refused { Contains self.old.1.refuse (next_call self.old.1.calls) → IsErr result × (self.new.0 ≡ self.old.0) }
+        ensures others { ¬ (Contains self.old.1.refuse (next_call self.old.1.calls)) → P.answers self.old.0 (Fill frames) (is_ok result) self.new.0 }
         ensures calls { self.new.1 ≡ counted self.old.1 }
     {
         if self.plan.count_call() {
@@ -123,6 +128,7 @@ impl<P: PageStore> PageStore for RefusingStore<P> {
         ensures err { OnErr result (P.content self.new.0 ≡ P.content self.old.0) }
         ensures kept { OnErr result (P.spare self.old.0 ≤ P.spare self.new.0) }
         ensures refused { Contains self.old.1.refuse (next_call self.old.1.calls) → IsErr result × (self.new.0 ≡ self.old.0) }
+        ensures others { ¬ (Contains self.old.1.refuse (next_call self.old.1.calls)) → P.answers self.old.0 (Create count) (is_ok result) self.new.0 }
         ensures calls { self.new.1 ≡ counted self.old.1 }
     {
         if self.plan.count_call() {
@@ -148,6 +154,7 @@ impl<P: PageStore> PageStore for RefusingStore<P> {
         ensures err { OnErr result (P.content self.new.0 ≡ P.content self.old.0) }
         ensures kept { P.spare self.old.0 ≤ P.spare self.new.0 }
         ensures refused { Contains self.old.1.refuse (next_call self.old.1.calls) → IsErr result × (self.new.0 ≡ self.old.0) }
+        ensures others { ¬ (Contains self.old.1.refuse (next_call self.old.1.calls)) → P.answers self.old.0 (Snapshot of.0 first seen count) (is_ok result) self.new.0 }
         ensures calls { self.new.1 ≡ counted self.old.1 }
     {
         if self.plan.count_call() {
@@ -161,6 +168,7 @@ impl<P: PageStore> PageStore for RefusingStore<P> {
         ensures same { P.content self.new.0 ≡ P.content self.old.0 }
         ensures kept { P.spare self.old.0 ≤ P.spare self.new.0 }
         ensures refused { Contains self.old.1.refuse (next_call self.old.1.calls) → IsErr result × (self.new.0 ≡ self.old.0) }
+        ensures others { ¬ (Contains self.old.1.refuse (next_call self.old.1.calls)) → P.answers self.old.0 (Reserve n) (is_ok result) self.new.0 }
         ensures calls { self.new.1 ≡ counted self.old.1 }
     {
         if self.plan.count_call() {
@@ -251,6 +259,10 @@ impl<P: PageStore> PageStore for RefusingStore<P> {
 
     fn vmos(&self) -> u64 {
         self.inner.vmos()
+    }
+
+    fn next_koid(&self) -> Koid {
+        self.inner.next_koid()
     }
 }
 

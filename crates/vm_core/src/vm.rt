@@ -52,7 +52,8 @@ impl Vm {
     ghost use Rattle.vm_core.specs.Vm.{Agrees, bare_machine, machine_of};
 
     /// A machine with no names, pins, regions and translations. It agrees with every store that has no VMO, whatever
-    /// the store's next koid is, from 1 on. If that is 1, the two are the empty machine.
+    /// the store's next koid is, from 1 on, as `PageStore::next_koid` says of any store. If that is 1, the two are the
+    /// empty machine.
     pub fn new(alloc: Global) -> Vm
         ensures bare { (c : Content) → machine_of c result ≡ bare_machine c }
         ensures agrees { (c : Content) → HasNoVmo c → 1 ≤ c.next → Agrees c result }
