@@ -1,8 +1,9 @@
 -- Looking at pages, and reading and writing the bytes of a frame.
-use Rattle.std.proofs.Common.{◌≡◌, ◌≢◌, ℕ, List, [], Option, Some, IsSome, refl, sym, ap, subst, ◌∙◌, arith}
+use Rattle.std.proofs.Common.{◌≡◌, ◌≢◌, ℕ, List, [], Option, None, Some, IsSome, refl, sym, ap, subst, ◌∙◌, arith}
 use Rattle.std.specs.Prelude.{unwrap_or}
 use Rattle.std.specs.Cmp.{both_ways}
 use Rattle.std.proofs.lemmas.Bool.Decides.{nat_tests}
+use Rattle.vm_base.specs.declared.names.Tag.{Tag}
 use Rattle.vm_base.specs.Entries.{with_key}
 use Rattle.vm_base.specs.Pages.{replaced}
 use Rattle.vm_base.proofs.EntryLaws.{with_key-same, with_key-other}
@@ -14,11 +15,11 @@ use Rattle.cow_split.specs.Exact.{IsExact, all_in_sight}
 use Rattle.cow_split.specs.Sight.{IsPage}
 use Rattle.cow_split.proofs.RowLaws.{frame-in_use, exact-in_use_alike}
 use Rattle.cow_merge.specs.Ranges.{AreLinked}
-use Rattle.page_store.specs.Pages.{look_at, ShowsTag, IsShown, IsShownOnce, Overwrites}
+use Rattle.page_store.specs.Pages.{look_at, frame_of, ShowsTag, IsShown, IsShownOnce, Overwrites}
 use Rattle.page_store.specs.declared.page_store.Look.{Look}
 use Rattle.page_store.specs.declared.page_store.Look.TheVariants as look
 use Rattle.page_store.proofs.FlatOwning.{is_some-with_key}
-use Rattle.cow_forest.specs.inside.Looking.{IsLook}
+use Rattle.cow_forest.specs.inside.Looking.{IsLook, ShowsFrame}
 use Rattle.cow_forest.specs.Store.{Forest, tree, content_of, page_with, page_showing, HasNode, IsStore}
 use Rattle.cow_forest.proofs.ContentLaws.{HasPage, ShownBy, page-of, page-shown, shown-page, vmo-shows, sole-last, one-node}
 use Rattle.cow_forest.proofs.StoreLaws.{IsChangedAt, store-kept, content-held}
@@ -33,6 +34,11 @@ module _ (f : Forest) (s : IsStore f) where
       let last = sole-last f s v k p tag.0 shown in
       let same : alone ≡ sole (content_of f) v p = both_ways alone (sole (content_of f) v p) (λ e. last.1 (held.1.0 e)) (λ e. held.1.1 (last.0 e)) in
       ap (look.Held tag) (same ∙ ap (is_sole_page (content_of f) v) page_is) ∙ ap (look_at (content_of f) v) (sym page_is)
+
+  -- which frame the VMO's node shows
+  pub frame-from : (v k p : ℕ) (answer : Option Tag) → HasPage f v k p → ShowsFrame (tree f) k p answer → answer ≡ frame_of ((content_of f).page v p)
+  frame-from v k p None h zero = ap frame_of (sym (page-of f s v k p h.node ∙ ap (page_showing f.pool) zero))
+  frame-from v k p (Some tag) h held = ap frame_of (sym (page-of f s v k p h.node ∙ ap (page_showing f.pool) held))
 
   -- the frame of a page that is held is taken
   pub held-taken : (v p t : ℕ) (held : Page) → ShowsTag (content_of f) t v p held → IsSome (taken_frames f.pool t)

@@ -1,5 +1,5 @@
 -- What a page of a visible node shows, and whether it alone shows it, told by the row that holds the page.
-use Rattle.std.proofs.Common.{◌≡◌, ◌↔◌, ℕ, ◌≤◌, Bool, true, Option, None, Some, refl, sym, ap, ◌∙◌, subst, arith}
+use Rattle.std.proofs.Common.{◌≡◌, ◌↔◌, ℕ, ◌≤◌, Bool, true, Option, None, Some, IfSome, IfNone, refl, sym, ap, ◌∙◌, subst, arith}
 use Rattle.vm_base.proofs.EntryLaws.{some_same}
 use Rattle.vm_base.specs.declared.names.Tag.{Tag}
 use Rattle.balanced_tree.specs.Rows.{Rows}
@@ -11,20 +11,22 @@ use Rattle.cow_arena.specs.declared.node.Node.{Node}
 use Rattle.cow_arena.specs.declared.node.NodeId.{NodeId}
 use Rattle.cow_arena.specs.declared.node.Side.{Side}
 use Rattle.cow_arena.specs.Nodes.{Arena, nodes_of, IsVisible}
+use Rattle.cow_arena.specs.Forest.{IsForest}
 use Rattle.cow_arena.specs.Walk.{Tree, walk, frame_at, frame_found}
 use Rattle.cow_arena.specs.Ways.{Arrives}
 use Rattle.cow_arena.proofs.WalkLaws.{walk-own, walk-past}
 use Rattle.cow_arena.proofs.ReachLaws.{reach-hidden, hidden-apart, walk-ends}
 use Rattle.cow_split.specs.declared.answers.Cut.{Cut}
 use Rattle.cow_split.specs.declared.answers.Cut.TheVariants as cut
+use Rattle.cow_split.specs.declared.answers.Holder.{Holder}
 use Rattle.cow_split.specs.declared.answers.Holder.TheVariants as holder
-use Rattle.cow_split.specs.Trees.{tree_of, holder_of}
+use Rattle.cow_split.specs.Trees.{tree_of, holder_of, frame_held}
 use Rattle.cow_split.specs.Sight.{IsPage, IsLastViewer}
 use Rattle.cow_split.specs.Exact.{IsExact, all_in_sight}
 use Rattle.cow_split.specs.Cutting.{cut_answer, leaves_frame}
 use Rattle.cow_split.proofs.RowLaws.{only-none, frame-shown, frame-once}
 use Rattle.cow_split.proofs.CutLaws.{cut-last}
-use Rattle.cow_forest.specs.inside.Looking.{look_in, IsLook}
+use Rattle.cow_forest.specs.inside.Looking.{look_in, tag_in, IsLook, ShowsFrame}
 use Rattle.cow_fork.proofs.LeafLaws.{IsLeaf, leaf-is}
 use Rattle.cow_fork.proofs.HolderLaws.{held-shown, own-row, bare-row}
 
@@ -111,3 +113,15 @@ module _ (arena : Arena) (rows : Rows Row) (v p : ℕ) (exact : (in_use : ℕ �
 
       back : IsLastViewer (tree_of arena rows) v tag.0 → answer ≡ true
       back last = is ∙ ap leaves_frame ((ways tag).1 (shown, last))
+
+-- the frame of a row of a node's own is what the page shows
+pub row-frame : (t : Tree) → IsForest t.nodes t.lists → (v p : ℕ) (node : Node) (row : Slot) → t.nodes v ≡ Some node → t.slots node.list.0 p ≡ Some row →
+    ShowsFrame t v p (tag_in row)
+row-frame t forest v p node (slot.Frame tag left right) at row = ap frame_found (walk-own t forest v p node _ at row)
+row-frame t forest v p node slot.Zero at row = ap frame_found (walk-own t forest v p node slot.Zero at row)
+
+-- the frame of the row that holds a page is what the page shows
+pub shows-frame : (t : Tree) (v p : ℕ) (held : Holder) (answer : Option Tag) → frame_held held ≡ frame_at t v p → IfSome answer (λ tag. frame_held held ≡ Some tag.0) →
+    IfNone answer (frame_held held ≡ None) → ShowsFrame t v p answer
+shows-frame t v p held (Some tag) same some none = sym same ∙ some
+shows-frame t v p held None same some none = sym same ∙ none

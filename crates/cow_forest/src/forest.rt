@@ -20,7 +20,7 @@ ghost use Rattle.cow_forest.specs.Owning.{HasOwnRow};
 ghost use Rattle.cow_forest.specs.Counting.{frame_row_count};
 ghost use Rattle.cow_forest.specs.Ranges.{rows_reached};
 
-use crate::looking::{look_at, look_at_counted, next_shown};
+use crate::looking::{look_at, look_at_counted, next_shown, shown_frame};
 use crate::node_table::NodeTable;
 use crate::owning::own_page;
 use crate::ranges::zero_pages;
@@ -267,6 +267,17 @@ impl PageStore for CowForest {
     #[inline(always)]
     fn look(&self, v: Koid, page: PageNo) -> Look {
         look_at(
+            &self.arena,
+            &self.lists,
+            &self.jumps,
+            self.nodes.get(v.0),
+            page,
+        )
+    }
+
+    #[inline(always)]
+    fn frame(&self, v: Koid, page: PageNo) -> Option<Tag> {
+        shown_frame(
             &self.arena,
             &self.lists,
             &self.jumps,

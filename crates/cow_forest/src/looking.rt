@@ -3,13 +3,14 @@
 ghost use Rattle.std.specs.Prelude.{◌≡◌, ◌+◌, ◌*◌, ◌^◌, ◌<◌, ◌≤◌, ℕ, Bool, None, IsSome, IsSomeAnd, IfSome, IfNone};
 ghost use Rattle.page_list.specs.Lists.{row_count, slots_of};
 ghost use Rattle.cow_arena.specs.Nodes.{nodes_of};
+ghost use Rattle.cow_arena.specs.Forest.{IsForest};
 ghost use Rattle.cow_arena.specs.Walk.{walk, frame_at};
 ghost use Rattle.cow_split.specs.Trees.{tree_of, holder_of};
 ghost use Rattle.cow_split.specs.Cost.{IsMostOfLookUp, depth};
 ghost use Rattle.cow_split.specs.Sight.{IsPage};
 ghost use Rattle.cow_split.specs.Exact.{IsExact, all_in_sight};
 ghost use Rattle.cow_jump.specs.Jumps.{AreJumps};
-ghost use Rattle.cow_forest.specs.inside.Looking.{look_in, IsLook, ShowsNoneIn, ShowsNoneFrom, IsNextBelow, nearer_page};
+ghost use Rattle.cow_forest.specs.inside.Looking.{look_in, tag_in, IsLook, ShowsFrame, ShowsNoneIn, ShowsNoneFrom, IsNextBelow, nearer_page};
 
 use cow_arena::{CowArena, NodeId};
 use cow_jump::{JumpTable, above_by_jumps, holder_by_jumps, holder_by_jumps_counted};
@@ -17,7 +18,7 @@ use cow_split::{Holder, is_last};
 use page_list::{ListId, PageLists, Slot, Steps};
 use page_store::Look;
 use std::sync::ledger::Ledger;
-use vm_base::PageNo;
+use vm_base::{PageNo, Tag};
 
 /// What a page of a VMO's node is. One with a row of its own, or outside the node's window,
 /// costs one look-up in the lists.
@@ -38,6 +39,57 @@ pub(crate) fn look_at(
         return look_in(slot);
     }
     look_upwards(arena, lists, jumps, leaf, page)
+}
+
+/// Returns the frame that a page of a VMO's node shows. No other viewer is searched for. A page with a row of its own, or
+/// outside the node's window, costs one look-up in the lists, and any other one walk upwards.
+#[inline(always)]
+pub(crate) fn shown_frame(
+    arena: &CowArena,
+    lists: &PageLists,
+    jumps: &JumpTable,
+    leaf: NodeId,
+    page: PageNo,
+) -> Option<Tag>
+    requires forest { IsForest (nodes_of arena.now) arena.now.lists }
+    requires jumps { (next : ℕ) × AreJumps (tree_of arena.now lists.now) next jumps.now }
+    requires node { IsSome (nodes_of arena.now leaf.0) }
+    ensures { ShowsFrame (tree_of arena.now lists.now) leaf.0 page result }
+{
+    if let Some(slot) = lists.find(arena.look(leaf).list, page) {
+        return frame_in(slot);
+    }
+    frame_upwards(arena, lists, jumps, leaf, page)
+}
+
+/// Returns the frame of a page with this row of its own.
+fn frame_in(slot: Slot) -> Option<Tag>
+    ensures { result ≡ tag_in slot }
+{
+    match slot {
+        Slot::Frame { tag, .. } => Some(tag),
+        Slot::Zero => None,
+    }
+}
+
+/// Does what `shown_frame` does, by the walk upwards. The page has no row of its own.
+#[inline(never)]
+fn frame_upwards(
+    arena: &CowArena,
+    lists: &PageLists,
+    jumps: &JumpTable,
+    leaf: NodeId,
+    page: PageNo,
+) -> Option<Tag>
+    requires forest { IsForest (nodes_of arena.now) arena.now.lists }
+    requires jumps { (next : ℕ) × AreJumps (tree_of arena.now lists.now) next jumps.now }
+    requires bare { IsSomeAnd (nodes_of arena.now leaf.0) (λ node. slots_of lists.now node.list.0 page ≡ None) }
+    ensures { ShowsFrame (tree_of arena.now lists.now) leaf.0 page result }
+{
+    if arena.look(leaf).seen <= page {
+        return None;
+    }
+    above_by_jumps(arena, lists, jumps, leaf, page).frame()
 }
 
 /// What a page with this row of its own is.

@@ -1,13 +1,19 @@
 -- What the frame of a translation shows.
 use Rattle.std.proofs.Common.{◌≡◌, ℕ, ◌+◌, ◌≤◌, List, length, replicate, take, drop, Option, None, Some, refl, sym, ap, ◌∙◌}
+use Rattle.std.specs.Option.{option_map}
 use Rattle.vm_base.specs.declared.limits.TheConstants.{PAGE}
 use Rattle.vm_base.specs.declared.names.Tag.{Tag}
 use Rattle.vm_model.specs.Contents.Content.{Content, Page, shown, bytes_of}
 use Rattle.vm_model.specs.Space.Readiness.{frame_at}
-use Rattle.page_store.specs.Pages.{AreBytesOf}
+use Rattle.page_store.specs.Pages.{frame_of, AreBytesOf}
 use Rattle.fault.specs.declared.translation.Translation.{Translation}
-use Rattle.fault.specs.Table.{frame_in}
+use Rattle.fault.specs.Table.{number_of, frame_in}
 use Rattle.page_store.proofs.PartLaws.{part_of_zeros}
+
+-- the frame that a store answers for a page
+pub number-frame : (o : Option Page) → number_of (frame_of o) ≡ option_map (λ (held : Page). held.tag) o
+number-frame None = refl
+number-frame (Some held) = refl
 
 module _ (c : Content) (v p at n : ℕ) (x : Translation) (frame : frame_in x ≡ frame_at c v p) where
   -- bytes of the frame

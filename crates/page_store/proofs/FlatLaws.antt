@@ -20,7 +20,7 @@ use Rattle.vm_model.specs.Contents.Zeroing.{zeroed, resized}
 use Rattle.vm_model.proofs.ContentLaws.{in_use_at, count_from_page, views_found, zero_not_held, held_once, has_tag_held, has_tag_from, IsGood-created, IsGood-nothing, same_content}
 use Rattle.vm_model.proofs.SharingLaws.{views_held, koid_held, koid_some, IsGood-only, IsGood-snapshotted}
 use Rattle.vm_model.proofs.ZeroingLaws.{IsGood-resized, page_past}
-use Rattle.page_store.specs.Pages.{look_at, ShowsTag, IsShown}
+use Rattle.page_store.specs.Pages.{look_at, frame_of, ShowsTag, IsShown}
 use Rattle.page_store.specs.declared.page_store.Look.TheVariants as look
 use Rattle.page_store.specs.Held.{IsNextBelow, HasNoneBelow, held_from, showing}
 use Rattle.page_store.specs.Flat.{Flat, page_with, page_from, content_of, IsFlat}
@@ -33,6 +33,11 @@ use Rattle.page_store.proofs.ViewerLaws.{in_use-viewers, sole-viewers, viewers-p
 pub page_found : (pool : Pool) (o : Option Tag) (held : Page) → page_from pool o ≡ Some held → (tag : Tag) × (o ≡ Some tag) × (page_with pool tag ≡ held)
 page_found pool None held e = absurd cc
 page_found pool (Some tag) held e = (tag, refl, cc)
+
+-- the frame of a page is that of its entry
+pub frame_of-entry : (pool : Pool) (o : Option Tag) → o ≡ frame_of (page_from pool o)
+frame_of-entry pool None = refl
+frame_of-entry pool (Some tag) = refl
 
 -- ---- frames
 

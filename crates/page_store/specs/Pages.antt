@@ -1,6 +1,7 @@
 -- What the calls of a page store ask and answer, over contents.
 use Rattle.std.specs.Prelude.{◌≡◌, ℕ, List, length, take, drop, Option, None, Some}
 use Rattle.vm_model.specs.Contents.Content.{Content, Page, is_sole_page, hold}
+use Rattle.vm_base.specs.declared.names.Tag.{Tag}
 use Rattle.vm_base.specs.Pages.{replaced}
 use Rattle.page_store.specs.declared.page_store.Look.{Look}
 use Rattle.page_store.specs.declared.page_store.Look.TheVariants as look
@@ -9,6 +10,11 @@ use Rattle.page_store.specs.declared.page_store.Look.TheVariants as look
 abbrev pub look_at : Content → ℕ → Option Page → Look
 look_at c v None = look.Zero
 look_at c v (Some held) = look.Held (record { 0 = held.tag }) (is_sole_page c v (Some held))
+
+-- the frame of a page, if it is held
+abbrev pub frame_of : Option Page → Option Tag
+frame_of None = None
+frame_of (Some held) = Some (record { 0 = held.tag })
 
 -- page p of v is held with the frame t
 pub record ShowsTag (c : Content) (t v p : ℕ) (held : Page) : Type 0 where

@@ -280,6 +280,10 @@ impl PageStore for FlatStore {
         }
     }
 
+    fn frame(&self, v: Koid, page: PageNo) -> Option<Tag> {
+        self.rows.find(v.0, page)
+    }
+
     fn own(&mut self, v: Koid, page: PageNo) -> Tag {
         match self.rows.find(v.0, page) {
             Some(shown) => self.own_held(v, page, shown),

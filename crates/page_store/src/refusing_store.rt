@@ -181,6 +181,10 @@ impl<P: PageStore> PageStore for RefusingStore<P> {
         self.inner.look(v, page)
     }
 
+    fn frame(&self, v: Koid, page: PageNo) -> Option<Tag> {
+        self.inner.frame(v, page)
+    }
+
     fn own(&mut self, v: Koid, page: PageNo) -> Tag
         requires page { page < pages_of (P.content self.old.0) v.0 }
         requires room { (sole (P.content self.old.0) v.0 page ≡ true)

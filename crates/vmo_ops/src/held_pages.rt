@@ -115,8 +115,5 @@ fn is_held_at<P: PageStore>(store: &P, v: Koid, page: PageNo) -> bool
     requires { page < pages_of (P.content store.now) v.0 }
     ensures { result ≡ is_held (P.content store.now) v.0 page }
 {
-    match store.look(v, page) {
-        Look::Zero => false,
-        Look::Held { .. } => true,
-    }
+    store.frame(v, page).is_some()
 }

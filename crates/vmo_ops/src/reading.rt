@@ -10,7 +10,7 @@ ghost use Rattle.page_store.specs.Names.{IsInside};
 ghost use Rattle.vmo_ops.specs.Targets.{Does};
 
 use crate::ranges::{part_in_page, place_in_vmo, touched_pages};
-use page_store::{Look, PageStore};
+use page_store::PageStore;
 use vm_base::{DATA_BYTES, Koid, PAGE, PageNo, Refusal};
 use vm_model::{Bytes4k, LentBytes};
 use vmo_table::Target;
@@ -104,8 +104,8 @@ fn read_page<P: PageStore>(store: &P, v: Koid, page: PageNo, at: u64, out: &mut 
     requires range { at + length out.old ≤ PAGE }
     ensures { out.new ≡ take (length out.old) (drop at (shown (P.content store.now) v.0 page)) }
 {
-    match store.look(v, page) {
-        Look::Zero => out.fill(0),
-        Look::Held { tag, .. } => store.read(tag, at, out),
+    match store.frame(v, page) {
+        Some(tag) => store.read(tag, at, out),
+        None => out.fill(0),
     }
 }

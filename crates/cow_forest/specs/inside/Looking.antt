@@ -3,6 +3,7 @@ use Rattle.std.specs.Prelude.{◌≡◌, ◌↔◌, ℕ, ◌-◌, ◌<◌, ◌�
 use Rattle.std.specs.Option.{option_map, option_or, unwrap_or}
 use Rattle.page_store.specs.declared.page_store.Look.{Look}
 use Rattle.page_store.specs.declared.page_store.Look.TheVariants as look
+use Rattle.vm_base.specs.declared.names.Tag.{Tag}
 use Rattle.page_list.specs.declared.row.Slot.{Slot}
 use Rattle.page_list.specs.declared.row.Slot.TheVariants as slot
 use Rattle.cow_arena.specs.Walk.{Tree, frame_at}
@@ -13,10 +14,20 @@ abbrev pub IsLook : Tree → (v p : ℕ) → Look → Type 0
 IsLook t v p look.Zero = frame_at t v p ≡ None
 IsLook t v p (look.Held tag sole) = (frame_at t v p ≡ Some tag.0) × ((sole ≡ true) ↔ IsLastViewer t v tag.0)
 
+-- page p of node v shows this frame, or none
+abbrev pub ShowsFrame : Tree → (v p : ℕ) → Option Tag → Type 0
+ShowsFrame t v p None = frame_at t v p ≡ None
+ShowsFrame t v p (Some tag) = frame_at t v p ≡ Some tag.0
+
 -- a page with this row of its own, which its VMO alone sees
 abbrev pub look_in : Slot → Look
 look_in (slot.Frame tag left right) = look.Held tag true
 look_in slot.Zero = look.Zero
+
+-- the frame of a page with this row of its own
+abbrev pub tag_in : Slot → Option Tag
+tag_in (slot.Frame tag left right) = Some tag
+tag_in slot.Zero = None
 
 -- no page of node v from `from` to below `end` shows a frame
 abbrev pub ShowsNoneIn : Tree → (v from end : ℕ) → Type 0
