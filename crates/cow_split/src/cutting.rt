@@ -201,10 +201,11 @@ fn is_last_from(
     let Slot::Frame { tag, left, right } = slot else {
         return false;
     };
-    if reached_by_others(arena, lists, leaf, own, side, node, page) {
+    // The row's bits are read first, since the search may go over all nodes on this side.
+    if !is_gone(side, tag, left, right) {
         return false;
     }
-    is_gone(side, tag, left, right)
+    !reached_by_others(arena, lists, leaf, own, side, node, page)
 }
 
 /// Whether nobody sees a row with these bits, if nobody on this side does.
