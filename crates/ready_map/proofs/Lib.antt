@@ -1,3 +1,4 @@
+pub mod CountLaws
 pub mod StampLaws
 pub mod RowLaws
 pub mod SettledLaws

@@ -1,8 +1,8 @@
 -- What the calls leave of the rows.
-use Rattle.std.proofs.Common.{◌≡◌, ◌⊎◌, ℕ, ◌+◌, ◌<◌, ◌≤◌, Bool, true, false, not, cond, ◌&&◌, ◌||◌, ◌==◌, Option, None, Some, refl, sym, ap, ◌∙◌, inl, inr, arith}
-use Rattle.std.specs.Prelude.{nat_lt}
+use Rattle.std.proofs.Common.{◌≡◌, ◌⊎◌, ℕ, ◌+◌, ◌<◌, ◌≤◌, Bool, true, false, not, cond, ◌&&◌, ◌||◌, ◌==◌, Option, None, Some, refl, sym, ap, subst, ◌∙◌, inl, inr, arith}
+use Rattle.std.specs.Prelude.{nat_lt, IsSome}
 use Rattle.std.specs.Option.{option_map}
-use Rattle.std.proofs.lemmas.Bool.{and_parts, and_from, eq-eqb}
+use Rattle.std.proofs.lemmas.Bool.{and_parts, and_from, eq-eqb, lt-ltb, le-ltb, ltb-false, not-true}
 use Rattle.std.proofs.lemmas.Bool.Decides.{nat_tests}
 use Rattle.vm_base.specs.declared.names.Tag.{Tag}
 use Rattle.vm_base.specs.Entries.{passes}
@@ -22,8 +22,9 @@ use Rattle.eager_pages.proofs.LinkLaws.{pair-here, pair-other, pair-cases}
 use Rattle.ready_map.specs.declared.ready_map.ReadyPage.{ReadyPage}
 use Rattle.ready_map.specs.declared.stamps.Kept.{Kept}
 use Rattle.ready_map.specs.declared.stamps.Stamp.{Stamp}
-use Rattle.ready_map.specs.Notes.{Notes, Rows, ready_page, noted_under, rows_of, stamp_for, has_frame, row_if, with_row, kept_rows, without_range, limited_rows, limited, is_of, is_outside, agrees, is_current, HasNoRow, AreNotes, number_of}
-use Rattle.ready_map.proofs.StampLaws.{row_of, page-reset, page-stamped, page-noted, page-limited, page-unlimited, page-current, page-settled}
+use Rattle.ready_map.specs.Notes.{Notes, Rows, ready_page, noted_under, rows_of, stamp_for, has_frame, row_if, with_row, kept_rows, without_range, limited_rows, limited, agrees, is_current, HasNoRow, IsShown, AreNotes, number_of, lowered, counts, counting, without_place, HasCount}
+use Rattle.ready_map.proofs.CountLaws.{count-same, count-more, count-less, count-none, count-some, without-none, counts-is, counts-apart, counts-old, counts-not, counting-at, counting-dropped, counting-here, counting-other}
+use Rattle.ready_map.proofs.StampLaws.{row_of, page-stamped, page-noted, page-limited, page-unlimited, page-current, page-settled, page-lowered, lowered-some}
 
 -- ---- nothing is noted
 
@@ -34,6 +35,8 @@ pub AreNotes-new : (m : Notes) → values_of m.places ≡ (λ a b. None) → val
 AreNotes-new m no_place no_stamp time room = record {
   made = λ r q k e. let none = ap (λ (map : ℕ → ℕ → Option Kept). map r q) no_place in absurd cc;
   stamped = λ v p s e. let none = ap (λ (map : ℕ → ℕ → Option Stamp). map v p) no_stamp in absurd cc;
+  counted = λ v p s e. let none = ap (λ (map : ℕ → ℕ → Option Stamp). map v p) no_stamp in absurd cc;
+  noted = λ v p s e. let none = ap (λ (map : ℕ → ℕ → Option Stamp). map v p) no_stamp in absurd cc;
   places_room = omega arith;
   stamps_room = omega arith;
   times = omega arith;
@@ -62,11 +65,6 @@ module _ (places : ℕ → ℕ → Option Kept) (old new : ℕ → ℕ → Optio
 
 module _ (m : Notes) (v p : ℕ) (stamps : PairMap Stamp) where
   -- the stamp goes, or there was none
-  pub rows-reset : values_of stamps ≡ with_pair (values_of m.stamps) v p None → rows_of (record m { stamps = stamps }) ≡ kept_rows (λ row. not (is_of v p row)) (rows_of m)
-  unfolding kept_rows passes
-  rows-reset values = λ i r q. by_note (values_of m.places) (values_of m.stamps) (values_of stamps) v p None values (row_if (λ row. not (is_of v p row))) refl
-      (λ k r q e. page-reset k v p (values_of m.stamps k.koid.0 k.page)) r q i
-
   pub rows-settled : values_of stamps ≡ with_pair (values_of m.stamps) v p None → (c : Content)
       → ((s : Stamp) → values_of m.stamps v p ≡ Some s → has_frame c v p s.frame ≡ false)
       → rows_of (record m { stamps = stamps }) ≡ kept_rows (is_current c v p (p + 1)) (rows_of m)
@@ -109,18 +107,24 @@ pub AreNotes-unstamped : (m : Notes) (v p : ℕ) (stamps : PairMap Stamp) → Ar
     → AreNotes (record m { stamps = stamps })
 AreNotes-unstamped m v p stamps notes values room = record {
   made = notes.made;
-  stamped = λ w q s e. elim (pair-cases (values_of m.stamps) v p None w q s (ap (λ (map : ℕ → ℕ → Option Stamp). map w q) (sym values) ∙ e)) [
-    | inl here ↦ absurd (let none = here.2 in cc)
-    | inr other ↦ notes.stamped w q s other.1
-  ];
+  stamped = λ w q s e. notes.stamped w q s (was w q s e);
+  counted = λ w q s e. notes.counted w q s (was w q s e);
+  noted = λ w q s e. notes.noted w q s (was w q s e);
   places_room = notes.places_room;
   stamps_room = room;
   times = notes.times;
 }
+  where
+    was : (w q : ℕ) (s : Stamp) → values_of stamps w q ≡ Some s → values_of m.stamps w q ≡ Some s
+    was w q s e = elim (pair-cases (values_of m.stamps) v p None w q s (ap (λ (map : ℕ → ℕ → Option Stamp). map w q) (sym values) ∙ e)) [
+      | inl here ↦ absurd (let none = here.2 in cc)
+      | inr other ↦ other.1
+    ]
 
 pub AreNotes-stamped : (m : Notes) (v p : ℕ) (stamps : PairMap Stamp) (s : Stamp) → AreNotes m → values_of stamps ≡ with_pair (values_of m.stamps) v p (Some s)
-    → s.since ≤ m.time → s.shared ≤ m.time → m.room ≤ stamps.spare → AreNotes (record m { stamps = stamps })
-AreNotes-stamped m v p stamps s notes values since shared room = record {
+    → s.since ≤ m.time → s.shared ≤ m.time → HasCount (counting (values_of m.places) v p s.since) s.notes → (1 ≤ s.notes) × (s.notes ≤ m.time)
+    → m.room ≤ stamps.spare → AreNotes (record m { stamps = stamps })
+AreNotes-stamped m v p stamps s notes values since shared count noted room = record {
   made = notes.made;
   stamped = λ w q st e. elim (pair-cases (values_of m.stamps) v p (Some s) w q st (ap (λ (map : ℕ → ℕ → Option Stamp). map w q) (sym values) ∙ e)) [
     | inl here ↦
@@ -129,6 +133,20 @@ AreNotes-stamped m v p stamps s notes values since shared room = record {
         let second = ap (λ (x : Stamp). x.shared) same in
         (omega arith, omega arith)
     | inr other ↦ notes.stamped w q st other.1
+  ];
+  counted = λ w q st e. elim (pair-cases (values_of m.stamps) v p (Some s) w q st (ap (λ (map : ℕ → ℕ → Option Stamp). map w q) (sym values) ∙ e)) [
+    | inl here ↦
+        let same : s ≡ st = some_same here.2 in
+        subst (λ (x : Stamp). HasCount (counting (values_of m.places) w q x.since) x.notes) same
+        (subst (λ (u : ℕ). HasCount (counting (values_of m.places) w u s.since) s.notes) (sym here.1)
+        (subst (λ (u : ℕ). HasCount (counting (values_of m.places) u p s.since) s.notes) (sym here.0) count))
+    | inr other ↦ notes.counted w q st other.1
+  ];
+  noted = λ w q st e. elim (pair-cases (values_of m.stamps) v p (Some s) w q st (ap (λ (map : ℕ → ℕ → Option Stamp). map w q) (sym values) ∙ e)) [
+    | inl here ↦
+        let same = ap (λ (x : Stamp). x.notes) (some_same here.2) in
+        (omega (arith, noted.0), omega (arith, noted.1))
+    | inr other ↦ notes.noted w q st other.1
   ];
   places_room = notes.places_room;
   stamps_room = room;
@@ -172,43 +190,166 @@ module _ (m : Notes) (root page : ℕ) (k : Kept) (frame : Option Tag) (notes : 
           ∙ (ap (noted_under (values_of stamps)) (pair-other (values_of m.places) root page (Some k) r q apart) ∙ (old_row r q ∙ rw miss refl))
     ]
 
-  pub AreNotes-set : room + 1 ≡ m.room → room ≤ places.spare → room ≤ stamps.spare → AreNotes after
-  AreNotes-set fewer low high = record {
-    made = λ r q j e. elim (pair-cases (values_of m.places) root page (Some k) r q j (ap (λ (map : ℕ → ℕ → Option Kept). map r q) (sym put) ∙ e)) [
-      | inl here ↦ let same = ap (λ (x : Kept). x.made) (some_same here.2) in omega arith
-      | inr other ↦ let before = notes.made r q j other.1 in omega arith
-    ];
-    stamped = λ v p s e. elim (pair-cases (values_of m.stamps) k.koid.0 k.page (Some (stamp_for (values_of m.stamps k.koid.0 k.page) frame m.time)) v p s (ap (λ (map : ℕ → ℕ → Option Stamp). map v p) (sym values) ∙ e)) [
-      | inl here ↦
-          let same = some_same here.2 in
-          let low = stamp_low (values_of m.stamps k.koid.0 k.page) (notes.stamped k.koid.0 k.page) in
-          let since = ap (λ (x : Stamp). x.since) same in
-          let shared = ap (λ (x : Stamp). x.shared) same in
-          (omega (arith, low.0), omega (arith, low.1))
-      | inr other ↦ let low = notes.stamped v p s other.1 in (omega (arith, low.0), omega (arith, low.1))
-    ];
-    places_room = low;
-    stamps_room = high;
-    times = let all = notes.times in omega arith;
-  }
-    where
-      stamp_low : (at : Option Stamp) → ((s : Stamp) → at ≡ Some s → (s.since ≤ m.time) × (s.shared ≤ m.time))
-          → ((stamp_for at frame m.time).since ≤ m.time) × ((stamp_for at frame m.time).shared ≤ m.time)
-      stamp_low None times = (omega arith, omega arith)
-      stamp_low (Some s) times = go (is_same_frame (number_of s.frame) (number_of frame)) (times s refl) where
-        go : (alike : Bool) → (s.since ≤ m.time) × (s.shared ≤ m.time)
-            → ((cond alike s (record { frame = frame; since = m.time; shared = m.time })).since ≤ m.time) × ((cond alike s (record { frame = frame; since = m.time; shared = m.time })).shared ≤ m.time)
-        go true low = low
-        go false low = (omega arith, omega arith)
+  -- the page had no note
+  module _ (none : values_of m.places root page ≡ None) where
+    -- what counts under the stamp of the page has this one too
+    fresh : HasCount (counting (values_of places) k.koid.0 k.page m.time) 1
+    unfolding passes
+    fresh = count-more (λ a b. false) (counting (values_of places) k.koid.0 k.page m.time) root page 0 refl here other (λ a b. refl) where
+      here : counting (values_of places) k.koid.0 k.page m.time root page ≡ true
+      here = counting-here (values_of m.places) (values_of places) root page k put k.koid.0 k.page m.time
+          ∙ counts-is k k.koid.0 k.page m.time refl refl (le-ltb k.made m.time (omega arith))
+
+      old : (o : Option Kept) → ((j : Kept) → o ≡ Some j → j.made < m.time) → passes (counts k.koid.0 k.page m.time) o ≡ false
+      old None before = refl
+      old (Some j) before = counts-old j k.koid.0 k.page m.time (lt-ltb j.made m.time (before j refl))
+
+      other : (a b : ℕ) → (a ≡ root → b ≡ page → ⊥) → counting (values_of places) k.koid.0 k.page m.time a b ≡ false
+      other a b apart = counting-other (values_of m.places) (values_of places) root page k put k.koid.0 k.page m.time a b apart
+          ∙ old (values_of m.places a b) (notes.made a b)
+
+    none_before : (v p since : ℕ) → counting (values_of m.places) v p since root page ≡ false
+    unfolding passes
+    none_before v p since = counting-at (values_of m.places) v p since root page None none
+
+    added : (since n : ℕ) → since ≤ m.time → HasCount (counting (values_of m.places) k.koid.0 k.page since) n → HasCount (counting (values_of places) k.koid.0 k.page since) (n + 1)
+    added since n low count = count-more (counting (values_of m.places) k.koid.0 k.page since) (counting (values_of places) k.koid.0 k.page since) root page n
+        (none_before k.koid.0 k.page since)
+        (counting-here (values_of m.places) (values_of places) root page k put k.koid.0 k.page since ∙ counts-is k k.koid.0 k.page since refl refl (le-ltb k.made since (omega arith)))
+        (counting-other (values_of m.places) (values_of places) root page k put k.koid.0 k.page since) count
+
+    stamp_counts : (at : Option Stamp) → values_of m.stamps k.koid.0 k.page ≡ at
+        → HasCount (counting (values_of places) k.koid.0 k.page (stamp_for at frame m.time).since) (stamp_for at frame m.time).notes
+    stamp_counts None e = fresh
+    stamp_counts (Some s) e = go (is_same_frame (number_of s.frame) (number_of frame)) where
+      go : (alike : Bool) → HasCount (counting (values_of places) k.koid.0 k.page (cond alike (record s { notes = s.notes + 1 }) (record { frame = frame; since = m.time; shared = m.time; notes = 1 })).since)
+          (cond alike (record s { notes = s.notes + 1 }) (record { frame = frame; since = m.time; shared = m.time; notes = 1 })).notes
+      go true = added s.since s.notes (notes.stamped k.koid.0 k.page s e).0 (notes.counted k.koid.0 k.page s e)
+      go false = fresh
+
+    stamp_low : (at : Option Stamp) → ((s : Stamp) → at ≡ Some s → (s.since ≤ m.time) × (s.shared ≤ m.time)) → ((s : Stamp) → at ≡ Some s → s.notes ≤ m.time)
+        → ((stamp_for at frame m.time).since ≤ m.time) × ((stamp_for at frame m.time).shared ≤ m.time) × (1 ≤ (stamp_for at frame m.time).notes) × ((stamp_for at frame m.time).notes ≤ m.time + 1)
+    stamp_low None times few = (omega arith, omega arith, omega arith, omega arith)
+    stamp_low (Some s) times few = go (is_same_frame (number_of s.frame) (number_of frame)) (times s refl) (few s refl) where
+      go : (alike : Bool) → (s.since ≤ m.time) × (s.shared ≤ m.time) → s.notes ≤ m.time
+          → ((cond alike (record s { notes = s.notes + 1 }) (record { frame = frame; since = m.time; shared = m.time; notes = 1 })).since ≤ m.time)
+          × ((cond alike (record s { notes = s.notes + 1 }) (record { frame = frame; since = m.time; shared = m.time; notes = 1 })).shared ≤ m.time)
+          × (1 ≤ (cond alike (record s { notes = s.notes + 1 }) (record { frame = frame; since = m.time; shared = m.time; notes = 1 })).notes)
+          × ((cond alike (record s { notes = s.notes + 1 }) (record { frame = frame; since = m.time; shared = m.time; notes = 1 })).notes ≤ m.time + 1)
+      go true low few = (low.0, low.1, omega arith, omega arith)
+      go false low few = (omega arith, omega arith, omega arith, omega arith)
+
+    low_here : ((stamp_for (values_of m.stamps k.koid.0 k.page) frame m.time).since ≤ m.time) × ((stamp_for (values_of m.stamps k.koid.0 k.page) frame m.time).shared ≤ m.time)
+        × (1 ≤ (stamp_for (values_of m.stamps k.koid.0 k.page) frame m.time).notes) × ((stamp_for (values_of m.stamps k.koid.0 k.page) frame m.time).notes ≤ m.time + 1)
+    low_here = stamp_low (values_of m.stamps k.koid.0 k.page) (notes.stamped k.koid.0 k.page) (λ s e. (notes.noted k.koid.0 k.page s e).1)
+
+    pub AreNotes-set : room + 1 ≡ m.room → room ≤ places.spare → room ≤ stamps.spare → AreNotes after
+    unfolding passes
+    AreNotes-set fewer low high = record {
+      made = λ r q j e. elim (pair-cases (values_of m.places) root page (Some k) r q j (ap (λ (map : ℕ → ℕ → Option Kept). map r q) (sym put) ∙ e)) [
+        | inl here ↦ let same = ap (λ (x : Kept). x.made) (some_same here.2) in omega arith
+        | inr other ↦ let before = notes.made r q j other.1 in omega arith
+      ];
+      stamped = λ v p s e. elim (cases v p s e) [
+        | inl here ↦
+            let same = some_same here.2 in
+            let since = ap (λ (x : Stamp). x.since) same in
+            let shared = ap (λ (x : Stamp). x.shared) same in
+            (omega (arith, low_here.0), omega (arith, low_here.1))
+        | inr other ↦ let low = notes.stamped v p s other.1 in (omega (arith, low.0), omega (arith, low.1))
+      ];
+      counted = λ v p s e. elim (cases v p s e) [
+        | inl here ↦
+            subst (λ (x : Stamp). HasCount (counting (values_of places) v p x.since) x.notes) (some_same here.2)
+            (subst (λ (u : ℕ). HasCount (counting (values_of places) v u (stamp_for (values_of m.stamps k.koid.0 k.page) frame m.time).since) (stamp_for (values_of m.stamps k.koid.0 k.page) frame m.time).notes) (sym here.1)
+            (subst (λ (u : ℕ). HasCount (counting (values_of places) u k.page (stamp_for (values_of m.stamps k.koid.0 k.page) frame m.time).since) (stamp_for (values_of m.stamps k.koid.0 k.page) frame m.time).notes) (sym here.0)
+            (stamp_counts (values_of m.stamps k.koid.0 k.page) refl)))
+        | inr other ↦ count-same (counting (values_of m.places) v p s.since) (counting (values_of places) v p s.since) s.notes (same_places v p s.since other.0) (notes.counted v p s other.1)
+      ];
+      noted = λ v p s e. elim (cases v p s e) [
+        | inl here ↦
+            let same = ap (λ (x : Stamp). x.notes) (some_same here.2) in
+            (omega (arith, low_here.2), omega (arith, low_here.3))
+        | inr other ↦ let few = notes.noted v p s other.1 in (few.0, omega (arith, few.1))
+      ];
+      places_room = low;
+      stamps_room = high;
+      times = let all = notes.times in omega arith;
+    }
+      where
+        cases : (v p : ℕ) (s : Stamp) → values_of stamps v p ≡ Some s
+            → ((v ≡ k.koid.0) × (p ≡ k.page) × (Some (stamp_for (values_of m.stamps k.koid.0 k.page) frame m.time) ≡ Some s)) ⊎ ((v ≡ k.koid.0 → p ≡ k.page → ⊥) × (values_of m.stamps v p ≡ Some s))
+        cases v p s e = pair-cases (values_of m.stamps) k.koid.0 k.page (Some (stamp_for (values_of m.stamps k.koid.0 k.page) frame m.time)) v p s (ap (λ (map : ℕ → ℕ → Option Stamp). map v p) (sym values) ∙ e)
+
+        same_places : (v p since : ℕ) → (v ≡ k.koid.0 → p ≡ k.page → ⊥) → (a b : ℕ) → counting (values_of m.places) v p since a b ≡ counting (values_of places) v p since a b
+        same_places v p since apart a b = elim (same_page root page a b) [
+          | inl here ↦
+              (λ i. counting (values_of m.places) v p since (here.0 i) (here.1 i)) ∙ none_before v p since
+              ∙ sym ((λ i. counting (values_of places) v p since (here.0 i) (here.1 i)) ∙ counting-here (values_of m.places) (values_of places) root page k put v p since ∙ counts-apart k v p since apart)
+          | inr other ↦ sym (counting-other (values_of m.places) (values_of places) root page k put v p since a b other)
+        ]
+
+-- a note in place of another
+pub row-cleared : (rows : Rows) (root page : ℕ) (row : ReadyPage) (stays : ReadyPage → Bool)
+    → with_row (kept_rows stays (without_range rows root page (page + 1))) root page row ≡ with_row (kept_rows stays rows) root page row
+unfolding with_row kept_rows without_range passes
+row-cleared rows root page row stays = λ i r q. each r q i where
+  each : (r q : ℕ) → cond ((r == root) && (q == page)) (Some row) (row_if stays (cond ((r == root) && is_within page (page + 1) q) None (rows r q)))
+      ≡ cond ((r == root) && (q == page)) (Some row) (row_if stays (rows r q))
+  each r q = elim (same_page root page r q) [
+    | inl here ↦
+        let hit : ((r == root) && (q == page)) ≡ true = and_from (r == root) (q == page) (eq-eqb r root here.0) (eq-eqb q page here.1) in
+        rw hit refl
+    | inr apart ↦
+        let miss : ((r == root) && (q == page)) ≡ false = grind (arith, nat_tests) in
+        let outside : ((r == root) && is_within page (page + 1) q) ≡ false = grind (arith, nat_tests) in
+        rw (miss, outside) refl
+  ]
 
 -- ---- pages of an address space are dropped
 
-module _ (m : Notes) (root p : ℕ) (places : PairMap Kept) (values : values_of places ≡ with_pair (values_of m.places) root p None) where
-  pub rows-dropped : rows_of (record m { places = places }) ≡ without_range (rows_of m) root p (p + 1)
+module _ (m : Notes) (root p : ℕ) (k : Kept) (places : PairMap Kept) (stamps : PairMap Stamp) (notes : AreNotes m) (at : values_of m.places root p ≡ Some k)
+    (gone : values_of places ≡ with_pair (values_of m.places) root p None)
+    (less : values_of stamps ≡ with_pair (values_of m.stamps) k.koid.0 k.page (lowered k.made (values_of m.stamps k.koid.0 k.page))) where
+  -- the note counts under its stamp, unless it is from before
+  counted_here : (since : ℕ) → nat_lt k.made since ≡ false → counting (values_of m.places) k.koid.0 k.page since root p ≡ true
+  unfolding passes
+  counted_here since new = counting-at (values_of m.places) k.koid.0 k.page since root p (Some k) at ∙ counts-is k k.koid.0 k.page since refl refl new
+
+  -- if it is the only one, others are from before
+  alone : (r q : ℕ) (j : Kept) (s : Stamp) → (r ≡ root → q ≡ p → ⊥) → values_of m.places r q ≡ Some j → j.koid.0 ≡ k.koid.0 → j.page ≡ k.page
+      → values_of m.stamps k.koid.0 k.page ≡ Some s → nat_lt k.made s.since ≡ false → nat_lt 1 s.notes ≡ false → nat_lt j.made s.since ≡ true
+  unfolding passes
+  alone r q j s apart is koid page found new one =
+      let few : s.notes ≤ 1 = ltb-false 1 s.notes one in
+      let rest = count-less s.notes (counting (values_of m.places) k.koid.0 k.page s.since) root p (notes.counted k.koid.0 k.page s found) (counted_here s.since new) in
+      let none = count-none rest.0 (without_place (counting (values_of m.places) k.koid.0 k.page s.since) root p) rest.2 (let suc_is = rest.1 in omega arith) r q in
+      counts-not j k.koid.0 k.page s.since (sym (counting-at (values_of m.places) k.koid.0 k.page s.since r q (Some j) is) ∙ other (counting (values_of m.places) k.koid.0 k.page s.since r q) none) koid page
+    where
+      miss : ((r == root) && (q == p)) ≡ false
+      miss = grind (arith, nat_tests)
+
+      other : (b : Bool) → (b && not ((r == root) && (q == p))) ≡ false → b ≡ false
+      other true e = absurd (let out = miss in grind (arith, nat_tests))
+      other false e = refl
+
+  pub rows-dropped : rows_of (record m { places = places; stamps = stamps }) ≡ without_range (rows_of m) root p (p + 1)
   unfolding without_range with_pair
   rows-dropped = λ i r q. each r q i where
-    each : (r q : ℕ) → noted_under (values_of m.stamps) (values_of places r q) ≡ cond ((r == root) && is_within p (p + 1) q) None (rows_of m r q)
-    each r q = ap (λ (map : ℕ → ℕ → Option Kept). noted_under (values_of m.stamps) (map r q)) values ∙ elim (same_page root p r q) [
+    lower : (r q : ℕ) → (r ≡ root → q ≡ p → ⊥) → (o : Option Kept) → values_of m.places r q ≡ o → noted_under (values_of stamps) o ≡ noted_under (values_of m.stamps) o
+    lower r q apart None is = refl
+    lower r q apart (Some j) is = ap (λ (map : ℕ → ℕ → Option Stamp). ready_page j (map j.koid.0 j.page)) less ∙ go ((j.koid.0 == k.koid.0) && (j.page == k.page)) refl where
+      go : (hit : Bool) → ((j.koid.0 == k.koid.0) && (j.page == k.page)) ≡ hit
+          → ready_page j (cond hit (lowered k.made (values_of m.stamps k.koid.0 k.page)) (values_of m.stamps j.koid.0 j.page)) ≡ ready_page j (values_of m.stamps j.koid.0 j.page)
+      go true hit =
+          let both = and_parts (j.koid.0 == k.koid.0) (j.page == k.page) hit in
+          page-lowered j k.made (values_of m.stamps k.koid.0 k.page)
+          (λ s found new one. alone r q j s apart is (eqb_is j.koid.0 k.koid.0 both.0) (eqb_is j.page k.page both.1) found new one)
+          ∙ ap (ready_page j) (sym (stamp_at (values_of m.stamps) k.koid.0 k.page j hit))
+      go false miss = refl
+
+    each : (r q : ℕ) → noted_under (values_of stamps) (values_of places r q) ≡ cond ((r == root) && is_within p (p + 1) q) None (rows_of m r q)
+    each r q = ap (λ (map : ℕ → ℕ → Option Kept). noted_under (values_of stamps) (map r q)) gone ∙ elim (same_page root p r q) [
       | inl here ↦
           let hit : ((r == root) && (q == p)) ≡ true = and_from (r == root) (q == p) (eq-eqb r root here.0) (eq-eqb q p here.1) in
           let page = here.1 in
@@ -217,18 +358,84 @@ module _ (m : Notes) (root p : ℕ) (places : PairMap Kept) (values : values_of 
       | inr apart ↦
           let miss : ((r == root) && (q == p)) ≡ false = grind (arith, nat_tests) in
           let outside : ((r == root) && is_within p (p + 1) q) ≡ false = grind (arith, nat_tests) in
-          rw (miss, outside) refl
+          rw (miss, outside) (lower r q apart (values_of m.places r q) refl)
     ]
 
-  pub AreNotes-dropped : AreNotes m → m.room ≤ places.spare → AreNotes (record m { places = places })
-  AreNotes-dropped notes room = record {
-    made = λ r q k e. elim (pair-cases (values_of m.places) root p None r q k (ap (λ (map : ℕ → ℕ → Option Kept). map r q) (sym values) ∙ e)) [
+  -- a stamp that is left is that of before, since the same times, and has the notes that are left
+  left : (v q : ℕ) (s : Stamp) → values_of stamps v q ≡ Some s → (t : Stamp) × (values_of m.stamps v q ≡ Some t) × (s.since ≡ t.since) × (s.shared ≡ t.shared) × (1 ≤ s.notes) × (s.notes ≤ t.notes)
+      × HasCount (counting (values_of places) v q s.since) s.notes
+  unfolding passes
+  left v q s e = elim (pair-cases (values_of m.stamps) k.koid.0 k.page (lowered k.made (values_of m.stamps k.koid.0 k.page)) v q s (ap (λ (map : ℕ → ℕ → Option Stamp). map v q) (sym less) ∙ e)) [
+    | inl here ↦
+        let was = lowered-some k.made (values_of m.stamps k.koid.0 k.page) s here.2 in
+        let found : values_of m.stamps v q ≡ Some was.0 = (λ i. values_of m.stamps (here.0 i) (here.1 i)) ∙ was.1 in
+        let count = here_count was.0 s was.1 was.2 was.4 in (
+          was.0,
+          found,
+          was.2,
+          was.3,
+          count.0,
+          count.1,
+          subst (λ (u : ℕ). HasCount (counting (values_of places) v u s.since) s.notes) (sym here.1)
+              (subst (λ (u : ℕ). HasCount (counting (values_of places) u k.page s.since) s.notes) (sym here.0) count.2),
+        )
+    | inr other ↦ (
+      s,
+      other.1,
+      refl,
+      refl,
+      (notes.noted v q s other.1).0,
+      omega arith,
+      kept v q s.since s.notes (counting-at (values_of m.places) v q s.since root p (Some k) at ∙ counts-apart k v q s.since other.0) (notes.counted v q s other.1),
+    )
+  ]
+    where
+      -- the note does not count there
+      kept : (v q since n : ℕ) → counting (values_of m.places) v q since root p ≡ false → HasCount (counting (values_of m.places) v q since) n → HasCount (counting (values_of places) v q since) n
+      kept v q since n out count = count-same (counting (values_of m.places) v q since) (counting (values_of places) v q since) n
+          (λ a b. sym (without-none (counting (values_of m.places) v q since) root p out a b) ∙ counting-dropped (values_of m.places) (values_of places) root p gone v q since a b) count
+
+      here_count : (t s : Stamp) → values_of m.stamps k.koid.0 k.page ≡ Some t → s.since ≡ t.since
+          → ((nat_lt k.made t.since ≡ true) × (s.notes ≡ t.notes)) ⊎ ((nat_lt k.made t.since ≡ false) × (1 ≤ s.notes) × (s.notes + 1 ≡ t.notes))
+          → (1 ≤ s.notes) × (s.notes ≤ t.notes) × HasCount (counting (values_of places) k.koid.0 k.page s.since) s.notes
+      here_count t s found since (inl old) =
+          let some = (notes.noted k.koid.0 k.page t found).0 in
+          let same = old.1 in (
+            omega arith,
+            omega arith,
+            subst (λ (u : ℕ). HasCount (counting (values_of places) k.koid.0 k.page u) s.notes) (sym since)
+                (subst (HasCount (counting (values_of places) k.koid.0 k.page t.since)) (sym old.1)
+                (kept k.koid.0 k.page t.since t.notes (counting-at (values_of m.places) k.koid.0 k.page t.since root p (Some k) at ∙ counts-old k k.koid.0 k.page t.since old.0) (notes.counted k.koid.0 k.page t found))),
+          )
+      here_count t s found since (inr new) =
+          let rest = count-less t.notes (counting (values_of m.places) k.koid.0 k.page t.since) root p (notes.counted k.koid.0 k.page t found) (counted_here t.since new.0) in
+          let number : rest.0 ≡ s.notes = let suc_is = rest.1 in let fewer = new.2 in omega arith in
+          let fewer = new.2 in (
+            new.1,
+            omega arith,
+            subst (λ (u : ℕ). HasCount (counting (values_of places) k.koid.0 k.page u) s.notes) (sym since)
+                (subst (HasCount (counting (values_of places) k.koid.0 k.page t.since)) number
+                (count-same (without_place (counting (values_of m.places) k.koid.0 k.page t.since) root p) (counting (values_of places) k.koid.0 k.page t.since) rest.0
+                (counting-dropped (values_of m.places) (values_of places) root p gone k.koid.0 k.page t.since) rest.2)),
+          )
+
+  pub AreNotes-dropped : m.room ≤ places.spare → m.room ≤ stamps.spare → AreNotes (record m { places = places; stamps = stamps })
+  AreNotes-dropped room stamps_room = record {
+    made = λ r q j e. elim (pair-cases (values_of m.places) root p None r q j (ap (λ (map : ℕ → ℕ → Option Kept). map r q) (sym gone) ∙ e)) [
       | inl here ↦ absurd (let none = here.2 in cc)
-      | inr other ↦ notes.made r q k other.1
+      | inr other ↦ notes.made r q j other.1
     ];
-    stamped = notes.stamped;
+    stamped = λ v q s e.
+        let was = left v q s e in
+        let times = notes.stamped v q was.0 was.1 in
+        (omega (arith, times.0, was.2), omega (arith, times.1, was.3));
+    counted = λ v q s e. (left v q s e).6;
+    noted = λ v q s e.
+        let was = left v q s e in
+        let few = notes.noted v q was.0 was.1 in
+        (was.4, omega (arith, was.5, few.1));
     places_room = room;
-    stamps_room = notes.stamps_room;
+    stamps_room = stamps_room;
     times = notes.times;
   }
 
@@ -272,6 +479,35 @@ HasNoRow-gap m v from end none = record { none = λ r q row e. go (values_of m.p
         let gone = none k.page (let page = same.1 in omega arith) (let page = same.1 in omega arith) in
         let here : values_of m.stamps v k.page ≡ Some s = ap (λ (w : ℕ). values_of m.stamps w k.page) (sym koid) ∙ at in
         absurd cc
+
+-- each stamp is of a page that is shown
+pub IsShown-stamped : (m : Notes) (v p : ℕ) (s : Stamp) → AreNotes m → values_of m.stamps v p ≡ Some s → IsShown (rows_of m) v p
+unfolding passes
+IsShown-stamped m v p s notes found =
+    let one = count-some s.notes (counting (values_of m.places) v p s.since) (notes.counted v p s found) (notes.noted v p s found).0 in
+    go one.0 one.1 (values_of m.places one.0 one.1) refl one.2 where
+      go : (r q : ℕ) (o : Option Kept) → values_of m.places r q ≡ o → counting (values_of m.places) v p s.since r q ≡ true → IsShown (rows_of m) v p
+      go r q None at is = absurd (let none = counting-at (values_of m.places) v p s.since r q None at in cc)
+      go r q (Some k) at is =
+          let passed = and_parts ((k.koid.0 == v) && (k.page == p)) (not (nat_lt k.made s.since)) (sym (counting-at (values_of m.places) v p s.since r q (Some k) at) ∙ is) in
+          let both = and_parts (k.koid.0 == v) (k.page == p) passed.0 in
+          let koid = eqb_is k.koid.0 v both.0 in
+          let page = eqb_is k.page p both.1 in
+          let new : nat_lt k.made s.since ≡ false = not-true (nat_lt k.made s.since) passed.1 in
+          record {
+            root = r;
+            at = q;
+            row = row_of k s;
+            is = ap (noted_under (values_of m.stamps)) at ∙ (ap (ready_page k) (stamp_at (values_of m.stamps) v p k passed.0 ∙ found) ∙ rw new refl);
+            koid = koid;
+            page = page;
+          }
+
+pub IsShown-of : (m : Notes) → AreNotes m → (v p : ℕ) → IsSome (values_of m.stamps v p) → IsShown (rows_of m) v p
+IsShown-of m notes v p some = go (values_of m.stamps v p) refl some where
+  go : (o : Option Stamp) → values_of m.stamps v p ≡ o → IsSome o → IsShown (rows_of m) v p
+  go None e is = absurd cc
+  go (Some s) e is = IsShown-stamped m v p s notes e
 
 -- ---- pages of a VMO are settled, one after another
 
@@ -376,25 +612,3 @@ pinned-one pins v p = both_ways (any_from p (p + 1) (is_pinned pins v)) (is_pinn
     let same : found.0 ≡ p = let low = found.1 in let high = found.2 in omega arith in
     ap (is_pinned pins v) (sym same) ∙ found.3)
     (λ e. any_from_at (is_pinned pins v) p (p + 1) p (omega arith) (omega arith) e)
-
--- ---- pages of a VMO are reset, one after another
-
--- one page of a range, and then the range
-pub reset-after : (old new : Rows) (v first end p : ℕ) → first ≤ p → p < end → new ≡ kept_rows (λ row. not (is_of v p row)) old
-    → kept_rows (is_outside v first end) new ≡ kept_rows (is_outside v first end) old
-unfolding kept_rows
-reset-after old new v first end p low high made = ap (kept_rows (is_outside v first end)) made ∙ λ i r q. each r q i where
-  each : (r q : ℕ) → row_if (is_outside v first end) (row_if (λ row. not (is_of v p row)) (old r q)) ≡ row_if (is_outside v first end) (old r q)
-  each r q = row_if-both (is_outside v first end) (λ row. not (is_of v p row)) (old r q)
-      ∙ row_if-same (λ x. not (is_of v p x) && is_outside v first end x) (is_outside v first end) (old r q) (λ x e. grind (arith, nat_tests))
-
--- none is left
-pub reset-done : (rows : Rows) (v first end : ℕ) → HasNoRow rows v first end → rows ≡ kept_rows (is_outside v first end) rows
-unfolding kept_rows passes
-reset-done rows v first end none = λ i r q. go r q (rows r q) refl i where
-  go : (r q : ℕ) (o : Option ReadyPage) → rows r q ≡ o → o ≡ row_if (is_outside v first end) o
-  go r q None e = refl
-  go r q (Some x) e =
-      let gap : x.koid.0 ≡ v → first ≤ x.page → x.page < end → ⊥ = none.none r q x e in
-      let out : is_outside v first end x ≡ true = grind (arith, nat_tests) in
-      rw out refl

@@ -1,8 +1,8 @@
 -- What a note says, under one stamp and another.
-use Rattle.std.proofs.Common.{◌≡◌, ◌⊎◌, ℕ, ◌+◌, ◌<◌, ◌≤◌, Bool, true, false, not, cond, ◌&&◌, ◌==◌, Option, None, Some, refl, sym, ap, ◌∙◌, inl, inr, arith}
-use Rattle.std.specs.Prelude.{nat_lt}
+use Rattle.std.proofs.Common.{◌≡◌, ◌⊎◌, ℕ, ◌+◌, ◌-◌, ◌<◌, ◌≤◌, Bool, true, false, not, cond, ◌&&◌, ◌==◌, Option, None, Some, refl, sym, ap, ◌∙◌, inl, inr, arith}
+use Rattle.std.specs.Prelude.{nat_lt, is_some}
 use Rattle.std.specs.Option.{option_map}
-use Rattle.std.proofs.lemmas.Bool.{le-ltb, lt-ltb}
+use Rattle.std.proofs.lemmas.Bool.{le-ltb, lt-ltb, ltb-true}
 use Rattle.std.proofs.lemmas.Bool.Decides.{nat_tests}
 use Rattle.vm_base.specs.declared.names.Tag.{Tag}
 use Rattle.vm_base.specs.Entries.{passes}
@@ -16,7 +16,7 @@ use Rattle.vm_model.proofs.ReadinessLaws.{is_same_frame-is}
 use Rattle.ready_map.specs.declared.ready_map.ReadyPage.{ReadyPage}
 use Rattle.ready_map.specs.declared.stamps.Kept.{Kept}
 use Rattle.ready_map.specs.declared.stamps.Stamp.{Stamp}
-use Rattle.ready_map.specs.Notes.{ready_page, number_of, stamp_for, row_if, is_of, agrees, limited, has_frame, is_current}
+use Rattle.ready_map.specs.Notes.{ready_page, number_of, stamp_for, lowered, row_if, agrees, limited, has_frame, is_current}
 
 -- the row that a note gives
 abbrev pub row_of : Kept → Stamp → ReadyPage
@@ -29,22 +29,6 @@ frame_is None (Some u) same = absurd cc
 frame_is (Some t) None same = absurd cc
 frame_is (Some t) (Some u) same =
     let number : t.0 ≡ u.0 = some_same (is_same_frame-is (Some t.0) (Some u.0) same) in λ i. Some (record { 0 = number i })
-
--- the page of the VMO loses its stamp
-pub page-reset : (k : Kept) (v p : ℕ) (s : Option Stamp)
-    → ready_page k (cond ((k.koid.0 == v) && (k.page == p)) None s) ≡ row_if (λ row. not (is_of v p row)) (ready_page k s)
-unfolding passes
-page-reset k v p None = go ((k.koid.0 == v) && (k.page == p)) where
-  go : (b : Bool) → ready_page k (cond b None None) ≡ None
-  go true = refl
-  go false = refl
-page-reset k v p (Some s) = go ((k.koid.0 == v) && (k.page == p)) refl (nat_lt k.made s.since) refl where
-  go : (b : Bool) → ((k.koid.0 == v) && (k.page == p)) ≡ b → (past : Bool) → nat_lt k.made s.since ≡ past
-      → ready_page k (cond b None (Some s)) ≡ row_if (λ row. not (is_of v p row)) (ready_page k (Some s))
-  go true hit true old = rw old refl
-  go true hit false new = rw (new, hit) refl
-  go false miss true old = rw old refl
-  go false miss false new = rw (new, miss) refl
 
 -- the stamp of the page of the VMO is one of this frame, and the note is from before
 pub page-stamped : (k : Kept) (v p : ℕ) (frame : Option Tag) (time : ℕ) (s at : Option Stamp) → k.made < time
@@ -93,6 +77,40 @@ page-noted k frame (Some s) low = go (is_same_frame (number_of s.frame) (number_
       rw (alike, le-ltb k.made s.since times.0, le-ltb k.made s.shared times.1)
       (λ i. Some (record { koid = k.koid; page = k.page; frame = frame_is s.frame frame alike i; readiness = k.readiness }))
   go false unlike = rw (unlike, le-ltb k.made k.made (omega arith)) refl
+
+-- a note less counts under the stamp, and none if this one does not
+pub page-lowered : (k : Kept) (made : ℕ) (o : Option Stamp)
+    → ((s : Stamp) → o ≡ Some s → nat_lt made s.since ≡ false → nat_lt 1 s.notes ≡ false → nat_lt k.made s.since ≡ true)
+    → ready_page k (lowered made o) ≡ ready_page k o
+page-lowered k made None last = refl
+page-lowered k made (Some s) last = go (nat_lt made s.since) refl (nat_lt 1 s.notes) refl where
+  go : (past : Bool) → nat_lt made s.since ≡ past → (more : Bool) → nat_lt 1 s.notes ≡ more → ready_page k (lowered made (Some s)) ≡ ready_page k (Some s)
+  go true old more e = rw old refl
+  go false new true many = rw (new, many) refl
+  go false new false one = rw (new, one, last s refl new one) refl
+
+-- the note is from before
+pub lowered-old : (made : ℕ) (s : Stamp) → made < s.since → lowered made (Some s) ≡ Some s
+lowered-old made s old = rw (lt-ltb made s.since old) refl
+
+-- the stamp that such a one was
+pub lowered-some : (made : ℕ) (o : Option Stamp) (s : Stamp) → lowered made o ≡ Some s → (t : Stamp) × (o ≡ Some t) × (s.since ≡ t.since) × (s.shared ≡ t.shared)
+    × (((nat_lt made t.since ≡ true) × (s.notes ≡ t.notes)) ⊎ ((nat_lt made t.since ≡ false) × (1 ≤ s.notes) × (s.notes + 1 ≡ t.notes)))
+lowered-some made None s is = absurd cc
+lowered-some made (Some t) s is = go (nat_lt made t.since) refl (nat_lt 1 t.notes) refl is where
+  go : (past : Bool) → nat_lt made t.since ≡ past → (more : Bool) → nat_lt 1 t.notes ≡ more
+      → cond past (Some t) (cond more (Some (record t { notes = t.notes - 1 })) None) ≡ Some s
+      → (u : Stamp) × (Some t ≡ Some u) × (s.since ≡ u.since) × (s.shared ≡ u.shared)
+      × (((nat_lt made u.since ≡ true) × (s.notes ≡ u.notes)) ⊎ ((nat_lt made u.since ≡ false) × (1 ≤ s.notes) × (s.notes + 1 ≡ u.notes)))
+  go true old more e is =
+      let same = sym (some_same is) in
+      (t, refl, ap (λ (x : Stamp). x.since) same, ap (λ (x : Stamp). x.shared) same, inl (old, ap (λ (x : Stamp). x.notes) same))
+  go false new true many is =
+      let same = sym (some_same is) in
+      let notes : s.notes ≡ t.notes - 1 = ap (λ (x : Stamp). x.notes) same in
+      let low : 1 < t.notes = ltb-true 1 t.notes many in
+      (t, refl, ap (λ (x : Stamp). x.since) same, ap (λ (x : Stamp). x.shared) same, inr (new, omega arith, omega arith))
+  go false new false one is = absurd cc
 
 -- a row of another page, or one that stays
 limited-same : (b stays : Bool) (v p : ℕ) (row : ReadyPage) → ((row.koid.0 == v) && is_within p (p + 1) row.page && not stays) ≡ b → b ≡ false → limited (λ q. stays) v p (p + 1) row ≡ row
@@ -188,3 +206,7 @@ has_frame-is c v p n frame found same is count =
 pub none_else : {A : Type 0} (o : Option A) → ((x : A) → o ≡ Some x → ⊥) → o ≡ None
 none_else None no_value = refl
 none_else (Some x) no_value = absurd (no_value x refl)
+
+pub none_is : {A : Type 0} (o : Option A) → is_some o ≡ false → o ≡ None
+none_is None e = refl
+none_is (Some x) e = absurd cc

@@ -1,5 +1,5 @@
 -- What is noted of the pages of address spaces that are ready, and what each call leaves of it.
-use Rattle.std.specs.Prelude.{◌≡◌, ℕ, ◌+◌, ◌^◌, ◌<◌, ◌≤◌, Bool, true, not, ◌&&◌, ◌||◌, ◌==◌, nat_lt, if◌then◌else◌, Option, None, Some}
+use Rattle.std.specs.Prelude.{◌≡◌, ℕ, zero, suc, ◌+◌, ◌-◌, ◌^◌, ◌<◌, ◌≤◌, Bool, true, false, not, ◌&&◌, ◌||◌, ◌==◌, nat_lt, if◌then◌else◌, Option, None, Some}
 use Rattle.std.specs.Option.{option_map}
 use Rattle.vm_base.specs.declared.names.Tag.{Tag}
 use Rattle.vm_base.specs.Entries.{passes}
@@ -45,11 +45,19 @@ rows_of m root p = noted_under (values_of m.stamps) (values_of m.places root p)
 abbrev pub number_of : Option Tag → Option ℕ
 number_of frame = option_map (λ (tag : Tag). tag.0) frame
 
--- the stamp of a page that has this frame, from the one that it has
+-- the stamp of a page that has this frame, with one note more than the one that it has
 abbrev pub stamp_for : Option Stamp → Option Tag → (time : ℕ) → Stamp
-stamp_for None frame time = record { frame = frame; since = time; shared = time }
+stamp_for None frame time = record { frame = frame; since = time; shared = time; notes = 1 }
 stamp_for (Some stamp) frame time =
-    if is_same_frame (number_of stamp.frame) (number_of frame) then stamp else record { frame = frame; since = time; shared = time }
+    if is_same_frame (number_of stamp.frame) (number_of frame) then record stamp { notes = stamp.notes + 1 }
+    else record { frame = frame; since = time; shared = time; notes = 1 }
+
+-- the stamp without a note that was made at this time. None if no other note counts
+abbrev pub lowered : (made : ℕ) → Option Stamp → Option Stamp
+lowered made None = None
+lowered made (Some stamp) =
+    if nat_lt made stamp.since then Some stamp
+    else (if nat_lt 1 stamp.notes then Some (record stamp { notes = stamp.notes - 1 }) else None)
 
 -- how many more pages can be noted with no memory from the host
 abbrev pub spare_of : Notes → ℕ
@@ -110,12 +118,41 @@ limited_rows stays v first end rows r q = option_map (limited stays v first end)
 pub record HasNoRow (rows : Rows) (v from end : ℕ) : Type 0 where
   pub none : (r q : ℕ) (row : ReadyPage) → rows r q ≡ Some row → row.koid.0 ≡ v → from ≤ row.page → row.page < end → ⊥
 
+-- page p of the VMO v is shown by a page that is ready for an access
+pub record IsShown (rows : Rows) (v p : ℕ) : Type 0 where
+  pub root : ℕ
+  pub at : ℕ
+  pub row : ReadyPage
+  pub is : rows root at ≡ Some row
+  pub koid : row.koid.0 ≡ v
+  pub page : row.page ≡ p
+
 -- ---- what holds of them
 
--- What holds of all notes: those that were made have earlier times than the next, and no stamp has a later one.
+-- a note is of page p of the VMO v, and was made at this time or later
+abbrev pub counts : (v p since : ℕ) → Kept → Bool
+counts v p since kept = (kept.koid.0 == v) && (kept.page == p) && not (nat_lt kept.made since)
+
+-- the places whose notes are of page p of the VMO v, and were made at this time or later
+abbrev pub counting : (ℕ → ℕ → Option Kept) → (v p since : ℕ) → ℕ → ℕ → Bool
+counting places v p since r q = passes (counts v p since) (places r q)
+
+-- the places without one
+abbrev pub without_place : (ℕ → ℕ → Bool) → (r q : ℕ) → ℕ → ℕ → Bool
+without_place among r q a b = among a b && not ((a == r) && (b == q))
+
+-- there are this many places
+abbrev pub HasCount : (ℕ → ℕ → Bool) → ℕ → Type 0
+HasCount among zero = (r q : ℕ) → among r q ≡ false
+HasCount among (suc n) = (r : ℕ) × (q : ℕ) × (among r q ≡ true) × HasCount (without_place among r q) n
+
+-- What holds of all notes: those that were made have earlier times than the next, and no stamp has a later one. Each stamp
+-- has the number of the notes that count under it, one at least.
 pub record AreNotes (m : Notes) : Type 0 where
   pub made : (root p : ℕ) (kept : Kept) → values_of m.places root p ≡ Some kept → kept.made < m.time
   pub stamped : (v p : ℕ) (stamp : Stamp) → values_of m.stamps v p ≡ Some stamp → (stamp.since ≤ m.time) × (stamp.shared ≤ m.time)
+  pub counted : (v p : ℕ) (stamp : Stamp) → values_of m.stamps v p ≡ Some stamp → HasCount (counting (values_of m.places) v p stamp.since) stamp.notes
+  pub noted : (v p : ℕ) (stamp : Stamp) → values_of m.stamps v p ≡ Some stamp → (1 ≤ stamp.notes) × (stamp.notes ≤ m.time)
   pub places_room : m.room ≤ m.places.spare
   pub stamps_room : m.room ≤ m.stamps.spare
   pub times : m.time + m.room < 2 ^ 64

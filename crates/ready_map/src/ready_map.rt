@@ -5,9 +5,9 @@ ghost use Rattle.vm_model.specs.Naming.Pins.{is_pinned};
 ghost use Rattle.pair_map.specs.Maps.{values_of, count_of};
 ghost use Rattle.pin_table.specs.Table.{pins_of};
 ghost use Rattle.eager_pages.specs.Eager.{content_of};
-ghost use Rattle.ready_map.specs.Notes.{rows_of, spare_of, with_row, kept_rows, without_range, limited_rows, is_of, is_outside, agrees, is_current, HasNoRow};
+ghost use Rattle.ready_map.specs.Notes.{rows_of, spare_of, with_row, kept_rows, without_range, limited_rows, agrees, is_current, HasNoRow, IsShown};
 
-use crate::stamps::{Kept, Stamp, has_frame, put, ready_page, stamp_for};
+use crate::stamps::{Kept, Stamp, has_frame, lower, put, ready_page, stamp_for};
 use eager_pages::EagerPages;
 use pair_map::PairMap;
 use pin_table::PinTable;
@@ -35,7 +35,7 @@ pub struct ReadyPage {
 pub struct ReadyMap {
     /// What was noted of each page, by root region and page. It counts only as the stamp says.
     places: PairMap<Kept>,
-    /// The stamp of each page of a VMO, by koid and page.
+    /// The stamp of each page of a VMO under which a note counts, by koid and page.
     stamps: PairMap<Stamp>,
     /// The time of the next note. Each note has a later time than those before it.
     time: u64,
@@ -107,28 +107,8 @@ impl ReadyMap {
             ≡ with_row (kept_rows (agrees row.koid.0 row.page row.frame) (rows_of self.old)) root.0 page row }
         ensures spare { spare_of self.new + 1 ≡ spare_of self.old }
     {
-        let stamp = stamp_for(self.stamps.find(row.koid.0, row.page), row.frame, self.time);
-        put(&mut self.stamps, row.koid.0, row.page, stamp);
-        let kept = Kept {
-            koid: row.koid,
-            page: row.page,
-            readiness: row.readiness,
-            made: self.time,
-        };
-        put(&mut self.places, root.0 as u64, page, kept);
-        self.time += 1;
-        self.room -= 1;
-    }
-
-    /// Makes what shows a page of a VMO from `first` to below `end` ready for nothing, and forgets the stamps of these pages,
-    /// as those of a VMO that left. The call costs the pages of the range that have notes, and not what shows them.
-    pub fn reset(&mut self, koid: Koid, first: PageNo, end: PageNo)
-        ensures rows { rows_of self.new ≡ kept_rows (is_outside koid.0 first end) (rows_of self.old) }
-        ensures spare { spare_of self.new ≡ spare_of self.old }
-    {
-        while let Some(page) = self.next_before(koid, first, end) {
-            self.reset_page(koid, page);
-        }
+        self.clear(root, page);
+        self.note(root, page, row);
     }
 
     /// Makes what shows a page of a VMO from `first` to below `end` ready for reading at most, unless a pin covers the page:
@@ -170,7 +150,47 @@ impl ReadyMap {
         }
     }
 
+    /// How many pages of VMOs have a stamp. Each of them is shown by a page that is ready for an access.
+    pub fn stamps(&self) -> usize
+        ensures count { result ≡ count_of self.now.stamps }
+        ensures shown { (v p : ℕ) → IsSome (values_of self.now.stamps v p) → IsShown (rows_of self.now) v p }
+    {
+        self.stamps.len()
+    }
+
     // ---- steps of the calls
+
+    // Takes the note of a page of an address space away, if it has one.
+    fn clear(&mut self, root: RegionName, page: PageNo)
+        ensures rows { rows_of self.new ≡ without_range (rows_of self.old) root.0 page (page + 1) }
+        ensures none { values_of self.new.places root.0 page ≡ None }
+        ensures spare { spare_of self.new ≡ spare_of self.old }
+    {
+        if self.places.find(root.0 as u64, page).is_some() {
+            self.drop_place(root, page);
+        }
+    }
+
+    // Notes a page of an address space that has no note. There is room.
+    fn note(&mut self, root: RegionName, page: PageNo, row: ReadyPage)
+        requires none { values_of self.old.places root.0 page ≡ None }
+        requires room { 1 ≤ spare_of self.old }
+        ensures rows { rows_of self.new
+            ≡ with_row (kept_rows (agrees row.koid.0 row.page row.frame) (rows_of self.old)) root.0 page row }
+        ensures spare { spare_of self.new + 1 ≡ spare_of self.old }
+    {
+        let stamp = stamp_for(self.stamps.find(row.koid.0, row.page), row.frame, self.time);
+        put(&mut self.stamps, row.koid.0, row.page, stamp);
+        let kept = Kept {
+            koid: row.koid,
+            page: row.page,
+            readiness: row.readiness,
+            made: self.time,
+        };
+        self.places.insert(root.0 as u64, page, kept);
+        self.time += 1;
+        self.room -= 1;
+    }
 
     // The first page of a VMO that has a stamp, from page `from` to below `end`.
     fn next_before(&self, koid: Koid, from: PageNo, end: PageNo) -> Option<PageNo>
@@ -182,16 +202,6 @@ impl ReadyMap {
             Some((page, _)) if page < end => Some(page),
             _ => None,
         }
-    }
-
-    // Makes what shows a page of a VMO that has a stamp ready for nothing.
-    fn reset_page(&mut self, koid: Koid, page: PageNo)
-        requires { IsSome (values_of self.old.stamps koid.0 page) }
-        ensures rows { rows_of self.new ≡ kept_rows (λ row. not (is_of koid.0 page row)) (rows_of self.old) }
-        ensures fewer { count_of self.new.stamps + 1 ≡ count_of self.old.stamps }
-        ensures spare { spare_of self.new ≡ spare_of self.old }
-    {
-        self.stamps.remove(koid.0, page);
     }
 
     // Makes what shows a page of a VMO ready for nothing, if the page does not lie in the VMO or has another frame now than
@@ -235,13 +245,15 @@ impl ReadyMap {
         }
     }
 
-    // Takes the note of a page of an address space away.
+    // Takes the note of a page of an address space away, and the stamp that no other note has.
     fn drop_place(&mut self, root: RegionName, page: PageNo)
         requires { IsSome (values_of self.old.places root.0 page) }
         ensures rows { rows_of self.new ≡ without_range (rows_of self.old) root.0 page (page + 1) }
+        ensures none { values_of self.new.places root.0 page ≡ None }
         ensures fewer { count_of self.new.places + 1 ≡ count_of self.old.places }
         ensures spare { spare_of self.new ≡ spare_of self.old }
     {
-        self.places.remove(root.0 as u64, page);
+        let kept = self.places.remove(root.0 as u64, page);
+        lower(&mut self.stamps, kept);
     }
 }

@@ -1,10 +1,10 @@
 //! Stamps of the pages of VMOs, and what they leave of a note.
 
-ghost use Rattle.std.specs.Prelude.{◌≡◌, ◌+◌, ◌≤◌, Some, IsSome};
+ghost use Rattle.std.specs.Prelude.{◌≡◌, ◌+◌, ◌^◌, ◌<◌, ◌≤◌, Some, IsSome, IfSome};
 ghost use Rattle.pair_map.specs.Maps.{values_of, spare_of, with_pair};
 ghost use Rattle.vm_model.specs.Space.Readiness.{is_same_frame};
 ghost use Rattle.eager_pages.specs.Eager.{content_of};
-ghost use Rattle.ready_map.specs.Notes.{ready_page, stamp_for, number_of, has_frame};
+ghost use Rattle.ready_map.specs.Notes.{ready_page, stamp_for, lowered, number_of, has_frame};
 
 use crate::ready_map::ReadyPage;
 use eager_pages::EagerPages;
@@ -31,6 +31,8 @@ pub(crate) struct Stamp {
     pub(crate) since: u64,
     /// Notes that were made before this time are for reading alone.
     pub(crate) shared: u64,
+    /// How many notes count.
+    pub(crate) notes: u64,
 }
 
 /// What a note says under the stamp of its page. `None` if it does not count.
@@ -65,18 +67,43 @@ pub(crate) fn is_same_frame(one: Option<Tag>, other: Option<Tag>) -> bool
     }
 }
 
-/// The stamp of a page that has this frame, from the one that it has: the same, unless that is of another frame. Then no
-/// note that was made before this time counts.
+/// The stamp of a page that has this frame, with one more note, from the stamp that it has: since the same times, unless that
+/// is of another frame. Then no note that was made before this time counts.
 pub(crate) fn stamp_for(stamp: Option<Stamp>, frame: Option<Tag>, now: u64) -> Stamp
+    requires { IfSome stamp (λ stamp. stamp.notes + 1 < 2 ^ 64) }
     ensures { result ≡ stamp_for stamp frame now }
 {
     match stamp {
-        Some(stamp) if is_same_frame(stamp.frame, frame) => stamp,
+        Some(stamp) if is_same_frame(stamp.frame, frame) => Stamp {
+            notes: stamp.notes + 1,
+            ..stamp
+        },
         _ => Stamp {
             frame,
             since: now,
             shared: now,
+            notes: 1,
         },
+    }
+}
+
+/// Takes a note that goes off the count of its stamp, if it counts there. A stamp under which no note counts goes too.
+pub(crate) fn lower(stamps: &mut PairMap<Stamp>, kept: Kept)
+    ensures values { values_of stamps.new ≡ with_pair (values_of stamps.old) kept.koid.0 kept.page
+        (lowered kept.made (values_of stamps.old kept.koid.0 kept.page)) }
+    ensures spare { spare_of stamps.old ≤ spare_of stamps.new }
+{
+    let Some(stamp) = stamps.find(kept.koid.0, kept.page) else {
+        return;
+    };
+    if kept.made < stamp.since {
+        return;
+    }
+    if stamp.notes <= 1 {
+        stamps.remove(kept.koid.0, kept.page);
+    } else {
+        let notes = stamp.notes - 1;
+        stamps.replace(kept.koid.0, kept.page, Stamp { notes, ..stamp });
     }
 }
 

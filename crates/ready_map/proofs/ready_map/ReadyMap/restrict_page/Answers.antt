@@ -10,6 +10,7 @@ invariant_of-self c =
     record {
       notes = AreNotes-stamped (notes_of c.self.inside) c.args.koid.0 c.args.page c.replace.new.self _ c.self.invariant.notes c.replace.ensures.values
           (c.self.invariant.notes.stamped c.args.koid.0 c.args.page c.in-Some.stamp found).0 (omega arith)
+          (c.self.invariant.notes.counted c.args.koid.0 c.args.page c.in-Some.stamp found) (c.self.invariant.notes.noted c.args.koid.0 c.args.page c.in-Some.stamp found)
           (omega (arith, c.self.invariant.notes.stamps_room, c.replace.ensures.spare));
     }
 

@@ -1,23 +1,12 @@
-use Rattle.std.proofs.Common.{◌-◌, Option, Some, refl, ap, ◌∙◌, arith}
-use Rattle.pair_map.specs.Maps.{values_of, with_pair}
-use Rattle.ready_map.specs.declared.stamps.Stamp.{Stamp}
-use Rattle.ready_map.specs.Notes.{notes_of, stamp_for}
-use Rattle.ready_map.proofs.RowLaws.{rows-set, AreNotes-set}
+use Rattle.std.proofs.Common.{Bool, ap, ◌∙◌}
+use Rattle.ready_map.specs.declared.ready_map.ReadyPage.{ReadyPage}
+use Rattle.ready_map.specs.Notes.{Rows, rows_of, agrees, kept_rows, with_row}
+use Rattle.ready_map.proofs.RowLaws.{row-cleared}
 use Rattle.ready_map.proofs.ready_map.ReadyMap.set.Goals as goal
-
-pub invariant_of-self : goal.invariant_of-self
-invariant_of-self c = record {
-  notes = AreNotes-set (notes_of c.self.inside) c.args.root.0 c.args.page (record { koid = c.args.row.koid; page = c.args.row.page; readiness = c.args.row.readiness; made = c.self.inside.time }) c.args.row.frame
-      c.self.invariant.notes c.put-2.new.map c.put.new.map (c.self.inside.room - 1) refl c.put-2.ensures.values
-      (c.put.ensures.values ∙ ap (λ (s : Stamp). with_pair (values_of c.self.inside.stamps) c.args.row.koid.0 c.args.row.page (Some s))
-      (c.stamp_for-stamp.ensures ∙ ap (λ (o : Option Stamp). stamp_for o c.args.row.frame c.self.inside.time) c.find.ensures))
-      (let room = rw (← c.self.view_is) at c.requires.room in omega arith)
-      (omega (arith, c.self.invariant.notes.places_room, c.put-2.ensures.spare)) (omega (arith, c.self.invariant.notes.stamps_room, c.put.ensures.spare));
-}
 
 pub returns-clause-rows : goal.returns-clause-rows
 returns-clause-rows c =
-    rw (← c.self.view_is) (rows-set (notes_of c.self.inside) c.args.root.0 c.args.page (record { koid = c.args.row.koid; page = c.args.row.page; readiness = c.args.row.readiness; made = c.self.inside.time }) c.args.row.frame
-    c.self.invariant.notes c.put-2.new.map c.put.new.map (c.self.inside.room - 1) refl c.put-2.ensures.values
-    (c.put.ensures.values ∙ ap (λ (s : Stamp). with_pair (values_of c.self.inside.stamps) c.args.row.koid.0 c.args.row.page (Some s))
-    (c.stamp_for-stamp.ensures ∙ ap (λ (o : Option Stamp). stamp_for o c.args.row.frame c.self.inside.time) c.find.ensures)))
+    let stays : ReadyPage → Bool = agrees c.args.row.koid.0 c.args.row.page c.args.row.frame in
+    c.note.ensures.rows
+    ∙ (ap (λ (rows : Rows). with_row (kept_rows stays rows) c.args.root.0 c.args.page c.args.row) c.clear.ensures.rows
+    ∙ row-cleared (rows_of c.args.self.now) c.args.root.0 c.args.page c.args.row stays)
