@@ -22,7 +22,7 @@ use Rattle.mapping_set.specs.Tables.{IsClear, HasNoClear, IsFirstClear, with_pla
 use Rattle.mapping_set.proofs.PieceLaws.{list_numbers}
 use Rattle.mapping_set.proofs.TableLaws.{with_pair-cases, with_pair-same}
 use Rattle.region_tree.specs.Tree.{with_one_dead, spaces_of, extent_for, IsNoted, IsChildIn, AreNoted, IsVacant}
-use Rattle.region_tree.specs.inside.TreeFields.{IsTree, IsClearPlace}
+use Rattle.region_tree.specs.inside.TreeFields.{IsTree}
 use Rattle.region_tree.proofs.PlaceLaws.{free-clear, clear-free}
 use Rattle.region_tree.proofs.BelowLaws.{is_child_from}
 
@@ -84,12 +84,13 @@ module _ (regions : ℕ → Option Region) (children : ℕ → ℕ → Option (E
   -- what a search in the list answers
   pub clear-place : (table : ℕ → ℕ → Option Entry) (from count limit : ℕ) (o : Option ℕ)
       → MatchOption o (HasNoClear list table above.root.0 name from count limit) (IsFirstClear list table above.root.0 name from count limit)
-      → MatchOption o (HasNoClear (children name) table above.root.0 name from count limit) (IsClearPlace (children name) table above.root.0 name from count limit)
+      → MatchOption o (HasNoClear (children name) table above.root.0 name from count limit) (IsFirstClear (children name) table above.root.0 name from count limit)
   clear-place table from count limit None none = subst (λ (m : ℕ → Option (Extent RegionName)). HasNoClear m table above.root.0 name from count limit) list_is none
   clear-place table from count limit (Some p) first = record {
     not_before = first.not_before;
     not_past = first.not_past;
     clear = subst (λ (m : ℕ → Option (Extent RegionName)). IsClear m table above.root.0 name p count) list_is first.clear;
+    first = subst (λ (m : ℕ → Option (Extent RegionName)). (q : ℕ) → from ≤ q → q < p → IsClear m table above.root.0 name q count → ⊥) list_is first.first;
   }
 
   -- and what a look at it tells of a range in the region

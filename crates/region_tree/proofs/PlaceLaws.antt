@@ -1,6 +1,6 @@
 -- The extents of the children tell where a live child is, and with the entries where a place is free.
 use Rattle.std.proofs.Common.{◌≡◌, ℕ, ◌+◌, ◌-◌, ◌<◌, ◌≤◌, ◌^◌, Bool, true, false, not, ◌&&◌, Option, None, Some, is_some, ◌⊎◌, ◌↔◌, IsTrue, refl, sym, ap, subst, ◌∙◌, inl, inr, arith}
-use Rattle.std.specs.Prelude.{nat_lt, nat_le, min, max, unwrap_or}
+use Rattle.std.specs.Prelude.{nat_lt, nat_le, min, max, unwrap_or, IfSome}
 use Rattle.std.specs.Option.{MatchOption}
 use Rattle.std.proofs.lemmas.Bool.{cases_Bool, cases_lt, and_parts, and_from, both_ways, false_from_ne_true, not-true, not_from_false, ltb-true, leb-true, lt-ltb, le-leb}
 use Rattle.vm_base.specs.declared.limits.TheConstants.{NAMES}
@@ -18,9 +18,9 @@ use Rattle.balanced_tree.specs.Rows.{Rows}
 use Rattle.pair_map.specs.declared.pair_row.PairRow.{PairRow}
 use Rattle.pair_map.specs.declared.stretch_row.Extent.{Extent}
 use Rattle.pair_map.specs.Maps.{Covers, IsOpen}
-use Rattle.mapping_set.specs.Tables.{HasNoGap, IsFirstGap, IsClear, HasNoClear}
+use Rattle.mapping_set.specs.Tables.{HasNoGap, IsFirstGap, IsClear, HasNoClear, IsFirstClear}
 use Rattle.region_tree.specs.Tree.{regions_of, spaces_of, extent_for}
-use Rattle.region_tree.specs.inside.TreeFields.{IsTree, IsClearPlace, ReachesOut}
+use Rattle.region_tree.specs.inside.TreeFields.{IsTree, ReachesOut}
 
 -- what the fields hold, as it is seen
 pub seen : {was now : Rows (PairRow Region)} {children : ℕ → ℕ → Option (Extent RegionName)} → was ≡ now → IsTree (regions_of was) children → IsTree (regions_of now) children
@@ -182,7 +182,7 @@ module _ (regions : ℕ → Option Region) (children : ℕ → ℕ → Option (E
 
     -- a range that is clear is a free place
     pub place-some : (count limit end first : ℕ) → 1 ≤ count → end ≤ above.first + limit → end ≤ end_of above
-        → IsClearPlace (children name) table above.root.0 name above.first count end first
+        → IsFirstClear (children name) table above.root.0 name above.first count end first
         → (is_free (spaces_of regions table) name first (first + count) ≡ true) × (first + count ≤ (region_of regions name).first + limit)
     place-some count limit end first some short inside place =
         let begins : (region_of regions name).first ≡ above.first = ap (λ (r : Region). r.first) region-is in
@@ -190,7 +190,7 @@ module _ (regions : ℕ → Option Region) (children : ℕ → ℕ → Option (E
 
     -- what a search in the region answers
     pub place-is : (count limit end : ℕ) → 1 ≤ count → end_of above < 2 ^ 64 → end ≡ min (min (above.first + limit) (2 ^ 64 - 1)) (end_of above) → (o : Option ℕ)
-        → MatchOption o (HasNoClear (children name) table above.root.0 name above.first count end) (IsClearPlace (children name) table above.root.0 name above.first count end)
+        → MatchOption o (HasNoClear (children name) table above.root.0 name above.first count end) (IsFirstClear (children name) table above.root.0 name above.first count end)
         → MatchOption o (has_place (spaces_of regions table) name count limit ≡ false) (λ (first : ℕ).
         (is_free (spaces_of regions table) name first (first + count) ≡ true) × (first + count ≤ (region_of regions name).first + limit))
     place-is count limit end some few ends None none = place-none count limit end (elim (cases_lt (above.first + limit) (end_of above)) [
@@ -198,6 +198,15 @@ module _ (regions : ℕ → Option Region) (children : ℕ → ℕ → Option (E
       | inr more ↦ inr (omega (arith, more, few, ends))
     ]) none
     place-is count limit end some few ends (Some first) place = place-some count limit end first some (omega (arith, ends)) (omega (arith, ends)) place
+
+    -- and no place before it is free
+    pub place-lowest : (count end : ℕ) → (o : Option ℕ)
+        → MatchOption o (HasNoClear (children name) table above.root.0 name above.first count end) (IsFirstClear (children name) table above.root.0 name above.first count end)
+        → IfSome o (λ first. (p : ℕ) → p < first → is_free (spaces_of regions table) name p (p + count) ≡ false)
+    place-lowest count end None none = tt
+    place-lowest count end (Some first) place = λ p low. false_from_ne_true (is_free (spaces_of regions table) name p (p + count)) (λ free.
+        let clear = free-clear p count free in
+        place.first p clear.0 low clear.2)
 
     -- ---- whether a place is free
 

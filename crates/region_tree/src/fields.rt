@@ -6,9 +6,9 @@ ghost use Rattle.vm_base.specs.declared.limits.TheConstants.{PAGES_END};
 ghost use Rattle.balanced_tree.specs.Pairs.{with_pair};
 ghost use Rattle.pair_map.specs.Maps.{values_of, extents_of};
 ghost use Rattle.vm_model.specs.Space.Regions.{end_of, lies_in, reaches_over};
-ghost use Rattle.mapping_set.specs.Tables.{table_of, HasNoClear};
+ghost use Rattle.mapping_set.specs.Tables.{table_of, HasNoClear, IsFirstClear};
 ghost use Rattle.region_tree.specs.Tree.{is_live_region};
-ghost use Rattle.region_tree.specs.inside.TreeFields.{IsClearPlace, ReachesOut, IsBetween, HasNoneBetween};
+ghost use Rattle.region_tree.specs.inside.TreeFields.{ReachesOut, IsBetween, HasNoneBetween};
 
 use mapping_set::MappingSet;
 use pair_map::{ExtentMap, PairMap};
@@ -55,7 +55,7 @@ pub(crate) fn end_within(region: Region, limit: u64) -> PageNo
         .min(region.first + region.count)
 }
 
-/// The first page from `first` on of `count` pages, below the limit, that are in no child of the region and have no
+/// The lowest page from `first` on of `count` pages, below the limit, that are in no child of the region and have no
 /// entry of it. The children and the entries are asked in turn. Each is asked for a place that is not before the
 /// other's.
 pub(crate) fn gap_in(
@@ -71,7 +71,7 @@ pub(crate) fn gap_in(
     requires limit { limit ≤ PAGES_END }
     ensures { MatchOption result
         (HasNoClear (extents_of children.now region.0) (table_of maps.now) root.0 region.0 first count limit)
-        (IsClearPlace (extents_of children.now region.0) (table_of maps.now) root.0 region.0 first count limit) }
+        (IsFirstClear (extents_of children.now region.0) (table_of maps.now) root.0 region.0 first count limit) }
 {
     let mut from = first;
     'search: loop {

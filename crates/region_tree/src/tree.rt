@@ -1,6 +1,6 @@
 //! The tree of regions.
 
-ghost use Rattle.std.specs.Prelude.{◌≡◌, ℕ, ◌+◌, ◌≤◌, true, false, None, Some, IfSome, OnOk, OnErr};
+ghost use Rattle.std.specs.Prelude.{◌≡◌, ℕ, ◌+◌, ◌<◌, ◌≤◌, true, false, None, Some, IfSome, OnOk, OnErr};
 ghost use Rattle.std.specs.Option.{MatchOption};
 ghost use Rattle.vm_base.specs.declared.limits.TheConstants.{PAGES_END};
 ghost use Rattle.vm_base.specs.Entries.{with_key};
@@ -169,7 +169,7 @@ impl Regions {
         self.regions.find(0, name.0 as u64)
     }
 
-    /// The first page of a free place of `count` pages in a live region. The place ends at most `limit` pages behind
+    /// The first page of the lowest free place of `count` pages in a live region. The place ends at most `limit` pages behind
     /// the region's start. `None` if and only if there is none. The search needs no note of a place. It costs a search
     /// for each change between children and mappings up to the place. If places are noted, `find_gap_noted` costs one
     /// search.
@@ -182,10 +182,12 @@ impl Regions {
     ) -> Option<PageNo>
         requires live { is_live_region (regions_of self.now) region.0 ≡ true }
         requires some { 1 ≤ count }
-        ensures { let spaces = spaces_of (regions_of self.now) (table_of maps.now) in
+        ensures place { let spaces = spaces_of (regions_of self.now) (table_of maps.now) in
             MatchOption result (has_place spaces region.0 count limit ≡ false) (λ (first : ℕ).
             (is_free spaces region.0 first (first + count) ≡ true) ×
             (first + count ≤ (region_of (regions_of self.now) region.0).first + limit)) }
+        ensures lowest { let spaces = spaces_of (regions_of self.now) (table_of maps.now) in
+            IfSome result (λ (first : ℕ). (p : ℕ) → p < first → is_free spaces region.0 p (p + count) ≡ false) }
     {
         let above = held(&self.regions, region);
         let end = end_within(above, limit);
@@ -214,10 +216,12 @@ impl Regions {
         requires above { regions_of self.now region.0 ≡ Some above }
         requires live { above.live ≡ true }
         requires some { 1 ≤ count }
-        ensures { let spaces = spaces_of (regions_of self.now) (table_of maps.now) in
+        ensures place { let spaces = spaces_of (regions_of self.now) (table_of maps.now) in
             MatchOption result (has_place spaces region.0 count limit ≡ false) (λ (first : ℕ).
             (is_free spaces region.0 first (first + count) ≡ true) ×
             (first + count ≤ (region_of (regions_of self.now) region.0).first + limit)) }
+        ensures lowest { let spaces = spaces_of (regions_of self.now) (table_of maps.now) in
+            IfSome result (λ (first : ℕ). (p : ℕ) → p < first → is_free spaces region.0 p (p + count) ≡ false) }
     {
         let _apart = self.children.len();
         let end = end_within(above, limit);

@@ -42,12 +42,6 @@ pub record HasNoneOver (regions : ℕ → Option Region) (above page first end :
   pub here : any_child regions above (lies_in first end) ≡ false
   pub deeper : (name : ℕ) → IsOver regions above page name → any_child regions name (lies_in first end) ≡ false
 
--- the range at p is clear
-pub record IsClearPlace (extents : ℕ → Option (Extent RegionName)) (table : ℕ → ℕ → Option Entry) (root region from count limit p : ℕ) : Type 0 where
-  pub not_before : from ≤ p
-  pub not_past : p + count ≤ limit
-  pub clear : IsClear extents table root region p count
-
 -- some region below `above`, dead or live, has this parent
 pub record IsAbove (regions : ℕ → Option Region) (above : ℕ) (parent : Option RegionName) : Type 0 where
   pub name : ℕ
