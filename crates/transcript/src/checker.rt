@@ -34,7 +34,11 @@ pub(crate) enum Phase {
 }
 
 /// A checker of transcripts. It keeps a machine of its own, whose frames have numbers of its own, and the numbers that were
-/// told of the frames of pinned pages. Its memory does not grow with the transcript.
+/// told of the frames of pinned pages.
+///
+/// Its memory grows with what this machine holds at one time: names, mappings, pages that are ready for an access, and a row for
+/// each held page of each VMO. It grows with each region that is made, since one that is destroyed keeps its name. Nothing else
+/// stays of a line. A snapshot copies the rows of its range at once: some 0.2 s and 9 MB for one of 256 MiB that is held.
 #[derive(Drop)]
 pub struct Checker {
     alloc: Global,

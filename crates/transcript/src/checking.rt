@@ -139,8 +139,10 @@ fn push_report<K: Sink>(check: &Check, sink: &mut K) -> Status
 /// The transcript, of at most `SCRIPT_BYTES` bytes, is read to its end line by line. Each line is `> ` and a line of a script, or
 /// `< ` and a line of a reply. Then one line is written. `LEGAL n` if the lines are a whole transcript, with n the number of lines
 /// of the script. `ILLEGAL k` or `MALFORMED k` with the number of the first line, from 1, of which `Checker::feed` says so;
-/// `ILLEGAL k` with the number of lines plus 1 if the lines end while a reply line is missing. The memory does not grow with the
-/// transcript.
+/// `ILLEGAL k` with the number of lines plus 1 if the lines end while a reply line is missing.
+///
+/// The memory grows with what the machine holds at one time and with the regions that are made, and nothing else stays of a line
+/// (`Checker`). A snapshot costs the held pages of its range, and a VMO that leaves costs its own.
 ///
 /// `HostMemory` if the host has too little memory, `ReadFault` if the source fails, and `ScriptLimit` if it gives more than
 /// `SCRIPT_BYTES` bytes: nothing was written. `WriteFault` if the sink fails. `Usage` for other words, and nothing is touched.
