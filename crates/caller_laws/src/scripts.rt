@@ -153,3 +153,17 @@ pub fn a_flag_is_written_by_its_word(out: &mut [u8]) -> usize
     };
     write_command(&child, out)
 }
+
+/// A read is written with its offset before its length.
+#[tactic(auto, unfolding(vm_model::specs::Language::Spelling::command_words, vm_model::specs::Language::Spelling::has_spelling, vm_model::specs::Language::Spelling::spelling))]
+pub fn a_read_is_written_with_its_offset_first(out: &mut [u8]) -> usize
+    requires { TEXT_ROOM ≤ length out.old }
+    ensures { take result out.new ≡ codes "vmo_read v1 4096 16\n" }
+{
+    let read = Command::VmoRead {
+        name: VmoName(1),
+        offset: 4096,
+        len: 16,
+    };
+    write_command(&read, out)
+}
