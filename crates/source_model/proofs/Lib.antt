@@ -10,3 +10,4 @@ pub mod GoodLaws
 pub mod ReachLaws
 pub mod TextLaws
 pub mod CodeLaws
+pub mod ClosedLaws

@@ -81,7 +81,7 @@ macro_rules! same_fields {
 }
 
 impl<'a> SourceCall<'a> {
-    /// The command, with bytes of its own.
+    /// Returns the command, with bytes of its own.
     pub fn to_command(&self) -> SourceCommand
         ensures { result ≡ source_command_of self.now }
     {
@@ -90,7 +90,7 @@ impl<'a> SourceCall<'a> {
 }
 
 impl SourceCommand {
-    /// The command, with its bytes lent.
+    /// Returns the command, with its bytes lent.
     pub fn lend(&self) -> SourceCall<'_>
         ensures { source_command_of result ≡ self.now }
     {

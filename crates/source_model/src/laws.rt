@@ -1,6 +1,7 @@
 //! What holds of the definitions alone. Each law is the contract of a function that does nothing.
 
 ghost use Rattle.std.specs.Prelude.{◌≡◌, ◌↔◌, ℕ, ◌+◌, ◌<◌, ◌≤◌, true, Option, Some, IsSome};
+ghost use Rattle.vm_base.specs.Entries.{without_key};
 ghost use Rattle.vm_base.specs.declared.names.VmoName.{VmoName};
 ghost use Rattle.vm_model.specs.Contents.Content.{Content};
 ghost use Rattle.vm_model.specs.declared.reply.Reply.{Reply};
@@ -10,7 +11,7 @@ ghost use Rattle.source_model.specs.declared.command.SourceCommand.TheVariants.{
 ghost use Rattle.source_model.specs.declared.link.Link.{Link};
 ghost use Rattle.source_model.specs.Links.{shows, walked};
 ghost use Rattle.source_model.specs.State.{SourceState, below_of, empty_sources, state_over};
-ghost use Rattle.source_model.specs.Living.{IsLive};
+ghost use Rattle.source_model.specs.Living.{LivesBy, IsLive, StaysAt};
 ghost use Rattle.source_model.specs.Commands.{SourceStep};
 ghost use Rattle.source_model.specs.Good.{IsGoodSources, IsTextOf};
 ghost use Rattle.source_model.specs.Reaching.{Reaches};
@@ -28,7 +29,7 @@ pub fn a_step_keeps_the_sources_good()
         IsGoodSources old → SourceStep old command reply new → new.content.next ≤ old.content.next + 1 }
 {}
 
-/// Reads, supplies and evictions change no byte of any text: only which pages are in memory.
+/// Reads, supplies and evictions change no byte of any text.
 pub fn paging_changes_no_text()
     ensures reads { (old new : SourceState) (name : VmoName) (offset len : ℕ) (reply : Reply) →
         SourceStep old (Read name offset len) reply new → new.text ≡ old.text }
@@ -38,7 +39,8 @@ pub fn paging_changes_no_text()
         SourceStep old (Evict name offset len) reply new → new.text ≡ old.text }
 {}
 
-/// The text of a good state is what look-ups upwards find, and nothing else: so code that keeps no text, and walks up the links, has it.
+/// The text of a good state is what look-ups upwards find, and nothing else, so code that keeps no text reads it by walking up the links.
+/// What look-ups find is a text wherever each link leads to a VMO with a smaller koid.
 pub fn look_ups_find_the_text()
     ensures only { (s : SourceState) → IsGoodSources s →
         (v p : ℕ) → s.text v p ≡ walked s.content s.backing (below_of s) v p }
@@ -46,15 +48,19 @@ pub fn look_ups_find_the_text()
         ((v : ℕ) (l : Link) → link v ≡ Some l → l.parent.0 < v) → IsTextOf (state_over c names backing link) }
 {}
 
-/// The pages of which a write changes the text are the page itself, and those that it comes to from child to child, by pages that the
-/// children show and do not hold.
+/// The pages that show a page, to which a write of it is pushed, are the page itself and those that the write comes to from child to
+/// child, by pages that the children show and do not hold.
 pub fn a_write_comes_to_what_shows_its_page()
     ensures { (s : SourceState) → IsGoodSources s → (v p w q : ℕ) →
         (shows (below_of s) v p w q ≡ true) ↔ Reaches s v p w q }
 {}
 
-/// Behind a close, what is there lives, and what lived by another name is there with its text.
+/// After a close, each VMO that is there lives. A VMO that lives without the closed name, by another name or by a loose child that
+/// lives so, is there as it was, with its text.
 pub fn a_name_that_is_closed_leaves_what_lives()
-    ensures { (old new : SourceState) (name : VmoName) (reply : Reply) → IsGoodSources old → SourceStep old (Close name) reply new →
-        (v : ℕ) → IsSome (new.content.count v) → IsLive new v }
+    ensures lives { (old new : SourceState) (name : VmoName) (reply : Reply) → IsGoodSources old →
+        SourceStep old (Close name) reply new → (v : ℕ) → IsSome (new.content.count v) → IsLive new v }
+    ensures stays { (old new : SourceState) (name : VmoName) (reply : Reply) → IsGoodSources old →
+        SourceStep old (Close name) reply new → (v : ℕ) → LivesBy (without_key old.names name.0) old.link v →
+        IsSome (new.content.count v) × StaysAt old new v }
 {}
