@@ -3,7 +3,7 @@ use Rattle.std.proofs.Common.{◌≡◌, ℕ, ◌+◌, ◌/◌, ◌==◌, true, 
 use Rattle.std.specs.Prelude.{option_map}
 use Rattle.vm_base.specs.Entries.{with_key}
 use Rattle.vm_base.specs.Pages.{rounded}
-use Rattle.vm_base.specs.declared.limits.TheConstants.{PAGE, SOURCE_BYTES}
+use Rattle.vm_base.specs.declared.limits.TheConstants.{PAGE, SOURCE_BYTES, SOURCE_KIND_MAX}
 use Rattle.vm_base.specs.declared.names.Koid.{Koid}
 use Rattle.vm_base.specs.declared.names.VmoName.{VmoName}
 use Rattle.vm_model.specs.declared.reply.Reply.TheVariants.{Done}
@@ -25,7 +25,7 @@ module _ (c d : Content) (names ns : ℕ → Option ℕ) (bs bs_new : ℕ → Op
   abbrev s : SourceState
   s = state_over c names bs ls
 
-  pub create_step : (size kind seed pages : ℕ) (b : Backing) → b ≡ record { kind = kind; seed = seed; base = 0; seen = pages } → nat_lt 2 kind ≡ false → nat_lt SOURCE_BYTES (rounded size) ≡ false
+  pub create_step : (size kind seed pages : ℕ) (b : Backing) → b ≡ record { kind = kind; seed = seed; base = 0; seen = pages } → nat_lt SOURCE_KIND_MAX kind ≡ false → nat_lt SOURCE_BYTES (rounded size) ≡ false
       → pages ≡ rounded size / PAGE → d ≡ created c pages → bs_new ≡ with_key bs v b → ls_new ≡ ls → SourceStep s (Create name size kind seed) Done (state_over d ns bs_new ls_new)
   unfolding with_source
   create_step size kind seed pages b b_is known fits pages_is content_is bs_is ls_is =

@@ -3,7 +3,7 @@ use Rattle.std.proofs.Common.{◌≡◌, ℕ, ◌+◌, ◌*◌, ◌/◌, ◌≤�
 use Rattle.std.specs.List.{filter, range_with_len}
 use Rattle.vm_base.specs.Search.{any_from}
 use Rattle.vm_base.specs.Pages.{rounded}
-use Rattle.vm_base.specs.declared.limits.TheConstants.{PAGE, DATA_BYTES, SOURCE_BYTES}
+use Rattle.vm_base.specs.declared.limits.TheConstants.{PAGE, DATA_BYTES, SOURCE_BYTES, SOURCE_KIND_MAX}
 use Rattle.vm_base.specs.declared.names.VmoName.{VmoName}
 use Rattle.vm_base.specs.declared.refusal.Refusal.{Refusal}
 use Rattle.vm_base.specs.declared.refusal.Refusal.TheVariants.{BadHandle, InvalidArgs, NotSupported, OutOfRange, NoMemory, HostMemory}
@@ -129,14 +129,14 @@ supply_refused s name offset len refusal e =
 -- ---- new VMOs
 
 module _ (s : SourceState) (name : VmoName) (closed : s.names name.0 ≡ None) where
-  pub create_done : (size kind seed pages : ℕ) (new : SourceState) → nat_lt 2 kind ≡ false → nat_lt SOURCE_BYTES (rounded size) ≡ false
+  pub create_done : (size kind seed pages : ℕ) (new : SourceState) → nat_lt SOURCE_KIND_MAX kind ≡ false → nat_lt SOURCE_BYTES (rounded size) ≡ false
       → pages ≡ rounded size / PAGE → new ≡ with_source s name.0 pages (record { kind = kind; seed = seed; base = 0; seen = pages })
       → SourceStep s (Create name size kind seed) Done new
   create_done size kind seed pages new known fits is made =
       done s (Create name size kind seed) Done new (rw (closed, known, fits) refl)
       (refl, made ∙ ap (λ (n : ℕ). with_source s name.0 n (record { kind = kind; seed = seed; base = 0; seen = n })) is)
 
-  pub create_lacked : (size kind seed : ℕ) → nat_lt 2 kind ≡ false → nat_lt SOURCE_BYTES (rounded size) ≡ false
+  pub create_lacked : (size kind seed : ℕ) → nat_lt SOURCE_KIND_MAX kind ≡ false → nat_lt SOURCE_BYTES (rounded size) ≡ false
       → SourceStep s (Create name size kind seed) (Refused HostMemory) s
   create_lacked size kind seed known fits = lacked s (Create name size kind seed) (rw (closed, known, fits) refl) refl
 
