@@ -36,7 +36,7 @@ pub(crate) struct SourceInterpreter {
     room: LineRoom,
 }
 
-/// A machine with no names and no VMOs.
+/// Makes an interpreter whose machine has no names and no VMOs.
 pub(crate) fn new_interpreter(alloc: Global, functions: [SourceFn; 3]) -> SourceInterpreter
     requires kinds { map (λ f. f.kind) functions ≡ 0 ∷ 1 ∷ 2 ∷ [] }
     ensures empty { (c : Content) → IsGood c → ((v : ℕ) → c.count v ≡ None) →
@@ -80,7 +80,7 @@ impl<P: PageStore> Interpreter<P> for SourceInterpreter {
     ghost long = { SourceGives-long };
 }
 
-/// Answers one line. `Failed` where the sink failed; the line was done all the same.
+/// Answers one line. `Failed` if the sink failed; the line was done all the same.
 #[inline(always)]
 fn answer_line<P: PageStore, K: Sink>(
     store: &mut P,

@@ -1,11 +1,11 @@
 //! VMOs whose pages come from a source: a page is filled from a stored function when it is first needed, and may be evicted as
-//! long as it was not changed. The functions stand in for the kernel's pagers. Loose children show the pages of their parents until they
-//! write them themselves.
+//! long as it has the bytes of its source. The functions stand in for the kernel's pagers. Loose children show the pages of their
+//! parents until they write them themselves.
 //!
-//! `SourceVm` is the machine, over any store of pages: `step` does a command. `read_source_line` reads a line of a script, and
-//! `run_sources` runs one. It stands on `source_model` for the commands and the definitions of the step, on `page_store` for the
-//! store, on `pair_map` for its tables, on `script_text` for the fields of a line, and on `served` for the loop over lines. It keeps no
-//! text: reads walk up the links, from loose children to the page whose bytes they show (`walk`).
+//! `SourceVm` is the machine, over any store of pages: `step` does a `SourceCommand`, and `answer` a `SourceCall`. `read_source_line`
+//! reads a line of a script, and `run_sources` runs one. It stands on `source_model` for the commands and the definitions of the step,
+//! on `page_store` for the store, on `pair_map` for its tables, on `script_text` for the fields of a line, and on `served` for the loop
+//! over lines. It keeps no text: reads walk up the links, from loose children to the page whose bytes they show (`walk`).
 #![tactic(auto)]
 
 mod accesses;
@@ -26,4 +26,5 @@ pub use reading::{SourceLine, read_source_call, read_source_line};
 pub use serving::run_sources;
 pub use source_byte::src_byte;
 pub use source_fn::SourceFn;
+pub use source_model::{SourceCall, SourceCommand};
 pub use vm::SourceVm;

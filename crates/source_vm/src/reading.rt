@@ -26,8 +26,8 @@ pub enum SourceLine {
     Order(SourceCommand),
 }
 
-/// Reads one line of a script, without its line feed. `SyntaxFault` where it has more than `LINE_BYTES`
-/// bytes, or where it is not blank, no comment and no command.
+/// Reads one line of a script, without its line feed. `SyntaxFault` if it has more than `LINE_BYTES` bytes, or if it is neither blank
+/// nor a comment nor a command.
 pub fn read_source_line(line: &[u8]) -> Result<SourceLine, SyntaxFault>
     ensures { reading_of result ≡ source_reading line.now }
 {
@@ -38,8 +38,8 @@ pub fn read_source_line(line: &[u8]) -> Result<SourceLine, SyntaxFault>
     }
 }
 
-/// Reads one line as `read_source_line` does: `None` where it says nothing, and else the command, whose byte data is decoded to the
-/// front of `room` and lent from there. `room` has at least `DATA_BYTES` bytes.
+/// Reads one line as `read_source_line` does: `None` if it is blank or a comment, else the command, whose byte data is decoded into
+/// `room` and lent from there. `room` has at least `DATA_BYTES` bytes.
 #[tactic(auto, unfolding(crate::specs::Reading::source_reading))]
 pub fn read_source_call<'a>(
     line: &[u8],

@@ -15,13 +15,13 @@ use script_io::{Sink, Source, Status};
 use served::serve_words;
 use std::alloc::Global;
 
-/// Runs the script that a source gives on a machine of page sources, and writes the replies to a sink, where `words`, those of the
-/// command line behind the program's name, are `sources`, or `sources --frames N`. Each line is answered, and its reply written, before
-/// the next line is looked at. The machine has 1,024 page frames, or as many as N says, with one to five digits from 1 to 65,536.
+/// Runs the script that a source gives on a machine of page sources, and writes the replies to a sink, if `words`, those of the
+/// command line behind the program's name, are `sources`, or `sources --frames N`. The lines are served as by `serve_words` of
+/// `served`. The machine has `DEFAULT_FRAMES` page frames, or as many as N says, with one to five digits from 1 to `FRAMES`.
 /// Function i of the three gives the bytes of sources of kind i.
 ///
-/// `HostMemory` where the host has too little memory for the buffers and the frames. `ScriptLimit` where the source gives more than
-/// 4,294,967,296 bytes. `ReadFault` and `WriteFault` where the source and the sink fail. `Usage` for other words, and then nothing is
+/// `HostMemory` if the host has too little memory for the buffers and the frames. `ScriptLimit` if the source gives more than
+/// `SCRIPT_BYTES` bytes. `ReadFault` and `WriteFault` if the source and the sink fail. `Usage` for other words, and then nothing is
 /// touched.
 pub fn run_sources<P: PageStore, S: Source, K: Sink>(
     alloc: Global,
@@ -39,7 +39,7 @@ pub fn run_sources<P: PageStore, S: Source, K: Sink>(
         EndsAs source_rules result frames SCRIPT_BYTES (S.remaining source.old) (S.remaining source.new)
         (K.contents sink.old) (K.contents sink.new) (P.content store.new)) }
 
-    // A fault is answered only where the source or the sink failed.
+    // A fault is answered only if the source or the sink failed.
     ensures read_cause { result ≡ Status.ReadFault → HasFailed (S.faults source.old) (S.faults source.new) }
     ensures write_cause { result ≡ Status.WriteFault → HasFailed (K.faults sink.old) (K.faults sink.new) }
 
@@ -61,7 +61,7 @@ pub fn run_sources<P: PageStore, S: Source, K: Sink>(
         source,
         sink,
     );
-    // By one call: at the end of the body its tables would be let go, and that proved, one by one.
+    // By one call: at the end of the body its tables would be dropped one by one, each with a proof.
     drop(interpreter);
     status
 }

@@ -6,8 +6,8 @@ ghost use Rattle.source_model.specs.Sources.{source_byte};
 
 use vm_base::page_of;
 
-/// The byte of a source at an offset, in bytes from its first. A source of kind 0 has the seed throughout, in one of kind 1 the bytes
-/// count up from the seed, and in one of kind 2 the pages do, all modulo 256.
+/// Returns the byte of a source at an offset, in bytes from its first. A source of kind 0 has the seed throughout, in one of kind 1 the
+/// bytes count up from the seed, and in one of kind 2 the pages do, all modulo 256.
 #[tactic(auto, unfolding(source_model::specs::Sources::source_byte))]
 pub fn src_byte(kind: u8, seed: u64, offset: u64) -> u8
     requires { kind ≤ SOURCE_KIND_MAX }
@@ -20,7 +20,7 @@ pub fn src_byte(kind: u8, seed: u64, offset: u64) -> u8
     }
 }
 
-// The sum modulo 256.
+/// Returns the sum modulo 256.
 fn sum_of(a: u64, b: u64) -> u8
     ensures { result ≡ (a + b) % 256 }
 {

@@ -17,8 +17,8 @@ pub struct SourceFn {
 }
 
 impl SourceFn {
-    /// Keeps a function that may be called for each seed and each offset below `SOURCE_BYTES`, and answers what `src_byte` does of this
-    /// kind, at most 2.
+    /// Keeps a function that may be called for each seed and each offset below `SOURCE_BYTES`, and returns what `src_byte` does for this
+    /// kind, at most `SOURCE_KIND_MAX`.
     pub fn new(kind: u8, f: fn(u64, u64) -> u8) -> SourceFn
         requires known { kind ≤ SOURCE_KIND_MAX }
         requires callable { (seed offset : ℕ) → seed < 2 ^ 64 → offset < SOURCE_BYTES → pre f seed offset }
@@ -29,7 +29,7 @@ impl SourceFn {
         SourceFn { kind, f }
     }
 
-    /// The byte of a source of its kind.
+    /// Returns the byte of a source of its kind.
     pub(crate) fn byte(&self, seed: u64, offset: u64) -> u8
         requires { offset < SOURCE_BYTES }
         ensures { result ≡ source_byte self.now.kind seed offset }

@@ -32,7 +32,7 @@ impl SourceVm {
     ghost use Rattle.vm_model.specs.Contents.Content.{Content, IsGood};
     ghost use Rattle.source_model.specs.State.{empty_sources};
 
-    /// A machine with no names and no VMOs. It agrees with every store that has no VMO, whatever the store's next koid is.
+    /// Makes a machine with no names and no VMOs. It agrees with every good content that has no VMO, whatever its next koid is.
     pub fn new(alloc: Global, functions: [SourceFn; 3]) -> SourceVm
         requires kinds { map (λ f. f.kind) functions ≡ 0 ∷ 1 ∷ 2 ∷ [] }
         ensures empty { (c : Content) → IsGood c → ((v : ℕ) → c.count v ≡ None) →
@@ -45,8 +45,8 @@ impl SourceVm {
         }
     }
 
-    /// Does one command as a whole. A command that is refused, also for want of the host's memory, changes nothing. The store is the
-    /// one that holds the VMOs of the names.
+    /// Does one command as a whole. A command that is refused, also because the host has too little memory, changes nothing. The
+    /// store is the one that holds the VMOs of the names. At most one koid is given.
     pub fn step<P: PageStore>(&mut self, store: &mut P, command: &SourceCommand) -> Reply
         requires agrees { Agrees (P.content store.old) self.old.table }
         requires next { (P.content store.old).next < KOIDS }
@@ -60,7 +60,7 @@ impl SourceVm {
     }
 
     /// Does what `step` does, for a command whose bytes are lent. The answer borrows the bytes that were read from `bytes`, which has
-    /// room for `DATA_BYTES` bytes.
+    /// at least `DATA_BYTES` bytes.
     pub fn answer<'a, P: PageStore>(
         &mut self,
         store: &mut P,
