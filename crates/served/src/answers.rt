@@ -11,7 +11,7 @@ use page_store::PageStore;
 use script_io::{Fetch, Lines, Sink, Source, Status};
 use vm_base::Failed;
 
-/// The status that serving ends with behind a line: one where the sink failed, else none.
+/// Returns the status that serving ends with behind a line: `WriteFault` if the sink failed, else none.
 #[inline(always)]
 fn write_fault(pushed: Result<(), Failed>) -> Option<Status>
     ensures { result ≡ write_fault pushed }
@@ -22,8 +22,8 @@ fn write_fault(pushed: Result<(), Failed>) -> Option<Status>
     }
 }
 
-/// Fetches the next line and has it answered. A status where serving ends with it. No call uses up more
-/// than one line, so the answer to a line is pushed before the next line is looked at.
+/// Fetches the next line and has it answered. A status if serving ends with it. A call uses up one line at most, so the answer to
+/// a line is pushed before the next line is looked at.
 pub(crate) fn answer_next<P: PageStore, I: Interpreter<P>, S: Source, K: Sink>(
     store: &mut P,
     interpreter: &mut I,

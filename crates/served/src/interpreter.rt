@@ -26,8 +26,8 @@ pub trait Interpreter<P: PageStore>: Drop {
     /// The interpreter and the content of its store stand together for a state.
     ghost Agrees: { Self → Content → Type 0 };
 
-    /// Answers a line of at most `LINE_BYTES` bytes, without its line feed, and pushes the text of the answer. `Failed` where
-    /// the sink failed; the line was done all the same. At most one koid is given.
+    /// Answers a line of at most `LINE_BYTES` bytes, without its line feed, and pushes the text of the answer. `Failed` if the
+    /// sink failed, and then it took a front part of the text; the line was done all the same. At most one koid is given.
     fn answer_line<K: Sink>(
         &mut self,
         store: &mut P,

@@ -12,8 +12,8 @@ use script_io::{Sink, push_all};
 use vm_base::{Failed, TEXT_ROOM};
 use vm_model::Answer;
 
-/// Pushes the text of an answer, line by line, through a buffer of at least `TEXT_ROOM` bytes. `Failed` if the sink
-/// failed. It then took a front part of the text.
+/// Pushes the text of an answer, line by line, through a buffer of at least `TEXT_ROOM` bytes. `Failed` if the sink failed, and
+/// then it took a front part of the text, and not all of it.
 #[inline(always)]
 pub fn push_answer<K: Sink>(
     sink: &mut K,
@@ -35,8 +35,8 @@ pub fn push_answer<K: Sink>(
     Ok(())
 }
 
-/// Pushes the answer to a line that is outside the grammar, `SYNTAX`. `Failed` where the sink failed, and then it took a front part
-/// of the text. It is not inlined, since such lines are rare.
+/// Pushes the answer to a line that is outside the grammar, `SYNTAX` and a line feed. `Failed` if the sink failed, and then it took a
+/// front part of the text, and not all of it. It is not inlined, since such lines are rare.
 #[inline(never)]
 pub fn push_syntax<K: Sink>(sink: &mut K) -> Result<(), Failed>
     ensures ok { OnOk result (Appends (K.contents sink.old) (K.contents sink.new) syntax_text) }

@@ -14,14 +14,15 @@ use script_io::{Lines, Sink, Source, Status};
 use std::alloc::Global;
 use vm_base::{FRAMES, SCRIPT_BYTES};
 
-/// Has the lines of the script that a source gives answered, one after another, over a store
-/// with `frames` page frames, from 1 to 65,536. The answer to a line is pushed whole before the next
-/// line is looked at, and all bytes that were pulled are used up before more are.
+/// Answers the lines of the script that a source gives, one after another, over a store that gets `frames` page frames, from 1 to
+/// `FRAMES`. Each turn of the loop fetches one line and pushes its answer, and takes bytes of the source only if no whole line is left:
+/// this is proved of a turn, and no clause here speaks of the order of pulls and pushes.
 ///
-/// `HostMemory` where the host has too little memory for the buffers and the frames, and then nothing
-/// was read. `ReadFault` and `WriteFault` where the source and the sink fail. `ScriptLimit` where the
-/// source gives more than `limit` bytes, and then the lines that end within them were answered. At
-/// most `limit + 1` bytes are taken of the source.
+/// `Done` if the script ended and each line was answered. `HostMemory` if the host has too little memory for the buffers and the
+/// frames, and then nothing was read or written. `ReadFault` if the source fails, and then each whole line that it gave was
+/// answered. `WriteFault` if the sink fails: the lines up to one were done, and the answer to that one was cut off. `ScriptLimit`
+/// if the source gives more than `limit` bytes, and then the lines whose line feed lies within them were answered. At most
+/// `limit + 1` bytes are taken of the source.
 pub fn serve<P: PageStore, I: Interpreter<P>, S: Source, K: Sink>(
     alloc: Global,
     frames: u32,
@@ -59,9 +60,9 @@ pub fn serve<P: PageStore, I: Interpreter<P>, S: Source, K: Sink>(
     }
 }
 
-/// Does `serve` for the words of a command line that are `verb`, and behind it nothing or `--frames N`: over 1,024 page frames, or
-/// as many as N says with one to five digits, from 1 to 65,536. A script has at most `SCRIPT_BYTES` bytes. `Usage` exactly where
-/// the words are others, and then nothing is touched.
+/// Does `serve` for the words of a command line that are `verb`, and behind it nothing or `--frames N`: over `DEFAULT_FRAMES` page
+/// frames, or as many as N says with one to five digits, from 1 to `FRAMES`. Its limit is `SCRIPT_BYTES`. `Usage` if and only if the
+/// words are others, and then nothing is touched.
 pub fn serve_words<P: PageStore, I: Interpreter<P>, S: Source, K: Sink>(
     alloc: Global,
     verb: &[u8],

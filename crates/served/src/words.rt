@@ -8,7 +8,8 @@ ghost use Rattle.served.specs.Words.{decimal_of_word, frames_asked, frames_in, w
 use script_text::number;
 use vm_base::{DEFAULT_FRAMES, FRAMES};
 
-/// How many page frames the words ask for, if they are `verb`, and behind it `--frames N` or no words. `None` for any other words.
+/// Returns how many page frames the words ask for, if they are `verb` and behind it what `frames_in` reads. `None` for any other
+/// words.
 pub fn frames_asked(verb: &[u8], words: &[String]) -> Option<u32>
     ensures frames { result ≡ frames_asked verb.now words.now }
     ensures range { IfSome result (λ frames. 1 ≤ frames × frames ≤ FRAMES) }
@@ -22,7 +23,7 @@ pub fn frames_asked(verb: &[u8], words: &[String]) -> Option<u32>
     None
 }
 
-/// How many page frames the last words ask for: `--frames N` with one to five digits from 1 to `FRAMES`, or no words for
+/// Returns how many page frames the last words ask for: `--frames N` with one to five digits from 1 to `FRAMES`, or no words for
 /// `DEFAULT_FRAMES`. `None` for any other words.
 pub fn frames_in(words: &[String]) -> Option<u32>
     ensures frames { result ≡ frames_in (map string_bytes words.now) }
@@ -38,7 +39,7 @@ pub fn frames_in(words: &[String]) -> Option<u32>
     }
 }
 
-/// A decimal number of at most `len` bytes, from `least` to `most`. `None` for any other word.
+/// Reads a decimal number of at most `len` bytes, from `least` to `most`. `None` for any other word.
 #[tactic(auto, unfolding(crate::specs::Words::decimal_of_word))]
 pub fn decimal_of_word(word: &[u8], len: usize, least: u64, most: u64) -> Option<u64>
     ensures value { result ≡ decimal_of_word len least most word.now }
@@ -50,7 +51,7 @@ pub fn decimal_of_word(word: &[u8], len: usize, least: u64, most: u64) -> Option
     }
 }
 
-/// A number of at most `len` bytes, from `least` to `most`.
+/// Reads a number of at most `len` bytes, from `least` to `most`. `None` for any other word.
 fn within(word: &[u8], len: usize, least: u64, most: u64) -> Option<u64>
     ensures value { result ≡ within len least most word.now (number word.now) }
     ensures range { IfSome result (λ value. least ≤ value × value ≤ most) }

@@ -47,7 +47,8 @@ impl<J: Naming, P: PageStore> Held<J, P> {
     }
 }
 
-/// Does the tasks of an actor, each under the lock. The lock is not held while the gate is called.
+/// Does the tasks of an actor, each under the lock. The lock is not held while the gate is called. It may wait for both, and has no
+/// clause: what holds of the room stands in its type.
 fn act<J: Naming, R: Wait, P: PageStore, G: Gate>(
     rt: &R,
     gate: &G,
@@ -107,9 +108,12 @@ fn finish<P: PageStore>(room: &mut Room<P>, actor: u32)
     }
 }
 
-/// Has the four actors do all their tasks, each on a thread of its own, and each task under one lock. Before and after each
-/// turn the gate is told of it, while the lock is not held. Turns that an actor might leave are done behind the joins, so the
-/// journal is whole whatever the actors did. The call may wait for the lock and for the actors.
+/// Has the four actors do all their tasks, each on a thread of its own, and each task under one lock. The gate is called before
+/// and after each turn, while the lock is not held. Turns that an actor might leave are done behind the joins, so the journal
+/// is whole whatever the actors did.
+///
+/// The call may wait for the lock, for the gate and for the actors, so it is not proved to end: its clauses hold if it returns.
+/// They do not say that the actors run side by side, nor what the gate is called with.
 pub fn act_all<R: Threads + Wait + Sync, P: PageStore + Send, G: Gate>(
     rt: &R,
     gate: &G,

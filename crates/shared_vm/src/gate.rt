@@ -1,7 +1,7 @@
 //! What is called around each turn of an actor.
 
-/// Is told of each turn of an actor, outside the lock. The actors run on threads of their own, so its calls come from several
-/// threads at once. A gate that waits holds its actor back.
+/// Is called around each turn of an actor, outside the lock. The actors run on threads of their own, so its calls come from several
+/// threads at once. A gate that waits holds its actor back. No clause says which of its calls come, or when.
 pub trait Gate: Sync {
     /// Comes before an actor, from 0 to 3, takes the lock for its turn `index`, counted from 0.
     fn before(&self, actor: u32, index: u64);

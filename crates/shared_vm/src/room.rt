@@ -47,9 +47,9 @@ impl<P: PageStore> Model for Room<P> {
 }
 
 impl<P: PageStore> Room<P> {
-    /// A room with an empty journal, over a store that has nothing, which gets so many page frames, from 1 to `FRAMES`. The
+    /// Makes a room with an empty journal, over a store that has nothing, which gets `frames` page frames, from 1 to `FRAMES`. The
     /// tasks are fewer than 2^32 together. The room for their deeds is taken here. `HostMemory` if the host has too little
-    /// memory for it or for the frames, and then the tasks and the store are given up.
+    /// memory for it or for the frames, and then the tasks and the store are dropped.
     pub fn new(
         alloc: Global,
         frames: u32,
@@ -77,8 +77,8 @@ impl<P: PageStore> Room<P> {
         })
     }
 
-    /// Does the next task of an actor, from 0 to 3, and notes it in the journal. `false` if the actor has no task left, and
-    /// then nothing changes. No memory is taken for the journal.
+    /// Does the next task of an actor, from 0 to 3, and notes it in the journal, which has room for it. `false` if the actor has
+    /// no task left, and then nothing changes.
     pub fn turn(&mut self, actor: u32) -> bool
         requires { actor ≤ ACTOR_MAX }
         ensures turns { Turns P.content self.old self.new actor result }
@@ -95,7 +95,7 @@ impl<P: PageStore> Room<P> {
         true
     }
 
-    /// How many tasks an actor, from 0 to 3, has not done.
+    /// Returns how many tasks an actor, from 0 to 3, has not done.
     pub fn left(&self, actor: u32) -> u64
         requires { actor ≤ ACTOR_MAX }
         ensures left { result + done_by actor self.now.journal ≡ length (tasks_of self.now.lists actor) }
@@ -104,7 +104,7 @@ impl<P: PageStore> Room<P> {
         self.scripts.tasks(actor).len() as u64 - self.done.of(actor)
     }
 
-    /// What the actors did, the first deed first.
+    /// Returns what the actors did, the first deed first.
     pub fn journal(&self) -> &[Deed]
         ensures journal { result.now ≡ self.now.journal }
         ensures legal { IsLegal P.content self.now }
@@ -112,7 +112,7 @@ impl<P: PageStore> Room<P> {
         self.journal.as_slice()
     }
 
-    /// The store, as the last deed left it.
+    /// Returns the store, as the last deed left it.
     pub fn into_store(self) -> P
         ensures { result ≡ self.store }
     {

@@ -65,9 +65,12 @@ fn run_on<R: Threads + Wait + Sync, P: PageStore + Send, G: Gate, S: Source, K: 
 /// `--frames N`. The machine has 1,024 page frames, or as many as N says with one to five digits, from 1 to 65,536.
 ///
 /// The whole input, of at most `INPUT_BYTES` bytes, is read first. Its lines give the actors their tasks, as `Scripts::add`
-/// says. Then each actor does its tasks in their order, and takes the lock for each. `gate` is told of each turn while the
+/// says. Then each actor does its tasks in their order, and takes the lock for each. `gate` is called around each turn, while the
 /// actor does not hold the lock. When all tasks are done, the replies are written in the order in which the machine gave them,
-/// each line behind its actor's name. The call may wait for the lock and for the actors, and promises this if it returns.
+/// each line behind its actor's name.
+///
+/// The call may wait for the lock, for the gate and for the actors, so it is not proved to end: its clauses hold if it returns.
+/// They do not say that the actors run side by side, nor what the gate is called with.
 ///
 /// The store is handed back. `HostMemory` if the host has too little memory before the first turn: nothing was written, and the
 /// store may be gone. `ReadFault` if the source fails, and `ScriptLimit` if it gives more than `INPUT_BYTES` bytes: no task was
@@ -98,7 +101,7 @@ pub fn run_actors<R: Threads + Wait + Sync, P: PageStore + Send, G: Gate, S: Sou
     // Nothing is written but the text of a journal whose tasks are all done.
     ensures unwritten { result.0 ≢ Status.Done → result.0 ≢ Status.WriteFault → sink.new ≡ sink.old }
 
-    // The store is handed back, but where the host lacks memory.
+    // The store is handed back, unless the host has too little memory.
     ensures kept { result.1 ≡ None → result.0 ≡ Status.HostMemory }
 
     // Other words are refused, and nothing is touched.

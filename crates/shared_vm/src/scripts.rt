@@ -30,7 +30,7 @@ impl Model for Scripts {
 }
 
 impl Scripts {
-    /// Four lists without tasks.
+    /// Makes four lists without tasks.
     pub fn new(alloc: Global) -> Scripts
         ensures { result ≡ no_tasks }
     {
@@ -57,7 +57,7 @@ impl Scripts {
         }
     }
 
-    /// Adds a task of a0 that is outside the grammar. It is that of a line of more than `LINE_BYTES` bytes. `HostMemory` if the
+    /// Adds a task of a0 that is outside the grammar, as a line of more than `LINE_BYTES` bytes gives it. `HostMemory` if the
     /// host has too little memory, and then the lists stay.
     pub fn add_outside(&mut self) -> Result<(), HostMemory>
         ensures ok { OnOk result (self.new ≡ with_task self.old 0 Outside) }
