@@ -1,13 +1,13 @@
-//! What commands do to the address spaces of a machine whose pages are kept eagerly: a root region is made
-//! (`create_root`), a region is allocated (`allocate`) or a part of a VMO mapped (`map`) at a place that a reply tells, the
-//! pages of a range are unmapped (`unmap`), and a region is destroyed with all below it (`destroy`). What refuses a command on
-//! regions can be asked apart, by its names (`refusal_to_map` and the like). It is for a checker of what the machine answers,
-//! which stands on other code than the machine.
+//! What commands do to the address spaces of a machine whose pages are kept eagerly: a root region is made (`create_root`), a
+//! region is allocated (`allocate`) or a part of a VMO mapped (`map`) at a place that a reply tells, the pages of a range are
+//! unmapped (`unmap`), and a region is destroyed with all below it (`destroy`). What refuses a command on regions can be asked
+//! apart, by its names (`refusal_to_map` and the like). It is for a checker of what the machine answers.
 //!
-//! It stands on `eager_pages`, `vmo_table`, `mapping_set` and `region_tree`, and calls no code of a store of pages: of
-//! `region_ops` it takes what needs none, as the search for a free place. `region_ops::protect` and `attribution::maps` need
-//! none either, so the layer above calls them. That layer has looked the names up for what has an effect. Each such call is the
-//! step of its command, or answers that there is no such step, and keeps the live children of each region noted (`AreNoted` of
+//! With the machine that is judged it shares the tables (`VmoTable`, `MappingSet`, `Regions`) and what `region_ops` does
+//! without a store: the search for a free place, what refuses a mapping (`map_refusal`), and the end of the regions below one
+//! (`destroy_within`). `protect_in` and `attribution::runs_in` need no store either, so the layer above calls them. It calls no
+//! code of a store of pages. That layer has looked the names up for what has an effect. Each such call is the step of its
+//! command, or answers that there is no such step, and keeps the live children of each region noted (`AreNoted` of
 //! `region_tree`).
 #![tactic(auto,
 // where a region and a place in it end
