@@ -1,5 +1,5 @@
 -- The jumps stay right where a VMO's node gets rows, where a VMO comes, changes its page count or goes, and where a snapshot is made.
-use Rattle.std.proofs.Common.{◌≡◌, ◌≢◌, ◌⊎◌, min, ℕ, ◌+◌, Option, None, Some, IsSome, inl, inr, refl, sym, ap, subst, ◌∙◌, arith, ◌<◌}
+use Rattle.std.proofs.Common.{◌≡◌, ◌≢◌, ◌⊎◌, min, ℕ, ◌+◌, Option, None, Some, IsSome, inl, inr, refl, sym, ap, subst, ◌∙◌, arith, ◌<◌, ◌≤◌}
 use Rattle.std.specs.Prelude.{is_some, if◌then◌else◌, ◌==◌, Bool, true, false}
 use Rattle.std.specs.Option.{option_map}
 use Rattle.std.proofs.lemmas.Bool.{cases_Bool, cases_eq}
@@ -34,6 +34,7 @@ use Rattle.cow_jump.specs.declared.jumps.JumpTable.{JumpTable}
 use Rattle.cow_jump.proofs.JumpRowLaws.{jumps-alike, jump-bare, jumps-bare, taken-retired, less-retired}
 use Rattle.cow_jump.specs.Jumps.{jump_in, serial_in, IsTaken, IsJump, AreJumps, AreMovedUp, ArePairRetired}
 use Rattle.cow_forest.specs.Store.{Forest, tree, HasNode, IsStore}
+use Rattle.cow_forest.specs.Ranges.{IsReady, HasZeroedSome}
 use Rattle.cow_forest.proofs.ContentLaws.{node-visible}
 
 pub tree-alike : (old new : Arena) (rows : Rows Row) → nodes_of new ≡ nodes_of old → new.lists ≡ old.lists → tree_of old rows ≡ tree_of new rows
@@ -53,20 +54,39 @@ pub jumps-rows : (f : Forest) (s : IsStore f) (rows : Rows Row) (v k : ℕ) (h :
 jumps-rows f s rows v k h keeps next table are =
     jumps-bare (tree f) s.exact.forest (slots_of rows) k h.node (node-visible f s v k h) (keeps h.node h.is.at) next table are
 
+-- no place but places of one list got a row
+places-bare : (old new : Slots) (list : ℕ) (Is : ℕ → Type 0) → ((l q : ℕ) → IsSome (new l q) → IsSome (old l q) ⊎ ((l ≡ list) × Is q)) →
+    KeepsBare old new list
+places-bare old new list Is places = record {
+  bare = λ l q apart none. elim (cases_Bool (is_some (new l q))) [
+    | inl some ↦ absurd (elim (places l q some) [
+      | inl had ↦ let no = ap is_some none in absurd (cc)
+      | inr here ↦ apart here.0
+    ])
+    | inr free ↦ none_is (new l q) free
+  ];
+}
+
 -- pages of a VMO's node were made zero, by which no place but places of its list gets a row
 pub jumps-places : (f : Forest) (s : IsStore f) (rows : Rows Row) (v k : ℕ) (h : HasNode f v k) (Is : ℕ → Type 0) →
     ((node : Node) → nodes_of f.arena k ≡ Some node → (l q : ℕ) → IsSome (slots_of rows l q) →
     IsSome (slots_of f.rows l q) ⊎ ((l ≡ node.list.0) × Is q)) → (next : ℕ) (table : JumpTable) →
     AreJumps (tree f) next table → AreJumps (tree_of f.arena rows) next table
-jumps-places f s rows v k h Is places = jumps-rows f s rows v k h (λ node at. record {
-  bare = λ l q apart none. elim (cases_Bool (is_some (slots_of rows l q))) [
-    | inl some ↦ absurd (elim (places node at l q some) [
-      | inl had ↦ let no = ap is_some none in absurd (cc)
-      | inr here ↦ apart here.0
-    ])
-    | inr free ↦ none_is (slots_of rows l q) free
-  ];
-})
+jumps-places f s rows v k h Is places =
+    jumps-rows f s rows v k h (λ node at. places-bare (slots_of f.rows) (slots_of rows) node.list.0 Is (places node at))
+
+-- some pages of a range were made zero
+pub jumps-zeroed : (arena : Arena) (old new : Rows Row) (before after : Pool) (v first end a b : ℕ) → IsReady arena old before v first end →
+    HasZeroedSome arena old new before after v a b → (table : JumpTable) → ((next : ℕ) × AreJumps (tree_of arena old) next table) →
+    ((next : ℕ) × AreJumps (tree_of arena new) next table)
+jumps-zeroed arena old new before after v first end a b ready zeroed table are = (
+  are.0,
+  jumps-bare (tree_of arena old) ready.exact.forest (slots_of new) v ready.node ready.visible
+      (places-bare (slots_of old) (slots_of new) ready.node.list.0 (λ q. (a ≤ q) × (q < b)) (λ l q some. elim (zeroed.places ready.node ready.visible.at l q some) [
+        | inl had ↦ inl had
+        | inr here ↦ inr (here.0, (here.1, here.2))
+      ])) are.0 table are.1,
+)
 
 -- ---- a VMO comes
 

@@ -27,7 +27,7 @@ use crate::ranges::zero_pages;
 use crate::tables::{disown, leave_other, make_room, renew_merged};
 use crate::viewing::{least_koid_of, viewer_count_of};
 use cow_arena::CowArena;
-use cow_fork::{mark_zero, share};
+use cow_fork::{share, zero_by_jumps};
 use cow_jump::{JumpTable, note_pair, retire_pair};
 use cow_merge::{close_by_jumps, shrink_by_jumps};
 use frame_pool::FramePool;
@@ -167,6 +167,7 @@ impl CowForest {
             &self.arena,
             &mut self.lists,
             &mut self.frames,
+            &self.jumps,
             node,
             first,
             end,
@@ -315,7 +316,14 @@ impl PageStore for CowForest {
         ensures rows { (content_of self.old).page v.0 page ≡ None → row_count self.new.rows ≡ row_count self.old.rows }
     {
         let node = self.nodes.get(v.0);
-        mark_zero(&self.arena, &mut self.lists, &mut self.frames, node, page);
+        zero_by_jumps(
+            &self.arena,
+            &mut self.lists,
+            &mut self.frames,
+            &self.jumps,
+            node,
+            page,
+        );
     }
 
     fn count(&self, v: Koid) -> PageNo {

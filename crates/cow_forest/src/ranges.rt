@@ -10,12 +10,13 @@ ghost use Rattle.cow_split.specs.Trees.{tree_of};
 ghost use Rattle.cow_split.specs.Cost.{depth};
 ghost use Rattle.cow_split.specs.Sight.{IsPage};
 ghost use Rattle.cow_split.specs.Exact.{IsExact, all_in_sight};
+ghost use Rattle.cow_jump.specs.Jumps.{AreJumps};
 ghost use Rattle.cow_forest.specs.inside.Looking.{IsNextBelow};
 ghost use Rattle.cow_forest.specs.Ranges.{rows_in, rows_reached, IsReady, HasZeroedSome, AreZero, HasNoFrame};
 
 use cow_arena::{CowArena, NodeId};
-use cow_fork::mark_zero;
-use cow_split::holder;
+use cow_fork::zero_by_jumps;
+use cow_jump::{JumpTable, holder_by_jumps};
 use frame_pool::FramePool;
 use page_list::{ListId, PageLists, Steps};
 use std::sync::ledger::Ledger;
@@ -28,12 +29,14 @@ pub(crate) fn zero_pages<L: Ledger>(
     arena: &CowArena,
     lists: &mut PageLists,
     frames: &mut FramePool,
+    jumps: &JumpTable,
     leaf: NodeId,
     first: PageNo,
     end: PageNo,
     steps: &mut Steps<L>,
 )
-    requires { IsReady arena.now lists.old frames.old leaf.0 first end }
+    requires ready { IsReady arena.now lists.old frames.old leaf.0 first end }
+    requires jumps { (next : ℕ) × AreJumps (tree_of arena.now lists.old) next jumps.now }
     ensures some { HasZeroedSome arena.now lists.old lists.new frames.old frames.new leaf.0 first end }
     ensures zero { AreZero (tree_of arena.now lists.new) leaf.0 first end }
     ensures cost { steps.new ≤ steps.old + rows_reached (tree_of arena.now lists.old) leaf.0 first end
@@ -44,7 +47,7 @@ pub(crate) fn zero_pages<L: Ledger>(
     let mut to = end;
     loop {
         zero_rows(
-            arena, lists, frames, leaf, first, end, at.list, here, to, steps,
+            arena, lists, frames, jumps, leaf, first, end, at.list, here, to, steps,
         );
         let stop = to.min(at.seen);
         if stop <= here {
@@ -67,6 +70,7 @@ fn zero_rows<L: Ledger>(
     arena: &CowArena,
     lists: &mut PageLists,
     frames: &mut FramePool,
+    jumps: &JumpTable,
     leaf: NodeId,
     first: PageNo,
     end: PageNo,
@@ -76,6 +80,7 @@ fn zero_rows<L: Ledger>(
     steps: &mut Steps<L>,
 )
     requires ready { IsReady arena.now lists.old frames.old leaf.0 first end }
+    requires jumps { (next : ℕ) × AreJumps (tree_of arena.now lists.old) next jumps.now }
     requires order { first ≤ here }
     requires within { (d : ℕ) → here + d < to → first + d < end }
     requires own { (node : Node) → nodes_of arena.now leaf.0 ≡ Some node → list.0 ≡ node.list.0 → here ≡ first }
@@ -85,7 +90,7 @@ fn zero_rows<L: Ledger>(
 {
     let mut from = here;
     while let Some(row) = next_counted_below(lists, list, from, to, steps) {
-        zero_shown(arena, lists, frames, leaf, row - (here - first));
+        zero_shown(arena, lists, frames, jumps, leaf, row - (here - first));
         from = row + 1;
     }
 }
@@ -110,16 +115,21 @@ fn zero_shown(
     arena: &CowArena,
     lists: &mut PageLists,
     frames: &mut FramePool,
+    jumps: &JumpTable,
     leaf: NodeId,
     page: PageNo,
 )
     requires exact { IsExact (tree_of arena.now lists.old) all_in_sight (is_taken frames.old) }
     requires page { IsPage (tree_of arena.now lists.old) leaf.0 page }
     requires room { frame_at (tree_of arena.now lists.old) leaf.0 page ≢ None → 1 ≤ lists.old.spare }
+    requires jumps { (next : ℕ) × AreJumps (tree_of arena.now lists.old) next jumps.now }
     ensures some { HasZeroedSome arena.now lists.old lists.new frames.old frames.new leaf.0 page (page + 1) }
     ensures zero { frame_at (tree_of arena.now lists.new) leaf.0 page ≡ None }
 {
-    if holder(arena, lists, leaf, page).frame().is_some() {
-        mark_zero(arena, lists, frames, leaf, page);
+    if holder_by_jumps(arena, lists, jumps, leaf, page)
+        .frame()
+        .is_some()
+    {
+        zero_by_jumps(arena, lists, frames, jumps, leaf, page);
     }
 }

@@ -103,7 +103,7 @@ let_go-cut {arena} {old} {mid} {v} {p} {node} {answer} leaf none is in_use found
 -- ---- the page comes back into sight
 
 -- a page whose holder has a frame is not zero
-shown-frame : (t : Tree) (v p : ℕ) (found : Holder) → found ≡ holder_of (walk t v p) → is_some (frame_held found) ≡ true →
+pub shown-frame : (t : Tree) (v p : ℕ) (found : Holder) → found ≡ holder_of (walk t v p) → is_some (frame_held found) ≡ true →
     frame_at t v p ≡ None → ⊥
 shown-frame t v p found is shown none = let some = ap is_some (held-shown t v p found is ∙ none) in absurd (cc)
 

@@ -1,5 +1,6 @@
 use Rattle.std.proofs.Common.{refl, arith}
 use Rattle.cow_forest.proofs.RangeLaws.{sweep-some, sweep-leaf, sweep-room, sweep-on}
+use Rattle.cow_forest.proofs.JumpKeptLaws.{jumps-zeroed}
 use Rattle.cow_forest.proofs.ranges.zero_rows.Goals as goal
 
 pub overflow_sub-row : goal.overflow_sub-row
@@ -14,6 +15,9 @@ pub zero_shown-requires-clause-room : goal.zero_shown-requires-clause-room
 zero_shown-requires-clause-room g c =
     let found = c.in-Some.ensures.next.found c.in-Some.row refl in
     sweep-room _ _ _ _ _ _ _ _ _ _ _ _ _ _ c.requires.ready c.requires.order c.requires.within c.loop-row.invariant c.in-Some.row found.0 found.1
+
+pub zero_shown-requires-clause-jumps : goal.zero_shown-requires-clause-jumps
+zero_shown-requires-clause-jumps g c = jumps-zeroed _ _ _ _ _ _ _ _ _ _ c.requires.ready c.loop-row.invariant.some _ c.requires.jumps
 
 pub overflow_add-from : goal.overflow_add-from
 overflow_add-from g c = omega (arith, c.in-Some.ensures.next.found c.in-Some.row refl)

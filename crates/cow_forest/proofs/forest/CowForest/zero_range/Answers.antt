@@ -19,8 +19,8 @@ overflow_add-end g c =
     let fits = range-fits (forest_of c.self.inside) c.self.invariant.store c.args.v.0 c.get-node.result.0 h c.args.first c.args.count (rw (← c.self.view_is) at c.requires.range) in
     omega arith
 
-pub zero_pages-requires : goal.zero_pages-requires
-zero_pages-requires g c =
+pub zero_pages-requires-clause-ready : goal.zero_pages-requires-clause-ready
+zero_pages-requires-clause-ready g c =
     let h = c.self.invariant.store.named c.args.v.0 c.get-node.result c.get-node.ensures in
     range-ready (forest_of c.self.inside) c.self.invariant.store c.args.v.0 c.get-node.result.0 h c.args.first c.args.count
     (rw (← c.self.view_is) at c.requires.range) (rw (← c.self.view_is) at c.requires.room)
