@@ -3,8 +3,13 @@
 
 mod ends;
 mod meeting;
+mod refusals;
+
+ghost use Rattle.std.specs.Prelude.{◌≡◌};
+ghost use Rattle.vm_model.specs.Contents.Content.{nothing};
 
 use cow_forest::CowForest;
+use page_store::PageStore;
 use script_io::{MemSink, MemSource, Status};
 use shared_vm::{Gate, run_actors};
 use std::alloc::Global;
@@ -17,6 +22,28 @@ const ROOM: usize = 2_097_152;
 
 /// A call that does not come.
 const NEVER: u64 = 99_999;
+
+/// How the actors are run: under these words of a command line, with this input. The pull and the push with these numbers fail,
+/// both counted from 1.
+#[derive(Clone, Copy)]
+struct Run<'a> {
+    words: &'a str,
+    input: &'a str,
+    pull: u64,
+    push: u64,
+}
+
+impl<'a> Run<'a> {
+    /// A run in which no call fails.
+    fn sure(words: &'a str, input: &'a str) -> Run<'a> {
+        Run {
+            words,
+            input,
+            pull: NEVER,
+            push: NEVER,
+        }
+    }
+}
 
 /// How a run of the actors ends, and what is written.
 #[derive(Drop)]
@@ -34,24 +61,23 @@ fn words_of(alloc: Global, line: &str) -> Result<Vec<String>, Fail> {
     Ok(words)
 }
 
-/// Runs the actors over an empty clone tree. The pull and the push with these numbers fail, both counted from 1.
-fn acted<R: Threads + Wait + Sync, G: Gate>(
+/// Runs the actors over an empty store.
+fn acted_over<R: Threads + Wait + Sync, P: PageStore + Send, G: Gate>(
     rt: &R,
     alloc: Global,
     gate: &G,
-    words: &str,
-    input: &str,
-    pull: u64,
-    push: u64,
-) -> Result<End, Fail> {
-    let words = words_of(alloc, words)?;
-    let mut source = MemSource::new(alloc, input.as_bytes(), 4096, &[pull])
+    run: Run<'_>,
+    store: P,
+) -> Result<End, Fail>
+    requires { P.content store ≡ nothing }
+{
+    let words = words_of(alloc, run.words)?;
+    let mut source = MemSource::new(alloc, run.input.as_bytes(), 4096, &[run.pull])
         .ok()
         .ok_or("room for a source")?;
-    let mut sink = MemSink::new(alloc, ROOM, 5, &[push])
+    let mut sink = MemSink::new(alloc, ROOM, 5, &[run.push])
         .ok()
         .ok_or("room for a sink")?;
-    let store = CowForest::new(alloc);
     let (status, store) = run_actors(
         rt,
         alloc,
@@ -65,6 +91,16 @@ fn acted<R: Threads + Wait + Sync, G: Gate>(
     let written = str::from_utf8(sink.bytes()).ok().ok_or("a text")?;
     let written = String::from_str(alloc, written)?;
     Ok(End { status, written })
+}
+
+/// Runs the actors over an empty clone tree.
+fn acted<R: Threads + Wait + Sync, G: Gate>(
+    rt: &R,
+    alloc: Global,
+    gate: &G,
+    run: Run<'_>,
+) -> Result<End, Fail> {
+    acted_over(rt, alloc, gate, run, CowForest::new(alloc))
 }
 
 /// The lines of an actor, of what was written.
