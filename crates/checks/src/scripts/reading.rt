@@ -91,3 +91,11 @@ pub(crate) fn read_script(alloc: Global, text: &str) -> Result<Script, Fault> {
     }
     Ok(script)
 }
+
+/// Reads the one script of a text.
+pub(crate) fn read_text(alloc: Global, text: &str) -> Result<Script, Fault> {
+    match text.strip_prefix("== ") {
+        Some(script) => read_script(alloc, script),
+        None => Err(Fault::NoScript),
+    }
+}

@@ -2,10 +2,12 @@
 
 use super::accesses::LOADER;
 use super::pins::PINS;
-use super::reading::{Script, read_script};
+use super::reading::{Script, read_text};
 use super::runs::compare;
 use super::sharing::SHARED;
 use super::sizes::SHRUNK;
+use super::source_steps::source_stepped_refusing;
+use super::sources::SNAPSHOTS;
 use super::steps::stepped_refusing;
 use super::text_fault::Fault;
 use std::alloc::Global;
@@ -17,7 +19,12 @@ const CALLS: u64 = 60;
 /// Checks that a script is answered as ever if this call finds no memory and what the call was made for is asked again.
 fn check_refused(alloc: Global, script: &Script, call: u64) -> Result<(), Fault> {
     let (words, lines) = (script.words.as_slice(), script.lines.as_str());
-    let (written, calls) = stepped_refusing(alloc, words, lines, call)?;
+    let (written, calls) = match words {
+        [verb, ..] if verb.as_str() == "sources" => {
+            source_stepped_refusing(alloc, words, lines, call)?
+        }
+        _ => stepped_refusing(alloc, words, lines, call)?,
+    };
     if calls > CALLS {
         return Err(Fault::OtherLength);
     }
@@ -26,10 +33,7 @@ fn check_refused(alloc: Global, script: &Script, call: u64) -> Result<(), Fault>
 
 /// Checks the script of a text with each call refused.
 fn check_each_refused(alloc: Global, text: &str) -> Result<(), Fault> {
-    let Some(text) = text.strip_prefix("== ") else {
-        return Err(Fault::NoScript);
-    };
-    let script = read_script(alloc, text)?;
+    let script = read_text(alloc, text)?;
     for call in 0..CALLS {
         check_refused(alloc, &script, call + 1)?;
     }
@@ -40,7 +44,7 @@ fn check_each_refused(alloc: Global, text: &str) -> Result<(), Fault> {
 /// have all others.
 #[test]
 fn each_call_of_the_store_may_find_no_memory(rt: HostRuntime) -> Result<(), Fail> {
-    for text in [SHARED, SHRUNK, PINS, LOADER] {
+    for text in [SHARED, SHRUNK, PINS, LOADER, SNAPSHOTS] {
         check_each_refused(rt.alloc(), text)?;
     }
     Ok(())

@@ -6,31 +6,53 @@ ghost use Rattle.vm_base.specs.declared.limits.TheConstants.{KOIDS};
 ghost use Rattle.vm_model.specs.Contents.Content.{nothing};
 ghost use Rattle.source_vm.specs.Table.{Agrees};
 
-use super::steps::{LINES, add_reply, frames_for};
+use super::steps::{Asking, LINES, add_reply, fill, frames_for};
 use super::text_fault::Fault;
 use cow_forest::CowForest;
-use page_store::PageStore;
+use page_store::{PageStore, RefusingStore};
+use source_vm::SourceCommand;
 use source_vm::{SourceFn, SourceLine, SourceVm, read_source_line, src_byte};
 use std::alloc::Global;
 use vm_base::{FRAMES, Refusal};
 use vm_model::Reply;
+
+/// Answers a command by a step of the machine. If the step finds no memory and two are asked for, answers it by
+/// another.
+fn reply_to<P: PageStore>(
+    store: &mut P,
+    vm: &mut SourceVm,
+    command: &SourceCommand,
+    asking: Asking,
+) -> Reply
+    requires agrees { Agrees (P.content store.old) vm.old.table }
+    requires next { (P.content store.old).next + 1 < KOIDS }
+    ensures agrees { Agrees (P.content store.new) vm.new.table }
+    ensures next { (P.content store.new).next ≤ (P.content store.old).next + 2 }
+{
+    let reply = vm.step(store, command);
+    if asking == Asking::Twice && matches!(reply, Reply::Refused(Refusal::HostMemory)) {
+        return vm.step(store, command);
+    }
+    reply
+}
 
 /// Answers a line.
 fn step<P: PageStore>(
     store: &mut P,
     vm: &mut SourceVm,
     line: &str,
+    asking: Asking,
     written: &mut String,
 ) -> Result<(), Fault>
     requires agrees { Agrees (P.content store.old) vm.old.table }
-    requires next { (P.content store.old).next < KOIDS }
+    requires next { (P.content store.old).next + 1 < KOIDS }
     ensures agrees { Agrees (P.content store.new) vm.new.table }
-    ensures next { (P.content store.new).next ≤ (P.content store.old).next + 1 }
+    ensures next { (P.content store.new).next ≤ (P.content store.old).next + 2 }
 {
     match read_source_line(line.as_bytes()) {
         Ok(SourceLine::Blank) => Ok(()),
         Ok(SourceLine::Order(command)) => {
-            let reply = vm.step(store, &command);
+            let reply = reply_to(store, vm, &command, asking);
             add_reply(written, &reply)
         }
         Err(_) => add_reply(written, &Reply::Refused(Refusal::Syntax)),
@@ -42,6 +64,7 @@ fn step_through<P: PageStore>(
     store: &mut P,
     vm: &mut SourceVm,
     script: &str,
+    asking: Asking,
     written: &mut String,
 ) -> Result<(), Fault>
     requires agrees { Agrees (P.content store.old) vm.old.table }
@@ -53,7 +76,7 @@ fn step_through<P: PageStore>(
             return Err(Fault::NoForm);
         }
         left -= 1;
-        step(store, vm, line, written)?;
+        step(store, vm, line, asking, written)?;
     }
     Ok(())
 }
@@ -63,6 +86,7 @@ fn stepped_over<P: PageStore>(
     alloc: Global,
     frames: u32,
     script: &str,
+    asking: Asking,
     store: &mut P,
 ) -> Result<String, Fault>
     requires { P.content store.old ≡ nothing }
@@ -70,7 +94,7 @@ fn stepped_over<P: PageStore>(
     if frames == 0 || frames > FRAMES {
         return Err(Fault::NoForm);
     }
-    let Ok(()) = store.fill(frames) else {
+    let Ok(()) = fill(store, frames, asking) else {
         return Err(Fault::HostMemory);
     };
     let mut written = String::new(alloc);
@@ -80,7 +104,7 @@ fn stepped_over<P: PageStore>(
         SourceFn::new(2, |seed, offset| src_byte(2, seed, offset)),
     ];
     let mut vm = SourceVm::new(alloc, functions);
-    let done = step_through(store, &mut vm, script, &mut written);
+    let done = step_through(store, &mut vm, script, asking, &mut written);
     drop(vm);
     done?;
     Ok(written)
@@ -96,7 +120,28 @@ pub(crate) fn source_stepped(
         return Ok(None);
     };
     let mut tree = CowForest::new(alloc);
-    let written = stepped_over(alloc, frames, script, &mut tree);
+    let written = stepped_over(alloc, frames, script, Asking::Once, &mut tree);
     drop(tree);
     Ok(Some(written?))
+}
+
+/// What is written if a machine of page sources over the clone tree steps through a script, and the call of the tree with this
+/// number finds no memory. Answers also how many calls there were. Each command that finds no memory is given once more, and
+/// so is the call that gives the tree its frames.
+pub(crate) fn source_stepped_refusing(
+    alloc: Global,
+    words: &[String],
+    script: &str,
+    call: u64,
+) -> Result<(String, u64), Fault> {
+    let Some(frames) = frames_for(words, "sources") else {
+        return Err(Fault::NoForm);
+    };
+    let Ok(mut store) = RefusingStore::new(alloc, CowForest::new(alloc), &[call]) else {
+        return Err(Fault::HostMemory);
+    };
+    let written = stepped_over(alloc, frames, script, Asking::Twice, &mut store);
+    let calls = store.calls();
+    drop(store);
+    Ok((written?, calls))
 }

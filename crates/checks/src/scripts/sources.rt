@@ -123,11 +123,8 @@ OK frames=1024 used=4 free=1020 vmos=3
     )
 }
 
-#[test]
-fn snapshots_share_the_pages_of_a_source(rt: HostRuntime) -> Result<(), Fail> {
-    check(
-        rt.alloc(),
-        "\
+/// A source whose pages snapshots share, each closed in the end.
+pub(crate) const SNAPSHOTS: &str = "\
 == sources
 # A child that ends past its parent, one that begins there, and a child of a child. What a child shows is what its parent had when
 # the child was made, whether the page was in memory or not.
@@ -176,7 +173,18 @@ OK
 OK
 > stat
 OK frames=1024 used=0 free=1024 vmos=0
+";
 
+#[test]
+fn snapshots_share_the_pages_of_a_source(rt: HostRuntime) -> Result<(), Fail> {
+    check(rt.alloc(), SNAPSHOTS)
+}
+
+#[test]
+fn a_shared_page_is_held(rt: HostRuntime) -> Result<(), Fail> {
+    check(
+        rt.alloc(),
+        "\
 == sources --frames 3
 # A page whose frame is shared is held, so supplying it takes no frame. Once it is evicted of one VMO, the other holds the
 # frame alone, and supplying it again takes one.

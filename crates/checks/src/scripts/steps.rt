@@ -21,7 +21,7 @@ pub(crate) const LINES: u64 = 1_000_000;
 
 /// How often what finds no memory of the host is asked.
 #[derive(Clone, Copy, PartialEq, Eq)]
-enum Asking {
+pub(crate) enum Asking {
     Once,
     Twice,
 }
@@ -110,7 +110,11 @@ fn step_through<P: PageStore>(
 }
 
 /// Gives a store its page frames. If it finds no memory and is to be asked twice, asks it again.
-fn fill<P: PageStore>(store: &mut P, frames: u32, asking: Asking) -> Result<(), HostMemory>
+pub(crate) fn fill<P: PageStore>(
+    store: &mut P,
+    frames: u32,
+    asking: Asking,
+) -> Result<(), HostMemory>
     requires empty { P.content store.old ≡ nothing }
     requires frames { (1 ≤ frames) × (frames ≤ FRAMES) }
     ensures { OnOk result (P.content store.new ≡ record (P.content store.old) { frames = frames }) }

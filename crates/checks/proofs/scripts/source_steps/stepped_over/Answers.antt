@@ -12,7 +12,7 @@ filled frames new old with_frames e =
 
 pub step_through-done-requires-clause-agrees : goal.step_through-done-requires-clause-agrees
 step_through-done-requires-clause-agrees g c =
-    let bare = filled c.args.frames _ _ c.in-Ok.ensures.ok c.requires in c.new-vm.ensures.agrees _ bare.0 bare.1
+    let bare = filled c.args.frames _ _ c.in-Ok.ensures c.requires in c.new-vm.ensures.agrees _ bare.0 bare.1
 
 pub step_through-done-requires-clause-next : goal.step_through-done-requires-clause-next
-step_through-done-requires-clause-next g c = omega (arith, (filled c.args.frames _ _ c.in-Ok.ensures.ok c.requires).2)
+step_through-done-requires-clause-next g c = omega (arith, (filled c.args.frames _ _ c.in-Ok.ensures c.requires).2)
