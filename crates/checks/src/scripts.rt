@@ -38,6 +38,7 @@ mod lines;
 mod loose;
 mod mapping_refusals;
 mod mappings;
+mod mixing;
 mod naming;
 mod pieces;
 mod pinned_snapshots;

@@ -227,6 +227,15 @@ pub(crate) fn run_both(alloc: Global, way: Way<'_>, script: &[u8]) -> Result<(En
     Ok((by_tree, counts))
 }
 
+/// What a run wrote, which must have come to its end.
+fn whole(end: End) -> Result<String, Fault> {
+    if end.status == Status::Done {
+        Ok(end.written)
+    } else {
+        Err(Fault::Ended(end.status))
+    }
+}
+
 /// Runs a script, or a workload, to its end over both stores. Answers what is written, and the counts of the clone
 /// tree.
 pub(crate) fn written(
@@ -235,9 +244,15 @@ pub(crate) fn written(
     script: &str,
 ) -> Result<(String, Counts), Fault> {
     let (end, counts) = run_both(alloc, Way::Sure(words), script.as_bytes())?;
-    if end.status == Status::Done {
-        Ok((end.written, counts))
-    } else {
-        Err(Fault::Ended(end.status))
-    }
+    Ok((whole(end)?, counts))
+}
+
+/// Runs a script to its end over the clone tree alone, which may choose other frames for a pin than the plain store.
+pub(crate) fn written_by_tree(
+    alloc: Global,
+    words: &[String],
+    script: &str,
+) -> Result<String, Fault> {
+    let (end, _) = run_over_tree(alloc, Way::Sure(words), script.as_bytes());
+    whole(end?)
 }

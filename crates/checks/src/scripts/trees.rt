@@ -1,10 +1,11 @@
 //! What is left in the clone tree: its hidden nodes, its rows, and its rows with a page frame.
 
+use super::mixing::lines_of;
 use super::reading::words_of;
 use super::runs::{Counts, compare, written};
 use super::text_fault::Fault;
 use super::{check, compare_counts};
-use std::alloc::{AllocError, Global};
+use std::alloc::Global;
 use std::test::Fail;
 
 #[test]
@@ -170,60 +171,15 @@ tree hidden=0 rows=6 frame_rows=6
     )
 }
 
-/// How a family is made and closed. It has 100 VMOs of 16 pages, each of which is a snapshot of the one whose number is
-/// `branch` times less (of the first, where `branch` is 0), and writes a page of its own. They are closed one after
-/// another, `step` numbers on from `first`.
-#[derive(Clone, Copy)]
-struct Family {
-    branch: u64,
-    first: u64,
-    step: u64,
-}
-
-/// The page that number `k` of a family writes, in bytes from the start.
-fn page_of(k: u64) -> u64 {
-    k % 16 * 4096
-}
-
-/// The lines that make VMO number `k`.
-fn making(alloc: Global, family: Family, k: u64) -> Result<String, AllocError> {
-    let parent = k.saturating_sub(1).checked_div(family.branch).unwrap_or(0);
-    let (offset, byte) = (page_of(k), 10 + k % 90);
-    format!(in alloc;
-        "vmo_create_child v{k} v{parent} snapshot 0 65536\nvmo_write v{k} {offset} {byte}\n"
-    )
-}
-
-/// The lines that close the VMO whose turn comes after `k` others. Another is read before, and now and then told of.
-fn closing(alloc: Global, family: Family, k: u64) -> Result<String, AllocError> {
-    let closed = family.first.wrapping_add(family.step.wrapping_mul(k)) % 100;
-    let other = (closed + 50) % 100;
-    let offset = page_of(k);
-    if k % 16 == 0 {
-        format!(in alloc; "vmo_info v{other}\nvmo_read v{other} {offset} 1\nvmo_close v{closed}\n")
-    } else {
-        format!(in alloc; "vmo_read v{other} {offset} 1\nvmo_close v{closed}\n")
-    }
-}
-
-/// The script of a family.
-fn script_of(alloc: Global, family: Family) -> Result<String, Fault> {
-    let mut script = String::from_str(alloc, "vmo_create v0 65536\nvmo_fill v0 0 65536 0x11\n")?;
-    for k in 1..100 {
-        let lines = making(alloc, family, k)?;
-        script.push_str(lines.as_str())?;
-    }
-    for k in 0..100 {
-        let lines = closing(alloc, family, k)?;
-        script.push_str(lines.as_str())?;
-    }
-    script.push_str("stat\n")?;
-    Ok(script)
-}
-
-/// Checks that a family is told alike by both stores, and that nothing is left of it.
-fn check_family(alloc: Global, family: Family) -> Result<(), Fault> {
-    let script = script_of(alloc, family)?;
+/// Checks a family of 100 VMOs of 16 pages, each of which is a snapshot of the one that `parent` names and writes a page. In the
+/// end so many lines of the form `closing` close them all. Both stores answer alike, and nothing is left.
+fn check_family(alloc: Global, parent: &str, closing: &str, count: u64) -> Result<(), Fault> {
+    let making = format!(in alloc;
+        "vmo_create_child v+1 {parent} snapshot 0 65536 ; vmo_write v+1 0@16 1?9"
+    )?;
+    let made = lines_of(alloc, making.as_str(), 99)?;
+    let closed = lines_of(alloc, closing, count)?;
+    let script = format!(in alloc; "vmo_create v0 65536\nvmo_fill v0 0 65536 17\n{made}{closed}")?;
     let words = words_of(alloc, "run")?;
     let (_, counts) = written(alloc, words.as_slice(), script.as_str())?;
     let Counts { vmos, free, .. } = counts;
@@ -232,32 +188,26 @@ fn check_family(alloc: Global, family: Family) -> Result<(), Fault> {
     compare_counts(alloc, "hidden=0 rows=0 frame_rows=0", counts)
 }
 
-/// A family leaves nothing once it is closed in rising, falling and mixed order.
-fn check_families(alloc: Global, branch: u64) -> Result<(), Fail> {
-    for (first, step) in [(0, 1), (99, 99), (50, 37)] {
-        check_family(
-            alloc,
-            Family {
-                branch,
-                first,
-                step,
-            },
-        )?;
+/// Siblings, a chain, and snapshots of snapshots, closed in rising, falling and mixed order. Others are read before each.
+#[test]
+fn a_hundred_vmos_leave_nothing_once_closed(rt: HostRuntime) -> Result<(), Fail> {
+    for parent in ["v0", "v!1", "v!2"] {
+        for (closing, count) in [
+            (
+                "vmo_read v?100 0@16 1 ; vmo_info v?100 ; vmo_close v!1",
+                100,
+            ),
+            (
+                "vmo_read v?100 0@16 1 ; vmo_info v?100 ; vmo_close v-99",
+                100,
+            ),
+            (
+                "vmo_read v?100 0@16 1 ; vmo_info v?100 ; vmo_close v?100",
+                1000,
+            ),
+        ] {
+            check_family(rt.alloc(), parent, closing, count)?;
+        }
     }
     Ok(())
-}
-
-#[test]
-fn a_hundred_siblings_leave_nothing_once_closed(rt: HostRuntime) -> Result<(), Fail> {
-    check_families(rt.alloc(), 0)
-}
-
-#[test]
-fn a_chain_of_a_hundred_leaves_nothing_once_closed(rt: HostRuntime) -> Result<(), Fail> {
-    check_families(rt.alloc(), 1)
-}
-
-#[test]
-fn a_hundred_snapshots_of_snapshots_leave_nothing_once_closed(rt: HostRuntime) -> Result<(), Fail> {
-    check_families(rt.alloc(), 2)
 }
