@@ -1,3 +1,1 @@
-mod ChainLaws
-mod EagerLaws
 mod WholeLaws

@@ -74,3 +74,8 @@ whole_made empty old new frames v none filled is koid = record {
 pub still_there : (old new : Content) (v first end n : ℕ) → new ≡ zeroed old v first end → old.count v ≡ Some n → IsSome (new.count v)
 unfolding zeroed
 still_there old new v first end n is has = ap (λ (c : Content). is_some (c.count v)) is ∙ ap (λ (o : Option ℕ). is_some o) has
+
+-- the first koid is still to come in a store that only got its page frames
+pub fresh_next : (old new : Content) (frames : ℕ) → new ≡ record old { frames = frames } → old ≡ nothing → new.next ≡ 1
+unfolding nothing
+fresh_next old new frames is empty = ap (λ (c : Content). c.next) is ∙ ap (λ (c : Content). c.next) empty

@@ -9,8 +9,6 @@ use std::test::Fail;
 use vm_base::HostMemory;
 
 mod counting;
-mod eager;
-mod looking;
 mod reading;
 mod regions;
 mod replying;

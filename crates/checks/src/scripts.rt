@@ -40,7 +40,6 @@ mod mapping_refusals;
 mod mappings;
 mod mixing;
 mod naming;
-mod pieces;
 mod pinned_snapshots;
 mod pins;
 mod protecting;

@@ -1,11 +1,13 @@
 //! Runs that end early: sources and sinks that fail, and scripts that are longer than their limit. How a run ends is
 //! told by its status and the bytes that were written, with `|` for a line feed.
 
-use super::reading::words_of;
+use super::accesses::LOADER;
+use super::reading::{read_text, words_of};
 use super::runs::{Pieces, Way, compare, run_both};
 use super::text_fault::Fault;
 use std::alloc::Global;
 use std::test::Fail;
+use vm_session::Status;
 
 /// A call that does not come.
 const NEVER: u64 = 99;
@@ -120,6 +122,25 @@ push 4: WriteFault OK|OK 0607|
 none: Done OK|OK 0607|OK|
 ",
     )
+}
+
+/// The number 0 is that of no call.
+#[test]
+fn a_script_comes_and_goes_byte_by_byte(rt: HostRuntime) -> Result<(), Fail> {
+    let script = read_text(rt.alloc(), LOADER)?;
+    let way = Way::Failing {
+        words: script.words.as_slice(),
+        pieces: Pieces {
+            pulled: 1,
+            pushed: 1,
+        },
+        pull: 0,
+        push: 0,
+    };
+    let (end, _) = run_both(rt.alloc(), way, script.lines.as_bytes())?;
+    assert_eq!(rt; end.status, Status::Done);
+    compare(rt.alloc(), script.replies.as_str(), end.written.as_str())?;
+    Ok(())
 }
 
 /// A last piece without a line feed is a line if the script ends behind it, and none if the next pull fails.

@@ -1,6 +1,5 @@
 use Rattle.std.proofs.Common.{arith}
-use Rattle.checks.proofs.ChainLaws.{fresh_next}
-use Rattle.checks.proofs.WholeLaws.{whole_made}
+use Rattle.checks.proofs.WholeLaws.{fresh_next, whole_made}
 use Rattle.checks.proofs.calls.zeroing.begin.Goals as goal
 
 pub create-requires-clause-next : goal.create-requires-clause-next
