@@ -14,7 +14,7 @@
 //! `run_sources`. Each must write exactly the replies.
 
 use self::job_steps::job_stepped;
-use self::reading::read_script;
+use self::reading::{Script, read_script};
 use self::runs::{Counts, compare, written};
 use self::source_steps::source_stepped;
 use self::steps::stepped;
@@ -76,22 +76,35 @@ fn compare_counts(alloc: Global, wanted: &str, counts: Counts) -> Result<(), Fau
     }
 }
 
-/// Checks one script of a text, without the `== ` before its words.
-fn check_script(alloc: Global, text: &str) -> Result<(), Fault> {
-    let script = read_script(alloc, text)?;
-    let (written, counts) = written(alloc, script.words.as_slice(), script.lines.as_str())?;
+/// What a script writes step by step. `None` if its words run none that way.
+fn written_by_steps(alloc: Global, words: &[String], lines: &str) -> Result<Option<String>, Fault> {
+    if let Some(written) = stepped(alloc, words, lines)? {
+        return Ok(Some(written));
+    }
+    if let Some(written) = source_stepped(alloc, words, lines)? {
+        return Ok(Some(written));
+    }
+    job_stepped(alloc, words, lines)
+}
+
+/// Checks a script that was read.
+fn check_read(alloc: Global, script: &Script) -> Result<(), Fault> {
+    let (words, lines) = (script.words.as_slice(), script.lines.as_str());
+    let (written, counts) = written(alloc, words, lines)?;
     compare(alloc, script.replies.as_str(), written.as_str())?;
     compare_counts(alloc, script.counts.as_str(), counts)?;
-    if let Some(written) = stepped(alloc, script.words.as_slice(), script.lines.as_str())? {
-        return compare(alloc, script.replies.as_str(), written.as_str());
-    }
-    if let Some(written) = source_stepped(alloc, script.words.as_slice(), script.lines.as_str())? {
-        return compare(alloc, script.replies.as_str(), written.as_str());
-    }
-    match job_stepped(alloc, script.words.as_slice(), script.lines.as_str())? {
+    match written_by_steps(alloc, words, lines)? {
         Some(written) => compare(alloc, script.replies.as_str(), written.as_str()),
         None => Ok(()),
     }
+}
+
+/// Checks one script of a text, without the `== ` before its words.
+fn check_script(alloc: Global, text: &str) -> Result<(), Fault> {
+    let script = read_script(alloc, text)?;
+    let checked = check_read(alloc, &script);
+    drop(script);
+    checked
 }
 
 /// Checks each script of a text. Answers how it fails.

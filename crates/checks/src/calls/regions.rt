@@ -61,26 +61,29 @@ fn add(regions: &mut Regions, name: u32, parent: u32, first: u32, count: u32) ->
     Ok(())
 }
 
-/// The regions.
-fn all_regions(alloc: Global) -> Result<Regions, Fault> {
-    let mut regions = Regions::new(alloc);
+/// Adds the regions to a tree that has none.
+fn add_all(regions: &mut Regions) -> Result<(), Fault> {
+    if regions.get(RegionName(0)).is_some() {
+        return Err(Fault::NoForm);
+    }
     regions.add_root(RegionName(0))?;
     for (name, parent, first, count) in REGIONS {
-        add(&mut regions, name, parent, first, count)?;
+        add(regions, name, parent, first, count)?;
     }
-    Ok(regions)
+    Ok(())
 }
 
-pub(super) fn dying(alloc: Global, rest: &str) -> Result<String, Fault> {
-    let numbers = numbers_of(alloc, rest)?;
-    let &[below, first, count] = numbers.as_slice() else {
-        return Err(Fault::NoForm);
-    };
-    let below = RegionName(small(below)?);
-    let mut regions = all_regions(alloc)?;
+/// Tells which regions below one die in these pages, and has them die.
+fn tell_dying(
+    alloc: Global,
+    regions: &mut Regions,
+    below: RegionName,
+    first: u64,
+    count: u64,
+) -> Result<String, Fault> {
     let mut told = String::new(alloc);
     for _ in 0..9 {
-        if !is_live_region(&regions, below) {
+        if !is_live_region(regions, below) {
             return Err(Fault::NoForm);
         }
         match regions.destroy_next(below, first, count) {
@@ -92,6 +95,22 @@ pub(super) fn dying(alloc: Global, rest: &str) -> Result<String, Fault> {
         }
     }
     Err(Fault::NoForm)
+}
+
+pub(super) fn dying(alloc: Global, rest: &str) -> Result<String, Fault> {
+    let numbers = numbers_of(alloc, rest)?;
+    let &[below, first, count] = numbers.as_slice() else {
+        return Err(Fault::NoForm);
+    };
+    let below = RegionName(small(below)?);
+    let mut regions = Regions::new(alloc);
+    let told = match add_all(&mut regions) {
+        Ok(()) => tell_dying(alloc, &mut regions, below, first, count),
+        Err(fault) => Err(fault),
+    };
+    // By one call: at each end of a body the tables would be dropped one by one, each with a proof.
+    drop(regions);
+    told
 }
 
 /// From below, and the lowest first. Pages from 1001 on have a region far below that lies in them, and none nearer that does.

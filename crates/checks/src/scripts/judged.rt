@@ -3,7 +3,7 @@
 use super::accesses::LOADER;
 use super::mixing::lines_of;
 use super::reading::{read_text, words_of};
-use super::runs::written_by_tree;
+use super::runs::{compare, written_by_tree};
 use super::text_fault::Fault;
 use std::alloc::Global;
 use std::test::Fail;
@@ -107,43 +107,47 @@ fn verdict(alloc: Global, words: &str, transcript: &str) -> Result<String, Fault
     written_by_tree(alloc, words.as_slice(), transcript)
 }
 
+/// Fails if the transcript of a script is not legal. Answers the transcript.
+fn legal_transcript(alloc: Global, words: &str, script: &str) -> Result<String, Fault> {
+    let transcript = transcript(alloc, words, script)?;
+    let verdict = verdict(alloc, words, transcript.as_str())?;
+    let count = script.lines().count();
+    let legal = format!(in alloc; "LEGAL {count}\n")?;
+    compare(alloc, legal.as_str(), verdict.as_str())?;
+    Ok(transcript)
+}
+
 /// The number of the first line, from 1, in which a transcript differs from another one.
 fn changed_line(transcript: &str, other: &str) -> Option<usize> {
     let mut lines = transcript.lines().zip(other.lines());
     Some(lines.position(|(line, other)| line != other)? + 1)
 }
 
-/// What is written for a long script of all commands, on few frames, is legal. If reads that cause a fault are said to cause none,
-/// the first of them is not.
+/// Fails if no read of a transcript causes a fault, or if the transcript is not illegal at the first that does once they are said to
+/// cause none.
+fn check_changed(alloc: Global, words: &str, transcript: &str) -> Result<(), Fault> {
+    let changed = transcript.replace(alloc, "< OK faults=1 ", "< OK faults=0 ")?;
+    let Some(line) = changed_line(transcript, changed.as_str()) else {
+        return Err(Fault::NoForm);
+    };
+    let verdict = verdict(alloc, words, changed.as_str())?;
+    let illegal = format!(in alloc; "ILLEGAL {line}\n")?;
+    compare(alloc, illegal.as_str(), verdict.as_str())
+}
+
+/// What is written for a long script of all commands, on few frames, is legal, and with changed replies it is not.
 #[test]
 fn mixed_commands_are_legal(rt: HostRuntime) -> Result<(), Fail> {
-    let alloc = rt.alloc();
-    let words = " --frames 32";
-    let script = lines_of(alloc, FORMS, 5000)?;
-    let transcript = transcript(alloc, words, script.as_str())?;
-    let legal = verdict(alloc, words, transcript.as_str())?;
-    assert_eq!(rt; legal.as_str(), "LEGAL 5000\n");
-    let changed = transcript.replace(alloc, "< OK faults=1 ", "< OK faults=0 ")?;
-    let line = changed_line(transcript.as_str(), changed.as_str()).ok_or("a change")?;
-    let illegal = verdict(alloc, words, changed.as_str())?;
-    assert_eq!(rt;
-        illegal.as_str(),
-        format!(in alloc; "ILLEGAL {line}\n")?.as_str()
-    );
+    let script = lines_of(rt.alloc(), FORMS, 5000)?;
+    let transcript = legal_transcript(rt.alloc(), " --frames 32", script.as_str())?;
+    check_changed(rt.alloc(), " --frames 32", transcript.as_str())?;
     Ok(())
 }
 
 /// A loader that maps a program.
 #[test]
 fn a_loader_is_legal(rt: HostRuntime) -> Result<(), Fail> {
-    let alloc = rt.alloc();
-    let script = read_text(alloc, LOADER)?;
-    let transcript = transcript(alloc, "", script.lines.as_str())?;
-    let legal = verdict(alloc, "", transcript.as_str())?;
-    let count = script.lines.lines().count();
-    assert_eq!(rt;
-        legal.as_str(),
-        format!(in alloc; "LEGAL {count}\n")?.as_str()
-    );
+    let script = read_text(rt.alloc(), LOADER)?;
+    let _transcript = legal_transcript(rt.alloc(), "", script.lines.as_str())?;
     Ok(())
 }
