@@ -39,7 +39,7 @@ returns-clause-step g c =
     (closed_from c.find.result _ c.is_some.result c.find.ensures c.is_some.ensures c.if-is_some.false) c.in-Ok-create.ensures.koid
     (c.enter_backing.ensures.names ∙ (c.enter_name.ensures.names ∙ ap (λ names. with_key names c.args.name.0 v) c.reserve.ensures.names))
     c.args.size c.args.kind c.args.seed c.page_of-pages.result b refl
-    (no_more SOURCE_KIND_MAX c.args.kind (omega (arith, c.if-kind.false))) (no_more SOURCE_BYTES _ (c.in-Some.ensures.fits.0 refl))
+    (no_more SOURCE_KIND_MAX c.args.kind (omega (arith, c.if-kind-gt-SOURCE_KIND_MAX.false))) (no_more SOURCE_BYTES _ (c.in-Some.ensures.fits.0 refl))
     (c.page_of-pages.ensures ∙ ap (λ (n : ℕ). n / PAGE) c.in-Some.ensures.value) c.in-Ok-create.ensures.ok
     (c.enter_backing.ensures.backings ∙ ap (λ backings. with_key backings v b) (c.enter_name.ensures.backings ∙ c.reserve.ensures.backings))
     (c.enter_backing.ensures.links ∙ (c.enter_name.ensures.links ∙ c.reserve.ensures.links))
