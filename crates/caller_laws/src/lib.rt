@@ -30,6 +30,7 @@ pub use scripts::{
 };
 pub use streams::a_failed_read_is_counted_and_told;
 pub use trees::{
-    a_close_leaves_no_hidden_node, a_third_row_comes_in_few_steps,
-    one_of_two_rows_goes_in_few_steps,
+    a_close_leaves_no_hidden_node, a_page_without_a_parent_takes_one_look_up,
+    a_third_row_comes_in_few_steps, one_of_two_rows_goes_in_few_steps, one_vmo_has_no_hidden_node,
+    pages_without_rows_are_made_zero_in_one_step,
 };
