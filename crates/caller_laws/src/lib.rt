@@ -6,6 +6,7 @@
 
 mod data;
 mod flags;
+mod machines;
 mod numbers;
 mod pins;
 mod scripts;
@@ -16,6 +17,7 @@ pub use data::a_byte_comes_behind_the_others;
 pub use flags::{
     a_right_is_found_by_its_name, map_options_have_their_bits, rights_have_their_bits,
 };
+pub use machines::a_new_machine_agrees_with_any_empty_store;
 pub use numbers::{
     a_page_begins_at_its_number, codes_differ, one_byte_more_is_a_page_more, whole_pages_stay,
 };
