@@ -4,9 +4,9 @@
 use super::{Run, acted};
 use script_io::Status;
 use shared_vm::Gate;
-use std::hint::spin_loop;
 use std::sync::atomic::{AtomicBool, AtomicU64, Ordering};
 use std::test::Fail;
+use std::thread::yield_now;
 
 /// How often a gate looks at its flags before it gives up.
 const LOOKS: u64 = 20_000_000;
@@ -39,7 +39,7 @@ impl Meeting {
             if is_up || self.gave_up.load(Ordering::SeqCst) {
                 return;
             }
-            spin_loop();
+            yield_now();
         }
         self.gave_up.store(true, Ordering::SeqCst);
     }
