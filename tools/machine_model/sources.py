@@ -1,23 +1,14 @@
-"""A model of the machine of page sources, in Python. Each VMO has the bytes of all its pages, whether they are in memory or not, and
-a write is pushed down into the pages that show the one that is written. So nothing is looked up through parents, except which
-page a read supplies. What the model answers is what docs/MACHINE.md says of page sources."""
+"""The machine of page sources. Each VMO has the bytes of all its pages, whether they are in memory or not, and a write is pushed
+down into the pages that show the one that is written. So nothing is looked up through parents, except which page a read supplies."""
 import functools
 from typing import NamedTuple
 
-from model import MOST_READ, PAGE, READERS, Answering, pages_in, refuse_where, syntax, touched
+from .answering import Answering, counted, misplaced
+from .limits import MOST_READ, PAGE, pages_in, touched
 
 MOST_BYTES = 1 << 24
 LAST_KIND = 2
-KINDS = ("snapshot", "snapshot_at_least_on_write")
 ZEROS = bytes(PAGE)
-
-
-def child_kind(word):
-    syntax(word in KINDS)
-    return word
-
-
-READERS["c"] = child_kind
 
 
 @functools.cache
@@ -69,6 +60,7 @@ class SourceVmo:
         self.held = {}
 
     def size(self):
+        """Returns its bytes."""
         return len(self.text) * PAGE
 
     def shown(self, first, count):
@@ -77,14 +69,15 @@ class SourceVmo:
         return pages + [ZEROS] * (count - len(pages))
 
     def is_absent(self, page):
-        """Whether a page comes from a source and is not held."""
+        """Returns whether a page comes from a source and is not held."""
         return page not in self.held and self.backing is not None and page < self.backing.seen
 
     def is_sole(self, page):
+        """Returns whether a page is held and no other VMO shows its frame."""
         return page in self.held and len(self.held[page]) == 1
 
     def is_clean(self, page):
-        """Whether a page is held and has the bytes that it has by its source."""
+        """Returns whether a page is held and has the bytes that it has by its source."""
         return page in self.held and self.text[page] == self.backing.page(page)
 
     def read_at(self, page):
@@ -104,23 +97,38 @@ class SourceVmo:
                 child.push(its_page, at, written)
 
 
+def past_most(what, size):
+    """Says that a size passes that of the largest VMO, if it does."""
+    return size > MOST_BYTES and f"{what} = {size}, a VMO has at most {MOST_BYTES} bytes"
+
+
+def past_end_row(vmo, offset, length):
+    """Returns the row that refuses a range that passes the end of a VMO."""
+    end = offset + length
+    return "OUT_OF_RANGE", end > vmo.size() and f"OFFSET + LEN = {end}, the VMO has {vmo.size()} bytes"
+
+
 class SourceMachine(Answering):
     """A machine of page sources with so many frames."""
 
     forms = {
-        "source_create": ("vnnn", ""),
-        "vmo_create_child": ("vvcnn", ""),
-        "vmo_close": ("v", ""),
-        "vmo_read": ("vnn", ""),
-        "vmo_write": ("vnd", ""),
-        "supply": ("vnn", ""),
-        "evict": ("vnn", ""),
+        "source_create": ("VMO SIZE KIND:NUM SEED", ""),
+        "vmo_create_child": ("VMO PARENT:VMO KIND:SOURCE_KIND OFFSET SIZE", ""),
+        "vmo_close": ("VMO", ""),
+        "vmo_read": ("VMO OFFSET LEN", ""),
+        "vmo_write": ("VMO OFFSET DATA", ""),
+        "supply": ("VMO OFFSET LEN", ""),
+        "evict": ("VMO OFFSET LEN", ""),
         "stat": ("", ""),
     }
 
     def __init__(self, frames):
+        super().__init__()
         self.frames = frames
         self.used = 0
+        # How many frames were ever taken and given back.
+        self.taken = 0
+        self.given = 0
         self.next = 1
         self.vmos = []
         self.names = {}
@@ -128,7 +136,8 @@ class SourceMachine(Answering):
     # ---- what there is
 
     def vmo(self, name):
-        refuse_where((name not in self.names, "BAD_HANDLE"))
+        """Returns the VMO of an open name."""
+        self.refuse(("BAD_HANDLE", name not in self.names and f"{name} is not open"))
         return self.names[name]
 
     def add(self, name, text, backing=None, link=None):
@@ -144,6 +153,7 @@ class SourceMachine(Answering):
         koids = vmo.held.pop(page)
         koids.remove(vmo.koid)
         self.used -= not koids
+        self.given += not koids
 
     def own(self, vmo, page):
         """Gives a page a frame that no other VMO shows."""
@@ -152,11 +162,21 @@ class SourceMachine(Answering):
                 self.give_up(vmo, page)
             vmo.held[page] = {vmo.koid}
             self.used += 1
+            self.taken += 1
+
+    def new_name_row(self, name):
+        """Returns the row that refuses a name that is open."""
+        return "NAME_IN_USE", name in self.names and f"{name} is open"
+
+    def lacks_words(self, need, what):
+        """Says that pages take more frames than are free, if they do."""
+        free = self.frames - self.used
+        return need > free and f"{counted(need, 'page')} {what}, {counted(free, 'frame')} {'is' if free == 1 else 'are'} free"
 
     def supply_each(self, pages):
         """Supplies absent pages, each of a VMO."""
-        refuse_where((len(pages) > self.frames - self.used, "NO_MEMORY"))
-        self.may_want_memory(pages)
+        self.refuse(("NO_MEMORY", self.lacks_words(len(pages), "that it supplies")))
+        self.may_lack_host_memory(pages)
         for vmo, page in pages:
             self.own(vmo, page)
 
@@ -175,25 +195,23 @@ class SourceMachine(Answering):
 
     def source_create(self, name, size, kind, seed):
         count = pages_in(size)
-        refuse_where(
-            (name in self.names, "NAME_IN_USE"),
-            (kind > LAST_KIND, "INVALID_ARGS"),
-            (count * PAGE > MOST_BYTES, "OUT_OF_RANGE"),
+        self.refuse(
+            self.new_name_row(name),
+            ("INVALID_ARGS", kind > LAST_KIND and f"KIND = {kind}, the kinds are 0 to {LAST_KIND}"),
+            ("OUT_OF_RANGE", past_most("SIZE, rounded up to whole pages,", count * PAGE)),
         )
-        self.may_want_memory()
+        self.may_lack_host_memory()
         backing = Backing(kind, seed, 0, count)
         self.add(name, [backing.page(it) for it in range(count)], backing)
 
     def vmo_create_child(self, name, parent, kind, offset, size):
         of = self.vmo(parent)
         is_loose, count, first = kind != "snapshot", pages_in(size), offset // PAGE
-        refuse_where(
-            (name in self.names, "NAME_IN_USE"),
-            (offset % PAGE, "INVALID_ARGS"),
-            (of.link and not is_loose, "NOT_SUPPORTED"),
-            (offset + count * PAGE > MOST_BYTES, "OUT_OF_RANGE"),
-        )
-        self.may_want_memory()
+        self.refuse(self.new_name_row(name), ("INVALID_ARGS", misplaced(OFFSET=offset)))
+        if not is_loose:
+            self.refuse(("NOT_SUPPORTED", of.link and f"{parent} is loose"))
+        self.refuse(("OUT_OF_RANGE", past_most("OFFSET + SIZE, rounded up to whole pages,", offset + count * PAGE)))
+        self.may_lack_host_memory()
         text = of.shown(first, count)
         if is_loose:
             seen = min(count, max(len(of.text) - first, 0))
@@ -212,7 +230,10 @@ class SourceMachine(Answering):
 
     def vmo_read(self, name, offset, length):
         it = self.vmo(name)
-        refuse_where((length > MOST_READ, "INVALID_ARGS"), (offset + length > it.size(), "OUT_OF_RANGE"))
+        self.refuse(
+            ("INVALID_ARGS", length > MOST_READ and f"LEN = {length}, one read has at most {MOST_READ} bytes"),
+            past_end_row(it, offset, length),
+        )
         pages = touched(offset, length)
         ends = [it.read_at(page) for page in pages]
         self.supply_each([(vmo, page) for vmo, page in ends if vmo.is_absent(page)])
@@ -221,11 +242,11 @@ class SourceMachine(Answering):
 
     def vmo_write(self, name, offset, written):
         it = self.vmo(name)
-        refuse_where((offset + len(written) > it.size(), "OUT_OF_RANGE"))
+        self.refuse(past_end_row(it, offset, len(written)))
         pages = touched(offset, len(written))
         need = sum(not it.is_sole(page) for page in pages)
-        refuse_where((need > self.frames - self.used, "NO_MEMORY"))
-        self.may_want_memory(need)
+        self.refuse(("NO_MEMORY", self.lacks_words(need, "that it touches are not sole")))
+        self.may_lack_host_memory(need)
         for page in pages:
             start, end = max(offset, page * PAGE), min(offset + len(written), (page + 1) * PAGE)
             it.push(page, start - page * PAGE, written[start - offset : end - offset])
@@ -234,10 +255,10 @@ class SourceMachine(Answering):
     def whole_pages(self, name, offset, length):
         """Returns the VMO of a name that is not loose, and the pages of a range of whole pages."""
         it = self.vmo(name)
-        refuse_where(
-            (offset % PAGE or length % PAGE, "INVALID_ARGS"),
-            (it.link, "NOT_SUPPORTED"),
-            (offset + length > it.size(), "OUT_OF_RANGE"),
+        self.refuse(
+            ("INVALID_ARGS", misplaced(OFFSET=offset, LEN=length)),
+            ("NOT_SUPPORTED", it.link and f"{name} is loose"),
+            past_end_row(it, offset, length),
         )
         return it, touched(offset, length)
 
@@ -248,7 +269,7 @@ class SourceMachine(Answering):
     def evict(self, name, offset, length):
         it, pages = self.whole_pages(name, offset, length)
         clean = [page for page in pages if it.is_clean(page)]
-        self.may_want_memory(clean)
+        self.may_lack_host_memory(clean)
         for page in clean:
             self.give_up(it, page)
 

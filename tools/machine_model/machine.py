@@ -1,0 +1,352 @@
+"""The plain machine: a VMO is a map of its pages, and a snapshot copies the map."""
+import re
+
+from .answering import Answering, counted, misplaced
+from .limits import MOST_PAGES, MOST_PINNED, MOST_READ, PAGE, meet, pages_in, touched
+from .objects import Frame, Name, Pin, Vmo
+from .regions import READY_TO_READ, RegionCommands
+
+MOST_BYTES = MOST_PAGES * PAGE
+
+
+def past_most(what, size):
+    """Says that a size passes that of the largest VMO, if it does."""
+    return size > MOST_BYTES and f"{what} = {size}, a VMO has at most {MOST_BYTES} bytes"
+
+
+def past_end(name, offset, length):
+    """Says that a range passes the end of a name, if it does."""
+    return offset + length > name.size() and f"OFFSET + LEN = {offset + length}, the name has {name.size()} bytes"
+
+
+class Machine(RegionCommands, Answering):
+    """A machine with so many frames."""
+
+    def __init__(self, frames):
+        super().__init__()
+        self.frames = frames
+        self.used = 0
+        # How many frames were ever taken and given back.
+        self.taken = 0
+        self.given = 0
+        self.next = 1
+        self.vmos = []
+        self.names = {}
+        self.pins = {}
+        self.regions = {}
+
+    # ---- what a VMO is made of
+
+    def new_vmo(self, count, resizable, parent=None):
+        """Adds a VMO."""
+        self.vmos.append(Vmo(self.next, count, resizable, parent))
+        self.next += 1
+        return self.vmos[-1]
+
+    @staticmethod
+    def reset(vmo, page):
+        """Makes what shows a page not ready."""
+        for it in vmo.mappings:
+            it.ready.pop(page - it.ahead, None)
+
+    def give_up(self, vmo, page):
+        """Makes a page zero."""
+        frame = vmo.pages.pop(page, None)
+        if frame:
+            frame.koids.remove(vmo.koid)
+            self.used -= not frame.koids
+            self.given += not frame.koids
+            self.reset(vmo, page)
+
+    def own(self, vmo, page):
+        """Returns the frame of a page, which no other VMO shows then."""
+        if not vmo.is_sole(page):
+            shown = vmo.pages[page].data if page in vmo.pages else bytes(PAGE)
+            self.give_up(vmo, page)
+            self.used += 1
+            self.taken += 1
+            vmo.pages[page] = Frame(shown, vmo.koid, self.taken)
+            self.reset(vmo, page)
+        return vmo.pages[page]
+
+    def lacks(self, pages):
+        """Returns whether owning the pages, each of a VMO, one after another takes more frames than are free."""
+        need, owned, left = 0, set(), {}
+        for vmo, page in pages:
+            frame = vmo.pages.get(page)
+            if (vmo, page) in owned or frame and len(frame.koids) - left.get(frame, 0) == 1:
+                continue
+            owned.add((vmo, page))
+            left[frame] = left.get(frame, 0) + 1
+            need += 1
+            if need > self.frames - self.used:
+                return True
+        return False
+
+    def free_words(self):
+        """Says how many frames are free."""
+        return f"{counted(self.frames - self.used, 'frame')} {'is' if self.frames - self.used == 1 else 'are'} free"
+
+    def lacks_words(self, vmo, pages, which="of the range"):
+        """Says that owning pages of a VMO takes too many frames, if it does. The pages are a range or a list."""
+        if not self.lacks((vmo, it) for it in pages):
+            return ""
+        count = pages.stop - pages.start if isinstance(pages, range) else len(pages)
+        need = count - sum(it in pages and vmo.is_sole(it) for it in vmo.pages)
+        return f"{counted(need, 'page')} {which} {'is' if need == 1 else 'are'} not sole, {self.free_words()}"
+
+    def put(self, vmo, offset, written):
+        """Writes bytes to pages, which it owns."""
+        for page in touched(offset, len(written)):
+            start, end = max(offset, page * PAGE), min(offset + len(written), (page + 1) * PAGE)
+            self.own(vmo, page).data[start - page * PAGE : end - page * PAGE] = written[start - offset : end - offset]
+
+    def is_pinned(self, vmo, page):
+        """Returns whether a pin covers a page."""
+        return any(it.vmo is vmo and page in it.pages for it in self.pins.values())
+
+    def prune(self, *vmos):
+        """Lets the VMOs go that nothing keeps."""
+        kept = {it.vmo for it in [*self.names.values(), *self.pins.values()]}
+        for vmo in set(vmos):
+            if vmo in kept or vmo.mappings:
+                continue
+            for page in list(vmo.pages):
+                self.give_up(vmo, page)
+            self.vmos.remove(vmo)
+            for other in self.vmos:
+                if other.parent is vmo:
+                    other.parent = vmo.parent
+
+    # ---- commands on VMOs
+
+    def name(self, name):
+        """Returns what an open name stands for."""
+        self.refuse(("BAD_HANDLE", name not in self.names and f"{name} is not open"))
+        return self.names[name]
+
+    def new_name_row(self, name):
+        """Returns the row that refuses a name that is open."""
+        return "NAME_IN_USE", name in self.names and f"{name} is open"
+
+    def write_row(self, name):
+        """Returns the row that refuses a name that may not write."""
+        return "ACCESS_DENIED", not self.names[name].may_write and f"{name} may not write"
+
+    def vmo_create(self, name, size, flags):
+        rounded = pages_in(size) * PAGE
+        self.refuse(self.new_name_row(name), ("OUT_OF_RANGE", past_most("SIZE, rounded up to whole pages,", rounded)))
+        self.may_lack_host_memory()
+        can_resize = "resizable" in flags
+        self.names[name] = Name(self.new_vmo(pages_in(size), can_resize), "owner", True, can_resize)
+
+    def vmo_create_child(self, name, parent, kind, offset, size, flags):
+        of = self.name(parent)
+        self.refuse(self.new_name_row(name))
+        self.names[name] = getattr(self, kind)(parent, of, offset, size, "resizable" in flags, "no_write" in flags)
+
+    def snapshot(self, parent, of, offset, size, resizable, no_write):
+        first, count = of.first + offset // PAGE, pages_in(size)
+        seen = range(first, min(first + count, of.first + of.size() // PAGE))
+        pinned = [it for it in of.vmo.held(seen) if self.is_pinned(of.vmo, it)]
+        both = resizable and no_write and "resizable and no_write are both given"
+        lacks = len(pinned) > self.frames - self.used
+        self.refuse(
+            ("INVALID_ARGS", misplaced(OFFSET=offset) or both),
+            ("OUT_OF_RANGE", past_most("OFFSET + SIZE, rounded up to whole pages,", (offset // PAGE + count) * PAGE)),
+            ("NO_MEMORY", lacks and f"of the pages of {parent} that it copies {len(pinned)} are pinned, {self.free_words()}"),
+        )
+        self.may_lack_host_memory()
+        child = self.new_vmo(count, resizable, of.vmo)
+        for page in of.vmo.held(seen):
+            frame = of.vmo.pages[page]
+            child.pages[page - first] = frame
+            frame.koids.add(child.koid)
+            if page in pinned:
+                self.own(child, page - first)
+        for it in of.vmo.mappings:
+            seen_here = [page for page in it.ready if page + it.ahead in seen and page + it.ahead not in pinned]
+            it.ready.update(dict.fromkeys(seen_here, READY_TO_READ))
+        return Name(child, "owner", not no_write, resizable)
+
+    def slice(self, parent, of, offset, size, resizable, no_write):
+        limit = pages_in(size)
+        end = offset + limit * PAGE
+        self.refuse(
+            ("INVALID_ARGS", misplaced(OFFSET=offset) or resizable and "a slice takes no resizable"),
+            ("INVALID_ARGS", end > of.size() and f"OFFSET + SIZE, rounded up to whole pages, = {end}, {parent} has {of.size()} bytes"),
+            ("NOT_SUPPORTED", of.vmo.resizable and f"the VMO of {parent} may change its size"),
+        )
+        self.may_lack_host_memory()
+        return Name(of.vmo, "slice", of.may_write and not no_write, False, of.first + offset // PAGE, limit)
+
+    def reference(self, parent, of, offset, size, resizable, no_write):
+        place = next((f"{name} = {it} is not 0" for name, it in (("OFFSET", offset), ("SIZE", size)) if it), "")
+        both = resizable and no_write and "resizable and no_write are both given"
+        fixed = resizable and not of.may_resize
+        self.refuse(
+            ("INVALID_ARGS", place or both),
+            ("INVALID_ARGS", fixed and f"resizable is given, {parent} may not change the size"),
+            ("NOT_SUPPORTED", of.kind == "slice" and f"{parent} is a slice"),
+        )
+        self.may_lack_host_memory()
+        return Name(of.vmo, "reference", of.may_write and not no_write, resizable)
+
+    def vmo_close(self, name):
+        it = self.name(name)
+        del self.names[name]
+        self.prune(it.vmo)
+
+    def vmo_size(self, name):
+        return self.name(name).size()
+
+    def vmo_set_size(self, name, size):
+        it, count = self.name(name), pages_in(size)
+        last = max((pin.pages.stop - 1 for pin in self.pins.values() if pin.vmo is it.vmo), default=-1)
+        self.refuse(
+            self.write_row(name),
+            ("UNAVAILABLE", not it.may_resize and f"{name} may not change the size"),
+            ("OUT_OF_RANGE", past_most("SIZE, rounded up to whole pages,", count * PAGE)),
+            ("BAD_STATE", last >= count and f"page {last} is pinned, the VMO would have {counted(count, 'page')}"),
+        )
+        it.vmo.count = count
+        for page in [it for it in it.vmo.pages if it >= count]:
+            self.give_up(it.vmo, page)
+        for mapping in it.vmo.mappings:
+            mapping.ready = {page: ready for page, ready in mapping.ready.items() if page + mapping.ahead < count}
+
+    def vmo_read(self, name, offset, length):
+        it = self.name(name)
+        self.refuse(
+            ("INVALID_ARGS", length > MOST_READ and f"LEN = {length}, one read has at most {MOST_READ} bytes"),
+            ("OUT_OF_RANGE", past_end(it, offset, length)),
+        )
+        start = it.first * PAGE + offset
+        shown = b"".join(it.vmo.pages[page].data if page in it.vmo.pages else bytes(PAGE) for page in touched(start, length))
+        return shown[start % PAGE : start % PAGE + length].hex() or "-"
+
+    def to_change(self, name, offset, length):
+        """Returns the VMO of a name, and where in it a range of the name begins that is to be changed."""
+        it = self.name(name)
+        self.refuse(self.write_row(name), ("OUT_OF_RANGE", past_end(it, offset, length)))
+        return it.vmo, it.first * PAGE + offset
+
+    def to_own(self, name, offset, length):
+        """Returns the same of a range whose pages are to be owned."""
+        vmo, start = self.to_change(name, offset, length)
+        pages = touched(start, length)
+        self.refuse(("NO_MEMORY", self.lacks_words(vmo, pages)))
+        self.may_lack_host_memory(not all(vmo.is_sole(it) for it in pages))
+        return vmo, start
+
+    def vmo_write(self, name, offset, written):
+        vmo, start = self.to_own(name, offset, len(written))
+        self.put(vmo, start, written)
+
+    def vmo_fill(self, name, offset, length, byte):
+        vmo, start = self.to_own(name, offset, length)
+        self.put(vmo, start, bytes([byte]) * length)
+
+    def vmo_commit(self, name, offset, length):
+        vmo, start = self.to_own(name, offset, length)
+        for page in touched(start, length):
+            self.own(vmo, page)
+
+    def vmo_zero(self, name, offset, length):
+        vmo, start = self.to_change(name, offset, length)
+        held = vmo.held(touched(start, length))
+        gone = [it for it in held if start <= it * PAGE and (it + 1) * PAGE <= start + length and not self.is_pinned(vmo, it)]
+        kept = [it for it in held if it not in gone]
+        self.refuse(("NO_MEMORY", self.lacks_words(vmo, kept, "that it writes zeros to")))
+        self.may_lack_host_memory(held)
+        for page in gone:
+            self.give_up(vmo, page)
+        for page in kept:
+            begin = max(start, page * PAGE)
+            self.put(vmo, begin, bytes(min(start + length, (page + 1) * PAGE) - begin))
+
+    def family_of(self, vmo):
+        """Says why the pages of a VMO may not be decommitted, if they may not."""
+        child = next((it for it in self.vmos if it.parent is vmo), None)
+        other = next((name for name, it in self.names.items() if it.vmo is vmo and it.kind == "reference"), None)
+        return (vmo.is_snapshot and "the VMO is a snapshot" or child and f"the VMO with koid {child.koid} has it as parent"
+                or other and f"the reference {other} is open")
+
+    def vmo_decommit(self, name, offset, length):
+        it = self.name(name)
+        vmo, pages = it.vmo, touched(it.first * PAGE + offset, length)
+        pinned = [pin for pin, its in self.pins.items() if its.vmo is vmo and pages and meet(its.pages, pages)]
+        self.refuse(
+            self.write_row(name),
+            ("INVALID_ARGS", misplaced(OFFSET=offset, LEN=length)),
+            ("NOT_SUPPORTED", self.family_of(vmo)),
+            ("OUT_OF_RANGE", past_end(it, offset, length)),
+            ("BAD_STATE", pinned and f"{pinned[0]} pins a page of the range"),
+        )
+        self.may_lack_host_memory(vmo.held(pages))
+        for page in vmo.held(pages):
+            self.give_up(vmo, page)
+
+    def vmo_pin(self, pin, name, offset, length):
+        it = self.name(name)
+        vmo, pages = it.vmo, touched(it.first * PAGE + offset, length)
+        most = MOST_PINNED * PAGE
+        bounds = not length and "LEN = 0" or length > most and f"LEN = {length}, a pin covers at most {most} bytes"
+        self.refuse(
+            ("NAME_IN_USE", pin in self.pins and f"the pin {pin} is there"),
+            ("INVALID_ARGS", misplaced(OFFSET=offset, LEN=length) or bounds),
+            ("OUT_OF_RANGE", past_end(it, offset, length)),
+            ("NO_MEMORY", self.lacks_words(vmo, pages)),
+        )
+        self.may_lack_host_memory()
+        numbers = self.numbers_told(vmo, pages) or self.numbers_for(vmo, pages, iter(range(self.frames)))
+        self.pins[pin] = Pin(vmo, pages)
+        for page, it in zip(pages, numbers):
+            self.own(vmo, page).number = it
+        return " ".join(map(str, numbers))
+
+    def numbers_told(self, vmo, pages):
+        """Returns the numbers of the frames of pages that are to be pinned as the reply has them, or None if they may not be these."""
+        if not re.fullmatch("OK( (0|[1-9][0-9]*))+", self.told):
+            return None
+        told = [int(it) for it in self.told.split()[1:]]
+        return told if len(told) == len(pages) and self.numbers_for(vmo, pages, iter(told), True) == told else None
+
+    def numbers_for(self, vmo, pages, choices, takes_all=False):
+        """Returns the numbers of the frames of pages that are to be pinned: those of the pages that are pinned, and else what comes
+        first of the choices that no pinned page has. If all are taken, a choice stands for each page."""
+        taken = {it.vmo.pages[page].number for it in self.pins.values() for page in it.pages}
+        numbers = []
+        for page in pages:
+            if self.is_pinned(vmo, page):
+                numbers.append(vmo.pages[page].number)
+                if takes_all:
+                    next(choices)
+                continue
+            number_of = next((it for it in choices if takes_all or it not in taken), None)
+            if number_of is None or number_of in taken or number_of >= self.frames:
+                return None
+            taken.add(number_of)
+            numbers.append(number_of)
+        return numbers
+
+    def vmo_unpin(self, pin):
+        self.refuse(("BAD_HANDLE", pin not in self.pins and f"the pin {pin} is not there"))
+        it = self.pins.pop(pin)
+        for page in it.pages:
+            if not self.is_pinned(it.vmo, page):
+                it.vmo.pages[page].number = None
+        self.prune(it.vmo)
+
+    def vmo_info(self, name):
+        it = self.name(name)
+        vmo = it.vmo
+        sole = sum(vmo.is_sole(page) for page in vmo.pages)
+        charged = sum(min(frame.koids) == vmo.koid for frame in vmo.pages.values())
+        inner = sum(other.parent is vmo for other in self.vmos)
+        inner += sum(other.vmo is vmo and other.kind != "owner" for other in self.names.values())
+        return (f"koid={vmo.koid} size={it.size()} held={len(vmo.pages)} private={sole} shared={len(vmo.pages) - sole} "
+                f"charged={charged} children={inner}")
+
+    def stat(self):
+        return f"frames={self.frames} used={self.used} free={self.frames - self.used} vmos={len(self.vmos)}"
