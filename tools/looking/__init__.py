@@ -1,0 +1,1 @@
+"""What `tools/look` shows of a script: texts, states, pictures and a page."""

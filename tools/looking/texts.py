@@ -1,0 +1,131 @@
+"""What happened, as texts: a script with its replies and reasons, a table of costs, and a line of JSON for each turn."""
+import csv
+import io
+import json
+import re
+
+from machine_model.tables import key_of, refusals_of
+
+from .turns import MACHINES, cut, visible
+
+LEAST_WIDTH, MOST_WIDTH = 24, 60
+MOST_LINE, MOST_REPLY, MOST_TITLE = 120, 120, 60
+COLUMNS = ("line", "commands", "refused", "faults", "taken", "given", "used", "peak", "block")
+
+
+class Ranks:
+    """How many refusals each command of a machine has."""
+
+    def __init__(self, word):
+        self.counts = {}
+        for it in dict.fromkeys(("run" if word == "batch" else word, word)):
+            self.counts.update({key: len(refusals) for key, refusals in refusals_of(MACHINES[it]).items()})
+
+    def of(self, turn):
+        """Returns how many refusals the command of a turn has."""
+        return self.counts[key_of(turn.line)]
+
+    def words(self, turn):
+        """Returns why a turn was refused, with its rank."""
+        why = turn.refusal.why
+        return why if turn.refusal.rank == 0 else f"refusal {turn.refusal.rank} of {self.of(turn)}: {why}"
+
+
+def frames_words(turn):
+    """Says which frames a turn took and gave back, and how many are used then; or nothing."""
+    if not turn.taken and not turn.given:
+        return ""
+    parts = [f"+{turn.taken}"] * (turn.taken > 0) + [f"-{turn.given}"] * (turn.given > 0)
+    noun = "frame" if turn.taken + turn.given == 1 else "frames"
+    return f"[{' '.join(parts)} {noun}, {turn.used} used]"
+
+
+def annotate(turns, word):
+    """Yields the lines of a script with their numbers and replies, the frames taken and given back, and why lines were refused."""
+    turns, ranks = [turn for turn, _ in turns], Ranks(word)
+    widths = [len(visible(it.line)) for it in turns if it.replies]
+    width = max([LEAST_WIDTH, *(it for it in widths if it <= MOST_WIDTH)])
+    for turn in turns:
+        line = cut(visible(turn.line), MOST_LINE)
+        if not turn.replies:
+            yield f"{turn.number:5}  {line}".rstrip()
+            continue
+        first, *others = [cut(it, MOST_REPLY) for it in turn.replies]
+        yield f"{turn.number:5}  {line:{width}}  {first}  {frames_words(turn)}".rstrip()
+        for it in others:
+            yield f"{'':{width + 9}}{it}"
+        if turn.refusal:
+            yield f"{'':9}^ {ranks.words(turn)}"
+
+
+def title_of(comments):
+    """Returns the title of a block: the first sentence of the comments above it."""
+    text = " ".join(visible(it).lstrip("#").strip() for it in comments)
+    return cut(re.split(r"(?<=[^.])[.:;] ", f"{text} ")[0].strip(), MOST_TITLE) or "(no comment)"
+
+
+def blocks_of(turns):
+    """Returns a row of costs for each block of commands under a comment."""
+    rows, comments, used = [], [], 0
+    row = None
+    for turn, _ in turns:
+        if not turn.replies:
+            if turn.line.strip(" \t\r"):
+                comments = [*comments, turn.line] if row is None else [turn.line]
+                row = None
+            continue
+        if row is None:
+            row = dict.fromkeys(COLUMNS, 0) | {"line": turn.number, "peak": used, "block": title_of(comments)}
+            rows.append(row)
+            comments = []
+        used = turn.used
+        row["commands"] += 1
+        row["refused"] += turn.refusal is not None
+        row["faults"] += turn.faults
+        row["taken"] += turn.taken
+        row["given"] += turn.given
+        row["used"] = used
+        row["peak"] = max(row["peak"], used)
+    return rows
+
+
+def total_of(rows):
+    """Returns the row of all blocks together."""
+    total = {it: sum(row[it] for row in rows) for it in ("commands", "refused", "faults", "taken", "given")}
+    return {"line": "", **total, "used": rows[-1]["used"], "peak": max(it["peak"] for it in rows), "block": "all"}
+
+
+def cost(turns, _):
+    """Yields the lines of a table of costs."""
+    rows = blocks_of(turns)
+    yield " ".join(f"{it:>8}" for it in COLUMNS[:-1]) + f"  {COLUMNS[-1]}"
+    for row in [*rows, *([total_of(rows)] if rows else [])]:
+        yield " ".join(f"{row[it]:>8}" for it in COLUMNS[:-1]) + f"  {row['block']}"
+
+
+def cost_csv(turns, _):
+    """Yields the lines of the same table as CSV, without the last row."""
+    text = io.StringIO()
+    writer = csv.DictWriter(text, COLUMNS, lineterminator="\n")
+    writer.writeheader()
+    writer.writerows(blocks_of(turns))
+    yield text.getvalue().removesuffix("\n")
+
+
+def as_json(turns, word):
+    """Yields a line of JSON for each line of a script that has a reply."""
+    ranks = Ranks(word)
+    for turn, _ in turns:
+        if turn.replies:
+            yield json.dumps(record_of(turn, ranks))
+
+
+def record_of(turn, ranks):
+    """Returns what is told of a turn in JSON."""
+    refusal = None
+    if turn.refusal:
+        of = ranks.of(turn) if turn.refusal.rank else 0
+        refusal = {"name": turn.refusal.name, "rank": turn.refusal.rank, "of": of, "why": turn.refusal.why}
+    frames = {"taken": turn.taken, "given": turn.given, "used": turn.used}
+    return {"line": turn.number, "command": turn.line.rstrip("\r"), "reply": turn.replies, "frames": frames, "faults": turn.faults,
+            "refusal": refusal}

@@ -1,0 +1,110 @@
+"""The turns of a script: each line with its reply, by the program and by the model side by side."""
+import pathlib
+import re
+import subprocess
+import sys
+from typing import NamedTuple
+
+from machine_model import BatchMachine, Machine, Refusal, SourceMachine
+
+TOP = pathlib.Path(__file__).resolve().parent.parent.parent
+MACHINES = {"run": Machine, "batch": BatchMachine, "sources": SourceMachine}
+
+
+class Trouble(Exception):
+    """What stops the tool: the exit status, and what it says."""
+
+    def __init__(self, status, words):
+        super().__init__(words)
+        self.status = status
+
+
+class Turn(NamedTuple):
+    """A line of a script, the lines of its reply, how many frames were taken, given back and are used then, how many page faults
+    were taken, and the refusal, if it was refused."""
+
+    number: int
+    line: str
+    replies: list
+    taken: int
+    given: int
+    used: int
+    faults: int
+    refusal: Refusal | None
+
+
+def read_script(path):
+    """Returns the lines of a script, of a file or of the standard input if there is none."""
+    shown = repr(path) if path else "the standard input"
+    try:
+        text = pathlib.Path(path).read_bytes() if path else sys.stdin.buffer.read()
+    except FileNotFoundError:
+        raise Trouble(4, f"cannot open {shown}: there is no such file") from None
+    except IsADirectoryError:
+        raise Trouble(4, f"cannot open {shown}: it is a folder") from None
+    except PermissionError:
+        raise Trouble(4, f"cannot open {shown}: it may not be read") from None
+    except (OSError, ValueError, AttributeError) as error:
+        raise Trouble(4, f"cannot read {shown}: {error}") from None
+    try:
+        lines = text.decode().split("\n")
+    except UnicodeDecodeError as error:
+        number = text.count(b"\n", 0, error.start) + 1
+        raise Trouble(4, f"cannot read {shown}: line {number} has the byte {text[error.start]:#04x}, which is no text") from None
+    return lines[:-1] if lines[-1] == "" else lines
+
+
+def proved_program():
+    """Returns the file of the proved program, or None if it is not built from the sources as they stand."""
+    ran = subprocess.run([TOP / "vmosim", "--path"], stdout=subprocess.PIPE, stderr=subprocess.DEVNULL, text=True, check=False)
+    return ran.stdout.strip() or None
+
+
+def replies_of(program, word, frames, lines):
+    """Returns the lines that a program answers to a script."""
+    text = "".join(f"{it}\n" for it in lines).encode()
+    words = [program, word, "--frames", str(frames)]
+    try:
+        ran = subprocess.run(words, input=text, stdout=subprocess.PIPE, check=False)
+    except OSError as error:
+        raise Trouble(1, f"cannot run {program!r}: {error.strerror}") from None
+    if ran.returncode:
+        raise Trouble(1, f"the program {program!r} ends with status {ran.returncode}")
+    return ran.stdout.decode(errors="replace").splitlines()
+
+
+def answered(replies):
+    """Returns reply lines as they are shown in a sentence."""
+    return " / ".join(replies) or "nothing"
+
+
+def play(lines, word, frames, program):
+    """Yields each turn with the machine behind it. Replies are the program's, or the model's without one. The first turn at which
+    both differ ends it."""
+    machine = MACHINES[word](frames)
+    said = replies_of(program, word, frames, lines) if program else None
+    at = 0
+    for number, line in enumerate(lines, 1):
+        taken, given = machine.taken, machine.given
+        wanted = machine.answer(line, said[at] if said and at < len(said) else "")
+        if said is not None:
+            got = said[at : at + len(wanted)]
+            at += len(got)
+            if got != wanted:
+                both = f"the program answers {answered(got)}\nlook: the model answers   {answered(wanted)}"
+                raise Trouble(1, f"line {number}, {visible(line)!r}: the answers differ\nlook: {both}")
+        faults = re.match(r"OK faults=(\d+)", wanted[0]) if wanted else None
+        yield Turn(number, line, wanted, machine.taken - taken, machine.given - given, machine.used,
+                   int(faults[1]) if faults else 0, machine.refusal), machine
+    if said is not None and at < len(said):
+        raise Trouble(1, f"behind the last line: the answers differ\nlook: the program answers {answered(said[at:])}\nlook: the model answers   nothing")
+
+
+def visible(line):
+    """Returns a line with blanks at its ends left out, and what can't be seen spelled out."""
+    return "".join(it if it.isprintable() else " " if it == "\t" else ascii(it)[1:-1] for it in line.strip(" \t\r"))
+
+
+def cut(text, most):
+    """Returns a text, cut if it is longer."""
+    return text if len(text) <= most else f"{text[: most - 2]}.."
