@@ -102,7 +102,10 @@ def play(lines, word, frames, program):
 
 def visible(line):
     """Returns a line with blanks at its ends left out, and what can't be seen spelled out."""
-    return "".join(it if it.isprintable() else " " if it == "\t" else ascii(it)[1:-1] for it in line.strip(" \t\r"))
+    line = line.strip(" \t\r")
+    if line.isprintable():
+        return line
+    return "".join(it if it.isprintable() else " " if it == "\t" else ascii(it)[1:-1] for it in line)
 
 
 def cut(text, most):

@@ -121,12 +121,6 @@ def words_of(line):
     return [(it.group(), it.start() + 1) for it in re.finditer("[^ \t\r]+", line)]
 
 
-def says_nothing(line):
-    """Returns whether a line is blank or a comment."""
-    words = words_of(line)
-    return not words or words[0][0].startswith("#")
-
-
 def shown(word):
     """Returns a word in quotes, cut if it is long, with what can't be seen spelled out."""
     cut = word if len(word) <= SHOWN_LETTERS else word[:SHOWN_LETTERS] + ".."
@@ -198,9 +192,9 @@ def read_line(line, forms=None):
     length = len(line.encode())
     if length > LINE_BYTES:
         raise NoCommand(f"the line has {length} bytes, expected at most {LINE_BYTES}")
-    if says_nothing(line):
-        return None
     words = words_of(line)
+    if not words or words[0][0].startswith("#"):
+        return None
     command = read_command(*words[0], forms)
     count = len(forms[command][0].split())
     end = words[-1][1] + len(words[-1][0]) + 1
