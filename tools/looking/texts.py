@@ -40,9 +40,9 @@ def frames_words(turn):
     return f"[{' '.join(parts)} {noun}, {turn.used} used]"
 
 
-def annotate(turns, word):
+def annotate(turns, asked):
     """Yields the lines of a script with their numbers and replies, the frames taken and given back, and why lines were refused."""
-    turns, ranks = [turn for turn, _ in turns], Ranks(word)
+    turns, ranks = [turn for turn, _ in turns], Ranks(asked.word)
     widths = [len(visible(it.line)) for it in turns if it.replies]
     width = max([LEAST_WIDTH, *(it for it in widths if it <= MOST_WIDTH)])
     for turn in turns:
@@ -112,9 +112,9 @@ def cost_csv(turns, _):
     yield text.getvalue().removesuffix("\n")
 
 
-def as_json(turns, word):
+def as_json(turns, asked):
     """Yields a line of JSON for each line of a script that has a reply."""
-    ranks = Ranks(word)
+    ranks = Ranks(asked.word)
     for turn, _ in turns:
         if turn.replies:
             yield json.dumps(record_of(turn, ranks))
