@@ -22,13 +22,17 @@ class Ranks:
             self.counts.update({key: len(refusals) for key, refusals in refusals_of(MACHINES[it]).items()})
 
     def of(self, turn):
-        """Returns how many refusals the command of a turn has."""
-        return self.counts[key_of(turn.line)]
+        """Returns how many refusals the command of a turn has, or None of a piece of a job, which has those of its own command."""
+        key = key_of(turn.line)
+        return None if key == "step" else self.counts[key]
 
     def words(self, turn):
         """Returns why a turn was refused, with its rank."""
-        why = turn.refusal.why
-        return why if turn.refusal.rank == 0 else f"refusal {turn.refusal.rank} of {self.of(turn)}: {why}"
+        why, rank = turn.refusal.why, turn.refusal.rank
+        if rank == 0:
+            return why
+        most = self.of(turn)
+        return f"refusal {rank}{f' of {most}' if most else ''}: {why}"
 
 
 def frames_words(turn):
@@ -124,7 +128,7 @@ def record_of(turn, ranks):
     """Returns what is told of a turn in JSON."""
     refusal = None
     if turn.refusal:
-        of = ranks.of(turn) if turn.refusal.rank else 0
+        of = ranks.of(turn) if turn.refusal.rank else None
         refusal = {"name": turn.refusal.name, "rank": turn.refusal.rank, "of": of, "why": turn.refusal.why}
     frames = {"taken": turn.taken, "given": turn.given, "used": turn.used}
     return {"line": turn.number, "command": turn.line.rstrip("\r"), "reply": turn.replies, "frames": frames, "faults": turn.faults,

@@ -1,4 +1,5 @@
 """The turns of a script: each line with its reply, by the program and by the model side by side."""
+import functools
 import pathlib
 import re
 import subprocess
@@ -36,6 +37,8 @@ class Turn(NamedTuple):
 def read_script(path):
     """Returns the lines of a script, of a file or of the standard input if there is none."""
     shown = repr(path) if path else "the standard input"
+    if not path and sys.stdin is None:
+        raise Trouble(4, f"cannot read {shown}: it is closed")
     try:
         text = pathlib.Path(path).read_bytes() if path else sys.stdin.buffer.read()
     except FileNotFoundError:
@@ -44,7 +47,7 @@ def read_script(path):
         raise Trouble(4, f"cannot open {shown}: it is a folder") from None
     except PermissionError:
         raise Trouble(4, f"cannot open {shown}: it may not be read") from None
-    except (OSError, ValueError, AttributeError) as error:
+    except (OSError, ValueError) as error:
         raise Trouble(4, f"cannot read {shown}: {error}") from None
     try:
         lines = text.decode().split("\n")
@@ -54,6 +57,7 @@ def read_script(path):
     return lines[:-1] if lines[-1] == "" else lines
 
 
+@functools.cache
 def proved_program():
     """Returns the file of the proved program, or None if it is not built from the sources as they stand."""
     ran = subprocess.run([TOP / "vmosim", "--path"], stdout=subprocess.PIPE, stderr=subprocess.DEVNULL, text=True, check=False)

@@ -28,7 +28,7 @@ def beyond_words(region, rights, what="PERM is"):
 
 def unreadable_words(rights):
     """Says that rights have no reading beside others, if so."""
-    return rights and "r" not in rights and f"PERM is {spelled(rights)}, which has not reading"
+    return rights and "r" not in rights and f"PERM is {spelled(rights)}, without reading"
 
 
 def place_words(ways, offset):
@@ -178,11 +178,12 @@ class RegionCommands:
     def range_rows(region, address, length):
         """Returns the pages of a range of addresses, and the rows that refuse one that is not in the region."""
         pages = range(address // PAGE, address // PAGE + pages_in(length))
+        misplaced_words = address % PAGE and f"ADDR = {address:#x} is no multiple of {PAGE}"
         span = f"{address_of(region.pages.start)} to {address_of(region.pages.stop)}"
         outside = not is_inside(pages, region.pages) and f"the range ends at {address_of(pages.stop)}, {region.name} has {span}"
         if outside and pages.start < region.pages.start:
             outside = f"the range begins at {address_of(pages.start)}, {region.name} has {span}"
-        return pages, [("INVALID_ARGS", misplaced(ADDR=address) or none_first(length)), ("INVALID_ARGS", outside)]
+        return pages, [("INVALID_ARGS", misplaced_words or none_first(length)), ("INVALID_ARGS", outside)]
 
     def vmar_unmap(self, region, address, length):
         of = self.live_region(region)
@@ -280,7 +281,7 @@ class RegionCommands:
     def mem_write(self, region, address, written):
         pages = self.accessed(self.live_region(region), address, len(written), "w")
         lacks = self.lacks((it.vmo, of) for _, it, of in pages)
-        self.refuse(("NO_MEMORY", lacks and f"owning the pages that it touches takes more, {self.free_words()}"))
+        self.refuse(("NO_MEMORY", lacks and f"the pages that it touches take more frames than are free, {self.free_words()}"))
         self.may_lack_host_memory(any(it.ready.get(page) != READY_TO_WRITE for page, it, _ in pages))
         faults, done = 0, 0
         for page, it, of in pages:
