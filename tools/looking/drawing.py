@@ -10,7 +10,7 @@ from .cells import DEFINED, HEIGHT, NUMBER, Look, drawn, in_lines, rect, runs_of
 from .states import address, names_of, pieces_of, regions_below, roots_of
 from .turns import cut, visible
 
-WIDTH, LABEL, MARGIN, STEP = 980, 262, 12, 14
+WIDTH, LEAST_WIDTH, LABEL, MARGIN, STEP = 980, 760, 262, 12, 14
 MOST_DEPTH = 8
 LINE = HEIGHT + NUMBER + 4
 LEGEND = (
@@ -21,10 +21,11 @@ LEGEND = (
 
 
 class Row(NamedTuple):
-    """A row of a picture, with its height. It begins at the height 0."""
+    """A row of a picture, with its height and its right end. It begins at the height 0."""
 
     height: int
     drawn: str
+    right: int = LEAST_WIDTH
 
 
 def label_rows(x, bold, small):
@@ -45,7 +46,8 @@ def row_of(cells, depth, bold, small, spell):
         if len(number) * 4.9 > cell.width():
             number = f"from {first:,}"
         out += text(x + cell.width() / 2, line * LINE + HEIGHT + 9, number, 8, ' text-anchor="middle" fill="#555"')
-    return Row(max(lines * LINE, 27 + 11 * len(small)) + 4, out)
+    right = max((x + cell.width() for cell, x, _ in places), default=0) + MARGIN
+    return Row(max(lines * LINE, 27 + 11 * len(small)) + 4, out, right)
 
 
 # ---- VMOs
@@ -166,7 +168,8 @@ def picture(rows, heading, title):
     for it in LEGEND:
         out.append(text(MARGIN, y + 10, it, 9, ' fill="#333"'))
         y += 13
-    return (f'<svg xmlns="http://www.w3.org/2000/svg" width="{WIDTH}" height="{y + 8}" viewBox="0 0 {WIDTH} {y + 8}" '
+    width = max(LEAST_WIDTH, *(it.right for it in rows))
+    return (f'<svg xmlns="http://www.w3.org/2000/svg" width="{width}" height="{y + 8}" viewBox="0 0 {width} {y + 8}" '
             f'font-family="DejaVu Sans Mono, Menlo, Consolas, monospace"><title>{escape(title)}</title><defs>{DEFINED}</defs>'
             f'<rect width="100%" height="100%" fill="#fff"/>' + "\n".join(out) + "</svg>")
 
