@@ -11,7 +11,7 @@ from .texts import Ranks, frames_words
 from .turns import Trouble, cut, visible
 
 TEMPLATE = pathlib.Path(__file__).with_name("page.html")
-MOST_LINES = 3000
+MOST_LINES = 1000
 MOST_LINE, MOST_REPLY = 200, 200
 # The commands after which the picture is the one before.
 ASKING = ("vmo_read", "vmo_size", "vmo_info", "stat", "maps")

@@ -70,12 +70,14 @@ def piece_state(piece):
             "page": pages.start + ahead, "permissions": spelled(rights), "cap": spelled(cap), "region": region.name, "ready": rows}
 
 
-def regions_below(region, parent=None):
+def regions_below(root):
     """Yields a live region and all below it in the order of their addresses, each with its parent and how far down it is."""
-    yield region, parent, 0
-    for it in sorted(region.live(), key=lambda it: it.pages.start):
-        for inner, above, depth in regions_below(it, region):
-            yield inner, above, depth + 1
+    waiting = [(root, None, 0)]
+    while waiting:
+        region, parent, depth = waiting.pop()
+        yield region, parent, depth
+        inner = sorted(region.live(), key=lambda it: it.pages.start, reverse=True)
+        waiting += [(it, region, depth + 1) for it in inner]
 
 
 def region_state(region, parent):

@@ -9,7 +9,7 @@ from machine_model.tables import key_of, refusals_of
 from .turns import MACHINES, cut, visible
 
 LEAST_WIDTH, MOST_WIDTH = 24, 60
-MOST_LINE, MOST_REPLY, MOST_TITLE = 120, 120, 60
+MOST_LINE, MOST_REPLY, MOST_TITLE, MOST_COMMENTS = 120, 120, 60, 4
 COLUMNS = ("line", "commands", "refused", "faults", "taken", "given", "used", "peak", "block")
 
 
@@ -64,7 +64,7 @@ def annotate(turns, asked):
 
 def title_of(comments):
     """Returns the title of a block: the first sentence of the comments above it."""
-    text = " ".join(visible(it).lstrip("#").strip() for it in comments)
+    text = " ".join(visible(it).lstrip("#").strip() for it in comments[:MOST_COMMENTS])
     return cut(re.split(r"(?<=[^.])[.:;] ", f"{text} ")[0].strip(), MOST_TITLE) or "(no comment)"
 
 
@@ -75,13 +75,13 @@ def blocks_of(turns):
     for turn, _ in turns:
         if not turn.replies:
             if turn.line.strip(" \t\r"):
-                comments = [*comments, turn.line] if row is None else [turn.line]
+                comments.append(turn.line)
                 row = None
             continue
         if row is None:
             row = dict.fromkeys(COLUMNS, 0) | {"line": turn.number, "peak": used, "block": title_of(comments)}
             rows.append(row)
-            comments = []
+            comments.clear()
         used = turn.used
         row["commands"] += 1
         row["refused"] += turn.refusal is not None
@@ -125,7 +125,7 @@ def as_json(turns, asked):
 
 
 def record_of(turn, ranks):
-    """Returns what is told of a turn in JSON."""
+    """Returns what the line of JSON of a turn has."""
     refusal = None
     if turn.refusal:
         of = ranks.of(turn) if turn.refusal.rank else None

@@ -39,6 +39,7 @@ class BatchMachine(Machine):
         return self.jobs[job]
 
     def begin(self, job, kind, name, offset, length):
+        """Begins a job, and returns how many pages are left."""
         it = self.name(name)
         self.refuse(
             ("NAME_IN_USE", job in self.jobs and f"the job {job} is there"),
@@ -49,6 +50,7 @@ class BatchMachine(Machine):
         return self.left(job, Job(PLAIN[kind], name, offset, offset + length))
 
     def step(self, job, pages):
+        """Does pages of a job, and returns how many are left."""
         it = self.job(job)
         self.refuse(("INVALID_ARGS", not pages and "PAGES = 0"))
         length = min(pages * PAGE, it.end - it.next)
@@ -56,6 +58,7 @@ class BatchMachine(Machine):
         return self.left(job, it._replace(next=it.next + length))
 
     def drop(self, job):
+        """Lets a job go."""
         self.job(job)
         del self.jobs[job]
 

@@ -134,6 +134,7 @@ class Machine(RegionCommands, Answering):
         return "ACCESS_DENIED", not self.names[name].may_write and f"{name} may not write"
 
     def vmo_create(self, name, size, flags):
+        """Makes a VMO."""
         rounded = pages_in(size) * PAGE
         self.refuse(self.new_name_row(name), ("OUT_OF_RANGE", past_most("SIZE, rounded up to whole pages,", rounded)))
         self.may_lack_host_memory()
@@ -141,11 +142,13 @@ class Machine(RegionCommands, Answering):
         self.names[name] = Name(self.new_vmo(pages_in(size), can_resize), "owner", True, can_resize)
 
     def vmo_create_child(self, name, parent, kind, offset, size, flags):
+        """Makes a child of a VMO."""
         of = self.name(parent)
         self.refuse(self.new_name_row(name))
         self.names[name] = getattr(self, kind)(parent, of, offset, size, "resizable" in flags, "no_write" in flags)
 
     def snapshot(self, parent, of, offset, size, resizable, no_write):
+        """Returns the name of a new snapshot."""
         first, count = of.first + offset // PAGE, pages_in(size)
         seen = range(first, min(first + count, of.first + of.size() // PAGE))
         pinned = [it for it in of.vmo.held(seen) if self.is_pinned(of.vmo, it)]
@@ -170,6 +173,7 @@ class Machine(RegionCommands, Answering):
         return Name(child, "owner", not no_write, resizable)
 
     def slice(self, parent, of, offset, size, resizable, no_write):
+        """Returns the name of a new slice."""
         limit = pages_in(size)
         end = offset + limit * PAGE
         self.refuse(
@@ -181,6 +185,7 @@ class Machine(RegionCommands, Answering):
         return Name(of.vmo, "slice", of.may_write and not no_write, False, of.first + offset // PAGE, limit)
 
     def reference(self, parent, of, offset, size, resizable, no_write):
+        """Returns the name of a new reference."""
         place = next((f"{name} = {it} is not 0" for name, it in (("OFFSET", offset), ("SIZE", size)) if it), "")
         both = resizable and no_write and "resizable and no_write are both given"
         fixed = resizable and not of.may_resize
@@ -193,14 +198,17 @@ class Machine(RegionCommands, Answering):
         return Name(of.vmo, "reference", of.may_write and not no_write, resizable)
 
     def vmo_close(self, name):
+        """Closes a name."""
         it = self.name(name)
         del self.names[name]
         self.prune(it.vmo)
 
     def vmo_size(self, name):
+        """Returns the size of a name."""
         return self.name(name).size()
 
     def vmo_set_size(self, name, size):
+        """Changes the size of a VMO."""
         it, count = self.name(name), pages_in(size)
         last = max((pin.pages.stop - 1 for pin in self.pins.values() if pin.vmo is it.vmo), default=-1)
         self.refuse(
@@ -216,6 +224,7 @@ class Machine(RegionCommands, Answering):
             mapping.ready = {page: ready for page, ready in mapping.ready.items() if page + mapping.ahead < count}
 
     def vmo_read(self, name, offset, length):
+        """Returns bytes of a name."""
         it = self.name(name)
         self.refuse(
             ("INVALID_ARGS", length > MOST_READ and f"LEN = {length}, one read has at most {MOST_READ} bytes"),
@@ -240,19 +249,23 @@ class Machine(RegionCommands, Answering):
         return vmo, start
 
     def vmo_write(self, name, offset, written):
+        """Writes bytes by a name."""
         vmo, start = self.to_own(name, offset, len(written))
         self.put(vmo, start, written)
 
     def vmo_fill(self, name, offset, length, byte):
+        """Writes one byte to a range."""
         vmo, start = self.to_own(name, offset, length)
         self.put(vmo, start, bytes([byte]) * length)
 
     def vmo_commit(self, name, offset, length):
+        """Owns the pages of a range."""
         vmo, start = self.to_own(name, offset, length)
         for page in touched(start, length):
             self.own(vmo, page)
 
     def vmo_zero(self, name, offset, length):
+        """Makes the bytes of a range zeros."""
         vmo, start = self.to_change(name, offset, length)
         held = vmo.held(touched(start, length))
         gone = [it for it in held if start <= it * PAGE and (it + 1) * PAGE <= start + length and not self.is_pinned(vmo, it)]
@@ -273,6 +286,7 @@ class Machine(RegionCommands, Answering):
                 or other and f"the reference {other} is open")
 
     def vmo_decommit(self, name, offset, length):
+        """Makes the pages of a range zero."""
         it = self.name(name)
         vmo, pages = it.vmo, touched(it.first * PAGE + offset, length)
         pinned = [pin for pin, its in self.pins.items() if its.vmo is vmo and pages and meet(its.pages, pages)]
@@ -288,6 +302,7 @@ class Machine(RegionCommands, Answering):
             self.give_up(vmo, page)
 
     def vmo_pin(self, pin, name, offset, length):
+        """Pins the pages of a range, and returns their frames."""
         it = self.name(name)
         vmo, pages = it.vmo, touched(it.first * PAGE + offset, length)
         most = MOST_PINNED * PAGE
@@ -331,6 +346,7 @@ class Machine(RegionCommands, Answering):
         return numbers
 
     def vmo_unpin(self, pin):
+        """Lets pinned pages go."""
         self.refuse(("BAD_HANDLE", pin not in self.pins and f"the pin {pin} is not there"))
         it = self.pins.pop(pin)
         for page in it.pages:
@@ -339,6 +355,7 @@ class Machine(RegionCommands, Answering):
         self.prune(it.vmo)
 
     def vmo_info(self, name):
+        """Returns what a VMO holds."""
         it = self.name(name)
         vmo = it.vmo
         sole = sum(vmo.is_sole(page) for page in vmo.pages)
@@ -349,4 +366,5 @@ class Machine(RegionCommands, Answering):
                 f"charged={charged} children={inner}")
 
     def stat(self):
+        """Returns how many frames and VMOs there are."""
         return f"frames={self.frames} used={self.used} free={self.frames - self.used} vmos={len(self.vmos)}"

@@ -80,6 +80,7 @@ class RegionCommands:
         return "NAME_IN_USE", name in self.regions and f"{name} was given"
 
     def root_create(self, name):
+        """Makes an address space."""
         self.refuse(self.new_region_row(name))
         self.may_lack_host_memory()
         self.regions[name] = Region(name, None, range(ROOT_FIRST, ROOT_END), RIGHTS["rwx"])
@@ -106,6 +107,7 @@ class RegionCommands:
         return lowest
 
     def vmar_allocate(self, name, parent, offset, length, flags):
+        """Makes a region, and returns its address."""
         of = self.region(parent)
         rights = frozenset(right for flag, right in GIVEN_RIGHTS.items() if flag in flags)
         count, ways = pages_in(length), flags & {"specific", "upper_limit"}
@@ -136,6 +138,7 @@ class RegionCommands:
         ]
 
     def vmar_map(self, region, offset, name, vmo_offset, length, rights, flags):
+        """Maps a part of a name, and returns its address."""
         absent = region not in self.regions and f"{region} was never given" or name not in self.names and f"{name} is not open"
         self.refuse(("BAD_HANDLE", absent))
         of, it = self.regions[region], self.names[name]
@@ -166,12 +169,15 @@ class RegionCommands:
         self.prune(*gone)
         return address_of(first)
 
-    def end_region(self, region):
+    @staticmethod
+    def end_region(region):
         """Destroys a region and all below it, and returns the VMOs of the mappings that go."""
-        region.is_live = False
-        gone = [region.take_out(it) for it in region.own_mappings()]
-        for it in region.live():
-            gone += self.end_region(it)
+        gone, waiting = [], [region]
+        while waiting:
+            it = waiting.pop()
+            waiting += it.live()
+            it.is_live = False
+            gone += [it.take_out(mapping) for mapping in it.own_mappings()]
         return gone
 
     @staticmethod
@@ -186,6 +192,7 @@ class RegionCommands:
         return pages, [("INVALID_ARGS", misplaced_words or none_first(length)), ("INVALID_ARGS", outside)]
 
     def vmar_unmap(self, region, address, length):
+        """Takes the entries of a range out."""
         of = self.live_region(region)
         pages, rows = self.range_rows(of, address, length)
         cut = child_words(of, pages, lambda its: meet(its, pages) and not is_inside(its, pages))
@@ -208,6 +215,7 @@ class RegionCommands:
         return page < pages.stop and f"{address_of(page)} has no entry that belongs to {region.name}"
 
     def vmar_protect(self, region, address, length, rights):
+        """Changes the permissions of a range."""
         of = self.live_region(region)
         self.refuse(("ACCESS_DENIED", beyond_words(of, rights)))
         pages, rows = self.range_rows(of, address, length)
@@ -226,9 +234,11 @@ class RegionCommands:
             it.ready = {}
 
     def vmar_destroy(self, region):
+        """Destroys a region and all in it."""
         self.prune(*self.end_region(self.live_region(region)))
 
     def maps(self, region):
+        """Returns the runs of entries in a region."""
         of = self.live_region(region)
         shown = of.cut(of.pages)
         self.may_lack_host_memory(shown)
@@ -270,6 +280,7 @@ class RegionCommands:
         return [(page, it, page + it.ahead) for page, it in pages]
 
     def mem_read(self, region, address, length):
+        """Returns the faults of a read through entries, and the bytes."""
         pages = self.accessed(self.live_region(region), address, length, "r")
         faults = sum(page not in it.ready for page, it, _ in pages)
         self.may_lack_host_memory(faults)
@@ -279,6 +290,7 @@ class RegionCommands:
         return f"faults={faults} {shown[address % PAGE : address % PAGE + length].hex() or '-'}"
 
     def mem_write(self, region, address, written):
+        """Writes bytes through entries, and returns the faults."""
         pages = self.accessed(self.live_region(region), address, len(written), "w")
         lacks = self.lacks((it.vmo, of) for _, it, of in pages)
         self.refuse(("NO_MEMORY", lacks and f"the pages that it touches take more frames than are free, {self.free_words()}"))

@@ -194,6 +194,7 @@ class SourceMachine(Answering):
     # ---- commands
 
     def source_create(self, name, size, kind, seed):
+        """Makes a VMO that comes from a source."""
         count = pages_in(size)
         self.refuse(
             self.new_name_row(name),
@@ -205,6 +206,7 @@ class SourceMachine(Answering):
         self.add(name, [backing.page(it) for it in range(count)], backing)
 
     def vmo_create_child(self, name, parent, kind, offset, size):
+        """Makes a child of a VMO."""
         of = self.vmo(parent)
         is_loose, count, first = kind != "snapshot", pages_in(size), offset // PAGE
         self.refuse(self.new_name_row(name), ("INVALID_ARGS", misplaced(OFFSET=offset)))
@@ -224,11 +226,13 @@ class SourceMachine(Answering):
                 of.held[page].add(child.koid)
 
     def vmo_close(self, name):
+        """Closes a name."""
         it = self.vmo(name)
         del self.names[name]
         self.prune(it)
 
     def vmo_read(self, name, offset, length):
+        """Returns bytes of a name."""
         it = self.vmo(name)
         self.refuse(
             ("INVALID_ARGS", length > MOST_READ and f"LEN = {length}, one read has at most {MOST_READ} bytes"),
@@ -241,6 +245,7 @@ class SourceMachine(Answering):
         return shown[offset % PAGE : offset % PAGE + length].hex() or "-"
 
     def vmo_write(self, name, offset, written):
+        """Writes bytes by a name."""
         it = self.vmo(name)
         self.refuse(past_end_row(it, offset, len(written)))
         pages = touched(offset, len(written))
@@ -263,10 +268,12 @@ class SourceMachine(Answering):
         return it, touched(offset, length)
 
     def supply(self, name, offset, length):
+        """Supplies the absent pages of a range."""
         it, pages = self.whole_pages(name, offset, length)
         self.supply_each([(it, page) for page in pages if it.is_absent(page)])
 
     def evict(self, name, offset, length):
+        """Takes the frames of the clean pages of a range."""
         it, pages = self.whole_pages(name, offset, length)
         clean = [page for page in pages if it.is_clean(page)]
         self.may_lack_host_memory(clean)
@@ -274,4 +281,5 @@ class SourceMachine(Answering):
             self.give_up(it, page)
 
     def stat(self):
+        """Returns how many frames and VMOs there are."""
         return f"frames={self.frames} used={self.used} free={self.frames - self.used} vmos={len(self.vmos)}"
