@@ -7,8 +7,9 @@ LONG_NUMBER = 1_000_000
 MOST_CELLS = 90
 BANDS = 8
 CELL, FOLD, HEIGHT, NUMBER = 46, 110, 34, 12
-# Fills for cells with black labels, which colour-blind readers tell apart too. Neighbours in the list differ in lightness.
-COLOURS = ("#77aadd", "#ee8866", "#eedd88", "#44bb99", "#ffaabb", "#bbcc33", "#99ddff", "#aaaa00")
+# Fills for cells with black labels. Any two are at least 23 apart in CIE Lab, and neighbours 37, also as they are simulated for
+# each of the three kinds of colour blindness.
+COLOURS = ("#44dddd", "#ffcc44", "#8866ff", "#dd4466", "#dd88ff", "#ccddaa", "#4488aa", "#dd8844")
 # What lies over the colour of a frame, so that more frames look different.
 PATTERNS = ("", "lines", "dots", "grid", "slants")
 DEFINED = (
@@ -114,6 +115,8 @@ def drawn(cell, x, y, spell):
     """Draws a cell, with what `spell` makes of a page below it."""
     width, first, last = cell.width(), cell.pages.start, cell.pages.stop - 1
     middle = ' text-anchor="middle"'
+    # A label over a colour has a pale edge, so that it is read on each of them.
+    middle += ' paint-order="stroke" stroke="#fff" stroke-width="2.5" stroke-opacity="0.75"' if cell.look.kind == "held" else ""
     label = label_of(cell)
     where = spell(first) if first == last else f"{spell(first)} to {spell(last)}"
     size = 11 if len(label) * 6.6 < width else 9 if len(label) * 5.4 < width else 7.5

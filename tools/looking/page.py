@@ -7,7 +7,7 @@ from html import escape
 
 from .cells import DEFINED
 from .drawing import LEGEND, WIDTH, rows_of
-from .texts import Ranks, frames_words
+from .texts import Ranks, change_words
 from .turns import Trouble, cut, visible
 
 TEMPLATE = pathlib.Path(__file__).with_name("page.html")
@@ -38,7 +38,7 @@ class Rows:
 def record_of(turn, state, ranks):
     """Returns what the page has of a turn."""
     return {"number": turn.number, "text": cut(visible(turn.line), MOST_LINE), "reply": [cut(it, MOST_REPLY) for it in turn.replies],
-            "refused": turn.refusal is not None, "why": ranks.words(turn) if turn.refusal else "", "frames": frames_words(turn),
+            "refused": turn.refusal is not None, "why": ranks.words(turn) if turn.refusal else "", "change": change_words(turn),
             "used": turn.used, "state": state}
 
 

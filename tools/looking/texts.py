@@ -35,13 +35,16 @@ class Ranks:
         return f"refusal {rank}{f' of {most}' if most else ''}: {why}"
 
 
-def frames_words(turn):
-    """Says which frames a turn took and gave back, and how many are used then; or nothing."""
-    if not turn.taken and not turn.given:
-        return ""
+def change_words(turn):
+    """Says how many frames a turn took and gave back; or nothing."""
     parts = [f"+{turn.taken}"] * (turn.taken > 0) + [f"-{turn.given}"] * (turn.given > 0)
-    noun = "frame" if turn.taken + turn.given == 1 else "frames"
-    return f"[{' '.join(parts)} {noun}, {turn.used} used]"
+    return f"{' '.join(parts)} frame{'' if turn.taken + turn.given == 1 else 's'}" if parts else ""
+
+
+def frames_words(turn):
+    """Says the same, and how many frames are used then."""
+    change = change_words(turn)
+    return f"[{change}, {turn.used} used]" if change else ""
 
 
 def annotate(turns, asked):
