@@ -21,8 +21,12 @@ DEFINED = (
 )
 
 
+# What stands in a cell that shows no frame.
+WORDS = {"zero": "zero", "past": "past end", "absent": "absent", "parent": "parent", "other": "pages"}
+
+
 class Look(NamedTuple):
-    """What a page looks like: `zero`, `held` or `past` the VMO's end, how far its frame is ahead of the page in the order in which
+    """What a page looks like: `held` or a word of WORDS, how far its frame is ahead of the page in the order in which
     frames were taken, a note below it, a hint, and its edge: `plain`, `bold` or `dashed`."""
 
     kind: str
@@ -105,7 +109,7 @@ def label_of(cell):
     """Returns the label of a cell: its frame or frames, or what it is in place of one."""
     count = len(cell.pages)
     if cell.look.kind != "held":
-        word = {"zero": "zero", "past": "past end", "other": "pages"}[cell.look.kind]
+        word = WORDS[cell.look.kind]
         return word if count == 1 else f"{count:,} {word}"
     first = cell.pages.start + cell.look.ahead
     return f"f{first}" if count == 1 else f"f{first} to f{first + count - 1}"

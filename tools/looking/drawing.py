@@ -1,18 +1,16 @@
 """The picture of what there is behind a line: VMOs with their pages, and address spaces with their pieces."""
 from html import escape
-from typing import NamedTuple
 
-from machine_model import PAGE, spelled
+from machine_model import PAGE, SourceMachine, spelled
 from machine_model.answering import counted
 from machine_model.regions import READY_TO_WRITE
 
-from .cells import DEFINED, HEIGHT, NUMBER, Look, drawn, in_lines, rect, runs_of, text
+from .cells import DEFINED, Look, rect, runs_of, text
+from .paged import SOURCES_LEGEND, source_rows
+from .rows import LEAST_WIDTH, MARGIN, MOST_DEPTH, STEP, WIDTH, Row, row_of, shown_by, text_row, tree_of
 from .states import address, names_of, pieces_of, regions_below, roots_of
 from .turns import cut, visible
 
-WIDTH, LEAST_WIDTH, LABEL, MARGIN, STEP = 980, 760, 262, 12, 14
-MOST_DEPTH = 8
-LINE = HEIGHT + NUMBER + 4
 LEGEND = (
     "f1, f2, ..: page frames in the order in which they were taken. One frame has one colour.",
     "pays: other VMOs show the frame too, and this one is charged for it. shared: another one is charged. p1 #2: pinned by p1, in frame 2.",
@@ -20,42 +18,7 @@ LEGEND = (
 )
 
 
-class Row(NamedTuple):
-    """A row of a picture, with its height and its right end. It begins at the height 0."""
-
-    height: int
-    drawn: str
-    right: int = LEAST_WIDTH
-
-
-def label_rows(x, bold, small):
-    """Returns the two lines of the label of a row."""
-    most = (LABEL - x) / 6.7
-    out = text(x, 14, cut(bold, int(most)), 11, ' font-weight="bold"')
-    return out + "".join(text(x, 27 + 11 * at, cut(it, int((LABEL - x) / 5.5)), 9) for at, it in enumerate(small))
-
-
-def row_of(cells, depth, bold, small, spell):
-    """Returns a row of cells with its label."""
-    places, lines = in_lines(cells, LABEL, WIDTH - LABEL - MARGIN)
-    out = label_rows(MARGIN + STEP * min(depth, MOST_DEPTH), bold, small)
-    for cell, x, line in places:
-        out += drawn(cell, x, line * LINE, spell)
-        first, last = cell.pages.start, cell.pages.stop - 1
-        number = f"{first:,}" if first == last else f"{first:,} to {last:,}"
-        if len(number) * 4.9 > cell.width():
-            number = f"from {first:,}"
-        out += text(x + cell.width() / 2, line * LINE + HEIGHT + 9, number, 8, ' text-anchor="middle" fill="#555"')
-    right = max((x + cell.width() for cell, x, _ in places), default=0) + MARGIN
-    return Row(max(lines * LINE, 27 + 11 * len(small)) + 4, out, right)
-
-
 # ---- VMOs
-
-
-def listed_koids(koids):
-    """Returns koids as they stand in a sentence."""
-    return f"koid {', '.join(map(str, koids))}"
 
 
 def vmo_row(machine, vmo, depth):
@@ -67,7 +30,7 @@ def vmo_row(machine, vmo, depth):
         if frame is None:
             return Look("zero", 0, "", "no frame", "plain")
         koids = sorted(frame.koids)
-        hint = f"charged to koid {koids[0]}" + (f", shown by {listed_koids(koids)}" if len(koids) > 1 else "")
+        hint = f"charged to koid {koids[0]}" + (f", shown by {shown_by(frame)}" if len(koids) > 1 else "")
         note = ("pays" if koids[0] == vmo.koid else "shared") if len(koids) > 1 else ""
         holds = [f"p{it}" for it, pages in sorted(pins, key=lambda it: it[0]) if page in pages]
         if holds:
@@ -85,14 +48,8 @@ def vmo_row(machine, vmo, depth):
 
 def vmo_rows(machine):
     """Yields the rows of all VMOs, each under its parent."""
-    inner = {}
-    for vmo in machine.vmos:
-        inner.setdefault(vmo.parent and vmo.parent.koid, []).append(vmo)
-    waiting = [(it, 0) for it in reversed(inner.get(None, []))]
-    while waiting:
-        vmo, depth = waiting.pop()
+    for vmo, depth in tree_of(machine.vmos, lambda it: it.parent and it.parent.koid):
         yield vmo_row(machine, vmo, depth)
-        waiting += [(it, depth + 1) for it in reversed(inner.get(vmo.koid, []))]
 
 
 # ---- address spaces
@@ -138,9 +95,9 @@ def space_rows(machine, root):
 
 def rows_of(machine):
     """Returns the rows of a picture."""
-    rows = [*vmo_rows(machine)]
-    if not rows:
-        rows.append(Row(24, text(MARGIN, 16, "no VMO")))
+    if isinstance(machine, SourceMachine):
+        return source_rows(machine)
+    rows = [*vmo_rows(machine)] or [Row(24, text_row("no VMO"))]
     for root in roots_of(machine):
         rows.append(Row(10, rect(MARGIN, 4, WIDTH - 2 * MARGIN, 1, "#999")))
         rows += space_rows(machine, root)
@@ -150,11 +107,16 @@ def rows_of(machine):
 def heading_of(turn, machine):
     """Returns the lines above a picture."""
     reply = f" -> {cut(turn.replies[0], 60)}" if turn.replies else ""
-    counts = f"{machine.used} of {machine.frames} frames are used, {counted(len(machine.vmos), 'VMO')}"
+    counts = f"{machine.used} of {machine.frames} frames used, {counted(len(machine.vmos), 'VMO')}"
     return [f"behind line {turn.number}: {cut(visible(turn.line), 70)}{reply}", counts]
 
 
-def picture(rows, heading, title):
+def legend_of(machine):
+    """Returns the lines below a picture."""
+    return SOURCES_LEGEND if isinstance(machine, SourceMachine) else LEGEND
+
+
+def picture(rows, heading, legend, title):
     """Returns a whole picture."""
     out, y = [], 8
     for at, it in enumerate(heading):
@@ -165,7 +127,7 @@ def picture(rows, heading, title):
         out.append(f'<g transform="translate(0 {y})">{row.drawn}</g>')
         y += row.height
     y += 4
-    for it in LEGEND:
+    for it in legend:
         out.append(text(MARGIN, y + 10, it, 9, ' fill="#333"'))
         y += 13
     width = max(LEAST_WIDTH, *(it.right for it in rows))
@@ -177,4 +139,4 @@ def picture(rows, heading, title):
 def draw(turns, asked):
     """Yields the picture of what there is behind the last turn."""
     turn, machine = list(turns)[-1]
-    yield picture(rows_of(machine), heading_of(turn, machine), f"{asked.file or 'a script'} behind line {turn.number}")
+    yield picture(rows_of(machine), heading_of(turn, machine), legend_of(machine), f"{asked.file or 'a script'} behind line {turn.number}")

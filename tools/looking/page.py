@@ -6,7 +6,8 @@ import pathlib
 from html import escape
 
 from .cells import DEFINED
-from .drawing import LEGEND, WIDTH, rows_of
+from .drawing import legend_of, rows_of
+from .rows import WIDTH
 from .texts import Ranks, change_words
 from .turns import Trouble, cut, visible
 
@@ -14,7 +15,7 @@ TEMPLATE = pathlib.Path(__file__).with_name("page.html")
 MOST_LINES = 1000
 MOST_LINE, MOST_REPLY = 200, 200
 # The commands after which the picture is the one before.
-ASKING = ("vmo_read", "vmo_size", "vmo_info", "stat", "maps")
+ASKING = ("vmo_size", "vmo_info", "stat", "maps")
 
 
 class Rows:
@@ -50,7 +51,7 @@ def page(turns, asked):
             raise Trouble(2, f"the script has more than {MOST_LINES} lines, which is the most of a page; --at {MOST_LINES} shows these")
         lines.append(record_of(turn, rows.state_of(turn, machine), ranks))
     data = {"lines": lines, "rows": [*rows.rows], "states": [*rows.states], "frames": machine.frames, "width": WIDTH,
-            "defined": DEFINED, "legend": LEGEND}
+            "defined": DEFINED, "legend": legend_of(machine)}
     title = f"{os.path.basename(asked.file) if asked.file else 'A script'}, line by line"
     # No text of the script may end the element that the data stands in.
     text = json.dumps(data, separators=(",", ":")).replace("<", "\\u003c")

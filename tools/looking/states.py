@@ -2,8 +2,10 @@
 import hashlib
 import json
 
-from machine_model import PAGE, spelled
+from machine_model import PAGE, SourceMachine, spelled
 from machine_model.regions import READY_TO_WRITE
+
+from .paged import source_state
 
 DEPTH = 1
 
@@ -135,4 +137,5 @@ def lines_of(value, indent=0, before=""):
 
 def state(turns, _):
     """Yields what there is behind the last turn, as lines of JSON."""
-    yield from lines_of(state_of(list(turns)[-1][1]))
+    machine = list(turns)[-1][1]
+    yield from lines_of(source_state(machine) if isinstance(machine, SourceMachine) else state_of(machine))

@@ -9,6 +9,7 @@ from typing import NamedTuple
 from machine_model import BatchMachine, Machine, Refusal, SourceMachine
 
 TOP = pathlib.Path(__file__).resolve().parent.parent.parent
+MOST_ANSWER = 200
 MACHINES = {"run": Machine, "batch": BatchMachine, "sources": SourceMachine}
 
 
@@ -79,7 +80,7 @@ def replies_of(program, word, frames, lines):
 
 def answered(replies):
     """Returns reply lines as they are shown in a sentence."""
-    return " / ".join(replies) or "nothing"
+    return cut(" / ".join(replies), MOST_ANSWER) or "nothing"
 
 
 def play(lines, word, frames, program):
@@ -96,12 +97,13 @@ def play(lines, word, frames, program):
             at += len(got)
             if got != wanted:
                 both = f"the program answers {answered(got)}\nlook: the model answers   {answered(wanted)}"
-                raise Trouble(1, f"line {number}, {visible(line)!r}: the answers differ\nlook: {both}")
+                raise Trouble(1, f"line {number}, {cut(visible(line), MOST_ANSWER)!r}: the answers differ\nlook: {both}")
         faults = re.match(r"OK faults=(\d+)", wanted[0]) if wanted else None
         yield Turn(number, line, wanted, machine.taken - taken, machine.given - given, machine.used,
                    int(faults[1]) if faults else 0, machine.refusal), machine
     if said is not None and at < len(said):
-        raise Trouble(1, f"behind the last line: the answers differ\nlook: the program answers {answered(said[at:])}\nlook: the model answers   nothing")
+        both = f"the program answers {answered(said[at:])}\nlook: the model answers   nothing"
+        raise Trouble(1, f"behind the last line: the answers differ\nlook: {both}")
 
 
 def visible(line):

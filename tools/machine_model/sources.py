@@ -5,6 +5,7 @@ from typing import NamedTuple
 
 from .answering import Answering, counted, misplaced
 from .limits import MOST_READ, PAGE, pages_in, touched
+from .objects import Frame
 
 MOST_BYTES = 1 << 24
 LAST_KIND = 2
@@ -49,7 +50,7 @@ class Link(NamedTuple):
 
 
 class SourceVmo:
-    """A VMO: the bytes of its pages, and of each page that is held the koids of the VMOs that show its frame."""
+    """A VMO: the bytes of its pages, and of each page that is held its frame."""
 
     def __init__(self, koid, text, backing=None, link=None):
         self.koid = koid
@@ -74,7 +75,7 @@ class SourceVmo:
 
     def is_sole(self, page):
         """Returns whether a page is held and no other VMO shows its frame."""
-        return page in self.held and len(self.held[page]) == 1
+        return page in self.held and len(self.held[page].koids) == 1
 
     def is_clean(self, page):
         """Returns whether a page is held and has the bytes that it has by its source."""
@@ -150,7 +151,7 @@ class SourceMachine(Answering):
 
     def give_up(self, vmo, page):
         """Takes the frame of a page from a VMO."""
-        koids = vmo.held.pop(page)
+        koids = vmo.held.pop(page).koids
         koids.remove(vmo.koid)
         self.used -= not koids
         self.given += not koids
@@ -160,9 +161,9 @@ class SourceMachine(Answering):
         if not vmo.is_sole(page):
             if page in vmo.held:
                 self.give_up(vmo, page)
-            vmo.held[page] = {vmo.koid}
             self.used += 1
             self.taken += 1
+            vmo.held[page] = Frame(b"", vmo.koid, self.taken)
 
     def new_name_row(self, name):
         """Returns the row that refuses a name that is open."""
@@ -223,7 +224,7 @@ class SourceMachine(Answering):
         for page in range(first, min(first + count, len(of.text))):
             if page in of.held:
                 child.held[page - first] = of.held[page]
-                of.held[page].add(child.koid)
+                of.held[page].koids.add(child.koid)
 
     def vmo_close(self, name):
         """Closes a name."""
