@@ -98,6 +98,9 @@ def rows_of(machine):
     if isinstance(machine, SourceMachine):
         return source_rows(machine)
     rows = [*vmo_rows(machine)] or [Row(24, text_row("no VMO"))]
+    for name, it in sorted(getattr(machine, "jobs", {}).items()):
+        left = counted((it.end - it.next) // PAGE, "page")
+        rows.append(Row(24, text_row(f"job {name}: {it.command} of {it.name} goes on at byte {it.next:,}, {left} left")))
     for root in roots_of(machine):
         rows.append(Row(10, rect(MARGIN, 4, WIDTH - 2 * MARGIN, 1, "#999")))
         rows += space_rows(machine, root)
