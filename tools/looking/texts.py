@@ -68,7 +68,7 @@ def annotate(turns, asked):
 def title_of(comments):
     """Returns the title of a block: the first sentence of the comments above it."""
     text = " ".join(visible(it).lstrip("#").strip() for it in comments[:MOST_COMMENTS])
-    return cut(re.split(r"(?<=[^.])[.:;] ", f"{text} ")[0].strip(), MOST_TITLE) or "(no comment)"
+    return cut(re.split(r"(?<=[^.])[.:;?] ", f"{text} ")[0].strip(), MOST_TITLE) or "(no comment)"
 
 
 def blocks_of(turns):

@@ -61,8 +61,11 @@ def read_script(path):
 @functools.cache
 def proved_program():
     """Returns the file of the proved program, or None if it is not built from the sources as they stand."""
-    ran = subprocess.run([TOP / "vmosim", "--path"], stdout=subprocess.PIPE, stderr=subprocess.DEVNULL, text=True, check=False)
-    return ran.stdout.strip() or None
+    words = [TOP / "vmosim", "--path"]
+    try:
+        return subprocess.run(words, stdout=subprocess.PIPE, stderr=subprocess.DEVNULL, text=True, check=False).stdout.strip() or None
+    except OSError:
+        return None
 
 
 def replies_of(program, word, frames, lines):
