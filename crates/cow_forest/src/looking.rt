@@ -170,9 +170,33 @@ fn look_found(
     }
 }
 
-/// The first page from `from` on of a VMO's node that shows a frame. The search goes by the rows of the node and of the
-/// nodes above.
+/// Returns the first page from `from` on of a VMO's node that shows a frame. If it is `from` itself, the call costs one walk
+/// upwards by jumps, so that each page of a range that is held is found so. Otherwise it costs the search for the next row.
 pub(crate) fn next_shown(
+    arena: &CowArena,
+    lists: &PageLists,
+    jumps: &JumpTable,
+    leaf: NodeId,
+    from: PageNo,
+) -> Option<PageNo>
+    requires exact { (in_use : ℕ → Bool) × IsExact (tree_of arena.now lists.now) all_in_sight in_use }
+    requires jumps { (next : ℕ) × AreJumps (tree_of arena.now lists.now) next jumps.now }
+    requires leaf { IsSomeAnd (nodes_of arena.now leaf.0) (λ node. IsSome node.koid) }
+    ensures some { IfSome result (λ page. (from ≤ page) × IsSome (frame_at (tree_of arena.now lists.now) leaf.0 page)
+        × ShowsNoneIn (tree_of arena.now lists.now) leaf.0 from page) }
+    ensures none { IfNone result (ShowsNoneFrom (tree_of arena.now lists.now) leaf.0 from) }
+{
+    if holder_by_jumps(arena, lists, jumps, leaf, from)
+        .frame()
+        .is_some()
+    {
+        return Some(from);
+    }
+    next_shown_by_rows(arena, lists, jumps, leaf, from)
+}
+
+/// Does what `next_shown` does, by the rows of the node and of the nodes above.
+fn next_shown_by_rows(
     arena: &CowArena,
     lists: &PageLists,
     jumps: &JumpTable,
