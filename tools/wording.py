@@ -1,0 +1,83 @@
+"""Words of a command line, files that are read and written, and what stops a tool. Each trouble is said in one line."""
+import argparse
+import os
+import pathlib
+import re
+import sys
+
+WRONG_WORD, UNREADABLE, UNWRITABLE, BROKEN_OFF = 2, 4, 5, 130
+MOST_FRAMES = 65_536
+
+
+class Trouble(Exception):
+    """What stops a tool: the exit status, and what it says."""
+
+    def __init__(self, status, words):
+        super().__init__(words)
+        self.status = status
+
+
+class Words(argparse.ArgumentParser):
+    """The words of a command line. The help ends with the text given, as it is laid out."""
+
+    def __init__(self, tool, **more):
+        super().__init__(prog=f"tools/{tool}", allow_abbrev=False, formatter_class=argparse.RawDescriptionHelpFormatter, **more)
+
+    def error(self, message):
+        raise Trouble(WRONG_WORD, f"{message}; '{self.prog} --help' lists the words")
+
+
+def number_up_to(most):
+    """Returns what reads a number from 1 to another."""
+
+    def read(word):
+        if not re.fullmatch("[0-9]{1,9}", word) or not 1 <= int(word) <= most:
+            raise argparse.ArgumentTypeError(f"{word!r} is no number from 1 to {most}")
+        return int(word)
+
+    return read
+
+
+def read_file(path):
+    """Returns the bytes of a file."""
+    try:
+        return pathlib.Path(path).read_bytes()
+    except (OSError, ValueError) as error:
+        raise Trouble(UNREADABLE, f"cannot read {str(path)!r}: {getattr(error, 'strerror', None) or error}") from None
+
+
+def write_file(path, data):
+    """Writes bytes to a file."""
+    try:
+        pathlib.Path(path).write_bytes(data)
+    except (OSError, ValueError) as error:
+        raise Trouble(UNWRITABLE, f"cannot write {str(path)!r}: {getattr(error, 'strerror', None) or error}") from None
+
+
+def write_out(pieces):
+    """Writes pieces of bytes to the standard output. A reader that wants no more of them is no trouble."""
+    try:
+        for piece in pieces:
+            sys.stdout.buffer.write(piece)
+        sys.stdout.buffer.flush()
+    except (OSError, ValueError, AttributeError) as error:
+        # What is left in the buffer is not to be written once more when this ends.
+        os.dup2(os.open(os.devnull, os.O_WRONLY), 1)
+        if not isinstance(error, BrokenPipeError):
+            raise Trouble(UNWRITABLE, f"cannot write the output: {getattr(error, 'strerror', None) or 'the stream is closed'}") from None
+
+
+def say(tool, words):
+    """Says something on standard error."""
+    print(f"{tool}: {words}", file=sys.stderr, flush=True)
+
+
+def run_tool(tool, main):
+    """Runs a tool on the words of its command line, and ends with the status that it returns, or with that of a trouble."""
+    try:
+        sys.exit(main(sys.argv[1:]))
+    except Trouble as trouble:
+        say(tool, trouble)
+        sys.exit(trouble.status)
+    except KeyboardInterrupt:
+        sys.exit(BROKEN_OFF)
