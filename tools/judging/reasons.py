@@ -1,0 +1,202 @@
+"""What stands behind an illegal reply: what the model answers, why, and the states of all that has to do with the command."""
+import re
+from typing import NamedTuple
+
+from machine_model import PAGE, Machine
+from machine_model.answering import counted
+from machine_model.limits import pages_in, touched
+from machine_model.regions import address_of, outside_words, taken_words
+
+from .replies import command_of
+
+# When a command that is done may answer `HOST_MEMORY`, if it depends. The others may at any time, or never.
+NOT_SOLE = "some page that the range touches is not sole"
+HOST_CONDITIONS = {
+    "vmo_write": NOT_SOLE,
+    "vmo_fill": NOT_SOLE,
+    "vmo_commit": NOT_SOLE,
+    "vmo_zero": "some page that the range touches is held",
+    "vmo_decommit": "some page of the range is held",
+    "vmar_unmap": "some page of the range is mapped",
+    "maps": "some page of the region is mapped",
+    "mem_read": "some page that the range touches is not ready",
+    "mem_write": "some page that the range touches is not ready for writing",
+}
+ADDRESS = "OK 0x[1-9a-f][0-9a-f]*"
+NAMES = r"\b[vrp](?:0|[1-9][0-9]*)\b"
+EARLIER, MOST_STATES = 12, 24
+
+
+def vmos_of(machine, names):
+    """Returns the VMOs that names of VMOs and of pins stand for."""
+    places = (machine.names.get(it) or machine.pins.get(it) for it in names)
+    return {it.vmo for it in places if it}
+
+
+class Followed(NamedTuple):
+    """A model that did turns, the koid of the VMO that each VMO comes from, by its koid, and of each turn those of the VMOs that it
+    speaks of."""
+
+    machine: Machine
+    origins: dict
+    spoken_of: list
+
+
+def follow(turns, frames):
+    """Follows turns with the choices that their replies tell."""
+    machine, origins, spoken_of = Machine(frames), {}, []
+    for line, replies in turns:
+        names = re.findall(NAMES, line)
+        vmos = vmos_of(machine, names)
+        machine.answer(line, replies[0] if replies else "")
+        for it in machine.vmos[-1:]:
+            origins.setdefault(it.koid, origins[it.parent.koid] if it.parent else it.koid)
+        spoken_of.append({origins[it.koid] for it in vmos | vmos_of(machine, names)})
+    return Followed(machine, origins, spoken_of)
+
+
+def shown(line):
+    """Returns a line, in quotes if there is something in it that can't be seen."""
+    return line if line and line.isascii() and line.isprintable() and line == line.strip() else ascii(line)
+
+
+def numbers_in(words):
+    """Returns words as numbers where they are some."""
+    return [int(it, 0) if re.fullmatch("0x[0-9a-fA-F]+|0|[1-9][0-9]*", it) else None for it in words]
+
+
+# ---- why
+
+
+def why_place(machine, words, told):
+    """Says why the place that was told can't be."""
+    if not re.fullmatch(ADDRESS, told):
+        return f"{shown(told[3:])} is no address: 0x and hexadecimal digits in lower case, without leading zeros"
+    address, is_map = int(told[3:], 16), words[0] == "vmar_map"
+    region = machine.regions[words[1] if is_map else words[2]]
+    offset, length = (numbers_in(words)[it] for it in ((2, 5) if is_map else (3, 4)))
+    count, at = pages_in(length), region.pages.start + offset // PAGE
+    if address % PAGE:
+        return f"{told[3:]} is no multiple of {PAGE}"
+    if {"specific", "specific_overwrite"} & set(words):
+        return f"the place is fixed: {region.name} begins at {address_of(region.pages.start)}, and OFFSET = {offset}"
+    pages = range(address // PAGE, address // PAGE + count)
+    if pages.start < region.pages.start:
+        return f"{told[3:]} lies before {region.name}, which begins at {address_of(region.pages.start)}"
+    if "upper_limit" in words and pages.stop > at:
+        return f"the place ends at {address_of(pages.stop)}, which is above the limit {address_of(at)}"
+    outside = outside_words(region, address - region.pages.start * PAGE, count)
+    return outside or taken_words(region, pages)
+
+
+def why_pin(machine, words, told):
+    """Says why the frames that were told can't be."""
+    name, offset, length = machine.names[words[2]], *numbers_in(words)[3:5]
+    pages = touched(name.first * PAGE + offset, length)
+    numbers = told.split(" ")[1:]
+    if not re.fullmatch("OK( (0|[1-9][0-9]*))+", told) or len(numbers) != len(pages):
+        return f"a number is expected for each of {counted(len(pages), 'page')}"
+    owners = {it.vmo.pages[page].number: (pin, it, page) for pin, it in machine.pins.items() for page in it.pages}
+    for at, (page, number) in enumerate(zip(pages, map(int, numbers))):
+        own = name.vmo.pages[page].number if page in name.vmo.pages else None
+        if own is not None and own != number:
+            return f"page {page} of the VMO is pinned, and has the frame {own}"
+        if own is None and number in owners:
+            pin, it, its_page = owners[number]
+            return f"the frame {number} is that of page {its_page} of the VMO with koid {it.vmo.koid}, which {pin} pins"
+        if number >= machine.frames:
+            return f"the frames have the numbers 0 to {machine.frames - 1}"
+        if number in map(int, numbers[:at]):
+            return f"the frame {number} is told of two pages"
+    return ""
+
+
+def why_host_memory(machine, word):
+    """Says when HOST_MEMORY may come, by a model that answered the command otherwise."""
+    if machine.refusal:
+        return f"HOST_MEMORY may come only if no other refusal does: {machine.refusal.name}, {machine.refusal.why}"
+    if word not in HOST_CONDITIONS:
+        return f"{word} never answers HOST_MEMORY"
+    return f"HOST_MEMORY may come only if {HOST_CONDITIONS[word]}"
+
+
+def why(before, after, command, told):
+    """Says why a reply is not as it was told, by the models before and after the command; or nothing."""
+    words = re.findall("[^ \t\r]+", command)
+    if told == "HOST_MEMORY":
+        return why_host_memory(after, words[0])
+    if after.refusal:
+        return f"{after.refusal.name}: {after.refusal.why}"
+    if words[0] in ("vmar_map", "vmar_allocate") and told.startswith("OK "):
+        return why_place(before, words, told)
+    if words[0] == "vmo_pin" and told.startswith("OK "):
+        return why_pin(before, words, told)
+    if told == "NO_MEMORY":
+        return f"{counted(before.frames - before.used, 'frame')} of {before.frames} are free"
+    if re.fullmatch("[A-Z_]+", told) and told in after.tried:
+        return f"no condition of {told} holds"
+    return ""
+
+
+# ---- what has to do with a command
+
+
+def named(machine, command):
+    """Returns the VMOs and the root regions that a command speaks of."""
+    names = re.findall(NAMES, command)
+    vmos = vmos_of(machine, names)
+    roots = {machine.regions[it].root for it in names if it in machine.regions}
+    words = command.split()
+    numbers = [it for it in numbers_in(words[2:4]) if it is not None]
+    if words[0] in ("mem_read", "mem_write", "vmar_unmap", "vmar_protect") and roots and numbers:
+        length = numbers[1] if len(numbers) > 1 else len(words[3]) // 2 if len(words) > 3 else 1
+        pages = touched(numbers[0], min(max(length, 1), 1 << 20))
+        vmos.update(mapping.vmo for root in roots for mapping in root.shown(pages))
+    return vmos, roots
+
+
+def family(machine, vmos):
+    """Returns VMOs with all of their families, and those that show their frames."""
+    found, waiting = set(), list(vmos)
+    while waiting:
+        vmo = waiting.pop()
+        if vmo in found or vmo not in machine.vmos:
+            continue
+        found.add(vmo)
+        koids = {koid for frame in vmo.pages.values() for koid in frame.koids}
+        waiting += [it for it in machine.vmos if it.parent is vmo or it is vmo.parent or it.koid in koids]
+    return found
+
+
+def related(machine, command):
+    """Returns what has to do with a command: the names of VMOs, the pins, and the root regions."""
+    vmos, roots = named(machine, command)
+    vmos = family(machine, vmos)
+    roots |= {mapping.region.root for vmo in vmos for mapping in vmo.mappings}
+    names = [it for it, name in machine.names.items() if name.vmo in vmos]
+    pins = [it for it, pin in machine.pins.items() if pin.vmo in vmos]
+    regions = [it for it, region in machine.regions.items() if region in roots and region.is_live]
+    return names, pins, regions
+
+
+def states(machine, command):
+    """Returns what there was before a command of all that has to do with it."""
+    names, pins, regions = related(machine, command)
+    lines = [f"{it}: {line}" for it in sorted(names) for line in machine.answer(f"vmo_info {it}")]
+    for it in sorted(pins):
+        pin = machine.pins[it]
+        frames = " ".join(str(pin.vmo.pages[page].number) for page in pin.pages)
+        lines.append(f"{it}: pages {pin.pages.start} to {pin.pages.stop - 1} of koid {pin.vmo.koid}, frames {frames}")
+    lines += [f"{it}: {line}" for it in sorted(regions) for line in machine.answer(f"maps {it}")]
+    more = len(lines) - MOST_STATES
+    return lines[:MOST_STATES] + ([f"and {more} lines more"] if more > 0 else [])
+
+
+def earlier(followed, done, command):
+    """Returns the last turns, by their index, on something that has to do with a command."""
+    machine = followed.machine
+    origins = {followed.origins[it.koid] for it in family(machine, named(machine, command)[0])}
+    names = {*re.findall(NAMES, command), *related(machine, command)[2]}
+    found = [at for at, (line, _) in enumerate(done)
+             if command_of(line) and (names & set(re.findall(NAMES, line)) or origins & followed.spoken_of[at])]
+    return found[-EARLIER:]

@@ -1,0 +1,76 @@
+"""Replies as a kernel spells them, and transcripts of scripts and replies. Lines are text with a character for each byte."""
+import re
+
+# The longest line of a transcript, and the longest script line in one.
+LINE_BYTES, SCRIPT_LINE_BYTES = 16_384, 16_382
+# The number of each status, as docs/ZIRCON.md lists them.
+STATUSES = {
+    0: "OK", -2: "NOT_SUPPORTED", -3: "NO_RESOURCES", -4: "NO_MEMORY", -10: "INVALID_ARGS", -11: "BAD_HANDLE", -14: "OUT_OF_RANGE",
+    -15: "BUFFER_TOO_SMALL", -20: "BAD_STATE", -25: "NOT_FOUND", -26: "ALREADY_EXISTS", -28: "UNAVAILABLE", -30: "ACCESS_DENIED",
+}
+
+
+def lines_of(data):
+    """Returns the lines of a file. Its last piece is a line too, unless it is empty."""
+    lines = data.decode("latin-1").split("\n")
+    return lines[:-1] if lines[-1] == "" else lines
+
+
+def bytes_of(lines):
+    """Returns the bytes of lines."""
+    return "".join(f"{it}\n" for it in lines).encode("latin-1")
+
+
+def command_of(line):
+    """Returns the first word of a line that has a reply, or None of a blank line and of a comment. A line that is too long for any
+    command has a reply."""
+    word = next(iter(re.findall("[^ \t\r]+", line[: LINE_BYTES + 1])), "")
+    return (word or "blanks") if len(line) > LINE_BYTES else None if word.startswith("#") else word or None
+
+
+def more_lines(line, reply):
+    """Returns how many lines follow the first line of a reply: as many as a reply of `maps` says."""
+    runs = re.fullmatch("OK ([0-9]{1,9})", reply)
+    return int(runs[1]) if runs and command_of(line) == "maps" else 0
+
+
+def normalised(reply):
+    """Returns a reply line in the machine's spelling: without one CR at its end, and the status, if it begins with one, by its name
+    without `ZX_` and `ZX_ERR_`."""
+    reply = reply.removesuffix("\r")
+    status, blank, more = reply.partition(" ")
+    if re.fullmatch("0|-[1-9][0-9]{0,8}", status):
+        status = STATUSES.get(int(status), status)
+    return re.sub("^ZX_(ERR_)?", "", status) + blank + more
+
+
+def transcript_of(turns):
+    """Returns the lines of a transcript: of turns, each a line of a script with the lines of its reply."""
+    return [it for line, replies in turns for it in (f"> {line}", *(f"< {reply}" for reply in replies))]
+
+
+def turns_of(lines):
+    """Returns the turns of the lines of a transcript. Each begins with `> ` or `< `, and the first with `> `."""
+    turns = []
+    for it in lines:
+        if it.startswith("> "):
+            turns.append((it[2:], []))
+        else:
+            turns[-1][1].append(it[2:])
+    return turns
+
+
+def join(script, replies):
+    """Returns the turns of a script and of the reply lines to it, the numbers of its lines that are too long for a transcript, which
+    are left out with their replies, and the reply lines that are left over."""
+    left = iter(replies)
+    turns, too_long = [], []
+    for number, line in enumerate(script, 1):
+        told = [next(left, None)] if command_of(line) else []
+        if told and told[0] is not None:
+            told += [next(left, None) for _ in range(more_lines(line, told[0]))]
+        if len(line) > SCRIPT_LINE_BYTES:
+            too_long.append(number)
+        else:
+            turns.append((line, [it for it in told if it is not None]))
+    return turns, too_long, list(left)
