@@ -4,18 +4,18 @@ import random
 from machine_model import PAGE
 
 ROOT = 0x200000
-# How many names of VMOs and of pins a script uses.
-VMOS, PINS = 12, 4
+# How many names of VMOs and of pins a script uses, and of how many places that were mapped last: a script of few is dense.
+VMOS, PINS, PLACES = (3, 6, 12), 4, (2, 4, 12)
 # How often each kind of line comes in the lines of a theme, beside the others.
-CLONES = {"create": 5, "child": 10, "close": 6, "resize": 4, "read": 6, "write": 9, "fill": 4, "commit": 3, "decommit": 3, "zero": 5, "info": 6,
-          "stat": 1}
-SPACES = {"create": 5, "child": 4, "close": 2, "resize": 2, "write": 4, "fill": 2, "commit": 2, "zero": 2, "info": 2, "root": 2, "allocate": 6,
-          "map": 10, "unmap": 4, "protect": 4, "destroy": 2, "maps": 4, "mem_read": 10, "mem_write": 8}
-PINNED = {"create": 4, "child": 6, "close": 3, "resize": 4, "read": 2, "write": 4, "fill": 3, "commit": 2, "decommit": 5, "zero": 5, "pin": 10,
-          "unpin": 6, "info": 5, "stat": 1}
+CLONES = {"create": 5, "child": 10, "close": 6, "resize": 4, "read": 6, "write": 9, "fill": 4, "commit": 3, "decommit": 3, "zero": 5,
+          "info": 6, "stat": 1}
+SPACES = {"create": 5, "child": 4, "close": 2, "resize": 2, "write": 4, "fill": 2, "commit": 2, "zero": 2, "info": 2, "root": 2,
+          "allocate": 6, "map": 10, "unmap": 4, "protect": 4, "destroy": 2, "maps": 4, "mem_read": 10, "mem_write": 8}
+PINNED = {"create": 4, "child": 6, "close": 3, "resize": 4, "read": 2, "write": 4, "fill": 3, "commit": 2, "decommit": 5, "zero": 5,
+          "pin": 10, "unpin": 6, "info": 5, "stat": 1}
 ALL = {"create": 5, "child": 8, "close": 4, "resize": 3, "read": 5, "write": 8, "fill": 4, "commit": 3, "decommit": 3, "zero": 4, "pin": 4,
-       "unpin": 4, "info": 4, "root": 2, "allocate": 4, "map": 8, "unmap": 3, "protect": 3, "destroy": 1, "maps": 3, "mem_read": 8, "mem_write": 8,
-       "stat": 1, "other": 1}
+       "unpin": 4, "info": 4, "root": 2, "allocate": 4, "map": 8, "unmap": 3, "protect": 3, "destroy": 1, "maps": 3, "mem_read": 8,
+       "mem_write": 8, "stat": 1, "other": 1}
 THEMES = {"clones": CLONES, "spaces": SPACES, "pins": PINNED, "all": ALL}
 
 
@@ -27,6 +27,7 @@ class Commands:
         self.mixer = mixer
         self.kinds = THEMES[theme]
         self.without = without
+        self.vmos, self.near = mixer.choice(VMOS), mixer.choice(PLACES)
         self.sizes, self.pins, self.places = {}, set(), []
         # The live regions, each with its root region, and how many were made.
         self.regions, self.given = {}, 0
@@ -51,7 +52,7 @@ class Commands:
 
     def name(self):
         """Returns the name of a VMO, most often of one that is open."""
-        return self.one_of(self.sizes, f"v{self.mixer.randrange(VMOS)}")
+        return self.one_of(self.sizes, f"v{self.mixer.randrange(self.vmos)}")
 
     def region(self):
         """Returns a region, most often one that is live."""
@@ -76,14 +77,17 @@ class Commands:
     # ---- lines
 
     def create(self):
-        return f"vmo_create v{self.mixer.randrange(VMOS)} {self.mixer.randint(1, 8) * PAGE}" + self.mixer.choice(["", " resizable"])
+        return f"vmo_create v{self.mixer.randrange(self.vmos)} {self.mixer.randint(1, 8) * PAGE}" + self.mixer.choice(["", " resizable"])
 
     def child(self):
         parent = self.name()
         kind = self.mixer.choice(["snapshot", "snapshot", "slice", "reference"])
-        part = "0 0" if kind == "reference" else f"{self.offset(parent)} {self.mixer.randint(1, 4) * PAGE}"
+        offset, pages = self.offset(parent), self.mixer.randint(1, 4)
+        if kind == "slice" and self.chance(0.8):
+            pages = min(pages, self.pages(parent) - offset // PAGE)
+        part = "0 0" if kind == "reference" else f"{offset} {pages * PAGE}"
         flag = self.mixer.choice(["", "", "", " no_write", " no_write", " resizable"])
-        return f"vmo_create_child v{self.mixer.randrange(VMOS)} {parent} {kind} {part}{flag}"
+        return f"vmo_create_child v{self.mixer.randrange(self.vmos)} {parent} {kind} {part}{flag}"
 
     def close(self):
         return f"vmo_close {self.name()}"
@@ -205,7 +209,7 @@ class Commands:
             address = int(words[0], 16)
         except (IndexError, ValueError):
             return
-        self.places = [*self.places[-11:], (self.regions.get(region, "r1"), region, address, pages)]
+        self.places = [*self.places[1 - self.near :], (self.regions.get(region, "r1"), region, address, pages)]
 
 
 def seeded(seed, number=0):

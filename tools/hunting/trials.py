@@ -1,0 +1,82 @@
+"""Trials: a script and the replies of a kernel, whether made up line by line or given, and the verdict on them."""
+from typing import NamedTuple
+
+from generating.commands import Commands, seeded
+from judging.filling import fill
+from judging.replies import SCRIPT_LINE_BYTES, transcript_of
+from judging.verdicts import judge
+
+from .kernels import Kernel, Lost
+
+
+class Hunt(NamedTuple):
+    """What is hunted for: the command that starts the kernel, the seconds that a reply may take, the program that judges, the frames
+    of the machine, the seed, the theme of the lines, how many there are in a trial, and the words of commands that are left out."""
+
+    command: list
+    seconds: float
+    program: str | None
+    frames: int
+    seed: str
+    theme: str
+    lines: int
+    without: tuple
+
+
+class Trial(NamedTuple):
+    """The turns of a trial, the verdict on them, and how the kernel was lost, if it was."""
+
+    turns: list
+    verdict: str
+    lost: str
+
+    def is_found(self):
+        """Returns whether something is wrong."""
+        return bool(self.lost) or not self.verdict.startswith("LEGAL ")
+
+    def words(self):
+        """Returns what is wrong in words."""
+        return f"the kernel {self.lost}" if self.lost else self.verdict
+
+
+def run(hunt, lines, note=None, is_over=None):
+    """Returns the trial of lines on a new kernel. Each turn is noted. The trial ends early, and is None, if it is over."""
+    turns, lost = [], ""
+    with Kernel(hunt.command, hunt.seconds) as kernel:
+        try:
+            for line in lines:
+                if is_over and is_over():
+                    return None
+                turns.append((line, []))
+                kernel.answer(*turns[-1])
+                if note:
+                    note(*turns[-1])
+            kernel.end(turns[-1][1] if turns else [])
+        except Lost as how:
+            lost = str(how)
+    turns = fill(turns, hunt.frames)
+    return Trial(turns, judge(hunt.program, transcript_of(turns), hunt.frames), lost)
+
+
+def try_number(hunt, number, is_over=None):
+    """Returns the trial of a number, whose lines are made up from the replies."""
+    commands = Commands(seeded(hunt.seed, number), hunt.theme, hunt.without)
+    return run(hunt, (commands.line() for _ in range(hunt.lines)), commands.note, is_over)
+
+
+def replay(hunt, lines):
+    """Returns the trial of the lines of a script. Those that are too long for a transcript are left out."""
+    return run(hunt, [it for it in lines if len(it) <= SCRIPT_LINE_BYTES])
+
+
+def cut_at(trial):
+    """Returns the lines of a trial up to the first that is wrong."""
+    kept, number = len(trial.turns), 1
+    wrong = 0 if trial.verdict.startswith("LEGAL ") else int(trial.verdict.split()[1])
+    for at, (_, replies) in enumerate(trial.turns, 1):
+        number += 1 + len(replies)
+        # If the next line of the script stands in the place of a reply, that of this one is missing.
+        if wrong and number >= wrong:
+            kept = at
+            break
+    return [line for line, _ in trial.turns[:kept]]
