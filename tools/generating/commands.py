@@ -21,12 +21,13 @@ THEMES = {"clones": CLONES, "spaces": SPACES, "pins": PINNED, "all": ALL}
 
 class Commands:
     """Makes up the lines of a script, one after another. What comes by chance comes from `mixer`. No line of `without`, which has
-    words of commands, is made."""
+    words of commands, is made. If places are fixed, no line lets the kernel choose one."""
 
-    def __init__(self, mixer, theme="all", without=()):
+    def __init__(self, mixer, theme="all", without=(), fixed=False):
         self.mixer = mixer
         self.kinds = THEMES[theme]
         self.without = without
+        self.fixed = fixed
         self.vmos, self.near = mixer.choice(VMOS), mixer.choice(PLACES)
         self.sizes, self.pins, self.places = {}, set(), []
         # The live regions, each with its root region, and how many were made.
@@ -135,12 +136,13 @@ class Commands:
     def allocate(self):
         size = self.mixer.randint(1, 4) * PAGE
         where = self.mixer.choice([f"{self.mixer.randint(0, 8) * PAGE} {size} specific", f"0 {size}",
-                                   f"{self.mixer.randint(1, 16) * PAGE} {size} upper_limit"])
+                                   f"{self.mixer.randint(1, 16) * PAGE} {size} upper_limit"][: 1 if self.fixed else 3])
         return f"vmar_allocate r{self.given + 1} {self.region()} {where} can_read can_write"
 
     def map(self):
         name = self.name()
-        how = self.mixer.choice(["specific", "specific", "specific_overwrite", "specific_overwrite", "", "", "upper_limit"])
+        ways = ["specific", "specific", "specific_overwrite", "specific_overwrite", "", "", "upper_limit"]
+        how = self.mixer.choice(ways[: 4 if self.fixed else 7])
         at = self.mixer.randint(0, 8) * PAGE if how else 0
         size = min(self.mixer.randint(1, 4), self.pages(name)) * PAGE
         faults = " allow_faults" if self.chance(0.3) else ""

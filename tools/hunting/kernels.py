@@ -38,7 +38,7 @@ class Kernel:
         try:
             os.killpg(self.process.pid, signal.SIGKILL)
         except (ProcessLookupError, PermissionError):
-            pass
+            self.process.kill()
         self.process.stdin.close()
         self.process.stdout.close()
         self.process.wait()

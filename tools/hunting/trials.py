@@ -11,7 +11,8 @@ from .kernels import Kernel, Lost
 
 class Hunt(NamedTuple):
     """What is hunted for: the command that starts the kernel, the seconds that a reply may take, the program that judges, the frames
-    of the machine, the seed, the theme of the lines, how many there are in a trial, and the words of commands that are left out."""
+    of the machine, the seed, the theme of the lines, how many there are in a trial, the words of commands that are left out, and
+    whether no line lets the kernel choose a place."""
 
     command: list
     seconds: float
@@ -21,6 +22,7 @@ class Hunt(NamedTuple):
     theme: str
     lines: int
     without: tuple
+    fixed: bool
 
 
 class Trial(NamedTuple):
@@ -60,7 +62,7 @@ def run(hunt, lines, note=None, is_over=None):
 
 def try_number(hunt, number, is_over=None):
     """Returns the trial of a number, whose lines are made up from the replies."""
-    commands = Commands(seeded(hunt.seed, number), hunt.theme, hunt.without)
+    commands = Commands(seeded(hunt.seed, number), hunt.theme, hunt.without, hunt.fixed)
     return run(hunt, (commands.line() for _ in range(hunt.lines)), commands.note, is_over)
 
 
