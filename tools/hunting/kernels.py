@@ -6,6 +6,7 @@ import subprocess
 import time
 
 from judging.replies import command_of, more_lines, normalised
+from machine_model.answering import counted
 from wording import WRONG_WORD, Trouble
 
 # The most bytes of a line that are waited for. The rest is a line of its own.
@@ -47,7 +48,7 @@ class Kernel:
         """Waits until a stream is ready."""
         ready = select.select(reading, writing, [], max(deadline - time.monotonic(), 0))
         if not any(ready):
-            raise Lost(f"does not answer within {self.seconds} seconds")
+            raise Lost(f"does not answer within {counted(self.seconds, 'second')}")
 
     def send(self, data, deadline):
         """Sends bytes."""
@@ -101,6 +102,6 @@ class Kernel:
                 replies.append(normalised(said))
             status = self.process.wait(max(deadline - time.monotonic(), 0))
         except (Lost, subprocess.TimeoutExpired):
-            raise Lost(f"does not end within {self.seconds} seconds of the end of the script") from None
+            raise Lost(f"does not end within {counted(self.seconds, 'second')} of the end of the script") from None
         if status:
             raise Lost(self.died())
