@@ -13,8 +13,12 @@ class Trouble(Exception):
     """What stops a tool: the exit status, and what it says."""
 
     def __init__(self, status, words):
-        super().__init__(words)
+        # Both are what it is made of again, if it comes from another process.
+        super().__init__(status, words)
         self.status = status
+
+    def __str__(self):
+        return str(self.args[1])
 
 
 class Words(argparse.ArgumentParser):

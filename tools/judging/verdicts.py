@@ -4,11 +4,9 @@ import subprocess
 
 from looking.turns import proved_program
 from machine_model import verdict
-from wording import Trouble, say
+from wording import WRONG_WORD, Trouble, say
 
 from .replies import LINE_BYTES, bytes_of, turns_of
-
-NO_PROGRAM = 1
 
 
 def by_model(lines, frames):
@@ -30,10 +28,10 @@ def by_program(program, lines, frames):
     try:
         ran = subprocess.run(words, input=bytes_of(lines), stdout=subprocess.PIPE, check=False)
     except OSError as error:
-        raise Trouble(NO_PROGRAM, f"cannot run {str(program)!r}: {error.strerror}") from None
+        raise Trouble(WRONG_WORD, f"cannot run {str(program)!r}: {error.strerror}") from None
     said = ran.stdout.decode("latin-1").strip()
     if ran.returncode or said.split(" ")[0] not in ("LEGAL", "ILLEGAL", "MALFORMED"):
-        raise Trouble(NO_PROGRAM, f"{str(program)!r} gives no verdict and ends with status {ran.returncode}")
+        raise Trouble(WRONG_WORD, f"{str(program)!r} gives no verdict and ends with status {ran.returncode}")
     return said
 
 
