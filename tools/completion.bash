@@ -1,0 +1,54 @@
+# Completes the words of ./vmosim and of the tools in bash. To use it: source tools/completion.bash
+
+# Sets the completions of the word that is being typed to those of the words $1, or with -f to files too.
+_vmosim_offer() {
+    local word=${COMP_WORDS[COMP_CWORD]}
+    mapfile -t COMPREPLY < <(compgen -W "$1" ${2-} -- "$word")
+}
+
+_vmosim() {
+    local verbs='run batch sources actors check work' verb='' last=${COMP_WORDS[COMP_CWORD - 1]} it
+    for it in "${COMP_WORDS[@]:1:COMP_CWORD-1}"; do
+        case " $verbs " in *" $it "*) verb=${verb:-$it} ;; esac
+    done
+    if [ "$last" = --frames ]; then
+        COMPREPLY=()
+    elif [ -z "$verb" ] && [ "$COMP_CWORD" -eq 1 ]; then
+        _vmosim_offer "$verbs --proved --try --build --path --version --help"
+    elif [ -z "$verb" ]; then
+        case $last in --proved | --try) _vmosim_offer "$verbs" ;; *) COMPREPLY=() ;; esac
+    elif [ "$verb" = work ]; then
+        _vmosim_offer '--frames'
+    elif [ "$last" = "$verb" ]; then
+        _vmosim_offer '--frames' -f
+    else
+        _vmosim_offer '' -f
+    fi
+}
+
+_vmosim_look() {
+    local verbs='annotate cost json state draw page'
+    case ${COMP_WORDS[COMP_CWORD - 1]} in
+        --word) _vmosim_offer 'run batch sources' ;;
+        --frames | --at) COMPREPLY=() ;;
+        *)
+            if [ "$COMP_CWORD" -eq 1 ]; then
+                _vmosim_offer "$verbs --help"
+            else
+                _vmosim_offer '--frames --word --at --csv --program' -f
+            fi
+            ;;
+    esac
+}
+
+_vmosim_shell() {
+    case ${COMP_WORDS[COMP_CWORD - 1]} in
+        --word) _vmosim_offer 'run batch sources' ;;
+        --frames) COMPREPLY=() ;;
+        *) _vmosim_offer '--frames --word --program --help' -f ;;
+    esac
+}
+
+complete -o filenames -F _vmosim vmosim ./vmosim
+complete -o filenames -F _vmosim_look look tools/look
+complete -o filenames -F _vmosim_shell shell tools/shell
