@@ -19,8 +19,8 @@ ghost use Rattle.batch_model.specs.Pieces.{plain, begun, whole_of, IsOfPages};
 ghost use Rattle.batch_model.specs.Batch.{BatchState, BatchStep, IsGoodBatch, HasBatchRanges};
 ghost use Rattle.batch_model.specs.BatchRuns.{BatchEvent, BatchRun, last_batch, MachineRun, machine_events, last_machine, Lasts, Part, job_parts, Tiles, times_in, AreTurns, NoneRefused};
 
-/// A run of the machine with jobs is a run of the machine over the plain commands and the pieces, in their order. Nothing else
-/// changes the machine.
+/// States that a run of the machine with jobs is a run of the machine over the plain commands and the pieces, in their order.
+/// Nothing else changes the machine.
 pub fn a_run_is_one_of_the_machine()
     ensures run { (old : BatchState) (events : List BatchEvent) → BatchRun old events →
         MachineRun old.machine (machine_events old events) }
@@ -28,9 +28,9 @@ pub fn a_run_is_one_of_the_machine()
         last_machine old.machine (machine_events old events) ≡ (last_batch old events).machine }
 {}
 
-/// The pieces of a job that came to its end, without those that were refused, are whole pages, and each begins where the one
-/// before it ends, whatever other commands came between. So each page of the range is in exactly one of them, and no other page
-/// is in any.
+/// States that the pieces of a job that came to its end, without those that were refused, are whole pages, and each begins
+/// where the one before it ends, whatever other commands came between. So each page of the range is in exactly one of them,
+/// and no other page is in any.
 pub fn pieces_tile_the_range()
     ensures tiles { (old : BatchState) (name : ℕ) (job : Job) (events : List BatchEvent) →
         old.jobs name ≡ Some job → IsOfPages job → BatchRun old events → Lasts name old events →
@@ -39,9 +39,9 @@ pub fn pieces_tile_the_range()
         times_in p parts ≡ cond (is_whole first (end - first) p) 1 0 }
 {}
 
-/// Where nothing but want of memory would refuse the plain command on all that is left of a job, nothing else refuses a piece
-/// of it, with no other command between. Once its last piece is done, the plain command has led to the same machine. A piece
-/// that the host lacks memory for may be tried again.
+/// States that, if nothing but host memory would refuse the plain command on all that is left of a job, nothing else refuses
+/// a piece of it, with no other command between. Once its last piece is done, the plain command has led to the same machine.
+/// A piece that the host lacks memory for may be tried again.
 pub fn pieces_are_the_whole()
     ensures pieces { (old : BatchState) (name : ℕ) (job : Job) (events : List BatchEvent) →
         IsGoodMachine old.machine → old.jobs name ≡ Some job → IsOfPages job →
@@ -54,8 +54,8 @@ pub fn pieces_are_the_whole()
         MachineStep old.machine (whole_of job) Done (last_batch old events).machine }
 {}
 
-/// A job that is begun is there with all of its range left, whole pages, and the machine is as it was. The plain command on what
-/// is left is the one on the range that was asked for.
+/// States that a job that is begun is there with all of its range left, whole pages, and the machine is as it was. The plain
+/// command on what is left is the one on the range that was asked for.
 pub fn a_job_begins_whole()
     ensures begins { (old new : BatchState) (job : JobName) (kind : JobKind) (name : VmoName) (offset len left : ℕ) →
         BatchStep old (Begin job kind name offset len) (Left left) new →
@@ -64,8 +64,8 @@ pub fn a_job_begins_whole()
         whole_of (begun kind name offset len) ≡ plain kind name offset len }
 {}
 
-/// A step, by a command whose fields are within their types, leads from a good machine with good jobs to another. So what the
-/// laws above ask of the machine and of the job holds of all that is come to.
+/// States that a step, by a command whose fields are within their types, leads from a good machine with good jobs to another.
+/// So what the laws above ask of the machine and of the job holds of all that is come to.
 pub fn a_step_keeps_the_batch_good()
     ensures { (old new : BatchState) (command : BatchCommand) (reply : BatchReply) →
         IsGoodBatch old → HasBatchRanges command → BatchStep old command reply new → IsGoodBatch new }

@@ -38,7 +38,7 @@ pub enum BatchAnswer<'a> {
 }
 
 impl<'a> BatchCall<'a> {
-    /// The command, with bytes of its own.
+    /// Returns the command, with bytes of its own.
     pub fn to_command(&self) -> BatchCommand
         ensures { result ≡ batch_command_of self.now }
     {
@@ -67,7 +67,7 @@ impl<'a> BatchCall<'a> {
 }
 
 impl BatchCommand {
-    /// The command, with its bytes lent.
+    /// Lends the command.
     pub fn lend(&self) -> BatchCall<'_>
         ensures { batch_command_of result ≡ self.now }
     {
@@ -96,7 +96,7 @@ impl BatchCommand {
 }
 
 impl<'a> BatchAnswer<'a> {
-    /// The reply, with data of its own.
+    /// Returns the reply, with data of its own.
     pub fn into_reply(self) -> BatchReply
         ensures { result ≡ batch_reply_for self.entry }
     {

@@ -1,4 +1,4 @@
-//! What a checker of transcripts rests on: an own machine that stands for all that may have answered so.
+//! What a checker of transcripts rests on: the checker's machine, which stands for all that may have answered so.
 
 ghost use Rattle.std.specs.Prelude.{◌≡◌, ◌++◌, ◌<◌, ◌≤◌, ◌^◌, ℕ, true, false, List, [], ◌∷◌, map, Option, None};
 ghost use Rattle.std.specs.List.{AllByRecursion};
@@ -19,8 +19,8 @@ ghost use Rattle.moving_machine.specs.Transcript.{Told, Asked, Answered, MayBegi
 ghost use Rattle.moving_machine.specs.Standing.{StandsFor, with_seen, Fits, may_tell, AreSeen, AreLeft};
 ghost use Rattle.moving_machine.specs.Following.{Follows, MayAnswer};
 
-/// After a step of the own machine whose reply tells no frames, it stands for exactly those machines to which
-/// a machine may come with this reply for which the own one stood.
+/// States that, after a step of the checker's machine whose reply tells no frames, it stands for exactly those machines
+/// to which a machine may come with this reply for which it stood before.
 pub fn a_step_is_one_of_all_that_it_stands_for()
     ensures forth { (own next : Machine) (command : Command) (reply : Reply) → IsGoodMachine own → GivesName command →
         TellsNoFrames reply → MachineStep own command reply next → (numbers : ℕ → Option ℕ) (other : Machine) →
@@ -30,7 +30,7 @@ pub fn a_step_is_one_of_all_that_it_stands_for()
         StandsFor own numbers other → (later : Machine) → StandsFor next numbers later → MovingStep other command reply later }
 {}
 
-/// The same of a pin that tells frames. The numbers that are told must fit what was seen before.
+/// States the same of a pin, whose frames are given. The numbers must fit what was seen before.
 pub fn a_pin_is_one_of_all_that_it_stands_for()
     ensures forth { (own next : Machine) (pin : PinName) (name : VmoName) (offset len : ℕ) (mine : List ℕ) →
         IsGoodMachine own → pin.0 < NAMES → MachineStep own (Command.VmoPin pin name offset len) (Reply.Pins mine) next →
@@ -44,7 +44,7 @@ pub fn a_pin_is_one_of_all_that_it_stands_for()
         (other : Machine) × StandsFor own numbers other × MovingStep other (Command.VmoPin pin name offset len) (Reply.Pins told) later }
 {}
 
-/// Whether numbers fit is found one number after another.
+/// States that whether numbers fit is found one number after another.
 pub fn what_fits_is_told_one_after_another()
     ensures fits { (own : Machine) (numbers : ℕ → Option ℕ) (mine told : List ℕ) → AreSeen own numbers →
         AllByRecursion (λ t. t < own.state.content.frames) mine →
@@ -54,8 +54,8 @@ pub fn what_fits_is_told_one_after_another()
         Fits own numbers mine told → may_tell own.state.content.frames numbers mine told ≡ true }
 {}
 
-/// The numbers that were seen are those of the frames of pinned pages: at the beginning, after a step that tells no
-/// frames, once those of other frames are forgotten, and after a pin.
+/// States that the numbers that were seen are those of the frames of pinned pages: at the beginning, after a step that
+/// tells no frames, once those of other frames are forgotten, and after a pin.
 pub fn what_was_seen_is_of_pinned_pages()
     ensures begins { (frames : ℕ) → AreSeen (empty_machine frames) (λ t. None) }
     ensures left { (own next : Machine) (command : Command) (reply : Reply) → IsGoodMachine own → GivesName command →
@@ -67,9 +67,9 @@ pub fn what_was_seen_is_of_pinned_pages()
         AreSeen next (with_seen numbers mine told) }
 {}
 
-/// The own machine follows a transcript, turn by turn: from no lines on, over blank lines and lines outside the
-/// grammar, over commands that tell no choice, refusals, places and pins whose numbers fit; and if it forgets what is
-/// pinned no more.
+/// States that the checker's machine follows a transcript, turn by turn: from no lines on, over blank lines and lines
+/// outside the grammar, over commands that tell no choice, refusals, places and pins whose numbers fit; and if it
+/// forgets what is pinned no more.
 pub fn the_own_machine_follows_a_transcript()
     ensures begins { (frames : ℕ) (numbers : ℕ → Option ℕ) → Follows frames (empty_machine frames) numbers [] }
     ensures blank { (frames : ℕ) (own : Machine) (numbers : ℕ → Option ℕ) (tells : List Told) (line : List ℕ) →
@@ -99,8 +99,8 @@ pub fn the_own_machine_follows_a_transcript()
         Follows frames own numbers tells → AreLeft own numbers later → Follows frames own later tells }
 {}
 
-/// Behind whole turns no reply line may come; behind a line of a script one that a machine gives for which the own
-/// one stands; and a second line of a script only if the first is blank.
+/// States that behind whole turns no reply line may come; behind a line of a script one that a machine gives for which
+/// the checker's machine stands; and a second line of a script only if the first is blank.
 pub fn what_may_not_follow()
     ensures due { (frames : ℕ) (own : Machine) (numbers : ℕ → Option ℕ) (tells : List Told) (line : List ℕ) (more : List Told) →
         Follows frames own numbers tells → MayBegin frames (tells ++ Answered line ∷ more) → ⊥ }

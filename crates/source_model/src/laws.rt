@@ -16,12 +16,13 @@ ghost use Rattle.source_model.specs.Commands.{SourceStep};
 ghost use Rattle.source_model.specs.Good.{IsGoodSources, IsTextOf};
 ghost use Rattle.source_model.specs.Reaching.{Reaches};
 
-/// A machine of page sources with page frames and nothing else is good.
+/// States that a machine of page sources with page frames and nothing else is good.
 pub fn the_empty_sources_are_good()
     ensures { (frames : ℕ) → IsGoodSources (empty_sources frames) }
 {}
 
-/// A step of the machine of page sources leads from a good state to a good state, and gives at most one koid.
+/// States that a step of the machine of page sources leads from a good state to a good state, and gives at most one
+/// koid.
 pub fn a_step_keeps_the_sources_good()
     ensures good { (old new : SourceState) (command : SourceCommand) (reply : Reply) →
         IsGoodSources old → SourceStep old command reply new → IsGoodSources new }
@@ -39,8 +40,8 @@ pub fn paging_changes_no_text()
         SourceStep old (Evict name offset len) reply new → new.text ≡ old.text }
 {}
 
-/// The text of a good state is what look-ups upwards find, and nothing else, so code that keeps no text reads it by walking up the links.
-/// What look-ups find is a text wherever each link leads to a VMO with a smaller koid.
+/// States that the text of a good state is what look-ups upwards find, and nothing else, so code that keeps no text reads it
+/// by walking up the links. What look-ups find is a text wherever each link leads to a VMO with a smaller koid.
 pub fn look_ups_find_the_text()
     ensures only { (s : SourceState) → IsGoodSources s →
         (v p : ℕ) → s.text v p ≡ walked s.content s.backing (below_of s) v p }
@@ -48,15 +49,15 @@ pub fn look_ups_find_the_text()
         ((v : ℕ) (l : Link) → link v ≡ Some l → l.parent.0 < v) → IsTextOf (state_over c names backing link) }
 {}
 
-/// The pages that show a page, to which a write of it is pushed, are the page itself and those that the write comes to from child to
-/// child, by pages that the children show and do not hold.
+/// States that the pages that show a page, to which a write of it is pushed, are the page itself and those that the write
+/// comes to from child to child, by pages that the children show and do not hold.
 pub fn a_write_comes_to_what_shows_its_page()
     ensures { (s : SourceState) → IsGoodSources s → (v p w q : ℕ) →
         (shows (below_of s) v p w q ≡ true) ↔ Reaches s v p w q }
 {}
 
-/// After a close, each VMO that is there lives. A VMO that lives without the closed name, by another name or by a loose child that
-/// lives so, is there as it was, with its text.
+/// States that after a close each VMO that is there lives. A VMO that lives without the closed name, by another name or by a
+/// loose child that lives so, is there as it was, with its text.
 pub fn a_name_that_is_closed_leaves_what_lives()
     ensures lives { (old new : SourceState) (name : VmoName) (reply : Reply) → IsGoodSources old →
         SourceStep old (Close name) reply new → (v : ℕ) → IsSome (new.content.count v) → IsLive new v }

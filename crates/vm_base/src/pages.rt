@@ -8,7 +8,7 @@ use crate::limits::PAGE;
 /// The number of a page: of a VMO, or of an address space.
 pub type PageNo = u64;
 
-/// `n` bytes rounded up to whole pages, in bytes. `None` if and only if that is over `limit` bytes.
+/// Rounds `n` bytes up to whole pages, in bytes. `None` if and only if that is over `limit` bytes.
 pub fn round_up(n: u64, limit: u64) -> Option<u64>
     ensures fits { IsSome result ↔ (rounded n ≤ limit) }
     ensures value { IfSome result (λ r. r ≡ rounded n) }
@@ -19,21 +19,21 @@ pub fn round_up(n: u64, limit: u64) -> Option<u64>
     if whole <= limit { Some(whole) } else { None }
 }
 
-/// How many pages `len` bytes take, from the start of a page on.
+/// Returns how many pages `len` bytes take, from the start of a page on.
 pub fn page_count(len: u64) -> u64
     ensures { result ≡ rounded len / PAGE }
 {
     len / PAGE + u64::from(len % PAGE != 0)
 }
 
-/// The page that holds the byte `at`, both counted from the same place.
+/// Returns the page that holds the byte `at`, both counted from the same place.
 pub fn page_of(at: u64) -> PageNo
     ensures { result ≡ at / PAGE }
 {
     at / PAGE
 }
 
-/// Where in its page the byte `at` lies, in bytes from the page's first.
+/// Returns where in its page the byte `at` lies, in bytes from the page's first.
 pub fn in_page(at: u64) -> u64
     ensures { result ≡ at % PAGE }
 {

@@ -1,7 +1,7 @@
 //! Why a command is refused, and the two faults of the host.
 
-/// Why a command is refused. The names are Zircon's statuses, but for `Syntax`, `NameInUse` and
-/// `HostMemory`. A refused command changes nothing.
+/// Why a command is refused. The names are Zircon's statuses, except for `Syntax`, `NameInUse` and `HostMemory`. A
+/// refused command changes nothing.
 #[derive(Clone, Copy, Debug, PartialEq, Eq, Hash)]
 pub enum Refusal {
     /// The line is outside the grammar.

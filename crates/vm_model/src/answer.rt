@@ -26,7 +26,7 @@ pub enum Answer<'a> {
 }
 
 impl<'a> Answer<'a> {
-    /// The reply, with data of its own.
+    /// Returns the reply, with data of its own.
     pub fn into_reply(self) -> Reply
         ensures { result ≡ reply_for self.entry }
     {

@@ -24,7 +24,7 @@ impl Model for Bytes4k {
 }
 
 impl Bytes4k {
-    /// No bytes.
+    /// Makes byte data of no bytes.
     pub fn new() -> Bytes4k
         ensures { result ≡ [] }
     {
@@ -33,7 +33,7 @@ impl Bytes4k {
         }
     }
 
-    /// The bytes.
+    /// Returns the bytes.
     pub fn as_slice(&self) -> &[u8]
         ensures value { result.now ≡ self.now }
         ensures few { length result.now ≤ DATA_BYTES }

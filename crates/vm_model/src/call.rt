@@ -182,7 +182,7 @@ macro_rules! same_fields {
 }
 
 impl<'a> Call<'a> {
-    /// The command, with bytes of its own.
+    /// Returns the command, with bytes of its own.
     pub fn to_command(&self) -> Command
         ensures { result ≡ command_of self.now }
     {
@@ -191,7 +191,7 @@ impl<'a> Call<'a> {
 }
 
 impl Command {
-    /// The command, with its bytes lent.
+    /// Lends the command.
     pub fn lend(&self) -> Call<'_>
         ensures { command_of result ≡ self.now }
     {

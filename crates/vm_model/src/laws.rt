@@ -13,12 +13,12 @@ ghost use Rattle.vm_model.specs.Scripts.Run.{lines_of, Run};
 ghost use Rattle.vm_model.specs.Language.Text.{texts};
 ghost use Rattle.vm_model.specs.Scripts.Example.{example_script, example_text};
 
-/// A machine with page frames and nothing else is good.
+/// States that a machine with page frames and nothing else is good.
 pub fn the_empty_machine_is_good()
     ensures { (frames : ℕ) → IsGoodMachine (empty_machine frames) }
 {}
 
-/// A step of the machine, by a command whose fields are within their types, leads from a good machine to a
+/// States that a step of the machine, by a command whose fields are within their types, leads from a good machine to a
 /// good machine. It gives at most one koid, and the machine keeps its frames.
 pub fn a_step_keeps_the_machine_good()
     ensures good { (old new : Machine) (command : Command) (reply : Reply) →
@@ -31,9 +31,8 @@ pub fn a_step_keeps_the_machine_good()
         new.state.content.frames ≡ old.state.content.frames }
 {}
 
-/// The definitions are neither loose nor empty. On a machine with 1,024 frames each legal run over
-/// the example's three lines in which the host had memory writes exactly its three replies, and
-/// there is such a run.
+/// States that the definitions are neither loose nor empty. On a machine with 1,024 frames each legal run over the
+/// example's three lines in which the host had memory writes exactly its three replies, and there is such a run.
 pub fn the_example_has_one_outcome()
     ensures only { (replies : List Reply) (last : Machine) →
         Run (empty_machine 1024) (lines_of example_script) replies last →
@@ -43,7 +42,7 @@ pub fn the_example_has_one_outcome()
         × AllByRecursion (λ r. r ≢ Reply.Refused HostMemory) replies × (texts replies ≡ example_text) }
 {}
 
-/// What is spelled canonically is read back as the same command.
+/// States that what is spelled canonically is read back as the same command.
 pub fn a_canonical_spelling_is_read_back()
     ensures { (command : Command) → HasRanges command → has_spelling command ≡ true →
         reading (spelling command) ≡ Order command }

@@ -25,7 +25,7 @@ impl<'a> Model for LentBytes<'a> {
 }
 
 impl<'a> LentBytes<'a> {
-    /// These bytes, lent.
+    /// Lends these bytes.
     pub fn new(bytes: &'a [u8]) -> LentBytes<'a>
         requires { length bytes.now ≤ DATA_BYTES }
         ensures { result ≡ bytes.now }
@@ -33,7 +33,7 @@ impl<'a> LentBytes<'a> {
         LentBytes { bytes }
     }
 
-    /// The bytes.
+    /// Returns the bytes.
     pub fn as_slice(&self) -> &'a [u8]
         ensures value { result.now ≡ self.now }
         ensures few { length result.now ≤ DATA_BYTES }
@@ -41,7 +41,7 @@ impl<'a> LentBytes<'a> {
         self.bytes
     }
 
-    /// A copy of the bytes.
+    /// Returns a copy of the bytes.
     pub fn to_bytes(&self) -> Bytes4k
         ensures { result ≡ self.now }
     {
@@ -69,7 +69,7 @@ impl<'a> Model for LentNumbers<'a> {
 }
 
 impl<'a> LentNumbers<'a> {
-    /// These numbers, lent.
+    /// Lends these numbers.
     pub fn new(numbers: &'a [u64]) -> LentNumbers<'a>
         requires { length numbers.now ≤ PIN_PAGES }
         ensures { result ≡ numbers.now }
@@ -77,7 +77,7 @@ impl<'a> LentNumbers<'a> {
         LentNumbers { numbers }
     }
 
-    /// The numbers.
+    /// Returns the numbers.
     pub fn as_slice(&self) -> &'a [u64]
         ensures value { result.now ≡ self.now }
         ensures few { length result.now ≤ PIN_PAGES }
@@ -85,7 +85,7 @@ impl<'a> LentNumbers<'a> {
         self.numbers
     }
 
-    /// A copy of the numbers.
+    /// Returns a copy of the numbers.
     pub fn to_numbers(&self) -> PinNumbers
         ensures { result ≡ self.now }
     {
@@ -96,7 +96,7 @@ impl<'a> LentNumbers<'a> {
 }
 
 impl Bytes4k {
-    /// The bytes, lent.
+    /// Lends the bytes.
     pub fn lend(&self) -> LentBytes<'_>
         ensures { result ≡ self.now }
     {
@@ -105,7 +105,7 @@ impl Bytes4k {
 }
 
 impl PinNumbers {
-    /// The numbers, lent.
+    /// Lends the numbers.
     pub fn lend(&self) -> LentNumbers<'_>
         ensures { result ≡ self.now }
     {

@@ -25,7 +25,7 @@ impl Model for PinNumbers {
 }
 
 impl PinNumbers {
-    /// No numbers.
+    /// Makes a list of no numbers.
     pub fn new() -> PinNumbers
         ensures { result ≡ [] }
     {
@@ -34,7 +34,7 @@ impl PinNumbers {
         }
     }
 
-    /// The numbers.
+    /// Returns the numbers.
     pub fn as_slice(&self) -> &[u64]
         ensures value { result.now ≡ self.now }
         ensures few { length result.now ≤ PIN_PAGES }

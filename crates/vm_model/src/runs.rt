@@ -34,7 +34,7 @@ impl Model for Runs {
 }
 
 impl Runs {
-    /// No runs.
+    /// Makes a list of no runs.
     pub fn new(alloc: Global) -> Runs
         ensures { result ≡ [] }
     {
@@ -54,7 +54,7 @@ impl Runs {
         }
     }
 
-    /// The runs.
+    /// Returns the runs.
     pub fn as_slice(&self) -> &[Run]
         ensures { result.now ≡ self.now }
     {
